@@ -1,0 +1,4 @@
+pub mod Name
+pub mod Path
+pub mod Reply
+pub mod Text

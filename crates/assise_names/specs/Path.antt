@@ -1,0 +1,61 @@
+-- Which text spells which path, and what is wrong with the others.
+-- POSIX.1-2017, base definitions: 3.2 Absolute Pathname, 3.271 Pathname, 4.13 Pathname Resolution.
+use Rattle.std.specs.Prelude.{◌≡◌, ◌≤◌, ◌⊎◌, ℕ, ◌==◌, nat_le, if◌then◌else◌, IsTrue, All, List, [], ◌∷◌, ◌++◌, flat_map, length, Result, Ok, Err}
+use Rattle.std.specs.List.{slice_split}
+use Rattle.assise_names.specs.declared.path.PathFault.{PathFault}
+use Rattle.assise_names.specs.declared.path.PathFault.TheVariants.{NotAbsolute, TooDeep, Memory}
+use Rattle.assise_names.specs.Name.{is_name, name_of}
+
+-- ---- a path, and its one spelling
+
+-- up to 32 lawful names, the outermost first; the root has none
+pub record IsPath (path : List (List ℕ)) : Type 0 where
+  pub names : All (λ name. IsTrue (is_name name)) path
+  pub depth : length path ≤ 32
+
+-- a slash before each name, and one alone for the root
+abbrev pub spelling : List (List ℕ) → List ℕ
+spelling [] = 47 ∷ []
+spelling (name ∷ names) = flat_map (λ n. 47 ∷ n) (name ∷ names)
+
+-- the text is the spelling of this path
+pub record Spells (text : List ℕ) (path : List (List ℕ)) : Type 0 where
+  pub lawful : IsPath path
+  pub spelled : text ≡ spelling path
+
+-- q goes on from p by at least a name
+abbrev pub IsProperFront : List (List ℕ) → List (List ℕ) → Type 0
+IsProperFront p q = (name : List ℕ) × ((rest : List (List ℕ)) × (q ≡ p ++ name ∷ rest))
+
+-- ---- the path that a text spells, or its first fault
+
+infixl 10 ◌>>=◌
+abbrev pub ◌>>=◌ : {A B : Type 0} → Result A PathFault → (A → Result B PathFault) → Result B PathFault
+(Ok x) >>= f = f x
+(Err e) >>= f = Err e
+
+-- each piece as a name, from the left
+abbrev pub names_of : List (List ℕ) → Result (List (List ℕ)) PathFault
+names_of [] = Ok []
+names_of (piece ∷ pieces) = name_of piece >>= λ name. names_of pieces >>= λ names. Ok (name ∷ names)
+
+abbrev pub no_deeper : List (List ℕ) → Result (List (List ℕ)) PathFault
+no_deeper names = if nat_le (length names) 32 then Ok names else Err TooDeep
+
+-- the names of what stands behind the first slash
+abbrev pub names_behind : List ℕ → Result (List (List ℕ)) PathFault
+names_behind rest = if length rest == 0 then Ok [] else names_of (slice_split (λ b. b == 47) rest)
+
+abbrev pub path_of : List ℕ → Result (List (List ℕ)) PathFault
+path_of [] = Err NotAbsolute
+path_of (b ∷ rest) = if b == 47 then (names_behind rest >>= no_deeper) else Err NotAbsolute
+
+-- what is wanted was given, or memory ran out
+abbrev pub Gives : {X : Type 0} → Result X PathFault → Result X PathFault → Type 0
+Gives (Ok x) wanted = wanted ≡ Ok x
+Gives (Err e) wanted = (e ≡ Memory) ⊎ (wanted ≡ Err e)
+
+-- the same of a vector of names
+abbrev pub GivesNames : {X : Type 0} → (X → List (List ℕ)) → Result X PathFault → Result (List (List ℕ)) PathFault → Type 0
+GivesNames items (Ok x) wanted = wanted ≡ Ok (items x)
+GivesNames items (Err e) wanted = (e ≡ Memory) ⊎ (wanted ≡ Err e)

@@ -1,0 +1,9 @@
+//! Paths, calls, replies and refusals: the words that every other crate speaks in.
+#![tactic(auto)]
+
+pub mod byte_string;
+pub mod call;
+pub mod name;
+pub mod path;
+pub mod refusal;
+pub mod reply;

@@ -1,0 +1,142 @@
+// The name of an entry.
+ghost use Rattle.std.specs.Prelude.{◌≡◌, ◌==◌, IfOk, IsOkUnless, IsTrue, MatchResult, Some};
+ghost use Rattle.std.specs.List.{list_any};
+ghost use Rattle.std.proofs.Common.{rules};
+ghost use Rattle.std.specs.Cmp.{partial_order_from_own_ties};
+ghost use Rattle.std.specs.Cmp.Rules.{comparing};
+ghost use Rattle.std.specs.Cmp.Lexicographic.{slice_cmp, pointwise};
+ghost use Rattle.std.specs.Ordering.{nat_cmp, on, as_partial_cmp};
+ghost use Rattle.assise_names.specs.Name.{is_name, name_of, is_barred};
+ghost use Rattle.assise_names.specs.Path.{Gives};
+ghost use Rattle.assise_names.specs.declared.refusal.Refusal.TheVariants.{OutOfMemory};
+
+use crate::path::PathFault;
+use crate::refusal::Refusal;
+use std::alloc::Global;
+use std::cmp::Ordering;
+use std::fmt;
+use std::fmt::{Display, Formatter};
+use std::marker::Model;
+
+/// The most bytes of a name.
+pub const MOST_NAME_BYTES: usize = 255;
+
+/// The name of an entry of a directory: 1 to 255 bytes of UTF-8 without a slash or a NUL, and neither `.` nor
+/// `..` (POSIX.1-2017, base definitions, 3.170). Names are ordered by their bytes.
+#[derive(Debug, Drop)]
+pub struct Name {
+    text: String,
+}
+
+impl Model for Name {
+    ghost use Rattle.std.specs.Prelude.{List, ℕ, string_bytes, IsTrue};
+
+    ghost Value = { List ℕ };
+
+    ghost use Rattle.assise_names.specs.Name.{is_name};
+
+    ghost view = { λ n. string_bytes n.text };
+
+    ghost invariant = { λ n. IsTrue (is_name (string_bytes n.text)) };
+}
+
+impl Name {
+    /// The name that a text is. A text without bytes is [`PathFault::EmptyName`], one of more than 255 bytes
+    /// [`PathFault::NameTooLong`], and any other that is no name [`PathFault::BadName`].
+    pub fn parse(alloc: Global, text: &str) -> Result<Name, PathFault>
+        ensures first_fault { Gives result (name_of text.now) }
+        ensures lawful { IfOk result (λ name. IsTrue (is_name name)) }
+    {
+        check(text)?;
+        let text = String::from_str(alloc, text)?;
+        Ok(Name { text })
+    }
+
+    /// The name's text.
+    pub fn as_str(&self) -> &str
+        ensures text { result.now ≡ self.now }
+        ensures lawful { IsTrue (is_name self.now) }
+    {
+        self.text.as_str()
+    }
+
+    /// An equal value, or [`Refusal::OutOfMemory`].
+    pub fn copy(&self, alloc: Global) -> Result<Name, Refusal>
+        ensures equal { IfOk result (λ copied. copied ≡ self.now) }
+        ensures only_memory { IsOkUnless result OutOfMemory }
+    {
+        Ok(Name {
+            text: String::from_str(alloc, self.text.as_str())?,
+        })
+    }
+}
+
+/// What is wrong with a text as a name.
+fn check(text: &str) -> Result<(), PathFault>
+    ensures { MatchResult result (λ _. name_of text.now ≡ Ok text.now) (λ fault. name_of text.now ≡ Err fault) }
+{
+    if text.is_empty() {
+        return Err(PathFault::EmptyName);
+    }
+    if text.len() > MOST_NAME_BYTES {
+        return Err(PathFault::NameTooLong);
+    }
+    if has_barred(text.as_bytes()) || text == "." || text == ".." {
+        return Err(PathFault::BadName);
+    }
+    Ok(())
+}
+
+/// Whether a slash or a NUL is among the bytes.
+fn has_barred(bytes: &[u8]) -> bool
+    ensures { result ≡ list_any is_barred bytes.now }
+{
+    bytes.iter().any(|b| *b == b'/' || *b == 0)
+}
+
+impl Display for Name {
+    ghost output = { λ name. Some name };
+
+    fn fmt<W: fmt::Write>(&self, f: &mut Formatter<W>) -> fmt::Result {
+        let text = self.text.as_str();
+        write!(f, "{text}")
+    }
+}
+
+impl PartialEq for Name {
+    ghost eq = { on (λ n. n) (pointwise ◌==◌) };
+
+    ghost laws = { Prim.search (comparing, rules) };
+
+    fn eq(&self, other: &Name) -> bool {
+        self.text.as_str() == other.text.as_str()
+    }
+}
+
+impl Eq for Name {
+    ghost laws = { Prim.search (comparing, rules) };
+}
+
+impl Ord for Name {
+    ghost cmp = { on (λ n. n) (slice_cmp nat_cmp) };
+
+    ghost total = { Prim.search (comparing, rules) };
+
+    ghost matches_partial_cmp = { Prim.search (comparing, rules) };
+
+    ghost matches_eq = { Prim.search (comparing, rules) };
+
+    fn cmp(&self, other: &Name) -> Ordering {
+        self.text.as_str().cmp(&other.text.as_str())
+    }
+}
+
+impl PartialOrd for Name {
+    ghost partial_cmp = { as_partial_cmp (on (λ n. n) (slice_cmp nat_cmp)) };
+
+    ghost laws = { partial_order_from_own_ties (Prim.search (comparing, rules)) (Prim.search (comparing, rules)) };
+
+    fn partial_cmp(&self, other: &Name) -> Option<Ordering> {
+        Some(self.cmp(other))
+    }
+}

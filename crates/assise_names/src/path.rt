@@ -1,0 +1,178 @@
+// A path from the root.
+ghost use Rattle.std.specs.Prelude.{All, ◌≡◌, ◌≤◌, ◌↔◌, IfOk, IsOkUnless, IsTrue, List, Some, length, ℕ};
+ghost use Rattle.assise_names.specs.Name.{is_name};
+ghost use Rattle.assise_names.specs.Path.{Gives, GivesNames, IsProperFront, Spells, path_of, names_behind, spelling};
+ghost use Rattle.assise_names.specs.Text.{path_fault_text};
+ghost use Rattle.assise_names.specs.declared.refusal.Refusal.TheVariants.{OutOfMemory};
+
+use crate::name::Name;
+use crate::refusal::Refusal;
+use std::alloc::{AllocError, AllocFailed, Global};
+use std::error::Error;
+use std::fmt;
+use std::fmt::{Display, Formatter};
+use std::marker::Model;
+
+/// The most names of a path.
+pub const MOST_NAMES: usize = 32;
+
+/// Why a text is no path: the first fault that is found.
+#[derive(Clone, Copy, PartialEq, Eq, Debug)]
+pub enum PathFault {
+    /// It doesn't begin with a slash.
+    NotAbsolute,
+    /// Two slashes stand together, or one at the end of a text that is more than a slash.
+    EmptyName,
+    /// A name has a NUL, or is `.` or `..`.
+    BadName,
+    /// A name has more than 255 bytes.
+    NameTooLong,
+    /// It has more than 32 names.
+    TooDeep,
+    /// A growth was really refused.
+    Memory,
+}
+
+impl Display for PathFault {
+    ghost output = { λ fault. Some (path_fault_text fault) };
+
+    fn fmt<W: fmt::Write>(&self, f: &mut Formatter<W>) -> fmt::Result {
+        match self {
+            PathFault::NotAbsolute => write!(f, "not absolute"),
+            PathFault::EmptyName => write!(f, "empty name"),
+            PathFault::BadName => write!(f, "bad name"),
+            PathFault::NameTooLong => write!(f, "name too long"),
+            PathFault::TooDeep => write!(f, "too deep"),
+            PathFault::Memory => write!(f, "out of memory"),
+        }
+    }
+}
+
+impl Error for PathFault {}
+
+impl From<AllocError> for PathFault {
+    ghost use Rattle.std.specs.Prelude.{◌≡◌};
+    ghost use Rattle.assise_names.specs.declared.path.PathFault.TheVariants.{Memory};
+
+    ghost from_gives = { λ _ fault. fault ≡ Memory };
+
+    fn from(_error: AllocError) -> PathFault {
+        PathFault::Memory
+    }
+}
+
+impl<T: Drop> From<AllocFailed<T>> for PathFault {
+    ghost use Rattle.std.specs.Prelude.{◌≡◌};
+    ghost use Rattle.assise_names.specs.declared.path.PathFault.TheVariants.{Memory};
+
+    ghost from_gives = { λ _ fault. fault ≡ Memory };
+
+    fn from(_error: AllocFailed<T>) -> PathFault {
+        PathFault::Memory
+    }
+}
+
+/// Up to 32 names from the root, the outermost first. The root has none.
+#[derive(Debug, Drop)]
+pub struct Path {
+    names: Vec<Name>,
+}
+
+impl Model for Path {
+    ghost use Rattle.std.specs.Prelude.{List, ℕ, ◌≤◌, length};
+
+    ghost Value = { List (List ℕ) };
+
+    ghost view = { λ p. p.names.items };
+
+    ghost invariant = { λ p. length p.names.items ≤ 32 };
+}
+
+impl Path {
+    /// The path that a text spells: a slash before each name, or one slash alone for the root. The faults are
+    /// looked for in this order: [`PathFault::NotAbsolute`]; then the names from the left, each for
+    /// [`PathFault::EmptyName`], [`PathFault::NameTooLong`] and [`PathFault::BadName`]; then
+    /// [`PathFault::TooDeep`].
+    pub fn parse(alloc: Global, text: &str) -> Result<Path, PathFault>
+        ensures first_fault { Gives result (path_of text.now) }
+        ensures spelled { IfOk result (Spells text.now) }
+        ensures complete { (path : List (List ℕ)) → Spells text.now path → IsOkUnless result PathFault.Memory }
+    {
+        path_of(alloc, text)
+    }
+
+    /// The names, the outermost first.
+    pub fn names(&self) -> &[Name]
+        ensures names { result.now ≡ self.now }
+        ensures depth { length self.now ≤ 32 }
+    {
+        self.names.as_slice()
+    }
+
+    /// Whether the other path goes on from this one by at least a name.
+    pub fn is_front_of(&self, other: &Path) -> bool
+        ensures { IsTrue result ↔ IsProperFront self.now other.now }
+    {
+        self.names.len() < other.names.len() && other.names.as_slice().starts_with(self.names.as_slice())
+    }
+
+    /// An equal value, or [`Refusal::OutOfMemory`].
+    pub fn copy(&self, alloc: Global) -> Result<Path, Refusal>
+        ensures equal { IfOk result (λ copied. copied ≡ self.now) }
+        ensures only_memory { IsOkUnless result OutOfMemory }
+    {
+        let mut names = Vec::with_capacity(alloc, self.names.len())?;
+        for name in &self.names {
+            names.push(name.copy(alloc)?)?;
+        }
+        Ok(Path { names })
+    }
+}
+
+/// The path that a text spells, or its first fault.
+fn path_of(alloc: Global, text: &str) -> Result<Path, PathFault>
+    ensures first_fault { Gives result (path_of text.now) }
+    ensures spelled { IfOk result (Spells text.now) }
+{
+    let Some(rest) = text.strip_prefix('/') else {
+        return Err(PathFault::NotAbsolute);
+    };
+    let names = names_of(alloc, rest)?;
+    if names.len() > MOST_NAMES {
+        return Err(PathFault::TooDeep);
+    }
+    Ok(Path { names })
+}
+
+/// The names that stand between slashes, or none where there is no text.
+fn names_of(alloc: Global, text: &str) -> Result<Vec<Name>, PathFault>
+    ensures first_fault { GivesNames (λ names. names.items) result (names_behind text.now) }
+    ensures lawful { IfOk result (λ names. All (λ name. IsTrue (is_name name)) names.items) }
+{
+    let mut names = Vec::new(alloc);
+    if text.is_empty() {
+        return Ok(names);
+    }
+    let mut rest = text;
+    while let Some((piece, more)) = rest.split_once('/') {
+        names.push(Name::parse(alloc, piece)?)?;
+        rest = more;
+    }
+    names.push(Name::parse(alloc, rest)?)?;
+    Ok(names)
+}
+
+impl Display for Path {
+    ghost output = { λ path. Some (spelling path) };
+
+    fn fmt<W: fmt::Write>(&self, f: &mut Formatter<W>) -> fmt::Result {
+        let names = self.names();
+        if names.is_empty() {
+            return write!(f, "/");
+        }
+        for name in names {
+            write!(f, "/{name}")?;
+        }
+        Ok(())
+    }
+}

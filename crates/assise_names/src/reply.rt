@@ -1,0 +1,119 @@
+// What calls answer.
+ghost use Rattle.std.specs.Prelude.{◌≡◌, ◌↔◌, IfOk, IsOkUnless, IsTrue, OnErr, Some};
+ghost use Rattle.assise_names.specs.Reply.{IsBytes};
+ghost use Rattle.assise_names.specs.Text.{error_text, hex, reply_text};
+ghost use Rattle.assise_names.specs.declared.refusal.Refusal.TheVariants.{OutOfMemory};
+
+use crate::byte_string::ByteString;
+use crate::refusal::Refusal;
+use std::alloc::Global;
+use std::error::Error;
+use std::fmt;
+use std::fmt::{Display, Formatter};
+
+/// Why the tree doesn't do what a call asks. It is an answer: the call stands in the history.
+#[derive(Clone, Copy, PartialEq, Eq, Debug)]
+pub enum TreeError {
+    /// A name on the way isn't there (`ENOENT`).
+    NoEnt,
+    /// Something is there already (`EEXIST`).
+    Exists,
+    /// Where a directory is wanted a file stands (`ENOTDIR`).
+    NotDir,
+    /// Where a file is wanted a directory stands (`EISDIR`).
+    IsDir,
+    /// The directory has entries (`ENOTEMPTY`).
+    NotEmpty,
+    /// The root can't be asked for this, nor a directory moved into itself (`EINVAL`).
+    Invalid,
+    /// The file would have more than 1,048,576 bytes (`EFBIG`).
+    TooBig,
+    /// The directory has 4,096 entries (`ENOSPC`).
+    DirFull,
+}
+
+impl Display for TreeError {
+    ghost output = { λ error. Some (error_text error) };
+
+    fn fmt<W: fmt::Write>(&self, f: &mut Formatter<W>) -> fmt::Result {
+        match self {
+            TreeError::NoEnt => write!(f, "E1 NoEnt"),
+            TreeError::Exists => write!(f, "E2 Exists"),
+            TreeError::NotDir => write!(f, "E3 NotDir"),
+            TreeError::IsDir => write!(f, "E4 IsDir"),
+            TreeError::NotEmpty => write!(f, "E5 NotEmpty"),
+            TreeError::Invalid => write!(f, "E6 Invalid"),
+            TreeError::TooBig => write!(f, "E7 TooBig"),
+            TreeError::DirFull => write!(f, "E8 DirFull"),
+        }
+    }
+}
+
+impl Error for TreeError {}
+
+/// What a call answers.
+#[derive(Debug, Drop, PartialEq, Eq)]
+pub enum Reply {
+    /// It is done.
+    Done,
+    /// The bytes that were read.
+    Bytes(ByteString),
+    /// A file, with its size in bytes.
+    File(u64),
+    /// A directory, with the count of its entries.
+    Dir(u64),
+    /// The tree doesn't do it.
+    Error(TreeError),
+}
+
+impl Reply {
+    /// An equal value, or [`Refusal::OutOfMemory`]. Only bytes take memory.
+    pub fn copy(&self, alloc: Global) -> Result<Reply, Refusal>
+        ensures equal { IfOk result (λ copied. copied ≡ self.now) }
+        ensures only_memory { IsOkUnless result OutOfMemory }
+        ensures only_bytes { OnErr result (IsBytes self.now) }
+    {
+        match self {
+            Reply::Done => Ok(Reply::Done),
+            Reply::Bytes(bytes) => Ok(Reply::Bytes(bytes.copy(alloc)?)),
+            Reply::File(size) => Ok(Reply::File(*size)),
+            Reply::Dir(entries) => Ok(Reply::Dir(*entries)),
+            Reply::Error(error) => Ok(Reply::Error(*error)),
+        }
+    }
+}
+
+impl Display for Reply {
+    ghost output = { λ reply. Some (reply_text reply) };
+
+    fn fmt<W: fmt::Write>(&self, f: &mut Formatter<W>) -> fmt::Result {
+        match self {
+            Reply::Done => write!(f, "done"),
+            Reply::Bytes(bytes) => {
+                let count = bytes.len();
+                let hex = Hex(bytes.as_slice());
+                write!(f, "bytes {count} x{hex}")
+            }
+            Reply::File(size) => write!(f, "file {size}"),
+            Reply::Dir(entries) => write!(f, "dir {entries}"),
+            Reply::Error(error) => write!(f, "{error}"),
+        }
+    }
+}
+
+/// Two lower-case hexadecimal digits for each byte.
+#[derive(Drop)]
+struct Hex<'a>(&'a [u8]);
+
+impl Display for Hex<'_> {
+    ghost output = { λ digits. Some (hex digits.0.now) };
+
+    fn fmt<W: fmt::Write>(&self, f: &mut Formatter<W>) -> fmt::Result {
+        for byte in self.0 {
+            let high = *byte / 16;
+            let low = *byte % 16;
+            write!(f, "{high:x}{low:x}")?;
+        }
+        Ok(())
+    }
+}
