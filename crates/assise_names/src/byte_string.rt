@@ -70,7 +70,7 @@ impl PartialEq for ByteString {
     ghost laws = { Prim.search (comparing, rules) };
 
     fn eq(&self, other: &ByteString) -> bool {
-        self.bytes.as_slice() == other.bytes.as_slice()
+        self.as_slice() == other.as_slice()
     }
 }
 

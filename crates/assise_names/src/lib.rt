@@ -7,3 +7,5 @@ pub mod name;
 pub mod path;
 pub mod refusal;
 pub mod reply;
+#[cfg(test)]
+mod tests;

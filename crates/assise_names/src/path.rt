@@ -113,7 +113,8 @@ impl Path {
     pub fn is_front_of(&self, other: &Path) -> bool
         ensures { IsTrue result ↔ IsProperFront self.now other.now }
     {
-        self.names.len() < other.names.len() && other.names.as_slice().starts_with(self.names.as_slice())
+        self.names.len() < other.names.len()
+            && other.names.as_slice().starts_with(self.names.as_slice())
     }
 
     /// An equal value, or [`Refusal::OutOfMemory`].

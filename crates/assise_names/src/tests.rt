@@ -1,0 +1,173 @@
+// Texts of paths, and what is printed of paths, calls, replies and refusals.
+use crate::byte_string::ByteString;
+use crate::call::Op;
+use crate::path::{Path, PathFault};
+use crate::refusal::Refusal;
+use crate::reply::{Reply, TreeError};
+use std::test::Fail;
+
+/// `count` times a byte of ASCII, behind what stands in front.
+fn repeated(rt: &HostRuntime, front: &str, piece: &str, count: usize) -> Result<String, Fail> {
+    let mut text = String::from_str(rt.alloc(), front)?;
+    for _ in 0..count {
+        text.push_str(piece)?;
+    }
+    Ok(text)
+}
+
+#[test]
+fn paths_are_spelled_by_their_names(rt: HostRuntime) -> Result<(), Fail> {
+    for (text, depth) in [("/", 0), ("/f", 1), ("/d/k", 2), ("/...", 1), ("/ä/ /-", 3)] {
+        let path = Path::parse(rt.alloc(), text)?;
+        assert_eq!(rt; path.names().len(), depth, "at {text}");
+        let printed = format!(in rt.alloc(); "{path}")?;
+        assert_eq!(rt; printed.as_str(), text);
+        let copied = path.copy(rt.alloc())?;
+        let printed = format!(in rt.alloc(); "{copied}")?;
+        assert_eq!(rt; printed.as_str(), text);
+    }
+    Ok(())
+}
+
+#[test]
+fn the_first_fault_of_a_text_is_named(rt: HostRuntime) -> Result<(), Fail> {
+    let long = repeated(&rt, "/", "a", 256)?;
+    let deep = repeated(&rt, "", "/a", 33)?;
+    let deep_and_bad = repeated(&rt, "", "/..", 33)?;
+    for (text, fault) in [
+        ("", PathFault::NotAbsolute),
+        ("f", PathFault::NotAbsolute),
+        ("f//", PathFault::NotAbsolute),
+        ("//", PathFault::EmptyName),
+        ("/a/", PathFault::EmptyName),
+        ("/a//b", PathFault::EmptyName),
+        ("/.", PathFault::BadName),
+        ("/..", PathFault::BadName),
+        ("/a\0", PathFault::BadName),
+        ("/a/./", PathFault::BadName),
+        (long.as_str(), PathFault::NameTooLong),
+        (deep.as_str(), PathFault::TooDeep),
+        (deep_and_bad.as_str(), PathFault::BadName),
+    ] {
+        assert_eq!(rt;
+            Path::parse(rt.alloc(), text).err(),
+            Some(fault),
+            "at {text}"
+        );
+    }
+    Ok(())
+}
+
+#[test]
+fn limits_of_paths_are_taken(rt: HostRuntime) -> Result<(), Fail> {
+    let long = repeated(&rt, "/", "a", 255)?;
+    assert_eq!(rt; Path::parse(rt.alloc(), long.as_str())?.names().len(), 1);
+    let deep = repeated(&rt, "", "/a", 32)?;
+    assert_eq!(rt; Path::parse(rt.alloc(), deep.as_str())?.names().len(), 32);
+    Ok(())
+}
+
+#[test]
+fn a_front_is_proper(rt: HostRuntime) -> Result<(), Fail> {
+    for (front, path, yes) in [
+        ("/", "/a", true),
+        ("/", "/", false),
+        ("/a", "/a", false),
+        ("/a", "/a/b", true),
+        ("/a", "/ab", false),
+        ("/a/b", "/a", false),
+        ("/b", "/a/b", false),
+    ] {
+        let front = Path::parse(rt.alloc(), front)?;
+        let path = Path::parse(rt.alloc(), path)?;
+        assert_eq!(rt; front.is_front_of(&path), yes, "{front} and {path}");
+    }
+    Ok(())
+}
+
+#[test]
+fn calls_are_printed_as_a_history_has_them(rt: HostRuntime) -> Result<(), Fail> {
+    let write = Op::Write(
+        Path::parse(rt.alloc(), "/f")?,
+        9,
+        ByteString::from_vec(b"abc".to_vec(rt.alloc())?),
+    );
+    for (op, text) in [
+        (Op::Create(Path::parse(rt.alloc(), "/f")?), "create /f"),
+        (
+            Op::Read(Path::parse(rt.alloc(), "/a/b")?, 0, 10),
+            "read /a/b 0 10",
+        ),
+        (write, "write /f 9 3"),
+        (Op::Stat(Path::parse(rt.alloc(), "/")?), "stat /"),
+    ] {
+        let printed = format!(in rt.alloc(); "{op}")?;
+        assert_eq!(rt; printed.as_str(), text);
+        let copied = op.copy(rt.alloc())?;
+        let printed = format!(in rt.alloc(); "{copied}")?;
+        assert_eq!(rt; printed.as_str(), text);
+    }
+    Ok(())
+}
+
+#[test]
+fn replies_are_printed_by_their_words(rt: HostRuntime) -> Result<(), Fail> {
+    let bytes = ByteString::from_vec([0u8, 0x61, 0xff].to_vec(rt.alloc())?);
+    for (reply, text) in [
+        (Reply::Done, "done"),
+        (
+            Reply::Bytes(ByteString::from_vec(Vec::new(rt.alloc()))),
+            "bytes 0 x",
+        ),
+        (Reply::Bytes(bytes), "bytes 3 x0061ff"),
+        (Reply::File(1_048_576), "file 1048576"),
+        (Reply::Dir(0), "dir 0"),
+        (Reply::Error(TreeError::NoEnt), "E1 NoEnt"),
+        (Reply::Error(TreeError::Exists), "E2 Exists"),
+        (Reply::Error(TreeError::NotDir), "E3 NotDir"),
+        (Reply::Error(TreeError::IsDir), "E4 IsDir"),
+        (Reply::Error(TreeError::NotEmpty), "E5 NotEmpty"),
+        (Reply::Error(TreeError::Invalid), "E6 Invalid"),
+        (Reply::Error(TreeError::TooBig), "E7 TooBig"),
+        (Reply::Error(TreeError::DirFull), "E8 DirFull"),
+    ] {
+        let printed = format!(in rt.alloc(); "{reply}")?;
+        assert_eq!(rt; printed.as_str(), text);
+        assert_eq!(rt; reply.copy(rt.alloc())?, reply);
+    }
+    Ok(())
+}
+
+#[test]
+fn refusals_are_printed_by_number_and_name(rt: HostRuntime) -> Result<(), Fail> {
+    for (refusal, text) in [
+        (Refusal::OutOfMemory, "F1 OutOfMemory"),
+        (Refusal::Busy, "F2 Busy"),
+        (Refusal::NodeDown, "F3 NodeDown"),
+        (Refusal::ClientGone, "F4 ClientGone"),
+        (Refusal::InodesSpent, "F5 InodesSpent"),
+        (Refusal::TooLarge, "F6 TooLarge"),
+        (Refusal::LastNode, "F7 LastNode"),
+        (Refusal::BadNode, "F8 BadNode"),
+        (Refusal::BadClient, "F9 BadClient"),
+        (Refusal::WrongPhase, "F10 WrongPhase"),
+        (Refusal::StaleMessage, "F11 StaleMessage"),
+        (Refusal::LogFull, "F12 LogFull"),
+    ] {
+        let printed = format!(in rt.alloc(); "{refusal}")?;
+        assert_eq!(rt; printed.as_str(), text);
+    }
+    Ok(())
+}
+
+#[test]
+fn a_byte_string_is_its_bytes(rt: HostRuntime) -> Result<(), Fail> {
+    let one = ByteString::from_vec(b"abc".to_vec(rt.alloc())?);
+    let other = ByteString::from_vec(b"abd".to_vec(rt.alloc())?);
+    assert_eq!(rt; one.as_slice(), b"abc".as_slice());
+    assert_eq!(rt; one.len(), 3);
+    assert!(rt; !one.is_empty());
+    assert!(rt; one == one.copy(rt.alloc())?);
+    assert!(rt; one != other);
+    Ok(())
+}
