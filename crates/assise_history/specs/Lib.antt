@@ -1,0 +1,7 @@
+pub mod Entries
+pub mod Seen
+pub mod Kept
+pub mod Legal
+pub mod Opened
+pub mod Played
+pub mod Text

@@ -1,13 +1,14 @@
-// A library with one function.
+//! Histories: what happened, which calls of it are kept, and whether it is legal.
 #![tactic(auto)]
 
-ghost use Rattle.std.specs.Prelude.{◌≡◌};
-ghost use Rattle.assise_history.specs.Echo.{echo_of};
-
-// The `ensures` clause is the contract: what `echo` returns is `echo_of` of its argument, a definition
-// in `specs/Echo.antt`, which a caller's clause can cite too.
-pub fn echo(x: usize) -> usize
-    ensures { result ≡ echo_of x }
-{
-    x
-}
+pub mod call;
+pub mod check;
+pub mod entry;
+mod front;
+pub mod growing;
+pub mod history;
+pub mod kept;
+mod played;
+pub mod replay;
+#[cfg(test)]
+mod tests;

@@ -1,0 +1,148 @@
+-- Runs, one call at a time, and what an entry more keeps.
+use Rattle.std.proofs.Common.{◌≡◌, ℕ, Bool, true, false, not, List, [], ◌∷◌, ◌++◌, filter, map, refl, ap, sym, subst, ◌∙◌}
+use Rattle.std.proofs.Common.{if◌then◌else◌, inl, inr}
+use Rattle.std.proofs.Common.{Bor, take, drop, length, get_or, ◌+◌, ◌<◌}
+use Rattle.std.proofs.lemmas.List.{take_more, map-append, take-append-drop}
+use Rattle.std.proofs.lemmas.Bool.{cases_Bool}
+use Rattle.assise_seq_tree.specs.Tree.{Tree}
+use Rattle.assise_seq_tree.specs.Answer.{answer}
+use Rattle.assise_history.specs.declared.call.Call.{Call}
+use Rattle.assise_history.specs.Entries.{Event, opens, calls, crashes, fails, returns}
+use Rattle.assise_history.specs.Kept.{loses, is_lost, kept, kept_more, IsRun, tree_after}
+
+-- what follows the first call is a run exactly if all of it is, where the first call's reply is right
+pub record Alike (P Q : Type 0) : Type 0 where
+  pub onto : P → Q
+  pub back : Q → P
+
+pub run_step : (P : Type 0) (t t' : Tree) (reply : _) (call : Call) (more rest : List Call) → Alike P (IsRun t rest) → rest ≡ call ∷ more → (reply, t') ≡ answer t call.op → reply ≡ call.reply → Alike P (IsRun t' more)
+run_step P t t' reply call more rest same split step right =
+    let right' : call.reply ≡ (answer t call.op).0 = sym right ∙ ap (λ p. p.0) step in
+    let left : t' ≡ (answer t call.op).1 = ap (λ p. p.1) step in
+    record {
+      onto = λ p. subst (λ s. IsRun s more) (sym left) (subst (IsRun t) split (same.onto p)).1;
+      back = λ q. same.back (subst (IsRun t) (sym split) (right', subst (λ s. IsRun s more) left q));
+    }
+
+-- no run goes through a wrong reply
+pub run_stops : (P : Type 0) (t t' : Tree) (reply : _) (call : Call) (more rest : List Call) → Alike P (IsRun t rest) → rest ≡ call ∷ more → (reply, t') ≡ answer t call.op → (reply ≡ call.reply → ⊥) → P → ⊥
+run_stops P t t' reply call more rest same split step wrong p =
+    wrong (ap (λ p. p.0) step ∙ sym (subst (IsRun t) split (same.onto p)).0)
+
+or_false : (b : Bool) → (if b then true else false) ≡ b
+or_false true = refl
+or_false false = refl
+
+-- a call more is kept
+pub is_lost-append : (es fs : List Event) (call : Call) → is_lost (es ++ fs) call ≡ (if is_lost es call then true else is_lost fs call)
+is_lost-append [] fs call = refl
+is_lost-append (opens c n ∷ es) fs call = is_lost-append es fs call
+is_lost-append (calls other ∷ es) fs call = is_lost-append es fs call
+is_lost-append (crashes c ∷ es) fs call = is_lost-append es fs call
+is_lost-append (returns n ∷ es) fs call = is_lost-append es fs call
+is_lost-append (fails n losses ∷ es) fs call =
+    elim (cases_Bool (loses losses call)) [
+      | inl gone ↦ rw gone
+      | inr left ↦ rw left (is_lost-append es fs call)
+    ]
+
+pub kept-call : (es : List Event) (call : Call) → kept (es ++ calls call ∷ []) ≡ kept es ++ call ∷ []
+kept-call [] call = refl
+kept-call (opens c n ∷ es) call = kept-call es call
+kept-call (crashes c ∷ es) call = kept-call es call
+kept-call (returns n ∷ es) call = kept-call es call
+kept-call (fails n losses ∷ es) call = kept-call es call
+kept-call (calls other ∷ es) call =
+    let e : is_lost (es ++ calls call ∷ []) other ≡ is_lost es other = is_lost-append es (calls call ∷ []) other ∙ or_false (is_lost es other) in
+    elim (cases_Bool (is_lost es other)) [
+      | inl gone ↦ rw (e, gone) (kept-call es call)
+      | inr left ↦ rw (e, left) (ap (λ xs. other ∷ xs) (kept-call es call))
+    ]
+
+-- a failure more keeps what it doesn't lose
+pub kept-fail : (es : List Event) (n : ℕ) (losses : _) → kept (es ++ fails n losses ∷ []) ≡ filter (λ call. not (loses losses call)) (kept es)
+kept-fail [] n losses = refl
+kept-fail (opens c m ∷ es) n losses = kept-fail es n losses
+kept-fail (crashes c ∷ es) n losses = kept-fail es n losses
+kept-fail (returns m ∷ es) n losses = kept-fail es n losses
+kept-fail (fails m others ∷ es) n losses = kept-fail es n losses
+kept-fail (calls other ∷ es) n losses =
+    let e = is_lost-append es (fails n losses ∷ []) other in
+    elim (cases_Bool (is_lost es other)) [
+      | inl gone ↦ rw (e, gone) (kept-fail es n losses)
+      | inr left ↦ elim (cases_Bool (loses losses other)) [
+        | inl lost ↦ rw (e, left, lost) (kept-fail es n losses)
+        | inr stays ↦ rw (e, left, stays) (ap (λ xs. other ∷ xs) (kept-fail es n losses))
+      ]
+    ]
+
+-- a run, and a call more
+pub run-push : (t : Tree) (cs : List Call) (call : Call) → IsRun t cs → call.reply ≡ (answer (tree_after t cs) call.op).0 → IsRun t (cs ++ call ∷ [])
+run-push t [] call run right = (right, tt)
+run-push t (c ∷ cs) call run right = (run.0, run-push (answer t c.op).1 cs call run.1 right)
+
+pub map-filter : {X Y : Type 0} (f : X → Y) (p : Y → Bool) (xs : List X) → map f (filter (λ x. p (f x)) xs) ≡ filter p (map f xs)
+map-filter f p [] = refl
+map-filter f p (x ∷ xs) =
+    elim (cases_Bool (p (f x))) [
+      | inl stays ↦ rw stays (ap (λ ys. f x ∷ ys) (map-filter f p xs))
+      | inr goes ↦ rw goes (map-filter f p xs)
+    ]
+
+-- an entry more that is no call and loses none
+kept-quiet : (es : List Event) (e : Event) → ((call : Call) → is_lost (e ∷ []) call ≡ false) → kept (e ∷ []) ≡ [] → kept (es ++ e ∷ []) ≡ kept es
+kept-quiet [] e h none = none
+kept-quiet (opens c n ∷ es) e h none = kept-quiet es e h none
+kept-quiet (crashes c ∷ es) e h none = kept-quiet es e h none
+kept-quiet (returns n ∷ es) e h none = kept-quiet es e h none
+kept-quiet (fails n losses ∷ es) e h none = kept-quiet es e h none
+kept-quiet (calls other ∷ es) e h none =
+    let same : is_lost (es ++ e ∷ []) other ≡ is_lost es other = is_lost-append es (e ∷ []) other ∙ rw (h other) (or_false (is_lost es other)) in
+    elim (cases_Bool (is_lost es other)) [
+      | inl gone ↦ rw (same, gone) (kept-quiet es e h none)
+      | inr left ↦ rw (same, left) (ap (λ xs. other ∷ xs) (kept-quiet es e h none))
+    ]
+
+pub kept-push : (es : List Event) (e : Event) → kept (es ++ e ∷ []) ≡ kept_more (kept es) e
+kept-push es (calls call) = kept-call es call
+kept-push es (fails n losses) = kept-fail es n losses
+kept-push es (opens c n) = kept-quiet es (opens c n) (λ call. refl) refl
+kept-push es (crashes c) = kept-quiet es (crashes c) (λ call. refl) refl
+kept-push es (returns n) = kept-quiet es (returns n) (λ call. refl) refl
+
+-- a run's front is a run
+pub run-front : (t : Tree) (cs ds : List Call) → IsRun t (cs ++ ds) → IsRun t cs
+run-front t [] ds run = tt
+run-front t (c ∷ cs) ds run = (run.0, run-front (answer t c.op).1 cs ds run.1)
+
+-- the reply of its last call
+pub run-last : (t : Tree) (cs : List Call) (x : Call) → IsRun t (cs ++ x ∷ []) → x.reply ≡ (answer (tree_after t cs) x.op).0
+run-last t [] x run = run.0
+run-last t (c ∷ cs) x run = run-last (answer t c.op).1 cs x run.1
+
+pub tree_after-push : (t : Tree) (cs : List Call) (x : Call) → tree_after t (cs ++ x ∷ []) ≡ (answer (tree_after t cs) x.op).1
+tree_after-push t [] x = refl
+tree_after-push t (c ∷ cs) x = tree_after-push (answer t c.op).1 cs x
+
+-- one call more was played, and its reply is right
+pub played_right : (s : Tree) (cs : List Call) (t t' : Tree) (reply : _) (x : Call) → IsRun s cs → t ≡ tree_after s cs → (reply, t') ≡ answer t x.op → reply ≡ x.reply → IsRun s (cs ++ x ∷ []) × (t' ≡ tree_after s (cs ++ x ∷ []))
+played_right s cs t t' reply x run is step right =
+    let now : (reply, t') ≡ answer (tree_after s cs) x.op = step ∙ ap (λ u. answer u x.op) is in
+    (run-push s cs x run (sym right ∙ ap (λ p. p.0) now), ap (λ p. p.1) now ∙ sym (tree_after-push s cs x))
+
+-- its reply is wrong
+pub played_wrong : (s : Tree) (cs : List Call) (t t' : Tree) (reply : _) (x : Call) → t ≡ tree_after s cs → (reply, t') ≡ answer t x.op → (reply ≡ x.reply → ⊥) → IsRun s (cs ++ x ∷ []) → ⊥
+played_wrong s cs t t' reply x is step wrong run =
+    let now : (reply, t') ≡ answer (tree_after s cs) x.op = step ∙ ap (λ u. answer u x.op) is in
+    wrong (ap (λ p. p.0) now ∙ sym (run-last s cs x run))
+
+-- one call more of a list of references
+pub calls_more : (cs : List (Bor Call)) (i : ℕ) (d : Bor Call) → i < length cs → map (λ x. x.now) (take (i + 1) cs) ≡ map (λ x. x.now) (take i cs) ++ (get_or cs i d).now ∷ []
+calls_more cs i d h = ap (map (λ x. x.now)) (take_more cs i d h) ∙ map-append (λ x. x.now) (take i cs) (get_or cs i d ∷ [])
+
+-- no front that ends with a wrong call is part of a run
+pub stops : (s : Tree) (cs : List (Bor Call)) (i : ℕ) (d : Bor Call) → i < length cs → (IsRun s (map (λ x. x.now) (take i cs) ++ (get_or cs i d).now ∷ []) → ⊥) → IsRun s (map (λ x. x.now) cs) → ⊥
+stops s cs i d h wrong run =
+    let parts : map (λ x. x.now) cs ≡ map (λ x. x.now) (take (i + 1) cs) ++ map (λ x. x.now) (drop (i + 1) cs) =
+    ap (map (λ x. x.now)) (sym (take-append-drop (i + 1) cs)) ∙ map-append (λ x. x.now) (take (i + 1) cs) (drop (i + 1) cs) in
+    wrong (subst (IsRun s) (calls_more cs i d h) (run-front s _ _ (subst (IsRun s) parts run)))

@@ -1,0 +1,6 @@
+use Rattle.std.proofs.Common.{◌≡◌, map, take}
+use Rattle.assise_history.specs.Kept.{kept}
+use Rattle.assise_history.proofs.kept.kept_of.Given as goal
+
+abbrev pub invariant-loop-entry : goal.invariant-loop-entry
+invariant-loop-entry l = map (λ call. call.now) l.calls.items ≡ kept (take l.entry-index l.entries)

@@ -1,0 +1,21 @@
+-- An entry of a history as clauses see it.
+use Rattle.std.specs.Prelude.{ℕ, List}
+use Rattle.assise_history.specs.declared.call.Call.{Call}
+use Rattle.assise_history.specs.declared.call.Loss.{Loss}
+
+pub data Event : Type 0 where
+  -- a client was opened on a node
+  opens : ℕ → ℕ → Event
+  -- a call was answered
+  calls : Call → Event
+  -- a client crashed
+  crashes : ℕ → Event
+  -- a node failed, and its clients lost calls
+  fails : ℕ → List Loss → Event
+  -- a node was taken in again
+  returns : ℕ → Event
+
+-- what happened, in order, and for how many more entries there is room
+pub record Recorded : Type 0 where
+  pub events : List Event
+  pub room : ℕ

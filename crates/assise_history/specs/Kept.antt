@@ -1,0 +1,48 @@
+-- Which calls of a history are kept, and what a run is.
+use Rattle.std.specs.Prelude.{◌≡◌, ℕ, Bool, true, false, not, ◌&&◌, ◌==◌, nat_le, if◌then◌else◌, List, [], ◌∷◌, ◌++◌, filter}
+use Rattle.std.specs.List.{list_any}
+use Rattle.assise_seq_tree.specs.Tree.{Tree, opening}
+use Rattle.assise_seq_tree.specs.Answer.{answer}
+use Rattle.assise_history.specs.declared.call.Call.{Call}
+use Rattle.assise_history.specs.declared.call.Loss.{Loss}
+use Rattle.assise_history.specs.Entries.{Event, opens, calls, crashes, fails, returns}
+
+-- the failure loses the call
+abbrev pub loses : List Loss → Call → Bool
+loses losses x = list_any (λ l. (l.client == x.client) && nat_le l.first x.number) losses
+
+-- a failure among the entries loses the call
+abbrev pub is_lost : List Event → Call → Bool
+is_lost [] x = false
+is_lost (fails n losses ∷ es) x = if loses losses x then true else is_lost es x
+is_lost (opens c n ∷ es) x = is_lost es x
+is_lost (calls other ∷ es) x = is_lost es x
+is_lost (crashes c ∷ es) x = is_lost es x
+is_lost (returns n ∷ es) x = is_lost es x
+
+-- the calls that no later failure loses, in order
+abbrev pub kept : List Event → List Call
+kept [] = []
+kept (calls x ∷ es) = if is_lost es x then kept es else x ∷ kept es
+kept (opens c n ∷ es) = kept es
+kept (crashes c ∷ es) = kept es
+kept (fails n losses ∷ es) = kept es
+kept (returns n ∷ es) = kept es
+
+-- the calls that are kept after an entry more
+abbrev pub kept_more : List Call → Event → List Call
+kept_more cs (calls x) = cs ++ x ∷ []
+kept_more cs (fails n losses) = filter (λ x. not (loses losses x)) cs
+kept_more cs (opens c n) = cs
+kept_more cs (crashes c) = cs
+kept_more cs (returns n) = cs
+
+-- each reply is the tree's, one call after another
+abbrev pub IsRun : Tree → List Call → Type 0
+IsRun t [] = Unit {0}
+IsRun t (x ∷ more) = (x.reply ≡ (answer t x.op).0) × IsRun (answer t x.op).1 more
+
+-- the tree that a list of calls leaves
+abbrev pub tree_after : Tree → List Call → Tree
+tree_after t [] = t
+tree_after t (x ∷ more) = tree_after (answer t x.op).1 more

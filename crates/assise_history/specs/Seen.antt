@@ -1,0 +1,11 @@
+-- What an entry of the code shows.
+use Rattle.assise_history.specs.Entries.{Event, opens, calls, crashes, fails, returns}
+use Rattle.assise_history.specs.declared.entry.EntryKind.{EntryKind}
+use Rattle.assise_history.specs.declared.entry.EntryKind.TheVariants.{Open, Call, Crash, Fail, Return}
+
+abbrev pub event_of : EntryKind → Event
+event_of (Open c n) = opens c n
+event_of (Call x) = calls x
+event_of (Crash c) = crashes c
+event_of (Fail n losses) = fails n losses.items
+event_of (Return n) = returns n

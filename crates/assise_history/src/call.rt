@@ -1,0 +1,37 @@
+// Answered calls, and what a failure loses.
+
+use assise_names::call::Op;
+use assise_names::reply::Reply;
+
+/// An answered call.
+#[derive(Debug, Drop)]
+pub struct Call {
+    /// The client that called.
+    pub client: u32,
+    /// How many calls of the client were answered before.
+    pub number: u64,
+    /// What was asked.
+    pub op: Op,
+    /// What was answered.
+    pub reply: Reply,
+}
+
+/// What a failure loses of a client: its calls from a number on.
+#[derive(Clone, Copy, PartialEq, Eq, Debug)]
+pub struct Loss {
+    /// The client.
+    pub client: u32,
+    /// The number of its first lost call.
+    pub first: u64,
+}
+
+/// What a front of a history says of a client.
+#[derive(Clone, Copy, Debug)]
+pub(crate) struct ClientSummary {
+    pub(crate) client: u32,
+    pub(crate) node: u32,
+    pub(crate) last: Option<u64>,
+    pub(crate) synced: Option<u64>,
+    pub(crate) crashed: bool,
+    pub(crate) failed: bool,
+}

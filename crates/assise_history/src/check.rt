@@ -1,0 +1,38 @@
+// Whether a history is legal.
+ghost use Rattle.std.specs.Prelude.{◌↔◌, IsTrue, IfOk, IsOkUnless};
+ghost use Rattle.assise_history.specs.Legal.{IsLegal};
+ghost use Rattle.assise_names.specs.declared.refusal.Refusal.TheVariants.{OutOfMemory};
+
+use crate::entry::Entry;
+use crate::front::Front;
+use crate::history::History;
+use crate::played::Played;
+use assise_names::refusal::Refusal;
+use std::alloc::Global;
+
+/// Whether the history is legal, or [`Refusal::OutOfMemory`]. It costs at most the history's length times one more
+/// than the count of its failures, as each failure replays the calls that are kept.
+pub fn check(alloc: Global, history: &History) -> Result<bool, Refusal>
+    ensures decided { IfOk result (λ yes. IsTrue yes ↔ IsLegal history.now.events) }
+    ensures only_memory { IsOkUnless result OutOfMemory }
+{
+    is_legal(alloc, history.entries())
+}
+
+fn is_legal(alloc: Global, entries: &[Entry]) -> Result<bool, Refusal>
+    ensures decided { IfOk result (λ yes. IsTrue yes ↔ IsLegal entries.now) }
+    ensures only_memory { IsOkUnless result OutOfMemory }
+{
+    let mut front = Front::new(alloc);
+    let mut played = Played::new(alloc);
+    for entry in entries {
+        if !front.allows(entry) {
+            return Ok(false);
+        }
+        if !played.take(alloc, entry)? {
+            return Ok(false);
+        }
+        front.note(entry)?;
+    }
+    Ok(true)
+}

@@ -1,0 +1,252 @@
+// What a front of a history says.
+ghost use Rattle.std.specs.Prelude.{◌≡◌, ◌==◌, ◌&&◌, OnOk, map, filter, not};
+ghost use Rattle.assise_history.specs.Legal.{after, follows, nothing_yet, newly_opened, is_fair, is_down, is_fsync, is_past, comes_next, makes, may_lose, rise_from, with_call, with_crash, with_failure};
+ghost use Rattle.std.specs.List.{list_any, list_all};
+
+use crate::call::{Call, ClientSummary, Loss};
+use crate::entry::{Entry, EntryKind};
+use assise_names::call::Op;
+use std::alloc::{AllocError, Global};
+use std::marker::Model;
+
+/// The clients in the order of their opening, and the nodes that failed and are not back.
+#[derive(Drop)]
+pub(crate) struct Front {
+    clients: Vec<ClientSummary>,
+    down: Vec<u32>,
+}
+
+impl Model for Front {
+    ghost use Rattle.assise_history.specs.Legal.{Summary};
+
+    ghost Value = { Summary };
+
+    ghost view = { λ a. record { clients = a.clients.items; down = a.down.items } };
+}
+
+impl Front {
+    pub(crate) fn new(alloc: Global) -> Front
+        ensures { result ≡ nothing_yet }
+    {
+        Front {
+            clients: Vec::new(alloc),
+            down: Vec::new(alloc),
+        }
+    }
+
+    /// Whether the entry may come next.
+    pub(crate) fn allows(&self, entry: &Entry) -> bool
+        ensures { result ≡ follows self.now entry.now }
+    {
+        match entry.kind() {
+            EntryKind::Open { client, node } => {
+                *client as usize == self.clients.len() + 1 && !self.is_down(*node)
+            }
+            EntryKind::Call(call) => some_makes(self.clients.as_slice(), call),
+            EntryKind::Crash { client } => some_runs(self.clients.as_slice(), *client),
+            EntryKind::Fail { node, losses } => self.is_fair(*node, losses.as_slice()),
+            EntryKind::Return { node } => self.is_down(*node),
+        }
+    }
+
+    fn is_down(&self, node: u32) -> bool
+        ensures { result ≡ is_down self.now node }
+    {
+        self.down.iter().any(|m| *m == node)
+    }
+
+    fn is_fair(&self, node: u32, losses: &[Loss]) -> bool
+        ensures { result ≡ is_fair self.now node losses.now }
+    {
+        rise(losses) && all_may_be_lost(self.clients.as_slice(), node, losses)
+    }
+
+    /// Takes the entry in.
+    pub(crate) fn note(&mut self, entry: &Entry) -> Result<(), AllocError>
+        ensures { OnOk result (self.new ≡ after self.old entry.now) }
+    {
+        match entry.kind() {
+            EntryKind::Open { client, node } => {
+                self.clients.push(opened(*client, *node))?;
+                Ok(())
+            }
+            EntryKind::Call(call) => {
+                note_call(self.clients.as_mut_slice(), call);
+                Ok(())
+            }
+            EntryKind::Crash { client } => {
+                note_crash(self.clients.as_mut_slice(), *client);
+                Ok(())
+            }
+            EntryKind::Fail { node, .. } => {
+                self.down.push(*node)?;
+                note_failure(self.clients.as_mut_slice(), *node);
+                Ok(())
+            }
+            EntryKind::Return { node } => {
+                note_return(&mut self.down, *node);
+                Ok(())
+            }
+        }
+    }
+}
+
+fn opened(client: u32, node: u32) -> ClientSummary
+    ensures { result ≡ newly_opened client node }
+{
+    ClientSummary {
+        client,
+        node,
+        last: None,
+        synced: None,
+        crashed: false,
+        failed: false,
+    }
+}
+
+fn is_fsync(op: &Op) -> bool
+    ensures { result ≡ is_fsync op.now }
+{
+    match op {
+        Op::Create(_) => false,
+        Op::Read(_, _, _) => false,
+        Op::Write(_, _, _) => false,
+        Op::Stat(_) => false,
+    }
+}
+
+fn comes_next(last: Option<u64>, number: u64) -> bool
+    ensures { result ≡ comes_next last number }
+{
+    match last {
+        None => number == 0,
+        Some(l) => number > 0 && number - 1 == l,
+    }
+}
+
+fn is_past(last: Option<u64>, number: u64) -> bool
+    ensures { result ≡ is_past last number }
+{
+    match last {
+        None => true,
+        Some(l) => l < number,
+    }
+}
+
+fn makes(call: &Call, k: &ClientSummary) -> bool
+    ensures { result ≡ makes call.now k.now }
+{
+    k.client == call.client && !k.crashed && !k.failed && comes_next(k.last, call.number)
+}
+
+fn may_lose(node: u32, loss: &Loss, k: &ClientSummary) -> bool
+    ensures { result ≡ may_lose node loss.now k.now }
+{
+    k.client == loss.client && k.node == node && !k.failed && is_past(k.synced, loss.first)
+}
+
+fn some_makes(clients: &[ClientSummary], call: &Call) -> bool
+    ensures { result ≡ list_any (makes call.now) clients.now }
+{
+    clients.iter().any(|k| makes(call, k))
+}
+
+fn some_runs(clients: &[ClientSummary], client: u32) -> bool
+    ensures { result ≡ list_any (λ k. (k.client == client) && not k.crashed) clients.now }
+{
+    clients.iter().any(|k| k.client == client && !k.crashed)
+}
+
+fn some_may_lose(clients: &[ClientSummary], node: u32, loss: &Loss) -> bool
+    ensures { result ≡ list_any (may_lose node loss.now) clients.now }
+{
+    clients.iter().any(|k| may_lose(node, loss, k))
+}
+
+fn all_may_be_lost(clients: &[ClientSummary], node: u32, losses: &[Loss]) -> bool
+    ensures { result ≡ list_all (λ l. list_any (may_lose node l) clients.now) losses.now }
+{
+    losses.iter().all(|l| some_may_lose(clients, node, l))
+}
+
+/// Whether the clients rise.
+fn rise(losses: &[Loss]) -> bool
+    ensures { result ≡ rise_from None losses.now }
+{
+    let mut before: Option<u64> = None;
+    for loss in losses {
+        if !is_past(before, u64::from(loss.client)) {
+            return false;
+        }
+        before = Some(u64::from(loss.client));
+    }
+    true
+}
+
+fn with_call(call: &Call, k: ClientSummary) -> ClientSummary
+    ensures { result ≡ with_call call.now k }
+{
+    if k.client != call.client {
+        return k;
+    }
+    let synced = if is_fsync(&call.op) {
+        Some(call.number)
+    } else {
+        k.synced
+    };
+    ClientSummary {
+        last: Some(call.number),
+        synced,
+        ..k
+    }
+}
+
+fn with_crash(client: u32, k: ClientSummary) -> ClientSummary
+    ensures { result ≡ with_crash client k }
+{
+    if k.client == client {
+        ClientSummary { crashed: true, ..k }
+    } else {
+        k
+    }
+}
+
+fn with_failure(node: u32, k: ClientSummary) -> ClientSummary
+    ensures { result ≡ with_failure node k }
+{
+    if k.node == node {
+        ClientSummary { failed: true, ..k }
+    } else {
+        k
+    }
+}
+
+fn note_call(clients: &mut [ClientSummary], call: &Call)
+    ensures { clients.new ≡ map (with_call call.now) clients.old }
+{
+    for k in clients.iter_mut() {
+        *k = with_call(call, *k);
+    }
+}
+
+fn note_crash(clients: &mut [ClientSummary], client: u32)
+    ensures { clients.new ≡ map (with_crash client) clients.old }
+{
+    for k in clients.iter_mut() {
+        *k = with_crash(client, *k);
+    }
+}
+
+fn note_failure(clients: &mut [ClientSummary], node: u32)
+    ensures { clients.new ≡ map (with_failure node) clients.old }
+{
+    for k in clients.iter_mut() {
+        *k = with_failure(node, *k);
+    }
+}
+
+fn note_return(down: &mut Vec<u32>, node: u32)
+    ensures { down.new.items ≡ filter (λ m. not (m == node)) down.old.items }
+{
+    down.retain(|m| *m != node);
+}

@@ -1,0 +1,78 @@
+// What happened, in order.
+ghost use Rattle.std.specs.Prelude.{◌≡◌, ◌<◌, [], ◌∷◌, ◌++◌, IsOkUnless, OnOk, Some};
+ghost use Rattle.assise_history.specs.Text.{history_text};
+ghost use Rattle.assise_names.specs.declared.refusal.Refusal.TheVariants.{OutOfMemory};
+
+use crate::entry::Entry;
+use assise_names::refusal::Refusal;
+use std::alloc::Global;
+use std::fmt;
+use std::fmt::{Display, Formatter};
+use std::marker::Model;
+
+/// Entries in the order in which they happened. A history only grows. A contract sees the events, and for how
+/// many more entries there is room without another growth.
+#[derive(Debug, Drop)]
+pub struct History {
+    entries: Vec<Entry>,
+}
+
+impl Model for History {
+    ghost use Rattle.std.specs.Prelude.{◌-◌, vec_capacity, vec_len};
+    ghost use Rattle.assise_history.specs.Entries.{Recorded};
+
+    ghost Value = { Recorded };
+
+    ghost view = { λ h. record { events = h.entries.items; room = vec_capacity h.entries - vec_len h.entries } };
+}
+
+impl History {
+    /// A history in which nothing happened. Its entries lie where the allocator puts them.
+    pub fn new(alloc: Global) -> History
+        ensures { result.events ≡ [] }
+    {
+        History {
+            entries: Vec::new(alloc),
+        }
+    }
+
+    /// The entries in order.
+    pub fn entries(&self) -> &[Entry]
+        ensures { result.now ≡ self.now.events }
+    {
+        self.entries.as_slice()
+    }
+
+    /// Makes room for an entry, or answers [`Refusal::OutOfMemory`].
+    pub fn reserve(&mut self) -> Result<(), Refusal>
+        ensures room { OnOk result (0 < self.new.room) }
+        ensures only_memory { IsOkUnless result OutOfMemory }
+        ensures same { self.new.events ≡ self.old.events }
+    {
+        self.entries.reserve(1)?;
+        Ok(())
+    }
+
+    /// Adds an entry, for which room was made.
+    pub fn push(&mut self, entry: Entry)
+        requires { 0 < self.old.room }
+        ensures { self.new.events ≡ self.old.events ++ entry ∷ [] }
+    {
+        self.entries.push_reserved(entry);
+    }
+}
+
+/// The count of the entries, and then each in a line of its own. The last line has no end.
+impl Display for History {
+    ghost output = { λ history. Some (history_text history.events) };
+
+    fn fmt<W: fmt::Write>(&self, f: &mut Formatter<W>) -> fmt::Result {
+        let entries = self.entries();
+        let count = entries.len();
+        write!(f, "history {count}")?;
+        for entry in entries {
+            write!(f, "\n{entry}")?;
+        }
+        Ok(())
+    }
+}

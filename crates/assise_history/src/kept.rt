@@ -1,0 +1,64 @@
+// The calls that no later failure loses.
+ghost use Rattle.std.specs.Prelude.{◌≡◌, IfOk, IsOkUnless, OnOk, map, filter, not};
+ghost use Rattle.assise_history.specs.Kept.{kept, kept_more, loses};
+ghost use Rattle.assise_names.specs.declared.refusal.Refusal.TheVariants.{OutOfMemory};
+
+use crate::call::{Call, Loss};
+use crate::entry::{Entry, EntryKind};
+use crate::history::History;
+use assise_names::refusal::Refusal;
+use std::alloc::Global;
+
+/// The calls of a history that no later failure loses, in order, or [`Refusal::OutOfMemory`]. It costs the
+/// history's length, and for each failure the calls before it times the clients that lose calls.
+pub fn kept<'a>(alloc: Global, history: &'a History) -> Result<Vec<&'a Call>, Refusal>
+    ensures ok { IfOk result (λ calls. map (λ call. call.now) calls.items ≡ kept history.now.events) }
+    ensures only_memory { IsOkUnless result OutOfMemory }
+{
+    kept_of(alloc, history.entries())
+}
+
+fn kept_of<'a>(alloc: Global, entries: &'a [Entry]) -> Result<Vec<&'a Call>, Refusal>
+    ensures ok { IfOk result (λ calls. map (λ call. call.now) calls.items ≡ kept entries.now) }
+    ensures only_memory { IsOkUnless result OutOfMemory }
+{
+    let mut calls = Vec::new(alloc);
+    for entry in entries {
+        keep(&mut calls, entry)?;
+    }
+    Ok(calls)
+}
+
+/// What is kept after an entry more.
+fn keep<'a>(calls: &mut Vec<&'a Call>, entry: &'a Entry) -> Result<(), Refusal>
+    ensures ok { OnOk result (map (λ call. call.now) calls.new.items ≡ kept_more (map (λ call. call.now) calls.old.items) entry.now) }
+    ensures only_memory { IsOkUnless result OutOfMemory }
+{
+    match entry.kind() {
+        EntryKind::Call(call) => {
+            calls.push(call)?;
+            Ok(())
+        }
+        EntryKind::Fail { node: _, losses } => {
+            drop_lost(calls, losses.as_slice());
+            Ok(())
+        }
+        EntryKind::Open { .. } => Ok(()),
+        EntryKind::Crash { .. } => Ok(()),
+        EntryKind::Return { .. } => Ok(()),
+    }
+}
+
+/// Drops the calls that a failure loses.
+pub(crate) fn drop_lost(calls: &mut Vec<&Call>, losses: &[Loss])
+    ensures { map (λ call. call.now) calls.new.items ≡ filter (λ call. not (loses losses.now call)) (map (λ call. call.now) calls.old.items) }
+{
+    calls.retain(|call| !loses(losses, call));
+}
+
+/// Whether a failure with these losses loses a call.
+fn loses(losses: &[Loss], call: &Call) -> bool
+    ensures { result ≡ loses losses.now call.now }
+{
+    losses.iter().any(|loss| loss.client == call.client && loss.first <= call.number)
+}
