@@ -1,13 +1,10 @@
-// A library with one function.
+//! The console: a script is read, run, and its answers are printed.
 #![tactic(auto)]
 
-ghost use Rattle.std.specs.Prelude.{◌≡◌};
-ghost use Rattle.assise_console.specs.Echo.{echo_of};
-
-// The `ensures` clause is the contract: what `echo` returns is `echo_of` of its argument, a definition
-// in `specs/Echo.antt`, which a caller's clause can cite too.
-pub fn echo(x: usize) -> usize
-    ensures { result ≡ echo_of x }
-{
-    x
-}
+pub mod answer;
+pub mod engine;
+pub mod fault;
+pub mod options;
+pub mod state;
+#[cfg(test)]
+mod tests;

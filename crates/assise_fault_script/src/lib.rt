@@ -1,13 +1,14 @@
-// A library with one function.
+//! Scripts of commands: what each line says, or the first fault of the first faulty line.
 #![tactic(auto)]
 
-ghost use Rattle.std.specs.Prelude.{◌≡◌};
-ghost use Rattle.assise_fault_script.specs.Echo.{echo_of};
-
-// The `ensures` clause is the contract: what `echo` returns is `echo_of` of its argument, a definition
-// in `specs/Echo.antt`, which a caller's clause can cite too.
-pub fn echo(x: usize) -> usize
-    ensures { result ≡ echo_of x }
-{
-    x
-}
+mod calls;
+pub mod command;
+mod data;
+pub mod fault;
+mod keywords;
+mod line;
+mod number;
+pub mod parse;
+#[cfg(test)]
+mod tests;
+mod words;

@@ -1,5 +1,5 @@
 // What happened, in order.
-ghost use Rattle.std.specs.Prelude.{◌≡◌, ◌<◌, [], ◌∷◌, ◌++◌, IsOkUnless, OnOk, Some};
+ghost use Rattle.std.specs.Prelude.{◌≡◌, ◌<◌, ◌^◌, [], ◌∷◌, ◌++◌, IsOkUnless, OnOk, Some, length};
 ghost use Rattle.assise_history.specs.Text.{history_text};
 ghost use Rattle.assise_names.specs.declared.refusal.Refusal.TheVariants.{OutOfMemory};
 
@@ -53,10 +53,11 @@ impl History {
         Ok(())
     }
 
-    /// Adds an entry, for which room was made.
+    /// Adds an entry, for which room was made. There are never 2^63 entries.
     pub fn push(&mut self, entry: Entry)
         requires { 0 < self.old.room }
-        ensures { self.new.events ≡ self.old.events ++ entry ∷ [] }
+        ensures grown { self.new.events ≡ self.old.events ++ entry ∷ [] }
+        ensures few { length self.new.events < 2 ^ 63 }
     {
         self.entries.push_reserved(entry);
     }

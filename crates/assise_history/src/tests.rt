@@ -11,17 +11,41 @@ use assise_names::path::Path;
 use assise_names::reply::{Reply, TreeError};
 use std::test::Fail;
 
-/// A history of these entries.
-fn history(rt: &HostRuntime, entries: Vec<Entry>) -> Result<History, Fail> {
-    let mut history = History::new(rt.alloc());
-    for entry in entries {
-        history.reserve()?;
-        history.push(entry);
-    }
-    Ok(history)
+/// An entry as the tables have it. Calls are of client and number.
+#[derive(Clone, Copy)]
+enum Step {
+    Open(u32, u32),
+    Create(u32, u64, &'static str),
+    Write(u32, u64, &'static str, u64, &'static [u8]),
+    Read(u32, u64, &'static str, u64, &'static [u8]),
+    Stat(u32, u64, &'static str, Found),
+    Crash(u32),
+    Fail(u32),
+    /// The client, and its first lost call.
+    FailFrom(u32, u32, u64),
+    /// The same of two.
+    FailPair(u32, u32, u64, u32, u64),
+    Back(u32),
 }
 
-/// The entry of a call of a client.
+use Step::{Back, Crash, Create, Fail as Failed, FailFrom, FailPair, Open, Read, Stat, Write};
+
+/// What a stat answers.
+#[derive(Clone, Copy)]
+enum Found {
+    File(u64),
+    Dir(u64),
+    Nothing,
+}
+
+fn reply(found: Found) -> Reply {
+    match found {
+        Found::File(size) => Reply::File(size),
+        Found::Dir(entries) => Reply::Dir(entries),
+        Found::Nothing => Reply::Error(TreeError::NoEnt),
+    }
+}
+
 fn called(client: u32, number: u64, op: Op, reply: Reply) -> Entry {
     Entry::call(Call {
         client,
@@ -31,82 +55,111 @@ fn called(client: u32, number: u64, op: Op, reply: Reply) -> Entry {
     })
 }
 
-fn create(rt: &HostRuntime, client: u32, number: u64, path: &str) -> Result<Entry, Fail> {
-    let op = Op::Create(Path::parse(rt.alloc(), path)?);
-    Ok(called(client, number, op, Reply::Done))
+fn path(rt: &HostRuntime, text: &str) -> Result<Path, Fail> {
+    Ok(Path::parse(rt.alloc(), text)?)
 }
 
-fn stat(
-    rt: &HostRuntime,
-    client: u32,
-    number: u64,
-    path: &str,
-    reply: Reply,
-) -> Result<Entry, Fail> {
-    let op = Op::Stat(Path::parse(rt.alloc(), path)?);
-    Ok(called(client, number, op, reply))
+fn bytes(rt: &HostRuntime, bytes: &[u8]) -> Result<ByteString, Fail> {
+    Ok(ByteString::from_vec(bytes.to_vec(rt.alloc())?))
 }
 
-/// The failure of a node that takes a client's calls from a number on.
-fn failure(rt: &HostRuntime, node: u32, losses: &[Loss]) -> Result<Entry, Fail> {
-    Ok(Entry::fail(node, losses.to_vec(rt.alloc())?))
+fn entry(rt: &HostRuntime, step: Step) -> Result<Entry, Fail> {
+    match step {
+        Open(client, node) => Ok(Entry::open(client, node)),
+        Create(client, number, name) => {
+            Ok(called(client, number, Op::Create(path(rt, name)?), Reply::Done))
+        }
+        Write(client, number, name, offset, new) => {
+            let op = Op::Write(path(rt, name)?, offset, bytes(rt, new)?);
+            Ok(called(client, number, op, Reply::Done))
+        }
+        Read(client, number, name, length, read) => {
+            let op = Op::Read(path(rt, name)?, 0, length);
+            Ok(called(client, number, op, Reply::Bytes(bytes(rt, read)?)))
+        }
+        Stat(client, number, name, found) => {
+            Ok(called(client, number, Op::Stat(path(rt, name)?), reply(found)))
+        }
+        Crash(client) => Ok(Entry::crash(client)),
+        Failed(node) => Ok(Entry::fail(node, Vec::new(rt.alloc()))),
+        FailFrom(node, client, first) => {
+            let losses = [Loss { client, first }];
+            Ok(Entry::fail(node, losses.to_vec(rt.alloc())?))
+        }
+        FailPair(node, client, first, other, other_first) => {
+            let losses = [
+                Loss { client, first },
+                Loss {
+                    client: other,
+                    first: other_first,
+                },
+            ];
+            Ok(Entry::fail(node, losses.to_vec(rt.alloc())?))
+        }
+        Back(node) => Ok(Entry::back(node)),
+    }
 }
 
-const FROM_0: Loss = Loss {
-    client: 1,
-    first: 0,
-};
+/// A history of these entries.
+fn history(rt: &HostRuntime, steps: &[Step]) -> Result<History, Fail> {
+    let mut history = History::new(rt.alloc());
+    for step in steps {
+        history.reserve()?;
+        history.push(entry(rt, *step)?);
+    }
+    Ok(history)
+}
 
-const FROM_1: Loss = Loss {
-    client: 1,
-    first: 1,
-};
+/// Two clients that share a file.
+static SHARED: [Step; 7] = [
+    Open(1, 1),
+    Open(2, 2),
+    Create(1, 0, "/f"),
+    Write(1, 1, "/f", 0, b"hi"),
+    Read(2, 0, "/f", 2, b"hi"),
+    Write(2, 1, "/f", 2, b"!"),
+    Read(1, 2, "/f", 9, b"hi!"),
+];
 
-/// Two clients that share a file, as a script printed it.
-fn shared(rt: &HostRuntime) -> Result<History, Fail> {
-    let write = |bytes: ByteString, offset: u64| -> Result<Op, Fail> {
-        Ok(Op::Write(Path::parse(rt.alloc(), "/f")?, offset, bytes))
-    };
-    let read = |length: u64| -> Result<Op, Fail> {
-        Ok(Op::Read(Path::parse(rt.alloc(), "/f")?, 0, length))
-    };
-    let hi = ByteString::from_vec(b"hi".to_vec(rt.alloc())?);
-    let hi_read = ByteString::from_vec(b"hi".to_vec(rt.alloc())?);
-    let mark = ByteString::from_vec(b"!".to_vec(rt.alloc())?);
-    let whole = ByteString::from_vec(b"hi!".to_vec(rt.alloc())?);
-    let entries = vec![in rt.alloc();
-        Entry::open(1, 1),
-        Entry::open(2, 2),
-        create(rt, 1, 0, "/f")?,
-        called(1, 1, write(hi, 0)?, Reply::Done),
-        called(2, 0, read(2)?, Reply::Bytes(hi_read)),
-        called(2, 1, write(mark, 2)?, Reply::Done),
-        called(1, 2, read(9)?, Reply::Bytes(whole)),
-    ]?;
-    history(rt, entries)
+/// A failure takes the second of two files that a client made.
+static LOST: [Step; 7] = [
+    Open(1, 1),
+    Open(2, 2),
+    Create(1, 0, "/a"),
+    Create(1, 1, "/b"),
+    Stat(2, 0, "/a", Found::File(0)),
+    FailFrom(1, 1, 1),
+    Stat(2, 1, "/b", Found::Nothing),
+];
+
+/// A crash, two failures of one node, and its return.
+static RETURNED: [Step; 8] = [
+    Open(1, 1),
+    Create(1, 0, "/f"),
+    Crash(1),
+    Failed(1),
+    Failed(1),
+    Back(1),
+    Open(2, 1),
+    Stat(2, 0, "/f", Found::File(0)),
+];
+
+/// Whether these entries are a legal history.
+fn is_legal(rt: &HostRuntime, steps: &[Step]) -> Result<bool, Fail> {
+    Ok(check(rt.alloc(), &history(rt, steps)?)?)
 }
 
 #[test]
 fn a_history_is_printed_line_by_line(rt: HostRuntime) -> Result<(), Fail> {
-    let shared = shared(&rt)?;
+    let shared = history(&rt, &SHARED)?;
     let printed = format!(in rt.alloc(); "{shared}")?;
     let wanted =
         "history 7\nopen 1 1\nopen 2 2\ncall 1 0 create /f = done\ncall 1 1 write /f 0 2 = done\ncall 2 0 read /f 0 2 = bytes 2 x6869\ncall 2 1 write /f 2 1 = done\ncall 1 2 read /f 0 9 = bytes 3 x686921";
     assert_eq!(rt; printed.as_str(), wanted);
-    let losses = [
-        FROM_1,
-        Loss {
-            client: 3,
-            first: 12,
-        },
-    ];
-    let rest = vec![in rt.alloc();
-        Entry::crash(1),
-        failure(&rt, 2, &losses)?,
-        failure(&rt, 2, &[])?,
-        Entry::back(2),
-    ]?;
-    let rest = history(&rt, rest)?;
+    let rest = history(
+        &rt,
+        &[Crash(1), FailPair(2, 1, 1, 3, 12), Failed(2), Back(2)],
+    )?;
     let printed = format!(in rt.alloc(); "{rest}")?;
     assert_eq!(rt;
         printed.as_str(),
@@ -117,88 +170,62 @@ fn a_history_is_printed_line_by_line(rt: HostRuntime) -> Result<(), Fail> {
 
 #[test]
 fn the_calls_that_no_failure_loses_are_kept(rt: HostRuntime) -> Result<(), Fail> {
-    let entries = vec![in rt.alloc();
-        Entry::open(1, 1),
-        Entry::open(2, 2),
-        create(&rt, 1, 0, "/a")?,
-        create(&rt, 1, 1, "/b")?,
-        stat(&rt, 2, 0, "/a", Reply::File(0))?,
-        failure(&rt, 1, &[FROM_1])?,
-        stat(&rt, 2, 1, "/b", Reply::Error(TreeError::NoEnt))?,
-    ]?;
-    let history = history(&rt, entries)?;
+    let history = history(&rt, &LOST)?;
     let calls = kept(rt.alloc(), &history)?;
     assert_eq!(rt; calls.len(), 3);
     for (call, number) in calls.iter().zip([(1, 0), (2, 0), (2, 1)]) {
         assert_eq!(rt; (call.client, call.number), number);
     }
     assert!(rt; replay(rt.alloc(), calls.as_slice())?.is_some());
-    assert!(rt; check(rt.alloc(), &history)?);
     Ok(())
 }
 
 #[test]
 fn legal_histories_pass(rt: HostRuntime) -> Result<(), Fail> {
-    assert!(rt; check(rt.alloc(), &History::new(rt.alloc()))?);
-    assert!(rt; check(rt.alloc(), &shared(&rt)?)?);
-    let entries = vec![in rt.alloc();
-        Entry::open(1, 1),
-        create(&rt, 1, 0, "/f")?,
-        Entry::crash(1),
-        failure(&rt, 1, &[])?,
-        failure(&rt, 1, &[])?,
-        Entry::back(1),
-        Entry::open(2, 1),
-        stat(&rt, 2, 0, "/f", Reply::File(0))?,
-    ]?;
-    assert!(rt; check(rt.alloc(), &history(&rt, entries)?)?);
+    assert!(rt; is_legal(&rt, &[])?);
+    assert!(rt; is_legal(&rt, &SHARED)?);
+    assert!(rt; is_legal(&rt, &LOST)?);
+    assert!(rt; is_legal(&rt, &RETURNED)?);
     Ok(())
-}
-
-/// Histories that differ from a legal one in one entry.
-fn illegal(rt: &HostRuntime) -> Result<Vec<Vec<Entry>>, Fail> {
-    let open = || Entry::open(1, 1);
-    let lists = vec![in rt.alloc();
-        vec![in rt.alloc(); Entry::open(2, 1)]?,
-        vec![in rt.alloc(); open(), open()]?,
-        vec![in rt.alloc(); create(rt, 1, 0, "/f")?]?,
-        vec![in rt.alloc(); open(), create(rt, 1, 1, "/f")?]?,
-        vec![in rt.alloc(); open(), stat(rt, 1, 0, "/f", Reply::Done)?]?,
-        vec![in rt.alloc(); Entry::crash(1)]?,
-        vec![in rt.alloc(); open(), Entry::crash(1), Entry::crash(1)]?,
-        vec![in rt.alloc(); open(), Entry::crash(1), create(rt, 1, 0, "/f")?]?,
-        vec![in rt.alloc(); open(), failure(rt, 1, &[])?, create(rt, 1, 0, "/f")?]?,
-        vec![in rt.alloc(); failure(rt, 1, &[])?, open()]?,
-        vec![in rt.alloc(); Entry::back(1)]?,
-        vec![in rt.alloc(); failure(rt, 1, &[])?, Entry::back(1), Entry::back(1)]?,
-        vec![in rt.alloc(); failure(rt, 1, &[FROM_0])?]?,
-        vec![in rt.alloc(); open(), failure(rt, 2, &[FROM_0])?]?,
-        vec![in rt.alloc(); open(), failure(rt, 1, &[FROM_0, FROM_1])?]?,
-        vec![in rt.alloc(); open(), failure(rt, 1, &[])?, failure(rt, 1, &[FROM_0])?]?,
-        vec![in rt.alloc();
-            open(),
-            Entry::open(2, 2),
-            create(rt, 1, 0, "/f")?,
-            stat(rt, 2, 0, "/f", Reply::File(0))?,
-            failure(rt, 1, &[FROM_0])?
-        ]?,
-    ]?;
-    Ok(lists)
 }
 
 #[test]
 fn illegal_histories_are_found(rt: HostRuntime) -> Result<(), Fail> {
-    for entries in illegal(&rt)? {
-        let history = history(&rt, entries)?;
-        assert!(rt; !check(rt.alloc(), &history)?, "{history}");
+    // Each has one entry too many.
+    let illegal: [&[Step]; 17] = [
+        &[Open(2, 1)],
+        &[Open(1, 1), Open(1, 1)],
+        &[Create(1, 0, "/f")],
+        &[Open(1, 1), Create(1, 1, "/f")],
+        &[Open(1, 1), Stat(1, 0, "/", Found::Dir(1))],
+        &[Crash(1)],
+        &[Open(1, 1), Crash(1), Crash(1)],
+        &[Open(1, 1), Crash(1), Create(1, 0, "/f")],
+        &[Open(1, 1), Failed(1), Create(1, 0, "/f")],
+        &[Failed(1), Open(1, 1)],
+        &[Back(1)],
+        &[Failed(1), Back(1), Back(1)],
+        &[FailFrom(1, 1, 0)],
+        &[Open(1, 1), FailFrom(2, 1, 0)],
+        &[Open(1, 1), FailPair(1, 1, 0, 1, 1)],
+        &[Open(1, 1), Failed(1), FailFrom(1, 1, 0)],
+        &[
+            Open(1, 1),
+            Open(2, 2),
+            Create(1, 0, "/f"),
+            Stat(2, 0, "/f", Found::File(0)),
+            FailFrom(1, 1, 0),
+        ],
+    ];
+    for steps in illegal {
+        assert!(rt; !is_legal(&rt, steps)?, "{} entries", steps.len());
     }
     Ok(())
 }
 
 #[test]
 fn a_wrong_reply_is_no_run(rt: HostRuntime) -> Result<(), Fail> {
-    let entries = vec![in rt.alloc(); stat(&rt, 1, 0, "/", Reply::Dir(1))?]?;
-    let history = history(&rt, entries)?;
+    let history = history(&rt, &[Stat(1, 0, "/", Found::Dir(1))])?;
     let calls = kept(rt.alloc(), &history)?;
     assert!(rt; replay(rt.alloc(), calls.as_slice())?.is_none());
     assert_eq!(rt; history.entries().len(), 1);

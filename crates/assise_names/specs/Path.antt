@@ -1,5 +1,5 @@
 -- Which text spells which path, and what is wrong with the others.
--- POSIX.1-2017, base definitions: 3.2 Absolute Pathname, 3.271 Pathname, 4.13 Pathname Resolution.
+-- POSIX.1-2017, base definitions: chapter 3, Absolute Pathname and Pathname; section 4.13, Pathname Resolution.
 use Rattle.std.specs.Prelude.{◌≡◌, ◌≤◌, ◌⊎◌, ℕ, ◌==◌, nat_le, if◌then◌else◌, IsTrue, All, List, [], ◌∷◌, ◌++◌, flat_map, length, Result, Ok, Err}
 use Rattle.std.specs.List.{slice_split}
 use Rattle.assise_names.specs.declared.path.PathFault.{PathFault}

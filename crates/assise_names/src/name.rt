@@ -22,7 +22,7 @@ use std::marker::Model;
 pub const MOST_NAME_BYTES: usize = 255;
 
 /// The name of an entry of a directory: 1 to 255 bytes of UTF-8 without a slash or a NUL, and neither `.` nor
-/// `..` (POSIX.1-2017, base definitions, 3.170). Names are ordered by their bytes.
+/// `..` (POSIX.1-2017, base definitions, chapter 3: Filename). Names are ordered by their bytes.
 #[derive(Debug, Drop)]
 pub struct Name {
     text: String,

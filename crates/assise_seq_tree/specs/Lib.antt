@@ -1,0 +1,6 @@
+pub mod Tree
+pub mod View
+pub mod Size
+pub mod Code
+pub mod Contents
+pub mod Answer

@@ -1,13 +1,9 @@
-// A library with one function.
+//! The plain sequential tree of files and directories, and what each call answers.
 #![tactic(auto)]
 
-ghost use Rattle.std.specs.Prelude.{◌≡◌};
-ghost use Rattle.assise_seq_tree.specs.Echo.{echo_of};
-
-// The `ensures` clause is the contract: what `echo` returns is `echo_of` of its argument, a definition
-// in `specs/Echo.antt`, which a caller's clause can cite too.
-pub fn echo(x: usize) -> usize
-    ensures { result ≡ echo_of x }
-{
-    x
-}
+pub mod answer;
+mod contents;
+pub mod laws;
+#[cfg(test)]
+mod tests;
+pub mod tree;

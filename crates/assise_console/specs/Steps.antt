@@ -1,0 +1,59 @@
+-- What each command answers, and the state after it.
+use Rattle.std.specs.Prelude.{◌≡◌, ◌⊎◌, ℕ, ◌+◌, Bool, true, false, not, ◌||◌, ◌==◌, nat_lt, if◌then◌else◌, List, [], ◌∷◌, ◌++◌, length}
+use Rattle.assise_names.specs.declared.call.Op.{Op}
+use Rattle.assise_names.specs.declared.call.Op.TheVariants.{Create, Read, Write, Stat}
+use Rattle.assise_names.specs.declared.reply.Reply.{Reply}
+use Rattle.assise_names.specs.declared.refusal.Refusal.TheVariants.{OutOfMemory, BadNode, BadClient, TooLarge}
+use Rattle.assise_seq_tree.specs.Tree.{Tree, opening}
+use Rattle.assise_seq_tree.specs.Answer.{answer}
+use Rattle.assise_history.specs.Entries.{Event, opens, calls}
+use Rattle.assise_fault_script.specs.declared.command.Command as commands
+use Rattle.assise_fault_script.specs.declared.command.Command.TheVariants.{Cluster, Open, Call, History}
+use Rattle.assise_console.specs.declared.answer.Answer as answers
+use Rattle.assise_console.specs.declared.answer.Answer.TheVariants.{Quiet, Client, Replied, Refused, History as Whole}
+
+-- the tree, what happened, whether the client was opened, and how many calls were answered
+pub record State : Type 0 where
+  pub tree : Tree
+  pub events : List Event
+  pub opened : Bool
+  pub calls : ℕ
+
+abbrev pub start : State
+start = record { tree = opening; events = []; opened = false; calls = 0 }
+
+-- client 1 of node 1
+abbrev pub newly_opened : State → State
+newly_opened s = record { tree = s.tree; events = s.events ++ opens 1 1 ∷ []; opened = true; calls = s.calls }
+
+-- the node is there, and has no client yet
+abbrev pub opened : State → ℕ → answers.Answer × State
+opened s n = if not (n == 1) then (Refused BadNode, s) else (if s.opened then (Refused BadClient, s) else (Client 1, newly_opened s))
+
+-- one write takes 65,536 bytes at most
+abbrev pub is_too_large : Op → Bool
+is_too_large (Write p offset bytes) = nat_lt 65536 (length bytes)
+is_too_large (Create p) = false
+is_too_large (Read p offset len) = false
+is_too_large (Stat p) = false
+
+-- an answered call is one entry
+abbrev pub with_reply : State → Op → Reply × Tree → answers.Answer × State
+with_reply s op r = (Replied r.0, record { tree = r.1; events = s.events ++ calls record { client = 1; number = s.calls; op = op; reply = r.0 } ∷ []; opened = s.opened; calls = s.calls + 1 })
+
+-- the client is there, then its write isn't too large, then the tree answers
+abbrev pub called : State → ℕ → Op → answers.Answer × State
+called s c op =
+    if not (c == 1) || not s.opened then (Refused BadClient, s)
+    else (if is_too_large op then (Refused TooLarge, s)
+    else with_reply s op (answer s.tree op))
+
+abbrev pub step : State → commands.Command → answers.Answer × State
+step s (Cluster n l h) = (Quiet, s)
+step s (Open n k) = opened s n
+step s (Call c op) = called s c op
+step s History = (Whole, s)
+
+-- what a command answers, unless memory ran out; then nothing changes
+pub record Answers (s : State) (c : commands.Command) (a : answers.Answer) (t : State) : Type 0 where
+  pub given : ((a, t) ≡ step s c) ⊎ ((a ≡ Refused OutOfMemory) × (t ≡ s))

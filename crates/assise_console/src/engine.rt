@@ -1,0 +1,133 @@
+// Runs a script's commands and prints their answers.
+ghost use Rattle.std.specs.Prelude.{◌≡◌, IfErr, IfOk, IfSome, IsOkUnless, OnOk};
+ghost use Rattle.std.specs.Io.KnownBytes.{Appends, Keeps};
+ghost use Rattle.assise_console.specs.Engines.{FaultOf, IsReadFault, Printed, Ran};
+ghost use Rattle.assise_console.specs.Lines.{answer_text, line_text, numbered, PrintsOne};
+
+use crate::answer::Answer;
+use crate::fault::EngineFault;
+use crate::options::CommandLine;
+use crate::state::{AnswerText, Console};
+use assise_fault_script::parse::{NumberedCommand, parse};
+use std::alloc::Global;
+use std::io::{ErrorKind, Read, Write};
+
+/// Reads a script, runs it, and writes its answers and nothing else. It waits for nobody.
+///
+/// [`EngineFault::Read`] is the reader's failure, [`EngineFault::Script`] the first fault of the script, and
+/// [`EngineFault::Memory`] want of memory for the script's bytes; nothing is written then.
+/// [`EngineFault::Write`] is the writer's failure, and nothing more is written after it.
+pub fn engine<R: Read, W: Write>(
+    alloc: Global,
+    reader: &mut R,
+    writer: &mut W,
+    _command_line: &CommandLine<'_>,
+) -> Result<(), EngineFault>
+    ensures done { OnOk result (IfSome (R.remaining reader.old) (λ input. Printed input (W.contents writer.old) (W.contents writer.new))) }
+    ensures faulty { IfErr result (λ e. IfSome (R.remaining reader.old) (λ input. FaultOf e input (W.contents writer.old) (W.contents writer.new))) }
+{
+    let input = read_all(alloc, reader)?;
+    match parse(alloc, input.as_slice()) {
+        Ok(commands) => run(alloc, commands, writer),
+        Err(found) => Err(EngineFault::Script(found.line, found.fault)),
+    }
+}
+
+/// All bytes that the reader has.
+fn read_all<R: Read>(alloc: Global, reader: &mut R) -> Result<Vec<u8>, EngineFault>
+    ensures bytes { IfOk result (λ bytes. IfSome (R.remaining reader.old) (λ input. bytes.items ≡ input)) }
+    ensures fault { IfErr result IsReadFault }
+{
+    let mut input = Vec::new(alloc);
+    match reader.read_to_end(&mut input) {
+        Ok(_) => Ok(input),
+        Err(error) => Err(read_fault(error.kind())),
+    }
+}
+
+/// What a reader's failure is: want of memory for what was read, or the reader's own.
+fn read_fault(kind: ErrorKind) -> EngineFault
+    ensures { IsReadFault result }
+{
+    match kind {
+        ErrorKind::OutOfMemory => EngineFault::Memory,
+        _ => EngineFault::Read,
+    }
+}
+
+/// Runs the commands in order, and writes the line of each answer and nothing else.
+fn run<W: Write>(
+    alloc: Global,
+    commands: Vec<NumberedCommand>,
+    writer: &mut W,
+) -> Result<(), EngineFault>
+    ensures done { OnOk result (Ran commands.items (W.contents writer.old) (W.contents writer.new)) }
+    ensures only_write { IsOkUnless result EngineFault.Write }
+{
+    let mut console = Console::new(alloc);
+    for command in commands {
+        run_line(alloc, &mut console, command, writer)?;
+    }
+    flush(writer)
+}
+
+/// Runs one command and writes its line.
+fn run_line<W: Write>(
+    alloc: Global,
+    console: &mut Console,
+    command: NumberedCommand,
+    writer: &mut W,
+) -> Result<(), EngineFault>
+    ensures done { OnOk result (PrintsOne console.old command console.new (W.contents writer.old) (W.contents writer.new)) }
+    ensures only_write { IsOkUnless result EngineFault.Write }
+{
+    let number = command.line;
+    let answer = console.step(alloc, command.command);
+    print(writer, number, console, &answer)
+}
+
+/// Writes the line of an answer, if it prints one.
+fn print<W: Write>(
+    writer: &mut W,
+    number: u64,
+    console: &Console,
+    answer: &Answer,
+) -> Result<(), EngineFault>
+    ensures done { OnOk result (Appends (W.contents writer.old) (W.contents writer.new) (line_text number console.now answer.now)) }
+    ensures only_write { IsOkUnless result EngineFault.Write }
+{
+    match answer {
+        Answer::Quiet => Ok(()),
+        Answer::Client(_) => print_line(writer, number, console, answer),
+        Answer::Replied(_) => print_line(writer, number, console, answer),
+        Answer::Refused(_) => print_line(writer, number, console, answer),
+        Answer::History => print_line(writer, number, console, answer),
+    }
+}
+
+fn print_line<W: Write>(
+    writer: &mut W,
+    number: u64,
+    console: &Console,
+    answer: &Answer,
+) -> Result<(), EngineFault>
+    ensures done { OnOk result (Appends (W.contents writer.old) (W.contents writer.new) (numbered number (answer_text console.now answer.now))) }
+    ensures only_write { IsOkUnless result EngineFault.Write }
+{
+    let text = AnswerText { console, answer };
+    match writeln!(writer, "{number}: {text}") {
+        Ok(()) => Ok(()),
+        Err(_) => Err(EngineFault::Write),
+    }
+}
+
+/// Hands on what the writer keeps back.
+fn flush<W: Write>(writer: &mut W) -> Result<(), EngineFault>
+    ensures done { OnOk result (Keeps (W.contents writer.old) (W.contents writer.new)) }
+    ensures only_write { IsOkUnless result EngineFault.Write }
+{
+    match writer.flush() {
+        Ok(()) => Ok(()),
+        Err(_) => Err(EngineFault::Write),
+    }
+}

@@ -1,0 +1,208 @@
+// Scripts over memory, and what ends a run early.
+use crate::engine::engine;
+use crate::fault::{EngineFault, fault_line, status};
+use crate::options::{CommandLine, options};
+use assise_fault_script::fault::ScriptFault;
+use assise_names::path::PathFault;
+use clap::error::ErrorKind as WordsFault;
+use std::io;
+use std::io::{ErrorKind, Read, Write};
+use std::test::Fail;
+
+const NOWHERE: CommandLine = CommandLine {
+    script: "some.script",
+};
+
+/// What a script prints, or what ends its run early.
+fn printed(rt: &HostRuntime, script: &str) -> Result<Vec<u8>, EngineFault> {
+    let mut reader = script.as_bytes();
+    let mut output = Vec::new(rt.alloc());
+    engine(rt.alloc(), &mut reader, &mut output, &NOWHERE)?;
+    Ok(output)
+}
+
+/// Whether a script prints this.
+fn prints(rt: &HostRuntime, script: &str, wanted: &str) -> Result<bool, Fail> {
+    let output = printed(rt, script)?;
+    Ok(output.as_slice() == wanted.as_bytes())
+}
+
+#[test]
+fn an_empty_script_prints_nothing(rt: HostRuntime) -> Result<(), Fail> {
+    for script in ["", "# nothing\n\n", "cluster 1 8 4\n"] {
+        assert!(rt; prints(&rt, script, "")?, "{script}");
+    }
+    Ok(())
+}
+
+#[test]
+fn a_gap_is_filled_with_zeros(rt: HostRuntime) -> Result<(), Fail> {
+    let script =
+        "cluster 1 8 4\nopen 1 least\n1 create /f\n1 write /f 5 tabc\n1 read /f 0 10\n1 read /f 8 1\n1 stat /f\n";
+    let wanted =
+        "2: client 1\n3: done\n4: done\n5: bytes 8 x0000000000616263\n6: bytes 0 x\n7: file 8\n";
+    assert!(rt; prints(&rt, script, wanted)?);
+    Ok(())
+}
+
+#[test]
+fn answers_stand_in_the_history_and_refusals_do_not(rt: HostRuntime) -> Result<(), Fail> {
+    let script =
+        "cluster 1 8 4\nopen 1 least\n1 create /f\n1 create /f/g\n1 write /g 0 x\n1 write /f 9 x\n1 stat /f\n2 stat /\nopen 2 least\nhistory\n";
+    let wanted =
+        "2: client 1\n3: done\n4: E3 NotDir\n5: E1 NoEnt\n6: done\n7: file 0\n8: F9 BadClient\n9: F8 BadNode\n10: history 6\nopen 1 1\ncall 1 0 create /f = done\ncall 1 1 create /f/g = E3 NotDir\ncall 1 2 write /g 0 0 = E1 NoEnt\ncall 1 3 write /f 9 0 = done\ncall 1 4 stat /f = file 0\n";
+    assert!(rt; prints(&rt, script, wanted)?);
+    Ok(())
+}
+
+#[test]
+fn refusals_come_in_their_order(rt: HostRuntime) -> Result<(), Fail> {
+    for (script, wanted) in [
+        ("1 stat /\n", "2: F9 BadClient\n"),
+        (
+            "open 2 least\nopen 4294967297 whole\n",
+            "2: F8 BadNode\n3: F8 BadNode\n",
+        ),
+        (
+            "open 1 least\nopen 1 eights\n",
+            "2: client 1\n3: F9 BadClient\n",
+        ),
+        (
+            "open 1 least\n4294967297 stat /\n",
+            "2: client 1\n3: F9 BadClient\n",
+        ),
+        ("1 write /f 0 z65537\n", "2: F9 BadClient\n"),
+        (
+            "open 1 least\n1 write /none 0 z65537\n1 write /none 0 z65536\n",
+            "2: client 1\n3: F6 TooLarge\n4: E1 NoEnt\n",
+        ),
+    ] {
+        let script = format!(in rt.alloc(); "cluster 1 8 4\n{script}")?;
+        assert!(rt; prints(&rt, script.as_str(), wanted)?, "{script}");
+    }
+    Ok(())
+}
+
+#[test]
+fn a_faulty_script_writes_nothing(rt: HostRuntime) -> Result<(), Fail> {
+    let mut script = String::from_str(rt.alloc(), "cluster 1 8 4\nopen 1 least\n1 stat /")?;
+    for _ in 0..256 {
+        script.push('a')?;
+    }
+    let mut reader = script.as_bytes();
+    let mut output = Vec::new(rt.alloc());
+    let fault = EngineFault::Script(3, ScriptFault::BadPath(PathFault::NameTooLong));
+    let ended = engine(rt.alloc(), &mut reader, &mut output, &NOWHERE);
+    assert_eq!(rt; ended.err(), Some(fault));
+    assert!(rt; output.is_empty());
+    let line = fault_line(rt.alloc(), &fault, NOWHERE.script)?;
+    assert_eq!(rt;
+        line.as_str(),
+        "assise: script line 3: bad path: name too long"
+    );
+    assert_eq!(rt; status(&fault), 2);
+    Ok(())
+}
+
+#[test]
+fn each_fault_has_its_line_and_its_status(rt: HostRuntime) -> Result<(), Fail> {
+    for (fault, line, number) in [
+        (EngineFault::Read, "assise: cannot read some.script", 3),
+        (
+            EngineFault::Script(12, ScriptFault::NoCluster),
+            "assise: script line 12: no cluster yet",
+            2,
+        ),
+        (EngineFault::Memory, "assise: out of memory", 1),
+        (EngineFault::Write, "assise: cannot write", 1),
+    ] {
+        assert_eq!(rt;
+            fault_line(rt.alloc(), &fault, NOWHERE.script)?.as_str(),
+            line
+        );
+        assert_eq!(rt; status(&fault), number);
+    }
+    Ok(())
+}
+
+/// A reader that fails at once.
+#[derive(Drop)]
+struct BrokenReader(ErrorKind);
+
+impl Read for BrokenReader {
+    fn read(&mut self, _buf: &mut [u8]) -> io::Result<usize> {
+        Err(io::Error::from(self.0))
+    }
+}
+
+#[test]
+fn a_failing_reader_is_told_from_want_of_memory(rt: HostRuntime) {
+    for (kind, fault) in [
+        (ErrorKind::PermissionDenied, EngineFault::Read),
+        (ErrorKind::OutOfMemory, EngineFault::Memory),
+    ] {
+        let mut output = Vec::new(rt.alloc());
+        let ended = engine(rt.alloc(), &mut BrokenReader(kind), &mut output, &NOWHERE);
+        assert_eq!(rt; ended.err(), Some(fault));
+        assert!(rt; output.is_empty());
+    }
+}
+
+/// A writer that takes so many writes, and then fails.
+#[derive(Drop)]
+struct BrokenWriter {
+    left: usize,
+}
+
+impl Write for BrokenWriter {
+    fn write(&mut self, buf: &[u8]) -> io::Result<usize> {
+        if self.left == 0 {
+            return Err(io::Error::from(ErrorKind::BrokenPipe));
+        }
+        self.left -= 1;
+        Ok(buf.len())
+    }
+
+    fn flush(&mut self) -> io::Result<()> {
+        Ok(())
+    }
+}
+
+#[test]
+fn a_failing_writer_ends_the_run(rt: HostRuntime) {
+    let script = "cluster 1 8 4\nopen 1 least\n1 stat /\nhistory\n";
+    let mut ended = 0;
+    for left in 0..100 {
+        let mut writer = BrokenWriter { left };
+        let outcome = engine(rt.alloc(), &mut script.as_bytes(), &mut writer, &NOWHERE);
+        if let Err(fault) = outcome {
+            assert_eq!(rt; fault, EngineFault::Write);
+            assert_eq!(rt;
+                ended,
+                left,
+                "a run that had ended well ends ill with more writes"
+            );
+            ended = left + 1;
+        }
+    }
+    assert!(rt; 0 < ended && ended < 100);
+}
+
+#[test]
+fn the_command_line_is_one_script(rt: HostRuntime) -> Result<(), Fail> {
+    let found = options(rt.alloc(), ["assise", "a.script"].as_slice());
+    assert_eq!(rt; found.ok().map(|line| line.script), Some("a.script"));
+    for (words, kind) in [
+        (["assise"].as_slice(), WordsFault::MissingRequiredArgument),
+        (["assise", "a", "b"].as_slice(), WordsFault::UnknownArgument),
+        (
+            ["assise", "--threads", "a"].as_slice(),
+            WordsFault::UnknownArgument,
+        ),
+        (["assise", "--help"].as_slice(), WordsFault::DisplayHelp),
+    ] {
+        let found = options(rt.alloc(), words);
+        assert_eq!(rt; found.err().map(|error| error.kind()), Some(kind));
+    }
+    Ok(())
+}

@@ -1,0 +1,189 @@
+-- The cluster is made by the first command and by no other.
+use Rattle.std.proofs.Common.{◌≡◌, ◌≤◌, ℕ, ◌+◌, Bool, true, false, ◌||◌, nat_lt, List, [], ◌∷◌, Option, Some, None, Result, Ok, Err, All, refl, ap, sym, subst, inl, inr, arith}
+use Rattle.std.proofs.lemmas.Bool.{cases_Bool}
+use Rattle.std.proofs.lemmas.Bool.Decides.{nat_tests}
+use Rattle.std.proofs.lemmas.List.Elements.{All-nil, All-cons}
+use Rattle.std.specs.Prelude.{is_some}
+use Rattle.std.specs.Str.{is_utf8}
+use Rattle.assise_fault_script.specs.declared.command.Command.{Command}
+use Rattle.assise_fault_script.specs.declared.command.Command.TheVariants.{Cluster, Open, Call, History}
+use Rattle.assise_fault_script.specs.declared.command.Keyword as first
+use Rattle.assise_fault_script.specs.declared.command.Keyword.TheVariants.{Cluster as for_cluster, Open as for_open, History as for_history}
+use Rattle.assise_fault_script.specs.declared.fault.LineFault.{LineFault}
+use Rattle.assise_fault_script.specs.declared.fault.ScriptFault.{ScriptFault}
+use Rattle.assise_fault_script.specs.declared.fault.ScriptFault.TheVariants.{BadLimit, UnknownCommand}
+use Rattle.assise_fault_script.specs.declared.parse.NumberedCommand.{NumberedCommand}
+use Rattle.assise_fault_script.specs.Calls.{call_of, call_word}
+use Rattle.assise_fault_script.specs.Fault.{◌>>=◌}
+use Rattle.assise_fault_script.specs.Keywords.{keyword_command, keyword_of, kind_of, cluster_of}
+use Rattle.assise_fault_script.specs.Line.{begins_with_digit, client_command, cluster_there, command_of, in_turn, is_comment, line_says, nameless_call, other_command}
+use Rattle.assise_fault_script.specs.Number.{in_limits, limited, number_of}
+use Rattle.assise_fault_script.specs.Script.{◌>>>◌, IsCluster, IsOther, ClusterFirst, at_line, commands_from, commands_of, numbered}
+use Rattle.assise_fault_script.specs.Words.{lines_of, words_of}
+
+-- a result that is there came from one that was
+came_from : {A B : Type 0} (r : Result A ScriptFault) (f : A → Result B ScriptFault) (y : B) → (r >>= f) ≡ Ok y → (x : A) × ((r ≡ Ok x) × (f x ≡ Ok y))
+came_from (Ok x) f y h = (x, (refl, h))
+came_from (Err e) f y h = cc
+
+came_at : {A B : Type 0} (r : Result A LineFault) (f : A → Result B LineFault) (y : B) → (r >>> f) ≡ Ok y → (x : A) × ((r ≡ Ok x) × (f x ≡ Ok y))
+came_at (Ok x) f y h = (x, (refl, h))
+came_at (Err e) f y h = cc
+
+-- ---- one command
+
+within : (low high n m : ℕ) → in_limits low high n ≡ Ok m → (low ≤ m) × (m ≤ high)
+within low high n m h =
+    elim (cases_Bool (nat_lt n low || nat_lt high n)) [
+      | inl out ↦ let bad : Err BadLimit ≡ Ok m = rw out at h in cc
+      | inr fits ↦ let same : Ok n ≡ Ok m = rw fits at h in let is : n ≡ m = cc in (rw (← is) (grind (arith, nat_tests)), rw (← is) (grind (arith, nat_tests)))
+    ]
+
+limits : (low high m : ℕ) (word : List ℕ) → limited low high word ≡ Ok m → (low ≤ m) × (m ≤ high)
+limits low high m word h = let n = came_from (number_of word) (in_limits low high) m h in within low high n.0 m n.1.1
+
+-- what a cluster's words make
+made : (nodes log hot : List ℕ) (c : Command) → cluster_of nodes log hot ≡ Ok c → IsCluster c
+made nodes log hot c h =
+    let n = came_from (limited 1 1 nodes) (λ n. limited 8 4096 log >>= λ l. limited 1 4096 hot >>= λ h. Ok (Cluster n l h)) c h in
+    let l = came_from (limited 8 4096 log) (λ l. limited 1 4096 hot >>= λ h. Ok (Cluster n.0 l h)) c n.1.1 in
+    let t = came_from (limited 1 4096 hot) (λ h. Ok (Cluster n.0 l.0 h)) c l.1.1 in
+    let is : Cluster n.0 l.0 t.0 ≡ c = let e = t.1.1 in cc in
+    let ns = limits 1 1 n.0 nodes n.1.0 in
+    let ls = limits 8 4096 l.0 log l.1.0 in
+    let ts = limits 1 4096 t.0 hot t.1.0 in
+    let one : n.0 ≡ 1 = omega (arith, ns) in
+    subst IsCluster is (one, ls.0, ls.1, ts.0, ts.1)
+
+cluster_row : (rest : List (List ℕ)) (c : Command) → keyword_command for_cluster rest ≡ Ok c → IsCluster c
+cluster_row (nodes ∷ log ∷ hot ∷ []) c h = made nodes log hot c h
+cluster_row [] c h = cc
+cluster_row (a ∷ []) c h = cc
+cluster_row (a ∷ b ∷ []) c h = cc
+cluster_row (a ∷ b ∷ d ∷ e ∷ rest) c h = cc
+
+open_row : (rest : List (List ℕ)) (c : Command) → keyword_command for_open rest ≡ Ok c → IsOther c
+open_row (node ∷ kind ∷ []) c h =
+    let n = came_from (number_of node) (λ n. kind_of kind >>= λ k. Ok (Open n k)) c h in
+    let k = came_from (kind_of kind) (λ k. Ok (Open n.0 k)) c n.1.1 in
+    let is : Open n.0 k.0 ≡ c = let e = k.1.1 in cc in
+    subst IsOther is tt
+open_row [] c h = cc
+open_row (a ∷ []) c h = cc
+open_row (a ∷ b ∷ d ∷ rest) c h = cc
+
+history_row : (rest : List (List ℕ)) (c : Command) → keyword_command for_history rest ≡ Ok c → IsOther c
+history_row [] c h = let is : History ≡ c = cc in subst IsOther is tt
+history_row (a ∷ rest) c h = cc
+
+-- what a command that a keyword begins makes, by whether the cluster was there
+first_row : (k : first.Keyword) (rest : List (List ℕ)) (c : Command) → (in_turn false k >>= λ _. keyword_command k rest >>= λ c. Ok (Some c)) ≡ Ok (Some c) → IsCluster c
+first_row for_cluster rest c h =
+    let d = came_from (keyword_command for_cluster rest) (λ c. Ok (Some c)) (Some c) h in
+    let is : d.0 ≡ c = let e = d.1.1 in cc in
+    subst IsCluster is (cluster_row rest d.0 d.1.0)
+first_row for_open rest c h = cc
+first_row for_history rest c h = cc
+
+later_row : (k : first.Keyword) (rest : List (List ℕ)) (c : Command) → (in_turn true k >>= λ _. keyword_command k rest >>= λ c. Ok (Some c)) ≡ Ok (Some c) → IsOther c
+later_row for_cluster rest c h = cc
+later_row for_open rest c h =
+    let d = came_from (keyword_command for_open rest) (λ c. Ok (Some c)) (Some c) h in
+    let is : d.0 ≡ c = let e = d.1.1 in cc in
+    subst IsOther is (open_row rest d.0 d.1.0)
+later_row for_history rest c h =
+    let d = came_from (keyword_command for_history rest) (λ c. Ok (Some c)) (Some c) h in
+    let is : d.0 ≡ c = let e = d.1.1 in cc in
+    subst IsOther is (history_row rest d.0 d.1.0)
+
+no_call : {P : Type 0} (client : List ℕ) (c : Command) → nameless_call client ≡ Ok (Some c) → P
+no_call client c h = let n = came_from (number_of client) (λ _. Err UnknownCommand) (Some c) h in let bad : Err UnknownCommand ≡ Ok (Some c) = n.1.1 in cc
+
+-- a client's call makes no cluster, and comes behind one
+client_row : (built : Bool) (client : List ℕ) (rest : List (List ℕ)) (c : Command) → client_command built client rest ≡ Ok (Some c) → (built ≡ true) × IsOther c
+client_row built client [] c h = no_call client c h
+client_row built client (name ∷ rest) c h =
+    let n = came_from (number_of client) (λ n. call_word name >>= λ k. cluster_there built >>= λ _. call_of k rest >>= λ op. Ok (Some (Call n op))) (Some c) h in
+    let k = came_from (call_word name) (λ k. cluster_there built >>= λ _. call_of k rest >>= λ op. Ok (Some (Call n.0 op))) (Some c) n.1.1 in
+    let t = came_from (cluster_there built) (λ _. call_of k.0 rest >>= λ op. Ok (Some (Call n.0 op))) (Some c) k.1.1 in
+    let op = came_from (call_of k.0 rest) (λ op. Ok (Some (Call n.0 op))) (Some c) t.1.1 in
+    let is : Call n.0 op.0 ≡ c = let e = op.1.1 in cc in
+    (there built t.0 t.1.0, subst IsOther is tt)
+  where
+    there : (built : Bool) (u : Unit {0}) → cluster_there built ≡ Ok u → built ≡ true
+    there true u h = refl
+    there false u h = cc
+
+-- ---- one line
+
+first_command : (words : List (List ℕ)) (c : Command) → command_of false words ≡ Ok (Some c) → IsCluster c
+first_command [] c h = cc
+first_command (word ∷ rest) c h =
+    elim (cases_Bool (begins_with_digit word)) [
+      | inl client ↦ let row : client_command false word rest ≡ Ok (Some c) = rw client at h in let bad = client_row false word rest c row in let no : false ≡ true = bad.0 in cc
+      | inr other ↦
+          let row : other_command false word rest ≡ Ok (Some c) = rw other at h in
+          let k = came_from (keyword_of word) (λ k. in_turn false k >>= λ _. keyword_command k rest >>= λ c. Ok (Some c)) (Some c) row in
+          first_row k.0 rest c k.1.1
+    ]
+
+later_command : (words : List (List ℕ)) (c : Command) → command_of true words ≡ Ok (Some c) → IsOther c
+later_command [] c h = cc
+later_command (word ∷ rest) c h =
+    elim (cases_Bool (begins_with_digit word)) [
+      | inl client ↦ let row : client_command true word rest ≡ Ok (Some c) = rw client at h in (client_row true word rest c row).1
+      | inr other ↦
+          let row : other_command true word rest ≡ Ok (Some c) = rw other at h in
+          let k = came_from (keyword_of word) (λ k. in_turn true k >>= λ _. keyword_command k rest >>= λ c. Ok (Some c)) (Some c) row in
+          later_row k.0 rest c k.1.1
+    ]
+
+-- a line's command is that of its words
+of_words : (built : Bool) (line : List ℕ) (c : Command) → line_says built line ≡ Ok (Some c) → command_of built (words_of line) ≡ Ok (Some c)
+of_words built line c h =
+    elim (cases_Bool (is_comment line)) [
+      | inl comment ↦ let bad : Ok None ≡ Ok (Some c) = rw comment at h in cc
+      | inr plain ↦ elim (cases_Bool (is_utf8 line)) [
+        | inl text ↦ rw (plain, text) at h
+        | inr bytes ↦ let bad : Err _ ≡ Ok (Some c) = rw (plain, bytes) at h in cc
+      ]
+    ]
+
+-- ---- the lines
+
+abbrev Others : List NumberedCommand → Type 0
+Others cs = All (λ n. IsOther n.command) cs
+
+-- what the first line of some says, and what the others say
+said : (number : ℕ) (built : Bool) (line : List ℕ) (lines : List (List ℕ)) (cs : List NumberedCommand) → commands_from number built (line ∷ lines) ≡ Ok cs → (r : Option Command) × ((line_says built line ≡ Ok r) × ((ds : List NumberedCommand) × ((commands_from (number + 1) (is_some r || built) lines ≡ Ok ds) × (cs ≡ numbered number r ds))))
+said number built line lines cs h =
+    let r = came_at (at_line number (line_says built line)) (λ command. commands_from (number + 1) (is_some command || built) lines >>> λ others. Ok (numbered number command others)) cs h in
+    let ds = came_at (commands_from (number + 1) (is_some r.0 || built) lines) (λ others. Ok (numbered number r.0 others)) cs r.1.1 in
+    (r.0, (plain (line_says built line) r.0 r.1.0, (ds.0, (ds.1.0, let e = ds.1.1 in cc))))
+  where
+    plain : (s : Result (Option Command) ScriptFault) (r : Option Command) → at_line number s ≡ Ok r → s ≡ Ok r
+    plain (Ok q) r h = let same : q ≡ r = cc in ap Ok same
+    plain (Err e) r h = cc
+
+others : (number : ℕ) (lines : List (List ℕ)) (cs : List NumberedCommand) → commands_from number true lines ≡ Ok cs → Others cs
+others number [] cs h = let none : [] ≡ cs = cc in subst Others none (All-nil (λ n. IsOther n.command))
+others number (line ∷ lines) cs h =
+    let s = said number true line lines cs h in
+    subst Others (sym s.1.1.1.1) (one s.0 s.1.1.0 s.1.0 s.1.1.1.0 (λ ds rest. others (number + 1) lines ds rest))
+  where
+    one : (r : Option Command) (ds : List NumberedCommand) → line_says true line ≡ Ok r → commands_from (number + 1) (is_some r || true) lines ≡ Ok ds → ((ds : List NumberedCommand) → commands_from (number + 1) true lines ≡ Ok ds → Others ds) → Others (numbered number r ds)
+    one None ds says rest more = more ds rest
+    one (Some c) ds says rest more = All-cons (λ n. IsOther n.command) record { line = number; command = c } ds (later_command (words_of line) c (of_words true line c says)) (more ds rest)
+
+from_first : (number : ℕ) (lines : List (List ℕ)) (cs : List NumberedCommand) → commands_from number false lines ≡ Ok cs → ClusterFirst cs
+from_first number [] cs h = let none : [] ≡ cs = cc in subst ClusterFirst none tt
+from_first number (line ∷ lines) cs h =
+    let s = said number false line lines cs h in
+    subst ClusterFirst (sym s.1.1.1.1) (one s.0 s.1.1.0 s.1.0 s.1.1.1.0 (λ ds rest. from_first (number + 1) lines ds rest))
+  where
+    one : (r : Option Command) (ds : List NumberedCommand) → line_says false line ≡ Ok r → commands_from (number + 1) (is_some r || false) lines ≡ Ok ds → ((ds : List NumberedCommand) → commands_from (number + 1) false lines ≡ Ok ds → ClusterFirst ds) → ClusterFirst (numbered number r ds)
+    one None ds says rest more = more ds rest
+    one (Some c) ds says rest more = (first_command (words_of line) c (of_words false line c says), others (number + 1) lines ds rest)
+
+pub cluster_first : (bytes : List ℕ) (cs : List NumberedCommand) → commands_of bytes ≡ Ok cs → ClusterFirst cs
+cluster_first bytes cs h = from_first 1 (lines_of bytes) cs h

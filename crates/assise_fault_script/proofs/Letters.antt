@@ -1,0 +1,39 @@
+-- A word of data by its first letter.
+use Rattle.std.proofs.Common.{◌≡◌, ◌≢◌, ℕ, ◌==◌, false, List, [], ◌∷◌, Ok, Err, Option, Some, None, Bor, MatchOption, refl, ap, ◌∙◌, inl, inr, arith}
+use Rattle.std.proofs.lemmas.Bool.{cases_Bool}
+use Rattle.std.proofs.lemmas.Bool.Decides.{nat_tests}
+use Rattle.assise_fault_script.specs.declared.fault.ScriptFault.TheVariants.{BadData}
+use Rattle.assise_fault_script.specs.Data.{data_of, hex_bytes, zeros}
+use Rattle.assise_fault_script.specs.Number.{number_of}
+
+-- the word begins with this letter, or it doesn't
+abbrev pub Begins : ℕ → List ℕ → Option (Bor (List ℕ)) → Type 0
+Begins letter word r = MatchOption r ((rest : List ℕ) → word ≢ letter ∷ rest) (λ x. word ≡ letter ∷ x.now)
+
+pub does_begin : (letter : ℕ) (word : List ℕ) (r : Option (Bor (List ℕ))) (x : Bor (List ℕ)) → Begins letter word r → r ≡ Some x → word ≡ letter ∷ x.now
+does_begin letter word (Some y) x h e = let same : y ≡ x = cc in h ∙ ap (λ z. letter ∷ z.now) same
+does_begin letter word None x h e = cc
+
+pub does_not : (letter : ℕ) (word : List ℕ) (r : Option (Bor (List ℕ))) → Begins letter word r → r ≡ None → (rest : List ℕ) → word ≢ letter ∷ rest
+does_not letter word None h e = h
+does_not letter word (Some y) h e = cc
+
+not_first : (letter b : ℕ) (rest : List ℕ) → ((more : List ℕ) → b ∷ rest ≢ letter ∷ more) → (b == letter) ≡ false
+not_first letter b rest h =
+    elim (cases_Bool (b == letter)) [
+      | inl same ↦ let is : b ≡ letter = grind (arith, nat_tests) in absurd (h rest (ap (λ n. n ∷ rest) is))
+      | inr other ↦ other
+    ]
+
+pub other_letter : (word : List ℕ) → ((rest : List ℕ) → word ≢ 116 ∷ rest) → ((rest : List ℕ) → word ≢ 120 ∷ rest) → ((rest : List ℕ) → word ≢ 122 ∷ rest) → data_of word ≡ Err BadData
+other_letter [] t x z = refl
+other_letter (b ∷ rest) t x z = rw (not_first 116 b rest t, not_first 120 b rest x, not_first 122 b rest z)
+
+pub text_letter : (word rest : List ℕ) → word ≡ 116 ∷ rest → data_of word ≡ Ok rest
+text_letter word rest h = ap data_of h
+
+pub hex_letter : (word rest : List ℕ) → word ≡ 120 ∷ rest → data_of word ≡ hex_bytes rest
+hex_letter word rest h = ap data_of h
+
+pub zeros_letter : (word rest : List ℕ) → word ≡ 122 ∷ rest → data_of word ≡ zeros (number_of rest)
+zeros_letter word rest h = ap data_of h

@@ -1,0 +1,6 @@
+pub mod ClusterFirst
+pub mod Digits
+pub mod Hex
+pub mod Letters
+pub mod Lines
+pub mod Steps

@@ -1,0 +1,51 @@
+-- A script is cut at its first line feed.
+use Rattle.std.proofs.Common.{◌≡◌, ℕ, ◌+◌, ◌-◌, ◌<◌, ◌≤◌, Bool, List, [], ◌∷◌, length, take, drop, map, filter, Some, None, nat_lt, ap, ◌∙◌, arith, inl, inr, refl, length-drop}
+use Rattle.std.proofs.lemmas.Bool.{cases_Bool}
+use Rattle.std.proofs.lemmas.Bool.Decides.{nat_tests}
+use Rattle.std.proofs.lemmas.List.{take_all}
+use Rattle.std.proofs.lemmas.List.Splits.{slice_split_first, slice_split_none, length-slice_split}
+use Rattle.std.proofs.lemmas.List.Sums.{fails_before_first}
+use Rattle.std.specs.List.{slice_split, position, position_or_len}
+use Rattle.assise_fault_script.specs.Words.{is_line_feed, lines_of, without_return, without_returns}
+
+-- what stands behind place i
+abbrev pub behind : ℕ → List ℕ → List ℕ
+behind i bs = take (length bs - (i + 1)) (drop (i + 1) bs)
+
+shorter : (more : List (List ℕ)) (piece : List ℕ) → 0 < length more → without_returns (piece ∷ more) ≡ without_return piece ∷ without_returns more
+shorter [] piece h = absurd (omega arith)
+shorter (q ∷ more) piece h = refl
+
+-- a line that a line feed ends, and the others
+first_line : (piece bs : List ℕ) → without_returns (piece ∷ slice_split is_line_feed bs) ≡ without_return piece ∷ lines_of bs
+first_line piece bs = shorter (slice_split is_line_feed bs) piece (rw (length-slice_split is_line_feed bs) (omega arith))
+
+pub cut : (bs : List ℕ) (i : ℕ) → position is_line_feed bs ≡ Some i → (lines_of bs ≡ without_return (take i bs) ∷ lines_of (behind i bs)) × (length (behind i bs) < length bs)
+cut bs i e =
+    elim (cases_Bool (nat_lt (position_or_len is_line_feed bs) (length bs))) [
+      | inl y ↦
+          let lt : position_or_len is_line_feed bs < length bs = grind (arith, nat_tests) in
+          let some : Some (position_or_len is_line_feed bs) ≡ Some i = rw y at e in
+          let is : position_or_len is_line_feed bs ≡ i = cc in
+          let all : take (length bs - (i + 1)) (drop (i + 1) bs) ≡ drop (i + 1) bs = take_all _ _ (omega (arith, length-drop (i + 1) bs)) in
+          let parts : slice_split is_line_feed bs ≡ take i bs ∷ slice_split is_line_feed (behind i bs) = rw all (rw is at (slice_split_first is_line_feed bs 0 lt)) in
+          (ap without_returns parts ∙ first_line (take i bs) (behind i bs), rw all (omega (arith, length-drop (i + 1) bs)))
+      | inr n ↦ let none : None ≡ Some i = rw n at e in cc
+    ]
+
+pub uncut : (bs : List ℕ) → position is_line_feed bs ≡ None → lines_of bs ≡ bs ∷ []
+uncut bs e =
+    elim (cases_Bool (nat_lt (position_or_len is_line_feed bs) (length bs))) [
+      | inl y ↦ let some : Some (position_or_len is_line_feed bs) ≡ None = rw y at e in cc
+      | inr n ↦
+          let ge : length bs ≤ position_or_len is_line_feed bs = grind (arith, nat_tests) in
+          ap without_returns (slice_split_none is_line_feed bs (λ k d lt. fails_before_first is_line_feed bs k d (omega arith)))
+    ]
+
+pub map-filter : {X Y : Type 0} (f : X → Y) (p : Y → Bool) (xs : List X) → map f (filter (λ x. p (f x)) xs) ≡ filter p (map f xs)
+map-filter f p [] = refl
+map-filter f p (x ∷ xs) =
+    elim (cases_Bool (p (f x))) [
+      | inl stays ↦ rw stays (ap (λ ys. f x ∷ ys) (map-filter f p xs))
+      | inr goes ↦ rw goes (map-filter f p xs)
+    ]

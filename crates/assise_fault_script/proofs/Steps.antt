@@ -1,0 +1,94 @@
+-- One line more of a script.
+use Rattle.std.proofs.Common.{◌≡◌, ◌⊎◌, ℕ, ◌+◌, ◌-◌, true, false, List, [], ◌∷◌, ◌++◌, length, take, Option, Some, None, Result, Ok, Err, IsOk, refl, ap, sym, ◌∙◌, inl, inr, arith, append_assoc, length-append}
+use Rattle.std.proofs.lemmas.List.{append-nil}
+use Rattle.std.proofs.Math.Seq.{take-append_seam}
+use Rattle.std.specs.Prelude.{is_some, ◌||◌}
+use Rattle.assise_fault_script.specs.declared.command.Command.{Command}
+use Rattle.assise_fault_script.specs.declared.fault.LineFault.{LineFault}
+use Rattle.assise_fault_script.specs.declared.fault.ScriptFault.{ScriptFault}
+use Rattle.assise_fault_script.specs.declared.fault.ScriptFault.TheVariants.{Memory}
+use Rattle.assise_fault_script.specs.declared.parse.NumberedCommand.{NumberedCommand}
+use Rattle.assise_fault_script.specs.Line.{line_says}
+use Rattle.assise_fault_script.specs.Script.{Progress, ◌>>>◌, at_line, numbered, commands_from, with_line, next, start, commands_of, IsReached}
+use Rattle.assise_fault_script.specs.Words.{lines_of}
+
+abbrev Commands : Type 0
+Commands = Result (List NumberedCommand) LineFault
+
+-- the commands so far, and then those that are read
+abbrev pub with_front : List NumberedCommand → Commands → Commands
+with_front front (Ok commands) = Ok (front ++ commands)
+with_front front (Err e) = Err e
+
+with_front-cons : (front : List NumberedCommand) (n : NumberedCommand) (r : Commands) → with_front front (r >>> λ others. Ok (n ∷ others)) ≡ with_front (front ++ n ∷ []) r
+with_front-cons front n (Ok others) = ap Ok (sym (append_assoc front (n ∷ []) others))
+with_front-cons front n (Err e) = refl
+
+with_front-same : (front : List NumberedCommand) (r : Commands) → with_front front (r >>> λ others. Ok others) ≡ with_front front r
+with_front-same front (Ok others) = refl
+with_front-same front (Err e) = refl
+
+pub with_front-nil : (r : Commands) → with_front [] r ≡ r
+with_front-nil (Ok commands) = refl
+with_front-nil (Err e) = refl
+
+-- what comes of a script that is read so far, where these lines are left
+abbrev pub comes_of : Progress → List (List ℕ) → Commands
+comes_of p lines = with_front p.commands (commands_from p.number p.built lines)
+
+says_step : (p : Progress) (r : Result (Option Command) ScriptFault) (lines : List (List ℕ)) → with_front p.commands (at_line p.number r >>> λ command. commands_from (p.number + 1) (is_some command || p.built) lines >>> λ others. Ok (numbered p.number command others)) ≡ (with_line p r >>> λ q. comes_of q lines)
+says_step p (Err e) lines = refl
+says_step p (Ok None) lines = with_front-same p.commands (commands_from (p.number + 1) p.built lines)
+says_step p (Ok (Some command)) lines = with_front-cons p.commands record { line = p.number; command = command } (commands_from (p.number + 1) true lines)
+
+pub step : (p : Progress) (line : List ℕ) (lines : List (List ℕ)) → comes_of p (line ∷ lines) ≡ (next p line >>> λ q. comes_of q lines)
+step p line lines = says_step p (line_says p.built line) lines
+
+-- the lines in front are read, and these are left
+pub record IsReadTo (bytes : List ℕ) (p : Progress) (lines : List (List ℕ)) : Type 0 where
+  pub front : List (List ℕ)
+  pub parts : lines_of bytes ≡ front ++ lines
+  pub counted : p.number ≡ length front + 1
+  pub reads : (others : List (List ℕ)) → commands_from 1 false (front ++ others) ≡ comes_of p others
+
+pub none_read : (bytes : List ℕ) (p : Progress) → p ≡ start → IsReadTo bytes p (lines_of bytes)
+none_read bytes p h = rw h (record { front = []; parts = refl; counted = refl; reads = λ others. sym (with_front-nil (commands_from 1 false others)) })
+
+-- one line more is read
+pub one_read : (bytes : List ℕ) (p q : Progress) (line : List ℕ) (lines whole : List (List ℕ)) → whole ≡ line ∷ lines → IsReadTo bytes p whole → next p line ≡ Ok q → q.number ≡ p.number + 1 → IsReadTo bytes q lines
+one_read bytes p q line lines whole parts read gives counts =
+    let longer : (others : List (List ℕ)) → (read.front ++ line ∷ []) ++ others ≡ read.front ++ (line ∷ others) = λ others. append_assoc read.front (line ∷ []) others in
+    record {
+      front = read.front ++ line ∷ [];
+      parts = read.parts ∙ ap (λ ls. read.front ++ ls) parts ∙ sym (longer lines);
+      counted = omega (arith, counts, read.counted, length-append read.front (line ∷ []));
+      reads = λ others. ap (commands_from 1 false) (longer others) ∙ read.reads (line ∷ others) ∙ step p line others ∙ ap (λ r. r >>> λ t. comes_of t others) gives;
+    }
+
+pub all_read : (bytes : List ℕ) (q : Progress) → IsReadTo bytes q [] → commands_of bytes ≡ Ok q.commands
+all_read bytes q read = ap (commands_from 1 false) read.parts ∙ read.reads [] ∙ ap Ok (append-nil q.commands)
+
+-- a line was faulty, or memory ran out
+pub faulty : (bytes : List ℕ) (p : Progress) (line : List ℕ) (lines whole : List (List ℕ)) (e y : LineFault) → y ≡ e → whole ≡ line ∷ lines → IsReadTo bytes p whole → (e.fault ≡ Memory) ⊎ (next p line ≡ Err e) → (y.fault ≡ Memory) ⊎ (commands_of bytes ≡ Err y)
+faulty bytes p line lines whole e y is parts read (inl memory) = inl (ap (λ z. z.fault) is ∙ memory)
+faulty bytes p line lines whole e y is parts read (inr fault) =
+    inr (ap (commands_from 1 false) read.parts ∙ read.reads whole ∙ ap (comes_of p) parts ∙ step p line lines ∙ ap (λ r. r >>> λ t. comes_of t lines) fault ∙ ap Err (sym is))
+
+is_ok : (r : Commands) (cs : List NumberedCommand) → r ≡ Ok cs → IsOk r
+is_ok (Ok ds) cs h = refl
+is_ok (Err e) cs h = cc
+
+-- the lines in front of a faulty line have no fault
+pub reached : (bytes : List ℕ) (p : Progress) (line : List ℕ) (lines whole : List (List ℕ)) (e y : LineFault) → y ≡ e → whole ≡ line ∷ lines → IsReadTo bytes p whole → e.line ≡ p.number → IsReached bytes y.line
+reached bytes p line lines whole e y is parts read at =
+    let number : y.line ≡ length read.front + 1 = ap (λ z. z.line) is ∙ at ∙ read.counted in
+    let all : lines_of bytes ≡ read.front ++ (line ∷ lines) = read.parts ∙ ap (λ ls. read.front ++ ls) parts in
+    let places : length (lines_of bytes) ≡ length read.front + length (line ∷ lines) = ap length all ∙ length-append read.front (line ∷ lines) in
+    let before : y.line - 1 ≡ length read.front = omega (arith, number) in
+    let front : take (y.line - 1) (lines_of bytes) ≡ read.front = ap (λ n. take n (lines_of bytes)) before ∙ ap (take (length read.front)) all ∙ take-append_seam read.front (line ∷ lines) in
+    let whole_front : take (y.line - 1) (lines_of bytes) ≡ read.front ++ [] = front ∙ sym (append-nil read.front) in
+    record {
+      first = omega (arith, number);
+      last = omega (arith, number, places);
+      faultless = is_ok _ _ (ap (commands_from 1 false) whole_front ∙ read.reads []);
+    }

@@ -1,0 +1,52 @@
+-- The calls of a client: the word of each, and what the words behind it mean.
+use Rattle.std.specs.Prelude.{ℕ, if◌then◌else◌, List, [], ◌∷◌, Result, Ok, Err, codes}
+use Rattle.std.specs.Bool.{nat_eq}
+use Rattle.std.specs.Cmp.Lexicographic.{pointwise}
+use Rattle.assise_names.specs.Path.{path_of}
+use Rattle.assise_names.specs.declared.call.Op.{Op}
+use Rattle.assise_names.specs.declared.call.Op.TheVariants.{Create, Read, Write, Stat}
+use Rattle.assise_names.specs.declared.path.PathFault.{PathFault}
+use Rattle.assise_fault_script.specs.declared.command.CallWord.{CallWord}
+use Rattle.assise_fault_script.specs.declared.command.CallWord.TheVariants.{Create as for_create, Read as for_read, Write as for_write, Stat as for_stat}
+use Rattle.assise_fault_script.specs.declared.fault.ScriptFault.{ScriptFault}
+use Rattle.assise_fault_script.specs.declared.fault.ScriptFault.TheVariants.{UnknownCommand, WrongCount, BadPath}
+use Rattle.assise_fault_script.specs.Data.{data_of}
+use Rattle.assise_fault_script.specs.Fault.{◌>>=◌}
+use Rattle.assise_fault_script.specs.Number.{number_of}
+
+-- the call that a word names
+abbrev pub call_word : List ℕ → Result CallWord ScriptFault
+call_word word =
+    if pointwise nat_eq word (codes "create") then Ok for_create
+    else (if pointwise nat_eq word (codes "read") then Ok for_read
+    else (if pointwise nat_eq word (codes "write") then Ok for_write
+    else (if pointwise nat_eq word (codes "stat") then Ok for_stat
+    else Err UnknownCommand)))
+
+abbrev pub of_path : Result (List (List ℕ)) PathFault → Result (List (List ℕ)) ScriptFault
+of_path (Ok path) = Ok path
+of_path (Err fault) = Err (BadPath fault)
+
+-- the path that a word spells
+abbrev pub path_word : List ℕ → Result (List (List ℕ)) ScriptFault
+path_word word = of_path (path_of word)
+
+abbrev pub create_of : List ℕ → Result Op ScriptFault
+create_of path = path_word path >>= λ p. Ok (Create p)
+
+abbrev pub read_of : List ℕ → List ℕ → List ℕ → Result Op ScriptFault
+read_of path offset count = path_word path >>= λ p. number_of offset >>= λ o. number_of count >>= λ n. Ok (Read p o n)
+
+abbrev pub write_of : List ℕ → List ℕ → List ℕ → Result Op ScriptFault
+write_of path offset data_word = path_word path >>= λ p. number_of offset >>= λ o. data_of data_word >>= λ bytes. Ok (Write p o bytes)
+
+abbrev pub stat_of : List ℕ → Result Op ScriptFault
+stat_of path = path_word path >>= λ p. Ok (Stat p)
+
+-- a row for each call: the count of its words, and what they mean
+abbrev pub call_of : CallWord → List (List ℕ) → Result Op ScriptFault
+call_of for_create (path ∷ []) = create_of path
+call_of for_read (path ∷ offset ∷ count ∷ []) = read_of path offset count
+call_of for_write (path ∷ offset ∷ data_word ∷ []) = write_of path offset data_word
+call_of for_stat (path ∷ []) = stat_of path
+call_of _ _ = Err WrongCount

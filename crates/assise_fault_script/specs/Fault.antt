@@ -1,0 +1,29 @@
+-- The first fault of a text, and what is printed of a fault.
+use Rattle.std.specs.Prelude.{◌≡◌, ◌⊎◌, ℕ, List, ◌++◌, Result, Ok, Err, codes}
+use Rattle.assise_names.specs.Text.{path_fault_text}
+use Rattle.assise_fault_script.specs.declared.fault.ScriptFault.{ScriptFault}
+use Rattle.assise_fault_script.specs.declared.fault.ScriptFault.TheVariants.{NotUtf8, UnknownCommand, WrongCount, BadNumber, BadPath, BadData, BadKind, NoCluster, SecondCluster, BadLimit, Memory}
+
+-- what comes next, unless there was a fault already
+infixl 10 ◌>>=◌
+abbrev pub ◌>>=◌ : {A B : Type 0} → Result A ScriptFault → (A → Result B ScriptFault) → Result B ScriptFault
+(Ok x) >>= f = f x
+(Err e) >>= f = Err e
+
+-- what is wanted was given, or memory ran out
+abbrev pub Gives : {X : Type 0} → Result X ScriptFault → Result X ScriptFault → Type 0
+Gives (Ok x) wanted = wanted ≡ Ok x
+Gives (Err e) wanted = (e ≡ Memory) ⊎ (wanted ≡ Err e)
+
+abbrev pub fault_text : ScriptFault → List ℕ
+fault_text NotUtf8 = codes "not UTF-8"
+fault_text UnknownCommand = codes "unknown command"
+fault_text WrongCount = codes "wrong number of words"
+fault_text BadNumber = codes "bad number"
+fault_text (BadPath fault) = codes "bad path: " ++ path_fault_text fault
+fault_text BadData = codes "bad data"
+fault_text BadKind = codes "unknown revoker"
+fault_text NoCluster = codes "no cluster yet"
+fault_text SecondCluster = codes "second cluster"
+fault_text BadLimit = codes "out of limits"
+fault_text Memory = codes "out of memory"

@@ -1,0 +1,44 @@
+-- The commands that begin with a keyword: the word of each, and what the words behind it mean.
+use Rattle.std.specs.Prelude.{ℕ, if◌then◌else◌, List, [], ◌∷◌, Result, Ok, Err, codes}
+use Rattle.std.specs.Bool.{nat_eq}
+use Rattle.std.specs.Cmp.Lexicographic.{pointwise}
+use Rattle.assise_fault_script.specs.declared.command.Command.{Command}
+use Rattle.assise_fault_script.specs.declared.command.Command.TheVariants.{Cluster, Open, History}
+use Rattle.assise_fault_script.specs.declared.command.Keyword as first
+use Rattle.assise_fault_script.specs.declared.command.Keyword.TheVariants.{Cluster as for_cluster, Open as for_open, History as for_history}
+use Rattle.assise_fault_script.specs.declared.command.RevokerKind.{RevokerKind}
+use Rattle.assise_fault_script.specs.declared.command.RevokerKind.TheVariants.{Least, Whole, Eights}
+use Rattle.assise_fault_script.specs.declared.fault.ScriptFault.{ScriptFault}
+use Rattle.assise_fault_script.specs.declared.fault.ScriptFault.TheVariants.{UnknownCommand, WrongCount, BadKind}
+use Rattle.assise_fault_script.specs.Fault.{◌>>=◌}
+use Rattle.assise_fault_script.specs.Number.{limited, number_of}
+
+-- the keyword that a word is
+abbrev pub keyword_of : List ℕ → Result first.Keyword ScriptFault
+keyword_of word =
+    if pointwise nat_eq word (codes "cluster") then Ok for_cluster
+    else (if pointwise nat_eq word (codes "open") then Ok for_open
+    else (if pointwise nat_eq word (codes "history") then Ok for_history
+    else Err UnknownCommand))
+
+-- the revoker that a word names
+abbrev pub kind_of : List ℕ → Result RevokerKind ScriptFault
+kind_of word =
+    if pointwise nat_eq word (codes "least") then Ok Least
+    else (if pointwise nat_eq word (codes "whole") then Ok Whole
+    else (if pointwise nat_eq word (codes "eights") then Ok Eights
+    else Err BadKind))
+
+-- one node, a log of 8 to 4,096 and 1 to 4,096 hot
+abbrev pub cluster_of : List ℕ → List ℕ → List ℕ → Result Command ScriptFault
+cluster_of nodes log hot = limited 1 1 nodes >>= λ n. limited 8 4096 log >>= λ l. limited 1 4096 hot >>= λ h. Ok (Cluster n l h)
+
+abbrev pub open_of : List ℕ → List ℕ → Result Command ScriptFault
+open_of node kind = number_of node >>= λ n. kind_of kind >>= λ k. Ok (Open n k)
+
+-- a row for each keyword: the count of its words, and what they mean
+abbrev pub keyword_command : first.Keyword → List (List ℕ) → Result Command ScriptFault
+keyword_command for_cluster (nodes ∷ log ∷ hot ∷ []) = cluster_of nodes log hot
+keyword_command for_open (node ∷ kind ∷ []) = open_of node kind
+keyword_command for_history [] = Ok History
+keyword_command _ _ = Err WrongCount

@@ -1,0 +1,80 @@
+// A row for each call of a client.
+ghost use Rattle.std.specs.Prelude.{◌≡◌, map};
+ghost use Rattle.assise_fault_script.specs.Calls.{call_of, call_word, create_of, path_word, read_of, stat_of, write_of};
+ghost use Rattle.assise_fault_script.specs.Fault.{Gives};
+
+use crate::command::CallWord;
+use crate::data::data;
+use crate::fault::ScriptFault;
+use crate::number::number;
+use assise_names::call::Op;
+use assise_names::path::{Path, PathFault};
+use std::alloc::Global;
+
+/// The call that a word names.
+pub fn call_word(word: &str) -> Result<CallWord, ScriptFault>
+    ensures { result ≡ call_word word.now }
+{
+    match word {
+        "create" => Ok(CallWord::Create),
+        "read" => Ok(CallWord::Read),
+        "write" => Ok(CallWord::Write),
+        "stat" => Ok(CallWord::Stat),
+        _ => Err(ScriptFault::UnknownCommand),
+    }
+}
+
+/// The call that the words behind its name make.
+pub fn call(alloc: Global, name: CallWord, words: &[&str]) -> Result<Op, ScriptFault>
+    ensures { Gives result (call_of name (map (λ w. w.now) words.now)) }
+{
+    match (name, words) {
+        (CallWord::Create, [path]) => create(alloc, path),
+        (CallWord::Read, [path, offset, length]) => read(alloc, path, offset, length),
+        (CallWord::Write, [path, offset, data]) => write(alloc, path, offset, data),
+        (CallWord::Stat, [path]) => stat(alloc, path),
+        _ => Err(ScriptFault::WrongCount),
+    }
+}
+
+fn path(alloc: Global, word: &str) -> Result<Path, ScriptFault>
+    ensures { Gives result (path_word word.now) }
+{
+    match Path::parse(alloc, word) {
+        Ok(path) => Ok(path),
+        Err(PathFault::Memory) => Err(ScriptFault::Memory),
+        Err(fault) => Err(ScriptFault::BadPath(fault)),
+    }
+}
+
+fn create(alloc: Global, word: &str) -> Result<Op, ScriptFault>
+    ensures { Gives result (create_of word.now) }
+{
+    let path = path(alloc, word)?;
+    Ok(Op::Create(path))
+}
+
+fn read(alloc: Global, word: &str, offset: &str, count: &str) -> Result<Op, ScriptFault>
+    ensures { Gives result (read_of word.now offset.now count.now) }
+{
+    let path = path(alloc, word)?;
+    let offset = number(offset)?;
+    let count = number(count)?;
+    Ok(Op::Read(path, offset, count))
+}
+
+fn write(alloc: Global, word: &str, offset: &str, bytes: &str) -> Result<Op, ScriptFault>
+    ensures { Gives result (write_of word.now offset.now bytes.now) }
+{
+    let path = path(alloc, word)?;
+    let offset = number(offset)?;
+    let bytes = data(alloc, bytes)?;
+    Ok(Op::Write(path, offset, bytes))
+}
+
+fn stat(alloc: Global, word: &str) -> Result<Op, ScriptFault>
+    ensures { Gives result (stat_of word.now) }
+{
+    let path = path(alloc, word)?;
+    Ok(Op::Stat(path))
+}

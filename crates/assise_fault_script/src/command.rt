@@ -1,0 +1,69 @@
+// The commands of a script.
+
+use assise_names::call::Op;
+
+/// Which part of its log a client hands over when a lease is asked back.
+#[derive(Clone, Copy, Debug, PartialEq, Eq)]
+pub enum RevokerKind {
+    /// `least`.
+    Least,
+    /// `whole`.
+    Whole,
+    /// `eights`.
+    Eights,
+}
+
+/// A command of a script. A client's or a node's number is any `u64`: whether it names one is seen when the
+/// command is run.
+#[derive(Debug, Drop)]
+pub enum Command {
+    /// Makes the cluster. It comes once, before every other command.
+    Cluster {
+        /// How many nodes: 1.
+        nodes: u64,
+        /// The most records of a client's log: 8 to 4,096.
+        log: u64,
+        /// The most inodes that a node keeps hot: 1 to 4,096.
+        hot: u64,
+    },
+    /// Opens a client.
+    Open {
+        /// The node that it is opened on.
+        node: u64,
+        /// Its revoker.
+        kind: RevokerKind,
+    },
+    /// A call of a client.
+    Call {
+        /// The client.
+        client: u64,
+        /// Its call.
+        op: Op,
+    },
+    /// The history so far.
+    History,
+}
+
+/// The first word of a command that isn't a client's call.
+#[derive(Clone, Copy, Debug, PartialEq, Eq)]
+pub(crate) enum Keyword {
+    /// `cluster NODES LOG HOT`.
+    Cluster,
+    /// `open NODE KIND`.
+    Open,
+    /// `history`.
+    History,
+}
+
+/// The word that names a client's call.
+#[derive(Clone, Copy, Debug, PartialEq, Eq)]
+pub(crate) enum CallWord {
+    /// `create P`.
+    Create,
+    /// `read P OFFSET LENGTH`.
+    Read,
+    /// `write P OFFSET DATA`.
+    Write,
+    /// `stat P`.
+    Stat,
+}

@@ -1,0 +1,89 @@
+// What is wrong with a script.
+ghost use Rattle.std.specs.Prelude.{Some};
+ghost use Rattle.assise_fault_script.specs.Fault.{fault_text};
+
+use assise_names::path::PathFault;
+use std::alloc::{AllocError, AllocFailed};
+use std::error::Error;
+use std::fmt;
+use std::fmt::{Display, Formatter};
+
+/// What is wrong with a line of a script.
+#[derive(Clone, Copy, PartialEq, Eq, Debug)]
+pub enum ScriptFault {
+    /// The line isn't UTF-8.
+    NotUtf8,
+    /// The first word is no command, or the word behind a client's number is no call.
+    UnknownCommand,
+    /// The command has too few words or too many.
+    WrongCount,
+    /// A word isn't a decimal number below 2^64.
+    BadNumber,
+    /// A word spells no path.
+    BadPath(PathFault),
+    /// A word is no data.
+    BadData,
+    /// A word names no revoker.
+    BadKind,
+    /// A command stands before `cluster`.
+    NoCluster,
+    /// `cluster` stands there once more.
+    SecondCluster,
+    /// A number of `cluster` is too small or too large.
+    BadLimit,
+    /// A growth was really refused.
+    Memory,
+}
+
+impl Display for ScriptFault {
+    ghost output = { λ fault. Some (fault_text fault) };
+
+    fn fmt<W: fmt::Write>(&self, f: &mut Formatter<W>) -> fmt::Result {
+        match self {
+            ScriptFault::NotUtf8 => write!(f, "not UTF-8"),
+            ScriptFault::UnknownCommand => write!(f, "unknown command"),
+            ScriptFault::WrongCount => write!(f, "wrong number of words"),
+            ScriptFault::BadNumber => write!(f, "bad number"),
+            ScriptFault::BadPath(fault) => write!(f, "bad path: {fault}"),
+            ScriptFault::BadData => write!(f, "bad data"),
+            ScriptFault::BadKind => write!(f, "unknown revoker"),
+            ScriptFault::NoCluster => write!(f, "no cluster yet"),
+            ScriptFault::SecondCluster => write!(f, "second cluster"),
+            ScriptFault::BadLimit => write!(f, "out of limits"),
+            ScriptFault::Memory => write!(f, "out of memory"),
+        }
+    }
+}
+
+impl Error for ScriptFault {}
+
+impl From<AllocError> for ScriptFault {
+    ghost use Rattle.std.specs.Prelude.{◌≡◌};
+    ghost use Rattle.assise_fault_script.specs.declared.fault.ScriptFault.TheVariants.{Memory};
+
+    ghost from_gives = { λ _ fault. fault ≡ Memory };
+
+    fn from(_error: AllocError) -> ScriptFault {
+        ScriptFault::Memory
+    }
+}
+
+impl<T: Drop> From<AllocFailed<T>> for ScriptFault {
+    ghost use Rattle.std.specs.Prelude.{◌≡◌};
+    ghost use Rattle.assise_fault_script.specs.declared.fault.ScriptFault.TheVariants.{Memory};
+
+    ghost from_gives = { λ _ fault. fault ≡ Memory };
+
+    fn from(_error: AllocFailed<T>) -> ScriptFault {
+        ScriptFault::Memory
+    }
+}
+
+/// A faulty line and its first fault.
+#[derive(Clone, Copy, PartialEq, Eq, Debug)]
+pub struct LineFault {
+    /// The line's number. The first line has 1.
+    pub line: u64,
+    /// What is wrong with it.
+    pub fault: ScriptFault,
+}

@@ -1,0 +1,60 @@
+// A row for each command that begins with a keyword.
+ghost use Rattle.std.specs.Prelude.{◌≡◌, map};
+ghost use Rattle.assise_fault_script.specs.Fault.{Gives};
+ghost use Rattle.assise_fault_script.specs.Keywords.{cluster_of, keyword_command, keyword_of, kind_of, open_of};
+
+use crate::command::{Command, Keyword, RevokerKind};
+use crate::fault::ScriptFault;
+use crate::number::{number, within};
+
+/// The keyword that a word is.
+pub fn keyword(word: &str) -> Result<Keyword, ScriptFault>
+    ensures { result ≡ keyword_of word.now }
+{
+    match word {
+        "cluster" => Ok(Keyword::Cluster),
+        "open" => Ok(Keyword::Open),
+        "history" => Ok(Keyword::History),
+        _ => Err(ScriptFault::UnknownCommand),
+    }
+}
+
+/// The command that the words behind the keyword make.
+pub fn keyword_command(keyword: Keyword, words: &[&str]) -> Result<Command, ScriptFault>
+    ensures { Gives result (keyword_command keyword (map (λ w. w.now) words.now)) }
+{
+    match (keyword, words) {
+        (Keyword::Cluster, [nodes, log, hot]) => cluster(nodes, log, hot),
+        (Keyword::Open, [node, kind]) => open(node, kind),
+        (Keyword::History, []) => Ok(Command::History),
+        _ => Err(ScriptFault::WrongCount),
+    }
+}
+
+fn cluster(nodes: &str, log: &str, hot: &str) -> Result<Command, ScriptFault>
+    ensures { Gives result (cluster_of nodes.now log.now hot.now) }
+{
+    let nodes = within(1, 1, nodes)?;
+    let log = within(8, 4096, log)?;
+    let hot = within(1, 4096, hot)?;
+    Ok(Command::Cluster { nodes, log, hot })
+}
+
+fn open(node: &str, name: &str) -> Result<Command, ScriptFault>
+    ensures { Gives result (open_of node.now name.now) }
+{
+    let node = number(node)?;
+    let kind = kind(name)?;
+    Ok(Command::Open { node, kind })
+}
+
+fn kind(word: &str) -> Result<RevokerKind, ScriptFault>
+    ensures { result ≡ kind_of word.now }
+{
+    match word {
+        "least" => Ok(RevokerKind::Least),
+        "whole" => Ok(RevokerKind::Whole),
+        "eights" => Ok(RevokerKind::Eights),
+        _ => Err(ScriptFault::BadKind),
+    }
+}

@@ -1,0 +1,12 @@
+pub mod Entries
+pub mod Walk
+pub mod Replacing
+pub mod Order
+pub mod Sets
+pub mod Moves
+pub mod Overwriting
+pub mod Paths
+pub mod Reading
+pub mod Writes
+pub mod Calls
+pub mod Limits

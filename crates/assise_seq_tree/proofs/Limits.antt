@@ -1,0 +1,160 @@
+-- No call leads out of the limits.
+use Rattle.std.proofs.Common.{◌≡◌, ◌≤◌, ◌<◌, ◌+◌, arith, ℕ, Bool, true, false, cond, ◌==◌, nat_le, is_some, List, [], ◌∷◌, ◌++◌, length, Some, Result, Ok, Err, Less, Equal, Greater, nat_cmp, refl, ap, sym, ◌∙◌, inl, inr, subst}
+use Rattle.std.specs.Ordering.{match_ordering}
+use Rattle.std.specs.Cmp.Lexicographic.{slice_cmp}
+use Rattle.std.proofs.lemmas.Bool.{cases_Bool}
+use Rattle.std.proofs.lemmas.Bool.Decides.{nat_tests}
+use Rattle.assise_names.specs.declared.call.Op.{Op}
+use Rattle.assise_names.specs.declared.call.Op.TheVariants.{Create, Read, Write, Stat}
+use Rattle.assise_names.specs.declared.reply.Reply.{Reply}
+use Rattle.assise_names.specs.declared.reply.Reply.TheVariants.{Done}
+use Rattle.assise_names.specs.declared.reply.TreeError.{TreeError}
+use Rattle.assise_names.specs.declared.reply.TreeError.TheVariants.{Exists, TooBig, DirFull}
+use Rattle.assise_seq_tree.specs.Answer.{◌>>=◌, answer, as_directory, parent_of, last_name, room_for, room_at, file_at, reply_and_tree}
+use Rattle.assise_seq_tree.specs.Contents.{overwritten, is_within}
+use Rattle.assise_seq_tree.specs.Tree.{Tree, file, dir, Entries, no_entries, entry, same_name, find, replace, insert, set, count, at, put, IsWithinLimits, AreWithinLimits}
+use Rattle.assise_seq_tree.proofs.Replacing.{cases_option, put_step}
+use Rattle.assise_seq_tree.proofs.Moves.{Path, parent_and_last}
+use Rattle.assise_seq_tree.proofs.Reading.{length-overwritten}
+use Rattle.assise_seq_tree.proofs.Writes.{file_there}
+use Rattle.assise_seq_tree.proofs.Calls.{second, read_leaves, stat_leaves}
+
+-- ---- entries
+count-replace : (n : List ℕ) (x : Tree) (es : Entries) → count (replace n x es) ≡ count es
+count-replace n x no_entries = refl
+count-replace n x (entry k t es) =
+    elim (same_name n k) as (λ b. count (cond b (entry k x es) (entry k t (replace n x es))) ≡ count es + 1) [
+      | true ↦ refl
+      | false ↦ ap (λ m. m + 1) (count-replace n x es)
+    ]
+
+count-insert : (n : List ℕ) (x : Tree) (es : Entries) → count (insert n x es) ≤ count es + 1
+count-insert n x no_entries = omega arith
+count-insert n x (entry k t es) =
+    elim (slice_cmp nat_cmp n k) as (λ o. count (match_ordering o (entry n x (entry k t es)) (entry k x es) (entry k t (insert n x es))) ≤ count es + 1 + 1) [
+      | Less ↦ omega arith
+      | Equal ↦ omega arith
+      | Greater ↦ omega (arith, count-insert n x es)
+    ]
+
+within-replace : (n : List ℕ) (x : Tree) (es : Entries) → AreWithinLimits es → IsWithinLimits x → AreWithinLimits (replace n x es)
+within-replace n x no_entries s o = tt
+within-replace n x (entry k t es) s o =
+    elim (same_name n k) as (λ b. AreWithinLimits (cond b (entry k x es) (entry k t (replace n x es)))) [
+      | true ↦ (o, s.1)
+      | false ↦ (s.0, within-replace n x es s.1 o)
+    ]
+
+within-insert : (n : List ℕ) (x : Tree) (es : Entries) → AreWithinLimits es → IsWithinLimits x → AreWithinLimits (insert n x es)
+within-insert n x no_entries s o = (o, tt)
+within-insert n x (entry k t es) s o =
+    elim (slice_cmp nat_cmp n k) as (λ o. AreWithinLimits (match_ordering o (entry n x (entry k t es)) (entry k x es) (entry k t (insert n x es)))) [
+      | Less ↦ (o, s)
+      | Equal ↦ (o, s.1)
+      | Greater ↦ (s.0, within-insert n x es s.1 o)
+    ]
+
+within-find : (n : List ℕ) (es : Entries) (u : Tree) → AreWithinLimits es → find n es ≡ Some u → IsWithinLimits u
+within-find n no_entries u s h = cc
+within-find n (entry k t es) u s h =
+    elim (cases_Bool (same_name n k)) [
+      | inl same ↦ let is : Some t ≡ Some u = rw same at h in let one : t ≡ u = cc in subst IsWithinLimits one s.0
+      | inr apart ↦ within-find n es u s.1 (rw apart at h)
+    ]
+
+within-set : (n : List ℕ) (x : Tree) (es : Entries) → count es < 4096 → AreWithinLimits es → IsWithinLimits x → IsWithinLimits (dir (set n x es))
+within-set n x es room s o =
+    elim (is_some (find n es)) as (λ b. IsWithinLimits (dir (cond b (replace n x es) (insert n x es)))) [
+      | true ↦ (omega (arith, room, count-replace n x es), within-replace n x es s o)
+      | false ↦ (omega (arith, room, count-insert n x es), within-insert n x es s o)
+    ]
+
+within-replaced : (n : List ℕ) (x : Tree) (es : Entries) → IsWithinLimits (dir es) → IsWithinLimits x → IsWithinLimits (dir (replace n x es))
+within-replaced n x es s o = (omega (arith, s.0, count-replace n x es), within-replace n x es s.1 o)
+
+-- ---- paths
+-- what stands there is replaced
+put_there : (p : Path) (t x u : Tree) → at t p ≡ Ok u → IsWithinLimits t → IsWithinLimits x → IsWithinLimits (put t p x)
+unfolding at put
+put_there [] t x u h s o = o
+put_there (n ∷ p) (file bytes) x u h s o = s
+put_there (n ∷ p) (dir es) x u h s o =
+    elim (cases_option (find n es)) [
+      | inl none ↦ let no = rw none at h in cc
+      | inr some ↦
+          subst IsWithinLimits (sym (put_step es n p x some.0 some.1))
+          (within-replaced n (put some.0 p x) es s (put_there p some.0 x u (rw some.1 at h) (within-find n es some.0 s.1 some.1) o))
+    ]
+
+-- what is new has a parent with room
+put_new : (p : Path) (n : List ℕ) (t x : Tree) (es : Entries) → at t p ≡ Ok (dir es) → count es < 4096 → IsWithinLimits t → IsWithinLimits x → IsWithinLimits (put t (p ++ n ∷ []) x)
+unfolding at put
+put_new [] n (file bytes) x es h room s o = cc
+put_new [] n (dir fs) x es h room s o = let one : fs ≡ es = cc in within-set n x fs (omega (arith, room, ap count one)) s.1 o
+put_new (k ∷ p) n (file bytes) x es h room s o = cc
+put_new (k ∷ p) n (dir fs) x es h room s o =
+    elim (cases_option (find k fs)) [
+      | inl none ↦ let no = rw none at h in cc
+      | inr some ↦
+          subst IsWithinLimits (sym (put_step fs k (p ++ n ∷ []) x some.0 some.1))
+          (within-replaced k (put some.0 (p ++ n ∷ []) x) fs s (put_new p n some.0 x es (rw some.1 at h) room (within-find k fs some.0 s.1 some.1) o))
+    ]
+
+-- ---- what the checks found
+some_room : (b c : Bool) (r : Result (Unit {0}) TreeError) → cond b (Err Exists) (cond c (Err DirFull) r) ≡ Ok tt → c ≡ false
+some_room true c r h = cc
+some_room false true r h = cc
+some_room false false r h = refl
+
+has_room : (r : Result Tree TreeError) (name : List ℕ) → (r >>= λ found. as_directory found >>= λ es. room_for name es) ≡ Ok tt → (es : Entries) × ((r ≡ Ok (dir es)) × (count es < 4096))
+has_room (Ok (file bytes)) name h = cc
+has_room (Ok (dir es)) name h =
+    let room = some_room (is_some (find name es)) (nat_le 4096 (count es)) (Ok tt) h in
+    (es, (refl, grind (arith, nat_tests)))
+has_room (Err e) name h = cc
+
+not_root : (b : Bool) (r : Result (Unit {0}) TreeError) → cond b (Err Exists) r ≡ Ok tt → r ≡ Ok tt
+not_root true r h = cc
+not_root false r h = h
+
+put_made : (t : Tree) (p : Path) → room_at t p ≡ Ok tt → IsWithinLimits t → IsWithinLimits (put t p (file []))
+put_made t [] h s = cc
+put_made t (n ∷ p) h s =
+    let found = has_room (at t (parent_of (n ∷ p))) (last_name (n ∷ p)) (not_root (length (n ∷ p) == 0) (at t (parent_of (n ∷ p)) >>= λ found. as_directory found >>= λ es. room_for (last_name (n ∷ p)) es) h) in
+    let parts = parent_and_last (n ∷ p) (omega arith) in
+    subst (λ q. IsWithinLimits (put t q (file []))) (sym parts) (put_new (parent_of (n ∷ p)) (last_name (n ∷ p)) t (file []) found.0 found.1.0 found.1.1 s (omega arith))
+
+-- ---- calls
+created : (t : Tree) (p : Path) (r : Result (Unit {0}) TreeError) → room_at t p ≡ r → IsWithinLimits t → IsWithinLimits (reply_and_tree t (r >>= λ _. Ok (Done, put t p (file [])))).1
+created t p (Ok x) is s = put_made t p is s
+created t p (Err e) is s = s
+
+fits_in : (t : Tree) (p : Path) (offset : ℕ) (new bytes : List ℕ) → at t p ≡ Ok (file bytes) → is_within offset new ≡ true → IsWithinLimits t → IsWithinLimits (file bytes) → IsWithinLimits (put t p (file (overwritten bytes offset new)))
+fits_in t p offset new bytes there fits s old =
+    let end : offset + length new ≤ 1048576 = grind (arith, nat_tests) in
+    put_there p t (file (overwritten bytes offset new)) (file bytes) there s (omega (arith, end, old, length-overwritten bytes offset new))
+
+within-at : (p : Path) (t u : Tree) → at t p ≡ Ok u → IsWithinLimits t → IsWithinLimits u
+unfolding at
+within-at [] t u h s = let one : t ≡ u = cc in subst IsWithinLimits one s
+within-at (n ∷ p) (file bytes) u h s = cc
+within-at (n ∷ p) (dir es) u h s =
+    elim (cases_option (find n es)) [
+      | inl none ↦ let no = rw none at h in cc
+      | inr some ↦ within-at p some.0 u (rw some.1 at h) (within-find n es some.0 s.1 some.1)
+    ]
+
+written : (t : Tree) (p : Path) (offset : ℕ) (new : List ℕ) (r : Result (List ℕ) TreeError) (fits none : Bool) → file_at t p ≡ r → is_within offset new ≡ fits → IsWithinLimits t
+    → IsWithinLimits (reply_and_tree t (r >>= λ bytes. cond fits (Ok (Done, cond none t (put t p (file (overwritten bytes offset new))))) (Err TooBig))).1
+written t p offset new (Ok bytes) true true is fits s = s
+written t p offset new (Ok bytes) true false is fits s =
+    let there = file_there (at t p) bytes is in
+    fits_in t p offset new bytes there fits s (within-at p t (file bytes) there s)
+written t p offset new (Ok bytes) false none is fits s = s
+written t p offset new (Err e) fits none is f s = s
+
+pub limits_kept : (t u : Tree) (op : Op) (reply : Reply) → answer t op ≡ (reply, u) → IsWithinLimits t → IsWithinLimits u
+limits_kept t u (Create p) reply h s = subst IsWithinLimits (sym (second _ reply u h)) (created t p (room_at t p) refl s)
+limits_kept t u (Read p offset most) reply h s = subst IsWithinLimits (sym (second _ reply u h ∙ read_leaves t offset most (file_at t p))) s
+limits_kept t u (Write p offset new) reply h s = subst IsWithinLimits (sym (second _ reply u h)) (written t p offset new (file_at t p) (is_within offset new) (length new == 0) refl refl s)
+limits_kept t u (Stat p) reply h s = subst IsWithinLimits (sym (second _ reply u h ∙ stat_leaves t (at t p))) s

@@ -1,0 +1,244 @@
+-- Two paths of which neither begins with the other: what is done at one leaves the other.
+use Rattle.std.proofs.Common.{◌≡◌, ℕ, suc, ◌-◌, ◌<◌, arith, Bool, true, false, cond, List, [], ◌∷◌, ◌++◌, length, Some, None, is_some, Ok, Err, refl, ap, sym, ◌∙◌, inl, inr, subst}
+use Rattle.std.specs.Prelude.{unwrap_or}
+use Rattle.std.specs.Option.{option_map_or}
+use Rattle.std.proofs.lemmas.Bool.{cases_Bool}
+use Rattle.assise_names.specs.declared.reply.TreeError.TheVariants.{NoEnt}
+use Rattle.assise_seq_tree.specs.Tree.{Tree, file, dir, Entries, no_entries, entry, same_name, find, replace, set, remove, at, put, without, IsOrdered, AreOrdered}
+use Rattle.assise_seq_tree.specs.Answer.{parent_of, last_name}
+use Rattle.assise_seq_tree.proofs.Replacing.{cases_option}
+use Rattle.assise_seq_tree.proofs.Order.{ordered-replace, ordered-find, ordered-put}
+use Rattle.assise_seq_tree.proofs.Sets.{same_itself, one_name, shadowed, swapped, not_both, find-set, find-replace_any, find-remove, ordered-remove, ordered-set, same_entries}
+
+abbrev pub Path : Type 0
+Path = List (List ℕ)
+
+-- neither path begins with the other, step by step
+abbrev pub Apart : Path → Path → Type 0
+Apart [] q = ⊥
+Apart (n ∷ p) [] = ⊥
+Apart (n ∷ p) (m ∷ q) = same_name n m ≡ true → Apart p q
+
+-- what an entry leads to, or the empty directory
+abbrev pub below : List ℕ → Entries → Tree
+below n es = unwrap_or (find n es) (dir no_entries)
+
+-- ---- one entry
+find_set_same : (n : List ℕ) (x : Tree) (es : Entries) → find n (set n x es) ≡ Some x
+find_set_same n x es = find-set n n x es ∙ ap (λ b. cond b (Some x) (find n es)) (same_itself n)
+
+find_set_other : (q n : List ℕ) (x : Tree) (es : Entries) → same_name q n ≡ false → find q (set n x es) ≡ find q es
+find_set_other q n x es apart = find-set q n x es ∙ ap (λ b. cond b (Some x) (find q es)) apart
+
+find_remove_other : (q n : List ℕ) (es : Entries) → AreOrdered es → same_name q n ≡ false → find q (remove n es) ≡ find q es
+find_remove_other q n es s apart = find-remove q n es s ∙ ap (λ b. cond b None (find q es)) apart
+
+turned : (q n : List ℕ) → same_name q n ≡ false → same_name n q ≡ false
+turned q n apart =
+    elim (cases_Bool (same_name n q)) [
+      | inl same ↦ let one = one_name n q same in let is : same_name q n ≡ true = ap (same_name q) one ∙ same_itself q in cc
+      | inr apart_too ↦ apart_too
+    ]
+
+pub replace_absent : (n : List ℕ) (x : Tree) (es : Entries) → find n es ≡ None → replace n x es ≡ es
+replace_absent n x no_entries h = refl
+replace_absent n x (entry k t es) h =
+    elim (cases_Bool (same_name n k)) [
+      | inl same ↦ let no = rw same at h in cc
+      | inr apart ↦ rw apart (ap (entry k t) (replace_absent n x es (rw apart at h)))
+    ]
+
+pub find_replace_there : (q n : List ℕ) (x u : Tree) (es : Entries) → find n es ≡ Some u → find q (replace n x es) ≡ cond (same_name q n) (Some x) (find q es)
+find_replace_there q n x u es there = find-replace_any q n x es (ap is_some there)
+
+find_replace_other : (q n : List ℕ) (x : Tree) (es : Entries) → same_name q n ≡ false → find q (replace n x es) ≡ find q es
+find_replace_other q n x es apart =
+    elim (cases_option (find n es)) [
+      | inl none ↦ ap (find q) (replace_absent n x es none)
+      | inr some ↦ find_replace_there q n x some.0 es some.1 ∙ ap (λ b. cond b (Some x) (find q es)) apart
+    ]
+
+-- ---- two changes of entries
+set-set : (n : List ℕ) (x y : Tree) (es : Entries) → AreOrdered es → IsOrdered x → IsOrdered y → set n y (set n x es) ≡ set n y es
+set-set n x y es s o k =
+    same_entries (set n y (set n x es)) (set n y es) (ordered-set n y (set n x es) (ordered-set n x es s o) k) (ordered-set n y es s k)
+    (λ q. find-set q n y (set n x es) ∙ ap (cond (same_name q n) (Some y)) (find-set q n x es) ∙ sym (shadowed (same_name q n) (Some y) (Some x) (find q es)) ∙ sym (find-set q n y es))
+
+remove-set : (n m : List ℕ) (x : Tree) (es : Entries) → AreOrdered es → IsOrdered x → same_name n m ≡ false → remove n (set m x es) ≡ set m x (remove n es)
+remove-set n m x es s o apart =
+    let set_first = ordered-set m x es s o in
+    same_entries (remove n (set m x es)) (set m x (remove n es)) (ordered-remove n (set m x es) set_first) (ordered-set m x (remove n es) (ordered-remove n es s) o)
+    (λ q. find-remove q n (set m x es) set_first ∙ ap (cond (same_name q n) None) (find-set q m x es) ∙ swapped (same_name q n) (same_name q m) None (Some x) (find q es) (λ a b. not_both q n m apart b a)
+    ∙ ap (cond (same_name q m) (Some x)) (sym (find-remove q n es s)) ∙ sym (find-set q m x (remove n es)))
+
+replace-set : (n m : List ℕ) (w x : Tree) (es : Entries) → AreOrdered es → IsOrdered w → IsOrdered x → same_name n m ≡ false → replace n w (set m x es) ≡ set m x (replace n w es)
+replace-set n m w x es s v o apart =
+    elim (cases_option (find n es)) [
+      | inl none ↦ replace_absent n w (set m x es) (find_set_other n m x es apart ∙ none) ∙ ap (set m x) (sym (replace_absent n w es none))
+      | inr some ↦
+          same_entries (replace n w (set m x es)) (set m x (replace n w es)) (ordered-replace n w (set m x es) (ordered-set m x es s o) v) (ordered-set m x (replace n w es) (ordered-replace n w es s v) o)
+          (λ q. find_replace_there q n w some.0 (set m x es) (find_set_other n m x es apart ∙ some.1) ∙ ap (cond (same_name q n) (Some w)) (find-set q m x es) ∙ swapped (same_name q n) (same_name q m) (Some w) (Some x) (find q es) (λ a b. not_both q n m apart b a)
+          ∙ ap (cond (same_name q m) (Some x)) (sym (find_replace_there q n w some.0 es some.1)) ∙ sym (find-set q m x (replace n w es)))
+    ]
+
+-- the same entry
+replace-set_same : (n : List ℕ) (w x y : Tree) (es : Entries) → AreOrdered es → IsOrdered w → IsOrdered x → IsOrdered y → replace n y (set n x es) ≡ set n y (replace n w es)
+replace-set_same n w x y es s v o k =
+    same_entries (replace n y (set n x es)) (set n y (replace n w es)) (ordered-replace n y (set n x es) (ordered-set n x es s o) k) (ordered-set n y (replace n w es) (ordered-replace n w es s v) k)
+    (λ q. find_replace_there q n y x (set n x es) (find_set_same n x es) ∙ ap (cond (same_name q n) (Some y)) (find-set q n x es) ∙ sym (shadowed (same_name q n) (Some y) (Some x) (find q es))
+    ∙ others q (same_name q n) refl ∙ sym (find-set q n y (replace n w es)))
+  where
+    others : (q : List ℕ) (b : Bool) → same_name q n ≡ b → cond b (Some y) (find q es) ≡ cond b (Some y) (find q (replace n w es))
+    others q true e = refl
+    others q false e = sym (find_replace_other q n w es e)
+
+-- ---- paths
+ordered_below : (n : List ℕ) (es : Entries) → AreOrdered es → IsOrdered (below n es)
+ordered_below n es s =
+    elim (cases_option (find n es)) [
+      | inl none ↦ rw none tt
+      | inr some ↦ rw some.1 (ordered-find n es some.0 s some.1)
+    ]
+
+pub ordered-without : (p : Path) (t : Tree) → IsOrdered t → IsOrdered (without t p)
+unfolding without
+ordered-without [] t s = s
+ordered-without (n ∷ p) (file bytes) s = tt
+ordered-without (n ∷ []) (dir es) s = ordered-remove n es s
+ordered-without (n ∷ k ∷ p) (dir es) s = ordered-replace n (without (below n es) (k ∷ p)) es s (ordered-without (k ∷ p) (below n es) (ordered_below n es s))
+
+without_empty : (k : List ℕ) (p : Path) → without (dir no_entries) (k ∷ p) ≡ dir no_entries
+unfolding without
+without_empty k [] = refl
+without_empty k (n ∷ p) = refl
+
+at_empty : (p q : Path) → Apart p q → at (dir no_entries) p ≡ Err NoEnt
+unfolding at
+at_empty [] q apart = absurd apart
+at_empty (n ∷ p) q apart = refl
+
+-- what is put at q leaves what stands at p
+pub at-put_apart : (p q : Path) (t x : Tree) → Apart p q → at (put t q x) p ≡ at t p
+unfolding at put
+at-put_apart [] q t x apart = absurd apart
+at-put_apart (n ∷ p) [] t x apart = absurd apart
+at-put_apart (n ∷ p) (m ∷ q) (file bytes) x apart = refl
+at-put_apart (n ∷ p) (m ∷ q) (dir es) x apart =
+    elim (cases_Bool (same_name n m)) [
+      | inl same ↦
+          let one : n ≡ m = one_name n m same in
+          let far = apart same in
+          ap (λ o. option_map_or (λ t. at t p) o (Err NoEnt)) (ap (λ k. find k (set m (put (below m es) q x) es)) one ∙ find_set_same m (put (below m es) q x) es)
+          ∙ at-put_apart p q (below m es) x far
+          ∙ elim (cases_option (find m es)) [
+            | inl none ↦ ap (λ o. at (unwrap_or o (dir no_entries)) p) none ∙ at_empty p q far ∙ ap (λ o. option_map_or (λ t. at t p) o (Err NoEnt)) (sym none)
+            | inr some ↦ ap (λ o. at (unwrap_or o (dir no_entries)) p) some.1 ∙ ap (λ o. option_map_or (λ t. at t p) o (Err NoEnt)) (sym some.1)
+          ]
+          ∙ ap (λ k. option_map_or (λ t. at t p) (find k es) (Err NoEnt)) (sym one)
+      | inr other ↦ ap (λ o. option_map_or (λ t. at t p) o (Err NoEnt)) (find_set_other n m (put (below m es) q x) es other)
+    ]
+
+-- what is taken out at p leaves what stands at q
+pub at-without_apart : (p q : Path) (t : Tree) → IsOrdered t → Apart p q → at (without t p) q ≡ at t q
+unfolding at without
+at-without_apart [] q t s apart = absurd apart
+at-without_apart (n ∷ p) [] t s apart = absurd apart
+at-without_apart (n ∷ p) (m ∷ q) (file bytes) s apart = refl
+at-without_apart (n ∷ []) (m ∷ q) (dir es) s apart =
+    elim (cases_Bool (same_name n m)) [
+      | inl same ↦ absurd (apart same)
+      | inr other ↦ ap (λ o. option_map_or (λ t. at t q) o (Err NoEnt)) (find_remove_other m n es s (turned n m other))
+    ]
+at-without_apart (n ∷ k ∷ p) (m ∷ q) (dir es) s apart =
+    elim (cases_Bool (same_name n m)) [
+      | inl same ↦
+          let one : n ≡ m = one_name n m same in
+          elim (cases_option (find n es)) [
+            | inl none ↦ ap (λ fs. option_map_or (λ t. at t q) (find m fs) (Err NoEnt)) (replace_absent n (without (below n es) (k ∷ p)) es none)
+            | inr some ↦
+                let child : below n es ≡ some.0 = ap (λ o. unwrap_or o (dir no_entries)) some.1 in
+                ap (λ o. option_map_or (λ t. at t q) o (Err NoEnt)) (find_replace_there m n (without (below n es) (k ∷ p)) some.0 es some.1 ∙ ap (λ b. cond b (Some (without (below n es) (k ∷ p))) (find m es)) (ap (λ j. same_name j n) (sym one) ∙ same_itself n))
+                ∙ at-without_apart (k ∷ p) q (below n es) (ordered_below n es s) (apart same)
+                ∙ ap (λ u. at u q) child ∙ ap (λ o. option_map_or (λ t. at t q) o (Err NoEnt)) (sym some.1) ∙ ap (λ j. option_map_or (λ t. at t q) (find j es) (Err NoEnt)) one
+          ]
+      | inr other ↦ ap (λ o. option_map_or (λ t. at t q) o (Err NoEnt)) (find_replace_other m n (without (below n es) (k ∷ p)) es (turned n m other))
+    ]
+
+-- the one that is put and the one that is taken out may change places
+pub without-put : (p q : Path) (t x : Tree) → IsOrdered t → IsOrdered x → Apart p q → without (put t q x) p ≡ put (without t p) q x
+unfolding put without
+without-put [] q t x s o apart = absurd apart
+without-put (n ∷ p) [] t x s o apart = absurd apart
+without-put (n ∷ p) (m ∷ q) (file bytes) x s o apart = refl
+without-put (n ∷ []) (m ∷ q) (dir es) x s o apart =
+    elim (cases_Bool (same_name n m)) [
+      | inl same ↦ absurd (apart same)
+      | inr other ↦
+          let new = ordered-put q (below m es) x (ordered_below m es s) o in
+          ap dir (remove-set n m (put (below m es) q x) es s new other
+          ∙ ap (λ c. set m (put (unwrap_or c (dir no_entries)) q x) (remove n es)) (sym (find_remove_other m n es s (turned n m other))))
+    ]
+without-put (n ∷ k ∷ p) (m ∷ q) (dir es) x s o apart =
+    elim (cases_Bool (same_name n m)) [
+      | inl same ↦
+          let one : m ≡ n = sym (one_name n m same) in
+          subst (λ j. without (put (dir es) (j ∷ q) x) (n ∷ k ∷ p) ≡ put (without (dir es) (n ∷ k ∷ p)) (j ∷ q) x) (sym one) (inside (without-put (k ∷ p) q (below n es) x (ordered_below n es s) o (apart same)))
+      | inr other ↦
+          let new = ordered-put q (below m es) x (ordered_below m es s) o in
+          let left = ordered-without (k ∷ p) (below n es) (ordered_below n es s) in
+          ap (λ c. dir (replace n (without (unwrap_or c (dir no_entries)) (k ∷ p)) (set m (put (below m es) q x) es))) (find_set_other n m (put (below m es) q x) es other)
+          ∙ ap dir (replace-set n m (without (below n es) (k ∷ p)) (put (below m es) q x) es s left new other
+          ∙ ap (λ c. set m (put (unwrap_or c (dir no_entries)) q x) (replace n (without (below n es) (k ∷ p)) es)) (sym (find_replace_other m n (without (below n es) (k ∷ p)) es (turned n m other))))
+    ]
+  where
+    kept : below n (replace n (without (below n es) (k ∷ p)) es) ≡ without (below n es) (k ∷ p)
+    kept =
+        elim (cases_option (find n es)) [
+          | inl none ↦
+              ap (below n) (replace_absent n (without (below n es) (k ∷ p)) es none) ∙ ap (λ c. unwrap_or c (dir no_entries)) none
+              ∙ sym (ap (λ c. without (unwrap_or c (dir no_entries)) (k ∷ p)) none ∙ without_empty k p)
+          | inr some ↦ ap (λ c. unwrap_or c (dir no_entries)) (find_replace_there n n (without (below n es) (k ∷ p)) some.0 es some.1 ∙ ap (λ b. cond b (Some (without (below n es) (k ∷ p))) (find n es)) (same_itself n))
+        ]
+
+    inside : without (put (below n es) q x) (k ∷ p) ≡ put (without (below n es) (k ∷ p)) q x → without (put (dir es) (n ∷ q) x) (n ∷ k ∷ p) ≡ put (without (dir es) (n ∷ k ∷ p)) (n ∷ q) x
+    inside ih =
+        let new = ordered-put q (below n es) x (ordered_below n es s) o in
+        let left = ordered-without (k ∷ p) (below n es) (ordered_below n es s) in
+        ap (λ c. dir (replace n (without (unwrap_or c (dir no_entries)) (k ∷ p)) (set n (put (below n es) q x) es))) (find_set_same n (put (below n es) q x) es)
+        ∙ ap (λ z. dir (replace n z (set n (put (below n es) q x) es))) ih
+        ∙ ap dir (replace-set_same n (without (below n es) (k ∷ p)) (put (below n es) q x) (put (without (below n es) (k ∷ p)) q x) es s left new (ordered-put q (without (below n es) (k ∷ p)) x left o))
+        ∙ ap (λ w. dir (set n (put w q x) (replace n (without (below n es) (k ∷ p)) es))) (sym kept)
+
+-- the last that is put at a path stays
+pub put-put_any : (q : Path) (t x y : Tree) → IsOrdered t → IsOrdered x → IsOrdered y → put (put t q x) q y ≡ put t q y
+unfolding put
+put-put_any [] t x y s o k = refl
+put-put_any (m ∷ q) (file bytes) x y s o k = refl
+put-put_any (m ∷ q) (dir es) x y s o k =
+    let old = ordered_below m es s in
+    ap (λ c. dir (set m (put (unwrap_or c (dir no_entries)) q y) (set m (put (below m es) q x) es))) (find_set_same m (put (below m es) q x) es)
+    ∙ ap (λ z. dir (set m z (set m (put (below m es) q x) es))) (put-put_any q (below m es) x y old o k)
+    ∙ ap dir (set-set m (put (below m es) q x) (put (below m es) q y) es s (ordered-put q (below m es) x old o) (ordered-put q (below m es) y old k))
+
+-- what is put into a directory that is there is found
+pub at-put_new : (p : Path) (n : List ℕ) (t x : Tree) (es : Entries) → at t p ≡ Ok (dir es) → at (put t (p ++ n ∷ []) x) (p ++ n ∷ []) ≡ Ok x
+unfolding at put
+at-put_new [] n (file bytes) x es h = cc
+at-put_new [] n (dir fs) x es h = ap (λ o. option_map_or (λ t. at t []) o (Err NoEnt)) (find_set_same n x fs)
+at-put_new (k ∷ p) n (file bytes) x es h = cc
+at-put_new (k ∷ p) n (dir fs) x es h =
+    elim (cases_option (find k fs)) [
+      | inl none ↦ let no = rw none at h in cc
+      | inr some ↦
+          let child = rw some.1 at h in
+          ap (λ o. option_map_or (λ t. at t (p ++ n ∷ [])) o (Err NoEnt)) (find_set_same k (put (below k fs) (p ++ n ∷ []) x) fs)
+          ∙ ap (λ o. at (put (unwrap_or o (dir no_entries)) (p ++ n ∷ []) x) (p ++ n ∷ [])) some.1
+          ∙ at-put_new p n some.0 x es child
+    ]
+
+pub parent_and_last : (p : Path) → 0 < length p → p ≡ parent_of p ++ last_name p ∷ []
+parent_and_last [] h = absurd (omega arith)
+parent_and_last (n ∷ []) h = refl
+parent_and_last (n ∷ k ∷ p) h =
+    let one : length (n ∷ k ∷ p) - 1 ≡ suc (length (k ∷ p) - 1) = omega arith in
+    rw one (ap (λ q. n ∷ q) (parent_and_last (k ∷ p) (omega arith)))

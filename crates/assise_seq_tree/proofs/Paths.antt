@@ -1,0 +1,52 @@
+-- What is put at a path stands there, and what is taken out is gone.
+use Rattle.std.proofs.Common.{◌≡◌, ◌<◌, arith, cond, [], ◌∷◌, ◌++◌, length, Some, None, Ok, Err, refl, ap, sym, ◌∙◌, inl, inr, subst}
+use Rattle.std.specs.Prelude.{unwrap_or}
+use Rattle.std.specs.Option.{option_map_or}
+use Rattle.assise_names.specs.declared.reply.TreeError.TheVariants.{NoEnt}
+use Rattle.assise_seq_tree.specs.Answer.{parent_of, last_name}
+use Rattle.assise_seq_tree.specs.Tree.{Tree, file, dir, Entries, no_entries, find, at, put, without, IsOrdered, LieApart}
+use Rattle.assise_seq_tree.proofs.Replacing.{cases_option}
+use Rattle.assise_seq_tree.proofs.Order.{ordered-find}
+use Rattle.assise_seq_tree.proofs.Sets.{same_itself, one_name, find-remove}
+use Rattle.assise_seq_tree.proofs.Moves.{Path, Apart, below, find_replace_there, at-put_new, parent_and_last}
+
+-- two paths of which neither begins with the other part at some step
+pub apart_from : (p q : Path) → ((rest : Path) → p ≡ q ++ rest → ⊥) → ((rest : Path) → q ≡ p ++ rest → ⊥) → Apart p q
+apart_from p [] a b = absurd (a p refl)
+apart_from [] (m ∷ q) a b = b (m ∷ q) refl
+apart_from (n ∷ p) (m ∷ q) a b = λ same.
+    let one : n ≡ m = one_name n m same in
+    apart_from p q
+    (λ rest e. a rest (ap (λ k. k ∷ p) one ∙ ap (λ s. m ∷ s) e))
+    (λ rest e. b rest (ap (λ k. k ∷ q) (sym one) ∙ ap (λ s. n ∷ s) e))
+
+pub step_apart : (p q : Path) → LieApart p q → Apart p q
+step_apart p q h = apart_from p q (λ rest e. h.first (rest, e)) (λ rest e. h.second (rest, e))
+
+pub turned_apart : (p q : Path) → LieApart p q → Apart q p
+turned_apart p q h = apart_from q p (λ rest e. h.second (rest, e)) (λ rest e. h.first (rest, e))
+
+-- what is put stands there
+pub put_stands : (t x : Tree) (p : Path) (es : Entries) → at t (parent_of p) ≡ Ok (dir es) → at (put t p x) p ≡ Ok x
+unfolding at put
+put_stands t x [] es h = refl
+put_stands t x (n ∷ p) es h =
+    let parts = parent_and_last (n ∷ p) (omega arith) in
+    subst (λ q. at (put t q x) q ≡ Ok x) (sym parts) (at-put_new (parent_of (n ∷ p)) (last_name (n ∷ p)) t x es h)
+
+-- what is taken out is gone
+pub gone : (p : Path) (t x : Tree) → IsOrdered t → 0 < length p → at t p ≡ Ok x → at (without t p) p ≡ Err NoEnt
+unfolding at without
+gone [] t x s h there = absurd (omega arith)
+gone (n ∷ p) (file bytes) x s h there = cc
+gone (n ∷ []) (dir es) x s h there =
+    ap (λ o. option_map_or (λ t. at t []) o (Err NoEnt)) (find-remove n n es s ∙ ap (λ b. cond b None (find n es)) (same_itself n))
+gone (n ∷ k ∷ p) (dir es) x s h there =
+    elim (cases_option (find n es)) [
+      | inl none ↦ let no = rw none at there in cc
+      | inr some ↦
+          let child : below n es ≡ some.0 = ap (λ o. unwrap_or o (dir no_entries)) some.1 in
+          ap (λ o. option_map_or (λ t. at t (k ∷ p)) o (Err NoEnt)) (find_replace_there n n (without (below n es) (k ∷ p)) some.0 es some.1 ∙ ap (λ b. cond b (Some (without (below n es) (k ∷ p))) (find n es)) (same_itself n))
+          ∙ ap (λ u. at (without u (k ∷ p)) (k ∷ p)) child
+          ∙ gone (k ∷ p) some.0 x (ordered-find n es some.0 s some.1) (omega arith) (rw some.1 at there)
+    ]

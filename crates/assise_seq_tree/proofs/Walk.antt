@@ -1,0 +1,102 @@
+-- One step of each walk.
+use Rattle.std.proofs.Common.{◌≡◌, ℕ, ◌-◌, ◌≤◌, ◌<◌, List, [], ◌∷◌, length, take, drop, get_or, Option, Some, None, Result, Ok, Err, BTreeMap, Bor, MutBor, MatchResult, refl, ap, sym, ◌∙◌, arith}
+use Rattle.std.specs.Option.{option_copied}
+use Rattle.std.specs.BTreeMap.{get_by, is_at}
+use Rattle.assise_names.specs.declared.reply.TreeError.{TreeError}
+use Rattle.assise_names.specs.declared.reply.TreeError.TheVariants.{NoEnt, NotDir}
+use Rattle.std.proofs.lemmas.List.{take_rest}
+use Rattle.assise_seq_tree.specs.Tree.{Tree, file, dir, Entries, no_entries, find, at, put}
+use Rattle.assise_seq_tree.specs.View.{entries_of}
+use Rattle.std.specs.Option.{option_copied_mut}
+use Rattle.std.proofs.lemmas.Map.Steps.{set_value_same}
+use Rattle.std.specs.Map.{set_value, lookup}
+use Rattle.std.specs.BTreeMap.{insert_entry}
+use Rattle.std.specs.Cmp.Lexicographic.{slice_cmp}
+use Rattle.std.specs.Ordering.{nat_cmp}
+use Rattle.assise_seq_tree.proofs.Entries.{at_text, find-entries_of, insert-entries_of, replace-entries_of}
+
+pub no_items : {X : Type 0} (xs : List X) → length xs < 1 → xs ≡ []
+no_items [] h = refl
+no_items (x ∷ xs) h = absurd (omega arith)
+
+-- what the pattern [x, rest @ ..] takes apart
+pub first_and_rest : {X : Type 0} (xs : List X) (x : X) → 1 ≤ length xs → x ≡ get_or xs 0 x → xs ≡ x ∷ take (length xs - 1) (drop 1 xs)
+first_and_rest [] x h e = absurd (omega arith)
+first_and_rest (y ∷ ys) x h e = ap (λ z. z ∷ ys) (sym e) ∙ ap (λ zs. x ∷ zs) (sym (take_rest (y ∷ ys) 1))
+
+-- what a look-up in the map says of the entries
+pub found : (name : List ℕ) (m : BTreeMap (List ℕ) Tree) (r : Option (Bor Tree)) (x : Bor Tree) → r ≡ Some x → option_copied r ≡ get_by (at_text name) m → find name (entries_of m.entries) ≡ Some x.now
+found name m r x is value = find-entries_of name m.entries ∙ sym (rw is at value)
+
+pub missing : (name : List ℕ) (m : BTreeMap (List ℕ) Tree) (r : Option (Bor Tree)) → r ≡ None → option_copied r ≡ get_by (at_text name) m → find name (entries_of m.entries) ≡ None
+missing name m r is value = find-entries_of name m.entries ∙ sym (rw is at value)
+
+-- the walk
+pub at_root : (t : Tree) (names : List (List ℕ)) → names ≡ [] → at t names ≡ Ok t
+unfolding at
+at_root t names e = rw e
+
+pub at_file : (t : Tree) (names : List (List ℕ)) (bytes name : List ℕ) (p : List (List ℕ)) → names ≡ name ∷ p → t ≡ file bytes → at t names ≡ Err NotDir
+unfolding at
+at_file t names bytes name p e is = rw (e, is)
+
+pub at_missing : (t : Tree) (names : List (List ℕ)) (es : Entries) (name : List ℕ) (p : List (List ℕ)) → names ≡ name ∷ p → t ≡ dir es → find name es ≡ None → at t names ≡ Err NoEnt
+unfolding at
+at_missing t names es name p e is h = rw (e, is, h)
+
+pub at_found : (t : Tree) (names : List (List ℕ)) (es : Entries) (name : List ℕ) (p : List (List ℕ)) (x : Tree) → names ≡ name ∷ p → t ≡ dir es → find name es ≡ Some x
+    → (r : Result (Bor Tree) TreeError) → MatchResult r (λ y. at x p ≡ Ok y.now) (λ e. at x p ≡ Err e) → MatchResult r (λ y. at t names ≡ Ok y.now) (λ e. at t names ≡ Err e)
+unfolding at
+at_found t names es name p x e is h (Ok y) ends = rw (e, is, h) ends
+at_found t names es name p x e is h (Err y) ends = rw (e, is, h) ends
+
+-- the write along a path
+pub put_root : (t x : Tree) (names : List (List ℕ)) → names ≡ [] → x ≡ put t names x
+unfolding put
+put_root t x names e = rw e
+
+pub put_file : (t x : Tree) (names : List (List ℕ)) (bytes name : List ℕ) (p : List (List ℕ)) → names ≡ name ∷ p → t ≡ file bytes → t ≡ put t names x
+unfolding put
+put_file t x names bytes name p e is = rw (e, is)
+
+-- what stands at the name is changed in its place
+pub put_found : (t x : Tree) (names : List (List ℕ)) (name : List ℕ) (p : List (List ℕ)) (m n : BTreeMap (List ℕ) Tree) (r : Option (MutBor Tree)) (u : MutBor Tree) (w : Tree)
+    → names ≡ name ∷ p → t ≡ dir (entries_of m.entries) → r ≡ Some u → option_copied_mut r ≡ get_by (at_text name) m
+    → n.entries ≡ set_value (is_at (at_text name)) m.entries w → w ≡ put u.now p x → dir (entries_of n.entries) ≡ put t names x
+unfolding put
+put_found t x names name p m n r u w e is some value written ends =
+    let there : lookup (is_at (at_text name)) m.entries ≡ Some u.now = sym (rw some at value) in
+    rw (e, is, find-entries_of name m.entries, there, written, ← ends) (ap dir (sym (replace-entries_of name w m.entries)))
+
+-- what is missing is made at its sorted place
+pub put_missing : (t x : Tree) (names : List (List ℕ)) (name : List ℕ) (p : List (List ℕ)) (m n : BTreeMap (List ℕ) Tree) (r : Option (MutBor Tree)) (key : List ℕ) (w : Tree)
+    → names ≡ name ∷ p → t ≡ dir (entries_of m.entries) → r ≡ None → option_copied_mut r ≡ get_by (at_text name) m
+    → key ≡ name → n.entries ≡ insert_entry (slice_cmp nat_cmp) m.entries key w → w ≡ put (dir no_entries) p x → dir (entries_of n.entries) ≡ put t names x
+unfolding put
+put_missing t x names name p m n r key w e is none value spelled written ends =
+    let missing : lookup (is_at (at_text name)) m.entries ≡ None = sym (rw none at value) in
+    rw (e, is, find-entries_of name m.entries, missing, written, ← ends, ← spelled) (ap dir (sym (insert-entries_of key w m.entries)))
+
+-- a child that stays as it was leaves the tree as it was
+pub kept_found : (t : Tree) (name : List ℕ) (m n : BTreeMap (List ℕ) Tree) (r : Option (MutBor Tree)) (u : MutBor Tree) (w : Tree)
+    → t ≡ dir (entries_of m.entries) → r ≡ Some u → option_copied_mut r ≡ get_by (at_text name) m → n.entries ≡ set_value (is_at (at_text name)) m.entries w → w ≡ u.now → dir (entries_of n.entries) ≡ t
+kept_found t name m n r u w is some value written same =
+    rw (is, written) (ap (λ es. dir (entries_of es)) (set_value_same (is_at (at_text name)) m.entries w (sym (rw some at value) ∙ ap Some (sym same))))
+
+-- the same of a look-up that lends
+pub found_mut : (name : List ℕ) (m : BTreeMap (List ℕ) Tree) (r : Option (MutBor Tree)) (x : MutBor Tree) → r ≡ Some x → option_copied_mut r ≡ get_by (at_text name) m → find name (entries_of m.entries) ≡ Some x.now
+found_mut name m r x is value = find-entries_of name m.entries ∙ sym (rw is at value)
+
+pub missing_mut : (name : List ℕ) (m : BTreeMap (List ℕ) Tree) (r : Option (MutBor Tree)) → r ≡ None → option_copied_mut r ≡ get_by (at_text name) m → find name (entries_of m.entries) ≡ None
+missing_mut name m r is value = find-entries_of name m.entries ∙ sym (rw is at value)
+
+pub at_below : (t : Tree) (names : List (List ℕ)) (es : Entries) (name : List ℕ) (p : List (List ℕ)) (x : Tree) → names ≡ name ∷ p → t ≡ dir es → find name es ≡ Some x → at t names ≡ at x p
+unfolding at
+at_below t names es name p x e is h = rw (e, is, h)
+
+-- nothing is claimed where nothing stands at the path
+pub no_tree : {P : Type 0} (r : Result Tree TreeError) (e : TreeError) (x : Tree) → r ≡ Err e → r ≡ Ok x → P
+no_tree r e x a b = cc
+
+pub same_tree : (r : Result Tree TreeError) (x y : Tree) → r ≡ Ok x → r ≡ Ok y → x ≡ y
+same_tree r x y a b = cc

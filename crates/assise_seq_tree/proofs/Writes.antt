@@ -1,0 +1,115 @@
+-- What a write that was done says of the file before and after it.
+use Rattle.std.proofs.Common.{◌≡◌, ℕ, ◌+◌, ◌-◌, ◌≤◌, ◌<◌, Bool, true, false, cond, ◌==◌, List, [], ◌∷◌, length, replicate, Result, Ok, Err, refl, ap, sym, ◌∙◌, arith}
+use Rattle.std.specs.Prelude.{max}
+use Rattle.std.proofs.lemmas.Bool.Decides.{nat_tests}
+use Rattle.assise_names.specs.declared.reply.Reply.TheVariants.{Done, Bytes, File}
+use Rattle.assise_names.specs.declared.reply.TreeError.{TreeError}
+use Rattle.assise_names.specs.declared.reply.TreeError.TheVariants.{TooBig}
+use Rattle.assise_seq_tree.specs.Answer.{◌>>=◌, as_file, file_at, reply_and_tree, read_answer, write_answer, stat_answer, tree_after_write}
+use Rattle.assise_seq_tree.specs.Contents.{bytes_from, overwritten, is_within}
+use Rattle.assise_seq_tree.specs.Tree.{Tree, file, dir, at, put}
+use Rattle.assise_seq_tree.proofs.Replacing.{at-put}
+use Rattle.assise_seq_tree.proofs.Moves.{Path}
+use Rattle.assise_seq_tree.proofs.Reading.{read_new, read_again, read_kept, read_behind, read_gap, length-overwritten}
+
+-- the bytes that the file has after the write
+abbrev pub bytes_after : List ℕ → ℕ → List ℕ → List ℕ
+bytes_after bytes offset new = cond (length new == 0) bytes (overwritten bytes offset new)
+
+pub record Wrote (t u : Tree) (p : Path) (offset : ℕ) (new : List ℕ) : Type 0 where
+  pub bytes : List ℕ
+  pub there : at t p ≡ Ok (file bytes)
+  pub after : at u p ≡ Ok (file (bytes_after bytes offset new))
+  pub is : u ≡ tree_after_write t p offset new bytes
+
+pub file_there : (r : Result Tree TreeError) (bytes : List ℕ) → (r >>= λ found. as_file found) ≡ Ok bytes → r ≡ Ok (file bytes)
+file_there (Ok (file b)) bytes h = cc
+file_there (Ok (dir es)) bytes h = cc
+file_there (Err e) bytes h = cc
+
+pub wrote : (t u : Tree) (p : Path) (offset : ℕ) (new : List ℕ) → write_answer t p offset new ≡ (Done, u) → Wrote t u p offset new
+wrote t u p offset new h = go (file_at t p) refl h
+  where
+    fits : (bytes : List ℕ) → at t p ≡ Ok (file bytes) → (b : Bool) → reply_and_tree t (cond b (Ok (Done, tree_after_write t p offset new bytes)) (Err TooBig)) ≡ (Done, u) → u ≡ tree_after_write t p offset new bytes
+    fits bytes there true h = sym (ap (λ r. r.1) h)
+    fits bytes there false h = let no = ap (λ r. r.0) h in cc
+
+    after : (bytes : List ℕ) → at t p ≡ Ok (file bytes) → (b : Bool) → at (cond b t (put t p (file (overwritten bytes offset new)))) p ≡ Ok (file (cond b bytes (overwritten bytes offset new)))
+    after bytes there true = there
+    after bytes there false = at-put p t (file (overwritten bytes offset new)) (file bytes) there
+
+    go : (r : Result (List ℕ) TreeError) → file_at t p ≡ r → reply_and_tree t (r >>= λ bytes. cond (is_within offset new) (Ok (Done, tree_after_write t p offset new bytes)) (Err TooBig)) ≡ (Done, u) → Wrote t u p offset new
+    go (Err e) is h = let no = ap (λ r. r.0) h in cc
+    go (Ok bytes) is h =
+        let there = file_there (at t p) bytes is in
+        let u_is = fits bytes there (is_within offset new) h in
+        record {
+          bytes = bytes;
+          there = there;
+          after = ap (λ v. at v p) u_is ∙ after bytes there (length new == 0);
+          is = u_is;
+        }
+
+-- ---- reads and stats of a file that is there
+reads : (u : Tree) (p : Path) (offset most : ℕ) (bytes : List ℕ) → at u p ≡ Ok (file bytes) → read_answer u p offset most ≡ (Bytes (bytes_from offset most bytes), u)
+reads u p offset most bytes there = rw there refl
+
+have_read : (t : Tree) (p : Path) (offset most : ℕ) (bytes old : List ℕ) → at t p ≡ Ok (file bytes) → read_answer t p offset most ≡ (Bytes old, t) → bytes_from offset most bytes ≡ old
+have_read t p offset most bytes old there h = let is = ap (λ r. r.0) (rw there at h) in cc
+
+has_size : (t : Tree) (p : Path) (bytes : List ℕ) (size : ℕ) → at t p ≡ Ok (file bytes) → stat_answer t p ≡ (File size, t) → length bytes ≡ size
+has_size t p bytes size there h = let is = ap (λ r. r.0) (rw there at h) in cc
+
+sized : (u : Tree) (p : Path) (bytes : List ℕ) → at u p ≡ Ok (file bytes) → stat_answer u p ≡ (File (length bytes), u)
+sized u p bytes there = rw there refl
+
+some_bytes : (new : List ℕ) → 0 < length new → (length new == 0) ≡ false
+some_bytes new h = grind (arith, nat_tests)
+
+-- ---- the laws
+pub written_is_read : (t u : Tree) (p : Path) (offset : ℕ) (new : List ℕ) → write_answer t p offset new ≡ (Done, u) → read_answer u p offset (length new) ≡ (Bytes new, u)
+written_is_read t u p offset new h =
+    let w = wrote t u p offset new h in
+    reads u p offset (length new) (bytes_after w.bytes offset new) w.after ∙ ap (λ bytes. (Bytes bytes, u)) (back w.bytes new)
+  where
+    back : (bytes new : List ℕ) → bytes_from offset (length new) (bytes_after bytes offset new) ≡ new
+    back bytes [] = refl
+    back bytes (b ∷ new) = let some : (length (b ∷ new) == 0) ≡ false = some_bytes (b ∷ new) (omega arith) in rw some (read_new bytes offset (b ∷ new))
+
+pub kept_before : (t u : Tree) (p : Path) (offset from most : ℕ) (new old : List ℕ) → write_answer t p offset new ≡ (Done, u) → read_answer t p from most ≡ (Bytes old, t) → from + length old ≤ offset → read_answer u p from (length old) ≡ (Bytes old, u)
+kept_before t u p offset from most new old h r front =
+    let w = wrote t u p offset new h in
+    let is = have_read t p from most w.bytes old w.there r in
+    reads u p from (length old) (bytes_after w.bytes offset new) w.after ∙ ap (λ bytes. (Bytes bytes, u)) (same w.bytes is (length new == 0))
+  where
+    same : (bytes : List ℕ) → bytes_from from most bytes ≡ old → (b : Bool) → bytes_from from (length old) (cond b bytes (overwritten bytes offset new)) ≡ old
+    same bytes is true = rw (← is) (read_again from most bytes)
+    same bytes is false = rw (← is) (read_kept bytes offset new from most (omega (arith, front, ap length is)))
+
+pub kept_behind : (t u : Tree) (p : Path) (offset from most : ℕ) (new old : List ℕ) → write_answer t p offset new ≡ (Done, u) → read_answer t p from most ≡ (Bytes old, t) → offset + length new ≤ from → read_answer u p from most ≡ (Bytes old, u)
+kept_behind t u p offset from most new old h r behind =
+    let w = wrote t u p offset new h in
+    let is = have_read t p from most w.bytes old w.there r in
+    reads u p from most (bytes_after w.bytes offset new) w.after ∙ ap (λ bytes. (Bytes bytes, u)) (same w.bytes (length new == 0) ∙ is)
+  where
+    same : (bytes : List ℕ) → (b : Bool) → bytes_from from most (cond b bytes (overwritten bytes offset new)) ≡ bytes_from from most bytes
+    same bytes true = refl
+    same bytes false = read_behind bytes offset new from most behind
+
+pub gap_is_zeros : (t u : Tree) (p : Path) (offset size : ℕ) (new : List ℕ) → write_answer t p offset new ≡ (Done, u) → stat_answer t p ≡ (File size, t) → 0 < length new → size ≤ offset → read_answer u p size (offset - size) ≡ (Bytes (replicate (offset - size) 0), u)
+gap_is_zeros t u p offset size new h s some gap =
+    let w = wrote t u p offset new h in
+    let is = has_size t p w.bytes size w.there s in
+    reads u p size (offset - size) (bytes_after w.bytes offset new) w.after ∙ ap (λ bytes. (Bytes bytes, u)) (zeros w.bytes is)
+  where
+    zeros : (bytes : List ℕ) → length bytes ≡ size → bytes_from size (offset - size) (bytes_after bytes offset new) ≡ replicate (offset - size) 0
+    zeros bytes is = let test = some_bytes new some in rw (test, ← is) (read_gap bytes offset new (omega (arith, gap, is)))
+
+pub size_after : (t u : Tree) (p : Path) (offset size : ℕ) (new : List ℕ) → write_answer t p offset new ≡ (Done, u) → stat_answer t p ≡ (File size, t) → 0 < length new → stat_answer u p ≡ (File (max size (offset + length new)), u)
+size_after t u p offset size new h s some =
+    let w = wrote t u p offset new h in
+    let is = has_size t p w.bytes size w.there s in
+    sized u p (bytes_after w.bytes offset new) w.after ∙ ap (λ n. (File n, u)) (end w.bytes is)
+  where
+    end : (bytes : List ℕ) → length bytes ≡ size → length (bytes_after bytes offset new) ≡ max size (offset + length new)
+    end bytes is = let test = some_bytes new some in rw (test, ← is) (length-overwritten bytes offset new)

@@ -1,0 +1,48 @@
+use Rattle.std.proofs.Common.{subst}
+use Rattle.assise_seq_tree.specs.Tree.{IsOrdered}
+use Rattle.assise_seq_tree.proofs.Order.{ordered-after}
+use Rattle.std.proofs.Common.{◌∙◌, ap, sym}
+use Rattle.assise_seq_tree.specs.View.{tree_of}
+use Rattle.assise_seq_tree.proofs.Walk.{no_items, first_and_rest, put_root, put_file, put_found, put_missing, kept_found}
+use Rattle.std.proofs.lemmas.Result.{on_ok_weaker, on_err_weaker}
+use Rattle.assise_seq_tree.proofs.tree.Tree.+put.Goals as goal
+use Rattle.assise_seq_tree.proofs.tree.Tree.+put.Goals.{in-File+in-File-1, in-File+in-Directory-1, in-Directory+in-Some, in-Directory+in-None+in_ok-put-in-None+in_ok-key-in-None+in_ok-insert-in-None, in-Some+in-File-1, in-Some+in-Directory-1, in-None-1}
+
+pub returns-in_default-clause-ok : goal.returns-in_default-clause-ok
+returns-in_default-clause-ok t c = c.tree.view_is ∙ put_root _ _ _ (no_items c.args.names.now c.in_default.len_below)
+
+pub returns-clause-ok : goal.returns-clause-ok
+returns-clause-ok t c =
+    let step = first_and_rest _ _ c.in-len1-up.len_at_least c.name-item.is in
+    elim c.match-self.branch [
+      | in-File+in-File-1 w ↦ rw (w.result-is, w.self-inside-is) (c.self.view_is ∙ put_file _ _ _ _ _ _ step (sym c.self.view_is ∙ ap tree_of w.in-File.is))
+      | in-File+in-Directory-1 w ↦ rw (w.result-is, w.self-inside-is) (c.self.view_is ∙ put_file _ _ _ _ _ _ step (sym c.self.view_is ∙ ap tree_of w.in-File.is))
+      | in-Directory+in-Some w ↦
+          let is = sym c.self.view_is ∙ ap tree_of w.in-Directory.is in
+          let value = w.get_mut.ensures.value in
+          let written = w.get_mut.follows.holds w.put.new.self in
+          rw (w.result-is, w.self-inside-is) (on_ok_weaker w.put.result (put_found _ _ _ _ _ w.in-Directory.entries (w.get_mut.follows.lender w.put.new.self) w.get_mut.result _ _ step is w.in-Some.is value written.0) w.put.ensures.ok)
+      | in-Directory+in-None+in_ok-put-in-None+in_ok-key-in-None+in_ok-insert-in-None w ↦
+          let is = sym c.self.view_is ∙ ap tree_of w.in-Directory.is in
+          let value = w.get_mut.ensures.value in
+          let m = w.get_mut.follows.holds-at-none in
+          let spelled = w.in_ok-key-in-None.ensures.equal in
+          let made = rw w.new-child.ensures at w.in_ok-put-in-None.ensures.ok in
+          rw (w.result-is, w.self-inside-is) (put_missing _ _ _ _ _ w.in-Directory.entries w.insert.new.self w.get_mut.result w.in_ok-key-in-None.key w.put-in-None.new.self step is w.in-None.is value spelled (rw m at w.in_ok-insert-in-None.ensures.entries) made)
+    ]
+
+pub returns-clause-err : goal.returns-clause-err
+returns-clause-err t c =
+    elim c.match-self.branch [
+      | in-File+in-File-1 w ↦ rw w.result-is tt
+      | in-File+in-Directory-1 w ↦ rw w.result-is tt
+      | in-Directory+in-Some w ↦
+          let is = sym c.self.view_is ∙ ap tree_of w.in-Directory.is in
+          let value = w.get_mut.ensures.value in
+          let written = w.get_mut.follows.holds w.put.new.self in
+          rw (w.result-is, w.self-inside-is) (on_err_weaker w.put.result (kept_found _ _ w.in-Directory.entries (w.get_mut.follows.lender w.put.new.self) w.get_mut.result _ _ is w.in-Some.is value written.0) w.put.ensures.err)
+      | in-Directory+in-None+in_ok-put-in-None+in_ok-key-in-None+in_ok-insert-in-None w ↦ rw w.result-is tt
+    ]
+
+pub invariant_of-self-2 : goal.invariant_of-self-2
+invariant_of-self-2 t c = ordered-after c.match-self.result c.args.names.now _ c.args.self.now c.args.tree (returns-clause-ok t c) (returns-clause-err t c) (subst IsOrdered c.self.view_is c.self.invariant) (subst IsOrdered c.tree.view_is c.tree.invariant)

@@ -1,0 +1,87 @@
+-- What each call answers, and the tree that it leaves.
+-- POSIX.1-2017, system interfaces: open() with O_CREAT and O_EXCL, read(), write(), stat(); base definitions: 4.13 Pathname Resolution.
+use Rattle.std.specs.Prelude.{ℕ, ◌-◌, if◌then◌else◌, nat_le, ◌==◌, List, [], length, take, slice_index_or, is_some, Result, Ok, Err}
+use Rattle.assise_names.specs.declared.call.Op.{Op}
+use Rattle.assise_names.specs.declared.call.Op.TheVariants.{Create, Read, Write, Stat}
+use Rattle.assise_names.specs.declared.reply.Reply.{Reply}
+use Rattle.assise_names.specs.declared.reply.Reply.TheVariants.{Done, Bytes, File, Dir, Error}
+use Rattle.assise_names.specs.declared.reply.TreeError.{TreeError}
+use Rattle.assise_names.specs.declared.reply.TreeError.TheVariants.{Exists, NotDir, IsDir, TooBig, DirFull}
+use Rattle.assise_seq_tree.specs.Contents.{bytes_from, overwritten, is_within}
+use Rattle.assise_seq_tree.specs.Tree.{Tree, file, dir, Entries, LieApart, find, count, at, put}
+
+-- ---- the checks, of which the first that fails decides
+
+infixl 10 ◌>>=◌
+abbrev pub ◌>>=◌ : {A B : Type 0} → Result A TreeError → (A → Result B TreeError) → Result B TreeError
+(Ok x) >>= f = f x
+(Err e) >>= f = Err e
+
+-- all names but the last, and the last
+abbrev pub parent_of : List (List ℕ) → List (List ℕ)
+parent_of p = take (length p - 1) p
+
+abbrev pub last_name : List (List ℕ) → List ℕ
+last_name p = slice_index_or p (length p - 1) []
+
+abbrev pub as_directory : Tree → Result Entries TreeError
+as_directory (file bytes) = Err NotDir
+as_directory (dir es) = Ok es
+
+abbrev pub as_file : Tree → Result (List ℕ) TreeError
+as_file (file bytes) = Ok bytes
+as_file (dir es) = Err IsDir
+
+abbrev pub file_at : Tree → List (List ℕ) → Result (List ℕ) TreeError
+file_at t p = at t p >>= λ found. as_file found
+
+-- the entries have no such name, and there is room for one more
+abbrev pub room_for : List ℕ → Entries → Result (Unit {0}) TreeError
+room_for name es = if is_some (find name es) then Err Exists else (if nat_le 4096 (count es) then Err DirFull else Ok tt)
+
+-- an entry may be made at the path
+abbrev pub room_at : Tree → List (List ℕ) → Result (Unit {0}) TreeError
+room_at t p =
+    if length p == 0 then Err Exists
+    else (at t (parent_of p) >>= λ found. as_directory found >>= λ es. room_for (last_name p) es)
+
+-- ---- one definition for each call
+
+-- where a check fails, the error is the reply and the tree stays
+abbrev pub reply_and_tree : Tree → Result (Reply × Tree) TreeError → Reply × Tree
+reply_and_tree t (Ok r) = r
+reply_and_tree t (Err e) = (Error e, t)
+
+abbrev pub create_answer : Tree → List (List ℕ) → Reply × Tree
+create_answer t p = reply_and_tree t (room_at t p >>= λ _. Ok (Done, put t p (file [])))
+
+abbrev pub read_answer : Tree → List (List ℕ) → ℕ → ℕ → Reply × Tree
+read_answer t p offset most = reply_and_tree t (file_at t p >>= λ bytes. Ok (Bytes (bytes_from offset most bytes), t))
+
+-- without new bytes nothing is written, past the end of the file too
+abbrev pub tree_after_write : Tree → List (List ℕ) → ℕ → List ℕ → List ℕ → Tree
+tree_after_write t p offset new bytes = if length new == 0 then t else put t p (file (overwritten bytes offset new))
+
+abbrev pub write_answer : Tree → List (List ℕ) → ℕ → List ℕ → Reply × Tree
+write_answer t p offset new = reply_and_tree t (file_at t p >>= λ bytes. if is_within offset new then Ok (Done, tree_after_write t p offset new bytes) else Err TooBig)
+
+abbrev pub description_of : Tree → Reply
+description_of (file bytes) = File (length bytes)
+description_of (dir es) = Dir (count es)
+
+abbrev pub stat_answer : Tree → List (List ℕ) → Reply × Tree
+stat_answer t p = reply_and_tree t (at t p >>= λ found. Ok (description_of found, t))
+
+-- the reply to a call, and the tree after it
+abbrev pub answer : Tree → Op → Reply × Tree
+answer t (Create p) = create_answer t p
+answer t (Read p offset most) = read_answer t p offset most
+answer t (Write p offset new) = write_answer t p offset new
+answer t (Stat p) = stat_answer t p
+
+-- the path lies apart from the one that the call names
+abbrev pub IsApartFrom : Op → List (List ℕ) → Type 0
+IsApartFrom (Create p) q = LieApart p q
+IsApartFrom (Read p offset most) q = LieApart p q
+IsApartFrom (Write p offset new) q = LieApart p q
+IsApartFrom (Stat p) q = LieApart p q

@@ -1,0 +1,156 @@
+// What each call answers.
+ghost use Rattle.std.specs.Prelude.{◌≡◌, IfOk, IsOkUnless, MatchResult, OnErr};
+ghost use Rattle.assise_names.specs.Reply.{IsBytes};
+ghost use Rattle.assise_names.specs.declared.refusal.Refusal.TheVariants.{OutOfMemory};
+ghost use Rattle.assise_seq_tree.specs.Answer.{answer, create_answer, file_at, read_answer, room_at, room_for, stat_answer, write_answer};
+ghost use Rattle.assise_seq_tree.specs.View.{entries_of};
+
+use crate::contents::bytes_from;
+use crate::tree::Tree;
+use assise_names::byte_string::ByteString;
+use assise_names::call::Op;
+use assise_names::name::Name;
+use assise_names::refusal::Refusal;
+use assise_names::reply::{Reply, TreeError};
+use std::alloc::Global;
+use std::collections::BTreeMap;
+
+/// The most entries of a directory.
+const MOST_ENTRIES: usize = 4096;
+
+/// The most bytes of a file.
+const MOST_BYTES: u64 = 1_048_576;
+
+/// Answers a call, and changes the tree as the call says.
+///
+/// A path is walked from the root, name by name. Before each name a file is [`TreeError::NotDir`], and a
+/// directory without the name [`TreeError::NoEnt`]. The checks of each call are made in this order, and none
+/// after the first that fails; an error leaves the tree as it was.
+///
+/// - [`Op::Create`]: the root is [`TreeError::Exists`]; the walk to the parent, which has to be a directory
+///   ([`TreeError::NotDir`]); a name that is there is [`TreeError::Exists`]; a parent of 4,096 entries is
+///   [`TreeError::DirFull`].
+/// - [`Op::Read`]: the walk; a directory is [`TreeError::IsDir`]. At or past the end there are no bytes.
+/// - [`Op::Write`]: the walk; a directory is [`TreeError::IsDir`]; where the bytes would end past 1,048,576 it is
+///   [`TreeError::TooBig`]. A gap before the bytes is filled with zeros. Without bytes nothing is written.
+/// - [`Op::Stat`]: the walk.
+///
+/// The one refusal is [`Refusal::OutOfMemory`], and it leaves the tree as it was.
+pub fn answer(alloc: Global, tree: &mut Tree, op: &Op) -> Result<Reply, Refusal>
+    ensures ok { IfOk result (λ reply. (reply, tree.new) ≡ answer tree.old op.now) }
+    ensures bytes_change_nothing { IfOk result (λ reply. IsBytes reply → tree.new ≡ tree.old) }
+    ensures err { OnErr result (tree.new ≡ tree.old) }
+    ensures only_memory { IsOkUnless result OutOfMemory }
+{
+    match op {
+        Op::Create(path) => create(alloc, tree, path.names()),
+        Op::Read(path, offset, length) => read(alloc, tree, path.names(), *offset, *length),
+        Op::Write(path, offset, bytes) => write(
+            alloc,
+            tree,
+            path.names(),
+            *offset,
+            bytes.as_slice(),
+        ),
+        Op::Stat(path) => Ok(stat(tree, path.names())),
+    }
+}
+
+/// Makes a file without bytes.
+fn create(alloc: Global, tree: &mut Tree, names: &[Name]) -> Result<Reply, Refusal>
+    ensures ok { IfOk result (λ reply. (reply, tree.new) ≡ create_answer tree.old names.now) }
+    ensures err { OnErr result (tree.new ≡ tree.old) }
+    ensures only_memory { IsOkUnless result OutOfMemory }
+{
+    if let Err(error) = room_at(tree, names) {
+        return Ok(Reply::Error(error));
+    }
+    tree.put(alloc, names, Tree::empty_file(alloc))?;
+    Ok(Reply::Done)
+}
+
+/// Reads at most so many bytes from an offset on.
+fn read(
+    alloc: Global,
+    tree: &Tree,
+    names: &[Name],
+    offset: u64,
+    length: u64,
+) -> Result<Reply, Refusal>
+    ensures ok { IfOk result (λ reply. (reply, tree.now) ≡ read_answer tree.now names.now offset length) }
+    ensures only_memory { IsOkUnless result OutOfMemory }
+{
+    match file_at(tree, names) {
+        Ok(bytes) => {
+            let copied = Vec::from_slice(alloc, bytes_from(bytes, offset, length))?;
+            Ok(Reply::Bytes(ByteString::from_vec(copied)))
+        }
+        Err(error) => Ok(Reply::Error(error)),
+    }
+}
+
+/// Writes bytes at an offset.
+fn write(
+    alloc: Global,
+    tree: &mut Tree,
+    names: &[Name],
+    offset: u64,
+    new: &[u8],
+) -> Result<Reply, Refusal>
+    ensures ok { IfOk result (λ reply. (reply, tree.new) ≡ write_answer tree.old names.now offset new.now) }
+    ensures err { OnErr result (tree.new ≡ tree.old) }
+    ensures only_memory { IsOkUnless result OutOfMemory }
+{
+    if let Err(error) = file_at(tree, names) {
+        return Ok(Reply::Error(error));
+    }
+    if offset > MOST_BYTES || new.len() as u64 > MOST_BYTES - offset {
+        return Ok(Reply::Error(TreeError::TooBig));
+    }
+    if new.is_empty() {
+        return Ok(Reply::Done);
+    }
+    tree.overwrite_at(alloc, names, offset as usize, new)?;
+    Ok(Reply::Done)
+}
+
+/// Says what stands at a path.
+fn stat(tree: &Tree, names: &[Name]) -> Reply
+    ensures { (result, tree.now) ≡ stat_answer tree.now names.now }
+{
+    match tree.at(names) {
+        Ok(found) => found.describe(),
+        Err(error) => Reply::Error(error),
+    }
+}
+
+/// The bytes of the file at a path.
+fn file_at<'a>(tree: &'a Tree, names: &[Name]) -> Result<&'a [u8], TreeError>
+    ensures { MatchResult result (λ bytes. file_at tree.now names.now ≡ Ok bytes.now) (λ e. file_at tree.now names.now ≡ Err e) }
+{
+    tree.at(names)?.bytes()
+}
+
+/// Whether an entry may be made at a path.
+fn room_at(tree: &Tree, names: &[Name]) -> Result<(), TreeError>
+    ensures { result ≡ room_at tree.now names.now }
+{
+    match names {
+        [] => Err(TreeError::Exists),
+        [parent @ .., name] => room_for(tree.at(parent)?.entries()?, name),
+    }
+}
+
+/// Whether a new entry of this name may join the entries of a directory.
+#[tactic(auto, using(crate::proofs::Entries::entry_facts))]
+fn room_for(entries: &BTreeMap<Name, Tree>, name: &Name) -> Result<(), TreeError>
+    ensures { result ≡ room_for name.now (entries_of entries.now.entries) }
+{
+    if entries.contains_key(name) {
+        return Err(TreeError::Exists);
+    }
+    if entries.len() >= MOST_ENTRIES {
+        return Err(TreeError::DirFull);
+    }
+    Ok(())
+}

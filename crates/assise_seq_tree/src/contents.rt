@@ -1,0 +1,39 @@
+// What reads and writes do with the bytes of a file.
+ghost use Rattle.std.specs.Prelude.{◌≡◌, ◌+◌, ◌^◌, ◌<◌, ◌≤◌, ◌++◌, IsOkUnless, OnOk, OnErr, length, take, drop};
+ghost use Rattle.assise_names.specs.declared.refusal.Refusal.TheVariants.{OutOfMemory};
+ghost use Rattle.assise_seq_tree.specs.Contents.{bytes_from, overwritten};
+
+use assise_names::refusal::Refusal;
+
+/// The bytes from an offset on, at most so many.
+pub(crate) fn bytes_from(bytes: &[u8], offset: u64, most: u64) -> &[u8]
+    ensures { result.now ≡ bytes_from offset most bytes.now }
+{
+    let start = bytes.len().min(offset as usize);
+    let rest = &bytes[start..];
+    let end = rest.len().min(most as usize);
+    &rest[..end]
+}
+
+/// Writes at an offset. What lies between the old end and the offset is filled with zeros.
+pub(crate) fn overwrite(bytes: &mut Vec<u8>, offset: usize, new: &[u8]) -> Result<(), Refusal>
+    requires { offset + length new.now < 2 ^ 64 }
+    ensures ok { OnOk result (bytes.new.items ≡ overwritten bytes.old.items offset new.now) }
+    ensures err { OnErr result (bytes.new.items ≡ bytes.old.items) }
+    ensures only_memory { IsOkUnless result OutOfMemory }
+{
+    let end = offset + new.len();
+    if bytes.len() < end {
+        bytes.resize(end, 0)?;
+    }
+    copy_at(bytes.as_mut_slice(), offset, new);
+    Ok(())
+}
+
+/// Writes over bytes that are there.
+fn copy_at(bytes: &mut [u8], offset: usize, new: &[u8])
+    requires { offset + length new.now ≤ length bytes.old }
+    ensures { bytes.new ≡ take offset bytes.old ++ new.now ++ drop (offset + length new.now) bytes.old }
+{
+    bytes[offset..offset + new.len()].copy_from_slice(new);
+}

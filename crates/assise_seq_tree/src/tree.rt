@@ -1,0 +1,205 @@
+// A tree of files and directories, and the walks along a path.
+ghost use Rattle.std.specs.Prelude.{◌≡◌, ◌+◌, ◌^◌, ◌<◌, IsOkUnless, List, MatchResult, OnErr, OnOk, [], length, ℕ};
+ghost use Rattle.assise_names.specs.declared.refusal.Refusal.TheVariants.{OutOfMemory};
+ghost use Rattle.assise_seq_tree.specs.Answer.{as_directory, as_file, description_of};
+ghost use Rattle.assise_seq_tree.specs.Contents.{overwritten};
+ghost use Rattle.assise_seq_tree.specs.Tree.{at, file, opening, put};
+ghost use Rattle.assise_seq_tree.specs.View.{entries_of};
+
+use crate::contents;
+use assise_names::name::Name;
+use assise_names::refusal::Refusal;
+use assise_names::reply::{Reply, TreeError};
+use std::alloc::Global;
+use std::collections::BTreeMap;
+use std::marker::Model;
+use std::mem;
+
+/// A file with its bytes, or a directory with a tree under each of its names. A contract sees the plain tree,
+/// and nothing of how it is held.
+#[cycle(tree)]
+#[derive(Drop)]
+pub struct Tree {
+    node: Node,
+}
+
+/// What stands at the top of a tree.
+#[cycle(tree)]
+#[derive(Drop)]
+enum Node {
+    File(Vec<u8>),
+    Directory(BTreeMap<Name, Tree>),
+}
+
+impl Model for Tree {
+    ghost use Rattle.assise_seq_tree.specs.Tree.{Tree as PlainTree};
+    ghost use Rattle.assise_seq_tree.specs.Code.{coded_tree};
+
+    ghost Value = { PlainTree };
+
+    ghost coded = { coded_tree };
+
+    ghost use Rattle.assise_seq_tree.specs.View.{tree_of};
+
+    ghost view = { λ t. tree_of t.node };
+
+    ghost use Rattle.assise_seq_tree.specs.Tree.{IsOrdered};
+
+    ghost invariant = { λ t. IsOrdered (tree_of t.node) };
+
+    ghost use Rattle.assise_seq_tree.specs.Tree.{size_of};
+
+    ghost size = { size_of };
+
+    ghost use Rattle.assise_seq_tree.specs.Size.{size_falls};
+
+    ghost size_decreases = { λ t h. size_falls t.node };
+}
+
+impl Tree {
+    /// The opening tree: a directory without entries.
+    pub fn new(alloc: Global) -> Tree
+        ensures { result ≡ opening }
+    {
+        Tree {
+            node: Node::Directory(BTreeMap::new(alloc)),
+        }
+    }
+
+    /// A file without bytes.
+    pub(crate) fn empty_file(alloc: Global) -> Tree
+        ensures { result ≡ file [] }
+    {
+        Tree {
+            node: Node::File(Vec::new(alloc)),
+        }
+    }
+
+    /// The subtree at a path. Where a file stands on the way it is [`TreeError::NotDir`], where a name is
+    /// missing [`TreeError::NoEnt`].
+    pub(crate) fn at(&self, names: &[Name]) -> Result<&Tree, TreeError>
+        ensures { MatchResult result (λ t. at self.now names.now ≡ Ok t.now) (λ e. at self.now names.now ≡ Err e) }
+    {
+        let [name, rest @ ..] = names else {
+            return Ok(self);
+        };
+        match &self.node {
+            Node::File(_) => Err(TreeError::NotDir),
+            Node::Directory(entries) => match entries.get(name) {
+                Some(tree) => tree.at(rest),
+                None => Err(TreeError::NoEnt),
+            },
+        }
+    }
+
+    /// The entries of a directory. A file is [`TreeError::NotDir`].
+    pub(crate) fn entries(&self) -> Result<&BTreeMap<Name, Tree>, TreeError>
+        ensures { MatchResult result (λ m. as_directory self.now ≡ Ok (entries_of m.now.entries)) (λ e. as_directory self.now ≡ Err e) }
+    {
+        match &self.node {
+            Node::File(_) => Err(TreeError::NotDir),
+            Node::Directory(entries) => Ok(entries),
+        }
+    }
+
+    /// The bytes of a file. A directory is [`TreeError::IsDir`].
+    pub(crate) fn bytes(&self) -> Result<&[u8], TreeError>
+        ensures { MatchResult result (λ bytes. as_file self.now ≡ Ok bytes.now) (λ e. as_file self.now ≡ Err e) }
+    {
+        match &self.node {
+            Node::File(bytes) => Ok(bytes.as_slice()),
+            Node::Directory(_) => Err(TreeError::IsDir),
+        }
+    }
+
+    /// What stands here: a file with its size in bytes, or a directory with its count of entries.
+    #[tactic(auto, using(crate::proofs::Entries::entry_facts))]
+    pub(crate) fn describe(&self) -> Reply
+        ensures { result ≡ description_of self.now }
+    {
+        match &self.node {
+            Node::File(bytes) => Reply::File(bytes.len() as u64),
+            Node::Directory(entries) => Reply::Dir(entries.len() as u64),
+        }
+    }
+
+    /// Puts a tree at a path. A directory that is missing on the way is made.
+    pub(crate) fn put(&mut self, alloc: Global, names: &[Name], tree: Tree) -> Result<(), Refusal>
+        ensures ok { OnOk result (self.new ≡ put self.old names.now tree) }
+        ensures err { OnErr result (self.new ≡ self.old) }
+        ensures only_memory { IsOkUnless result OutOfMemory }
+    {
+        let [name, rest @ ..] = names else {
+            *self = tree;
+            return Ok(());
+        };
+        match &mut self.node {
+            Node::File(_) => Ok(()),
+            Node::Directory(entries) => match entries.get_mut(name) {
+                Some(child) => child.put(alloc, rest, tree),
+                None => {
+                    let mut child = Tree::new(alloc);
+                    child.put(alloc, rest, tree)?;
+                    let key = name.copy(alloc)?;
+                    entries.insert(key, child)?;
+                    Ok(())
+                }
+            },
+        }
+    }
+
+    /// Exchanges the tree at a path with another, where there is one.
+    pub(crate) fn swap(&mut self, names: &[Name], other: &mut Tree)
+        ensures there { (found : _) → at self.old names.now ≡ Ok found → (other.new ≡ found) × (self.new ≡ put self.old names.now other.old) }
+        ensures absent { (e : _) → at self.old names.now ≡ Err e → (other.new ≡ other.old) × (self.new ≡ self.old) }
+    {
+        let [name, rest @ ..] = names else {
+            mem::swap(self, other);
+            return;
+        };
+        // A look at the field tells the proof that the other tree is ordered.
+        let _ = &other.node;
+        match &mut self.node {
+            Node::File(_) => {}
+            Node::Directory(entries) => {
+                match entries.get_mut(name) {
+                    Some(child) => child.swap(rest, other),
+                    None => {}
+                }
+            }
+        }
+    }
+
+    /// Writes into the file of which this tree consists, if it is one.
+    fn overwrite(&mut self, offset: usize, new: &[u8]) -> Result<(), Refusal>
+        requires { offset + length new.now < 2 ^ 64 }
+        ensures ok { (bytes : List ℕ) → self.old ≡ file bytes → OnOk result (self.new ≡ file (overwritten bytes offset new.now)) }
+        ensures err { OnErr result (self.new ≡ self.old) }
+        ensures only_memory { IsOkUnless result OutOfMemory }
+    {
+        match &mut self.node {
+            Node::File(bytes) => contents::overwrite(bytes, offset, new),
+            Node::Directory(_) => Ok(()),
+        }
+    }
+
+    /// Writes into the file at a path, in its place.
+    pub(crate) fn overwrite_at(
+        &mut self,
+        alloc: Global,
+        names: &[Name],
+        offset: usize,
+        new: &[u8],
+    ) -> Result<(), Refusal>
+        requires { offset + length new.now < 2 ^ 64 }
+        ensures ok { (bytes : List ℕ) → at self.old names.now ≡ Ok (file bytes) → OnOk result (self.new ≡ put self.old names.now (file (overwritten bytes offset new.now))) }
+        ensures err { (bytes : List ℕ) → at self.old names.now ≡ Ok (file bytes) → OnErr result (self.new ≡ self.old) }
+        ensures only_memory { IsOkUnless result OutOfMemory }
+    {
+        let mut tree = Tree::empty_file(alloc);
+        self.swap(names, &mut tree);
+        let outcome = tree.overwrite(offset, new);
+        self.swap(names, &mut tree);
+        outcome
+    }
+}
