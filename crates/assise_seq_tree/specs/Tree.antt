@@ -1,5 +1,5 @@
 -- The plain sequential file tree, without any representation.
--- POSIX.1-2017, base definitions: 3.129 Directory, 3.164 File, 4.13 Pathname Resolution.
+-- POSIX.1-2017, base definitions: chapter 3, Directory and File; section 4.13, Pathname Resolution.
 use Rattle.std.specs.Prelude.{◌≡◌, ◌≤◌, ℕ, ◌+◌, Bool, length, if◌then◌else◌, is_some, List, [], ◌∷◌, ◌++◌, Option, Some, None, unwrap_or, Result, Ok, Err}
 use Rattle.std.specs.declared.cmp.Ordering.TheVariants.{Less}
 use Rattle.std.specs.Ordering.{nat_cmp, is_eq, match_ordering}
