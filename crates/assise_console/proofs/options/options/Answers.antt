@@ -1,5 +1,10 @@
-use Rattle.std.proofs.Common.{◌≡◌, ℕ, List, [], rules, inl, inr, arith, refl, slice_index, codes, Option, None, Some, true, is_some}
+use Rattle.std.proofs.Common.{◌≡◌, ℕ, List, [], rules, inl, inr, arith, refl, ap, ap₂, sym, ◌∙◌, slice_index, codes, map, Option, None, Some, true, is_some}
+use Rattle.std.proofs.lemmas.Result.{err_from_is_err_and}
 use Rattle.clap.proofs.CallerLemmas.{one_required_value, some_of_text}
+use Rattle.clap.proofs.OnLiterals.{clap_on_literals}
+use Rattle.clap.proofs.WalkLemmas.{first_value-rows}
+use Rattle.clap.specs.Words.{App, Rule, app_of, found_of, is_simple, matches_of, first_of, kind_of, rule_of, takes, with_rule}
+use Rattle.assise_console.specs.CommandLine.{is_taken, program, script_rule}
 use Rattle.assise_console.proofs.options.options.Goals as goal
 
 not_missing : {X : Type 0} (found : Option X) → found ≡ None → is_some found ≡ true → ⊥
@@ -20,3 +25,26 @@ unreachable-requires g c =
     ])
     c.in_ok-matches.ensures.parsed in
     not_missing c.get_str.result c.in_default.is (some_of_text _ c.get_str.result _ c.get_str.ensures (search rules))
+
+is_simple_program : is_simple program ≡ true
+unfolding clap_on_literals
+is_simple_program = refl
+
+pub returns-clause-script : goal.returns-clause-script
+returns-clause-script g c =
+    let words = map g.S.AsStr.text c.args.words.now in
+    let rule : rule_of c.help-script.result ≡ script_rule = search rules in
+    let about : app_of c.about.result ≡ app_of c.new-2.result = search rules in
+    let app : app_of c.in_ok-command.command ≡ program = c.in_ok-command.ensures.shape (search rules) ∙ ap₂ with_rule (about ∙ c.new-2.ensures.app) rule in
+    let rows = (c.in_ok-matches.ensures.matches (ap is_simple app ∙ is_simple_program)).0 ∙ ap (λ (a : App). matches_of a words) app in
+    sym (c.in-Some.ensures ∙ first_value-rows (found_of c.in_ok-matches.matches) (codes "SCRIPT") ∙ ap (first_of (codes "SCRIPT")) rows)
+
+pub returns-in_err-matches-clause-taken : goal.returns-in_err-matches-clause-taken
+unfolding is_taken
+returns-in_err-matches-clause-taken g c =
+    let words = map g.S.AsStr.text c.args.words.now in
+    let rule : rule_of c.help-script.result ≡ script_rule = search rules in
+    let about : app_of c.about.result ≡ app_of c.new-2.result = search rules in
+    let app : app_of c.in_ok-command.command ≡ program = c.in_ok-command.ensures.shape (search rules) ∙ ap₂ with_rule (about ∙ c.new-2.ensures.app) rule in
+    let error = err_from_is_err_and c.from_residual-in_err-matches.result c.from_residual-in_err-matches.ensures.1 in
+    rw error.1 (λ taken. ap kind_of error.2 ∙ c.in_err-matches.ensures.passes (ap (λ (a : App). takes a words) app ∙ taken))
