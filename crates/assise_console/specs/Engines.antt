@@ -8,11 +8,12 @@ use Rattle.assise_fault_script.specs.declared.parse.NumberedCommand.{NumberedCom
 use Rattle.assise_console.specs.declared.fault.EngineFault.{EngineFault}
 use Rattle.assise_console.specs.declared.fault.EngineFault.TheVariants.{Read, Script, Memory, Write}
 use Rattle.assise_console.specs.Lines.{Prints}
+use Rattle.assise_console.specs.Sound.{IsSound}
 use Rattle.assise_console.specs.Steps.{State, start}
 
--- the lines of the answers of these commands were written, and nothing else
+-- the lines of the answers of these commands were written, and nothing else; the run ends on a legal history
 abbrev pub Ran : List NumberedCommand → Option (List ℕ) → Option (List ℕ) → Type 0
-Ran commands old new = (text : List ℕ) × ((end : State) × (Prints start commands text end × Appends old new text))
+Ran commands old new = (text : List ℕ) × ((end : State) × (Prints start commands text end × (IsSound end × Appends old new text)))
 
 -- the input is a script, and it was run
 abbrev pub Printed : List ℕ → Option (List ℕ) → Option (List ℕ) → Type 0

@@ -4,6 +4,7 @@
 pub mod answer;
 pub mod engine;
 pub mod fault;
+pub mod laws;
 pub mod options;
 pub mod state;
 #[cfg(test)]

@@ -45,13 +45,17 @@ fn a_gap_is_filled_with_zeros(rt: HostRuntime) -> Result<(), Fail> {
     Ok(())
 }
 
+/// Calls that are answered and calls that are refused, and the history of the answered ones.
+const ANSWERS: &str =
+    "cluster 1 8 4\nopen 1 least\n1 create /f\n1 create /f/g\n1 write /g 0 x\n1 write /f 9 x\n1 stat /f\n2 stat /\nopen 2 least\nhistory\n";
+
+/// What that prints.
+const PRINTED: &str =
+    "2: client 1\n3: done\n4: E3 NotDir\n5: E1 NoEnt\n6: done\n7: file 0\n8: F9 BadClient\n9: F8 BadNode\n10: history 6\nopen 1 1\ncall 1 0 create /f = done\ncall 1 1 create /f/g = E3 NotDir\ncall 1 2 write /g 0 0 = E1 NoEnt\ncall 1 3 write /f 9 0 = done\ncall 1 4 stat /f = file 0\n";
+
 #[test]
 fn answers_stand_in_the_history_and_refusals_do_not(rt: HostRuntime) -> Result<(), Fail> {
-    let script =
-        "cluster 1 8 4\nopen 1 least\n1 create /f\n1 create /f/g\n1 write /g 0 x\n1 write /f 9 x\n1 stat /f\n2 stat /\nopen 2 least\nhistory\n";
-    let wanted =
-        "2: client 1\n3: done\n4: E3 NotDir\n5: E1 NoEnt\n6: done\n7: file 0\n8: F9 BadClient\n9: F8 BadNode\n10: history 6\nopen 1 1\ncall 1 0 create /f = done\ncall 1 1 create /f/g = E3 NotDir\ncall 1 2 write /g 0 0 = E1 NoEnt\ncall 1 3 write /f 9 0 = done\ncall 1 4 stat /f = file 0\n";
-    assert!(rt; prints(&rt, script, wanted)?);
+    assert!(rt; prints(&rt, ANSWERS, PRINTED)?);
     Ok(())
 }
 
@@ -125,27 +129,58 @@ fn each_fault_has_its_line_and_its_status(rt: HostRuntime) -> Result<(), Fail> {
     Ok(())
 }
 
-/// A reader that fails at once.
+/// A reader that gives at most seven bytes at a time, and fails after so many reads.
 #[derive(Drop)]
-struct BrokenReader(ErrorKind);
+struct BrokenReader {
+    bytes: &'static [u8],
+    left: usize,
+    kind: ErrorKind,
+}
 
 impl Read for BrokenReader {
-    fn read(&mut self, _buf: &mut [u8]) -> io::Result<usize> {
-        Err(io::Error::from(self.0))
+    fn read(&mut self, buf: &mut [u8]) -> io::Result<usize> {
+        if self.left == 0 {
+            return Err(io::Error::from(self.kind));
+        }
+        self.left -= 1;
+        let count = self.bytes.len().min(buf.len()).min(7);
+        let (now, later) = self.bytes.split_at(count);
+        buf[..count].copy_from_slice(now);
+        self.bytes = later;
+        Ok(count)
     }
 }
 
+/// Reads a script with a reader that fails after so many reads, and says how the run ended and what it printed.
+fn read_in_part(rt: &HostRuntime, left: usize, kind: ErrorKind) -> (Option<EngineFault>, Vec<u8>) {
+    let bytes = ANSWERS.as_bytes();
+    let mut reader = BrokenReader { bytes, left, kind };
+    let mut output = Vec::new(rt.alloc());
+    let ended = engine(rt.alloc(), &mut reader, &mut output, &NOWHERE);
+    (ended.err(), output)
+}
+
 #[test]
-fn a_failing_reader_is_told_from_want_of_memory(rt: HostRuntime) {
-    for (kind, fault) in [
-        (ErrorKind::PermissionDenied, EngineFault::Read),
-        (ErrorKind::OutOfMemory, EngineFault::Memory),
-    ] {
-        let mut output = Vec::new(rt.alloc());
-        let ended = engine(rt.alloc(), &mut BrokenReader(kind), &mut output, &NOWHERE);
-        assert_eq!(rt; ended.err(), Some(fault));
-        assert!(rt; output.is_empty());
+fn a_reader_that_fails_at_any_call_prints_nothing(rt: HostRuntime) {
+    let mut failed = 0;
+    for left in 0..100 {
+        let (fault, output) = read_in_part(&rt, left, ErrorKind::PermissionDenied);
+        if fault.is_some() {
+            assert_eq!(rt; fault, Some(EngineFault::Read));
+            assert!(rt; output.is_empty());
+            failed = left + 1;
+        } else {
+            assert!(rt; output.as_slice() == PRINTED.as_bytes());
+        }
     }
+    assert!(rt; 10 < failed && failed < 100, "{failed} reads");
+}
+
+#[test]
+fn want_of_memory_is_told_from_a_failing_reader(rt: HostRuntime) {
+    let (fault, output) = read_in_part(&rt, 3, ErrorKind::OutOfMemory);
+    assert_eq!(rt; fault, Some(EngineFault::Memory));
+    assert!(rt; output.is_empty());
 }
 
 /// A writer that takes so many writes, and then fails.
@@ -164,28 +199,26 @@ impl Write for BrokenWriter {
     }
 
     fn flush(&mut self) -> io::Result<()> {
+        if self.left == 0 {
+            return Err(io::Error::from(ErrorKind::BrokenPipe));
+        }
         Ok(())
     }
 }
 
 #[test]
-fn a_failing_writer_ends_the_run(rt: HostRuntime) {
-    let script = "cluster 1 8 4\nopen 1 least\n1 stat /\nhistory\n";
-    let mut ended = 0;
-    for left in 0..100 {
+fn a_writer_that_fails_at_any_call_ends_the_run(rt: HostRuntime) {
+    let mut failed = 0;
+    for left in 0..1000 {
+        let mut reader = ANSWERS.as_bytes();
         let mut writer = BrokenWriter { left };
-        let outcome = engine(rt.alloc(), &mut script.as_bytes(), &mut writer, &NOWHERE);
-        if let Err(fault) = outcome {
+        if let Err(fault) = engine(rt.alloc(), &mut reader, &mut writer, &NOWHERE) {
             assert_eq!(rt; fault, EngineFault::Write);
-            assert_eq!(rt;
-                ended,
-                left,
-                "a run that had ended well ends ill with more writes"
-            );
-            ended = left + 1;
+            assert_eq!(rt; failed, left, "a run ended well with fewer writes");
+            failed = left + 1;
         }
     }
-    assert!(rt; 0 < ended && ended < 100);
+    assert!(rt; 10 < failed && failed < 1000, "{failed} writes");
 }
 
 #[test]

@@ -1,11 +1,10 @@
 -- One entry more for the kept calls and their tree.
-use Rattle.std.proofs.Common.{◌≡◌, ◌↔◌, Bool, true, false, List, [], ◌∷◌, ◌++◌, refl, ap, sym, subst, ◌∙◌, Bor, map, IsTrue}
+use Rattle.std.proofs.Common.{◌≡◌, ◌↔◌, Bool, true, false, [], ◌∷◌, ◌++◌, refl, ap, ◌∙◌, Bor, map, IsTrue}
 use Rattle.std.proofs.lemmas.List.{map-append}
-use Rattle.assise_seq_tree.specs.Tree.{Tree, opening}
+use Rattle.assise_seq_tree.specs.Tree.{opening}
 use Rattle.assise_seq_tree.specs.Answer.{answer}
 use Rattle.assise_history.specs.declared.call.Call.{Call}
 use Rattle.assise_history.specs.declared.played.Played.{Played}
-use Rattle.assise_history.specs.Kept.{IsRun, tree_after}
 use Rattle.assise_history.specs.Played.{Goes, IsPlayed, calls_of}
 use Rattle.assise_history.proofs.Runs.{played_right, played_wrong}
 

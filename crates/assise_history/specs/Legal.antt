@@ -1,5 +1,5 @@
 -- What a legal history is.
-use Rattle.std.specs.Prelude.{◌≡◌, ℕ, ◌+◌, Bool, true, false, not, ◌&&◌, ◌==◌, nat_lt, if◌then◌else◌, List, [], ◌∷◌, ◌++◌, map, filter, length, Option, Some, None, IsTrue}
+use Rattle.std.specs.Prelude.{◌≡◌, ℕ, ◌+◌, Bool, true, false, not, ◌&&◌, ◌==◌, nat_lt, if◌then◌else◌, List, [], ◌∷◌, ◌++◌, map, filter, length, Option, Some, None}
 use Rattle.std.specs.List.{list_any, list_all}
 use Rattle.assise_names.specs.declared.call.Op.{Op}
 use Rattle.assise_names.specs.declared.call.Op.TheVariants.{Create, Read, Write, Stat}

@@ -5,3 +5,4 @@ pub mod Legal
 pub mod Opened
 pub mod Played
 pub mod Text
+pub mod Words

@@ -8,6 +8,7 @@ mod front;
 pub mod growing;
 pub mod history;
 pub mod kept;
+pub mod laws;
 mod played;
 pub mod replay;
 #[cfg(test)]

@@ -144,6 +144,33 @@ static RETURNED: [Step; 8] = [
     Stat(2, 0, "/f", Found::File(0)),
 ];
 
+/// A node comes back and fails again, and each time it takes calls of a client of the life that ends.
+static LIVED_TWICE: [Step; 11] = [
+    Open(1, 1),
+    Create(1, 0, "/f"),
+    FailFrom(1, 1, 0),
+    Back(1),
+    Open(2, 1),
+    Stat(2, 0, "/f", Found::Nothing),
+    Create(2, 1, "/g"),
+    FailFrom(1, 2, 1),
+    Back(1),
+    Open(3, 1),
+    Stat(3, 0, "/g", Found::Nothing),
+];
+
+/// One failure takes calls of two clients.
+static BOTH_LOST: [Step; 8] = [
+    Open(1, 1),
+    Open(2, 1),
+    Create(1, 0, "/a"),
+    Create(2, 0, "/b"),
+    Stat(1, 1, "/b", Found::File(0)),
+    FailPair(1, 1, 1, 2, 0),
+    Open(3, 2),
+    Stat(3, 0, "/b", Found::Nothing),
+];
+
 /// Whether these entries are a legal history.
 fn is_legal(rt: &HostRuntime, steps: &[Step]) -> Result<bool, Fail> {
     Ok(check(rt.alloc(), &history(rt, steps)?)?)
@@ -186,6 +213,8 @@ fn legal_histories_pass(rt: HostRuntime) -> Result<(), Fail> {
     assert!(rt; is_legal(&rt, &SHARED)?);
     assert!(rt; is_legal(&rt, &LOST)?);
     assert!(rt; is_legal(&rt, &RETURNED)?);
+    assert!(rt; is_legal(&rt, &LIVED_TWICE)?);
+    assert!(rt; is_legal(&rt, &BOTH_LOST)?);
     Ok(())
 }
 
@@ -220,6 +249,84 @@ fn illegal_histories_are_found(rt: HostRuntime) -> Result<(), Fail> {
     for steps in illegal {
         assert!(rt; !is_legal(&rt, steps)?, "{} entries", steps.len());
     }
+    Ok(())
+}
+
+#[test]
+fn illegal_calls_and_opens_are_found(rt: HostRuntime) -> Result<(), Fail> {
+    let illegal: [&[Step]; 7] = [
+        // A client's number is passed over, or given again.
+        &[Open(1, 1), Open(3, 1)],
+        &[Open(1, 1), Open(2, 1), Open(1, 2)],
+        // A call's number is passed over, or given again.
+        &[Open(1, 1), Create(1, 0, "/f"), Create(1, 2, "/g")],
+        &[Open(1, 1), Create(1, 0, "/f"), Create(1, 0, "/g")],
+        // The node is back, and its client isn't.
+        &[Open(1, 1), Failed(1), Back(1), Create(1, 0, "/f")],
+        // A wrong reply isn't mended by what follows, nor by its loss.
+        &[
+            Open(1, 1),
+            Stat(1, 0, "/", Found::Dir(1)),
+            Create(1, 1, "/f"),
+        ],
+        &[
+            Open(1, 1),
+            Stat(1, 0, "/", Found::Dir(1)),
+            FailFrom(1, 1, 0),
+        ],
+    ];
+    for steps in illegal {
+        assert!(rt; !is_legal(&rt, steps)?, "{} entries", steps.len());
+    }
+    Ok(())
+}
+
+#[test]
+fn unfair_failures_are_found(rt: HostRuntime) -> Result<(), Fail> {
+    let illegal: [&[Step]; 4] = [
+        // A client of the node's earlier life.
+        &[
+            Open(1, 1),
+            Create(1, 0, "/f"),
+            Failed(1),
+            Back(1),
+            Open(2, 1),
+            FailFrom(1, 1, 0),
+        ],
+        // A client of another node.
+        &[
+            Open(1, 1),
+            Open(2, 2),
+            Create(2, 0, "/f"),
+            FailFrom(1, 2, 0),
+        ],
+        // The clients fall.
+        &[Open(1, 1), Open(2, 1), FailPair(1, 2, 0, 1, 0)],
+        // What is left is no run, as a kept call read what is lost.
+        &[
+            Open(1, 1),
+            Open(2, 2),
+            Create(1, 0, "/f"),
+            Write(1, 1, "/f", 0, b"hi"),
+            Read(2, 0, "/f", 2, b"hi"),
+            FailFrom(1, 1, 1),
+        ],
+    ];
+    for steps in illegal {
+        assert!(rt; !is_legal(&rt, steps)?, "{} entries", steps.len());
+    }
+    Ok(())
+}
+
+#[test]
+fn a_long_history_is_checked(rt: HostRuntime) -> Result<(), Fail> {
+    let mut history = history(&rt, &[Open(1, 1), Create(1, 0, "/f")])?;
+    for number in 1..100_000 {
+        history.reserve()?;
+        history.push(entry(&rt, Stat(1, number, "/f", Found::File(0)))?);
+    }
+    assert!(rt; check(rt.alloc(), &history)?);
+    assert_eq!(rt; kept(rt.alloc(), &history)?.len(), 100_000);
     Ok(())
 }
 

@@ -1,10 +1,9 @@
-use Rattle.std.proofs.Common.{◌≡◌, ◌∙◌, ap, sym, take, true, false, refl, rules, ◌+◌, subst}
-use Rattle.assise_history.specs.Entries.{Event}
+use Rattle.std.proofs.Common.{◌≡◌, ◌∙◌, ap, sym, take, true, false, subst}
 use Rattle.assise_seq_tree.specs.Tree.{opening}
 use Rattle.assise_history.specs.Kept.{kept, kept_more, IsRun}
 use Rattle.assise_history.specs.Legal.{summary, follows, after}
 use Rattle.assise_history.specs.Played.{Goes, calls_of}
-use Rattle.assise_history.proofs.Laws.{legal-nil, not_allowed, no_run, checked_more, kept_at, summary_at}
+use Rattle.assise_history.proofs.Legality.{legal-nil, not_allowed, no_run, checked_more, kept_at, summary_at}
 use Rattle.assise_history.proofs.check.is_legal.Goals as goal
 
 pub loop-entry-init : goal.loop-entry-init

@@ -1,6 +1,5 @@
-use Rattle.std.proofs.Common.{◌≡◌, ◌++◌, ◌∷◌, [], map, take, false, true, ap, sym, subst, ◌∙◌, ◌+◌}
+use Rattle.std.proofs.Common.{◌≡◌, ◌++◌, ◌∷◌, [], map, take, false, true, ap, sym, ◌∙◌, ◌+◌}
 use Rattle.assise_seq_tree.specs.Tree.{opening}
-use Rattle.assise_history.specs.Kept.{IsRun, tree_after}
 use Rattle.assise_history.proofs.Runs.{stops, played_wrong, played_right, calls_more}
 use Rattle.assise_history.proofs.replay.replay.Goals as goal
 

@@ -1,4 +1,3 @@
-use Rattle.std.proofs.Common.{rules}
 use Rattle.assise_history.proofs.Playing.{goes_play}
 use Rattle.assise_history.proofs.played.Played.play.Goals as goal
 

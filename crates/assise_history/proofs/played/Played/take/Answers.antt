@@ -1,4 +1,3 @@
-use Rattle.std.proofs.Common.{rules}
 use Rattle.assise_history.proofs.played.Played.take.Goals as goal
 
 pub returns-in-Fail-clause-ok : goal.returns-in-Fail-clause-ok

@@ -1,6 +1,6 @@
 -- Legal histories, one entry at a time.
-use Rattle.std.proofs.Common.{◌≡◌, ℕ, ◌+◌, ◌<◌, ◌≤◌, Bool, true, false, List, [], ◌∷◌, ◌++◌, length, take, drop, get_or, refl, ap, sym, subst, ◌∙◌, ◌⊎◌, inl, inr, append_assoc}
-use Rattle.std.proofs.lemmas.List.{take_more, take-append-drop, take_all}
+use Rattle.std.proofs.Common.{◌≡◌, ℕ, ◌+◌, ◌<◌, true, false, List, [], ◌∷◌, ◌++◌, length, take, drop, get_or, refl, ap, sym, subst, ◌∙◌, ◌⊎◌, inl, inr, append_assoc}
+use Rattle.std.proofs.lemmas.List.{take_more, take-append-drop}
 use Rattle.assise_seq_tree.specs.Tree.{opening}
 use Rattle.assise_history.specs.Entries.{Event}
 use Rattle.assise_history.specs.Kept.{kept, kept_more, IsRun}
