@@ -1,8 +1,10 @@
 -- Which calls of a history are kept, and what a run is.
-use Rattle.std.specs.Prelude.{◌≡◌, Bool, true, false, not, ◌&&◌, ◌==◌, nat_le, if◌then◌else◌, List, [], ◌∷◌, ◌++◌, filter}
+use Rattle.std.specs.Prelude.{◌≡◌, Bool, true, false, not, ◌&&◌, ◌==◌, nat_le, if◌then◌else◌, List, [], ◌∷◌, ◌++◌, map, filter}
 use Rattle.std.specs.List.{list_any}
 use Rattle.assise_seq_tree.specs.Tree.{Tree}
-use Rattle.assise_seq_tree.specs.Answer.{answer}
+use Rattle.assise_names.specs.declared.call.Op.{Op}
+use Rattle.assise_names.specs.declared.reply.Reply.{Reply}
+use Rattle.assise_seq_tree.specs.Runs.{AreAnswered, tree_after_calls}
 use Rattle.assise_history.specs.declared.call.Call.{Call}
 use Rattle.assise_history.specs.declared.call.Loss.{Loss}
 use Rattle.assise_history.specs.Entries.{Event, opens, calls, crashes, fails, returns}
@@ -37,12 +39,14 @@ kept_more cs (opens c n) = cs
 kept_more cs (crashes c) = cs
 kept_more cs (returns n) = cs
 
+-- what a call asked, and what it was answered
+abbrev pub exchange : Call → Op × Reply
+exchange x = (x.op, x.reply)
+
 -- each reply is the tree's, one call after another
 abbrev pub IsRun : Tree → List Call → Type 0
-IsRun t [] = Unit {0}
-IsRun t (x ∷ more) = (x.reply ≡ (answer t x.op).0) × IsRun (answer t x.op).1 more
+IsRun t cs = AreAnswered t (map exchange cs)
 
 -- the tree that a list of calls leaves
 abbrev pub tree_after : Tree → List Call → Tree
-tree_after t [] = t
-tree_after t (x ∷ more) = tree_after (answer t x.op).1 more
+tree_after t cs = tree_after_calls t (map (λ x. x.op) cs)

@@ -1,5 +1,5 @@
--- What reads and writes do with the bytes of a file.
--- POSIX.1-2017, system interfaces: read() and write() for the offset, lseek() for the gap that reads as zeros.
+-- What reads and writes do with the bytes of a file, and what another size does.
+-- POSIX.1-2017, system interfaces: read() and write() for the offset, lseek() for the gap that reads as zeros, ftruncate() for the size.
 use Rattle.std.specs.Prelude.{ℕ, ◌+◌, ◌-◌, Bool, nat_le, List, ◌++◌, length, take, drop, replicate}
 
 -- the bytes from an offset on, at most so many
@@ -13,3 +13,7 @@ overwritten bytes offset new = take offset bytes ++ replicate (offset - length b
 -- a file that ends with the new bytes isn't too big
 abbrev pub is_within : ℕ → List ℕ → Bool
 is_within offset new = nat_le (offset + length new) 1048576
+
+-- the bytes cut to a size, or filled up to it with zeros
+abbrev pub resized : List ℕ → ℕ → List ℕ
+resized bytes size = take size bytes ++ replicate (size - length bytes) 0

@@ -4,3 +4,4 @@ pub mod Size
 pub mod Code
 pub mod Contents
 pub mod Answer
+pub mod Runs
