@@ -1,0 +1,7 @@
+//! Records of what calls do to inodes, and frames of records as bytes.
+#![tactic(auto)]
+
+pub mod effect;
+pub mod extent;
+pub mod file_size;
+pub mod record;
