@@ -2,6 +2,4 @@
 #![tactic(auto)]
 
 pub mod effect;
-pub mod extent;
-pub mod file_size;
 pub mod record;
