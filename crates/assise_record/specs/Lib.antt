@@ -1,0 +1,3 @@
+pub mod Patch
+pub mod LogRecord
+pub mod Touched

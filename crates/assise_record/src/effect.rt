@@ -1,0 +1,221 @@
+// What a call does to one inode.
+ghost use Rattle.std.specs.Prelude.{◌≡◌, ◌+◌, ◌<◌, ◌≤◌, IfOk, IsOkUnless, length};
+ghost use Rattle.assise_record.specs.Patch.{IsPatch};
+ghost use Rattle.assise_record.specs.Touched.{touched_by};
+ghost use Rattle.assise_names.specs.declared.refusal.Refusal.TheVariants.{OutOfMemory};
+
+use assise_names::name::Name;
+use assise_names::refusal::Refusal;
+use bytes::Bytes;
+use std::alloc::Global;
+use std::marker::Model;
+
+/// The most bytes of one write.
+pub const MOST_EXTENT_BYTES: usize = 65_536;
+
+/// Bytes to be written at an offset of a file: 1 to 65,536 of them, ending by byte 1,048,576 of the file. They lie
+/// in a block that copies share. A contract sees the offset and the list of bytes.
+#[derive(Debug, Drop)]
+pub struct Extent {
+    offset: u32,
+    bytes: Bytes,
+}
+
+impl Model for Extent {
+    ghost use Rattle.assise_record.specs.Patch.{Patch, IsPatch};
+
+    ghost Value = { Patch };
+
+    ghost view = { λ e. record { offset = e.offset; bytes = e.bytes } };
+
+    ghost invariant = { λ e. IsPatch (record { offset = e.offset; bytes = e.bytes }) };
+}
+
+impl Extent {
+    /// The bytes at the offset, without a copy.
+    pub fn new(offset: u32, bytes: Bytes) -> Extent
+        requires some_bytes { 0 < length bytes }
+        requires few_bytes { length bytes ≤ 65536 }
+        requires ends_in_the_file { offset + length bytes ≤ 1048576 }
+        ensures offset { result.offset ≡ offset }
+        ensures bytes { result.bytes ≡ bytes }
+    {
+        Extent { offset, bytes }
+    }
+
+    /// How many bytes of the file stand before the first.
+    pub fn offset(&self) -> u32
+        ensures offset { result ≡ self.now.offset }
+        ensures lawful { IsPatch self.now }
+    {
+        self.offset
+    }
+
+    /// The bytes.
+    pub fn bytes(&self) -> &[u8]
+        ensures bytes { result.now ≡ self.now.bytes }
+        ensures lawful { IsPatch self.now }
+    {
+        self.bytes.as_slice()
+    }
+
+    /// An equal value that shares the bytes, or [`Refusal::OutOfMemory`].
+    pub fn copy(&self) -> Result<Extent, Refusal>
+        ensures equal { IfOk result (λ copied. copied ≡ self.now) }
+        ensures only_memory { IsOkUnless result OutOfMemory }
+    {
+        let bytes = self.bytes.clone()?;
+        Ok(Extent {
+            offset: self.offset,
+            bytes,
+        })
+    }
+}
+
+/// The most bytes of a file.
+pub const MOST_FILE_BYTES: u32 = 1_048_576;
+
+/// The length of a file in bytes, at most 1,048,576. A contract sees the number.
+#[derive(Clone, Copy, Debug)]
+pub struct FileSize {
+    bytes: u32,
+}
+
+impl Model for FileSize {
+    ghost use Rattle.std.specs.Prelude.{ℕ, ◌≤◌};
+
+    ghost Value = { ℕ };
+
+    ghost view = { λ s. s.bytes };
+
+    ghost invariant = { λ s. s.bytes ≤ 1048576 };
+
+    ghost inverse = { λ bytes. record { bytes = bytes } };
+}
+
+impl FileSize {
+    /// A length of so many bytes.
+    pub fn new(bytes: u32) -> FileSize
+        requires fits { bytes ≤ 1048576 }
+        ensures { result ≡ bytes }
+    {
+        FileSize { bytes }
+    }
+
+    /// How many bytes.
+    pub fn get(&self) -> u32
+        ensures bytes { result ≡ self.now }
+        ensures fits { self.now ≤ 1048576 }
+    {
+        self.bytes
+    }
+}
+
+/// What a call does to one inode, which it names by its number.
+#[derive(Debug, Drop)]
+pub enum Effect {
+    /// The inode is a file without bytes.
+    NewFile {
+        /// The new file.
+        inode: u64,
+    },
+    /// The inode is a directory without entries.
+    NewDir {
+        /// The new directory.
+        inode: u64,
+    },
+    /// Bytes are written into a file.
+    Write {
+        /// The file.
+        inode: u64,
+        /// The bytes, and where.
+        extent: Extent,
+    },
+    /// A file is cut, or filled with zeros, to a length.
+    SetLen {
+        /// The file.
+        inode: u64,
+        /// The length.
+        size: FileSize,
+    },
+    /// An entry of a directory is an inode.
+    Link {
+        /// The directory.
+        directory: u64,
+        /// The entry.
+        name: Name,
+        /// What it is.
+        inode: u64,
+    },
+    /// An entry of a directory is gone.
+    Unlink {
+        /// The directory.
+        directory: u64,
+        /// The entry.
+        name: Name,
+    },
+    /// The inode is gone.
+    Free {
+        /// The inode.
+        inode: u64,
+    },
+}
+
+impl Effect {
+    /// The inode that is changed: of an entry it is the directory.
+    pub fn touches(&self) -> u64
+        ensures { result ≡ touched_by self.now }
+    {
+        match self {
+            Effect::NewFile { inode } => *inode,
+            Effect::NewDir { inode } => *inode,
+            Effect::Write { inode, .. } => *inode,
+            Effect::SetLen { inode, .. } => *inode,
+            Effect::Link { directory, .. } => *directory,
+            Effect::Unlink { directory, .. } => *directory,
+            Effect::Free { inode } => *inode,
+        }
+    }
+
+    /// An equal value, or [`Refusal::OutOfMemory`]. The bytes of a write are shared, and a name is copied.
+    pub fn copy(&self, alloc: Global) -> Result<Effect, Refusal>
+        ensures equal { IfOk result (λ copied. copied ≡ self.now) }
+        ensures only_memory { IsOkUnless result OutOfMemory }
+    {
+        match self {
+            Effect::NewFile { inode } => Ok(Effect::NewFile { inode: *inode }),
+            Effect::NewDir { inode } => Ok(Effect::NewDir { inode: *inode }),
+            Effect::Write { inode, extent } => {
+                let extent = extent.copy()?;
+                Ok(Effect::Write {
+                    inode: *inode,
+                    extent,
+                })
+            }
+            Effect::SetLen { inode, size } => Ok(Effect::SetLen {
+                inode: *inode,
+                size: *size,
+            }),
+            Effect::Link {
+                directory,
+                name,
+                inode,
+            } => {
+                let name = name.copy(alloc)?;
+                Ok(Effect::Link {
+                    directory: *directory,
+                    name,
+                    inode: *inode,
+                })
+            }
+            Effect::Unlink { directory, name } => {
+                let name = name.copy(alloc)?;
+                Ok(Effect::Unlink {
+                    directory: *directory,
+                    name,
+                })
+            }
+            Effect::Free { inode } => Ok(Effect::Free { inode: *inode }),
+        }
+    }
+}

@@ -1,0 +1,82 @@
+// The effects of one call.
+ghost use Rattle.std.specs.Prelude.{◌≡◌, ◌<◌, ◌≤◌, IfOk, IsOkUnless, length};
+ghost use Rattle.assise_names.specs.declared.refusal.Refusal.TheVariants.{OutOfMemory};
+
+use crate::effect::Effect;
+use assise_names::refusal::Refusal;
+use std::alloc::Global;
+use std::marker::Model;
+
+/// The most effects of a record.
+pub const MOST_EFFECTS: usize = 4;
+
+/// The effects of one call, in order: 1 to 4 of them. The call is known by how many calls of its client were
+/// answered before it.
+#[derive(Debug, Drop)]
+pub struct Record {
+    call: u64,
+    effects: Vec<Effect>,
+}
+
+impl Model for Record {
+    ghost use Rattle.std.specs.Prelude.{◌<◌, ◌≤◌, length};
+    ghost use Rattle.assise_record.specs.LogRecord.{LogRecord};
+
+    ghost Value = { LogRecord };
+
+    ghost view = { λ r. record { call = r.call; effects = r.effects.items } };
+
+    ghost invariant = { λ r. (0 < length r.effects.items) × (length r.effects.items ≤ 4) };
+}
+
+impl Record {
+    /// The effects of a call, in order.
+    pub fn new(call: u64, effects: Vec<Effect>) -> Record
+        requires some_effects { 0 < length effects.items }
+        requires few_effects { length effects.items ≤ 4 }
+        ensures call { result.call ≡ call }
+        ensures effects { result.effects ≡ effects.items }
+    {
+        Record { call, effects }
+    }
+
+    /// How many calls of the client were answered before.
+    pub fn call(&self) -> u64
+        ensures { result ≡ self.now.call }
+    {
+        self.call
+    }
+
+    /// The effects, in order.
+    pub fn effects(&self) -> &[Effect]
+        ensures effects { result.now ≡ self.now.effects }
+        ensures some { 0 < length self.now.effects }
+        ensures few { length self.now.effects ≤ 4 }
+    {
+        self.effects.as_slice()
+    }
+
+    /// An equal value, or [`Refusal::OutOfMemory`]. The bytes of writes are shared.
+    pub fn copy(&self, alloc: Global) -> Result<Record, Refusal>
+        ensures equal { IfOk result (λ copied. copied ≡ self.now) }
+        ensures only_memory { IsOkUnless result OutOfMemory }
+    {
+        let effects = copies(alloc, self.effects.as_slice())?;
+        Ok(Record {
+            call: self.call,
+            effects,
+        })
+    }
+}
+
+/// Equal effects, in order.
+fn copies(alloc: Global, effects: &[Effect]) -> Result<Vec<Effect>, Refusal>
+    ensures equal { IfOk result (λ copied. copied.items ≡ effects.now) }
+    ensures only_memory { IsOkUnless result OutOfMemory }
+{
+    let mut copied = Vec::with_capacity(alloc, effects.len())?;
+    for effect in effects {
+        copied.push(effect.copy(alloc)?)?;
+    }
+    Ok(copied)
+}
