@@ -1,0 +1,86 @@
+-- The calls over inodes: which inodes each visits, what it checks, in order, what it answers, and what it does.
+-- POSIX.1-2017, system interfaces: open() with O_CREAT and O_EXCL, read(), write(), stat(); base definitions: 4.13 Pathname Resolution.
+use Rattle.std.specs.Prelude.{ℕ, if◌then◌else◌, nat_le, ◌==◌, List, [], ◌∷◌, length, is_some, Result, Ok, Err, ok_or}
+use Rattle.std.specs.FinMap as map
+use Rattle.assise_names.specs.declared.call.Op.{Op}
+use Rattle.assise_names.specs.declared.call.Op.TheVariants.{Create, Read, Write as WriteCall, Stat}
+use Rattle.assise_names.specs.declared.reply.Reply.{Reply}
+use Rattle.assise_names.specs.declared.reply.Reply.TheVariants.{Done, Bytes, File, Dir, Error}
+use Rattle.assise_names.specs.declared.reply.TreeError.{TreeError}
+use Rattle.assise_names.specs.declared.reply.TreeError.TheVariants.{NoEnt, Exists, NotDir, IsDir, TooBig, DirFull}
+use Rattle.assise_seq_tree.specs.Contents.{bytes_from, is_within}
+use Rattle.assise_seq_tree.specs.Answer.{parent_of, last_name}
+use Rattle.assise_record.specs.declared.effect.Effect.{Effect}
+use Rattle.assise_record.specs.declared.effect.Effect.TheVariants.{NewFile, Write, Link}
+use Rattle.assise_inode_table.specs.Contents.{Content, regular, directory, Links, Values}
+use Rattle.assise_inode_table.specs.Reach.{link_of}
+use Rattle.assise_inode_table.specs.Interaction.{Interaction, visit, finish, Step, step_by}
+
+-- ---- the walk
+
+-- goes on where a check passes, and else answers its error
+abbrev pub then_or_error : {A : Type 0} → Result A TreeError → (A → Interaction) → Interaction
+then_or_error (Ok x) next = next x
+then_or_error (Err e) next = finish (Error e) []
+
+-- visits the inode and each that a name of the path leads to; what the last one holds decides
+abbrev pub walk_from : ℕ → List (List ℕ) → (ℕ → Content → Interaction) → Interaction
+walk_from i [] next = visit i (λ value. then_or_error (ok_or value NoEnt) (λ content. next i content))
+walk_from i (name ∷ p) next = visit i (λ value. then_or_error (link_of value name) (λ j. walk_from j p next))
+
+-- from the root
+abbrev pub walk : List (List ℕ) → (ℕ → Content → Interaction) → Interaction
+walk p next = walk_from 0 p next
+
+-- ---- what an inode is asked
+
+abbrev pub as_regular : Content → Result (List ℕ) TreeError
+as_regular (regular bytes) = Ok bytes
+as_regular (directory links) = Err IsDir
+
+abbrev pub as_links : Content → Result Links TreeError
+as_links (regular bytes) = Err NotDir
+as_links (directory links) = Ok links
+
+-- there is no such link, and there is room for one more
+abbrev pub room_among : List ℕ → Links → Result (Unit {0}) TreeError
+room_among name links = if is_some (map.get links name) then Err Exists else (if nat_le 4096 (length (map.keys links)) then Err DirFull else Ok tt)
+
+-- what a stat says of it
+abbrev pub description_of : Content → Reply
+description_of (regular bytes) = File (length bytes)
+description_of (directory links) = Dir (length (map.keys links))
+
+-- ---- one definition for each call
+
+-- the file is the inode `fresh`
+abbrev pub create_call : List (List ℕ) → ℕ → Interaction
+create_call p fresh =
+    if length p == 0 then finish (Error Exists) []
+    else walk (parent_of p) (λ d content. then_or_error (as_links content) (λ links. then_or_error (room_among (last_name p) links) (λ _.
+    finish Done (NewFile fresh ∷ Link d (last_name p) fresh ∷ []))))
+
+abbrev pub read_call : List (List ℕ) → ℕ → ℕ → Interaction
+read_call p offset most = walk p (λ i content. then_or_error (as_regular content) (λ bytes. finish (Bytes (bytes_from offset most bytes)) []))
+
+-- without new bytes nothing is written, past the end of the file too
+abbrev pub write_effects : ℕ → ℕ → List ℕ → List Effect
+write_effects i offset new = if length new == 0 then [] else Write i (record { offset = offset; bytes = new }) ∷ []
+
+abbrev pub write_call : List (List ℕ) → ℕ → List ℕ → Interaction
+write_call p offset new =
+    walk p (λ i content. then_or_error (as_regular content) (λ _. if is_within offset new then finish Done (write_effects i offset new) else finish (Error TooBig) []))
+
+abbrev pub stat_call : List (List ℕ) → Interaction
+stat_call p = walk p (λ i content. finish (description_of content) [])
+
+-- a call; what it makes, if it makes an inode, is `fresh`
+abbrev pub interaction : Op → ℕ → Interaction
+interaction (Create p) fresh = create_call p fresh
+interaction (Read p offset most) fresh = read_call p offset most
+interaction (WriteCall p offset new) fresh = write_call p offset new
+interaction (Stat p) fresh = stat_call p
+
+-- what a call is over the values of inodes
+abbrev pub step : Values → Op → ℕ → Step
+step v op fresh = step_by v (interaction op fresh)

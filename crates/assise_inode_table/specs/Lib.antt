@@ -1,0 +1,9 @@
+pub mod Contents
+pub mod Effects
+pub mod Reach
+pub mod Spelled
+pub mod Interaction
+pub mod Calls
+pub mod Traces
+pub mod Unseen
+pub mod Late
