@@ -1,0 +1,5 @@
+pub mod Making
+pub mod Local
+pub mod Pairing
+pub mod Lateness
+pub mod Removing

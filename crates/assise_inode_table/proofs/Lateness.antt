@@ -1,0 +1,97 @@
+-- Changes that come late give the same values.
+use Rattle.std.proofs.Common.{◌≡◌, ℕ, ◌<◌, ◌≤◌, arith, Bool, true, false, List, [], ◌∷◌, ◌++◌, if◌then◌else◌, Option, refl, ap, sym, ◌∙◌, subst, ◌||◌, ◌&&◌, nat_le, nat_lt, ◌==◌, inl, inr}
+use Rattle.std.proofs.lemmas.Bool.{cases_Bool, cases_eq, eq-eqb, eqb-true, ne_eqb, ltb-true, leb-true, le-ltb, both_ways, and_parts}
+use Rattle.std.proofs.lemmas.Bool.Decides.{nat_tests}
+use Rattle.assise_inode_table.specs.Contents.{Content, Values}
+use Rattle.assise_inode_table.specs.Effects.{touched, value_after, contains}
+use Rattle.assise_inode_table.specs.Interaction.{Step}
+use Rattle.assise_inode_table.specs.Traces.{NumberedCall, trace, step_of, Each, Pairs, Rises, below, window}
+use Rattle.assise_inode_table.specs.Unseen.{Clear, Unseen}
+use Rattle.assise_inode_table.specs.Effects.{after}
+use Rattle.assise_inode_table.specs.Late.{value_of, Quiet, NoneBetween, raised}
+use Rattle.assise_inode_table.proofs.Making.{untouched}
+use Rattle.assise_inode_table.proofs.Pairing.{each-map, each-both, clear_not, clear-right, RisesAlong, rises_along}
+
+abbrev Test : Type 0
+Test = NumberedCall → Bool
+
+-- an inode that no step whose call passes touches keeps its value
+quiet_value : (passes : Test) (i : ℕ) (old : Option Content) (xs : List (NumberedCall × Step)) → Quiet passes i xs → value_of passes i old xs ≡ old
+quiet_value passes i old [] q = refl
+quiet_value passes i old (x ∷ xs) q =
+    elim (passes x.0) as (λ b. (b ≡ true → contains (touched x.1.effects) i ≡ false) → value_of passes i (if b then value_after i old x.1.effects else old) xs ≡ old) [
+      | true ↦ λ h. rw (untouched i old x.1.effects (h refl)) (quiet_value passes i old xs q.1)
+      | false ↦ λ h. quiet_value passes i old xs q.1
+    ] q.0
+
+pub late : (early later : Test) (i : ℕ) (old : Option Content) (xs : List (NumberedCall × Step)) → NoneBetween early later i xs →
+    value_of (λ x. early x || later x) i old xs ≡ value_of later i (value_of early i old xs) xs
+late early later i old [] h = refl
+late early later i old (x ∷ xs) h =
+    let w : Option Content = value_after i old x.1.effects in
+    elim (later x.0) as (λ b.
+      (b ≡ true → (early x.0 ≡ false) × (contains (touched x.1.effects) i ≡ true → Quiet early i xs)) →
+      value_of (λ c. early c || later c) i (if early x.0 || b then w else old) xs
+        ≡ value_of later i (if b then value_after i (value_of early i (if early x.0 then w else old) xs) x.1.effects else value_of early i (if early x.0 then w else old) xs) xs) [
+      | true ↦ λ p.
+          subst (λ k. value_of (λ c. early c || later c) i (if k || true then w else old) xs ≡ value_of later i (value_after i (value_of early i (if k then w else old) xs) x.1.effects) xs) (sym (p refl).0)
+            (elim (contains (touched x.1.effects) i) as (λ b. contains (touched x.1.effects) i ≡ b → (b ≡ true → Quiet early i xs) → value_of (λ c. early c || later c) i w xs ≡ value_of later i (value_after i (value_of early i old xs) x.1.effects) xs) [
+              | true ↦ λ e q. rw (quiet_value early i old xs (q refl)) (late early later i w xs h.1 ∙ ap (λ u. value_of later i u xs) (quiet_value early i w xs (q refl)))
+              | false ↦ λ e q. rw (untouched i old x.1.effects e, untouched i (value_of early i old xs) x.1.effects e) (late early later i old xs h.1)
+            ] refl (p refl).1)
+      | false ↦ λ p.
+          elim (early x.0) as (λ k. value_of (λ c. early c || later c) i (if k || false then w else old) xs ≡ value_of later i (value_of early i (if k then w else old) xs) xs) [
+            | true ↦ late early later i w xs h.1
+            | false ↦ late early later i old xs h.1
+          ]
+    ] h.0
+
+-- ---- the next calls of a client
+
+pub value-same : (t u : Test) (i : ℕ) (old : Option Content) (xs : List (NumberedCall × Step)) → ((x : NumberedCall) → t x ≡ u x) → value_of t i old xs ≡ value_of u i old xs
+value-same t u i old [] h = refl
+value-same t u i old (x ∷ xs) h = rw (h x.0) (value-same t u i (if u x.0 then value_after i old x.1.effects else old) xs h)
+
+quiet_from : (passes : Test) (i : ℕ) (xs : List (NumberedCall × Step)) → Each (λ y. passes y.0 ≡ true → contains (touched y.1.effects) i ≡ false) xs → Quiet passes i xs
+quiet_from passes i [] h = tt
+quiet_from passes i (x ∷ xs) h = (h.0, quiet_from passes i xs h.1)
+
+pub in_window : (c a b : ℕ) (x : NumberedCall) → window c a b x ≡ true → (x.client ≡ c) × (a ≤ x.number) × (x.number < b)
+in_window c a b x e =
+    let p = and_parts (x.client == c) (nat_le a x.number && nat_lt x.number b) e in
+    let q = and_parts (nat_le a x.number) (nat_lt x.number b) p.1 in
+    (eqb-true x.client c p.0, leb-true a x.number q.0, ltb-true x.number b q.1)
+
+-- no call below the thresholds comes after one of the window and touches the same inode
+none_between : (a b : ℕ → ℕ) (c k i : ℕ) (xs : List (NumberedCall × Step)) → Unseen a xs → RisesAlong xs → a c ≤ b c → NoneBetween (below b) (window c (b c) k) i xs
+none_between a b c k i [] u r le = tt
+none_between a b c k i (x ∷ xs) u r le =
+    ((λ e.
+       let p = in_window c (b c) k x.0 e in
+       let high : b x.0.client ≤ x.0.number = subst (λ d. b d ≤ x.0.number) (sym p.0) p.1 in
+       let unseen : a x.0.client ≤ x.0.number = subst (λ d. a d ≤ x.0.number) (sym p.0) (omega (arith, le, p.1)) in
+       (le-ltb x.0.number (b x.0.client) high, λ t.
+         quiet_from (below b) i xs
+           (each-both (λ y. a x.0.client ≤ x.0.number → (y.0.client ≡ x.0.client → ⊥) → Clear (touched x.1.effects) (y.1.visits ++ touched y.1.effects))
+             (λ y. y.0.client ≡ x.0.client → x.0.number < y.0.number)
+             (λ y. below b y.0 ≡ true → contains (touched y.1.effects) i ≡ false) xs
+             (λ y clear rise kept.
+               elim (cases_eq y.0.client x.0.client) [
+                 | inl same ↦
+                     let l : y.0.number < b y.0.client = ltb-true y.0.number (b y.0.client) kept in
+                     let m : y.0.number < b x.0.client = subst (λ d. y.0.number < b d) same l in
+                     absurd (omega (arith, rise same, m, high))
+                 | inr other ↦ clear_not (touched x.1.effects) (touched y.1.effects) i (clear-right (touched x.1.effects) y.1.visits (touched y.1.effects) (clear unseen other)) t
+               ])
+             u.0 r.0))),
+     none_between a b c k i xs u.1 r.1 le)
+
+raised_below : (b : ℕ → ℕ) (c k : ℕ) (x : NumberedCall) → b c ≤ k → below (raised b c k) x ≡ (below b x || window c (b c) k x)
+raised_below b c k x h = grind (arith, nat_tests)
+
+-- the next calls of one client, after all others
+pub late_client : (v : Values) (a b : ℕ → ℕ) (c k i : ℕ) (old : Option Content) (xs : List NumberedCall) → Unseen a (trace v xs) → Rises xs → a c ≤ b c → b c ≤ k →
+    value_of (below (raised b c k)) i old (trace v xs) ≡ value_of (window c (b c) k) i (value_of (below b) i old (trace v xs)) (trace v xs)
+late_client v a b c k i old xs u r le up =
+    value-same (below (raised b c k)) (λ x. below b x || window c (b c) k x) i old (trace v xs) (λ x. raised_below b c k x up)
+    ∙ late (below b) (window c (b c) k) i old (trace v xs) (none_between a b c k i (trace v xs) u (rises_along v xs r) le)
