@@ -1,0 +1,112 @@
+-- What a walk meets over inodes that spell a tree is what stands in the tree.
+use Rattle.std.proofs.Common.{◌≡◌, ℕ, ◌+◌, Bool, true, false, if◌then◌else◌, List, [], ◌∷◌, ◌||◌, length, Option, Some, None, is_some, Result, Ok, Err, refl, ap, sym, ◌∙◌, arith}
+use Rattle.std.specs.Prelude.{ok_or}
+use Rattle.std.specs.List.{list_any}
+use Rattle.std.specs.FinMap as map
+use Rattle.assise_names.specs.declared.reply.Reply.{Reply}
+use Rattle.assise_names.specs.declared.reply.Reply.TheVariants.{Error}
+use Rattle.assise_names.specs.declared.reply.TreeError.{TreeError}
+use Rattle.assise_names.specs.declared.reply.TreeError.TheVariants.{NoEnt}
+use Rattle.assise_record.specs.declared.effect.Effect.{Effect}
+use Rattle.assise_seq_tree.specs.Tree.{Tree, file, dir, Entries, no_entries, entry, same_name, find, count, at}
+use Rattle.assise_seq_tree.specs.Answer.{◌>>=◌}
+use Rattle.assise_inode_table.specs.Contents.{Content, regular, directory, Links, Values}
+use Rattle.assise_inode_table.specs.Interaction.{Interaction, visit, finish, reply_of, effects_of}
+use Rattle.assise_inode_table.specs.Calls.{then_or_error, walk_from, walk}
+use Rattle.assise_inode_table.specs.Reach.{link_of, children, reach, Shape, plain, folder, shape_of, names_of, shape_of_tree, shown_from, shown_in}
+use Rattle.assise_inode_table.specs.Spelled.{SpellsFrom, Spells}
+
+-- ---- how a walk ends
+
+abbrev pub settled : Values → Interaction → Reply × List Effect
+settled v x = (reply_of v x, effects_of v x)
+
+-- the inode at the end of a path, with what it holds
+abbrev pub found : Values → ℕ → List (List ℕ) → Result (ℕ × Content) TreeError
+found v i p = reach (children v) i p >>= λ j. ok_or (v j) NoEnt >>= λ c. Ok (j, c)
+
+walk_ends : (v : Values) (i : ℕ) (p : List (List ℕ)) (next : ℕ → Content → Interaction) → settled v (walk_from i p next) ≡ settled v (then_or_error (found v i p) (λ f. next f.0 f.1))
+walk_ends v i [] next = go (v i)
+  where
+    go : (o : Option Content) → settled v (then_or_error (ok_or o NoEnt) (λ c. next i c)) ≡ settled v (then_or_error {A = ℕ × Content} (ok_or o NoEnt >>= λ c. Ok (i, c)) (λ f. next f.0 f.1))
+    go None = refl
+    go (Some c) = refl
+walk_ends v i (name ∷ p) next = go (λ j. walk_ends v j p next) (link_of (v i) name)
+  where
+    go : ((j : ℕ) → settled v (walk_from j p next) ≡ settled v (then_or_error (found v j p) (λ f. next f.0 f.1))) → (r : Result ℕ TreeError) →
+        settled v (then_or_error r (λ j. walk_from j p next)) ≡ settled v (then_or_error {A = ℕ × Content} ((r >>= λ j. reach (children v) j p) >>= λ j. ok_or (v j) NoEnt >>= λ c. Ok (j, c)) (λ f. next f.0 f.1))
+    go ends (Ok j) = ends j
+    go ends (Err e) = refl
+
+pub walk_fails : (v : Values) (p : List (List ℕ)) (next : ℕ → Content → Interaction) (e : TreeError) → found v 0 p ≡ Err e → settled v (walk p next) ≡ (Error e, [])
+walk_fails v p next e f = walk_ends v 0 p next ∙ ap (λ r. settled v (then_or_error r (λ f. next f.0 f.1))) f
+
+pub walk_finds : (v : Values) (p : List (List ℕ)) (next : ℕ → Content → Interaction) (j : ℕ) (c : Content) → found v 0 p ≡ Ok (j, c) → settled v (walk p next) ≡ settled v (next j c)
+walk_finds v p next j c f = walk_ends v 0 p next ∙ ap (λ r. settled v (then_or_error r (λ f. next f.0 f.1))) f
+
+-- ---- what it finds
+
+pub record FindsFile (v : Values) (t : Tree) (p : List (List ℕ)) : Type 0 where
+  pub inode : ℕ
+  pub bytes : List ℕ
+  pub reached : reach (children v) 0 p ≡ Ok inode
+  pub holds : v inode ≡ Some (regular bytes)
+  pub there : at t p ≡ Ok (file bytes)
+
+pub record FindsDirectory (v : Values) (t : Tree) (p : List (List ℕ)) : Type 0 where
+  pub inode : ℕ
+  pub links : Links
+  pub entries : Entries
+  pub reached : reach (children v) 0 p ≡ Ok inode
+  pub holds : v inode ≡ Some (directory links)
+  pub there : at t p ≡ Ok (dir entries)
+  pub names : names_of entries ≡ map.keys links
+
+pub data Meets (v : Values) (t : Tree) (p : List (List ℕ)) : Type 0 where
+  nothing : (e : TreeError) → found v 0 p ≡ Err e → at t p ≡ Err e → Meets v t p
+  a_file : FindsFile v t p → Meets v t p
+  a_directory : FindsDirectory v t p → Meets v t p
+
+pub found_there : (v : Values) (p : List (List ℕ)) (j : ℕ) (c : Content) → reach (children v) 0 p ≡ Ok j → v j ≡ Some c → found v 0 p ≡ Ok (j, c)
+found_there v p j c r h = ap (λ o. o >>= λ j. ok_or (v j) NoEnt >>= λ c. Ok (j, c)) r ∙ ap (λ o. ok_or o NoEnt >>= λ c. Ok (j, c)) h
+
+meets_at : (v : Values) (t : Tree) (p : List (List ℕ)) (j : ℕ) → reach (children v) 0 p ≡ Ok j → (o : Option Content) → v j ≡ o → (a : Result Tree TreeError) → at t p ≡ a →
+    shape_of o ≡ (a >>= λ u. Ok (shape_of_tree u)) → Meets v t p
+meets_at v t p j r None h (Err e) is link =
+    let one : NoEnt ≡ e = cc in
+    nothing NoEnt (ap (λ o. o >>= λ j. ok_or (v j) NoEnt >>= λ c. Ok (j, c)) r ∙ ap (λ o. ok_or o NoEnt >>= λ c. Ok (j, c)) h) (is ∙ ap Err (sym one))
+meets_at v t p j r None h (Ok u) is link = cc
+meets_at v t p j r (Some (regular b)) h (Err e) is link = cc
+meets_at v t p j r (Some (regular b)) h (Ok (file d)) is link =
+    let one : b ≡ d = cc in
+    a_file (record { inode = j; bytes = b; reached = r; holds = h; there = is ∙ ap (λ x. Ok (file x)) (sym one) })
+meets_at v t p j r (Some (regular b)) h (Ok (dir es)) is link = cc
+meets_at v t p j r (Some (directory links)) h (Err e) is link = cc
+meets_at v t p j r (Some (directory links)) h (Ok (file d)) is link = cc
+meets_at v t p j r (Some (directory links)) h (Ok (dir es)) is link =
+    a_directory (record { inode = j; links = links; entries = es; reached = r; holds = h; there = is; names = cc })
+
+meets_by : (v : Values) (t : Tree) (p : List (List ℕ)) (r : Result ℕ TreeError) → reach (children v) 0 p ≡ r → (a : Result Tree TreeError) → at t p ≡ a →
+    (r >>= λ j. shape_of (v j)) ≡ (a >>= λ u. Ok (shape_of_tree u)) → Meets v t p
+meets_by v t p (Ok j) r a is link = meets_at v t p j r (v j) refl a is link
+meets_by v t p (Err e) r (Ok u) is link = cc
+meets_by v t p (Err e) r (Err f) is link =
+    let one : e ≡ f = cc in
+    nothing e (ap (λ o. o >>= λ j. ok_or (v j) NoEnt >>= λ c. Ok (j, c)) r) (is ∙ ap Err (sym one))
+
+pub meets : (v : Values) (t : Tree) (p : List (List ℕ)) → Spells v t → Meets v t p
+meets v t p s = meets_by v t p (reach (children v) 0 p) refl (at t p) refl (s.tree.shows p)
+
+-- ---- names of a directory
+
+pub count-names_of : (es : Entries) → count es ≡ length (names_of es)
+count-names_of no_entries = refl
+count-names_of (entry name t es) = omega (arith, count-names_of es)
+
+pub is_some-find : (name : List ℕ) (es : Entries) → is_some (find name es) ≡ list_any (same_name name) (names_of es)
+is_some-find name no_entries = refl
+is_some-find name (entry other t es) = go (is_some-find name es) (same_name name other)
+  where
+    go : is_some (find name es) ≡ list_any (same_name name) (names_of es) → (b : Bool) → is_some (if b then Some t else find name es) ≡ (b || list_any (same_name name) (names_of es))
+    go rest true = refl
+    go rest false = rest

@@ -1,0 +1,14 @@
+use Rattle.assise_inode_table.proofs.Removing.{tails_trace, tails_run, tails_new, tails_spelled}
+use Rattle.assise_inode_table.proofs.laws.unseen_tails_may_be_taken_out.Goals as goal
+
+pub returns-clause-run : goal.returns-clause-run
+returns-clause-run c = tails_run
+
+pub returns-clause-made : goal.returns-clause-made
+returns-clause-made c = tails_new
+
+pub returns-clause-steps : goal.returns-clause-steps
+returns-clause-steps c = tails_trace
+
+pub returns-clause-spelled : goal.returns-clause-spelled
+returns-clause-spelled c = tails_spelled
