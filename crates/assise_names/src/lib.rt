@@ -3,6 +3,7 @@
 
 pub mod byte_string;
 pub mod call;
+pub mod mode;
 pub mod name;
 pub mod path;
 pub mod refusal;

@@ -1,0 +1,3 @@
+pub mod Leased
+pub mod Planning
+pub mod Walking

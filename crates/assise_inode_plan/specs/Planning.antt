@@ -1,0 +1,43 @@
+-- What is planned for a call.
+use Rattle.std.specs.Prelude.{◌≡◌, ◌≤◌, ℕ, length, Option, Some, None}
+use Rattle.assise_names.specs.declared.call.Op.{Op}
+use Rattle.assise_names.specs.declared.call.Op.TheVariants.{Create, Read as ReadCall, Write as WriteCall, Stat}
+use Rattle.assise_names.specs.declared.mode.Mode.{Mode}
+use Rattle.assise_names.specs.declared.reply.Reply.{Reply}
+use Rattle.assise_seq_tree.specs.Tree.{Tree}
+use Rattle.assise_inode_table.specs.Contents.{Values}
+use Rattle.assise_inode_table.specs.Effects.{after}
+use Rattle.assise_inode_table.specs.Interaction.{Step}
+use Rattle.assise_inode_table.specs.Spelled.{Spells}
+use Rattle.assise_inode_plan.specs.Leased.{Leases, wants, first_missing}
+use Rattle.assise_inode_plan.specs.declared.plan.Planned.{Planned}
+use Rattle.assise_inode_plan.specs.declared.plan.Planned.TheVariants.{Ready, Missing}
+
+-- the whole step, or the first lease that it lacks
+pub data Plan : Type 0 where
+  ready : Step → Plan
+  missing : ℕ → Mode → Plan
+
+abbrev pub plan_lacking : Step → Option (ℕ × Mode) → Plan
+plan_lacking s None = ready s
+plan_lacking s (Some w) = missing w.0 w.1
+
+abbrev pub plan_of : Leases → Step → Plan
+plan_of leased s = plan_lacking s (first_missing leased (wants s))
+
+-- what the code answers
+abbrev pub shown : Planned → Plan
+shown (Ready reply reads effects) = ready (record { visits = reads.items; reply = reply; effects = effects.items })
+shown (Missing inode mode) = missing inode mode
+
+-- a plan that is ready has this reply, and after its effects the inodes spell this tree
+abbrev pub Answers : Values → Reply × Tree → Plan → Type 0
+Answers v outcome (missing inode mode) = Unit {0}
+Answers v outcome (ready s) = (s.reply ≡ outcome.0) × Spells (after v s.effects) outcome.1
+
+-- one write takes 65,536 bytes at most
+abbrev pub IsWritable : Op → Type 0
+IsWritable (WriteCall p offset new) = length new ≤ 65536
+IsWritable (Create p) = Unit {0}
+IsWritable (ReadCall p offset most) = Unit {0}
+IsWritable (Stat p) = Unit {0}

@@ -1,0 +1,6 @@
+//! What a call over leased inodes answers and changes, before anything is changed.
+#![tactic(auto)]
+
+pub mod plan;
+pub mod view;
+mod walk;

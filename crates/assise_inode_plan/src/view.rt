@@ -1,0 +1,56 @@
+// Inodes of which some are leased.
+ghost use Rattle.std.specs.Prelude.{◌≡◌, option_copied, true};
+ghost use Rattle.std.specs.FinMap as map;
+ghost use Rattle.assise_inode_plan.specs.Leased.{Leases};
+ghost use Rattle.assise_inode_table.specs.Contents.{InodeMap};
+ghost use Rattle.assise_names.specs.declared.mode.Mode.TheVariants.{Read};
+
+use assise_inode_table::inode::Inode;
+use assise_inode_table::inodes::Inodes;
+use assise_names::mode::Mode;
+
+/// Inodes as a client sees them, with its leases. A contract sees the finite map of all inodes, and which of them are
+/// leased, and how.
+pub trait View {
+    ghost contents: { Self → InodeMap };
+
+    ghost leased: { Self → Leases };
+
+    /// Whether the inode is leased so.
+    fn leases(&self, inode: u64, mode: Mode) -> bool
+        ensures { result ≡ leased self.now inode mode };
+
+    /// The inode of a number, if there is one. Only what is leased for reading may be looked at.
+    fn get(&self, inode: u64) -> Option<&Inode>
+        requires leased { leased self.now inode Read ≡ true }
+        ensures { option_copied result ≡ map.get (contents self.now) inode };
+}
+
+/// All inodes of a map, each of them leased for reading and for writing.
+#[derive(Drop)]
+pub struct AllLeased<'a, I> {
+    inodes: &'a I,
+}
+
+impl<'a, I: Inodes> AllLeased<'a, I> {
+    /// The inodes of a map.
+    pub fn new(inodes: &'a I) -> AllLeased<'a, I>
+        ensures { result.inodes.now ≡ inodes.now }
+    {
+        AllLeased { inodes }
+    }
+}
+
+impl<I: Inodes> View for AllLeased<'_, I> {
+    ghost contents = { λ view. I.contents view.inodes.now };
+
+    ghost leased = { λ view inode mode. true };
+
+    fn leases(&self, _inode: u64, _mode: Mode) -> bool {
+        true
+    }
+
+    fn get(&self, inode: u64) -> Option<&Inode> {
+        self.inodes.get(inode)
+    }
+}
