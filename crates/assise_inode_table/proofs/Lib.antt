@@ -1,1 +1,6 @@
+pub mod Fronts
 pub mod Reaching
+pub mod Showing
+pub mod Regrowing
+pub mod Descending
+pub mod Rewriting

@@ -23,7 +23,7 @@ reach-append c r (name ∷ p) q d e =
     reach_step c r step.0 name (p ++ q) step.1 ∙ reach-append c step.0 p q d step.2
 
 -- ---- each inode once
-once_child : (c : Children) (r k : ℕ) (name : List ℕ) → ReachesOnce c r → c r name ≡ Ok k → ReachesOnce c k
+pub once_child : (c : Children) (r k : ℕ) (name : List ℕ) → ReachesOnce c r → c r name ≡ Ok k → ReachesOnce c k
 once_child c r k name once e p q j hp hq =
     let whole = once (name ∷ p) (name ∷ q) j (reach_step c r k name p e ∙ hp) (reach_step c r k name q e ∙ hq) in
     cc
