@@ -4,3 +4,5 @@ pub mod Showing
 pub mod Regrowing
 pub mod Descending
 pub mod Rewriting
+pub mod Naming
+pub mod Spelling
