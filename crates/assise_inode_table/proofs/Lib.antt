@@ -5,3 +5,11 @@ pub mod Lateness
 pub mod Meeting
 pub mod CallSteps
 pub mod Removing
+pub mod Fronts
+pub mod Reaching
+pub mod Showing
+pub mod Regrowing
+pub mod Descending
+pub mod Rewriting
+pub mod Naming
+pub mod Spelling
