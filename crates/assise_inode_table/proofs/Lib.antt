@@ -1,0 +1,3 @@
+pub mod MapView
+pub mod TableView
+pub mod Pouring
