@@ -13,3 +13,6 @@ pub mod Descending
 pub mod Rewriting
 pub mod Naming
 pub mod Spelling
+pub mod MapView
+pub mod TableView
+pub mod Pouring

@@ -7,3 +7,5 @@ pub mod Calls
 pub mod Traces
 pub mod Unseen
 pub mod Late
+pub mod Kind
+pub mod Opening

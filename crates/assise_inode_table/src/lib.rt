@@ -1,4 +1,9 @@
 //! Inodes by their numbers, what effects make of them, and which tree they spell.
 #![tactic(auto)]
 
+pub mod directory;
+pub mod file_bytes;
+pub mod inode;
+pub mod inodes;
 pub mod laws;
+pub mod table;

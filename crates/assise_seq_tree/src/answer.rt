@@ -16,7 +16,7 @@ use std::alloc::Global;
 use std::collections::BTreeMap;
 
 /// The most entries of a directory.
-const MOST_ENTRIES: usize = 4096;
+pub const MOST_ENTRIES: usize = 4096;
 
 /// The most bytes of a file.
 const MOST_BYTES: u64 = 1_048_576;

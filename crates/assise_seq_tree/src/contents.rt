@@ -5,8 +5,8 @@ ghost use Rattle.assise_seq_tree.specs.Contents.{bytes_from, overwritten};
 
 use assise_names::refusal::Refusal;
 
-/// The bytes from an offset on, at most so many.
-pub(crate) fn bytes_from(bytes: &[u8], offset: u64, most: u64) -> &[u8]
+/// The bytes from an offset on, at most so many. At or past the end there are none (POSIX.1-2017, read()).
+pub fn bytes_from(bytes: &[u8], offset: u64, most: u64) -> &[u8]
     ensures { result.now ≡ bytes_from offset most bytes.now }
 {
     let start = bytes.len().min(offset as usize);
@@ -15,8 +15,9 @@ pub(crate) fn bytes_from(bytes: &[u8], offset: u64, most: u64) -> &[u8]
     &rest[..end]
 }
 
-/// Writes at an offset. What lies between the old end and the offset is filled with zeros.
-pub(crate) fn overwrite(bytes: &mut Vec<u8>, offset: usize, new: &[u8]) -> Result<(), Refusal>
+/// Writes at an offset. What lies between the old end and the offset is filled with zeros (POSIX.1-2017, lseek() and
+/// write()). The one refusal is [`Refusal::OutOfMemory`], and it leaves the bytes as they were.
+pub fn overwrite(bytes: &mut Vec<u8>, offset: usize, new: &[u8]) -> Result<(), Refusal>
     requires { offset + length new.now < 2 ^ 64 }
     ensures ok { OnOk result (bytes.new.items ≡ overwritten bytes.old.items offset new.now) }
     ensures err { OnErr result (bytes.new.items ≡ bytes.old.items) }

@@ -2,7 +2,7 @@
 #![tactic(auto)]
 
 pub mod answer;
-mod contents;
+pub mod contents;
 pub mod laws;
 #[cfg(test)]
 mod tests;

@@ -1,0 +1,69 @@
+-- A map of inodes, of which an effect changes one.
+use Rattle.std.proofs.Common.{◌≡◌, ℕ, List, Option, Some, None, IsSome, Result, Ok, Err, OnErr, OnOk, option_map, cond, true, false, Bool, refl, sym, ap, subst, ◌∙◌}
+use Rattle.std.specs.Ordering.{nat_cmp, is_eq}
+use Rattle.std.specs.Cmp.{nat_cmp_total}
+use Rattle.std.specs.Map.{lookup}
+use Rattle.std.specs.BTreeMap.{is_at}
+use Rattle.std.specs.declared.cmp.Ordering.{Ordering}
+use Rattle.std.specs.declared.cmp.Ordering.TheVariants.{Less, Equal, Greater}
+use Rattle.std.proofs.lemmas.Map.Lookups.{exact_unsigned}
+use Rattle.std.specs.FinMap as map
+use Rattle.assise_record.specs.declared.effect.Effect.{Effect}
+use Rattle.assise_record.specs.declared.effect.Effect.TheVariants.{NewFile, NewDir, Write, SetLen, Link, Unlink, Free}
+use Rattle.assise_record.specs.Touched.{touched_by}
+use Rattle.assise_inode_table.specs.Contents.{Content, InodeMap}
+use Rattle.assise_inode_table.specs.Effects.{changed, with_value, applied}
+use Rattle.assise_inode_table.proofs.MapView.{get-view, insert-view}
+
+tied : (o : Ordering) → is_eq o ≡ true → o ≡ Equal
+tied Less e = cc
+tied Equal e = refl
+tied Greater e = cc
+
+-- what a look-up in the table found is what the map has
+pub value_at : (m : InodeMap) (es : List (ℕ × Content)) (i k : ℕ) (found : Option Content) → map.from_entries es ≡ m → k ≡ i → found ≡ lookup (is_at (nat_cmp k)) es → map.get m i ≡ found
+value_at m es i k found view key is = ap (λ n. map.get n i) (sym view) ∙ ap (map.get (map.from_entries {R = nat_cmp} es)) (sym key) ∙ get-view nat_cmp_total es k ∙ sym is
+
+pub is_there : {X : Type 0} (x : X) (o : Option X) → Some x ≡ o → IsSome o
+is_there x o e = subst IsSome e refl
+
+remove_absent : (m : InodeMap) (i : ℕ) → map.get m i ≡ None → map.remove m i ≡ m
+remove_absent m i none = map.same_map nat_cmp_total exact_unsigned _ _ (λ q. map.get-remove nat_cmp_total m i q ∙ go q (is_at (nat_cmp q) i) refl)
+  where
+    go : (q : ℕ) (b : Bool) → is_at (nat_cmp q) i ≡ b → cond b None (map.get m q) ≡ map.get m q
+    go q true e = sym none ∙ ap (map.get m) (sym (exact_unsigned q i (tied (nat_cmp q i) e)))
+    go q false e = refl
+
+-- what a change makes of a map of which the value of its inode is known
+abbrev pub with_change : InodeMap → Effect → Option Content → InodeMap
+with_change m e old = with_value m (touched_by e) (option_map (λ content. changed content e) old)
+
+-- there is no such inode
+pub change_none : (m : InodeMap) (es : List (ℕ × Content)) (e : Effect) (k : ℕ) → map.from_entries es ≡ m → k ≡ touched_by e → None ≡ lookup (is_at (nat_cmp k)) es
+    → map.from_entries es ≡ with_change m e (map.get m (touched_by e))
+change_none m es e k view key is =
+    let absent = value_at m es (touched_by e) k None view key is in
+    view ∙ sym (remove_absent m (touched_by e) absent) ∙ sym (ap (with_change m e) absent)
+
+-- the inode that is there was changed in its place
+pub change_some : (m : InodeMap) (es fs : List (ℕ × Content)) (e : Effect) (k : ℕ) (old new : Content) → map.from_entries es ≡ m → k ≡ touched_by e → Some old ≡ lookup (is_at (nat_cmp k)) es → new ≡ changed old e
+    → ((q : ℕ) → lookup (is_at (nat_cmp q)) fs ≡ cond (is_at (nat_cmp k) q) (Some new) (lookup (is_at (nat_cmp q)) es)) → map.from_entries fs ≡ with_change m e (map.get m (touched_by e))
+change_some m es fs e k old new view key is step updates =
+    insert-view nat_cmp_total exact_unsigned es fs k new updates
+    ∙ ap (λ n. map.insert n k new) view ∙ ap (λ i. map.insert m i new) key ∙ ap (map.insert m (touched_by e)) step
+    ∙ sym (ap (with_change m e) (value_at m es (touched_by e) k (Some old) view key is))
+
+-- an effect that neither makes nor frees an inode
+pub applied_change : (m : InodeMap) (e : Effect) → ((i : ℕ) → e ≡ NewFile i → ⊥) → ((i : ℕ) → e ≡ NewDir i → ⊥) → ((i : ℕ) → e ≡ Free i → ⊥) → with_change m e (map.get m (touched_by e)) ≡ applied m e
+applied_change m (NewFile i) a b c = absurd (a i refl)
+applied_change m (NewDir i) a b c = absurd (b i refl)
+applied_change m (Free i) a b c = absurd (c i refl)
+applied_change m (Write i patch) a b c = refl
+applied_change m (SetLen i size) a b c = refl
+applied_change m (Link d name i) a b c = refl
+applied_change m (Unlink d name) a b c = refl
+
+-- what holds anyway holds at an error
+pub on_err : {T E : Type 0} (r : Result T E) (P : Type 0) → P → OnErr r P
+on_err (Ok x) P p = tt
+on_err (Err e) P p = p

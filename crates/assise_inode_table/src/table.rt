@@ -1,0 +1,125 @@
+// A table of inodes.
+ghost use Rattle.std.specs.Prelude.{◌≡◌, IfOk, IsOkUnless, OnErr, OnOk, option_copied, option_map};
+ghost use Rattle.std.specs.FinMap as map;
+ghost use Rattle.assise_names.specs.declared.refusal.Refusal.TheVariants.{OutOfMemory};
+ghost use Rattle.assise_inode_table.specs.Effects.{applied, changed, with_value};
+ghost use Rattle.assise_inode_table.specs.Opening.{opening};
+ghost use Rattle.assise_record.specs.Touched.{touched_by};
+
+use crate::inode::Inode;
+use crate::inodes::Inodes;
+use assise_names::refusal::Refusal;
+use assise_record::effect::Effect;
+use std::alloc::Global;
+use std::collections::BTreeMap;
+use std::marker::Model;
+
+/// The number of the root (POSIX.1-2017, base definitions, chapter 3: Root Directory).
+pub const ROOT: u64 = 0;
+
+/// Inodes by their numbers, held in one ordered map. A contract sees the finite map.
+#[derive(Debug, Drop)]
+pub struct InodeTable {
+    alloc: Global,
+    inodes: BTreeMap<u64, Inode>,
+}
+
+impl Model for InodeTable {
+    ghost use Rattle.std.specs.FinMap as map;
+    ghost use Rattle.assise_inode_table.specs.Contents.{InodeMap, coded_inodes};
+
+    ghost Value = { InodeMap };
+
+    ghost coded = { coded_inodes };
+
+    ghost view = { λ t. map.from_entries t.inodes.entries };
+}
+
+impl InodeTable {
+    /// A table without inodes. It takes no memory.
+    pub fn new(alloc: Global) -> InodeTable
+        ensures { result ≡ map.empty }
+    {
+        InodeTable {
+            alloc,
+            inodes: BTreeMap::new(alloc),
+        }
+    }
+
+    /// What stands at the opening of a file system: the root as a directory without entries, and nothing else. The
+    /// one refusal is [`Refusal::OutOfMemory`].
+    pub fn opening(alloc: Global) -> Result<InodeTable, Refusal>
+        ensures root { IfOk result (λ table. table ≡ opening) }
+        ensures only_memory { IsOkUnless result OutOfMemory }
+    {
+        let mut table = InodeTable::new(alloc);
+        table.insert(ROOT, Inode::new_directory(alloc))?;
+        Ok(table)
+    }
+
+    /// The inode of a number, if there is one.
+    pub fn get(&self, inode: u64) -> Option<&Inode>
+        ensures { option_copied result ≡ map.get self.now inode }
+    {
+        self.inodes.get(&inode)
+    }
+
+    /// Gives a number an inode, in place of the one that it had. The one refusal is [`Refusal::OutOfMemory`], and it
+    /// leaves the table as it was.
+    pub fn insert(&mut self, inode: u64, content: Inode) -> Result<(), Refusal>
+        ensures ok { OnOk result (self.new ≡ map.insert self.old inode content) }
+        ensures err { OnErr result (self.new ≡ self.old) }
+        ensures only_memory { IsOkUnless result OutOfMemory }
+    {
+        self.inodes.insert(inode, content)?;
+        Ok(())
+    }
+
+    /// Takes the inode of a number out, if it is there.
+    pub fn remove(&mut self, inode: u64)
+        ensures { self.new ≡ map.remove self.old inode }
+    {
+        self.inodes.remove(&inode);
+    }
+
+    /// Makes an effect: a new file or directory stands in place of what its number had, a freed inode is gone, and
+    /// each other effect changes the inode that it touches, where there is one of its kind. No other inode changes.
+    /// The one refusal is [`Refusal::OutOfMemory`], and it leaves the table as it was.
+    pub fn apply(&mut self, effect: &Effect) -> Result<(), Refusal>
+        ensures ok { OnOk result (self.new ≡ applied self.old effect.now) }
+        ensures err { OnErr result (self.new ≡ self.old) }
+        ensures only_memory { IsOkUnless result OutOfMemory }
+    {
+        match effect {
+            Effect::NewFile { inode } => self.insert(*inode, Inode::new_file(self.alloc)),
+            Effect::NewDir { inode } => self.insert(*inode, Inode::new_directory(self.alloc)),
+            Effect::Free { inode } => {
+                self.remove(*inode);
+                Ok(())
+            }
+            change => self.change(change),
+        }
+    }
+
+    /// Changes the inode that an effect touches, where there is one.
+    fn change(&mut self, effect: &Effect) -> Result<(), Refusal>
+        ensures ok { let inode = touched_by effect.now in
+            OnOk result (self.new ≡ with_value self.old inode (option_map (λ content. changed content effect.now) (map.get self.old inode))) }
+        ensures err { OnErr result (self.new ≡ self.old) }
+        ensures only_memory { IsOkUnless result OutOfMemory }
+    {
+        let Some(inode) = self.inodes.get_mut(&effect.touches()) else {
+            return Ok(());
+        };
+        inode.change(self.alloc, effect)?;
+        Ok(())
+    }
+}
+
+impl Inodes for InodeTable {
+    ghost contents = { λ table. table };
+
+    fn get(&self, inode: u64) -> Option<&Inode> {
+        InodeTable::get(self, inode)
+    }
+}
