@@ -21,15 +21,11 @@ use Rattle.assise_inode_table.specs.Interaction.{Interaction, finish, reply_of, 
 use Rattle.assise_inode_table.specs.Calls.{then_or_error, as_regular, as_links, room_among, walk, create_call, read_call, write_effects, write_call, stat_call, interaction, step}
 use Rattle.assise_inode_table.specs.Reach.{children, reach, names_of}
 use Rattle.assise_inode_table.specs.Spelled.{Spells, AgreeBut, AddsLink}
+use Rattle.assise_inode_table.proofs.Rewriting.{file_rewritten}
 use Rattle.assise_inode_table.proofs.Meeting.{settled, found, walk_fails, walk_finds, found_there, Meets, nothing, a_file, a_directory, FindsFile, FindsDirectory, meets, count-names_of, is_some-find}
 
 abbrev Path : Type 0
 Path = List (List ℕ)
-
-changed_file : (v w : Values) (t : Tree) (p : List (List ℕ)) (i : ℕ) (bytes new : List ℕ) → Spells v t →
-        reach (children v) 0 p ≡ Ok i → v i ≡ Some (regular bytes) → w i ≡ Some (regular new) → AgreeBut i v w →
-        Spells w (put t p (file new))
-changed_file v w t p i bytes new s r h k a = ?
 
 new_file : (v w u : Values) (d i : ℕ) (t : Tree) (p : List (List ℕ)) (name : List ℕ) (links : Links) → Spells v t →
         v i ≡ None → u i ≡ Some (regular []) → AgreeBut i v u → reach (children v) 0 p ≡ Ok d → AddsLink u w d name i links →
@@ -80,7 +76,7 @@ read_agrees v t p offset most fresh s = go (meets v t p s)
 module _ (v : Values) (t : Tree) (p : Path) (offset : ℕ) (new : List ℕ) (fresh : ℕ) (s : Spells v t) where
   written : (f : FindsFile v t p) → Spells (after v (Write f.inode (record { offset = offset; bytes = new }) ∷ [])) (put t p (file (overwritten f.bytes offset new)))
   written f =
-      changed_file v (after v (Write f.inode (record { offset = offset; bytes = new }) ∷ [])) t p f.inode f.bytes (overwritten f.bytes offset new) s f.reached f.holds
+      file_rewritten v (after v (Write f.inode (record { offset = offset; bytes = new }) ∷ [])) t p f.inode f.bytes (overwritten f.bytes offset new) s f.reached f.holds
         (rw (eq-eqb f.inode f.inode refl, f.holds) refl) (λ j apart. rw (ne_eqb f.inode j (λ e. apart (sym e))) refl)
 
   write_spells : (f : FindsFile v t p) → Spells (after v (write_effects f.inode offset new)) (tree_after_write t p offset new f.bytes)
