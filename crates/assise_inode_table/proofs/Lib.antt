@@ -1,8 +1,10 @@
 pub mod Fronts
 pub mod Reaching
 pub mod Showing
-pub mod Regrowing
-pub mod Descending
-pub mod Rewriting
 pub mod Naming
 pub mod Spelling
+pub mod Descending
+pub mod Regrowing
+pub mod Rewriting
+pub mod Relinking
+pub mod Linking
