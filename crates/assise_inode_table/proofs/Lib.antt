@@ -4,7 +4,9 @@ pub mod Showing
 pub mod Naming
 pub mod Spelling
 pub mod Descending
+pub mod Leaves
 pub mod Regrowing
 pub mod Rewriting
 pub mod Relinking
 pub mod Linking
+pub mod Creating
