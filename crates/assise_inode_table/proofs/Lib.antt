@@ -10,3 +10,5 @@ pub mod Rewriting
 pub mod Relinking
 pub mod Linking
 pub mod Creating
+pub mod Unlinking
+pub mod Freeing
