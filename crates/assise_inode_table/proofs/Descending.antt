@@ -1,32 +1,25 @@
 -- What an inode that is reached spells: the tree at its path.
-use Rattle.std.proofs.Common.{◌≡◌, ℕ, true, false, cond, List, [], ◌∷◌, Option, Some, None, IsSome, is_some, Result, Ok, refl, sym, ap, subst, ◌∙◌}
-use Rattle.std.specs.Prelude.{◌||◌, ok_or}
+use Rattle.std.proofs.Common.{◌≡◌, ℕ, true, List, [], ◌∷◌, Option, Some, None, IsSome, is_some, Result, Ok, refl, sym, ap, subst, ◌∙◌}
+use Rattle.std.specs.Prelude.{ok_or}
 use Rattle.std.specs.List.{list_any}
 use Rattle.std.specs.FinMap as map
 use Rattle.std.proofs.lemmas.Bool.{false≢true}
 use Rattle.assise_names.specs.declared.reply.TreeError.{TreeError}
 use Rattle.assise_names.specs.declared.reply.TreeError.TheVariants.{NoEnt}
-use Rattle.assise_seq_tree.specs.Tree.{Tree, file, dir, Entries, no_entries, entry, same_name, find, at}
+use Rattle.assise_seq_tree.specs.Tree.{Tree, file, dir, Entries, same_name, find, at}
 use Rattle.assise_seq_tree.specs.Answer.{◌>>=◌}
 use Rattle.assise_seq_tree.proofs.Replacing.{at_step}
 use Rattle.assise_seq_tree.proofs.Moves.{Path}
 use Rattle.assise_inode_table.specs.Contents.{Content, regular, directory, Links, Values}
 use Rattle.assise_inode_table.specs.Reach.{children, reach, link_of, Shape, folder, shape_of, names_of, shape_of_tree, shown_in}
 use Rattle.assise_inode_table.specs.Spelled.{SpellsFrom}
+use Rattle.assise_inode_table.proofs.Naming.{is_some-find}
 use Rattle.assise_inode_table.proofs.Reaching.{then_ok, once_child, Away}
 use Rattle.assise_inode_table.proofs.Showing.{shown_here, shown_dir, shown_below}
 
 -- ---- what an inode shows of itself
 pub shape_here : (v : Values) (r : ℕ) (t : Tree) → SpellsFrom v r t → shape_of (v r) ≡ Ok (shape_of_tree t)
 shape_here v r t s = s.shows [] ∙ shown_here t
-
-pub is_some-find : (name : List ℕ) (es : Entries) → is_some (find name es) ≡ list_any (same_name name) (names_of es)
-is_some-find name no_entries = refl
-is_some-find name (entry other t es) =
-    elim (same_name name other) as (λ b. is_some (cond b (Some t) (find name es)) ≡ (b || list_any (same_name name) (names_of es))) [
-      | true ↦ refl
-      | false ↦ is_some-find name es
-    ]
 
 -- ---- one step
 pub record Child (v : Values) (t : Tree) (name : List ℕ) (k : ℕ) : Type 0 where
@@ -95,6 +88,23 @@ descend v (name ∷ p) r t d s e =
       place = ap (λ z. at z (name ∷ p)) c.is ∙ at_step c.entries name p c.subtree c.found ∙ b.place;
       spells = b.spells;
     }
+
+-- a directory that is reached
+pub record Directory (v : Values) (t : Tree) (p : Path) (d : ℕ) (links : Links) : Type 0 where
+  pub entries : Entries
+  pub place : at t p ≡ Ok (dir entries)
+  pub spells : SpellsFrom v d (dir entries)
+  pub names : names_of entries ≡ map.keys links
+
+pub directory_at : (v : Values) (p : Path) (r : ℕ) (t : Tree) (d : ℕ) (links : Links) → SpellsFrom v r t → reach (children v) r p ≡ Ok d
+    → v d ≡ Some (directory links) → Directory v t p d links
+directory_at v p r t d links s parent here = let b = descend v p r t d s parent in go b.subtree b.place b.spells
+  where
+    go : (u : Tree) → at t p ≡ Ok u → SpellsFrom v d u → Directory v t p d links
+    go (file bytes) place spells = let shapes = sym (ap shape_of here) ∙ shape_here v d (file bytes) spells in cc
+    go (dir es) place spells =
+        let shapes = sym (ap shape_of here) ∙ shape_here v d (dir es) spells in
+        record { entries = es; place = place; spells = spells; names = cc }
 
 -- ---- each inode that is reached is there
 pub reached_is_there : (v : Values) (r : ℕ) (t : Tree) (p : Path) (j : ℕ) → SpellsFrom v r t → reach (children v) r p ≡ Ok j → IsSome (v j)

@@ -53,7 +53,7 @@ keeps_child v w j k name keeps e q i h = keeps (name ∷ q) i (reach_step (child
 pub away_keeps : (v w : Values) (d j : ℕ) → AgreeBut d v w → Away (children v) j d → Keeps v w j
 away_keeps v w d j others away q k h = others k (λ is. away q (h ∙ ap Ok is))
 
-same_rest : (c b : Children) (q : Path) (o : Result ℕ TreeError) → ((k : ℕ) → o ≡ Ok k → reach b k q ≡ reach c k q) → (o >>= λ k. reach b k q) ≡ (o >>= λ k. reach c k q)
+pub same_rest : (c b : Children) (q : Path) (o : Result ℕ TreeError) → ((k : ℕ) → o ≡ Ok k → reach b k q ≡ reach c k q) → (o >>= λ k. reach b k q) ≡ (o >>= λ k. reach c k q)
 same_rest c b q (Ok k) same = same k refl
 same_rest c b q (Err e) same = refl
 

@@ -1,45 +1,28 @@
 -- The bytes of a file change.
-use Rattle.std.proofs.Common.{◌≡◌, ℕ, Bool, true, false, List, [], ◌∷◌, Some, IsSome, is_some, Ok, refl, sym, ap, ◌∙◌, inl, eqb}
+use Rattle.std.proofs.Common.{◌≡◌, ℕ, Bool, true, false, List, [], Some, IsSome, is_some, Ok, refl, sym, ap, ◌∙◌, inl, eqb}
 use Rattle.std.proofs.lemmas.Bool.{eqb-true, eqb-false}
-use Rattle.assise_seq_tree.specs.Tree.{Tree, file, at, put}
-use Rattle.assise_seq_tree.specs.Answer.{◌>>=◌}
+use Rattle.assise_seq_tree.specs.Tree.{Tree, file, put}
 use Rattle.assise_seq_tree.proofs.Moves.{Path}
 use Rattle.assise_inode_table.specs.Contents.{regular, Values}
-use Rattle.assise_inode_table.specs.Reach.{children, reach, link_of, shape_of, shown_from, shown_in}
+use Rattle.assise_inode_table.specs.Reach.{children, reach}
 use Rattle.assise_inode_table.specs.Spelled.{Spells, SpellsFrom, AgreeBut}
 use Rattle.assise_inode_table.proofs.Descending.{Below, descend}
+use Rattle.assise_inode_table.proofs.Leaves.{alone, file_nowhere, file_spells}
 use Rattle.assise_inode_table.proofs.Regrowing.{IsOwn, regrown, still_reached}
 
--- ---- a file leads nowhere
-pub file_ends : (v : Values) (i : ℕ) (bytes : List ℕ) → v i ≡ Some (regular bytes) → (q : Path) (j : ℕ) → reach (children v) i q ≡ Ok j → q ≡ []
-file_ends v i bytes here [] j e = refl
-file_ends v i bytes here (x ∷ q) j e = let no = ap (λ o. link_of o x >>= λ k. reach (children v) k q) here in cc
-
-pub file_alone : (v : Values) (i : ℕ) (bytes : List ℕ) → v i ≡ Some (regular bytes) → (q : Path) (j : ℕ) → reach (children v) i q ≡ Ok j → j ≡ i
-file_alone v i bytes here q j e = let none = ap (reach (children v) i) (file_ends v i bytes here q j e) in cc
-
-pub file_spells : (v : Values) (i : ℕ) (bytes : List ℕ) → v i ≡ Some (regular bytes) → SpellsFrom v i (file bytes)
-unfolding at
-file_spells v i bytes here = record { shows = shows; once = λ p q j e f. file_ends v i bytes here p j e ∙ sym (file_ends v i bytes here q j f) }
-  where
-    shows : (q : Path) → shown_from v i q ≡ shown_in (file bytes) q
-    shows [] = ap shape_of here
-    shows (x ∷ q) = ap (λ o. (link_of o x >>= λ k. reach (children v) k q) >>= λ j. shape_of (v j)) here
-
--- ---- a file with other bytes
 module _ (v w : Values) (t : Tree) (p : Path) (i : ℕ) (bytes new : List ℕ) (s : Spells v t) (place : reach (children v) 0 p ≡ Ok i)
     (before : v i ≡ Some (regular bytes)) (after : w i ≡ Some (regular new)) (others : AgreeBut i v w) where
   found : Below v t p i
   found = descend v p 0 t i s.tree place
 
   own : IsOwn v w 0 i
-  own a j e = inl ([], ap Ok (sym (file_alone w i new after a j e)))
+  own a j e = inl ([], ap Ok (sym (alone (children w) i (file_nowhere w i new after) a j e)))
 
   spells : SpellsFrom w i (file new)
   spells = file_spells w i new after
 
   still_below : (j : ℕ) (a : Path) → reach (children v) i a ≡ Ok j → (b : Path) × (reach (children w) i b ≡ Ok j)
-  still_below j a e = ([], ap Ok (sym (file_alone v i bytes before a j e)))
+  still_below j a e = ([], ap Ok (sym (alone (children v) i (file_nowhere v i bytes before) a j e)))
 
   was_there : (j : ℕ) → IsSome (w j) → (b : Bool) → eqb j i ≡ b → IsSome (v j)
   was_there j there true e = ap is_some (ap v (eqb-true j i e) ∙ before)
