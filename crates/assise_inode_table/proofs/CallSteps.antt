@@ -21,16 +21,18 @@ use Rattle.assise_inode_table.specs.Interaction.{Interaction, finish, reply_of, 
 use Rattle.assise_inode_table.specs.Calls.{then_or_error, as_regular, as_links, room_among, walk, create_call, read_call, write_effects, write_call, stat_call, interaction, step}
 use Rattle.assise_inode_table.specs.Reach.{children, reach, names_of}
 use Rattle.assise_inode_table.specs.Spelled.{Spells, AgreeBut, AddsLink}
+use Rattle.assise_inode_table.proofs.Creating.{created as made}
+use Rattle.assise_inode_table.proofs.Leaves.{file_nowhere, file_spells}
 use Rattle.assise_inode_table.proofs.Rewriting.{file_rewritten}
 use Rattle.assise_inode_table.proofs.Meeting.{settled, found, walk_fails, walk_finds, found_there, Meets, nothing, a_file, a_directory, FindsFile, FindsDirectory, meets, count-names_of, is_some-find}
 
 abbrev Path : Type 0
 Path = List (List ℕ)
 
-new_file : (v w u : Values) (d i : ℕ) (t : Tree) (p : List (List ℕ)) (name : List ℕ) (links : Links) → Spells v t →
-        v i ≡ None → u i ≡ Some (regular []) → AgreeBut i v u → reach (children v) 0 p ≡ Ok d → AddsLink u w d name i links →
-        Spells w (put t (p ++ name ∷ []) (file []))
-new_file v w u d i t p name links s n h a r l = ?
+-- a new file at its entry
+new_file : (v w u : Values) (d i : ℕ) (t : Tree) (p : List (List ℕ)) (name : List ℕ) (links : Links) → Spells v t → v i ≡ None → u i ≡ Some (regular []) → AgreeBut i v u →
+    reach (children v) 0 p ≡ Ok d → AddsLink u w d name i links → Spells w (put t (p ++ name ∷ []) (file []))
+new_file v w u d i t p name links s fresh here others place a = made v u w d i t (file []) p name links s fresh others (file_spells u i [] here) (file_nowhere u i [] here) place a
 
 -- ---- an outcome over inodes, and an answer of the tree
 
@@ -58,7 +60,7 @@ stat_agrees v t p fresh s = go (meets v t p s)
     go (a_file f) = agrees_quietly v t fresh _ _ (File (length f.bytes)) s (walk_finds v p _ f.inode (regular f.bytes) (found_there v p f.inode (regular f.bytes) f.reached f.holds)) (rw f.there refl)
     go (a_directory d) =
         agrees_quietly v t fresh _ _ (Dir (length (map.keys d.links))) s (walk_finds v p _ d.inode (directory d.links) (found_there v p d.inode (directory d.links) d.reached d.holds))
-          (rw d.there (ap (λ n. (Dir n, t)) (count-names_of d.entries ∙ ap length d.names)))
+        (rw d.there (ap (λ n. (Dir n, t)) (count-names_of d.entries ∙ ap length d.names)))
 
 -- ---- read
 
@@ -77,7 +79,7 @@ module _ (v : Values) (t : Tree) (p : Path) (offset : ℕ) (new : List ℕ) (fre
   written : (f : FindsFile v t p) → Spells (after v (Write f.inode (record { offset = offset; bytes = new }) ∷ [])) (put t p (file (overwritten f.bytes offset new)))
   written f =
       file_rewritten v (after v (Write f.inode (record { offset = offset; bytes = new }) ∷ [])) t p f.inode f.bytes (overwritten f.bytes offset new) s f.reached f.holds
-        (rw (eq-eqb f.inode f.inode refl, f.holds) refl) (λ j apart. rw (ne_eqb f.inode j (λ e. apart (sym e))) refl)
+      (rw (eq-eqb f.inode f.inode refl, f.holds) refl) (λ j apart. rw (ne_eqb f.inode j (λ e. apart (sym e))) refl)
 
   write_spells : (f : FindsFile v t p) → Spells (after v (write_effects f.inode offset new)) (tree_after_write t p offset new f.bytes)
   write_spells f =
@@ -89,7 +91,7 @@ module _ (v : Values) (t : Tree) (p : Path) (offset : ℕ) (new : List ℕ) (fre
   write_file : (f : FindsFile v t p) → Agrees v fresh (settled v (write_call p offset new)) (write_answer t p offset new)
   write_file f =
       let ends = walk_finds v p (λ i c. then_or_error (as_regular c) (λ _. if is_within offset new then finish Done (write_effects i offset new) else finish (Error TooBig) [])) f.inode (regular f.bytes)
-                   (found_there v p f.inode (regular f.bytes) f.reached f.holds) in
+      (found_there v p f.inode (regular f.bytes) f.reached f.holds) in
       elim (cases_Bool (is_within offset new)) [
         | inl fits ↦ agrees v fresh _ _ Done (write_effects f.inode offset new) (tree_after_write t p offset new f.bytes) (ends ∙ rw fits refl) (rw (f.there, fits) refl) (λ n. write_spells f)
         | inr big ↦ agrees_quietly v t fresh _ _ (Error TooBig) s (ends ∙ rw big refl) (rw (f.there, big) refl)
@@ -112,7 +114,7 @@ none_from (Some x) e = cc
 room_same : (name : List ℕ) (links : Links) (es : Entries) → names_of es ≡ map.keys links → room_among name links ≡ room_for name es
 room_same name links es names =
     ap (λ b. if b then Err Exists else (if nat_le 4096 (length (map.keys links)) then Err DirFull else Ok tt))
-      (map.contains_key-keys links name ∙ ap (list_any (same_name name)) (sym names) ∙ sym (is_some-find name es))
+    (map.contains_key-keys links name ∙ ap (list_any (same_name name)) (sym names) ∙ sym (is_some-find name es))
     ∙ ap (λ n. if is_some (find name es) then Err Exists else (if nat_le 4096 n then Err DirFull else Ok tt)) (sym (count-names_of es ∙ ap length names))
 
 absent_from : (name : List ℕ) (links : Links) → room_among name links ≡ Ok tt → map.get links name ≡ None
@@ -131,13 +133,13 @@ module _ (v : Values) (t : Tree) (p : Path) (fresh : ℕ) (s : Spells v t) where
       let u : Values = after v (NewFile fresh ∷ []) in
       let kept : u d.inode ≡ Some (directory d.links) = rw (ne_eqb fresh d.inode (λ e. apart (sym e))) d.holds in
       new_file v (after v (NewFile fresh ∷ Link d.inode (last_name p) fresh ∷ [])) u d.inode fresh t (parent_of p) (last_name p) d.links s none
-        (rw (eq-eqb fresh fresh refl) refl) (λ j other. rw (ne_eqb fresh j (λ e. other (sym e))) refl) d.reached
-        (record {
-          before = kept;
-          absent = absent;
-          after = rw (eq-eqb d.inode d.inode refl, ne_eqb fresh d.inode (λ e. apart (sym e)), d.holds) refl;
-          others = λ j other. rw (ne_eqb d.inode j (λ e. other (sym e))) refl;
-        })
+      (rw (eq-eqb fresh fresh refl) refl) (λ j other. rw (ne_eqb fresh j (λ e. other (sym e))) refl) d.reached
+      (record {
+        before = kept;
+        absent = absent;
+        after = rw (eq-eqb d.inode d.inode refl, ne_eqb fresh d.inode (λ e. apart (sym e)), d.holds) refl;
+        others = λ j other. rw (ne_eqb d.inode j (λ e. other (sym e))) refl;
+      })
 
   -- below the root
   walk_parent : Interaction
@@ -154,7 +156,7 @@ module _ (v : Values) (t : Tree) (p : Path) (fresh : ℕ) (s : Spells v t) where
   unfolding walk_parent below_root answer_below
   in_directory long d r is =
       let ends = walk_finds v (parent_of p) (λ d content. then_or_error (as_links content) (λ links. then_or_error (room_among (last_name p) links) (λ _.
-                   finish Done (NewFile fresh ∷ Link d (last_name p) fresh ∷ [])))) d.inode (directory d.links) (found_there v (parent_of p) d.inode (directory d.links) d.reached d.holds) in
+      finish Done (NewFile fresh ∷ Link d (last_name p) fresh ∷ [])))) d.inode (directory d.links) (found_there v (parent_of p) d.inode (directory d.links) d.reached d.holds) in
       let room : room_for (last_name p) d.entries ≡ r = sym (room_same (last_name p) d.links d.entries d.names) ∙ is in
       go r is room ends
     where
@@ -164,8 +166,8 @@ module _ (v : Values) (t : Tree) (p : Path) (fresh : ℕ) (s : Spells v t) where
       go (Err e) is room ends = agrees_quietly v t fresh _ _ (Error e) s (ends ∙ rw is refl) (rw (d.there, room) refl)
       go (Ok x) is room ends =
           agrees v fresh _ _ Done (NewFile fresh ∷ Link d.inode (last_name p) fresh ∷ []) (put t p (file [])) (ends ∙ rw is refl) (rw (d.there, room) refl)
-            (λ n. subst (λ q. Spells (after v (NewFile fresh ∷ Link d.inode (last_name p) fresh ∷ [])) (put t q (file []))) (sym (parent_and_last p long))
-              (created d (absent_from (last_name p) d.links is) (n (rw (eq-eqb fresh fresh refl) refl))))
+          (λ n. subst (λ q. Spells (after v (NewFile fresh ∷ Link d.inode (last_name p) fresh ∷ [])) (put t q (file []))) (sym (parent_and_last p long))
+          (created d (absent_from (last_name p) d.links is) (n (rw (eq-eqb fresh fresh refl) refl))))
 
   create_below : 0 < length p → Agrees v fresh (settled v walk_parent) answer_below
   unfolding walk_parent below_root answer_below

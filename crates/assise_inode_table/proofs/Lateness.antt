@@ -30,15 +30,15 @@ late early later i old [] h = refl
 late early later i old (x ∷ xs) h =
     let w : Option Content = value_after i old x.1.effects in
     elim (later x.0) as (λ b.
-      (b ≡ true → (early x.0 ≡ false) × (contains (touched x.1.effects) i ≡ true → Quiet early i xs)) →
-      value_of (λ c. early c || later c) i (if early x.0 || b then w else old) xs
-        ≡ value_of later i (if b then value_after i (value_of early i (if early x.0 then w else old) xs) x.1.effects else value_of early i (if early x.0 then w else old) xs) xs) [
+    (b ≡ true → (early x.0 ≡ false) × (contains (touched x.1.effects) i ≡ true → Quiet early i xs)) →
+    value_of (λ c. early c || later c) i (if early x.0 || b then w else old) xs
+    ≡ value_of later i (if b then value_after i (value_of early i (if early x.0 then w else old) xs) x.1.effects else value_of early i (if early x.0 then w else old) xs) xs) [
       | true ↦ λ p.
           subst (λ k. value_of (λ c. early c || later c) i (if k || true then w else old) xs ≡ value_of later i (value_after i (value_of early i (if k then w else old) xs) x.1.effects) xs) (sym (p refl).0)
-            (elim (contains (touched x.1.effects) i) as (λ b. contains (touched x.1.effects) i ≡ b → (b ≡ true → Quiet early i xs) → value_of (λ c. early c || later c) i w xs ≡ value_of later i (value_after i (value_of early i old xs) x.1.effects) xs) [
-              | true ↦ λ e q. rw (quiet_value early i old xs (q refl)) (late early later i w xs h.1 ∙ ap (λ u. value_of later i u xs) (quiet_value early i w xs (q refl)))
-              | false ↦ λ e q. rw (untouched i old x.1.effects e, untouched i (value_of early i old xs) x.1.effects e) (late early later i old xs h.1)
-            ] refl (p refl).1)
+          (elim (contains (touched x.1.effects) i) as (λ b. contains (touched x.1.effects) i ≡ b → (b ≡ true → Quiet early i xs) → value_of (λ c. early c || later c) i w xs ≡ value_of later i (value_after i (value_of early i old xs) x.1.effects) xs) [
+            | true ↦ λ e q. rw (quiet_value early i old xs (q refl)) (late early later i w xs h.1 ∙ ap (λ u. value_of later i u xs) (quiet_value early i w xs (q refl)))
+            | false ↦ λ e q. rw (untouched i old x.1.effects e, untouched i (value_of early i old xs) x.1.effects e) (late early later i old xs h.1)
+          ] refl (p refl).1)
       | false ↦ λ p.
           elim (early x.0) as (λ k. value_of (λ c. early c || later c) i (if k || false then w else old) xs ≡ value_of later i (value_of early i (if k then w else old) xs) xs) [
             | true ↦ late early later i w xs h.1
@@ -65,26 +65,29 @@ in_window c a b x e =
 -- no call below the thresholds comes after one of the window and touches the same inode
 none_between : (a b : ℕ → ℕ) (c k i : ℕ) (xs : List (NumberedCall × Step)) → Unseen a xs → RisesAlong xs → a c ≤ b c → NoneBetween (below b) (window c (b c) k) i xs
 none_between a b c k i [] u r le = tt
-none_between a b c k i (x ∷ xs) u r le =
-    ((λ e.
-       let p = in_window c (b c) k x.0 e in
-       let high : b x.0.client ≤ x.0.number = subst (λ d. b d ≤ x.0.number) (sym p.0) p.1 in
-       let unseen : a x.0.client ≤ x.0.number = subst (λ d. a d ≤ x.0.number) (sym p.0) (omega (arith, le, p.1)) in
-       (le-ltb x.0.number (b x.0.client) high, λ t.
-         quiet_from (below b) i xs
-           (each-both (λ y. a x.0.client ≤ x.0.number → (y.0.client ≡ x.0.client → ⊥) → Clear (touched x.1.effects) (y.1.visits ++ touched y.1.effects))
-             (λ y. y.0.client ≡ x.0.client → x.0.number < y.0.number)
-             (λ y. below b y.0 ≡ true → contains (touched y.1.effects) i ≡ false) xs
-             (λ y clear rise kept.
-               elim (cases_eq y.0.client x.0.client) [
-                 | inl same ↦
-                     let l : y.0.number < b y.0.client = ltb-true y.0.number (b y.0.client) kept in
-                     let m : y.0.number < b x.0.client = subst (λ d. y.0.number < b d) same l in
-                     absurd (omega (arith, rise same, m, high))
-                 | inr other ↦ clear_not (touched x.1.effects) (touched y.1.effects) i (clear-right (touched x.1.effects) y.1.visits (touched y.1.effects) (clear unseen other)) t
-               ])
-             u.0 r.0))),
-     none_between a b c k i xs u.1 r.1 le)
+none_between a b c k i (x ∷ xs) u r le = (
+  (λ e.
+      let p = in_window c (b c) k x.0 e in
+      let high : b x.0.client ≤ x.0.number = subst (λ d. b d ≤ x.0.number) (sym p.0) p.1 in
+      let unseen : a x.0.client ≤ x.0.number = subst (λ d. a d ≤ x.0.number) (sym p.0) (omega (arith, le, p.1)) in (
+        le-ltb x.0.number (b x.0.client) high,
+        λ t.
+            quiet_from (below b) i xs
+            (each-both (λ y. a x.0.client ≤ x.0.number → (y.0.client ≡ x.0.client → ⊥) → Clear (touched x.1.effects) (y.1.visits ++ touched y.1.effects))
+            (λ y. y.0.client ≡ x.0.client → x.0.number < y.0.number)
+            (λ y. below b y.0 ≡ true → contains (touched y.1.effects) i ≡ false) xs
+            (λ y clear rise kept.
+            elim (cases_eq y.0.client x.0.client) [
+              | inl same ↦
+                  let l : y.0.number < b y.0.client = ltb-true y.0.number (b y.0.client) kept in
+                  let m : y.0.number < b x.0.client = subst (λ d. y.0.number < b d) same l in
+                  absurd (omega (arith, rise same, m, high))
+              | inr other ↦ clear_not (touched x.1.effects) (touched y.1.effects) i (clear-right (touched x.1.effects) y.1.visits (touched y.1.effects) (clear unseen other)) t
+            ])
+            u.0 r.0),
+      )),
+  none_between a b c k i xs u.1 r.1 le,
+)
 
 raised_below : (b : ℕ → ℕ) (c k : ℕ) (x : NumberedCall) → b c ≤ k → below (raised b c k) x ≡ (below b x || window c (b c) k x)
 raised_below b c k x h = grind (arith, nat_tests)

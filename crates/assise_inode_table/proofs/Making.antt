@@ -66,7 +66,7 @@ get-applied m e i =
   where
     go : (if touched_by e == i then effect_on (fin.get m (touched_by e)) e else fin.get m i) ≡ (if touched_by e == i then effect_on (fin.get m i) e else fin.get m i)
     go =
-      elim (cases_eq (touched_by e) i) [
-        | inl same ↦ ap (λ j. if touched_by e == i then effect_on (fin.get m j) e else fin.get m i) same
-        | inr apart ↦ rw (ne_eqb (touched_by e) i apart) refl
-      ]
+        elim (cases_eq (touched_by e) i) [
+          | inl same ↦ ap (λ j. if touched_by e == i then effect_on (fin.get m j) e else fin.get m i) same
+          | inr apart ↦ rw (ne_eqb (touched_by e) i apart) refl
+        ]

@@ -58,11 +58,11 @@ same_trace stays (x ∷ xs) v w dirty a u =
     let s : Step = step_of v x in
     let rest : Traced = trace (after v s.effects) xs in
     elim (stays x) as (λ b.
-      MatchBool b (Clear dirty (s.visits ++ touched s.effects) × StaysClear stays dirty rest) (StaysClear stays (touched s.effects ++ dirty) rest) →
-      trace w (if b then x ∷ filter stays xs else filter stays xs) ≡ (if b then (x, s) ∷ filter (λ y. stays y.0) rest else filter (λ y. stays y.0) rest)) [
+    MatchBool b (Clear dirty (s.visits ++ touched s.effects) × StaysClear stays dirty rest) (StaysClear stays (touched s.effects ++ dirty) rest) →
+    trace w (if b then x ∷ filter stays xs else filter stays xs) ≡ (if b then (x, s) ∷ filter (λ y. stays y.0) rest else filter (λ y. stays y.0) rest)) [
       | true ↦ λ h.
           subst (λ k. (x, k) ∷ trace (after w k.effects) (filter stays xs) ≡ (x, s) ∷ filter (λ y. stays y.0) rest) (same_here dirty v w x a h.0)
-            (ap (λ ys. (x, s) ∷ ys) (same_trace stays xs (after v s.effects) (after w s.effects) dirty (agree_after dirty v w s.effects a) h.1))
+          (ap (λ ys. (x, s) ∷ ys) (same_trace stays xs (after v s.effects) (after w s.effects) dirty (agree_after dirty v w s.effects a) h.1))
       | false ↦ λ h. same_trace stays xs (after v s.effects) w (touched s.effects ++ dirty) (agree_dirty dirty v w s.effects a) h
     ] u
 
@@ -118,7 +118,7 @@ clear_there dirty (j ∷ js) i h t =
 makes_new : (dirty : List ℕ) (v w : Values) (x : NumberedCall) → AgreeOff dirty v w → Clear dirty ((step_of v x).visits ++ touched (step_of v x).effects) → MakesNew v x → MakesNew w x
 makes_new dirty v w x a h new =
     subst (λ s. list_any (makes x.fresh) s.effects ≡ true → w x.fresh ≡ None) (same_here dirty v w x a h)
-      (λ m. sym (a x.fresh (clear_there dirty (touched (step_of v x).effects) x.fresh (clear-right dirty (step_of v x).visits (touched (step_of v x).effects) h) (all_touched x.fresh (step_of v x).effects m))) ∙ new m)
+    (λ m. sym (a x.fresh (clear_there dirty (touched (step_of v x).effects) x.fresh (clear-right dirty (step_of v x).visits (touched (step_of v x).effects) h) (all_touched x.fresh (step_of v x).effects m))) ∙ new m)
 
 one_more : (w : Values) (u : Tree) (x : NumberedCall) (xs : List NumberedCall) → Spells w u → x.reply ≡ (step_of w x).reply → MakesNew w x →
     Goes (after w (step_of w x).effects) (answer u x.op).1 xs → Goes w u (x ∷ xs)
@@ -131,15 +131,15 @@ goes stays (x ∷ xs) v w u dirty a c r n s =
     let k : Step = step_of v x in
     let rest : Traced = trace (after v k.effects) xs in
     elim (stays x) as (λ b.
-      MatchBool b (Clear dirty (k.visits ++ touched k.effects) × StaysClear stays dirty rest) (StaysClear stays (touched k.effects ++ dirty) rest) →
-      Goes w u (if b then x ∷ filter stays xs else filter stays xs)) [
+    MatchBool b (Clear dirty (k.visits ++ touched k.effects) × StaysClear stays dirty rest) (StaysClear stays (touched k.effects ++ dirty) rest) →
+    Goes w u (if b then x ∷ filter stays xs else filter stays xs)) [
       | true ↦ λ h.
           let same : k ≡ step_of w x = same_here dirty v w x a h.0 in
           let new : MakesNew w x = makes_new dirty v w x a h.0 n.0 in
           one_more w u x (filter stays xs) s (r.0 ∙ ap (λ m. m.reply) same) new
-            (goes stays xs (after v k.effects) (after w (step_of w x).effects) (answer u x.op).1 dirty
-              (subst (λ m. AgreeOff dirty (after v k.effects) (after w m.effects)) same (agree_after dirty v w k.effects a)) h.1 r.1 n.1
-              (step_spells w u x.op x.fresh s new))
+          (goes stays xs (after v k.effects) (after w (step_of w x).effects) (answer u x.op).1 dirty
+          (subst (λ m. AgreeOff dirty (after v k.effects) (after w m.effects)) same (agree_after dirty v w k.effects a)) h.1 r.1 n.1
+          (step_spells w u x.op x.fresh s new))
       | false ↦ λ h. goes stays xs (after v k.effects) w u (touched k.effects ++ dirty) (agree_dirty dirty v w k.effects a) h r.1 n.1 s
     ] c
 
@@ -153,12 +153,12 @@ stays_clear a b dirty (x ∷ xs) le h u r =
       | inl e ↦ rw e (h.0 e, stays_clear a b dirty xs le h.1 u.1 r.1)
       | inr e ↦ rw e
           (stays_clear a b (touched x.1.effects ++ dirty) xs le
-            (each-both (λ y. below b y.0 ≡ true → Clear dirty (y.1.visits ++ touched y.1.effects))
-              (λ y. below b y.0 ≡ true → Clear (touched x.1.effects) (y.1.visits ++ touched y.1.effects))
-              (λ y. below b y.0 ≡ true → Clear (touched x.1.effects ++ dirty) (y.1.visits ++ touched y.1.effects)) xs
-              (λ y f g kept. clear-append (touched x.1.effects) dirty (y.1.visits ++ touched y.1.effects) (g kept) (f kept))
-              h.1 (unseen_after a b x xs le e u.0 r.0))
-            u.1 r.1)
+          (each-both (λ y. below b y.0 ≡ true → Clear dirty (y.1.visits ++ touched y.1.effects))
+          (λ y. below b y.0 ≡ true → Clear (touched x.1.effects) (y.1.visits ++ touched y.1.effects))
+          (λ y. below b y.0 ≡ true → Clear (touched x.1.effects ++ dirty) (y.1.visits ++ touched y.1.effects)) xs
+          (λ y f g kept. clear-append (touched x.1.effects) dirty (y.1.visits ++ touched y.1.effects) (g kept) (f kept))
+          h.1 (unseen_after a b x xs le e u.0 r.0))
+          u.1 r.1)
     ]
   where
     -- what a call past its threshold changed, no call that stays visits or changes
@@ -169,16 +169,16 @@ stays_clear a b dirty (x ∷ xs) le h u r =
     unseen_after a b x xs le e u r =
         let past : b x.0.client ≤ x.0.number = ltb-false x.0.number (b x.0.client) e in
         each-both (λ y. a x.0.client ≤ x.0.number → (y.0.client ≡ x.0.client → ⊥) → Clear (touched x.1.effects) (y.1.visits ++ touched y.1.effects))
-          (λ y. y.0.client ≡ x.0.client → x.0.number < y.0.number)
-          (λ y. below b y.0 ≡ true → Clear (touched x.1.effects) (y.1.visits ++ touched y.1.effects)) xs
-          (λ y clear rise kept.
-            elim (cases_eq y.0.client x.0.client) [
-              | inl same ↦
-                  let m : y.0.number < b x.0.client = subst (λ d. y.0.number < b d) same (ltb-true y.0.number (b y.0.client) kept) in
-                  absurd (omega (arith, rise same, m, past))
-              | inr other ↦ clear (omega (arith, le x.0.client, past)) other
-            ])
-          u r
+        (λ y. y.0.client ≡ x.0.client → x.0.number < y.0.number)
+        (λ y. below b y.0 ≡ true → Clear (touched x.1.effects) (y.1.visits ++ touched y.1.effects)) xs
+        (λ y clear rise kept.
+        elim (cases_eq y.0.client x.0.client) [
+          | inl same ↦
+              let m : y.0.number < b x.0.client = subst (λ d. y.0.number < b d) same (ltb-true y.0.number (b y.0.client) kept) in
+              absurd (omega (arith, rise same, m, past))
+          | inr other ↦ clear (omega (arith, le x.0.client, past)) other
+        ])
+        u r
 
 unseen_stays : (v : Values) (a b : ℕ → ℕ) (xs : List NumberedCall) → Rises xs → Unseen a (trace v xs) → ((c : ℕ) → a c ≤ b c) → StaysClear (below b) [] (trace v xs)
 unseen_stays v a b xs r u le =
