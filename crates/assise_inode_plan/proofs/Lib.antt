@@ -1,1 +1,3 @@
-
+pub mod Leaving
+pub mod Ending
+pub mod Exact

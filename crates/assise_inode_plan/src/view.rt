@@ -29,16 +29,8 @@ pub trait View {
 /// All inodes of a map, each of them leased for reading and for writing.
 #[derive(Drop)]
 pub struct AllLeased<'a, I> {
-    inodes: &'a I,
-}
-
-impl<'a, I: Inodes> AllLeased<'a, I> {
-    /// The inodes of a map.
-    pub fn new(inodes: &'a I) -> AllLeased<'a, I>
-        ensures { result.inodes.now ≡ inodes.now }
-    {
-        AllLeased { inodes }
-    }
+    /// The inodes.
+    pub inodes: &'a I,
 }
 
 impl<I: Inodes> View for AllLeased<'_, I> {

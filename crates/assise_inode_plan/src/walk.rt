@@ -1,6 +1,6 @@
 // Walks along paths over leased inodes.
-ghost use Rattle.std.specs.Prelude.{◌≡◌, IfOk, IsOkUnless, ℕ};
-ghost use Rattle.assise_inode_plan.specs.Walking.{plan_after, plan_from};
+ghost use Rattle.std.specs.Prelude.{◌≡◌, IfOk, IsOkUnless, MatchResult, true, ℕ};
+ghost use Rattle.assise_inode_plan.specs.Walking.{plan_from, plan_stopped};
 ghost use Rattle.assise_inode_table.specs.Calls.{walk};
 ghost use Rattle.assise_inode_table.specs.Contents.{Content, values};
 ghost use Rattle.assise_inode_table.specs.Interaction.{Interaction};
@@ -9,6 +9,7 @@ ghost use Rattle.assise_names.specs.declared.mode.Mode.TheVariants.{Read};
 ghost use Rattle.assise_names.specs.declared.refusal.Refusal.TheVariants.{OutOfMemory};
 
 use crate::view::View;
+use assise_inode_table::inode::Inode;
 use assise_names::mode::Mode;
 use assise_names::name::Name;
 use assise_names::refusal::Refusal;
@@ -26,15 +27,17 @@ pub(crate) enum Stop {
     Unleased(u64),
 }
 
-/// Walks from the root along a path, and notes each inode that it visits.
-pub(crate) fn walk<V: View>(
-    view: &V,
+/// Walks from the root along a path, and notes each inode that it visits. It ends at an inode, with what that holds.
+pub(crate) fn walk<'a, V: View>(
+    view: &'a V,
     names: &[Name],
     reads: &mut Vec<u64>,
-) -> Result<Result<u64, Stop>, Refusal>
-    ensures left { IfOk result (λ end. (next : ℕ → Content → Interaction) →
-        plan_from (V.leased view.now) (values (V.contents view.now)) reads.old.items (walk names.now next)
-          ≡ plan_after (V.leased view.now) (values (V.contents view.now)) next reads.new.items end) }
+) -> Result<Result<(u64, &'a Inode), Stop>, Refusal>
+    ensures left { IfOk result (λ end. (next : ℕ → Content → Interaction) → MatchResult end
+        (λ r. plan_from (V.leased view.now) (values (V.contents view.now)) reads.old.items (walk names.now next)
+        ≡ plan_from (V.leased view.now) (values (V.contents view.now)) reads.new.items (next r.0 r.1.now))
+        (λ stop. plan_from (V.leased view.now) (values (V.contents view.now)) reads.old.items (walk names.now next)
+        ≡ plan_stopped reads.new.items stop)) }
     ensures only_memory { IsOkUnless result OutOfMemory }
 {
     let mut at = ROOT;
@@ -52,7 +55,10 @@ pub(crate) fn walk<V: View>(
         return Ok(Err(Stop::Unleased(at)));
     }
     reads.push(at)?;
-    Ok(Ok(at))
+    match view.get(at) {
+        Some(inode) => Ok(Ok((at, inode))),
+        None => Ok(Err(Stop::Fault(TreeError::NoEnt))),
+    }
 }
 
 /// The inode that an entry of a directory links to.

@@ -1,0 +1,56 @@
+-- A plan made visit by visit is the plan of the whole step.
+use Rattle.std.proofs.Common.{◌≡◌, ℕ, List, [], ◌∷◌, ◌++◌, Option, Some, None, Result, Ok, Err, IfOk, refl, ap, sym, subst, ◌∙◌, inl, inr, append_assoc}
+use Rattle.std.proofs.lemmas.List.{append-nil}
+use Rattle.std.proofs.lemmas.Bool.{cases_Bool}
+use Rattle.assise_names.specs.declared.call.Op.{Op}
+use Rattle.assise_names.specs.declared.mode.Mode.{Mode}
+use Rattle.assise_names.specs.declared.mode.Mode.TheVariants.{Read}
+use Rattle.assise_seq_tree.specs.Answer.{answer}
+use Rattle.assise_seq_tree.specs.Tree.{Tree}
+use Rattle.assise_inode_table.specs.Calls.{interaction, step}
+use Rattle.assise_inode_table.specs.Contents.{Values}
+use Rattle.assise_inode_table.specs.Effects.{touched}
+use Rattle.assise_inode_table.specs.Interaction.{Interaction, visit, finish, visits_of, reply_of, effects_of, Step, step_by}
+use Rattle.assise_inode_table.specs.Spelled.{Spells}
+use Rattle.assise_inode_table.proofs.CallSteps.{step_replies, step_spells}
+use Rattle.assise_inode_plan.specs.Leased.{Leases, wants, for_writing, first_missing}
+use Rattle.assise_inode_plan.specs.Planning.{Answers, plan_lacking, plan_of, shown}
+use Rattle.assise_inode_plan.specs.Walking.{plan_from}
+use Rattle.assise_inode_plan.specs.declared.plan.Planned.{Planned}
+
+-- the step after some visits
+after_visits : List ℕ → Values → Interaction → Step
+after_visits before v x = record { visits = before ++ visits_of v x; reply = reply_of v x; effects = effects_of v x }
+
+one_more_visit : (before : List ℕ) (i : ℕ) (v : Values) (next : Interaction) → after_visits (before ++ i ∷ []) v next ≡ record { visits = before ++ i ∷ visits_of v next; reply = reply_of v next; effects = effects_of v next }
+unfolding after_visits
+one_more_visit before i v next = ap (λ is. record { visits = is; reply = reply_of v next; effects = effects_of v next }) (append_assoc before (i ∷ []) (visits_of v next))
+
+step_by_step : (leased : Leases) (v : Values) (before : List ℕ) (x : Interaction) → plan_from leased v before x ≡ plan_lacking (after_visits before v x) (first_missing leased (wants (step_by v x)))
+unfolding after_visits
+step_by_step leased v before (finish reply es) = ap (λ is. plan_lacking (record { visits = is; reply = reply; effects = es }) (first_missing leased (for_writing (touched es)))) (sym (append-nil before))
+step_by_step leased v before (visit i next) =
+    elim (cases_Bool (leased i Read)) [
+      | inl held ↦ rw held (step_by_step leased v (before ++ i ∷ []) (next (v i)) ∙ ap (λ s. plan_lacking s (first_missing leased (wants (step_by v (next (v i)))))) (one_more_visit before i v (next (v i))))
+      | inr bare ↦ rw bare refl
+    ]
+
+pub whole_plan : (leased : Leases) (v : Values) (x : Interaction) → plan_from leased v [] x ≡ plan_of leased (step_by v x)
+unfolding after_visits
+whole_plan leased v x = step_by_step leased v [] x
+
+pub exact_plan : {E : Type 0} (r : Result Planned E) (leased : Leases) (v : Values) (op : Op) (fresh : ℕ) → IfOk r (λ p. shown p ≡ plan_from leased v [] (interaction op fresh)) → IfOk r (λ p. shown p ≡ plan_of leased (step v op fresh))
+exact_plan (Ok p) leased v op fresh h = h ∙ whole_plan leased v (interaction op fresh)
+exact_plan (Err e) leased v op fresh h = tt
+
+-- ---- over inodes that spell a tree
+
+plan_answers : (v : Values) (t : Tree) (op : Op) (fresh : ℕ) (lack : Option (ℕ × Mode)) → Spells v t → v fresh ≡ None → Answers v (answer t op) (plan_lacking (step v op fresh) lack)
+plan_answers v t op fresh None s new = (step_replies v t op fresh s, step_spells v t op fresh s (λ _. new))
+plan_answers v t op fresh (Some w) s new = tt
+
+pub plan_answers_call : {E : Type 0} (r : Result Planned E) (leased : Leases) (v : Values) (op : Op) (fresh : ℕ) → IfOk r (λ p. shown p ≡ plan_from leased v [] (interaction op fresh)) → (t : Tree) → Spells v t → v fresh ≡ None →
+    IfOk r (λ p. Answers v (answer t op) (shown p))
+plan_answers_call (Ok p) leased v op fresh h t s new =
+    subst (Answers v (answer t op)) (sym (h ∙ whole_plan leased v (interaction op fresh))) (plan_answers v t op fresh (first_missing leased (wants (step v op fresh))) s new)
+plan_answers_call (Err e) leased v op fresh h t s new = tt

@@ -1,0 +1,12 @@
+use Rattle.std.proofs.Common.{ap, ◌∙◌}
+use Rattle.assise_inode_table.specs.Contents.{values}
+use Rattle.assise_inode_plan.proofs.Ending.{quiet, at_stop, stat_ends}
+use Rattle.assise_inode_plan.proofs.plan.plan_stat.Goals as goal
+
+pub returns-in-Ok-clause-exact : goal.returns-in-Ok-clause-exact
+returns-in-Ok-clause-exact g c =
+    c.answered.ensures ∙ ap (quiet c.walk.new.reads.items) c.describe.ensures
+    ∙ stat_ends (g.V.View.leased c.args.view.now) (values (g.V.View.contents c.args.view.now)) c.new-reads.result.items c.args.names.now c.walk.new.reads.items c.in_ok-inode.field-0 c.new-reads.ensures.items c.in_ok-inode.ensures.left _ c.in-Ok.is
+
+pub returns-in-Err-clause-exact : goal.returns-in-Err-clause-exact
+returns-in-Err-clause-exact g c = c.stopped.ensures ∙ at_stop (g.V.View.leased c.args.view.now) (values (g.V.View.contents c.args.view.now)) c.new-reads.result.items c.args.names.now c.walk.new.reads.items c.in_ok-inode.field-0 c.new-reads.ensures.items c.in_ok-inode.ensures.left c.in-Err.stop c.in-Err.is _
