@@ -1,3 +1,4 @@
 pub mod Leaving
 pub mod Ending
 pub mod Exact
+pub mod Wanting

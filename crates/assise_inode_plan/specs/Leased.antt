@@ -1,6 +1,6 @@
 -- What a call needs leased.
 -- Assise, OSDI 2020, section 3.3: leases on files and directories, for reading by several, for writing by one.
-use Rattle.std.specs.Prelude.{ℕ, Bool, if◌then◌else◌, List, [], ◌∷◌, ◌++◌, map, Option, Some, None}
+use Rattle.std.specs.Prelude.{◌≡◌, ℕ, Bool, true, if◌then◌else◌, List, [], ◌∷◌, ◌++◌, map, Option, Some, None}
 use Rattle.assise_names.specs.declared.mode.Mode.{Mode}
 use Rattle.assise_names.specs.declared.mode.Mode.TheVariants.{Read, Write}
 use Rattle.assise_inode_table.specs.Effects.{touched}
@@ -24,3 +24,8 @@ wants s = for_reading s.visits ++ for_writing (touched s.effects)
 abbrev pub first_missing : Leases → List (ℕ × Mode) → Option (ℕ × Mode)
 first_missing leased [] = None
 first_missing leased (w ∷ ws) = if leased w.0 w.1 then first_missing leased ws else Some w
+
+-- each of them is leased so
+abbrev pub AreLeased : Leases → List (ℕ × Mode) → Type 0
+AreLeased leased [] = Unit {0}
+AreLeased leased (w ∷ ws) = (leased w.0 w.1 ≡ true) × AreLeased leased ws
