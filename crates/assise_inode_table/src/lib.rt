@@ -7,3 +7,5 @@ pub mod inode;
 pub mod inodes;
 pub mod laws;
 pub mod table;
+#[cfg(test)]
+mod tests;

@@ -1,0 +1,396 @@
+// Effects case by case, copies, and walks beside the sequential tree.
+use crate::directory::Directory;
+use crate::inode::Inode;
+use crate::inodes::Inodes;
+use crate::table::{InodeTable, ROOT};
+use assise_names::byte_string::ByteString;
+use assise_names::call::Op;
+use assise_names::name::Name;
+use assise_names::path::Path;
+use assise_names::refusal::Refusal;
+use assise_names::reply::{Reply, TreeError};
+use assise_record::effect::{Effect, Extent, FileSize};
+use assise_seq_tree::answer::answer;
+use assise_seq_tree::tree::Tree;
+use bytes::Bytes;
+use std::alloc::Global;
+use std::process::Abort;
+use std::test::Fail;
+
+/// What an inode is, as a table has it.
+#[derive(Clone, Copy)]
+enum Held<'a> {
+    Absent,
+    File(&'a [u8]),
+    Directory(&'a [(&'a str, u64)]),
+}
+
+/// An effect, without the inode that it touches, as a table has it.
+#[derive(Clone, Copy)]
+enum Change<'a> {
+    NewFile,
+    NewDir,
+    Write(u32, &'a [u8]),
+    SetLen(u32),
+    Link(&'a str, u64),
+    Unlink(&'a str),
+    Free,
+}
+
+/// The effect on an inode.
+fn effect_of(
+    alloc: Global,
+    rt: &impl Abort,
+    inode: u64,
+    change: Change<'_>,
+) -> Result<Effect, Fail> {
+    match change {
+        Change::NewFile => Ok(Effect::NewFile { inode }),
+        Change::NewDir => Ok(Effect::NewDir { inode }),
+        Change::Write(offset, bytes) => {
+            assert!(rt; !bytes.is_empty() && bytes.len() <= 9 && offset <= 9);
+            let extent = Extent::new(offset, Bytes::copy_from_slice(alloc, bytes)?);
+            Ok(Effect::Write { inode, extent })
+        }
+        Change::SetLen(bytes) => {
+            assert!(rt; bytes <= 9);
+            Ok(Effect::SetLen {
+                inode,
+                size: FileSize::new(bytes),
+            })
+        }
+        Change::Link(name, target) => Ok(Effect::Link {
+            directory: inode,
+            name: Name::parse(alloc, name)?,
+            inode: target,
+        }),
+        Change::Unlink(name) => Ok(Effect::Unlink {
+            directory: inode,
+            name: Name::parse(alloc, name)?,
+        }),
+        Change::Free => Ok(Effect::Free { inode }),
+    }
+}
+
+/// Makes effects in their order.
+fn make(
+    alloc: Global,
+    rt: &impl Abort,
+    table: &mut InodeTable,
+    effects: &[(u64, Change<'_>)],
+) -> Result<(), Fail> {
+    for (inode, change) in effects {
+        table.apply(&effect_of(alloc, rt, *inode, *change)?)?;
+    }
+    Ok(())
+}
+
+/// Makes an inode that has no number yet what a table says.
+fn put(
+    alloc: Global,
+    rt: &impl Abort,
+    table: &mut InodeTable,
+    inode: u64,
+    held: Held<'_>,
+) -> Result<(), Fail> {
+    match held {
+        Held::Absent => Ok(()),
+        Held::File(bytes) => {
+            let effects = [(inode, Change::NewFile), (inode, Change::Write(0, bytes))];
+            make(alloc, rt, table, effects.as_slice())
+        }
+        Held::Directory(links) => {
+            let effects = [(inode, Change::NewDir)];
+            make(alloc, rt, table, effects.as_slice())?;
+            for (name, target) in links {
+                let effects = [(inode, Change::Link(name, *target))];
+                make(alloc, rt, table, effects.as_slice())?;
+            }
+            Ok(())
+        }
+    }
+}
+
+/// Whether an inode is what a table says.
+fn is_held(alloc: Global, inode: Option<&Inode>, held: Held<'_>) -> Result<bool, Fail> {
+    match (inode, held) {
+        (None, Held::Absent) => Ok(true),
+        (Some(inode), Held::File(bytes)) => has_bytes(alloc, inode, bytes),
+        (Some(inode), Held::Directory(links)) => has_links(alloc, inode, links),
+        _ => Ok(false),
+    }
+}
+
+fn has_bytes(alloc: Global, inode: &Inode, bytes: &[u8]) -> Result<bool, Fail> {
+    let Ok(file) = inode.file() else {
+        return Ok(false);
+    };
+    let read = file.read(alloc, 0, u64::MAX)?;
+    Ok(
+        read.as_slice() == bytes
+            && file.len() == bytes.len()
+            && file.is_empty() == bytes.is_empty()
+            && inode.directory().err() == Some(TreeError::NotDir)
+            && inode.describe() == Reply::File(bytes.len() as u64),
+    )
+}
+
+fn has_links(alloc: Global, inode: &Inode, links: &[(&str, u64)]) -> Result<bool, Fail> {
+    let Ok(directory) = inode.directory() else {
+        return Ok(false);
+    };
+    for (name, target) in links {
+        let name = Name::parse(alloc, name)?;
+        if directory.get(&name) != Some(*target) || inode.link(&name) != Ok(*target) {
+            return Ok(false);
+        }
+    }
+    Ok(
+        directory.len() == links.len()
+            && directory.is_empty() == links.is_empty()
+            && inode.file().err() == Some(TreeError::IsDir)
+            && inode.describe() == Reply::Dir(links.len() as u64),
+    )
+}
+
+/// Makes each change of an inode beside another one, and compares both. Where memory is refused both are as they
+/// were.
+fn run(
+    alloc: Global,
+    rt: &impl Abort,
+    old: Held<'_>,
+    rows: &[(Change<'_>, Held<'_>)],
+) -> Result<(), Fail> {
+    let beside = Held::File(b"beside");
+    for (row, (change, new)) in rows.iter().enumerate() {
+        let mut table = InodeTable::new(alloc);
+        put(alloc, rt, &mut table, 7, old)?;
+        put(alloc, rt, &mut table, 8, beside)?;
+        let effect = effect_of(alloc, rt, 7, *change)?;
+        let outcome = table.apply(&effect);
+        let expected = if outcome.is_ok() { *new } else { old };
+        assert!(rt; is_held(alloc, table.get(7), expected)?, "in row {row}");
+        assert!(rt; is_held(alloc, table.get(8), beside)?, "in row {row}");
+        outcome?;
+    }
+    Ok(())
+}
+
+#[test]
+fn effects_on_what_is_not_there(rt: HostRuntime) -> Result<(), Fail> {
+    let rows = [
+        (Change::NewFile, Held::File(b"")),
+        (Change::NewDir, Held::Directory(&[])),
+        (Change::Write(0, b"xy"), Held::Absent),
+        (Change::SetLen(3), Held::Absent),
+        (Change::Link("a", 9), Held::Absent),
+        (Change::Unlink("a"), Held::Absent),
+        (Change::Free, Held::Absent),
+    ];
+    run(rt.alloc(), &rt, Held::Absent, rows.as_slice())
+}
+
+#[test]
+fn effects_on_a_file(rt: HostRuntime) -> Result<(), Fail> {
+    let rows = [
+        (Change::NewFile, Held::File(b"")),
+        (Change::NewDir, Held::Directory(&[])),
+        (Change::Write(0, b"xy"), Held::File(b"xycd")),
+        (Change::Write(1, b"xy"), Held::File(b"axyd")),
+        (Change::Write(2, b"xy"), Held::File(b"abxy")),
+        (Change::Write(3, b"xy"), Held::File(b"abcxy")),
+        (Change::Write(4, b"xy"), Held::File(b"abcdxy")),
+        (Change::Write(6, b"xy"), Held::File(b"abcd\0\0xy")),
+        (Change::Write(0, b"vwxyz"), Held::File(b"vwxyz")),
+        (Change::SetLen(0), Held::File(b"")),
+        (Change::SetLen(2), Held::File(b"ab")),
+        (Change::SetLen(4), Held::File(b"abcd")),
+        (Change::SetLen(6), Held::File(b"abcd\0\0")),
+        (Change::Link("a", 9), Held::File(b"abcd")),
+        (Change::Unlink("a"), Held::File(b"abcd")),
+        (Change::Free, Held::Absent),
+    ];
+    run(rt.alloc(), &rt, Held::File(b"abcd"), rows.as_slice())
+}
+
+#[test]
+fn effects_on_a_directory(rt: HostRuntime) -> Result<(), Fail> {
+    let old = Held::Directory(&[("a", 1), ("b", 2)]);
+    let rows = [
+        (Change::NewFile, Held::File(b"")),
+        (Change::NewDir, Held::Directory(&[])),
+        (Change::Write(0, b"xy"), old),
+        (Change::SetLen(3), old),
+        (
+            Change::Link("c", 3),
+            Held::Directory(&[("a", 1), ("b", 2), ("c", 3)]),
+        ),
+        (
+            Change::Link("ab", 3),
+            Held::Directory(&[("a", 1), ("ab", 3), ("b", 2)]),
+        ),
+        (Change::Link("a", 3), Held::Directory(&[("a", 3), ("b", 2)])),
+        (Change::Unlink("a"), Held::Directory(&[("b", 2)])),
+        (Change::Unlink("c"), old),
+        (Change::Free, Held::Absent),
+    ];
+    run(rt.alloc(), &rt, old, rows.as_slice())
+}
+
+#[test]
+fn a_copy_is_equal(rt: HostRuntime) -> Result<(), Fail> {
+    for held in [
+        Held::File(b"abcd"),
+        Held::Directory(&[]),
+        Held::Directory(&[("b", 2), ("a", 1), ("ab", 3)]),
+    ] {
+        let mut table = InodeTable::new(rt.alloc());
+        put(rt.alloc(), &rt, &mut table, 7, held)?;
+        let copied = table.get(7).ok_or(Refusal::OutOfMemory)?.copy(rt.alloc())?;
+        assert!(rt; is_held(rt.alloc(), Some(&copied), held)?);
+        table.remove(7);
+        assert!(rt; table.get(7).is_none());
+        table.insert(9, copied)?;
+        assert!(rt; is_held(rt.alloc(), table.get(9), held)?);
+    }
+    Ok(())
+}
+
+#[test]
+fn a_file_is_read_from_an_offset(rt: HostRuntime) -> Result<(), Fail> {
+    let mut table = InodeTable::new(rt.alloc());
+    put(rt.alloc(), &rt, &mut table, 7, Held::File(b"abcd"))?;
+    let file = table.get(7).ok_or(TreeError::NoEnt)?.file()?;
+    for (offset, most, bytes) in [
+        (0, 0, b"".as_slice()),
+        (0, 2, b"ab"),
+        (1, 2, b"bc"),
+        (3, 2, b"d"),
+        (4, 2, b""),
+        (9, 2, b""),
+        (u64::MAX, u64::MAX, b""),
+        (0, u64::MAX, b"abcd"),
+    ] {
+        let read = file.read(rt.alloc(), offset, most)?;
+        assert_eq!(rt; read.as_slice(), bytes, "from {offset}, at most {most}");
+    }
+    Ok(())
+}
+
+#[test]
+fn a_directory_has_room_for_4096_entries(rt: HostRuntime) -> Result<(), Fail> {
+    let mut directory = Directory::new(rt.alloc());
+    for number in 0..4096u64 {
+        let text = format!(in rt.alloc(); "{number}")?;
+        let name = Name::parse(rt.alloc(), text.as_str())?;
+        assert_eq!(rt; directory.room_for(&name), Ok(()), "at {number}");
+        directory.insert(name, number)?;
+    }
+    for (text, room) in [
+        ("0", Err(TreeError::Exists)),
+        ("4095", Err(TreeError::Exists)),
+        ("4096", Err(TreeError::DirFull)),
+    ] {
+        let name = Name::parse(rt.alloc(), text)?;
+        assert_eq!(rt; directory.room_for(&name), room, "at {text}");
+    }
+    directory.remove(&Name::parse(rt.alloc(), "7")?);
+    let name = Name::parse(rt.alloc(), "4096")?;
+    assert_eq!(rt; directory.room_for(&name), Ok(()));
+    assert_eq!(rt; directory.len(), 4095);
+    Ok(())
+}
+
+/// The inode that a path leads to from the root.
+fn walk<'a, I: Inodes>(inodes: &'a I, path: &Path) -> Result<&'a Inode, TreeError> {
+    let mut reached = ROOT;
+    for name in path.names() {
+        reached = inodes.get(reached).ok_or(TreeError::NoEnt)?.link(name)?;
+    }
+    inodes.get(reached).ok_or(TreeError::NoEnt)
+}
+
+fn stat<I: Inodes>(inodes: &I, path: &Path) -> Reply {
+    match walk(inodes, path) {
+        Ok(inode) => inode.describe(),
+        Err(error) => Reply::Error(error),
+    }
+}
+
+fn read<I: Inodes>(
+    alloc: Global,
+    inodes: &I,
+    path: &Path,
+    offset: u64,
+    most: u64,
+) -> Result<Reply, Refusal> {
+    match walk(inodes, path) {
+        Ok(inode) => match inode.file() {
+            Ok(file) => Ok(Reply::Bytes(file.read(alloc, offset, most)?)),
+            Err(error) => Ok(Reply::Error(error)),
+        },
+        Err(error) => Ok(Reply::Error(error)),
+    }
+}
+
+#[test]
+fn walks_agree_with_the_tree(rt: HostRuntime) -> Result<(), Fail> {
+    let mut tree = Tree::new(rt.alloc());
+    let bytes = ByteString::from_vec(b"abc".to_vec(rt.alloc())?);
+    for call in [
+        Op::Create(Path::parse(rt.alloc(), "/f")?),
+        Op::Create(Path::parse(rt.alloc(), "/g")?),
+        Op::Write(Path::parse(rt.alloc(), "/f")?, 3, bytes),
+    ] {
+        assert_eq!(rt; answer(rt.alloc(), &mut tree, &call)?, Reply::Done);
+    }
+    let mut table = InodeTable::opening(rt.alloc())?;
+    let effects = [
+        (10, Change::NewFile),
+        (ROOT, Change::Link("f", 10)),
+        (11, Change::NewFile),
+        (ROOT, Change::Link("g", 11)),
+        (10, Change::Write(3, b"abc")),
+    ];
+    make(rt.alloc(), &rt, &mut table, effects.as_slice())?;
+    for text in ["/", "/f", "/g", "/h", "/f/x", "/h/x"] {
+        let path = Path::parse(rt.alloc(), text)?;
+        let call = Op::Stat(path.copy(rt.alloc())?);
+        let expected = answer(rt.alloc(), &mut tree, &call)?;
+        assert_eq!(rt; stat(&table, &path), expected, "at {text}");
+        for (offset, most) in [(0, 2), (2, 9), (99, 1)] {
+            let call = Op::Read(path.copy(rt.alloc())?, offset, most);
+            let expected = answer(rt.alloc(), &mut tree, &call)?;
+            let reply = read(rt.alloc(), &table, &path, offset, most)?;
+            assert_eq!(rt; reply, expected, "at {text} from {offset}");
+        }
+    }
+    Ok(())
+}
+
+#[test]
+fn a_file_in_a_directory_is_reached(rt: HostRuntime) -> Result<(), Fail> {
+    let mut table = InodeTable::opening(rt.alloc())?;
+    assert_eq!(rt; stat(&table, &Path::parse(rt.alloc(), "/")?), Reply::Dir(0));
+    assert!(rt; table.get(1).is_none());
+    let effects = [
+        (10, Change::NewDir),
+        (ROOT, Change::Link("d", 10)),
+        (11, Change::NewFile),
+        (10, Change::Link("k", 11)),
+        (11, Change::Write(0, b"hi")),
+    ];
+    make(rt.alloc(), &rt, &mut table, effects.as_slice())?;
+    for (text, reply) in [
+        ("/", Reply::Dir(1)),
+        ("/d", Reply::Dir(1)),
+        ("/d/k", Reply::File(2)),
+        ("/d/x", Reply::Error(TreeError::NoEnt)),
+        ("/k", Reply::Error(TreeError::NoEnt)),
+        ("/d/k/x", Reply::Error(TreeError::NotDir)),
+    ] {
+        let path = Path::parse(rt.alloc(), text)?;
+        assert_eq!(rt; stat(&table, &path), reply, "at {text}");
+    }
+    Ok(())
+}
