@@ -1,3 +1,3 @@
 pub mod MapView
 pub mod TableView
-pub mod Pouring
+pub mod Inserting
