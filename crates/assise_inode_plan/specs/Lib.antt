@@ -1,3 +1,4 @@
 pub mod Leased
 pub mod Planning
 pub mod Walking
+pub mod Views

@@ -12,7 +12,6 @@ pub mod Naming
 pub mod Spelling
 pub mod MapView
 pub mod TableView
-pub mod Pouring
 pub mod Descending
 pub mod Leaves
 pub mod Regrowing
@@ -22,3 +21,4 @@ pub mod Linking
 pub mod Creating
 pub mod Unlinking
 pub mod Freeing
+pub mod Inserting

@@ -14,10 +14,11 @@ returns-in_default-clause-ok c =
 pub returns-in_err-change-clause-err : goal.returns-in_err-change-clause-err
 returns-in_err-change-clause-err c =
     let kept = sym c.in-Some.ensures.value ∙ ap Some (sym c.in_err-change.ensures.err) in
-    on_err c.from_residual.result _ (ap map.from_entries ((c.get_mut.follows.holds c.change.new.self).0 ∙ set_value_same (is_at (nat_cmp c.touches.result)) c.self.inside.inodes.entries c.change.new.self kept) ∙ c.self.view_is)
+    let same = set_value_same (is_at (nat_cmp c.touches.result)) c.self.inside.inodes.entries c.change.new.self kept in
+    on_err c.from_residual.result _ (ap map.from_entries ((c.get_mut.follows.holds c.change.new.self).0 ∙ same) ∙ c.self.view_is)
 
 pub returns-clause-ok : goal.returns-clause-ok
 returns-clause-ok c =
-    let held = c.get_mut.follows.holds c.change.new.self in
-    change_some c.args.self.now c.self.inside.inodes.entries (c.get_mut.follows.lender c.change.new.self).entries c.args.effect.now c.touches.result c.in-Some.inode.now c.change.new.self
-    c.self.view_is c.touches.ensures c.in-Some.ensures.value c.in_ok-change.ensures.ok (held.3 (is_there c.in-Some.inode.now _ c.in-Some.ensures.value)).0
+    let held = (c.get_mut.follows.holds c.change.new.self).3 (is_there c.in-Some.inode.now _ c.in-Some.ensures.value) in
+    change_some c.args.self.now c.self.inside.inodes.entries (c.get_mut.follows.lender c.change.new.self).entries c.args.effect.now c.touches.result
+    c.in-Some.inode.now c.change.new.self c.self.view_is c.touches.ensures c.in-Some.ensures.value c.in_ok-change.ensures.ok held.0
