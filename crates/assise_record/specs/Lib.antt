@@ -1,3 +1,6 @@
-pub mod Patch
+pub mod FaultText
+pub mod LogFrame
 pub mod LogRecord
+pub mod Patch
+pub mod Reading
 pub mod Touched

@@ -1,5 +1,10 @@
 //! Records of what calls do to inodes, and frames of records as bytes.
 #![tactic(auto)]
 
+pub mod decode;
 pub mod effect;
+mod effects;
+pub mod fault;
+mod fields;
+pub mod frame;
 pub mod record;

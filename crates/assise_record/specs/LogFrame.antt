@@ -1,0 +1,16 @@
+-- A frame as clauses see it: the records of one client, numbered from `first` on.
+use Rattle.std.specs.Prelude.{ℕ, ◌+◌, ◌<◌, ◌≤◌, List, length}
+use Rattle.assise_record.specs.LogRecord.{LogRecord}
+
+pub record LogFrame : Type 0 where
+  pub epoch : ℕ
+  pub client : ℕ
+  pub first : ℕ
+  pub records : List LogRecord
+
+-- the client isn't 0, there are 1 to 64 records, and the number behind the last fits 64 bits
+pub record HasRanges (f : LogFrame) : Type 0 where
+  pub client : 0 < f.client
+  pub some : 0 < length f.records
+  pub few : length f.records ≤ 64
+  pub numbers : f.first + length f.records ≤ 18446744073709551615
