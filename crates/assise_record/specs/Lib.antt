@@ -3,4 +3,5 @@ pub mod LogFrame
 pub mod LogRecord
 pub mod Patch
 pub mod Reading
+pub mod Spelling
 pub mod Touched

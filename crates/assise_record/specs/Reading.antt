@@ -26,16 +26,16 @@ abbrev pub Read : Type 0 → Type 0
 Read A = Result (A × List ℕ) FrameFault
 
 abbrev pub byte_at : FrameFault → List ℕ → Read ℕ
-byte_at short [] = Err short
-byte_at short (b ∷ rest) = Ok (b, rest)
+byte_at fault [] = Err fault
+byte_at fault (b ∷ rest) = Ok (b, rest)
 
 -- so many bytes
 abbrev pub bytes_at : ℕ → FrameFault → List ℕ → Read (List ℕ)
-bytes_at n short bytes = if nat_lt (length bytes) n then Err short else Ok (take n bytes, drop n bytes)
+bytes_at n fault bytes = if nat_lt (length bytes) n then Err fault else Ok (take n bytes, drop n bytes)
 
 -- a number of so many bytes, the highest first
 abbrev pub number_at : ℕ → FrameFault → List ℕ → Read ℕ
-number_at n short bytes = if nat_lt (length bytes) n then Err short else Ok (big_number n (take n bytes), drop n bytes)
+number_at n fault bytes = if nat_lt (length bytes) n then Err fault else Ok (big_number n (take n bytes), drop n bytes)
 
 -- so many readings, one behind the other
 unfoldable pub many_at : {A : Type 0} → (List ℕ → Read A) → ℕ → List ℕ → Read (List A)

@@ -1,5 +1,8 @@
 // Frames of bytes.
-ghost use Rattle.std.specs.Prelude.{◌≡◌, ◌<◌, IfOk, length};
+ghost use Rattle.std.specs.Prelude.{◌≡◌, ◌<◌, ◌⊎◌, ℕ, IfOk, IfErr, Ok, Err, length};
+ghost use Rattle.assise_record.specs.LogFrame.{LogFrame};
+ghost use Rattle.assise_record.specs.Spelling.{BeginsWith};
+ghost use Rattle.assise_record.specs.declared.fault.FrameFault.TheVariants.{Memory};
 ghost use Rattle.assise_record.specs.Reading.{Gives, HasCount, many_at, record_at, body_at, magic_at, numbers_at, header_at, frame_at};
 
 use crate::effects::effects_at;
@@ -128,7 +131,22 @@ fn header_at(bytes: &[u8]) -> Result<(Header, &[u8]), FrameFault>
     Ok((header, rest))
 }
 
-/// The frame that bytes begin with, and of how many bytes it is.
+/// The frame that bytes begin with, and of how many bytes it is: of the bytes behind it none is looked at. Where they
+/// begin with no frame, the fault is the first from left to right; [`FrameFault::Memory`] may stand in place of any
+/// answer. The bytes of a write are copied once, and only once all of them are there.
+pub fn decode(alloc: Global, bytes: &[u8]) -> Result<(Frame, usize), FrameFault>
+    // What is read is spelled so.
+    ensures found { IfOk result (λ x. BeginsWith bytes.now x.0 x.1) }
+    // What is spelled so is read, unless memory runs out.
+    ensures only { (f : LogFrame) (n : ℕ) → BeginsWith bytes.now f n → (result ≡ Ok (f, n)) ⊎ (result ≡ Err Memory) }
+    // Which fault it is.
+    ensures first_fault { IfErr result (λ fault. (fault ≡ Memory) ⊎ (frame_at bytes.now ≡ Err fault)) }
+    // With a fault the bytes begin with no frame.
+    ensures no_frame { IfErr result (λ fault. (fault ≡ Memory) ⊎ ((f : LogFrame) (n : ℕ) → ¬ (BeginsWith bytes.now f n))) }
+{
+    frame_at(alloc, bytes)
+}
+
 #[tactic(auto, unfolding(crate::specs::Reading::frame_at))]
 fn frame_at(alloc: Global, bytes: &[u8]) -> Result<(Frame, usize), FrameFault>
     ensures { Gives (λ x. x) result (frame_at bytes.now) }
