@@ -1,17 +1,14 @@
 -- An effect that is read is the effect that was spelled, and what is spelled is read again.
-use Rattle.std.proofs.Common.{◌≡◌, ℕ, zero, suc, ◌+◌, ◌^◌, ◌<◌, ◌≤◌, Bool, true, false, ◌==◌, cond, List, [], ◌∷◌, ◌++◌, length, Result, Ok, Err, refl, sym, ap, subst, ◌∙◌, append_assoc, arith, inl, inr}
-use Rattle.std.specs.Prelude.{IsTrue}
+use Rattle.std.proofs.Common.{◌≡◌, ℕ, Bool, true, false, ◌==◌, cond, List, [], ◌∷◌, ◌++◌, Result, Ok, refl, sym, ap, subst, ◌∙◌, append_assoc}
 use Rattle.std.proofs.lemmas.Bool.{eqb-true}
 use Rattle.byteorder.specs.Endian.{big_bytes}
-use Rattle.assise_names.specs.Name.{is_name}
 use Rattle.assise_record.specs.declared.effect.Effect.{Effect}
 use Rattle.assise_record.specs.declared.effect.Effect.TheVariants.{NewFile, NewDir, Write, SetLen, Link, Unlink, Free}
 use Rattle.assise_record.specs.declared.fault.FrameFault.{FrameFault}
-use Rattle.assise_record.specs.declared.fault.FrameFault.TheVariants.{BadLength, BadTag}
-use Rattle.assise_record.specs.Patch.{Patch, IsPatch}
+use Rattle.assise_record.specs.declared.fault.FrameFault.TheVariants.{BadLength}
 use Rattle.assise_record.specs.Spelling.{IsEffect, tag_of, fields_of, effect_spelling, patch_spelling, name_spelling}
-use Rattle.assise_record.specs.Reading.{◌>>=◌, Read, byte_at, number_at, extent_at, size_at, name_at, new_file_at, new_dir_at, write_at, set_len_at, link_at, unlink_at, free_at, fields_at, effect_at}
-use Rattle.assise_record.proofs.Loop.{bind_ok, ok_is}
+use Rattle.assise_record.specs.Reading.{◌>>=◌, number_at, extent_at, size_at, name_at, new_file_at, new_dir_at, write_at, set_len_at, link_at, unlink_at, free_at, fields_at, effect_at}
+use Rattle.assise_record.proofs.Loop.{ok_is}
 use Rattle.assise_record.proofs.FieldLaws.{IsBytes, Takes, Takes-then, Reads, seq_takes, byte_reads, u64_reads, extent_reads, size_reads, name_reads}
 
 -- what stands behind the tag of an effect was taken

@@ -1,5 +1,5 @@
 -- A frame that is read is the frame that was spelled, and what is spelled is read again.
-use Rattle.std.proofs.Common.{◌≡◌, ℕ, zero, suc, ◌+◌, ◌^◌, ◌<◌, ◌≤◌, Bool, true, false, ◌&&◌, ◌==◌, nat_lt, nat_le, cond, List, [], ◌∷◌, ◌++◌, length, take, drop, Result, Ok, Err, refl, sym, ap, subst, ◌∙◌, append_assoc, arith, length-append}
+use Rattle.std.proofs.Common.{◌≡◌, ℕ, ◌+◌, ◌^◌, ◌<◌, ◌≤◌, true, ◌&&◌, ◌==◌, nat_lt, nat_le, List, [], ◌∷◌, ◌++◌, length, take, drop, Result, Ok, refl, sym, ap, subst, ◌∙◌, append_assoc, arith, length-append}
 use Rattle.std.specs.List.{flat_map, AllByRecursion}
 use Rattle.std.proofs.lemmas.Bool.{ltb-true, leb-true, lt-ltb, le-leb, eqb-true, and_parts, and_from}
 use Rattle.std.proofs.lemmas.List.{take-append-drop, take_at, length-take}
@@ -8,13 +8,13 @@ use Rattle.assise_record.specs.declared.decode.Header.{Header}
 use Rattle.assise_record.specs.declared.fault.FrameFault.{FrameFault}
 use Rattle.assise_record.specs.declared.fault.FrameFault.TheVariants.{Short, BadMagic, BadVersion, BadValue}
 use Rattle.assise_record.specs.LogRecord.{LogRecord}
-use Rattle.assise_record.specs.LogFrame.{LogFrame, HasRanges}
+use Rattle.assise_record.specs.LogFrame.{LogFrame}
 use Rattle.assise_record.specs.Spelling.{IsLogRecord, IsLogFrame, record_spelling, spelling, Spells, BeginsWith}
-use Rattle.assise_record.specs.Reading.{◌>>=◌, guard, Read, HasCount, has_count, byte_at, bytes_at, number_at, body_at, magic_at, numbers_at, header_at, frame_at}
+use Rattle.assise_record.specs.Reading.{◌>>=◌, guard, HasCount, has_count, byte_at, bytes_at, number_at, body_at, magic_at, numbers_at, header_at, frame_at}
 use Rattle.assise_record.proofs.Loop.{bind_ok, ok_is}
-use Rattle.assise_record.proofs.FieldLaws.{IsBytes, IsBytes-drop, Takes, Takes-then, Reads, seq_takes, guard_ok, bytes_take, bytes_again, byte_reads, u16_reads, u32_reads, u64_reads}
+use Rattle.assise_record.proofs.FieldLaws.{IsBytes, Takes, Takes-then, Reads, seq_takes, guard_ok, bytes_take, bytes_again, byte_reads, u16_reads, u32_reads, u64_reads}
 use Rattle.assise_record.proofs.RecordLaws.{body_takes, body_again}
-use Rattle.assise_record.proofs.Sizes.{body_bytes}
+use Rattle.assise_record.proofs.SizeBounds.{body_bytes}
 
 -- ---- the magic bytes and the version
 
@@ -139,9 +139,7 @@ is_spelled : (h : Header) (records : List LogRecord) → IsHeader h → length r
     → (Spells (header_spelling h ++ flat_map record_spelling records) (record { epoch = h.epoch; client = h.client; first = h.first; records = records }))
 is_spelled h records is count lawful len = record {
   lawful = record {
-    epoch = is.epoch;
-    client = is.client_fits;
-    ranges = record { client = is.client; some = omega (arith, count, is.count.some); few = omega (arith, count, is.count.few); numbers = omega (arith, count, is.count.numbers) };
+    ranges = record { epoch = is.epoch; client = is.client; client_fits = is.client_fits; some = omega (arith, count, is.count.some); few = omega (arith, count, is.count.few); numbers = omega (arith, count, is.count.numbers) };
     records = lawful;
   };
   spelled = rw (count, len) refl;
@@ -176,7 +174,7 @@ frame_again f rest is =
     let h : Header = record { epoch = f.epoch; client = f.client; first = f.first; count = length f.records; size = length body } in
     let few = body_bytes f.records is.ranges.few is.records in
     let count : HasCount f.first (length f.records) = record { some = is.ranges.some; few = is.ranges.few; numbers = is.ranges.numbers } in
-    let lawful : IsHeader h = record { epoch = is.epoch; client = is.ranges.client; client_fits = is.client; count = count; size = omega (arith, few) } in
+    let lawful : IsHeader h = record { epoch = is.ranges.epoch; client = is.ranges.client; client_fits = is.ranges.client_fits; count = count; size = omega (arith, few) } in
     let regrouped : spelling f ++ rest ≡ header_spelling h ++ (body ++ rest) = append_assoc (header_spelling h) body rest in
     let len : 29 + length body ≡ length (spelling f) = omega (arith, length-append (header_spelling h) body) in
     ap frame_at regrouped ∙ rw (header_again h (body ++ rest) lawful, bytes_again Short body rest, body_again f.records is.records, len) refl

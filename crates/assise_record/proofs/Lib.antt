@@ -5,4 +5,5 @@ pub mod Loop
 pub mod Names
 pub mod Outcomes
 pub mod RecordLaws
-pub mod Sizes
+pub mod RoomLaws
+pub mod SizeBounds

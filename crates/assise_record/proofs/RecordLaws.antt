@@ -1,5 +1,5 @@
 -- Records that are read are the records that were spelled, and what is spelled is read again.
-use Rattle.std.proofs.Common.{◌≡◌, ℕ, zero, suc, ◌+◌, ◌^◌, ◌<◌, ◌≤◌, Bool, true, false, ◌&&◌, ◌==◌, nat_lt, nat_le, cond, List, [], ◌∷◌, ◌++◌, length, Result, Ok, Err, refl, sym, ap, subst, ◌∙◌, append_assoc, arith}
+use Rattle.std.proofs.Common.{◌≡◌, ℕ, zero, suc, ◌&&◌, ◌==◌, nat_lt, nat_le, List, [], ◌∷◌, ◌++◌, length, Result, Ok, refl, sym, ap, subst, ◌∙◌, append_assoc, arith}
 use Rattle.std.specs.List.{flat_map, AllByRecursion}
 use Rattle.std.proofs.lemmas.Bool.{ltb-true, leb-true, lt-ltb, le-leb, eqb-true, and_parts, and_from}
 use Rattle.std.proofs.lemmas.List.{append-nil, nil_from_length}
@@ -9,8 +9,8 @@ use Rattle.assise_record.specs.declared.effect.Effect.{Effect}
 use Rattle.assise_record.specs.declared.fault.FrameFault.{FrameFault}
 use Rattle.assise_record.specs.declared.fault.FrameFault.TheVariants.{BadLength, BadValue}
 use Rattle.assise_record.specs.LogRecord.{LogRecord}
-use Rattle.assise_record.specs.Spelling.{IsEffect, IsLogRecord, effect_spelling, record_spelling}
-use Rattle.assise_record.specs.Reading.{◌>>=◌, guard, Read, byte_at, number_at, many_at, effect_at, record_at, body_at}
+use Rattle.assise_record.specs.Spelling.{IsLogRecord, effect_spelling, record_spelling}
+use Rattle.assise_record.specs.Reading.{◌>>=◌, guard, Read, byte_at, many_at, effect_at, record_at, body_at}
 use Rattle.assise_record.proofs.Loop.{bind_ok, ok_is}
 use Rattle.assise_record.proofs.FieldLaws.{IsBytes, Takes, Takes-then, Reads, seq_takes, guard_ok, byte_reads, u64_reads}
 use Rattle.assise_record.proofs.EffectLaws.{effect_reads}

@@ -3,5 +3,6 @@ pub mod LogFrame
 pub mod LogRecord
 pub mod Patch
 pub mod Reading
+pub mod Room
 pub mod Spelling
 pub mod Touched

@@ -1,6 +1,6 @@
 -- Which bytes spell a frame. All numbers stand with their highest byte first; a list of bytes is a list of numbers
 -- below 256.
-use Rattle.std.specs.Prelude.{◌≡◌, ℕ, ◌+◌, ◌^◌, ◌<◌, ◌≤◌, IsTrue, List, [], ◌∷◌, ◌++◌, length, take}
+use Rattle.std.specs.Prelude.{◌≡◌, ℕ, ◌^◌, ◌<◌, ◌≤◌, IsTrue, List, ◌∷◌, ◌++◌, length, take}
 use Rattle.std.specs.List.{flat_map, AllByRecursion}
 use Rattle.byteorder.specs.Endian.{big_bytes}
 use Rattle.assise_names.specs.Name.{is_name}
@@ -28,10 +28,8 @@ pub record IsLogRecord (r : LogRecord) : Type 0 where
   pub few : length r.effects ≤ 4
   pub effects : AllByRecursion IsEffect r.effects
 
--- 1 to 64 records of a client that isn't 0, and the number behind the last fits 64 bits
+-- lawful numbers and records
 pub record IsLogFrame (f : LogFrame) : Type 0 where
-  pub epoch : f.epoch < 2 ^ 64
-  pub client : f.client < 2 ^ 32
   pub ranges : HasRanges f
   pub records : AllByRecursion IsLogRecord f.records
 

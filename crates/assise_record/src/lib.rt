@@ -4,7 +4,9 @@
 pub mod decode;
 pub mod effect;
 mod effects;
+pub mod encode;
 pub mod fault;
 mod fields;
 pub mod frame;
 pub mod record;
+mod sizes;

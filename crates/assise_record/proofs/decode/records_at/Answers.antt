@@ -1,4 +1,3 @@
-use Rattle.std.proofs.Common.{◌≡◌, ◌++◌, ◌∷◌, []}
 use Rattle.std.proofs.lemmas.Result.{err_from_is_err_and}
 use Rattle.assise_record.specs.Reading.{many_at, record_at}
 use Rattle.assise_record.proofs.Loop.{goes_on, ends, is_done, many_counted}

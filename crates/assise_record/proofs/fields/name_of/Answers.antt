@@ -1,4 +1,3 @@
-use Rattle.std.proofs.Common.{rules, ◌≡◌, IfOk, length, ℕ, ◌+◌, ◌-◌, ◌*◌, ◌<◌, ◌≤◌, Bool, true, false}
 use Rattle.assise_record.proofs.Names.{no_text}
 use Rattle.assise_record.proofs.fields.name_of.Goals as goal
 
