@@ -7,3 +7,5 @@ pub mod Outcomes
 pub mod RecordLaws
 pub mod RoomLaws
 pub mod SizeBounds
+pub mod Stays
+pub mod Unique

@@ -8,5 +8,6 @@ pub mod encode;
 pub mod fault;
 mod fields;
 pub mod frame;
+pub mod laws;
 pub mod record;
 mod sizes;
