@@ -11,3 +11,5 @@ pub mod frame;
 pub mod laws;
 pub mod record;
 mod sizes;
+#[cfg(test)]
+mod tests;
