@@ -1,13 +1,11 @@
 -- More bytes change nothing but what is Short.
-use Rattle.std.proofs.Common.{◌≡◌, ℕ, ◌+◌, ◌<◌, ◌≤◌, Bool, true, false, ◌==◌, nat_lt, cond, ltb, List, [], ◌∷◌, ◌++◌, length, take, drop, Result, Ok, Err, refl, sym, ap, subst, ◌∙◌, append_assoc, arith, inl, inr}
+use Rattle.std.proofs.Common.{◌≡◌, ℕ, ◌+◌, Bool, true, false, ◌==◌, nat_lt, List, [], ◌∷◌, ◌++◌, length, Result, Ok, Err, refl, sym, ap, ◌∙◌, arith, inl, inr}
 use Rattle.std.proofs.lemmas.Bool.{cases_lt, lt-ltb, le-ltb}
 use Rattle.std.proofs.lemmas.List.{length-append, take-append-le, drop-append-le}
-use Rattle.byteorder.specs.Endian.{big_number}
 use Rattle.assise_record.specs.declared.decode.Header.{Header}
 use Rattle.assise_record.specs.declared.fault.FrameFault.{FrameFault}
 use Rattle.assise_record.specs.declared.fault.FrameFault.TheVariants.{Short, BadMagic, BadVersion, BadValue}
 use Rattle.assise_record.specs.LogFrame.{LogFrame}
-use Rattle.assise_record.specs.LogRecord.{LogRecord}
 use Rattle.assise_record.specs.Reading.{◌>>=◌, guard, Read, has_count, byte_at, bytes_at, number_at, body_at, magic_at, numbers_at, header_at, frame_at}
 
 abbrev short : (A : Type 0) → Result A FrameFault

@@ -1,13 +1,16 @@
 // The bytes of frames.
-ghost use Rattle.std.specs.Prelude.{◌≡◌, ◌+◌, ◌≤◌, ◌++◌, ◌∷◌, [], IsOkUnless, OnErr, OnOk, flat_map};
+ghost use Rattle.std.specs.Prelude.{◌≡◌, ◌+◌, ◌≤◌, ◌++◌, ◌∷◌, [], IsOkUnless, IsTrue, OnErr, OnOk, flat_map};
+ghost use Rattle.std.specs.List.{AllByRecursion};
 ghost use Rattle.byteorder.specs.Endian.{big_bytes};
 ghost use Rattle.assise_names.specs.declared.refusal.Refusal.TheVariants.{OutOfMemory};
-ghost use Rattle.assise_record.specs.declared.effect.Effect.TheVariants.{Link};
+ghost use Rattle.assise_record.specs.declared.effect.Effect.TheVariants.{Link, SetLen, Unlink, Write};
 ghost use Rattle.assise_record.specs.Room.{HasRoom, Appends};
-ghost use Rattle.assise_record.specs.Spelling.{spelling, tag_of, name_spelling, patch_spelling, fields_of, effect_spelling, record_spelling, header_of, Spells};
+ghost use Rattle.assise_names.specs.Name.{is_name};
+ghost use Rattle.assise_record.specs.Patch.{IsPatch};
+ghost use Rattle.assise_record.specs.Spelling.{IsEffect, IsLogRecord, spelling, tag_of, name_spelling, patch_spelling, fields_of, effect_spelling, record_spelling, header_of, Spells};
 
 use crate::decode::{HEADER_BYTES, MAGIC, VERSION};
-use crate::effect::{Effect, Extent};
+use crate::effect::{Effect, Extent, FileSize};
 use crate::effects::{FREE, LINK, NEW_DIR, NEW_FILE, SET_LEN, UNLINK, WRITE};
 use crate::frame::Frame;
 use crate::record::Record;
@@ -20,7 +23,7 @@ use byteorder::{BigEndian, ByteOrder};
 /// growth, by as many bytes as the frame has.
 pub fn encode(frame: &Frame, out: &mut Vec<u8>) -> Result<(), Refusal>
     ensures ok { OnOk result (out.new.items ≡ out.old.items ++ spelling frame.now) }
-    ensures spelled { Spells (spelling frame.now) frame.now }
+    ensures spelled { OnOk result (Spells (spelling frame.now) frame.now) }
     ensures err { OnErr result (out.new.items ≡ out.old.items) }
     ensures only_memory { IsOkUnless result OutOfMemory }
 {
@@ -71,7 +74,8 @@ fn put_u64(out: &mut Vec<u8>, number: u64)
 
 fn put_extent(out: &mut Vec<u8>, extent: &Extent)
     requires { HasRoom out.old (patch_spelling extent.now) }
-    ensures { Appends out.old out.new (patch_spelling extent.now) }
+    ensures appended { Appends out.old out.new (patch_spelling extent.now) }
+    ensures lawful { IsPatch extent.now }
 {
     let bytes = extent.bytes();
     put_u32(out, extent.offset());
@@ -81,7 +85,8 @@ fn put_extent(out: &mut Vec<u8>, extent: &Extent)
 
 fn put_name(out: &mut Vec<u8>, name: &Name)
     requires { HasRoom out.old (name_spelling name.now) }
-    ensures { Appends out.old out.new (name_spelling name.now) }
+    ensures appended { Appends out.old out.new (name_spelling name.now) }
+    ensures lawful { IsTrue (is_name name.now) }
 {
     let bytes = name.as_str().as_bytes();
     put(out, &[bytes.len() as u8]);
@@ -102,9 +107,37 @@ fn tag_of(effect: &Effect) -> u8
     }
 }
 
+fn put_write(out: &mut Vec<u8>, inode: u64, extent: &Extent)
+    requires { HasRoom out.old (fields_of (Write inode extent.now)) }
+    ensures appended { Appends out.old out.new (fields_of (Write inode extent.now)) }
+    ensures lawful { IsEffect (Write inode extent.now) }
+{
+    put_u64(out, inode);
+    put_extent(out, extent);
+}
+
+fn put_set_len(out: &mut Vec<u8>, inode: u64, size: FileSize)
+    requires { HasRoom out.old (fields_of (SetLen inode size)) }
+    ensures appended { Appends out.old out.new (fields_of (SetLen inode size)) }
+    ensures lawful { IsEffect (SetLen inode size) }
+{
+    put_u64(out, inode);
+    put_u32(out, size.get());
+}
+
+fn put_unlink(out: &mut Vec<u8>, directory: u64, name: &Name)
+    requires { HasRoom out.old (fields_of (Unlink directory name.now)) }
+    ensures appended { Appends out.old out.new (fields_of (Unlink directory name.now)) }
+    ensures lawful { IsEffect (Unlink directory name.now) }
+{
+    put_u64(out, directory);
+    put_name(out, name);
+}
+
 fn put_link(out: &mut Vec<u8>, directory: u64, name: &Name, inode: u64)
     requires { HasRoom out.old (fields_of (Link directory name.now inode)) }
-    ensures { Appends out.old out.new (fields_of (Link directory name.now inode)) }
+    ensures appended { Appends out.old out.new (fields_of (Link directory name.now inode)) }
+    ensures lawful { IsEffect (Link directory name.now inode) }
 {
     put_u64(out, directory);
     put_name(out, name);
@@ -113,35 +146,28 @@ fn put_link(out: &mut Vec<u8>, directory: u64, name: &Name, inode: u64)
 
 fn put_fields(out: &mut Vec<u8>, effect: &Effect)
     requires { HasRoom out.old (fields_of effect.now) }
-    ensures { Appends out.old out.new (fields_of effect.now) }
+    ensures appended { Appends out.old out.new (fields_of effect.now) }
+    ensures lawful { IsEffect effect.now }
 {
     match effect {
         Effect::NewFile { inode } => put_u64(out, *inode),
         Effect::NewDir { inode } => put_u64(out, *inode),
-        Effect::Write { inode, extent } => {
-            put_u64(out, *inode);
-            put_extent(out, extent);
-        }
-        Effect::SetLen { inode, size } => {
-            put_u64(out, *inode);
-            put_u32(out, size.get());
-        }
+        Effect::Write { inode, extent } => put_write(out, *inode, extent),
+        Effect::SetLen { inode, size } => put_set_len(out, *inode, *size),
         Effect::Link {
             directory,
             name,
             inode,
         } => put_link(out, *directory, name, *inode),
-        Effect::Unlink { directory, name } => {
-            put_u64(out, *directory);
-            put_name(out, name);
-        }
+        Effect::Unlink { directory, name } => put_unlink(out, *directory, name),
         Effect::Free { inode } => put_u64(out, *inode),
     }
 }
 
 fn put_effect(out: &mut Vec<u8>, effect: &Effect)
     requires { HasRoom out.old (effect_spelling effect.now) }
-    ensures { Appends out.old out.new (effect_spelling effect.now) }
+    ensures appended { Appends out.old out.new (effect_spelling effect.now) }
+    ensures lawful { IsEffect effect.now }
 {
     put(out, &[tag_of(effect)]);
     put_fields(out, effect);
@@ -149,7 +175,8 @@ fn put_effect(out: &mut Vec<u8>, effect: &Effect)
 
 fn put_effects(out: &mut Vec<u8>, effects: &[Effect])
     requires { HasRoom out.old (flat_map effect_spelling effects.now) }
-    ensures { Appends out.old out.new (flat_map effect_spelling effects.now) }
+    ensures appended { Appends out.old out.new (flat_map effect_spelling effects.now) }
+    ensures lawful { AllByRecursion IsEffect effects.now }
 {
     for effect in effects {
         put_effect(out, effect);
@@ -158,7 +185,8 @@ fn put_effects(out: &mut Vec<u8>, effects: &[Effect])
 
 fn put_record(out: &mut Vec<u8>, record: &Record)
     requires { HasRoom out.old (record_spelling record.now) }
-    ensures { Appends out.old out.new (record_spelling record.now) }
+    ensures appended { Appends out.old out.new (record_spelling record.now) }
+    ensures lawful { IsLogRecord record.now }
 {
     let effects = record.effects();
     put_u64(out, record.call());
@@ -168,7 +196,8 @@ fn put_record(out: &mut Vec<u8>, record: &Record)
 
 fn put_records(out: &mut Vec<u8>, records: &[Record])
     requires { HasRoom out.old (flat_map record_spelling records.now) }
-    ensures { Appends out.old out.new (flat_map record_spelling records.now) }
+    ensures appended { Appends out.old out.new (flat_map record_spelling records.now) }
+    ensures lawful { AllByRecursion IsLogRecord records.now }
 {
     for record in records {
         put_record(out, record);

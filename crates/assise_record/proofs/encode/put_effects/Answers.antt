@@ -6,5 +6,5 @@ use Rattle.assise_record.proofs.encode.put_effects.Goals as goal
 pub put_effect-requires : goal.put_effect-requires
 put_effect-requires c =
     let left = item_fits effect_spelling c.args.effects.now c.loop-effect.effect-index c.effect-item.result c.loop-effect-test.true c.effect-item.is in
-    let written = c.loop-effect.invariant in
+    let written = c.loop-effect.invariant.appended in
     omega (arith, left, written.len, written.capacity, c.requires)
