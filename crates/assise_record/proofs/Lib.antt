@@ -1,0 +1,11 @@
+pub mod EffectLaws
+pub mod FieldLaws
+pub mod FrameLaws
+pub mod Loop
+pub mod Names
+pub mod Outcomes
+pub mod RecordLaws
+pub mod RoomLaws
+pub mod SizeBounds
+pub mod Stays
+pub mod Unique

@@ -78,7 +78,7 @@ pub const MOST_FILE_BYTES: u32 = 1_048_576;
 /// The length of a file in bytes, at most 1,048,576. A contract sees the number.
 #[derive(Clone, Copy, Debug)]
 pub struct FileSize {
-    bytes: u32,
+    length: u32,
 }
 
 impl Model for FileSize {
@@ -86,28 +86,28 @@ impl Model for FileSize {
 
     ghost Value = { ℕ };
 
-    ghost view = { λ s. s.bytes };
+    ghost view = { λ s. s.length };
 
-    ghost invariant = { λ s. s.bytes ≤ 1048576 };
+    ghost invariant = { λ s. s.length ≤ 1048576 };
 
-    ghost inverse = { λ bytes. record { bytes = bytes } };
+    ghost inverse = { λ length. record { length = length } };
 }
 
 impl FileSize {
     /// A length of so many bytes.
-    pub fn new(bytes: u32) -> FileSize
-        requires fits { bytes ≤ 1048576 }
-        ensures { result ≡ bytes }
+    pub fn new(length: u32) -> FileSize
+        requires fits { length ≤ 1048576 }
+        ensures { result ≡ length }
     {
-        FileSize { bytes }
+        FileSize { length }
     }
 
     /// How many bytes.
     pub fn get(&self) -> u32
-        ensures bytes { result ≡ self.now }
+        ensures length { result ≡ self.now }
         ensures fits { self.now ≤ 1048576 }
     {
-        self.bytes
+        self.length
     }
 }
 

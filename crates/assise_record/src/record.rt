@@ -61,7 +61,7 @@ impl Record {
         ensures equal { IfOk result (λ copied. copied ≡ self.now) }
         ensures only_memory { IsOkUnless result OutOfMemory }
     {
-        let effects = copies(alloc, self.effects.as_slice())?;
+        let effects = copies(alloc, &self.effects)?;
         Ok(Record {
             call: self.call,
             effects,

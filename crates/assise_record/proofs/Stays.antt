@@ -1,0 +1,130 @@
+-- More bytes change nothing but what is Short.
+use Rattle.std.proofs.Common.{◌≡◌, ℕ, ◌+◌, Bool, true, false, ◌==◌, nat_lt, List, [], ◌∷◌, ◌++◌, length, Result, Ok, Err, refl, sym, ap, ◌∙◌, arith, inl, inr}
+use Rattle.std.proofs.lemmas.Bool.{cases_lt, lt-ltb, le-ltb}
+use Rattle.std.proofs.lemmas.List.{length-append, take-append-le, drop-append-le}
+use Rattle.assise_record.specs.declared.decode.Header.{Header}
+use Rattle.assise_record.specs.declared.fault.FrameFault.{FrameFault}
+use Rattle.assise_record.specs.declared.fault.FrameFault.TheVariants.{Short, BadMagic, BadVersion, BadValue}
+use Rattle.assise_record.specs.LogFrame.{LogFrame}
+use Rattle.assise_record.specs.Reading.{◌>>=◌, guard, Read, has_count, byte_at, bytes_at, number_at, body_at, magic_at, numbers_at, header_at, frame_at}
+
+abbrev short : (A : Type 0) → Result A FrameFault
+short A = Err Short
+
+abbrev done : {A : Type 0} → A → Result A FrameFault
+done x = Ok x
+
+-- the same value, with more bytes behind it
+abbrev and_more : {A : Type 0} → Read A → List ℕ → Read A
+and_more read more = read >>= λ x. Ok (x.0, x.1 ++ more)
+
+-- what isn't Short is the same with more bytes
+abbrev Stays : {A : Type 0} → (List ℕ → Read A) → Type 0
+Stays {A} read = (bytes more : List ℕ) → ¬ (read bytes ≡ short (A × List ℕ)) → read (bytes ++ more) ≡ and_more (read bytes) more
+
+byte_stays : Stays (byte_at Short)
+byte_stays [] more h = absurd (h refl)
+byte_stays (b ∷ bytes) more h = refl
+
+bytes_stay : (n : ℕ) → Stays (bytes_at n Short)
+bytes_stay n bytes more h =
+    elim (cases_lt (length bytes) n) [
+      | inl lt ↦ let few = lt-ltb (length bytes) n lt in absurd (h (rw few refl))
+      | inr le ↦
+          let before = le-ltb (length bytes) n le in
+          let after = le-ltb (length (bytes ++ more)) n (omega (arith, le, length-append bytes more)) in
+          rw (before, after, take-append-le n bytes more le, drop-append-le n bytes more le) refl
+    ]
+
+number_stays : (n : ℕ) → Stays (number_at n Short)
+number_stays n bytes more h =
+    elim (cases_lt (length bytes) n) [
+      | inl lt ↦ let few = lt-ltb (length bytes) n lt in absurd (h (rw few refl))
+      | inr le ↦
+          let before = le-ltb (length bytes) n le in
+          let after = le-ltb (length (bytes ++ more)) n (omega (arith, le, length-append bytes more)) in
+          rw (before, after, take-append-le n bytes more le, drop-append-le n bytes more le) refl
+    ]
+
+-- one reading behind the other
+then_stays : {A B : Type 0} (read : List ℕ → Read A) (next : A → List ℕ → Read B) → Stays read → ((a : A) → Stays (next a)) → Stays (λ bytes. read bytes >>= λ x. next x.0 x.1)
+then_stays {A} {B} read next first second bytes more h = by_outcome (read bytes) refl where
+  by_outcome : (r : Read A) → read bytes ≡ r → (read (bytes ++ more) >>= λ x. next x.0 x.1) ≡ and_more (read bytes >>= λ x. next x.0 x.1) more
+  by_outcome (Ok x) e =
+      let shorter : ¬ (read bytes ≡ short (A × List ℕ)) = λ s. let bad : done x ≡ short (A × List ℕ) = sym e ∙ s in absurd cc in
+      let longer : read (bytes ++ more) ≡ Ok (x.0, x.1 ++ more) = first bytes more shorter ∙ ap (λ r. and_more r more) e in
+      let behind : ¬ (next x.0 x.1 ≡ short (B × List ℕ)) = λ s. h (ap (λ r. r >>= λ y. next y.0 y.1) e ∙ s) in
+      ap (λ r. r >>= λ y. next y.0 y.1) longer ∙ second x.0 x.1 more behind ∙ ap (λ r. and_more (r >>= λ y. next y.0 y.1) more) (sym e)
+  by_outcome (Err fault) e =
+      let shorter : ¬ (read bytes ≡ short (A × List ℕ)) = λ s. h (ap (λ r. r >>= λ y. next y.0 y.1) s) in
+      let longer : read (bytes ++ more) ≡ Err fault = first bytes more shorter ∙ ap (λ r. and_more r more) e in
+      ap (λ r. r >>= λ y. next y.0 y.1) longer ∙ ap (λ r. and_more (r >>= λ y. next y.0 y.1) more) (sym e)
+
+guard_stays : {A : Type 0} (b : Bool) (fault : FrameFault) (next : List ℕ → Read A) → Stays next → Stays (λ bytes. guard b fault >>= λ _. next bytes)
+guard_stays true fault next h = h
+guard_stays false fault next h = λ bytes more _. refl
+
+value_stays : {A : Type 0} (x : A) → Stays (λ bytes. done (x, bytes))
+value_stays x bytes more h = refl
+
+magic_stays : Stays magic_at
+unfolding magic_at
+magic_stays =
+    let version = λ (v : ℕ). guard_stays (v == 1) BadVersion (λ bytes. done (tt, bytes)) (value_stays tt) in
+    let second = λ (s : ℕ). guard_stays (s == 83) BadMagic _ (then_stays (byte_at Short) _ byte_stays version) in
+    let first = λ (a : ℕ). guard_stays (a == 65) BadMagic _ (then_stays (byte_at Short) _ byte_stays second) in
+    then_stays (byte_at Short) _ byte_stays first
+
+numbers_stay : Stays numbers_at
+unfolding numbers_at
+numbers_stay =
+    let count = λ (first n : ℕ). guard_stays (has_count first n) BadValue (λ bytes. done ((first, n), bytes)) (value_stays (first, n)) in
+    then_stays (number_at 8 Short) _ (number_stays 8) (λ first. then_stays (number_at 2 Short) _ (number_stays 2) (count first))
+
+header_stays : Stays header_at
+unfolding header_at
+header_stays =
+    let size = λ (epoch client : ℕ) (numbers : ℕ × ℕ) (n : ℕ). let made : Header = record { epoch = epoch; client = client; first = numbers.0; count = numbers.1; size = n } in value_stays made in
+    let numbers = λ (epoch client : ℕ). then_stays numbers_at _ numbers_stay (λ n. then_stays (number_at 4 Short) _ (number_stays 4) (size epoch client n)) in
+    let client = λ (epoch n : ℕ). guard_stays (nat_lt 0 n) BadValue _ (numbers epoch n) in
+    let epoch = λ (n : ℕ). then_stays (number_at 4 Short) _ (number_stays 4) (client n) in
+    then_stays magic_at _ magic_stays (λ _. then_stays (number_at 8 Short) _ (number_stays 8) epoch)
+
+-- a value in front of the one that is read
+abbrev both : {A B : Type 0} → A → Read B → Read (A × B)
+both x read = read >>= λ y. Ok ((x, y.0), y.1)
+
+-- the header and the body
+abbrev parts_at : List ℕ → Read (Header × List ℕ)
+parts_at bytes = header_at bytes >>= λ head. both head.0 (bytes_at head.0.size Short head.1)
+
+parts_stay : Stays parts_at
+parts_stay = then_stays header_at _ header_stays (λ h. then_stays (bytes_at h.size Short) _ (bytes_stay h.size) (λ body. value_stays (h, body)))
+
+abbrev finish : Header → List ℕ → Result (LogFrame × ℕ) FrameFault
+finish h body = body_at h.count body >>= λ records. Ok (record { epoch = h.epoch; client = h.client; first = h.first; records = records }, 29 + h.size)
+
+one_step : {A B C : Type 0} (x : A) (s : Read B) (f : A → B → Result C FrameFault) → (both x s >>= λ z. f z.0.0 z.0.1) ≡ (s >>= λ y. f x y.0)
+one_step x (Ok y) f = refl
+one_step x (Err fault) f = refl
+
+two_steps : {A B C : Type 0} (r : Read A) (s : A × List ℕ → Read B) (f : A → B → Result C FrameFault) → ((r >>= λ x. both x.0 (s x)) >>= λ z. f z.0.0 z.0.1) ≡ (r >>= λ x. s x >>= λ y. f x.0 y.0)
+two_steps (Ok x) s f = one_step x.0 (s x) f
+two_steps (Err fault) s f = refl
+
+frame_is : (bytes : List ℕ) → (parts_at bytes >>= λ z. finish z.0.0 z.0.1) ≡ frame_at bytes
+unfolding frame_at
+frame_is bytes = two_steps (header_at bytes) (λ head. bytes_at head.0.size Short head.1) finish
+
+-- more bytes behind a frame, or behind a fault other than Short, change nothing
+pub frame_stays : (bytes more : List ℕ) → ¬ (frame_at bytes ≡ short (LogFrame × ℕ)) → frame_at (bytes ++ more) ≡ frame_at bytes
+frame_stays bytes more h = sym (frame_is (bytes ++ more)) ∙ by_outcome (parts_at bytes) refl ∙ frame_is bytes where
+  by_outcome : (r : Read (Header × List ℕ)) → parts_at bytes ≡ r → (parts_at (bytes ++ more) >>= λ z. finish z.0.0 z.0.1) ≡ (parts_at bytes >>= λ z. finish z.0.0 z.0.1)
+  by_outcome (Ok x) e =
+      let shorter : ¬ (parts_at bytes ≡ short ((Header × List ℕ) × List ℕ)) = λ s. let bad : done x ≡ short ((Header × List ℕ) × List ℕ) = sym e ∙ s in absurd cc in
+      let longer : parts_at (bytes ++ more) ≡ Ok (x.0, x.1 ++ more) = parts_stay bytes more shorter ∙ ap (λ r. and_more r more) e in
+      ap (λ r. r >>= λ z. finish z.0.0 z.0.1) longer ∙ ap (λ r. r >>= λ z. finish z.0.0 z.0.1) (sym e)
+  by_outcome (Err fault) e =
+      let shorter : ¬ (parts_at bytes ≡ short ((Header × List ℕ) × List ℕ)) = λ s. h (sym (frame_is bytes) ∙ ap (λ r. r >>= λ z. finish z.0.0 z.0.1) s) in
+      let longer : parts_at (bytes ++ more) ≡ Err fault = parts_stay bytes more shorter ∙ ap (λ r. and_more r more) e in
+      ap (λ r. r >>= λ z. finish z.0.0 z.0.1) longer ∙ ap (λ r. r >>= λ z. finish z.0.0 z.0.1) (sym e)

@@ -1,0 +1,5 @@
+use Rattle.assise_record.proofs.Unique.{cut}
+use Rattle.assise_record.proofs.laws.a_cut_frame_is_short.Goals as goal
+
+pub returns : goal.returns
+returns c = cut

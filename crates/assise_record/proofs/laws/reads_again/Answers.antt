@@ -1,0 +1,5 @@
+use Rattle.assise_record.proofs.Unique.{again}
+use Rattle.assise_record.proofs.laws.reads_again.Goals as goal
+
+pub returns : goal.returns
+returns c = again

@@ -1,0 +1,10 @@
+use Rattle.std.proofs.Common.{◌≡◌, ◌*◌, ◌≤◌, length, take}
+use Rattle.std.specs.List.{flat_map}
+use Rattle.assise_record.specs.Spelling.{effect_spelling}
+use Rattle.assise_record.proofs.sizes.effects_size.Given as goal
+
+abbrev pub invariant-loop-effect : goal.invariant-loop-effect
+invariant-loop-effect l = record {
+  size : l.size ≡ length (flat_map effect_spelling (take l.effect-index l.effects));
+  few : l.size ≤ l.effect-index * 65553;
+}

@@ -1,0 +1,214 @@
+-- The first fault of bytes. Fields are read from left to right, each behind the one before it: a reading is a value
+-- and the bytes behind it, or the fault that was found first.
+use Rattle.std.specs.Prelude.{◌≡◌, ◌<◌, ◌≤◌, ℕ, ◌+◌, zero, suc, Bool, nat_lt, nat_le, ◌==◌, ◌&&◌, if◌then◌else◌, List, [], ◌∷◌, length, take, drop, Result, Ok, Err}
+use Rattle.byteorder.specs.Endian.{big_number}
+use Rattle.assise_names.specs.Name.{is_name}
+use Rattle.assise_record.specs.Patch.{Patch}
+use Rattle.assise_record.specs.LogRecord.{LogRecord}
+use Rattle.assise_record.specs.LogFrame.{LogFrame}
+use Rattle.assise_record.specs.declared.decode.Header.{Header}
+use Rattle.assise_record.specs.declared.effect.Effect.{Effect}
+use Rattle.assise_record.specs.declared.effect.Effect.TheVariants.{NewFile, NewDir, Write, SetLen, Link, Unlink, Free}
+use Rattle.assise_record.specs.declared.fault.FrameFault.{FrameFault}
+use Rattle.assise_record.specs.declared.fault.FrameFault.TheVariants.{Short, BadMagic, BadVersion, BadTag, BadLength, BadValue, Memory}
+
+infixl 10 ◌>>=◌
+abbrev pub ◌>>=◌ : {A B : Type 0} → Result A FrameFault → (A → Result B FrameFault) → Result B FrameFault
+(Ok x) >>= f = f x
+(Err fault) >>= f = Err fault
+
+abbrev pub guard : Bool → FrameFault → Result (Unit {0}) FrameFault
+guard holds fault = if holds then Ok tt else Err fault
+
+-- ---- fields: where the bytes end first, the fault is the one that is handed in
+
+abbrev pub Read : Type 0 → Type 0
+Read A = Result (A × List ℕ) FrameFault
+
+abbrev pub byte_at : FrameFault → List ℕ → Read ℕ
+byte_at fault [] = Err fault
+byte_at fault (b ∷ rest) = Ok (b, rest)
+
+-- so many bytes
+abbrev pub bytes_at : ℕ → FrameFault → List ℕ → Read (List ℕ)
+bytes_at n fault bytes = if nat_lt (length bytes) n then Err fault else Ok (take n bytes, drop n bytes)
+
+-- a number of so many bytes, the highest first
+abbrev pub number_at : ℕ → FrameFault → List ℕ → Read ℕ
+number_at n fault bytes = if nat_lt (length bytes) n then Err fault else Ok (big_number n (take n bytes), drop n bytes)
+
+-- so many readings, one behind the other
+unfoldable pub many_at : {A : Type 0} → (List ℕ → Read A) → ℕ → List ℕ → Read (List A)
+many_at read zero bytes = Ok ([], bytes)
+many_at read (suc n) bytes = do
+  first ← read bytes
+  others ← many_at read n first.1
+  Ok (first.0 ∷ others.0, others.1)
+
+-- ---- effects
+
+abbrev pub is_extent : ℕ → ℕ → Bool
+is_extent offset size = nat_lt 0 size && (nat_le size 65536 && nat_le (offset + size) 1048576)
+
+unfoldable pub extent_at : List ℕ → Read Patch
+extent_at bytes = do
+  offset ← number_at 4 BadLength bytes
+  size ← number_at 4 BadLength offset.1
+  _ ← guard (is_extent offset.0 size.0) BadValue
+  payload ← bytes_at size.0 BadLength size.1
+  Ok (record { offset = offset.0; bytes = payload.0 }, payload.1)
+
+unfoldable pub size_at : List ℕ → Read ℕ
+size_at bytes = do
+  size ← number_at 4 BadLength bytes
+  _ ← guard (nat_le size.0 1048576) BadValue
+  Ok size
+
+abbrev pub name_in : List ℕ → Result (List ℕ) FrameFault
+name_in bytes = if is_name bytes then Ok bytes else Err BadValue
+
+unfoldable pub name_at : List ℕ → Read (List ℕ)
+name_at bytes = do
+  size ← byte_at BadLength bytes
+  _ ← guard (nat_lt 0 size.0) BadValue
+  text ← bytes_at size.0 BadLength size.1
+  name ← name_in text.0
+  Ok (name, text.1)
+
+unfoldable pub new_file_at : List ℕ → Read Effect
+new_file_at bytes = do
+  inode ← number_at 8 BadLength bytes
+  Ok (NewFile inode.0, inode.1)
+
+unfoldable pub new_dir_at : List ℕ → Read Effect
+new_dir_at bytes = do
+  inode ← number_at 8 BadLength bytes
+  Ok (NewDir inode.0, inode.1)
+
+unfoldable pub write_at : List ℕ → Read Effect
+write_at bytes = do
+  inode ← number_at 8 BadLength bytes
+  extent ← extent_at inode.1
+  Ok (Write inode.0 extent.0, extent.1)
+
+unfoldable pub set_len_at : List ℕ → Read Effect
+set_len_at bytes = do
+  inode ← number_at 8 BadLength bytes
+  size ← size_at inode.1
+  Ok (SetLen inode.0 size.0, size.1)
+
+unfoldable pub link_at : List ℕ → Read Effect
+link_at bytes = do
+  directory ← number_at 8 BadLength bytes
+  name ← name_at directory.1
+  inode ← number_at 8 BadLength name.1
+  Ok (Link directory.0 name.0 inode.0, inode.1)
+
+unfoldable pub unlink_at : List ℕ → Read Effect
+unlink_at bytes = do
+  directory ← number_at 8 BadLength bytes
+  name ← name_at directory.1
+  Ok (Unlink directory.0 name.0, name.1)
+
+unfoldable pub free_at : List ℕ → Read Effect
+free_at bytes = do
+  inode ← number_at 8 BadLength bytes
+  Ok (Free inode.0, inode.1)
+
+-- what stands behind a tag
+unfoldable pub fields_at : ℕ → List ℕ → Read Effect
+fields_at tag bytes =
+    if tag == 1 then new_file_at bytes
+    else (if tag == 2 then new_dir_at bytes
+    else (if tag == 3 then write_at bytes
+    else (if tag == 4 then set_len_at bytes
+    else (if tag == 5 then link_at bytes
+    else (if tag == 6 then unlink_at bytes
+    else (if tag == 7 then free_at bytes
+    else Err BadTag))))))
+
+unfoldable pub effect_at : List ℕ → Read Effect
+effect_at bytes = do
+  tag ← byte_at BadLength bytes
+  fields_at tag.0 tag.1
+
+-- ---- records
+
+unfoldable pub record_at : List ℕ → Read LogRecord
+record_at bytes = do
+  call ← number_at 8 BadLength bytes
+  count ← byte_at BadLength call.1
+  _ ← guard (nat_lt 0 count.0 && nat_le count.0 4) BadValue
+  effects ← many_at effect_at count.0 count.1
+  Ok (record { call = call.0; effects = effects.0 }, effects.1)
+
+-- so many records, and nothing behind them
+unfoldable pub body_at : ℕ → List ℕ → Result (List LogRecord) FrameFault
+body_at count body = do
+  records ← many_at record_at count body
+  _ ← guard (length records.1 == 0) BadLength
+  Ok records.0
+
+-- ---- the header
+
+-- the bytes `AS`, and the version
+unfoldable pub magic_at : List ℕ → Read (Unit {0})
+magic_at bytes = do
+  a ← byte_at Short bytes
+  _ ← guard (a.0 == 65) BadMagic
+  s ← byte_at Short a.1
+  _ ← guard (s.0 == 83) BadMagic
+  version ← byte_at Short s.1
+  _ ← guard (version.0 == 1) BadVersion
+  Ok (tt, version.1)
+
+-- 1 to 64 records, and the number behind the last fits 64 bits
+abbrev pub has_count : ℕ → ℕ → Bool
+has_count first count = nat_lt 0 count && (nat_le count 64 && nat_le (first + count) 18446744073709551615)
+
+pub record HasCount (first count : ℕ) : Type 0 where
+  pub some : 0 < count
+  pub few : count ≤ 64
+  pub numbers : first + count ≤ 18446744073709551615
+
+-- the first number, and the count of records
+unfoldable pub numbers_at : List ℕ → Read (ℕ × ℕ)
+numbers_at bytes = do
+  first ← number_at 8 Short bytes
+  count ← number_at 2 Short first.1
+  _ ← guard (has_count first.0 count.0) BadValue
+  Ok ((first.0, count.0), count.1)
+
+unfoldable pub header_at : List ℕ → Read Header
+header_at bytes = do
+  magic ← magic_at bytes
+  epoch ← number_at 8 Short magic.1
+  client ← number_at 4 Short epoch.1
+  _ ← guard (nat_lt 0 client.0) BadValue
+  numbers ← numbers_at client.1
+  size ← number_at 4 Short numbers.1
+  Ok (record { epoch = epoch.0; client = client.0; first = numbers.0.0; count = numbers.0.1; size = size.0 }, size.1)
+
+-- ---- frames: the frame that the bytes begin with, and of how many bytes it is
+
+unfoldable pub frame_at : List ℕ → Result (LogFrame × ℕ) FrameFault
+frame_at bytes = do
+  head ← header_at bytes
+  body ← bytes_at head.0.size Short head.1
+  records ← body_at head.0.count body.0
+  Ok (record { epoch = head.0.epoch; client = head.0.client; first = head.0.first; records = records }, 29 + head.0.size)
+
+-- ---- what a function returned, seen by view, is what reading gives, unless memory ran out
+
+abbrev pub Fails : {Y : Type 0} → FrameFault → Result Y FrameFault → Type 0
+Fails Memory read = Unit {0}
+Fails Short read = read ≡ Err Short
+Fails BadMagic read = read ≡ Err BadMagic
+Fails BadVersion read = read ≡ Err BadVersion
+Fails BadTag read = read ≡ Err BadTag
+Fails BadLength read = read ≡ Err BadLength
+Fails BadValue read = read ≡ Err BadValue
+
+abbrev pub Gives : {X Y : Type 0} → (X → Y) → Result X FrameFault → Result Y FrameFault → Type 0
+Gives view (Ok x) read = read ≡ Ok (view x)
+Gives view (Err fault) read = Fails fault read

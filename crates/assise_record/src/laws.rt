@@ -1,0 +1,38 @@
+// Laws of frames. Each function does nothing: its contract is the law.
+ghost use Rattle.std.specs.Prelude.{◌≡◌, ◌<◌, ◌++◌, [], All, Err, List, Ok, length, ℕ};
+ghost use Rattle.assise_record.specs.LogFrame.{LogFrame};
+ghost use Rattle.assise_record.specs.Reading.{frame_at};
+ghost use Rattle.assise_record.specs.Spelling.{BeginsWith, Spells};
+ghost use Rattle.assise_record.specs.declared.fault.FrameFault.TheVariants.{Short};
+
+/// The spelling of a frame is read as this frame again, whatever follows it.
+pub fn reads_again()
+    ensures { (f : LogFrame) (text rest : List ℕ) → Spells text f → frame_at (text ++ rest) ≡ Ok (f, length text) }
+{}
+
+/// Where bytes are read as a frame, they begin with its spelling.
+pub fn what_is_read_is_spelled()
+    ensures { (bytes : List ℕ) (f : LogFrame) (n : ℕ) → All (λ b. b < 256) bytes → frame_at bytes ≡ Ok (f, n) → BeginsWith bytes f n }
+{}
+
+/// A frame has one spelling, and bytes spell one frame at most.
+pub fn one_spelling()
+    ensures spelling { (f : LogFrame) (s t : List ℕ) → Spells s f → Spells t f → s ≡ t }
+    ensures frame { (f g : LogFrame) (text : List ℕ) → Spells text f → Spells text g → f ≡ g }
+{}
+
+/// No spelling goes on from another.
+pub fn no_spelling_begins_another()
+    ensures { (f g : LogFrame) (text rest : List ℕ) → Spells text f → Spells (text ++ rest) g → rest ≡ [] }
+{}
+
+/// More bytes change nothing behind a frame or a fault, but what is Short: so a fault is found at the first byte
+/// with which the bytes are no front of a frame any more.
+pub fn only_what_is_short_changes()
+    ensures { (bytes more : List ℕ) → ¬ (frame_at bytes ≡ Err Short) → frame_at (bytes ++ more) ≡ frame_at bytes }
+{}
+
+/// A frame that is cut is Short, wherever it is cut.
+pub fn a_cut_frame_is_short()
+    ensures { (f : LogFrame) (front rest : List ℕ) → All (λ b. b < 256) front → 0 < length rest → Spells (front ++ rest) f → frame_at front ≡ Err Short }
+{}
