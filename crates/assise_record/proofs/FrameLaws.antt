@@ -4,7 +4,7 @@ use Rattle.std.specs.List.{flat_map, AllByRecursion}
 use Rattle.std.proofs.lemmas.Bool.{ltb-true, leb-true, lt-ltb, le-leb, eqb-true, and_parts, and_from}
 use Rattle.std.proofs.lemmas.List.{take-append-drop, take_at, length-take}
 use Rattle.byteorder.specs.Endian.{big_bytes}
-use Rattle.assise_record.specs.declared.decode.Header.{Header}
+use Rattle.assise_record.specs.Header.{Header}
 use Rattle.assise_record.specs.declared.fault.FrameFault.{FrameFault}
 use Rattle.assise_record.specs.declared.fault.FrameFault.TheVariants.{Short, BadMagic, BadVersion, BadValue}
 use Rattle.assise_record.specs.LogRecord.{LogRecord}

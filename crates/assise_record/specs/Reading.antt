@@ -6,7 +6,7 @@ use Rattle.assise_names.specs.Name.{is_name}
 use Rattle.assise_record.specs.Patch.{Patch}
 use Rattle.assise_record.specs.LogRecord.{LogRecord}
 use Rattle.assise_record.specs.LogFrame.{LogFrame}
-use Rattle.assise_record.specs.declared.decode.Header.{Header}
+use Rattle.assise_record.specs.Header.{Header}
 use Rattle.assise_record.specs.declared.effect.Effect.{Effect}
 use Rattle.assise_record.specs.declared.effect.Effect.TheVariants.{NewFile, NewDir, Write, SetLen, Link, Unlink, Free}
 use Rattle.assise_record.specs.declared.fault.FrameFault.{FrameFault}
