@@ -1,5 +1,6 @@
 -- The first fault of bytes. Fields are read from left to right, each behind the one before it: a reading is a value
--- and the bytes behind it, or the fault that was found first.
+-- and the bytes behind it, or the fault that was found first. Which bytes are frames is said apart from this, in
+-- `Spelling`; that both agree are laws of the crate.
 use Rattle.std.specs.Prelude.{◌≡◌, ◌<◌, ◌≤◌, ℕ, ◌+◌, zero, suc, Bool, nat_lt, nat_le, ◌==◌, ◌&&◌, if◌then◌else◌, List, [], ◌∷◌, length, take, drop, Result, Ok, Err}
 use Rattle.byteorder.specs.Endian.{big_number}
 use Rattle.assise_names.specs.Name.{is_name}
