@@ -113,7 +113,8 @@ fields_again (SetLen inode size) rest h =
     ap set_len_at regrouped ∙ rw ((u64_reads BadLength).again inode (big_bytes 4 size ++ rest) h.0, size_reads.again size rest h.1) refl
 fields_again (Link directory name inode) rest h =
     let regrouped : (big_bytes 8 directory ++ (name_spelling name ++ big_bytes 8 inode)) ++ rest ≡ big_bytes 8 directory ++ (name_spelling name ++ (big_bytes 8 inode ++ rest)) =
-    append_assoc (big_bytes 8 directory) (name_spelling name ++ big_bytes 8 inode) rest ∙ ap (λ (t : List ℕ). big_bytes 8 directory ++ t) (append_assoc (name_spelling name) (big_bytes 8 inode) rest) in
+    append_assoc (big_bytes 8 directory) (name_spelling name ++ big_bytes 8 inode) rest
+    ∙ ap (λ (t : List ℕ). big_bytes 8 directory ++ t) (append_assoc (name_spelling name) (big_bytes 8 inode) rest) in
     let first = (u64_reads BadLength).again directory (name_spelling name ++ (big_bytes 8 inode ++ rest)) h.0 in
     let second = name_reads.again name (big_bytes 8 inode ++ rest) h.1 in
     ap link_at regrouped ∙ rw (first, second, (u64_reads BadLength).again inode rest h.2) refl

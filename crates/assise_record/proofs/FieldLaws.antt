@@ -1,5 +1,6 @@
 -- A field that is read is the field that was spelled, and what is spelled is read again.
-use Rattle.std.proofs.Common.{◌≡◌, ℕ, suc, ◌+◌, ◌^◌, ◌<◌, ◌≤◌, Bool, true, false, ◌&&◌, nat_lt, nat_le, cond, ltb, List, [], ◌∷◌, ◌++◌, length, get_or, take, drop, Result, Ok, Err, refl, sym, ap, subst, ◌∙◌, append_assoc, arith, inl, inr}
+use Rattle.std.proofs.Common.{◌≡◌, ℕ, suc, ◌+◌, ◌^◌, ◌<◌, ◌≤◌, Bool, true, false, ◌&&◌, nat_lt, nat_le, cond, ltb, List, []}
+use Rattle.std.proofs.Common.{◌∷◌, ◌++◌, length, get_or, take, drop, Result, Ok, Err, refl, sym, ap, subst, ◌∙◌, append_assoc, arith, inl, inr}
 use Rattle.std.specs.Prelude.{IsTrue}
 use Rattle.std.proofs.lemmas.Bool.{cases_lt, ltb-true, ltb-false, le-ltb, lt-ltb, leb-true, le-leb, and_parts, and_from}
 use Rattle.std.proofs.lemmas.List.{append-nil, take_at, drop_at, take-append-drop, length-append, length-take, get_or-drop, get_or-take, get_or_past}
@@ -54,7 +55,8 @@ cond_ok true fault x y e = absurd cc
 cond_ok false fault x y e = (refl, cc)
 
 -- the first of several readings
-pub seq_takes : {A B : Type 0} {read : List ℕ → Read A} {spell : A → List ℕ} {Fits : A → Type 0} (reads : Reads read spell Fits) (f : A × List ℕ → Result B FrameFault) (y : B) (bytes : List ℕ) → IsBytes bytes
+pub seq_takes : {A B : Type 0} {read : List ℕ → Read A} {spell : A → List ℕ} {Fits : A → Type 0} (reads : Reads read spell Fits) (f : A × List ℕ → Result B FrameFault) (y : B) (bytes : List ℕ)
+    → IsBytes bytes
     → (read bytes >>= f) ≡ Ok y → (x : A × List ℕ) × Takes bytes (spell x.0) x.1 × Fits x.0 × (f x ≡ Ok y)
 seq_takes {read = read} reads f y bytes fits e =
     let b = bind_ok (read bytes) f y e in
@@ -70,7 +72,9 @@ byte_reads fault = record {
 } where
   byte_takes : (fault : FrameFault) (bytes : List ℕ) (x : ℕ × List ℕ) → IsBytes bytes → byte_at fault bytes ≡ Ok x → Takes bytes (x.0 ∷ []) x.1 × (x.0 < 256)
   byte_takes fault [] x fits e = absurd cc
-  byte_takes fault (b ∷ bytes) x fits e = subst (λ (y : ℕ × List ℕ). Takes (b ∷ bytes) (y.0 ∷ []) y.1 × (y.0 < 256)) (ok_is (b, bytes) x e) (record { parts = refl; rest_fits = λ i. fits (suc i) }, fits 0)
+  byte_takes fault (b ∷ bytes) x fits e =
+      subst (λ (y : ℕ × List ℕ). Takes (b ∷ bytes) (y.0 ∷ []) y.1 × (y.0 < 256)) (ok_is (b, bytes) x e)
+      (record { parts = refl; rest_fits = λ i. fits (suc i) }, fits 0)
 
 -- so many bytes
 pub bytes_take : (n : ℕ) (fault : FrameFault) (bytes : List ℕ) (x : List ℕ × List ℕ) → IsBytes bytes → bytes_at n fault bytes ≡ Ok x → Takes bytes x.0 x.1 × (length x.0 ≡ n) × IsBytes x.0
@@ -78,7 +82,8 @@ bytes_take n fault bytes x fits e =
     let g = cond_ok (ltb (length bytes) n) fault (take n bytes, drop n bytes) x e in
     let long : n ≤ length bytes = ltb-false _ _ g.0 in
     let len : length (take n bytes) ≡ n = omega (arith, length-take n bytes) in
-    subst (λ (y : List ℕ × List ℕ). Takes bytes y.0 y.1 × (length y.0 ≡ n) × IsBytes y.0) g.1 (record { parts = sym (take-append-drop n bytes); rest_fits = IsBytes-drop n bytes fits }, len, IsBytes-take n bytes fits)
+    subst (λ (y : List ℕ × List ℕ). Takes bytes y.0 y.1 × (length y.0 ≡ n) × IsBytes y.0) g.1
+    (record { parts = sym (take-append-drop n bytes); rest_fits = IsBytes-drop n bytes fits }, len, IsBytes-take n bytes fits)
 
 pub bytes_again : (fault : FrameFault) (text rest : List ℕ) → bytes_at (length text) fault (text ++ rest) ≡ Ok (text, rest)
 bytes_again fault text rest =
@@ -106,7 +111,8 @@ number_takes n width fault bytes x fits e =
     let long : n ≤ length bytes = ltb-false _ _ g.0 in
     let front : big_bytes n (big_number n (take n bytes)) ≡ take n bytes = width (take n bytes) (omega (arith, length-take n bytes)) (IsBytes-take n bytes fits) in
     let parts : bytes ≡ big_bytes n (big_number n (take n bytes)) ++ drop n bytes = sym (take-append-drop n bytes) ∙ ap (λ (t : List ℕ). t ++ drop n bytes) (sym front) in
-    subst (λ (y : ℕ × List ℕ). Takes bytes (big_bytes n y.0) y.1 × (y.0 < 256 ^ n)) g.1 (record { parts = parts; rest_fits = IsBytes-drop n bytes fits }, big_from-lt 0 n (take n bytes) (IsBytes-take n bytes fits))
+    subst (λ (y : ℕ × List ℕ). Takes bytes (big_bytes n y.0) y.1 × (y.0 < 256 ^ n)) g.1
+    (record { parts = parts; rest_fits = IsBytes-drop n bytes fits }, big_from-lt 0 n (take n bytes) (IsBytes-take n bytes fits))
 
 number_again : (n : ℕ) (fault : FrameFault) (x : ℕ) (rest : List ℕ) → x < 256 ^ n → number_at n fault (big_bytes n x ++ rest) ≡ Ok (x, rest)
 number_again n fault x rest lt =
@@ -149,7 +155,8 @@ extent_takes : (bytes : List ℕ) (x : Patch × List ℕ) → IsBytes bytes → 
 unfolding extent_at
 extent_takes bytes x fits e =
     let last = λ (offset : ℕ) (p : List ℕ × List ℕ). let made : Result (Patch × List ℕ) FrameFault = Ok (record { offset = offset; bytes = p.0 }, p.1) in made in
-    let a = seq_takes (u32_reads BadLength) (λ offset. number_at 4 BadLength offset.1 >>= λ size. guard (is_extent offset.0 size.0) BadValue >>= λ _. bytes_at size.0 BadLength size.1 >>= last offset.0) x bytes fits e in
+    let a = seq_takes (u32_reads BadLength)
+    (λ offset. number_at 4 BadLength offset.1 >>= λ size. guard (is_extent offset.0 size.0) BadValue >>= λ _. bytes_at size.0 BadLength size.1 >>= last offset.0) x bytes fits e in
     let b = seq_takes (u32_reads BadLength) (λ size. guard (is_extent a.0.0 size.0) BadValue >>= λ _. bytes_at size.0 BadLength size.1 >>= last a.0.0) x a.0.1 a.1.rest_fits a.3 in
     let g = guard_ok (is_extent a.0.0 b.0.0) BadValue (λ _. bytes_at b.0.0 BadLength b.0.1 >>= last a.0.0) x b.3 in
     let d = bind_ok (bytes_at b.0.0 BadLength b.0.1) (last a.0.0) x g.1 in
@@ -162,7 +169,8 @@ extent_takes bytes x fits e =
 extent_again : (p : Patch) (rest : List ℕ) → IsPatch p → extent_at (patch_spelling p ++ rest) ≡ Ok (p, rest)
 unfolding extent_at
 extent_again p rest h =
-    let regrouped : patch_spelling p ++ rest ≡ big_bytes 4 p.offset ++ (big_bytes 4 (length p.bytes) ++ (p.bytes ++ rest)) = append_assoc (big_bytes 4 p.offset) (big_bytes 4 (length p.bytes) ++ p.bytes) rest ∙ ap (λ (t : List ℕ). big_bytes 4 p.offset ++ t) (append_assoc (big_bytes 4 (length p.bytes)) p.bytes rest) in
+    let regrouped : patch_spelling p ++ rest ≡ big_bytes 4 p.offset ++ (big_bytes 4 (length p.bytes) ++ (p.bytes ++ rest)) =
+    append_assoc (big_bytes 4 p.offset) (big_bytes 4 (length p.bytes) ++ p.bytes) rest ∙ ap (λ (t : List ℕ). big_bytes 4 p.offset ++ t) (append_assoc (big_bytes 4 (length p.bytes)) p.bytes rest) in
     let first = (u32_reads BadLength).again p.offset (big_bytes 4 (length p.bytes) ++ (p.bytes ++ rest)) (omega (arith, h.fits)) in
     let second = (u32_reads BadLength).again (length p.bytes) (p.bytes ++ rest) (omega (arith, h.few)) in
     ap extent_at regrouped ∙ rw (first, second, is_patch-again p h, bytes_again BadLength p.bytes rest) refl

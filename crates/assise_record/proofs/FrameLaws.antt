@@ -1,10 +1,11 @@
 -- A frame that is read is the frame that was spelled, and what is spelled is read again.
-use Rattle.std.proofs.Common.{◌≡◌, ℕ, ◌+◌, ◌^◌, ◌<◌, ◌≤◌, true, ◌&&◌, ◌==◌, nat_lt, nat_le, List, [], ◌∷◌, ◌++◌, length, take, drop, Result, Ok, refl, sym, ap, subst, ◌∙◌, append_assoc, arith, length-append}
+use Rattle.std.proofs.Common.{◌≡◌, ℕ, ◌+◌, ◌^◌, ◌<◌, ◌≤◌, true, ◌&&◌, ◌==◌, nat_lt, nat_le, List, [], ◌∷◌}
+use Rattle.std.proofs.Common.{◌++◌, length, take, drop, Result, Ok, refl, sym, ap, subst, ◌∙◌, append_assoc, arith, length-append}
 use Rattle.std.specs.List.{flat_map, AllByRecursion}
 use Rattle.std.proofs.lemmas.Bool.{ltb-true, leb-true, lt-ltb, le-leb, eqb-true, and_parts, and_from}
 use Rattle.std.proofs.lemmas.List.{take-append-drop, take_at, length-take}
 use Rattle.byteorder.specs.Endian.{big_bytes}
-use Rattle.assise_record.specs.declared.decode.Header.{Header}
+use Rattle.assise_record.specs.Header.{Header}
 use Rattle.assise_record.specs.declared.fault.FrameFault.{FrameFault}
 use Rattle.assise_record.specs.declared.fault.FrameFault.TheVariants.{Short, BadMagic, BadVersion, BadValue}
 use Rattle.assise_record.specs.LogRecord.{LogRecord}
@@ -94,7 +95,8 @@ record IsHeader (h : Header) : Type 0 where
 header_takes : (bytes : List ℕ) (x : Header × List ℕ) → IsBytes bytes → header_at bytes ≡ Ok x → Takes bytes (header_spelling x.0) x.1 × IsHeader x.0
 unfolding header_at
 header_takes bytes x fits e =
-    let last = λ (epoch client : ℕ) (numbers : (ℕ × ℕ) × List ℕ) (size : ℕ × List ℕ). let made : Result (Header × List ℕ) FrameFault = Ok (record { epoch = epoch; client = client; first = numbers.0.0; count = numbers.0.1; size = size.0 }, size.1) in made in
+    let last = λ (epoch client : ℕ) (numbers : (ℕ × ℕ) × List ℕ) (size : ℕ × List ℕ). let made : Result (Header × List ℕ) FrameFault =
+    Ok (record { epoch = epoch; client = client; first = numbers.0.0; count = numbers.0.1; size = size.0 }, size.1) in made in
     let ends = λ (epoch client : ℕ) (numbers : (ℕ × ℕ) × List ℕ). number_at 4 Short numbers.1 >>= last epoch client numbers in
     let behind = λ (epoch : ℕ) (client : ℕ × List ℕ). guard (nat_lt 0 client.0) BadValue >>= λ _. numbers_at client.1 >>= ends epoch client.0 in
     let m = seq_takes magic_reads (λ magic. number_at 8 Short magic.1 >>= λ epoch. number_at 4 Short epoch.1 >>= behind epoch.0) x bytes fits e in
@@ -104,7 +106,8 @@ header_takes bytes x fits e =
     let n = seq_takes numbers_read (ends a.0.0 b.0.0) x b.0.1 b.1.rest_fits g.1 in
     let z = seq_takes (u32_reads Short) (last a.0.0 b.0.0 n.0) x n.0.1 n.1.rest_fits n.3 in
     let nz = Takes-then b.0.1 (numbers_spelling n.0.0) n.0.1 (big_bytes 4 z.0.0) z.0.1 n.1 z.1 in
-    let nz2 : Takes b.0.1 (big_bytes 8 n.0.0.0 ++ (big_bytes 2 n.0.0.1 ++ big_bytes 4 z.0.0)) z.0.1 = subst (λ (t : List ℕ). Takes b.0.1 t z.0.1) (append_assoc (big_bytes 8 n.0.0.0) (big_bytes 2 n.0.0.1) (big_bytes 4 z.0.0)) nz in
+    let nz2 : Takes b.0.1 (big_bytes 8 n.0.0.0 ++ (big_bytes 2 n.0.0.1 ++ big_bytes 4 z.0.0)) z.0.1 =
+    subst (λ (t : List ℕ). Takes b.0.1 t z.0.1) (append_assoc (big_bytes 8 n.0.0.0) (big_bytes 2 n.0.0.1) (big_bytes 4 z.0.0)) nz in
     let bz = Takes-then a.0.1 (big_bytes 4 b.0.0) b.0.1 (big_bytes 8 n.0.0.0 ++ (big_bytes 2 n.0.0.1 ++ big_bytes 4 z.0.0)) z.0.1 b.1 nz2 in
     let az = Takes-then m.0.1 (big_bytes 8 a.0.0) a.0.1 (big_bytes 4 b.0.0 ++ (big_bytes 8 n.0.0.0 ++ (big_bytes 2 n.0.0.1 ++ big_bytes 4 z.0.0))) z.0.1 a.1 bz in
     let whole = Takes-then bytes (65 ∷ 83 ∷ 1 ∷ []) m.0.1 (big_bytes 8 a.0.0 ++ (big_bytes 4 b.0.0 ++ (big_bytes 8 n.0.0.0 ++ (big_bytes 2 n.0.0.1 ++ big_bytes 4 z.0.0)))) z.0.1 m.1 az in
@@ -119,11 +122,14 @@ header_again h rest is =
     let numbers : List ℕ = numbers_spelling (h.first, h.count) ++ last in
     let r1 : (big_bytes 2 h.count ++ big_bytes 4 h.size) ++ rest ≡ big_bytes 2 h.count ++ last = append_assoc (big_bytes 2 h.count) (big_bytes 4 h.size) rest in
     let r2 : (big_bytes 8 h.first ++ (big_bytes 2 h.count ++ big_bytes 4 h.size)) ++ rest ≡ numbers =
-    append_assoc (big_bytes 8 h.first) (big_bytes 2 h.count ++ big_bytes 4 h.size) rest ∙ ap (λ (t : List ℕ). big_bytes 8 h.first ++ t) r1 ∙ sym (append_assoc (big_bytes 8 h.first) (big_bytes 2 h.count) last) in
+    append_assoc (big_bytes 8 h.first) (big_bytes 2 h.count ++ big_bytes 4 h.size) rest ∙ ap (λ (t : List ℕ). big_bytes 8 h.first ++ t) r1
+    ∙ sym (append_assoc (big_bytes 8 h.first) (big_bytes 2 h.count) last) in
     let r3 : (big_bytes 4 h.client ++ (big_bytes 8 h.first ++ (big_bytes 2 h.count ++ big_bytes 4 h.size))) ++ rest ≡ big_bytes 4 h.client ++ numbers =
     append_assoc (big_bytes 4 h.client) (big_bytes 8 h.first ++ (big_bytes 2 h.count ++ big_bytes 4 h.size)) rest ∙ ap (λ (t : List ℕ). big_bytes 4 h.client ++ t) r2 in
-    let r4 : (big_bytes 8 h.epoch ++ (big_bytes 4 h.client ++ (big_bytes 8 h.first ++ (big_bytes 2 h.count ++ big_bytes 4 h.size)))) ++ rest ≡ big_bytes 8 h.epoch ++ (big_bytes 4 h.client ++ numbers) =
-    append_assoc (big_bytes 8 h.epoch) (big_bytes 4 h.client ++ (big_bytes 8 h.first ++ (big_bytes 2 h.count ++ big_bytes 4 h.size))) rest ∙ ap (λ (t : List ℕ). big_bytes 8 h.epoch ++ t) r3 in
+    let r4 : (big_bytes 8 h.epoch ++ (big_bytes 4 h.client ++ (big_bytes 8 h.first ++ (big_bytes 2 h.count ++ big_bytes 4 h.size)))) ++ rest
+    ≡ big_bytes 8 h.epoch ++ (big_bytes 4 h.client ++ numbers) =
+    append_assoc (big_bytes 8 h.epoch) (big_bytes 4 h.client ++ (big_bytes 8 h.first ++ (big_bytes 2 h.count ++ big_bytes 4 h.size))) rest
+    ∙ ap (λ (t : List ℕ). big_bytes 8 h.epoch ++ t) r3 in
     let regrouped : header_spelling h ++ rest ≡ (65 ∷ 83 ∷ 1 ∷ []) ++ (big_bytes 8 h.epoch ++ (big_bytes 4 h.client ++ numbers)) = ap (λ (t : List ℕ). 65 ∷ 83 ∷ 1 ∷ t) r4 in
     let e0 = magic_reads.again tt (big_bytes 8 h.epoch ++ (big_bytes 4 h.client ++ numbers)) tt in
     let e1 = (u64_reads Short).again h.epoch (big_bytes 4 h.client ++ numbers) is.epoch in
@@ -139,7 +145,14 @@ is_spelled : (h : Header) (records : List LogRecord) → IsHeader h → length r
     → (Spells (header_spelling h ++ flat_map record_spelling records) (record { epoch = h.epoch; client = h.client; first = h.first; records = records }))
 is_spelled h records is count lawful len = record {
   lawful = record {
-    ranges = record { epoch = is.epoch; client = is.client; client_fits = is.client_fits; some = omega (arith, count, is.count.some); few = omega (arith, count, is.count.few); numbers = omega (arith, count, is.count.numbers) };
+    ranges = record {
+      epoch = is.epoch;
+      client = is.client;
+      client_fits = is.client_fits;
+      some = omega (arith, count, is.count.some);
+      few = omega (arith, count, is.count.few);
+      numbers = omega (arith, count, is.count.numbers);
+    };
     records = lawful;
   };
   spelled = rw (count, len) refl;
@@ -148,7 +161,8 @@ is_spelled h records is count lawful len = record {
 pub frame_takes : (bytes : List ℕ) (x : LogFrame × ℕ) → IsBytes bytes → frame_at bytes ≡ Ok x → BeginsWith bytes x.0 x.1
 unfolding frame_at
 frame_takes bytes x fits e =
-    let last = λ (h : Header) (records : List LogRecord). let made : Result (LogFrame × ℕ) FrameFault = Ok (record { epoch = h.epoch; client = h.client; first = h.first; records = records }, 29 + h.size) in made in
+    let last = λ (h : Header) (records : List LogRecord). let made : Result (LogFrame × ℕ) FrameFault =
+    Ok (record { epoch = h.epoch; client = h.client; first = h.first; records = records }, 29 + h.size) in made in
     let a = bind_ok (header_at bytes) (λ head. bytes_at head.0.size Short head.1 >>= λ body. body_at head.0.count body.0 >>= last head.0) x e in
     let t = header_takes bytes a.0 fits a.1 in
     let b = bind_ok (bytes_at a.0.0.size Short a.0.1) (λ body. body_at a.0.0.count body.0 >>= last a.0.0) x a.2 in

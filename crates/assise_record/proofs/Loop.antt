@@ -18,7 +18,8 @@ pub goes_on : {A : Type 0} (read : List ℕ → Read A) (front : List A) (count 
 unfolding many_at
 goes_on read front count i bytes x after total lt h so_far =
     let k : count - i ≡ suc (count - (i + 1)) = omega arith in
-    let one : with_front front (many_at read (count - i) bytes) ≡ with_front (front ++ x ∷ []) (many_at read (count - (i + 1)) after) = rw (k, h) (regroup front x (many_at read (count - (i + 1)) after)) in
+    let one : with_front front (many_at read (count - i) bytes) ≡ with_front (front ++ x ∷ []) (many_at read (count - (i + 1)) after) =
+    rw (k, h) (regroup front x (many_at read (count - (i + 1)) after)) in
     sym one ∙ so_far
 
 -- a fault other than want of memory
@@ -43,7 +44,8 @@ pub ends : {A : Type 0} (read : List ℕ → Read A) (fault : FrameFault) (front
     → with_front front (many_at read (count - i) bytes) ≡ total → Fails fault total
 ends read fault front count i bytes total lt h so_far = fails_as fault (read bytes) total h (stops read fault front count i bytes total lt so_far)
 
-pub is_done : {A : Type 0} (read : List ℕ → Read A) (front : List A) (count i : ℕ) (bytes : List ℕ) (total : Read (List A)) → count ≤ i → with_front front (many_at read (count - i) bytes) ≡ total → total ≡ Ok (front, bytes)
+pub is_done : {A : Type 0} (read : List ℕ → Read A) (front : List A) (count i : ℕ) (bytes : List ℕ) (total : Read (List A))
+    → count ≤ i → with_front front (many_at read (count - i) bytes) ≡ total → total ≡ Ok (front, bytes)
 unfolding many_at
 is_done {A} read front count i bytes total le so_far =
     let k : count - i ≡ 0 = omega arith in

@@ -20,7 +20,8 @@ use Rattle.assise_record.proofs.EffectLaws.{effect_reads}
 abbrev pub TakesMany : {A : Type 0} → (A → List ℕ) → (A → Type 0) → ℕ → List ℕ → List A × List ℕ → Type 0
 TakesMany spell Fits n bytes x = Takes bytes (flat_map spell x.0) x.1 × (length x.0 ≡ n) × AllByRecursion Fits x.0
 
-pub many_take : {A : Type 0} {read : List ℕ → Read A} {spell : A → List ℕ} {Fits : A → Type 0} (reads : Reads read spell Fits) (n : ℕ) (bytes : List ℕ) (x : List A × List ℕ) → IsBytes bytes → many_at read n bytes ≡ Ok x → TakesMany spell Fits n bytes x
+pub many_take : {A : Type 0} {read : List ℕ → Read A} {spell : A → List ℕ} {Fits : A → Type 0} (reads : Reads read spell Fits) (n : ℕ) (bytes : List ℕ) (x : List A × List ℕ)
+    → IsBytes bytes → many_at read n bytes ≡ Ok x → TakesMany spell Fits n bytes x
 unfolding many_at
 many_take {A} {read} {spell} {Fits} reads zero bytes x fits e =
     subst (TakesMany spell Fits 0 bytes) (ok_is ([], bytes) x e) (record { parts = refl; rest_fits = fits }, refl, tt)
@@ -32,11 +33,13 @@ many_take {A} {read} {spell} {Fits} reads (suc n) bytes x fits e =
     let made : List A × List ℕ = (a.0.0 ∷ b.0.0, b.0.1) in
     subst (TakesMany spell Fits (suc n) bytes) (ok_is made x b.2) (rw flat_map-cons both, ap suc second.1, (a.2, second.2))
 
-pub many_again : {A : Type 0} {read : List ℕ → Read A} {spell : A → List ℕ} {Fits : A → Type 0} (reads : Reads read spell Fits) (xs : List A) (rest : List ℕ) → AllByRecursion Fits xs → many_at read (length xs) (flat_map spell xs ++ rest) ≡ Ok (xs, rest)
+pub many_again : {A : Type 0} {read : List ℕ → Read A} {spell : A → List ℕ} {Fits : A → Type 0} (reads : Reads read spell Fits) (xs : List A) (rest : List ℕ)
+    → AllByRecursion Fits xs → many_at read (length xs) (flat_map spell xs ++ rest) ≡ Ok (xs, rest)
 unfolding many_at
 many_again reads [] rest fits = refl
 many_again {A} {read} {spell} reads (x ∷ xs) rest fits =
-    let regrouped : flat_map spell (x ∷ xs) ++ rest ≡ spell x ++ (flat_map spell xs ++ rest) = ap (λ (t : List ℕ). t ++ rest) (flat_map-cons spell x xs) ∙ append_assoc (spell x) (flat_map spell xs) rest in
+    let regrouped : flat_map spell (x ∷ xs) ++ rest ≡ spell x ++ (flat_map spell xs ++ rest) =
+    ap (λ (t : List ℕ). t ++ rest) (flat_map-cons spell x xs) ∙ append_assoc (spell x) (flat_map spell xs) rest in
     ap (many_at read (suc (length xs))) regrouped ∙ rw (reads.again x (flat_map spell xs ++ rest) fits.0, many_again reads xs rest fits.1) refl
 
 -- ---- records
@@ -45,7 +48,8 @@ record_takes : (bytes : List ℕ) (x : LogRecord × List ℕ) → IsBytes bytes 
 unfolding record_at
 record_takes bytes x fits e =
     let last = λ (call : ℕ) (p : List Effect × List ℕ). let made : Result (LogRecord × List ℕ) FrameFault = Ok (record { call = call; effects = p.0 }, p.1) in made in
-    let a = seq_takes (u64_reads BadLength) (λ call. byte_at BadLength call.1 >>= λ count. guard (nat_lt 0 count.0 && nat_le count.0 4) BadValue >>= λ _. many_at effect_at count.0 count.1 >>= last call.0) x bytes fits e in
+    let a = seq_takes (u64_reads BadLength)
+    (λ call. byte_at BadLength call.1 >>= λ count. guard (nat_lt 0 count.0 && nat_le count.0 4) BadValue >>= λ _. many_at effect_at count.0 count.1 >>= last call.0) x bytes fits e in
     let b = seq_takes (byte_reads BadLength) (λ count. guard (nat_lt 0 count.0 && nat_le count.0 4) BadValue >>= λ _. many_at effect_at count.0 count.1 >>= last a.0.0) x a.0.1 a.1.rest_fits a.3 in
     let g = guard_ok (nat_lt 0 b.0.0 && nat_le b.0.0 4) BadValue (λ _. many_at effect_at b.0.0 b.0.1 >>= last a.0.0) x b.3 in
     let d = bind_ok (many_at effect_at b.0.0 b.0.1) (last a.0.0) x g.1 in
@@ -62,7 +66,8 @@ record_takes bytes x fits e =
 record_again : (r : LogRecord) (rest : List ℕ) → IsLogRecord r → record_at (record_spelling r ++ rest) ≡ Ok (r, rest)
 unfolding record_at
 record_again r rest h =
-    let regrouped : record_spelling r ++ rest ≡ big_bytes 8 r.call ++ (length r.effects ∷ (flat_map effect_spelling r.effects ++ rest)) = append_assoc (big_bytes 8 r.call) (length r.effects ∷ flat_map effect_spelling r.effects) rest in
+    let regrouped : record_spelling r ++ rest ≡ big_bytes 8 r.call ++ (length r.effects ∷ (flat_map effect_spelling r.effects ++ rest)) =
+    append_assoc (big_bytes 8 r.call) (length r.effects ∷ flat_map effect_spelling r.effects) rest in
     let first = (u64_reads BadLength).again r.call (length r.effects ∷ (flat_map effect_spelling r.effects ++ rest)) h.call in
     let count = and_from _ _ (lt-ltb 0 (length r.effects) h.some) (le-leb (length r.effects) 4 h.few) in
     ap record_at regrouped ∙ rw (first, count, many_again effect_reads r.effects rest h.effects) refl
@@ -72,7 +77,8 @@ record_reads = record { takes = record_takes; again = record_again }
 
 -- ---- bodies
 
-pub body_takes : (count : ℕ) (body : List ℕ) (records : List LogRecord) → IsBytes body → body_at count body ≡ Ok records → (body ≡ flat_map record_spelling records) × (length records ≡ count) × AllByRecursion IsLogRecord records
+pub body_takes : (count : ℕ) (body : List ℕ) (records : List LogRecord) → IsBytes body → body_at count body ≡ Ok records
+    → (body ≡ flat_map record_spelling records) × (length records ≡ count) × AllByRecursion IsLogRecord records
 unfolding body_at
 body_takes count body records fits e =
     let a = bind_ok (many_at record_at count body) (λ x. guard (length x.1 == 0) BadLength >>= λ _. Ok x.0) records e in
@@ -85,5 +91,6 @@ body_takes count body records fits e =
 pub body_again : (records : List LogRecord) → AllByRecursion IsLogRecord records → body_at (length records) (flat_map record_spelling records) ≡ Ok records
 unfolding body_at
 body_again records h =
-    let read : many_at record_at (length records) (flat_map record_spelling records) ≡ Ok (records, []) = ap (many_at record_at (length records)) (sym (append-nil (flat_map record_spelling records))) ∙ many_again record_reads records [] h in
+    let read : many_at record_at (length records) (flat_map record_spelling records) ≡ Ok (records, []) =
+    ap (many_at record_at (length records)) (sym (append-nil (flat_map record_spelling records))) ∙ many_again record_reads records [] h in
     rw read refl

@@ -16,7 +16,8 @@ Appends-then a b c x y p q = record {
 }
 
 -- an item has no more bytes than what is left
-pub item_fits : {A : Type 0} (spell : A → List ℕ) (xs : List A) (i : ℕ) (x : A) → i < length xs → x ≡ get_or xs i x → length (flat_map spell (take i xs)) + length (spell x) ≤ length (flat_map spell xs)
+pub item_fits : {A : Type 0} (spell : A → List ℕ) (xs : List A) (i : ℕ) (x : A) → i < length xs → x ≡ get_or xs i x
+    → length (flat_map spell (take i xs)) + length (spell x) ≤ length (flat_map spell xs)
 item_fits {A} spell xs i x lt is =
     subst (λ (y : A). length (flat_map spell (take i xs)) + length (spell y) ≤ length (flat_map spell xs)) (sym is) (length-flat_map-take spell xs i x lt)
 

@@ -25,7 +25,14 @@ effect_bytes (NewFile inode) h = omega arith
 effect_bytes (NewDir inode) h = omega arith
 effect_bytes (Write inode patch) h =
     let few = h.1.few in
-    omega (arith, few, length-append (big_bytes 8 inode) (patch_spelling patch), length-append (big_bytes 4 patch.offset) (big_bytes 4 (length patch.bytes) ++ patch.bytes), length-append (big_bytes 4 (length patch.bytes)) patch.bytes)
+    omega (
+      arith,
+      few,
+      length-append (big_bytes 8 inode) (patch_spelling patch),
+      length-append (big_bytes 4 patch.offset)
+          (big_bytes 4 (length patch.bytes) ++ patch.bytes),
+      length-append (big_bytes 4 (length patch.bytes)) patch.bytes,
+    )
 effect_bytes (SetLen inode size) h = omega arith
 effect_bytes (Link directory name inode) h =
     let few = few_bytes name h.1 in
@@ -35,7 +42,8 @@ effect_bytes (Unlink directory name) h =
     omega (arith, few, length-append (big_bytes 8 directory) (name_spelling name))
 effect_bytes (Free inode) h = omega arith
 
-all_bytes : {A : Type 0} (spell : A → List ℕ) (Fits : A → Type 0) (most : ℕ) → ((x : A) → Fits x → length (spell x) ≤ most) → (xs : List A) → AllByRecursion Fits xs → length (flat_map spell xs) ≤ length xs * most
+all_bytes : {A : Type 0} (spell : A → List ℕ) (Fits : A → Type 0) (most : ℕ) → ((x : A) → Fits x → length (spell x) ≤ most)
+    → (xs : List A) → AllByRecursion Fits xs → length (flat_map spell xs) ≤ length xs * most
 all_bytes spell Fits most each [] h = omega arith
 all_bytes spell Fits most each (x ∷ xs) h =
     let first = each x h.0 in

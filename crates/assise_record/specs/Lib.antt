@@ -1,4 +1,5 @@
 pub mod FaultText
+pub mod Header
 pub mod LogFrame
 pub mod LogRecord
 pub mod Patch

@@ -1,4 +1,5 @@
--- A frame as clauses see it: the records of one client, numbered from `first` on.
+-- A frame as clauses see it: the records of one client, numbered from `first` on, as a log of updates is replicated.
+-- Assise (OSDI 2020), section 3.
 use Rattle.std.specs.Prelude.{ℕ, ◌+◌, ◌^◌, ◌<◌, ◌≤◌, List, length}
 use Rattle.assise_record.specs.LogRecord.{LogRecord}
 

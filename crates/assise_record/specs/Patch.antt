@@ -1,4 +1,4 @@
--- Bytes to be written at an offset of a file.
+-- Bytes to be written at an offset of a file. POSIX.1-2017, write() and lseek(): File Offset.
 use Rattle.std.specs.Prelude.{ℕ, ◌+◌, ◌<◌, ◌≤◌, List, length}
 
 pub record Patch : Type 0 where

@@ -1,12 +1,13 @@
 -- The first fault of bytes. Fields are read from left to right, each behind the one before it: a reading is a value
--- and the bytes behind it, or the fault that was found first.
+-- and the bytes behind it, or the fault that was found first. Which bytes are frames is said apart from this, in
+-- `Spelling`; that both agree are laws of the crate.
 use Rattle.std.specs.Prelude.{◌≡◌, ◌<◌, ◌≤◌, ℕ, ◌+◌, zero, suc, Bool, nat_lt, nat_le, ◌==◌, ◌&&◌, if◌then◌else◌, List, [], ◌∷◌, length, take, drop, Result, Ok, Err}
 use Rattle.byteorder.specs.Endian.{big_number}
 use Rattle.assise_names.specs.Name.{is_name}
 use Rattle.assise_record.specs.Patch.{Patch}
 use Rattle.assise_record.specs.LogRecord.{LogRecord}
 use Rattle.assise_record.specs.LogFrame.{LogFrame}
-use Rattle.assise_record.specs.declared.decode.Header.{Header}
+use Rattle.assise_record.specs.Header.{Header}
 use Rattle.assise_record.specs.declared.effect.Effect.{Effect}
 use Rattle.assise_record.specs.declared.effect.Effect.TheVariants.{NewFile, NewDir, Write, SetLen, Link, Unlink, Free}
 use Rattle.assise_record.specs.declared.fault.FrameFault.{FrameFault}

@@ -1,5 +1,5 @@
--- Which bytes spell a frame. All numbers stand with their highest byte first; a list of bytes is a list of numbers
--- below 256.
+-- Which bytes spell a frame. All numbers stand with their highest byte first (RFC 791, appendix B: Data Transmission
+-- Order); a list of bytes is a list of numbers below 256. The layout is this crate's own.
 use Rattle.std.specs.Prelude.{◌≡◌, ℕ, ◌^◌, ◌<◌, ◌≤◌, IsTrue, List, ◌∷◌, ◌++◌, length, take}
 use Rattle.std.specs.List.{flat_map, AllByRecursion}
 use Rattle.byteorder.specs.Endian.{big_bytes}

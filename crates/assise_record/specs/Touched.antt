@@ -1,4 +1,5 @@
--- The inode that an effect changes.
+-- The inode that an effect changes. POSIX.1-2017, write(), ftruncate(), link(), unlink(): a link or an unlink of an
+-- entry changes its directory.
 use Rattle.std.specs.Prelude.{ℕ}
 use Rattle.assise_record.specs.declared.effect.Effect.{Effect}
 use Rattle.assise_record.specs.declared.effect.Effect.TheVariants.{NewFile, NewDir, Write, SetLen, Link, Unlink, Free}

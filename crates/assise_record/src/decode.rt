@@ -11,6 +11,7 @@ use crate::fields::{slice_at, u8_at, u16_at, u32_at, u64_at};
 use crate::frame::{Frame, MOST_RECORDS};
 use crate::record::{MOST_EFFECTS, Record};
 use std::alloc::Global;
+use std::marker::Model;
 
 /// The bytes of a header.
 pub(crate) const HEADER_BYTES: usize = 29;
@@ -22,13 +23,21 @@ pub(crate) const MAGIC: [u8; 2] = *b"AS";
 pub(crate) const VERSION: u8 = 1;
 
 /// What stands before the records: the count of them, and how many bytes they have.
-#[derive(Clone, Copy)]
+#[derive(Drop)]
 struct Header {
     epoch: u64,
     client: u32,
     first: u64,
     count: u16,
     size: u32,
+}
+
+impl Model for Header {
+    ghost use Rattle.assise_record.specs.Header.{Header};
+
+    ghost Value = { Header };
+
+    ghost view = { λ h. record { epoch = h.epoch; client = h.client; first = h.first; count = h.count; size = h.size } };
 }
 
 /// A record.

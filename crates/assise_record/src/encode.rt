@@ -1,5 +1,5 @@
 // The bytes of frames.
-ghost use Rattle.std.specs.Prelude.{◌≡◌, ◌+◌, ◌≤◌, ◌++◌, ◌∷◌, [], IsOkUnless, IsTrue, OnErr, OnOk, flat_map};
+ghost use Rattle.std.specs.Prelude.{◌≡◌, ◌+◌, ◌≤◌, ◌++◌, ◌∷◌, [], IsOk, IsOkUnless, IsTrue, OnErr, OnOk, flat_map};
 ghost use Rattle.std.specs.List.{AllByRecursion};
 ghost use Rattle.byteorder.specs.Endian.{big_bytes};
 ghost use Rattle.assise_names.specs.declared.refusal.Refusal.TheVariants.{OutOfMemory};
@@ -20,11 +20,12 @@ use assise_names::refusal::Refusal;
 use byteorder::{BigEndian, ByteOrder};
 
 /// Appends the bytes of a frame, or answers [`Refusal::OutOfMemory`] and leaves the vector as it was: there is one
-/// growth, by as many bytes as the frame has.
+/// growth, by as many bytes as the frame has, and none where they fit.
 pub fn encode(frame: &Frame, out: &mut Vec<u8>) -> Result<(), Refusal>
     ensures ok { OnOk result (out.new.items ≡ out.old.items ++ spelling frame.now) }
     ensures spelled { OnOk result (Spells (spelling frame.now) frame.now) }
     ensures err { OnErr result (out.new.items ≡ out.old.items) }
+    ensures fits { HasRoom out.old (spelling frame.now) → IsOk result }
     ensures only_memory { IsOkUnless result OutOfMemory }
 {
     let records = frame.records();

@@ -6,14 +6,26 @@ use Rattle.assise_record.proofs.decode.records_at.Goals as goal
 pub returns-in_err-record-clause-read : goal.returns-in_err-record-clause-read
 returns-in_err-record-clause-read c =
     let p = err_from_is_err_and c.from_residual.result c.from_residual.ensures.1 in
-    rw (p.1, p.2) (ends record_at c.in_err-record.field-0.0 c.loop.records.items c.args.count c.loop.counter c.loop.rest.now (many_at record_at c.args.count c.args.bytes.now) c.loop-test.true c.in_err-record.ensures c.loop.invariant)
+    let total = many_at record_at c.args.count c.args.bytes.now in
+    let failed = c.in_err-record.ensures in
+    rw (p.1, p.2) (ends record_at c.in_err-record.field-0.0 c.loop.records.items c.args.count c.loop.counter c.loop.rest.now total c.loop-test.true failed c.loop.invariant)
 
 pub loop-preserved : goal.loop-preserved
 loop-preserved c =
-    rw c.in_ok-push.ensures.items (goes_on record_at c.loop.records.items c.args.count c.loop.counter c.loop.rest.now c.in_ok-record.record c.in_ok-record.after.now (many_at record_at c.args.count c.args.bytes.now) c.loop-test.true c.in_ok-record.ensures c.loop.invariant)
+    let total = many_at record_at c.args.count c.args.bytes.now in
+    let item = c.in_ok-record.record in
+    let after = c.in_ok-record.after.now in
+    let read = c.in_ok-record.ensures in
+    let on = goes_on record_at c.loop.records.items c.args.count c.loop.counter c.loop.rest.now item after total c.loop-test.true read c.loop.invariant in
+    rw c.in_ok-push.ensures.items on
 
 pub returns-clause-read : goal.returns-clause-read
-returns-clause-read c = is_done record_at c.loop.records.items c.args.count c.loop.counter c.loop.rest.now (many_at record_at c.args.count c.args.bytes.now) c.loop-test.false c.loop.invariant
+returns-clause-read c =
+    let total = many_at record_at c.args.count c.args.bytes.now in
+    is_done record_at c.loop.records.items c.args.count c.loop.counter c.loop.rest.now total c.loop-test.false c.loop.invariant
 
 pub returns-clause-counted : goal.returns-clause-counted
-returns-clause-counted c = many_counted record_at c.args.count c.args.bytes.now c.loop.records.items c.loop.rest.now (is_done record_at c.loop.records.items c.args.count c.loop.counter c.loop.rest.now (many_at record_at c.args.count c.args.bytes.now) c.loop-test.false c.loop.invariant)
+returns-clause-counted c =
+    let total = many_at record_at c.args.count c.args.bytes.now in
+    let whole = is_done record_at c.loop.records.items c.args.count c.loop.counter c.loop.rest.now total c.loop-test.false c.loop.invariant in
+    many_counted record_at c.args.count c.args.bytes.now c.loop.records.items c.loop.rest.now whole
