@@ -1,11 +1,12 @@
 -- One line more of what is printed.
 use Rattle.std.proofs.Common.{◌≡◌, ℕ, List, [], ◌∷◌, ◌++◌, Option, Some, None, Result, Ok, Err, IfSome, OnOk, refl, ap, sym, ◌∙◌, append_assoc, append-nil}
 use Rattle.std.specs.Io.KnownBytes.{Appends, Keeps}
+use Rattle.assise_fault_script.specs.Script.{commands_of}
 use Rattle.assise_fault_script.specs.declared.parse.NumberedCommand.{NumberedCommand}
 use Rattle.assise_console.specs.declared.answer.Answer.{Answer}
 use Rattle.assise_console.specs.declared.fault.EngineFault.{EngineFault}
 use Rattle.assise_console.specs.declared.fault.EngineFault.TheVariants.{Read, Script, Memory, Write}
-use Rattle.assise_console.specs.Engines.{FaultOf, IsReadFault}
+use Rattle.assise_console.specs.Engines.{FaultOf, IsReadFault, Printed, Ran}
 use Rattle.assise_console.specs.Lines.{Prints, line_text}
 use Rattle.assise_console.specs.Steps.{Answers, State}
 
@@ -44,3 +45,10 @@ read_fault Read (Some input) old h = refl
 read_fault Memory (Some input) old h = refl
 read_fault (Script line fault) (Some input) old h = absurd h
 read_fault Write (Some input) old h = absurd h
+
+-- what was read is a script, and it was run
+pub was_printed : (r : Result (Unit {0}) EngineFault) (known old new : Option (List ℕ)) (bytes : List ℕ) (commands : List NumberedCommand) →
+    IfSome known (λ input. bytes ≡ input) → commands_of bytes ≡ Ok commands → OnOk r (Ran commands old new) → OnOk r (IfSome known (λ input. Printed input old new))
+was_printed (Err e) known old new bytes commands read parsed ran = tt
+was_printed (Ok x) None old new bytes commands read parsed ran = tt
+was_printed (Ok x) (Some input) old new bytes commands read parsed ran = (commands, (ap commands_of (sym read) ∙ parsed, ran))

@@ -1,15 +1,15 @@
 -- Each step of a run leads from a state that stands on a legal history to another.
-use Rattle.std.proofs.Common.{◌≡◌, ◌⊎◌, ℕ, zero, suc, ◌+◌, ◌==◌, Bool, true, false, not, ◌||◌, cond, List, [], ◌∷◌, ◌++◌, Option, Some, None, MatchBool, refl, ap, sym, subst, ◌∙◌, inl, inr, arith, add-one}
+use Rattle.std.proofs.Common.{◌≡◌, ℕ, zero, suc, ◌+◌, ◌==◌, Bool, true, false, not, ◌||◌, ◌&&◌, nat_le, cond, List, [], ◌∷◌, ◌++◌, Some, MatchBool, refl, ap, sym, subst, ◌∙◌, inl, inr, arith, add-one}
 use Rattle.std.proofs.lemmas.Bool.{cases_Bool}
 use Rattle.std.proofs.lemmas.Bool.Decides.{nat_tests}
 use Rattle.assise_names.specs.declared.call.Op.{Op}
 use Rattle.assise_names.specs.declared.call.Op.TheVariants.{Create, Read, Write, Stat}
-use Rattle.assise_seq_tree.specs.Tree.{Tree, opening}
+use Rattle.assise_seq_tree.specs.Tree.{opening}
 use Rattle.assise_seq_tree.specs.Answer.{answer}
 use Rattle.assise_history.specs.declared.call.Call.{Call}
 use Rattle.assise_history.specs.Entries.{Event, opens, calls}
 use Rattle.assise_history.specs.Kept.{IsRun, kept, tree_after}
-use Rattle.assise_history.specs.Legal.{Fits, IsLegal, Summary, after, comes_next, follows, is_fsync, nothing_yet, summary}
+use Rattle.assise_history.specs.Legal.{after, comes_next, follows, is_fsync, nothing_yet, summary}
 use Rattle.assise_history.proofs.Legality.{legal-nil, legal-push, summary-push}
 use Rattle.assise_history.proofs.Runs.{kept-push, run-push, tree_after-push}
 use Rattle.assise_fault_script.specs.declared.command.Command as commands
@@ -17,34 +17,17 @@ use Rattle.assise_fault_script.specs.declared.command.Command.TheVariants.{Clust
 use Rattle.assise_fault_script.specs.declared.parse.NumberedCommand.{NumberedCommand}
 use Rattle.assise_console.specs.declared.answer.Answer.{Answer}
 use Rattle.assise_console.specs.Lines.{Prints}
-use Rattle.assise_console.specs.Sound.{IsSound}
-use Rattle.assise_console.specs.Steps.{Answers, State, called, is_too_large, newly_opened, opened, start, step, with_reply}
+use Rattle.assise_console.specs.Sound.{IsRecorded, IsSound, last_of, open_after}
+use Rattle.assise_console.specs.Steps.{Answers, State, answered, called, is_too_large, makes_inode, newly_opened, opened, start, step, with_reply}
 
--- the last of so many calls
-last_of : ℕ → Option ℕ
-last_of zero = None
-last_of (suc n) = Some n
-
--- what a history says in which client 1 was opened on node 1 and made so many calls
-abbrev open_after : ℕ → Summary
-open_after n = record { clients = record { client = 1; node = 1; last = last_of n; synced = None; crashed = false; failed = false } ∷ []; down = [] }
-
--- what a run keeps: the state is sound, and what its history says of the client is what the state says
-record Keeps (s : State) : Type 0 where
-  legal : IsLegal s.events
-  run : IsRun opening (kept s.events)
-  tree : s.tree ≡ tree_after opening (kept s.events)
-  known : MatchBool s.opened (summary s.events ≡ open_after s.calls) ((summary s.events ≡ nothing_yet) × (s.calls ≡ 0))
-
-keeps_start : Keeps start
-keeps_start = record { legal = legal-nil; run = tt; tree = refl; known = (refl, refl) }
+pub keeps_start : IsRecorded start
+keeps_start = record { legal = legal-nil; run = tt; tree = refl; client = (refl, refl) }
 
 -- ---- the opening of the client
 
-keeps_opened : (s : State) → s.opened ≡ false → Keeps s → Keeps (newly_opened s)
-unfolding last_of
+pub keeps_opened : (s : State) → s.opened ≡ false → IsRecorded s → IsRecorded (newly_opened s)
 keeps_opened s closed k =
-    let known : (summary s.events ≡ nothing_yet) × (s.calls ≡ 0) = subst (λ b. MatchBool b (summary s.events ≡ open_after s.calls) ((summary s.events ≡ nothing_yet) × (s.calls ≡ 0))) closed k.known in
+    let known : (summary s.events ≡ nothing_yet) × (s.calls ≡ 0) = subst (λ b. MatchBool b (summary s.events ≡ open_after s.calls) ((summary s.events ≡ nothing_yet) × (s.calls ≡ 0))) closed k.client in
     let e : Event = opens 1 1 in
     let same : kept (s.events ++ e ∷ []) ≡ kept s.events = kept-push s.events e in
     let follow : follows (summary s.events) e ≡ true = ap (λ m. follows m e) known.0 in
@@ -52,13 +35,12 @@ keeps_opened s closed k =
       legal = legal-push s.events e k.legal record { rule = follow; run = rw same k.run };
       run = rw same k.run;
       tree = k.tree ∙ ap (tree_after opening) (sym same);
-      known = summary-push s.events e ∙ ap (λ m. after m e) known.0 ∙ ap open_after (sym known.1);
+      client = summary-push s.events e ∙ ap (λ m. after m e) known.0 ∙ ap open_after (sym known.1);
     }
 
 -- ---- a call of the client
 
 next_after : (n : ℕ) → comes_next (last_of n) n ≡ true
-unfolding last_of
 next_after zero = refl
 next_after (suc n) = grind (arith, nat_tests)
 
@@ -69,7 +51,6 @@ no_fsync (Write p o b) = refl
 no_fsync (Stat p) = refl
 
 one_more : (n : ℕ) → last_of (n + 1) ≡ Some n
-unfolding last_of
 one_more n = rw add-one refl
 
 abbrev call_of : State → Op → Call
@@ -81,9 +62,9 @@ follows_call s op = rw (next_after s.calls) refl
 after_call : (s : State) (op : Op) → after (open_after s.calls) (calls (call_of s op)) ≡ open_after (s.calls + 1)
 after_call s op = rw (no_fsync op, one_more s.calls) refl
 
-keeps_called : (s : State) (op : Op) → s.opened ≡ true → Keeps s → Keeps (with_reply s op (answer s.tree op)).1
+pub keeps_called : (s : State) (op : Op) → s.opened ≡ true → IsRecorded s → IsRecorded (with_reply s op (answer s.tree op)).1
 keeps_called s op there k =
-    let known : summary s.events ≡ open_after s.calls = subst (λ b. MatchBool b (summary s.events ≡ open_after s.calls) ((summary s.events ≡ nothing_yet) × (s.calls ≡ 0))) there k.known in
+    let known : summary s.events ≡ open_after s.calls = subst (λ b. MatchBool b (summary s.events ≡ open_after s.calls) ((summary s.events ≡ nothing_yet) × (s.calls ≡ 0))) there k.client in
     let x = call_of s op in
     let e : Event = calls x in
     let same : kept (s.events ++ e ∷ []) ≡ kept s.events ++ x ∷ [] = kept-push s.events e in
@@ -93,22 +74,22 @@ keeps_called s op there k =
       legal = legal-push s.events e k.legal record { rule = follow; run = rw same run };
       run = rw same run;
       tree = ap (λ t. (answer t op).1) k.tree ∙ sym (tree_after-push opening (kept s.events) x) ∙ ap (tree_after opening) (sym same);
-      known = subst (λ b. MatchBool b (summary (s.events ++ e ∷ []) ≡ open_after (s.calls + 1)) ((summary (s.events ++ e ∷ []) ≡ nothing_yet) × (s.calls + 1 ≡ 0))) (sym there) (summary-push s.events e ∙ ap (λ m. after m e) known ∙ after_call s op);
+      client = subst (λ b. MatchBool b (summary (s.events ++ e ∷ []) ≡ open_after (s.calls + 1)) ((summary (s.events ++ e ∷ []) ≡ nothing_yet) × (s.calls + 1 ≡ 0))) (sym there) (summary-push s.events e ∙ ap (λ m. after m e) known ∙ after_call s op);
     }
 
 -- ---- each step, and a whole run
 
 -- what holds of both of two outcomes holds of the one that is chosen
-chosen : (b : Bool) (x y : Answer × State) → (b ≡ true → Keeps x.1) → (b ≡ false → Keeps y.1) → Keeps (cond b x y).1
+chosen : (b : Bool) (x y : Answer × State) → (b ≡ true → IsRecorded x.1) → (b ≡ false → IsRecorded y.1) → IsRecorded (cond b x y).1
 chosen true x y f g = f refl
 chosen false x y f g = g refl
 
-keeps_open : (s : State) (n : ℕ) → Keeps s → Keeps (opened s n).1
+keeps_open : (s : State) (n : ℕ) → IsRecorded s → IsRecorded (opened s n).1
 keeps_open s n k =
     chosen (not (n == 1)) _ _ (λ other. k) (λ this. chosen s.opened _ _ (λ there. k) (λ closed. keeps_opened s closed k))
 
 -- the client is there where the call isn't refused for want of one
-opened_from : (c : ℕ) (b : Bool) → (not (c == 1) || not b) ≡ false → b ≡ true
+pub opened_from : (c : ℕ) (b : Bool) → (not (c == 1) || not b) ≡ false → b ≡ true
 opened_from c true h = refl
 opened_from c false h =
     elim (cases_Bool (c == 1)) [
@@ -116,25 +97,28 @@ opened_from c false h =
       | inr other ↦ let bad : true ≡ false = rw other at h in cc
     ]
 
-keeps_call : (s : State) (c : ℕ) (op : Op) → Keeps s → Keeps (called s c op).1
-keeps_call s c op k =
-    chosen (not (c == 1) || not s.opened) _ _ (λ missing. k) (λ found. chosen (is_too_large op) _ _ (λ large. k) (λ fits. keeps_called s op (opened_from c s.opened found) k))
+keeps_answered : (s : State) (op : Op) → s.opened ≡ true → IsRecorded s → IsRecorded (answered s op (answer s.tree op)).1
+keeps_answered s op there k = chosen (makes_inode op (answer s.tree op).0 && nat_le 1048576 s.made) _ _ (λ spent. k) (λ room. keeps_called s op there k)
 
-keeps_step : (s : State) (c : commands.Command) → Keeps s → Keeps (step s c).1
+keeps_call : (s : State) (c : ℕ) (op : Op) → IsRecorded s → IsRecorded (called s c op).1
+keeps_call s c op k =
+    chosen (not (c == 1) || not s.opened) _ _ (λ missing. k) (λ found. chosen (is_too_large op) _ _ (λ large. k) (λ fits. keeps_answered s op (opened_from c s.opened found) k))
+
+keeps_step : (s : State) (c : commands.Command) → IsRecorded s → IsRecorded (step s c).1
 keeps_step s (Cluster n l h) k = k
 keeps_step s (Open n kind) k = keeps_open s n k
 keeps_step s (Calls c op) k = keeps_call s c op k
 keeps_step s History k = k
 
-keeps_answer : (s t : State) (c : commands.Command) (a : Answer) → Answers s c a t → Keeps s → Keeps t
+keeps_answer : (s t : State) (c : commands.Command) (a : Answer) → Answers s c a t → IsRecorded s → IsRecorded t
 keeps_answer s t c a h k =
     elim h.given [
-      | inl done ↦ subst Keeps (sym (ap (λ p. p.1) done)) (keeps_step s c k)
-      | inr refused ↦ subst Keeps (sym refused.1) k
+      | inl done ↦ subst IsRecorded (sym (ap (λ p. p.1) done)) (keeps_step s c k)
+      | inr refused ↦ subst IsRecorded (sym refused.1) k
     ]
 
-keeps_run : (s : State) (cs : List NumberedCommand) (text : List ℕ) (t : State) → Prints s cs text t → Keeps s → Keeps t
-keeps_run s [] text t p k = subst Keeps (sym p.1) k
+keeps_run : (s : State) (cs : List NumberedCommand) (text : List ℕ) (t : State) → Prints s cs text t → IsRecorded s → IsRecorded t
+keeps_run s [] text t p k = subst IsRecorded (sym p.1) k
 keeps_run s (c ∷ cs) text t p k = keeps_run p.1.0 cs p.1.1.0 t p.1.1.1.1.1 (keeps_answer s p.1.0 c.command p.0 p.1.1.1.0 k)
 
 -- what a run leaves stands on a legal history

@@ -1,9 +1,10 @@
 -- What each command answers, and the state after it.
-use Rattle.std.specs.Prelude.{◌≡◌, ◌⊎◌, ℕ, ◌+◌, Bool, true, false, not, ◌||◌, ◌==◌, nat_lt, if◌then◌else◌, List, [], ◌∷◌, ◌++◌, length}
+use Rattle.std.specs.Prelude.{◌≡◌, ◌⊎◌, ℕ, ◌+◌, Bool, true, false, not, ◌||◌, ◌==◌, nat_lt, nat_le, ◌&&◌, if◌then◌else◌, List, [], ◌∷◌, ◌++◌, length}
 use Rattle.assise_names.specs.declared.call.Op.{Op}
 use Rattle.assise_names.specs.declared.call.Op.TheVariants.{Create, Read, Write, Stat}
 use Rattle.assise_names.specs.declared.reply.Reply.{Reply}
-use Rattle.assise_names.specs.declared.refusal.Refusal.TheVariants.{OutOfMemory, BadNode, BadClient, TooLarge}
+use Rattle.assise_names.specs.declared.reply.Reply.TheVariants.{Done, Bytes, File, Dir, Error}
+use Rattle.assise_names.specs.declared.refusal.Refusal.TheVariants.{OutOfMemory, BadNode, BadClient, InodesSpent, TooLarge}
 use Rattle.assise_seq_tree.specs.Tree.{Tree, opening}
 use Rattle.assise_seq_tree.specs.Answer.{answer}
 use Rattle.assise_history.specs.Entries.{Event, opens, calls}
@@ -12,19 +13,20 @@ use Rattle.assise_fault_script.specs.declared.command.Command.TheVariants.{Clust
 use Rattle.assise_console.specs.declared.answer.Answer as answers
 use Rattle.assise_console.specs.declared.answer.Answer.TheVariants.{Quiet, Client, Replied, Refused, History as Whole}
 
--- the tree, what happened, whether the client was opened, and how many calls were answered
+-- the tree, what happened, whether the client was opened, how many of its calls were answered, and how many inodes it made
 pub record State : Type 0 where
   pub tree : Tree
   pub events : List Event
   pub opened : Bool
   pub calls : ℕ
+  pub made : ℕ
 
 abbrev pub start : State
-start = record { tree = opening; events = []; opened = false; calls = 0 }
+start = record { tree = opening; events = []; opened = false; calls = 0; made = 0 }
 
 -- client 1 of node 1
 abbrev pub newly_opened : State → State
-newly_opened s = record { tree = s.tree; events = s.events ++ opens 1 1 ∷ []; opened = true; calls = s.calls }
+newly_opened s = record { tree = s.tree; events = s.events ++ opens 1 1 ∷ []; opened = true; calls = s.calls; made = s.made }
 
 -- the node is there, and has no client yet
 abbrev pub opened : State → ℕ → answers.Answer × State
@@ -37,16 +39,43 @@ is_too_large (Create p) = false
 is_too_large (Read p offset len) = false
 is_too_large (Stat p) = false
 
+abbrev pub is_done : Reply → Bool
+is_done Done = true
+is_done (Bytes bytes) = false
+is_done (File size) = false
+is_done (Dir count) = false
+is_done (Error e) = false
+
+-- a create that is done makes an inode, and nothing else does
+abbrev pub makes_inode : Op → Reply → Bool
+makes_inode (Create p) reply = is_done reply
+makes_inode (Read p offset len) reply = false
+makes_inode (Write p offset bytes) reply = false
+makes_inode (Stat p) reply = false
+
 -- an answered call is one entry
 abbrev pub with_reply : State → Op → Reply × Tree → answers.Answer × State
-with_reply s op r = (Replied r.0, record { tree = r.1; events = s.events ++ calls record { client = 1; number = s.calls; op = op; reply = r.0 } ∷ []; opened = s.opened; calls = s.calls + 1 })
+with_reply s op r = (
+  Replied r.0,
+  record {
+    tree = r.1;
+    events = s.events ++ calls record { client = 1; number = s.calls; op = op; reply = r.0 } ∷ [];
+    opened = s.opened;
+    calls = s.calls + 1;
+    made = if makes_inode op r.0 then s.made + 1 else s.made;
+  },
+)
 
--- the client is there, then its write isn't too large, then the tree answers
+-- a client makes 1,048,576 inodes at most
+abbrev pub answered : State → Op → Reply × Tree → answers.Answer × State
+answered s op r = if makes_inode op r.0 && nat_le 1048576 s.made then (Refused InodesSpent, s) else with_reply s op r
+
+-- the client is there, then its write isn't too large, then the tree answers, and then a new inode isn't one too many
 abbrev pub called : State → ℕ → Op → answers.Answer × State
 called s c op =
     if not (c == 1) || not s.opened then (Refused BadClient, s)
     else (if is_too_large op then (Refused TooLarge, s)
-    else with_reply s op (answer s.tree op))
+    else answered s op (answer s.tree op))
 
 abbrev pub step : State → commands.Command → answers.Answer × State
 step s (Cluster n l h) = (Quiet, s)

@@ -3,6 +3,7 @@ ghost use Rattle.std.specs.Prelude.{◌≡◌, IfErr, IfOk, IfSome, IsOkUnless, 
 ghost use Rattle.std.specs.Io.KnownBytes.{Appends, Keeps};
 ghost use Rattle.assise_console.specs.Engines.{FaultOf, IsReadFault, Printed, Ran};
 ghost use Rattle.assise_console.specs.Lines.{answer_text, line_text, numbered, PrintsOne};
+ghost use Rattle.assise_console.specs.Steps.{start};
 
 use crate::answer::Answer;
 use crate::fault::EngineFault;
@@ -15,7 +16,7 @@ use std::io::{ErrorKind, Read, Write};
 /// Reads a script, runs it, and writes its answers and nothing else. It waits for nobody.
 ///
 /// [`EngineFault::Read`] is the reader's failure, [`EngineFault::Script`] the first fault of the script, and
-/// [`EngineFault::Memory`] want of memory for the script's bytes; nothing is written then.
+/// [`EngineFault::Memory`] want of memory for the script's bytes or for the root; nothing is written then.
 /// [`EngineFault::Write`] is the writer's failure, and nothing more is written after it.
 pub fn engine<R: Read, W: Write>(
     alloc: Global,
@@ -28,7 +29,10 @@ pub fn engine<R: Read, W: Write>(
 {
     let input = read_all(alloc, reader)?;
     match parse(alloc, input.as_slice()) {
-        Ok(commands) => run(alloc, commands, writer),
+        Ok(commands) => {
+            let console = new_console(alloc)?;
+            run(alloc, console, commands, writer)
+        }
         Err(found) => Err(EngineFault::Script(found.line, found.fault)),
     }
 }
@@ -55,16 +59,28 @@ fn read_fault(kind: ErrorKind) -> EngineFault
     }
 }
 
+/// A cluster in which nothing happened.
+fn new_console(alloc: Global) -> Result<Console, EngineFault>
+    ensures start { IfOk result (λ console. console ≡ start) }
+    ensures only_memory { IsOkUnless result EngineFault.Memory }
+{
+    match Console::new(alloc) {
+        Ok(console) => Ok(console),
+        Err(_) => Err(EngineFault::Memory),
+    }
+}
+
 /// Runs the commands in order, and writes the line of each answer and nothing else.
 fn run<W: Write>(
     alloc: Global,
+    mut console: Console,
     commands: Vec<NumberedCommand>,
     writer: &mut W,
 ) -> Result<(), EngineFault>
+    requires { console ≡ start }
     ensures done { OnOk result (Ran commands.items (W.contents writer.old) (W.contents writer.new)) }
     ensures only_write { IsOkUnless result EngineFault.Write }
 {
-    let mut console = Console::new(alloc);
     for command in commands {
         run_line(alloc, &mut console, command, writer)?;
     }

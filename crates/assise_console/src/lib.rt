@@ -6,6 +6,7 @@ pub mod engine;
 pub mod fault;
 pub mod laws;
 pub mod options;
+mod outcome;
 pub mod state;
 #[cfg(test)]
 mod tests;

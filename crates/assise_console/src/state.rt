@@ -1,19 +1,20 @@
-// One node and one client, from a tree and a history.
-ghost use Rattle.std.specs.Prelude.{◌≡◌, IfOk, IsOkUnless, OnErr, Some};
+// One node and one client, from inodes and a history.
+ghost use Rattle.std.specs.Prelude.{◌≡◌, IfOk, IsOkUnless, OnErr, Some, false, true};
 ghost use Rattle.assise_console.specs.Lines.{answer_text};
-ghost use Rattle.assise_console.specs.Steps.{Answers, called, is_too_large, opened, start, step};
+ghost use Rattle.assise_console.specs.Steps.{Answers, answered, called, is_too_large, makes_inode, opened, start, step};
 ghost use Rattle.assise_names.specs.declared.refusal.Refusal.TheVariants.{OutOfMemory};
+ghost use Rattle.assise_seq_tree.specs.Answer.{answer as tree_answer};
 
 use crate::answer::Answer;
+use crate::outcome::{make_all, outcome_of};
 use assise_fault_script::command::Command;
 use assise_history::call::Call;
 use assise_history::entry::Entry;
 use assise_history::history::History;
+use assise_inode_table::table::InodeTable;
 use assise_names::call::Op;
 use assise_names::refusal::Refusal;
 use assise_names::reply::Reply;
-use assise_seq_tree::answer::answer;
-use assise_seq_tree::tree::Tree;
 use std::alloc::Global;
 use std::fmt;
 use std::fmt::{Display, Formatter};
@@ -22,13 +23,21 @@ use std::marker::Model;
 /// The most bytes that one write takes.
 pub const MOST_WRITTEN: usize = 65_536;
 
-/// A tree, and what happened. There are one node and one client, both of number 1.
+/// The most inodes that one client makes.
+pub const MOST_INODES: u64 = 1_048_576;
+
+/// The number of the first inode that client 1 makes. The next ones follow it.
+const FIRST_INODE: u64 = 4_294_967_296;
+
+/// Inodes, and what happened. There are one node and one client, both of number 1. A contract sees the tree that the
+/// inodes spell.
 #[derive(Drop)]
 pub struct Console {
-    tree: Tree,
+    inodes: InodeTable,
     history: History,
     opened: bool,
     calls: u64,
+    made: u64,
 }
 
 impl Model for Console {
@@ -42,24 +51,26 @@ impl Model for Console {
 
     ghost coded = { Prim.hlevel (codes, entry.the_row.coded, coded_tree) };
 
-    ghost use Rattle.std.specs.Prelude.{◌≤◌, length};
+    ghost use Rattle.assise_console.specs.Sound.{IsKept, state_of};
 
-    ghost view = { λ c. record { tree = c.tree; events = c.history.events; opened = c.opened; calls = c.calls } };
+    ghost view = { λ c. state_of c.history.events c.opened c.calls c.made };
 
-    ghost invariant = { λ c. c.calls ≤ length c.history.events };
+    ghost invariant = { λ c. IsKept c.inodes (state_of c.history.events c.opened c.calls c.made) };
 }
 
 impl Console {
-    /// A cluster in which nothing happened.
-    pub fn new(alloc: Global) -> Console
-        ensures { result ≡ start }
+    /// A cluster in which nothing happened. The one refusal is [`Refusal::OutOfMemory`].
+    pub fn new(alloc: Global) -> Result<Console, Refusal>
+        ensures start { IfOk result (λ console. console ≡ start) }
+        ensures only_memory { IsOkUnless result OutOfMemory }
     {
-        Console {
-            tree: Tree::new(alloc),
+        Ok(Console {
+            inodes: InodeTable::opening(alloc)?,
             history: History::new(alloc),
             opened: false,
             calls: 0,
-        }
+            made: 0,
+        })
     }
 
     /// What happened so far.
@@ -110,8 +121,7 @@ impl Console {
         Ok(Answer::Client(1))
     }
 
-    /// Answers a call on the tree, with one entry. Room for the entry is made before the tree is changed, and only
-    /// a reply of bytes, which changes nothing, takes memory for its copy.
+    /// Answers a call of a client that is there, if its write isn't too large.
     fn call(&mut self, alloc: Global, client: u64, op: Op) -> Result<Answer, Refusal>
         ensures ok { IfOk result (λ answer. (answer, self.new) ≡ called self.old client op) }
         ensures err { OnErr result (self.new ≡ self.old) }
@@ -123,18 +133,38 @@ impl Console {
         if is_too_large(&op) {
             return Ok(Answer::Refused(Refusal::TooLarge));
         }
+        self.answer(alloc, op)
+    }
+
+    /// Answers a call over the inodes, with one entry. All that takes memory comes before the first change.
+    fn answer(&mut self, alloc: Global, op: Op) -> Result<Answer, Refusal>
+        requires there { self.old.opened ≡ true }
+        requires fits { is_too_large op ≡ false }
+        ensures ok { IfOk result (λ answer. (answer, self.new) ≡ answered self.old op (tree_answer self.old.tree op)) }
+        ensures err { OnErr result (self.new ≡ self.old) }
+        ensures only_memory { IsOkUnless result OutOfMemory }
+    {
+        let fresh = FIRST_INODE + self.made;
+        let outcome = outcome_of(alloc, &self.inodes, &op, fresh)?;
+        let makes = makes_inode(&op, &outcome.reply);
+        if makes && self.made >= MOST_INODES {
+            return Ok(Answer::Refused(Refusal::InodesSpent));
+        }
+        let reply = outcome.reply.copy(alloc)?;
         self.history.reserve()?;
-        let reply = answer(alloc, &mut self.tree, &op)?;
-        let copied = reply.copy(alloc)?;
+        make_all(&mut self.inodes, outcome.effects.as_slice(), fresh)?;
         let number = self.calls;
         self.history.push(Entry::call(Call {
             client: 1,
             number,
             op,
-            reply: copied,
+            reply,
         }));
         self.calls += 1;
-        Ok(Answer::Replied(reply))
+        if makes {
+            self.made += 1;
+        }
+        Ok(Answer::Replied(outcome.reply))
     }
 }
 
@@ -146,6 +176,18 @@ fn is_too_large(op: &Op) -> bool
         Op::Write(_, _, bytes) => bytes.len() > MOST_WRITTEN,
         Op::Create(_) => false,
         Op::Read(_, _, _) => false,
+        Op::Stat(_) => false,
+    }
+}
+
+/// Whether a call with this reply made an inode.
+fn makes_inode(op: &Op, reply: &Reply) -> bool
+    ensures { result ≡ makes_inode op.now reply.now }
+{
+    match op {
+        Op::Create(_) => matches!(reply, Reply::Done),
+        Op::Read(_, _, _) => false,
+        Op::Write(_, _, _) => false,
         Op::Stat(_) => false,
     }
 }

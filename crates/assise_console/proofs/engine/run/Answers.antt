@@ -6,7 +6,7 @@ use Rattle.assise_console.proofs.Soundness.{sound_run, sound_start}
 use Rattle.assise_console.proofs.engine.run.Goals as goal
 
 pub loop-command-init : goal.loop-command-init
-loop-command-init g c = rw c.new-console.ensures ([], ((refl, refl), (sound_start, appends-none _)))
+loop-command-init g c = rw c.requires ([], ((refl, refl), (sound_start, appends-none _)))
 
 pub loop-command-preserved : goal.loop-command-preserved
 loop-command-preserved g c =
