@@ -1,5 +1,5 @@
 -- What is kept in a console is kept by each of its steps.
-use Rattle.std.proofs.Common.{◌≡◌, ◌⊎◌, ℕ, ◌+◌, ◌<◌, ◌≤◌, ◌==◌, ◌&&◌, nat_le, Bool, true, false, if◌then◌else◌, cond, List, [], ◌∷◌, ◌++◌, Option, Some, None, IsSome, Ok, refl, ap, ap₂, sym, subst, ◌∙◌, inl, inr, arith, length-append}
+use Rattle.std.proofs.Common.{◌≡◌, ◌⊎◌, ℕ, ◌+◌, ◌<◌, ◌≤◌, ◌==◌, nat_lt, not, Bool, true, false, if◌then◌else◌, cond, List, [], ◌∷◌, ◌++◌, Option, Some, None, IsSome, Ok, refl, ap, ap₂, sym, subst, ◌∙◌, inl, inr, arith, length-append}
 use Rattle.std.proofs.lemmas.Bool.{cases_eq, ne_eqb}
 use Rattle.std.proofs.lemmas.Bool.Decides.{nat_tests}
 use Rattle.std.specs.Cmp.{nat_cmp_total}
@@ -24,7 +24,7 @@ use Rattle.assise_inode_table.proofs.Leaves.{empty_spells}
 use Rattle.assise_inode_table.proofs.Making.{same_number}
 use Rattle.assise_console.specs.declared.answer.Answer.TheVariants.{Client, Refused, Replied}
 use Rattle.assise_console.specs.Sound.{IsKept, IsMade, state_of}
-use Rattle.assise_console.specs.Steps.{State, answered, makes_inode, newly_opened, opened, with_reply}
+use Rattle.assise_console.specs.Steps.{State, answered, made_after, makes_inode, newly_opened, opened, with_reply}
 use Rattle.assise_console.specs.Undone.{all_applied}
 use Rattle.assise_console.proofs.Making.{there_after_step}
 use Rattle.assise_console.proofs.Soundness.{keeps_called, keeps_opened, keeps_start}
@@ -103,65 +103,59 @@ made_more : (made more i : ℕ) → made ≤ more → IsMade made i → IsMade m
 made_more made more i h (inl root) = inl root
 made_more made more i h (inr k) = inr (k.0, (omega (arith, h, k.1.0), k.1.1))
 
-made_still : (made i : ℕ) (b : Bool) → IsMade made i → IsMade (if b then made + 1 else made) i
-made_still made i true h = made_more made (made + 1) i (omega arith) h
-made_still made i false h = h
+-- the count stays, or the call makes one inode more
+abbrev CountsOn : ℕ → Bool → ℕ → Type 0
+CountsOn made makes now = ((makes ≡ false) × (now ≡ made)) ⊎ ((makes ≡ true) × ((made < 1048576) × (now ≡ made + 1)))
 
-made_now : (made i : ℕ) (b : Bool) → b ≡ true → i ≡ 4294967296 + made → IsMade (if b then made + 1 else made) i
-made_now made i true makes new = inr (made, (omega arith, new))
-made_now made i false makes new = cc
+counts_on : (made now : ℕ) (makes few : Bool) → nat_lt made 1048576 ≡ few → (if not makes then Some made else (if few then Some (made + 1) else None)) ≡ Some now → CountsOn made makes now
+counts_on made now false few h e = inl (refl, cc)
+counts_on made now true true h e = inr (refl, (grind (arith, nat_tests), cc))
+counts_on made now true false h e = cc
 
-few_after : (made : ℕ) (b : Bool) → made ≤ 1048576 → (b && nat_le 1048576 made) ≡ false → (if b then made + 1 else made) ≤ 1048576
-few_after made true few room = grind (arith, nat_tests)
-few_after made false few room = few
+few_after : (made now : ℕ) (makes : Bool) → CountsOn made makes now → made ≤ 1048576 → now ≤ 1048576
+few_after made now makes (inl same) few = omega (arith, same.1, few)
+few_after made now makes (inr more) few = omega (arith, more.1.0, more.1.1)
+
+made_still : (made now i : ℕ) (makes : Bool) → CountsOn made makes now → IsMade made i → IsMade now i
+made_still made now i makes (inl same) h = made_more made now i (omega (arith, same.1)) h
+made_still made now i makes (inr more) h = made_more made now i (omega (arith, more.1.1)) h
+
+made_new : (made now i : ℕ) (makes : Bool) → CountsOn made makes now → i ≡ 4294967296 + made → makes ≡ true → IsMade now i
+made_new made now i makes (inl same) new makes_one = cc
+made_new made now i makes (inr more) new makes_one = inr (made, (omega (arith, more.1.1), new))
 
 module _ (inodes : InodeMap) (s : State) (op : Op) (k : IsKept inodes s) where
-  abbrev fresh : ℕ
-  fresh = 4294967296 + s.made
-
   abbrev effects : List Effect
-  effects = (step (values inodes) op fresh).effects
+  effects = (step (values inodes) op (4294967296 + s.made)).effects
 
-  replied : (step (values inodes) op fresh).reply ≡ (answer s.tree op).0
-  replied = step_replies (values inodes) s.tree op fresh k.spelled
+  replied : (step (values inodes) op (4294967296 + s.made)).reply ≡ (answer s.tree op).0
+  replied = step_replies (values inodes) s.tree op (4294967296 + s.made) k.spelled
 
   spelled_after : Spells (values (all_applied inodes effects)) (answer s.tree op).1
   spelled_after =
-      subst (λ v. Spells v (answer s.tree op).1) (sym (values-all_applied inodes effects)) (step_spells (values inodes) s.tree op fresh k.spelled (λ _. next_is_new inodes s k))
+      subst (λ v. Spells v (answer s.tree op).1) (sym (values-all_applied inodes effects)) (step_spells (values inodes) s.tree op (4294967296 + s.made) k.spelled (λ _. next_is_new inodes s k))
 
-  numbers_after : (i : ℕ) → IsSome (map.get (all_applied inodes effects) i) → IsMade (if makes_inode op (answer s.tree op).0 then s.made + 1 else s.made) i
-  numbers_after i h =
-      elim (there_after_step (values inodes) op fresh i (subst (λ v. IsSome (v i)) (values-all_applied inodes effects) h)) [
-        | inl old ↦ made_still s.made i _ (k.numbers i old)
-        | inr new ↦ made_now s.made i _ (ap (makes_inode op) (sym replied) ∙ new.1) new.0
-      ]
+  module _ (now : ℕ) (counted : made_after s.made op (answer s.tree op).0 ≡ Some now) where
+    counts : CountsOn s.made (makes_inode op (answer s.tree op).0) now
+    counts = counts_on s.made now (makes_inode op (answer s.tree op).0) (nat_lt s.made 1048576) refl counted
 
-  kept_called : s.opened ≡ true → (makes_inode op (answer s.tree op).0 && nat_le 1048576 s.made) ≡ false → IsKept (all_applied inodes effects) (with_reply s op (answer s.tree op)).1
-  kept_called there room = record {
-    recorded = keeps_called s op there k.recorded;
-    spelled = spelled_after;
-    numbers = numbers_after;
-    few = few_after s.made _ k.few room;
-    counted = omega (arith, k.counted, length-append s.events (calls record { client = 1; number = s.calls; op = op; reply = (answer s.tree op).0 } ∷ []));
-  }
+    numbers_after : (i : ℕ) → IsSome (map.get (all_applied inodes effects) i) → IsMade now i
+    numbers_after i h =
+        elim (there_after_step (values inodes) op (4294967296 + s.made) i (subst (λ v. IsSome (v i)) (values-all_applied inodes effects) h)) [
+          | inl old ↦ made_still s.made now i _ counts (k.numbers i old)
+          | inr new ↦ made_new s.made now i _ counts new.0 (ap (makes_inode op) (sym replied) ∙ new.1)
+        ]
+
+    kept_called : s.opened ≡ true → IsKept (all_applied inodes effects) (with_reply s op (answer s.tree op) (Some now)).1
+    kept_called there = record {
+      recorded = keeps_called s op (Some now) there k.recorded;
+      spelled = spelled_after;
+      numbers = numbers_after;
+      few = few_after s.made now _ counts k.few;
+      counted = omega (arith, k.counted, length-append s.events (calls record { client = 1; number = s.calls; op = op; reply = (answer s.tree op).0 } ∷ []));
+    }
 
 -- ---- what the code of a call knows
-
-room_if_none : (b : Bool) (made : ℕ) → b ≡ false → (b && nat_le 1048576 made) ≡ false
-room_if_none true made h = cc
-room_if_none false made h = refl
-
-room_if_few : (b : Bool) (made : ℕ) → made < 1048576 → (b && nat_le 1048576 made) ≡ false
-room_if_few true made h = grind (arith, nat_tests)
-room_if_few false made h = refl
-
--- the client's numbers aren't used up, or the call takes none
-pub room_for : (b : Bool) (made : ℕ) → (b ≡ false) ⊎ (made < 1048576) → (b && nat_le 1048576 made) ≡ false
-room_for b made (inl quiet) = room_if_none b made quiet
-room_for b made (inr few) = room_if_few b made few
-
-full : (made : ℕ) → 1048576 ≤ made → nat_le 1048576 made ≡ true
-full made h = grind (arith, nat_tests)
 
 module _ (inodes : InodeMap) (events : List Event) (o : Bool) (n made : ℕ) (op : Op) (reply : Reply) (k : IsKept inodes (state_of events o n made))
     (is : reply ≡ (step (values inodes) op (4294967296 + made)).reply) where
@@ -172,37 +166,27 @@ module _ (inodes : InodeMap) (events : List Event) (o : Bool) (n made : ℕ) (op
   right = is ∙ replied inodes before op k
 
   -- one inode too many
-  pub spent_answers : (s : State) → before ≡ s → true ≡ makes_inode op reply → 1048576 ≤ made → (Refused InodesSpent, s) ≡ answered s op (answer s.tree op)
-  spent_answers s seen makes all =
-      subst (λ t. (Refused InodesSpent, t) ≡ answered t op (answer t.tree op)) seen
-      (sym (ap₂ (λ a b. if a && b then (Refused InodesSpent, before) else with_reply before op (answer before.tree op)) (ap (makes_inode op) (sym right) ∙ sym makes) (full made all)))
+  pub spent_answers : (s : State) → before ≡ s → None ≡ made_after made op reply → (Refused InodesSpent, s) ≡ answered s op (answer s.tree op)
+  spent_answers s seen spent =
+      subst (λ t. (Refused InodesSpent, t) ≡ answered t op (answer t.tree op)) seen (ap (with_reply before op (answer before.tree op)) (spent ∙ ap (made_after made op) right))
 
-  module _ (b : Bool) (makes : b ≡ makes_inode op reply) (room : (b && nat_le 1048576 made) ≡ false) (grown : List Event)
-      (entered : grown ≡ events ++ calls record { client = 1; number = n; op = op; reply = reply } ∷ []) (now : ℕ) (counted : now ≡ (if b then made + 1 else made)) where
-    made_is : now ≡ (if makes_inode op (answer before.tree op).0 then made + 1 else made)
-    made_is = counted ∙ ap (λ x. if x then made + 1 else made) (makes ∙ ap (makes_inode op) right)
+  module _ (now : ℕ) (counted : Some now ≡ made_after made op reply) (grown : List Event) (entered : grown ≡ events ++ calls record { client = 1; number = n; op = op; reply = reply } ∷ []) where
+    counted_right : Some now ≡ made_after made op (answer before.tree op).0
+    counted_right = counted ∙ ap (made_after made op) right
 
-    room_is : (makes_inode op (answer before.tree op).0 && nat_le 1048576 made) ≡ false
-    room_is = ap (λ x. x && nat_le 1048576 made) (sym (makes ∙ ap (makes_inode op) right)) ∙ room
-
-    after_is : state_of grown o (n + 1) now ≡ (with_reply before op (answer before.tree op)).1
+    after_is : state_of grown o (n + 1) now ≡ (with_reply before op (answer before.tree op) (Some now)).1
     after_is =
         let x : Call = record { client = 1; number = n; op = op; reply = (answer before.tree op).0 } in
-        ap₂ (λ es m. state_of es o (n + 1) m) (entered ∙ ap (λ r. events ++ calls record { client = 1; number = n; op = op; reply = r } ∷ []) right) made_is
-        ∙ ap (λ u. record {
-          tree = u;
-          events = events ++ calls x ∷ [];
-          opened = o;
-          calls = n + 1;
-          made = if makes_inode op (answer before.tree op).0 then made + 1 else made;
-        }) (ap (tree_after first_tree) (kept-push events (calls x)) ∙ tree_after-push first_tree (kept events) x)
+        ap (λ es. state_of es o (n + 1) now) (entered ∙ ap (λ r. events ++ calls record { client = 1; number = n; op = op; reply = r } ∷ []) right)
+        ∙ ap (λ u. record { tree = u; events = events ++ calls x ∷ []; opened = o; calls = n + 1; made = now })
+        (ap (tree_after first_tree) (kept-push events (calls x)) ∙ tree_after-push first_tree (kept events) x)
 
     pub kept_answered : (new : InodeMap) (es : List Effect) → o ≡ true → new ≡ all_applied inodes es → es ≡ (step (values inodes) op (4294967296 + made)).effects → IsKept new (state_of grown o (n + 1) now)
     kept_answered new es there done planned =
         subst (λ m. IsKept m (state_of grown o (n + 1) now)) (sym (done ∙ ap (all_applied inodes) planned))
-        (subst (IsKept (all_applied inodes (effects inodes before op k))) (sym after_is) (kept_called inodes before op k there room_is))
+        (subst (IsKept (all_applied inodes (effects inodes before op k))) (sym after_is) (kept_called inodes before op k now (sym counted_right) there))
 
-    pub call_answers : (s : State) (u : State) → before ≡ s → u ≡ state_of grown o (n + 1) now → (Replied reply, u) ≡ answered s op (answer s.tree op)
-    call_answers s u seen is =
-        subst (λ t. (Replied reply, u) ≡ answered t op (answer t.tree op)) seen
-        (ap₂ (λ r t. (Replied r, t)) right (is ∙ after_is) ∙ ap (λ c. if c then (Refused InodesSpent, before) else with_reply before op (answer before.tree op)) (sym room_is))
+    pub call_answers : (s : State) → before ≡ s → (Replied reply, state_of grown o (n + 1) now) ≡ answered s op (answer s.tree op)
+    call_answers s seen =
+        subst (λ t. (Replied reply, state_of grown o (n + 1) now) ≡ answered t op (answer t.tree op)) seen
+        (ap₂ (λ r t. (Replied r, t)) right after_is ∙ ap (with_reply before op (answer before.tree op)) counted_right)

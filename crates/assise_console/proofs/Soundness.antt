@@ -1,5 +1,5 @@
 -- Each step of a run leads from a state that stands on a legal history to another.
-use Rattle.std.proofs.Common.{◌≡◌, ℕ, zero, suc, ◌+◌, ◌==◌, Bool, true, false, not, ◌||◌, ◌&&◌, nat_le, cond, List, [], ◌∷◌, ◌++◌, Some, MatchBool, refl, ap, sym, subst, ◌∙◌, inl, inr, arith, add-one}
+use Rattle.std.proofs.Common.{◌≡◌, ℕ, zero, suc, ◌+◌, ◌==◌, Bool, true, false, not, ◌||◌, cond, List, [], ◌∷◌, ◌++◌, Some, Option, None, MatchBool, refl, ap, sym, subst, ◌∙◌, inl, inr, arith, add-one}
 use Rattle.std.proofs.lemmas.Bool.{cases_Bool}
 use Rattle.std.proofs.lemmas.Bool.Decides.{nat_tests}
 use Rattle.assise_names.specs.declared.call.Op.{Op}
@@ -18,7 +18,7 @@ use Rattle.assise_fault_script.specs.declared.parse.NumberedCommand.{NumberedCom
 use Rattle.assise_console.specs.declared.answer.Answer.{Answer}
 use Rattle.assise_console.specs.Lines.{Prints}
 use Rattle.assise_console.specs.Sound.{IsRecorded, IsSound, last_of, open_after}
-use Rattle.assise_console.specs.Steps.{Answers, State, answered, called, is_too_large, makes_inode, newly_opened, opened, start, step, with_reply}
+use Rattle.assise_console.specs.Steps.{Answers, State, called, is_too_large, made_after, newly_opened, opened, start, step, with_reply}
 
 pub keeps_start : IsRecorded start
 keeps_start = record { legal = legal-nil; run = tt; tree = refl; client = (refl, refl) }
@@ -62,8 +62,9 @@ follows_call s op = rw (next_after s.calls) refl
 after_call : (s : State) (op : Op) → after (open_after s.calls) (calls (call_of s op)) ≡ open_after (s.calls + 1)
 after_call s op = rw (no_fsync op, one_more s.calls) refl
 
-pub keeps_called : (s : State) (op : Op) → s.opened ≡ true → IsRecorded s → IsRecorded (with_reply s op (answer s.tree op)).1
-keeps_called s op there k =
+pub keeps_called : (s : State) (op : Op) (made : Option ℕ) → s.opened ≡ true → IsRecorded s → IsRecorded (with_reply s op (answer s.tree op) made).1
+keeps_called s op None there k = k
+keeps_called s op (Some made) there k =
     let known : summary s.events ≡ open_after s.calls = subst (λ b. MatchBool b (summary s.events ≡ open_after s.calls) ((summary s.events ≡ nothing_yet) × (s.calls ≡ 0))) there k.client in
     let x = call_of s op in
     let e : Event = calls x in
@@ -97,12 +98,9 @@ opened_from c false h =
       | inr other ↦ let bad : true ≡ false = rw other at h in cc
     ]
 
-keeps_answered : (s : State) (op : Op) → s.opened ≡ true → IsRecorded s → IsRecorded (answered s op (answer s.tree op)).1
-keeps_answered s op there k = chosen (makes_inode op (answer s.tree op).0 && nat_le 1048576 s.made) _ _ (λ spent. k) (λ room. keeps_called s op there k)
-
 keeps_call : (s : State) (c : ℕ) (op : Op) → IsRecorded s → IsRecorded (called s c op).1
 keeps_call s c op k =
-    chosen (not (c == 1) || not s.opened) _ _ (λ missing. k) (λ found. chosen (is_too_large op) _ _ (λ large. k) (λ fits. keeps_answered s op (opened_from c s.opened found) k))
+    chosen (not (c == 1) || not s.opened) _ _ (λ missing. k) (λ found. chosen (is_too_large op) _ _ (λ large. k) (λ fits. keeps_called s op (made_after s.made op (answer s.tree op).0) (opened_from c s.opened found) k))
 
 keeps_step : (s : State) (c : commands.Command) → IsRecorded s → IsRecorded (step s c).1
 keeps_step s (Cluster n l h) k = k

@@ -1,5 +1,5 @@
 -- What each command answers, and the state after it.
-use Rattle.std.specs.Prelude.{◌≡◌, ◌⊎◌, ℕ, ◌+◌, Bool, true, false, not, ◌||◌, ◌==◌, nat_lt, nat_le, ◌&&◌, if◌then◌else◌, List, [], ◌∷◌, ◌++◌, length}
+use Rattle.std.specs.Prelude.{◌≡◌, ◌⊎◌, ℕ, ◌+◌, Bool, true, false, not, ◌||◌, ◌==◌, nat_lt, if◌then◌else◌, List, [], ◌∷◌, ◌++◌, length, Option, Some, None}
 use Rattle.assise_names.specs.declared.call.Op.{Op}
 use Rattle.assise_names.specs.declared.call.Op.TheVariants.{Create, Read, Write, Stat}
 use Rattle.assise_names.specs.declared.reply.Reply.{Reply}
@@ -53,22 +53,26 @@ makes_inode (Read p offset len) reply = false
 makes_inode (Write p offset bytes) reply = false
 makes_inode (Stat p) reply = false
 
--- an answered call is one entry
-abbrev pub with_reply : State → Op → Reply × Tree → answers.Answer × State
-with_reply s op r = (
+-- how many inodes the client has made after a call with this reply, if they are 1,048,576 at most
+abbrev pub made_after : ℕ → Op → Reply → Option ℕ
+made_after made op reply = if not (makes_inode op reply) then Some made else (if nat_lt made 1048576 then Some (made + 1) else None)
+
+-- an answered call is one entry; it isn't made where it makes one inode too many
+abbrev pub with_reply : State → Op → Reply × Tree → Option ℕ → answers.Answer × State
+with_reply s op r None = (Refused InodesSpent, s)
+with_reply s op r (Some made) = (
   Replied r.0,
   record {
     tree = r.1;
     events = s.events ++ calls record { client = 1; number = s.calls; op = op; reply = r.0 } ∷ [];
     opened = s.opened;
     calls = s.calls + 1;
-    made = if makes_inode op r.0 then s.made + 1 else s.made;
+    made = made;
   },
 )
 
--- a client makes 1,048,576 inodes at most
 abbrev pub answered : State → Op → Reply × Tree → answers.Answer × State
-answered s op r = if makes_inode op r.0 && nat_le 1048576 s.made then (Refused InodesSpent, s) else with_reply s op r
+answered s op r = with_reply s op r (made_after s.made op r.0)
 
 -- the client is there, then its write isn't too large, then the tree answers, and then a new inode isn't one too many
 abbrev pub called : State → ℕ → Op → answers.Answer × State

@@ -1,7 +1,7 @@
 // One node and one client, from inodes and a history.
 ghost use Rattle.std.specs.Prelude.{◌≡◌, IfOk, IsOkUnless, OnErr, Some, false, true};
 ghost use Rattle.assise_console.specs.Lines.{answer_text};
-ghost use Rattle.assise_console.specs.Steps.{Answers, answered, called, is_too_large, makes_inode, opened, start, step};
+ghost use Rattle.assise_console.specs.Steps.{Answers, answered, called, is_too_large, made_after, makes_inode, opened, start, step};
 ghost use Rattle.assise_names.specs.declared.refusal.Refusal.TheVariants.{OutOfMemory};
 ghost use Rattle.assise_seq_tree.specs.Answer.{answer as tree_answer};
 
@@ -136,7 +136,8 @@ impl Console {
         self.answer(alloc, op)
     }
 
-    /// Answers a call over the inodes, with one entry. All that takes memory comes before the first change.
+    /// Answers a call over the inodes, with one entry. All that takes memory comes before the first change, and the
+    /// effects are made all or none.
     fn answer(&mut self, alloc: Global, op: Op) -> Result<Answer, Refusal>
         requires there { self.old.opened ≡ true }
         requires fits { is_too_large op ≡ false }
@@ -146,10 +147,9 @@ impl Console {
     {
         let fresh = FIRST_INODE + self.made;
         let outcome = outcome_of(alloc, &self.inodes, &op, fresh)?;
-        let makes = makes_inode(&op, &outcome.reply);
-        if makes && self.made >= MOST_INODES {
+        let Some(made) = made_after(self.made, &op, &outcome.reply) else {
             return Ok(Answer::Refused(Refusal::InodesSpent));
-        }
+        };
         let reply = outcome.reply.copy(alloc)?;
         self.history.reserve()?;
         make_all(&mut self.inodes, outcome.effects.as_slice(), fresh)?;
@@ -161,9 +161,7 @@ impl Console {
             reply,
         }));
         self.calls += 1;
-        if makes {
-            self.made += 1;
-        }
+        self.made = made;
         Ok(Answer::Replied(outcome.reply))
     }
 }
@@ -189,6 +187,20 @@ fn makes_inode(op: &Op, reply: &Reply) -> bool
         Op::Read(_, _, _) => false,
         Op::Write(_, _, _) => false,
         Op::Stat(_) => false,
+    }
+}
+
+/// How many inodes the client has made after a call with this reply, if they aren't too many.
+fn made_after(made: u64, op: &Op, reply: &Reply) -> Option<u64>
+    ensures { result ≡ made_after made op.now reply.now }
+{
+    if !makes_inode(op, reply) {
+        return Some(made);
+    }
+    if made < MOST_INODES {
+        Some(made + 1)
+    } else {
+        None
     }
 }
 

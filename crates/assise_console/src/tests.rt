@@ -45,6 +45,19 @@ fn a_gap_is_filled_with_zeros(rt: HostRuntime) -> Result<(), Fail> {
     Ok(())
 }
 
+/// Creates, some of which fail, then a write and a read of each file.
+const OWN_BYTES: &str =
+    "cluster 1 8 4\nopen 1 least\n1 create /a\n1 create /a\n1 create /a/b\n1 create /none/b\n1 create /\n1 create /b\n1 create /c\n1 write /a 0 tone\n1 write /b 0 ttwo\n1 write /c 2 tthree\n1 write /a 3 x\n1 read /a 0 9\n1 read /b 0 9\n1 read /c 0 9\n1 stat /\n1 read / 0 9\n";
+
+/// No write of one file is read from another: no two files have one inode.
+#[test]
+fn each_file_has_its_own_bytes(rt: HostRuntime) -> Result<(), Fail> {
+    let wanted =
+        "2: client 1\n3: done\n4: E2 Exists\n5: E3 NotDir\n6: E1 NoEnt\n7: E2 Exists\n8: done\n9: done\n10: done\n11: done\n12: done\n13: done\n14: bytes 3 x6f6e65\n15: bytes 3 x74776f\n16: bytes 7 x00007468726565\n17: dir 3\n18: E4 IsDir\n";
+    assert!(rt; prints(&rt, OWN_BYTES, wanted)?);
+    Ok(())
+}
+
 /// Calls that are answered and calls that are refused, and the history of the answered ones.
 const ANSWERS: &str =
     "cluster 1 8 4\nopen 1 least\n1 create /f\n1 create /f/g\n1 write /g 0 x\n1 write /f 9 x\n1 stat /f\n2 stat /\nopen 2 least\nhistory\n";
