@@ -96,7 +96,7 @@ fn make(
     Ok(())
 }
 
-/// Makes an inode that has no number yet what a table says.
+/// Puts what a table says at a number that has no inode.
 fn put(
     alloc: Global,
     rt: &impl Abort,
