@@ -1,5 +1,5 @@
 // What an inode holds.
-ghost use Rattle.std.specs.Prelude.{◌≡◌, Err, IfOk, IsOkUnless, MatchResult, Ok, OnErr, OnOk, Some, []};
+ghost use Rattle.std.specs.Prelude.{◌≡◌, IfOk, IsOkUnless, MatchResult, OnErr, OnOk, []};
 ghost use Rattle.std.specs.FinMap as map;
 ghost use Rattle.assise_names.specs.declared.refusal.Refusal.TheVariants.{OutOfMemory};
 ghost use Rattle.assise_inode_table.specs.Calls.{as_links, as_regular, description_of};

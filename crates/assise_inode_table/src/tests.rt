@@ -37,6 +37,21 @@ enum Change<'a> {
     Free,
 }
 
+/// A few bytes near the beginning of a file.
+fn extent_of(alloc: Global, rt: &impl Abort, offset: u32, bytes: &[u8]) -> Result<Extent, Fail> {
+    let bytes = Bytes::copy_from_slice(alloc, bytes)?;
+    assert!(rt; !bytes.is_empty());
+    assert!(rt; bytes.len() <= 9);
+    assert!(rt; offset <= 9);
+    Ok(Extent::new(offset, bytes))
+}
+
+/// A small size of a file.
+fn size_of(rt: &impl Abort, bytes: u32) -> FileSize {
+    assert!(rt; bytes <= 9);
+    FileSize::new(bytes)
+}
+
 /// The effect on an inode.
 fn effect_of(
     alloc: Global,
@@ -47,18 +62,14 @@ fn effect_of(
     match change {
         Change::NewFile => Ok(Effect::NewFile { inode }),
         Change::NewDir => Ok(Effect::NewDir { inode }),
-        Change::Write(offset, bytes) => {
-            assert!(rt; !bytes.is_empty() && bytes.len() <= 9 && offset <= 9);
-            let extent = Extent::new(offset, Bytes::copy_from_slice(alloc, bytes)?);
-            Ok(Effect::Write { inode, extent })
-        }
-        Change::SetLen(bytes) => {
-            assert!(rt; bytes <= 9);
-            Ok(Effect::SetLen {
-                inode,
-                size: FileSize::new(bytes),
-            })
-        }
+        Change::Write(offset, bytes) => Ok(Effect::Write {
+            inode,
+            extent: extent_of(alloc, rt, offset, bytes)?,
+        }),
+        Change::SetLen(bytes) => Ok(Effect::SetLen {
+            inode,
+            size: size_of(rt, bytes),
+        }),
         Change::Link(name, target) => Ok(Effect::Link {
             directory: inode,
             name: Name::parse(alloc, name)?,
@@ -85,7 +96,7 @@ fn make(
     Ok(())
 }
 
-/// Makes an inode that has no number yet what a table says.
+/// Puts what a table says at a number that has no inode.
 fn put(
     alloc: Global,
     rt: &impl Abort,
@@ -246,7 +257,8 @@ fn a_copy_is_equal(rt: HostRuntime) -> Result<(), Fail> {
     ] {
         let mut table = InodeTable::new(rt.alloc());
         put(rt.alloc(), &rt, &mut table, 7, held)?;
-        let copied = table.get(7).ok_or(Refusal::OutOfMemory)?.copy(rt.alloc())?;
+        let inode = table.get(7).ok_or(TreeError::NoEnt)?;
+        let copied = inode.copy(rt.alloc())?;
         assert!(rt; is_held(rt.alloc(), Some(&copied), held)?);
         table.remove(7);
         assert!(rt; table.get(7).is_none());
@@ -260,7 +272,8 @@ fn a_copy_is_equal(rt: HostRuntime) -> Result<(), Fail> {
 fn a_file_is_read_from_an_offset(rt: HostRuntime) -> Result<(), Fail> {
     let mut table = InodeTable::new(rt.alloc());
     put(rt.alloc(), &rt, &mut table, 7, Held::File(b"abcd"))?;
-    let file = table.get(7).ok_or(TreeError::NoEnt)?.file()?;
+    let inode = table.get(7).ok_or(TreeError::NoEnt)?;
+    let file = inode.file()?;
     for (offset, most, bytes) in [
         (0, 0, b"".as_slice()),
         (0, 2, b"ab"),
@@ -280,7 +293,7 @@ fn a_file_is_read_from_an_offset(rt: HostRuntime) -> Result<(), Fail> {
 #[test]
 fn a_directory_has_room_for_4096_entries(rt: HostRuntime) -> Result<(), Fail> {
     let mut directory = Directory::new(rt.alloc());
-    for number in 0..4096u64 {
+    for number in 0..4096 {
         let text = format!(in rt.alloc(); "{number}")?;
         let name = Name::parse(rt.alloc(), text.as_str())?;
         assert_eq!(rt; directory.room_for(&name), Ok(()), "at {number}");
@@ -301,17 +314,31 @@ fn a_directory_has_room_for_4096_entries(rt: HostRuntime) -> Result<(), Fail> {
     Ok(())
 }
 
-/// The inode that a path leads to from the root.
-fn walk<'a, I: Inodes>(inodes: &'a I, path: &Path) -> Result<&'a Inode, TreeError> {
+/// The inode that an entry of another links to.
+fn child<I: Inodes>(inodes: &I, inode: u64, name: &Name) -> Result<u64, TreeError> {
+    match inodes.get(inode) {
+        Some(inode) => inode.link(name),
+        None => Err(TreeError::NoEnt),
+    }
+}
+
+/// The number of the inode that a path leads to from the root.
+fn walk<I: Inodes>(inodes: &I, path: &Path) -> Result<u64, TreeError> {
     let mut reached = ROOT;
     for name in path.names() {
-        reached = inodes.get(reached).ok_or(TreeError::NoEnt)?.link(name)?;
+        reached = child(inodes, reached, name)?;
     }
+    Ok(reached)
+}
+
+/// The inode that a path leads to from the root.
+fn found<'a, I: Inodes>(inodes: &'a I, path: &Path) -> Result<&'a Inode, TreeError> {
+    let reached = walk(inodes, path)?;
     inodes.get(reached).ok_or(TreeError::NoEnt)
 }
 
 fn stat<I: Inodes>(inodes: &I, path: &Path) -> Reply {
-    match walk(inodes, path) {
+    match found(inodes, path) {
         Ok(inode) => inode.describe(),
         Err(error) => Reply::Error(error),
     }
@@ -324,7 +351,7 @@ fn read<I: Inodes>(
     offset: u64,
     most: u64,
 ) -> Result<Reply, Refusal> {
-    match walk(inodes, path) {
+    match found(inodes, path) {
         Ok(inode) => match inode.file() {
             Ok(file) => Ok(Reply::Bytes(file.read(alloc, offset, most)?)),
             Err(error) => Ok(Reply::Error(error)),
