@@ -1,5 +1,5 @@
 -- Which leases a plan lacks.
-use Rattle.std.proofs.Common.{◌≡◌, ℕ, Bool, true, false, if◌then◌else◌, List, [], ◌∷◌, ◌++◌, Option, Some, None, refl, ap, sym, subst, ◌∙◌, inl, inr}
+use Rattle.std.proofs.Common.{◌≡◌, ℕ, true, false, List, [], ◌∷◌, ◌++◌, Option, Some, None, refl, ap, sym, subst, ◌∙◌, inl, inr}
 use Rattle.std.proofs.lemmas.Bool.{cases_Bool}
 use Rattle.assise_names.specs.declared.call.Op.{Op}
 use Rattle.assise_names.specs.declared.mode.Mode.{Mode}
@@ -9,7 +9,7 @@ use Rattle.assise_inode_table.specs.Contents.{Values}
 use Rattle.assise_inode_table.specs.Interaction.{Interaction, visit, finish, Step, AgreeOn}
 use Rattle.assise_inode_table.proofs.Local.{step_local}
 use Rattle.assise_inode_plan.specs.Leased.{AreLeased, Leases, wants, first_missing}
-use Rattle.assise_inode_plan.specs.Planning.{Plan, ready, missing, plan_lacking, plan_of}
+use Rattle.assise_inode_plan.specs.Planning.{ready, missing, plan_lacking, plan_of}
 use Rattle.assise_inode_plan.specs.Walking.{plan_from}
 use Rattle.assise_inode_plan.proofs.Exact.{whole_plan}
 

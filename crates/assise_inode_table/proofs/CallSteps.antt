@@ -1,5 +1,5 @@
 -- Over inodes that spell a tree a call is what it is on the tree.
-use Rattle.std.proofs.Common.{◌≡◌, ◌≢◌, ℕ, ◌-◌, ◌<◌, arith, Bool, true, false, if◌then◌else◌, nat_le, ◌==◌, List, [], ◌∷◌, ◌++◌, length, Option, Some, None, is_some, Result, Ok, Err, refl, ap, sym, subst, ◌∙◌, inl, inr}
+use Rattle.std.proofs.Common.{◌≡◌, ◌≢◌, ℕ, ◌<◌, arith, true, false, if◌then◌else◌, nat_le, ◌==◌, List, [], ◌∷◌, ◌++◌, length, Option, Some, None, is_some, Result, Ok, Err, refl, ap, sym, subst, ◌∙◌, inl, inr}
 use Rattle.std.specs.List.{list_any}
 use Rattle.std.proofs.lemmas.Bool.{cases_Bool, eq-eqb, ne_eqb, eqb-false}
 use Rattle.std.specs.FinMap as map
@@ -12,19 +12,19 @@ use Rattle.assise_names.specs.declared.reply.TreeError.TheVariants.{Exists, NotD
 use Rattle.assise_record.specs.declared.effect.Effect.{Effect}
 use Rattle.assise_record.specs.declared.effect.Effect.TheVariants.{NewFile, Write, Link}
 use Rattle.assise_seq_tree.specs.Contents.{bytes_from, overwritten, is_within}
-use Rattle.assise_seq_tree.specs.Tree.{Tree, file, dir, Entries, same_name, find, count, at, put}
-use Rattle.assise_seq_tree.specs.Answer.{◌>>=◌, parent_of, last_name, as_directory, as_file, file_at, room_for, room_at, reply_and_tree, create_answer, read_answer, tree_after_write, write_answer, stat_answer, answer}
+use Rattle.assise_seq_tree.specs.Tree.{Tree, file, Entries, same_name, find, at, put}
+use Rattle.assise_seq_tree.specs.Answer.{◌>>=◌, parent_of, last_name, as_directory, room_for, reply_and_tree, create_answer, read_answer, tree_after_write, write_answer, stat_answer, answer}
 use Rattle.assise_seq_tree.proofs.Moves.{parent_and_last}
-use Rattle.assise_inode_table.specs.Contents.{Content, regular, directory, Links, Values}
+use Rattle.assise_inode_table.specs.Contents.{regular, directory, Links, Values}
 use Rattle.assise_inode_table.specs.Effects.{after, makes}
-use Rattle.assise_inode_table.specs.Interaction.{Interaction, finish, reply_of, effects_of}
+use Rattle.assise_inode_table.specs.Interaction.{Interaction, finish}
 use Rattle.assise_inode_table.specs.Calls.{then_or_error, as_regular, as_links, room_among, walk, create_call, read_call, write_effects, write_call, stat_call, interaction, step}
 use Rattle.assise_inode_table.specs.Reach.{children, reach, names_of}
 use Rattle.assise_inode_table.specs.Spelled.{Spells, AgreeBut, AddsLink}
 use Rattle.assise_inode_table.proofs.Creating.{created as made}
 use Rattle.assise_inode_table.proofs.Leaves.{file_nowhere, file_spells}
 use Rattle.assise_inode_table.proofs.Rewriting.{file_rewritten}
-use Rattle.assise_inode_table.proofs.Meeting.{settled, found, walk_fails, walk_finds, found_there, Meets, nothing, a_file, a_directory, FindsFile, FindsDirectory, meets, count-names_of, is_some-find}
+use Rattle.assise_inode_table.proofs.Meeting.{settled, walk_fails, walk_finds, found_there, Meets, nothing, a_file, a_directory, FindsFile, FindsDirectory, meets, count-names_of, is_some-find}
 
 abbrev Path : Type 0
 Path = List (List ℕ)

@@ -1,16 +1,15 @@
 -- Changes that come late give the same values.
 use Rattle.std.proofs.Common.{◌≡◌, ℕ, ◌<◌, ◌≤◌, arith, Bool, true, false, List, [], ◌∷◌, ◌++◌, if◌then◌else◌, Option, refl, ap, sym, ◌∙◌, subst, ◌||◌, ◌&&◌, nat_le, nat_lt, ◌==◌, inl, inr}
-use Rattle.std.proofs.lemmas.Bool.{cases_Bool, cases_eq, eq-eqb, eqb-true, ne_eqb, ltb-true, leb-true, le-ltb, both_ways, and_parts}
+use Rattle.std.proofs.lemmas.Bool.{cases_eq, eqb-true, ltb-true, leb-true, le-ltb, and_parts}
 use Rattle.std.proofs.lemmas.Bool.Decides.{nat_tests}
 use Rattle.assise_inode_table.specs.Contents.{Content, Values}
 use Rattle.assise_inode_table.specs.Effects.{touched, value_after, contains}
 use Rattle.assise_inode_table.specs.Interaction.{Step}
-use Rattle.assise_inode_table.specs.Traces.{NumberedCall, trace, step_of, Each, Pairs, Rises, below, window}
+use Rattle.assise_inode_table.specs.Traces.{NumberedCall, trace, Each, Rises, below, window}
 use Rattle.assise_inode_table.specs.Unseen.{Clear, Unseen}
-use Rattle.assise_inode_table.specs.Effects.{after}
 use Rattle.assise_inode_table.specs.Late.{value_of, Quiet, NoneBetween, raised}
 use Rattle.assise_inode_table.proofs.Making.{untouched}
-use Rattle.assise_inode_table.proofs.Pairing.{each-map, each-both, clear_not, clear-right, RisesAlong, rises_along}
+use Rattle.assise_inode_table.proofs.Pairing.{each-both, clear_not, clear-right, RisesAlong, rises_along}
 
 abbrev Test : Type 0
 Test = NumberedCall → Bool

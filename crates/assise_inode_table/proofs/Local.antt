@@ -1,5 +1,5 @@
 -- A call depends on the inodes alone that it visits.
-use Rattle.std.proofs.Common.{◌≡◌, ℕ, List, [], ◌∷◌, Option, refl, ap, ◌∙◌}
+use Rattle.std.proofs.Common.{◌≡◌, ℕ, ◌∷◌, refl, ap, ◌∙◌}
 use Rattle.assise_names.specs.declared.call.Op.{Op}
 use Rattle.assise_inode_table.specs.Contents.{Values}
 use Rattle.assise_inode_table.specs.Interaction.{Interaction, visit, finish, visits_of, Step, step_by, AgreeOn}

@@ -1,5 +1,5 @@
 -- What a walk meets over inodes that spell a tree is what stands in the tree.
-use Rattle.std.proofs.Common.{◌≡◌, ℕ, ◌+◌, Bool, true, false, if◌then◌else◌, List, [], ◌∷◌, ◌||◌, length, Option, Some, None, is_some, Result, Ok, Err, refl, ap, sym, ◌∙◌, arith}
+use Rattle.std.proofs.Common.{◌≡◌, ℕ, Bool, true, false, if◌then◌else◌, List, [], ◌∷◌, ◌||◌, length, Option, Some, None, is_some, Result, Ok, Err, refl, ap, sym, ◌∙◌, arith}
 use Rattle.std.specs.Prelude.{ok_or}
 use Rattle.std.specs.List.{list_any}
 use Rattle.std.specs.FinMap as map
@@ -11,10 +11,10 @@ use Rattle.assise_record.specs.declared.effect.Effect.{Effect}
 use Rattle.assise_seq_tree.specs.Tree.{Tree, file, dir, Entries, no_entries, entry, same_name, find, count, at}
 use Rattle.assise_seq_tree.specs.Answer.{◌>>=◌}
 use Rattle.assise_inode_table.specs.Contents.{Content, regular, directory, Links, Values}
-use Rattle.assise_inode_table.specs.Interaction.{Interaction, visit, finish, reply_of, effects_of}
+use Rattle.assise_inode_table.specs.Interaction.{Interaction, reply_of, effects_of}
 use Rattle.assise_inode_table.specs.Calls.{then_or_error, walk_from, walk}
-use Rattle.assise_inode_table.specs.Reach.{link_of, children, reach, Shape, plain, folder, shape_of, names_of, shape_of_tree, shown_from, shown_in}
-use Rattle.assise_inode_table.specs.Spelled.{SpellsFrom, Spells}
+use Rattle.assise_inode_table.specs.Reach.{link_of, children, reach, shape_of, names_of, shape_of_tree}
+use Rattle.assise_inode_table.specs.Spelled.{Spells}
 
 -- ---- how a walk ends
 

@@ -1,5 +1,5 @@
 -- Calls that no other client saw are taken out of a run.
-use Rattle.std.proofs.Common.{◌≡◌, ℕ, ◌<◌, ◌≤◌, arith, Bool, true, false, List, [], ◌∷◌, ◌++◌, filter, if◌then◌else◌, Option, None, refl, ap, sym, ◌∙◌, subst, ◌||◌, ◌==◌, inl, inr, MatchBool}
+use Rattle.std.proofs.Common.{◌≡◌, ℕ, ◌<◌, ◌≤◌, arith, Bool, true, false, List, [], ◌∷◌, ◌++◌, filter, if◌then◌else◌, None, refl, ap, sym, ◌∙◌, subst, ◌||◌, ◌==◌, inl, inr, MatchBool}
 use Rattle.std.specs.List.{list_any}
 use Rattle.std.proofs.lemmas.Bool.{cases_Bool, cases_eq, ltb-true, ltb-false, eqb-true, or_cases}
 use Rattle.assise_record.specs.declared.effect.Effect.{Effect}
@@ -8,15 +8,15 @@ use Rattle.assise_record.specs.Touched.{touched_by}
 use Rattle.assise_seq_tree.specs.Tree.{Tree}
 use Rattle.assise_seq_tree.specs.Answer.{answer}
 use Rattle.assise_seq_tree.specs.Runs.{AreAnswered, tree_after_calls}
-use Rattle.assise_inode_table.specs.Contents.{Content, Values}
+use Rattle.assise_inode_table.specs.Contents.{Values}
 use Rattle.assise_inode_table.specs.Effects.{after, makes, touched, contains, value_after}
 use Rattle.assise_inode_table.specs.Interaction.{Step, AgreeOn}
 use Rattle.assise_inode_table.specs.Spelled.{Spells}
-use Rattle.assise_inode_table.specs.Traces.{NumberedCall, trace, step_of, values_after_calls, MakesNew, AllMakeNew, exchanges, ops, Each, Pairs, Rises, below}
+use Rattle.assise_inode_table.specs.Traces.{NumberedCall, trace, step_of, values_after_calls, MakesNew, AllMakeNew, exchanges, ops, Each, Rises, below}
 use Rattle.assise_inode_table.specs.Unseen.{Clear, Unseen}
 use Rattle.assise_inode_table.proofs.Making.{or_left, or_right, contains-append, untouched}
 use Rattle.assise_inode_table.proofs.Local.{step_local}
-use Rattle.assise_inode_table.proofs.Pairing.{each-map, each-always, each-both, clear-left, clear-right, clear-append, clear_nothing, RisesAlong, rises_along}
+use Rattle.assise_inode_table.proofs.Pairing.{each-always, each-both, clear-left, clear-right, clear-append, clear_nothing, RisesAlong, rises_along}
 use Rattle.assise_inode_table.proofs.CallSteps.{step_replies, step_spells}
 
 abbrev Traced : Type 0
