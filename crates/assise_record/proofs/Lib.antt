@@ -6,6 +6,7 @@ pub mod Names
 pub mod Outcomes
 pub mod RecordLaws
 pub mod RoomLaws
+pub mod Shortness
 pub mod SizeBounds
 pub mod Stays
 pub mod Unique

@@ -1,7 +1,7 @@
 -- The first fault of bytes. Fields are read from left to right, each behind the one before it: a reading is a value
 -- and the bytes behind it, or the fault that was found first. Which bytes are frames is said apart from this, in
 -- `Spelling`; that both agree are laws of the crate.
-use Rattle.std.specs.Prelude.{◌≡◌, ◌<◌, ◌≤◌, ℕ, ◌+◌, zero, suc, Bool, nat_lt, nat_le, ◌==◌, ◌&&◌, if◌then◌else◌, List, [], ◌∷◌, length, take, drop, Result, Ok, Err}
+use Rattle.std.specs.Prelude.{◌≡◌, ◌⊎◌, ◌<◌, ◌≤◌, ℕ, ◌+◌, zero, suc, Bool, nat_lt, nat_le, ◌==◌, ◌&&◌, if◌then◌else◌, List, [], ◌∷◌, length, take, drop, Result, Ok, Err}
 use Rattle.byteorder.specs.Endian.{big_number}
 use Rattle.assise_names.specs.Name.{is_name}
 use Rattle.assise_record.specs.Patch.{Patch}
@@ -198,6 +198,10 @@ frame_at bytes = do
   body ← bytes_at head.0.size Short head.1
   records ← body_at head.0.count body.0
   Ok (record { epoch = head.0.epoch; client = head.0.client; first = head.0.first; records = records }, 29 + head.0.size)
+
+-- the bytes end inside the header, each field so far being lawful, or fewer stand behind it than it announces
+abbrev pub IsUnfinished : List ℕ → Type 0
+IsUnfinished bytes = (header_at bytes ≡ Err Short) ⊎ ((h : Header) × (rest : List ℕ) × (header_at bytes ≡ Ok (h, rest)) × (length rest < h.size))
 
 -- ---- what a function returned, seen by view, is what reading gives, unless memory ran out
 

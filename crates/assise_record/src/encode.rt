@@ -184,13 +184,13 @@ fn put_effects(out: &mut Vec<u8>, effects: &[Effect])
     }
 }
 
-fn put_record(out: &mut Vec<u8>, record: &Record)
-    requires { HasRoom out.old (record_spelling record.now) }
-    ensures appended { Appends out.old out.new (record_spelling record.now) }
-    ensures lawful { IsLogRecord record.now }
+fn put_record(out: &mut Vec<u8>, logged: &Record)
+    requires { HasRoom out.old (record_spelling logged.now) }
+    ensures appended { Appends out.old out.new (record_spelling logged.now) }
+    ensures lawful { IsLogRecord logged.now }
 {
-    let effects = record.effects();
-    put_u64(out, record.call());
+    let effects = logged.effects();
+    put_u64(out, logged.call());
     put(out, &[effects.len() as u8]);
     put_effects(out, effects);
 }

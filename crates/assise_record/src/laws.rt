@@ -1,7 +1,7 @@
 // Laws of frames. Each function does nothing: its contract is the law.
-ghost use Rattle.std.specs.Prelude.{◌≡◌, ◌<◌, ◌++◌, [], All, Err, List, Ok, length, ℕ};
+ghost use Rattle.std.specs.Prelude.{◌≡◌, ◌↔◌, ◌<◌, ◌++◌, [], All, Err, List, Ok, length, ℕ};
 ghost use Rattle.assise_record.specs.LogFrame.{LogFrame};
-ghost use Rattle.assise_record.specs.Reading.{frame_at};
+ghost use Rattle.assise_record.specs.Reading.{IsUnfinished, frame_at};
 ghost use Rattle.assise_record.specs.Spelling.{BeginsWith, Spells};
 ghost use Rattle.assise_record.specs.declared.fault.FrameFault.TheVariants.{Short};
 
@@ -30,6 +30,12 @@ pub fn no_spelling_begins_another()
 /// with which the bytes are no front of a frame any more.
 pub fn only_what_is_short_changes()
     ensures { (bytes more : List ℕ) → ¬ (frame_at bytes ≡ Err Short) → frame_at (bytes ++ more) ≡ frame_at bytes }
+{}
+
+/// Short are exactly the bytes that end inside a header, or before the end of the body that it announces: no field
+/// of a body is.
+pub fn what_is_short_is_unfinished()
+    ensures { (bytes : List ℕ) → (frame_at bytes ≡ Err Short) ↔ IsUnfinished bytes }
 {}
 
 /// A frame that is cut is Short, wherever it is cut.

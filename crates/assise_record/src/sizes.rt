@@ -24,11 +24,11 @@ fn effect_size(effect: &Effect) -> usize
 }
 
 /// The bytes of a record: its call, the count of its effects, and the effects.
-fn record_size(record: &Record) -> usize
-    ensures size { result ≡ length (record_spelling record.now) }
+fn record_size(logged: &Record) -> usize
+    ensures size { result ≡ length (record_spelling logged.now) }
     ensures few { result ≤ 262221 }
 {
-    9 + effects_size(record.effects())
+    9 + effects_size(logged.effects())
 }
 
 fn effects_size(effects: &[Effect]) -> usize
