@@ -1,5 +1,5 @@
 -- What a call needs leased.
--- Assise, OSDI 2020, section 3.3: leases on files and directories, for reading by several, for writing by one.
+-- Assise, OSDI 2020, section 3 (CC-NVM, leases): leases on files and directories, for reading by several, for writing by one.
 use Rattle.std.specs.Prelude.{◌≡◌, ℕ, Bool, true, if◌then◌else◌, List, [], ◌∷◌, ◌++◌, map, Option, Some, None}
 use Rattle.assise_names.specs.declared.mode.Mode.{Mode}
 use Rattle.assise_names.specs.declared.mode.Mode.TheVariants.{Read, Write}

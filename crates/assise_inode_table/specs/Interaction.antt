@@ -1,5 +1,5 @@
 -- How a call meets inodes: it visits one after another, each chosen by what those before it hold, and in the end it answers.
--- Assise, OSDI 2020, section 3.3: what a call visits is leased for reading, and what it changes for writing.
+-- Assise, OSDI 2020, section 3 (CC-NVM, leases): what a call visits is leased for reading, and what it changes for writing.
 use Rattle.std.specs.Prelude.{◌≡◌, ℕ, List, [], ◌∷◌, Option}
 use Rattle.assise_names.specs.declared.reply.Reply.{Reply}
 use Rattle.assise_record.specs.declared.effect.Effect.{Effect}

@@ -1,5 +1,5 @@
 -- The value of an inode after some of the calls of a trace.
--- Strata, SOSP 2017, section 3.2: logs are digested apart from one another, later than their calls.
+-- Strata, SOSP 2017, section 3 (digests of update logs): logs are digested apart from one another, later than their calls.
 use Rattle.std.specs.Prelude.{◌≡◌, ℕ, Bool, true, false, ◌==◌, List, [], ◌∷◌, if◌then◌else◌, Option}
 use Rattle.assise_inode_table.specs.Contents.{Content}
 use Rattle.assise_inode_table.specs.Effects.{contains, touched, value_after}

@@ -1,5 +1,5 @@
 -- Calls whose changes no other client has seen.
--- Assise, OSDI 2020, section 3.3: what a client wrote is handed to others only once it is replicated and digested.
+-- Assise, OSDI 2020, section 3 (CC-NVM, leases): what a client wrote is handed to others only once it is replicated and digested.
 use Rattle.std.specs.Prelude.{◌≡◌, ◌≢◌, ℕ, ◌≤◌, false, List, [], ◌∷◌, ◌++◌}
 use Rattle.assise_inode_table.specs.Effects.{contains, touched}
 use Rattle.assise_inode_table.specs.Interaction.{Step}
