@@ -1,5 +1,5 @@
 -- A text has the path that it spells, and no other: the names of a spelling are its pieces between slashes.
-use Rattle.std.proofs.Common.{◌≡◌, ℕ, ◌+◌, ◌<◌, ◌≤◌, Bool, true, false, not, ◌&&◌, ◌||◌, ◌==◌, nat_le, nat_lt, cond, List, [], ◌∷◌, ◌++◌, length, Result, Ok, Err, refl, ap, sym, ◌∙◌, ◌⊎◌, inl, inr, arith, IsTrue, All, IsOkUnless}
+use Rattle.std.proofs.Common.{◌≡◌, ℕ, ◌≤◌, Bool, true, false, ◌||◌, ◌==◌, nat_lt, List, [], ◌∷◌, ◌++◌, length, Result, Ok, Err, refl, ap, sym, ◌∙◌, inl, inr, arith, IsTrue, All, IsOkUnless}
 use Rattle.std.proofs.lemmas.Bool.{cases_Bool, and_parts, not-true, le-ltb, leb-true, ltb-false, le-leb}
 use Rattle.std.proofs.lemmas.Bool.Decides.{nat_tests}
 use Rattle.std.proofs.lemmas.List.{append-nil}
@@ -7,11 +7,10 @@ use Rattle.std.proofs.lemmas.List.Elements.{All-nil, All-cons, All-head, All-tai
 use Rattle.std.proofs.lemmas.List.Splits.{slice_split_at, slice_split_none, join_with_byte-slice_split}
 use Rattle.std.specs.List.{slice_split, join_with_byte, list_any}
 use Rattle.std.specs.Str.{is_utf8}
-use Rattle.std.specs.Prelude.{flat_map}
 use Rattle.assise_names.specs.Name.{is_name, is_barred, is_dots, name_of}
 use Rattle.assise_names.specs.Path.{◌>>=◌, IsPath, Spells, spelling, names_of, no_deeper, names_behind, path_of, Gives}
 use Rattle.assise_names.specs.declared.path.PathFault.{PathFault}
-use Rattle.assise_names.specs.declared.path.PathFault.TheVariants.{EmptyName, NameTooLong, BadName, TooDeep, Memory, NotAbsolute}
+use Rattle.assise_names.specs.declared.path.PathFault.TheVariants.{EmptyName, NameTooLong, BadName, Memory}
 
 abbrev IsLawful : List ℕ → Type 0
 IsLawful name = IsTrue (is_name name)

@@ -1,16 +1,16 @@
 -- What is printed of paths, calls, replies and refusals, byte by byte.
-use Rattle.std.specs.Prelude.{ℕ, ◌/◌, ◌%◌, false, List, ◌++◌, length, codes}
+use Rattle.std.specs.Prelude.{ℕ, ◌/◌, ◌%◌, false, List, ◌∷◌, ◌++◌, length, codes}
 use Rattle.std.specs.List.{flat_map}
 use Rattle.std.specs.Fmt.{decimal, digits}
 use Rattle.assise_names.specs.Path.{spelling}
 use Rattle.assise_names.specs.declared.call.Op.{Op}
-use Rattle.assise_names.specs.declared.call.Op.TheVariants.{Create, Read, Write, Stat}
+use Rattle.assise_names.specs.declared.call.Op.TheVariants.{Create, Mkdir, Read, Write, Truncate, Unlink, Rmdir, List as ListCall, Stat, Fsync}
 use Rattle.assise_names.specs.declared.path.PathFault.{PathFault}
 use Rattle.assise_names.specs.declared.path.PathFault.TheVariants.{NotAbsolute, EmptyName, BadName, NameTooLong, TooDeep, Memory}
 use Rattle.assise_names.specs.declared.refusal.Refusal.{Refusal}
 use Rattle.assise_names.specs.declared.refusal.Refusal.TheVariants.{OutOfMemory, Busy, NodeDown, ClientGone, InodesSpent, TooLarge, LastNode, BadNode, BadClient, WrongPhase, StaleMessage, LogFull}
 use Rattle.assise_names.specs.declared.reply.Reply.{Reply}
-use Rattle.assise_names.specs.declared.reply.Reply.TheVariants.{Done, Bytes, File, Dir, Error}
+use Rattle.assise_names.specs.declared.reply.Reply.TheVariants.{Done, Bytes, Names, File, Dir, Error}
 use Rattle.assise_names.specs.declared.reply.TreeError.{TreeError}
 use Rattle.assise_names.specs.declared.reply.TreeError.TheVariants.{NoEnt, Exists, NotDir, IsDir, NotEmpty, Invalid, TooBig, DirFull}
 
@@ -20,6 +20,10 @@ hex_byte b = digits 16 false (b / 16) ++ digits 16 false (b % 16)
 
 abbrev pub hex : List ℕ → List ℕ
 hex bytes = flat_map hex_byte bytes
+
+-- each name after a space
+abbrev pub spaced : List (List ℕ) → List ℕ
+spaced names = flat_map (λ name. 32 ∷ name) names
 
 abbrev pub path_fault_text : PathFault → List ℕ
 path_fault_text NotAbsolute = codes "not absolute"
@@ -56,6 +60,7 @@ refusal_text LogFull = codes "F12 LogFull"
 abbrev pub reply_text : Reply → List ℕ
 reply_text Done = codes "done"
 reply_text (Bytes bytes) = codes "bytes " ++ decimal (length bytes) ++ codes " x" ++ hex bytes
+reply_text (Names names) = codes "names " ++ decimal (length names) ++ spaced names
 reply_text (File size) = codes "file " ++ decimal size
 reply_text (Dir entries) = codes "dir " ++ decimal entries
 reply_text (Error error) = error_text error
@@ -63,6 +68,12 @@ reply_text (Error error) = error_text error
 -- a call's name and words, with the count of a write's bytes in place of the bytes
 abbrev pub op_text : Op → List ℕ
 op_text (Create path) = codes "create " ++ spelling path
+op_text (Mkdir path) = codes "mkdir " ++ spelling path
 op_text (Read path offset length) = codes "read " ++ spelling path ++ codes " " ++ decimal offset ++ codes " " ++ decimal length
 op_text (Write path offset bytes) = codes "write " ++ spelling path ++ codes " " ++ decimal offset ++ codes " " ++ decimal (length bytes)
+op_text (Truncate path size) = codes "truncate " ++ spelling path ++ codes " " ++ decimal size
+op_text (Unlink path) = codes "unlink " ++ spelling path
+op_text (Rmdir path) = codes "rmdir " ++ spelling path
+op_text (ListCall path) = codes "list " ++ spelling path
 op_text (Stat path) = codes "stat " ++ spelling path
+op_text Fsync = codes "fsync"

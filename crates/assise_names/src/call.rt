@@ -10,17 +10,29 @@ use std::alloc::Global;
 use std::fmt;
 use std::fmt::{Display, Formatter};
 
-/// A call. Offsets and lengths are counts of bytes.
+/// A call. Offsets, lengths and sizes are counts of bytes.
 #[derive(Debug, Drop)]
 pub enum Op {
     /// Makes a file without bytes at a path where nothing is.
     Create(Path),
+    /// Makes a directory without entries at a path where nothing is.
+    Mkdir(Path),
     /// Reads from an offset on, at most so many bytes.
     Read(Path, u64, u64),
     /// Writes bytes at an offset.
     Write(Path, u64, ByteString),
+    /// Gives a file another size.
+    Truncate(Path, u64),
+    /// Removes a file.
+    Unlink(Path),
+    /// Removes a directory without entries.
+    Rmdir(Path),
+    /// Lists the names of a directory's entries.
+    List(Path),
     /// Says what stands at a path.
     Stat(Path),
+    /// Is answered once all calls before it are replicated.
+    Fsync,
 }
 
 impl Op {
@@ -31,12 +43,18 @@ impl Op {
     {
         match self {
             Op::Create(path) => Ok(Op::Create(path.copy(alloc)?)),
+            Op::Mkdir(path) => Ok(Op::Mkdir(path.copy(alloc)?)),
             Op::Read(path, offset, length) => Ok(Op::Read(path.copy(alloc)?, *offset, *length)),
             Op::Write(path, offset, bytes) => {
                 let path = path.copy(alloc)?;
                 Ok(Op::Write(path, *offset, bytes.copy(alloc)?))
             }
+            Op::Truncate(path, size) => Ok(Op::Truncate(path.copy(alloc)?, *size)),
+            Op::Unlink(path) => Ok(Op::Unlink(path.copy(alloc)?)),
+            Op::Rmdir(path) => Ok(Op::Rmdir(path.copy(alloc)?)),
+            Op::List(path) => Ok(Op::List(path.copy(alloc)?)),
             Op::Stat(path) => Ok(Op::Stat(path.copy(alloc)?)),
+            Op::Fsync => Ok(Op::Fsync),
         }
     }
 }
@@ -48,12 +66,18 @@ impl Display for Op {
     fn fmt<W: fmt::Write>(&self, f: &mut Formatter<W>) -> fmt::Result {
         match self {
             Op::Create(path) => write!(f, "create {path}"),
+            Op::Mkdir(path) => write!(f, "mkdir {path}"),
             Op::Read(path, offset, length) => write!(f, "read {path} {offset} {length}"),
             Op::Write(path, offset, bytes) => {
                 let count = bytes.len();
                 write!(f, "write {path} {offset} {count}")
             }
+            Op::Truncate(path, size) => write!(f, "truncate {path} {size}"),
+            Op::Unlink(path) => write!(f, "unlink {path}"),
+            Op::Rmdir(path) => write!(f, "rmdir {path}"),
+            Op::List(path) => write!(f, "list {path}"),
             Op::Stat(path) => write!(f, "stat {path}"),
+            Op::Fsync => write!(f, "fsync"),
         }
     }
 }

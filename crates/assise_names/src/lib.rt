@@ -5,6 +5,7 @@ pub mod byte_string;
 pub mod call;
 pub mod mode;
 pub mod name;
+pub mod name_list;
 pub mod path;
 pub mod refusal;
 pub mod reply;

@@ -71,6 +71,18 @@ impl Name {
     }
 }
 
+/// Equal names.
+pub(crate) fn copy_names(alloc: Global, names: &[Name]) -> Result<Vec<Name>, Refusal>
+    ensures equal { IfOk result (λ copied. copied.items ≡ names.now) }
+    ensures only_memory { IsOkUnless result OutOfMemory }
+{
+    let mut copied = Vec::with_capacity(alloc, names.len())?;
+    for name in names {
+        copied.push(name.copy(alloc)?)?;
+    }
+    Ok(copied)
+}
+
 /// What is wrong with a text as a name.
 fn check(text: &str) -> Result<(), PathFault>
     ensures { MatchResult result (λ _. name_of text.now ≡ Ok text.now) (λ fault. name_of text.now ≡ Err fault) }

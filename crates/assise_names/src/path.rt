@@ -5,7 +5,7 @@ ghost use Rattle.assise_names.specs.Path.{Gives, GivesNames, IsProperFront, Spel
 ghost use Rattle.assise_names.specs.Text.{path_fault_text};
 ghost use Rattle.assise_names.specs.declared.refusal.Refusal.TheVariants.{OutOfMemory};
 
-use crate::name::Name;
+use crate::name::{Name, copy_names};
 use crate::refusal::Refusal;
 use std::alloc::{AllocError, AllocFailed, Global};
 use std::error::Error;
@@ -122,10 +122,7 @@ impl Path {
         ensures equal { IfOk result (λ copied. copied ≡ self.now) }
         ensures only_memory { IsOkUnless result OutOfMemory }
     {
-        let mut names = Vec::with_capacity(alloc, self.names.len())?;
-        for name in &self.names {
-            names.push(name.copy(alloc)?)?;
-        }
+        let names = copy_names(alloc, self.names.as_slice())?;
         Ok(Path { names })
     }
 }

@@ -1,10 +1,12 @@
 // What calls answer.
 ghost use Rattle.std.specs.Prelude.{◌≡◌, ◌↔◌, IfOk, IsOkUnless, IsTrue, OnErr, Some};
-ghost use Rattle.assise_names.specs.Reply.{IsBytes};
-ghost use Rattle.assise_names.specs.Text.{error_text, hex, reply_text};
+ghost use Rattle.assise_names.specs.Reply.{HoldsWhatWasRead};
+ghost use Rattle.assise_names.specs.Text.{error_text, hex, reply_text, spaced};
 ghost use Rattle.assise_names.specs.declared.refusal.Refusal.TheVariants.{OutOfMemory};
 
 use crate::byte_string::ByteString;
+use crate::name::Name;
+use crate::name_list::NameList;
 use crate::refusal::Refusal;
 use std::alloc::Global;
 use std::error::Error;
@@ -58,6 +60,8 @@ pub enum Reply {
     Done,
     /// The bytes that were read.
     Bytes(ByteString),
+    /// The names of a directory's entries, rising by their bytes.
+    Names(NameList),
     /// A file, with its size in bytes.
     File(u64),
     /// A directory, with the count of its entries.
@@ -67,15 +71,16 @@ pub enum Reply {
 }
 
 impl Reply {
-    /// An equal value, or [`Refusal::OutOfMemory`]. Only bytes take memory.
+    /// An equal value, or [`Refusal::OutOfMemory`]. Only bytes and names take memory.
     pub fn copy(&self, alloc: Global) -> Result<Reply, Refusal>
         ensures equal { IfOk result (λ copied. copied ≡ self.now) }
         ensures only_memory { IsOkUnless result OutOfMemory }
-        ensures only_bytes { OnErr result (IsBytes self.now) }
+        ensures only_what_was_read { OnErr result (HoldsWhatWasRead self.now) }
     {
         match self {
             Reply::Done => Ok(Reply::Done),
             Reply::Bytes(bytes) => Ok(Reply::Bytes(bytes.copy(alloc)?)),
+            Reply::Names(names) => Ok(Reply::Names(names.copy(alloc)?)),
             Reply::File(size) => Ok(Reply::File(*size)),
             Reply::Dir(entries) => Ok(Reply::Dir(*entries)),
             Reply::Error(error) => Ok(Reply::Error(*error)),
@@ -93,6 +98,12 @@ impl Display for Reply {
                 let count = bytes.len();
                 let hex = Hex(bytes.as_slice());
                 write!(f, "bytes {count} x{hex}")
+            }
+            Reply::Names(names) => {
+                let names = names.as_slice();
+                let count = names.len();
+                let spaced = Spaced(names);
+                write!(f, "names {count}{spaced}")
             }
             Reply::File(size) => write!(f, "file {size}"),
             Reply::Dir(entries) => write!(f, "dir {entries}"),
@@ -113,6 +124,21 @@ impl Display for Hex<'_> {
             let high = *byte / 16;
             let low = *byte % 16;
             write!(f, "{high:x}{low:x}")?;
+        }
+        Ok(())
+    }
+}
+
+/// Each name after a space.
+#[derive(Drop)]
+struct Spaced<'a>(&'a [Name]);
+
+impl Display for Spaced<'_> {
+    ghost output = { λ names. Some (spaced names.0.now) };
+
+    fn fmt<W: fmt::Write>(&self, f: &mut Formatter<W>) -> fmt::Result {
+        for name in self.0 {
+            write!(f, " {name}")?;
         }
         Ok(())
     }

@@ -1,6 +1,8 @@
 // Texts of paths, and what is printed of paths, calls, replies and refusals.
 use crate::byte_string::ByteString;
 use crate::call::Op;
+use crate::name::Name;
+use crate::name_list::NameList;
 use crate::path::{Path, PathFault};
 use crate::refusal::Refusal;
 use crate::reply::{Reply, TreeError};
@@ -13,6 +15,15 @@ fn repeated(rt: &HostRuntime, front: &str, piece: &str, count: usize) -> Result<
         text.push_str(piece)?;
     }
     Ok(text)
+}
+
+/// The names of these texts.
+fn names(rt: &HostRuntime, texts: &[&str]) -> Result<NameList, Fail> {
+    let mut names = Vec::new(rt.alloc());
+    for text in texts {
+        names.push(Name::parse(rt.alloc(), text)?)?;
+    }
+    Ok(NameList::from_vec(names))
 }
 
 #[test]
@@ -99,7 +110,16 @@ fn calls_are_printed_as_a_history_has_them(rt: HostRuntime) -> Result<(), Fail> 
             "read /a/b 0 10",
         ),
         (write, "write /f 9 3"),
+        (Op::Mkdir(Path::parse(rt.alloc(), "/d")?), "mkdir /d"),
+        (
+            Op::Truncate(Path::parse(rt.alloc(), "/f")?, 1_048_577),
+            "truncate /f 1048577",
+        ),
+        (Op::Unlink(Path::parse(rt.alloc(), "/f")?), "unlink /f"),
+        (Op::Rmdir(Path::parse(rt.alloc(), "/d")?), "rmdir /d"),
+        (Op::List(Path::parse(rt.alloc(), "/d")?), "list /d"),
         (Op::Stat(Path::parse(rt.alloc(), "/")?), "stat /"),
+        (Op::Fsync, "fsync"),
     ] {
         let printed = format!(in rt.alloc(); "{op}")?;
         assert_eq!(rt; printed.as_str(), text);
@@ -120,6 +140,11 @@ fn replies_are_printed_by_their_words(rt: HostRuntime) -> Result<(), Fail> {
             "bytes 0 x",
         ),
         (Reply::Bytes(bytes), "bytes 3 x0061ff"),
+        (
+            Reply::Names(NameList::from_vec(Vec::new(rt.alloc()))),
+            "names 0",
+        ),
+        (Reply::Names(names(&rt, &["b", "e"])?), "names 2 b e"),
         (Reply::File(1_048_576), "file 1048576"),
         (Reply::Dir(0), "dir 0"),
         (Reply::Error(TreeError::NoEnt), "E1 NoEnt"),
@@ -169,5 +194,17 @@ fn a_byte_string_is_its_bytes(rt: HostRuntime) -> Result<(), Fail> {
     assert!(rt; !one.is_empty());
     assert!(rt; one == one.copy(rt.alloc())?);
     assert!(rt; one != other);
+    Ok(())
+}
+
+#[test]
+fn a_name_list_is_its_names(rt: HostRuntime) -> Result<(), Fail> {
+    let list = names(&rt, &["a", "b"])?;
+    assert_eq!(rt; list.as_slice().len(), 2);
+    assert!(rt; list == list.copy(rt.alloc())?);
+    for other in [["a", "c"], ["b", "a"]] {
+        assert!(rt; list != names(&rt, other.as_slice())?);
+    }
+    assert!(rt; list != names(&rt, &["a"])?);
     Ok(())
 }

@@ -1,4 +1,4 @@
-use Rattle.std.proofs.Common.{◌∙◌, ap, sym, rules, ◌==◌, [], Ok, append-nil, All, IsTrue}
+use Rattle.std.proofs.Common.{◌∙◌, ap, sym, rules, ◌==◌, [], Ok, append-nil, IsTrue}
 use Rattle.std.proofs.lemmas.List.Elements.{All-push}
 use Rattle.std.proofs.lemmas.Result.{err_from_is_err_and}
 use Rattle.std.specs.List.{slice_split}

@@ -1,4 +1,4 @@
-use Rattle.std.proofs.Common.{lit<, inr, sym, subst, arith, ◌∷◌}
+use Rattle.std.proofs.Common.{lit<, inr, sym, subst, arith}
 use Rattle.std.proofs.lemmas.Str.Pattern.{strip_prefix_char}
 use Rattle.assise_names.specs.Path.{Spells}
 use Rattle.assise_names.proofs.PathLemmas.{no_slash, after_slash}

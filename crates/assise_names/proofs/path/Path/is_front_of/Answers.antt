@@ -1,4 +1,4 @@
-use Rattle.std.proofs.Common.{◌≡◌, ◌<◌, length, ap, arith}
+use Rattle.std.proofs.Common.{◌<◌, length, ap, arith}
 use Rattle.assise_names.proofs.Fronts.{Begins, from_tests, to_tests}
 use Rattle.assise_names.proofs.path.Path.is_front_of.Goals as goal
 

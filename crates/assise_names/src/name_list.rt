@@ -1,0 +1,66 @@
+// A list of names as one value.
+ghost use Rattle.std.specs.Prelude.{◌≡◌, ◌==◌, IfOk, IsOkUnless};
+ghost use Rattle.std.proofs.Common.{rules};
+ghost use Rattle.std.specs.Cmp.Rules.{comparing};
+ghost use Rattle.std.specs.Cmp.Lexicographic.{pointwise};
+ghost use Rattle.std.specs.Ordering.{on};
+ghost use Rattle.assise_names.specs.declared.refusal.Refusal.TheVariants.{OutOfMemory};
+
+use crate::name::{Name, copy_names};
+use crate::refusal::Refusal;
+use std::alloc::Global;
+use std::marker::Model;
+
+/// Names that a call lists. A contract sees the list of them, and nothing of where they lie.
+#[derive(Debug, Drop)]
+pub struct NameList {
+    names: Vec<Name>,
+}
+
+impl Model for NameList {
+    ghost use Rattle.std.specs.Prelude.{List, ℕ};
+
+    ghost Value = { List (List ℕ) };
+
+    ghost view = { λ l. l.names.items };
+}
+
+impl NameList {
+    /// The names of a vector, without a copy.
+    pub fn from_vec(names: Vec<Name>) -> NameList
+        ensures { result ≡ names.items }
+    {
+        NameList { names }
+    }
+
+    /// The names as a slice.
+    pub fn as_slice(&self) -> &[Name]
+        ensures { result.now ≡ self.now }
+    {
+        self.names.as_slice()
+    }
+
+    /// An equal value, or [`Refusal::OutOfMemory`].
+    pub fn copy(&self, alloc: Global) -> Result<NameList, Refusal>
+        ensures equal { IfOk result (λ copied. copied ≡ self.now) }
+        ensures only_memory { IsOkUnless result OutOfMemory }
+    {
+        Ok(NameList {
+            names: copy_names(alloc, self.names.as_slice())?,
+        })
+    }
+}
+
+impl PartialEq for NameList {
+    ghost eq = { on (λ l. l) (pointwise (pointwise ◌==◌)) };
+
+    ghost laws = { Prim.search (comparing, rules) };
+
+    fn eq(&self, other: &NameList) -> bool {
+        self.as_slice() == other.as_slice()
+    }
+}
+
+impl Eq for NameList {
+    ghost laws = { Prim.search (comparing, rules) };
+}
