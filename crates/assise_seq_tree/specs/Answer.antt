@@ -1,14 +1,14 @@
 -- What each call answers, and the tree that it leaves.
--- POSIX.1-2017, system interfaces: open() with O_CREAT and O_EXCL, read(), write(), stat(); base definitions: 4.13 Pathname Resolution.
+-- POSIX.1-2017, system interfaces: open() with O_CREAT and O_EXCL, mkdir(), read(), write(), truncate(), unlink(), rmdir(), readdir(), stat(), fsync(); base definitions: 4.13 Pathname Resolution.
 use Rattle.std.specs.Prelude.{ℕ, ◌-◌, if◌then◌else◌, nat_le, ◌==◌, List, [], length, take, slice_index_or, is_some, Result, Ok, Err}
 use Rattle.assise_names.specs.declared.call.Op.{Op}
-use Rattle.assise_names.specs.declared.call.Op.TheVariants.{Create, Read, Write, Stat}
+use Rattle.assise_names.specs.declared.call.Op.TheVariants.{Create, Mkdir, Read, Write, Truncate, Unlink, Rmdir, List as ListCall, Stat, Fsync}
 use Rattle.assise_names.specs.declared.reply.Reply.{Reply}
-use Rattle.assise_names.specs.declared.reply.Reply.TheVariants.{Done, Bytes, File, Dir, Error}
+use Rattle.assise_names.specs.declared.reply.Reply.TheVariants.{Done, Bytes, Names, File, Dir, Error}
 use Rattle.assise_names.specs.declared.reply.TreeError.{TreeError}
-use Rattle.assise_names.specs.declared.reply.TreeError.TheVariants.{Exists, NotDir, IsDir, TooBig, DirFull}
-use Rattle.assise_seq_tree.specs.Contents.{bytes_from, overwritten, is_within}
-use Rattle.assise_seq_tree.specs.Tree.{Tree, file, dir, Entries, LieApart, find, count, at, put}
+use Rattle.assise_names.specs.declared.reply.TreeError.TheVariants.{Exists, NotDir, IsDir, NotEmpty, Invalid, TooBig, DirFull}
+use Rattle.assise_seq_tree.specs.Contents.{bytes_from, overwritten, is_within, resized}
+use Rattle.assise_seq_tree.specs.Tree.{Tree, file, dir, Entries, no_entries, LieApart, find, names_of, count, at, put, without}
 
 -- ---- the checks, of which the first that fails decides
 
@@ -35,6 +35,9 @@ as_file (dir es) = Err IsDir
 abbrev pub file_at : Tree → List (List ℕ) → Result (List ℕ) TreeError
 file_at t p = at t p >>= λ found. as_file found
 
+abbrev pub entries_at : Tree → List (List ℕ) → Result Entries TreeError
+entries_at t p = at t p >>= λ found. as_directory found
+
 -- the entries have no such name, and there is room for one more
 abbrev pub room_for : List ℕ → Entries → Result (Unit {0}) TreeError
 room_for name es = if is_some (find name es) then Err Exists else (if nat_le 4096 (count es) then Err DirFull else Ok tt)
@@ -44,6 +47,17 @@ abbrev pub room_at : Tree → List (List ℕ) → Result (Unit {0}) TreeError
 room_at t p =
     if length p == 0 then Err Exists
     else (at t (parent_of p) >>= λ found. as_directory found >>= λ es. room_for (last_name p) es)
+
+-- a file below the root may be unlinked
+abbrev pub may_unlink : Tree → List (List ℕ) → Result (Unit {0}) TreeError
+may_unlink t p = if length p == 0 then Err IsDir else (file_at t p >>= λ _. Ok tt)
+
+abbrev pub vacant : Entries → Result (Unit {0}) TreeError
+vacant es = if count es == 0 then Ok tt else Err NotEmpty
+
+-- a directory below the root without entries may be removed
+abbrev pub may_rmdir : Tree → List (List ℕ) → Result (Unit {0}) TreeError
+may_rmdir t p = if length p == 0 then Err Invalid else (entries_at t p >>= λ es. vacant es)
 
 -- ---- one definition for each call
 
@@ -55,6 +69,9 @@ reply_and_tree t (Err e) = (Error e, t)
 abbrev pub create_answer : Tree → List (List ℕ) → Reply × Tree
 create_answer t p = reply_and_tree t (room_at t p >>= λ _. Ok (Done, put t p (file [])))
 
+abbrev pub mkdir_answer : Tree → List (List ℕ) → Reply × Tree
+mkdir_answer t p = reply_and_tree t (room_at t p >>= λ _. Ok (Done, put t p (dir no_entries)))
+
 abbrev pub read_answer : Tree → List (List ℕ) → ℕ → ℕ → Reply × Tree
 read_answer t p offset most = reply_and_tree t (file_at t p >>= λ bytes. Ok (Bytes (bytes_from offset most bytes), t))
 
@@ -64,6 +81,19 @@ tree_after_write t p offset new bytes = if length new == 0 then t else put t p (
 
 abbrev pub write_answer : Tree → List (List ℕ) → ℕ → List ℕ → Reply × Tree
 write_answer t p offset new = reply_and_tree t (file_at t p >>= λ bytes. if is_within offset new then Ok (Done, tree_after_write t p offset new bytes) else Err TooBig)
+
+abbrev pub truncate_answer : Tree → List (List ℕ) → ℕ → Reply × Tree
+truncate_answer t p size = reply_and_tree t (file_at t p >>= λ bytes. if nat_le size 1048576 then Ok (Done, put t p (file (resized bytes size))) else Err TooBig)
+
+abbrev pub unlink_answer : Tree → List (List ℕ) → Reply × Tree
+unlink_answer t p = reply_and_tree t (may_unlink t p >>= λ _. Ok (Done, without t p))
+
+abbrev pub rmdir_answer : Tree → List (List ℕ) → Reply × Tree
+rmdir_answer t p = reply_and_tree t (may_rmdir t p >>= λ _. Ok (Done, without t p))
+
+-- the entries of a directory rise by their names
+abbrev pub list_answer : Tree → List (List ℕ) → Reply × Tree
+list_answer t p = reply_and_tree t (entries_at t p >>= λ es. Ok (Names (names_of es), t))
 
 abbrev pub description_of : Tree → Reply
 description_of (file bytes) = File (length bytes)
@@ -75,13 +105,25 @@ stat_answer t p = reply_and_tree t (at t p >>= λ found. Ok (description_of foun
 -- the reply to a call, and the tree after it
 abbrev pub answer : Tree → Op → Reply × Tree
 answer t (Create p) = create_answer t p
+answer t (Mkdir p) = mkdir_answer t p
 answer t (Read p offset most) = read_answer t p offset most
 answer t (Write p offset new) = write_answer t p offset new
+answer t (Truncate p size) = truncate_answer t p size
+answer t (Unlink p) = unlink_answer t p
+answer t (Rmdir p) = rmdir_answer t p
+answer t (ListCall p) = list_answer t p
 answer t (Stat p) = stat_answer t p
+answer t Fsync = (Done, t)
 
--- the path lies apart from the one that the call names
+-- the path lies apart from the one that the call names, if it names one
 abbrev pub IsApartFrom : Op → List (List ℕ) → Type 0
 IsApartFrom (Create p) q = LieApart p q
+IsApartFrom (Mkdir p) q = LieApart p q
 IsApartFrom (Read p offset most) q = LieApart p q
 IsApartFrom (Write p offset new) q = LieApart p q
+IsApartFrom (Truncate p size) q = LieApart p q
+IsApartFrom (Unlink p) q = LieApart p q
+IsApartFrom (Rmdir p) q = LieApart p q
+IsApartFrom (ListCall p) q = LieApart p q
 IsApartFrom (Stat p) q = LieApart p q
+IsApartFrom Fsync q = Unit {0}

@@ -1,15 +1,17 @@
 // What each call answers.
 ghost use Rattle.std.specs.Prelude.{◌≡◌, IfOk, IsOkUnless, MatchResult, OnErr};
-ghost use Rattle.assise_names.specs.Reply.{IsBytes};
+ghost use Rattle.assise_names.specs.Reply.{HoldsWhatWasRead};
 ghost use Rattle.assise_names.specs.declared.refusal.Refusal.TheVariants.{OutOfMemory};
-ghost use Rattle.assise_seq_tree.specs.Answer.{answer, create_answer, file_at, read_answer, room_at, room_for, stat_answer, write_answer};
+ghost use Rattle.assise_seq_tree.specs.Answer.{answer, create_answer, entries_at, file_at, list_answer, may_rmdir, may_unlink, mkdir_answer, read_answer, rmdir_answer, room_at, room_for, stat_answer, truncate_answer, unlink_answer, vacant, write_answer};
+ghost use Rattle.assise_seq_tree.specs.Tree.{names_of};
 ghost use Rattle.assise_seq_tree.specs.View.{entries_of};
 
-use crate::contents::bytes_from;
+use crate::contents::{MOST_FILE_BYTES, bytes_from, is_within};
 use crate::tree::Tree;
 use assise_names::byte_string::ByteString;
 use assise_names::call::Op;
 use assise_names::name::Name;
+use assise_names::name_list::NameList;
 use assise_names::refusal::Refusal;
 use assise_names::reply::{Reply, TreeError};
 use std::alloc::Global;
@@ -17,9 +19,6 @@ use std::collections::BTreeMap;
 
 /// The most entries of a directory.
 pub const MOST_ENTRIES: usize = 4096;
-
-/// The most bytes of a file.
-const MOST_BYTES: u64 = 1_048_576;
 
 /// Answers a call, and changes the tree as the call says.
 ///
@@ -30,20 +29,29 @@ const MOST_BYTES: u64 = 1_048_576;
 /// - [`Op::Create`]: the root is [`TreeError::Exists`]; the walk to the parent, which has to be a directory
 ///   ([`TreeError::NotDir`]); a name that is there is [`TreeError::Exists`]; a parent of 4,096 entries is
 ///   [`TreeError::DirFull`].
+/// - [`Op::Mkdir`]: as [`Op::Create`].
 /// - [`Op::Read`]: the walk; a directory is [`TreeError::IsDir`]. At or past the end there are no bytes.
 /// - [`Op::Write`]: the walk; a directory is [`TreeError::IsDir`]; where the bytes would end past 1,048,576 it is
 ///   [`TreeError::TooBig`]. A gap before the bytes is filled with zeros. Without bytes nothing is written.
+/// - [`Op::Truncate`]: the walk; a directory is [`TreeError::IsDir`]; more than 1,048,576 bytes are
+///   [`TreeError::TooBig`]. A file that grows is filled with zeros.
+/// - [`Op::Unlink`]: the root is [`TreeError::IsDir`]; the walk; a directory is [`TreeError::IsDir`].
+/// - [`Op::Rmdir`]: the root is [`TreeError::Invalid`]; the walk; a file is [`TreeError::NotDir`]; a directory with
+///   entries is [`TreeError::NotEmpty`].
+/// - [`Op::List`]: the walk; a file is [`TreeError::NotDir`]. The names rise by their bytes.
 /// - [`Op::Stat`]: the walk.
+/// - [`Op::Fsync`]: no check.
 ///
 /// The one refusal is [`Refusal::OutOfMemory`], and it leaves the tree as it was.
 pub fn answer(alloc: Global, tree: &mut Tree, op: &Op) -> Result<Reply, Refusal>
     ensures ok { IfOk result (λ reply. (reply, tree.new) ≡ answer tree.old op.now) }
-    ensures bytes_change_nothing { IfOk result (λ reply. IsBytes reply → tree.new ≡ tree.old) }
+    ensures reads_change_nothing { IfOk result (λ reply. HoldsWhatWasRead reply → tree.new ≡ tree.old) }
     ensures err { OnErr result (tree.new ≡ tree.old) }
     ensures only_memory { IsOkUnless result OutOfMemory }
 {
     match op {
         Op::Create(path) => create(alloc, tree, path.names()),
+        Op::Mkdir(path) => mkdir(alloc, tree, path.names()),
         Op::Read(path, offset, length) => read(alloc, tree, path.names(), *offset, *length),
         Op::Write(path, offset, bytes) => write(
             alloc,
@@ -52,7 +60,12 @@ pub fn answer(alloc: Global, tree: &mut Tree, op: &Op) -> Result<Reply, Refusal>
             *offset,
             bytes.as_slice(),
         ),
+        Op::Truncate(path, size) => truncate(alloc, tree, path.names(), *size),
+        Op::Unlink(path) => Ok(unlink(tree, path.names())),
+        Op::Rmdir(path) => Ok(rmdir(tree, path.names())),
+        Op::List(path) => list(alloc, tree, path.names()),
         Op::Stat(path) => Ok(stat(tree, path.names())),
+        Op::Fsync => Ok(Reply::Done),
     }
 }
 
@@ -66,6 +79,19 @@ fn create(alloc: Global, tree: &mut Tree, names: &[Name]) -> Result<Reply, Refus
         return Ok(Reply::Error(error));
     }
     tree.put(alloc, names, Tree::empty_file(alloc))?;
+    Ok(Reply::Done)
+}
+
+/// Makes a directory without entries.
+fn mkdir(alloc: Global, tree: &mut Tree, names: &[Name]) -> Result<Reply, Refusal>
+    ensures ok { IfOk result (λ reply. (reply, tree.new) ≡ mkdir_answer tree.old names.now) }
+    ensures err { OnErr result (tree.new ≡ tree.old) }
+    ensures only_memory { IsOkUnless result OutOfMemory }
+{
+    if let Err(error) = room_at(tree, names) {
+        return Ok(Reply::Error(error));
+    }
+    tree.put(alloc, names, Tree::new(alloc))?;
     Ok(Reply::Done)
 }
 
@@ -104,7 +130,7 @@ fn write(
     if let Err(error) = file_at(tree, names) {
         return Ok(Reply::Error(error));
     }
-    if offset > MOST_BYTES || new.len() as u64 > MOST_BYTES - offset {
+    if !is_within(offset, new) {
         return Ok(Reply::Error(TreeError::TooBig));
     }
     if new.is_empty() {
@@ -112,6 +138,59 @@ fn write(
     }
     tree.overwrite_at(alloc, names, offset as usize, new)?;
     Ok(Reply::Done)
+}
+
+/// Gives a file another size.
+fn truncate(alloc: Global, tree: &mut Tree, names: &[Name], size: u64) -> Result<Reply, Refusal>
+    ensures ok { IfOk result (λ reply. (reply, tree.new) ≡ truncate_answer tree.old names.now size) }
+    ensures err { OnErr result (tree.new ≡ tree.old) }
+    ensures only_memory { IsOkUnless result OutOfMemory }
+{
+    if let Err(error) = file_at(tree, names) {
+        return Ok(Reply::Error(error));
+    }
+    if size > MOST_FILE_BYTES {
+        return Ok(Reply::Error(TreeError::TooBig));
+    }
+    tree.resize_at(alloc, names, size as usize)?;
+    Ok(Reply::Done)
+}
+
+/// Removes a file.
+fn unlink(tree: &mut Tree, names: &[Name]) -> Reply
+    ensures { (result, tree.new) ≡ unlink_answer tree.old names.now }
+{
+    match may_unlink(tree, names) {
+        Ok(()) => {
+            let _file = tree.take(names);
+            Reply::Done
+        }
+        Err(error) => Reply::Error(error),
+    }
+}
+
+/// Removes a directory without entries.
+fn rmdir(tree: &mut Tree, names: &[Name]) -> Reply
+    ensures { (result, tree.new) ≡ rmdir_answer tree.old names.now }
+{
+    match may_rmdir(tree, names) {
+        Ok(()) => {
+            let _directory = tree.take(names);
+            Reply::Done
+        }
+        Err(error) => Reply::Error(error),
+    }
+}
+
+/// Lists the names of a directory's entries.
+fn list(alloc: Global, tree: &Tree, names: &[Name]) -> Result<Reply, Refusal>
+    ensures ok { IfOk result (λ reply. (reply, tree.now) ≡ list_answer tree.now names.now) }
+    ensures only_memory { IsOkUnless result OutOfMemory }
+{
+    match entries_at(tree, names) {
+        Ok(entries) => Ok(Reply::Names(names_of(alloc, entries)?)),
+        Err(error) => Ok(Reply::Error(error)),
+    }
 }
 
 /// Says what stands at a path.
@@ -129,6 +208,61 @@ fn file_at<'a>(tree: &'a Tree, names: &[Name]) -> Result<&'a [u8], TreeError>
     ensures { MatchResult result (λ bytes. file_at tree.now names.now ≡ Ok bytes.now) (λ e. file_at tree.now names.now ≡ Err e) }
 {
     tree.at(names)?.bytes()
+}
+
+/// The entries of the directory at a path.
+fn entries_at<'a>(
+    tree: &'a Tree,
+    names: &[Name],
+) -> Result<&'a BTreeMap<Name, Tree>, TreeError>
+    ensures { MatchResult result (λ m. entries_at tree.now names.now ≡ Ok (entries_of m.now.entries)) (λ e. entries_at tree.now names.now ≡ Err e) }
+{
+    tree.at(names)?.entries()
+}
+
+/// The names of entries.
+fn names_of(alloc: Global, entries: &BTreeMap<Name, Tree>) -> Result<NameList, Refusal>
+    ensures names { IfOk result (λ names. names ≡ names_of (entries_of entries.now.entries)) }
+    ensures only_memory { IsOkUnless result OutOfMemory }
+{
+    let mut names = Vec::with_capacity(alloc, entries.len())?;
+    for name in entries.keys() {
+        names.push(name.copy(alloc)?)?;
+    }
+    Ok(NameList::from_vec(names))
+}
+
+/// Whether the file at a path may be unlinked.
+fn may_unlink(tree: &Tree, names: &[Name]) -> Result<(), TreeError>
+    ensures { result ≡ may_unlink tree.now names.now }
+{
+    if names.is_empty() {
+        return Err(TreeError::IsDir);
+    }
+    file_at(tree, names)?;
+    Ok(())
+}
+
+/// Whether the directory at a path may be removed.
+fn may_rmdir(tree: &Tree, names: &[Name]) -> Result<(), TreeError>
+    ensures { result ≡ may_rmdir tree.now names.now }
+{
+    if names.is_empty() {
+        return Err(TreeError::Invalid);
+    }
+    vacant(entries_at(tree, names)?)
+}
+
+/// Whether there are no entries.
+#[tactic(auto, using(crate::proofs::Entries::entry_facts))]
+fn vacant(entries: &BTreeMap<Name, Tree>) -> Result<(), TreeError>
+    ensures { result ≡ vacant (entries_of entries.now.entries) }
+{
+    if entries.is_empty() {
+        Ok(())
+    } else {
+        Err(TreeError::NotEmpty)
+    }
 }
 
 /// Whether an entry may be made at a path.

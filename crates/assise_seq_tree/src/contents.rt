@@ -1,9 +1,19 @@
 // What reads and writes do with the bytes of a file.
-ghost use Rattle.std.specs.Prelude.{◌≡◌, ◌+◌, ◌^◌, ◌<◌, ◌≤◌, ◌++◌, IsOkUnless, OnOk, OnErr, length, take, drop};
+ghost use Rattle.std.specs.Prelude.{◌≡◌, ◌+◌, ◌^◌, ◌<◌, ◌≤◌, ◌++◌, IsOkUnless, OnOk, OnErr, length, nat_le, take, drop};
 ghost use Rattle.assise_names.specs.declared.refusal.Refusal.TheVariants.{OutOfMemory};
-ghost use Rattle.assise_seq_tree.specs.Contents.{bytes_from, overwritten};
+ghost use Rattle.assise_seq_tree.specs.Contents.{bytes_from, is_within, overwritten, resized};
 
 use assise_names::refusal::Refusal;
+
+/// The most bytes of a file.
+pub const MOST_FILE_BYTES: u64 = 1_048_576;
+
+/// Whether a file that ends with the new bytes isn't too big.
+pub fn is_within(offset: u64, new: &[u8]) -> bool
+    ensures { result ≡ is_within offset new.now }
+{
+    offset <= MOST_FILE_BYTES && new.len() as u64 <= MOST_FILE_BYTES - offset
+}
 
 /// The bytes from an offset on, at most so many. At or past the end there are none (POSIX.1-2017, read()).
 pub fn bytes_from(bytes: &[u8], offset: u64, most: u64) -> &[u8]
@@ -28,6 +38,17 @@ pub fn overwrite(bytes: &mut Vec<u8>, offset: usize, new: &[u8]) -> Result<(), R
         bytes.resize(end, 0)?;
     }
     copy_at(bytes.as_mut_slice(), offset, new);
+    Ok(())
+}
+
+/// Cuts the bytes to a size, or fills them up to it with zeros (POSIX.1-2017, ftruncate()). The one refusal is
+/// [`Refusal::OutOfMemory`], and it leaves the bytes as they were.
+pub fn resize(bytes: &mut Vec<u8>, size: usize) -> Result<(), Refusal>
+    ensures ok { OnOk result (bytes.new.items ≡ resized bytes.old.items size) }
+    ensures err { OnErr result (bytes.new.items ≡ bytes.old.items) }
+    ensures only_memory { IsOkUnless result OutOfMemory }
+{
+    bytes.resize(size, 0)?;
     Ok(())
 }
 

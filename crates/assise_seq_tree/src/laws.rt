@@ -1,13 +1,13 @@
 // Laws of the tree and of its calls. Each function does nothing: its contract is the law.
 ghost use Rattle.std.specs.Prelude.{◌≡◌, ◌+◌, ◌-◌, ◌<◌, ◌≤◌, Err, List, Ok, length, max, replicate, ℕ};
 ghost use Rattle.assise_names.specs.declared.call.Op.{Op};
-ghost use Rattle.assise_names.specs.declared.call.Op.TheVariants.{Read, Stat, Write};
+ghost use Rattle.assise_names.specs.declared.call.Op.TheVariants.{List as ListCall, Read, Rmdir, Stat, Truncate, Unlink, Write};
 ghost use Rattle.assise_names.specs.declared.reply.Reply.{Reply};
-ghost use Rattle.assise_names.specs.declared.reply.Reply.TheVariants.{Bytes, Done, Error, File};
+ghost use Rattle.assise_names.specs.declared.reply.Reply.TheVariants.{Bytes, Done, Error, File, Names};
 ghost use Rattle.assise_names.specs.declared.reply.TreeError.{TreeError};
 ghost use Rattle.assise_names.specs.declared.reply.TreeError.TheVariants.{NoEnt};
 ghost use Rattle.assise_seq_tree.specs.Answer.{IsApartFrom, answer, parent_of};
-ghost use Rattle.assise_seq_tree.specs.Tree.{Entries, IsOrdered, IsWithinLimits, LieApart, Tree, at, dir, opening, put, without};
+ghost use Rattle.assise_seq_tree.specs.Tree.{Entries, IsOrdered, IsWithinLimits, LieApart, Rise, Tree, at, dir, opening, put, without};
 
 /// What is put at a path stands there, where its parent is a directory, and the last that is put there stays.
 pub fn what_is_put_stands()
@@ -55,6 +55,28 @@ pub fn a_gap_reads_as_zeros()
         answer u (Stat p) ≡ (File (max size (offset + length new)), u) }
     ensures nothing { (t u : Tree) (p : List (List ℕ)) (offset : ℕ) (new : List ℕ) →
         answer t (Write p offset new) ≡ (Done, u) → length new ≡ 0 → u ≡ t }
+{}
+
+/// A file that is given another size has that size. Up to its old end it reads as before, and from there on as zeros.
+pub fn a_file_grows_by_zeros()
+    ensures size { (t u : Tree) (p : List (List ℕ)) (size : ℕ) → answer t (Truncate p size) ≡ (Done, u) → answer u (Stat p) ≡ (File size, u) }
+    ensures front { (t u : Tree) (p : List (List ℕ)) (from most size : ℕ) (old : List ℕ) →
+        answer t (Truncate p size) ≡ (Done, u) → answer t (Read p from most) ≡ (Bytes old, t) → from + length old ≤ size →
+        answer u (Read p from (length old)) ≡ (Bytes old, u) }
+    ensures zeros { (t u : Tree) (p : List (List ℕ)) (before size : ℕ) →
+        answer t (Truncate p size) ≡ (Done, u) → answer t (Stat p) ≡ (File before, t) → before ≤ size →
+        answer u (Read p before (size - before)) ≡ (Bytes (replicate (size - before) 0), u) }
+{}
+
+/// What is unlinked or removed is not there any more.
+pub fn what_is_removed_is_gone()
+    ensures unlinked { (t u : Tree) (p : List (List ℕ)) → IsOrdered t → answer t (Unlink p) ≡ (Done, u) → answer u (Stat p) ≡ (Error NoEnt, u) }
+    ensures removed { (t u : Tree) (p : List (List ℕ)) → IsOrdered t → answer t (Rmdir p) ≡ (Done, u) → answer u (Stat p) ≡ (Error NoEnt, u) }
+{}
+
+/// The names of a list rise by their bytes.
+pub fn a_list_rises()
+    ensures { (t u : Tree) (p names : List (List ℕ)) → IsOrdered t → answer t (ListCall p) ≡ (Names names, u) → Rise names }
 {}
 
 /// A call that answers an error leaves the tree as it was, and any call leaves each path that lies apart from

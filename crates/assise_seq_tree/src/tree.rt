@@ -2,8 +2,8 @@
 ghost use Rattle.std.specs.Prelude.{◌≡◌, ◌+◌, ◌^◌, ◌<◌, IsOkUnless, List, MatchResult, OnErr, OnOk, [], length, ℕ};
 ghost use Rattle.assise_names.specs.declared.refusal.Refusal.TheVariants.{OutOfMemory};
 ghost use Rattle.assise_seq_tree.specs.Answer.{as_directory, as_file, description_of};
-ghost use Rattle.assise_seq_tree.specs.Contents.{overwritten};
-ghost use Rattle.assise_seq_tree.specs.Tree.{at, file, opening, put};
+ghost use Rattle.assise_seq_tree.specs.Contents.{overwritten, resized};
+ghost use Rattle.assise_seq_tree.specs.Tree.{at, file, opening, put, without};
 ghost use Rattle.assise_seq_tree.specs.View.{entries_of};
 
 use crate::contents;
@@ -170,6 +170,30 @@ impl Tree {
         }
     }
 
+    /// Takes the entry at a path below the root out, with the tree that it led to.
+    pub(crate) fn take(&mut self, names: &[Name]) -> Option<Tree>
+        requires below_the_root { 0 < length names.now }
+        ensures taken { (found : _) → at self.old names.now ≡ Ok found → result ≡ Some found }
+        ensures rest { self.new ≡ without self.old names.now }
+    {
+        let [name, rest @ ..] = names else {
+            return None;
+        };
+        match &mut self.node {
+            Node::File(_) => None,
+            Node::Directory(entries) => {
+                if rest.is_empty() {
+                    entries.remove(name)
+                } else {
+                    match entries.get_mut(name) {
+                        Some(child) => child.take(rest),
+                        None => None,
+                    }
+                }
+            }
+        }
+    }
+
     /// Writes into the file of which this tree consists, if it is one.
     fn overwrite(&mut self, offset: usize, new: &[u8]) -> Result<(), Refusal>
         requires { offset + length new.now < 2 ^ 64 }
@@ -199,6 +223,36 @@ impl Tree {
         let mut tree = Tree::empty_file(alloc);
         self.swap(names, &mut tree);
         let outcome = tree.overwrite(offset, new);
+        self.swap(names, &mut tree);
+        outcome
+    }
+
+    /// Gives the file of which this tree consists another size, if it is one.
+    fn resize(&mut self, size: usize) -> Result<(), Refusal>
+        ensures ok { (bytes : List ℕ) → self.old ≡ file bytes → OnOk result (self.new ≡ file (resized bytes size)) }
+        ensures err { OnErr result (self.new ≡ self.old) }
+        ensures only_memory { IsOkUnless result OutOfMemory }
+    {
+        match &mut self.node {
+            Node::File(bytes) => contents::resize(bytes, size),
+            Node::Directory(_) => Ok(()),
+        }
+    }
+
+    /// Gives the file at a path another size, in its place.
+    pub(crate) fn resize_at(
+        &mut self,
+        alloc: Global,
+        names: &[Name],
+        size: usize,
+    ) -> Result<(), Refusal>
+        ensures ok { (bytes : List ℕ) → at self.old names.now ≡ Ok (file bytes) → OnOk result (self.new ≡ put self.old names.now (file (resized bytes size))) }
+        ensures err { (bytes : List ℕ) → at self.old names.now ≡ Ok (file bytes) → OnErr result (self.new ≡ self.old) }
+        ensures only_memory { IsOkUnless result OutOfMemory }
+    {
+        let mut tree = Tree::empty_file(alloc);
+        self.swap(names, &mut tree);
+        let outcome = tree.resize(size);
         self.swap(names, &mut tree);
         outcome
     }
