@@ -4,7 +4,7 @@ use Rattle.std.specs.List.{list_any}
 use Rattle.std.proofs.lemmas.Bool.{cases_Bool, eq-eqb, ne_eqb, eqb-false}
 use Rattle.std.specs.FinMap as map
 use Rattle.assise_names.specs.declared.call.Op.{Op}
-use Rattle.assise_names.specs.declared.call.Op.TheVariants.{Create, Read, Write as WriteCall, Stat}
+use Rattle.assise_names.specs.declared.call.Op.TheVariants.{Create, Mkdir, Read, Write as WriteCall, Truncate, Unlink as UnlinkCall, Rmdir, List as ListCall, Stat, Fsync}
 use Rattle.assise_names.specs.declared.reply.Reply.{Reply}
 use Rattle.assise_names.specs.declared.reply.Reply.TheVariants.{Done, Bytes, File, Dir, Error}
 use Rattle.assise_names.specs.declared.reply.TreeError.{TreeError}
@@ -12,14 +12,14 @@ use Rattle.assise_names.specs.declared.reply.TreeError.TheVariants.{Exists, NotD
 use Rattle.assise_record.specs.declared.effect.Effect.{Effect}
 use Rattle.assise_record.specs.declared.effect.Effect.TheVariants.{NewFile, Write, Link}
 use Rattle.assise_seq_tree.specs.Contents.{bytes_from, overwritten, is_within}
-use Rattle.assise_seq_tree.specs.Tree.{Tree, file, Entries, same_name, find, at, put}
+use Rattle.assise_seq_tree.specs.Tree.{Tree, file, Entries, same_name, find, at, put, names_of}
 use Rattle.assise_seq_tree.specs.Answer.{◌>>=◌, parent_of, last_name, as_directory, room_for, reply_and_tree, create_answer, read_answer, tree_after_write, write_answer, stat_answer, answer}
 use Rattle.assise_seq_tree.proofs.Moves.{parent_and_last}
 use Rattle.assise_inode_table.specs.Contents.{regular, directory, Links, Values}
 use Rattle.assise_inode_table.specs.Effects.{after, makes}
 use Rattle.assise_inode_table.specs.Interaction.{Interaction, finish}
 use Rattle.assise_inode_table.specs.Calls.{then_or_error, as_regular, as_links, room_among, walk, create_call, read_call, write_effects, write_call, stat_call, interaction, step}
-use Rattle.assise_inode_table.specs.Reach.{children, reach, names_of}
+use Rattle.assise_inode_table.specs.Reach.{children, reach}
 use Rattle.assise_inode_table.specs.Spelled.{Spells, AgreeBut, AddsLink}
 use Rattle.assise_inode_table.proofs.Creating.{created as made}
 use Rattle.assise_inode_table.proofs.Leaves.{file_nowhere, file_spells}
@@ -192,7 +192,13 @@ agrees_all : (v : Values) (t : Tree) (op : Op) (fresh : ℕ) → Spells v t → 
 agrees_all v t (Create p) fresh s = create_agrees v t p fresh s
 agrees_all v t (Read p offset most) fresh s = read_agrees v t p offset most fresh s
 agrees_all v t (WriteCall p offset new) fresh s = write_agrees v t p offset new fresh s
+agrees_all v t (Mkdir p) fresh s = ?
+agrees_all v t (Truncate p size) fresh s = ?
+agrees_all v t (UnlinkCall p) fresh s = ?
+agrees_all v t (Rmdir p) fresh s = ?
+agrees_all v t (ListCall p) fresh s = ?
 agrees_all v t (Stat p) fresh s = stat_agrees v t p fresh s
+agrees_all v t Fsync fresh s = ?
 
 pub step_replies : (v : Values) (t : Tree) (op : Op) (fresh : ℕ) → Spells v t → (step v op fresh).reply ≡ (answer t op).0
 step_replies v t op fresh s = (agrees_all v t op fresh s).0

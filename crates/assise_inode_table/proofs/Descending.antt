@@ -6,12 +6,12 @@ use Rattle.std.specs.FinMap as map
 use Rattle.std.proofs.lemmas.Bool.{false≢true}
 use Rattle.assise_names.specs.declared.reply.TreeError.{TreeError}
 use Rattle.assise_names.specs.declared.reply.TreeError.TheVariants.{NoEnt}
-use Rattle.assise_seq_tree.specs.Tree.{Tree, file, dir, Entries, same_name, find, at}
+use Rattle.assise_seq_tree.specs.Tree.{Tree, file, dir, Entries, same_name, find, at, names_of}
 use Rattle.assise_seq_tree.specs.Answer.{◌>>=◌}
 use Rattle.assise_seq_tree.proofs.Replacing.{at_step}
 use Rattle.assise_seq_tree.proofs.Moves.{Path}
 use Rattle.assise_inode_table.specs.Contents.{Content, regular, directory, Links, Values}
-use Rattle.assise_inode_table.specs.Reach.{children, reach, link_of, Shape, folder, shape_of, names_of, shape_of_tree, shown_in}
+use Rattle.assise_inode_table.specs.Reach.{children, reach, link_of, Shape, folder, shape_of, shape_of_tree, shown_in}
 use Rattle.assise_inode_table.specs.Spelled.{SpellsFrom}
 use Rattle.assise_inode_table.proofs.Naming.{is_some-find}
 use Rattle.assise_inode_table.proofs.Reaching.{then_ok, once_child, Away}

@@ -4,12 +4,12 @@ use Rattle.std.specs.Prelude.{ok_or}
 use Rattle.std.specs.Cmp.Lexicographic.{nat_list_cmp_total}
 use Rattle.std.specs.FinMap as map
 use Rattle.assise_names.specs.declared.reply.TreeError.TheVariants.{NoEnt}
-use Rattle.assise_seq_tree.specs.Tree.{Tree, dir, Entries, same_name, find, set, put, IsOrdered, AreOrdered}
+use Rattle.assise_seq_tree.specs.Tree.{Tree, dir, Entries, same_name, find, set, put, IsOrdered, AreOrdered, names_of}
 use Rattle.assise_seq_tree.specs.Answer.{◌>>=◌}
 use Rattle.assise_seq_tree.proofs.Sets.{same_itself, one_name, find-set, ordered-set}
 use Rattle.assise_seq_tree.proofs.Moves.{Path}
 use Rattle.assise_inode_table.specs.Contents.{Links, Values}
-use Rattle.assise_inode_table.specs.Reach.{children, reach, link_of, names_of}
+use Rattle.assise_inode_table.specs.Reach.{children, reach, link_of}
 use Rattle.assise_inode_table.specs.Spelled.{ReachesOnce, SpellsFrom, ShareNone, AddsLink}
 use Rattle.assise_inode_table.proofs.Reaching.{reach-append, once_below, Away, away_keeps, same_reach, same_shown}
 use Rattle.assise_inode_table.proofs.Showing.{put_entry}

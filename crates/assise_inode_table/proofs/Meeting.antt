@@ -8,12 +8,12 @@ use Rattle.assise_names.specs.declared.reply.Reply.TheVariants.{Error}
 use Rattle.assise_names.specs.declared.reply.TreeError.{TreeError}
 use Rattle.assise_names.specs.declared.reply.TreeError.TheVariants.{NoEnt}
 use Rattle.assise_record.specs.declared.effect.Effect.{Effect}
-use Rattle.assise_seq_tree.specs.Tree.{Tree, file, dir, Entries, no_entries, entry, same_name, find, count, at}
+use Rattle.assise_seq_tree.specs.Tree.{Tree, file, dir, Entries, no_entries, entry, same_name, find, count, at, names_of}
 use Rattle.assise_seq_tree.specs.Answer.{◌>>=◌}
 use Rattle.assise_inode_table.specs.Contents.{Content, regular, directory, Links, Values}
 use Rattle.assise_inode_table.specs.Interaction.{Interaction, reply_of, effects_of}
 use Rattle.assise_inode_table.specs.Calls.{then_or_error, walk_from, walk}
-use Rattle.assise_inode_table.specs.Reach.{link_of, children, reach, shape_of, names_of, shape_of_tree}
+use Rattle.assise_inode_table.specs.Reach.{link_of, children, reach, shape_of, shape_of_tree}
 use Rattle.assise_inode_table.specs.Spelled.{Spells}
 
 -- ---- how a walk ends

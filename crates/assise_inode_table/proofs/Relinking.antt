@@ -4,11 +4,11 @@ use Rattle.std.specs.Prelude.{ok_or}
 use Rattle.std.specs.FinMap as map
 use Rattle.assise_names.specs.declared.reply.TreeError.{TreeError}
 use Rattle.assise_names.specs.declared.reply.TreeError.TheVariants.{NoEnt}
-use Rattle.assise_seq_tree.specs.Tree.{Tree, dir, Entries, same_name, find}
+use Rattle.assise_seq_tree.specs.Tree.{Tree, dir, Entries, same_name, find, names_of}
 use Rattle.assise_seq_tree.specs.Answer.{◌>>=◌}
 use Rattle.assise_seq_tree.proofs.Moves.{Path}
 use Rattle.assise_inode_table.specs.Contents.{directory, Links, Values}
-use Rattle.assise_inode_table.specs.Reach.{Shape, folder, children, reach, link_of, shape_of, names_of, shown_from, shown_in}
+use Rattle.assise_inode_table.specs.Reach.{Shape, folder, children, reach, link_of, shape_of, shown_from, shown_in}
 use Rattle.assise_inode_table.specs.Spelled.{ReachesOnce, AgreeBut}
 use Rattle.assise_inode_table.proofs.Reaching.{no_way_back, Keeps, away_keeps, same_rest, same_reach, same_shown}
 use Rattle.assise_inode_table.proofs.Showing.{shown_here, shown_dir, shown_below}

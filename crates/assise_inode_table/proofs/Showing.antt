@@ -4,12 +4,12 @@ use Rattle.std.specs.Prelude.{unwrap_or}
 use Rattle.std.specs.Option.{option_map_or}
 use Rattle.assise_names.specs.declared.reply.TreeError.{TreeError}
 use Rattle.assise_names.specs.declared.reply.TreeError.TheVariants.{NoEnt}
-use Rattle.assise_seq_tree.specs.Tree.{Tree, file, dir, Entries, no_entries, entry, same_name, find, replace, set, remove, at, put, without}
+use Rattle.assise_seq_tree.specs.Tree.{Tree, file, dir, Entries, no_entries, entry, same_name, find, replace, set, remove, at, put, without, names_of}
 use Rattle.assise_seq_tree.specs.Answer.{◌>>=◌}
 use Rattle.assise_seq_tree.proofs.Replacing.{put_step, at_step}
 use Rattle.assise_seq_tree.proofs.Sets.{one_name}
 use Rattle.assise_seq_tree.proofs.Moves.{Path, find_replace_there}
-use Rattle.assise_inode_table.specs.Reach.{Shape, folder, names_of, shape_of_tree, shown_in}
+use Rattle.assise_inode_table.specs.Reach.{Shape, folder, shape_of_tree, shown_in}
 use Rattle.assise_inode_table.proofs.Fronts.{past}
 
 -- ---- one step

@@ -4,12 +4,12 @@ use Rattle.std.specs.Ordering.{is_eq}
 use Rattle.std.specs.FinMap as map
 use Rattle.std.proofs.lemmas.Bool.{cases_Bool}
 use Rattle.assise_names.specs.declared.reply.TreeError.{TreeError}
-use Rattle.assise_seq_tree.specs.Tree.{Tree, file, dir, Entries, no_entries, entry, same_name, find, IsBelow, IsOrdered, AreOrdered}
+use Rattle.assise_seq_tree.specs.Tree.{Tree, file, dir, Entries, no_entries, entry, same_name, find, IsBelow, IsOrdered, AreOrdered, names_of}
 use Rattle.assise_seq_tree.specs.Answer.{◌>>=◌}
 use Rattle.assise_seq_tree.proofs.Sets.{same_itself, one_name}
 use Rattle.assise_seq_tree.proofs.Moves.{Path}
 use Rattle.assise_inode_table.specs.Contents.{Content, regular, directory, Values}
-use Rattle.assise_inode_table.specs.Reach.{children, reach, Shape, folder, shape_of, names_of, shown_from, shown_in}
+use Rattle.assise_inode_table.specs.Reach.{children, reach, Shape, folder, shape_of, shown_from, shown_in}
 use Rattle.assise_inode_table.specs.Spelled.{SpellsFrom}
 use Rattle.assise_inode_table.proofs.Naming.{Rise, names_below, rise-keys}
 use Rattle.assise_inode_table.proofs.Showing.{shown_here, shown_dir, shown_below}

@@ -5,11 +5,11 @@ use Rattle.std.specs.Option.{option_map_or}
 use Rattle.std.specs.Cmp.Lexicographic.{nat_list_cmp_total}
 use Rattle.std.specs.FinMap as map
 use Rattle.assise_names.specs.declared.reply.TreeError.TheVariants.{NoEnt}
-use Rattle.assise_seq_tree.specs.Tree.{Tree, dir, Entries, same_name, find, remove, at, without, AreOrdered}
+use Rattle.assise_seq_tree.specs.Tree.{Tree, dir, Entries, same_name, find, remove, at, without, AreOrdered, names_of}
 use Rattle.assise_seq_tree.proofs.Sets.{same_itself, one_name, find-remove, ordered-remove}
 use Rattle.assise_seq_tree.proofs.Moves.{Path}
 use Rattle.assise_inode_table.specs.Contents.{Links, Values}
-use Rattle.assise_inode_table.specs.Reach.{children, reach, link_of, names_of}
+use Rattle.assise_inode_table.specs.Reach.{children, reach, link_of}
 use Rattle.assise_inode_table.specs.Spelled.{ReachesOnce, SpellsFrom, ShareNone, RemovesLink}
 use Rattle.assise_inode_table.proofs.Fronts.{past, past_itself, past-Some}
 use Rattle.assise_inode_table.proofs.Reaching.{reach_step, reach-append, once_below, Away, no_way_back, Keeps, away_keeps, same_reach, kept_spells}

@@ -1,17 +1,17 @@
 -- The calls over inodes: which inodes each visits, what it checks, in order, what it answers, and what it does.
--- POSIX.1-2017, system interfaces: open() with O_CREAT and O_EXCL, read(), write(), stat(); base definitions: 4.13 Pathname Resolution.
-use Rattle.std.specs.Prelude.{ℕ, if◌then◌else◌, nat_le, ◌==◌, List, [], ◌∷◌, length, is_some, Result, Ok, Err, ok_or}
+-- POSIX.1-2017, system interfaces: open() with O_CREAT and O_EXCL, mkdir(), read(), write(), truncate(), unlink(), rmdir(), readdir(), stat(), fsync(); base definitions: 4.13 Pathname Resolution.
+use Rattle.std.specs.Prelude.{ℕ, if◌then◌else◌, nat_le, ◌==◌, List, [], ◌∷◌, length, is_some, Some, Result, Ok, Err, ok_or}
 use Rattle.std.specs.FinMap as map
 use Rattle.assise_names.specs.declared.call.Op.{Op}
-use Rattle.assise_names.specs.declared.call.Op.TheVariants.{Create, Read, Write as WriteCall, Stat}
+use Rattle.assise_names.specs.declared.call.Op.TheVariants.{Create, Mkdir, Read, Write as WriteCall, Truncate, Unlink as UnlinkCall, Rmdir, List as ListCall, Stat, Fsync}
 use Rattle.assise_names.specs.declared.reply.Reply.{Reply}
-use Rattle.assise_names.specs.declared.reply.Reply.TheVariants.{Done, Bytes, File, Dir, Error}
+use Rattle.assise_names.specs.declared.reply.Reply.TheVariants.{Done, Bytes, Names, File, Dir, Error}
 use Rattle.assise_names.specs.declared.reply.TreeError.{TreeError}
-use Rattle.assise_names.specs.declared.reply.TreeError.TheVariants.{NoEnt, Exists, NotDir, IsDir, TooBig, DirFull}
+use Rattle.assise_names.specs.declared.reply.TreeError.TheVariants.{NoEnt, Exists, NotDir, IsDir, NotEmpty, Invalid, TooBig, DirFull}
 use Rattle.assise_seq_tree.specs.Contents.{bytes_from, is_within}
 use Rattle.assise_seq_tree.specs.Answer.{parent_of, last_name}
 use Rattle.assise_record.specs.declared.effect.Effect.{Effect}
-use Rattle.assise_record.specs.declared.effect.Effect.TheVariants.{NewFile, Write, Link}
+use Rattle.assise_record.specs.declared.effect.Effect.TheVariants.{NewFile, NewDir, Write, SetLen, Link, Unlink, Free}
 use Rattle.assise_inode_table.specs.Contents.{Content, regular, directory, Links, Values}
 use Rattle.assise_inode_table.specs.Reach.{link_of}
 use Rattle.assise_inode_table.specs.Interaction.{Interaction, visit, finish, Step, step_by}
@@ -32,6 +32,10 @@ walk_from i (name ∷ p) next = visit i (λ value. then_or_error (link_of value 
 abbrev pub walk : List (List ℕ) → (ℕ → Content → Interaction) → Interaction
 walk p next = walk_from 0 p next
 
+-- from the root to a directory, and on to the inode that its entry links to
+abbrev pub walk_to_entry : List (List ℕ) → List ℕ → (ℕ → ℕ → Content → Interaction) → Interaction
+walk_to_entry parent name next = walk parent (λ d content. then_or_error (link_of (Some content) name) (λ i. walk_from i [] (next d)))
+
 -- ---- what an inode is asked
 
 abbrev pub as_regular : Content → Result (List ℕ) TreeError
@@ -46,6 +50,9 @@ as_links (directory links) = Ok links
 abbrev pub room_among : List ℕ → Links → Result (Unit {0}) TreeError
 room_among name links = if is_some (map.get links name) then Err Exists else (if nat_le 4096 (length (map.keys links)) then Err DirFull else Ok tt)
 
+abbrev pub vacant : Links → Result (Unit {0}) TreeError
+vacant links = if length (map.keys links) == 0 then Ok tt else Err NotEmpty
+
 -- what a stat says of it
 abbrev pub description_of : Content → Reply
 description_of (regular bytes) = File (length bytes)
@@ -53,12 +60,18 @@ description_of (directory links) = Dir (length (map.keys links))
 
 -- ---- one definition for each call
 
--- the file is the inode `fresh`
-abbrev pub create_call : List (List ℕ) → ℕ → Interaction
-create_call p fresh =
+-- a new inode of the number `fresh`, and its entry
+abbrev pub make_call : Effect → List (List ℕ) → ℕ → Interaction
+make_call new p fresh =
     if length p == 0 then finish (Error Exists) []
     else walk (parent_of p) (λ d content. then_or_error (as_links content) (λ links. then_or_error (room_among (last_name p) links) (λ _.
-    finish Done (NewFile fresh ∷ Link d (last_name p) fresh ∷ []))))
+    finish Done (new ∷ Link d (last_name p) fresh ∷ []))))
+
+abbrev pub create_call : List (List ℕ) → ℕ → Interaction
+create_call p fresh = make_call (NewFile fresh) p fresh
+
+abbrev pub mkdir_call : List (List ℕ) → ℕ → Interaction
+mkdir_call p fresh = make_call (NewDir fresh) p fresh
 
 abbrev pub read_call : List (List ℕ) → ℕ → ℕ → Interaction
 read_call p offset most = walk p (λ i content. then_or_error (as_regular content) (λ bytes. finish (Bytes (bytes_from offset most bytes)) []))
@@ -71,15 +84,40 @@ abbrev pub write_call : List (List ℕ) → ℕ → List ℕ → Interaction
 write_call p offset new =
     walk p (λ i content. then_or_error (as_regular content) (λ _. if is_within offset new then finish Done (write_effects i offset new) else finish (Error TooBig) []))
 
+abbrev pub truncate_call : List (List ℕ) → ℕ → Interaction
+truncate_call p size =
+    walk p (λ i content. then_or_error (as_regular content) (λ _. if nat_le size 1048576 then finish Done (SetLen i size ∷ []) else finish (Error TooBig) []))
+
+abbrev pub unlink_call : List (List ℕ) → Interaction
+unlink_call p =
+    if length p == 0 then finish (Error IsDir) []
+    else walk_to_entry (parent_of p) (last_name p) (λ d i content. then_or_error (as_regular content) (λ _. finish Done (Unlink d (last_name p) ∷ Free i ∷ [])))
+
+abbrev pub rmdir_call : List (List ℕ) → Interaction
+rmdir_call p =
+    if length p == 0 then finish (Error Invalid) []
+    else walk_to_entry (parent_of p) (last_name p) (λ d i content. then_or_error (as_links content) (λ links. then_or_error (vacant links) (λ _.
+    finish Done (Unlink d (last_name p) ∷ Free i ∷ []))))
+
+-- the names of a map rise
+abbrev pub list_call : List (List ℕ) → Interaction
+list_call p = walk p (λ i content. then_or_error (as_links content) (λ links. finish (Names (map.keys links)) []))
+
 abbrev pub stat_call : List (List ℕ) → Interaction
 stat_call p = walk p (λ i content. finish (description_of content) [])
 
 -- a call; what it makes, if it makes an inode, is `fresh`
 abbrev pub interaction : Op → ℕ → Interaction
 interaction (Create p) fresh = create_call p fresh
+interaction (Mkdir p) fresh = mkdir_call p fresh
 interaction (Read p offset most) fresh = read_call p offset most
 interaction (WriteCall p offset new) fresh = write_call p offset new
+interaction (Truncate p size) fresh = truncate_call p size
+interaction (UnlinkCall p) fresh = unlink_call p
+interaction (Rmdir p) fresh = rmdir_call p
+interaction (ListCall p) fresh = list_call p
 interaction (Stat p) fresh = stat_call p
+interaction Fsync fresh = finish Done []
 
 -- what a call is over the values of inodes
 abbrev pub step : Values → Op → ℕ → Step

@@ -52,6 +52,16 @@ makes i (Link d name j) = false
 makes i (Unlink d name) = false
 makes i (Free j) = false
 
+-- the effect takes away what is there, for which no memory is needed
+abbrev pub TakesAway : Effect → Type 0
+TakesAway (Unlink d name) = Unit {0}
+TakesAway (Free i) = Unit {0}
+TakesAway (NewFile i) = ⊥
+TakesAway (NewDir i) = ⊥
+TakesAway (Write i patch) = ⊥
+TakesAway (SetLen i size) = ⊥
+TakesAway (Link d name i) = ⊥
+
 -- both lists give each inode the same value, whatever it had before
 abbrev pub SameNetEffect : List Effect → List Effect → Type 0
 SameNetEffect es fs = (i : ℕ) (old : Option Content) → value_after i old es ≡ value_after i old fs

@@ -4,7 +4,7 @@ use Rattle.std.specs.Prelude.{ℕ, List, [], ◌∷◌, Option, Some, None, Resu
 use Rattle.std.specs.FinMap as map
 use Rattle.assise_names.specs.declared.reply.TreeError.{TreeError}
 use Rattle.assise_names.specs.declared.reply.TreeError.TheVariants.{NoEnt, NotDir}
-use Rattle.assise_seq_tree.specs.Tree.{Tree, file, dir, Entries, no_entries, entry, at}
+use Rattle.assise_seq_tree.specs.Tree.{Tree, file, dir, names_of, at}
 use Rattle.assise_seq_tree.specs.Answer.{◌>>=◌}
 use Rattle.assise_inode_table.specs.Contents.{Content, regular, directory, Values}
 
@@ -40,10 +40,6 @@ shape_of (Some (directory links)) = Ok (folder (map.keys links))
 -- over inodes
 abbrev pub shown_from : Values → ℕ → List (List ℕ) → Result Shape TreeError
 shown_from v i p = reach (children v) i p >>= λ j. shape_of (v j)
-
-abbrev pub names_of : Entries → List (List ℕ)
-names_of no_entries = []
-names_of (entry name t es) = name ∷ names_of es
 
 abbrev pub shape_of_tree : Tree → Shape
 shape_of_tree (file bytes) = plain bytes

@@ -5,6 +5,7 @@ ghost use Rattle.assise_names.specs.declared.refusal.Refusal.TheVariants.{OutOfM
 ghost use Rattle.assise_inode_table.specs.Calls.{room_among};
 
 use assise_names::name::Name;
+use assise_names::name_list::NameList;
 use assise_names::refusal::Refusal;
 use assise_names::reply::TreeError;
 use assise_seq_tree::answer::MOST_ENTRIES;
@@ -59,6 +60,14 @@ impl Directory {
         ensures { result ≡ (length (map.keys self.now) == 0) }
     {
         self.len() == 0
+    }
+
+    /// The names of the entries, which rise by their bytes. The one refusal is [`Refusal::OutOfMemory`].
+    pub fn names(&self, alloc: Global) -> Result<NameList, Refusal>
+        ensures names { IfOk result (λ names. names ≡ map.keys self.now) }
+        ensures only_memory { IsOkUnless result OutOfMemory }
+    {
+        NameList::of_keys(alloc, &self.links)
     }
 
     /// Whether an entry of a new name may be made: a name that is there is [`TreeError::Exists`], and a directory of

@@ -76,8 +76,7 @@ impl FileBytes {
         ensures err { OnErr result (self.new ≡ self.old) }
         ensures only_memory { IsOkUnless result OutOfMemory }
     {
-        self.bytes.resize(size, 0)?;
-        Ok(())
+        contents::resize(&mut self.bytes, size)
     }
 
     /// An equal value, or [`Refusal::OutOfMemory`].

@@ -1,10 +1,10 @@
 // What an inode holds.
-ghost use Rattle.std.specs.Prelude.{◌≡◌, IfOk, IsOkUnless, MatchResult, OnErr, OnOk, []};
+ghost use Rattle.std.specs.Prelude.{◌≡◌, IfOk, IsOk, IsOkUnless, MatchResult, OnErr, OnOk, []};
 ghost use Rattle.std.specs.FinMap as map;
 ghost use Rattle.assise_names.specs.declared.refusal.Refusal.TheVariants.{OutOfMemory};
 ghost use Rattle.assise_inode_table.specs.Calls.{as_links, as_regular, description_of};
 ghost use Rattle.assise_inode_table.specs.Contents.{directory, regular};
-ghost use Rattle.assise_inode_table.specs.Effects.{changed};
+ghost use Rattle.assise_inode_table.specs.Effects.{TakesAway, changed};
 ghost use Rattle.assise_inode_table.specs.Reach.{link_of};
 
 use crate::directory::Directory;
@@ -104,8 +104,9 @@ impl Inode {
 
     /// Makes of the inode what an effect makes of its content. An effect for the other kind leaves it, and so do
     /// those that make or free an inode. The one refusal is [`Refusal::OutOfMemory`], and it leaves the inode as it
-    /// was.
+    /// was. What only takes away takes no memory.
     pub fn change(&mut self, alloc: Global, effect: &Effect) -> Result<(), Refusal>
+        ensures taken_away { TakesAway effect.now → IsOk result }
         ensures ok { OnOk result (self.new ≡ changed self.old effect.now) }
         ensures err { OnErr result (self.new ≡ self.old) }
         ensures only_memory { IsOkUnless result OutOfMemory }
@@ -131,6 +132,7 @@ impl Inode {
 
 /// Makes of a file what an effect makes of it.
 fn change_file(bytes: &mut FileBytes, effect: &Effect) -> Result<(), Refusal>
+    ensures taken_away { TakesAway effect.now → IsOk result }
     ensures ok { OnOk result (regular bytes.new ≡ changed (regular bytes.old) effect.now) }
     ensures err { OnErr result (bytes.new ≡ bytes.old) }
     ensures only_memory { IsOkUnless result OutOfMemory }
@@ -144,6 +146,7 @@ fn change_file(bytes: &mut FileBytes, effect: &Effect) -> Result<(), Refusal>
 
 /// Makes of a directory what an effect makes of it.
 fn change_directory(alloc: Global, links: &mut Directory, effect: &Effect) -> Result<(), Refusal>
+    ensures taken_away { TakesAway effect.now → IsOk result }
     ensures ok { OnOk result (directory links.new ≡ changed (directory links.old) effect.now) }
     ensures err { OnErr result (links.new ≡ links.old) }
     ensures only_memory { IsOkUnless result OutOfMemory }

@@ -1,8 +1,8 @@
 // A table of inodes.
-ghost use Rattle.std.specs.Prelude.{◌≡◌, IfOk, IsOkUnless, OnErr, OnOk, option_copied, option_map};
+ghost use Rattle.std.specs.Prelude.{◌≡◌, IfOk, IsOk, IsOkUnless, OnErr, OnOk, option_copied, option_map};
 ghost use Rattle.std.specs.FinMap as map;
 ghost use Rattle.assise_names.specs.declared.refusal.Refusal.TheVariants.{OutOfMemory};
-ghost use Rattle.assise_inode_table.specs.Effects.{applied, changed, with_value};
+ghost use Rattle.assise_inode_table.specs.Effects.{TakesAway, applied, changed, with_value};
 ghost use Rattle.assise_inode_table.specs.Opening.{opening};
 ghost use Rattle.assise_record.specs.Touched.{touched_by};
 
@@ -84,9 +84,11 @@ impl InodeTable {
 
     /// Makes an effect: a new file or directory stands in place of what its number had, a freed inode is gone, and
     /// each other effect changes the inode that it touches, where there is one of its kind. No other inode changes.
-    /// The one refusal is [`Refusal::OutOfMemory`], and it leaves the table as it was.
+    /// The one refusal is [`Refusal::OutOfMemory`], and it leaves the table as it was. What only takes away takes no
+    /// memory.
     pub fn apply(&mut self, effect: &Effect) -> Result<(), Refusal>
         ensures ok { OnOk result (self.new ≡ applied self.old effect.now) }
+        ensures taken_away { TakesAway effect.now → IsOk result }
         ensures err { OnErr result (self.new ≡ self.old) }
         ensures only_memory { IsOkUnless result OutOfMemory }
     {
@@ -103,6 +105,7 @@ impl InodeTable {
 
     /// Changes the inode that an effect touches, where there is one.
     fn change(&mut self, effect: &Effect) -> Result<(), Refusal>
+        ensures taken_away { TakesAway effect.now → IsOk result }
         ensures ok { let inode = touched_by effect.now in
             OnOk result (self.new ≡ with_value self.old inode (option_map (λ content. changed content effect.now) (map.get self.old inode))) }
         ensures err { OnErr result (self.new ≡ self.old) }

@@ -3,12 +3,14 @@ ghost use Rattle.std.specs.Prelude.{◌≡◌, ◌==◌, IfOk, IsOkUnless};
 ghost use Rattle.std.proofs.Common.{rules};
 ghost use Rattle.std.specs.Cmp.Rules.{comparing};
 ghost use Rattle.std.specs.Cmp.Lexicographic.{pointwise};
+ghost use Rattle.std.specs.Map.{keys_of};
 ghost use Rattle.std.specs.Ordering.{on};
 ghost use Rattle.assise_names.specs.declared.refusal.Refusal.TheVariants.{OutOfMemory};
 
 use crate::name::{Name, copy_names};
 use crate::refusal::Refusal;
 use std::alloc::Global;
+use std::collections::BTreeMap;
 use std::marker::Model;
 
 /// Names that a call lists. A contract sees the list of them, and nothing of where they lie.
@@ -31,6 +33,18 @@ impl NameList {
         ensures { result ≡ names.items }
     {
         NameList { names }
+    }
+
+    /// The keys of an ordered map, which rise by their bytes. The one refusal is [`Refusal::OutOfMemory`].
+    pub fn of_keys<V: Drop>(alloc: Global, map: &BTreeMap<Name, V>) -> Result<NameList, Refusal>
+        ensures keys { IfOk result (λ names. names ≡ keys_of map.now.entries) }
+        ensures only_memory { IsOkUnless result OutOfMemory }
+    {
+        let mut names = Vec::with_capacity(alloc, map.len())?;
+        for name in map.keys() {
+            names.push(name.copy(alloc)?)?;
+        }
+        Ok(NameList { names })
     }
 
     /// The names as a slice.

@@ -1,7 +1,7 @@
 -- A call leaves each path that lies apart from its own.
 use Rattle.std.proofs.Common.{◌≡◌, ℕ, Bool, true, false, cond, ◌==◌, List, [], length, Result, Ok, Err, refl, ap, sym, ◌∙◌}
 use Rattle.assise_names.specs.declared.call.Op.{Op}
-use Rattle.assise_names.specs.declared.call.Op.TheVariants.{Create, Read, Write, Stat}
+use Rattle.assise_names.specs.declared.call.Op.TheVariants.{Create, Mkdir, Read, Write, Truncate, Unlink, Rmdir, List as ListCall, Stat, Fsync}
 use Rattle.assise_names.specs.declared.reply.Reply.{Reply}
 use Rattle.assise_names.specs.declared.reply.Reply.TheVariants.{Done, Bytes}
 use Rattle.assise_names.specs.declared.reply.TreeError.{TreeError}
@@ -40,3 +40,9 @@ rest_is_left t u (Create p) reply q h apart = ap (λ v. at v q) (second _ reply 
 rest_is_left t u (Read p offset most) reply q h apart = ap (λ v. at v q) (second _ reply u h ∙ read_leaves t offset most (file_at t p))
 rest_is_left t u (Write p offset new) reply q h apart = ap (λ v. at v q) (second _ reply u h) ∙ write_leaves t p q offset new apart (file_at t p) (is_within offset new) (length new == 0)
 rest_is_left t u (Stat p) reply q h apart = ap (λ v. at v q) (second _ reply u h ∙ stat_leaves t (at t p))
+rest_is_left t u (Mkdir p) reply q h apart = ?
+rest_is_left t u (Truncate p size) reply q h apart = ?
+rest_is_left t u (Unlink p) reply q h apart = ?
+rest_is_left t u (Rmdir p) reply q h apart = ?
+rest_is_left t u (ListCall p) reply q h apart = ?
+rest_is_left t u Fsync reply q h apart = ?

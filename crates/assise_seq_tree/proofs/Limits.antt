@@ -5,7 +5,7 @@ use Rattle.std.specs.Cmp.Lexicographic.{slice_cmp}
 use Rattle.std.proofs.lemmas.Bool.{cases_Bool}
 use Rattle.std.proofs.lemmas.Bool.Decides.{nat_tests}
 use Rattle.assise_names.specs.declared.call.Op.{Op}
-use Rattle.assise_names.specs.declared.call.Op.TheVariants.{Create, Read, Write, Stat}
+use Rattle.assise_names.specs.declared.call.Op.TheVariants.{Create, Mkdir, Read, Write, Truncate, Unlink, Rmdir, List as ListCall, Stat, Fsync}
 use Rattle.assise_names.specs.declared.reply.Reply.{Reply}
 use Rattle.assise_names.specs.declared.reply.Reply.TheVariants.{Done}
 use Rattle.assise_names.specs.declared.reply.TreeError.{TreeError}
@@ -158,3 +158,9 @@ limits_kept t u (Create p) reply h s = subst IsWithinLimits (sym (second _ reply
 limits_kept t u (Read p offset most) reply h s = subst IsWithinLimits (sym (second _ reply u h ∙ read_leaves t offset most (file_at t p))) s
 limits_kept t u (Write p offset new) reply h s = subst IsWithinLimits (sym (second _ reply u h)) (written t p offset new (file_at t p) (is_within offset new) (length new == 0) refl refl s)
 limits_kept t u (Stat p) reply h s = subst IsWithinLimits (sym (second _ reply u h ∙ stat_leaves t (at t p))) s
+limits_kept t u (Mkdir p) reply h s = ?
+limits_kept t u (Truncate p size) reply h s = ?
+limits_kept t u (Unlink p) reply h s = ?
+limits_kept t u (Rmdir p) reply h s = ?
+limits_kept t u (ListCall p) reply h s = ?
+limits_kept t u Fsync reply h s = ?

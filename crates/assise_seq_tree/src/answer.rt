@@ -3,7 +3,6 @@ ghost use Rattle.std.specs.Prelude.{◌≡◌, IfOk, IsOkUnless, MatchResult, On
 ghost use Rattle.assise_names.specs.Reply.{HoldsWhatWasRead};
 ghost use Rattle.assise_names.specs.declared.refusal.Refusal.TheVariants.{OutOfMemory};
 ghost use Rattle.assise_seq_tree.specs.Answer.{answer, create_answer, entries_at, file_at, list_answer, may_rmdir, may_unlink, mkdir_answer, read_answer, rmdir_answer, room_at, room_for, stat_answer, truncate_answer, unlink_answer, vacant, write_answer};
-ghost use Rattle.assise_seq_tree.specs.Tree.{names_of};
 ghost use Rattle.assise_seq_tree.specs.View.{entries_of};
 
 use crate::contents::{MOST_FILE_BYTES, bytes_from, is_within};
@@ -188,7 +187,7 @@ fn list(alloc: Global, tree: &Tree, names: &[Name]) -> Result<Reply, Refusal>
     ensures only_memory { IsOkUnless result OutOfMemory }
 {
     match entries_at(tree, names) {
-        Ok(entries) => Ok(Reply::Names(names_of(alloc, entries)?)),
+        Ok(entries) => Ok(Reply::Names(NameList::of_keys(alloc, entries)?)),
         Err(error) => Ok(Reply::Error(error)),
     }
 }
@@ -218,18 +217,6 @@ fn entries_at<'a>(
     ensures { MatchResult result (λ m. entries_at tree.now names.now ≡ Ok (entries_of m.now.entries)) (λ e. entries_at tree.now names.now ≡ Err e) }
 {
     tree.at(names)?.entries()
-}
-
-/// The names of entries.
-fn names_of(alloc: Global, entries: &BTreeMap<Name, Tree>) -> Result<NameList, Refusal>
-    ensures names { IfOk result (λ names. names ≡ names_of (entries_of entries.now.entries)) }
-    ensures only_memory { IsOkUnless result OutOfMemory }
-{
-    let mut names = Vec::with_capacity(alloc, entries.len())?;
-    for name in entries.keys() {
-        names.push(name.copy(alloc)?)?;
-    }
-    Ok(NameList::from_vec(names))
 }
 
 /// Whether the file at a path may be unlinked.
