@@ -2,9 +2,10 @@
 ghost use Rattle.std.specs.Prelude.{◌≡◌, ◌==◌, IfOk, IsOkUnless};
 ghost use Rattle.std.proofs.Common.{rules};
 ghost use Rattle.std.specs.Cmp.Rules.{comparing};
-ghost use Rattle.std.specs.Cmp.Lexicographic.{pointwise};
+ghost use Rattle.std.specs.Cmp.Lexicographic.{pointwise, slice_cmp};
+ghost use Rattle.std.specs.List.Sorted.{IsStrictlySortedBy};
 ghost use Rattle.std.specs.Map.{keys_of};
-ghost use Rattle.std.specs.Ordering.{on};
+ghost use Rattle.std.specs.Ordering.{nat_cmp, on};
 ghost use Rattle.assise_names.specs.declared.refusal.Refusal.TheVariants.{OutOfMemory};
 
 use crate::name::{Name, copy_names};
@@ -38,6 +39,7 @@ impl NameList {
     /// The keys of an ordered map, which rise by their bytes. The one refusal is [`Refusal::OutOfMemory`].
     pub fn of_keys<V: Drop>(alloc: Global, map: &BTreeMap<Name, V>) -> Result<NameList, Refusal>
         ensures keys { IfOk result (λ names. names ≡ keys_of map.now.entries) }
+        ensures rising { IfOk result (λ names. IsStrictlySortedBy (slice_cmp nat_cmp) names) }
         ensures only_memory { IsOkUnless result OutOfMemory }
     {
         let mut names = Vec::with_capacity(alloc, map.len())?;

@@ -1,6 +1,6 @@
 -- The plain sequential file tree, without any representation.
 -- POSIX.1-2017, base definitions: chapter 3, Directory and File; section 4.13, Pathname Resolution.
-use Rattle.std.specs.Prelude.{◌≡◌, ◌≤◌, ℕ, ◌+◌, Bool, length, if◌then◌else◌, is_some, All, List, [], ◌∷◌, ◌++◌, Option, Some, None, unwrap_or, Result, Ok, Err}
+use Rattle.std.specs.Prelude.{◌≡◌, ◌≤◌, ℕ, ◌+◌, Bool, length, if◌then◌else◌, is_some, List, [], ◌∷◌, ◌++◌, Option, Some, None, unwrap_or, Result, Ok, Err}
 use Rattle.std.specs.declared.cmp.Ordering.TheVariants.{Less}
 use Rattle.std.specs.Ordering.{nat_cmp, is_eq, match_ordering}
 use Rattle.std.specs.Option.{option_map_or}
@@ -107,11 +107,6 @@ abbrev mutual
   pub AreOrdered : Entries → Type 0
   AreOrdered no_entries = Unit {0}
   AreOrdered (entry name t es) = IsBelow name es × IsOrdered t × AreOrdered es
-
--- each name comes before all later ones, by their bytes
-abbrev pub Rise : List (List ℕ) → Type 0
-Rise [] = Unit {0}
-Rise (name ∷ names) = All (λ later. slice_cmp nat_cmp name later ≡ Less) names × Rise names
 
 -- at every depth a file has at most 1,048,576 bytes, and a directory at most 4,096 entries
 abbrev mutual

@@ -1,5 +1,8 @@
 // Laws of the tree and of its calls. Each function does nothing: its contract is the law.
 ghost use Rattle.std.specs.Prelude.{◌≡◌, ◌+◌, ◌-◌, ◌<◌, ◌≤◌, Err, List, Ok, length, max, replicate, ℕ};
+ghost use Rattle.std.specs.Cmp.Lexicographic.{slice_cmp};
+ghost use Rattle.std.specs.List.Sorted.{IsStrictlySortedBy};
+ghost use Rattle.std.specs.Ordering.{nat_cmp};
 ghost use Rattle.assise_names.specs.declared.call.Op.{Op};
 ghost use Rattle.assise_names.specs.declared.call.Op.TheVariants.{List as ListCall, Read, Rmdir, Stat, Truncate, Unlink, Write};
 ghost use Rattle.assise_names.specs.declared.reply.Reply.{Reply};
@@ -7,7 +10,7 @@ ghost use Rattle.assise_names.specs.declared.reply.Reply.TheVariants.{Bytes, Don
 ghost use Rattle.assise_names.specs.declared.reply.TreeError.{TreeError};
 ghost use Rattle.assise_names.specs.declared.reply.TreeError.TheVariants.{NoEnt};
 ghost use Rattle.assise_seq_tree.specs.Answer.{IsApartFrom, answer, parent_of};
-ghost use Rattle.assise_seq_tree.specs.Tree.{Entries, IsOrdered, IsWithinLimits, LieApart, Rise, Tree, at, dir, opening, put, without};
+ghost use Rattle.assise_seq_tree.specs.Tree.{Entries, IsOrdered, IsWithinLimits, LieApart, Tree, at, dir, opening, put, without};
 
 /// What is put at a path stands there, where its parent is a directory, and the last that is put there stays.
 pub fn what_is_put_stands()
@@ -76,7 +79,7 @@ pub fn what_is_removed_is_gone()
 
 /// The names of a list rise by their bytes.
 pub fn a_list_rises()
-    ensures { (t u : Tree) (p names : List (List ℕ)) → IsOrdered t → answer t (ListCall p) ≡ (Names names, u) → Rise names }
+    ensures { (t u : Tree) (p names : List (List ℕ)) → IsOrdered t → answer t (ListCall p) ≡ (Names names, u) → IsStrictlySortedBy (slice_cmp nat_cmp) names }
 {}
 
 /// A call that answers an error leaves the tree as it was, and any call leaves each path that lies apart from

@@ -1,4 +1,6 @@
-use Rattle.std.proofs.Common.{◌∷◌, ◌++◌, [], ◌∙◌, ap, ap₂, sym, append-nil}
+use Rattle.std.proofs.Common.{◌∷◌, ◌++◌, [], nat_cmp, ◌∙◌, ap, ap₂, sym, subst, append-nil}
+use Rattle.std.specs.Cmp.Lexicographic.{slice_cmp}
+use Rattle.std.specs.List.Sorted.{IsStrictlySortedBy}
 use Rattle.std.proofs.lemmas.List.{append_assoc}
 use Rattle.assise_names.proofs.name_list.NameList.of_keys.Goals as goal
 
@@ -13,3 +15,6 @@ loop-name-preserved g c =
 
 pub returns-clause-keys : goal.returns-clause-keys
 returns-clause-keys g c = sym (append-nil c.loop-name.names.items) ∙ ap (λ ns. c.loop-name.names.items ++ ns) (sym c.in-None.ensures.steps.0) ∙ c.loop-name.invariant
+
+pub returns-clause-rising : goal.returns-clause-rising
+returns-clause-rising g c = subst (IsStrictlySortedBy (slice_cmp nat_cmp)) (sym (returns-clause-keys g c)) c.keys-name-items.ensures.ordered
