@@ -1,6 +1,6 @@
 // A row for each call of a client.
 ghost use Rattle.std.specs.Prelude.{◌≡◌, map};
-ghost use Rattle.assise_fault_script.specs.Calls.{call_of, call_word, create_of, path_word, read_of, stat_of, write_of};
+ghost use Rattle.assise_fault_script.specs.Calls.{call_of, call_word, create_of, list_of, mkdir_of, path_word, read_of, rmdir_of, stat_of, truncate_of, unlink_of, write_of};
 ghost use Rattle.assise_fault_script.specs.Fault.{Gives};
 
 use crate::command::CallWord;
@@ -17,9 +17,15 @@ pub fn call_word(word: &str) -> Result<CallWord, ScriptFault>
 {
     match word {
         "create" => Ok(CallWord::Create),
+        "mkdir" => Ok(CallWord::Mkdir),
         "read" => Ok(CallWord::Read),
         "write" => Ok(CallWord::Write),
+        "truncate" => Ok(CallWord::Truncate),
+        "unlink" => Ok(CallWord::Unlink),
+        "rmdir" => Ok(CallWord::Rmdir),
+        "list" => Ok(CallWord::List),
         "stat" => Ok(CallWord::Stat),
+        "fsync" => Ok(CallWord::Fsync),
         _ => Err(ScriptFault::UnknownCommand),
     }
 }
@@ -30,9 +36,15 @@ pub fn call(alloc: Global, name: CallWord, words: &[&str]) -> Result<Op, ScriptF
 {
     match (name, words) {
         (CallWord::Create, [path]) => create(alloc, path),
+        (CallWord::Mkdir, [path]) => mkdir(alloc, path),
         (CallWord::Read, [path, offset, length]) => read(alloc, path, offset, length),
         (CallWord::Write, [path, offset, data]) => write(alloc, path, offset, data),
+        (CallWord::Truncate, [path, size]) => truncate(alloc, path, size),
+        (CallWord::Unlink, [path]) => unlink(alloc, path),
+        (CallWord::Rmdir, [path]) => rmdir(alloc, path),
+        (CallWord::List, [path]) => list(alloc, path),
         (CallWord::Stat, [path]) => stat(alloc, path),
+        (CallWord::Fsync, []) => Ok(Op::Fsync),
         _ => Err(ScriptFault::WrongCount),
     }
 }
@@ -54,6 +66,13 @@ fn create(alloc: Global, word: &str) -> Result<Op, ScriptFault>
     Ok(Op::Create(path))
 }
 
+fn mkdir(alloc: Global, word: &str) -> Result<Op, ScriptFault>
+    ensures { Gives result (mkdir_of word.now) }
+{
+    let path = path(alloc, word)?;
+    Ok(Op::Mkdir(path))
+}
+
 fn read(alloc: Global, word: &str, offset: &str, count: &str) -> Result<Op, ScriptFault>
     ensures { Gives result (read_of word.now offset.now count.now) }
 {
@@ -70,6 +89,35 @@ fn write(alloc: Global, word: &str, offset: &str, bytes: &str) -> Result<Op, Scr
     let offset = number(offset)?;
     let bytes = data(alloc, bytes)?;
     Ok(Op::Write(path, offset, bytes))
+}
+
+fn truncate(alloc: Global, word: &str, size: &str) -> Result<Op, ScriptFault>
+    ensures { Gives result (truncate_of word.now size.now) }
+{
+    let path = path(alloc, word)?;
+    let size = number(size)?;
+    Ok(Op::Truncate(path, size))
+}
+
+fn unlink(alloc: Global, word: &str) -> Result<Op, ScriptFault>
+    ensures { Gives result (unlink_of word.now) }
+{
+    let path = path(alloc, word)?;
+    Ok(Op::Unlink(path))
+}
+
+fn rmdir(alloc: Global, word: &str) -> Result<Op, ScriptFault>
+    ensures { Gives result (rmdir_of word.now) }
+{
+    let path = path(alloc, word)?;
+    Ok(Op::Rmdir(path))
+}
+
+fn list(alloc: Global, word: &str) -> Result<Op, ScriptFault>
+    ensures { Gives result (list_of word.now) }
+{
+    let path = path(alloc, word)?;
+    Ok(Op::List(path))
 }
 
 fn stat(alloc: Global, word: &str) -> Result<Op, ScriptFault>

@@ -60,10 +60,22 @@ pub(crate) enum Keyword {
 pub(crate) enum CallWord {
     /// `create P`.
     Create,
+    /// `mkdir P`.
+    Mkdir,
     /// `read P OFFSET LENGTH`.
     Read,
     /// `write P OFFSET DATA`.
     Write,
+    /// `truncate P SIZE`.
+    Truncate,
+    /// `unlink P`.
+    Unlink,
+    /// `rmdir P`.
+    Rmdir,
+    /// `list P`.
+    List,
     /// `stat P`.
     Stat,
+    /// `fsync`.
+    Fsync,
 }

@@ -63,6 +63,12 @@ fn each_command_is_read(rt: HostRuntime) -> Result<(), Fail> {
         \r\n\
         02 read /f 0 18446744073709551615\n\
         18446744073709551615 stat /\n\
+        1 mkdir /d\n\
+        1 truncate /f 01048577\n\
+        1 unlink /f\n\
+        1 rmdir /d\n\
+        1 list /\n\
+        1 fsync\n\
         history";
     let wanted = "2: cluster 1 4096 1\n\
         4: open 1 least\n\
@@ -72,7 +78,13 @@ fn each_command_is_read(rt: HostRuntime) -> Result<(), Fail> {
         9: 1 write /f 2 2\n\
         11: 2 read /f 0 18446744073709551615\n\
         12: 18446744073709551615 stat /\n\
-        13: history\n";
+        13: 1 mkdir /d\n\
+        14: 1 truncate /f 1048577\n\
+        15: 1 unlink /f\n\
+        16: 1 rmdir /d\n\
+        17: 1 list /\n\
+        18: 1 fsync\n\
+        19: history\n";
     let found = listed(&rt, script.as_bytes())?;
     assert_eq!(rt; found.as_str(), wanted);
     for limits in ["cluster 1 8 1", "cluster 01 4096 4096", "cluster 1 4096 1"] {
@@ -154,6 +166,14 @@ fn the_first_fault_of_a_line_is_named(rt: HostRuntime) -> Result<(), Fail> {
         ("open 1 least 2", "2: wrong number of words"),
         ("1 create", "2: wrong number of words"),
         ("1 stat /f /g", "2: wrong number of words"),
+        ("1 mkdir", "2: wrong number of words"),
+        ("1 truncate /f", "2: wrong number of words"),
+        ("1 truncate /f 1 2", "2: wrong number of words"),
+        ("1 unlink", "2: wrong number of words"),
+        ("1 rmdir /d /e", "2: wrong number of words"),
+        ("1 list", "2: wrong number of words"),
+        ("1 fsync /", "2: wrong number of words"),
+        ("1 fsync 1", "2: wrong number of words"),
         ("1 read /f 0", "2: wrong number of words"),
         ("1 write /f 0", "2: wrong number of words"),
         ("1 write /f 0 ta b", "2: wrong number of words"),
@@ -164,8 +184,16 @@ fn the_first_fault_of_a_line_is_named(rt: HostRuntime) -> Result<(), Fail> {
         ("1x stat /f", "2: bad number"),
         ("18446744073709551616 stat /f", "2: bad number"),
         ("1 read /f x 1", "2: bad number"),
+        ("1 truncate /f -1", "2: bad number"),
+        ("1 Fsync", "2: unknown command"),
+        ("fsync", "2: unknown command"),
         ("1 stat f", "2: bad path: not absolute"),
         ("1 create //f", "2: bad path: empty name"),
+        ("1 mkdir d", "2: bad path: not absolute"),
+        ("1 unlink /f/", "2: bad path: empty name"),
+        ("1 rmdir /d/..", "2: bad path: bad name"),
+        ("1 list .", "2: bad path: not absolute"),
+        ("1 truncate f x", "2: bad path: not absolute"),
         ("1 read /.. 0 1", "2: bad path: bad name"),
         ("1 write /f 0 x0", "2: bad data"),
         ("1 write /f 0 xg0", "2: bad data"),
