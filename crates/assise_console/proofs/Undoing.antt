@@ -1,5 +1,5 @@
 -- Effects made one after another, and those that are undone where one inode is taken out.
-use Rattle.std.proofs.Common.{◌≡◌, ℕ, zero, suc, ◌+◌, ◌<◌, ◌==◌, if◌then◌else◌, cond, List, [], ◌∷◌, ◌++◌, length, take, slice_index_or, None, refl, ap, sym, ◌∙◌, inl, inr, arith}
+use Rattle.std.proofs.Common.{◌≡◌, ℕ, zero, suc, ◌+◌, ◌<◌, ◌==◌, if◌then◌else◌, cond, List, [], ◌∷◌, ◌++◌, length, take, slice_index_or, None, refl, ap, sym, subst, ◌∙◌, inl, inr, arith}
 use Rattle.std.proofs.lemmas.Bool.{eq-eqb, ne_eqb, cases_eq}
 use Rattle.std.proofs.lemmas.List.{take_more}
 use Rattle.std.specs.Cmp.{nat_cmp_total}
@@ -7,9 +7,9 @@ use Rattle.std.specs.FinMap as map
 use Rattle.assise_record.specs.declared.effect.Effect.{Effect}
 use Rattle.assise_record.specs.Touched.{touched_by}
 use Rattle.assise_inode_table.specs.Contents.{InodeMap, values}
-use Rattle.assise_inode_table.specs.Effects.{after, applied, value_after}
+use Rattle.assise_inode_table.specs.Effects.{TakesAway, after, applied, value_after}
 use Rattle.assise_inode_table.proofs.Making.{get-applied, same_number}
-use Rattle.assise_console.specs.Undone.{TouchesFirst, all_applied}
+use Rattle.assise_console.specs.Undone.{CanBeUndone, OnlyTakeAway, all_applied}
 
 -- ---- one after another
 
@@ -56,12 +56,19 @@ remove_absent m i none = same_inodes _ _ (λ q. get_removed m i q ∙ go q)
           | inr apart ↦ rw (ne_eqb i q apart) refl
         ]
 
-remove_made : (m : InodeMap) (es : List Effect) (k i : ℕ) → TouchesFirst i es → k < length es → map.remove (all_applied m (take k es)) i ≡ map.remove m i
-remove_made m [] k i t h = absurd (omega (arith, h))
-remove_made m (e ∷ es) zero i t h = refl
-remove_made m (e ∷ []) (suc k) i t h = absurd (omega (arith, h))
-remove_made m (e ∷ f ∷ es) (suc k) i t h = remove_made (applied m e) (f ∷ es) k i t.1 (omega (arith, h)) ∙ remove_applied m e i t.0
+takes_away_at : (es : List Effect) (k : ℕ) (e : Effect) → OnlyTakeAway es → k < length es → e ≡ slice_index_or es k e → TakesAway e
+takes_away_at [] k e t h is = absurd (omega (arith, h))
+takes_away_at (x ∷ es) zero e t h is = subst TakesAway (sym is) t.0
+takes_away_at (x ∷ es) (suc k) e t h is = takes_away_at es k e t.1 (omega (arith, h)) is
 
--- before the last effect all can be undone
-pub undone : (m : InodeMap) (es : List Effect) (k i : ℕ) → map.get m i ≡ None → TouchesFirst i es → k < length es → map.remove (all_applied m (take k es)) i ≡ m
-undone m es k i none t h = remove_made m es k i t h ∙ remove_absent m i none
+-- before an effect that takes memory only this inode was touched
+remove_made : (m : InodeMap) (es : List Effect) (k i : ℕ) (e : Effect) → CanBeUndone i es → k < length es → e ≡ slice_index_or es k e → (TakesAway e → ⊥) → map.remove (all_applied m (take k es)) i ≡ map.remove m i
+remove_made m [] k i e t h is grows = absurd (omega (arith, h))
+remove_made m (x ∷ es) zero i e t h is grows = refl
+remove_made m (x ∷ es) (suc k) i e (inl t) h is grows = remove_made (applied m x) es k i e t.1 (omega (arith, h)) is grows ∙ remove_applied m x i t.0
+remove_made m (x ∷ es) (suc k) i e (inr t) h is grows = absurd (grows (takes_away_at es k e t (omega (arith, h)) is))
+
+-- what was made before an effect that is refused can be undone
+pub undone : (m : InodeMap) (es : List Effect) (k i : ℕ) (e : Effect) → map.get m i ≡ None → CanBeUndone i es → k < length es → e ≡ slice_index_or es k e → (TakesAway e → ⊥) →
+    map.remove (all_applied m (take k es)) i ≡ m
+undone m es k i e none t h is grows = remove_made m es k i e t h is grows ∙ remove_absent m i none

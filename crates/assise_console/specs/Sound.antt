@@ -22,16 +22,20 @@ abbrev pub last_of : ℕ → Option ℕ
 last_of zero = None
 last_of (suc n) = Some n
 
--- client 1 was opened on node 1, and made so many calls
-abbrev pub open_after : ℕ → Summary
-open_after n = record { clients = record { client = 1; node = 1; last = last_of n; synced = None; crashed = false; failed = false } ∷ []; down = [] }
+-- client 1 was opened on node 1, and made so many calls, the last fsync of which is known
+abbrev pub open_after : ℕ → Option ℕ → Summary
+open_after n synced = record { clients = record { client = 1; node = 1; last = last_of n; synced = synced; crashed = false; failed = false } ∷ []; down = [] }
+
+-- the same, whichever is its last fsync
+abbrev pub IsOpenAfter : ℕ → Summary → Type 0
+IsOpenAfter n known = (synced : Option ℕ) × (known ≡ open_after n synced)
 
 -- the history is legal, its kept calls are a run that leaves the tree, and it says of the client what the state says
 pub record IsRecorded (s : State) : Type 0 where
   pub legal : IsLegal s.events
   pub run : IsRun opening (kept s.events)
   pub tree : s.tree ≡ tree_after opening (kept s.events)
-  pub client : MatchBool s.opened (summary s.events ≡ open_after s.calls) ((summary s.events ≡ nothing_yet) × (s.calls ≡ 0))
+  pub client : MatchBool s.opened (IsOpenAfter s.calls (summary s.events)) ((summary s.events ≡ nothing_yet) × (s.calls ≡ 0))
 
 -- ---- what is kept
 

@@ -1,9 +1,9 @@
 -- What each command answers, and the state after it.
 use Rattle.std.specs.Prelude.{◌≡◌, ◌⊎◌, ℕ, ◌+◌, Bool, true, false, not, ◌||◌, ◌==◌, nat_lt, if◌then◌else◌, List, [], ◌∷◌, ◌++◌, length, Option, Some, None}
 use Rattle.assise_names.specs.declared.call.Op.{Op}
-use Rattle.assise_names.specs.declared.call.Op.TheVariants.{Create, Read, Write, Stat}
+use Rattle.assise_names.specs.declared.call.Op.TheVariants.{Create, Mkdir, Write}
 use Rattle.assise_names.specs.declared.reply.Reply.{Reply}
-use Rattle.assise_names.specs.declared.reply.Reply.TheVariants.{Done, Bytes, File, Dir, Error}
+use Rattle.assise_names.specs.declared.reply.Reply.TheVariants.{Done}
 use Rattle.assise_names.specs.declared.refusal.Refusal.TheVariants.{OutOfMemory, BadNode, BadClient, InodesSpent, TooLarge}
 use Rattle.assise_seq_tree.specs.Tree.{Tree, opening}
 use Rattle.assise_seq_tree.specs.Answer.{answer}
@@ -35,23 +35,17 @@ opened s n = if not (n == 1) then (Refused BadNode, s) else (if s.opened then (R
 -- one write takes 65,536 bytes at most
 abbrev pub is_too_large : Op → Bool
 is_too_large (Write p offset bytes) = nat_lt 65536 (length bytes)
-is_too_large (Create p) = false
-is_too_large (Read p offset len) = false
-is_too_large (Stat p) = false
+is_too_large _ = false
 
 abbrev pub is_done : Reply → Bool
 is_done Done = true
-is_done (Bytes bytes) = false
-is_done (File size) = false
-is_done (Dir count) = false
-is_done (Error e) = false
+is_done _ = false
 
--- a create that is done makes an inode, and nothing else does
+-- a create or mkdir that is done makes an inode, and nothing else does
 abbrev pub makes_inode : Op → Reply → Bool
 makes_inode (Create p) reply = is_done reply
-makes_inode (Read p offset len) reply = false
-makes_inode (Write p offset bytes) reply = false
-makes_inode (Stat p) reply = false
+makes_inode (Mkdir p) reply = is_done reply
+makes_inode _ reply = false
 
 -- how many inodes the client has made after a call with this reply, if they are 1,048,576 at most
 abbrev pub made_after : ℕ → Op → Reply → Option ℕ

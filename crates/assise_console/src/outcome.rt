@@ -1,7 +1,7 @@
 // What a call answers over all inodes, and its effects, made all or none.
 ghost use Rattle.std.specs.Prelude.{◌≡◌, IfOk, IsOkUnless, None, OnErr, OnOk};
 ghost use Rattle.std.specs.FinMap as map;
-ghost use Rattle.assise_console.specs.Undone.{TouchesFirst, all_applied};
+ghost use Rattle.assise_console.specs.Undone.{CanBeUndone, all_applied};
 ghost use Rattle.assise_inode_plan.specs.Planning.{IsWritable};
 ghost use Rattle.assise_inode_table.specs.Calls.{step};
 ghost use Rattle.assise_inode_table.specs.Contents.{values};
@@ -43,15 +43,16 @@ pub(crate) fn outcome_of(
     }
 }
 
-/// Makes effects of which only the last may touch another inode than `fresh`, which is not there before. The one
-/// refusal is [`Refusal::OutOfMemory`], and it leaves all inodes as they were: `fresh` is taken out again.
+/// Makes effects, of which those on `fresh`, which is not there before, come first, and of the others only the first
+/// may take memory. The one refusal is [`Refusal::OutOfMemory`], and it leaves all inodes as they were: `fresh` is taken
+/// out again.
 pub(crate) fn make_all(
     inodes: &mut InodeTable,
     effects: &[Effect],
     fresh: u64,
 ) -> Result<(), Refusal>
     requires absent { map.get inodes.old fresh ≡ None }
-    requires undone { TouchesFirst fresh effects.now }
+    requires undone { CanBeUndone fresh effects.now }
     ensures ok { OnOk result (inodes.new ≡ all_applied inodes.old effects.now) }
     ensures err { OnErr result (inodes.new ≡ inodes.old) }
     ensures only_memory { IsOkUnless result OutOfMemory }

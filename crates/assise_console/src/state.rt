@@ -15,13 +15,11 @@ use assise_inode_table::table::InodeTable;
 use assise_names::call::Op;
 use assise_names::refusal::Refusal;
 use assise_names::reply::Reply;
+use assise_record::effect::MOST_EXTENT_BYTES;
 use std::alloc::Global;
 use std::fmt;
 use std::fmt::{Display, Formatter};
 use std::marker::Model;
-
-/// The most bytes that one write takes.
-pub const MOST_WRITTEN: usize = 65_536;
 
 /// The most inodes that one client makes.
 pub const MOST_INODES: u64 = 1_048_576;
@@ -171,10 +169,8 @@ fn is_too_large(op: &Op) -> bool
     ensures { result ≡ is_too_large op.now }
 {
     match op {
-        Op::Write(_, _, bytes) => bytes.len() > MOST_WRITTEN,
-        Op::Create(_) => false,
-        Op::Read(_, _, _) => false,
-        Op::Stat(_) => false,
+        Op::Write(_, _, bytes) => bytes.len() > MOST_EXTENT_BYTES,
+        _ => false,
     }
 }
 
@@ -183,10 +179,8 @@ fn makes_inode(op: &Op, reply: &Reply) -> bool
     ensures { result ≡ makes_inode op.now reply.now }
 {
     match op {
-        Op::Create(_) => matches!(reply, Reply::Done),
-        Op::Read(_, _, _) => false,
-        Op::Write(_, _, _) => false,
-        Op::Stat(_) => false,
+        Op::Create(_) | Op::Mkdir(_) => matches!(reply, Reply::Done),
+        _ => false,
     }
 }
 

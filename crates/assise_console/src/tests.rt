@@ -142,6 +142,70 @@ fn each_fault_has_its_line_and_its_status(rt: HostRuntime) -> Result<(), Fail> {
     Ok(())
 }
 
+/// Calls of the root that no file system lets through.
+const OF_THE_ROOT: &str =
+    "cluster 1 8 4\nopen 1 least\n1 read / 0 1\n1 unlink /\n1 rmdir /\n1 create /\n";
+
+/// Sizes and writes up to the most bytes of a file, and past it.
+const LARGEST_FILE: &str =
+    "cluster 1 64 4\nopen 1 least\n1 create /f\n1 truncate /f 1048575\n1 write /f 1048575 ta\n1 write /f 1048576 ta\n1 write /f 0 z65537\n1 truncate /f 1048577\n1 read /f 1048574 9\n1 stat /f\n1 write /f 1048576 t\n1 write /nope 0 z65537\n";
+
+/// Directories that are made, listed, and removed once they are empty; names rise by their bytes.
+const DIRECTORIES: &str =
+    "cluster 1 64 4\nopen 1 least\n1 mkdir /d\n1 mkdir /d\n1 mkdir /d/e\n1 create /d/b\n1 create /d/B\n1 create /d/ä\n1 list /d\n1 rmdir /d\n1 unlink /d/e\n1 rmdir /d/b\n1 list /d/b\n1 stat /d\n1 unlink /d/b\n1 unlink /d/B\n1 unlink /d/ä\n1 rmdir /d/e\n1 list /d\n1 rmdir /d\n1 list /\n1 mkdir /d/e\n1 fsync\n";
+
+#[test]
+fn calls_of_files_and_directories(rt: HostRuntime) -> Result<(), Fail> {
+    for (script, wanted) in [
+        (
+            OF_THE_ROOT,
+            "2: client 1\n3: E4 IsDir\n4: E4 IsDir\n5: E6 Invalid\n6: E2 Exists\n",
+        ),
+        (
+            LARGEST_FILE,
+            "2: client 1\n3: done\n4: done\n5: done\n6: E7 TooBig\n7: F6 TooLarge\n8: E7 TooBig\n9: bytes 2 x0061\n10: file 1048576\n11: done\n12: F6 TooLarge\n",
+        ),
+        (
+            DIRECTORIES,
+            "2: client 1\n3: done\n4: E2 Exists\n5: done\n6: done\n7: done\n8: done\n9: names 4 B b e ä\n10: E5 NotEmpty\n11: E4 IsDir\n12: E3 NotDir\n13: E3 NotDir\n14: dir 4\n15: done\n16: done\n17: done\n18: done\n19: names 0\n20: done\n21: names 0\n22: E1 NoEnt\n23: done\n",
+        ),
+    ] {
+        assert!(rt; prints(&rt, script, wanted)?, "{script}");
+    }
+    Ok(())
+}
+
+/// A file that is removed and made again has none of its old bytes.
+const MADE_AGAIN: &str =
+    "cluster 1 8 4\nopen 1 least\n1 create /f\n1 write /f 0 tabc\n1 truncate /f 1\n1 truncate /f 3\n1 read /f 0 9\n1 unlink /f\n1 read /f 0 9\n1 create /f\n1 read /f 0 9\n1 fsync\nhistory\n";
+
+#[test]
+fn what_is_removed_is_gone(rt: HostRuntime) -> Result<(), Fail> {
+    let wanted =
+        "2: client 1\n3: done\n4: done\n5: done\n6: done\n7: bytes 3 x610000\n8: done\n9: E1 NoEnt\n10: done\n11: bytes 0 x\n12: done\n13: history 11\nopen 1 1\ncall 1 0 create /f = done\ncall 1 1 write /f 0 3 = done\ncall 1 2 truncate /f 1 = done\ncall 1 3 truncate /f 3 = done\ncall 1 4 read /f 0 9 = bytes 3 x610000\ncall 1 5 unlink /f = done\ncall 1 6 read /f 0 9 = E1 NoEnt\ncall 1 7 create /f = done\ncall 1 8 read /f 0 9 = bytes 0 x\ncall 1 9 fsync = done\n";
+    assert!(rt; prints(&rt, MADE_AGAIN, wanted)?);
+    Ok(())
+}
+
+#[test]
+fn a_directory_is_full_with_4096_entries(rt: HostRuntime) -> Result<(), Fail> {
+    let mut script = String::from_str(rt.alloc(), "cluster 1 4096 16\nopen 1 least\n")?;
+    let mut wanted = String::from_str(rt.alloc(), "2: client 1\n")?;
+    for number in 0..4096u32 {
+        let line = number + 3;
+        let create = format!(in rt.alloc(); "1 create /f{number}\n")?;
+        script.push_str(create.as_str())?;
+        let done = format!(in rt.alloc(); "{line}: done\n")?;
+        wanted.push_str(done.as_str())?;
+    }
+    script.push_str("1 create /x\n1 mkdir /x\n1 unlink /f7\n1 mkdir /x\n1 create /x/y\n")?;
+    wanted.push_str(
+        "4099: E8 DirFull\n4100: E8 DirFull\n4101: done\n4102: done\n4103: done\n",
+    )?;
+    assert!(rt; prints(&rt, script.as_str(), wanted.as_str())?);
+    Ok(())
+}
+
 /// A reader that gives at most seven bytes at a time, and fails after so many reads.
 #[derive(Drop)]
 struct BrokenReader {

@@ -9,7 +9,8 @@ use Rattle.assise_console.proofs.outcome.make_all.Goals as goal
 pub returns-in-Err-clause-err : goal.returns-in-Err-clause-err
 returns-in-Err-clause-err c =
     c.remove.ensures ∙ ap (λ m. map.remove m c.args.fresh) (c.in-Err.ensures.err ∙ c.loop-effect.invariant)
-    ∙ undone c.args.inodes.now c.args.effects.now c.loop-effect.effect-index c.args.fresh c.requires.absent c.requires.undone c.loop-effect-test.true
+    ∙ undone c.args.inodes.now c.args.effects.now c.loop-effect.effect-index c.args.fresh c.effect-item.result c.requires.absent c.requires.undone c.loop-effect-test.true c.effect-item.is
+    (λ takes. let no = c.apply.ensures.taken_away takes in let is = c.in-Err.is in cc)
 
 pub loop-effect-preserved : goal.loop-effect-preserved
 loop-effect-preserved c =

@@ -1,7 +1,7 @@
 use Rattle.std.proofs.Common.{◌+◌, ◌++◌, ◌∷◌, [], sym, ap, ap₂, subst, ◌∙◌}
 use Rattle.assise_history.specs.Entries.{calls}
 use Rattle.assise_inode_table.specs.Contents.{values}
-use Rattle.assise_console.specs.Undone.{TouchesFirst}
+use Rattle.assise_console.specs.Undone.{CanBeUndone}
 use Rattle.assise_console.proofs.Keeping.{call_answers, kept_answered, spent_answers}
 use Rattle.assise_console.proofs.Making.{effects_undone}
 use Rattle.assise_console.proofs.state.Console.answer.Goals as goal
@@ -14,7 +14,7 @@ returns-in_default-clause-ok c =
 pub make_all-requires-clause-undone : goal.make_all-requires-clause-undone
 make_all-requires-clause-undone c =
     let f = c.self.inside in
-    subst (TouchesFirst (4294967296 + f.made)) (sym (c.as_slice.ensures.value ∙ c.in_ok-outcome.ensures.effects)) (effects_undone (values f.inodes) c.args.op (4294967296 + f.made))
+    subst (CanBeUndone (4294967296 + f.made)) (sym (c.as_slice.ensures.value ∙ c.in_ok-outcome.ensures.effects)) (effects_undone (values f.inodes) c.args.op (4294967296 + f.made))
 
 pub invariant_of-self-2 : goal.invariant_of-self-2
 invariant_of-self-2 c =
