@@ -33,12 +33,12 @@ some_is : {A : Type 0} (o : Option A) → is_some o ≡ true → (x : A) × (o �
 some_is None e = absurd (false≢true e)
 some_is (Some x) e = (x, refl)
 
-record LinkTo (v : Values) (r : ℕ) (name : List ℕ) (k : ℕ) : Type 0 where
-  links : Links
-  is : v r ≡ Some (directory links)
-  got : map.get links name ≡ Some k
+pub record LinkTo (v : Values) (r : ℕ) (name : List ℕ) (k : ℕ) : Type 0 where
+  pub links : Links
+  pub is : v r ≡ Some (directory links)
+  pub got : map.get links name ≡ Some k
 
-link_to : (v : Values) (r : ℕ) (name : List ℕ) (k : ℕ) → children v r name ≡ Ok k → LinkTo v r name k
+pub link_to : (v : Values) (r : ℕ) (name : List ℕ) (k : ℕ) → children v r name ≡ Ok k → LinkTo v r name k
 link_to v r name k e = go (v r) refl e
   where
     got : (o : Option ℕ) → ok_or o NoEnt ≡ Ok k → o ≡ Some k

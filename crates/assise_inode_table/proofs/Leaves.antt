@@ -1,13 +1,14 @@
 -- Inodes that lead nowhere: files and empty directories.
-use Rattle.std.proofs.Common.{◌≡◌, ◌≢◌, ℕ, List, [], ◌∷◌, Some, is_some, Ok, Err, nat_cmp, refl, sym, ap, ◌∙◌}
+use Rattle.std.proofs.Common.{◌≡◌, ◌≢◌, ℕ, false, List, [], ◌∷◌, Option, Some, None, is_some, Ok, Err, nat_cmp, refl, sym, ap, ◌∙◌}
 use Rattle.std.specs.Prelude.{ok_or}
+use Rattle.std.specs.List.{list_any}
 use Rattle.std.specs.Cmp.Lexicographic.{slice_cmp}
 use Rattle.std.specs.FinMap as map
 use Rattle.assise_names.specs.declared.reply.TreeError.TheVariants.{NoEnt}
-use Rattle.assise_seq_tree.specs.Tree.{file, dir, no_entries, at}
+use Rattle.assise_seq_tree.specs.Tree.{file, dir, no_entries, same_name, at}
 use Rattle.assise_seq_tree.specs.Answer.{◌>>=◌}
 use Rattle.assise_seq_tree.proofs.Moves.{Path}
-use Rattle.assise_inode_table.specs.Contents.{regular, directory, Values}
+use Rattle.assise_inode_table.specs.Contents.{regular, directory, Links, Values}
 use Rattle.assise_inode_table.specs.Reach.{Children, children, reach, link_of, folder, shape_of, shown_from, shown_in}
 use Rattle.assise_inode_table.specs.Spelled.{SpellsFrom}
 use Rattle.assise_inode_table.proofs.Naming.{names_are_keys}
@@ -38,7 +39,15 @@ file_spells v i bytes here = record {
     shows [] = ap shape_of here
     shows (name ∷ q) = ap (λ o. (link_of o name >>= λ k. reach (children v) k q) >>= λ j. shape_of (v j)) here
 
--- ---- an empty directory
+-- ---- a directory without links
+pub vacant_nowhere : (v : Values) (i : ℕ) (links : Links) → v i ≡ Some (directory links) → map.keys links ≡ [] → LeadsNowhere (children v) i
+vacant_nowhere v i links here none name j e = go (map.get links name) (map.contains_key-keys links name ∙ ap (list_any (same_name name)) none) (sym (ap (λ o. link_of o name) here) ∙ e)
+  where
+    go : (o : Option ℕ) → is_some o ≡ false → ok_or o NoEnt ≡ Ok j → ⊥
+    go None absent f = cc
+    go (Some k) absent f = cc
+
+-- ---- the empty directory
 no_keys : [] ≡ map.keys (map.empty {X = ℕ} {R = slice_cmp nat_cmp})
 no_keys = names_are_keys no_entries map.empty tt (λ q. ap is_some (sym (map.get-empty (slice_cmp nat_cmp) q)))
 

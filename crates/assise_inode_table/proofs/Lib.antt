@@ -3,6 +3,12 @@ pub mod Local
 pub mod Pairing
 pub mod Lateness
 pub mod Meeting
+pub mod MeetingEntries
+pub mod Agreeing
+pub mod QuietCalls
+pub mod WritingCalls
+pub mod MakingCalls
+pub mod RemovingCalls
 pub mod CallSteps
 pub mod Removing
 pub mod Fronts

@@ -1,14 +1,13 @@
 -- What a walk meets over inodes that spell a tree is what stands in the tree.
-use Rattle.std.proofs.Common.{◌≡◌, ℕ, Bool, true, false, if◌then◌else◌, List, [], ◌∷◌, ◌||◌, length, Option, Some, None, is_some, Result, Ok, Err, refl, ap, sym, ◌∙◌, arith}
+use Rattle.std.proofs.Common.{◌≡◌, ℕ, List, [], ◌∷◌, length, Option, Some, None, Result, Ok, Err, refl, ap, sym, ◌∙◌, arith}
 use Rattle.std.specs.Prelude.{ok_or}
-use Rattle.std.specs.List.{list_any}
 use Rattle.std.specs.FinMap as map
 use Rattle.assise_names.specs.declared.reply.Reply.{Reply}
 use Rattle.assise_names.specs.declared.reply.Reply.TheVariants.{Error}
 use Rattle.assise_names.specs.declared.reply.TreeError.{TreeError}
 use Rattle.assise_names.specs.declared.reply.TreeError.TheVariants.{NoEnt}
 use Rattle.assise_record.specs.declared.effect.Effect.{Effect}
-use Rattle.assise_seq_tree.specs.Tree.{Tree, file, dir, Entries, no_entries, entry, same_name, find, count, at, names_of}
+use Rattle.assise_seq_tree.specs.Tree.{Tree, file, dir, Entries, no_entries, entry, count, at, names_of}
 use Rattle.assise_seq_tree.specs.Answer.{◌>>=◌}
 use Rattle.assise_inode_table.specs.Contents.{Content, regular, directory, Links, Values}
 use Rattle.assise_inode_table.specs.Interaction.{Interaction, reply_of, effects_of}
@@ -97,16 +96,20 @@ meets_by v t p (Err e) r (Err f) is link =
 pub meets : (v : Values) (t : Tree) (p : List (List ℕ)) → Spells v t → Meets v t p
 meets v t p s = meets_by v t p (reach (children v) 0 p) refl (at t p) refl (s.tree.shows p)
 
+-- ---- the walk to what it finds
+
+pub walk_to_file : (v : Values) (t : Tree) (p : List (List ℕ)) (next : ℕ → Content → Interaction) (f : FindsFile v t p) → settled v (walk p next) ≡ settled v (next f.inode (regular f.bytes))
+walk_to_file v t p next f = walk_finds v p next f.inode (regular f.bytes) (found_there v p f.inode (regular f.bytes) f.reached f.holds)
+
+pub walk_to_directory : (v : Values) (t : Tree) (p : List (List ℕ)) (next : ℕ → Content → Interaction) (d : FindsDirectory v t p) → settled v (walk p next) ≡ settled v (next d.inode (directory d.links))
+walk_to_directory v t p next d = walk_finds v p next d.inode (directory d.links) (found_there v p d.inode (directory d.links) d.reached d.holds)
+
 -- ---- names of a directory
 
 pub count-names_of : (es : Entries) → count es ≡ length (names_of es)
 count-names_of no_entries = refl
 count-names_of (entry name t es) = omega (arith, count-names_of es)
 
-pub is_some-find : (name : List ℕ) (es : Entries) → is_some (find name es) ≡ list_any (same_name name) (names_of es)
-is_some-find name no_entries = refl
-is_some-find name (entry other t es) = go (is_some-find name es) (same_name name other)
-  where
-    go : is_some (find name es) ≡ list_any (same_name name) (names_of es) → (b : Bool) → is_some (if b then Some t else find name es) ≡ (b || list_any (same_name name) (names_of es))
-    go rest true = refl
-    go rest false = rest
+-- as many entries as links
+pub same_count : (es : Entries) (links : Links) → names_of es ≡ map.keys links → length (map.keys links) ≡ count es
+same_count es links names = sym (count-names_of es ∙ ap length names)
