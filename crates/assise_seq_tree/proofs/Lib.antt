@@ -8,5 +8,8 @@ pub mod Overwriting
 pub mod Paths
 pub mod Reading
 pub mod Writes
+pub mod Resizing
+pub mod Removing
+pub mod Listing
 pub mod Calls
 pub mod Limits

@@ -10,14 +10,15 @@ use Rattle.assise_names.specs.declared.reply.Reply.{Reply}
 use Rattle.assise_names.specs.declared.reply.Reply.TheVariants.{Done}
 use Rattle.assise_names.specs.declared.reply.TreeError.{TreeError}
 use Rattle.assise_names.specs.declared.reply.TreeError.TheVariants.{Exists, TooBig, DirFull}
-use Rattle.assise_seq_tree.specs.Answer.{◌>>=◌, answer, as_directory, parent_of, last_name, room_for, room_at, file_at, reply_and_tree}
-use Rattle.assise_seq_tree.specs.Contents.{overwritten, is_within}
-use Rattle.assise_seq_tree.specs.Tree.{Tree, file, dir, Entries, no_entries, entry, same_name, find, replace, insert, set, count, at, put, IsWithinLimits, AreWithinLimits}
+use Rattle.assise_seq_tree.specs.Answer.{◌>>=◌, answer, as_directory, parent_of, last_name, room_for, room_at, file_at, entries_at, may_unlink, may_rmdir, reply_and_tree}
+use Rattle.assise_seq_tree.specs.Contents.{overwritten, is_within, resized}
+use Rattle.assise_seq_tree.specs.Tree.{Tree, file, dir, Entries, no_entries, entry, same_name, find, replace, insert, set, remove, count, at, put, without, IsWithinLimits, AreWithinLimits}
 use Rattle.assise_seq_tree.proofs.Replacing.{cases_option, put_step}
-use Rattle.assise_seq_tree.proofs.Moves.{Path, parent_and_last}
+use Rattle.assise_seq_tree.proofs.Moves.{Path, below, parent_and_last}
 use Rattle.assise_seq_tree.proofs.Reading.{length-overwritten}
 use Rattle.assise_seq_tree.proofs.Writes.{file_there}
-use Rattle.assise_seq_tree.proofs.Calls.{second, read_leaves, stat_leaves}
+use Rattle.assise_seq_tree.proofs.Resizing.{length-resized}
+use Rattle.assise_seq_tree.proofs.Calls.{second, read_leaves, list_leaves, stat_leaves}
 
 -- ---- entries
 count-replace : (n : List ℕ) (x : Tree) (es : Entries) → count (replace n x es) ≡ count es
@@ -72,6 +73,29 @@ within-set n x es room s o =
 within-replaced : (n : List ℕ) (x : Tree) (es : Entries) → IsWithinLimits (dir es) → IsWithinLimits x → IsWithinLimits (dir (replace n x es))
 within-replaced n x es s o = (omega (arith, s.0, count-replace n x es), within-replace n x es s.1 o)
 
+count-remove : (n : List ℕ) (es : Entries) → count (remove n es) ≤ count es
+count-remove n no_entries = omega arith
+count-remove n (entry k t es) =
+    elim (same_name n k) as (λ b. count (cond b es (entry k t (remove n es))) ≤ count es + 1) [
+      | true ↦ omega arith
+      | false ↦ omega (arith, count-remove n es)
+    ]
+
+within-remove : (n : List ℕ) (es : Entries) → AreWithinLimits es → AreWithinLimits (remove n es)
+within-remove n no_entries s = tt
+within-remove n (entry k t es) s =
+    elim (same_name n k) as (λ b. AreWithinLimits (cond b es (entry k t (remove n es)))) [
+      | true ↦ s.1
+      | false ↦ (s.0, within-remove n es s.1)
+    ]
+
+within_below : (n : List ℕ) (es : Entries) → AreWithinLimits es → IsWithinLimits (below n es)
+within_below n es s =
+    elim (cases_option (find n es)) [
+      | inl none ↦ rw none (omega arith, tt)
+      | inr some ↦ rw some.1 (within-find n es some.0 s some.1)
+    ]
+
 -- ---- paths
 -- what stands there is replaced
 put_there : (p : Path) (t x u : Tree) → at t p ≡ Ok u → IsWithinLimits t → IsWithinLimits x → IsWithinLimits (put t p x)
@@ -100,6 +124,14 @@ put_new (k ∷ p) n (dir fs) x es h room s o =
           (within-replaced k (put some.0 (p ++ n ∷ []) x) fs s (put_new p n some.0 x es (rw some.1 at h) room (within-find k fs some.0 s.1 some.1) o))
     ]
 
+-- what is taken out leaves no more than there was
+within-without : (p : Path) (t : Tree) → IsWithinLimits t → IsWithinLimits (without t p)
+unfolding without
+within-without [] t s = s
+within-without (n ∷ p) (file bytes) s = s
+within-without (n ∷ []) (dir es) s = (omega (arith, s.0, count-remove n es), within-remove n es s.1)
+within-without (n ∷ k ∷ p) (dir es) s = within-replaced n (without (below n es) (k ∷ p)) es s (within-without (k ∷ p) (below n es) (within_below n es s.1))
+
 -- ---- what the checks found
 some_room : (b c : Bool) (r : Result (Unit {0}) TreeError) → cond b (Err Exists) (cond c (Err DirFull) r) ≡ Ok tt → c ≡ false
 some_room true c r h = cc
@@ -117,17 +149,18 @@ not_root : (b : Bool) (r : Result (Unit {0}) TreeError) → cond b (Err Exists) 
 not_root true r h = cc
 not_root false r h = h
 
-put_made : (t : Tree) (p : Path) → room_at t p ≡ Ok tt → IsWithinLimits t → IsWithinLimits (put t p (file []))
-put_made t [] h s = cc
-put_made t (n ∷ p) h s =
+put_made : (t x : Tree) (p : Path) → room_at t p ≡ Ok tt → IsWithinLimits t → IsWithinLimits x → IsWithinLimits (put t p x)
+put_made t x [] h s o = cc
+put_made t x (n ∷ p) h s o =
     let found = has_room (at t (parent_of (n ∷ p))) (last_name (n ∷ p)) (not_root (length (n ∷ p) == 0) (at t (parent_of (n ∷ p)) >>= λ found. as_directory found >>= λ es. room_for (last_name (n ∷ p)) es) h) in
     let parts = parent_and_last (n ∷ p) (omega arith) in
-    subst (λ q. IsWithinLimits (put t q (file []))) (sym parts) (put_new (parent_of (n ∷ p)) (last_name (n ∷ p)) t (file []) found.0 found.1.0 found.1.1 s (omega arith))
+    subst (λ q. IsWithinLimits (put t q x)) (sym parts) (put_new (parent_of (n ∷ p)) (last_name (n ∷ p)) t x found.0 found.1.0 found.1.1 s o)
 
 -- ---- calls
-created : (t : Tree) (p : Path) (r : Result (Unit {0}) TreeError) → room_at t p ≡ r → IsWithinLimits t → IsWithinLimits (reply_and_tree t (r >>= λ _. Ok (Done, put t p (file [])))).1
-created t p (Ok x) is s = put_made t p is s
-created t p (Err e) is s = s
+-- create and mkdir
+made : (t x : Tree) (p : Path) (r : Result (Unit {0}) TreeError) → room_at t p ≡ r → IsWithinLimits t → IsWithinLimits x → IsWithinLimits (reply_and_tree t (r >>= λ _. Ok (Done, put t p x))).1
+made t x p (Ok y) is s o = put_made t x p is s o
+made t x p (Err e) is s o = s
 
 fits_in : (t : Tree) (p : Path) (offset : ℕ) (new bytes : List ℕ) → at t p ≡ Ok (file bytes) → is_within offset new ≡ true → IsWithinLimits t → IsWithinLimits (file bytes) → IsWithinLimits (put t p (file (overwritten bytes offset new)))
 fits_in t p offset new bytes there fits s old =
@@ -153,14 +186,30 @@ written t p offset new (Ok bytes) true false is fits s =
 written t p offset new (Ok bytes) false none is fits s = s
 written t p offset new (Err e) fits none is f s = s
 
+resized_within : (t : Tree) (p : Path) (size : ℕ) (bytes : List ℕ) → at t p ≡ Ok (file bytes) → nat_le size 1048576 ≡ true → IsWithinLimits t → IsWithinLimits (put t p (file (resized bytes size)))
+resized_within t p size bytes there fits s =
+    let end : size ≤ 1048576 = grind (arith, nat_tests) in
+    put_there p t (file (resized bytes size)) (file bytes) there s (omega (arith, end, length-resized bytes size))
+
+truncated : (t : Tree) (p : Path) (size : ℕ) (r : Result (List ℕ) TreeError) (fits : Bool) → file_at t p ≡ r → nat_le size 1048576 ≡ fits → IsWithinLimits t
+    → IsWithinLimits (reply_and_tree t (r >>= λ bytes. cond fits (Ok (Done, put t p (file (resized bytes size)))) (Err TooBig))).1
+truncated t p size (Ok bytes) true is fits s = resized_within t p size bytes (file_there (at t p) bytes is) fits s
+truncated t p size (Ok bytes) false is fits s = s
+truncated t p size (Err e) fits is f s = s
+
+-- unlink and rmdir
+removed : (t : Tree) (p : Path) (r : Result (Unit {0}) TreeError) → IsWithinLimits t → IsWithinLimits (reply_and_tree t (r >>= λ _. Ok (Done, without t p))).1
+removed t p (Ok x) s = within-without p t s
+removed t p (Err e) s = s
+
 pub limits_kept : (t u : Tree) (op : Op) (reply : Reply) → answer t op ≡ (reply, u) → IsWithinLimits t → IsWithinLimits u
-limits_kept t u (Create p) reply h s = subst IsWithinLimits (sym (second _ reply u h)) (created t p (room_at t p) refl s)
+limits_kept t u (Create p) reply h s = subst IsWithinLimits (sym (second _ reply u h)) (made t (file []) p (room_at t p) refl s (omega arith))
 limits_kept t u (Read p offset most) reply h s = subst IsWithinLimits (sym (second _ reply u h ∙ read_leaves t offset most (file_at t p))) s
 limits_kept t u (Write p offset new) reply h s = subst IsWithinLimits (sym (second _ reply u h)) (written t p offset new (file_at t p) (is_within offset new) (length new == 0) refl refl s)
 limits_kept t u (Stat p) reply h s = subst IsWithinLimits (sym (second _ reply u h ∙ stat_leaves t (at t p))) s
-limits_kept t u (Mkdir p) reply h s = ?
-limits_kept t u (Truncate p size) reply h s = ?
-limits_kept t u (Unlink p) reply h s = ?
-limits_kept t u (Rmdir p) reply h s = ?
-limits_kept t u (ListCall p) reply h s = ?
-limits_kept t u Fsync reply h s = ?
+limits_kept t u (Mkdir p) reply h s = subst IsWithinLimits (sym (second _ reply u h)) (made t (dir no_entries) p (room_at t p) refl s (omega arith, tt))
+limits_kept t u (Truncate p size) reply h s = subst IsWithinLimits (sym (second _ reply u h)) (truncated t p size (file_at t p) (nat_le size 1048576) refl refl s)
+limits_kept t u (Unlink p) reply h s = subst IsWithinLimits (sym (second _ reply u h)) (removed t p (may_unlink t p) s)
+limits_kept t u (Rmdir p) reply h s = subst IsWithinLimits (sym (second _ reply u h)) (removed t p (may_rmdir t p) s)
+limits_kept t u (ListCall p) reply h s = subst IsWithinLimits (sym (second _ reply u h ∙ list_leaves t (entries_at t p))) s
+limits_kept t u Fsync reply h s = subst IsWithinLimits (sym (second _ reply u h)) s

@@ -30,8 +30,14 @@ find_set_same n x es = find-set n n x es ∙ ap (λ b. cond b (Some x) (find n e
 find_set_other : (q n : List ℕ) (x : Tree) (es : Entries) → same_name q n ≡ false → find q (set n x es) ≡ find q es
 find_set_other q n x es apart = find-set q n x es ∙ ap (λ b. cond b (Some x) (find q es)) apart
 
-find_remove_other : (q n : List ℕ) (es : Entries) → AreOrdered es → same_name q n ≡ false → find q (remove n es) ≡ find q es
-find_remove_other q n es s apart = find-remove q n es s ∙ ap (λ b. cond b None (find q es)) apart
+-- entries in any order
+find_remove_other : (q n : List ℕ) (es : Entries) → same_name q n ≡ false → find q (remove n es) ≡ find q es
+find_remove_other q n no_entries apart = refl
+find_remove_other q n (entry k t es) apart =
+    elim (cases_Bool (same_name n k)) [
+      | inl same ↦ let other : same_name q k ≡ false = subst (λ m. same_name q m ≡ false) (one_name n k same) apart in rw (same, other) refl
+      | inr not_same ↦ rw not_same (ap (cond (same_name q k) (Some t)) (find_remove_other q n es apart))
+    ]
 
 turned : (q n : List ℕ) → same_name q n ≡ false → same_name n q ≡ false
 turned q n apart =
@@ -139,17 +145,17 @@ at-put_apart (n ∷ p) (m ∷ q) (dir es) x apart =
     ]
 
 -- what is taken out at p leaves what stands at q
-pub at-without_apart : (p q : Path) (t : Tree) → IsOrdered t → Apart p q → at (without t p) q ≡ at t q
+pub at-without_apart : (p q : Path) (t : Tree) → Apart p q → at (without t p) q ≡ at t q
 unfolding at without
-at-without_apart [] q t s apart = absurd apart
-at-without_apart (n ∷ p) [] t s apart = absurd apart
-at-without_apart (n ∷ p) (m ∷ q) (file bytes) s apart = refl
-at-without_apart (n ∷ []) (m ∷ q) (dir es) s apart =
+at-without_apart [] q t apart = absurd apart
+at-without_apart (n ∷ p) [] t apart = absurd apart
+at-without_apart (n ∷ p) (m ∷ q) (file bytes) apart = refl
+at-without_apart (n ∷ []) (m ∷ q) (dir es) apart =
     elim (cases_Bool (same_name n m)) [
       | inl same ↦ absurd (apart same)
-      | inr other ↦ ap (λ o. option_map_or (λ t. at t q) o (Err NoEnt)) (find_remove_other m n es s (turned n m other))
+      | inr other ↦ ap (λ o. option_map_or (λ t. at t q) o (Err NoEnt)) (find_remove_other m n es (turned n m other))
     ]
-at-without_apart (n ∷ k ∷ p) (m ∷ q) (dir es) s apart =
+at-without_apart (n ∷ k ∷ p) (m ∷ q) (dir es) apart =
     elim (cases_Bool (same_name n m)) [
       | inl same ↦
           let one : n ≡ m = one_name n m same in
@@ -158,7 +164,7 @@ at-without_apart (n ∷ k ∷ p) (m ∷ q) (dir es) s apart =
             | inr some ↦
                 let child : below n es ≡ some.0 = ap (λ o. unwrap_or o (dir no_entries)) some.1 in
                 ap (λ o. option_map_or (λ t. at t q) o (Err NoEnt)) (find_replace_there m n (without (below n es) (k ∷ p)) some.0 es some.1 ∙ ap (λ b. cond b (Some (without (below n es) (k ∷ p))) (find m es)) (ap (λ j. same_name j n) (sym one) ∙ same_itself n))
-                ∙ at-without_apart (k ∷ p) q (below n es) (ordered_below n es s) (apart same)
+                ∙ at-without_apart (k ∷ p) q (below n es) (apart same)
                 ∙ ap (λ u. at u q) child ∙ ap (λ o. option_map_or (λ t. at t q) o (Err NoEnt)) (sym some.1) ∙ ap (λ j. option_map_or (λ t. at t q) (find j es) (Err NoEnt)) one
           ]
       | inr other ↦ ap (λ o. option_map_or (λ t. at t q) o (Err NoEnt)) (find_replace_other m n (without (below n es) (k ∷ p)) es (turned n m other))
@@ -176,7 +182,7 @@ without-put (n ∷ []) (m ∷ q) (dir es) x s o apart =
       | inr other ↦
           let new = ordered-put q (below m es) x (ordered_below m es s) o in
           ap dir (remove-set n m (put (below m es) q x) es s new other
-          ∙ ap (λ c. set m (put (unwrap_or c (dir no_entries)) q x) (remove n es)) (sym (find_remove_other m n es s (turned n m other))))
+          ∙ ap (λ c. set m (put (unwrap_or c (dir no_entries)) q x) (remove n es)) (sym (find_remove_other m n es (turned n m other))))
     ]
 without-put (n ∷ k ∷ p) (m ∷ q) (dir es) x s o apart =
     elim (cases_Bool (same_name n m)) [

@@ -1,19 +1,21 @@
 -- One step of each walk.
-use Rattle.std.proofs.Common.{◌≡◌, ℕ, ◌-◌, ◌≤◌, ◌<◌, List, [], ◌∷◌, length, take, drop, get_or, Option, Some, None, Result, Ok, Err, BTreeMap, Bor, MutBor, MatchResult, refl, ap, sym, ◌∙◌, arith}
-use Rattle.std.specs.Option.{option_copied}
+use Rattle.std.proofs.lemmas.Bool.Decides.{nat_tests}
+use Rattle.std.proofs.Common.{◌==◌, Bool, true, false, ◌≡◌, ℕ, ◌-◌, ◌≤◌, ◌<◌, List, [], ◌∷◌, length, take, drop, get_or, Option, Some, None, Result, Ok, Err, BTreeMap, Bor, MutBor, MatchResult, refl, ap, sym, ◌∙◌, arith}
+use Rattle.std.specs.Option.{option_copied, option_map_or}
 use Rattle.std.specs.BTreeMap.{get_by, is_at}
 use Rattle.assise_names.specs.declared.reply.TreeError.{TreeError}
 use Rattle.assise_names.specs.declared.reply.TreeError.TheVariants.{NoEnt, NotDir}
 use Rattle.std.proofs.lemmas.List.{take_rest}
-use Rattle.assise_seq_tree.specs.Tree.{Tree, file, dir, Entries, no_entries, find, at, put}
+use Rattle.assise_seq_tree.specs.Tree.{Tree, file, dir, Entries, no_entries, find, at, put, without}
 use Rattle.assise_seq_tree.specs.View.{entries_of}
 use Rattle.std.specs.Option.{option_copied_mut}
 use Rattle.std.proofs.lemmas.Map.Steps.{set_value_same}
-use Rattle.std.specs.Map.{set_value, lookup}
+use Rattle.std.specs.Map.{set_value, lookup, remove_entry}
 use Rattle.std.specs.BTreeMap.{insert_entry}
 use Rattle.std.specs.Cmp.Lexicographic.{slice_cmp}
 use Rattle.std.specs.Ordering.{nat_cmp}
-use Rattle.assise_seq_tree.proofs.Entries.{at_text, find-entries_of, insert-entries_of, replace-entries_of}
+use Rattle.assise_seq_tree.proofs.Entries.{at_text, find-entries_of, insert-entries_of, replace-entries_of, remove-entries_of}
+use Rattle.assise_seq_tree.proofs.Moves.{replace_absent}
 
 pub no_items : {X : Type 0} (xs : List X) → length xs < 1 → xs ≡ []
 no_items [] h = refl
@@ -100,3 +102,51 @@ no_tree r e x a b = cc
 
 pub same_tree : (r : Result Tree TreeError) (x y : Tree) → r ≡ Ok x → r ≡ Ok y → x ≡ y
 same_tree r x y a b = cc
+
+-- ---- taking out
+-- what stands at one name alone
+pub taken_last : (t x : Tree) (names : List (List ℕ)) (name : List ℕ) (p : List (List ℕ)) (m : BTreeMap (List ℕ) Tree) (r : Option Tree)
+    → names ≡ name ∷ p → length p ≡ 0 → t ≡ dir (entries_of m.entries) → r ≡ get_by (at_text name) m → at t names ≡ Ok x → r ≡ Some x
+unfolding at
+taken_last t x names name [] m r e none is value h =
+    let there = rw (e, is) at h in
+    value ∙ sym (find-entries_of name m.entries) ∙ only (find name (entries_of m.entries)) there
+  where
+    only : (o : Option Tree) → option_map_or (λ t. Ok t) o (Err NoEnt) ≡ Ok x → o ≡ Some x
+    only None f = cc
+    only (Some y) f = cc
+taken_last t x names name (k ∷ p) m r e none is value h = absurd (omega arith)
+
+pub without_file : (t : Tree) (names : List (List ℕ)) (bytes name : List ℕ) (p : List (List ℕ)) → names ≡ name ∷ p → t ≡ file bytes → t ≡ without t names
+unfolding without
+without_file t names bytes name p e is = rw (e, is)
+
+pub without_last : (t : Tree) (names : List (List ℕ)) (name : List ℕ) (p : List (List ℕ)) (m n : BTreeMap (List ℕ) Tree)
+    → names ≡ name ∷ p → length p ≡ 0 → t ≡ dir (entries_of m.entries) → n.entries ≡ remove_entry (is_at (at_text name)) m.entries → dir (entries_of n.entries) ≡ without t names
+unfolding without
+without_last t names name [] m n e none is left = rw (e, is, left) (ap dir (sym (remove-entries_of name m.entries)))
+without_last t names name (k ∷ p) m n e none is left = absurd (omega arith)
+
+-- what stands at the name is changed in its place
+pub without_found : (t : Tree) (names : List (List ℕ)) (name : List ℕ) (p : List (List ℕ)) (m n : BTreeMap (List ℕ) Tree) (r : Option (MutBor Tree)) (u : MutBor Tree) (w : Tree)
+    → names ≡ name ∷ p → 0 < length p → t ≡ dir (entries_of m.entries) → r ≡ Some u → option_copied_mut r ≡ get_by (at_text name) m
+    → n.entries ≡ set_value (is_at (at_text name)) m.entries w → w ≡ without u.now p → dir (entries_of n.entries) ≡ without t names
+unfolding without
+without_found t names name [] m n r u w e some is found value written ends = absurd (omega arith)
+without_found t names name (k ∷ p) m n r u w e some is found value written ends =
+    let there : lookup (is_at (at_text name)) m.entries ≡ Some u.now = sym (rw found at value) in
+    rw (e, is, find-entries_of name m.entries, there, written, ← ends) (ap dir (sym (replace-entries_of name w m.entries)))
+
+pub without_missing : (t : Tree) (names : List (List ℕ)) (name : List ℕ) (p : List (List ℕ)) (m : BTreeMap (List ℕ) Tree) (r : Option (MutBor Tree))
+    → names ≡ name ∷ p → 0 < length p → t ≡ dir (entries_of m.entries) → r ≡ None → option_copied_mut r ≡ get_by (at_text name) m → t ≡ without t names
+unfolding without
+without_missing t names name [] m r e some is none value = absurd (omega arith)
+without_missing t names name (k ∷ p) m r e some is none value =
+    rw (e, is) (ap dir (sym (replace_absent name _ (entries_of m.entries) (missing_mut name m r none value))))
+
+-- what the test of a length says
+pub is_none : (b : Bool) (n : ℕ) → b ≡ (n == 0) → b ≡ true → n ≡ 0
+is_none b n e is = let h : (n == 0) ≡ true = sym e ∙ is in grind (arith, nat_tests)
+
+pub is_more : (b : Bool) (n : ℕ) → b ≡ (n == 0) → b ≡ false → 0 < n
+is_more b n e is = let h : (n == 0) ≡ false = sym e ∙ is in grind (arith, nat_tests)

@@ -51,16 +51,16 @@ wrote t u p offset new h = go (file_at t p) refl h
         }
 
 -- ---- reads and stats of a file that is there
-reads : (u : Tree) (p : Path) (offset most : ℕ) (bytes : List ℕ) → at u p ≡ Ok (file bytes) → read_answer u p offset most ≡ (Bytes (bytes_from offset most bytes), u)
+pub reads : (u : Tree) (p : Path) (offset most : ℕ) (bytes : List ℕ) → at u p ≡ Ok (file bytes) → read_answer u p offset most ≡ (Bytes (bytes_from offset most bytes), u)
 reads u p offset most bytes there = rw there refl
 
-have_read : (t : Tree) (p : Path) (offset most : ℕ) (bytes old : List ℕ) → at t p ≡ Ok (file bytes) → read_answer t p offset most ≡ (Bytes old, t) → bytes_from offset most bytes ≡ old
+pub have_read : (t : Tree) (p : Path) (offset most : ℕ) (bytes old : List ℕ) → at t p ≡ Ok (file bytes) → read_answer t p offset most ≡ (Bytes old, t) → bytes_from offset most bytes ≡ old
 have_read t p offset most bytes old there h = let is = ap (λ r. r.0) (rw there at h) in cc
 
-has_size : (t : Tree) (p : Path) (bytes : List ℕ) (size : ℕ) → at t p ≡ Ok (file bytes) → stat_answer t p ≡ (File size, t) → length bytes ≡ size
+pub has_size : (t : Tree) (p : Path) (bytes : List ℕ) (size : ℕ) → at t p ≡ Ok (file bytes) → stat_answer t p ≡ (File size, t) → length bytes ≡ size
 has_size t p bytes size there h = let is = ap (λ r. r.0) (rw there at h) in cc
 
-sized : (u : Tree) (p : Path) (bytes : List ℕ) → at u p ≡ Ok (file bytes) → stat_answer u p ≡ (File (length bytes), u)
+pub sized : (u : Tree) (p : Path) (bytes : List ℕ) → at u p ≡ Ok (file bytes) → stat_answer u p ≡ (File (length bytes), u)
 sized u p bytes there = rw there refl
 
 some_bytes : (new : List ℕ) → 0 < length new → (length new == 0) ≡ false

@@ -27,7 +27,7 @@ pub fn what_is_put_leaves_the_rest()
 /// such a path may be put there before or after.
 pub fn what_is_taken_out_is_gone()
     ensures gone { (t x : Tree) (p : List (List ℕ)) → IsOrdered t → 0 < length p → at t p ≡ Ok x → at (without t p) p ≡ Err NoEnt }
-    ensures rest { (t : Tree) (p q : List (List ℕ)) → IsOrdered t → LieApart p q → at (without t p) q ≡ at t q }
+    ensures rest { (t : Tree) (p q : List (List ℕ)) → LieApart p q → at (without t p) q ≡ at t q }
     ensures either_first { (t x : Tree) (p q : List (List ℕ)) → IsOrdered t → IsOrdered x → LieApart p q → without (put t q x) p ≡ put (without t p) q x }
 {}
 

@@ -3,6 +3,8 @@ use crate::answer::answer;
 use crate::tree::Tree;
 use assise_names::byte_string::ByteString;
 use assise_names::call::Op;
+use assise_names::name::Name;
+use assise_names::name_list::NameList;
 use assise_names::path::Path;
 use assise_names::reply::{Reply, TreeError};
 use std::alloc::Global;
@@ -13,9 +15,15 @@ use std::test::Fail;
 #[derive(Clone, Copy)]
 enum Call<'a> {
     Create(&'a str),
+    Mkdir(&'a str),
     Read(&'a str, u64, u64),
     Write(&'a str, u64, &'a [u8]),
+    Truncate(&'a str, u64),
+    Unlink(&'a str),
+    Rmdir(&'a str),
+    List(&'a str),
     Stat(&'a str),
+    Fsync,
 }
 
 /// What a call has to answer, as a table has it.
@@ -23,6 +31,7 @@ enum Call<'a> {
 enum Answer<'a> {
     Done,
     Bytes(&'a [u8]),
+    Names(&'a [&'a str]),
     File(u64),
     Dir(u64),
     Error(TreeError),
@@ -31,6 +40,7 @@ enum Answer<'a> {
 fn op_of(alloc: Global, call: Call<'_>) -> Result<Op, Fail> {
     match call {
         Call::Create(path) => Ok(Op::Create(Path::parse(alloc, path)?)),
+        Call::Mkdir(path) => Ok(Op::Mkdir(Path::parse(alloc, path)?)),
         Call::Read(path, offset, length) => {
             Ok(Op::Read(Path::parse(alloc, path)?, offset, length))
         }
@@ -39,14 +49,28 @@ fn op_of(alloc: Global, call: Call<'_>) -> Result<Op, Fail> {
             let bytes = bytes.to_vec(alloc)?;
             Ok(Op::Write(path, offset, ByteString::from_vec(bytes)))
         }
+        Call::Truncate(path, size) => Ok(Op::Truncate(Path::parse(alloc, path)?, size)),
+        Call::Unlink(path) => Ok(Op::Unlink(Path::parse(alloc, path)?)),
+        Call::Rmdir(path) => Ok(Op::Rmdir(Path::parse(alloc, path)?)),
+        Call::List(path) => Ok(Op::List(Path::parse(alloc, path)?)),
         Call::Stat(path) => Ok(Op::Stat(Path::parse(alloc, path)?)),
+        Call::Fsync => Ok(Op::Fsync),
     }
+}
+
+fn names_of(alloc: Global, texts: &[&str]) -> Result<NameList, Fail> {
+    let mut names = Vec::new(alloc);
+    for text in texts {
+        names.push(Name::parse(alloc, text)?)?;
+    }
+    Ok(NameList::from_vec(names))
 }
 
 fn reply_of(alloc: Global, answer: Answer<'_>) -> Result<Reply, Fail> {
     match answer {
         Answer::Done => Ok(Reply::Done),
         Answer::Bytes(bytes) => Ok(Reply::Bytes(ByteString::from_vec(bytes.to_vec(alloc)?))),
+        Answer::Names(texts) => Ok(Reply::Names(names_of(alloc, texts)?)),
         Answer::File(size) => Ok(Reply::File(size)),
         Answer::Dir(entries) => Ok(Reply::Dir(entries)),
         Answer::Error(error) => Ok(Reply::Error(error)),
@@ -165,12 +189,17 @@ fn a_directory_has_at_most_4096_entries(rt: HostRuntime) -> Result<(), Fail> {
     }
     let calls = [
         (Call::Create("/4096"), Answer::Error(TreeError::DirFull)),
+        (Call::Mkdir("/4096"), Answer::Error(TreeError::DirFull)),
+        (Call::Mkdir("/7"), Answer::Error(TreeError::Exists)),
         (Call::Create("/7"), Answer::Error(TreeError::Exists)),
         (Call::Create("/7/4096"), Answer::Error(TreeError::NotDir)),
         (Call::Stat("/"), Answer::Dir(4096)),
         (Call::Stat("/0"), Answer::File(0)),
         (Call::Stat("/4095"), Answer::File(0)),
         (Call::Stat("/4096"), Answer::Error(TreeError::NoEnt)),
+        (Call::Unlink("/7"), Answer::Done),
+        (Call::Mkdir("/4096"), Answer::Done),
+        (Call::Stat("/"), Answer::Dir(4096)),
     ];
     run(rt.alloc(), &rt, &mut tree, calls.as_slice())
 }
@@ -204,4 +233,172 @@ fn names_are_told_apart_by_each_byte(rt: HostRuntime) -> Result<(), Fail> {
     }
     let call = [(Call::Stat("/"), Answer::Dir(7))];
     run(rt.alloc(), &rt, &mut tree, call.as_slice())
+}
+
+#[test]
+fn directories_are_made(rt: HostRuntime) -> Result<(), Fail> {
+    let mut tree = Tree::new(rt.alloc());
+    let calls = [
+        (Call::Mkdir("/d"), Answer::Done),
+        (Call::Stat("/d"), Answer::Dir(0)),
+        (Call::Create("/d/f"), Answer::Done),
+        (Call::Mkdir("/d/e"), Answer::Done),
+        (Call::Stat("/d"), Answer::Dir(2)),
+        (Call::Stat("/d/e"), Answer::Dir(0)),
+        (Call::Mkdir("/"), Answer::Error(TreeError::Exists)),
+        (Call::Mkdir("/g/h"), Answer::Error(TreeError::NoEnt)),
+        (Call::Mkdir("/d/f/g"), Answer::Error(TreeError::NotDir)),
+        (Call::Mkdir("/d/f/g/h"), Answer::Error(TreeError::NotDir)),
+        (Call::Mkdir("/d/f"), Answer::Error(TreeError::Exists)),
+        (Call::Mkdir("/d/e"), Answer::Error(TreeError::Exists)),
+        (Call::Create("/d/e"), Answer::Error(TreeError::Exists)),
+        (Call::Stat("/d"), Answer::Dir(2)),
+        (Call::Stat("/"), Answer::Dir(1)),
+    ];
+    run(rt.alloc(), &rt, &mut tree, calls.as_slice())
+}
+
+#[test]
+fn directories_without_entries_are_removed(rt: HostRuntime) -> Result<(), Fail> {
+    let mut tree = Tree::new(rt.alloc());
+    let calls = [
+        (Call::Mkdir("/d"), Answer::Done),
+        (Call::Mkdir("/d/e"), Answer::Done),
+        (Call::Create("/d/f"), Answer::Done),
+        (Call::Rmdir("/"), Answer::Error(TreeError::Invalid)),
+        (Call::Rmdir("/g"), Answer::Error(TreeError::NoEnt)),
+        (Call::Rmdir("/g/h"), Answer::Error(TreeError::NoEnt)),
+        (Call::Rmdir("/d/f"), Answer::Error(TreeError::NotDir)),
+        (Call::Rmdir("/d/f/g"), Answer::Error(TreeError::NotDir)),
+        (Call::Rmdir("/d"), Answer::Error(TreeError::NotEmpty)),
+        (Call::Stat("/d"), Answer::Dir(2)),
+        (Call::Rmdir("/d/e"), Answer::Done),
+        (Call::Stat("/d/e"), Answer::Error(TreeError::NoEnt)),
+        (Call::Stat("/d"), Answer::Dir(1)),
+        (Call::Rmdir("/d"), Answer::Error(TreeError::NotEmpty)),
+        (Call::Unlink("/d/f"), Answer::Done),
+        (Call::Rmdir("/d"), Answer::Done),
+        (Call::Rmdir("/d"), Answer::Error(TreeError::NoEnt)),
+        (Call::Stat("/"), Answer::Dir(0)),
+        (Call::Rmdir("/"), Answer::Error(TreeError::Invalid)),
+    ];
+    run(rt.alloc(), &rt, &mut tree, calls.as_slice())
+}
+
+#[test]
+fn files_are_unlinked(rt: HostRuntime) -> Result<(), Fail> {
+    let mut tree = Tree::new(rt.alloc());
+    let calls = [
+        (Call::Create("/f"), Answer::Done),
+        (Call::Write("/f", 0, b"abc"), Answer::Done),
+        (Call::Create("/g"), Answer::Done),
+        (Call::Mkdir("/d"), Answer::Done),
+        (Call::Unlink("/"), Answer::Error(TreeError::IsDir)),
+        (Call::Unlink("/d"), Answer::Error(TreeError::IsDir)),
+        (Call::Unlink("/h"), Answer::Error(TreeError::NoEnt)),
+        (Call::Unlink("/d/h"), Answer::Error(TreeError::NoEnt)),
+        (Call::Unlink("/f/h"), Answer::Error(TreeError::NotDir)),
+        (Call::Stat("/"), Answer::Dir(3)),
+        (Call::Unlink("/f"), Answer::Done),
+        (Call::Unlink("/f"), Answer::Error(TreeError::NoEnt)),
+        (Call::Read("/f", 0, 9), Answer::Error(TreeError::NoEnt)),
+        (Call::Stat("/g"), Answer::File(0)),
+        (Call::Stat("/"), Answer::Dir(2)),
+        (Call::Create("/f"), Answer::Done),
+        (Call::Stat("/f"), Answer::File(0)),
+    ];
+    run(rt.alloc(), &rt, &mut tree, calls.as_slice())
+}
+
+#[test]
+fn a_file_is_given_another_size(rt: HostRuntime) -> Result<(), Fail> {
+    let mut tree = Tree::new(rt.alloc());
+    let calls = [
+        (Call::Create("/f"), Answer::Done),
+        (Call::Truncate("/f", 3), Answer::Done),
+        (Call::Read("/f", 0, 9), Answer::Bytes(b"\0\0\0")),
+        (Call::Write("/f", 0, b"abc"), Answer::Done),
+        (Call::Truncate("/f", 5), Answer::Done),
+        (Call::Read("/f", 0, 9), Answer::Bytes(b"abc\0\0")),
+        (Call::Truncate("/f", 2), Answer::Done),
+        (Call::Read("/f", 0, 9), Answer::Bytes(b"ab")),
+        (Call::Truncate("/f", 4), Answer::Done),
+        (Call::Read("/f", 0, 9), Answer::Bytes(b"ab\0\0")),
+        (Call::Truncate("/f", 4), Answer::Done),
+        (Call::Stat("/f"), Answer::File(4)),
+        (Call::Truncate("/f", 0), Answer::Done),
+        (Call::Stat("/f"), Answer::File(0)),
+    ];
+    run(rt.alloc(), &rt, &mut tree, calls.as_slice())
+}
+
+#[test]
+fn a_size_is_at_most_1048576(rt: HostRuntime) -> Result<(), Fail> {
+    let mut tree = Tree::new(rt.alloc());
+    let calls = [
+        (Call::Create("/f"), Answer::Done),
+        (
+            Call::Truncate("/f", 1_048_577),
+            Answer::Error(TreeError::TooBig),
+        ),
+        (
+            Call::Truncate("/f", u64::MAX),
+            Answer::Error(TreeError::TooBig),
+        ),
+        (Call::Stat("/f"), Answer::File(0)),
+        (Call::Truncate("/f", 1_048_576), Answer::Done),
+        (Call::Stat("/f"), Answer::File(1_048_576)),
+        (Call::Read("/f", 1_048_575, 9), Answer::Bytes(b"\0")),
+        (
+            Call::Truncate("/", 1_048_577),
+            Answer::Error(TreeError::IsDir),
+        ),
+        (
+            Call::Truncate("/g", 1_048_577),
+            Answer::Error(TreeError::NoEnt),
+        ),
+        (
+            Call::Truncate("/f/g", 1_048_577),
+            Answer::Error(TreeError::NotDir),
+        ),
+    ];
+    run(rt.alloc(), &rt, &mut tree, calls.as_slice())
+}
+
+#[test]
+fn a_list_rises_by_bytes(rt: HostRuntime) -> Result<(), Fail> {
+    let mut tree = Tree::new(rt.alloc());
+    let calls = [
+        (Call::List("/"), Answer::Names(&[])),
+        (Call::Create("/b"), Answer::Done),
+        (Call::Mkdir("/B"), Answer::Done),
+        (Call::Create("/a"), Answer::Done),
+        (Call::List("/"), Answer::Names(&["B", "a", "b"])),
+        (Call::List("/B"), Answer::Names(&[])),
+        (Call::Create("/B/ab"), Answer::Done),
+        (Call::Create("/B/ä"), Answer::Done),
+        (Call::Create("/B/b"), Answer::Done),
+        (Call::Create("/B/a"), Answer::Done),
+        (Call::List("/B"), Answer::Names(&["a", "ab", "b", "ä"])),
+        (Call::List("/a"), Answer::Error(TreeError::NotDir)),
+        (Call::List("/a/b"), Answer::Error(TreeError::NotDir)),
+        (Call::List("/c"), Answer::Error(TreeError::NoEnt)),
+        (Call::Unlink("/a"), Answer::Done),
+        (Call::List("/"), Answer::Names(&["B", "b"])),
+    ];
+    run(rt.alloc(), &rt, &mut tree, calls.as_slice())
+}
+
+#[test]
+fn an_fsync_changes_nothing(rt: HostRuntime) -> Result<(), Fail> {
+    let mut tree = Tree::new(rt.alloc());
+    let calls = [
+        (Call::Fsync, Answer::Done),
+        (Call::Create("/f"), Answer::Done),
+        (Call::Write("/f", 0, b"abc"), Answer::Done),
+        (Call::Fsync, Answer::Done),
+        (Call::Read("/f", 0, 9), Answer::Bytes(b"abc")),
+        (Call::List("/"), Answer::Names(&["f"])),
+    ];
+    run(rt.alloc(), &rt, &mut tree, calls.as_slice())
 }

@@ -6,7 +6,7 @@ pub returns-clause-gone : goal.returns-clause-gone
 returns-clause-gone c = λ t x p s h there. gone p t x s h there
 
 pub returns-clause-rest : goal.returns-clause-rest
-returns-clause-rest c = λ t p q s h. at-without_apart p q t s (step_apart p q h)
+returns-clause-rest c = λ t p q h. at-without_apart p q t (step_apart p q h)
 
 pub returns-clause-either_first : goal.returns-clause-either_first
 returns-clause-either_first c = λ t x p q s o h. without-put p q t x s o (step_apart p q h)
