@@ -13,7 +13,7 @@ use Rattle.assise_inode_table.proofs.Unlinking.{rest, apart, others_reached}
 -- In u the entry is gone, and in w the inode i too.
 module _ (v u w : Values) (d i : ℕ) (t : Tree) (p : Path) (name : List ℕ) (links : Links) (s : Spells v t) (parent : reach (children v) 0 p ≡ Ok d)
     (l : RemovesLink v u d name i links) (nowhere : LeadsNowhere (children v) i) (gone : w i ≡ None) (others : AgreeBut i u w) where
-  keeps : Keeps u w 0
+  pub keeps : Keeps u w 0
   keeps = away_keeps u w i 0 others (λ q e. apart v u 0 d i t p name links s.tree parent l q [] i e refl)
 
   stays : (j : ℕ) → IsSome (w j) → j ≢ i

@@ -27,4 +27,6 @@ pub mod Linking
 pub mod Creating
 pub mod Unlinking
 pub mod Freeing
+pub mod Moving
+pub mod Displacing
 pub mod Inserting

@@ -1,6 +1,7 @@
 -- An entry is taken out: what it held stands apart from then on.
 use Rattle.std.proofs.Common.{◌≡◌, ℕ, Bool, true, false, cond, List, [], ◌∷◌, ◌++◌, Option, Some, None, is_some, Ok, Err, refl, sym, ap, subst, ◌∙◌, inl}
 use Rattle.std.specs.Prelude.{ok_or}
+use Rattle.std.proofs.lemmas.List.{append_assoc}
 use Rattle.std.specs.Option.{option_map_or}
 use Rattle.std.specs.Cmp.Lexicographic.{nat_list_cmp_total}
 use Rattle.std.specs.FinMap as map
@@ -11,7 +12,7 @@ use Rattle.assise_seq_tree.proofs.Moves.{Path}
 use Rattle.assise_inode_table.specs.Contents.{Links, Values}
 use Rattle.assise_inode_table.specs.Reach.{children, reach, link_of}
 use Rattle.assise_inode_table.specs.Spelled.{ReachesOnce, SpellsFrom, ShareNone, RemovesLink}
-use Rattle.assise_inode_table.proofs.Fronts.{past, past_itself, past-Some}
+use Rattle.assise_inode_table.proofs.Fronts.{past, past_front, past_itself, past-Some}
 use Rattle.assise_inode_table.proofs.Reaching.{reach_step, reach-append, once_below, Away, no_way_back, Keeps, away_keeps, same_reach, kept_spells}
 use Rattle.assise_inode_table.proofs.Showing.{without_entry}
 use Rattle.assise_inode_table.proofs.Naming.{names_are_keys, same_found}
@@ -126,3 +127,19 @@ module _ (v w : Values) (r d i : ℕ) (t : Tree) (p : Path) (name : List ℕ) (l
   pub others_reached : (j : ℕ) → Away (children v) i j → (q : Path) → reach (children v) r q ≡ Ok j → (b : Path) × (reach (children w) r b ≡ Ok j)
   others_reached j away q e =
       still_reached v w r d t (dir place.entries) (dir (remove name place.entries)) p s parent place.place u.others spells_here own j q e (still_below j away)
+
+  -- ---- paths that don't begin with the entry's
+  through : (x b : Path) (j : ℕ) → reach (children v) r x ≡ Ok j → reach (children v) i b ≡ Ok j → x ≡ (p ++ name ∷ []) ++ b
+  through x b j direct below = s.once x (p ++ name ∷ b) j direct (held_path b ∙ below) ∙ sym (append_assoc p (name ∷ []) b)
+
+  pub outside_away : (x : Path) (j : ℕ) → past (p ++ name ∷ []) x ≡ None → reach (children v) r x ≡ Ok j → Away (children v) i j
+  outside_away x j none direct b below =
+      let some = sym none ∙ ap (past (p ++ name ∷ [])) (through x b j direct below) ∙ past_front (p ++ name ∷ []) b in
+      cc
+
+  -- such a path leads where it led
+  pub outside_reached : (x : Path) (j : ℕ) → past (p ++ name ∷ []) x ≡ None → reach (children v) r x ≡ Ok j → reach (children w) r x ≡ Ok j
+  outside_reached x j none direct =
+      let b = others_reached j (outside_away x j none direct) x direct in
+      let one : b.0 ≡ x = s.once b.0 x j (found_before b.0 j b.1) direct in
+      subst (λ y. reach (children w) r y ≡ Ok j) one b.1
