@@ -1,79 +1,105 @@
 -- What is left of a call while it walks.
-use Rattle.std.proofs.Common.{◌≡◌, ℕ, ◌+◌, ◌<◌, ◌≤◌, true, false, List, [], ◌∷◌, ◌++◌, length, drop, slice_index_or, Result, Ok, Err, refl, ap, sym, ◌∙◌}
+use Rattle.std.proofs.Common.{◌≡◌, ℕ, ◌+◌, ◌<◌, ◌≤◌, List, [], ◌∷◌, length, drop, slice_index_or, Result, Ok, Err, MatchResult, Bor, option_copied, ap, sym, subst, ◌∙◌}
 use Rattle.std.specs.Prelude.{Option, Some, None, ok_or}
 use Rattle.std.proofs.lemmas.List.{drop_more}
 use Rattle.std.proofs.Math.ListN.{drop_of_length-le}
-use Rattle.assise_names.specs.declared.mode.Mode.TheVariants.{Read}
 use Rattle.assise_names.specs.declared.reply.TreeError.{TreeError}
 use Rattle.assise_names.specs.declared.reply.TreeError.TheVariants.{NoEnt}
 use Rattle.assise_inode_table.specs.Calls.{then_or_error, walk_from, walk}
 use Rattle.assise_inode_table.specs.Contents.{Content, Values}
-use Rattle.assise_inode_table.specs.Interaction.{Interaction}
-use Rattle.assise_inode_table.specs.Reach.{children}
+use Rattle.assise_inode_table.specs.Interaction.{Interaction, visit}
+use Rattle.assise_inode_table.specs.Reach.{link_of}
 use Rattle.assise_inode_plan.specs.Leased.{Leases}
-use Rattle.assise_inode_plan.specs.Planning.{missing}
 use Rattle.assise_inode_plan.specs.Walking.{plan_from, plan_stopped}
+use Rattle.assise_inode_plan.specs.declared.walk.Stop.{Stop}
 use Rattle.assise_inode_plan.specs.declared.walk.Stop.TheVariants.{Fault}
+
+-- ---- one visit
+
+-- a visit ended so
+abbrev pub Visited : Leases → Values → List ℕ → List ℕ → ℕ → Result (Option (Bor Content)) Stop → (Option Content → Interaction) → Type 0
+Visited leased v reads more i end next =
+    MatchResult end
+    (λ value. plan_from leased v reads (visit i next) ≡ plan_from leased v more (next (option_copied value)))
+    (λ stop. plan_from leased v reads (visit i next) ≡ plan_stopped more stop)
+
+module _ (leased : Leases) (v : Values) (reads more : List ℕ) (i : ℕ) (end : Result (Option (Bor Content)) Stop) (visited : (next : Option Content → Interaction) → Visited leased v reads more i end next) where
+  visit_stops : (stop : Stop) → end ≡ Err stop → (next : Option Content → Interaction) → plan_from leased v reads (visit i next) ≡ plan_stopped more stop
+  visit_stops stop is next = subst (λ e. Visited leased v reads more i e next) is (visited next)
+
+  visit_looks : (value : Option (Bor Content)) → end ≡ Ok value → (next : Option Content → Interaction) → plan_from leased v reads (visit i next) ≡ plan_from leased v more (next (option_copied value))
+  visit_looks value is next = subst (λ e. Visited leased v reads more i e next) is (visited next)
+
+  -- whatever comes after the inode
+  visit_stops_walk : (stop : Stop) → end ≡ Err stop → (p : List (List ℕ)) (next : ℕ → Content → Interaction) → plan_from leased v reads (walk_from i p next) ≡ plan_stopped more stop
+  visit_stops_walk stop is [] next = visit_stops stop is (λ value. then_or_error (ok_or value NoEnt) (λ content. next i content))
+  visit_stops_walk stop is (name ∷ p) next = visit_stops stop is (λ value. then_or_error (link_of value name) (λ j. walk_from j p next))
+
+  -- ---- the last visit of a walk
+
+  pub last_stops : (stop : Stop) → end ≡ Err stop → (next : ℕ → Content → Interaction) → plan_from leased v reads (walk_from i [] next) ≡ plan_stopped more stop
+  last_stops stop is next = visit_stops_walk stop is [] next
+
+  pub last_found : (value : Option (Bor Content)) (content : Bor Content) → end ≡ Ok value → value ≡ Some content →
+      (next : ℕ → Content → Interaction) → plan_from leased v reads (walk_from i [] next) ≡ plan_from leased v more (next i content.now)
+  last_found value content is some next =
+      visit_looks value is (λ value. then_or_error (ok_or value NoEnt) (λ content. next i content))
+      ∙ ap (λ o. plan_from leased v more (then_or_error (ok_or (option_copied o) NoEnt) (λ content. next i content))) some
+
+  pub last_missing : (value : Option (Bor Content)) → end ≡ Ok value → value ≡ None →
+      (next : ℕ → Content → Interaction) → plan_from leased v reads (walk_from i [] next) ≡ plan_stopped more (Fault NoEnt)
+  last_missing value is none next =
+      visit_looks value is (λ value. then_or_error (ok_or value NoEnt) (λ content. next i content))
+      ∙ ap (λ o. plan_from leased v more (then_or_error (ok_or (option_copied o) NoEnt) (λ content. next i content))) none
+
+-- the last visit of a walk ended so
+abbrev pub Reached : Leases → Values → List ℕ → List ℕ → ℕ → Result (Bor Content) Stop → (ℕ → Content → Interaction) → Type 0
+Reached leased v reads more i end next =
+    MatchResult end
+    (λ r. plan_from leased v reads (walk_from i [] next) ≡ plan_from leased v more (next i r.now))
+    (λ stop. plan_from leased v reads (walk_from i [] next) ≡ plan_stopped more stop)
+
+module _ (leased : Leases) (v : Values) (reads more : List ℕ) (i : ℕ) (end : Result (Bor Content) Stop) (reached : (next : ℕ → Content → Interaction) → Reached leased v reads more i end next) where
+  pub reach_stops : (stop : Stop) → end ≡ Err stop → (next : ℕ → Content → Interaction) → plan_from leased v reads (walk_from i [] next) ≡ plan_stopped more stop
+  reach_stops stop is next = subst (λ e. Reached leased v reads more i e next) is (reached next)
+
+  pub reach_ends : (r : Bor Content) → end ≡ Ok r → (next : ℕ → Content → Interaction) → plan_from leased v reads (walk_from i [] next) ≡ plan_from leased v more (next i r.now)
+  reach_ends r is next = subst (λ e. Reached leased v reads more i e next) is (reached next)
+
+-- ---- the names of a walk
 
 -- a walk from the root, after k names of it, is at this inode, and so much is visited
 abbrev pub Left : Leases → Values → List ℕ → List (List ℕ) → List ℕ → ℕ → ℕ → Type 0
 Left leased v before names reads at k = (next : ℕ → Content → Interaction) → plan_from leased v before (walk names next) ≡ plan_from leased v reads (walk_from at (drop k names) next)
 
--- the inode isn't leased, whatever comes after it
-unleased_from : (leased : Leases) (v : Values) (reads : List ℕ) (at : ℕ) (p : List (List ℕ)) (next : ℕ → Content → Interaction) → leased at Read ≡ false → plan_from leased v reads (walk_from at p next) ≡ missing at Read
-unleased_from leased v reads at [] next bare = rw bare refl
-unleased_from leased v reads at (name ∷ p) next bare = rw bare refl
-
-pub left_unleased : (leased : Leases) (v : Values) (before : List ℕ) (names : List (List ℕ)) (reads : List ℕ) (at k : ℕ) → Left leased v before names reads at k → leased at Read ≡ false →
-    (next : ℕ → Content → Interaction) → plan_from leased v before (walk names next) ≡ missing at Read
-left_unleased leased v before names reads at k left bare next = left next ∙ unleased_from leased v reads at (drop k names) next bare
-
--- one name on
-step_from : (leased : Leases) (v : Values) (reads : List ℕ) (at : ℕ) (name : List ℕ) (p : List (List ℕ)) (next : ℕ → Content → Interaction) → leased at Read ≡ true →
-    plan_from leased v reads (walk_from at (name ∷ p) next) ≡ plan_from leased v (reads ++ at ∷ []) (then_or_error (children v at name) (λ j. walk_from j p next))
-step_from leased v reads at name p next held = rw held refl
-
 one_name : (names : List (List ℕ)) (k : ℕ) (name : List ℕ) → k < length names → name ≡ slice_index_or names k name → drop k names ≡ name ∷ drop (k + 1) names
 one_name names k name few is = drop_more names k name few ∙ ap (λ n. n ∷ drop (k + 1) names) (sym is)
 
-left_step : (leased : Leases) (v : Values) (before : List ℕ) (names : List (List ℕ)) (reads : List ℕ) (at k : ℕ) (name : List ℕ) (r : Result ℕ TreeError) → Left leased v before names reads at k →
-    leased at Read ≡ true → k < length names → name ≡ slice_index_or names k name → children v at name ≡ r →
-    (next : ℕ → Content → Interaction) → plan_from leased v before (walk names next) ≡ plan_from leased v (reads ++ at ∷ []) (then_or_error r (λ j. walk_from j (drop (k + 1) names) next))
-left_step leased v before names reads at k name r left held few is leads next =
-    left next ∙ ap (λ p. plan_from leased v reads (walk_from at p next)) (one_name names k name few is)
-    ∙ step_from leased v reads at name (drop (k + 1) names) next held
-    ∙ ap (λ o. plan_from leased v (reads ++ at ∷ []) (then_or_error o (λ j. walk_from j (drop (k + 1) names) next))) leads
+module _ (leased : Leases) (v : Values) (before : List ℕ) (names : List (List ℕ)) (reads more : List ℕ) (at k : ℕ) (left : Left leased v before names reads at k) where
+  module _ (end : Result (Option (Bor Content)) Stop) (visited : (next : Option Content → Interaction) → Visited leased v reads more at end next) where
+    pub left_stops : (stop : Stop) → end ≡ Err stop → (next : ℕ → Content → Interaction) → plan_from leased v before (walk names next) ≡ plan_stopped more stop
+    left_stops stop is next = left next ∙ visit_stops_walk leased v reads more at end visited stop is (drop k names) next
 
-pub left_fault : (leased : Leases) (v : Values) (before : List ℕ) (names : List (List ℕ)) (reads more : List ℕ) (at k : ℕ) (name : List ℕ) (error : TreeError) → Left leased v before names reads at k →
-    leased at Read ≡ true → k < length names → name ≡ slice_index_or names k name → children v at name ≡ Err error → more ≡ reads ++ at ∷ [] →
-    (next : ℕ → Content → Interaction) → plan_from leased v before (walk names next) ≡ plan_stopped more (Fault error)
-left_fault leased v before names reads more at k name error left held few is leads noted next =
-    left_step leased v before names reads at k name (Err error) left held few is leads next ∙ ap (λ rs. plan_stopped rs (Fault error)) (sym noted)
+    module _ (name : List ℕ) (few : k < length names) (same : name ≡ slice_index_or names k name) (value : Option (Bor Content)) (is : end ≡ Ok value) where
+      left_step : (r : Result ℕ TreeError) → link_of (option_copied value) name ≡ r →
+          (next : ℕ → Content → Interaction) → plan_from leased v before (walk names next) ≡ plan_from leased v more (then_or_error r (λ j. walk_from j (drop (k + 1) names) next))
+      left_step r leads next =
+          left next ∙ ap (λ p. plan_from leased v reads (walk_from at p next)) (one_name names k name few same)
+          ∙ visit_looks leased v reads more at end visited value is (λ value. then_or_error (link_of value name) (λ j. walk_from j (drop (k + 1) names) next))
+          ∙ ap (λ o. plan_from leased v more (then_or_error o (λ j. walk_from j (drop (k + 1) names) next))) leads
 
-pub left_on : (leased : Leases) (v : Values) (before : List ℕ) (names : List (List ℕ)) (reads more : List ℕ) (at j k : ℕ) (name : List ℕ) → Left leased v before names reads at k →
-    leased at Read ≡ true → k < length names → name ≡ slice_index_or names k name → children v at name ≡ Ok j → more ≡ reads ++ at ∷ [] → Left leased v before names more j (k + 1)
-left_on leased v before names reads more at j k name left held few is leads noted =
-    λ next. left_step leased v before names reads at k name (Ok j) left held few is leads next ∙ ap (λ rs. plan_from leased v rs (walk_from j (drop (k + 1) names) next)) (sym noted)
+      pub left_fault : (error : TreeError) → link_of (option_copied value) name ≡ Err error → (next : ℕ → Content → Interaction) → plan_from leased v before (walk names next) ≡ plan_stopped more (Fault error)
+      left_fault error leads next = left_step (Err error) leads next
 
--- the end
-end_from : (leased : Leases) (v : Values) (reads : List ℕ) (at : ℕ) (o : Option Content) (next : ℕ → Content → Interaction) → leased at Read ≡ true → v at ≡ o →
-    plan_from leased v reads (walk_from at [] next) ≡ plan_from leased v (reads ++ at ∷ []) (then_or_error (ok_or o NoEnt) (λ content. next at content))
-end_from leased v reads at o next held is = rw held (ap (λ o. plan_from leased v (reads ++ at ∷ []) (then_or_error (ok_or o NoEnt) (λ content. next at content))) is)
+      pub left_on : (j : ℕ) → link_of (option_copied value) name ≡ Ok j → Left leased v before names more j (k + 1)
+      left_on j leads = λ next. left_step (Ok j) leads next
 
-left_at_end : (leased : Leases) (v : Values) (before : List ℕ) (names : List (List ℕ)) (reads : List ℕ) (at k : ℕ) (o : Option Content) → Left leased v before names reads at k →
-    leased at Read ≡ true → length names ≤ k → v at ≡ o →
-    (next : ℕ → Content → Interaction) → plan_from leased v before (walk names next) ≡ plan_from leased v (reads ++ at ∷ []) (then_or_error (ok_or o NoEnt) (λ content. next at content))
-left_at_end leased v before names reads at k o left held all is next =
-    left next ∙ ap (λ p. plan_from leased v reads (walk_from at p next)) (drop_of_length-le names all) ∙ end_from leased v reads at o next held is
+  module _ (all : length names ≤ k) (end : Result (Bor Content) Stop) (reached : (next : ℕ → Content → Interaction) → Reached leased v reads more at end next) where
+    left_last : (next : ℕ → Content → Interaction) → plan_from leased v before (walk names next) ≡ plan_from leased v reads (walk_from at [] next)
+    left_last next = left next ∙ ap (λ p. plan_from leased v reads (walk_from at p next)) (drop_of_length-le names all)
 
-pub left_found : (leased : Leases) (v : Values) (before : List ℕ) (names : List (List ℕ)) (reads more : List ℕ) (at k : ℕ) (content : Content) → Left leased v before names reads at k →
-    leased at Read ≡ true → length names ≤ k → v at ≡ Some content → more ≡ reads ++ at ∷ [] →
-    (next : ℕ → Content → Interaction) → plan_from leased v before (walk names next) ≡ plan_from leased v more (next at content)
-left_found leased v before names reads more at k content left held all is noted next =
-    left_at_end leased v before names reads at k (Some content) left held all is next ∙ ap (λ rs. plan_from leased v rs (next at content)) (sym noted)
+    pub left_ends : (r : Bor Content) → end ≡ Ok r → (next : ℕ → Content → Interaction) → plan_from leased v before (walk names next) ≡ plan_from leased v more (next at r.now)
+    left_ends r is next = left_last next ∙ reach_ends leased v reads more at end reached r is next
 
-pub left_nothing : (leased : Leases) (v : Values) (before : List ℕ) (names : List (List ℕ)) (reads more : List ℕ) (at k : ℕ) → Left leased v before names reads at k →
-    leased at Read ≡ true → length names ≤ k → v at ≡ None → more ≡ reads ++ at ∷ [] →
-    (next : ℕ → Content → Interaction) → plan_from leased v before (walk names next) ≡ plan_stopped more (Fault NoEnt)
-left_nothing leased v before names reads more at k left held all is noted next =
-    left_at_end leased v before names reads at k None left held all is next ∙ ap (λ rs. plan_stopped rs (Fault NoEnt)) (sym noted)
+    pub left_ends_early : (stop : Stop) → end ≡ Err stop → (next : ℕ → Content → Interaction) → plan_from leased v before (walk names next) ≡ plan_stopped more stop
+    left_ends_early stop is next = left_last next ∙ reach_stops leased v reads more at end reached stop is next

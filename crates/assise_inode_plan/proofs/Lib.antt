@@ -1,4 +1,9 @@
 pub mod Leaving
-pub mod Ending
+pub mod WalkEnds
+pub mod Lacking
+pub mod Asking
+pub mod FileChanging
+pub mod Making
+pub mod Removing
 pub mod Exact
 pub mod Wanting

@@ -1,7 +1,7 @@
 -- What is planned for a call.
 use Rattle.std.specs.Prelude.{◌≡◌, ◌≤◌, ℕ, length, Option, Some, None}
 use Rattle.assise_names.specs.declared.call.Op.{Op}
-use Rattle.assise_names.specs.declared.call.Op.TheVariants.{Create, Read as ReadCall, Write as WriteCall, Stat}
+use Rattle.assise_names.specs.declared.call.Op.TheVariants.{Create, Mkdir, Read as ReadCall, Write as WriteCall, Truncate, Unlink, Rmdir, List, Stat, Fsync}
 use Rattle.assise_names.specs.declared.mode.Mode.{Mode}
 use Rattle.assise_names.specs.declared.reply.Reply.{Reply}
 use Rattle.assise_seq_tree.specs.Tree.{Tree}
@@ -39,5 +39,11 @@ Answers v outcome (ready s) = (s.reply ≡ outcome.0) × Spells (after v s.effec
 abbrev pub IsWritable : Op → Type 0
 IsWritable (WriteCall p offset new) = length new ≤ 65536
 IsWritable (Create p) = Unit {0}
+IsWritable (Mkdir p) = Unit {0}
 IsWritable (ReadCall p offset most) = Unit {0}
+IsWritable (Truncate p size) = Unit {0}
+IsWritable (Unlink p) = Unit {0}
+IsWritable (Rmdir p) = Unit {0}
+IsWritable (List p) = Unit {0}
 IsWritable (Stat p) = Unit {0}
+IsWritable Fsync = Unit {0}

@@ -1,8 +1,13 @@
 //! What a call over leased inodes answers and changes, before anything is changed.
 #![tactic(auto)]
 
+mod creation;
+mod ending;
+mod file_changes;
 pub mod laws;
 pub mod plan;
+mod queries;
+mod removal;
 #[cfg(test)]
 mod tests;
 pub mod view;

@@ -1,22 +1,19 @@
 // Walks along paths over leased inodes.
-ghost use Rattle.std.specs.Prelude.{◌≡◌, IfOk, IsOkUnless, MatchResult, true, ℕ};
+ghost use Rattle.std.specs.Prelude.{◌≡◌, IfOk, IsOkUnless, MatchResult, Option, [], option_copied, ℕ};
 ghost use Rattle.assise_inode_plan.specs.Walking.{plan_from, plan_stopped};
-ghost use Rattle.assise_inode_table.specs.Calls.{walk};
+ghost use Rattle.assise_inode_table.specs.Calls.{walk, walk_from, walk_to_entry};
 ghost use Rattle.assise_inode_table.specs.Contents.{Content, values};
-ghost use Rattle.assise_inode_table.specs.Interaction.{Interaction};
-ghost use Rattle.assise_inode_table.specs.Reach.{children};
-ghost use Rattle.assise_names.specs.declared.mode.Mode.TheVariants.{Read};
+ghost use Rattle.assise_inode_table.specs.Interaction.{Interaction, visit};
+ghost use Rattle.assise_inode_table.specs.Reach.{link_of};
 ghost use Rattle.assise_names.specs.declared.refusal.Refusal.TheVariants.{OutOfMemory};
 
 use crate::view::View;
 use assise_inode_table::inode::Inode;
+use assise_inode_table::table::ROOT;
 use assise_names::mode::Mode;
 use assise_names::name::Name;
 use assise_names::refusal::Refusal;
 use assise_names::reply::TreeError;
-
-/// The number of the root.
-const ROOT: u64 = 0;
 
 /// Why a walk ends early.
 #[derive(Clone, Copy, Debug)]
@@ -25,6 +22,17 @@ pub(crate) enum Stop {
     Fault(TreeError),
     /// The inode isn't leased for reading.
     Unleased(u64),
+}
+
+/// An entry of a directory.
+#[derive(Clone, Copy, Debug)]
+pub(crate) struct Entry<'a> {
+    /// The number of the directory.
+    pub(crate) directory: u64,
+    /// The number of the inode that the entry links to.
+    pub(crate) inode: u64,
+    /// What that inode holds.
+    pub(crate) content: &'a Inode,
 }
 
 /// Walks from the root along a path, and notes each inode that it visits. It ends at an inode, with what that holds.
@@ -42,31 +50,98 @@ pub(crate) fn walk<'a, V: View>(
 {
     let mut at = ROOT;
     for name in names {
-        if !view.leases(at, Mode::Read) {
-            return Ok(Err(Stop::Unleased(at)));
-        }
-        reads.push(at)?;
-        match link(view, at, name) {
+        let value = match visit(view, at, reads)? {
+            Ok(value) => value,
+            Err(stop) => return Ok(Err(stop)),
+        };
+        match link(value, name) {
             Ok(next) => at = next,
             Err(error) => return Ok(Err(Stop::Fault(error))),
         }
     }
-    if !view.leases(at, Mode::Read) {
-        return Ok(Err(Stop::Unleased(at)));
-    }
-    reads.push(at)?;
-    match view.get(at) {
-        Some(inode) => Ok(Ok((at, inode))),
-        None => Ok(Err(Stop::Fault(TreeError::NoEnt))),
+    match reach(view, at, reads)? {
+        Ok(inode) => Ok(Ok((at, inode))),
+        Err(stop) => Ok(Err(stop)),
     }
 }
 
-/// The inode that an entry of a directory links to.
-fn link<V: View>(view: &V, inode: u64, name: &Name) -> Result<u64, TreeError>
-    requires leased { V.leased view.now inode Read ≡ true }
-    ensures { result ≡ children (values (V.contents view.now)) inode name.now }
+/// Walks from the root to a directory, and on to the inode that its entry links to. Both are visited.
+pub(crate) fn walk_to_entry<'a, V: View>(
+    view: &'a V,
+    parent: &[Name],
+    name: &Name,
+    reads: &mut Vec<u64>,
+) -> Result<Result<Entry<'a>, Stop>, Refusal>
+    ensures left { IfOk result (λ end. (next : ℕ → ℕ → Content → Interaction) → MatchResult end
+        (λ e. plan_from (V.leased view.now) (values (V.contents view.now)) reads.old.items (walk_to_entry parent.now name.now next)
+        ≡ plan_from (V.leased view.now) (values (V.contents view.now)) reads.new.items (next e.directory e.inode e.content.now))
+        (λ stop. plan_from (V.leased view.now) (values (V.contents view.now)) reads.old.items (walk_to_entry parent.now name.now next)
+        ≡ plan_stopped reads.new.items stop)) }
+    ensures only_memory { IsOkUnless result OutOfMemory }
 {
-    match view.get(inode) {
+    let (directory, links) = match walk(view, parent, reads)? {
+        Ok(reached) => reached,
+        Err(stop) => return Ok(Err(stop)),
+    };
+    let inode = match links.link(name) {
+        Ok(inode) => inode,
+        Err(error) => return Ok(Err(Stop::Fault(error))),
+    };
+    match reach(view, inode, reads)? {
+        Ok(content) => Ok(Ok(Entry {
+            directory,
+            inode,
+            content,
+        })),
+        Err(stop) => Ok(Err(stop)),
+    }
+}
+
+/// Visits the inode that a walk ends at: it has to be there.
+fn reach<'a, V: View>(
+    view: &'a V,
+    inode: u64,
+    reads: &mut Vec<u64>,
+) -> Result<Result<&'a Inode, Stop>, Refusal>
+    ensures left { IfOk result (λ end. (next : ℕ → Content → Interaction) → MatchResult end
+        (λ r. plan_from (V.leased view.now) (values (V.contents view.now)) reads.old.items (walk_from inode [] next)
+        ≡ plan_from (V.leased view.now) (values (V.contents view.now)) reads.new.items (next inode r.now))
+        (λ stop. plan_from (V.leased view.now) (values (V.contents view.now)) reads.old.items (walk_from inode [] next)
+        ≡ plan_stopped reads.new.items stop)) }
+    ensures only_memory { IsOkUnless result OutOfMemory }
+{
+    match visit(view, inode, reads)? {
+        Ok(Some(content)) => Ok(Ok(content)),
+        Ok(None) => Ok(Err(Stop::Fault(TreeError::NoEnt))),
+        Err(stop) => Ok(Err(stop)),
+    }
+}
+
+/// Visits an inode: where it is leased for reading it is noted, and looked at.
+fn visit<'a, V: View>(
+    view: &'a V,
+    inode: u64,
+    reads: &mut Vec<u64>,
+) -> Result<Result<Option<&'a Inode>, Stop>, Refusal>
+    ensures left { IfOk result (λ end. (next : Option Content → Interaction) → MatchResult end
+        (λ value. plan_from (V.leased view.now) (values (V.contents view.now)) reads.old.items (visit inode next)
+        ≡ plan_from (V.leased view.now) (values (V.contents view.now)) reads.new.items (next (option_copied value)))
+        (λ stop. plan_from (V.leased view.now) (values (V.contents view.now)) reads.old.items (visit inode next)
+        ≡ plan_stopped reads.new.items stop)) }
+    ensures only_memory { IsOkUnless result OutOfMemory }
+{
+    if !view.leases(inode, Mode::Read) {
+        return Ok(Err(Stop::Unleased(inode)));
+    }
+    reads.push(inode)?;
+    Ok(Ok(view.get(inode)))
+}
+
+/// The inode that a name links to from what was visited.
+fn link(value: Option<&Inode>, name: &Name) -> Result<u64, TreeError>
+    ensures { result ≡ link_of (option_copied value.entry) name.now }
+{
+    match value {
         Some(directory) => directory.link(name),
         None => Err(TreeError::NoEnt),
     }

@@ -3,8 +3,9 @@ use Rattle.assise_names.specs.declared.reply.Reply.TheVariants.{Done}
 use Rattle.assise_inode_table.specs.Contents.{values}
 use Rattle.assise_inode_table.specs.Interaction.{finish}
 use Rattle.assise_inode_plan.specs.Walking.{plan_from}
-use Rattle.assise_inode_plan.proofs.Ending.{at_stop, write_ends, write_fails, write_is_big}
-use Rattle.assise_inode_plan.proofs.plan.plan_write.Goals as goal
+use Rattle.assise_inode_plan.proofs.WalkEnds.{at_stop}
+use Rattle.assise_inode_plan.proofs.FileChanging.{write_ends, write_fails, write_is_big}
+use Rattle.assise_inode_plan.proofs.file_changes.plan_write.Goals as goal
 
 pub returns-in-Err-clause-exact : goal.returns-in-Err-clause-exact
 returns-in-Err-clause-exact g c = c.stopped.ensures ∙ at_stop (g.V.View.leased c.args.view.now) (values (g.V.View.contents c.args.view.now)) c.new-reads.result.items c.args.names.now c.walk.new.reads.items c.in_ok-reached.field-0 c.new-reads.ensures.items c.in_ok-reached.ensures.left c.in-Err.stop c.in-Err.is _

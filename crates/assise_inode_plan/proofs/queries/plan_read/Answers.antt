@@ -1,8 +1,9 @@
 use Rattle.std.proofs.Common.{ap, ◌∙◌}
 use Rattle.assise_names.specs.declared.reply.Reply.TheVariants.{Bytes}
 use Rattle.assise_inode_table.specs.Contents.{values}
-use Rattle.assise_inode_plan.proofs.Ending.{quiet, at_stop, read_ends, read_fails}
-use Rattle.assise_inode_plan.proofs.plan.plan_read.Goals as goal
+use Rattle.assise_inode_plan.proofs.WalkEnds.{quiet, at_stop}
+use Rattle.assise_inode_plan.proofs.Asking.{read_ends, read_fails}
+use Rattle.assise_inode_plan.proofs.queries.plan_read.Goals as goal
 
 pub returns-in-Err-clause-exact : goal.returns-in-Err-clause-exact
 returns-in-Err-clause-exact g c = c.stopped.ensures ∙ at_stop (g.V.View.leased c.args.view.now) (values (g.V.View.contents c.args.view.now)) c.new-reads.result.items c.args.names.now c.walk.new.reads.items c.in_ok-reached.field-0 c.new-reads.ensures.items c.in_ok-reached.ensures.left c.in-Err.stop c.in-Err.is _

@@ -1,7 +1,8 @@
 use Rattle.std.proofs.Common.{ap, ◌∙◌}
 use Rattle.assise_inode_table.specs.Contents.{values}
-use Rattle.assise_inode_plan.proofs.Ending.{quiet, at_stop, stat_ends}
-use Rattle.assise_inode_plan.proofs.plan.plan_stat.Goals as goal
+use Rattle.assise_inode_plan.proofs.WalkEnds.{quiet, at_stop}
+use Rattle.assise_inode_plan.proofs.Asking.{stat_ends}
+use Rattle.assise_inode_plan.proofs.queries.plan_stat.Goals as goal
 
 pub returns-in-Ok-clause-exact : goal.returns-in-Ok-clause-exact
 returns-in-Ok-clause-exact g c =

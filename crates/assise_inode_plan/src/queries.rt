@@ -1,0 +1,80 @@
+// Plans of the calls that change nothing.
+ghost use Rattle.std.specs.Prelude.{◌≡◌, IfOk, IsOkUnless, []};
+ghost use Rattle.assise_inode_plan.specs.Planning.{shown};
+ghost use Rattle.assise_inode_plan.specs.Walking.{plan_from};
+ghost use Rattle.assise_inode_table.specs.Calls.{list_call, read_call, stat_call};
+ghost use Rattle.assise_inode_table.specs.Contents.{values};
+ghost use Rattle.assise_names.specs.declared.refusal.Refusal.TheVariants.{OutOfMemory};
+
+use crate::ending::{answered, stopped};
+use crate::plan::Planned;
+use crate::view::View;
+use crate::walk::walk;
+use assise_names::name::Name;
+use assise_names::refusal::Refusal;
+use assise_names::reply::Reply;
+use std::alloc::Global;
+
+/// Reads at most so many bytes from an offset on.
+pub(crate) fn plan_read<V: View>(
+    alloc: Global,
+    view: &V,
+    names: &[Name],
+    offset: u64,
+    length: u64,
+) -> Result<Planned, Refusal>
+    ensures exact { IfOk result (λ p. shown p ≡ plan_from (V.leased view.now) (values (V.contents view.now)) [] (read_call names.now offset length)) }
+    ensures only_memory { IsOkUnless result OutOfMemory }
+{
+    let mut reads = Vec::new(alloc);
+    let (_, inode) = match walk(view, names, &mut reads)? {
+        Ok(reached) => reached,
+        Err(stop) => return Ok(stopped(alloc, stop, reads)),
+    };
+    match inode.file() {
+        Ok(file) => {
+            let bytes = file.read(alloc, offset, length)?;
+            Ok(answered(alloc, Reply::Bytes(bytes), reads))
+        }
+        Err(error) => Ok(answered(alloc, Reply::Error(error), reads)),
+    }
+}
+
+/// Lists the names of a directory's entries.
+pub(crate) fn plan_list<V: View>(
+    alloc: Global,
+    view: &V,
+    names: &[Name],
+) -> Result<Planned, Refusal>
+    ensures exact { IfOk result (λ p. shown p ≡ plan_from (V.leased view.now) (values (V.contents view.now)) [] (list_call names.now)) }
+    ensures only_memory { IsOkUnless result OutOfMemory }
+{
+    let mut reads = Vec::new(alloc);
+    let (_, inode) = match walk(view, names, &mut reads)? {
+        Ok(reached) => reached,
+        Err(stop) => return Ok(stopped(alloc, stop, reads)),
+    };
+    match inode.directory() {
+        Ok(links) => {
+            let listed = links.names(alloc)?;
+            Ok(answered(alloc, Reply::Names(listed), reads))
+        }
+        Err(error) => Ok(answered(alloc, Reply::Error(error), reads)),
+    }
+}
+
+/// Says what stands at a path.
+pub(crate) fn plan_stat<V: View>(
+    alloc: Global,
+    view: &V,
+    names: &[Name],
+) -> Result<Planned, Refusal>
+    ensures exact { IfOk result (λ p. shown p ≡ plan_from (V.leased view.now) (values (V.contents view.now)) [] (stat_call names.now)) }
+    ensures only_memory { IsOkUnless result OutOfMemory }
+{
+    let mut reads = Vec::new(alloc);
+    match walk(view, names, &mut reads)? {
+        Ok((_, inode)) => Ok(answered(alloc, inode.describe(), reads)),
+        Err(stop) => Ok(stopped(alloc, stop, reads)),
+    }
+}
