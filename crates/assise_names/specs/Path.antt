@@ -1,6 +1,7 @@
 -- Which text spells which path, and what is wrong with the others.
 -- POSIX.1-2017, base definitions: chapter 3, Absolute Pathname and Pathname; section 4.13, Pathname Resolution.
-use Rattle.std.specs.Prelude.{◌≡◌, ◌≤◌, ◌⊎◌, ℕ, ◌==◌, nat_le, if◌then◌else◌, IsTrue, All, List, [], ◌∷◌, ◌++◌, flat_map, length, Result, Ok, Err}
+use Rattle.std.specs.Prelude.{◌≡◌, ◌≤◌, ◌⊎◌, ℕ, Bool, ◌&&◌, ◌==◌, nat_le, nat_lt, if◌then◌else◌, IsTrue, All, List, [], ◌∷◌, ◌++◌, flat_map, length, take, Result, Ok, Err}
+use Rattle.std.specs.Cmp.Lexicographic.{pointwise}
 use Rattle.std.specs.List.{slice_split}
 use Rattle.assise_names.specs.declared.path.PathFault.{PathFault}
 use Rattle.assise_names.specs.declared.path.PathFault.TheVariants.{NotAbsolute, TooDeep, Memory}
@@ -26,6 +27,13 @@ pub record Spells (text : List ℕ) (path : List (List ℕ)) : Type 0 where
 -- q goes on from p by at least a name
 abbrev pub IsProperFront : List (List ℕ) → List (List ℕ) → Type 0
 IsProperFront p q = (name : List ℕ) × ((rest : List (List ℕ)) × (q ≡ p ++ name ∷ rest))
+
+abbrev pub same_path : List (List ℕ) → List (List ℕ) → Bool
+same_path p q = pointwise (pointwise ◌==◌) p q
+
+-- whether q goes on from p
+abbrev pub is_proper_front : List (List ℕ) → List (List ℕ) → Bool
+is_proper_front p q = nat_lt (length p) (length q) && same_path p (take (length p) q)
 
 -- ---- the path that a text spells, or its first fault
 

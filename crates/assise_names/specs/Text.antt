@@ -4,7 +4,7 @@ use Rattle.std.specs.List.{flat_map}
 use Rattle.std.specs.Fmt.{decimal, digits}
 use Rattle.assise_names.specs.Path.{spelling}
 use Rattle.assise_names.specs.declared.call.Op.{Op}
-use Rattle.assise_names.specs.declared.call.Op.TheVariants.{Create, Mkdir, Read, Write, Truncate, Unlink, Rmdir, List as ListCall, Stat, Fsync}
+use Rattle.assise_names.specs.declared.call.Op.TheVariants.{Create, Mkdir, Read, Write, Truncate, Rename, Unlink, Rmdir, List as ListCall, Stat, Fsync}
 use Rattle.assise_names.specs.declared.path.PathFault.{PathFault}
 use Rattle.assise_names.specs.declared.path.PathFault.TheVariants.{NotAbsolute, EmptyName, BadName, NameTooLong, TooDeep, Memory}
 use Rattle.assise_names.specs.declared.refusal.Refusal.{Refusal}
@@ -72,6 +72,7 @@ op_text (Mkdir path) = codes "mkdir " ++ spelling path
 op_text (Read path offset length) = codes "read " ++ spelling path ++ codes " " ++ decimal offset ++ codes " " ++ decimal length
 op_text (Write path offset bytes) = codes "write " ++ spelling path ++ codes " " ++ decimal offset ++ codes " " ++ decimal (length bytes)
 op_text (Truncate path size) = codes "truncate " ++ spelling path ++ codes " " ++ decimal size
+op_text (Rename from to) = codes "rename " ++ spelling from ++ codes " " ++ spelling to
 op_text (Unlink path) = codes "unlink " ++ spelling path
 op_text (Rmdir path) = codes "rmdir " ++ spelling path
 op_text (ListCall path) = codes "list " ++ spelling path

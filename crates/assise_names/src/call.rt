@@ -23,6 +23,8 @@ pub enum Op {
     Write(Path, u64, ByteString),
     /// Gives a file another size.
     Truncate(Path, u64),
+    /// Moves what stands at a path to another.
+    Rename(Path, Path),
     /// Removes a file.
     Unlink(Path),
     /// Removes a directory without entries.
@@ -50,6 +52,10 @@ impl Op {
                 Ok(Op::Write(path, *offset, bytes.copy(alloc)?))
             }
             Op::Truncate(path, size) => Ok(Op::Truncate(path.copy(alloc)?, *size)),
+            Op::Rename(from, to) => {
+                let from = from.copy(alloc)?;
+                Ok(Op::Rename(from, to.copy(alloc)?))
+            }
             Op::Unlink(path) => Ok(Op::Unlink(path.copy(alloc)?)),
             Op::Rmdir(path) => Ok(Op::Rmdir(path.copy(alloc)?)),
             Op::List(path) => Ok(Op::List(path.copy(alloc)?)),
@@ -73,6 +79,7 @@ impl Display for Op {
                 write!(f, "write {path} {offset} {count}")
             }
             Op::Truncate(path, size) => write!(f, "truncate {path} {size}"),
+            Op::Rename(from, to) => write!(f, "rename {from} {to}"),
             Op::Unlink(path) => write!(f, "unlink {path}"),
             Op::Rmdir(path) => write!(f, "rmdir {path}"),
             Op::List(path) => write!(f, "list {path}"),

@@ -1,7 +1,11 @@
 // A path from the root.
-ghost use Rattle.std.specs.Prelude.{All, ◌≡◌, ◌≤◌, ◌↔◌, IfOk, IsOkUnless, IsTrue, List, Some, length, ℕ};
+ghost use Rattle.std.specs.Prelude.{All, ◌≡◌, ◌==◌, ◌≤◌, ◌↔◌, IfOk, IsOkUnless, IsTrue, List, Some, length, ℕ};
+ghost use Rattle.std.proofs.Common.{rules};
+ghost use Rattle.std.specs.Cmp.Rules.{comparing};
+ghost use Rattle.std.specs.Cmp.Lexicographic.{pointwise};
+ghost use Rattle.std.specs.Ordering.{on};
 ghost use Rattle.assise_names.specs.Name.{is_name};
-ghost use Rattle.assise_names.specs.Path.{Gives, GivesNames, IsProperFront, Spells, path_of, names_behind, spelling};
+ghost use Rattle.assise_names.specs.Path.{Gives, GivesNames, IsProperFront, Spells, is_proper_front, path_of, names_behind, spelling};
 ghost use Rattle.assise_names.specs.Text.{path_fault_text};
 ghost use Rattle.assise_names.specs.declared.refusal.Refusal.TheVariants.{OutOfMemory};
 
@@ -111,7 +115,8 @@ impl Path {
 
     /// Whether the other path goes on from this one by at least a name.
     pub fn is_front_of(&self, other: &Path) -> bool
-        ensures { IsTrue result ↔ IsProperFront self.now other.now }
+        ensures exact { result ≡ is_proper_front self.now other.now }
+        ensures front { IsTrue result ↔ IsProperFront self.now other.now }
     {
         self.names.len() < other.names.len()
             && other.names.as_slice().starts_with(self.names.as_slice())
@@ -125,6 +130,20 @@ impl Path {
         let names = copy_names(alloc, self.names.as_slice())?;
         Ok(Path { names })
     }
+}
+
+impl PartialEq for Path {
+    ghost eq = { on (λ p. p) (pointwise (pointwise ◌==◌)) };
+
+    ghost laws = { Prim.search (comparing, rules) };
+
+    fn eq(&self, other: &Path) -> bool {
+        self.names() == other.names()
+    }
+}
+
+impl Eq for Path {
+    ghost laws = { Prim.search (comparing, rules) };
 }
 
 /// The path that a text spells, or its first fault.

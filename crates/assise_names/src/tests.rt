@@ -92,6 +92,8 @@ fn a_front_is_proper(rt: HostRuntime) -> Result<(), Fail> {
         let front = Path::parse(rt.alloc(), front)?;
         let path = Path::parse(rt.alloc(), path)?;
         assert_eq!(rt; front.is_front_of(&path), yes, "{front} and {path}");
+        assert!(rt; front == front.copy(rt.alloc())?);
+        assert!(rt; !yes || front != path);
     }
     Ok(())
 }
@@ -102,6 +104,10 @@ fn calls_are_printed_as_a_history_has_them(rt: HostRuntime) -> Result<(), Fail> 
         Path::parse(rt.alloc(), "/f")?,
         9,
         ByteString::from_vec(b"abc".to_vec(rt.alloc())?),
+    );
+    let rename = Op::Rename(
+        Path::parse(rt.alloc(), "/a/b")?,
+        Path::parse(rt.alloc(), "/")?,
     );
     for (op, text) in [
         (Op::Create(Path::parse(rt.alloc(), "/f")?), "create /f"),
@@ -115,6 +121,7 @@ fn calls_are_printed_as_a_history_has_them(rt: HostRuntime) -> Result<(), Fail> 
             Op::Truncate(Path::parse(rt.alloc(), "/f")?, 1_048_577),
             "truncate /f 1048577",
         ),
+        (rename, "rename /a/b /"),
         (Op::Unlink(Path::parse(rt.alloc(), "/f")?), "unlink /f"),
         (Op::Rmdir(Path::parse(rt.alloc(), "/d")?), "rmdir /d"),
         (Op::List(Path::parse(rt.alloc(), "/d")?), "list /d"),

@@ -1,9 +1,20 @@
-use Rattle.std.proofs.Common.{◌<◌, length, ap, arith}
+use Rattle.std.proofs.Common.{◌≡◌, ◌<◌, true, nat_lt, length, ap, ◌∙◌, arith}
+use Rattle.std.proofs.lemmas.Bool.Decides.{nat_tests}
+use Rattle.assise_names.specs.Path.{is_proper_front}
 use Rattle.assise_names.proofs.Fronts.{Begins, from_tests, to_tests}
 use Rattle.assise_names.proofs.path.Path.is_front_of.Goals as goal
 
-pub returns-then-len : goal.returns-then-len
-returns-then-len c =
+pub returns-then-len-clause-exact : goal.returns-then-len-clause-exact
+returns-then-len-clause-exact c =
+    let p = c.args.self.now in
+    let q = c.args.other.now in
+    let begun : Begins c.starts_with.result q p = rw (c.as_slice.ensures.value, c.as_slice-then-len.ensures.value, c.self.view_is, c.other.view_is) at c.starts_with.ensures.value in
+    let shorter : length p < length q = omega (arith, ap length c.self.view_is, ap length c.other.view_is, c.self.inside.names.ok.0, c.other.inside.names.ok.0) in
+    let test : nat_lt (length p) (length q) ≡ true = grind (arith, nat_tests) in
+    rw test begun
+
+pub returns-then-len-clause-front : goal.returns-then-len-clause-front
+returns-then-len-clause-front c =
     let p = c.args.self.now in
     let q = c.args.other.now in
     let begun : Begins c.starts_with.result q p = rw (c.as_slice.ensures.value, c.as_slice-then-len.ensures.value, c.self.view_is, c.other.view_is) at c.starts_with.ensures.value in
