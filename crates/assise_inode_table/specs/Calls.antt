@@ -1,15 +1,16 @@
 -- The calls over inodes: which inodes each visits, what it checks, in order, what it answers, and what it does.
--- POSIX.1-2017, system interfaces: open() with O_CREAT and O_EXCL, mkdir(), read(), write(), truncate(), unlink(), rmdir(), readdir(), stat(), fsync(); base definitions: 4.13 Pathname Resolution.
-use Rattle.std.specs.Prelude.{ℕ, if◌then◌else◌, nat_le, ◌==◌, List, [], ◌∷◌, length, is_some, Some, Result, Ok, Err, ok_or}
+-- POSIX.1-2017, system interfaces: open() with O_CREAT and O_EXCL, mkdir(), read(), write(), truncate(), rename(), unlink(), rmdir(), readdir(), stat(), fsync(); base definitions: 4.13 Pathname Resolution.
+use Rattle.std.specs.Prelude.{ℕ, Bool, ◌||◌, if◌then◌else◌, nat_le, ◌==◌, List, [], ◌∷◌, length, is_some, Option, Some, None, Result, Ok, Err, ok_or}
 use Rattle.std.specs.FinMap as map
+use Rattle.assise_names.specs.Path.{is_proper_front, same_path}
 use Rattle.assise_names.specs.declared.call.Op.{Op}
-use Rattle.assise_names.specs.declared.call.Op.TheVariants.{Create, Mkdir, Read, Write as WriteCall, Truncate, Unlink as UnlinkCall, Rmdir, List as ListCall, Stat, Fsync}
+use Rattle.assise_names.specs.declared.call.Op.TheVariants.{Create, Mkdir, Read, Write as WriteCall, Truncate, Rename, Unlink as UnlinkCall, Rmdir, List as ListCall, Stat, Fsync}
 use Rattle.assise_names.specs.declared.reply.Reply.{Reply}
 use Rattle.assise_names.specs.declared.reply.Reply.TheVariants.{Done, Bytes, Names, File, Dir, Error}
 use Rattle.assise_names.specs.declared.reply.TreeError.{TreeError}
 use Rattle.assise_names.specs.declared.reply.TreeError.TheVariants.{NoEnt, Exists, NotDir, IsDir, NotEmpty, Invalid, TooBig, DirFull}
 use Rattle.assise_seq_tree.specs.Contents.{bytes_from, is_within}
-use Rattle.assise_seq_tree.specs.Answer.{parent_of, last_name}
+use Rattle.assise_seq_tree.specs.Answer.{◌>>=◌, parent_of, last_name}
 use Rattle.assise_record.specs.declared.effect.Effect.{Effect}
 use Rattle.assise_record.specs.declared.effect.Effect.TheVariants.{NewFile, NewDir, Write, SetLen, Link, Unlink, Free}
 use Rattle.assise_inode_table.specs.Contents.{Content, regular, directory, Links, Values}
@@ -53,6 +54,11 @@ room_among name links = if is_some (map.get links name) then Err Exists else (if
 abbrev pub vacant : Links → Result (Unit {0}) TreeError
 vacant links = if length (map.keys links) == 0 then Ok tt else Err NotEmpty
 
+-- a file may take the place of a file, and a directory that of a directory without entries
+abbrev pub may_replace : Content → Content → Result (Unit {0}) TreeError
+may_replace (regular bytes) target = as_regular target >>= λ _. Ok tt
+may_replace (directory links) target = as_links target >>= λ others. vacant others
+
 -- what a stat says of it
 abbrev pub description_of : Content → Reply
 description_of (regular bytes) = File (length bytes)
@@ -88,6 +94,36 @@ abbrev pub truncate_call : List (List ℕ) → ℕ → Interaction
 truncate_call p size =
     walk p (λ i content. then_or_error (as_regular content) (λ _. if nat_le size 1048576 then finish Done (SetLen i size ∷ []) else finish (Error TooBig) []))
 
+-- inode i, which is the entry `name` of directory d, becomes the entry `new` of directory e
+abbrev pub move_effects : ℕ → List ℕ → ℕ → List ℕ → ℕ → List Effect
+move_effects d name e new i = Unlink d name ∷ Link e new i ∷ []
+
+-- the entry is visited, and goes
+abbrev pub replace_target : Content → ℕ → List ℕ → List Effect → ℕ → Interaction
+replace_target moved e new moves g = walk_from g [] (λ g target. then_or_error (may_replace moved target) (λ _. finish Done (Unlink e new ∷ Free g ∷ moves)))
+
+abbrev pub room_beside : Bool → Links → Result (Unit {0}) TreeError
+room_beside stays links = if stays then Ok tt else (if nat_le 4096 (length (map.keys links)) then Err DirFull else Ok tt)
+
+-- directory e takes the moved inode under a name
+abbrev pub receive : Content → Bool → ℕ → Links → List ℕ → List Effect → Option ℕ → Interaction
+receive moved stays e links new moves (Some g) = replace_target moved e new moves g
+receive moved stays e links new moves None = then_or_error (room_beside stays links) (λ _. finish Done moves)
+
+-- what follows once inode i, the entry of p in directory d, is found
+abbrev pub move_to : List (List ℕ) → List (List ℕ) → ℕ → ℕ → Content → Interaction
+move_to p q d i moved =
+    walk (parent_of q) (λ e content. then_or_error (as_links content) (λ links.
+    if same_path p q then finish Done []
+    else receive moved (same_path (parent_of p) (parent_of q)) e links (last_name q) (move_effects d (last_name p) e (last_name q) i) (map.get links (last_name q))))
+
+-- the moved inode is visited and not changed
+abbrev pub rename_call : List (List ℕ) → List (List ℕ) → Interaction
+rename_call p q =
+    if (length p == 0) || (length q == 0) then finish (Error Invalid) []
+    else (if is_proper_front p q then finish (Error Invalid) []
+    else walk_to_entry (parent_of p) (last_name p) (move_to p q))
+
 abbrev pub unlink_call : List (List ℕ) → Interaction
 unlink_call p =
     if length p == 0 then finish (Error IsDir) []
@@ -113,6 +149,7 @@ interaction (Mkdir p) fresh = mkdir_call p fresh
 interaction (Read p offset most) fresh = read_call p offset most
 interaction (WriteCall p offset new) fresh = write_call p offset new
 interaction (Truncate p size) fresh = truncate_call p size
+interaction (Rename p q) fresh = rename_call p q
 interaction (UnlinkCall p) fresh = unlink_call p
 interaction (Rmdir p) fresh = rmdir_call p
 interaction (ListCall p) fresh = list_call p

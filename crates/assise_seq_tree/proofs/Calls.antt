@@ -1,12 +1,13 @@
 -- A call leaves each path that lies apart from its own.
 use Rattle.std.proofs.Common.{◌≡◌, ℕ, Bool, true, false, cond, ◌==◌, nat_le, List, [], length, Result, Ok, Err, refl, ap, sym, ◌∙◌}
+use Rattle.assise_names.specs.Path.{same_path}
 use Rattle.assise_names.specs.declared.call.Op.{Op}
-use Rattle.assise_names.specs.declared.call.Op.TheVariants.{Create, Mkdir, Read, Write, Truncate, Unlink, Rmdir, List as ListCall, Stat, Fsync}
+use Rattle.assise_names.specs.declared.call.Op.TheVariants.{Create, Mkdir, Read, Write, Truncate, Rename, Unlink, Rmdir, List as ListCall, Stat, Fsync}
 use Rattle.assise_names.specs.declared.reply.Reply.{Reply}
 use Rattle.assise_names.specs.declared.reply.Reply.TheVariants.{Done, Bytes, Names}
 use Rattle.assise_names.specs.declared.reply.TreeError.{TreeError}
 use Rattle.assise_names.specs.declared.reply.TreeError.TheVariants.{TooBig}
-use Rattle.assise_seq_tree.specs.Answer.{◌>>=◌, IsApartFrom, answer, room_at, file_at, entries_at, may_unlink, may_rmdir, reply_and_tree, description_of}
+use Rattle.assise_seq_tree.specs.Answer.{◌>>=◌, IsApartFrom, answer, room_at, file_at, entries_at, may_rename, may_unlink, may_rmdir, reply_and_tree, description_of}
 use Rattle.assise_seq_tree.specs.Contents.{bytes_from, overwritten, is_within, resized}
 use Rattle.assise_seq_tree.specs.Tree.{Tree, file, dir, Entries, no_entries, names_of, at, put, without, LieApart}
 use Rattle.assise_seq_tree.proofs.Moves.{Path, at-put_apart, at-without_apart}
@@ -51,6 +52,13 @@ removal_leaves : (t : Tree) (p q : Path) → LieApart p q → (r : Result (Unit 
 removal_leaves t p q h (Ok x) = at-without_apart p q t (step_apart p q h)
 removal_leaves t p q h (Err e) = refl
 
+rename_leaves : (t : Tree) (p r q : Path) → LieApart p q → LieApart r q → (may : Result (Unit {0}) TreeError) (found : Result Tree TreeError) (same : Bool)
+    → at (reply_and_tree t (may >>= λ _. found >>= λ moved. Ok (Done, cond same t (put (without t p) r moved)))).1 q ≡ at t q
+rename_leaves t p r q h k (Ok x) (Ok moved) true = refl
+rename_leaves t p r q h k (Ok x) (Ok moved) false = at-put_apart q r (without t p) moved (turned_apart r q k) ∙ at-without_apart p q t (step_apart p q h)
+rename_leaves t p r q h k (Ok x) (Err e) same = refl
+rename_leaves t p r q h k (Err e) found same = refl
+
 pub rest_is_left : (t u : Tree) (op : Op) (reply : Reply) (q : Path) → answer t op ≡ (reply, u) → IsApartFrom op q → at u q ≡ at t q
 rest_is_left t u (Create p) reply q h apart = ap (λ v. at v q) (second _ reply u h) ∙ making_leaves t (file []) p q apart (room_at t p)
 rest_is_left t u (Read p offset most) reply q h apart = ap (λ v. at v q) (second _ reply u h ∙ read_leaves t offset most (file_at t p))
@@ -62,3 +70,4 @@ rest_is_left t u (Unlink p) reply q h apart = ap (λ v. at v q) (second _ reply 
 rest_is_left t u (Rmdir p) reply q h apart = ap (λ v. at v q) (second _ reply u h) ∙ removal_leaves t p q apart (may_rmdir t p)
 rest_is_left t u (ListCall p) reply q h apart = ap (λ v. at v q) (second _ reply u h ∙ list_leaves t (entries_at t p))
 rest_is_left t u Fsync reply q h apart = ap (λ v. at v q) (second _ reply u h)
+rest_is_left t u (Rename p r) reply q h apart = ap (λ v. at v q) (second _ reply u h) ∙ rename_leaves t p r q apart.0 apart.1 (may_rename t p r) (at t p) (same_path p r)

@@ -13,3 +13,7 @@ pub mod Removing
 pub mod Listing
 pub mod Calls
 pub mod Limits
+pub mod Placing
+pub mod Checks
+pub mod Receiving
+pub mod CallLimits

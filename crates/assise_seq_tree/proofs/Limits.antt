@@ -1,11 +1,11 @@
--- No call leads out of the limits.
+-- What is put into a tree and taken out of it within the limits.
 use Rattle.std.proofs.Common.{◌≡◌, ◌≤◌, ◌<◌, ◌+◌, arith, ℕ, Bool, true, false, cond, ◌==◌, nat_le, is_some, List, [], ◌∷◌, ◌++◌, length, Some, Result, Ok, Err, Less, Equal, Greater, nat_cmp, refl, ap, sym, ◌∙◌, inl, inr, subst}
 use Rattle.std.specs.Ordering.{match_ordering}
 use Rattle.std.specs.Cmp.Lexicographic.{slice_cmp}
 use Rattle.std.proofs.lemmas.Bool.{cases_Bool}
 use Rattle.std.proofs.lemmas.Bool.Decides.{nat_tests}
 use Rattle.assise_names.specs.declared.call.Op.{Op}
-use Rattle.assise_names.specs.declared.call.Op.TheVariants.{Create, Mkdir, Read, Write, Truncate, Unlink, Rmdir, List as ListCall, Stat, Fsync}
+use Rattle.assise_names.specs.declared.call.Op.TheVariants.{Create, Mkdir, Read, Write, Truncate, Rename, Unlink, Rmdir, List as ListCall, Stat, Fsync}
 use Rattle.assise_names.specs.declared.reply.Reply.{Reply}
 use Rattle.assise_names.specs.declared.reply.Reply.TheVariants.{Done}
 use Rattle.assise_names.specs.declared.reply.TreeError.{TreeError}
@@ -21,7 +21,7 @@ use Rattle.assise_seq_tree.proofs.Resizing.{length-resized}
 use Rattle.assise_seq_tree.proofs.Calls.{second, read_leaves, list_leaves, stat_leaves}
 
 -- ---- entries
-count-replace : (n : List ℕ) (x : Tree) (es : Entries) → count (replace n x es) ≡ count es
+pub count-replace : (n : List ℕ) (x : Tree) (es : Entries) → count (replace n x es) ≡ count es
 count-replace n x no_entries = refl
 count-replace n x (entry k t es) =
     elim (same_name n k) as (λ b. count (cond b (entry k x es) (entry k t (replace n x es))) ≡ count es + 1) [
@@ -73,7 +73,7 @@ within-set n x es room s o =
 within-replaced : (n : List ℕ) (x : Tree) (es : Entries) → IsWithinLimits (dir es) → IsWithinLimits x → IsWithinLimits (dir (replace n x es))
 within-replaced n x es s o = (omega (arith, s.0, count-replace n x es), within-replace n x es s.1 o)
 
-count-remove : (n : List ℕ) (es : Entries) → count (remove n es) ≤ count es
+pub count-remove : (n : List ℕ) (es : Entries) → count (remove n es) ≤ count es
 count-remove n no_entries = omega arith
 count-remove n (entry k t es) =
     elim (same_name n k) as (λ b. count (cond b es (entry k t (remove n es))) ≤ count es + 1) [
@@ -98,7 +98,7 @@ within_below n es s =
 
 -- ---- paths
 -- what stands there is replaced
-put_there : (p : Path) (t x u : Tree) → at t p ≡ Ok u → IsWithinLimits t → IsWithinLimits x → IsWithinLimits (put t p x)
+pub put_there : (p : Path) (t x u : Tree) → at t p ≡ Ok u → IsWithinLimits t → IsWithinLimits x → IsWithinLimits (put t p x)
 unfolding at put
 put_there [] t x u h s o = o
 put_there (n ∷ p) (file bytes) x u h s o = s
@@ -111,7 +111,7 @@ put_there (n ∷ p) (dir es) x u h s o =
     ]
 
 -- what is new has a parent with room
-put_new : (p : Path) (n : List ℕ) (t x : Tree) (es : Entries) → at t p ≡ Ok (dir es) → count es < 4096 → IsWithinLimits t → IsWithinLimits x → IsWithinLimits (put t (p ++ n ∷ []) x)
+pub put_new : (p : Path) (n : List ℕ) (t x : Tree) (es : Entries) → at t p ≡ Ok (dir es) → count es < 4096 → IsWithinLimits t → IsWithinLimits x → IsWithinLimits (put t (p ++ n ∷ []) x)
 unfolding at put
 put_new [] n (file bytes) x es h room s o = cc
 put_new [] n (dir fs) x es h room s o = let one : fs ≡ es = cc in within-set n x fs (omega (arith, room, ap count one)) s.1 o
@@ -125,49 +125,14 @@ put_new (k ∷ p) n (dir fs) x es h room s o =
     ]
 
 -- what is taken out leaves no more than there was
-within-without : (p : Path) (t : Tree) → IsWithinLimits t → IsWithinLimits (without t p)
+pub within-without : (p : Path) (t : Tree) → IsWithinLimits t → IsWithinLimits (without t p)
 unfolding without
 within-without [] t s = s
 within-without (n ∷ p) (file bytes) s = s
 within-without (n ∷ []) (dir es) s = (omega (arith, s.0, count-remove n es), within-remove n es s.1)
 within-without (n ∷ k ∷ p) (dir es) s = within-replaced n (without (below n es) (k ∷ p)) es s (within-without (k ∷ p) (below n es) (within_below n es s.1))
 
--- ---- what the checks found
-some_room : (b c : Bool) (r : Result (Unit {0}) TreeError) → cond b (Err Exists) (cond c (Err DirFull) r) ≡ Ok tt → c ≡ false
-some_room true c r h = cc
-some_room false true r h = cc
-some_room false false r h = refl
-
-has_room : (r : Result Tree TreeError) (name : List ℕ) → (r >>= λ found. as_directory found >>= λ es. room_for name es) ≡ Ok tt → (es : Entries) × ((r ≡ Ok (dir es)) × (count es < 4096))
-has_room (Ok (file bytes)) name h = cc
-has_room (Ok (dir es)) name h =
-    let room = some_room (is_some (find name es)) (nat_le 4096 (count es)) (Ok tt) h in
-    (es, (refl, grind (arith, nat_tests)))
-has_room (Err e) name h = cc
-
-not_root : (b : Bool) (r : Result (Unit {0}) TreeError) → cond b (Err Exists) r ≡ Ok tt → r ≡ Ok tt
-not_root true r h = cc
-not_root false r h = h
-
-put_made : (t x : Tree) (p : Path) → room_at t p ≡ Ok tt → IsWithinLimits t → IsWithinLimits x → IsWithinLimits (put t p x)
-put_made t x [] h s o = cc
-put_made t x (n ∷ p) h s o =
-    let found = has_room (at t (parent_of (n ∷ p))) (last_name (n ∷ p)) (not_root (length (n ∷ p) == 0) (at t (parent_of (n ∷ p)) >>= λ found. as_directory found >>= λ es. room_for (last_name (n ∷ p)) es) h) in
-    let parts = parent_and_last (n ∷ p) (omega arith) in
-    subst (λ q. IsWithinLimits (put t q x)) (sym parts) (put_new (parent_of (n ∷ p)) (last_name (n ∷ p)) t x found.0 found.1.0 found.1.1 s o)
-
--- ---- calls
--- create and mkdir
-made : (t x : Tree) (p : Path) (r : Result (Unit {0}) TreeError) → room_at t p ≡ r → IsWithinLimits t → IsWithinLimits x → IsWithinLimits (reply_and_tree t (r >>= λ _. Ok (Done, put t p x))).1
-made t x p (Ok y) is s o = put_made t x p is s o
-made t x p (Err e) is s o = s
-
-fits_in : (t : Tree) (p : Path) (offset : ℕ) (new bytes : List ℕ) → at t p ≡ Ok (file bytes) → is_within offset new ≡ true → IsWithinLimits t → IsWithinLimits (file bytes) → IsWithinLimits (put t p (file (overwritten bytes offset new)))
-fits_in t p offset new bytes there fits s old =
-    let end : offset + length new ≤ 1048576 = grind (arith, nat_tests) in
-    put_there p t (file (overwritten bytes offset new)) (file bytes) there s (omega (arith, end, old, length-overwritten bytes offset new))
-
-within-at : (p : Path) (t u : Tree) → at t p ≡ Ok u → IsWithinLimits t → IsWithinLimits u
+pub within-at : (p : Path) (t u : Tree) → at t p ≡ Ok u → IsWithinLimits t → IsWithinLimits u
 unfolding at
 within-at [] t u h s = let one : t ≡ u = cc in subst IsWithinLimits one s
 within-at (n ∷ p) (file bytes) u h s = cc
@@ -176,40 +141,3 @@ within-at (n ∷ p) (dir es) u h s =
       | inl none ↦ let no = rw none at h in cc
       | inr some ↦ within-at p some.0 u (rw some.1 at h) (within-find n es some.0 s.1 some.1)
     ]
-
-written : (t : Tree) (p : Path) (offset : ℕ) (new : List ℕ) (r : Result (List ℕ) TreeError) (fits none : Bool) → file_at t p ≡ r → is_within offset new ≡ fits → IsWithinLimits t
-    → IsWithinLimits (reply_and_tree t (r >>= λ bytes. cond fits (Ok (Done, cond none t (put t p (file (overwritten bytes offset new))))) (Err TooBig))).1
-written t p offset new (Ok bytes) true true is fits s = s
-written t p offset new (Ok bytes) true false is fits s =
-    let there = file_there (at t p) bytes is in
-    fits_in t p offset new bytes there fits s (within-at p t (file bytes) there s)
-written t p offset new (Ok bytes) false none is fits s = s
-written t p offset new (Err e) fits none is f s = s
-
-resized_within : (t : Tree) (p : Path) (size : ℕ) (bytes : List ℕ) → at t p ≡ Ok (file bytes) → nat_le size 1048576 ≡ true → IsWithinLimits t → IsWithinLimits (put t p (file (resized bytes size)))
-resized_within t p size bytes there fits s =
-    let end : size ≤ 1048576 = grind (arith, nat_tests) in
-    put_there p t (file (resized bytes size)) (file bytes) there s (omega (arith, end, length-resized bytes size))
-
-truncated : (t : Tree) (p : Path) (size : ℕ) (r : Result (List ℕ) TreeError) (fits : Bool) → file_at t p ≡ r → nat_le size 1048576 ≡ fits → IsWithinLimits t
-    → IsWithinLimits (reply_and_tree t (r >>= λ bytes. cond fits (Ok (Done, put t p (file (resized bytes size)))) (Err TooBig))).1
-truncated t p size (Ok bytes) true is fits s = resized_within t p size bytes (file_there (at t p) bytes is) fits s
-truncated t p size (Ok bytes) false is fits s = s
-truncated t p size (Err e) fits is f s = s
-
--- unlink and rmdir
-removed : (t : Tree) (p : Path) (r : Result (Unit {0}) TreeError) → IsWithinLimits t → IsWithinLimits (reply_and_tree t (r >>= λ _. Ok (Done, without t p))).1
-removed t p (Ok x) s = within-without p t s
-removed t p (Err e) s = s
-
-pub limits_kept : (t u : Tree) (op : Op) (reply : Reply) → answer t op ≡ (reply, u) → IsWithinLimits t → IsWithinLimits u
-limits_kept t u (Create p) reply h s = subst IsWithinLimits (sym (second _ reply u h)) (made t (file []) p (room_at t p) refl s (omega arith))
-limits_kept t u (Read p offset most) reply h s = subst IsWithinLimits (sym (second _ reply u h ∙ read_leaves t offset most (file_at t p))) s
-limits_kept t u (Write p offset new) reply h s = subst IsWithinLimits (sym (second _ reply u h)) (written t p offset new (file_at t p) (is_within offset new) (length new == 0) refl refl s)
-limits_kept t u (Stat p) reply h s = subst IsWithinLimits (sym (second _ reply u h ∙ stat_leaves t (at t p))) s
-limits_kept t u (Mkdir p) reply h s = subst IsWithinLimits (sym (second _ reply u h)) (made t (dir no_entries) p (room_at t p) refl s (omega arith, tt))
-limits_kept t u (Truncate p size) reply h s = subst IsWithinLimits (sym (second _ reply u h)) (truncated t p size (file_at t p) (nat_le size 1048576) refl refl s)
-limits_kept t u (Unlink p) reply h s = subst IsWithinLimits (sym (second _ reply u h)) (removed t p (may_unlink t p) s)
-limits_kept t u (Rmdir p) reply h s = subst IsWithinLimits (sym (second _ reply u h)) (removed t p (may_rmdir t p) s)
-limits_kept t u (ListCall p) reply h s = subst IsWithinLimits (sym (second _ reply u h ∙ list_leaves t (entries_at t p))) s
-limits_kept t u Fsync reply h s = subst IsWithinLimits (sym (second _ reply u h)) s

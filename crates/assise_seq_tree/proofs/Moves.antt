@@ -31,7 +31,7 @@ find_set_other : (q n : List ℕ) (x : Tree) (es : Entries) → same_name q n �
 find_set_other q n x es apart = find-set q n x es ∙ ap (λ b. cond b (Some x) (find q es)) apart
 
 -- entries in any order
-find_remove_other : (q n : List ℕ) (es : Entries) → same_name q n ≡ false → find q (remove n es) ≡ find q es
+pub find_remove_other : (q n : List ℕ) (es : Entries) → same_name q n ≡ false → find q (remove n es) ≡ find q es
 find_remove_other q n no_entries apart = refl
 find_remove_other q n (entry k t es) apart =
     elim (cases_Bool (same_name n k)) [
@@ -57,7 +57,7 @@ replace_absent n x (entry k t es) h =
 pub find_replace_there : (q n : List ℕ) (x u : Tree) (es : Entries) → find n es ≡ Some u → find q (replace n x es) ≡ cond (same_name q n) (Some x) (find q es)
 find_replace_there q n x u es there = find-replace_any q n x es (ap is_some there)
 
-find_replace_other : (q n : List ℕ) (x : Tree) (es : Entries) → same_name q n ≡ false → find q (replace n x es) ≡ find q es
+pub find_replace_other : (q n : List ℕ) (x : Tree) (es : Entries) → same_name q n ≡ false → find q (replace n x es) ≡ find q es
 find_replace_other q n x es apart =
     elim (cases_option (find n es)) [
       | inl none ↦ ap (find q) (replace_absent n x es none)

@@ -1,8 +1,9 @@
 -- What each call answers, and the tree that it leaves.
--- POSIX.1-2017, system interfaces: open() with O_CREAT and O_EXCL, mkdir(), read(), write(), truncate(), unlink(), rmdir(), readdir(), stat(), fsync(); base definitions: 4.13 Pathname Resolution.
-use Rattle.std.specs.Prelude.{ℕ, ◌-◌, if◌then◌else◌, nat_le, ◌==◌, List, [], length, take, slice_index_or, is_some, Result, Ok, Err}
+-- POSIX.1-2017, system interfaces: open() with O_CREAT and O_EXCL, mkdir(), read(), write(), truncate(), rename(), unlink(), rmdir(), readdir(), stat(), fsync(); base definitions: 4.13 Pathname Resolution.
+use Rattle.std.specs.Prelude.{ℕ, ◌-◌, Bool, ◌||◌, if◌then◌else◌, nat_le, ◌==◌, List, [], length, take, slice_index_or, is_some, Option, Some, None, Result, Ok, Err}
+use Rattle.assise_names.specs.Path.{is_proper_front, same_path}
 use Rattle.assise_names.specs.declared.call.Op.{Op}
-use Rattle.assise_names.specs.declared.call.Op.TheVariants.{Create, Mkdir, Read, Write, Truncate, Unlink, Rmdir, List as ListCall, Stat, Fsync}
+use Rattle.assise_names.specs.declared.call.Op.TheVariants.{Create, Mkdir, Read, Write, Truncate, Rename, Unlink, Rmdir, List as ListCall, Stat, Fsync}
 use Rattle.assise_names.specs.declared.reply.Reply.{Reply}
 use Rattle.assise_names.specs.declared.reply.Reply.TheVariants.{Done, Bytes, Names, File, Dir, Error}
 use Rattle.assise_names.specs.declared.reply.TreeError.{TreeError}
@@ -59,6 +60,24 @@ vacant es = if count es == 0 then Ok tt else Err NotEmpty
 abbrev pub may_rmdir : Tree → List (List ℕ) → Result (Unit {0}) TreeError
 may_rmdir t p = if length p == 0 then Err Invalid else (entries_at t p >>= λ es. vacant es)
 
+-- a file may take the place of a file, and a directory that of a directory without entries
+abbrev pub may_replace : Tree → Tree → Result (Unit {0}) TreeError
+may_replace (file bytes) target = as_file target >>= λ _. Ok tt
+may_replace (dir es) target = as_directory target >>= λ fs. vacant fs
+
+-- a directory takes the tree under a name: what stands there is replaced, and a new entry needs room unless the tree stays in its directory
+abbrev pub may_receive : Tree → Bool → Entries → Option Tree → Result (Unit {0}) TreeError
+may_receive moved stays es (Some target) = may_replace moved target
+may_receive moved stays es None = if stays then Ok tt else (if nat_le 4096 (count es) then Err DirFull else Ok tt)
+
+-- what stands at p may be moved to q
+abbrev pub may_rename : Tree → List (List ℕ) → List (List ℕ) → Result (Unit {0}) TreeError
+may_rename t p q =
+    if (length p == 0) || (length q == 0) then Err Invalid
+    else (if is_proper_front p q then Err Invalid
+    else (at t p >>= λ moved. entries_at t (parent_of q) >>= λ es.
+      if same_path p q then Ok tt else may_receive moved (same_path (parent_of p) (parent_of q)) es (find (last_name q) es)))
+
 -- ---- one definition for each call
 
 -- where a check fails, the error is the reply and the tree stays
@@ -85,6 +104,13 @@ write_answer t p offset new = reply_and_tree t (file_at t p >>= λ bytes. if is_
 abbrev pub truncate_answer : Tree → List (List ℕ) → ℕ → Reply × Tree
 truncate_answer t p size = reply_and_tree t (file_at t p >>= λ bytes. if nat_le size 1048576 then Ok (Done, put t p (file (resized bytes size))) else Err TooBig)
 
+-- moved to its own path it stays
+abbrev pub tree_after_rename : Tree → List (List ℕ) → List (List ℕ) → Tree → Tree
+tree_after_rename t p q moved = if same_path p q then t else put (without t p) q moved
+
+abbrev pub rename_answer : Tree → List (List ℕ) → List (List ℕ) → Reply × Tree
+rename_answer t p q = reply_and_tree t (may_rename t p q >>= λ _. at t p >>= λ moved. Ok (Done, tree_after_rename t p q moved))
+
 abbrev pub unlink_answer : Tree → List (List ℕ) → Reply × Tree
 unlink_answer t p = reply_and_tree t (may_unlink t p >>= λ _. Ok (Done, without t p))
 
@@ -109,19 +135,21 @@ answer t (Mkdir p) = mkdir_answer t p
 answer t (Read p offset most) = read_answer t p offset most
 answer t (Write p offset new) = write_answer t p offset new
 answer t (Truncate p size) = truncate_answer t p size
+answer t (Rename p q) = rename_answer t p q
 answer t (Unlink p) = unlink_answer t p
 answer t (Rmdir p) = rmdir_answer t p
 answer t (ListCall p) = list_answer t p
 answer t (Stat p) = stat_answer t p
 answer t Fsync = (Done, t)
 
--- the path lies apart from the one that the call names, if it names one
+-- the path lies apart from those that the call names
 abbrev pub IsApartFrom : Op → List (List ℕ) → Type 0
 IsApartFrom (Create p) q = LieApart p q
 IsApartFrom (Mkdir p) q = LieApart p q
 IsApartFrom (Read p offset most) q = LieApart p q
 IsApartFrom (Write p offset new) q = LieApart p q
 IsApartFrom (Truncate p size) q = LieApart p q
+IsApartFrom (Rename p r) q = LieApart p q × LieApart r q
 IsApartFrom (Unlink p) q = LieApart p q
 IsApartFrom (Rmdir p) q = LieApart p q
 IsApartFrom (ListCall p) q = LieApart p q

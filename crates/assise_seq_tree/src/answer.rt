@@ -6,6 +6,7 @@ ghost use Rattle.assise_seq_tree.specs.Answer.{answer, create_answer, entries_at
 ghost use Rattle.assise_seq_tree.specs.View.{entries_of};
 
 use crate::contents::{MOST_FILE_BYTES, bytes_from, is_within};
+use crate::renaming::rename;
 use crate::tree::Tree;
 use assise_names::byte_string::ByteString;
 use assise_names::call::Op;
@@ -34,6 +35,12 @@ pub const MOST_ENTRIES: usize = 4096;
 ///   [`TreeError::TooBig`]. A gap before the bytes is filled with zeros. Without bytes nothing is written.
 /// - [`Op::Truncate`]: the walk; a directory is [`TreeError::IsDir`]; more than 1,048,576 bytes are
 ///   [`TreeError::TooBig`]. A file that grows is filled with zeros.
+/// - [`Op::Rename`]: the root, as either path, is [`TreeError::Invalid`], and so is a move of a directory into itself; the
+///   walk of the path; the walk to the other's parent, which has to be a directory ([`TreeError::NotDir`]). Where both
+///   paths are the same, it is done. What stands at the other path is replaced: a directory in the way of a file is
+///   [`TreeError::IsDir`], a file in the way of a directory [`TreeError::NotDir`], a directory with entries
+///   [`TreeError::NotEmpty`]. Where nothing stands there, another directory of 4,096 entries is
+///   [`TreeError::DirFull`].
 /// - [`Op::Unlink`]: the root is [`TreeError::IsDir`]; the walk; a directory is [`TreeError::IsDir`].
 /// - [`Op::Rmdir`]: the root is [`TreeError::Invalid`]; the walk; a file is [`TreeError::NotDir`]; a directory with
 ///   entries is [`TreeError::NotEmpty`].
@@ -60,6 +67,7 @@ pub fn answer(alloc: Global, tree: &mut Tree, op: &Op) -> Result<Reply, Refusal>
             bytes.as_slice(),
         ),
         Op::Truncate(path, size) => truncate(alloc, tree, path.names(), *size),
+        Op::Rename(from, to) => rename(alloc, tree, from, to),
         Op::Unlink(path) => Ok(unlink(tree, path.names())),
         Op::Rmdir(path) => Ok(rmdir(tree, path.names())),
         Op::List(path) => list(alloc, tree, path.names()),
@@ -210,7 +218,7 @@ fn file_at<'a>(tree: &'a Tree, names: &[Name]) -> Result<&'a [u8], TreeError>
 }
 
 /// The entries of the directory at a path.
-fn entries_at<'a>(tree: &'a Tree, names: &[Name]) -> Result<&'a BTreeMap<Name, Tree>, TreeError>
+pub(crate) fn entries_at<'a>(tree: &'a Tree, names: &[Name]) -> Result<&'a BTreeMap<Name, Tree>, TreeError>
     ensures { MatchResult result (λ m. entries_at tree.now names.now ≡ Ok (entries_of m.now.entries)) (λ e. entries_at tree.now names.now ≡ Err e) }
 {
     tree.at(names)?.entries()
@@ -239,7 +247,7 @@ fn may_rmdir(tree: &Tree, names: &[Name]) -> Result<(), TreeError>
 
 /// Whether there are no entries.
 #[tactic(auto, using(crate::proofs::Entries::entry_facts))]
-fn vacant(entries: &BTreeMap<Name, Tree>) -> Result<(), TreeError>
+pub(crate) fn vacant(entries: &BTreeMap<Name, Tree>) -> Result<(), TreeError>
     ensures { result ≡ vacant (entries_of entries.now.entries) }
 {
     if entries.is_empty() {

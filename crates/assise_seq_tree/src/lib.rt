@@ -4,6 +4,7 @@
 pub mod answer;
 pub mod contents;
 pub mod laws;
+mod renaming;
 #[cfg(test)]
 mod tests;
 pub mod tree;

@@ -1,11 +1,12 @@
 // A tree of files and directories, and the walks along a path.
 ghost use Rattle.std.specs.Prelude.{◌≡◌, ◌+◌, ◌^◌, ◌<◌, IsOkUnless, List, MatchResult, OnErr, OnOk, [], length, ℕ};
 ghost use Rattle.assise_names.specs.declared.refusal.Refusal.TheVariants.{OutOfMemory};
-ghost use Rattle.assise_seq_tree.specs.Answer.{as_directory, as_file, description_of};
+ghost use Rattle.assise_seq_tree.specs.Answer.{as_directory, as_file, description_of, may_replace, parent_of};
 ghost use Rattle.assise_seq_tree.specs.Contents.{overwritten, resized};
-ghost use Rattle.assise_seq_tree.specs.Tree.{at, file, opening, put, without};
+ghost use Rattle.assise_seq_tree.specs.Tree.{LieApart, at, dir, file, opening, put, without};
 ghost use Rattle.assise_seq_tree.specs.View.{entries_of};
 
+use crate::answer::vacant;
 use crate::contents;
 use assise_names::name::Name;
 use assise_names::refusal::Refusal;
@@ -123,6 +124,20 @@ impl Tree {
         }
     }
 
+    /// Whether a tree may stand in the place of this one. A directory in the place of a file is [`TreeError::IsDir`], a
+    /// file in that of a directory [`TreeError::NotDir`], and a directory with entries [`TreeError::NotEmpty`].
+    pub(crate) fn may_be_replaced(&self, moved: &Tree) -> Result<(), TreeError>
+        ensures { result ≡ may_replace moved.now self.now }
+    {
+        match &moved.node {
+            Node::File(_) => {
+                self.bytes()?;
+                Ok(())
+            }
+            Node::Directory(_) => vacant(self.entries()?),
+        }
+    }
+
     /// Puts a tree at a path. A directory that is missing on the way is made.
     pub(crate) fn put(&mut self, alloc: Global, names: &[Name], tree: Tree) -> Result<(), Refusal>
         ensures ok { OnOk result (self.new ≡ put self.old names.now tree) }
@@ -192,6 +207,29 @@ impl Tree {
                 }
             }
         }
+    }
+
+    /// Moves the tree at a path to another, where the parent of that is a directory and neither path begins with the
+    /// other. What stood there is gone. The one refusal is [`Refusal::OutOfMemory`], and it leaves the tree as it was.
+    pub(crate) fn move_entry(
+        &mut self,
+        alloc: Global,
+        from: &[Name],
+        to: &[Name],
+    ) -> Result<(), Refusal>
+        requires apart { LieApart from.now to.now }
+        requires parent { (es : _) × (at self.old (parent_of to.now) ≡ Ok (dir es)) }
+        ensures ok { (moved : _) → at self.old from.now ≡ Ok moved → OnOk result (self.new ≡ put (without self.old from.now) to.now moved) }
+        ensures err { OnErr result (self.new ≡ self.old) }
+        ensures only_memory { IsOkUnless result OutOfMemory }
+    {
+        let _ = &self.node;
+        // Only this step takes memory. What stands there from then on is exchanged in its place.
+        self.put(alloc, to, Tree::new(alloc))?;
+        if let Some(mut moved) = self.take(from) {
+            self.swap(to, &mut moved);
+        }
+        Ok(())
     }
 
     /// Writes into the file of which this tree consists, if it is one.

@@ -1,4 +1,4 @@
-use Rattle.assise_seq_tree.proofs.Limits.{limits_kept}
+use Rattle.assise_seq_tree.proofs.CallLimits.{limits_kept}
 use Rattle.assise_seq_tree.proofs.laws.limits_hold.Goals as goal
 
 pub returns-clause-kept : goal.returns-clause-kept
