@@ -2,7 +2,7 @@
 use Rattle.std.specs.Prelude.{◌≡◌, ℕ, ◌+◌, Bool, true, false, not, ◌&&◌, ◌==◌, nat_lt, if◌then◌else◌, List, [], ◌∷◌, ◌++◌, map, filter, length, Option, Some, None}
 use Rattle.std.specs.List.{list_any, list_all}
 use Rattle.assise_names.specs.declared.call.Op.{Op}
-use Rattle.assise_names.specs.declared.call.Op.TheVariants.{Create, Read, Write, Stat}
+use Rattle.assise_names.specs.declared.call.Op.TheVariants.{Create, Mkdir, Read, Write, Truncate, Unlink, Rmdir, List as ListCall, Stat, Fsync}
 use Rattle.assise_seq_tree.specs.Tree.{opening}
 use Rattle.assise_history.specs.declared.call.Call.{Call}
 use Rattle.assise_history.specs.declared.call.Loss.{Loss}
@@ -18,12 +18,18 @@ pub record Summary : Type 0 where
 abbrev pub nothing_yet : Summary
 nothing_yet = record { clients = []; down = [] }
 
--- the call is answered once the log is replicated: no call is, until `fsync` joins them
+-- the call is answered once all calls before it are replicated
 abbrev pub is_fsync : Op → Bool
 is_fsync (Create p) = false
+is_fsync (Mkdir p) = false
 is_fsync (Read p o n) = false
 is_fsync (Write p o d) = false
+is_fsync (Truncate p n) = false
+is_fsync (Unlink p) = false
+is_fsync (Rmdir p) = false
+is_fsync (ListCall p) = false
 is_fsync (Stat p) = false
+is_fsync Fsync = true
 
 abbrev pub newly_opened : ℕ → ℕ → ClientSummary
 newly_opened c n = record { client = c; node = n; last = None; synced = None; crashed = false; failed = false }

@@ -109,9 +109,15 @@ fn is_fsync(op: &Op) -> bool
 {
     match op {
         Op::Create(_) => false,
+        Op::Mkdir(_) => false,
         Op::Read(_, _, _) => false,
         Op::Write(_, _, _) => false,
+        Op::Truncate(_, _) => false,
+        Op::Unlink(_) => false,
+        Op::Rmdir(_) => false,
+        Op::List(_) => false,
         Op::Stat(_) => false,
+        Op::Fsync => true,
     }
 }
 
