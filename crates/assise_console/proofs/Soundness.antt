@@ -69,7 +69,7 @@ keeps_called s op (Some made) there k =
       run = rw same run;
       tree = ap (λ t. (answer t op).1) k.tree ∙ sym (tree_after-push opening (kept s.events) x) ∙ ap (tree_after opening) (sym same);
       client = subst (λ b. MatchBool b (IsOpenAfter (s.calls + 1) (summary (s.events ++ e ∷ []))) ((summary (s.events ++ e ∷ []) ≡ nothing_yet) × (s.calls + 1 ≡ 0))) (sym there)
-      (if is_fsync op then Some s.calls else known.0, summary-push s.events e ∙ ap (λ m. after m e) known.1 ∙ after_call s op known.0);
+          (if is_fsync op then Some s.calls else known.0, summary-push s.events e ∙ ap (λ m. after m e) known.1 ∙ after_call s op known.0);
     }
 
 -- ---- each step, and a whole run

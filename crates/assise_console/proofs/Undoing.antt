@@ -1,8 +1,9 @@
 -- Effects made one after another, and those that are undone where one inode is taken out.
-use Rattle.std.proofs.Common.{◌≡◌, ℕ, zero, suc, ◌+◌, ◌<◌, ◌==◌, if◌then◌else◌, cond, List, [], ◌∷◌, ◌++◌, length, take, slice_index_or, None, refl, ap, sym, subst, ◌∙◌, inl, inr, arith}
+use Rattle.std.proofs.Common.{◌≡◌, ℕ, zero, suc, ◌+◌, ◌<◌, ◌==◌, if◌then◌else◌, cond, List, [], ◌∷◌, ◌++◌, length, take, slice_index_or, None, Result, Ok, Err, refl, ap, sym, subst, ◌∙◌, inl, inr, arith}
 use Rattle.std.proofs.lemmas.Bool.{eq-eqb, ne_eqb, cases_eq}
 use Rattle.std.proofs.lemmas.List.{take_more}
 use Rattle.std.specs.Cmp.{nat_cmp_total}
+use Rattle.std.specs.Prelude.{IsOk}
 use Rattle.std.specs.FinMap as map
 use Rattle.assise_record.specs.declared.effect.Effect.{Effect}
 use Rattle.assise_record.specs.Touched.{touched_by}
@@ -72,3 +73,7 @@ remove_made m (x ∷ es) (suc k) i e (inr t) h is grows = absurd (grows (takes_a
 pub undone : (m : InodeMap) (es : List Effect) (k i : ℕ) (e : Effect) → map.get m i ≡ None → CanBeUndone i es → k < length es → e ≡ slice_index_or es k e → (TakesAway e → ⊥) →
     map.remove (all_applied m (take k es)) i ≡ m
 undone m es k i e none t h is grows = remove_made m es k i e t h is grows ∙ remove_absent m i none
+
+pub not_refused : {A E : Type 0} (r : Result A E) (e : E) → r ≡ Err e → IsOk r → ⊥
+not_refused (Ok x) e is done = cc
+not_refused (Err f) e is done = cc

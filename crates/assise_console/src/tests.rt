@@ -199,9 +199,7 @@ fn a_directory_is_full_with_4096_entries(rt: HostRuntime) -> Result<(), Fail> {
         wanted.push_str(done.as_str())?;
     }
     script.push_str("1 create /x\n1 mkdir /x\n1 unlink /f7\n1 mkdir /x\n1 create /x/y\n")?;
-    wanted.push_str(
-        "4099: E8 DirFull\n4100: E8 DirFull\n4101: done\n4102: done\n4103: done\n",
-    )?;
+    wanted.push_str("4099: E8 DirFull\n4100: E8 DirFull\n4101: done\n4102: done\n4103: done\n")?;
     assert!(rt; prints(&rt, script.as_str(), wanted.as_str())?);
     Ok(())
 }

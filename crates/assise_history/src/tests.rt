@@ -7,6 +7,8 @@ use crate::kept::kept;
 use crate::replay::replay;
 use assise_names::byte_string::ByteString;
 use assise_names::call::Op;
+use assise_names::name::Name;
+use assise_names::name_list::NameList;
 use assise_names::path::Path;
 use assise_names::reply::{Reply, TreeError};
 use std::test::Fail;
@@ -16,9 +18,15 @@ use std::test::Fail;
 enum Step {
     Open(u32, u32),
     Create(u32, u64, &'static str),
+    Mkdir(u32, u64, &'static str),
     Write(u32, u64, &'static str, u64, &'static [u8]),
     Read(u32, u64, &'static str, u64, &'static [u8]),
+    Truncate(u32, u64, &'static str, u64),
+    Unlink(u32, u64, &'static str),
+    Rmdir(u32, u64, &'static str),
+    List(u32, u64, &'static str, &'static [&'static str]),
     Stat(u32, u64, &'static str, Found),
+    Fsync(u32, u64),
     Crash(u32),
     Fail(u32),
     /// The client, and its first lost call.
@@ -28,7 +36,10 @@ enum Step {
     Back(u32),
 }
 
-use Step::{Back, Crash, Create, Fail as Failed, FailFrom, FailPair, Open, Read, Stat, Write};
+use Step::{
+    Back, Crash, Create, Fail as Failed, FailFrom, FailPair, Fsync, List, Mkdir, Open, Read, Rmdir,
+    Stat, Truncate, Unlink, Write,
+};
 
 /// What a stat answers.
 #[derive(Clone, Copy)]
@@ -63,41 +74,61 @@ fn bytes(rt: &HostRuntime, bytes: &[u8]) -> Result<ByteString, Fail> {
     Ok(ByteString::from_vec(bytes.to_vec(rt.alloc())?))
 }
 
+fn names(rt: &HostRuntime, texts: &[&str]) -> Result<NameList, Fail> {
+    let mut names = Vec::new(rt.alloc());
+    for text in texts {
+        names.push(Name::parse(rt.alloc(), text)?)?;
+    }
+    Ok(NameList::from_vec(names))
+}
+
+/// A call that is done.
+fn done(client: u32, number: u64, op: Op) -> Entry {
+    called(client, number, op, Reply::Done)
+}
+
 fn entry(rt: &HostRuntime, step: Step) -> Result<Entry, Fail> {
     match step {
         Open(client, node) => Ok(Entry::open(client, node)),
-        Create(client, number, name) => {
-            Ok(called(client, number, Op::Create(path(rt, name)?), Reply::Done))
-        }
+        Create(client, number, name) => Ok(done(client, number, Op::Create(path(rt, name)?))),
+        Mkdir(client, number, name) => Ok(done(client, number, Op::Mkdir(path(rt, name)?))),
         Write(client, number, name, offset, new) => {
             let op = Op::Write(path(rt, name)?, offset, bytes(rt, new)?);
-            Ok(called(client, number, op, Reply::Done))
+            Ok(done(client, number, op))
         }
         Read(client, number, name, length, read) => {
             let op = Op::Read(path(rt, name)?, 0, length);
             Ok(called(client, number, op, Reply::Bytes(bytes(rt, read)?)))
         }
+        Truncate(client, number, name, size) => {
+            Ok(done(client, number, Op::Truncate(path(rt, name)?, size)))
+        }
+        Unlink(client, number, name) => Ok(done(client, number, Op::Unlink(path(rt, name)?))),
+        Rmdir(client, number, name) => Ok(done(client, number, Op::Rmdir(path(rt, name)?))),
+        List(client, number, name, texts) => {
+            let op = Op::List(path(rt, name)?);
+            Ok(called(client, number, op, Reply::Names(names(rt, texts)?)))
+        }
         Stat(client, number, name, found) => {
             Ok(called(client, number, Op::Stat(path(rt, name)?), reply(found)))
         }
+        Fsync(client, number) => Ok(done(client, number, Op::Fsync)),
         Crash(client) => Ok(Entry::crash(client)),
         Failed(node) => Ok(Entry::fail(node, Vec::new(rt.alloc()))),
-        FailFrom(node, client, first) => {
-            let losses = [Loss { client, first }];
-            Ok(Entry::fail(node, losses.to_vec(rt.alloc())?))
-        }
+        FailFrom(node, client, first) => failure(rt, node, &[Loss { client, first }]),
         FailPair(node, client, first, other, other_first) => {
-            let losses = [
-                Loss { client, first },
-                Loss {
-                    client: other,
-                    first: other_first,
-                },
-            ];
-            Ok(Entry::fail(node, losses.to_vec(rt.alloc())?))
+            let other = Loss {
+                client: other,
+                first: other_first,
+            };
+            failure(rt, node, &[Loss { client, first }, other])
         }
         Back(node) => Ok(Entry::back(node)),
     }
+}
+
+fn failure(rt: &HostRuntime, node: u32, losses: &[Loss]) -> Result<Entry, Fail> {
+    Ok(Entry::fail(node, losses.to_vec(rt.alloc())?))
 }
 
 /// A history of these entries.
@@ -171,6 +202,46 @@ static BOTH_LOST: [Step; 8] = [
     Stat(3, 0, "/b", Found::Nothing),
 ];
 
+/// A failure takes what a client called behind its last fsync.
+static SYNCED: [Step; 8] = [
+    Open(1, 1),
+    Create(1, 0, "/a"),
+    Fsync(1, 1),
+    Create(1, 2, "/b"),
+    FailFrom(1, 1, 2),
+    Open(2, 2),
+    Stat(2, 0, "/a", Found::File(0)),
+    Stat(2, 1, "/b", Found::Nothing),
+];
+
+/// A failure takes all calls of a client, and another client of the node had its own fsync.
+static SYNCED_BY_ANOTHER: [Step; 7] = [
+    Open(1, 1),
+    Open(2, 1),
+    Create(1, 0, "/a"),
+    Fsync(2, 0),
+    FailFrom(1, 1, 0),
+    Open(3, 2),
+    Stat(3, 0, "/a", Found::Nothing),
+];
+
+/// A directory is filled, listed, emptied and removed.
+static FILLED_AND_REMOVED: [Step; 13] = [
+    Open(1, 1),
+    Mkdir(1, 0, "/d"),
+    Create(1, 1, "/d/b"),
+    Create(1, 2, "/d/B"),
+    List(1, 3, "/d", &["B", "b"]),
+    Truncate(1, 4, "/d/b", 2),
+    Read(1, 5, "/d/b", 9, b"\0\0"),
+    Unlink(1, 6, "/d/b"),
+    Unlink(1, 7, "/d/B"),
+    List(1, 8, "/d", &[]),
+    Rmdir(1, 9, "/d"),
+    Stat(1, 10, "/d", Found::Nothing),
+    Fsync(1, 11),
+];
+
 /// Whether these entries are a legal history.
 fn is_legal(rt: &HostRuntime, steps: &[Step]) -> Result<bool, Fail> {
     Ok(check(rt.alloc(), &history(rt, steps)?)?)
@@ -215,6 +286,9 @@ fn legal_histories_pass(rt: HostRuntime) -> Result<(), Fail> {
     assert!(rt; is_legal(&rt, &RETURNED)?);
     assert!(rt; is_legal(&rt, &LIVED_TWICE)?);
     assert!(rt; is_legal(&rt, &BOTH_LOST)?);
+    assert!(rt; is_legal(&rt, &SYNCED)?);
+    assert!(rt; is_legal(&rt, &SYNCED_BY_ANOTHER)?);
+    assert!(rt; is_legal(&rt, &FILLED_AND_REMOVED)?);
     Ok(())
 }
 
@@ -336,5 +410,79 @@ fn a_wrong_reply_is_no_run(rt: HostRuntime) -> Result<(), Fail> {
     let calls = kept(rt.alloc(), &history)?;
     assert!(rt; replay(rt.alloc(), calls.as_slice())?.is_none());
     assert_eq!(rt; history.entries().len(), 1);
+    Ok(())
+}
+
+#[test]
+fn no_failure_takes_a_call_before_an_fsync(rt: HostRuntime) -> Result<(), Fail> {
+    let illegal: [&[Step]; 4] = [
+        // The call before the fsync.
+        &[
+            Open(1, 1),
+            Create(1, 0, "/a"),
+            Fsync(1, 1),
+            FailFrom(1, 1, 0),
+        ],
+        // The fsync itself.
+        &[
+            Open(1, 1),
+            Create(1, 0, "/a"),
+            Fsync(1, 1),
+            FailFrom(1, 1, 1),
+        ],
+        // A call between two.
+        &[
+            Open(1, 1),
+            Fsync(1, 0),
+            Create(1, 1, "/a"),
+            Fsync(1, 2),
+            FailFrom(1, 1, 1),
+        ],
+        // One of two clients.
+        &[
+            Open(1, 1),
+            Open(2, 1),
+            Create(1, 0, "/a"),
+            Fsync(2, 0),
+            FailPair(1, 1, 0, 2, 0),
+        ],
+    ];
+    for steps in illegal {
+        assert!(rt; !is_legal(&rt, steps)?, "{} entries", steps.len());
+    }
+    Ok(())
+}
+
+#[test]
+fn wrong_replies_are_found(rt: HostRuntime) -> Result<(), Fail> {
+    let illegal: [&[Step]; 7] = [
+        &[Open(1, 1), Mkdir(1, 0, "/")],
+        &[Open(1, 1), Truncate(1, 0, "/f", 1)],
+        &[Open(1, 1), Mkdir(1, 0, "/d"), Unlink(1, 1, "/d")],
+        &[
+            Open(1, 1),
+            Mkdir(1, 0, "/d"),
+            Create(1, 1, "/d/f"),
+            Rmdir(1, 2, "/d"),
+        ],
+        &[Open(1, 1), Create(1, 0, "/a"), List(1, 1, "/", &[])],
+        // The names fall.
+        &[
+            Open(1, 1),
+            Create(1, 0, "/a"),
+            Create(1, 1, "/b"),
+            List(1, 2, "/", &["b", "a"]),
+        ],
+        // A file grows by zeros.
+        &[
+            Open(1, 1),
+            Create(1, 0, "/f"),
+            Truncate(1, 1, "/f", 2),
+            Read(1, 2, "/f", 9, b"  "),
+        ],
+    ];
+    for steps in illegal {
+        assert!(rt; !is_legal(&rt, steps)?, "{} entries", steps.len());
+    }
     Ok(())
 }

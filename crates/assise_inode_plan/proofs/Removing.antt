@@ -1,5 +1,5 @@
 -- What is planned for the calls that remove an entry.
-use Rattle.std.proofs.Common.{◌≡◌, ℕ, ◌-◌, ◌≤◌, ◌==◌, Bool, true, false, if◌then◌else◌, List, [], ◌∷◌, length, slice_index_or, Result, Ok, Err, Bor, ap, sym, ◌∙◌}
+use Rattle.std.proofs.Common.{◌≡◌, ℕ, ◌-◌, ◌≤◌, ◌==◌, Bool, true, false, if◌then◌else◌, List, [], ◌∷◌, length, slice_index_or, Result, Ok, Err, ap, sym, ◌∙◌}
 use Rattle.std.specs.FinMap as map
 use Rattle.assise_names.specs.declared.reply.Reply.TheVariants.{Done, Error}
 use Rattle.assise_names.specs.declared.reply.TreeError.{TreeError}

@@ -5,9 +5,13 @@ mod creation;
 mod ending;
 mod file_changes;
 pub mod laws;
+#[cfg(test)]
+mod lease_tests;
 pub mod plan;
 mod queries;
 mod removal;
+#[cfg(test)]
+mod tables;
 #[cfg(test)]
 mod tests;
 pub mod view;

@@ -79,11 +79,11 @@ pub(crate) fn walk_to_entry<'a, V: View>(
         ≡ plan_stopped reads.new.items stop)) }
     ensures only_memory { IsOkUnless result OutOfMemory }
 {
-    let (directory, links) = match walk(view, parent, reads)? {
+    let (directory, found) = match walk(view, parent, reads)? {
         Ok(reached) => reached,
         Err(stop) => return Ok(Err(stop)),
     };
-    let inode = match links.link(name) {
+    let inode = match found.link(name) {
         Ok(inode) => inode,
         Err(error) => return Ok(Err(Stop::Fault(error))),
     };

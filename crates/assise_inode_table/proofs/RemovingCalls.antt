@@ -23,17 +23,12 @@ use Rattle.assise_inode_table.proofs.Leaves.{LeadsNowhere, file_nowhere, vacant_
 use Rattle.assise_inode_table.proofs.Meeting.{settled, Meets, nothing, a_file, a_directory, FindsFile, FindsDirectory, meets, same_count}
 use Rattle.assise_inode_table.proofs.MeetingEntries.{HasEntry, entry_at, walk_finds_entry, walk_fails_entry}
 
--- no items
-no_keys : {X : Type 0} (xs : List X) → (length xs == 0) ≡ true → xs ≡ []
-no_keys [] h = refl
-no_keys (x ∷ xs) h = (let no = eqb-true (length (x ∷ xs)) 0 h in absurd (omega (arith, no)))
+-- a list of length 0 has no items
+no_items : {X : Type 0} (xs : List X) → (length xs == 0) ≡ true → xs ≡ []
+no_items [] h = refl
+no_items (x ∷ xs) h = (let no = eqb-true (length (x ∷ xs)) 0 h in absurd (omega (arith, no)))
 
--- ---- an entry is taken out, and its inode goes too
-
-abbrev taken_out : ℕ → List ℕ → ℕ → List Effect
-taken_out d name i = Unlink d name ∷ Free i ∷ []
-
--- what the tree answers where the path has a name
+-- ---- what the tree answers where the path has a name
 
 abbrev if_it_may : Tree → Path → Result (Unit {0}) TreeError → Reply × Tree
 if_it_may t p may = reply_and_tree t (may >>= λ _. Ok (Done, without t p))
@@ -43,6 +38,11 @@ unlinked_at t p = if_it_may t p (file_at t p >>= λ _. Ok tt)
 
 abbrev removed_at : Tree → Path → Reply × Tree
 removed_at t p = if_it_may t p (entries_at t p >>= λ es. empty es)
+
+-- ---- an entry is taken out, and its inode goes too
+
+abbrev taken_out : ℕ → List ℕ → ℕ → List Effect
+taken_out d name i = Unlink d name ∷ Free i ∷ []
 
 module _ (v : Values) (t : Tree) (p : Path) (name : List ℕ) (fresh : ℕ) (s : Spells v t) where
   entry_gone : (i : ℕ) (h : HasEntry v p name i) → LeadsNowhere (children v) i → Spells (after v (taken_out h.parent name i)) (without t (p ++ name ∷ []))
@@ -97,7 +97,7 @@ module _ (v : Values) (t : Tree) (p : Path) (name : List ℕ) (fresh : ℕ) (s :
           elim (cases_Bool (length (map.keys d.links) == 0)) [
             | inl none ↦
                 agrees v fresh _ _ Done (taken_out h.parent name d.inode) (without t (p ++ name ∷ [])) (ends ∙ rw none refl) (rw (d.there, sym many, none) refl)
-                (λ n. entry_gone d.inode h (vacant_nowhere v d.inode d.links d.holds (no_keys (map.keys d.links) none)))
+                (λ n. entry_gone d.inode h (vacant_nowhere v d.inode d.links d.holds (no_items (map.keys d.links) none)))
             | inr some ↦ agrees_quietly v t fresh _ _ (Error NotEmpty) s (ends ∙ rw some refl) (rw (d.there, sym many, some) refl)
           ]
 

@@ -6,6 +6,7 @@ use crate::table::{InodeTable, ROOT};
 use assise_names::byte_string::ByteString;
 use assise_names::call::Op;
 use assise_names::name::Name;
+use assise_names::name_list::NameList;
 use assise_names::path::Path;
 use assise_names::refusal::Refusal;
 use assise_names::reply::{Reply, TreeError};
@@ -164,6 +165,11 @@ fn has_links(alloc: Global, inode: &Inode, links: &[(&str, u64)]) -> Result<bool
     )
 }
 
+/// Whether a change only takes away, for which no memory is needed.
+fn takes_away(change: Change<'_>) -> bool {
+    matches!(change, Change::Unlink(_) | Change::Free)
+}
+
 /// Makes each change of an inode beside another one, and compares both. Where memory is refused both are as they
 /// were.
 fn run(
@@ -179,6 +185,7 @@ fn run(
         put(alloc, rt, &mut table, 8, beside)?;
         let effect = effect_of(alloc, rt, 7, *change)?;
         let outcome = table.apply(&effect);
+        assert!(rt; outcome.is_ok() || !takes_away(*change), "in row {row}");
         let expected = if outcome.is_ok() { *new } else { old };
         assert!(rt; is_held(alloc, table.get(7), expected)?, "in row {row}");
         assert!(rt; is_held(alloc, table.get(8), beside)?, "in row {row}");
@@ -286,6 +293,41 @@ fn a_file_is_read_from_an_offset(rt: HostRuntime) -> Result<(), Fail> {
     ] {
         let read = file.read(rt.alloc(), offset, most)?;
         assert_eq!(rt; read.as_slice(), bytes, "from {offset}, at most {most}");
+    }
+    Ok(())
+}
+
+/// A directory whose entries are made in this order.
+fn directory_of(alloc: Global, texts: &[&str]) -> Result<Directory, Fail> {
+    let mut directory = Directory::new(alloc);
+    for (inode, text) in texts.iter().enumerate() {
+        directory.insert(Name::parse(alloc, text)?, inode as u64)?;
+    }
+    Ok(directory)
+}
+
+/// The names of these texts.
+fn names_of(alloc: Global, texts: &[&str]) -> Result<NameList, Fail> {
+    let mut names = Vec::new(alloc);
+    for text in texts {
+        names.push(Name::parse(alloc, text)?)?;
+    }
+    Ok(NameList::from_vec(names))
+}
+
+#[test]
+fn names_of_a_directory_rise_by_their_bytes(rt: HostRuntime) -> Result<(), Fail> {
+    let rows: [(&[&str], &[&str]); 5] = [
+        (&[], &[]),
+        (&["b", "B", "a"], &["B", "a", "b"]),
+        (&["b", "ab", "a"], &["a", "ab", "b"]),
+        (&["é", "z", "~"], &["z", "~", "é"]),
+        (&["b", "a", "b"], &["a", "b"]),
+    ];
+    for (row, (made, listed)) in rows.iter().enumerate() {
+        let directory = directory_of(rt.alloc(), made)?;
+        let names = directory.names(rt.alloc())?;
+        assert!(rt; names == names_of(rt.alloc(), listed)?, "in row {row}");
     }
     Ok(())
 }
@@ -439,5 +481,48 @@ fn a_file_in_a_directory_is_reached(rt: HostRuntime) -> Result<(), Fail> {
         let path = Path::parse(rt.alloc(), text)?;
         assert_eq!(rt; stat(&table, &path), reply, "at {text}");
     }
+    Ok(())
+}
+
+/// Whether paths lead to what a table says.
+fn lead_to(alloc: Global, table: &InodeTable, rows: &[(&str, Held<'_>)]) -> Result<bool, Fail> {
+    for (text, held) in rows {
+        let path = Path::parse(alloc, text)?;
+        if !is_held(alloc, found(table, &path).ok(), *held)? {
+            return Ok(false);
+        }
+    }
+    Ok(true)
+}
+
+#[test]
+fn what_is_taken_out_is_not_reached(rt: HostRuntime) -> Result<(), Fail> {
+    let mut table = InodeTable::opening(rt.alloc())?;
+    let made = [
+        (10, Change::NewDir),
+        (ROOT, Change::Link("d", 10)),
+        (11, Change::NewFile),
+        (10, Change::Link("k", 11)),
+    ];
+    let before = [
+        ("/", Held::Directory(&[("d", 10)])),
+        ("/d", Held::Directory(&[("k", 11)])),
+        ("/d/k", Held::File(b"")),
+    ];
+    make(rt.alloc(), &rt, &mut table, made.as_slice())?;
+    assert!(rt; lead_to(rt.alloc(), &table, before.as_slice())?);
+    let file_out = [(10, Change::Unlink("k")), (11, Change::Free)];
+    let between = [
+        ("/", Held::Directory(&[("d", 10)])),
+        ("/d", Held::Directory(&[])),
+        ("/d/k", Held::Absent),
+    ];
+    make(rt.alloc(), &rt, &mut table, file_out.as_slice())?;
+    assert!(rt; lead_to(rt.alloc(), &table, between.as_slice())?);
+    let directory_out = [(ROOT, Change::Unlink("d")), (10, Change::Free)];
+    let after = [("/", Held::Directory(&[])), ("/d", Held::Absent)];
+    make(rt.alloc(), &rt, &mut table, directory_out.as_slice())?;
+    assert!(rt; lead_to(rt.alloc(), &table, after.as_slice())?);
+    assert!(rt; table.get(10).is_none() && table.get(11).is_none());
     Ok(())
 }

@@ -3,7 +3,7 @@ use Rattle.std.proofs.lemmas.Result.{err_from_is_err_and}
 use Rattle.clap.proofs.CallerLemmas.{one_required_value, some_of_text}
 use Rattle.clap.proofs.OnLiterals.{clap_on_literals}
 use Rattle.clap.proofs.WalkLemmas.{first_value-rows}
-use Rattle.clap.specs.Words.{App, Rule, app_of, found_of, is_simple, matches_of, first_of, kind_of, rule_of, takes, with_rule}
+use Rattle.clap.specs.Words.{App, app_of, found_of, is_simple, matches_of, first_of, kind_of, rule_of, takes, with_rule}
 use Rattle.assise_console.specs.CommandLine.{is_taken, program, script_rule}
 use Rattle.assise_console.proofs.options.options.Goals as goal
 
