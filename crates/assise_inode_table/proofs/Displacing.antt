@@ -183,4 +183,4 @@ module _ (v : Values) (t m : Tree) (d e i g : ℕ) (p q : Path) (name new : List
   displaced_spells =
       subst (Spells (after v (Unlink e new ∷ Free g ∷ Unlink d name ∷ Link e new i ∷ []))) same_tree
       (moved_spells cleared (without t (q ++ new ∷ [])) m d e i p q name new left (map.remove to new) without_target (still p d parent_free parent) parent_holds (entry_by (e == d) refl)
-      (at-without_apart (q ++ new ∷ []) (p ++ name ∷ []) t ordered turned ∙ there) (still q e goal_free goal) goal_holds no_target outside)
+      (at-without_apart (q ++ new ∷ []) (p ++ name ∷ []) t turned ∙ there) (still q e goal_free goal) goal_holds no_target outside)
