@@ -2,7 +2,7 @@
 use Rattle.std.proofs.Common.{◌≡◌, ℕ, true, None}
 use Rattle.std.specs.List.{list_any}
 use Rattle.assise_names.specs.declared.call.Op.{Op}
-use Rattle.assise_names.specs.declared.call.Op.TheVariants.{Create, Mkdir, Read, Write, Truncate, Unlink, Rmdir, List as ListCall, Stat, Fsync}
+use Rattle.assise_names.specs.declared.call.Op.TheVariants.{Create, Mkdir, Read, Write, Truncate, Rename, Unlink, Rmdir, List as ListCall, Stat, Fsync}
 use Rattle.assise_seq_tree.specs.Tree.{Tree}
 use Rattle.assise_seq_tree.specs.Answer.{answer}
 use Rattle.assise_inode_table.specs.Contents.{Values}
@@ -14,6 +14,7 @@ use Rattle.assise_inode_table.proofs.Meeting.{settled}
 use Rattle.assise_inode_table.proofs.QuietCalls.{stat_agrees, read_agrees, list_agrees, fsync_agrees}
 use Rattle.assise_inode_table.proofs.WritingCalls.{write_agrees, truncate_agrees}
 use Rattle.assise_inode_table.proofs.MakingCalls.{create_agrees, mkdir_agrees}
+use Rattle.assise_inode_table.proofs.RenamingCalls.{rename_agrees}
 use Rattle.assise_inode_table.proofs.RemovingCalls.{unlink_agrees, rmdir_agrees}
 
 agrees_all : (v : Values) (t : Tree) (op : Op) (fresh : ℕ) → Spells v t → Agrees v fresh (settled v (interaction op fresh)) (answer t op)
@@ -22,6 +23,7 @@ agrees_all v t (Mkdir p) fresh s = mkdir_agrees v t p fresh s
 agrees_all v t (Read p offset most) fresh s = read_agrees v t p offset most fresh s
 agrees_all v t (Write p offset new) fresh s = write_agrees v t p offset new fresh s
 agrees_all v t (Truncate p size) fresh s = truncate_agrees v t p size fresh s
+agrees_all v t (Rename p q) fresh s = rename_agrees v t p q fresh s
 agrees_all v t (Unlink p) fresh s = unlink_agrees v t p fresh s
 agrees_all v t (Rmdir p) fresh s = rmdir_agrees v t p fresh s
 agrees_all v t (ListCall p) fresh s = list_agrees v t p fresh s

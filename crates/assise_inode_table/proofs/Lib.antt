@@ -30,3 +30,4 @@ pub mod Freeing
 pub mod Moving
 pub mod Displacing
 pub mod Inserting
+pub mod RenamingCalls

@@ -27,7 +27,7 @@ longer (n ∷ p) rest =
       | inr more ↦ inr (omega (arith, more))
     ]
 
-not_begins : (p q : Path) → is_proper_front p q ≡ false → p ≢ q → (rest : Path) → q ≢ p ++ rest
+pub not_begins : (p q : Path) → is_proper_front p q ≡ false → p ≢ q → (rest : Path) → q ≢ p ++ rest
 not_begins p q below apart rest e =
     let starts : same_path p (take (length p) q) ≡ true = (starts_is bytes_eq-Decides q p (same_path p (take (length p) q)) refl).1 rest e in
     elim (longer p rest) [

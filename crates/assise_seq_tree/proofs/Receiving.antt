@@ -117,7 +117,7 @@ loses_entry (m ∷ s) n (dir fs) u es h there =
           }
     ]
 
-entry_there : (s : Path) (n : List ℕ) (t u : Tree) (es : Entries) → at t s ≡ Ok (dir es) → find n es ≡ Some u → at t (s ++ n ∷ []) ≡ Ok u
+pub entry_there : (s : Path) (n : List ℕ) (t u : Tree) (es : Entries) → at t s ≡ Ok (dir es) → find n es ≡ Some u → at t (s ++ n ∷ []) ≡ Ok u
 unfolding at
 entry_there [] n (file bytes) u es h found = cc
 entry_there [] n (dir fs) u es h found = let one : fs ≡ es = cc in ap (λ gs. option_map_or (λ t. at t []) (find n gs) (Err NoEnt)) one ∙ ap (λ o. option_map_or (λ t. at t []) o (Err NoEnt)) found
