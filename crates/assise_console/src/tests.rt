@@ -154,6 +154,10 @@ const LARGEST_FILE: &str =
 const DIRECTORIES: &str =
     "cluster 1 64 4\nopen 1 least\n1 mkdir /d\n1 mkdir /d\n1 mkdir /d/e\n1 create /d/b\n1 create /d/B\n1 create /d/ä\n1 list /d\n1 rmdir /d\n1 unlink /d/e\n1 rmdir /d/b\n1 list /d/b\n1 stat /d\n1 unlink /d/b\n1 unlink /d/B\n1 unlink /d/ä\n1 rmdir /d/e\n1 list /d\n1 rmdir /d\n1 list /\n1 mkdir /d/e\n1 fsync\n";
 
+/// Files and directories that are moved, over others and into others, and moves that are not made.
+const MOVES: &str =
+    "cluster 1 64 4\nopen 1 least\n1 create /a\n1 create /b\n1 mkdir /d\n1 mkdir /e\n1 create /d/k\n1 rename /a /b\n1 rename /b /d\n1 rename /d /b\n1 rename /e /d\n1 rename /d /e\n1 rename /e /e\n1 rename /e /e/k/z\n1 rename /none /b/c\n1 rename /e /b/c\n1 list /\n1 list /e\n";
+
 #[test]
 fn calls_of_files_and_directories(rt: HostRuntime) -> Result<(), Fail> {
     for (script, wanted) in [
@@ -166,12 +170,28 @@ fn calls_of_files_and_directories(rt: HostRuntime) -> Result<(), Fail> {
             "2: client 1\n3: done\n4: done\n5: done\n6: E7 TooBig\n7: F6 TooLarge\n8: E7 TooBig\n9: bytes 2 x0061\n10: file 1048576\n11: done\n12: F6 TooLarge\n",
         ),
         (
+            MOVES,
+            "2: client 1\n3: done\n4: done\n5: done\n6: done\n7: done\n8: done\n9: E4 IsDir\n10: E3 NotDir\n11: E5 NotEmpty\n12: done\n13: done\n14: E6 Invalid\n15: E1 NoEnt\n16: E3 NotDir\n17: names 2 b e\n18: names 1 k\n",
+        ),
+        (
             DIRECTORIES,
             "2: client 1\n3: done\n4: E2 Exists\n5: done\n6: done\n7: done\n8: done\n9: names 4 B b e ä\n10: E5 NotEmpty\n11: E4 IsDir\n12: E3 NotDir\n13: E3 NotDir\n14: dir 4\n15: done\n16: done\n17: done\n18: done\n19: names 0\n20: done\n21: names 0\n22: E1 NoEnt\n23: done\n",
         ),
     ] {
         assert!(rt; prints(&rt, script, wanted)?, "{script}");
     }
+    Ok(())
+}
+
+/// What is moved keeps its bytes, its subtree and its place in the history.
+const MOVED: &str =
+    "cluster 1 8 4\nopen 1 least\n1 mkdir /d\n1 create /d/f\n1 write /d/f 0 tabc\n1 create /g\n1 rename /d/f /g\n1 read /g 0 9\n1 rename /g /d/h\n1 mkdir /e\n1 rename /d /e/d\n1 read /e/d/h 0 9\n1 rename / /x\n1 rename /e /\n1 list /\n1 write /e/d/h 3 td\n1 read /e/d/h 0 9\nhistory\n";
+
+#[test]
+fn what_is_moved_is_kept(rt: HostRuntime) -> Result<(), Fail> {
+    let wanted =
+        "2: client 1\n3: done\n4: done\n5: done\n6: done\n7: done\n8: bytes 3 x616263\n9: done\n10: done\n11: done\n12: bytes 3 x616263\n13: E6 Invalid\n14: E6 Invalid\n15: names 1 e\n16: done\n17: bytes 4 x61626364\n18: history 16\nopen 1 1\ncall 1 0 mkdir /d = done\ncall 1 1 create /d/f = done\ncall 1 2 write /d/f 0 3 = done\ncall 1 3 create /g = done\ncall 1 4 rename /d/f /g = done\ncall 1 5 read /g 0 9 = bytes 3 x616263\ncall 1 6 rename /g /d/h = done\ncall 1 7 mkdir /e = done\ncall 1 8 rename /d /e/d = done\ncall 1 9 read /e/d/h 0 9 = bytes 3 x616263\ncall 1 10 rename / /x = E6 Invalid\ncall 1 11 rename /e / = E6 Invalid\ncall 1 12 list / = names 1 e\ncall 1 13 write /e/d/h 3 1 = done\ncall 1 14 read /e/d/h 0 9 = bytes 4 x61626364\n";
+    assert!(rt; prints(&rt, MOVED, wanted)?);
     Ok(())
 }
 
