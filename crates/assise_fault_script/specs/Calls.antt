@@ -4,10 +4,10 @@ use Rattle.std.specs.Bool.{nat_eq}
 use Rattle.std.specs.Cmp.Lexicographic.{pointwise}
 use Rattle.assise_names.specs.Path.{path_of}
 use Rattle.assise_names.specs.declared.call.Op.{Op}
-use Rattle.assise_names.specs.declared.call.Op.TheVariants.{Create, Mkdir, Read, Write, Truncate, Unlink, Rmdir, List as ListCall, Stat, Fsync}
+use Rattle.assise_names.specs.declared.call.Op.TheVariants.{Create, Mkdir, Read, Write, Truncate, Rename, Unlink, Rmdir, List as ListCall, Stat, Fsync}
 use Rattle.assise_names.specs.declared.path.PathFault.{PathFault}
 use Rattle.assise_fault_script.specs.declared.command.CallWord.{CallWord}
-use Rattle.assise_fault_script.specs.declared.command.CallWord.TheVariants.{Create as for_create, Mkdir as for_mkdir, Read as for_read, Write as for_write, Truncate as for_truncate, Unlink as for_unlink, Rmdir as for_rmdir, List as for_list, Stat as for_stat, Fsync as for_fsync}
+use Rattle.assise_fault_script.specs.declared.command.CallWord.TheVariants.{Create as for_create, Mkdir as for_mkdir, Read as for_read, Write as for_write, Truncate as for_truncate, Rename as for_rename, Unlink as for_unlink, Rmdir as for_rmdir, List as for_list, Stat as for_stat, Fsync as for_fsync}
 use Rattle.assise_fault_script.specs.declared.fault.ScriptFault.{ScriptFault}
 use Rattle.assise_fault_script.specs.declared.fault.ScriptFault.TheVariants.{UnknownCommand, WrongCount, BadPath}
 use Rattle.assise_fault_script.specs.Data.{data_of}
@@ -22,12 +22,13 @@ call_word word =
     else (if pointwise nat_eq word (codes "read") then Ok for_read
     else (if pointwise nat_eq word (codes "write") then Ok for_write
     else (if pointwise nat_eq word (codes "truncate") then Ok for_truncate
+    else (if pointwise nat_eq word (codes "rename") then Ok for_rename
     else (if pointwise nat_eq word (codes "unlink") then Ok for_unlink
     else (if pointwise nat_eq word (codes "rmdir") then Ok for_rmdir
     else (if pointwise nat_eq word (codes "list") then Ok for_list
     else (if pointwise nat_eq word (codes "stat") then Ok for_stat
     else (if pointwise nat_eq word (codes "fsync") then Ok for_fsync
-    else Err UnknownCommand)))))))))
+    else Err UnknownCommand))))))))))
 
 abbrev pub of_path : Result (List (List ℕ)) PathFault → Result (List (List ℕ)) ScriptFault
 of_path (Ok path) = Ok path
@@ -52,6 +53,9 @@ write_of path offset data_word = path_word path >>= λ p. number_of offset >>= �
 abbrev pub truncate_of : List ℕ → List ℕ → Result Op ScriptFault
 truncate_of path size = path_word path >>= λ p. number_of size >>= λ n. Ok (Truncate p n)
 
+abbrev pub rename_of : List ℕ → List ℕ → Result Op ScriptFault
+rename_of from to = path_word from >>= λ p. path_word to >>= λ q. Ok (Rename p q)
+
 abbrev pub unlink_of : List ℕ → Result Op ScriptFault
 unlink_of path = path_word path >>= λ p. Ok (Unlink p)
 
@@ -71,6 +75,7 @@ call_of for_mkdir (path ∷ []) = mkdir_of path
 call_of for_read (path ∷ offset ∷ count ∷ []) = read_of path offset count
 call_of for_write (path ∷ offset ∷ data_word ∷ []) = write_of path offset data_word
 call_of for_truncate (path ∷ size ∷ []) = truncate_of path size
+call_of for_rename (from ∷ to ∷ []) = rename_of from to
 call_of for_unlink (path ∷ []) = unlink_of path
 call_of for_rmdir (path ∷ []) = rmdir_of path
 call_of for_list (path ∷ []) = list_of path

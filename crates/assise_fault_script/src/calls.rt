@@ -1,6 +1,6 @@
 // A row for each call of a client.
 ghost use Rattle.std.specs.Prelude.{◌≡◌, map};
-ghost use Rattle.assise_fault_script.specs.Calls.{call_of, call_word, create_of, list_of, mkdir_of, path_word, read_of, rmdir_of, stat_of, truncate_of, unlink_of, write_of};
+ghost use Rattle.assise_fault_script.specs.Calls.{call_of, call_word, create_of, list_of, mkdir_of, path_word, read_of, rename_of, rmdir_of, stat_of, truncate_of, unlink_of, write_of};
 ghost use Rattle.assise_fault_script.specs.Fault.{Gives};
 
 use crate::command::CallWord;
@@ -21,6 +21,7 @@ pub fn call_word(word: &str) -> Result<CallWord, ScriptFault>
         "read" => Ok(CallWord::Read),
         "write" => Ok(CallWord::Write),
         "truncate" => Ok(CallWord::Truncate),
+        "rename" => Ok(CallWord::Rename),
         "unlink" => Ok(CallWord::Unlink),
         "rmdir" => Ok(CallWord::Rmdir),
         "list" => Ok(CallWord::List),
@@ -40,6 +41,7 @@ pub fn call(alloc: Global, name: CallWord, words: &[&str]) -> Result<Op, ScriptF
         (CallWord::Read, [path, offset, length]) => read(alloc, path, offset, length),
         (CallWord::Write, [path, offset, data]) => write(alloc, path, offset, data),
         (CallWord::Truncate, [path, size]) => truncate(alloc, path, size),
+        (CallWord::Rename, [from, to]) => rename(alloc, from, to),
         (CallWord::Unlink, [path]) => unlink(alloc, path),
         (CallWord::Rmdir, [path]) => rmdir(alloc, path),
         (CallWord::List, [path]) => list(alloc, path),
@@ -97,6 +99,14 @@ fn truncate(alloc: Global, word: &str, size: &str) -> Result<Op, ScriptFault>
     let path = path(alloc, word)?;
     let size = number(size)?;
     Ok(Op::Truncate(path, size))
+}
+
+fn rename(alloc: Global, from: &str, to: &str) -> Result<Op, ScriptFault>
+    ensures { Gives result (rename_of from.now to.now) }
+{
+    let from = path(alloc, from)?;
+    let to = path(alloc, to)?;
+    Ok(Op::Rename(from, to))
 }
 
 fn unlink(alloc: Global, word: &str) -> Result<Op, ScriptFault>

@@ -68,6 +68,8 @@ pub(crate) enum CallWord {
     Write,
     /// `truncate P SIZE`.
     Truncate,
+    /// `rename P Q`.
+    Rename,
     /// `unlink P`.
     Unlink,
     /// `rmdir P`.

@@ -65,6 +65,7 @@ fn each_command_is_read(rt: HostRuntime) -> Result<(), Fail> {
         18446744073709551615 stat /\n\
         1 mkdir /d\n\
         1 truncate /f 01048577\n\
+        1 rename /a /b\n\
         1 unlink /f\n\
         1 rmdir /d\n\
         1 list /\n\
@@ -80,11 +81,12 @@ fn each_command_is_read(rt: HostRuntime) -> Result<(), Fail> {
         12: 18446744073709551615 stat /\n\
         13: 1 mkdir /d\n\
         14: 1 truncate /f 1048577\n\
-        15: 1 unlink /f\n\
-        16: 1 rmdir /d\n\
-        17: 1 list /\n\
-        18: 1 fsync\n\
-        19: history\n";
+        15: 1 rename /a /b\n\
+        16: 1 unlink /f\n\
+        17: 1 rmdir /d\n\
+        18: 1 list /\n\
+        19: 1 fsync\n\
+        20: history\n";
     let found = listed(&rt, script.as_bytes())?;
     assert_eq!(rt; found.as_str(), wanted);
     for limits in ["cluster 1 8 1", "cluster 01 4096 4096", "cluster 1 4096 1"] {
@@ -169,6 +171,8 @@ fn the_first_fault_of_a_line_is_named(rt: HostRuntime) -> Result<(), Fail> {
         ("1 mkdir", "2: wrong number of words"),
         ("1 truncate /f", "2: wrong number of words"),
         ("1 truncate /f 1 2", "2: wrong number of words"),
+        ("1 rename /a", "2: wrong number of words"),
+        ("1 rename /a /b /c", "2: wrong number of words"),
         ("1 unlink", "2: wrong number of words"),
         ("1 rmdir /d /e", "2: wrong number of words"),
         ("1 list", "2: wrong number of words"),
@@ -190,6 +194,11 @@ fn the_first_fault_of_a_line_is_named(rt: HostRuntime) -> Result<(), Fail> {
         ("1 stat f", "2: bad path: not absolute"),
         ("1 create //f", "2: bad path: empty name"),
         ("1 mkdir d", "2: bad path: not absolute"),
+        ("1 rename a /b", "2: bad path: not absolute"),
+        ("1 rename /a //", "2: bad path: empty name"),
+        ("1 rename a b", "2: bad path: not absolute"),
+        ("1 rename a //", "2: bad path: not absolute"),
+        ("1 rename // a", "2: bad path: empty name"),
         ("1 unlink /f/", "2: bad path: empty name"),
         ("1 rmdir /d/..", "2: bad path: bad name"),
         ("1 list .", "2: bad path: not absolute"),

@@ -113,6 +113,7 @@ fn is_fsync(op: &Op) -> bool
         Op::Read(_, _, _) => false,
         Op::Write(_, _, _) => false,
         Op::Truncate(_, _) => false,
+        Op::Rename(_, _) => false,
         Op::Unlink(_) => false,
         Op::Rmdir(_) => false,
         Op::List(_) => false,

@@ -22,6 +22,7 @@ enum Step {
     Write(u32, u64, &'static str, u64, &'static [u8]),
     Read(u32, u64, &'static str, u64, &'static [u8]),
     Truncate(u32, u64, &'static str, u64),
+    Rename(u32, u64, &'static str, &'static str),
     Unlink(u32, u64, &'static str),
     Rmdir(u32, u64, &'static str),
     List(u32, u64, &'static str, &'static [&'static str]),
@@ -37,8 +38,8 @@ enum Step {
 }
 
 use Step::{
-    Back, Crash, Create, Fail as Failed, FailFrom, FailPair, Fsync, List, Mkdir, Open, Read, Rmdir,
-    Stat, Truncate, Unlink, Write,
+    Back, Crash, Create, Fail as Failed, FailFrom, FailPair, Fsync, List, Mkdir, Open, Read,
+    Rename, Rmdir, Stat, Truncate, Unlink, Write,
 };
 
 /// What a stat answers.
@@ -102,6 +103,10 @@ fn entry(rt: &HostRuntime, step: Step) -> Result<Entry, Fail> {
         }
         Truncate(client, number, name, size) => {
             Ok(done(client, number, Op::Truncate(path(rt, name)?, size)))
+        }
+        Rename(client, number, from, to) => {
+            let op = Op::Rename(path(rt, from)?, path(rt, to)?);
+            Ok(done(client, number, op))
         }
         Unlink(client, number, name) => Ok(done(client, number, Op::Unlink(path(rt, name)?))),
         Rmdir(client, number, name) => Ok(done(client, number, Op::Rmdir(path(rt, name)?))),
@@ -242,6 +247,22 @@ static FILLED_AND_REMOVED: [Step; 13] = [
     Fsync(1, 11),
 ];
 
+/// A file is moved to another directory, and a failure takes the move.
+static MOVED: [Step; 12] = [
+    Open(1, 1),
+    Create(1, 0, "/a"),
+    Write(1, 1, "/a", 0, b"hi"),
+    Mkdir(1, 2, "/d"),
+    Rename(1, 3, "/a", "/d/b"),
+    Read(1, 4, "/d/b", 9, b"hi"),
+    Stat(1, 5, "/a", Found::Nothing),
+    List(1, 6, "/", &["d"]),
+    FailFrom(1, 1, 3),
+    Open(2, 2),
+    Stat(2, 0, "/a", Found::File(2)),
+    Stat(2, 1, "/d", Found::Dir(0)),
+];
+
 /// Whether these entries are a legal history.
 fn is_legal(rt: &HostRuntime, steps: &[Step]) -> Result<bool, Fail> {
     Ok(check(rt.alloc(), &history(rt, steps)?)?)
@@ -289,6 +310,7 @@ fn legal_histories_pass(rt: HostRuntime) -> Result<(), Fail> {
     assert!(rt; is_legal(&rt, &SYNCED)?);
     assert!(rt; is_legal(&rt, &SYNCED_BY_ANOTHER)?);
     assert!(rt; is_legal(&rt, &FILLED_AND_REMOVED)?);
+    assert!(rt; is_legal(&rt, &MOVED)?);
     Ok(())
 }
 
@@ -455,7 +477,7 @@ fn no_failure_takes_a_call_before_an_fsync(rt: HostRuntime) -> Result<(), Fail> 
 
 #[test]
 fn wrong_replies_are_found(rt: HostRuntime) -> Result<(), Fail> {
-    let illegal: [&[Step]; 7] = [
+    let illegal: [&[Step]; 11] = [
         &[Open(1, 1), Mkdir(1, 0, "/")],
         &[Open(1, 1), Truncate(1, 0, "/f", 1)],
         &[Open(1, 1), Mkdir(1, 0, "/d"), Unlink(1, 1, "/d")],
@@ -479,6 +501,22 @@ fn wrong_replies_are_found(rt: HostRuntime) -> Result<(), Fail> {
             Create(1, 0, "/f"),
             Truncate(1, 1, "/f", 2),
             Read(1, 2, "/f", 9, b"  "),
+        ],
+        // Nothing is there to move, a file doesn't take the place of a directory, nor a directory one below itself.
+        &[Open(1, 1), Rename(1, 0, "/a", "/b")],
+        &[
+            Open(1, 1),
+            Create(1, 0, "/a"),
+            Mkdir(1, 1, "/d"),
+            Rename(1, 2, "/a", "/d"),
+        ],
+        &[Open(1, 1), Mkdir(1, 0, "/d"), Rename(1, 1, "/d", "/d/e")],
+        // What is moved isn't at its old path.
+        &[
+            Open(1, 1),
+            Create(1, 0, "/a"),
+            Rename(1, 1, "/a", "/b"),
+            Stat(1, 2, "/a", Found::File(0)),
         ],
     ];
     for steps in illegal {

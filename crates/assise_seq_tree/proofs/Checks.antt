@@ -123,7 +123,7 @@ passed p q t h other =
     let parent = then_ok (at t (parent_of q)) as_directory inside.0 inside.1 in
     let is : at t (parent_of q) ≡ Ok (dir inside.0) = parent.1 ∙ ap Ok (is_directory parent.0 inside.0 parent.2) in
     let received : may_receive source.0 (same_path (parent_of p) (parent_of q)) inside.0 (find (last_name q) inside.0) ≡ Ok tt =
-        sym (ap (λ b. cond b (Ok tt) (may_receive source.0 (same_path (parent_of p) (parent_of q)) inside.0 (find (last_name q) inside.0))) other) ∙ inside.2 in
+    sym (ap (λ b. cond b (Ok tt) (may_receive source.0 (same_path (parent_of p) (parent_of q)) inside.0 (find (last_name q) inside.0))) other) ∙ inside.2 in
     record {
       apart = record {
         first = λ begins. front_of begins.0 begins.1 source.0 inside.0 (is_some_name (length q) roots.1) source.1 is received;

@@ -16,4 +16,5 @@ pub mod Limits
 pub mod Placing
 pub mod Checks
 pub mod Receiving
+pub mod Renamed
 pub mod CallLimits

@@ -1,24 +1,11 @@
 -- What is put into a tree and taken out of it within the limits.
-use Rattle.std.proofs.Common.{◌≡◌, ◌≤◌, ◌<◌, ◌+◌, arith, ℕ, Bool, true, false, cond, ◌==◌, nat_le, is_some, List, [], ◌∷◌, ◌++◌, length, Some, Result, Ok, Err, Less, Equal, Greater, nat_cmp, refl, ap, sym, ◌∙◌, inl, inr, subst}
+use Rattle.std.proofs.Common.{◌≡◌, ◌≤◌, ◌<◌, ◌+◌, arith, ℕ, true, false, cond, is_some, List, [], ◌∷◌, ◌++◌, Some, Ok, Less, Equal, Greater, nat_cmp, refl, ap, sym, inl, inr, subst}
 use Rattle.std.specs.Ordering.{match_ordering}
 use Rattle.std.specs.Cmp.Lexicographic.{slice_cmp}
 use Rattle.std.proofs.lemmas.Bool.{cases_Bool}
-use Rattle.std.proofs.lemmas.Bool.Decides.{nat_tests}
-use Rattle.assise_names.specs.declared.call.Op.{Op}
-use Rattle.assise_names.specs.declared.call.Op.TheVariants.{Create, Mkdir, Read, Write, Truncate, Rename, Unlink, Rmdir, List as ListCall, Stat, Fsync}
-use Rattle.assise_names.specs.declared.reply.Reply.{Reply}
-use Rattle.assise_names.specs.declared.reply.Reply.TheVariants.{Done}
-use Rattle.assise_names.specs.declared.reply.TreeError.{TreeError}
-use Rattle.assise_names.specs.declared.reply.TreeError.TheVariants.{Exists, TooBig, DirFull}
-use Rattle.assise_seq_tree.specs.Answer.{◌>>=◌, answer, as_directory, parent_of, last_name, room_for, room_at, file_at, entries_at, may_unlink, may_rmdir, reply_and_tree}
-use Rattle.assise_seq_tree.specs.Contents.{overwritten, is_within, resized}
 use Rattle.assise_seq_tree.specs.Tree.{Tree, file, dir, Entries, no_entries, entry, same_name, find, replace, insert, set, remove, count, at, put, without, IsWithinLimits, AreWithinLimits}
 use Rattle.assise_seq_tree.proofs.Replacing.{cases_option, put_step}
-use Rattle.assise_seq_tree.proofs.Moves.{Path, below, parent_and_last}
-use Rattle.assise_seq_tree.proofs.Reading.{length-overwritten}
-use Rattle.assise_seq_tree.proofs.Writes.{file_there}
-use Rattle.assise_seq_tree.proofs.Resizing.{length-resized}
-use Rattle.assise_seq_tree.proofs.Calls.{second, read_leaves, list_leaves, stat_leaves}
+use Rattle.assise_seq_tree.proofs.Moves.{Path, below}
 
 -- ---- entries
 pub count-replace : (n : List ℕ) (x : Tree) (es : Entries) → count (replace n x es) ≡ count es

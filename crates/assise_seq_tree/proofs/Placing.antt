@@ -1,9 +1,9 @@
 -- A move of a tree to another path: a placeholder first, then the tree in its place.
-use Rattle.std.proofs.Common.{◌≡◌, ℕ, ◌<◌, arith, List, [], ◌∷◌, ◌++◌, length, Option, Some, None, Ok, Err, refl, ap, sym, ◌∙◌, inl, inr, subst}
+use Rattle.std.proofs.Common.{◌≡◌, ℕ, ◌<◌, arith, List, [], ◌∷◌, ◌++◌, length, Option, Some, None, Ok, ap, sym, ◌∙◌, inl, inr, subst}
 use Rattle.assise_seq_tree.specs.Answer.{parent_of, last_name}
 use Rattle.assise_seq_tree.specs.Tree.{Tree, file, dir, Entries, no_entries, find, at, put, without, IsOrdered, LieApart}
 use Rattle.assise_seq_tree.proofs.Replacing.{cases_option}
-use Rattle.assise_seq_tree.proofs.Order.{ordered-find, ordered-put}
+use Rattle.assise_seq_tree.proofs.Order.{ordered-find}
 use Rattle.assise_seq_tree.proofs.Paths.{turned_apart}
 use Rattle.assise_seq_tree.proofs.Moves.{Path, Apart, at-put_apart, at-without_apart, without-put, put-put_any, at-put_new, ordered-without, parent_and_last}
 
@@ -15,10 +15,10 @@ pub record Moves (p q : Path) (t e : Tree) : Type 0 where
 
 pub moves : (p q : Path) (n : List ℕ) (t e : Tree) (es : Entries) → IsOrdered t → IsOrdered e → Apart p (q ++ n ∷ []) → at t q ≡ Ok (dir es) → Moves p (q ++ n ∷ []) t e
 moves p q n t e es s o apart parent = record {
-    source = at-put_apart p (q ++ n ∷ []) t e apart;
-    target = at-without_apart p (q ++ n ∷ []) (put t (q ++ n ∷ []) e) apart ∙ at-put_new q n t e es parent;
-    over = λ y k. ap (λ u. put u (q ++ n ∷ []) y) (without-put p (q ++ n ∷ []) t e s o apart) ∙ put-put_any (q ++ n ∷ []) (without t p) e y (ordered-without p t s) o k;
-  }
+  source = at-put_apart p (q ++ n ∷ []) t e apart;
+  target = at-without_apart p (q ++ n ∷ []) (put t (q ++ n ∷ []) e) apart ∙ at-put_new q n t e es parent;
+  over = λ y k. ap (λ u. put u (q ++ n ∷ []) y) (without-put p (q ++ n ∷ []) t e s o apart) ∙ put-put_any (q ++ n ∷ []) (without t p) e y (ordered-without p t s) o k;
+}
 
 -- ---- a whole move
 

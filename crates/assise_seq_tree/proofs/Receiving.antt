@@ -1,13 +1,11 @@
 -- A directory that takes a moved tree has room for it.
-use Rattle.std.proofs.Common.{◌≡◌, ◌≤◌, ◌<◌, ◌+◌, arith, ℕ, Bool, true, false, cond, ◌==◌, ◌||◌, nat_le, List, [], ◌∷◌, ◌++◌, length, Option, Some, None, Result, Ok, Err, refl, ap, sym, ◌∙◌, inl, inr, subst}
-use Rattle.std.specs.Prelude.{if◌then◌else◌}
+use Rattle.std.proofs.Common.{◌≡◌, ◌≤◌, ◌<◌, ◌+◌, arith, ℕ, Bool, true, false, nat_le, List, [], ◌∷◌, ◌++◌, Some, None, Ok, Err, refl, ap, sym, ◌∙◌, inl, inr, subst}
 use Rattle.std.specs.Option.{option_map_or}
 use Rattle.std.proofs.lemmas.Bool.{cases_Bool}
 use Rattle.std.proofs.lemmas.List.{append_assoc}
 use Rattle.std.proofs.lemmas.Bool.Decides.{nat_tests}
-use Rattle.assise_names.specs.Path.{is_proper_front, same_path}
-use Rattle.assise_names.specs.declared.reply.TreeError.{TreeError}
-use Rattle.assise_names.specs.declared.reply.TreeError.TheVariants.{NoEnt, DirFull}
+use Rattle.assise_names.specs.Path.{same_path}
+use Rattle.assise_names.specs.declared.reply.TreeError.TheVariants.{NoEnt}
 use Rattle.assise_seq_tree.specs.Answer.{parent_of, last_name, may_receive, may_rename}
 use Rattle.assise_seq_tree.specs.Tree.{Tree, file, dir, Entries, no_entries, entry, same_name, find, replace, remove, count, at, put, without, IsWithinLimits}
 use Rattle.assise_seq_tree.proofs.Replacing.{cases_option}
@@ -63,7 +61,7 @@ stays_directory (m ∷ s) (n ∷ k ∷ p) (dir fs) es h outside =
                 let rest : StaysDirectory some.0 (k ∷ p) s es = stays_directory s (k ∷ p) some.0 es (rw some.1 at h) (λ more e. outside more (ap (λ x. x ∷ s) one ∙ ap (λ x. n ∷ x) e)) in
                 let child : below n fs ≡ some.0 = subst (λ x. below x fs ≡ some.0) one (rw some.1 refl) in
                 let found : find m (replace n (without (below n fs) (k ∷ p)) fs) ≡ Some (without (below n fs) (k ∷ p)) =
-                    find_replace_there m n (without (below n fs) (k ∷ p)) some.0 fs (ap (λ x. find x fs) (sym one) ∙ some.1) ∙ rw same refl in
+                find_replace_there m n (without (below n fs) (k ∷ p)) some.0 fs (ap (λ x. find x fs) (sym one) ∙ some.1) ∙ rw same refl in
                 record {
                   entries = rest.entries;
                   there = ap (λ o. option_map_or (λ t. at t s) o (Err NoEnt)) found ∙ ap (λ u. at (without u (k ∷ p)) s) child ∙ rest.there;
@@ -109,7 +107,7 @@ loses_entry (m ∷ s) n (dir fs) u es h there =
           let rest : LosesEntry some.0 (s ++ n ∷ []) s es = loses_entry s n some.0 u es (rw some.1 at h) (rw some.1 at there) in
           let child : below m fs ≡ some.0 = rw some.1 refl in
           let found : find m (replace m (without (below m fs) (s ++ n ∷ [])) fs) ≡ Some (without (below m fs) (s ++ n ∷ [])) =
-              find_replace_there m m (without (below m fs) (s ++ n ∷ [])) some.0 fs some.1 ∙ rw (same_itself m) refl in
+          find_replace_there m m (without (below m fs) (s ++ n ∷ [])) some.0 fs some.1 ∙ rw (same_itself m) refl in
           record {
             entries = rest.entries;
             there = ap (λ u. at u (m ∷ s)) (without_step m n s fs) ∙ ap (λ o. option_map_or (λ t. at t s) o (Err NoEnt)) found ∙ ap (λ u. at (without u (s ++ n ∷ [])) s) child ∙ rest.there;

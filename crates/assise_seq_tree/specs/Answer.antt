@@ -76,7 +76,7 @@ may_rename t p q =
     if (length p == 0) || (length q == 0) then Err Invalid
     else (if is_proper_front p q then Err Invalid
     else (at t p >>= λ moved. entries_at t (parent_of q) >>= λ es.
-      if same_path p q then Ok tt else may_receive moved (same_path (parent_of p) (parent_of q)) es (find (last_name q) es)))
+    if same_path p q then Ok tt else may_receive moved (same_path (parent_of p) (parent_of q)) es (find (last_name q) es)))
 
 -- ---- one definition for each call
 

@@ -218,7 +218,10 @@ fn file_at<'a>(tree: &'a Tree, names: &[Name]) -> Result<&'a [u8], TreeError>
 }
 
 /// The entries of the directory at a path.
-pub(crate) fn entries_at<'a>(tree: &'a Tree, names: &[Name]) -> Result<&'a BTreeMap<Name, Tree>, TreeError>
+pub(crate) fn entries_at<'a>(
+    tree: &'a Tree,
+    names: &[Name],
+) -> Result<&'a BTreeMap<Name, Tree>, TreeError>
     ensures { MatchResult result (λ m. entries_at tree.now names.now ≡ Ok (entries_of m.now.entries)) (λ e. entries_at tree.now names.now ≡ Err e) }
 {
     tree.at(names)?.entries()

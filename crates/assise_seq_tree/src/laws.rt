@@ -1,10 +1,11 @@
 // Laws of the tree and of its calls. Each function does nothing: its contract is the law.
-ghost use Rattle.std.specs.Prelude.{◌≡◌, ◌+◌, ◌-◌, ◌<◌, ◌≤◌, Err, List, Ok, length, max, replicate, ℕ};
+ghost use Rattle.std.specs.Prelude.{◌≡◌, ◌+◌, ◌-◌, ◌<◌, ◌≤◌, Err, List, Ok, false, length, max, replicate, ℕ};
 ghost use Rattle.std.specs.Cmp.Lexicographic.{slice_cmp};
 ghost use Rattle.std.specs.List.Sorted.{IsStrictlySortedBy};
 ghost use Rattle.std.specs.Ordering.{nat_cmp};
+ghost use Rattle.assise_names.specs.Path.{same_path};
 ghost use Rattle.assise_names.specs.declared.call.Op.{Op};
-ghost use Rattle.assise_names.specs.declared.call.Op.TheVariants.{List as ListCall, Read, Rmdir, Stat, Truncate, Unlink, Write};
+ghost use Rattle.assise_names.specs.declared.call.Op.TheVariants.{List as ListCall, Read, Rename, Rmdir, Stat, Truncate, Unlink, Write};
 ghost use Rattle.assise_names.specs.declared.reply.Reply.{Reply};
 ghost use Rattle.assise_names.specs.declared.reply.Reply.TheVariants.{Bytes, Done, Error, File, Names};
 ghost use Rattle.assise_names.specs.declared.reply.TreeError.{TreeError};
@@ -69,6 +70,14 @@ pub fn a_file_grows_by_zeros()
     ensures zeros { (t u : Tree) (p : List (List ℕ)) (before size : ℕ) →
         answer t (Truncate p size) ≡ (Done, u) → answer t (Stat p) ≡ (File before, t) → before ≤ size →
         answer u (Read p before (size - before)) ≡ (Bytes (replicate (size - before) 0), u) }
+{}
+
+/// What is moved to another path stands there, and not at its own any more.
+pub fn what_is_renamed_stands_at_its_new_path()
+    ensures stands { (t u moved : Tree) (p q : List (List ℕ)) →
+        answer t (Rename p q) ≡ (Done, u) → same_path p q ≡ false → at t p ≡ Ok moved → at u q ≡ Ok moved }
+    ensures gone { (t u moved : Tree) (p q : List (List ℕ)) → IsOrdered t →
+        answer t (Rename p q) ≡ (Done, u) → same_path p q ≡ false → at t p ≡ Ok moved → at u p ≡ Err NoEnt }
 {}
 
 /// What is unlinked or removed is not there any more.

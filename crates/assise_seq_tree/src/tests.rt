@@ -19,6 +19,7 @@ enum Call<'a> {
     Read(&'a str, u64, u64),
     Write(&'a str, u64, &'a [u8]),
     Truncate(&'a str, u64),
+    Rename(&'a str, &'a str),
     Unlink(&'a str),
     Rmdir(&'a str),
     List(&'a str),
@@ -50,6 +51,10 @@ fn op_of(alloc: Global, call: Call<'_>) -> Result<Op, Fail> {
             Ok(Op::Write(path, offset, ByteString::from_vec(bytes)))
         }
         Call::Truncate(path, size) => Ok(Op::Truncate(Path::parse(alloc, path)?, size)),
+        Call::Rename(from, to) => {
+            let from = Path::parse(alloc, from)?;
+            Ok(Op::Rename(from, Path::parse(alloc, to)?))
+        }
         Call::Unlink(path) => Ok(Op::Unlink(Path::parse(alloc, path)?)),
         Call::Rmdir(path) => Ok(Op::Rmdir(Path::parse(alloc, path)?)),
         Call::List(path) => Ok(Op::List(Path::parse(alloc, path)?)),
@@ -399,6 +404,249 @@ fn an_fsync_changes_nothing(rt: HostRuntime) -> Result<(), Fail> {
         (Call::Fsync, Answer::Done),
         (Call::Read("/f", 0, 9), Answer::Bytes(b"abc")),
         (Call::List("/"), Answer::Names(&["f"])),
+    ];
+    run(rt.alloc(), &rt, &mut tree, calls.as_slice())
+}
+
+#[test]
+fn what_stands_in_the_way_decides(rt: HostRuntime) -> Result<(), Fail> {
+    let mut tree = Tree::new(rt.alloc());
+    let calls = [
+        (Call::Create("/a"), Answer::Done),
+        (Call::Create("/b"), Answer::Done),
+        (Call::Mkdir("/d"), Answer::Done),
+        (Call::Mkdir("/e"), Answer::Done),
+        (Call::Create("/d/k"), Answer::Done),
+        (Call::Rename("/a", "/b"), Answer::Done),
+        (Call::Rename("/b", "/d"), Answer::Error(TreeError::IsDir)),
+        (Call::Rename("/d", "/b"), Answer::Error(TreeError::NotDir)),
+        (Call::Rename("/e", "/d"), Answer::Error(TreeError::NotEmpty)),
+        (Call::Rename("/d", "/e"), Answer::Done),
+        (Call::Rename("/e", "/e"), Answer::Done),
+        (
+            Call::Rename("/e", "/e/k/z"),
+            Answer::Error(TreeError::Invalid),
+        ),
+        (
+            Call::Rename("/none", "/b/c"),
+            Answer::Error(TreeError::NoEnt),
+        ),
+        (Call::Rename("/e", "/b/c"), Answer::Error(TreeError::NotDir)),
+        (Call::List("/"), Answer::Names(&["b", "e"])),
+        (Call::List("/e"), Answer::Names(&["k"])),
+    ];
+    run(rt.alloc(), &rt, &mut tree, calls.as_slice())
+}
+
+#[test]
+fn the_root_is_not_renamed(rt: HostRuntime) -> Result<(), Fail> {
+    let mut tree = Tree::new(rt.alloc());
+    let calls = [
+        (Call::Create("/f"), Answer::Done),
+        (Call::Mkdir("/d"), Answer::Done),
+        (Call::Rename("/", "/g"), Answer::Error(TreeError::Invalid)),
+        (Call::Rename("/", "/d"), Answer::Error(TreeError::Invalid)),
+        (Call::Rename("/", "/g/h"), Answer::Error(TreeError::Invalid)),
+        (Call::Rename("/d", "/"), Answer::Error(TreeError::Invalid)),
+        (Call::Rename("/f", "/"), Answer::Error(TreeError::Invalid)),
+        (Call::Rename("/g", "/"), Answer::Error(TreeError::Invalid)),
+        (Call::Rename("/f/g", "/"), Answer::Error(TreeError::Invalid)),
+        (Call::Rename("/", "/"), Answer::Error(TreeError::Invalid)),
+        (Call::List("/"), Answer::Names(&["d", "f"])),
+    ];
+    run(rt.alloc(), &rt, &mut tree, calls.as_slice())
+}
+
+#[test]
+fn no_path_is_moved_below_itself(rt: HostRuntime) -> Result<(), Fail> {
+    let mut tree = Tree::new(rt.alloc());
+    let calls = [
+        (Call::Create("/f"), Answer::Done),
+        (Call::Mkdir("/d"), Answer::Done),
+        (Call::Mkdir("/d/e"), Answer::Done),
+        (
+            Call::Rename("/d", "/d/g"),
+            Answer::Error(TreeError::Invalid),
+        ),
+        (
+            Call::Rename("/d", "/d/e"),
+            Answer::Error(TreeError::Invalid),
+        ),
+        (
+            Call::Rename("/d", "/d/e/g"),
+            Answer::Error(TreeError::Invalid),
+        ),
+        // Before the walks: what is missing, and a file on the way.
+        (
+            Call::Rename("/g", "/g/h"),
+            Answer::Error(TreeError::Invalid),
+        ),
+        (
+            Call::Rename("/g/h", "/g/h/i"),
+            Answer::Error(TreeError::Invalid),
+        ),
+        (
+            Call::Rename("/f", "/f/g"),
+            Answer::Error(TreeError::Invalid),
+        ),
+        // To a directory above it.
+        (Call::Create("/d/e/k"), Answer::Done),
+        (
+            Call::Rename("/d/e/k", "/d"),
+            Answer::Error(TreeError::IsDir),
+        ),
+        (
+            Call::Rename("/d/e", "/d"),
+            Answer::Error(TreeError::NotEmpty),
+        ),
+        // The one name begins with the other.
+        (Call::Rename("/d", "/de"), Answer::Done),
+        (Call::Rename("/de/e", "/d"), Answer::Done),
+        (Call::List("/"), Answer::Names(&["d", "de", "f"])),
+        (Call::List("/d"), Answer::Names(&["k"])),
+        (Call::List("/de"), Answer::Names(&[])),
+    ];
+    run(rt.alloc(), &rt, &mut tree, calls.as_slice())
+}
+
+#[test]
+fn the_first_path_is_walked_before_the_second(rt: HostRuntime) -> Result<(), Fail> {
+    let mut tree = Tree::new(rt.alloc());
+    let calls = [
+        (Call::Create("/f"), Answer::Done),
+        (Call::Mkdir("/d"), Answer::Done),
+        (Call::Create("/d/k"), Answer::Done),
+        (Call::Rename("/g", "/h"), Answer::Error(TreeError::NoEnt)),
+        (Call::Rename("/g", "/d"), Answer::Error(TreeError::NoEnt)),
+        (Call::Rename("/g", "/f/h"), Answer::Error(TreeError::NoEnt)),
+        (
+            Call::Rename("/f/g", "/h/i"),
+            Answer::Error(TreeError::NotDir),
+        ),
+        (Call::Rename("/f/g", "/d"), Answer::Error(TreeError::NotDir)),
+        (Call::Rename("/f", "/g/h"), Answer::Error(TreeError::NoEnt)),
+        (
+            Call::Rename("/f", "/g/h/i"),
+            Answer::Error(TreeError::NoEnt),
+        ),
+        (
+            Call::Rename("/f", "/d/k/h"),
+            Answer::Error(TreeError::NotDir),
+        ),
+        (
+            Call::Rename("/d", "/f/g/h"),
+            Answer::Error(TreeError::NotDir),
+        ),
+        (Call::List("/"), Answer::Names(&["d", "f"])),
+        (Call::List("/d"), Answer::Names(&["k"])),
+    ];
+    run(rt.alloc(), &rt, &mut tree, calls.as_slice())
+}
+
+#[test]
+fn moved_to_its_own_path_it_stays(rt: HostRuntime) -> Result<(), Fail> {
+    let mut tree = Tree::new(rt.alloc());
+    let calls = [
+        (Call::Mkdir("/d"), Answer::Done),
+        (Call::Create("/d/f"), Answer::Done),
+        (Call::Write("/d/f", 0, b"abc"), Answer::Done),
+        (Call::Mkdir("/d/e"), Answer::Done),
+        (Call::Create("/d/e/k"), Answer::Done),
+        (Call::Rename("/d", "/d"), Answer::Done),
+        (Call::Rename("/d/f", "/d/f"), Answer::Done),
+        (Call::Rename("/d/e", "/d/e"), Answer::Done),
+        (Call::Rename("/g", "/g"), Answer::Error(TreeError::NoEnt)),
+        (
+            Call::Rename("/g/h", "/g/h"),
+            Answer::Error(TreeError::NoEnt),
+        ),
+        (
+            Call::Rename("/d/f/g", "/d/f/g"),
+            Answer::Error(TreeError::NotDir),
+        ),
+        (Call::List("/"), Answer::Names(&["d"])),
+        (Call::List("/d"), Answer::Names(&["e", "f"])),
+        (Call::Read("/d/f", 0, 9), Answer::Bytes(b"abc")),
+        (Call::List("/d/e"), Answer::Names(&["k"])),
+    ];
+    run(rt.alloc(), &rt, &mut tree, calls.as_slice())
+}
+
+#[test]
+fn what_a_tree_holds_moves_with_it(rt: HostRuntime) -> Result<(), Fail> {
+    let mut tree = Tree::new(rt.alloc());
+    let calls = [
+        (Call::Create("/a"), Answer::Done),
+        (Call::Write("/a", 0, b"abc"), Answer::Done),
+        (Call::Create("/b"), Answer::Done),
+        (Call::Write("/b", 0, b"replaced"), Answer::Done),
+        (Call::Rename("/a", "/b"), Answer::Done),
+        (Call::Stat("/a"), Answer::Error(TreeError::NoEnt)),
+        (Call::Read("/b", 0, 9), Answer::Bytes(b"abc")),
+        (Call::Mkdir("/d"), Answer::Done),
+        (Call::Mkdir("/d/e"), Answer::Done),
+        (Call::Rename("/b", "/d/e/f"), Answer::Done),
+        (Call::Stat("/b"), Answer::Error(TreeError::NoEnt)),
+        (Call::Read("/d/e/f", 0, 9), Answer::Bytes(b"abc")),
+        (Call::Mkdir("/g"), Answer::Done),
+        (Call::Rename("/d", "/g/h"), Answer::Done),
+        (Call::Stat("/d"), Answer::Error(TreeError::NoEnt)),
+        (Call::List("/g"), Answer::Names(&["h"])),
+        (Call::List("/g/h"), Answer::Names(&["e"])),
+        (Call::Read("/g/h/e/f", 0, 9), Answer::Bytes(b"abc")),
+        (Call::Rename("/g/h/e/f", "/f"), Answer::Done),
+        (Call::List("/g/h/e"), Answer::Names(&[])),
+        (Call::Read("/f", 0, 9), Answer::Bytes(b"abc")),
+        (Call::Rename("/g/h", "/g/h"), Answer::Done),
+        (Call::Rename("/g", "/g2"), Answer::Done),
+        (Call::List("/"), Answer::Names(&["f", "g2"])),
+    ];
+    run(rt.alloc(), &rt, &mut tree, calls.as_slice())
+}
+
+#[test]
+fn a_full_directory_takes_no_entry_of_another(rt: HostRuntime) -> Result<(), Fail> {
+    let mut tree = Tree::new(rt.alloc());
+    let before = [
+        (Call::Mkdir("/d"), Answer::Done),
+        (Call::Create("/f"), Answer::Done),
+        (Call::Write("/f", 0, b"abc"), Answer::Done),
+        (Call::Create("/g"), Answer::Done),
+        (Call::Mkdir("/d/e"), Answer::Done),
+        (Call::Create("/d/e/k"), Answer::Done),
+    ];
+    run(rt.alloc(), &rt, &mut tree, before.as_slice())?;
+    for number in 1..4096 {
+        let path = format!(in rt.alloc(); "/d/{number}")?;
+        let call = [(Call::Create(path.as_str()), Answer::Done)];
+        run(rt.alloc(), &rt, &mut tree, call.as_slice())?;
+    }
+    let calls = [
+        (Call::Stat("/d"), Answer::Dir(4096)),
+        (
+            Call::Rename("/f", "/d/new"),
+            Answer::Error(TreeError::DirFull),
+        ),
+        (
+            Call::Rename("/d/e/k", "/d/new"),
+            Answer::Error(TreeError::DirFull),
+        ),
+        (Call::Read("/f", 0, 9), Answer::Bytes(b"abc")),
+        // Within the same directory.
+        (Call::Rename("/d/1", "/d/new"), Answer::Done),
+        (Call::Rename("/d/2", "/d/2"), Answer::Done),
+        (Call::Stat("/d"), Answer::Dir(4096)),
+        (Call::Stat("/d/1"), Answer::Error(TreeError::NoEnt)),
+        // In the place of another entry.
+        (Call::Rename("/f", "/d/new"), Answer::Done),
+        (Call::Read("/d/new", 0, 9), Answer::Bytes(b"abc")),
+        (Call::Stat("/d"), Answer::Dir(4096)),
+        (Call::Rename("/g", "/d/e"), Answer::Error(TreeError::IsDir)),
+        (Call::Rename("/d/3", "/d/4"), Answer::Done),
+        (Call::Stat("/d"), Answer::Dir(4095)),
+        (Call::Rename("/g", "/d/3"), Answer::Done),
+        (Call::Stat("/d"), Answer::Dir(4096)),
+        (Call::List("/"), Answer::Names(&["d"])),
     ];
     run(rt.alloc(), &rt, &mut tree, calls.as_slice())
 }

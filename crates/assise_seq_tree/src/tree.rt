@@ -124,8 +124,9 @@ impl Tree {
         }
     }
 
-    /// Whether a tree may stand in the place of this one. A directory in the place of a file is [`TreeError::IsDir`], a
-    /// file in that of a directory [`TreeError::NotDir`], and a directory with entries [`TreeError::NotEmpty`].
+    /// Whether a tree may take the place of this one: a file that of a file, and a directory that of a directory without
+    /// entries. A directory in the way of a file is [`TreeError::IsDir`], a file in the way of a directory
+    /// [`TreeError::NotDir`], and a directory with entries in the way of another [`TreeError::NotEmpty`].
     pub(crate) fn may_be_replaced(&self, moved: &Tree) -> Result<(), TreeError>
         ensures { result ≡ may_replace moved.now self.now }
     {

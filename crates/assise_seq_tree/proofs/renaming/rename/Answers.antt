@@ -1,5 +1,4 @@
-use Rattle.std.proofs.Common.{◌≡◌, false, sym, ◌∙◌}
-use Rattle.assise_names.specs.Path.{same_path}
+use Rattle.std.proofs.Common.{sym, ◌∙◌}
 use Rattle.assise_seq_tree.proofs.Checks.{passed, not_true}
 use Rattle.assise_seq_tree.proofs.renaming.rename.Goals as goal
 
