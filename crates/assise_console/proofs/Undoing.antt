@@ -21,7 +21,7 @@ append_applied m (e ∷ es) fs = append_applied (applied m e) es fs
 pub one_more_applied : (m : InodeMap) (es : List Effect) (i : ℕ) (e : Effect) → i < length es → e ≡ slice_index_or es i e → all_applied m (take (i + 1) es) ≡ applied (all_applied m (take i es)) e
 one_more_applied m es i e h is = ap (all_applied m) (take_more es i e h ∙ ap (λ x. take i es ++ x ∷ []) (sym is)) ∙ append_applied m (take i es) (e ∷ [])
 
-get-all_applied : (m : InodeMap) (es : List Effect) (i : ℕ) → map.get (all_applied m es) i ≡ value_after i (map.get m i) es
+pub get-all_applied : (m : InodeMap) (es : List Effect) (i : ℕ) → map.get (all_applied m es) i ≡ value_after i (map.get m i) es
 get-all_applied m [] i = refl
 get-all_applied m (e ∷ es) i = get-all_applied (applied m e) es i ∙ ap (λ old. value_after i old es) (get-applied m e i)
 
@@ -31,7 +31,7 @@ values-all_applied m es = λ t i. get-all_applied m es i t
 
 -- ---- the inode is taken out again
 
-same_inodes : (m n : InodeMap) → ((i : ℕ) → map.get m i ≡ map.get n i) → m ≡ n
+pub same_inodes : (m n : InodeMap) → ((i : ℕ) → map.get m i ≡ map.get n i) → m ≡ n
 same_inodes m n same = map.same_map nat_cmp_total map.nat_cmp-IsAntisymmetric m n same
 
 get_removed : (m : InodeMap) (i q : ℕ) → map.get (map.remove m i) q ≡ (if i == q then None else map.get m q)

@@ -4,7 +4,7 @@ use Rattle.std.specs.FinMap as map
 use Rattle.assise_inode_table.specs.Effects.{applied}
 use Rattle.assise_console.specs.Undone.{all_applied}
 use Rattle.assise_console.proofs.Undoing.{not_refused, one_more_applied, undone}
-use Rattle.assise_console.proofs.outcome.make_all.Goals as goal
+use Rattle.assise_console.proofs.outcome.make_in_order.Goals as goal
 
 pub returns-in-Err-clause-err : goal.returns-in-Err-clause-err
 returns-in-Err-clause-err c =
