@@ -1,20 +1,19 @@
 -- A link that is made before effects that only take away.
-use Rattle.std.proofs.Common.{◌≡◌, ℕ, ◌==◌, ◌&&◌, not, Bool, true, false, if◌then◌else◌, cond, List, [], ◌∷◌, ◌++◌, Option, Some, None, refl, ap, sym, subst, ◌∙◌, inl, inr}
-use Rattle.std.specs.List.{filter}
+use Rattle.std.proofs.Common.{◌≡◌, ℕ, ◌==◌, ◌&&◌, not, Bool, true, false, if◌then◌else◌, cond, List, [], ◌∷◌, ◌++◌, ◌+◌, ◌<◌, ◌≤◌, ◌-◌, arith, length, take, slice_index_or, Option, Some, None, refl, ap, sym, ◌∙◌, inl, inr}
+use Rattle.std.specs.List.{filter, list_all}
+use Rattle.std.proofs.lemmas.List.{take_all, take_more}
+use Rattle.std.proofs.lemmas.List.Elements.{filter-append}
 use Rattle.std.proofs.lemmas.Bool.{eq-eqb, eqb-true}
-use Rattle.std.specs.Cmp.Lexicographic.{nat_list_cmp_total, slice_cmp}
-use Rattle.std.specs.Cmp.{nat_cmp_total}
-use Rattle.std.specs.Ordering.{nat_cmp}
+use Rattle.std.specs.Cmp.Lexicographic.{nat_list_cmp_total}
 use Rattle.std.specs.FinMap as map
 use Rattle.assise_record.specs.declared.effect.Effect.{Effect}
 use Rattle.assise_record.specs.declared.effect.Effect.TheVariants.{NewFile, NewDir, Write, SetLen, Link, Unlink, Free}
-use Rattle.assise_record.specs.Touched.{touched_by}
 use Rattle.assise_seq_tree.specs.Tree.{same_name}
 use Rattle.assise_seq_tree.proofs.Sets.{same_itself, one_name}
 use Rattle.assise_inode_table.specs.Contents.{Content, regular, directory, Links, InodeMap}
-use Rattle.assise_inode_table.specs.Effects.{TakesAway, applied, effect_on, changed, value_after}
-use Rattle.assise_console.specs.Undone.{OnlyTakeAway, all_applied, leaves_entry}
-use Rattle.assise_console.proofs.Undoing.{get-all_applied, same_inodes}
+use Rattle.assise_inode_table.specs.Effects.{TakesAway, applied, effect_on, value_after}
+use Rattle.assise_console.specs.Undone.{CanBeMadeWhole, CanBeUndone, OnlyTakeAway, all_applied, is_link, leaves_entry, takes_away}
+use Rattle.assise_console.proofs.Undoing.{append_applied, get-all_applied, same_inodes}
 
 -- ---- the entries of one directory
 
@@ -137,3 +136,78 @@ module _ (d : ℕ) (name : List ℕ) (i : ℕ) where
       all_applied m (before ++ Link d name i ∷ []) ≡ all_applied (applied m (Link d name i)) (filter (leaves_entry d name) before)
   link_first m [] t = refl
   link_first m (e ∷ es) t = link_first (applied m e) es t.1 ∙ one_behind m e (filter (leaves_entry d name) es) (leaves_entry d name e) t.0 refl
+
+-- ---- one after another, with some passed over
+
+one_more : (m : InodeMap) (p : Effect → Bool) (es : List Effect) (k : ℕ) (e : Effect) → k < length es → e ≡ slice_index_or es k e →
+    all_applied m (filter p (take (k + 1) es)) ≡ all_applied (all_applied m (filter p (take k es))) (cond (p e) (e ∷ []) [])
+one_more m p es k e h is =
+    ap (λ xs. all_applied m (filter p xs)) (take_more es k e h ∙ ap (λ x. take k es ++ x ∷ []) (sym is))
+    ∙ ap (all_applied m) (filter-append p (take k es) (e ∷ [])) ∙ append_applied m (filter p (take k es)) (filter p (e ∷ []))
+
+pub one_more_left : (m : InodeMap) (p : Effect → Bool) (es : List Effect) (k : ℕ) (e : Effect) → k < length es → e ≡ slice_index_or es k e → p e ≡ true →
+    all_applied m (filter p (take (k + 1) es)) ≡ applied (all_applied m (filter p (take k es))) e
+one_more_left m p es k e h is left = one_more m p es k e h is ∙ ap (λ b. all_applied (all_applied m (filter p (take k es))) (cond b (e ∷ []) [])) left
+
+pub one_passed_over : (m : InodeMap) (p : Effect → Bool) (es : List Effect) (k : ℕ) (e : Effect) → k < length es → e ≡ slice_index_or es k e → p e ≡ false →
+    all_applied m (filter p (take (k + 1) es)) ≡ all_applied m (filter p (take k es))
+one_passed_over m p es k e h is passed = one_more m p es k e h is ∙ ap (λ b. all_applied (all_applied m (filter p (take k es))) (cond b (e ∷ []) [])) passed
+
+-- ---- which effects end with a link
+
+in_front : {A : Type 0} (xs ys : List A) (x y : A) → xs ++ x ∷ [] ≡ ys ++ y ∷ [] → (xs ≡ ys) × (x ≡ y)
+in_front [] [] x y same = (refl, cc)
+in_front [] (b ∷ []) x y same = cc
+in_front [] (b ∷ c ∷ ys) x y same = cc
+in_front (a ∷ []) [] x y same = cc
+in_front (a ∷ c ∷ xs) [] x y same = cc
+in_front (a ∷ xs) (b ∷ ys) x y same =
+    let first : a ≡ b = cc in
+    let both = in_front xs ys x y cc in
+    (ap (λ c. c ∷ xs) first ∙ ap (λ cs. b ∷ cs) both.0, both.1)
+
+away_type : (e : Effect) → takes_away e ≡ true → TakesAway e
+away_type (Unlink d name) away = tt
+away_type (Free i) away = tt
+away_type (NewFile i) away = cc
+away_type (NewDir i) away = cc
+away_type (Write i patch) away = cc
+away_type (SetLen i size) away = cc
+away_type (Link d name i) away = cc
+
+away_test : (e : Effect) → TakesAway e → takes_away e ≡ true
+away_test (Unlink d name) t = refl
+away_test (Free i) t = refl
+away_test (NewFile i) t = absurd t
+away_test (NewDir i) t = absurd t
+away_test (Write i patch) t = absurd t
+away_test (SetLen i size) t = absurd t
+away_test (Link d name i) t = absurd t
+
+both_left : (a b : Bool) → (a && b) ≡ true → a ≡ true
+both_left true b h = refl
+both_left false b h = cc
+
+both_right : (a b : Bool) → (a && b) ≡ true → b ≡ true
+both_right true b h = h
+both_right false b h = cc
+
+pub all_take_away : (es : List Effect) → list_all takes_away es ≡ true → OnlyTakeAway es
+all_take_away [] h = tt
+all_take_away (e ∷ es) h = (away_type e (both_left (takes_away e) (list_all takes_away es) h), all_take_away es (both_right (takes_away e) (list_all takes_away es) h))
+
+all_pass : (es : List Effect) → OnlyTakeAway es → list_all takes_away es ≡ true
+all_pass [] t = refl
+all_pass (e ∷ es) t = rw (away_test e t.0) (all_pass es t.1)
+
+-- a list whose last effect is no link, or whose others don't only take away, is made in its order
+pub made_in_order : (fresh : ℕ) (es before : List Effect) (last : Effect) → es ≡ before ++ last ∷ [] → CanBeMadeWhole fresh es → (is_link last ≡ true → list_all takes_away before ≡ true → ⊥) → CanBeUndone fresh es
+made_in_order fresh es before last are (inl undone) other = undone
+made_in_order fresh es before last are (inr w) other =
+    let same = in_front w.before before w.last last (sym w.are ∙ are) in
+    absurd (other (ap is_link (sym same.1) ∙ w.links) (ap (list_all takes_away) (sym same.0) ∙ all_pass w.before w.take_away))
+
+-- the effects before the last one, and the last one
+pub last_behind : (es : List Effect) (last : Effect) → 1 ≤ length es → last ≡ slice_index_or es (length es - 1) last → es ≡ take (length es - 1) es ++ last ∷ []
+last_behind es last some is =
+    sym (take_all (length es - 1 + 1) es (omega (arith, some))) ∙ take_more es (length es - 1) last (omega (arith, some)) ∙ ap (λ x. take (length es - 1) es ++ x ∷ []) (sym is)

@@ -14,7 +14,7 @@ use Rattle.assise_console.specs.Undone.{CanBeUndone, OnlyTakeAway, all_applied}
 
 -- ---- one after another
 
-append_applied : (m : InodeMap) (es fs : List Effect) → all_applied m (es ++ fs) ≡ all_applied (all_applied m es) fs
+pub append_applied : (m : InodeMap) (es fs : List Effect) → all_applied m (es ++ fs) ≡ all_applied (all_applied m es) fs
 append_applied m [] fs = refl
 append_applied m (e ∷ es) fs = append_applied (applied m e) es fs
 
@@ -57,7 +57,7 @@ remove_absent m i none = same_inodes _ _ (λ q. get_removed m i q ∙ go q)
           | inr apart ↦ rw (ne_eqb i q apart) refl
         ]
 
-takes_away_at : (es : List Effect) (k : ℕ) (e : Effect) → OnlyTakeAway es → k < length es → e ≡ slice_index_or es k e → TakesAway e
+pub takes_away_at : (es : List Effect) (k : ℕ) (e : Effect) → OnlyTakeAway es → k < length es → e ≡ slice_index_or es k e → TakesAway e
 takes_away_at [] k e t h is = absurd (omega (arith, h))
 takes_away_at (x ∷ es) zero e t h is = subst TakesAway (sym is) t.0
 takes_away_at (x ∷ es) (suc k) e t h is = takes_away_at es k e t.1 (omega (arith, h)) is

@@ -71,11 +71,7 @@ pub(crate) fn make_all(
 }
 
 /// Makes effects in their order. Where one is refused, `fresh` is taken out again, and all inodes are as they were.
-fn make_in_order(
-    inodes: &mut InodeTable,
-    effects: &[Effect],
-    fresh: u64,
-) -> Result<(), Refusal>
+fn make_in_order(inodes: &mut InodeTable, effects: &[Effect], fresh: u64) -> Result<(), Refusal>
     requires absent { map.get inodes.old fresh ≡ None }
     requires undone { CanBeUndone fresh effects.now }
     ensures ok { OnOk result (inodes.new ≡ all_applied inodes.old effects.now) }
@@ -93,11 +89,7 @@ fn make_in_order(
 
 /// Makes a link, and then the effects that stand before it, which take no memory. One that takes out the very entry
 /// of the link is passed over, since the link stands in its place by then.
-fn make_link_first(
-    inodes: &mut InodeTable,
-    before: &[Effect],
-    link: &Effect,
-) -> Result<(), Refusal>
+fn make_link_first(inodes: &mut InodeTable, before: &[Effect], link: &Effect) -> Result<(), Refusal>
     requires links { is_link link.now ≡ true }
     requires take_away { OnlyTakeAway before.now }
     ensures ok { OnOk result (inodes.new ≡ all_applied inodes.old (before.now ++ link.now ∷ [])) }
@@ -105,7 +97,9 @@ fn make_link_first(
     ensures only_memory { IsOkUnless result OutOfMemory }
 {
     let Effect::Link {
-        directory, name, ..
+        directory,
+        name,
+        ..
     } = link
     else {
         unreachable!()
