@@ -20,7 +20,7 @@ use Rattle.assise_inode_table.specs.Effects.{after, changed}
 use Rattle.assise_inode_table.specs.Interaction.{Interaction, effects_of, reply_of}
 use Rattle.assise_inode_table.specs.Reach.{link_of}
 use Rattle.assise_console.specs.Steps.{makes_inode}
-use Rattle.assise_console.specs.Undone.{CanBeUndone}
+use Rattle.assise_console.specs.Undone.{CanBeMadeWhole, CanBeUndone}
 
 -- a call has no effects, or it writes or resizes one file, or it makes an inode and links it, or it unlinks one and frees it
 pub data EffectsOf (op : Op) (fresh : ℕ) (reply : Reply) (es : List Effect) : Type 0 where
@@ -126,8 +126,8 @@ can_be_undone op fresh reply es (made_directory d name makes is) = subst (CanBeU
 can_be_undone op fresh reply es (removed d name i quiet is) = subst (CanBeUndone fresh) (sym is) (inr (tt, tt))
 
 -- the effects of a call can be made all or none
-pub effects_undone : (v : Values) (op : Op) (fresh : ℕ) → CanBeUndone fresh (step v op fresh).effects
-effects_undone v op fresh = can_be_undone op fresh _ _ (effects_are v op fresh)
+pub effects_whole : (v : Values) (op : Op) (fresh : ℕ) → CanBeMadeWhole fresh (step v op fresh).effects
+effects_whole v op fresh = inl (can_be_undone op fresh _ _ (effects_are v op fresh))
 
 was_there : (f : Content → Content) (o : Option Content) → IsSome (option_map f o) → IsSome o
 was_there f None h = cc

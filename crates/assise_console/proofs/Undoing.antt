@@ -14,14 +14,14 @@ use Rattle.assise_console.specs.Undone.{CanBeUndone, OnlyTakeAway, all_applied}
 
 -- ---- one after another
 
-append_applied : (m : InodeMap) (es fs : List Effect) → all_applied m (es ++ fs) ≡ all_applied (all_applied m es) fs
+pub append_applied : (m : InodeMap) (es fs : List Effect) → all_applied m (es ++ fs) ≡ all_applied (all_applied m es) fs
 append_applied m [] fs = refl
 append_applied m (e ∷ es) fs = append_applied (applied m e) es fs
 
 pub one_more_applied : (m : InodeMap) (es : List Effect) (i : ℕ) (e : Effect) → i < length es → e ≡ slice_index_or es i e → all_applied m (take (i + 1) es) ≡ applied (all_applied m (take i es)) e
 one_more_applied m es i e h is = ap (all_applied m) (take_more es i e h ∙ ap (λ x. take i es ++ x ∷ []) (sym is)) ∙ append_applied m (take i es) (e ∷ [])
 
-get-all_applied : (m : InodeMap) (es : List Effect) (i : ℕ) → map.get (all_applied m es) i ≡ value_after i (map.get m i) es
+pub get-all_applied : (m : InodeMap) (es : List Effect) (i : ℕ) → map.get (all_applied m es) i ≡ value_after i (map.get m i) es
 get-all_applied m [] i = refl
 get-all_applied m (e ∷ es) i = get-all_applied (applied m e) es i ∙ ap (λ old. value_after i old es) (get-applied m e i)
 
@@ -31,7 +31,7 @@ values-all_applied m es = λ t i. get-all_applied m es i t
 
 -- ---- the inode is taken out again
 
-same_inodes : (m n : InodeMap) → ((i : ℕ) → map.get m i ≡ map.get n i) → m ≡ n
+pub same_inodes : (m n : InodeMap) → ((i : ℕ) → map.get m i ≡ map.get n i) → m ≡ n
 same_inodes m n same = map.same_map nat_cmp_total map.nat_cmp-IsAntisymmetric m n same
 
 get_removed : (m : InodeMap) (i q : ℕ) → map.get (map.remove m i) q ≡ (if i == q then None else map.get m q)
@@ -57,7 +57,7 @@ remove_absent m i none = same_inodes _ _ (λ q. get_removed m i q ∙ go q)
           | inr apart ↦ rw (ne_eqb i q apart) refl
         ]
 
-takes_away_at : (es : List Effect) (k : ℕ) (e : Effect) → OnlyTakeAway es → k < length es → e ≡ slice_index_or es k e → TakesAway e
+pub takes_away_at : (es : List Effect) (k : ℕ) (e : Effect) → OnlyTakeAway es → k < length es → e ≡ slice_index_or es k e → TakesAway e
 takes_away_at [] k e t h is = absurd (omega (arith, h))
 takes_away_at (x ∷ es) zero e t h is = subst TakesAway (sym is) t.0
 takes_away_at (x ∷ es) (suc k) e t h is = takes_away_at es k e t.1 (omega (arith, h)) is

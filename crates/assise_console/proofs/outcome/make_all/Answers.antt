@@ -1,21 +1,17 @@
-use Rattle.std.proofs.Common.{◌∙◌, ap, sym, arith}
-use Rattle.std.proofs.lemmas.List.{take_all}
-use Rattle.std.specs.FinMap as map
-use Rattle.assise_inode_table.specs.Effects.{applied}
-use Rattle.assise_console.specs.Undone.{all_applied}
-use Rattle.assise_console.proofs.Undoing.{not_refused, one_more_applied, undone}
+use Rattle.std.proofs.Common.{◌-◌, length, take, ◌∙◌, sym}
+use Rattle.std.proofs.lemmas.Bool.{false≢true}
+use Rattle.assise_console.proofs.LinkingFirst.{all_take_away, last_behind, made_in_order}
+use Rattle.assise_console.proofs.outcome.make_all.Goals.{else-is_link-via-then-is_link+else-only_take_away, else-is_link-via-else-is_link}
 use Rattle.assise_console.proofs.outcome.make_all.Goals as goal
 
-pub returns-in-Err-clause-err : goal.returns-in-Err-clause-err
-returns-in-Err-clause-err c =
-    c.remove.ensures ∙ ap (λ m. map.remove m c.args.fresh) (c.in-Err.ensures.err ∙ c.loop-effect.invariant)
-    ∙ undone c.args.inodes.now c.args.effects.now c.loop-effect.effect-index c.args.fresh c.effect-item.result c.requires.absent c.requires.undone c.loop-effect-test.true c.effect-item.is
-    (λ takes. not_refused _ _ c.in-Err.is (c.apply.ensures.taken_away takes))
+pub make_link_first-requires-clause-take_away : goal.make_link_first-requires-clause-take_away
+make_link_first-requires-clause-take_away c = all_take_away (take (length c.args.effects.now - 1) c.args.effects.now) (sym c.only_take_away.ensures ∙ c.if-only_take_away.true)
 
-pub loop-effect-preserved : goal.loop-effect-preserved
-loop-effect-preserved c =
-    c.in_default.ensures.ok ∙ ap (λ m. applied m c.effect-item.result) c.loop-effect.invariant
-    ∙ sym (one_more_applied c.args.inodes.now c.args.effects.now c.loop-effect.effect-index c.effect-item.result c.loop-effect-test.true c.effect-item.is)
-
-pub returns-clause-ok : goal.returns-clause-ok
-returns-clause-ok c = c.loop-effect.invariant ∙ ap (all_applied c.args.inodes.now) (take_all c.loop-effect.effect-index c.args.effects.now (omega (arith, c.loop-effect-test.false)))
+pub make_in_order-requires-clause-undone : goal.make_in_order-requires-clause-undone
+make_in_order-requires-clause-undone c =
+    made_in_order c.args.fresh c.args.effects.now (take (length c.args.effects.now - 1) c.args.effects.now) c.last-item.result
+    (last_behind c.args.effects.now c.last-item.result c.in-len1-up.len_at_least c.last-item.is) c.requires.whole (λ links away.
+    elim c.else-is_link.branch [
+      | else-is_link-via-then-is_link+else-only_take_away w ↦ false≢true (sym w.if-only_take_away.false ∙ w.only_take_away.ensures ∙ away)
+      | else-is_link-via-else-is_link w ↦ false≢true (sym w.if-is_link.false ∙ c.is_link.ensures ∙ links)
+    ])

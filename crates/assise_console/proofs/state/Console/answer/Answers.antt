@@ -1,9 +1,9 @@
 use Rattle.std.proofs.Common.{◌+◌, ◌++◌, ◌∷◌, [], sym, ap, ap₂, subst, ◌∙◌}
 use Rattle.assise_history.specs.Entries.{calls}
 use Rattle.assise_inode_table.specs.Contents.{values}
-use Rattle.assise_console.specs.Undone.{CanBeUndone}
+use Rattle.assise_console.specs.Undone.{CanBeMadeWhole}
 use Rattle.assise_console.proofs.Keeping.{call_answers, kept_answered, spent_answers}
-use Rattle.assise_console.proofs.Making.{effects_undone}
+use Rattle.assise_console.proofs.Making.{effects_whole}
 use Rattle.assise_console.proofs.state.Console.answer.Goals as goal
 
 pub returns-in_default-clause-ok : goal.returns-in_default-clause-ok
@@ -11,10 +11,10 @@ returns-in_default-clause-ok c =
     let f = c.self.inside in
     spent_answers f.inodes f.history.events f.opened f.calls f.made c.args.op c.in_ok-outcome.outcome.reply c.self.invariant c.in_ok-outcome.ensures.reply c.args.self.now c.self.view_is c.in_default.ensures
 
-pub make_all-requires-clause-undone : goal.make_all-requires-clause-undone
-make_all-requires-clause-undone c =
+pub make_all-requires-clause-whole : goal.make_all-requires-clause-whole
+make_all-requires-clause-whole c =
     let f = c.self.inside in
-    subst (CanBeUndone (4294967296 + f.made)) (sym (c.as_slice.ensures.value ∙ c.in_ok-outcome.ensures.effects)) (effects_undone (values f.inodes) c.args.op (4294967296 + f.made))
+    subst (CanBeMadeWhole (4294967296 + f.made)) (sym (c.as_slice.ensures.value ∙ c.in_ok-outcome.ensures.effects)) (effects_whole (values f.inodes) c.args.op (4294967296 + f.made))
 
 pub invariant_of-self-2 : goal.invariant_of-self-2
 invariant_of-self-2 c =

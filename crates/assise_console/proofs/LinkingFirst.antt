@@ -1,0 +1,213 @@
+-- A link that is made before effects that only take away.
+use Rattle.std.proofs.Common.{◌≡◌, ℕ, ◌==◌, ◌&&◌, not, Bool, true, false, if◌then◌else◌, cond, List, [], ◌∷◌, ◌++◌, ◌+◌, ◌<◌, ◌≤◌, ◌-◌, arith, length, take, slice_index_or, Option, Some, None, refl, ap, sym, ◌∙◌, inl, inr}
+use Rattle.std.specs.List.{filter, list_all}
+use Rattle.std.proofs.lemmas.List.{take_all, take_more}
+use Rattle.std.proofs.lemmas.List.Elements.{filter-append}
+use Rattle.std.proofs.lemmas.Bool.{eq-eqb, eqb-true}
+use Rattle.std.specs.Cmp.Lexicographic.{nat_list_cmp_total}
+use Rattle.std.specs.FinMap as map
+use Rattle.assise_record.specs.declared.effect.Effect.{Effect}
+use Rattle.assise_record.specs.declared.effect.Effect.TheVariants.{NewFile, NewDir, Write, SetLen, Link, Unlink, Free}
+use Rattle.assise_seq_tree.specs.Tree.{same_name}
+use Rattle.assise_seq_tree.proofs.Sets.{same_itself, one_name}
+use Rattle.assise_inode_table.specs.Contents.{Content, regular, directory, Links, InodeMap}
+use Rattle.assise_inode_table.specs.Effects.{TakesAway, applied, effect_on, value_after}
+use Rattle.assise_console.specs.Undone.{CanBeMadeWhole, CanBeUndone, OnlyTakeAway, all_applied, is_link, leaves_entry, takes_away}
+use Rattle.assise_console.proofs.Undoing.{append_applied, get-all_applied, same_inodes}
+
+-- ---- the entries of one directory
+
+same_links : (m n : Links) → ((x : List ℕ) → map.get m x ≡ map.get n x) → m ≡ n
+same_links m n same = map.same_map nat_list_cmp_total (map.slice_cmp-IsAntisymmetric map.nat_cmp-IsAntisymmetric) m n same
+
+two_entries : (a b : Bool) (i : ℕ) (o : Option ℕ) → (a ≡ true → b ≡ true → ⊥) → cond a (Some i) (cond b None o) ≡ cond b None (cond a (Some i) o)
+two_entries true true i o apart = absurd (apart refl refl)
+two_entries true false i o apart = refl
+two_entries false b i o apart = refl
+
+one_entry : (b : Bool) (i : ℕ) (o : Option ℕ) → cond b (Some i) (cond b None o) ≡ cond b (Some i) o
+one_entry true i o = refl
+one_entry false i o = refl
+
+not_both_names : (x name other : List ℕ) → same_name other name ≡ false → same_name x name ≡ true → same_name x other ≡ true → ⊥
+not_both_names x name other apart a b = let same : same_name other name ≡ true = ap (λ n. same_name n name) (sym (one_name x other b) ∙ one_name x name a) ∙ same_itself name in cc
+
+insert_other : (links : Links) (name other : List ℕ) (i : ℕ) → same_name other name ≡ false → map.insert (map.remove links other) name i ≡ map.remove (map.insert links name i) other
+insert_other links name other i apart =
+    same_links _ _ (λ x.
+    map.get-insert nat_list_cmp_total (map.remove links other) name i x
+    ∙ ap (cond (same_name x name) (Some i)) (map.get-remove nat_list_cmp_total links other x)
+    ∙ two_entries (same_name x name) (same_name x other) i (map.get links x) (not_both_names x name other apart)
+    ∙ sym (map.get-remove nat_list_cmp_total (map.insert links name i) other x ∙ ap (cond (same_name x other) None) (map.get-insert nat_list_cmp_total links name i x)))
+
+insert_again : (links : Links) (name : List ℕ) (i : ℕ) → map.insert (map.remove links name) name i ≡ map.insert links name i
+insert_again links name i =
+    same_links _ _ (λ x.
+    map.get-insert nat_list_cmp_total (map.remove links name) name i x
+    ∙ ap (cond (same_name x name) (Some i)) (map.get-remove nat_list_cmp_total links name x)
+    ∙ one_entry (same_name x name) i (map.get links x)
+    ∙ sym (map.get-insert nat_list_cmp_total links name i x))
+
+-- ---- one inode
+
+other_entry_after : (o : Option Content) (c d : ℕ) (name other : List ℕ) (i : ℕ) → same_name other name ≡ false →
+    effect_on (effect_on o (Unlink c other)) (Link d name i) ≡ effect_on (effect_on o (Link d name i)) (Unlink c other)
+other_entry_after None c d name other i apart = refl
+other_entry_after (Some (regular bytes)) c d name other i apart = refl
+other_entry_after (Some (directory links)) c d name other i apart = ap (λ l. Some (directory l)) (insert_other links name other i apart)
+
+same_entry_after : (o : Option Content) (c d : ℕ) (name other : List ℕ) (i : ℕ) → same_name other name ≡ true →
+    effect_on (effect_on o (Unlink c other)) (Link d name i) ≡ effect_on o (Link d name i)
+same_entry_after None c d name other i same = refl
+same_entry_after (Some (regular bytes)) c d name other i same = refl
+same_entry_after (Some (directory links)) c d name other i same =
+    ap (λ l. Some (directory l)) (ap (λ x. map.insert (map.remove links x) name i) (one_name other name same) ∙ insert_again links name i)
+
+-- ---- one inode of a number, after both effects
+
+both_orders : (a b : Bool) (o : Option Content) (e f : Effect) → (a ≡ true → b ≡ true → effect_on (effect_on o e) f ≡ effect_on (effect_on o f) e) →
+    (if b then effect_on (if a then effect_on o e else o) f else (if a then effect_on o e else o)) ≡ (if a then effect_on (if b then effect_on o f else o) e else (if b then effect_on o f else o))
+both_orders true true o e f same = same refl refl
+both_orders true false o e f same = refl
+both_orders false true o e f same = refl
+both_orders false false o e f same = refl
+
+last_alone : (b : Bool) (o : Option Content) (e f : Effect) → effect_on (effect_on o e) f ≡ effect_on o f →
+    (if b then effect_on (if b then effect_on o e else o) f else (if b then effect_on o e else o)) ≡ (if b then effect_on o f else o)
+last_alone true o e f same = same
+last_alone false o e f same = refl
+
+another_name : (here there : Bool) → not (here && there) ≡ true → here ≡ true → there ≡ false
+another_name true true leaves is = cc
+another_name true false leaves is = refl
+another_name false there leaves is = cc
+
+this_directory : (here there : Bool) → not (here && there) ≡ false → here ≡ true
+this_directory true there gone = refl
+this_directory false there gone = cc
+
+this_name : (here there : Bool) → not (here && there) ≡ false → there ≡ true
+this_name true true gone = refl
+this_name true false gone = cc
+this_name false there gone = cc
+
+module _ (d : ℕ) (name : List ℕ) (i : ℕ) where
+  link_before : (q : ℕ) (o : Option Content) (e : Effect) → TakesAway e → leaves_entry d name e ≡ true → value_after q o (e ∷ Link d name i ∷ []) ≡ value_after q o (Link d name i ∷ e ∷ [])
+  link_before q o (Unlink c other) t leaves =
+      both_orders (c == q) (d == q) o (Unlink c other) (Link d name i) (λ at_c at_d.
+      other_entry_after o c d name other i (another_name (c == d) (same_name other name) leaves (eq-eqb c d (eqb-true c q at_c ∙ sym (eqb-true d q at_d)))))
+  link_before q o (Free c) t leaves = both_orders (c == q) (d == q) o (Free c) (Link d name i) (λ at_c at_d. refl)
+  link_before q o (NewFile c) t leaves = absurd t
+  link_before q o (NewDir c) t leaves = absurd t
+  link_before q o (Write c patch) t leaves = absurd t
+  link_before q o (SetLen c size) t leaves = absurd t
+  link_before q o (Link c other j) t leaves = absurd t
+
+  link_instead : (q : ℕ) (o : Option Content) (e : Effect) → TakesAway e → leaves_entry d name e ≡ false → value_after q o (e ∷ Link d name i ∷ []) ≡ value_after q o (Link d name i ∷ [])
+  link_instead q o (Unlink c other) t gone =
+      let here : c ≡ d = eqb-true c d (this_directory (c == d) (same_name other name) gone) in
+      ap (λ k. value_after q o (Unlink k other ∷ Link d name i ∷ [])) here
+      ∙ last_alone (d == q) o (Unlink d other) (Link d name i) (same_entry_after o d d name other i (this_name (c == d) (same_name other name) gone))
+  link_instead q o (Free c) t gone = cc
+  link_instead q o (NewFile c) t gone = absurd t
+  link_instead q o (NewDir c) t gone = absurd t
+  link_instead q o (Write c patch) t gone = absurd t
+  link_instead q o (SetLen c size) t gone = absurd t
+  link_instead q o (Link c other j) t gone = absurd t
+
+  -- ---- all inodes
+
+  applied_before : (m : InodeMap) (e : Effect) → TakesAway e → leaves_entry d name e ≡ true → applied (applied m e) (Link d name i) ≡ applied (applied m (Link d name i)) e
+  applied_before m e t leaves =
+      same_inodes _ _ (λ q.
+      get-all_applied m (e ∷ Link d name i ∷ []) q ∙ link_before q (map.get m q) e t leaves ∙ sym (get-all_applied m (Link d name i ∷ e ∷ []) q))
+
+  applied_instead : (m : InodeMap) (e : Effect) → TakesAway e → leaves_entry d name e ≡ false → applied (applied m e) (Link d name i) ≡ applied m (Link d name i)
+  applied_instead m e t gone =
+      same_inodes _ _ (λ q. get-all_applied m (e ∷ Link d name i ∷ []) q ∙ link_instead q (map.get m q) e t gone ∙ sym (get-all_applied m (Link d name i ∷ []) q))
+
+  one_behind : (m : InodeMap) (e : Effect) (es : List Effect) (b : Bool) → TakesAway e → leaves_entry d name e ≡ b →
+      all_applied (applied (applied m e) (Link d name i)) es ≡ all_applied (applied m (Link d name i)) (cond b (e ∷ es) es)
+  one_behind m e es true t leaves = ap (λ n. all_applied n es) (applied_before m e t leaves)
+  one_behind m e es false t gone = ap (λ n. all_applied n es) (applied_instead m e t gone)
+
+  -- the link comes first, and what takes out its very entry is left out
+  pub link_first : (m : InodeMap) (before : List Effect) → OnlyTakeAway before →
+      all_applied m (before ++ Link d name i ∷ []) ≡ all_applied (applied m (Link d name i)) (filter (leaves_entry d name) before)
+  link_first m [] t = refl
+  link_first m (e ∷ es) t = link_first (applied m e) es t.1 ∙ one_behind m e (filter (leaves_entry d name) es) (leaves_entry d name e) t.0 refl
+
+-- ---- one after another, with some passed over
+
+one_more : (m : InodeMap) (p : Effect → Bool) (es : List Effect) (k : ℕ) (e : Effect) → k < length es → e ≡ slice_index_or es k e →
+    all_applied m (filter p (take (k + 1) es)) ≡ all_applied (all_applied m (filter p (take k es))) (cond (p e) (e ∷ []) [])
+one_more m p es k e h is =
+    ap (λ xs. all_applied m (filter p xs)) (take_more es k e h ∙ ap (λ x. take k es ++ x ∷ []) (sym is))
+    ∙ ap (all_applied m) (filter-append p (take k es) (e ∷ [])) ∙ append_applied m (filter p (take k es)) (filter p (e ∷ []))
+
+pub one_more_left : (m : InodeMap) (p : Effect → Bool) (es : List Effect) (k : ℕ) (e : Effect) → k < length es → e ≡ slice_index_or es k e → p e ≡ true →
+    all_applied m (filter p (take (k + 1) es)) ≡ applied (all_applied m (filter p (take k es))) e
+one_more_left m p es k e h is left = one_more m p es k e h is ∙ ap (λ b. all_applied (all_applied m (filter p (take k es))) (cond b (e ∷ []) [])) left
+
+pub one_passed_over : (m : InodeMap) (p : Effect → Bool) (es : List Effect) (k : ℕ) (e : Effect) → k < length es → e ≡ slice_index_or es k e → p e ≡ false →
+    all_applied m (filter p (take (k + 1) es)) ≡ all_applied m (filter p (take k es))
+one_passed_over m p es k e h is passed = one_more m p es k e h is ∙ ap (λ b. all_applied (all_applied m (filter p (take k es))) (cond b (e ∷ []) [])) passed
+
+-- ---- which effects end with a link
+
+in_front : {A : Type 0} (xs ys : List A) (x y : A) → xs ++ x ∷ [] ≡ ys ++ y ∷ [] → (xs ≡ ys) × (x ≡ y)
+in_front [] [] x y same = (refl, cc)
+in_front [] (b ∷ []) x y same = cc
+in_front [] (b ∷ c ∷ ys) x y same = cc
+in_front (a ∷ []) [] x y same = cc
+in_front (a ∷ c ∷ xs) [] x y same = cc
+in_front (a ∷ xs) (b ∷ ys) x y same =
+    let first : a ≡ b = cc in
+    let both = in_front xs ys x y cc in
+    (ap (λ c. c ∷ xs) first ∙ ap (λ cs. b ∷ cs) both.0, both.1)
+
+away_type : (e : Effect) → takes_away e ≡ true → TakesAway e
+away_type (Unlink d name) away = tt
+away_type (Free i) away = tt
+away_type (NewFile i) away = cc
+away_type (NewDir i) away = cc
+away_type (Write i patch) away = cc
+away_type (SetLen i size) away = cc
+away_type (Link d name i) away = cc
+
+away_test : (e : Effect) → TakesAway e → takes_away e ≡ true
+away_test (Unlink d name) t = refl
+away_test (Free i) t = refl
+away_test (NewFile i) t = absurd t
+away_test (NewDir i) t = absurd t
+away_test (Write i patch) t = absurd t
+away_test (SetLen i size) t = absurd t
+away_test (Link d name i) t = absurd t
+
+both_left : (a b : Bool) → (a && b) ≡ true → a ≡ true
+both_left true b h = refl
+both_left false b h = cc
+
+both_right : (a b : Bool) → (a && b) ≡ true → b ≡ true
+both_right true b h = h
+both_right false b h = cc
+
+pub all_take_away : (es : List Effect) → list_all takes_away es ≡ true → OnlyTakeAway es
+all_take_away [] h = tt
+all_take_away (e ∷ es) h = (away_type e (both_left (takes_away e) (list_all takes_away es) h), all_take_away es (both_right (takes_away e) (list_all takes_away es) h))
+
+all_pass : (es : List Effect) → OnlyTakeAway es → list_all takes_away es ≡ true
+all_pass [] t = refl
+all_pass (e ∷ es) t = rw (away_test e t.0) (all_pass es t.1)
+
+-- a list whose last effect is no link, or whose others don't only take away, is made in its order
+pub made_in_order : (fresh : ℕ) (es before : List Effect) (last : Effect) → es ≡ before ++ last ∷ [] → CanBeMadeWhole fresh es → (is_link last ≡ true → list_all takes_away before ≡ true → ⊥) → CanBeUndone fresh es
+made_in_order fresh es before last are (inl undone) other = undone
+made_in_order fresh es before last are (inr w) other =
+    let same = in_front w.before before w.last last (sym w.are ∙ are) in
+    absurd (other (ap is_link (sym same.1) ∙ w.links) (ap (list_all takes_away) (sym same.0) ∙ all_pass w.before w.take_away))
+
+-- the effects before the last one, and the last one
+pub last_behind : (es : List Effect) (last : Effect) → 1 ≤ length es → last ≡ slice_index_or es (length es - 1) last → es ≡ take (length es - 1) es ++ last ∷ []
+last_behind es last some is =
+    sym (take_all (length es - 1 + 1) es (omega (arith, some))) ∙ take_more es (length es - 1) last (omega (arith, some)) ∙ ap (λ x. take (length es - 1) es ++ x ∷ []) (sym is)

@@ -1,0 +1,12 @@
+use Rattle.std.proofs.Common.{◌&&◌, not, ◌∙◌, ap, sym}
+use Rattle.std.proofs.lemmas.Bool.{eq-eqb}
+use Rattle.std.specs.Cmp.Lexicographic.{texts_ties}
+use Rattle.assise_seq_tree.specs.Tree.{same_name}
+use Rattle.assise_console.specs.Undone.{leaves_entry}
+use Rattle.assise_console.proofs.outcome.leaves_entry.Goals as goal
+
+pub returns-else-changed-directory : goal.returns-else-changed-directory
+returns-else-changed-directory c =
+    c.ne.ensures ∙ ap not (texts_ties c.in-Unlink.gone c.args.name.now)
+    ∙ sym (ap (λ here. not (here && same_name c.in-Unlink.gone c.args.name.now)) (eq-eqb c.in-Unlink.changed c.args.directory c.if-changed-directory.false))
+    ∙ sym (ap (leaves_entry c.args.directory c.args.name.now) c.in-Unlink.is)
