@@ -5,5 +5,6 @@ pub mod Asking
 pub mod FileChanging
 pub mod Making
 pub mod Removing
+pub mod Moving
 pub mod Exact
 pub mod Wanting

@@ -33,10 +33,10 @@ Ended leased v before names reads end next =
 
 module _ (leased : Leases) (v : Values) (before : List ℕ) (names : List (List ℕ)) (reads : List ℕ) (end : Result (ℕ × Bor Content) Stop)
     (ended : (next : ℕ → Content → Interaction) → Ended leased v before names reads end next) where
-  walk_stops : (stop : Stop) → end ≡ Err stop → (next : ℕ → Content → Interaction) → plan_from leased v before (walk names next) ≡ plan_stopped reads stop
+  pub walk_stops : (stop : Stop) → end ≡ Err stop → (next : ℕ → Content → Interaction) → plan_from leased v before (walk names next) ≡ plan_stopped reads stop
   walk_stops stop is next = subst (λ e. Ended leased v before names reads e next) is (ended next)
 
-  walk_ends : (r : ℕ × Bor Content) → end ≡ Ok r → (next : ℕ → Content → Interaction) → plan_from leased v before (walk names next) ≡ plan_from leased v reads (next r.0 r.1.now)
+  pub walk_ends : (r : ℕ × Bor Content) → end ≡ Ok r → (next : ℕ → Content → Interaction) → plan_from leased v before (walk names next) ≡ plan_from leased v reads (next r.0 r.1.now)
   walk_ends r is next = subst (λ e. Ended leased v before names reads e next) is (ended next)
 
   -- ---- and on to an entry
@@ -95,7 +95,7 @@ module _ (leased : Leases) (v : Values) (before : List ℕ) (parent : List (List
 
 -- ---- a call whose path isn't the root
 
-name_is : (p : List (List ℕ)) (name : List ℕ) → 1 ≤ length p → name ≡ slice_index_or p (length p - 1) name → last_name p ≡ name
+pub name_is : (p : List (List ℕ)) (name : List ℕ) → 1 ≤ length p → name ≡ slice_index_or p (length p - 1) name → last_name p ≡ name
 name_is p name some is = get_or_default p (length p - 1) [] name (omega (arith, some)) ∙ sym is
 
 pub below_root : (leased : Leases) (v : Values) (at_root : Interaction) (below : List ℕ → Interaction) (p : List (List ℕ)) (name : List ℕ) → 1 ≤ length p → name ≡ slice_index_or p (length p - 1) name →

@@ -1,4 +1,5 @@
 pub mod Leased
+pub mod Moving
 pub mod Planning
 pub mod Walking
 pub mod Views

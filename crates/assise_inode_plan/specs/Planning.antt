@@ -1,7 +1,7 @@
 -- What is planned for a call.
 use Rattle.std.specs.Prelude.{◌≡◌, ◌≤◌, ℕ, length, Option, Some, None}
 use Rattle.assise_names.specs.declared.call.Op.{Op}
-use Rattle.assise_names.specs.declared.call.Op.TheVariants.{Create, Mkdir, Read as ReadCall, Write as WriteCall, Truncate, Unlink, Rmdir, List, Stat, Fsync}
+use Rattle.assise_names.specs.declared.call.Op.TheVariants.{Create, Mkdir, Read as ReadCall, Write as WriteCall, Truncate, Rename, Unlink, Rmdir, List, Stat, Fsync}
 use Rattle.assise_names.specs.declared.mode.Mode.{Mode}
 use Rattle.assise_names.specs.declared.reply.Reply.{Reply}
 use Rattle.assise_seq_tree.specs.Tree.{Tree}
@@ -42,6 +42,7 @@ IsWritable (Create p) = Unit {0}
 IsWritable (Mkdir p) = Unit {0}
 IsWritable (ReadCall p offset most) = Unit {0}
 IsWritable (Truncate p size) = Unit {0}
+IsWritable (Rename p q) = Unit {0}
 IsWritable (Unlink p) = Unit {0}
 IsWritable (Rmdir p) = Unit {0}
 IsWritable (List p) = Unit {0}

@@ -10,6 +10,7 @@ mod lease_tests;
 pub mod plan;
 mod queries;
 mod removal;
+mod renaming;
 #[cfg(test)]
 mod tables;
 #[cfg(test)]

@@ -15,6 +15,7 @@ use crate::ending::answered;
 use crate::file_changes::{plan_truncate, plan_write};
 use crate::queries::{plan_list, plan_read, plan_stat};
 use crate::removal::{plan_rmdir, plan_unlink};
+use crate::renaming::plan_rename;
 use crate::view::View;
 use assise_names::call::Op;
 use assise_names::mode::Mode;
@@ -58,6 +59,14 @@ pub enum Planned {
 ///   [`TreeError::TooBig`]. Without bytes there is no effect.
 /// - [`Op::Truncate`]: the walk; a directory is [`TreeError::IsDir`]; more than 1,048,576 bytes are
 ///   [`TreeError::TooBig`].
+/// - [`Op::Rename`]: the root, as either path, is [`TreeError::Invalid`], and so is a move of a directory into itself;
+///   the walk to the first path's parent and on to the entry, which is visited; the walk to the other's parent, which
+///   has to be a directory ([`TreeError::NotDir`]). Where both paths are the same, it is done, without effects and
+///   without a further visit. What stands at the other path is visited, and replaced: a directory in the way of a file
+///   is [`TreeError::IsDir`], a file in the way of a directory [`TreeError::NotDir`], a directory with entries
+///   [`TreeError::NotEmpty`]. Where nothing stands there, another directory of 4,096 entries is
+///   [`TreeError::DirFull`]. The effects are, where something is replaced, its entry taken out and its inode freed;
+///   then the old entry taken out; then the new entry made. The moved inode is visited and not changed.
 /// - [`Op::Unlink`]: the root is [`TreeError::IsDir`]; the walk to the parent and on to the entry, which is visited; a
 ///   directory is [`TreeError::IsDir`]. The entry is taken out of its parent before its inode is freed.
 /// - [`Op::Rmdir`]: the root is [`TreeError::Invalid`]; the walk as for [`Op::Unlink`]; a file is
@@ -94,6 +103,7 @@ fn plan_call<V: View>(alloc: Global, view: &V, op: &Op, fresh: u64) -> Result<Pl
             plan_write(alloc, view, path.names(), *offset, new.as_slice())
         }
         Op::Truncate(path, size) => plan_truncate(alloc, view, path.names(), *size),
+        Op::Rename(from, to) => plan_rename(alloc, view, from, to),
         Op::Unlink(path) => plan_unlink(alloc, view, path.names()),
         Op::Rmdir(path) => plan_rmdir(alloc, view, path.names()),
         Op::List(path) => plan_list(alloc, view, path.names()),

@@ -70,7 +70,7 @@ pub(crate) fn plan_rmdir<V: View>(
 }
 
 /// An entry is taken out of its directory, and then its inode is freed.
-fn removal_effects(
+pub(crate) fn removal_effects(
     alloc: Global,
     directory: u64,
     name: &Name,

@@ -98,7 +98,7 @@ pub(crate) fn walk_to_entry<'a, V: View>(
 }
 
 /// Visits the inode that a walk ends at: it has to be there.
-fn reach<'a, V: View>(
+pub(crate) fn reach<'a, V: View>(
     view: &'a V,
     inode: u64,
     reads: &mut Vec<u64>,

@@ -1,0 +1,182 @@
+// Plans of renames.
+ghost use Rattle.std.specs.Prelude.{◌≡◌, ◌<◌, ◌++◌, ◌∷◌, IfOk, IsOkUnless, OnOk, Some, [], length};
+ghost use Rattle.std.specs.FinMap as map;
+ghost use Rattle.assise_inode_plan.specs.Moving.{effects_of_move};
+ghost use Rattle.assise_inode_plan.specs.Planning.{shown};
+ghost use Rattle.assise_inode_plan.specs.Walking.{plan_from};
+ghost use Rattle.assise_inode_table.specs.Calls.{may_replace, move_to, receive, rename_call, replace_target};
+ghost use Rattle.assise_inode_table.specs.Contents.{values};
+ghost use Rattle.assise_names.specs.declared.refusal.Refusal.TheVariants.{OutOfMemory};
+
+use crate::ending::{answered, finished, stopped};
+use crate::plan::Planned;
+use crate::removal::removal_effects;
+use crate::view::View;
+use crate::walk::{Entry, reach, walk, walk_to_entry};
+use assise_inode_table::directory::Directory;
+use assise_inode_table::inode::Inode;
+use assise_names::name::Name;
+use assise_names::path::Path;
+use assise_names::refusal::Refusal;
+use assise_names::reply::{Reply, TreeError};
+use assise_record::effect::Effect;
+use assise_seq_tree::answer::MOST_ENTRIES;
+use std::alloc::Global;
+
+/// An entry, and the place that it is moved to.
+#[derive(Clone, Copy, Debug)]
+struct Move<'a> {
+    /// The entry, where it is.
+    from: Entry<'a>,
+    /// Its name.
+    name: &'a Name,
+    /// The number of the directory that takes it.
+    directory: u64,
+    /// The name that it gets there.
+    new_name: &'a Name,
+}
+
+/// Moves what stands at a path to another.
+pub(crate) fn plan_rename<V: View>(
+    alloc: Global,
+    view: &V,
+    from: &Path,
+    to: &Path,
+) -> Result<Planned, Refusal>
+    ensures exact { IfOk result (λ p. shown p ≡ plan_from (V.leased view.now) (values (V.contents view.now)) [] (rename_call from.now to.now)) }
+    ensures only_memory { IsOkUnless result OutOfMemory }
+{
+    let mut reads = Vec::new(alloc);
+    let (names, new_names) = (from.names(), to.names());
+    let ([parent @ .., name], [_, ..]) = (names, new_names) else {
+        return Ok(answered(alloc, Reply::Error(TreeError::Invalid), reads));
+    };
+    if from.is_front_of(to) {
+        return Ok(answered(alloc, Reply::Error(TreeError::Invalid), reads));
+    }
+    match walk_to_entry(view, parent, name, &mut reads)? {
+        Ok(entry) => plan_move(alloc, view, names, new_names, &entry, reads),
+        Err(stop) => Ok(stopped(alloc, stop, reads)),
+    }
+}
+
+/// Moves an entry that is found, the one of the first path, to the second path. Neither is the root.
+fn plan_move<V: View>(
+    alloc: Global,
+    view: &V,
+    from: &[Name],
+    to: &[Name],
+    entry: &Entry,
+    reads: Vec<u64>,
+) -> Result<Planned, Refusal>
+    requires from { 0 < length from.now }
+    requires to { 0 < length to.now }
+    ensures exact { IfOk result (λ p. shown p ≡ plan_from (V.leased view.now) (values (V.contents view.now)) reads.items
+        (move_to from.now to.now entry.now.directory entry.now.inode entry.now.content.now)) }
+    ensures only_memory { IsOkUnless result OutOfMemory }
+{
+    let ([from_parent @ .., name], [to_parent @ .., new_name]) = (from, to) else {
+        unreachable!();
+    };
+    let mut reads = reads;
+    let (directory, inode) = match walk(view, to_parent, &mut reads)? {
+        Ok(reached) => reached,
+        Err(stop) => return Ok(stopped(alloc, stop, reads)),
+    };
+    let links = match inode.directory() {
+        Ok(links) => links,
+        Err(error) => return Ok(answered(alloc, Reply::Error(error), reads)),
+    };
+    if from == to {
+        return Ok(answered(alloc, Reply::Done, reads));
+    }
+    let moving = Move {
+        from: *entry,
+        name,
+        directory,
+        new_name,
+    };
+    plan_receiving(alloc, view, &moving, from_parent == to_parent, links, reads)
+}
+
+/// Moves an entry into a directory with these links. Where it stays in its directory, it needs no room.
+fn plan_receiving<V: View>(
+    alloc: Global,
+    view: &V,
+    moving: &Move,
+    stays: bool,
+    links: &Directory,
+    reads: Vec<u64>,
+) -> Result<Planned, Refusal>
+    ensures exact { IfOk result (λ p. shown p ≡ plan_from (V.leased view.now) (values (V.contents view.now)) reads.items
+        (receive moving.now.from.content.now stays moving.now.directory links.now moving.now.new_name.now (effects_of_move moving.now) (map.get links.now moving.now.new_name.now))) }
+    ensures only_memory { IsOkUnless result OutOfMemory }
+{
+    if let Some(target) = links.get(moving.new_name) {
+        return plan_replacing(alloc, view, moving, target, reads);
+    }
+    if !stays && links.len() >= MOST_ENTRIES {
+        return Ok(answered(alloc, Reply::Error(TreeError::DirFull), reads));
+    }
+    let effects = push_move(alloc, Vec::new(alloc), moving)?;
+    Ok(finished(view, Reply::Done, reads, effects))
+}
+
+/// Moves an entry to a place where another inode stands: that one is visited, and goes.
+fn plan_replacing<V: View>(
+    alloc: Global,
+    view: &V,
+    moving: &Move,
+    target: u64,
+    reads: Vec<u64>,
+) -> Result<Planned, Refusal>
+    ensures exact { IfOk result (λ p. shown p ≡ plan_from (V.leased view.now) (values (V.contents view.now)) reads.items
+        (replace_target moving.now.from.content.now moving.now.directory moving.now.new_name.now (effects_of_move moving.now) target)) }
+    ensures only_memory { IsOkUnless result OutOfMemory }
+{
+    let mut reads = reads;
+    let replaced = match reach(view, target, &mut reads)? {
+        Ok(replaced) => replaced,
+        Err(stop) => return Ok(stopped(alloc, stop, reads)),
+    };
+    if let Err(error) = may_replace(moving.from.content, replaced) {
+        return Ok(answered(alloc, Reply::Error(error), reads));
+    }
+    let removed = removal_effects(alloc, moving.directory, moving.new_name, target)?;
+    let effects = push_move(alloc, removed, moving)?;
+    Ok(finished(view, Reply::Done, reads, effects))
+}
+
+/// Whether an inode may take the place of another: a file that of a file, and a directory that of a directory without
+/// entries.
+fn may_replace(moved: &Inode, target: &Inode) -> Result<(), TreeError>
+    ensures { result ≡ may_replace moved.now target.now }
+{
+    if moved.file().is_ok() {
+        target.file()?;
+        return Ok(());
+    }
+    let links = target.directory()?;
+    if !links.is_empty() {
+        return Err(TreeError::NotEmpty);
+    }
+    Ok(())
+}
+
+/// Appends what moves an entry: it is taken out of its directory, and then it is an entry of the other.
+fn push_move(alloc: Global, effects: Vec<Effect>, moving: &Move) -> Result<Vec<Effect>, Refusal>
+    ensures moved { IfOk result (λ all. all.items ≡ effects.items ++ effects_of_move moving.now) }
+    ensures only_memory { IsOkUnless result OutOfMemory }
+{
+    let mut effects = effects;
+    effects.push(Effect::Unlink {
+        directory: moving.from.directory,
+        name: moving.name.copy(alloc)?,
+    })?;
+    effects.push(Effect::Link {
+        directory: moving.directory,
+        name: moving.new_name.copy(alloc)?,
+        inode: moving.from.inode,
+    })?;
+    Ok(effects)
+}
