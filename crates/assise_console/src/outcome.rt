@@ -19,6 +19,9 @@ use assise_names::reply::Reply;
 use assise_record::effect::Effect;
 use std::alloc::Global;
 
+#[cfg(test)]
+mod tests;
+
 /// What a call answers, and what it does, in order.
 #[derive(Debug, Drop)]
 pub(crate) struct Outcome {
@@ -46,8 +49,8 @@ pub(crate) fn outcome_of(
     }
 }
 
-/// Makes effects, all or none. Of those the ones on `fresh`, which is not there before, come first, and of the others
-/// only the first may take memory; or only the last one takes memory, which is a link. The one refusal is
+/// Makes effects, all or none. Those on `fresh`, which is not there before, come first, and of the others only the
+/// first may take memory; or the last one is a link, and the others only take away. The one refusal is
 /// [`Refusal::OutOfMemory`], and it leaves all inodes as they were.
 pub(crate) fn make_all(
     inodes: &mut InodeTable,
