@@ -1,6 +1,9 @@
 // Worked examples of leases that a plan lacks.
 use crate::plan::plan;
-use crate::tables::{Call, Change, FILE, LAST, NEXT, Wanted, is_planned, op_of, run};
+use crate::tables::{
+    Call, Change, FILE, LAST, MORE, NEXT, Wanted, is_planned, op_of, run,
+    two_files_and_two_directories,
+};
 use crate::view::View;
 use assise_inode_table::inode::Inode;
 use assise_inode_table::table::InodeTable;
@@ -40,23 +43,24 @@ impl View for AllBut<'_> {
     }
 }
 
-/// The inodes of a table, all leased for reading, and none for writing.
+/// The inodes of a table, all leased for reading, and at most one for writing.
 #[derive(Drop)]
-struct ReadOnly<'a> {
+struct WritingOne<'a> {
     inodes: &'a InodeTable,
+    written: u64,
 }
 
-impl View for ReadOnly<'_> {
-    ghost use Rattle.assise_inode_plan.specs.Views.{read_only};
+impl View for WritingOne<'_> {
+    ghost use Rattle.assise_inode_plan.specs.Views.{writing_one};
 
     ghost contents = { λ view. view.inodes.now };
 
-    ghost leased = { λ view. read_only };
+    ghost leased = { λ view. writing_one view.written };
 
-    fn leases(&self, _inode: u64, mode: Mode) -> bool {
+    fn leases(&self, inode: u64, mode: Mode) -> bool {
         match mode {
             Mode::Read => true,
-            Mode::Write => false,
+            Mode::Write => inode == self.written,
         }
     }
 
@@ -282,7 +286,10 @@ fn the_lease_of_an_entry_is_named(rt: HostRuntime) -> Result<(), Fail> {
 #[test]
 fn the_lease_of_the_first_effect_is_named(rt: HostRuntime) -> Result<(), Fail> {
     let inodes = file_and_directory(rt.alloc(), &rt)?;
-    let view = ReadOnly { inodes: &inodes };
+    let view = WritingOne {
+        inodes: &inodes,
+        written: NOBODY,
+    };
     let rows = [
         (Call::Create("/e"), Wanted::Missing(LAST, Mode::Write)),
         (Call::Mkdir("/e"), Wanted::Missing(LAST, Mode::Write)),
@@ -300,6 +307,213 @@ fn the_lease_of_the_first_effect_is_named(rt: HostRuntime) -> Result<(), Fail> {
         ),
     ];
     for (call, wanted) in rows {
+        let op = op_of(rt.alloc(), call)?;
+        let planned = plan(rt.alloc(), &view, &op, LAST)?;
+        assert!(rt; is_planned(&planned, wanted), "at {op}");
+    }
+    Ok(())
+}
+
+/// A rename wants the walk to the moved inode, the walk to the new parent and the inode that is replaced for reading,
+/// in this order, and what it changes for writing. The moved inode isn't wanted for writing.
+#[test]
+fn the_lease_of_a_rename_is_named(rt: HostRuntime) -> Result<(), Fail> {
+    let inodes = two_files_and_two_directories(rt.alloc(), &rt)?;
+    let rows = [
+        (
+            Call::Rename("/f", "/d/g"),
+            0,
+            NOBODY,
+            Wanted::Missing(0, Mode::Read),
+        ),
+        (
+            Call::Rename("/f", "/d/g"),
+            FILE,
+            0,
+            Wanted::Missing(FILE, Mode::Read),
+        ),
+        (
+            Call::Rename("/f", "/d/g"),
+            NEXT,
+            0,
+            Wanted::Missing(NEXT, Mode::Read),
+        ),
+        (
+            Call::Rename("/f", "/d/g"),
+            LAST,
+            NEXT,
+            Wanted::Missing(LAST, Mode::Read),
+        ),
+        (
+            Call::Rename("/f", "/d/g"),
+            NOBODY,
+            NEXT,
+            Wanted::Missing(NEXT, Mode::Write),
+        ),
+        (
+            Call::Rename("/f", "/d/g"),
+            NOBODY,
+            LAST,
+            Wanted::Missing(LAST, Mode::Write),
+        ),
+        (
+            Call::Rename("/f", "/d/g"),
+            NOBODY,
+            0,
+            Wanted::Missing(0, Mode::Write),
+        ),
+        (
+            Call::Rename("/f", "/d/g"),
+            NOBODY,
+            FILE,
+            Wanted::Done(
+                &[0, FILE, 0, NEXT, LAST],
+                &[
+                    Change::Unlink(NEXT, "g"),
+                    Change::Free(LAST),
+                    Change::Unlink(0, "f"),
+                    Change::Link(NEXT, "g", FILE),
+                ],
+            ),
+        ),
+        (
+            Call::Rename("/f", "/d/h"),
+            NEXT,
+            0,
+            Wanted::Missing(NEXT, Mode::Read),
+        ),
+        (
+            Call::Rename("/f", "/d/h"),
+            LAST,
+            0,
+            Wanted::Missing(0, Mode::Write),
+        ),
+        (
+            Call::Rename("/f", "/d/h"),
+            NOBODY,
+            NEXT,
+            Wanted::Missing(NEXT, Mode::Write),
+        ),
+        (
+            Call::Rename("/f", "/d/h"),
+            LAST,
+            FILE,
+            Wanted::Done(
+                &[0, FILE, 0, NEXT],
+                &[Change::Unlink(0, "f"), Change::Link(NEXT, "h", FILE)],
+            ),
+        ),
+        (
+            Call::Rename("/f", "/x/h"),
+            FILE,
+            0,
+            Wanted::Missing(FILE, Mode::Read),
+        ),
+        (
+            Call::Rename("/x", "/d/h"),
+            NEXT,
+            0,
+            Wanted::Error(TreeError::NoEnt, &[0]),
+        ),
+        (
+            Call::Rename("/f", "/d/g/h"),
+            LAST,
+            0,
+            Wanted::Missing(LAST, Mode::Read),
+        ),
+        (
+            Call::Rename("/e", "/d/g"),
+            LAST,
+            0,
+            Wanted::Missing(LAST, Mode::Read),
+        ),
+        (
+            Call::Rename("/e", "/d/g"),
+            NOBODY,
+            NEXT,
+            Wanted::Error(TreeError::NotDir, &[0, MORE, 0, NEXT, LAST]),
+        ),
+        (
+            Call::Rename("/f", "/f"),
+            FILE,
+            0,
+            Wanted::Missing(FILE, Mode::Read),
+        ),
+        (
+            Call::Rename("/f", "/f"),
+            NOBODY,
+            0,
+            Wanted::Done(&[0, FILE, 0], &[]),
+        ),
+        (
+            Call::Rename("/d", "/d/h"),
+            0,
+            0,
+            Wanted::Error(TreeError::Invalid, &[]),
+        ),
+    ];
+    run_lacking(rt.alloc(), &rt, &inodes, rows.as_slice())
+}
+
+/// Leases for writing are named in the order of the effects.
+#[test]
+fn the_lease_of_the_first_effect_of_a_rename_is_named(rt: HostRuntime) -> Result<(), Fail> {
+    let inodes = two_files_and_two_directories(rt.alloc(), &rt)?;
+    let rows = [
+        (
+            Call::Rename("/f", "/d/g"),
+            NOBODY,
+            Wanted::Missing(NEXT, Mode::Write),
+        ),
+        (
+            Call::Rename("/f", "/d/g"),
+            NEXT,
+            Wanted::Missing(LAST, Mode::Write),
+        ),
+        (
+            Call::Rename("/d/g", "/f"),
+            NOBODY,
+            Wanted::Missing(0, Mode::Write),
+        ),
+        (
+            Call::Rename("/d/g", "/f"),
+            0,
+            Wanted::Missing(FILE, Mode::Write),
+        ),
+        (
+            Call::Rename("/f", "/d/h"),
+            NOBODY,
+            Wanted::Missing(0, Mode::Write),
+        ),
+        (
+            Call::Rename("/f", "/d/h"),
+            0,
+            Wanted::Missing(NEXT, Mode::Write),
+        ),
+        (
+            Call::Rename("/d/g", "/h"),
+            NOBODY,
+            Wanted::Missing(NEXT, Mode::Write),
+        ),
+        (
+            Call::Rename("/d/g", "/h"),
+            NEXT,
+            Wanted::Missing(0, Mode::Write),
+        ),
+        (
+            Call::Rename("/f", "/h"),
+            0,
+            Wanted::Done(
+                &[0, FILE, 0],
+                &[Change::Unlink(0, "f"), Change::Link(0, "h", FILE)],
+            ),
+        ),
+    ];
+    for (call, written, wanted) in rows {
+        let view = WritingOne {
+            inodes: &inodes,
+            written,
+        };
         let op = op_of(rt.alloc(), call)?;
         let planned = plan(rt.alloc(), &view, &op, LAST)?;
         assert!(rt; is_planned(&planned, wanted), "at {op}");

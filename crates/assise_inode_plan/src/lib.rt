@@ -12,6 +12,8 @@ mod queries;
 mod removal;
 mod renaming;
 #[cfg(test)]
+mod renaming_tests;
+#[cfg(test)]
 mod tables;
 #[cfg(test)]
 mod tests;

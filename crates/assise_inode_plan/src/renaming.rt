@@ -1,5 +1,5 @@
 // Plans of renames.
-ghost use Rattle.std.specs.Prelude.{◌≡◌, ◌<◌, ◌++◌, ◌∷◌, IfOk, IsOkUnless, OnOk, Some, [], length};
+ghost use Rattle.std.specs.Prelude.{◌≡◌, ◌<◌, ◌++◌, IfOk, IsOkUnless, OnOk, [], length};
 ghost use Rattle.std.specs.FinMap as map;
 ghost use Rattle.assise_inode_plan.specs.Moving.{effects_of_move};
 ghost use Rattle.assise_inode_plan.specs.Planning.{shown};
@@ -67,7 +67,7 @@ fn plan_move<V: View>(
     from: &[Name],
     to: &[Name],
     entry: &Entry,
-    reads: Vec<u64>,
+    mut reads: Vec<u64>,
 ) -> Result<Planned, Refusal>
     requires from { 0 < length from.now }
     requires to { 0 < length to.now }
@@ -78,7 +78,6 @@ fn plan_move<V: View>(
     let ([from_parent @ .., name], [to_parent @ .., new_name]) = (from, to) else {
         unreachable!();
     };
-    let mut reads = reads;
     let (directory, inode) = match walk(view, to_parent, &mut reads)? {
         Ok(reached) => reached,
         Err(stop) => return Ok(stopped(alloc, stop, reads)),
@@ -118,7 +117,8 @@ fn plan_receiving<V: View>(
     if !stays && links.len() >= MOST_ENTRIES {
         return Ok(answered(alloc, Reply::Error(TreeError::DirFull), reads));
     }
-    let effects = push_move(alloc, Vec::new(alloc), moving)?;
+    let mut effects = Vec::with_capacity(alloc, 2)?;
+    push_move(alloc, &mut effects, moving)?;
     Ok(finished(view, Reply::Done, reads, effects))
 }
 
@@ -128,13 +128,12 @@ fn plan_replacing<V: View>(
     view: &V,
     moving: &Move,
     target: u64,
-    reads: Vec<u64>,
+    mut reads: Vec<u64>,
 ) -> Result<Planned, Refusal>
     ensures exact { IfOk result (λ p. shown p ≡ plan_from (V.leased view.now) (values (V.contents view.now)) reads.items
         (replace_target moving.now.from.content.now moving.now.directory moving.now.new_name.now (effects_of_move moving.now) target)) }
     ensures only_memory { IsOkUnless result OutOfMemory }
 {
-    let mut reads = reads;
     let replaced = match reach(view, target, &mut reads)? {
         Ok(replaced) => replaced,
         Err(stop) => return Ok(stopped(alloc, stop, reads)),
@@ -142,8 +141,8 @@ fn plan_replacing<V: View>(
     if let Err(error) = may_replace(moving.from.content, replaced) {
         return Ok(answered(alloc, Reply::Error(error), reads));
     }
-    let removed = removal_effects(alloc, moving.directory, moving.new_name, target)?;
-    let effects = push_move(alloc, removed, moving)?;
+    let mut effects = removal_effects(alloc, moving.directory, moving.new_name, target)?;
+    push_move(alloc, &mut effects, moving)?;
     Ok(finished(view, Reply::Done, reads, effects))
 }
 
@@ -164,11 +163,10 @@ fn may_replace(moved: &Inode, target: &Inode) -> Result<(), TreeError>
 }
 
 /// Appends what moves an entry: it is taken out of its directory, and then it is an entry of the other.
-fn push_move(alloc: Global, effects: Vec<Effect>, moving: &Move) -> Result<Vec<Effect>, Refusal>
-    ensures moved { IfOk result (λ all. all.items ≡ effects.items ++ effects_of_move moving.now) }
+fn push_move(alloc: Global, effects: &mut Vec<Effect>, moving: &Move) -> Result<(), Refusal>
+    ensures moved { OnOk result (effects.new.items ≡ effects.old.items ++ effects_of_move moving.now) }
     ensures only_memory { IsOkUnless result OutOfMemory }
 {
-    let mut effects = effects;
     effects.push(Effect::Unlink {
         directory: moving.from.directory,
         name: moving.name.copy(alloc)?,
@@ -178,5 +176,5 @@ fn push_move(alloc: Global, effects: Vec<Effect>, moving: &Move) -> Result<Vec<E
         name: moving.new_name.copy(alloc)?,
         inode: moving.from.inode,
     })?;
-    Ok(effects)
+    Ok(())
 }

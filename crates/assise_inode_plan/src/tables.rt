@@ -26,6 +26,9 @@ pub(crate) const NEXT: u64 = 4_294_967_297;
 /// The number of the third one.
 pub(crate) const LAST: u64 = 4_294_967_298;
 
+/// The number of one more.
+pub(crate) const MORE: u64 = 4_294_967_299;
+
 /// A call, as a table has it.
 #[derive(Clone, Copy)]
 pub(crate) enum Call<'a> {
@@ -34,6 +37,7 @@ pub(crate) enum Call<'a> {
     Read(&'a str, u64, u64),
     Write(&'a str, u64, &'a [u8]),
     Truncate(&'a str, u64),
+    Rename(&'a str, &'a str),
     Unlink(&'a str),
     Rmdir(&'a str),
     List(&'a str),
@@ -81,6 +85,10 @@ pub(crate) fn op_of(alloc: Global, call: Call<'_>) -> Result<Op, Fail>
             Ok(Op::Write(path, offset, ByteString::from_vec(few.to_vec(alloc)?)))
         }
         Call::Truncate(path, size) => Ok(Op::Truncate(Path::parse(alloc, path)?, size)),
+        Call::Rename(from, to) => {
+            let from = Path::parse(alloc, from)?;
+            Ok(Op::Rename(from, Path::parse(alloc, to)?))
+        }
         Call::Unlink(path) => Ok(Op::Unlink(Path::parse(alloc, path)?)),
         Call::Rmdir(path) => Ok(Op::Rmdir(Path::parse(alloc, path)?)),
         Call::List(path) => Ok(Op::List(Path::parse(alloc, path)?)),
@@ -205,4 +213,40 @@ pub(crate) fn run<'a>(
         apply_all(inodes, &planned)?;
     }
     Ok(())
+}
+
+/// Makes the file `/f` of number `FILE`, the directory `/d` of number `NEXT` with the file `g` of number `LAST`, and
+/// the directory `/e` of number `MORE`.
+pub(crate) fn two_files_and_two_directories(
+    alloc: Global,
+    rt: &impl Abort,
+) -> Result<InodeTable, Fail> {
+    let mut inodes = InodeTable::opening(alloc)?;
+    let rows = [
+        (
+            Call::Create("/f"),
+            FILE,
+            Wanted::Done(&[0], &[Change::NewFile(FILE), Change::Link(0, "f", FILE)]),
+        ),
+        (
+            Call::Mkdir("/d"),
+            NEXT,
+            Wanted::Done(&[0], &[Change::NewDir(NEXT), Change::Link(0, "d", NEXT)]),
+        ),
+        (
+            Call::Create("/d/g"),
+            LAST,
+            Wanted::Done(
+                &[0, NEXT],
+                &[Change::NewFile(LAST), Change::Link(NEXT, "g", LAST)],
+            ),
+        ),
+        (
+            Call::Mkdir("/e"),
+            MORE,
+            Wanted::Done(&[0], &[Change::NewDir(MORE), Change::Link(0, "e", MORE)]),
+        ),
+    ];
+    run(alloc, rt, &mut inodes, rows.as_slice())?;
+    Ok(inodes)
 }

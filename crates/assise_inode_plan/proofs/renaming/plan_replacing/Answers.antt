@@ -16,5 +16,5 @@ returns-in-Err-may_replace-clause-exact g c = c.answered.ensures ∙ target_rema
 pub returns-clause-exact : goal.returns-clause-exact
 returns-clause-exact g c =
     c.finished.ensures
-    ∙ ap (λ es. plan_from (g.V.View.leased c.args.view.now) (values (g.V.View.contents c.args.view.now)) c.reach.new.reads.items (finish Done es)) (c.in_ok-effects.ensures.moved ∙ ap (λ es. es ++ effects_of_move c.args.moving.now) c.in_ok-removed.ensures.effects)
+    ∙ ap (λ es. plan_from (g.V.View.leased c.args.view.now) (values (g.V.View.contents c.args.view.now)) c.reach.new.reads.items (finish Done es)) (c.in_ok-push_move.ensures.moved ∙ ap (λ es. es ++ effects_of_move c.args.moving.now) c.in_ok-effects.ensures.effects)
     ∙ target_goes (g.V.View.leased c.args.view.now) (values (g.V.View.contents c.args.view.now)) c.args.reads.items c.reach.new.reads.items c.args.target c.in_ok-replaced.field-0 c.in_ok-replaced.ensures.left c.args.moving.now.from.content.now c.args.moving.now.directory c.args.moving.now.new_name.now (effects_of_move c.args.moving.now) c.in-Ok.replaced c.in-Ok.is (sym c.in_default.ensures)
