@@ -161,7 +161,7 @@ module _ (v : Values) (t : Tree) (p q : Path) (fresh : ℕ) (s : Spells v t) (fr
         not_below : LeadsNowhere (children v) g → (rest : Path) → p ≡ q ++ rest → ⊥
         not_below nowhere rest e =
             let way : reach (children v) g rest ≡ Ok i =
-                sym (reach-append (children v) 0 (parent_of q ++ last_name q ∷ []) rest g goal_reached) ∙ ap (λ x. reach (children v) 0 (x ++ rest)) (sym to_whole) ∙ ap (reach (children v) 0) (sym e) ∙ reached in
+            sym (reach-append (children v) 0 (parent_of q ++ last_name q ∷ []) rest g goal_reached) ∙ ap (λ x. reach (children v) 0 (x ++ rest)) (sym to_whole) ∙ ap (reach (children v) 0) (sym e) ∙ reached in
             let none : rest ≡ [] = ends (children v) g nowhere rest i way in
             differ apart (e ∙ ap (λ x. q ++ x) none ∙ append-nil q)
 
@@ -185,7 +185,7 @@ module _ (v : Values) (t : Tree) (p q : Path) (fresh : ℕ) (s : Spells v t) (fr
         received_over =
             let same = same_replacing c seen.content m u kind seen.alike in
             let at_target : settled v (replace_target c d.inode (last_name q) moves g) ≡ settled v (then_or_error (may_replace c seen.content) (λ _. finish Done replacing)) =
-                ap (λ o. settled v (then_or_error (ok_or o NoEnt) (λ x. then_or_error (may_replace c x) (λ _. finish Done replacing)))) seen.is in
+            ap (λ o. settled v (then_or_error (ok_or o NoEnt) (λ x. then_or_error (may_replace c x) (λ _. finish Done replacing)))) seen.is in
             subst (λ o. Agrees v fresh o (answer_by (Ok m) (tree_may_replace m u))) (sym at_target)
             (subst (λ r. Agrees v fresh (settled v (then_or_error (may_replace c seen.content) (λ _. finish Done replacing))) (answer_by (Ok m) r)) same
             (replaced_by (may_replace c seen.content) refl (sym same)))
@@ -210,9 +210,9 @@ module _ (v : Values) (t : Tree) (p q : Path) (fresh : ℕ) (s : Spells v t) (fr
               | inr apart ↦
                   let done = received d apart (map.get d.links (last_name q)) (find (last_name q) d.entries) refl refl (same_found d.entries d.links d.names (last_name q)) in
                   let ends : settled v (move_to p q h.parent i c) ≡ settled v (receive c stays d.inode d.links (last_name q) (move_effects h.parent (last_name p) d.inode (last_name q) i) (map.get d.links (last_name q))) =
-                      way ∙ rw apart refl in
+                  way ∙ rw apart refl in
                   let inside : (entries_at t (parent_of q) >>= entered m) ≡ may_receive m stays d.entries (find (last_name q) d.entries) =
-                      ap (λ o. (o >>= as_directory) >>= entered m) d.there ∙ ap (λ b. cond b (Ok tt) (may_receive m stays d.entries (find (last_name q) d.entries))) apart in
+                  ap (λ o. (o >>= as_directory) >>= entered m) d.there ∙ ap (λ b. cond b (Ok tt) (may_receive m stays d.entries (find (last_name q) d.entries))) apart in
                   subst (λ o. Agrees v fresh o (answer_by (Ok m) (entries_at t (parent_of q) >>= entered m))) (sym ends)
                   (subst (λ r. Agrees v fresh (settled v (receive c stays d.inode d.links (last_name q) (move_effects h.parent (last_name p) d.inode (last_name q) i) (map.get d.links (last_name q)))) (answer_by (Ok m) r)) (sym inside) done)
             ]
