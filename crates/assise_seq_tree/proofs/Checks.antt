@@ -113,30 +113,18 @@ not_true b false e h = refl
 abbrev entered : Path → Path → Tree → Entries → Result (Unit {0}) TreeError
 entered p q moved es = if same_path p q then Ok tt else may_receive moved (same_path (parent_of p) (parent_of q)) es (find (last_name q) es)
 
+-- the check of paths that differ
+otherwise : (same : Bool) (r : Result (Unit {0}) TreeError) → same ≡ false → cond same (Ok tt) r ≡ Ok tt → r ≡ Ok tt
+otherwise true r other h = cc
+otherwise false r other h = h
+
 pub passed : (p q : Path) (t : Tree) → may_rename t p q ≡ Ok tt → same_path p q ≡ false → Passed p q t
 passed p q t h other =
     let below = no_error (length p == 0 || length q == 0) Invalid (if is_proper_front p q then Err Invalid else (at t p >>= λ moved. entries_at t (parent_of q) >>= λ es. entered p q moved es)) tt h in
     let checked = no_error (is_proper_front p q) Invalid (at t p >>= λ moved. entries_at t (parent_of q) >>= λ es. entered p q moved es) tt below.1 in
     let roots = neither (length p == 0) (length q == 0) below.0 in
     let source = then_ok (at t p) (λ moved. entries_at t (parent_of q) >>= λ es. entered p q moved es) tt checked.1 in
-    let inside = then_ok (entries_at t (parent_of q)) (entered p q source.0) tt source.2 in
-    let parent = then_ok (at t (parent_of q)) as_directory inside.0 inside.1 in
-    let is : at t (parent_of q) ≡ Ok (dir inside.0) = parent.1 ∙ ap Ok (is_directory parent.0 inside.0 parent.2) in
-    let received : may_receive source.0 (same_path (parent_of p) (parent_of q)) inside.0 (find (last_name q) inside.0) ≡ Ok tt =
-    sym (ap (λ b. cond b (Ok tt) (may_receive source.0 (same_path (parent_of p) (parent_of q)) inside.0 (find (last_name q) inside.0))) other) ∙ inside.2 in
-    record {
-      apart = record {
-        first = λ begins. front_of begins.0 begins.1 source.0 inside.0 (is_some_name (length q) roots.1) source.1 is received;
-        second = λ begins. not_begins p q checked.0 differ begins.0 begins.1;
-      };
-      entries = inside.0;
-      parent = is;
-      moved = source.0;
-      source = source.1;
-      receives = received;
-      from_name = is_some_name (length p) roots.0;
-      to_name = is_some_name (length q) roots.1;
-    }
+    walked (is_some_name (length p) roots.0) (is_some_name (length q) roots.1) checked.0 source.0 source.1 source.2
   where
     differ : p ≢ q
     differ e = let same = (same_is p q).1 e in cc
@@ -147,3 +135,25 @@ passed p q t h other =
         let way = on_the_way q rest r t moved (ap (at t) (sym e) ∙ source) in
         let target = last_step (parent_of q) (last_name q) t (dir way.0) es parent (ap (at t) (sym (parent_and_last q some)) ∙ way.1) in
         no_place moved (same_path (parent_of p) (parent_of q)) es way.0 way.2 (ap (may_receive moved (same_path (parent_of p) (parent_of q)) es) (sym target) ∙ received)
+
+    entering : 0 < length p → 0 < length q → is_proper_front p q ≡ false → (moved : Tree) (es : Entries) → at t p ≡ Ok moved → at t (parent_of q) ≡ Ok (dir es) → may_receive moved (same_path (parent_of p) (parent_of q)) es (find (last_name q) es) ≡ Ok tt → Passed p q t
+    entering from to below moved es source parent received = record {
+      apart = record {
+        first = λ begins. front_of begins.0 begins.1 moved es to source parent received;
+        second = λ begins. not_begins p q below differ begins.0 begins.1;
+      };
+      entries = es;
+      parent = parent;
+      moved = moved;
+      source = source;
+      receives = received;
+      from_name = from;
+      to_name = to;
+    }
+
+    walked : 0 < length p → 0 < length q → is_proper_front p q ≡ false → (moved : Tree) → at t p ≡ Ok moved → (entries_at t (parent_of q) >>= entered p q moved) ≡ Ok tt → Passed p q t
+    walked from to below moved source rest =
+        let inside = then_ok (entries_at t (parent_of q)) (entered p q moved) tt rest in
+        let parent = then_ok (at t (parent_of q)) as_directory inside.0 inside.1 in
+        entering from to below moved inside.0 source (parent.1 ∙ ap Ok (is_directory parent.0 inside.0 parent.2))
+        (otherwise (same_path p q) (may_receive moved (same_path (parent_of p) (parent_of q)) inside.0 (find (last_name q) inside.0)) other inside.2)
