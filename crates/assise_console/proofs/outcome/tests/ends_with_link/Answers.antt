@@ -8,5 +8,5 @@ returns-then-is_link c = λ away. record {
   last = c.last-item.result;
   are = last_behind c.args.effects.now c.last-item.result c.in-len1-up.len_at_least c.last-item.is;
   take_away = all_take_away (take (length c.args.effects.now - 1) c.args.effects.now) (sym c.only_take_away.ensures ∙ away);
-  links = sym c.is_link.ensures ∙ c.if-is_link.true
+  links = sym c.is_link.ensures ∙ c.if-is_link.true;
 }
