@@ -5,6 +5,7 @@ use Rattle.std.proofs.lemmas.Bool.Decides.{nat_tests}
 use Rattle.std.proofs.lemmas.List.Elements.{All-nil, All-cons}
 use Rattle.std.specs.Prelude.{is_some}
 use Rattle.std.specs.Str.{is_utf8}
+use Rattle.assise_names.specs.declared.call.Op.{Op}
 use Rattle.assise_fault_script.specs.declared.command.Command.{Command}
 use Rattle.assise_fault_script.specs.declared.command.Command.TheVariants.{Cluster, Open, Call, History}
 use Rattle.assise_fault_script.specs.declared.command.Keyword as first
@@ -107,12 +108,14 @@ client_row built client (name ∷ rest) c h =
     let k = came_from (call_word name) (λ k. cluster_there built >>= λ _. call_of k rest >>= λ op. Ok (Some (Call n.0 op))) (Some c) n.1.1 in
     let t = came_from (cluster_there built) (λ _. call_of k.0 rest >>= λ op. Ok (Some (Call n.0 op))) (Some c) k.1.1 in
     let op = came_from (call_of k.0 rest) (λ op. Ok (Some (Call n.0 op))) (Some c) t.1.1 in
-    let is : Call n.0 op.0 ≡ c = let e = op.1.1 in cc in
-    (there built t.0 t.1.0, subst IsOther is tt)
+    (there built t.0 t.1.0, called n.0 op.0 (let e = op.1.1 in cc))
   where
     there : (built : Bool) (u : Unit {0}) → cluster_there built ≡ Ok u → built ≡ true
     there true u h = refl
     there false u h = cc
+
+    called : (n : ℕ) (op : Op) → Call n op ≡ c → IsOther c
+    called n op is = subst IsOther is tt
 
 -- ---- one line
 
