@@ -213,12 +213,12 @@ fn a_directory_is_full_with_4096_entries(rt: HostRuntime) -> Result<(), Fail> {
     let mut wanted = String::from_str(rt.alloc(), "2: client 1\n")?;
     for number in 0..4096u32 {
         let line = number + 3;
-        let create = format!(in rt.alloc(); "1 create /f{number}\n")?;
+        let create = format!(in rt.alloc(); "1 create /f{number:04}\n")?;
         script.push_str(create.as_str())?;
         let done = format!(in rt.alloc(); "{line}: done\n")?;
         wanted.push_str(done.as_str())?;
     }
-    script.push_str("1 create /x\n1 mkdir /x\n1 unlink /f7\n1 mkdir /x\n1 create /x/y\n")?;
+    script.push_str("1 create /x\n1 mkdir /x\n1 unlink /f0007\n1 mkdir /x\n1 create /x/y\n")?;
     wanted.push_str("4099: E8 DirFull\n4100: E8 DirFull\n4101: done\n4102: done\n4103: done\n")?;
     assert!(rt; prints(&rt, script.as_str(), wanted.as_str())?);
     Ok(())
