@@ -1,9 +1,9 @@
 -- What is kept in a console is kept by each of its steps.
-use Rattle.std.proofs.Common.{◌≡◌, ◌⊎◌, ℕ, ◌+◌, ◌<◌, ◌≤◌, ◌==◌, nat_lt, not, Bool, true, false, if◌then◌else◌, cond, List, [], ◌∷◌, ◌++◌, Option, Some, None, IsSome, Ok, refl, ap, ap₂, sym, subst, ◌∙◌, inl, inr, arith, length-append}
-use Rattle.std.proofs.lemmas.Bool.{cases_eq, ne_eqb}
+use Rattle.std.proofs.Common.{◌≡◌, ◌⊎◌, ℕ, ◌+◌, ◌<◌, ◌≤◌, ◌==◌, ◌&&◌, nat_lt, not, Bool, true, false, if◌then◌else◌, cond, List, [], ◌∷◌, ◌++◌, map as map_list, Option, Some, None, IsSome, Ok, refl, ap, ap₂, sym, subst, ◌∙◌, inl, inr, arith, length-append}
+use Rattle.std.proofs.lemmas.Bool.{eq-eqb}
 use Rattle.std.proofs.lemmas.Bool.Decides.{nat_tests}
-use Rattle.std.specs.Cmp.{nat_cmp_total}
-use Rattle.std.specs.Ordering.{eq_by_cmp, nat_cmp}
+use Rattle.std.proofs.lemmas.List.{map-append}
+use Rattle.std.proofs.lemmas.List.Sums.{sum_by-append}
 use Rattle.std.specs.FinMap as map
 use Rattle.assise_names.specs.declared.call.Op.{Op}
 use Rattle.assise_names.specs.declared.refusal.Refusal.TheVariants.{BadClient, InodesSpent}
@@ -16,46 +16,33 @@ use Rattle.assise_history.specs.Entries.{Event, opens, calls}
 use Rattle.assise_history.specs.Kept.{kept, tree_after}
 use Rattle.assise_history.proofs.Runs.{kept-push, tree_after-push}
 use Rattle.assise_inode_table.specs.Calls.{step}
-use Rattle.assise_inode_table.specs.Contents.{Content, directory, InodeMap, values}
+use Rattle.assise_inode_table.specs.Contents.{Content, InodeMap, Values, values}
+use Rattle.assise_inode_table.specs.Effects.{after}
+use Rattle.assise_inode_table.specs.Numbers.{AnsweredCall, inode_number, inodes_made, makes_inode, numbered, numbered_call}
 use Rattle.assise_inode_table.specs.Opening.{opening}
 use Rattle.assise_inode_table.specs.Spelled.{Spells}
+use Rattle.assise_inode_table.specs.Traces.{NumberedCall, step_of, values_after_calls}
+use Rattle.assise_inode_table.proofs.AtOpening.{opening_spells, root_alone}
+use Rattle.assise_inode_table.proofs.CallEnds.{makes_own}
 use Rattle.assise_inode_table.proofs.CallSteps.{step_replies, step_spells}
-use Rattle.assise_inode_table.proofs.Leaves.{empty_spells}
-use Rattle.assise_inode_table.proofs.Making.{same_number}
+use Rattle.assise_inode_table.proofs.Numbering.{one_more, there_or_made}
 use Rattle.assise_console.specs.declared.answer.Answer.TheVariants.{Client, Refused, Replied}
-use Rattle.assise_console.specs.Sound.{IsKept, IsMade, state_of}
-use Rattle.assise_console.specs.Steps.{State, answered, made_after, makes_inode, newly_opened, opened, with_reply}
+use Rattle.assise_console.specs.Sound.{IsKept, IsMade, answered_call, answered_calls, state_of}
+use Rattle.assise_console.specs.Steps.{State, answered, made_after, newly_opened, opened, with_reply}
 use Rattle.assise_console.specs.Undone.{all_applied}
-use Rattle.assise_console.proofs.Making.{there_after_step}
 use Rattle.assise_console.proofs.Soundness.{keeps_called, keeps_opened, keeps_start}
 use Rattle.assise_console.proofs.Undoing.{values-all_applied}
 
 -- ---- at the opening
 
-get_opening : (i : ℕ) → values opening i ≡ (if 0 == i then Some (directory map.empty) else None)
-get_opening i =
-    map.get-insert nat_cmp_total map.empty 0 (directory map.empty) i ∙ ap (λ o. cond (eq_by_cmp nat_cmp i 0) (Some (directory map.empty)) o) (map.get-empty nat_cmp i)
-    ∙ ap (λ b. cond b (Some (directory map.empty)) None) (same_number i 0)
-
-root_only : (i : ℕ) → IsSome (values opening i) → i ≡ 0
-root_only i h =
-    elim (cases_eq 0 i) [
-      | inl same ↦ sym same
-      | inr apart ↦ let none : values opening i ≡ None = get_opening i ∙ ap (λ b. cond b (Some (directory map.empty)) None) (ne_eqb 0 i apart) in cc
-    ]
-
-opening_spells : Spells (values opening) first_tree
-opening_spells = record {
-  tree = empty_spells (values opening) 0 (get_opening 0);
-  reached = λ j h. ([], ap Ok (sym (root_only j h)));
-}
-
 pub kept_start : (inodes : InodeMap) (events : List Event) → inodes ≡ opening → events ≡ [] → IsKept inodes (state_of events false 0 0)
 kept_start inodes events new none =
     subst (λ m. IsKept m (state_of events false 0 0)) (sym new) (subst (λ es. IsKept opening (state_of es false 0 0)) (sym none) (record {
       recorded = keeps_start;
+      replayed = refl;
       spelled = opening_spells;
-      numbers = λ i h. inl (root_only i h);
+      numbers = λ i h. inl (root_alone i h);
+      made = refl;
       few = omega arith;
       counted = omega arith;
     }))
@@ -72,8 +59,10 @@ kept_opened inodes events grown o n made known closed is =
     let k : IsKept inodes (state_of events false n made) = subst (λ b. IsKept inodes (state_of events b n made)) closed known in
     subst (IsKept inodes) (sym (opened_state events grown n made is)) (record {
       recorded = keeps_opened (state_of events false n made) refl k.recorded;
+      replayed = k.replayed ∙ ap (λ cs. values_after_calls (values opening) (numbered (map_list answered_call cs))) (sym (kept-push events (opens 1 1)));
       spelled = k.spelled;
       numbers = k.numbers;
+      made = k.made ∙ ap (λ cs. inodes_made 1 (map_list answered_call cs)) (sym (kept-push events (opens 1 1)));
       few = k.few;
       counted = omega (arith, k.counted, length-append events (opens 1 1 ∷ []));
     })
@@ -91,13 +80,13 @@ none_of : (o : Option Content) → (IsSome o → ⊥) → o ≡ None
 none_of None h = refl
 none_of (Some content) h = absurd (h refl)
 
-not_made : (made : ℕ) → IsMade made (4294967296 + made) → ⊥
+not_made : (made : ℕ) → IsMade made (inode_number 1 made) → ⊥
 not_made made (inl root) = omega (arith, root)
 not_made made (inr k) = omega (arith, k.1.0, k.1.1)
 
 -- the next number is new
-pub next_is_new : (inodes : InodeMap) (s : State) → IsKept inodes s → map.get inodes (4294967296 + s.made) ≡ None
-next_is_new inodes s k = none_of (map.get inodes (4294967296 + s.made)) (λ there. not_made s.made (k.numbers (4294967296 + s.made) there))
+pub next_is_new : (inodes : InodeMap) (s : State) → IsKept inodes s → map.get inodes (inode_number 1 s.made) ≡ None
+next_is_new inodes s k = none_of (map.get inodes (inode_number 1 s.made)) (λ there. not_made s.made (k.numbers (inode_number 1 s.made) there))
 
 made_more : (made more i : ℕ) → made ≤ more → IsMade made i → IsMade more i
 made_more made more i h (inl root) = inl root
@@ -120,20 +109,37 @@ made_still : (made now i : ℕ) (makes : Bool) → CountsOn made makes now → I
 made_still made now i makes (inl same) h = made_more made now i (omega (arith, same.1)) h
 made_still made now i makes (inr more) h = made_more made now i (omega (arith, more.1.1)) h
 
-made_new : (made now i : ℕ) (makes : Bool) → CountsOn made makes now → i ≡ 4294967296 + made → makes ≡ true → IsMade now i
+made_new : (made now i : ℕ) (makes : Bool) → CountsOn made makes now → i ≡ inode_number 1 made → makes ≡ true → IsMade now i
 made_new made now i makes (inl same) new makes_one = cc
 made_new made now i makes (inr more) new makes_one = inr (made, (omega (arith, more.1.1), new))
 
+-- ---- the same calls, replayed
+
+one_more_replayed : (v : Values) (xs : List NumberedCall) (x : NumberedCall) →
+    values_after_calls v (xs ++ x ∷ []) ≡ after (values_after_calls v xs) (step_of (values_after_calls v xs) x).effects
+one_more_replayed v [] x = refl
+one_more_replayed v (y ∷ ys) x = one_more_replayed (after v (step_of v y).effects) ys x
+
+one_more_made : (xs : List AnsweredCall) (x : AnsweredCall) → x.client ≡ 1 → inodes_made 1 (xs ++ x ∷ []) ≡ inodes_made 1 xs + cond (makes_inode x.op x.reply) 1 0
+one_more_made xs x own =
+    let one : ℕ = 1 in
+    let here : cond ((x.client == 1) && makes_inode x.op x.reply) one 0 ≡ cond (makes_inode x.op x.reply) one 0 = ap (λ b. cond (b && makes_inode x.op x.reply) one 0) (eq-eqb x.client 1 own) in
+    omega (arith, here, sum_by-append (λ y. cond ((y.client == 1) && makes_inode y.op y.reply) 1 0) xs (x ∷ []))
+
+counted_on : (made now : ℕ) (makes : Bool) → CountsOn made makes now → now ≡ made + cond makes 1 0
+counted_on made now makes (inl same) = rw same.0 (omega (arith, same.1))
+counted_on made now makes (inr more) = rw more.0 more.1.1
+
 module _ (inodes : InodeMap) (s : State) (op : Op) (k : IsKept inodes s) where
   abbrev effects : List Effect
-  effects = (step (values inodes) op (4294967296 + s.made)).effects
+  effects = (step (values inodes) op (inode_number 1 s.made)).effects
 
-  replied : (step (values inodes) op (4294967296 + s.made)).reply ≡ (answer s.tree op).0
-  replied = step_replies (values inodes) s.tree op (4294967296 + s.made) k.spelled
+  replied : (step (values inodes) op (inode_number 1 s.made)).reply ≡ (answer s.tree op).0
+  replied = step_replies (values inodes) s.tree op (inode_number 1 s.made) k.spelled
 
   spelled_after : Spells (values (all_applied inodes effects)) (answer s.tree op).1
   spelled_after =
-      subst (λ v. Spells v (answer s.tree op).1) (sym (values-all_applied inodes effects)) (step_spells (values inodes) s.tree op (4294967296 + s.made) k.spelled (λ _. next_is_new inodes s k))
+      subst (λ v. Spells v (answer s.tree op).1) (sym (values-all_applied inodes effects)) (step_spells (values inodes) s.tree op (inode_number 1 s.made) k.spelled (λ _. next_is_new inodes s k))
 
   module _ (now : ℕ) (counted : made_after s.made op (answer s.tree op).0 ≡ Some now) where
     counts : CountsOn s.made (makes_inode op (answer s.tree op).0) now
@@ -141,16 +147,43 @@ module _ (inodes : InodeMap) (s : State) (op : Op) (k : IsKept inodes s) where
 
     numbers_after : (i : ℕ) → IsSome (map.get (all_applied inodes effects) i) → IsMade now i
     numbers_after i h =
-        elim (there_after_step (values inodes) op (4294967296 + s.made) i (subst (λ v. IsSome (v i)) (values-all_applied inodes effects) h)) [
+        elim (there_or_made i (values inodes i) effects (subst (λ v. IsSome (v i)) (values-all_applied inodes effects) h)) [
           | inl old ↦ made_still s.made now i _ counts (k.numbers i old)
-          | inr new ↦ made_new s.made now i _ counts new.0 (ap (makes_inode op) (sym replied) ∙ new.1)
+          | inr new ↦
+              let own = makes_own (values inodes) op (inode_number 1 s.made) i new in
+              made_new s.made now i _ counts own.0 (ap (makes_inode op) (sym replied) ∙ own.1)
         ]
+
+    abbrev this : Call
+    this = record { client = 1; number = s.calls; op = op; reply = (answer s.tree op).0 }
+
+    abbrev earlier : List AnsweredCall
+    earlier = answered_calls s.events
+
+    calls_after : answered_calls (s.events ++ calls this ∷ []) ≡ earlier ++ answered_call this ∷ []
+    calls_after = ap (map_list answered_call) (kept-push s.events (calls this)) ∙ map-append answered_call (kept s.events) (this ∷ [])
+
+    replayed_after : values (all_applied inodes effects) ≡ values_after_calls (values opening) (numbered (answered_calls (s.events ++ calls this ∷ [])))
+    replayed_after =
+        let v = values_after_calls (values opening) (numbered earlier) in
+        values-all_applied inodes effects
+        ∙ ap (λ w. after w (step w op (inode_number 1 s.made)).effects) k.replayed
+        ∙ ap (λ n. after v (step v op (inode_number 1 n)).effects) k.made
+        ∙ sym (one_more_replayed (values opening) (numbered earlier) (numbered_call earlier (answered_call this)))
+        ∙ sym (ap (values_after_calls (values opening)) (ap numbered calls_after ∙ one_more earlier (answered_call this)))
+
+    made_after_call : now ≡ inodes_made 1 (answered_calls (s.events ++ calls this ∷ []))
+    made_after_call =
+        counted_on s.made now _ counts ∙ ap (λ n. n + cond (makes_inode op (answer s.tree op).0) 1 0) k.made
+        ∙ sym (one_more_made earlier (answered_call this) refl) ∙ ap (inodes_made 1) (sym calls_after)
 
     kept_called : s.opened ≡ true → IsKept (all_applied inodes effects) (with_reply s op (answer s.tree op) (Some now)).1
     kept_called there = record {
       recorded = keeps_called s op (Some now) there k.recorded;
+      replayed = replayed_after;
       spelled = spelled_after;
       numbers = numbers_after;
+      made = made_after_call;
       few = few_after s.made now _ counts k.few;
       counted = omega (arith, k.counted, length-append s.events (calls record { client = 1; number = s.calls; op = op; reply = (answer s.tree op).0 } ∷ []));
     }
@@ -158,7 +191,7 @@ module _ (inodes : InodeMap) (s : State) (op : Op) (k : IsKept inodes s) where
 -- ---- what the code of a call knows
 
 module _ (inodes : InodeMap) (events : List Event) (o : Bool) (n made : ℕ) (op : Op) (reply : Reply) (k : IsKept inodes (state_of events o n made))
-    (is : reply ≡ (step (values inodes) op (4294967296 + made)).reply) where
+    (is : reply ≡ (step (values inodes) op (inode_number 1 made)).reply) where
   abbrev before : State
   before = state_of events o n made
 
@@ -181,7 +214,7 @@ module _ (inodes : InodeMap) (events : List Event) (o : Bool) (n made : ℕ) (op
         ∙ ap (λ u. record { tree = u; events = events ++ calls x ∷ []; opened = o; calls = n + 1; made = now })
         (ap (tree_after first_tree) (kept-push events (calls x)) ∙ tree_after-push first_tree (kept events) x)
 
-    pub kept_answered : (new : InodeMap) (es : List Effect) → o ≡ true → new ≡ all_applied inodes es → es ≡ (step (values inodes) op (4294967296 + made)).effects → IsKept new (state_of grown o (n + 1) now)
+    pub kept_answered : (new : InodeMap) (es : List Effect) → o ≡ true → new ≡ all_applied inodes es → es ≡ (step (values inodes) op (inode_number 1 made)).effects → IsKept new (state_of grown o (n + 1) now)
     kept_answered new es there done planned =
         subst (λ m. IsKept m (state_of grown o (n + 1) now)) (sym (done ∙ ap (all_applied inodes) planned))
         (subst (IsKept (all_applied inodes (effects inodes before op k))) (sym after_is) (kept_called inodes before op k now (sym counted_right) there))

@@ -1,12 +1,11 @@
 -- One line more of what is printed.
-use Rattle.std.proofs.Common.{◌≡◌, ℕ, List, [], ◌∷◌, ◌++◌, Option, Some, None, Result, Ok, Err, IfSome, OnOk, refl, ap, sym, ◌∙◌, append_assoc, append-nil}
+use Rattle.std.proofs.Common.{◌≡◌, ℕ, List, [], ◌∷◌, ◌++◌, Option, Some, None, Result, Ok, Err, OnOk, refl, ap, sym, ◌∙◌, append_assoc, append-nil}
 use Rattle.std.specs.Io.KnownBytes.{Appends, Keeps}
-use Rattle.assise_fault_script.specs.Script.{commands_of}
 use Rattle.assise_fault_script.specs.declared.parse.NumberedCommand.{NumberedCommand}
 use Rattle.assise_console.specs.declared.answer.Answer.{Answer}
 use Rattle.assise_console.specs.declared.fault.EngineFault.{EngineFault}
 use Rattle.assise_console.specs.declared.fault.EngineFault.TheVariants.{Read, Script, Memory, Write}
-use Rattle.assise_console.specs.Engines.{FaultOf, IsReadFault, Printed, Ran}
+use Rattle.assise_console.specs.Engines.{FaultFrom, FaultOf, IsInput, IsReadFault}
 use Rattle.assise_console.specs.Lines.{Prints, line_text}
 use Rattle.assise_console.specs.Steps.{Answers, State}
 
@@ -39,16 +38,15 @@ on_ok (Ok x) P Q p f = f p
 on_ok (Err e) P Q p f = tt
 
 -- a reader's failure leaves what was written
-pub read_fault : (e : EngineFault) (known old : Option (List ℕ)) → IsReadFault e → IfSome known (λ input. FaultOf e input old old)
-read_fault e None old h = tt
-read_fault Read (Some input) old h = refl
-read_fault Memory (Some input) old h = refl
-read_fault (Script line fault) (Some input) old h = absurd h
-read_fault Write (Some input) old h = absurd h
+pub read_failed : (e : EngineFault) (known old : Option (List ℕ)) → IsReadFault e → FaultFrom e known old old
+read_failed Read known old h = refl
+read_failed Memory known old h = refl
+read_failed (Script line fault) known old h = absurd h
+read_failed Write known old h = absurd h
 
--- what was read is a script, and it was run
-pub was_printed : (r : Result (Unit {0}) EngineFault) (known old new : Option (List ℕ)) (bytes : List ℕ) (commands : List NumberedCommand) →
-    IfSome known (λ input. bytes ≡ input) → commands_of bytes ≡ Ok commands → OnOk r (Ran commands old new) → OnOk r (IfSome known (λ input. Printed input old new))
-was_printed (Err e) known old new bytes commands read parsed ran = tt
-was_printed (Ok x) None old new bytes commands read parsed ran = tt
-was_printed (Ok x) (Some input) old new bytes commands read parsed ran = (commands, (ap commands_of (sym read) ∙ parsed, ran))
+-- a fault of the bytes that were read is one of what the reader gave
+pub fault_from : (e : EngineFault) (known old new : Option (List ℕ)) (input : List ℕ) → IsInput known input → FaultOf e input old new → FaultFrom e known old new
+fault_from Read known old new input read h = absurd h
+fault_from Memory known old new input read h = h.1
+fault_from (Script line fault) known old new input read h = (input, (read, h))
+fault_from Write known old new input read h = (input, (read, h))

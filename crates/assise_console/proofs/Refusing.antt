@@ -37,7 +37,7 @@ pub refused_stays : (s t : State) (c : commands.Command) (refusal : Refusal) →
 refused_stays s t c refusal h =
     elim h.given [
       | inl done ↦ ap (λ (o : Outcome). o.1) done ∙ stays s c refusal (ap (λ (o : Outcome). o.0) done)
-      | inr memory ↦ memory.1
+      | inr memory ↦ memory.1.1
     ]
 
 -- a reply goes with the tree's answer, and one entry
@@ -64,5 +64,5 @@ replied_enters s t c op reply h =
           let state : t ≡ (called s c op).1 = ap (λ (o : Outcome). o.1) done in
           let both = enters s c op reply (ap (λ (o : Outcome). o.0) done) in
           rw state both
-      | inr memory ↦ let bad : Replied reply ≡ Refused OutOfMemory = memory.0 in cc
+      | inr memory ↦ let bad : Replied reply ≡ Refused OutOfMemory = memory.1.0 in cc
     ]

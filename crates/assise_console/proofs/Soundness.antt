@@ -1,22 +1,23 @@
 -- Each step of a run leads from a state that stands on a legal history to another.
-use Rattle.std.proofs.Common.{◌≡◌, ℕ, zero, suc, ◌+◌, ◌==◌, Bool, true, false, not, ◌||◌, if◌then◌else◌, cond, List, [], ◌∷◌, ◌++◌, Some, Option, None, MatchBool, refl, ap, sym, subst, ◌∙◌, inl, inr, arith, add-one}
+use Rattle.std.proofs.Common.{◌≡◌, ℕ, ◌+◌, ◌==◌, Bool, true, false, not, ◌||◌, cond, List, [], ◌∷◌, ◌++◌, Some, Option, None, MatchBool, refl, ap, sym, subst, ◌∙◌, inl, inr}
 use Rattle.std.proofs.lemmas.Bool.{cases_Bool}
-use Rattle.std.proofs.lemmas.Bool.Decides.{nat_tests}
 use Rattle.assise_names.specs.declared.call.Op.{Op}
 use Rattle.assise_seq_tree.specs.Tree.{opening}
 use Rattle.assise_seq_tree.specs.Answer.{answer}
 use Rattle.assise_history.specs.declared.call.Call.{Call}
 use Rattle.assise_history.specs.Entries.{Event, opens, calls}
 use Rattle.assise_history.specs.Kept.{IsRun, kept, tree_after}
-use Rattle.assise_history.specs.Legal.{after, comes_next, follows, is_fsync, nothing_yet, summary}
-use Rattle.assise_history.proofs.Legality.{legal-nil, legal-push, summary-push}
+use Rattle.assise_history.specs.Legal.{MayOpen, calls_made}
+use Rattle.assise_history.proofs.Legality.{legal-nil}
+use Rattle.assise_history.proofs.OneMore.{legal-call, legal-open}
 use Rattle.assise_history.proofs.Runs.{kept-push, run-push, tree_after-push}
+use Rattle.assise_history.proofs.Standing.{down-nil, made-push, may_call-opened, may_call-push}
 use Rattle.assise_fault_script.specs.declared.command.Command as commands
 use Rattle.assise_fault_script.specs.declared.command.Command.TheVariants.{Cluster, Open, Call as Calls, History}
 use Rattle.assise_fault_script.specs.declared.parse.NumberedCommand.{NumberedCommand}
 use Rattle.assise_console.specs.declared.answer.Answer.{Answer}
 use Rattle.assise_console.specs.Lines.{Prints}
-use Rattle.assise_console.specs.Sound.{IsOpenAfter, IsRecorded, IsSound, last_of, open_after}
+use Rattle.assise_console.specs.Sound.{IsOpenAfter, IsRecorded, IsSound}
 use Rattle.assise_console.specs.Steps.{Answers, State, called, is_too_large, made_after, newly_opened, opened, start, step, with_reply}
 
 pub keeps_start : IsRecorded start
@@ -26,50 +27,37 @@ keeps_start = record { legal = legal-nil; run = tt; tree = refl; client = (refl,
 
 pub keeps_opened : (s : State) → s.opened ≡ false → IsRecorded s → IsRecorded (newly_opened s)
 keeps_opened s closed k =
-    let known : (summary s.events ≡ nothing_yet) × (s.calls ≡ 0) = subst (λ b. MatchBool b (IsOpenAfter s.calls (summary s.events)) ((summary s.events ≡ nothing_yet) × (s.calls ≡ 0))) closed k.client in
+    let known : (s.events ≡ []) × (s.calls ≡ 0) = subst (λ b. MatchBool b (IsOpenAfter s.calls s.events) ((s.events ≡ []) × (s.calls ≡ 0))) closed k.client in
     let e : Event = opens 1 1 in
     let same : kept (s.events ++ e ∷ []) ≡ kept s.events = kept-push s.events e in
-    let follow : follows (summary s.events) e ≡ true = ap (λ m. follows m e) known.0 in
+    let may : MayOpen s.events 1 1 = subst (λ h. MayOpen h 1 1) (sym known.0) (record { next = refl; up = down-nil 1 }) in
     record {
-      legal = legal-push s.events e k.legal record { rule = follow; run = rw same k.run };
+      legal = legal-open s.events 1 1 k.legal may;
       run = rw same k.run;
       tree = k.tree ∙ ap (tree_after opening) (sym same);
-      client = (None, summary-push s.events e ∙ ap (λ m. after m e) known.0 ∙ ap (λ n. open_after n None) (sym known.1));
+      client = (may_call-opened s.events 1 1, subst (λ h. s.calls ≡ calls_made 1 (h ++ e ∷ [])) (sym known.0) known.1);
     }
 
 -- ---- a call of the client
 
-next_after : (n : ℕ) → comes_next (last_of n) n ≡ true
-next_after zero = refl
-next_after (suc n) = grind (arith, nat_tests)
-
-one_more : (n : ℕ) → last_of (n + 1) ≡ Some n
-one_more n = rw add-one refl
-
 abbrev call_of : State → Op → Call
 call_of s op = record { client = 1; number = s.calls; op = op; reply = (answer s.tree op).0 }
-
-follows_call : (s : State) (op : Op) (synced : Option ℕ) → follows (open_after s.calls synced) (calls (call_of s op)) ≡ true
-follows_call s op synced = rw (next_after s.calls) refl
-
-after_call : (s : State) (op : Op) (synced : Option ℕ) → after (open_after s.calls synced) (calls (call_of s op)) ≡ open_after (s.calls + 1) (if is_fsync op then Some s.calls else synced)
-after_call s op synced = rw (one_more s.calls) refl
 
 pub keeps_called : (s : State) (op : Op) (made : Option ℕ) → s.opened ≡ true → IsRecorded s → IsRecorded (with_reply s op (answer s.tree op) made).1
 keeps_called s op None there k = k
 keeps_called s op (Some made) there k =
-    let known : IsOpenAfter s.calls (summary s.events) = subst (λ b. MatchBool b (IsOpenAfter s.calls (summary s.events)) ((summary s.events ≡ nothing_yet) × (s.calls ≡ 0))) there k.client in
+    let known : IsOpenAfter s.calls s.events = subst (λ b. MatchBool b (IsOpenAfter s.calls s.events) ((s.events ≡ []) × (s.calls ≡ 0))) there k.client in
     let x = call_of s op in
     let e : Event = calls x in
     let same : kept (s.events ++ e ∷ []) ≡ kept s.events ++ x ∷ [] = kept-push s.events e in
-    let run : IsRun opening (kept s.events ++ x ∷ []) = run-push opening (kept s.events) x k.run (ap (λ t. (answer t op).0) k.tree) in
-    let follow : follows (summary s.events) e ≡ true = ap (λ m. follows m e) known.1 ∙ follows_call s op known.0 in
+    let replied : x.reply ≡ (answer (tree_after opening (kept s.events)) x.op).0 = ap (λ t. (answer t op).0) k.tree in
+    let run : IsRun opening (kept s.events ++ x ∷ []) = run-push opening (kept s.events) x k.run replied in
     record {
-      legal = legal-push s.events e k.legal record { rule = follow; run = rw same run };
+      legal = legal-call s.events x k.legal record { ready = known.0; number = known.1 } replied;
       run = rw same run;
       tree = ap (λ t. (answer t op).1) k.tree ∙ sym (tree_after-push opening (kept s.events) x) ∙ ap (tree_after opening) (sym same);
-      client = subst (λ b. MatchBool b (IsOpenAfter (s.calls + 1) (summary (s.events ++ e ∷ []))) ((summary (s.events ++ e ∷ []) ≡ nothing_yet) × (s.calls + 1 ≡ 0))) (sym there)
-          (if is_fsync op then Some s.calls else known.0, summary-push s.events e ∙ ap (λ m. after m e) known.1 ∙ after_call s op known.0);
+      client = subst (λ b. MatchBool b (IsOpenAfter (s.calls + 1) (s.events ++ e ∷ [])) ((s.events ++ e ∷ [] ≡ []) × (s.calls + 1 ≡ 0))) (sym there)
+          (may_call-push s.events e 1 known.0 refl refl, ap (λ n. n + 1) known.1 ∙ sym (made-push s.events x 1 refl));
     }
 
 -- ---- each step, and a whole run
@@ -106,7 +94,7 @@ keeps_answer : (s t : State) (c : commands.Command) (a : Answer) → Answers s c
 keeps_answer s t c a h k =
     elim h.given [
       | inl done ↦ subst IsRecorded (sym (ap (λ p. p.1) done)) (keeps_step s c k)
-      | inr refused ↦ subst IsRecorded (sym refused.1) k
+      | inr refused ↦ subst IsRecorded (sym refused.1.1) k
     ]
 
 keeps_run : (s : State) (cs : List NumberedCommand) (text : List ℕ) (t : State) → Prints s cs text t → IsRecorded s → IsRecorded t

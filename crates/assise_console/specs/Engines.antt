@@ -1,7 +1,10 @@
--- What the engine writes for an input.
-use Rattle.std.specs.Prelude.{◌≡◌, ◌⊎◌, ℕ, List, Option, Ok, Err}
+-- What the engine writes for an input, and what each of its faults says.
+use Rattle.std.specs.Prelude.{◌≡◌, ◌⊎◌, ℕ, List, IfSome, Option, Ok, Err}
 use Rattle.std.specs.Io.KnownBytes.{Appends}
-use Rattle.assise_fault_script.specs.Script.{commands_of}
+use Rattle.std.specs.declared.io.ErrorKind.{ErrorKind}
+use Rattle.std.specs.declared.io.ErrorKind.TheVariants.{OutOfMemory}
+use Rattle.assise_fault_script.specs.Script.{IsCommandAt, commands_of}
+use Rattle.assise_fault_script.specs.declared.fault.ScriptFault.{ScriptFault}
 use Rattle.assise_fault_script.specs.declared.fault.ScriptFault.TheVariants.{Memory as no_memory}
 use Rattle.assise_fault_script.specs.declared.parse.NumberedCommand.{NumberedCommand}
 use Rattle.assise_console.specs.declared.fault.EngineFault.{EngineFault}
@@ -10,20 +13,52 @@ use Rattle.assise_console.specs.Lines.{Prints}
 use Rattle.assise_console.specs.Sound.{IsSound}
 use Rattle.assise_console.specs.Steps.{State, start}
 
+-- ---- a script's bytes
+
+-- the bytes are a script of these commands
+abbrev pub IsScript : List ℕ → List NumberedCommand → Type 0
+IsScript input commands = commands_of input ≡ Ok commands
+
 -- the lines of the answers of these commands were written, and nothing else; the run ends on a legal history
 abbrev pub Ran : List NumberedCommand → Option (List ℕ) → Option (List ℕ) → Type 0
 Ran commands old new = (text : List ℕ) × ((end : State) × (Prints start commands text end × (IsSound end × Appends old new text)))
 
--- the input is a script, and it was run
+-- the bytes are a script, and it was run
 abbrev pub Printed : List ℕ → Option (List ℕ) → Option (List ℕ) → Type 0
-Printed input old new = (commands : List NumberedCommand) × ((commands_of input ≡ Ok commands) × Ran commands old new)
+Printed input old new = (commands : List NumberedCommand) × (IsScript input commands × Ran commands old new)
 
--- a fault of the script is its first; unless the writer failed, nothing was written
+-- the first fault of the bytes; or a line says a command, no line up to it is faulty, and there was no memory for the command
+abbrev pub IsScriptFault : List ℕ → ℕ → ScriptFault → Type 0
+IsScriptFault input line fault = ((fault ≡ no_memory) × IsCommandAt input line) ⊎ (commands_of input ≡ Err record { line = line; fault = fault })
+
+-- the bytes are no script, and nothing was written; or they are one, and there was no memory for its cluster, and nothing was written; or the writer failed
 abbrev pub FaultOf : EngineFault → List ℕ → Option (List ℕ) → Option (List ℕ) → Type 0
-FaultOf (Script line fault) input old new = ((fault ≡ no_memory) ⊎ (commands_of input ≡ Err record { line = line; fault = fault })) × (new ≡ old)
-FaultOf Read input old new = new ≡ old
-FaultOf Memory input old new = new ≡ old
-FaultOf Write input old new = Unit {0}
+FaultOf (Script line fault) input old new = IsScriptFault input line fault × (new ≡ old)
+FaultOf Memory input old new = ((commands : List NumberedCommand) × IsScript input commands) × (new ≡ old)
+FaultOf Write input old new = (commands : List NumberedCommand) × IsScript input commands
+FaultOf Read input old new = ⊥
+
+-- ---- what a reader gave
+
+-- these are the bytes of the reader, where they are known
+abbrev pub IsInput : Option (List ℕ) → List ℕ → Type 0
+IsInput known input = IfSome known (λ bytes. input ≡ bytes)
+
+-- the reader gave a script, and it was run
+abbrev pub PrintedFrom : Option (List ℕ) → Option (List ℕ) → Option (List ℕ) → Type 0
+PrintedFrom known old new = (input : List ℕ) × (IsInput known input × Printed input old new)
+
+-- nothing was written where the reader failed, or there was no memory for what it gave; every other fault is one of what it gave
+abbrev pub FaultFrom : EngineFault → Option (List ℕ) → Option (List ℕ) → Option (List ℕ) → Type 0
+FaultFrom Read known old new = new ≡ old
+FaultFrom Memory known old new = new ≡ old
+FaultFrom (Script line fault) known old new = (input : List ℕ) × (IsInput known input × FaultOf (Script line fault) input old new)
+FaultFrom Write known old new = (input : List ℕ) × (IsInput known input × FaultOf Write input old new)
+
+-- a reader's failure is its own, unless memory was wanting for what it gave
+abbrev pub read_fault : ErrorKind → EngineFault
+read_fault OutOfMemory = Memory
+read_fault _ = Read
 
 -- the reader failed, or there was no memory for what it gave
 abbrev pub IsReadFault : EngineFault → Type 0

@@ -1,13 +1,13 @@
 -- What each command answers, and the state after it.
-use Rattle.std.specs.Prelude.{◌≡◌, ◌⊎◌, ℕ, ◌+◌, Bool, true, false, not, ◌||◌, ◌==◌, nat_lt, if◌then◌else◌, List, [], ◌∷◌, ◌++◌, length, Option, Some, None}
+use Rattle.std.specs.Prelude.{◌≡◌, ◌⊎◌, ℕ, ◌+◌, Bool, true, false, not, ◌&&◌, ◌||◌, ◌==◌, nat_lt, if◌then◌else◌, List, [], ◌∷◌, ◌++◌, length, Option, Some, None}
 use Rattle.assise_names.specs.declared.call.Op.{Op}
-use Rattle.assise_names.specs.declared.call.Op.TheVariants.{Create, Mkdir, Write}
+use Rattle.assise_names.specs.declared.call.Op.TheVariants.{Write}
 use Rattle.assise_names.specs.declared.reply.Reply.{Reply}
-use Rattle.assise_names.specs.declared.reply.Reply.TheVariants.{Done}
 use Rattle.assise_names.specs.declared.refusal.Refusal.TheVariants.{OutOfMemory, BadNode, BadClient, InodesSpent, TooLarge}
 use Rattle.assise_seq_tree.specs.Tree.{Tree, opening}
 use Rattle.assise_seq_tree.specs.Answer.{answer}
 use Rattle.assise_history.specs.Entries.{Event, opens, calls}
+use Rattle.assise_inode_table.specs.Numbers.{makes_inode}
 use Rattle.assise_fault_script.specs.declared.command.Command as commands
 use Rattle.assise_fault_script.specs.declared.command.Command.TheVariants.{Cluster, Open, Call, History}
 use Rattle.assise_console.specs.declared.answer.Answer as answers
@@ -36,16 +36,6 @@ opened s n = if not (n == 1) then (Refused BadNode, s) else (if s.opened then (R
 abbrev pub is_too_large : Op → Bool
 is_too_large (Write p offset bytes) = nat_lt 65536 (length bytes)
 is_too_large _ = false
-
-abbrev pub is_done : Reply → Bool
-is_done Done = true
-is_done _ = false
-
--- a create or mkdir that is done makes an inode, and nothing else does
-abbrev pub makes_inode : Op → Reply → Bool
-makes_inode (Create p) reply = is_done reply
-makes_inode (Mkdir p) reply = is_done reply
-makes_inode _ reply = false
 
 -- how many inodes the client has made after a call with this reply, if they are 1,048,576 at most
 abbrev pub made_after : ℕ → Op → Reply → Option ℕ
@@ -81,6 +71,23 @@ step s (Open n k) = opened s n
 step s (Call c op) = called s c op
 step s History = (Whole, s)
 
--- what a command answers, unless memory ran out; then nothing changes
+-- ---- where memory is asked for
+
+-- a client is opened
+abbrev pub opens_client : State → ℕ → Bool
+opens_client s n = (n == 1) && not s.opened
+
+-- a call isn't refused before it is answered
+abbrev pub answers_call : State → ℕ → Op → Bool
+answers_call s c op = (c == 1) && (s.opened && not (is_too_large op))
+
+-- the command makes an entry, if memory is found and no inode is one too many
+abbrev pub asks_for_memory : State → commands.Command → Bool
+asks_for_memory s (Cluster n l h) = false
+asks_for_memory s (Open n k) = opens_client s n
+asks_for_memory s (Call c op) = answers_call s c op
+asks_for_memory s History = false
+
+-- what a command answers, unless it asked for memory that isn't there; then nothing changes
 pub record Answers (s : State) (c : commands.Command) (a : answers.Answer) (t : State) : Type 0 where
-  pub given : ((a, t) ≡ step s c) ⊎ ((a ≡ Refused OutOfMemory) × (t ≡ s))
+  pub given : ((a, t) ≡ step s c) ⊎ ((asks_for_memory s c ≡ true) × ((a ≡ Refused OutOfMemory) × (t ≡ s)))

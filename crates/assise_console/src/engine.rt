@@ -1,7 +1,7 @@
 // Runs a script's commands and prints their answers.
-ghost use Rattle.std.specs.Prelude.{◌≡◌, IfErr, IfOk, IfSome, IsOkUnless, OnOk};
+ghost use Rattle.std.specs.Prelude.{◌≡◌, IfErr, IfOk, IsOkUnless, OnOk};
 ghost use Rattle.std.specs.Io.KnownBytes.{Appends, Keeps};
-ghost use Rattle.assise_console.specs.Engines.{FaultOf, IsReadFault, Printed, Ran};
+ghost use Rattle.assise_console.specs.Engines.{FaultFrom, FaultOf, IsInput, IsReadFault, Printed, PrintedFrom, Ran, read_fault};
 ghost use Rattle.assise_console.specs.Lines.{answer_text, line_text, numbered, PrintsOne};
 ghost use Rattle.assise_console.specs.Steps.{start};
 
@@ -17,18 +17,30 @@ use std::io::{ErrorKind, Read, Write};
 ///
 /// [`EngineFault::Read`] is the reader's failure, [`EngineFault::Script`] the first fault of the script, and
 /// [`EngineFault::Memory`] want of memory for the script's bytes or for the root; nothing is written then.
-/// [`EngineFault::Write`] is the writer's failure, and nothing more is written after it.
+/// [`EngineFault::Write`] is the writer's failure, and nothing more is written after it. What is said of the bytes that
+/// were read holds of the reader's own where those are known, and else of some.
 pub fn engine<R: Read, W: Write>(
     alloc: Global,
     reader: &mut R,
     writer: &mut W,
     _command_line: &CommandLine<'_>,
 ) -> Result<(), EngineFault>
-    ensures done { OnOk result (IfSome (R.remaining reader.old) (λ input. Printed input (W.contents writer.old) (W.contents writer.new))) }
-    ensures faulty { IfErr result (λ e. IfSome (R.remaining reader.old) (λ input. FaultOf e input (W.contents writer.old) (W.contents writer.new))) }
+    ensures done { OnOk result (PrintedFrom (R.remaining reader.old) (W.contents writer.old) (W.contents writer.new)) }
+    ensures faulty { IfErr result (λ e. FaultFrom e (R.remaining reader.old) (W.contents writer.old) (W.contents writer.new)) }
 {
     let input = read_all(alloc, reader)?;
-    match parse(alloc, input.as_slice()) {
+    run_script(alloc, input.as_slice(), writer)
+}
+
+/// Runs the script that these bytes are, and writes its answers and nothing else.
+///
+/// [`EngineFault::Script`] is the first fault of the script, and [`EngineFault::Memory`] want of memory for the root of
+/// a script that has no fault; nothing is written then. [`EngineFault::Write`] is the writer's failure.
+pub fn run_script<W: Write>(alloc: Global, script: &[u8], writer: &mut W) -> Result<(), EngineFault>
+    ensures done { OnOk result (Printed script.now (W.contents writer.old) (W.contents writer.new)) }
+    ensures faulty { IfErr result (λ e. FaultOf e script.now (W.contents writer.old) (W.contents writer.new)) }
+{
+    match parse(alloc, script) {
         Ok(commands) => {
             let console = new_console(alloc)?;
             run(alloc, console, commands, writer)
@@ -39,7 +51,7 @@ pub fn engine<R: Read, W: Write>(
 
 /// All bytes that the reader has.
 fn read_all<R: Read>(alloc: Global, reader: &mut R) -> Result<Vec<u8>, EngineFault>
-    ensures bytes { IfOk result (λ bytes. IfSome (R.remaining reader.old) (λ input. bytes.items ≡ input)) }
+    ensures bytes { IfOk result (λ bytes. IsInput (R.remaining reader.old) bytes.items) }
     ensures fault { IfErr result IsReadFault }
 {
     let mut input = Vec::new(alloc);
@@ -51,7 +63,8 @@ fn read_all<R: Read>(alloc: Global, reader: &mut R) -> Result<Vec<u8>, EngineFau
 
 /// What a reader's failure is: want of memory for what was read, or the reader's own.
 fn read_fault(kind: ErrorKind) -> EngineFault
-    ensures { IsReadFault result }
+    ensures exact { result ≡ read_fault kind }
+    ensures fault { IsReadFault result }
 {
     match kind {
         ErrorKind::OutOfMemory => EngineFault::Memory,

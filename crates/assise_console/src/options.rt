@@ -1,7 +1,7 @@
 // The command line.
-ghost use Rattle.std.specs.Prelude.{◌≡◌, IfErr, IfOk, IsTrue, Some, map};
-ghost use Rattle.clap.specs.Words.{kind_of};
-ghost use Rattle.assise_console.specs.CommandLine.{is_taken, script_of};
+ghost use Rattle.std.specs.Prelude.{◌≡◌, IfErr, IfOk, IsTrue, Some, [], map};
+ghost use Rattle.clap.specs.Words.{HasKind, kind_of};
+ghost use Rattle.assise_console.specs.CommandLine.{faults_of, is_taken, script_of};
 
 use clap::error::ErrorKind;
 use clap::{Arg, ArgAction, Command, Error};
@@ -15,18 +15,32 @@ pub struct CommandLine<'a> {
     pub script: &'a str,
 }
 
+/// The version that `assise --version` prints.
+pub const VERSION: &str = "0.1.0";
+
+/// What a script looks like, where its commands are explained, and the exit statuses: the end of the help.
+const ABOUT_SCRIPTS: &str =
+    "A script has a command in each line, as 'cluster 1 8 4', 'open 1 least', '1 create /f', '1 write /f 0 thello', 'history'.\n\
+    Its commands and what they print are explained in docs/SCRIPT.md.\n\
+    Exit status: 0 the script ran to its end, 1 no memory or no output, 2 a fault of the words or the script, 3 an unreadable script.";
+
 /// Reads the command line `assise SCRIPT`, of which `words` are all words, the program's own first. An error has
-/// the text and the exit status of `clap`; `--help` is one of them, and want of memory another.
+/// the text and the exit status of `clap`: `--help` and `--version` are errors of their own kinds, and so is want of
+/// memory.
 pub fn options<'a, S: AsStr>(alloc: Global, words: &'a [S]) -> Result<CommandLine<'a>, Error>
     ensures script { IfOk result (λ line. script_of (map S.text words.entry.now) ≡ Some line.script.now) }
+    ensures faultless { IfOk result (λ line. faults_of (map S.text words.entry.now) ≡ []) }
+    ensures fault { IfErr result (λ error. HasKind (faults_of (map S.text words.entry.now)) error) }
     ensures taken { IfErr result (λ error. IsTrue (is_taken (map S.text words.entry.now)) → kind_of error ≡ ErrorKind.OutOfMemory) }
 {
     let script = Arg::new(alloc, "SCRIPT")
         .required(true)
         .action(ArgAction::Set)
-        .help("The script to run");
+        .help("The script to run, or - for standard input");
     let command = Command::new(alloc, "assise")
+        .version(VERSION)
         .about("Runs a script on a distributed file system")
+        .after_help(ABOUT_SCRIPTS)
         .arg(script)?;
     let matches = command.try_get_matches_from(words)?;
     let Some(script) = matches.get_str("SCRIPT") else {

@@ -1,7 +1,8 @@
 // One node and one client, from inodes and a history.
 ghost use Rattle.std.specs.Prelude.{◌≡◌, IfOk, IsOkUnless, OnErr, Some, false, true};
 ghost use Rattle.assise_console.specs.Lines.{answer_text};
-ghost use Rattle.assise_console.specs.Steps.{Answers, answered, called, is_too_large, made_after, makes_inode, opened, start, step};
+ghost use Rattle.assise_console.specs.Steps.{Answers, answered, answers_call, asks_for_memory, called, is_too_large, made_after, opened, opens_client, start, step};
+ghost use Rattle.assise_inode_table.specs.Numbers.{inode_number, makes_inode};
 ghost use Rattle.assise_names.specs.declared.refusal.Refusal.TheVariants.{OutOfMemory};
 ghost use Rattle.assise_seq_tree.specs.Answer.{answer as tree_answer};
 
@@ -11,6 +12,7 @@ use assise_fault_script::command::Command;
 use assise_history::call::Call;
 use assise_history::entry::Entry;
 use assise_history::history::History;
+use assise_inode_table::numbers::inode_number;
 use assise_inode_table::table::InodeTable;
 use assise_names::call::Op;
 use assise_names::refusal::Refusal;
@@ -24,8 +26,8 @@ use std::marker::Model;
 /// The most inodes that one client makes.
 pub const MOST_INODES: u64 = 1_048_576;
 
-/// The number of the first inode that client 1 makes. The next ones follow it.
-const FIRST_INODE: u64 = 4_294_967_296;
+/// The one client.
+const CLIENT: u32 = 1;
 
 /// Inodes, and what happened. There are one node and one client, both of number 1. A contract sees the tree that the
 /// inodes spell.
@@ -78,7 +80,8 @@ impl Console {
         &self.history
     }
 
-    /// Runs a command. Where memory runs out the answer is [`Refusal::OutOfMemory`], and all is as it was.
+    /// Runs a command. Where memory runs out the answer is [`Refusal::OutOfMemory`], and all is as it was; a command that
+    /// makes no entry asks for none.
     pub fn step(&mut self, alloc: Global, command: Command) -> Answer
         ensures { Answers self.old command result self.new }
     {
@@ -91,6 +94,7 @@ impl Console {
     fn try_step(&mut self, alloc: Global, command: Command) -> Result<Answer, Refusal>
         ensures ok { IfOk result (λ answer. (answer, self.new) ≡ step self.old command) }
         ensures err { OnErr result (self.new ≡ self.old) }
+        ensures asked { OnErr result (asks_for_memory self.old command ≡ true) }
         ensures only_memory { IsOkUnless result OutOfMemory }
     {
         match command {
@@ -105,6 +109,7 @@ impl Console {
     fn open(&mut self, node: u64) -> Result<Answer, Refusal>
         ensures ok { IfOk result (λ answer. (answer, self.new) ≡ opened self.old node) }
         ensures err { OnErr result (self.new ≡ self.old) }
+        ensures asked { OnErr result (opens_client self.old node ≡ true) }
         ensures only_memory { IsOkUnless result OutOfMemory }
     {
         if node != 1 {
@@ -123,6 +128,7 @@ impl Console {
     fn call(&mut self, alloc: Global, client: u64, op: Op) -> Result<Answer, Refusal>
         ensures ok { IfOk result (λ answer. (answer, self.new) ≡ called self.old client op) }
         ensures err { OnErr result (self.new ≡ self.old) }
+        ensures asked { OnErr result (answers_call self.old client op ≡ true) }
         ensures only_memory { IsOkUnless result OutOfMemory }
     {
         if client != 1 || !self.opened {
@@ -134,6 +140,13 @@ impl Console {
         self.answer(alloc, op)
     }
 
+    /// The number of the inode that the client makes next.
+    fn next_inode(&self) -> u64
+        ensures { result ≡ inode_number 1 self.now.made }
+    {
+        inode_number(CLIENT, self.made)
+    }
+
     /// Answers a call over the inodes, with one entry. All that takes memory comes before the first change, and the
     /// effects are made all or none.
     fn answer(&mut self, alloc: Global, op: Op) -> Result<Answer, Refusal>
@@ -143,7 +156,7 @@ impl Console {
         ensures err { OnErr result (self.new ≡ self.old) }
         ensures only_memory { IsOkUnless result OutOfMemory }
     {
-        let fresh = FIRST_INODE + self.made;
+        let fresh = self.next_inode();
         let outcome = outcome_of(alloc, &self.inodes, &op, fresh)?;
         let Some(made) = made_after(self.made, &op, &outcome.reply) else {
             return Ok(Answer::Refused(Refusal::InodesSpent));
@@ -153,7 +166,7 @@ impl Console {
         make_all(&mut self.inodes, outcome.effects.as_slice(), fresh)?;
         let number = self.calls;
         self.history.push(Entry::call(Call {
-            client: 1,
+            client: CLIENT,
             number,
             op,
             reply,

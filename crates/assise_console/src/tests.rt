@@ -278,26 +278,45 @@ fn want_of_memory_is_told_from_a_failing_reader(rt: HostRuntime) {
     assert!(rt; output.is_empty());
 }
 
-/// A writer that takes so many writes, and then fails.
+/// A writer that takes so many writes, and then fails. It counts the calls after the first that failed.
 #[derive(Drop)]
 struct BrokenWriter {
     left: usize,
+    failed: bool,
+    later: usize,
+}
+
+impl BrokenWriter {
+    fn new(left: usize) -> BrokenWriter {
+        BrokenWriter {
+            left,
+            failed: false,
+            later: 0,
+        }
+    }
+
+    /// One call more, which may be the one that fails.
+    fn pass(&mut self) -> io::Result<()> {
+        if self.failed {
+            self.later = self.later.saturating_add(1);
+        }
+        if self.left == 0 {
+            self.failed = true;
+            return Err(io::Error::from(ErrorKind::BrokenPipe));
+        }
+        self.left -= 1;
+        Ok(())
+    }
 }
 
 impl Write for BrokenWriter {
     fn write(&mut self, buf: &[u8]) -> io::Result<usize> {
-        if self.left == 0 {
-            return Err(io::Error::from(ErrorKind::BrokenPipe));
-        }
-        self.left -= 1;
+        self.pass()?;
         Ok(buf.len())
     }
 
     fn flush(&mut self) -> io::Result<()> {
-        if self.left == 0 {
-            return Err(io::Error::from(ErrorKind::BrokenPipe));
-        }
-        Ok(())
+        self.pass()
     }
 }
 
@@ -306,9 +325,10 @@ fn a_writer_that_fails_at_any_call_ends_the_run(rt: HostRuntime) {
     let mut failed = 0;
     for left in 0..1000 {
         let mut reader = ANSWERS.as_bytes();
-        let mut writer = BrokenWriter { left };
+        let mut writer = BrokenWriter::new(left);
         if let Err(fault) = engine(rt.alloc(), &mut reader, &mut writer, &NOWHERE) {
             assert_eq!(rt; fault, EngineFault::Write);
+            assert_eq!(rt; writer.later, 0, "a call after the one that failed");
             assert_eq!(rt; failed, left, "a run ended well with fewer writes");
             failed = left + 1;
         }
@@ -316,10 +336,39 @@ fn a_writer_that_fails_at_any_call_ends_the_run(rt: HostRuntime) {
     assert!(rt; 10 < failed && failed < 1000, "{failed} writes");
 }
 
+/// A writer that takes all bytes and can't hand them on.
+#[derive(Drop)]
+struct Unflushed {
+    written: usize,
+}
+
+impl Write for Unflushed {
+    fn write(&mut self, buf: &[u8]) -> io::Result<usize> {
+        self.written = self.written.saturating_add(buf.len());
+        Ok(buf.len())
+    }
+
+    fn flush(&mut self) -> io::Result<()> {
+        Err(io::Error::from(ErrorKind::StorageFull))
+    }
+}
+
+#[test]
+fn a_writer_that_fails_at_the_end_alone_is_no_success(rt: HostRuntime) {
+    let mut reader = ANSWERS.as_bytes();
+    let mut writer = Unflushed { written: 0 };
+    let ended = engine(rt.alloc(), &mut reader, &mut writer, &NOWHERE);
+    assert_eq!(rt; ended.err(), Some(EngineFault::Write));
+    assert_eq!(rt; writer.written, PRINTED.len());
+}
+
 #[test]
 fn the_command_line_is_one_script(rt: HostRuntime) -> Result<(), Fail> {
-    let found = options(rt.alloc(), ["assise", "a.script"].as_slice());
-    assert_eq!(rt; found.ok().map(|line| line.script), Some("a.script"));
+    for script in ["a.script", "-"] {
+        let words = ["assise", script];
+        let found = options(rt.alloc(), words.as_slice());
+        assert_eq!(rt; found.ok().map(|line| line.script), Some(script));
+    }
     for (words, kind) in [
         (["assise"].as_slice(), WordsFault::MissingRequiredArgument),
         (["assise", "a", "b"].as_slice(), WordsFault::UnknownArgument),
@@ -328,9 +377,68 @@ fn the_command_line_is_one_script(rt: HostRuntime) -> Result<(), Fail> {
             WordsFault::UnknownArgument,
         ),
         (["assise", "--help"].as_slice(), WordsFault::DisplayHelp),
+        (
+            ["assise", "--version"].as_slice(),
+            WordsFault::DisplayVersion,
+        ),
     ] {
         let found = options(rt.alloc(), words);
         assert_eq!(rt; found.err().map(|error| error.kind()), Some(kind));
+    }
+    Ok(())
+}
+
+/// What a command line that names no script prints, whether on standard error, and the exit status.
+fn answered(rt: &HostRuntime, words: &[&str]) -> Result<Option<(String, bool, i32)>, Fail> {
+    match options(rt.alloc(), words) {
+        Ok(_) => Ok(None),
+        Err(error) => {
+            let text = format!(in rt.alloc(); "{error}")?;
+            Ok(Some((text, error.use_stderr(), error.exit_code())))
+        }
+    }
+}
+
+#[test]
+fn help_and_version_are_printed_on_standard_output(rt: HostRuntime) -> Result<(), Fail> {
+    for (word, lines) in [
+        ("--version", ["assise 0.1.0\n"].as_slice()),
+        (
+            "--help",
+            [
+                "Usage: assise <SCRIPT>\n",
+                "'cluster 1 8 4', 'open 1 least', '1 create /f', '1 write /f 0 thello', 'history'.\n",
+                "docs/SCRIPT.md",
+                "Exit status: 0 ",
+            ]
+            .as_slice(),
+        ),
+    ] {
+        let Some((text, on_standard_error, status)) = answered(&rt, &["assise", word])? else {
+            return Err(Fail::new("a script was found"));
+        };
+        for line in lines {
+            assert!(rt; text.contains(line), "{word}");
+        }
+        assert!(rt; !on_standard_error);
+        assert_eq!(rt; status, 0);
+    }
+    Ok(())
+}
+
+#[test]
+fn a_fault_of_the_words_is_printed_on_standard_error(rt: HostRuntime) -> Result<(), Fail> {
+    for words in [
+        ["assise"].as_slice(),
+        ["assise", "a", "b"].as_slice(),
+        ["assise", "--none", "a"].as_slice(),
+    ] {
+        let Some((text, on_standard_error, status)) = answered(&rt, words)? else {
+            return Err(Fail::new("a script was found"));
+        };
+        assert!(rt; text.starts_with("error: "));
+        assert!(rt; on_standard_error);
+        assert_eq!(rt; status, 2);
     }
     Ok(())
 }

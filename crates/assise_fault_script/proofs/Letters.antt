@@ -1,5 +1,5 @@
 -- A word of data by its first letter.
-use Rattle.std.proofs.Common.{◌≡◌, ◌≢◌, ℕ, ◌==◌, false, List, [], ◌∷◌, Ok, Err, Option, Some, None, Bor, MatchOption, refl, ap, ◌∙◌, inl, inr, arith}
+use Rattle.std.proofs.Common.{◌≡◌, ◌≢◌, ℕ, ◌==◌, true, false, is_some, List, [], ◌∷◌, Ok, Err, Option, Some, None, Bor, MatchOption, refl, ap, ◌∙◌, inl, inr, arith}
 use Rattle.std.proofs.lemmas.Bool.{cases_Bool}
 use Rattle.std.proofs.lemmas.Bool.Decides.{nat_tests}
 use Rattle.assise_fault_script.specs.declared.fault.ScriptFault.TheVariants.{BadData}
@@ -31,6 +31,14 @@ other_letter (b ∷ rest) t x z = rw (not_first 116 b rest t, not_first 120 b re
 
 pub text_letter : (word rest : List ℕ) → word ≡ 116 ∷ rest → data_of word ≡ Ok rest
 text_letter word rest h = ap data_of h
+
+pub given_text : (word : List ℕ) (r : Option (Bor (List ℕ))) → Begins 116 word r → true ≡ is_some r → (bytes : List ℕ) × (data_of word ≡ Ok bytes)
+given_text word (Some x) h is = (x.now, text_letter word x.now h)
+given_text word None h is = cc
+
+pub no_text : (word : List ℕ) (r : Option (Bor (List ℕ))) → Begins 116 word r → false ≡ is_some r → (rest : List ℕ) → word ≢ 116 ∷ rest
+no_text word None h is = h
+no_text word (Some x) h is = cc
 
 pub hex_letter : (word rest : List ℕ) → word ≡ 120 ∷ rest → data_of word ≡ hex_bytes rest
 hex_letter word rest h = ap data_of h

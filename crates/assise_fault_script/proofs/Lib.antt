@@ -3,4 +3,6 @@ pub mod Digits
 pub mod Hex
 pub mod Letters
 pub mod Lines
+pub mod Rows
+pub mod Spaces
 pub mod Steps

@@ -9,7 +9,7 @@ use Rattle.assise_fault_script.specs.declared.fault.ScriptFault.{ScriptFault}
 use Rattle.assise_fault_script.specs.declared.fault.ScriptFault.TheVariants.{Memory}
 use Rattle.assise_fault_script.specs.declared.parse.NumberedCommand.{NumberedCommand}
 use Rattle.assise_fault_script.specs.Line.{line_says}
-use Rattle.assise_fault_script.specs.Script.{Progress, ◌>>>◌, at_line, numbered, commands_from, with_line, next, start, commands_of, IsReached}
+use Rattle.assise_fault_script.specs.Script.{Progress, ◌>>>◌, at_line, numbered, commands_from, with_line, next, start, commands_of, IsReached, IsCommandAt}
 use Rattle.assise_fault_script.specs.Words.{lines_of}
 
 abbrev Commands : Type 0
@@ -73,6 +73,29 @@ pub faulty : (bytes : List ℕ) (p : Progress) (line : List ℕ) (lines whole : 
 faulty bytes p line lines whole e y is parts read (inl memory) = inl (ap (λ z. z.fault) is ∙ memory)
 faulty bytes p line lines whole e y is parts read (inr fault) =
     inr (ap (commands_from 1 false) read.parts ∙ read.reads whole ∙ ap (comes_of p) parts ∙ step p line lines ∙ ap (λ r. r >>> λ t. comes_of t lines) fault ∙ ap Err (sym is))
+
+-- a fault of a line that memory was wanting for is no fault of the line
+pub weaker : (p : Progress) (line : List ℕ) (e : LineFault) → ((e.fault ≡ Memory) × ((command : Command) × (line_says p.built line ≡ Ok (Some command)))) ⊎ (next p line ≡ Err e) → (e.fault ≡ Memory) ⊎ (next p line ≡ Err e)
+weaker p line e (inl memory) = inl memory.0
+weaker p line e (inr fault) = inr fault
+
+-- memory was wanting at a command
+pub wanting : (bytes : List ℕ) (p : Progress) (line : List ℕ) (lines whole : List (List ℕ)) (e y : LineFault) → y ≡ e → whole ≡ line ∷ lines → IsReadTo bytes p whole → e.line ≡ p.number → ((e.fault ≡ Memory) × ((command : Command) × (line_says p.built line ≡ Ok (Some command)))) ⊎ (next p line ≡ Err e) → ((y.fault ≡ Memory) × IsCommandAt bytes y.line) ⊎ (commands_of bytes ≡ Err y)
+wanting bytes p line lines whole e y is parts read at (inr fault) =
+    inr (ap (commands_from 1 false) read.parts ∙ read.reads whole ∙ ap (comes_of p) parts ∙ step p line lines ∙ ap (λ r. r >>> λ t. comes_of t lines) fault ∙ ap Err (sym is))
+wanting bytes p line lines whole e y is parts read at (inl memory) =
+    let command = memory.1.0 in
+    let number : y.line ≡ p.number = ap (λ z. z.line) is ∙ at in
+    let to = read.front ++ line ∷ [] in
+    let all : lines_of bytes ≡ to ++ lines = read.parts ∙ ap (λ ls. read.front ++ ls) parts ∙ sym (append_assoc read.front (line ∷ []) lines) in
+    let count : y.line ≡ length to = omega (arith, number, read.counted, length-append read.front (line ∷ [])) in
+    let front : take y.line (lines_of bytes) ≡ to = ap (λ n. take n (lines_of bytes)) count ∙ ap (take (length to)) all ∙ take-append_seam to lines in
+    let reads : commands_from 1 false to ≡ Ok (p.commands ++ record { line = p.number; command = command } ∷ []) =
+    read.reads (line ∷ []) ∙ step p line [] ∙ ap (λ s. with_line p s >>> λ q. comes_of q []) memory.1.1 ∙ ap Ok (append-nil (p.commands ++ record { line = p.number; command = command } ∷ [])) in
+    inl (
+      ap (λ z. z.fault) is ∙ memory.0,
+      record { front = p.commands; command = command; faultless = ap (commands_from 1 false) front ∙ reads ∙ ap (λ n. Ok (p.commands ++ record { line = n; command = command } ∷ [])) (sym number) },
+    )
 
 is_ok : (r : Commands) (cs : List NumberedCommand) → r ≡ Ok cs → IsOk r
 is_ok (Ok ds) cs h = refl

@@ -15,6 +15,16 @@ abbrev pub Gives : {X : Type 0} → Result X ScriptFault → Result X ScriptFaul
 Gives (Ok x) wanted = wanted ≡ Ok x
 Gives (Err e) wanted = (e ≡ Memory) ⊎ (wanted ≡ Err e)
 
+-- what is wanted was given, or memory ran out where nothing is wrong
+abbrev pub Answers : {X : Type 0} → Result X ScriptFault → Result X ScriptFault → Type 0
+Answers (Ok x) wanted = wanted ≡ Ok x
+Answers {X} (Err e) wanted = ((e ≡ Memory) × ((x : X) × (wanted ≡ Ok x))) ⊎ (wanted ≡ Err e)
+
+-- nothing is wrong, or the first fault
+abbrev pub Checks : {X : Type 0} → Result (Unit {0}) ScriptFault → Result X ScriptFault → Type 0
+Checks {X} (Ok _) wanted = (x : X) × (wanted ≡ Ok x)
+Checks (Err e) wanted = wanted ≡ Err e
+
 abbrev pub fault_text : ScriptFault → List ℕ
 fault_text NotUtf8 = codes "not UTF-8"
 fault_text UnknownCommand = codes "unknown command"

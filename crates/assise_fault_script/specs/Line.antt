@@ -1,12 +1,12 @@
 -- What a line says.
-use Rattle.std.specs.Prelude.{ℕ, Bool, false, ◌==◌, if◌then◌else◌, List, [], ◌∷◌, Option, Some, None, Result, Ok, Err}
+use Rattle.std.specs.Prelude.{◌≡◌, ◌⊎◌, ℕ, Bool, false, ◌==◌, if◌then◌else◌, List, [], ◌∷◌, Option, Some, None, Result, Ok, Err}
 use Rattle.std.specs.Str.{is_utf8}
 use Rattle.assise_fault_script.specs.declared.command.Command.{Command}
 use Rattle.assise_fault_script.specs.declared.command.Command.TheVariants.{Call}
 use Rattle.assise_fault_script.specs.declared.command.Keyword as first
 use Rattle.assise_fault_script.specs.declared.command.Keyword.TheVariants.{Cluster}
 use Rattle.assise_fault_script.specs.declared.fault.ScriptFault.{ScriptFault}
-use Rattle.assise_fault_script.specs.declared.fault.ScriptFault.TheVariants.{NotUtf8, UnknownCommand, NoCluster, SecondCluster}
+use Rattle.assise_fault_script.specs.declared.fault.ScriptFault.TheVariants.{NotUtf8, UnknownCommand, NoCluster, SecondCluster, Memory}
 use Rattle.assise_fault_script.specs.Calls.{call_of, call_word}
 use Rattle.assise_fault_script.specs.Fault.{◌>>=◌}
 use Rattle.assise_fault_script.specs.Keywords.{keyword_command, keyword_of}
@@ -43,6 +43,11 @@ other_command built word rest = keyword_of word >>= λ k. in_turn built k >>= λ
 abbrev pub command_of : Bool → List (List ℕ) → Result (Option Command) ScriptFault
 command_of built [] = Ok None
 command_of built (word ∷ rest) = if begins_with_digit word then client_command built word rest else other_command built word rest
+
+-- what is wanted was given, or memory ran out at a command without a fault
+abbrev pub AnswersLine : Result (Option Command) ScriptFault → Result (Option Command) ScriptFault → Type 0
+AnswersLine (Ok x) wanted = wanted ≡ Ok x
+AnswersLine (Err e) wanted = ((e ≡ Memory) × ((command : Command) × (wanted ≡ Ok (Some command)))) ⊎ (wanted ≡ Err e)
 
 -- the first byte is `#`
 abbrev pub is_comment : List ℕ → Bool

@@ -46,6 +46,12 @@ pub record IsReached (bytes : List ℕ) (line : ℕ) : Type 0 where
   pub last : line ≤ length (lines_of bytes)
   pub faultless : IsOk (commands_from 1 false (take (line - 1) (lines_of bytes)))
 
+-- this line says a command, and no line up to it is faulty
+pub record IsCommandAt (bytes : List ℕ) (line : ℕ) : Type 0 where
+  pub front : List NumberedCommand
+  pub command : Command
+  pub faultless : commands_from 1 false (take line (lines_of bytes)) ≡ Ok (front ++ record { line = line; command = command } ∷ [])
+
 -- makes a cluster, with numbers in the limits
 abbrev pub IsCluster : Command → Type 0
 IsCluster (Cluster nodes log hot) = (nodes ≡ 1) × (8 ≤ log) × (log ≤ 4096) × (1 ≤ hot) × (hot ≤ 4096)
@@ -81,7 +87,7 @@ with_line p (Err fault) = Err record { line = p.number; fault = fault }
 abbrev pub next : Progress → List ℕ → Result Progress LineFault
 next p line = with_line p (line_says p.built line)
 
--- one line more was taken in, or memory ran out
+-- one line more was taken in, or memory ran out at a command
 abbrev pub GivesNext : Progress → List ℕ → Result (Unit {0}) LineFault → Progress → Type 0
 GivesNext p line (Ok _) q = next p line ≡ Ok q
-GivesNext p line (Err e) q = (e.fault ≡ Memory) ⊎ (next p line ≡ Err e)
+GivesNext p line (Err e) q = ((e.fault ≡ Memory) × ((command : Command) × (line_says p.built line ≡ Ok (Some command)))) ⊎ (next p line ≡ Err e)

@@ -1,14 +1,15 @@
 // A row for each call of a client.
-ghost use Rattle.std.specs.Prelude.{◌≡◌, map};
+ghost use Rattle.std.specs.Prelude.{◌≡◌, IfOk, IsOk, IsOkUnless, Ok, map};
 ghost use Rattle.assise_fault_script.specs.Calls.{call_of, call_word, create_of, list_of, mkdir_of, path_word, read_of, rename_of, rmdir_of, stat_of, truncate_of, unlink_of, write_of};
-ghost use Rattle.assise_fault_script.specs.Fault.{Gives};
+ghost use Rattle.assise_fault_script.specs.declared.fault.ScriptFault.{ScriptFault};
+ghost use Rattle.assise_fault_script.specs.Fault.{Answers, Checks};
 
 use crate::command::CallWord;
-use crate::data::data;
+use crate::data::{check_data, checked_data};
 use crate::fault::ScriptFault;
 use crate::number::number;
 use assise_names::call::Op;
-use assise_names::path::{Path, PathFault};
+use assise_names::path::Path;
 use std::alloc::Global;
 
 /// The call that a word names.
@@ -31,9 +32,9 @@ pub fn call_word(word: &str) -> Result<CallWord, ScriptFault>
     }
 }
 
-/// The call that the words behind its name make.
+/// The call that the words behind its name make. All words are checked before memory is asked for.
 pub fn call(alloc: Global, name: CallWord, words: &[&str]) -> Result<Op, ScriptFault>
-    ensures { Gives result (call_of name (map (λ w. w.now) words.now)) }
+    ensures { Answers result (call_of name (map (λ w. w.now) words.now)) }
 {
     match (name, words) {
         (CallWord::Create, [path]) => create(alloc, path),
@@ -51,87 +52,112 @@ pub fn call(alloc: Global, name: CallWord, words: &[&str]) -> Result<Op, ScriptF
     }
 }
 
-fn path(alloc: Global, word: &str) -> Result<Path, ScriptFault>
-    ensures { Gives result (path_word word.now) }
+/// Whether a word spells a path.
+fn check_path(word: &str) -> Result<(), ScriptFault>
+    ensures { Checks result (path_word word.now) }
 {
-    match Path::parse(alloc, word) {
-        Ok(path) => Ok(path),
-        Err(PathFault::Memory) => Err(ScriptFault::Memory),
+    match Path::check(word) {
+        Ok(()) => Ok(()),
         Err(fault) => Err(ScriptFault::BadPath(fault)),
     }
 }
 
+/// The path that a checked word spells.
+fn checked_path(alloc: Global, word: &str) -> Result<Path, ScriptFault>
+    requires { IsOk (path_word word.now) }
+    ensures spelled { IfOk result (λ path. path_word word.now ≡ Ok path) }
+    ensures only_memory { IsOkUnless result ScriptFault.Memory }
+{
+    match Path::parse(alloc, word) {
+        Ok(path) => Ok(path),
+        Err(_) => Err(ScriptFault::Memory),
+    }
+}
+
+fn path(alloc: Global, word: &str) -> Result<Path, ScriptFault>
+    ensures { Answers result (path_word word.now) }
+{
+    check_path(word)?;
+    checked_path(alloc, word)
+}
+
 fn create(alloc: Global, word: &str) -> Result<Op, ScriptFault>
-    ensures { Gives result (create_of word.now) }
+    ensures { Answers result (create_of word.now) }
 {
     let path = path(alloc, word)?;
     Ok(Op::Create(path))
 }
 
 fn mkdir(alloc: Global, word: &str) -> Result<Op, ScriptFault>
-    ensures { Gives result (mkdir_of word.now) }
+    ensures { Answers result (mkdir_of word.now) }
 {
     let path = path(alloc, word)?;
     Ok(Op::Mkdir(path))
 }
 
 fn read(alloc: Global, word: &str, offset: &str, count: &str) -> Result<Op, ScriptFault>
-    ensures { Gives result (read_of word.now offset.now count.now) }
+    ensures { Answers result (read_of word.now offset.now count.now) }
 {
-    let path = path(alloc, word)?;
+    check_path(word)?;
     let offset = number(offset)?;
     let count = number(count)?;
+    let path = checked_path(alloc, word)?;
     Ok(Op::Read(path, offset, count))
 }
 
 fn write(alloc: Global, word: &str, offset: &str, bytes: &str) -> Result<Op, ScriptFault>
-    ensures { Gives result (write_of word.now offset.now bytes.now) }
+    ensures { Answers result (write_of word.now offset.now bytes.now) }
 {
-    let path = path(alloc, word)?;
+    check_path(word)?;
     let offset = number(offset)?;
-    let bytes = data(alloc, bytes)?;
+    check_data(bytes)?;
+    let path = checked_path(alloc, word)?;
+    let bytes = checked_data(alloc, bytes)?;
     Ok(Op::Write(path, offset, bytes))
 }
 
 fn truncate(alloc: Global, word: &str, size: &str) -> Result<Op, ScriptFault>
-    ensures { Gives result (truncate_of word.now size.now) }
+    ensures { Answers result (truncate_of word.now size.now) }
 {
-    let path = path(alloc, word)?;
+    check_path(word)?;
     let size = number(size)?;
+    let path = checked_path(alloc, word)?;
     Ok(Op::Truncate(path, size))
 }
 
 fn rename(alloc: Global, from: &str, to: &str) -> Result<Op, ScriptFault>
-    ensures { Gives result (rename_of from.now to.now) }
+    ensures { Answers result (rename_of from.now to.now) }
 {
-    let from = path(alloc, from)?;
-    let to = path(alloc, to)?;
+    check_path(from)?;
+    check_path(to)?;
+    let from = checked_path(alloc, from)?;
+    let to = checked_path(alloc, to)?;
     Ok(Op::Rename(from, to))
 }
 
 fn unlink(alloc: Global, word: &str) -> Result<Op, ScriptFault>
-    ensures { Gives result (unlink_of word.now) }
+    ensures { Answers result (unlink_of word.now) }
 {
     let path = path(alloc, word)?;
     Ok(Op::Unlink(path))
 }
 
 fn rmdir(alloc: Global, word: &str) -> Result<Op, ScriptFault>
-    ensures { Gives result (rmdir_of word.now) }
+    ensures { Answers result (rmdir_of word.now) }
 {
     let path = path(alloc, word)?;
     Ok(Op::Rmdir(path))
 }
 
 fn list(alloc: Global, word: &str) -> Result<Op, ScriptFault>
-    ensures { Gives result (list_of word.now) }
+    ensures { Answers result (list_of word.now) }
 {
     let path = path(alloc, word)?;
     Ok(Op::List(path))
 }
 
 fn stat(alloc: Global, word: &str) -> Result<Op, ScriptFault>
-    ensures { Gives result (stat_of word.now) }
+    ensures { Answers result (stat_of word.now) }
 {
     let path = path(alloc, word)?;
     Ok(Op::Stat(path))

@@ -1,7 +1,8 @@
 // The data of a write.
-ghost use Rattle.std.specs.Prelude.{◌≡◌, Ok, replicate};
+ghost use Rattle.std.specs.Prelude.{◌≡◌, IfOk, IsOk, IsOkUnless, Ok, replicate};
 ghost use Rattle.assise_fault_script.specs.Data.{data_of, hex_byte, hex_bytes, hex_value, zeros};
-ghost use Rattle.assise_fault_script.specs.Fault.{Gives};
+ghost use Rattle.assise_fault_script.specs.declared.fault.ScriptFault.{ScriptFault};
+ghost use Rattle.assise_fault_script.specs.Fault.{Checks, Gives};
 ghost use Rattle.assise_fault_script.specs.Number.{number_of};
 
 use crate::fault::ScriptFault;
@@ -12,8 +13,70 @@ use std::alloc::Global;
 /// The most bytes that a word of `z` writes.
 const MOST_ZEROS: u64 = 1_048_576;
 
+/// Whether a word is data.
+pub fn check_data(word: &str) -> Result<(), ScriptFault>
+    ensures { Checks result (data_of word.now) }
+{
+    if word.strip_prefix('t').is_some() {
+        return Ok(());
+    }
+    if let Some(digits) = word.strip_prefix('x') {
+        return check_hex(digits.as_bytes());
+    }
+    if let Some(count) = word.strip_prefix('z') {
+        return check_zeros(count);
+    }
+    Err(ScriptFault::BadData)
+}
+
+fn check_hex(digits: &[u8]) -> Result<(), ScriptFault>
+    ensures { Checks result (hex_bytes digits.now) }
+{
+    let mut rest = digits;
+    while let [high, low, more @ ..] = rest {
+        pair(*high, *low)?;
+        rest = more;
+    }
+    if rest.is_empty() {
+        Ok(())
+    } else {
+        Err(ScriptFault::BadData)
+    }
+}
+
+fn check_zeros(count: &str) -> Result<(), ScriptFault>
+    ensures { Checks result (zeros (number_of count.now)) }
+{
+    match number(count) {
+        Ok(count) => few_zeros(count),
+        Err(_) => Err(ScriptFault::BadData),
+    }
+}
+
+fn few_zeros(count: u64) -> Result<(), ScriptFault>
+    ensures { Checks result (zeros (Ok count)) }
+{
+    if count <= MOST_ZEROS {
+        Ok(())
+    } else {
+        Err(ScriptFault::BadData)
+    }
+}
+
+/// The bytes that a checked word of data writes.
+pub fn checked_data(alloc: Global, word: &str) -> Result<ByteString, ScriptFault>
+    requires { IsOk (data_of word.now) }
+    ensures written { IfOk result (λ bytes. data_of word.now ≡ Ok bytes) }
+    ensures only_memory { IsOkUnless result ScriptFault.Memory }
+{
+    match data(alloc, word) {
+        Ok(bytes) => Ok(bytes),
+        Err(_) => Err(ScriptFault::Memory),
+    }
+}
+
 /// The bytes that a word of data writes.
-pub fn data(alloc: Global, word: &str) -> Result<ByteString, ScriptFault>
+fn data(alloc: Global, word: &str) -> Result<ByteString, ScriptFault>
     ensures { Gives result (data_of word.now) }
 {
     if let Some(text) = word.strip_prefix('t') {

@@ -11,9 +11,9 @@ use std::fmt::{Display, Formatter};
 /// What is wrong with a line of a script.
 #[derive(Clone, Copy, PartialEq, Eq, Debug)]
 pub enum ScriptFault {
-    /// The line isn't UTF-8.
+    /// The line is no comment and isn't UTF-8.
     NotUtf8,
-    /// The first word is no command, or the word behind a client's number is no call.
+    /// The first word is no command, or what stands behind a client's number is no call.
     UnknownCommand,
     /// The command has too few words or too many.
     WrongCount,
@@ -31,7 +31,7 @@ pub enum ScriptFault {
     SecondCluster,
     /// A number of `cluster` is too small or too large.
     BadLimit,
-    /// A growth was really refused.
+    /// A growth was really refused, at a line without another fault.
     Memory,
 }
 

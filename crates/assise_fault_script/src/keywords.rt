@@ -1,6 +1,5 @@
 // A row for each command that begins with a keyword.
 ghost use Rattle.std.specs.Prelude.{◌≡◌, map};
-ghost use Rattle.assise_fault_script.specs.Fault.{Gives};
 ghost use Rattle.assise_fault_script.specs.Keywords.{cluster_of, keyword_command, keyword_of, kind_of, open_of};
 
 use crate::command::{Command, Keyword, RevokerKind};
@@ -21,7 +20,7 @@ pub fn keyword(word: &str) -> Result<Keyword, ScriptFault>
 
 /// The command that the words behind the keyword make.
 pub fn keyword_command(keyword: Keyword, words: &[&str]) -> Result<Command, ScriptFault>
-    ensures { Gives result (keyword_command keyword (map (λ w. w.now) words.now)) }
+    ensures { result ≡ keyword_command keyword (map (λ w. w.now) words.now) }
 {
     match (keyword, words) {
         (Keyword::Cluster, [nodes, log, hot]) => cluster(nodes, log, hot),
@@ -32,7 +31,7 @@ pub fn keyword_command(keyword: Keyword, words: &[&str]) -> Result<Command, Scri
 }
 
 fn cluster(nodes: &str, log: &str, hot: &str) -> Result<Command, ScriptFault>
-    ensures { Gives result (cluster_of nodes.now log.now hot.now) }
+    ensures { result ≡ cluster_of nodes.now log.now hot.now }
 {
     let nodes = within(1, 1, nodes)?;
     let log = within(8, 4096, log)?;
@@ -41,7 +40,7 @@ fn cluster(nodes: &str, log: &str, hot: &str) -> Result<Command, ScriptFault>
 }
 
 fn open(node: &str, name: &str) -> Result<Command, ScriptFault>
-    ensures { Gives result (open_of node.now name.now) }
+    ensures { result ≡ open_of node.now name.now }
 {
     let node = number(node)?;
     let kind = kind(name)?;

@@ -1,7 +1,6 @@
 // What a line says.
 ghost use Rattle.std.specs.Prelude.{◌≡◌, ◌∷◌, map};
-ghost use Rattle.assise_fault_script.specs.Fault.{Gives};
-ghost use Rattle.assise_fault_script.specs.Line.{begins_with_digit, client_command, cluster_there, command_of, in_turn, is_comment, line_says, nameless_call, other_command};
+ghost use Rattle.assise_fault_script.specs.Line.{AnswersLine, begins_with_digit, client_command, cluster_there, command_of, in_turn, is_comment, line_says, nameless_call, other_command};
 ghost use Rattle.assise_fault_script.specs.Words.{words_of};
 
 use crate::calls::{call, call_word};
@@ -13,12 +12,13 @@ use crate::words::words;
 use std::alloc::Global;
 
 /// What a line says: a command, nothing, or its first fault. `built` says whether a command stands before it.
+/// [`ScriptFault::Memory`] comes only where the line is a command without a fault.
 pub fn line_command(
     alloc: Global,
     built: bool,
     bytes: &[u8],
 ) -> Result<Option<Command>, ScriptFault>
-    ensures { Gives result (line_says built bytes.now) }
+    ensures { AnswersLine result (line_says built bytes.now) }
 {
     if is_comment(bytes) {
         return Ok(None);
@@ -39,15 +39,15 @@ fn is_comment(bytes: &[u8]) -> bool
 }
 
 fn text_line(alloc: Global, built: bool, text: &str) -> Result<Option<Command>, ScriptFault>
-    ensures { Gives result (command_of built (words_of text.now)) }
+    ensures { AnswersLine result (command_of built (words_of text.now)) }
 {
-    let words = words(alloc, text)?;
+    let words = words(text);
     command(alloc, built, words.as_slice())
 }
 
 /// The command that words make.
 fn command(alloc: Global, built: bool, words: &[&str]) -> Result<Option<Command>, ScriptFault>
-    ensures { Gives result (command_of built (map (λ w. w.now) words.now)) }
+    ensures { AnswersLine result (command_of built (map (λ w. w.now) words.now)) }
 {
     match words {
         [] => Ok(None),
@@ -61,7 +61,7 @@ fn some_command(
     first: &str,
     rest: &[&str],
 ) -> Result<Option<Command>, ScriptFault>
-    ensures { Gives result (command_of built (first.now ∷ map (λ w. w.now) rest.now)) }
+    ensures { AnswersLine result (command_of built (first.now ∷ map (λ w. w.now) rest.now)) }
 {
     if begins_with_digit(first) {
         client_command(alloc, built, first, rest)
@@ -86,7 +86,7 @@ fn client_command(
     client: &str,
     rest: &[&str],
 ) -> Result<Option<Command>, ScriptFault>
-    ensures { Gives result (client_command built client.now (map (λ w. w.now) rest.now)) }
+    ensures { AnswersLine result (client_command built client.now (map (λ w. w.now) rest.now)) }
 {
     match rest {
         [] => nameless_call(client),
@@ -95,7 +95,7 @@ fn client_command(
 }
 
 fn nameless_call(client: &str) -> Result<Option<Command>, ScriptFault>
-    ensures { Gives result (nameless_call client.now) }
+    ensures { result ≡ nameless_call client.now }
 {
     number(client)?;
     Err(ScriptFault::UnknownCommand)
@@ -108,7 +108,7 @@ fn named_call(
     name: &str,
     rest: &[&str],
 ) -> Result<Option<Command>, ScriptFault>
-    ensures { Gives result (client_command built client.now (name.now ∷ map (λ w. w.now) rest.now)) }
+    ensures { AnswersLine result (client_command built client.now (name.now ∷ map (λ w. w.now) rest.now)) }
 {
     let client = number(client)?;
     let word = call_word(name)?;
@@ -119,7 +119,7 @@ fn named_call(
 
 /// The command that begins with a keyword.
 fn other_command(built: bool, word: &str, rest: &[&str]) -> Result<Option<Command>, ScriptFault>
-    ensures { Gives result (other_command built word.now (map (λ w. w.now) rest.now)) }
+    ensures { result ≡ other_command built word.now (map (λ w. w.now) rest.now) }
 {
     let keyword = keyword(word)?;
     in_turn(built, keyword)?;

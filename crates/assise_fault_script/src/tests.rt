@@ -181,6 +181,8 @@ fn the_first_fault_of_a_line_is_named(rt: HostRuntime) -> Result<(), Fail> {
         ("1 read /f 0", "2: wrong number of words"),
         ("1 write /f 0", "2: wrong number of words"),
         ("1 write /f 0 ta b", "2: wrong number of words"),
+        ("1 write /f 0 ta b c d e", "2: wrong number of words"),
+        ("open 1 least 2 3 4 5 6", "2: wrong number of words"),
         ("open 18446744073709551616 least", "2: bad number"),
         ("open +1 least", "2: bad number"),
         ("open -1 least", "2: bad number"),
@@ -312,5 +314,52 @@ fn long_names_and_long_scripts(rt: HostRuntime) -> Result<(), Fail> {
     script.push_str("fly")?;
     let found = faulted(&rt, script.as_bytes())?;
     assert_eq!(rt; found.as_str(), "100001: unknown command");
+    Ok(())
+}
+
+#[test]
+fn writes_of_65536_bytes_are_read(rt: HostRuntime) -> Result<(), Fail> {
+    for (front, piece, byte) in [("z65536", "", 0), ("x", "5a", 0x5a), ("t", "a", b'a')] {
+        let mut script = String::from_str(rt.alloc(), "cluster 1 8 1\n5 write /f 0 ")?;
+        script.push_str(front)?;
+        for _ in 0..65_536 {
+            script.push_str(piece)?;
+        }
+        let wanted = vec![in rt.alloc(); byte; 65_536]?;
+        let found = parse(rt.alloc(), script.as_bytes())?;
+        match found.as_slice() {
+            [_, numbered] => match &numbered.command {
+                Command::Call {
+                    client: 5,
+                    op: Op::Write(_, 0, bytes),
+                } => {
+                    assert!(rt; bytes.as_slice() == wanted.as_slice(), "at {front}");
+                }
+                _ => assert!(rt; false, "no write at {front}"),
+            },
+            _ => assert!(rt; false, "not two commands at {front}"),
+        }
+    }
+    Ok(())
+}
+
+#[test]
+fn the_longest_paths_are_read(rt: HostRuntime) -> Result<(), Fail> {
+    let mut name = String::from_str(rt.alloc(), "/")?;
+    for _ in 0..255 {
+        name.push_str("a")?;
+    }
+    let mut path = String::new(rt.alloc());
+    for _ in 0..32 {
+        path.push_str(name.as_str())?;
+    }
+    let script = format!(in rt.alloc(); "cluster 1 8 1\n1 rename {name} {path}")?;
+    let wanted = format!(in rt.alloc(); "1: cluster 1 8 1\n2: 1 rename {name} {path}\n")?;
+    let found = listed(&rt, script.as_bytes())?;
+    assert_eq!(rt; found.as_str(), wanted.as_str());
+    path.push_str("/b")?;
+    let script = format!(in rt.alloc(); "cluster 1 8 1\n1 stat {path}")?;
+    let found = faulted(&rt, script.as_bytes())?;
+    assert_eq!(rt; found.as_str(), "2: bad path: too deep");
     Ok(())
 }

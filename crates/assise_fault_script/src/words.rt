@@ -1,29 +1,37 @@
 // The lines of a script, and the words of a line.
-ghost use Rattle.std.specs.Prelude.{◌≡◌, ◌<◌, ◌∷◌, [], IfNone, IfOk, IfSome, filter, length, map};
-ghost use Rattle.std.specs.List.{position, slice_split};
-ghost use Rattle.assise_fault_script.specs.Words.{is_line_feed, is_space, is_word, lines_of, without_return, words_of};
+ghost use Rattle.std.specs.Prelude.{◌≡◌, ◌<◌, ◌∷◌, ◌++◌, [], IfNone, IfSome, filter, length, map, take};
+ghost use Rattle.std.specs.List.{position};
+ghost use Rattle.assise_fault_script.specs.Words.{is_line_feed, is_word, lines_of, without_return, words_of};
 
-use std::alloc::{AllocError, Global};
+use arrayvec::ArrayVec;
 
-/// The words of a text, parted by spaces.
-pub fn words<'a>(alloc: Global, text: &'a str) -> Result<Vec<&'a str>, AllocError>
-    ensures { IfOk result (λ words. map (λ w. w.now) words.items ≡ words_of text.now) }
+/// One word more than a command has at most.
+pub const MOST_WORDS: usize = 6;
+
+/// The first words of a text, parted by spaces. Of more than six only six are kept: no command has more than five.
+pub fn words(text: &str) -> ArrayVec<&str, MOST_WORDS>
+    ensures { map (λ w. w.now) result.items ≡ take 6 (words_of text.now) }
 {
-    let mut words = pieces(alloc, text)?;
-    drop_empty(&mut words);
-    Ok(words)
+    let mut words = ArrayVec::new();
+    let mut rest = text;
+    while let Some((piece, more)) = rest.split_once(' ') {
+        keep(&mut words, piece);
+        rest = more;
+    }
+    keep(&mut words, rest);
+    words
 }
 
-fn pieces<'a>(alloc: Global, text: &'a str) -> Result<Vec<&'a str>, AllocError>
-    ensures { IfOk result (λ pieces. map (λ w. w.now) pieces.items ≡ slice_split is_space text.now) }
+/// Appends a piece if it is a word and there is room.
+fn keep<'a>(words: &mut ArrayVec<&'a str, MOST_WORDS>, piece: &'a str)
+    ensures { map (λ w. w.now) words.new.items ≡ take 6 (map (λ w. w.now) words.old.items ++ filter is_word (piece.entry.now ∷ [])) }
 {
-    text.split(' ').collect(alloc)
-}
-
-fn drop_empty(words: &mut Vec<&str>)
-    ensures { map (λ w. w.now) words.new.items ≡ filter is_word (map (λ w. w.now) words.old.items) }
-{
-    words.retain(|w| !w.is_empty());
+    if words.is_full() {
+        return;
+    }
+    if !piece.is_empty() {
+        words.push(piece);
+    }
 }
 
 /// The first line, without the line feed and one carriage return that end it, and what stands behind it. There

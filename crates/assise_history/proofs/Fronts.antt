@@ -6,10 +6,10 @@ use Rattle.std.proofs.lemmas.List.{length-map, length-append}
 use Rattle.std.proofs.lemmas.List.Folds.{list_any-append}
 use Rattle.std.proofs.Math.Bool.{or_assoc}
 use Rattle.assise_history.specs.declared.call.Loss.{Loss}
-use Rattle.assise_history.specs.declared.call.ClientSummary.{ClientSummary}
+use Rattle.assise_history.specs.declared.front.ClientSummary.{ClientSummary}
 use Rattle.assise_history.specs.Entries.{Event, opens, calls, crashes, fails, returns}
-use Rattle.assise_history.specs.Legal.{Summary, nothing_yet, newly_opened, with_call, with_crash, with_failure, after, summed_from, summary, is_down, comes_next}
-use Rattle.assise_history.specs.Words.{is_crash_of, is_failure_of, is_return_of, clients_opened, IsDown}
+use Rattle.assise_history.specs.Summary.{Summary, nothing_yet, newly_opened, with_call, with_crash, with_failure, after, summed_from, summary, is_down, comes_next}
+use Rattle.assise_history.specs.Legal.{is_crash_of, is_failure_of, is_return_of, clients_opened, IsDown}
 use Rattle.assise_history.proofs.Passing.{list_any-map}
 
 -- what an entry changes of what is known of a client

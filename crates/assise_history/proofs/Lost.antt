@@ -6,8 +6,7 @@ use Rattle.std.proofs.lemmas.List.Elements.{Contains-append_right, Contains-appe
 use Rattle.assise_history.specs.declared.call.Call.{Call}
 use Rattle.assise_history.specs.declared.call.Loss.{Loss}
 use Rattle.assise_history.specs.Entries.{Event, opens, calls, crashes, fails, returns}
-use Rattle.assise_history.specs.Kept.{loses, is_lost, kept}
-use Rattle.assise_history.specs.Words.{IsTaken, Stays}
+use Rattle.assise_history.specs.Kept.{IsTaken, Stays, loses, is_lost, kept}
 use Rattle.assise_history.proofs.Passing.{passes_from, passes_at, two, two_from}
 use Rattle.assise_history.proofs.Runs.{is_lost-append}
 

@@ -1,632 +1,114 @@
--- What may come next in a legal history, in the words of its entries.
-use Rattle.std.proofs.Common.{◌≡◌, ◌↔◌, ℕ, ◌+◌, ◌<◌, ◌≤◌, true, false, not, ◌&&◌, ◌==◌, List, [], ◌∷◌, ◌++◌, filter, length, Option, Some, None, refl, ap, sym, subst, ◌∙◌, ◌⊎◌, inl, inr, arith, append_assoc, eqb-true, eq-eqb, ne_eqb, ltb-true, lt-ltb}
-use Rattle.std.specs.List.{list_any, list_all}
-use Rattle.std.proofs.lemmas.Bool.{cases_Bool, not-true, not_from_false, both_ways, false_from_ne_true}
-use Rattle.std.proofs.lemmas.List.{length-append}
-use Rattle.std.proofs.lemmas.List.Elements.{filter-append}
+-- Legal histories with an entry more, of each kind, in the words of the entries: what a machine cites for one step.
+use Rattle.std.proofs.Common.{◌≡◌, ◌↔◌, ℕ, List, [], ◌∷◌, ◌++◌, refl, ap, sym, subst, ◌∙◌, append_assoc}
 use Rattle.assise_seq_tree.specs.Tree.{opening}
+use Rattle.assise_seq_tree.specs.Answer.{answer}
 use Rattle.assise_history.specs.declared.call.Call.{Call}
 use Rattle.assise_history.specs.declared.call.Loss.{Loss}
-use Rattle.assise_history.specs.declared.call.ClientSummary.{ClientSummary}
 use Rattle.assise_history.specs.Entries.{Event, opens, calls, crashes, fails, returns}
-use Rattle.assise_history.specs.Kept.{kept, IsRun}
-use Rattle.assise_history.specs.Legal.{IsLegal, Fits, follows, summary, newly_opened, is_fsync, is_past, is_down, rise_from, makes, may_lose, with_call, with_crash, with_failure, comes_next}
-use Rattle.assise_history.specs.Opened.{is_opening_of, OpensOnce}
-use Rattle.assise_history.specs.Words.{is_opening, is_call_of, is_crash_of, is_failure_of, clients_opened, calls_made, IsAlive, IsDown, MayLose, Rises, CallFits, OpenFits, FailureFits, MayFollow}
-use Rattle.assise_history.proofs.Passing.{two, two_from, four, four_from, all_at, all_from, by_ends}
+use Rattle.assise_history.specs.Kept.{kept, tree_after, IsRun}
+use Rattle.assise_history.specs.Legal.{IsLegal, Fits, IsAlive, IsDown, IsFair, IsNextCall, MayFollow, MayOpen}
+use Rattle.assise_history.proofs.Passing.{by_ends}
 use Rattle.assise_history.proofs.Runs.{kept-push, kept-call, run-push, run-last}
-use Rattle.assise_history.proofs.Legality.{legal-nil, legal-push, legal-front, legal-last}
-use Rattle.assise_history.proofs.Fronts.{Found, found, seen, count_clients, through, through-push, with_entry, through_client, through_node, crashed_since, failed_since, down_found, down_seen, next, comes_next_is}
+use Rattle.assise_history.proofs.Legality.{legal-nil, legal-push, legal-front, legal-last, legal_run, legal_from, fits_in, front_run}
 
--- one entry after another
-pub along : (P : List Event → Type 0) → P [] → ((h : List Event) (e : Event) → IsLegal h → Fits h e → P h → P (h ++ e ∷ [])) → (h : List Event) → IsLegal h → P h
-along P none step h =
-    by_ends (λ g. IsLegal g → P g) (λ legal. none)
-    (λ g e before legal. let l = legal-front g (e ∷ []) legal in step g e l (legal-last g e legal) (before l)) h
+-- the reply is the answer on the tree that the kept calls leave
+abbrev pub IsAnswered : List Event → Call → Type 0
+IsAnswered h x = x.reply ≡ (answer (tree_after opening (kept h)) x.op).0
 
-pub fits_in : (h before more : List Event) (e : Event) → IsLegal h → h ≡ before ++ e ∷ more → Fits before e
-unfolding IsLegal
-fits_in h before more e legal split = legal before e more split
+-- an entry that leaves what is kept fits where it may follow
+pub fits_quiet : (h : List Event) (e : Event) → IsLegal h → kept (h ++ e ∷ []) ≡ kept h → MayFollow h e → Fits h e
+fits_quiet h e legal same may = record { follows = may; run = subst (IsRun opening) (sym same) (legal_run h legal) }
 
-pub front_in : (h before more : List Event) → IsLegal h → h ≡ before ++ more → IsLegal before
-front_in h before more legal split = legal-front before more (subst IsLegal split legal)
+pub fits_call : (h : List Event) (x : Call) → IsLegal h → IsNextCall h x → IsAnswered h x → Fits h (calls x)
+fits_call h x legal next reply = record { follows = next; run = subst (IsRun opening) (sym (kept-call h x)) (run-push opening (kept h) x (legal_run h legal) reply) }
 
-pub legal_run : (h : List Event) → IsLegal h → IsRun opening (kept h)
-legal_run h = by_ends (λ g. IsLegal g → IsRun opening (kept g)) (λ legal. tt) (λ g e before legal. (legal-last g e legal).run) h
+pub fits_failure : (h : List Event) (n : ℕ) (losses : List Loss) → IsFair h n losses → IsRun opening (kept (h ++ fails n losses ∷ [])) → Fits h (fails n losses)
+fits_failure h n losses fair run = record { follows = fair; run = run }
 
--- where an entry stands in a list and one more
-not_nil : {X : Type 0} (front more : List X) (x : X) → [] ≡ front ++ x ∷ more → ⊥
-not_nil [] more x h = cc
-not_nil (y ∷ ys) more x h = cc
+pub call_answered : (h : List Event) (x : Call) → Fits h (calls x) → IsAnswered h x
+call_answered h x fits = run-last opening (kept h) x (subst (IsRun opening) (kept-call h x) fits.run)
 
-pub record Earlier {X : Type 0} (h : List X) (e : X) (front : List X) (x : X) (more : List X) : Type 0 where
-  pub rest : List X
-  pub split : h ≡ front ++ x ∷ rest
-  pub more_is : more ≡ rest ++ e ∷ []
+-- each kind of entry, there and back
+pub legal-open : (h : List Event) (c n : ℕ) → IsLegal h → MayOpen h c n → IsLegal (h ++ opens c n ∷ [])
+legal-open h c n legal may = legal-push h (opens c n) legal (fits_quiet h (opens c n) legal (kept-push h (opens c n)) may)
 
-pub record Last {X : Type 0} (h : List X) (e : X) (front : List X) (x : X) (more : List X) : Type 0 where
-  pub front_is : h ≡ front
-  pub last_is : e ≡ x
-  pub more_is : more ≡ []
+pub legal-call : (h : List Event) (x : Call) → IsLegal h → IsNextCall h x → IsAnswered h x → IsLegal (h ++ calls x ∷ [])
+legal-call h x legal next reply = legal-push h (calls x) legal (fits_call h x legal next reply)
 
-cut_end : {X : Type 0} (h : List X) (e : X) (front : List X) (x : X) (more : List X) → h ++ e ∷ [] ≡ front ++ x ∷ more → Last h e front x more ⊎ Earlier h e front x more
-cut_end [] e [] x more same = inl record { front_is = refl; last_is = cc; more_is = cc }
-cut_end [] e (f ∷ front) x more same = let tail : [] ≡ front ++ x ∷ more = cc in absurd (not_nil front more x tail)
-cut_end (y ∷ ys) e [] x more same = let here : y ≡ x = cc in let rest : ys ++ e ∷ [] ≡ more = cc in inr record { rest = ys; split = ap (λ z. z ∷ ys) here; more_is = sym rest }
-cut_end (y ∷ ys) e (f ∷ front) x more same =
-    let here : y ≡ f = cc in
-    let tails : ys ++ e ∷ [] ≡ front ++ x ∷ more = cc in
-    elim (cut_end ys e front x more tails) [
-      | inl p ↦ let q = p.front_is in inl record { front_is = cc; last_is = p.last_is; more_is = p.more_is }
-      | inr r ↦ let q = r.split in inr record { rest = r.rest; split = cc; more_is = r.more_is }
-    ]
+pub legal-crash : (h : List Event) (c : ℕ) → IsLegal h → IsAlive h c → IsLegal (h ++ crashes c ∷ [])
+legal-crash h c legal alive = legal-push h (crashes c) legal (fits_quiet h (crashes c) legal (kept-push h (crashes c)) alive)
 
--- counts
-opened_append : (g h : List Event) → clients_opened (g ++ h) ≡ clients_opened g + clients_opened h
-opened_append g h = ap length (filter-append is_opening g h) ∙ length-append (filter is_opening g) (filter is_opening h)
+pub legal-failure : (h : List Event) (n : ℕ) (losses : List Loss) → IsLegal h → IsFair h n losses → IsRun opening (kept (h ++ fails n losses ∷ [])) → IsLegal (h ++ fails n losses ∷ [])
+legal-failure h n losses legal fair run = legal-push h (fails n losses) legal (fits_failure h n losses fair run)
 
-made_append : (c : ℕ) (g h : List Event) → calls_made c (g ++ h) ≡ calls_made c g + calls_made c h
-made_append c g h = ap length (filter-append (is_call_of c) g h) ∙ length-append (filter (is_call_of c) g) (filter (is_call_of c) h)
+pub legal-return : (h : List Event) (n : ℕ) → IsLegal h → IsDown h n → IsLegal (h ++ returns n ∷ [])
+legal-return h n legal down = legal-push h (returns n) legal (fits_quiet h (returns n) legal (kept-push h (returns n)) down)
 
-times : ℕ → List Event → ℕ
-times c h = length (filter (is_opening_of c) h)
+pub open_more : (h : List Event) (c n : ℕ) → IsLegal (h ++ opens c n ∷ []) ↔ (IsLegal h × MayOpen h c n)
+open_more h c n = (λ all. (legal-front h (opens c n ∷ []) all, (legal-last h (opens c n) all).follows), λ p. legal-open h c n p.0 p.1)
 
-times_append : (c : ℕ) (g h : List Event) → times c (g ++ h) ≡ times c g + times c h
-unfolding times
-times_append c g h = ap length (filter-append (is_opening_of c) g h) ∙ length-append (filter (is_opening_of c) g) (filter (is_opening_of c) h)
-
--- the clients are opened in the order of their numbers
-next_opened : (h : List Event) (c n : ℕ) → Fits h (opens c n) → c ≡ clients_opened h + 1
-next_opened h c n fits = let counted = count_clients h in eqb-true c _ (two _ _ fits.rule).0 ∙ ap (λ k. k + 1) counted
-
-opened_within : (h before since : List Event) (c n : ℕ) → IsLegal h → h ≡ before ++ opens c n ∷ since → c ≤ clients_opened h
-opened_within h before since c n legal split =
-    let e = next_opened before c n (fits_in h before since (opens c n) legal split) in
-    let all = ap clients_opened split ∙ opened_append before (opens c n ∷ since) in
-    omega arith
-
--- what it takes to make a call
-pub record Makes (x : Call) (k : ClientSummary) : Type 0 where
-  pub client : k.client ≡ x.client
-  pub no_crash : k.crashed ≡ false
-  pub no_failure : k.failed ≡ false
-  pub number : x.number ≡ next k.last
-
-makes_parts : (x : Call) (k : ClientSummary) → makes x k ≡ true → Makes x k
-makes_parts x k h =
-    let parts = four (k.client == x.client) (not k.crashed) (not k.failed) (comes_next k.last x.number) h in
-    record {
-      client = eqb-true k.client x.client parts.0;
-      no_crash = not-true k.crashed parts.1;
-      no_failure = not-true k.failed parts.2;
-      number = eqb-true x.number (next k.last) (sym (comes_next_is k.last x.number) ∙ parts.3);
-    }
-
-makes_from : (x : Call) (k : ClientSummary) → Makes x k → makes x k ≡ true
-makes_from x k m =
-    four_from (k.client == x.client) (not k.crashed) (not k.failed) (comes_next k.last x.number) (eq-eqb k.client x.client m.client) (not_from_false k.crashed m.no_crash) (not_from_false k.failed m.no_failure) (comes_next_is k.last x.number ∙ eq-eqb x.number (next k.last) m.number)
-
--- who makes a call
-made_by : (h : List Event) (x : Call) (f : Found (makes x) h) → Makes x (through f.since (newly_opened f.client f.node))
-made_by h x f = makes_parts x (through f.since (newly_opened f.client f.node)) f.holds
-
-maker : (h : List Event) (x : Call) (f : Found (makes x) h) → f.client ≡ x.client
-maker h x f = sym (through_client f.since (newly_opened f.client f.node)) ∙ (made_by h x f).client
-
--- a client that isn't opened yet has no calls
-early_more : (h : List Event) (e : Event) → IsLegal h → Fits h e → ((c : ℕ) → clients_opened h < c → calls_made c h ≡ 0) → (c : ℕ) → clients_opened (h ++ e ∷ []) < c → calls_made c (h ++ e ∷ []) ≡ 0
-early_more h (opens d n) legal fits before c late =
-    let all = opened_append h (opens d n ∷ []) in
-    let made = made_append c h (opens d n ∷ []) in
-    let none = before c (omega arith) in
-    omega arith
-early_more h (crashes d) legal fits before c late =
-    let all = opened_append h (crashes d ∷ []) in
-    let made = made_append c h (crashes d ∷ []) in
-    let none = before c (omega arith) in
-    omega arith
-early_more h (fails n losses) legal fits before c late =
-    let all = opened_append h (fails n losses ∷ []) in
-    let made = made_append c h (fails n losses ∷ []) in
-    let none = before c (omega arith) in
-    omega arith
-early_more h (returns n) legal fits before c late =
-    let all = opened_append h (returns n ∷ []) in
-    let made = made_append c h (returns n ∷ []) in
-    let none = before c (omega arith) in
-    omega arith
-early_more h (calls x) legal fits before c late =
-    let all = opened_append h (calls x ∷ []) in
-    let made = made_append c h (calls x ∷ []) in
-    let none = before c (omega arith) in
-    elim (cases_Bool (c == x.client)) [
-      | inl own ↦
-          let f = found (makes x) h fits.rule in
-          let who = maker h x f in
-          let same = eqb-true c x.client own in
-          let within = opened_within h f.before f.since f.client f.node legal f.split in
-          absurd (omega arith)
-      | inr other ↦ let still = rw other at made in omega arith
-    ]
-
-pub early : (h : List Event) → IsLegal h → (c : ℕ) → clients_opened h < c → calls_made c h ≡ 0
-early = along (λ h. (c : ℕ) → clients_opened h < c → calls_made c h ≡ 0) (λ c late. refl) early_more
-
--- a client's next number is the count of its calls
-abbrev pub Numbered : List Event → Type 0
-Numbered h = (c n : ℕ) (before since : List Event) → h ≡ before ++ opens c n ∷ since → next (through since (newly_opened c n)).last ≡ calls_made c h
-
-call_number : (h : List Event) (x : Call) → Numbered h → follows (summary h) (calls x) ≡ true → x.number ≡ calls_made x.client h
-call_number h x numbered rule =
-    let f = found (makes x) h rule in
-    (made_by h x f).number ∙ numbered f.client f.node f.before f.since f.split ∙ ap (λ c. calls_made c h) (maker h x f)
-
-number_open : (h : List Event) (c n : ℕ) → IsLegal h → Fits h (opens c n) → 0 ≡ calls_made c (h ++ opens c n ∷ [])
-number_open h c n legal fits =
-    let made = made_append c h (opens c n ∷ []) in
-    let is = next_opened h c n fits in
-    let none = early h legal c (omega arith) in
-    omega arith
-
-last_own : (x : Call) (k : ClientSummary) → (k.client == x.client) ≡ true → (with_call x k).last ≡ Some x.number
-last_own x k own = rw own refl
-
-last_other : (x : Call) (k : ClientSummary) → (k.client == x.client) ≡ false → (with_call x k).last ≡ k.last
-last_other x k other = rw other refl
-
-number_more : (h : List Event) (e : Event) → IsLegal h → Fits h e → Numbered h → (c n : ℕ) (before since : List Event) → h ≡ before ++ opens c n ∷ since
-    → next (with_entry e (through since (newly_opened c n))).last ≡ calls_made c (h ++ e ∷ [])
-number_more h (opens d m) legal fits numbered c n before since split =
-    let is = numbered c n before since split in
-    let made = made_append c h (opens d m ∷ []) in
-    omega arith
-number_more h (returns m) legal fits numbered c n before since split =
-    let is = numbered c n before since split in
-    let made = made_append c h (returns m ∷ []) in
-    omega arith
-number_more h (crashes d) legal fits numbered c n before since split =
-    let k = through since (newly_opened c n) in
-    let made = made_append c h (crashes d ∷ []) in
-    let same : (with_crash d k).last ≡ k.last = elim (cases_Bool (k.client == d)) [ inl t ↦ rw t refl | inr f ↦ rw f refl ] in
-    let still : calls_made c (h ++ crashes d ∷ []) ≡ calls_made c h = omega arith in
-    ap next same ∙ numbered c n before since split ∙ sym still
-number_more h (fails m losses) legal fits numbered c n before since split =
-    let k = through since (newly_opened c n) in
-    let made = made_append c h (fails m losses ∷ []) in
-    let same : (with_failure m k).last ≡ k.last = elim (cases_Bool (k.node == m)) [ inl t ↦ rw t refl | inr f ↦ rw f refl ] in
-    let still : calls_made c (h ++ fails m losses ∷ []) ≡ calls_made c h = omega arith in
-    ap next same ∙ numbered c n before since split ∙ sym still
-number_more h (calls x) legal fits numbered c n before since split =
-    let k = through since (newly_opened c n) in
-    let made = made_append c h (calls x ∷ []) in
-    let who : k.client ≡ c = through_client since (newly_opened c n) in
-    elim (cases_Bool (c == x.client)) [
-      | inl own ↦
-          let last = last_own x k (subst (λ d. (d == x.client) ≡ true) (sym who) own) in
-          let is = call_number h x numbered fits.rule in
-          let same = ap (λ d. calls_made d h) (eqb-true c x.client own) in
-          let grown : calls_made c (h ++ calls x ∷ []) ≡ calls_made c h + 1 = rw own at made in
-          let all : x.number + 1 ≡ calls_made c (h ++ calls x ∷ []) = omega arith in
-          ap next last ∙ all
-      | inr other ↦
-          let last = last_other x k (subst (λ d. (d == x.client) ≡ false) (sym who) other) in
-          let grown = rw other at made in
-          let still : calls_made c (h ++ calls x ∷ []) ≡ calls_made c h = omega arith in
-          ap next last ∙ numbered c n before since split ∙ sym still
-    ]
-
-numbered_more : (h : List Event) (e : Event) → IsLegal h → Fits h e → Numbered h → Numbered (h ++ e ∷ [])
-numbered_more h e legal fits numbered c n before since split =
-    elim (cut_end h e before (opens c n) since split) [
-      | inl end ↦
-          let first = number_open h c n legal (subst (Fits h) end.last_is fits) in
-          let none : next (through since (newly_opened c n)).last ≡ 0 = ap (λ es. next (through es (newly_opened c n)).last) end.more_is in
-          none ∙ first ∙ ap (λ x. calls_made c (h ++ x ∷ [])) (sym end.last_is)
-      | inr early ↦
-          let on : through since (newly_opened c n) ≡ with_entry e (through early.rest (newly_opened c n)) = ap (λ es. through es (newly_opened c n)) early.more_is ∙ through-push early.rest e (newly_opened c n) in
-          ap (λ k. next k.last) on ∙ number_more h e legal fits numbered c n before early.rest early.split
-    ]
-
-pub numbered : (h : List Event) → IsLegal h → Numbered h
-numbered = along Numbered (λ c n before since split. absurd (not_nil before since (opens c n) split)) numbered_more
-
--- a call
-pub call_fits : (h : List Event) (x : Call) → IsLegal h → Fits h (calls x) → CallFits h x
-call_fits h x legal fits =
-    let f = found (makes x) h fits.rule in
-    let who = maker h x f in
-    let m = made_by h x f in
-    let crash : list_any (is_crash_of f.client) f.since ≡ false = sym (crashed_since f.since f.client f.node) ∙ m.no_crash in
-    record {
-      ready = record {
-        node = f.node;
-        before = f.before;
-        since = f.since;
-        split = subst (λ c. h ≡ f.before ++ opens c f.node ∷ f.since) who f.split;
-        no_crash = subst (λ c. list_any (is_crash_of c) f.since ≡ false) who crash;
-        no_failure = sym (failed_since f.since f.client f.node) ∙ m.no_failure;
-      };
-      number = call_number h x (numbered h legal) fits.rule;
-      reply = run-last opening (kept h) x (subst (IsRun opening) (kept-call h x) fits.run);
-    }
-
-pub call_from : (h : List Event) (x : Call) → IsLegal h → CallFits h x → Fits h (calls x)
-call_from h x legal fits =
-    let r = fits.ready in
-    let k = through r.since (newly_opened x.client r.node) in
-    let count = numbered h legal x.client r.node r.before r.since r.split in
-    record {
-      rule = seen (makes x) h r.before r.since x.client r.node r.split (makes_from x k record {
-        client = through_client r.since (newly_opened x.client r.node);
-        no_crash = crashed_since r.since x.client r.node ∙ r.no_crash;
-        no_failure = failed_since r.since x.client r.node ∙ r.no_failure;
-        number = fits.number ∙ sym count;
-      });
-      run = subst (IsRun opening) (sym (kept-call h x)) (run-push opening (kept h) x (legal_run h legal) fits.reply);
-    }
-
--- an open
-pub open_fits : (h : List Event) (c n : ℕ) → Fits h (opens c n) → OpenFits h c n
-open_fits h c n fits =
-    let parts = two (c == length (summary h).clients + 1) (not (is_down (summary h) n)) fits.rule in
-    record {
-      next = next_opened h c n fits;
-      up = λ d. both_ways (is_down (summary h) n) (not-true (is_down (summary h) n) parts.1) (down_seen h n d);
-    }
-
-pub open_from : (h : List Event) (c n : ℕ) → IsLegal h → OpenFits h c n → Fits h (opens c n)
-open_from h c n legal fits =
-    let first : c ≡ length (summary h).clients + 1 = fits.next ∙ ap (λ k. k + 1) (sym (count_clients h)) in
-    record {
-      rule = two_from (c == length (summary h).clients + 1) (not (is_down (summary h) n)) (eq-eqb c (length (summary h).clients + 1) first) (not_from_false (is_down (summary h) n) (false_from_ne_true (is_down (summary h) n) (λ down. fits.up (down_found h n down))));
-      run = subst (IsRun opening) (sym (kept-push h (opens c n))) (legal_run h legal);
-    }
-
--- a crash
-pub crash_fits : (h : List Event) (c : ℕ) → Fits h (crashes c) → IsAlive h c
-crash_fits h c fits =
-    let f = found (λ k. (k.client == c) && not k.crashed) h fits.rule in
-    let k = through f.since (newly_opened f.client f.node) in
-    let parts = two (k.client == c) (not k.crashed) f.holds in
-    let who : f.client ≡ c = sym (through_client f.since (newly_opened f.client f.node)) ∙ eqb-true k.client c parts.0 in
-    let crash : list_any (is_crash_of f.client) f.since ≡ false = sym (crashed_since f.since f.client f.node) ∙ not-true k.crashed parts.1 in
-    record {
-      node = f.node;
-      before = f.before;
-      since = f.since;
-      split = subst (λ d. h ≡ f.before ++ opens d f.node ∷ f.since) who f.split;
-      no_crash = subst (λ d. list_any (is_crash_of d) f.since ≡ false) who crash;
-    }
-
-pub crash_from : (h : List Event) (c : ℕ) → IsLegal h → IsAlive h c → Fits h (crashes c)
-crash_from h c legal a =
-    let k = through a.since (newly_opened c a.node) in
-    record {
-      rule = seen (λ k. (k.client == c) && not k.crashed) h a.before a.since c a.node a.split (two_from (k.client == c) (not k.crashed) (eq-eqb k.client c (through_client a.since (newly_opened c a.node))) (not_from_false k.crashed (crashed_since a.since c a.node ∙ a.no_crash)));
-      run = subst (IsRun opening) (sym (kept-push h (crashes c))) (legal_run h legal);
-    }
-
--- a return
-pub return_fits : (h : List Event) (n : ℕ) → Fits h (returns n) → IsDown h n
-return_fits h n fits = down_found h n fits.rule
-
-pub return_from : (h : List Event) (n : ℕ) → IsLegal h → IsDown h n → Fits h (returns n)
-return_from h n legal down = record { rule = down_seen h n down; run = subst (IsRun opening) (sym (kept-push h (returns n))) (legal_run h legal) }
-
--- a failure: its clients rise
-past_more : (o : Option ℕ) (i j : ℕ) → is_past o i ≡ true → i < j → is_past o j ≡ true
-past_more None i j h l = refl
-past_more (Some k) i j h l = let first = ltb-true k i h in lt-ltb k j (omega arith)
-
-rise_all : (o : Option ℕ) (ls before behind : List Loss) (l : Loss) → rise_from o ls ≡ true → ls ≡ before ++ l ∷ behind → is_past o l.client ≡ true
-rise_all o [] before behind l h split = absurd (not_nil before behind l split)
-rise_all o (m ∷ ms) [] behind l h split =
-    let same : m ≡ l = cc in
-    subst (λ k. is_past o k.client ≡ true) same (two (is_past o m.client) (rise_from (Some m.client) ms) h).0
-rise_all o (m ∷ ms) (y ∷ before) behind l h split =
-    let parts = two (is_past o m.client) (rise_from (Some m.client) ms) h in
-    let tails : ms ≡ before ++ l ∷ behind = cc in
-    past_more o m.client l.client parts.0 (ltb-true m.client l.client (rise_all (Some m.client) ms before behind l parts.1 tails))
-
-pub rises : (o : Option ℕ) (ls : List Loss) → rise_from o ls ≡ true → Rises ls
-rises o [] h before between behind l m split = absurd (not_nil before (between ++ m ∷ behind) l split)
-rises o (x ∷ xs) h [] between behind l m split =
-    let same : x ≡ l = cc in
-    let tails : xs ≡ between ++ m ∷ behind = cc in
-    let parts = two (is_past o x.client) (rise_from (Some x.client) xs) h in
-    subst (λ k. k.client < m.client) same (ltb-true x.client m.client (rise_all (Some x.client) xs between behind m parts.1 tails))
-rises o (x ∷ xs) h (y ∷ before) between behind l m split =
-    let tails : xs ≡ before ++ l ∷ (between ++ m ∷ behind) = cc in
-    let parts = two (is_past o x.client) (rise_from (Some x.client) xs) h in
-    rises (Some x.client) xs parts.1 before between behind l m tails
-
-pub rise_back : (o : Option ℕ) (ls : List Loss) → Rises ls → ((before behind : List Loss) (l : Loss) → ls ≡ before ++ l ∷ behind → is_past o l.client ≡ true) → rise_from o ls ≡ true
-rise_back o [] rising past = refl
-rise_back o (x ∷ xs) rising past =
-    two_from (is_past o x.client) (rise_from (Some x.client) xs) (past [] xs x refl)
-    (rise_back (Some x.client) xs
-    (λ before between behind l m split. rising (x ∷ before) between behind l m (ap (λ ys. x ∷ ys) split))
-    (λ before behind l split. lt-ltb x.client l.client (rising [] before behind x l (ap (λ ys. x ∷ ys) split))))
-
--- what was fsynced of a client's calls
-abbrev pub Fsynced : List Event → ℕ → ℕ → Type 0
-Fsynced h c j = (before since : List Event) (x : Call) → h ≡ before ++ calls x ∷ since → x.client ≡ c → is_fsync x.op ≡ true → x.number < j
-
-abbrev pub Synced : List Event → Type 0
-Synced h = (c n : ℕ) (before since : List Event) → h ≡ before ++ opens c n ∷ since → (j : ℕ) → (is_past (through since (newly_opened c n)).synced j ≡ true) ↔ Fsynced h c j
-
-number_in : (h before later : List Event) (x : Call) → IsLegal h → h ≡ before ++ calls x ∷ later → x.number ≡ calls_made x.client before
-number_in h before later x legal split =
-    call_number before x (numbered before (front_in h before (calls x ∷ later) legal split)) (fits_in h before later (calls x) legal split).rule
-
-made_before : (h before later : List Event) (x : Call) (c : ℕ) → h ≡ before ++ calls x ∷ later → x.client ≡ c → calls_made c before + 1 ≤ calls_made c h
-made_before h before later x c split client =
-    let own : (c == x.client) ≡ true = eq-eqb c x.client (sym client) in
-    let all = ap (calls_made c) split ∙ made_append c before (calls x ∷ later) in
-    let grown = rw own at all in
-    omega arith
-
-fsynced_front : (h : List Event) (e : Event) (c j : ℕ) → Fsynced (h ++ e ∷ []) c j → Fsynced h c j
-fsynced_front h e c j all before since x split =
-    all before (since ++ e ∷ []) x (ap (λ g. g ++ e ∷ []) split ∙ append_assoc before (calls x ∷ since) (e ∷ []))
-
-fsynced_quiet : (h : List Event) (e : Event) (c j : ℕ) → ((x : Call) → e ≡ calls x → x.client ≡ c → is_fsync x.op ≡ true → ⊥) → Fsynced h c j → Fsynced (h ++ e ∷ []) c j
-fsynced_quiet h e c j quiet all before since x split client fsync =
-    elim (cut_end h e before (calls x) since split) [
-      | inl end ↦ absurd (quiet x end.last_is client fsync)
-      | inr early ↦ all before early.rest x early.split client fsync
-    ]
-
--- the same is known of the client, and no fsync of it more
-synced_quiet : (h : List Event) (e : Event) (c j : ℕ) (k l : ClientSummary) → l.synced ≡ k.synced → ((x : Call) → e ≡ calls x → x.client ≡ c → is_fsync x.op ≡ true → ⊥)
-    → ((is_past k.synced j ≡ true) ↔ Fsynced h c j) → (is_past l.synced j ≡ true) ↔ Fsynced (h ++ e ∷ []) c j
-synced_quiet h e c j k l same quiet before = (
-  λ past. fsynced_quiet h e c j quiet (before.0 (ap (λ s. is_past s j) (sym same) ∙ past)),
-  λ all. ap (λ s. is_past s j) same ∙ before.1 (fsynced_front h e c j all),
+pub call_more : (h : List Event) (x : Call) → IsLegal (h ++ calls x ∷ []) ↔ (IsLegal h × (IsNextCall h x × IsAnswered h x))
+call_more h x = (
+  λ all. let fits = legal-last h (calls x) all in (legal-front h (calls x ∷ []) all, (fits.follows, call_answered h x fits)),
+  λ p. legal-call h x p.0 p.1.0 p.1.1,
 )
 
-synced_other : (x : Call) (k : ClientSummary) → (k.client == x.client) ≡ false → (with_call x k).synced ≡ k.synced
-synced_other x k other = rw other refl
+pub crash_more : (h : List Event) (c : ℕ) → IsLegal (h ++ crashes c ∷ []) ↔ (IsLegal h × IsAlive h c)
+crash_more h c = (λ all. (legal-front h (crashes c ∷ []) all, (legal-last h (crashes c) all).follows), λ p. legal-crash h c p.0 p.1)
 
-synced_plain : (x : Call) (k : ClientSummary) → is_fsync x.op ≡ false → (with_call x k).synced ≡ k.synced
-synced_plain x k plain = elim (cases_Bool (k.client == x.client)) [ inl t ↦ rw (t, plain) refl | inr f ↦ rw f refl ]
-
-synced_own : (x : Call) (k : ClientSummary) → (k.client == x.client) ≡ true → is_fsync x.op ≡ true → (with_call x k).synced ≡ Some x.number
-synced_own x k own fsync = rw (own, fsync) refl
-
--- an fsync more of the client
-synced_fsync : (h : List Event) (x : Call) (j : ℕ) → IsLegal h → Fits h (calls x) → is_fsync x.op ≡ true → (is_past (Some x.number) j ≡ true) ↔ Fsynced (h ++ calls x ∷ []) x.client j
-synced_fsync h x j legal fits fsync = (
-  λ past before since y split client again.
-      let below = ltb-true x.number j past in
-      elim (cut_end h (calls x) before (calls y) since split) [
-        | inl end ↦ let is = end.last_is in let same : x ≡ y = cc in subst (λ z. z.number < j) same below
-        | inr early ↦
-            let right = call_number h x (numbered h legal) fits.rule in
-            let number = number_in h before early.rest y legal early.split ∙ ap (λ c. calls_made c before) client in
-            let more = made_before h before early.rest y x.client early.split client in
-            omega arith
-      ],
-  λ all. lt-ltb x.number j (all h [] x refl refl fsync),
+pub failure_more : (h : List Event) (n : ℕ) (losses : List Loss) → IsLegal (h ++ fails n losses ∷ []) ↔ (IsLegal h × (IsFair h n losses × IsRun opening (kept (h ++ fails n losses ∷ []))))
+failure_more h n losses = (
+  λ all. let fits = legal-last h (fails n losses) all in (legal-front h (fails n losses ∷ []) all, (fits.follows, fits.run)),
+  λ p. legal-failure h n losses p.0 p.1.0 p.1.1,
 )
 
-synced_more : (h : List Event) (e : Event) → IsLegal h → Fits h e → Synced h → (c n : ℕ) (before since : List Event) → h ≡ before ++ opens c n ∷ since
-    → (j : ℕ) → (is_past (with_entry e (through since (newly_opened c n))).synced j ≡ true) ↔ Fsynced (h ++ e ∷ []) c j
-synced_more h (opens d m) legal fits synced c n before since split j =
-    let k = through since (newly_opened c n) in
-    synced_quiet h (opens d m) c j k k refl (λ x is. cc) (synced c n before since split j)
-synced_more h (returns m) legal fits synced c n before since split j =
-    let k = through since (newly_opened c n) in
-    synced_quiet h (returns m) c j k k refl (λ x is. cc) (synced c n before since split j)
-synced_more h (crashes d) legal fits synced c n before since split j =
-    let k = through since (newly_opened c n) in
-    let same : (with_crash d k).synced ≡ k.synced = elim (cases_Bool (k.client == d)) [ inl t ↦ rw t refl | inr f ↦ rw f refl ] in
-    synced_quiet h (crashes d) c j k (with_crash d k) same (λ x is. cc) (synced c n before since split j)
-synced_more h (fails m losses) legal fits synced c n before since split j =
-    let k = through since (newly_opened c n) in
-    let same : (with_failure m k).synced ≡ k.synced = elim (cases_Bool (k.node == m)) [ inl t ↦ rw t refl | inr f ↦ rw f refl ] in
-    synced_quiet h (fails m losses) c j k (with_failure m k) same (λ x is. cc) (synced c n before since split j)
-synced_more h (calls y) legal fits synced c n before since split j =
-    let k = through since (newly_opened c n) in
-    let who : k.client ≡ c = through_client since (newly_opened c n) in
-    elim (cases_Bool (k.client == y.client)) [
-      | inr other ↦
-          let apart : (x : Call) → calls y ≡ calls x → x.client ≡ c → is_fsync x.op ≡ true → ⊥ = λ x is client fsync.
-          let same : y ≡ x = cc in
-          let met : k.client ≡ y.client = who ∙ sym client ∙ ap (λ z. z.client) (sym same) in
-          both_ways (k.client == y.client) other (eq-eqb k.client y.client met) in
-          synced_quiet h (calls y) c j k (with_call y k) (synced_other y k other) apart (synced c n before since split j)
-      | inl own ↦ elim (cases_Bool (is_fsync y.op)) [
-        | inr plain ↦
-            let apart : (x : Call) → calls y ≡ calls x → x.client ≡ c → is_fsync x.op ≡ true → ⊥ = λ x is client fsync.
-            let same : y ≡ x = cc in
-            both_ways (is_fsync y.op) plain (subst (λ z. is_fsync z.op ≡ true) (sym same) fsync) in
-            synced_quiet h (calls y) c j k (with_call y k) (synced_plain y k plain) apart (synced c n before since split j)
-        | inl fsync ↦
-            let same : y.client ≡ c = sym (eqb-true k.client y.client own) ∙ who in
-            let last : (with_call y k).synced ≡ Some y.number = synced_own y k own fsync in
-            let both = synced_fsync h y j legal fits fsync in (
-              λ past. subst (λ d. Fsynced (h ++ calls y ∷ []) d j) same (both.0 (ap (λ s. is_past s j) (sym last) ∙ past)),
-              λ all. ap (λ s. is_past s j) last ∙ both.1 (subst (λ d. Fsynced (h ++ calls y ∷ []) d j) (sym same) all),
-            )
-      ]
-    ]
-
--- a client that was just opened has no fsync
-synced_open : (h : List Event) (c n j : ℕ) → IsLegal h → Fits h (opens c n) → Fsynced (h ++ opens c n ∷ []) c j
-synced_open h c n j legal fits before since x split client fsync =
-    elim (cut_end h (opens c n) before (calls x) since split) [
-      | inl end ↦ let is = end.last_is in cc
-      | inr early_on ↦
-          let is = next_opened h c n fits in
-          let none = early h legal c (omega arith) in
-          let some = made_before h before early_on.rest x c early_on.split client in
-          absurd (omega arith)
-    ]
-
-synced_push : (h : List Event) (e : Event) → IsLegal h → Fits h e → Synced h → Synced (h ++ e ∷ [])
-synced_push h e legal fits synced c n before since split j =
-    elim (cut_end h e before (opens c n) since split) [
-      | inl end ↦
-          let all = synced_open h c n j legal (subst (Fits h) end.last_is fits) in (
-            λ past. subst (λ x. Fsynced (h ++ x ∷ []) c j) (sym end.last_is) all,
-            λ each. ap (λ es. is_past (through es (newly_opened c n)).synced j) end.more_is,
-          )
-      | inr early ↦
-          let on : through since (newly_opened c n) ≡ with_entry e (through early.rest (newly_opened c n)) = ap (λ es. through es (newly_opened c n)) early.more_is ∙ through-push early.rest e (newly_opened c n) in
-          let both = synced_more h e legal fits synced c n before early.rest early.split j in (
-            λ past. both.0 (ap (λ k. is_past k.synced j) (sym on) ∙ past),
-            λ all. ap (λ k. is_past k.synced j) on ∙ both.1 all,
-          )
-    ]
-
-pub synced : (h : List Event) → IsLegal h → Synced h
-synced = along Synced (λ c n before since split. absurd (not_nil before since (opens c n) split)) synced_push
-
-fair_pair : (h : List Event) (n : ℕ) (l : Loss) → IsLegal h → list_any (may_lose n l) (summary h).clients ≡ true → MayLose h n l
-fair_pair h n l legal is =
-    let f = found (may_lose n l) h is in
-    let k = through f.since (newly_opened f.client f.node) in
-    let parts = four (k.client == l.client) (k.node == n) (not k.failed) (is_past k.synced l.first) f.holds in
-    let who : f.client ≡ l.client = sym (through_client f.since (newly_opened f.client f.node)) ∙ eqb-true k.client l.client parts.0 in
-    let there : f.node ≡ n = sym (through_node f.since (newly_opened f.client f.node)) ∙ eqb-true k.node n parts.1 in
-    let failed : list_any (is_failure_of f.node) f.since ≡ false = sym (failed_since f.since f.client f.node) ∙ not-true k.failed parts.2 in
-    let placed : h ≡ f.before ++ opens l.client f.node ∷ f.since = subst (λ c. h ≡ f.before ++ opens c f.node ∷ f.since) who f.split in
-    record {
-      on = record {
-        before = f.before;
-        since = f.since;
-        split = subst (λ m. h ≡ f.before ++ opens l.client m ∷ f.since) there placed;
-        no_failure = subst (λ m. list_any (is_failure_of m) f.since ≡ false) there failed;
-      };
-      past = subst (λ c. Fsynced h c l.first) who ((synced h legal f.client f.node f.before f.since f.split l.first).0 parts.3);
-    }
-
-pair_from : (h : List Event) (n : ℕ) (l : Loss) → IsLegal h → MayLose h n l → list_any (may_lose n l) (summary h).clients ≡ true
-pair_from h n l legal m =
-    let o = m.on in
-    let k = through o.since (newly_opened l.client n) in
-    let both = synced h legal l.client n o.before o.since o.split l.first in
-    seen (may_lose n l) h o.before o.since l.client n o.split
-    (four_from (k.client == l.client) (k.node == n) (not k.failed) (is_past k.synced l.first)
-    (eq-eqb k.client l.client (through_client o.since (newly_opened l.client n)))
-    (eq-eqb k.node n (through_node o.since (newly_opened l.client n)))
-    (not_from_false k.failed (failed_since o.since l.client n ∙ o.no_failure))
-    (both.1 m.past))
-
-pub failure_fits : (h : List Event) (n : ℕ) (losses : List Loss) → IsLegal h → Fits h (fails n losses) → FailureFits h n losses
-failure_fits h n losses legal fits =
-    let parts = two (rise_from None losses) (list_all (λ l. list_any (may_lose n l) (summary h).clients) losses) fits.rule in
-    record {
-      rising = rises None losses parts.0;
-      fair = λ before behind l split. fair_pair h n l legal (all_at (λ l. list_any (may_lose n l) (summary h).clients) before behind l (subst (λ ls. list_all (λ l. list_any (may_lose n l) (summary h).clients) ls ≡ true) split parts.1));
-      run = fits.run;
-    }
-
-pub failure_from : (h : List Event) (n : ℕ) (losses : List Loss) → IsLegal h → FailureFits h n losses → Fits h (fails n losses)
-failure_from h n losses legal fits = record {
-  rule = two_from (rise_from None losses) (list_all (λ l. list_any (may_lose n l) (summary h).clients) losses)
-      (rise_back None losses fits.rising (λ before behind l split. refl))
-      (all_from (λ l. list_any (may_lose n l) (summary h).clients) losses (λ before behind l split. pair_from h n l legal (fits.fair before behind l split)));
-  run = fits.run;
-}
-
--- any entry
-pub may_follow : (h : List Event) (e : Event) → IsLegal h → Fits h e → MayFollow h e
-may_follow h (opens c n) legal fits = open_fits h c n fits
-may_follow h (calls x) legal fits = call_fits h x legal fits
-may_follow h (crashes c) legal fits = crash_fits h c fits
-may_follow h (fails n losses) legal fits = failure_fits h n losses legal fits
-may_follow h (returns n) legal fits = return_fits h n fits
-
-pub fits_from : (h : List Event) (e : Event) → IsLegal h → MayFollow h e → Fits h e
-fits_from h (opens c n) legal m = open_from h c n legal m
-fits_from h (calls x) legal m = call_from h x legal m
-fits_from h (crashes c) legal m = crash_from h c legal m
-fits_from h (fails n losses) legal m = failure_from h n losses legal m
-fits_from h (returns n) legal m = return_from h n legal m
-
-pub one_more : (h : List Event) (e : Event) → IsLegal (h ++ e ∷ []) ↔ (IsLegal h × MayFollow h e)
-one_more h e = (
-  λ all. let legal = legal-front h (e ∷ []) all in (legal, may_follow h e legal (legal-last h e all)),
-  λ parts. legal-push h e parts.0 (fits_from h e parts.0 parts.1),
-)
-
-pub one_more_fits : (h : List Event) (e : Event) → IsLegal (h ++ e ∷ []) ↔ (IsLegal h × Fits h e)
-one_more_fits h e = (
-  λ all. (legal-front h (e ∷ []) all, legal-last h e all),
-  λ parts. legal-push h e parts.0 parts.1,
-)
+pub return_more : (h : List Event) (n : ℕ) → IsLegal (h ++ returns n ∷ []) ↔ (IsLegal h × IsDown h n)
+return_more h n = (λ all. (legal-front h (returns n ∷ []) all, (legal-last h (returns n) all).follows), λ p. legal-return h n p.0 p.1)
 
 -- an entry in the midst
-pub follows_in : (h before more : List Event) (e : Event) → IsLegal h → h ≡ before ++ e ∷ more → MayFollow before e
-follows_in h before more e legal split = may_follow before e (front_in h before (e ∷ more) legal split) (fits_in h before more e legal split)
+pub follows_in : (h before later : List Event) (e : Event) → IsLegal h → h ≡ before ++ e ∷ later → MayFollow before e
+follows_in h before later e legal split = (fits_in h before later e legal split).follows
 
-pub legal_from : (h : List Event) → ((front more : List Event) (e : Event) → h ≡ front ++ e ∷ more → MayFollow front e) → IsLegal h
-legal_from = by_ends (λ h. ((front more : List Event) (e : Event) → h ≡ front ++ e ∷ more → MayFollow front e) → IsLegal h)
-    (λ each. legal-nil)
-    (λ h e before each.
-    let legal = before (λ front more x split. each front (more ++ e ∷ []) x (ap (λ g. g ++ e ∷ []) split ∙ append_assoc front (x ∷ more) (e ∷ []))) in
-    legal-push h e legal (fits_from h e legal (each h [] e refl)))
+pub answered_in : (h before later : List Event) (x : Call) → IsLegal h → h ≡ before ++ calls x ∷ later → IsAnswered before x
+answered_in h before later x legal split = call_answered before x (fits_in h before later (calls x) legal split)
 
--- no client is opened twice
-unopened_more : (h : List Event) (e : Event) → IsLegal h → Fits h e → ((c : ℕ) → clients_opened h < c → times c h ≡ 0) → (c : ℕ) → clients_opened (h ++ e ∷ []) < c → times c (h ++ e ∷ []) ≡ 0
-unfolding times
-unopened_more h (opens d n) legal fits before c late =
-    let all = opened_append h (opens d n ∷ []) in
-    let grown = times_append c h (opens d n ∷ []) in
-    let none = before c (omega arith) in
-    let is = next_opened h d n fits in
-    let other : (d == c) ≡ false = ne_eqb d c (λ same. omega arith) in
-    let still = rw other at grown in
-    omega arith
-unopened_more h (calls x) legal fits before c late =
-    let all = opened_append h (calls x ∷ []) in
-    let grown = times_append c h (calls x ∷ []) in
-    let none = before c (omega arith) in
-    omega arith
-unopened_more h (crashes d) legal fits before c late =
-    let all = opened_append h (crashes d ∷ []) in
-    let grown = times_append c h (crashes d ∷ []) in
-    let none = before c (omega arith) in
-    omega arith
-unopened_more h (fails n losses) legal fits before c late =
-    let all = opened_append h (fails n losses ∷ []) in
-    let grown = times_append c h (fails n losses ∷ []) in
-    let none = before c (omega arith) in
-    omega arith
-unopened_more h (returns n) legal fits before c late =
-    let all = opened_append h (returns n ∷ []) in
-    let grown = times_append c h (returns n ∷ []) in
-    let none = before c (omega arith) in
-    omega arith
+-- runs of all fronts, and entries that may follow
+front_of : (h before later : List Event) (e : Event) → h ≡ before ++ e ∷ later → h ≡ (before ++ e ∷ []) ++ later
+front_of h before later e split = split ∙ sym (append_assoc before (e ∷ []) later)
 
-unopened : (h : List Event) → IsLegal h → (c : ℕ) → clients_opened h < c → times c h ≡ 0
-unfolding times
-unopened = along (λ h. (c : ℕ) → clients_opened h < c → times c h ≡ 0) (λ c late. refl) unopened_more
+pub legal_parts : (h : List Event) → IsLegal h ↔ (((front later : List Event) → h ≡ front ++ later → IsRun opening (kept front)) × ((before later : List Event) (e : Event) → h ≡ before ++ e ∷ later → MayFollow before e))
+legal_parts h = (
+  λ legal. (λ front later split. front_run h front later legal split, λ before later e split. follows_in h before later e legal split),
+  λ p. legal_from h (λ before later e split. record { follows = p.1 before later e split; run = p.0 (before ++ e ∷ []) later (front_of h before later e split) }),
+)
 
-once_more : (h : List Event) (e : Event) → IsLegal h → Fits h e → ((c : ℕ) → times c h ≤ 1) → (c : ℕ) → times c (h ++ e ∷ []) ≤ 1
-unfolding times
-once_more h (opens d n) legal fits before c =
-    let grown = times_append c h (opens d n ∷ []) in
-    let is = next_opened h d n fits in
-    elim (cases_Bool (d == c)) [
-      | inl own ↦
-          let same = eqb-true d c own in
-          let none = unopened h legal c (omega arith) in
-          let one = rw own at grown in
-          omega arith
-      | inr other ↦ let still = rw other at grown in let few = before c in omega arith
-    ]
-once_more h (calls x) legal fits before c = let grown = times_append c h (calls x ∷ []) in let few = before c in omega arith
-once_more h (crashes d) legal fits before c = let grown = times_append c h (crashes d ∷ []) in let few = before c in omega arith
-once_more h (fails n losses) legal fits before c = let grown = times_append c h (fails n losses ∷ []) in let few = before c in omega arith
-once_more h (returns n) legal fits before c = let grown = times_append c h (returns n ∷ []) in let few = before c in omega arith
+-- what is enough of calls and failures
+abbrev Follow : List Event → Type 0
+Follow h = (before later : List Event) (e : Event) → h ≡ before ++ e ∷ later → MayFollow before e
 
-once : (h : List Event) → IsLegal h → (c : ℕ) → times c h ≤ 1
-unfolding times
-once = along (λ h. (c : ℕ) → times c h ≤ 1) (λ c. omega arith) once_more
+abbrev Answered : List Event → Type 0
+Answered h = (before later : List Event) (x : Call) → h ≡ before ++ calls x ∷ later → IsAnswered before x
 
-pub opens_once : (h : List Event) → IsLegal h → OpensOnce h
-unfolding times
-opens_once h legal = λ c. once h legal c
+abbrev Left : List Event → Type 0
+Left h = (before later : List Event) (n : ℕ) (losses : List Loss) → h ≡ before ++ fails n losses ∷ later → IsRun opening (kept (before ++ fails n losses ∷ []))
+
+fits_enough : (h : List Event) (e : Event) → IsLegal h → MayFollow h e → Answered (h ++ e ∷ []) → Left (h ++ e ∷ []) → Fits h e
+fits_enough h (opens c n) legal may answered left = fits_quiet h (opens c n) legal (kept-push h (opens c n)) may
+fits_enough h (calls x) legal may answered left = fits_call h x legal may (answered h [] x refl)
+fits_enough h (crashes c) legal may answered left = fits_quiet h (crashes c) legal (kept-push h (crashes c)) may
+fits_enough h (fails n losses) legal may answered left = fits_failure h n losses may (left h [] n losses refl)
+fits_enough h (returns n) legal may answered left = fits_quiet h (returns n) legal (kept-push h (returns n)) may
+
+-- a front of what stands in a list
+longer : (h before later : List Event) (x e : Event) → h ≡ before ++ x ∷ later → h ++ e ∷ [] ≡ before ++ x ∷ (later ++ e ∷ [])
+longer h before later x e split = ap (λ g. g ++ e ∷ []) split ∙ append_assoc before (x ∷ later) (e ∷ [])
+
+pub legal_enough : (h : List Event) → Follow h → Answered h → Left h → IsLegal h
+legal_enough = by_ends (λ h. Follow h → Answered h → Left h → IsLegal h)
+    (λ follow answered left. legal-nil)
+    (λ h e before follow answered left.
+    let legal = before
+    (λ b l x split. follow b (l ++ e ∷ []) x (longer h b l x e split))
+    (λ b l x split. answered b (l ++ e ∷ []) x (longer h b l (calls x) e split))
+    (λ b l n losses split. left b (l ++ e ∷ []) n losses (longer h b l (fails n losses) e split)) in
+    legal-push h e legal (fits_enough h e legal (follow h [] e refl) answered left))

@@ -1,5 +1,5 @@
 -- Where an element stands that passes a test, and histories from their ends.
-use Rattle.std.proofs.Common.{◌≡◌, Bool, true, false, ◌&&◌, ◌||◌, List, [], ◌∷◌, ◌++◌, map, refl, ap, sym, subst, inl, inr, append_assoc, append-nil}
+use Rattle.std.proofs.Common.{◌≡◌, Bool, true, false, ◌&&◌, ◌||◌, ◌⊎◌, List, [], ◌∷◌, ◌++◌, map, refl, ap, sym, subst, inl, inr, append_assoc, append-nil}
 use Rattle.std.specs.List.{list_any, list_all}
 use Rattle.std.proofs.lemmas.Bool.{or_cases, or_left, or_right}
 
@@ -69,3 +69,30 @@ from_end P step front (e ∷ es) p = subst P (append_assoc front (e ∷ []) es) 
 
 pub by_ends : {X : Type 0} (P : List X → Type 0) → P [] → ((h : List X) (e : X) → P h → P (h ++ e ∷ [])) → (h : List X) → P h
 by_ends P none step h = from_end P step [] h none
+
+-- where an entry stands in a list and one more
+pub not_nil : {X : Type 0} (front more : List X) (x : X) → [] ≡ front ++ x ∷ more → ⊥
+not_nil [] more x h = cc
+not_nil (y ∷ ys) more x h = cc
+
+pub record Earlier {X : Type 0} (h : List X) (e : X) (front : List X) (x : X) (more : List X) : Type 0 where
+  pub rest : List X
+  pub split : h ≡ front ++ x ∷ rest
+  pub more_is : more ≡ rest ++ e ∷ []
+
+pub record Last {X : Type 0} (h : List X) (e : X) (front : List X) (x : X) (more : List X) : Type 0 where
+  pub front_is : h ≡ front
+  pub last_is : e ≡ x
+  pub more_is : more ≡ []
+
+pub cut_end : {X : Type 0} (h : List X) (e : X) (front : List X) (x : X) (more : List X) → h ++ e ∷ [] ≡ front ++ x ∷ more → Last h e front x more ⊎ Earlier h e front x more
+cut_end [] e [] x more same = inl record { front_is = refl; last_is = cc; more_is = cc }
+cut_end [] e (f ∷ front) x more same = let tail : [] ≡ front ++ x ∷ more = cc in absurd (not_nil front more x tail)
+cut_end (y ∷ ys) e [] x more same = let here : y ≡ x = cc in let rest : ys ++ e ∷ [] ≡ more = cc in inr record { rest = ys; split = ap (λ z. z ∷ ys) here; more_is = sym rest }
+cut_end (y ∷ ys) e (f ∷ front) x more same =
+    let here : y ≡ f = cc in
+    let tails : ys ++ e ∷ [] ≡ front ++ x ∷ more = cc in
+    elim (cut_end ys e front x more tails) [
+      | inl p ↦ let q = p.front_is in inl record { front_is = cc; last_is = p.last_is; more_is = p.more_is }
+      | inr r ↦ let q = r.split in inr record { rest = r.rest; split = cc; more_is = r.more_is }
+    ]

@@ -1,5 +1,5 @@
 -- Which calls of a history are kept, and what a run is.
-use Rattle.std.specs.Prelude.{Bool, true, false, not, ◌&&◌, ◌==◌, nat_le, if◌then◌else◌, List, [], ◌∷◌, ◌++◌, map, filter}
+use Rattle.std.specs.Prelude.{◌≡◌, ℕ, ◌≤◌, Bool, true, false, not, ◌&&◌, ◌==◌, nat_le, if◌then◌else◌, List, [], ◌∷◌, ◌++◌, map, filter}
 use Rattle.std.specs.List.{list_any}
 use Rattle.assise_seq_tree.specs.Tree.{Tree}
 use Rattle.assise_names.specs.declared.call.Op.{Op}
@@ -30,6 +30,31 @@ kept (opens c n ∷ es) = kept es
 kept (crashes c ∷ es) = kept es
 kept (fails n losses ∷ es) = kept es
 kept (returns n ∷ es) = kept es
+
+-- ---- the same by what stands in a history
+
+-- a later failure lists the call's client from it or from an earlier call on
+pub record IsTaken (later : List Event) (x : Call) : Type 0 where
+  pub node : ℕ
+  pub losses : List Loss
+  pub before : List Event
+  pub behind : List Event
+  pub split : later ≡ before ++ fails node losses ∷ behind
+  pub loss : Loss
+  pub lower : List Loss
+  pub higher : List Loss
+  pub listed : losses ≡ lower ++ loss ∷ higher
+  pub client : loss.client ≡ x.client
+  pub first : loss.first ≤ x.number
+
+-- the call was answered, and no later failure takes it
+pub record Stays (h : List Event) (x : Call) : Type 0 where
+  pub before : List Event
+  pub later : List Event
+  pub split : h ≡ before ++ calls x ∷ later
+  pub safe : IsTaken later x → ⊥
+
+-- ---- one entry more, and runs
 
 -- the calls that are kept after an entry more
 abbrev pub kept_more : List Call → Event → List Call

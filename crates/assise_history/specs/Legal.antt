@@ -1,24 +1,53 @@
--- What a legal history is.
-use Rattle.std.specs.Prelude.{◌≡◌, ℕ, ◌+◌, Bool, true, false, not, ◌&&◌, ◌==◌, nat_lt, if◌then◌else◌, List, [], ◌∷◌, ◌++◌, map, filter, length, Option, Some, None}
-use Rattle.std.specs.List.{list_any, list_all}
+-- What a legal history is: what stands in a front of it, which entry may come next, and that what is kept is a run.
+-- Assise, section 3: prefix crash consistency, by which a failure takes no call up to the client's last fsync.
+use Rattle.std.specs.Prelude.{◌≡◌, ℕ, ◌+◌, ◌<◌, Bool, true, false, ◌==◌, List, [], ◌∷◌, ◌++◌, filter, length}
+use Rattle.std.specs.List.{list_any}
 use Rattle.assise_names.specs.declared.call.Op.{Op}
 use Rattle.assise_names.specs.declared.call.Op.TheVariants.{Create, Mkdir, Read, Write, Truncate, Rename, Unlink, Rmdir, List as ListCall, Stat, Fsync}
 use Rattle.assise_seq_tree.specs.Tree.{opening}
 use Rattle.assise_history.specs.declared.call.Call.{Call}
 use Rattle.assise_history.specs.declared.call.Loss.{Loss}
-use Rattle.assise_history.specs.declared.call.ClientSummary.{ClientSummary}
 use Rattle.assise_history.specs.Entries.{Event, opens, calls, crashes, fails, returns}
 use Rattle.assise_history.specs.Kept.{kept, IsRun}
 
--- what a front says: its clients in the order of their opening, and the nodes that failed and are not back
-pub record Summary : Type 0 where
-  pub clients : List ClientSummary
-  pub down : List ℕ
+-- ---- the kind of an entry, and whose it is
 
-abbrev pub nothing_yet : Summary
-nothing_yet = record { clients = []; down = [] }
+abbrev pub is_opening : Event → Bool
+is_opening (opens c n) = true
+is_opening (calls x) = false
+is_opening (crashes c) = false
+is_opening (fails n losses) = false
+is_opening (returns n) = false
 
--- the call is answered once all calls before it are replicated
+abbrev pub is_call_of : ℕ → Event → Bool
+is_call_of c (calls x) = c == x.client
+is_call_of c (opens d n) = false
+is_call_of c (crashes d) = false
+is_call_of c (fails n losses) = false
+is_call_of c (returns n) = false
+
+abbrev pub is_crash_of : ℕ → Event → Bool
+is_crash_of c (crashes d) = c == d
+is_crash_of c (opens d n) = false
+is_crash_of c (calls x) = false
+is_crash_of c (fails n losses) = false
+is_crash_of c (returns n) = false
+
+abbrev pub is_failure_of : ℕ → Event → Bool
+is_failure_of n (fails m losses) = n == m
+is_failure_of n (opens c m) = false
+is_failure_of n (calls x) = false
+is_failure_of n (crashes c) = false
+is_failure_of n (returns m) = false
+
+abbrev pub is_return_of : ℕ → Event → Bool
+is_return_of n (returns m) = n == m
+is_return_of n (opens c m) = false
+is_return_of n (calls x) = false
+is_return_of n (crashes c) = false
+is_return_of n (fails m losses) = false
+
+-- the call is answered once all calls of its client before it are replicated (POSIX.1-2017, fsync())
 abbrev pub is_fsync : Op → Bool
 is_fsync (Create p) = false
 is_fsync (Mkdir p) = false
@@ -32,76 +61,91 @@ is_fsync (ListCall p) = false
 is_fsync (Stat p) = false
 is_fsync Fsync = true
 
-abbrev pub newly_opened : ℕ → ℕ → ClientSummary
-newly_opened c n = record { client = c; node = n; last = None; synced = None; crashed = false; failed = false }
+-- ---- what stands in a history
 
-abbrev pub with_call : Call → ClientSummary → ClientSummary
-with_call x k = if k.client == x.client then record k { last = Some x.number; synced = if is_fsync x.op then Some x.number else k.synced } else k
+-- how many clients were opened
+abbrev pub clients_opened : List Event → ℕ
+clients_opened h = length (filter is_opening h)
 
-abbrev pub with_crash : ℕ → ClientSummary → ClientSummary
-with_crash c k = if k.client == c then record k { crashed = true } else k
+-- how many calls of the client were answered
+abbrev pub calls_made : ℕ → List Event → ℕ
+calls_made c h = length (filter (is_call_of c) h)
 
-abbrev pub with_failure : ℕ → ClientSummary → ClientSummary
-with_failure n k = if k.node == n then record k { failed = true } else k
+-- the client was opened, and hasn't crashed since
+pub record IsAlive (h : List Event) (c : ℕ) : Type 0 where
+  pub node : ℕ
+  pub before : List Event
+  pub since : List Event
+  pub split : h ≡ before ++ opens c node ∷ since
+  pub no_crash : list_any (is_crash_of c) since ≡ false
 
--- what is known after an entry more
-abbrev pub after : Summary → Event → Summary
-after s (opens c n) = record { clients = s.clients ++ newly_opened c n ∷ []; down = s.down }
-after s (calls x) = record { clients = map (with_call x) s.clients; down = s.down }
-after s (crashes c) = record { clients = map (with_crash c) s.clients; down = s.down }
-after s (fails n losses) = record { clients = map (with_failure n) s.clients; down = s.down ++ n ∷ [] }
-after s (returns n) = record { clients = s.clients; down = filter (λ m. not (m == n)) s.down }
+-- the client was opened on the node, and the node hasn't failed since
+pub record IsOn (h : List Event) (c n : ℕ) : Type 0 where
+  pub before : List Event
+  pub since : List Event
+  pub split : h ≡ before ++ opens c n ∷ since
+  pub no_failure : list_any (is_failure_of n) since ≡ false
 
-abbrev pub summed_from : Summary → List Event → Summary
-summed_from s [] = s
-summed_from s (e ∷ es) = summed_from (after s e) es
+-- the client was opened, and neither has it crashed nor has its node failed since
+pub record MayCall (h : List Event) (c : ℕ) : Type 0 where
+  pub node : ℕ
+  pub before : List Event
+  pub since : List Event
+  pub split : h ≡ before ++ opens c node ∷ since
+  pub no_crash : list_any (is_crash_of c) since ≡ false
+  pub no_failure : list_any (is_failure_of node) since ≡ false
 
--- what a front says
-abbrev pub summary : List Event → Summary
-summary front = summed_from nothing_yet front
+-- the node failed, and wasn't taken in again since
+pub record IsDown (h : List Event) (n : ℕ) : Type 0 where
+  pub losses : List Loss
+  pub before : List Event
+  pub since : List Event
+  pub split : h ≡ before ++ fails n losses ∷ since
+  pub no_return : list_any (is_return_of n) since ≡ false
 
-abbrev pub is_down : Summary → ℕ → Bool
-is_down s n = list_any (λ m. m == n) s.down
+-- what was fsynced stays: each of the client's fsyncs has a smaller number than its first lost call
+abbrev pub IsPastFsyncs : List Event → Loss → Type 0
+IsPastFsyncs h l = (before since : List Event) (x : Call) → h ≡ before ++ calls x ∷ since → x.client ≡ l.client → is_fsync x.op ≡ true → x.number < l.first
 
--- numbers count up from 0
-abbrev pub comes_next : Option ℕ → ℕ → Bool
-comes_next None k = k == 0
-comes_next (Some l) k = k == l + 1
-
--- greater than the number, if there is one
-abbrev pub is_past : Option ℕ → ℕ → Bool
-is_past None j = true
-is_past (Some l) j = nat_lt l j
-
--- the client is neither crashed nor was on a node that failed since, and this call is its next
-abbrev pub makes : Call → ClientSummary → Bool
-makes x k = (k.client == x.client) && not k.crashed && not k.failed && comes_next k.last x.number
-
--- a failure of the node may take the client's calls from there on
-abbrev pub may_lose : ℕ → Loss → ClientSummary → Bool
-may_lose n l k = (k.client == l.client) && (k.node == n) && not k.failed && is_past k.synced l.first
+-- a failure of the node may lose these calls of a client
+pub record MayLose (h : List Event) (n : ℕ) (l : Loss) : Type 0 where
+  pub on : IsOn h l.client n
+  pub past : IsPastFsyncs h l
 
 -- the clients rise
-abbrev pub rise_from : Option ℕ → List Loss → Bool
-rise_from before [] = true
-rise_from before (l ∷ ls) = is_past before l.client && rise_from (Some l.client) ls
+abbrev pub Rises : List Loss → Type 0
+Rises losses = (before between behind : List Loss) (l m : Loss) → losses ≡ before ++ l ∷ (between ++ m ∷ behind) → l.client < m.client
 
-abbrev pub is_fair : Summary → ℕ → List Loss → Bool
-is_fair s n losses = rise_from None losses && list_all (λ l. list_any (may_lose n l) s.clients) losses
+-- ---- which entry may come next
 
--- the entry may come after a front of which this is known
-abbrev pub follows : Summary → Event → Bool
-follows s (opens c n) = (c == length s.clients + 1) && not (is_down s n)
-follows s (calls x) = list_any (makes x) s.clients
-follows s (crashes c) = list_any (λ k. (k.client == c) && not k.crashed) s.clients
-follows s (fails n losses) = is_fair s n losses
-follows s (returns n) = is_down s n
+-- clients are numbered from 1 in the order of their opening, and none is opened on a node that is down
+pub record MayOpen (h : List Event) (c n : ℕ) : Type 0 where
+  pub next : c ≡ clients_opened h + 1
+  pub up : IsDown h n → ⊥
 
--- the entry may come after the front, and what is kept then is a run
-pub record Fits (front : List Event) (e : Event) : Type 0 where
-  pub rule : follows (summary front) e ≡ true
-  pub run : IsRun opening (kept (front ++ e ∷ []))
+-- a client's calls are numbered from 0, after its open and before its crash and its node's failure
+pub record IsNextCall (h : List Event) (x : Call) : Type 0 where
+  pub ready : MayCall h x.client
+  pub number : x.number ≡ calls_made x.client h
 
--- each entry fits the front before it
+-- a failure of the node lists clients once each, by rising numbers, and of each what it may lose
+pub record IsFair (h : List Event) (n : ℕ) (losses : List Loss) : Type 0 where
+  pub rising : Rises losses
+  pub each : (lower higher : List Loss) (l : Loss) → losses ≡ lower ++ l ∷ higher → MayLose h n l
+
+-- the entry may come next, whatever is kept then; a client that is alive may crash, and a node that is down may return
+abbrev pub MayFollow : List Event → Event → Type 0
+MayFollow h (opens c n) = MayOpen h c n
+MayFollow h (calls x) = IsNextCall h x
+MayFollow h (crashes c) = IsAlive h c
+MayFollow h (fails n losses) = IsFair h n losses
+MayFollow h (returns n) = IsDown h n
+
+-- the entry may come next, and the calls that are kept then are a run
+pub record Fits (before : List Event) (e : Event) : Type 0 where
+  pub follows : MayFollow before e
+  pub run : IsRun opening (kept (before ++ e ∷ []))
+
+-- each entry fits those before it
 unfoldable pub IsLegal : List Event → Type 0
-IsLegal h = (front : List Event) (e : Event) (more : List Event) → h ≡ front ++ e ∷ more → Fits front e
+IsLegal h = (before later : List Event) (e : Event) → h ≡ before ++ e ∷ later → Fits before e

@@ -24,14 +24,3 @@ pub struct Loss {
     /// The number of its first lost call.
     pub first: u64,
 }
-
-/// What a front of a history says of a client.
-#[derive(Clone, Copy, Debug)]
-pub(crate) struct ClientSummary {
-    pub(crate) client: u32,
-    pub(crate) node: u32,
-    pub(crate) last: Option<u64>,
-    pub(crate) synced: Option<u64>,
-    pub(crate) crashed: bool,
-    pub(crate) failed: bool,
-}

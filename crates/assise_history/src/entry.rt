@@ -101,7 +101,7 @@ impl Entry {
     }
 
     /// The return of a node.
-    pub fn back(node: u32) -> Entry
+    pub fn node_return(node: u32) -> Entry
         ensures { result ≡ returns node }
     {
         Entry {

@@ -1,13 +1,25 @@
 // What a front of a history says.
 ghost use Rattle.std.specs.Prelude.{◌≡◌, ◌==◌, ◌&&◌, OnOk, map, filter, not};
-ghost use Rattle.assise_history.specs.Legal.{after, follows, nothing_yet, newly_opened, is_fair, is_down, is_fsync, is_past, comes_next, makes, may_lose, rise_from, with_call, with_crash, with_failure};
+ghost use Rattle.assise_history.specs.Legal.{is_fsync};
+ghost use Rattle.assise_history.specs.Summary.{after, follows, nothing_yet, newly_opened, is_fair, is_down, is_past, comes_next, makes, may_lose, rise_from, with_call, with_crash, with_failure};
 ghost use Rattle.std.specs.List.{list_any, list_all};
 
-use crate::call::{Call, ClientSummary, Loss};
+use crate::call::{Call, Loss};
 use crate::entry::{Entry, EntryKind};
 use assise_names::call::Op;
 use std::alloc::{AllocError, Global};
 use std::marker::Model;
+
+/// What a front of a history says of a client: its last call, its last fsync, and whether it crashed or its node failed.
+#[derive(Clone, Copy, Debug)]
+struct ClientSummary {
+    client: u32,
+    node: u32,
+    last: Option<u64>,
+    synced: Option<u64>,
+    crashed: bool,
+    failed: bool,
+}
 
 /// The clients in the order of their opening, and the nodes that failed and are not back.
 #[derive(Drop)]
@@ -17,7 +29,7 @@ pub(crate) struct Front {
 }
 
 impl Model for Front {
-    ghost use Rattle.assise_history.specs.Legal.{Summary};
+    ghost use Rattle.assise_history.specs.Summary.{Summary};
 
     ghost Value = { Summary };
 

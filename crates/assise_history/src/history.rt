@@ -1,5 +1,5 @@
 // What happened, in order.
-ghost use Rattle.std.specs.Prelude.{◌≡◌, ◌<◌, ◌^◌, [], ◌∷◌, ◌++◌, IsOkUnless, OnOk, Some, length};
+ghost use Rattle.std.specs.Prelude.{◌≡◌, ◌<◌, ◌^◌, [], ◌∷◌, ◌++◌, IsOk, IsOkUnless, OnOk, Some, length};
 ghost use Rattle.assise_history.specs.Text.{history_text};
 ghost use Rattle.assise_names.specs.declared.refusal.Refusal.TheVariants.{OutOfMemory};
 
@@ -43,9 +43,10 @@ impl History {
         self.entries.as_slice()
     }
 
-    /// Makes room for an entry, or answers [`Refusal::OutOfMemory`].
+    /// Makes room for an entry, or answers [`Refusal::OutOfMemory`]. Where there is room already, it takes no memory.
     pub fn reserve(&mut self) -> Result<(), Refusal>
         ensures room { OnOk result (0 < self.new.room) }
+        ensures granted { 0 < self.old.room → IsOk result }
         ensures only_memory { IsOkUnless result OutOfMemory }
         ensures same { self.new.events ≡ self.old.events }
     {

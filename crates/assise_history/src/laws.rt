@@ -3,21 +3,22 @@ ghost use Rattle.std.specs.Prelude.{◌≡◌, ◌↔◌, ◌+◌, ◌++◌, ◌
 ghost use Rattle.assise_history.specs.declared.call.Call.{Call};
 ghost use Rattle.assise_history.specs.declared.call.Loss.{Loss};
 ghost use Rattle.assise_history.specs.Entries.{Event, calls, crashes, fails, opens, returns};
-ghost use Rattle.assise_history.specs.Kept.{IsRun, is_lost, kept, kept_more, tree_after};
-ghost use Rattle.assise_history.specs.Legal.{Fits, IsLegal};
+ghost use Rattle.assise_history.specs.Kept.{IsRun, IsTaken, Stays, is_lost, kept, kept_more, tree_after};
+ghost use Rattle.assise_history.specs.Legal.{Fits, IsAlive, IsDown, IsFair, IsLegal, IsNextCall, IsOn, IsPastFsyncs, MayCall, MayFollow, MayOpen, Rises, calls_made, clients_opened};
 ghost use Rattle.assise_history.specs.Opened.{OpensOnce};
-ghost use Rattle.assise_history.specs.Words.{CallFits, FailureFits, IsAlive, IsDown, IsOn, IsPastFsyncs, IsTaken, MayCall, MayFollow, OpenFits, Rises, Stays, calls_made, clients_opened};
 ghost use Rattle.assise_seq_tree.specs.Tree.{opening};
 ghost use Rattle.assise_seq_tree.specs.Answer.{answer};
 
-/// A front of a legal history is legal.
+/// A front of a legal history is legal, and so is a history in which nothing happened.
 pub fn a_front_of_a_legal_history_is_legal()
-    ensures { (front more : List Event) → IsLegal (front ++ more) → IsLegal front }
+    ensures front { (front more : List Event) → IsLegal (front ++ more) → IsLegal front }
+    ensures none { IsLegal [] }
 {}
 
-/// A history is legal exactly where each of its entries may follow those before it.
+/// A history is legal exactly where the kept calls of each of its fronts are a run, and each of its entries may follow
+/// those before it.
 pub fn each_entry_may_follow_those_before_it()
-    ensures { (h : List Event) → IsLegal h ↔ ((before later : List Event) (e : Event) → h ≡ before ++ e ∷ later → MayFollow before e) }
+    ensures { (h : List Event) → IsLegal h ↔ (((front later : List Event) → h ≡ front ++ later → IsRun opening (kept front)) × ((before later : List Event) (e : Event) → h ≡ before ++ e ∷ later → MayFollow before e)) }
 {}
 
 /// With an entry more a history is legal exactly where it was, and the entry may follow it: a client is opened
@@ -26,10 +27,10 @@ pub fn each_entry_may_follow_those_before_it()
 /// was opened and hasn't crashed; a failure is fair, and what it leaves is a run; and a node returns that is down.
 pub fn one_entry_more()
     ensures any { (h : List Event) (e : Event) → IsLegal (h ++ e ∷ []) ↔ (IsLegal h × Fits h e) }
-    ensures opened { (h : List Event) (c n : ℕ) → IsLegal (h ++ opens c n ∷ []) ↔ (IsLegal h × OpenFits h c n) }
-    ensures called { (h : List Event) (x : Call) → IsLegal (h ++ calls x ∷ []) ↔ (IsLegal h × CallFits h x) }
+    ensures opened { (h : List Event) (c n : ℕ) → IsLegal (h ++ opens c n ∷ []) ↔ (IsLegal h × MayOpen h c n) }
+    ensures called { (h : List Event) (x : Call) → IsLegal (h ++ calls x ∷ []) ↔ (IsLegal h × (IsNextCall h x × (x.reply ≡ (answer (tree_after opening (kept h)) x.op).0))) }
     ensures crashed { (h : List Event) (c : ℕ) → IsLegal (h ++ crashes c ∷ []) ↔ (IsLegal h × IsAlive h c) }
-    ensures failed { (h : List Event) (n : ℕ) (losses : List Loss) → IsLegal (h ++ fails n losses ∷ []) ↔ (IsLegal h × FailureFits h n losses) }
+    ensures failed { (h : List Event) (n : ℕ) (losses : List Loss) → IsLegal (h ++ fails n losses ∷ []) ↔ (IsLegal h × (IsFair h n losses × IsRun opening (kept (h ++ fails n losses ∷ [])))) }
     ensures returned { (h : List Event) (n : ℕ) → IsLegal (h ++ returns n ∷ []) ↔ (IsLegal h × IsDown h n) }
 {}
 
@@ -76,7 +77,10 @@ pub fn the_rest_is_kept()
     ensures one_more { (h : List Event) (e : Event) → kept (h ++ e ∷ []) ≡ kept_more (kept h) e }
 {}
 
-/// The kept calls of a legal history are a run from the opening tree.
+/// The kept calls of a legal history are a run from the opening tree. Only calls and failures change what is kept, so
+/// it is enough for a legal history that each entry may follow those before it, that each reply is the answer on the
+/// tree of the calls that were kept until then, and that what each failure leaves is a run.
 pub fn the_kept_calls_are_a_run()
-    ensures { (h : List Event) → IsLegal h → IsRun opening (kept h) }
+    ensures run { (h : List Event) → IsLegal h → IsRun opening (kept h) }
+    ensures enough { (h : List Event) → ((before later : List Event) (e : Event) → h ≡ before ++ e ∷ later → MayFollow before e) → ((before later : List Event) (x : Call) → h ≡ before ++ calls x ∷ later → x.reply ≡ (answer (tree_after opening (kept before)) x.op).0) → ((before later : List Event) (n : ℕ) (losses : List Loss) → h ≡ before ++ fails n losses ∷ later → IsRun opening (kept (before ++ fails n losses ∷ []))) → IsLegal h }
 {}

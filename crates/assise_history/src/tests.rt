@@ -34,12 +34,12 @@ enum Step {
     FailFrom(u32, u32, u64),
     /// The same of two.
     FailPair(u32, u32, u64, u32, u64),
-    Back(u32),
+    Return(u32),
 }
 
 use Step::{
-    Back, Crash, Create, Fail as Failed, FailFrom, FailPair, Fsync, List, Mkdir, Open, Read,
-    Rename, Rmdir, Stat, Truncate, Unlink, Write,
+    Crash, Create, Fail as Failed, FailFrom, FailPair, Fsync, List, Mkdir, Open, Read, Rename,
+    Return, Rmdir, Stat, Truncate, Unlink, Write,
 };
 
 /// What a stat answers.
@@ -80,7 +80,11 @@ fn names(rt: &HostRuntime, texts: &[&str]) -> Result<NameList, Fail> {
     for text in texts {
         names.push(Name::parse(rt.alloc(), text)?)?;
     }
-    Ok(NameList::from_vec(names))
+    if NameList::rise(names.as_slice()) {
+        Ok(NameList::from_vec(names))
+    } else {
+        Err(Fail::new("the names don't rise"))
+    }
 }
 
 /// A call that is done.
@@ -128,7 +132,7 @@ fn entry(rt: &HostRuntime, step: Step) -> Result<Entry, Fail> {
             };
             failure(rt, node, &[Loss { client, first }, other])
         }
-        Back(node) => Ok(Entry::back(node)),
+        Return(node) => Ok(Entry::node_return(node)),
     }
 }
 
@@ -175,7 +179,7 @@ static RETURNED: [Step; 8] = [
     Crash(1),
     Failed(1),
     Failed(1),
-    Back(1),
+    Return(1),
     Open(2, 1),
     Stat(2, 0, "/f", Found::File(0)),
 ];
@@ -185,12 +189,12 @@ static LIVED_TWICE: [Step; 11] = [
     Open(1, 1),
     Create(1, 0, "/f"),
     FailFrom(1, 1, 0),
-    Back(1),
+    Return(1),
     Open(2, 1),
     Stat(2, 0, "/f", Found::Nothing),
     Create(2, 1, "/g"),
     FailFrom(1, 2, 1),
-    Back(1),
+    Return(1),
     Open(3, 1),
     Stat(3, 0, "/g", Found::Nothing),
 ];
@@ -277,7 +281,7 @@ fn a_history_is_printed_line_by_line(rt: HostRuntime) -> Result<(), Fail> {
     assert_eq!(rt; printed.as_str(), wanted);
     let rest = history(
         &rt,
-        &[Crash(1), FailPair(2, 1, 1, 3, 12), Failed(2), Back(2)],
+        &[Crash(1), FailPair(2, 1, 1, 3, 12), Failed(2), Return(2)],
     )?;
     let printed = format!(in rt.alloc(); "{rest}")?;
     assert_eq!(rt;
@@ -328,8 +332,8 @@ fn illegal_histories_are_found(rt: HostRuntime) -> Result<(), Fail> {
         &[Open(1, 1), Crash(1), Create(1, 0, "/f")],
         &[Open(1, 1), Failed(1), Create(1, 0, "/f")],
         &[Failed(1), Open(1, 1)],
-        &[Back(1)],
-        &[Failed(1), Back(1), Back(1)],
+        &[Return(1)],
+        &[Failed(1), Return(1), Return(1)],
         &[FailFrom(1, 1, 0)],
         &[Open(1, 1), FailFrom(2, 1, 0)],
         &[Open(1, 1), FailPair(1, 1, 0, 1, 1)],
@@ -358,7 +362,7 @@ fn illegal_calls_and_opens_are_found(rt: HostRuntime) -> Result<(), Fail> {
         &[Open(1, 1), Create(1, 0, "/f"), Create(1, 2, "/g")],
         &[Open(1, 1), Create(1, 0, "/f"), Create(1, 0, "/g")],
         // The node is back, and its client isn't.
-        &[Open(1, 1), Failed(1), Back(1), Create(1, 0, "/f")],
+        &[Open(1, 1), Failed(1), Return(1), Create(1, 0, "/f")],
         // A wrong reply isn't mended by what follows, nor by its loss.
         &[
             Open(1, 1),
@@ -385,7 +389,7 @@ fn unfair_failures_are_found(rt: HostRuntime) -> Result<(), Fail> {
             Open(1, 1),
             Create(1, 0, "/f"),
             Failed(1),
-            Back(1),
+            Return(1),
             Open(2, 1),
             FailFrom(1, 1, 0),
         ],
@@ -423,6 +427,43 @@ fn a_long_history_is_checked(rt: HostRuntime) -> Result<(), Fail> {
     }
     assert!(rt; check(rt.alloc(), &history)?);
     assert_eq!(rt; kept(rt.alloc(), &history)?.len(), 100_000);
+    Ok(())
+}
+
+#[test]
+fn reads_of_65536_bytes_are_checked(rt: HostRuntime) -> Result<(), Fail> {
+    let made = [Open(1, 1), Create(1, 0, "/f"), Truncate(1, 1, "/f", 65_536)];
+    let mut history = history(&rt, &made)?;
+    for number in 2..18 {
+        let zeros = vec![in rt.alloc(); 0; 65_536]?;
+        let op = Op::Read(path(&rt, "/f")?, 0, 65_536);
+        let reply = Reply::Bytes(ByteString::from_vec(zeros));
+        history.reserve()?;
+        history.push(called(1, number, op, reply));
+    }
+    assert!(rt; check(rt.alloc(), &history)?);
+    Ok(())
+}
+
+#[test]
+fn a_list_of_4096_names_is_checked(rt: HostRuntime) -> Result<(), Fail> {
+    let mut history = history(&rt, &[Open(1, 1)])?;
+    let mut paths = Vec::new(rt.alloc());
+    for number in 0..4_096 {
+        // From 1000 to 5095, whose digits rise as the numbers do.
+        let text = format!(in rt.alloc(); "/{}", number + 1_000)?;
+        history.reserve()?;
+        history.push(done(1, number, Op::Create(path(&rt, text.as_str())?)));
+        paths.push(text)?;
+    }
+    let mut texts = Vec::new(rt.alloc());
+    for text in &paths {
+        texts.push(text.as_str().trim_start_matches('/'))?;
+    }
+    let reply = Reply::Names(names(&rt, texts.as_slice())?);
+    history.reserve()?;
+    history.push(called(1, 4_096, Op::List(path(&rt, "/")?), reply));
+    assert!(rt; check(rt.alloc(), &history)?);
     Ok(())
 }
 

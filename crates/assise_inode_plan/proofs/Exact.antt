@@ -1,5 +1,5 @@
 -- A plan made visit by visit is the plan of the whole step.
-use Rattle.std.proofs.Common.{◌≡◌, ℕ, List, [], ◌∷◌, ◌++◌, Option, Some, None, Result, Ok, Err, IfOk, refl, ap, sym, subst, ◌∙◌, inl, inr, append_assoc}
+use Rattle.std.proofs.Common.{◌≡◌, ◌≤◌, ℕ, length, arith, List, [], ◌∷◌, ◌++◌, Option, Some, None, Result, Ok, Err, IfOk, refl, ap, sym, subst, ◌∙◌, inl, inr, append_assoc}
 use Rattle.std.proofs.lemmas.List.{append-nil}
 use Rattle.std.proofs.lemmas.Bool.{cases_Bool}
 use Rattle.assise_names.specs.declared.call.Op.{Op}
@@ -12,9 +12,10 @@ use Rattle.assise_inode_table.specs.Contents.{Values}
 use Rattle.assise_inode_table.specs.Effects.{touched}
 use Rattle.assise_inode_table.specs.Interaction.{Interaction, visit, finish, visits_of, reply_of, effects_of, Step, step_by}
 use Rattle.assise_inode_table.specs.Spelled.{Spells}
+use Rattle.assise_inode_table.proofs.CallEnds.{few_effects}
 use Rattle.assise_inode_table.proofs.CallSteps.{step_replies, step_spells}
 use Rattle.assise_inode_plan.specs.Leased.{Leases, wants, for_writing, first_missing}
-use Rattle.assise_inode_plan.specs.Planning.{Answers, plan_lacking, plan_of, shown}
+use Rattle.assise_inode_plan.specs.Planning.{Answers, effects_planned, plan_lacking, plan_of, shown}
 use Rattle.assise_inode_plan.specs.Walking.{plan_from}
 use Rattle.assise_inode_plan.specs.declared.plan.Planned.{Planned}
 
@@ -54,3 +55,15 @@ pub plan_answers_call : {E : Type 0} (r : Result Planned E) (leased : Leases) (v
 plan_answers_call (Ok p) leased v op fresh h t s new =
     subst (Answers v (answer t op)) (sym (h ∙ whole_plan leased v (interaction op fresh))) (plan_answers v t op fresh (first_missing leased (wants (step v op fresh))) s new)
 plan_answers_call (Err e) leased v op fresh h t s new = tt
+
+-- ---- how many effects
+
+few_planned : (leased : Leases) (v : Values) (op : Op) (fresh : ℕ) (lack : Option (ℕ × Mode)) → length (effects_planned (plan_lacking (step v op fresh) lack)) ≤ 4
+few_planned leased v op fresh None = few_effects v op fresh
+few_planned leased v op fresh (Some w) = omega arith
+
+pub few_effects_planned : {E : Type 0} (r : Result Planned E) (leased : Leases) (v : Values) (op : Op) (fresh : ℕ) → IfOk r (λ p. shown p ≡ plan_from leased v [] (interaction op fresh)) →
+    IfOk r (λ p. length (effects_planned (shown p)) ≤ 4)
+few_effects_planned (Ok p) leased v op fresh h =
+    subst (λ plan. length (effects_planned plan) ≤ 4) (sym (h ∙ whole_plan leased v (interaction op fresh))) (few_planned leased v op fresh (first_missing leased (wants (step v op fresh))))
+few_effects_planned (Err e) leased v op fresh h = tt

@@ -1,8 +1,9 @@
 -- What is left of a call while it walks.
-use Rattle.std.proofs.Common.{◌≡◌, ℕ, ◌+◌, ◌<◌, ◌≤◌, List, [], ◌∷◌, length, drop, slice_index_or, Result, Ok, Err, MatchResult, Bor, option_copied, ap, sym, subst, ◌∙◌}
+use Rattle.std.proofs.Common.{◌≡◌, ◌⊎◌, inl, inr, true, ℕ, ◌+◌, ◌<◌, ◌≤◌, List, [], ◌∷◌, length, drop, slice_index_or, Result, Ok, Err, IfOk, MatchResult, Bor, option_copied, ap, sym, subst, ◌∙◌}
 use Rattle.std.specs.Prelude.{Option, Some, None, ok_or}
 use Rattle.std.proofs.lemmas.List.{drop_more}
 use Rattle.std.proofs.Math.ListN.{drop_of_length-le}
+use Rattle.assise_names.specs.declared.mode.Mode.TheVariants.{Read}
 use Rattle.assise_names.specs.declared.reply.TreeError.{TreeError}
 use Rattle.assise_names.specs.declared.reply.TreeError.TheVariants.{NoEnt}
 use Rattle.assise_inode_table.specs.Calls.{then_or_error, walk_from, walk}
@@ -13,6 +14,21 @@ use Rattle.assise_inode_plan.specs.Leased.{Leases}
 use Rattle.assise_inode_plan.specs.Walking.{plan_from, plan_stopped}
 use Rattle.assise_inode_plan.specs.declared.walk.Stop.{Stop}
 use Rattle.assise_inode_plan.specs.declared.walk.Stop.TheVariants.{Fault}
+
+-- ---- the root comes first
+
+-- either the walk is at the root, or the root was visited, so it is leased
+abbrev pub RootIsSeen : Leases → ℕ → Type 0
+RootIsSeen leased i = (i ≡ 0) ⊎ (leased 0 Read ≡ true)
+
+pub root_seen : (leased : Leases) (i : ℕ) → RootIsSeen leased i → leased i Read ≡ true → leased 0 Read ≡ true
+root_seen leased i (inl root) held = subst (λ j. leased j Read ≡ true) root held
+root_seen leased i (inr seen) held = seen
+
+-- what holds where the end is an inode
+pub seen_here : {A E P : Type 0} (end : Result A E) {x : A} → IfOk end (λ _. P) → end ≡ Ok x → P
+seen_here (Ok y) p is = p
+seen_here (Err e) p is = cc
 
 -- ---- one visit
 

@@ -8,3 +8,4 @@ pub mod Removing
 pub mod Moving
 pub mod Exact
 pub mod Wanting
+pub mod Noting

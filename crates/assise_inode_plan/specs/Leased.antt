@@ -29,3 +29,8 @@ first_missing leased (w ∷ ws) = if leased w.0 w.1 then first_missing leased ws
 abbrev pub AreLeased : Leases → List (ℕ × Mode) → Type 0
 AreLeased leased [] = Unit {0}
 AreLeased leased (w ∷ ws) = (leased w.0 w.1 ≡ true) × AreLeased leased ws
+
+-- the first inode that a call visits is leased: the plan notes it, and asks for memory from there on
+abbrev pub NotesAVisit : Leases → List ℕ → Type 0
+NotesAVisit leased [] = ⊥
+NotesAVisit leased (i ∷ is) = leased i Read ≡ true

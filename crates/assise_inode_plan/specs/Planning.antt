@@ -1,9 +1,10 @@
 -- What is planned for a call.
-use Rattle.std.specs.Prelude.{◌≡◌, ◌≤◌, ℕ, length, Option, Some, None}
+use Rattle.std.specs.Prelude.{◌≡◌, ◌≤◌, ℕ, List, [], length, Option, Some, None}
 use Rattle.assise_names.specs.declared.call.Op.{Op}
-use Rattle.assise_names.specs.declared.call.Op.TheVariants.{Create, Mkdir, Read as ReadCall, Write as WriteCall, Truncate, Rename, Unlink, Rmdir, List, Stat, Fsync}
+use Rattle.assise_names.specs.declared.call.Op.TheVariants.{Create, Mkdir, Read as ReadCall, Write as WriteCall, Truncate, Rename, Unlink, Rmdir, List as ListCall, Stat, Fsync}
 use Rattle.assise_names.specs.declared.mode.Mode.{Mode}
 use Rattle.assise_names.specs.declared.reply.Reply.{Reply}
+use Rattle.assise_record.specs.declared.effect.Effect.{Effect}
 use Rattle.assise_seq_tree.specs.Tree.{Tree}
 use Rattle.assise_inode_table.specs.Contents.{Values}
 use Rattle.assise_inode_table.specs.Effects.{after}
@@ -25,6 +26,11 @@ plan_lacking s (Some w) = missing w.0 w.1
 abbrev pub plan_of : Leases → Step → Plan
 plan_of leased s = plan_lacking s (first_missing leased (wants s))
 
+-- what a plan changes; where a lease is missing, nothing
+abbrev pub effects_planned : Plan → List Effect
+effects_planned (ready s) = s.effects
+effects_planned (missing inode mode) = []
+
 -- what the code answers
 abbrev pub shown : Planned → Plan
 shown (Ready reply reads effects) = ready (record { visits = reads.items; reply = reply; effects = effects.items })
@@ -45,6 +51,6 @@ IsWritable (Truncate p size) = Unit {0}
 IsWritable (Rename p q) = Unit {0}
 IsWritable (Unlink p) = Unit {0}
 IsWritable (Rmdir p) = Unit {0}
-IsWritable (List p) = Unit {0}
+IsWritable (ListCall p) = Unit {0}
 IsWritable (Stat p) = Unit {0}
 IsWritable Fsync = Unit {0}

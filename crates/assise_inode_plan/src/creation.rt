@@ -1,9 +1,11 @@
 // Plans of the calls that make an inode.
-ghost use Rattle.std.specs.Prelude.{◌≡◌, ◌∷◌, IfOk, IsOkUnless, []};
+ghost use Rattle.std.specs.Prelude.{◌≡◌, ◌∷◌, IfOk, IsOkUnless, OnErr, []};
+ghost use Rattle.assise_inode_plan.specs.Leased.{NotesAVisit};
 ghost use Rattle.assise_inode_plan.specs.Planning.{shown};
 ghost use Rattle.assise_inode_plan.specs.Walking.{plan_from};
 ghost use Rattle.assise_inode_table.specs.Calls.{create_call, make_call, mkdir_call};
 ghost use Rattle.assise_inode_table.specs.Contents.{values};
+ghost use Rattle.assise_inode_table.specs.Interaction.{visits_of};
 ghost use Rattle.assise_names.specs.declared.refusal.Refusal.TheVariants.{OutOfMemory};
 ghost use Rattle.assise_record.specs.declared.effect.Effect.TheVariants.{Link};
 
@@ -25,6 +27,7 @@ pub(crate) fn plan_create<V: View>(
     fresh: u64,
 ) -> Result<Planned, Refusal>
     ensures exact { IfOk result (λ p. shown p ≡ plan_from (V.leased view.now) (values (V.contents view.now)) [] (create_call names.now fresh)) }
+    ensures asked { OnErr result (NotesAVisit (V.leased view.now) (visits_of (values (V.contents view.now)) (create_call names.now fresh))) }
     ensures only_memory { IsOkUnless result OutOfMemory }
 {
     let new = Effect::NewFile { inode: fresh };
@@ -39,6 +42,7 @@ pub(crate) fn plan_mkdir<V: View>(
     fresh: u64,
 ) -> Result<Planned, Refusal>
     ensures exact { IfOk result (λ p. shown p ≡ plan_from (V.leased view.now) (values (V.contents view.now)) [] (mkdir_call names.now fresh)) }
+    ensures asked { OnErr result (NotesAVisit (V.leased view.now) (visits_of (values (V.contents view.now)) (mkdir_call names.now fresh))) }
     ensures only_memory { IsOkUnless result OutOfMemory }
 {
     let new = Effect::NewDir { inode: fresh };
@@ -54,6 +58,7 @@ fn plan_new<V: View>(
     fresh: u64,
 ) -> Result<Planned, Refusal>
     ensures exact { IfOk result (λ p. shown p ≡ plan_from (V.leased view.now) (values (V.contents view.now)) [] (make_call new names.now fresh)) }
+    ensures asked { OnErr result (NotesAVisit (V.leased view.now) (visits_of (values (V.contents view.now)) (make_call new names.now fresh))) }
     ensures only_memory { IsOkUnless result OutOfMemory }
 {
     let mut reads = Vec::new(alloc);

@@ -1,9 +1,11 @@
 // Plans of the calls that change a file's bytes.
-ghost use Rattle.std.specs.Prelude.{◌≡◌, ◌∷◌, ◌+◌, ◌≤◌, IfOk, IsOkUnless, [], length};
+ghost use Rattle.std.specs.Prelude.{◌≡◌, ◌∷◌, ◌+◌, ◌≤◌, IfOk, IsOkUnless, OnErr, [], length};
+ghost use Rattle.assise_inode_plan.specs.Leased.{NotesAVisit};
 ghost use Rattle.assise_inode_plan.specs.Planning.{shown};
 ghost use Rattle.assise_inode_plan.specs.Walking.{plan_from};
 ghost use Rattle.assise_inode_table.specs.Calls.{truncate_call, write_call, write_effects};
 ghost use Rattle.assise_inode_table.specs.Contents.{values};
+ghost use Rattle.assise_inode_table.specs.Interaction.{visits_of};
 ghost use Rattle.assise_names.specs.declared.refusal.Refusal.TheVariants.{OutOfMemory};
 ghost use Rattle.assise_record.specs.declared.effect.Effect.TheVariants.{SetLen};
 
@@ -29,6 +31,7 @@ pub(crate) fn plan_write<V: View>(
 ) -> Result<Planned, Refusal>
     requires one_write { length new.now ≤ 65536 }
     ensures exact { IfOk result (λ p. shown p ≡ plan_from (V.leased view.now) (values (V.contents view.now)) [] (write_call names.now offset new.now)) }
+    ensures asked { OnErr result (NotesAVisit (V.leased view.now) (visits_of (values (V.contents view.now)) (write_call names.now offset new.now))) }
     ensures only_memory { IsOkUnless result OutOfMemory }
 {
     let mut reads = Vec::new(alloc);
@@ -54,6 +57,7 @@ pub(crate) fn plan_truncate<V: View>(
     size: u64,
 ) -> Result<Planned, Refusal>
     ensures exact { IfOk result (λ p. shown p ≡ plan_from (V.leased view.now) (values (V.contents view.now)) [] (truncate_call names.now size)) }
+    ensures asked { OnErr result (NotesAVisit (V.leased view.now) (visits_of (values (V.contents view.now)) (truncate_call names.now size))) }
     ensures only_memory { IsOkUnless result OutOfMemory }
 {
     let mut reads = Vec::new(alloc);

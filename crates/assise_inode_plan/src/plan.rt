@@ -1,10 +1,12 @@
 // Plans of calls.
-ghost use Rattle.std.specs.Prelude.{◌≡◌, IfOk, IsOkUnless, None, []};
+ghost use Rattle.std.specs.Prelude.{◌≡◌, ◌≤◌, IfOk, IsOkUnless, None, OnErr, [], length};
 ghost use Rattle.std.specs.FinMap as map;
-ghost use Rattle.assise_inode_plan.specs.Planning.{Answers, IsWritable, plan_of, shown};
+ghost use Rattle.assise_inode_plan.specs.Leased.{NotesAVisit};
+ghost use Rattle.assise_inode_plan.specs.Planning.{Answers, IsWritable, effects_planned, plan_of, shown};
 ghost use Rattle.assise_inode_plan.specs.Walking.{plan_from};
 ghost use Rattle.assise_inode_table.specs.Calls.{interaction, step};
 ghost use Rattle.assise_inode_table.specs.Contents.{Values, values};
+ghost use Rattle.assise_inode_table.specs.Interaction.{visits_of};
 ghost use Rattle.assise_inode_table.specs.Spelled.{Spells};
 ghost use Rattle.assise_names.specs.declared.refusal.Refusal.TheVariants.{OutOfMemory};
 ghost use Rattle.assise_seq_tree.specs.Answer.{answer};
@@ -55,16 +57,15 @@ pub enum Planned {
 ///   entries is [`TreeError::DirFull`]. The new file is inode `fresh`.
 /// - [`Op::Mkdir`]: as [`Op::Create`]. The new directory is inode `fresh`.
 /// - [`Op::Read`]: the walk; a directory is [`TreeError::IsDir`]. At or past the end there are no bytes.
-/// - [`Op::Write`]: the walk; a directory is [`TreeError::IsDir`]; where the bytes would end past 1,048,576 it is
-///   [`TreeError::TooBig`]. Without bytes there is no effect.
-/// - [`Op::Truncate`]: the walk; a directory is [`TreeError::IsDir`]; more than 1,048,576 bytes are
-///   [`TreeError::TooBig`].
-/// - [`Op::Rename`]: the root, as either path, is [`TreeError::Invalid`], and so is a move of a directory into itself;
-///   the walk to the first path's parent and on to the entry, which is visited; the walk to the other's parent, which
-///   has to be a directory ([`TreeError::NotDir`]). Where both paths are the same, it is done, without effects and
-///   without a further visit. What stands at the other path is visited, and replaced: a directory in the way of a file
-///   is [`TreeError::IsDir`], a file in the way of a directory [`TreeError::NotDir`], a directory with entries
-///   [`TreeError::NotEmpty`]. Where nothing stands there, another directory of 4,096 entries is
+/// - [`Op::Write`]: the walk; a directory is [`TreeError::IsDir`]; where the offset plus the count of the bytes is over
+///   1,048,576, without bytes too, it is [`TreeError::TooBig`]. Without bytes there is no effect.
+/// - [`Op::Truncate`]: the walk; a directory is [`TreeError::IsDir`]; a size over 1,048,576 is [`TreeError::TooBig`].
+/// - [`Op::Rename`]: the root, as either path, is [`TreeError::Invalid`], and so is a move of a path to one below it,
+///   whatever stands there; the walk to the first path's parent and on to the entry, which is visited; the walk to the
+///   other's parent, which has to be a directory ([`TreeError::NotDir`]). Where both paths are the same, it is done,
+///   without effects and without a further visit. What stands at the other path is visited, and replaced: a directory in
+///   the way of a file is [`TreeError::IsDir`], a file in the way of a directory [`TreeError::NotDir`], a directory with
+///   entries in the way of another [`TreeError::NotEmpty`]. Where nothing stands there, another directory of 4,096 entries is
 ///   [`TreeError::DirFull`]. The effects are, where something is replaced, its entry taken out and its inode freed;
 ///   then the old entry taken out; then the new entry made. The moved inode is visited and not changed.
 /// - [`Op::Unlink`]: the root is [`TreeError::IsDir`]; the walk to the parent and on to the entry, which is visited; a
@@ -76,7 +77,9 @@ pub enum Planned {
 /// - [`Op::Stat`]: the walk.
 /// - [`Op::Fsync`]: no check, no visit and no effect; it is done.
 ///
-/// The one refusal is [`Refusal::OutOfMemory`].
+/// The one refusal is [`Refusal::OutOfMemory`]. Memory is asked for only where the first inode that the call visits is
+/// leased: what visits nothing, as [`Op::Fsync`] and a change of the root itself, is answered without, and so is a
+/// missing lease of the root. There are at most four effects.
 pub fn plan<V: View>(alloc: Global, view: &V, op: &Op, fresh: u64) -> Result<Planned, Refusal>
     requires one_write { IsWritable op.now }
     ensures exact { IfOk result (λ p. shown p ≡ plan_of (V.leased view.now) (step (values (V.contents view.now)) op.now fresh)) }
@@ -84,6 +87,8 @@ pub fn plan<V: View>(alloc: Global, view: &V, op: &Op, fresh: u64) -> Result<Pla
     // Over inodes that spell a tree the reply is the tree's, and after the effects they spell the tree after the call.
     ensures answers { (t : Tree) → Spells (values (V.contents view.now)) t → map.get (V.contents view.now) fresh ≡ None
         → IfOk result (λ p. Answers (values (V.contents view.now)) (answer t op.now) (shown p)) }
+    ensures few_effects { IfOk result (λ p. length (effects_planned (shown p)) ≤ 4) }
+    ensures asked { OnErr result (NotesAVisit (V.leased view.now) (step (values (V.contents view.now)) op.now fresh).visits) }
     ensures only_memory { IsOkUnless result OutOfMemory }
 {
     plan_call(alloc, view, op, fresh)
@@ -93,6 +98,7 @@ pub fn plan<V: View>(alloc: Global, view: &V, op: &Op, fresh: u64) -> Result<Pla
 fn plan_call<V: View>(alloc: Global, view: &V, op: &Op, fresh: u64) -> Result<Planned, Refusal>
     requires one_write { IsWritable op.now }
     ensures exact { IfOk result (λ p. shown p ≡ plan_from (V.leased view.now) (values (V.contents view.now)) [] (interaction op.now fresh)) }
+    ensures asked { OnErr result (NotesAVisit (V.leased view.now) (visits_of (values (V.contents view.now)) (interaction op.now fresh))) }
     ensures only_memory { IsOkUnless result OutOfMemory }
 {
     match op {

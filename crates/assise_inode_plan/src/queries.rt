@@ -1,9 +1,11 @@
 // Plans of the calls that change nothing.
-ghost use Rattle.std.specs.Prelude.{◌≡◌, IfOk, IsOkUnless, []};
+ghost use Rattle.std.specs.Prelude.{◌≡◌, IfOk, IsOkUnless, OnErr, []};
+ghost use Rattle.assise_inode_plan.specs.Leased.{NotesAVisit};
 ghost use Rattle.assise_inode_plan.specs.Planning.{shown};
 ghost use Rattle.assise_inode_plan.specs.Walking.{plan_from};
 ghost use Rattle.assise_inode_table.specs.Calls.{list_call, read_call, stat_call};
 ghost use Rattle.assise_inode_table.specs.Contents.{values};
+ghost use Rattle.assise_inode_table.specs.Interaction.{visits_of};
 ghost use Rattle.assise_names.specs.declared.refusal.Refusal.TheVariants.{OutOfMemory};
 
 use crate::ending::{answered, stopped};
@@ -24,6 +26,7 @@ pub(crate) fn plan_read<V: View>(
     length: u64,
 ) -> Result<Planned, Refusal>
     ensures exact { IfOk result (λ p. shown p ≡ plan_from (V.leased view.now) (values (V.contents view.now)) [] (read_call names.now offset length)) }
+    ensures asked { OnErr result (NotesAVisit (V.leased view.now) (visits_of (values (V.contents view.now)) (read_call names.now offset length))) }
     ensures only_memory { IsOkUnless result OutOfMemory }
 {
     let mut reads = Vec::new(alloc);
@@ -47,6 +50,7 @@ pub(crate) fn plan_list<V: View>(
     names: &[Name],
 ) -> Result<Planned, Refusal>
     ensures exact { IfOk result (λ p. shown p ≡ plan_from (V.leased view.now) (values (V.contents view.now)) [] (list_call names.now)) }
+    ensures asked { OnErr result (NotesAVisit (V.leased view.now) (visits_of (values (V.contents view.now)) (list_call names.now))) }
     ensures only_memory { IsOkUnless result OutOfMemory }
 {
     let mut reads = Vec::new(alloc);
@@ -70,6 +74,7 @@ pub(crate) fn plan_stat<V: View>(
     names: &[Name],
 ) -> Result<Planned, Refusal>
     ensures exact { IfOk result (λ p. shown p ≡ plan_from (V.leased view.now) (values (V.contents view.now)) [] (stat_call names.now)) }
+    ensures asked { OnErr result (NotesAVisit (V.leased view.now) (visits_of (values (V.contents view.now)) (stat_call names.now))) }
     ensures only_memory { IsOkUnless result OutOfMemory }
 {
     let mut reads = Vec::new(alloc);

@@ -1,9 +1,11 @@
 // Plans of the calls that remove an entry.
-ghost use Rattle.std.specs.Prelude.{◌≡◌, ◌∷◌, IfOk, IsOkUnless, []};
+ghost use Rattle.std.specs.Prelude.{◌≡◌, ◌∷◌, IfOk, IsOkUnless, OnErr, []};
+ghost use Rattle.assise_inode_plan.specs.Leased.{NotesAVisit};
 ghost use Rattle.assise_inode_plan.specs.Planning.{shown};
 ghost use Rattle.assise_inode_plan.specs.Walking.{plan_from};
 ghost use Rattle.assise_inode_table.specs.Calls.{rmdir_call, unlink_call};
 ghost use Rattle.assise_inode_table.specs.Contents.{values};
+ghost use Rattle.assise_inode_table.specs.Interaction.{visits_of};
 ghost use Rattle.assise_names.specs.declared.refusal.Refusal.TheVariants.{OutOfMemory};
 ghost use Rattle.assise_record.specs.declared.effect.Effect.TheVariants.{Free, Unlink};
 
@@ -24,6 +26,7 @@ pub(crate) fn plan_unlink<V: View>(
     names: &[Name],
 ) -> Result<Planned, Refusal>
     ensures exact { IfOk result (λ p. shown p ≡ plan_from (V.leased view.now) (values (V.contents view.now)) [] (unlink_call names.now)) }
+    ensures asked { OnErr result (NotesAVisit (V.leased view.now) (visits_of (values (V.contents view.now)) (unlink_call names.now))) }
     ensures only_memory { IsOkUnless result OutOfMemory }
 {
     let mut reads = Vec::new(alloc);
@@ -48,6 +51,7 @@ pub(crate) fn plan_rmdir<V: View>(
     names: &[Name],
 ) -> Result<Planned, Refusal>
     ensures exact { IfOk result (λ p. shown p ≡ plan_from (V.leased view.now) (values (V.contents view.now)) [] (rmdir_call names.now)) }
+    ensures asked { OnErr result (NotesAVisit (V.leased view.now) (visits_of (values (V.contents view.now)) (rmdir_call names.now))) }
     ensures only_memory { IsOkUnless result OutOfMemory }
 {
     let mut reads = Vec::new(alloc);

@@ -215,6 +215,28 @@ pub(crate) fn run<'a>(
     Ok(())
 }
 
+/// Plans one call over all inodes, compares how many it visits and what it answers, and makes its effects.
+pub(crate) fn run_one(
+    alloc: Global,
+    rt: &impl Abort,
+    inodes: &mut InodeTable,
+    call: Call<'_>,
+    fresh: u64,
+    visits: usize,
+    answer: &Reply,
+) -> Result<(), Fail> {
+    let op = op_of(alloc, call)?;
+    let planned = plan_over_all(alloc, inodes, &op, fresh)?;
+    match &planned {
+        Planned::Ready { reply, reads, .. } => {
+            assert!(rt; reads.len() == visits && reply == answer, "at {op}");
+        }
+        Planned::Missing(..) => assert!(rt; false, "at {op}"),
+    }
+    apply_all(inodes, &planned)?;
+    Ok(())
+}
+
 /// Makes the file `/f` of number `FILE`, the directory `/d` of number `NEXT` with the file `g` of number `LAST`, and
 /// the directory `/e` of number `MORE`.
 pub(crate) fn two_files_and_two_directories(

@@ -1,8 +1,9 @@
 // Worked examples of plans.
-use crate::tables::{Call, Change, FILE, LAST, NEXT, Wanted, run};
+use crate::tables::{Call, Change, FILE, LAST, MORE, NEXT, Wanted, run, run_one};
 use assise_inode_table::table::InodeTable;
+use assise_names::byte_string::ByteString;
 use assise_names::name::Name;
-use assise_names::reply::TreeError;
+use assise_names::reply::{Reply, TreeError};
 use assise_record::effect::Effect;
 use std::test::Fail;
 
@@ -365,4 +366,41 @@ fn a_full_directory_takes_no_more(rt: HostRuntime) -> Result<(), Fail> {
         ),
     ];
     run(rt.alloc(), &rt, &mut inodes, rows.as_slice())
+}
+
+/// A path of 32 names, of which each inode is visited, and 65,536 bytes that are written and read there at once.
+#[test]
+fn the_longest_path_and_the_most_bytes_of_a_call(rt: HostRuntime) -> Result<(), Fail> {
+    let mut inodes = InodeTable::opening(rt.alloc())?;
+    let mut path = String::new(rt.alloc());
+    for depth in 0..31 {
+        path.push_str("/d")?;
+        let (mkdir, fresh) = (Call::Mkdir(path.as_str()), FILE + depth as u64);
+        run_one(
+            rt.alloc(),
+            &rt,
+            &mut inodes,
+            mkdir,
+            fresh,
+            depth + 1,
+            &Reply::Done,
+        )?;
+    }
+    path.push_str("/f")?;
+    let create = Call::Create(path.as_str());
+    run_one(
+        rt.alloc(),
+        &rt,
+        &mut inodes,
+        create,
+        FILE + 31,
+        32,
+        &Reply::Done,
+    )?;
+    let bytes = Vec::from_elem(rt.alloc(), b'z', 65_536)?;
+    let write = Call::Write(path.as_str(), 0, bytes.as_slice());
+    run_one(rt.alloc(), &rt, &mut inodes, write, MORE, 33, &Reply::Done)?;
+    let read = Call::Read(path.as_str(), 0, 65_536);
+    let answer = Reply::Bytes(ByteString::from_vec(bytes));
+    run_one(rt.alloc(), &rt, &mut inodes, read, MORE, 33, &answer)
 }

@@ -1,10 +1,11 @@
 // Walks along paths over leased inodes.
-ghost use Rattle.std.specs.Prelude.{◌≡◌, IfOk, IsOkUnless, MatchResult, Option, [], option_copied, ℕ};
+ghost use Rattle.std.specs.Prelude.{◌≡◌, IfOk, IsOkUnless, MatchResult, OnErr, Option, [], option_copied, true, ℕ};
 ghost use Rattle.assise_inode_plan.specs.Walking.{plan_from, plan_stopped};
 ghost use Rattle.assise_inode_table.specs.Calls.{walk, walk_from, walk_to_entry};
 ghost use Rattle.assise_inode_table.specs.Contents.{Content, values};
 ghost use Rattle.assise_inode_table.specs.Interaction.{Interaction, visit};
 ghost use Rattle.assise_inode_table.specs.Reach.{link_of};
+ghost use Rattle.assise_names.specs.declared.mode.Mode.TheVariants.{Read};
 ghost use Rattle.assise_names.specs.declared.refusal.Refusal.TheVariants.{OutOfMemory};
 
 use crate::view::View;
@@ -46,6 +47,8 @@ pub(crate) fn walk<'a, V: View>(
         ≡ plan_from (V.leased view.now) (values (V.contents view.now)) reads.new.items (next r.0 r.1.now))
         (λ stop. plan_from (V.leased view.now) (values (V.contents view.now)) reads.old.items (walk names.now next)
         ≡ plan_stopped reads.new.items stop)) }
+    ensures seen { IfOk result (λ end. IfOk end (λ _. V.leased view.now 0 Read ≡ true)) }
+    ensures asked { OnErr result (V.leased view.now 0 Read ≡ true) }
     ensures only_memory { IsOkUnless result OutOfMemory }
 {
     let mut at = ROOT;
@@ -77,6 +80,8 @@ pub(crate) fn walk_to_entry<'a, V: View>(
         ≡ plan_from (V.leased view.now) (values (V.contents view.now)) reads.new.items (next e.directory e.inode e.content.now))
         (λ stop. plan_from (V.leased view.now) (values (V.contents view.now)) reads.old.items (walk_to_entry parent.now name.now next)
         ≡ plan_stopped reads.new.items stop)) }
+    ensures seen { IfOk result (λ end. IfOk end (λ _. V.leased view.now 0 Read ≡ true)) }
+    ensures asked { OnErr result (V.leased view.now 0 Read ≡ true) }
     ensures only_memory { IsOkUnless result OutOfMemory }
 {
     let (directory, found) = match walk(view, parent, reads)? {
@@ -108,6 +113,8 @@ pub(crate) fn reach<'a, V: View>(
         ≡ plan_from (V.leased view.now) (values (V.contents view.now)) reads.new.items (next inode r.now))
         (λ stop. plan_from (V.leased view.now) (values (V.contents view.now)) reads.old.items (walk_from inode [] next)
         ≡ plan_stopped reads.new.items stop)) }
+    ensures seen { IfOk result (λ end. IfOk end (λ _. V.leased view.now inode Read ≡ true)) }
+    ensures asked { OnErr result (V.leased view.now inode Read ≡ true) }
     ensures only_memory { IsOkUnless result OutOfMemory }
 {
     match visit(view, inode, reads)? {
@@ -128,6 +135,8 @@ fn visit<'a, V: View>(
         ≡ plan_from (V.leased view.now) (values (V.contents view.now)) reads.new.items (next (option_copied value)))
         (λ stop. plan_from (V.leased view.now) (values (V.contents view.now)) reads.old.items (visit inode next)
         ≡ plan_stopped reads.new.items stop)) }
+    ensures seen { IfOk result (λ end. IfOk end (λ _. V.leased view.now inode Read ≡ true)) }
+    ensures asked { OnErr result (V.leased view.now inode Read ≡ true) }
     ensures only_memory { IsOkUnless result OutOfMemory }
 {
     if !view.leases(inode, Mode::Read) {

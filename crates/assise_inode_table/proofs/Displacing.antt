@@ -1,5 +1,5 @@
 -- An entry is moved onto another, whose inode is freed.
-use Rattle.std.proofs.Common.{◌≡◌, ◌≢◌, ℕ, ◌==◌, Bool, true, false, cond, List, [], ◌∷◌, ◌++◌, Option, Some, None, Ok, Err, refl, sym, ap, subst, ◌∙◌}
+use Rattle.std.proofs.Common.{◌≡◌, ◌≢◌, ℕ, ◌==◌, Bool, true, false, cond, List, [], ◌∷◌, ◌++◌, Option, Some, None, Ok, refl, sym, ap, subst, ◌∙◌}
 use Rattle.std.proofs.lemmas.Bool.{eq-eqb, ne_eqb, eqb-true}
 use Rattle.std.proofs.lemmas.List.{append_assoc, append-nil}
 use Rattle.std.specs.Prelude.{ok_or}
@@ -15,7 +15,7 @@ use Rattle.assise_inode_table.specs.Contents.{directory, Links, Values}
 use Rattle.assise_inode_table.specs.Effects.{after}
 use Rattle.assise_inode_table.specs.Reach.{children, reach, link_of}
 use Rattle.assise_inode_table.specs.Spelled.{Spells, AgreeBut, RemovesLink}
-use Rattle.assise_inode_table.proofs.Fronts.{past, past_front, past-Some}
+use Rattle.assise_inode_table.proofs.Fronts.{past, past-Some}
 use Rattle.assise_inode_table.proofs.Reaching.{reach_step, reach-append, same_reach}
 use Rattle.assise_inode_table.proofs.Showing.{put_entry, without_entry}
 use Rattle.assise_inode_table.proofs.Spelling.{spelled_is_ordered}

@@ -31,3 +31,6 @@ pub mod Moving
 pub mod Displacing
 pub mod Inserting
 pub mod RenamingCalls
+pub mod CallEnds
+pub mod AtOpening
+pub mod Numbering

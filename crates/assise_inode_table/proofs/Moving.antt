@@ -1,16 +1,16 @@
 -- An entry is moved to another place, with all that it leads to.
-use Rattle.std.proofs.Common.{◌≡◌, ◌≢◌, ℕ, ◌==◌, Bool, true, false, if◌then◌else◌, cond, List, [], ◌∷◌, ◌++◌, Option, Some, None, IsSome, is_some, Ok, Err, refl, sym, ap, subst, ◌∙◌, eqb}
+use Rattle.std.proofs.Common.{◌≡◌, ℕ, ◌==◌, Bool, true, false, cond, List, [], ◌∷◌, ◌++◌, Option, Some, None, IsSome, is_some, Ok, refl, sym, ap, ◌∙◌, eqb}
 use Rattle.std.proofs.lemmas.List.{append_assoc}
 use Rattle.std.proofs.lemmas.Bool.{eq-eqb, ne_eqb, eqb-true, eqb-false}
 use Rattle.std.specs.Cmp.Lexicographic.{nat_list_cmp_total}
 use Rattle.std.specs.FinMap as map
-use Rattle.assise_record.specs.declared.effect.Effect.TheVariants.{Link, Unlink, Free}
+use Rattle.assise_record.specs.declared.effect.Effect.TheVariants.{Link, Unlink}
 use Rattle.assise_seq_tree.specs.Tree.{Tree, same_name, at, put, without}
 use Rattle.assise_seq_tree.proofs.Moves.{Path}
-use Rattle.assise_inode_table.specs.Contents.{Content, directory, Links, Values}
+use Rattle.assise_inode_table.specs.Contents.{directory, Links, Values}
 use Rattle.assise_inode_table.specs.Effects.{after, effect_on}
 use Rattle.assise_inode_table.specs.Reach.{children, reach}
-use Rattle.assise_inode_table.specs.Spelled.{SpellsFrom, Spells, ShareNone, AgreeBut, AddsLink, RemovesLink}
+use Rattle.assise_inode_table.specs.Spelled.{SpellsFrom, Spells, ShareNone, AddsLink, RemovesLink}
 use Rattle.assise_inode_table.proofs.Fronts.{past, past-Some}
 use Rattle.assise_inode_table.proofs.Reaching.{same_reach}
 use Rattle.assise_inode_table.proofs.Linking.{linked, old_reached, held_reached}

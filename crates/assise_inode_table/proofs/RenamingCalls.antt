@@ -10,8 +10,8 @@ use Rattle.assise_names.specs.declared.reply.Reply.TheVariants.{Done, Error}
 use Rattle.assise_names.specs.declared.reply.TreeError.{TreeError}
 use Rattle.assise_names.specs.declared.reply.TreeError.TheVariants.{NoEnt, NotDir, Invalid, DirFull}
 use Rattle.assise_record.specs.declared.effect.Effect.{Effect}
-use Rattle.assise_record.specs.declared.effect.Effect.TheVariants.{Link, Unlink, Free}
-use Rattle.assise_seq_tree.specs.Tree.{Tree, file, dir, Entries, find, names_of, count, at, put, without}
+use Rattle.assise_record.specs.declared.effect.Effect.TheVariants.{Unlink, Free}
+use Rattle.assise_seq_tree.specs.Tree.{Tree, file, dir, Entries, find, names_of, at, put, without}
 use Rattle.assise_seq_tree.specs.Answer.{◌>>=◌, parent_of, last_name, as_directory, entries_at, may_receive, may_replace as tree_may_replace, reply_and_tree, tree_after_rename, rename_answer}
 use Rattle.assise_seq_tree.proofs.Moves.{Path, Apart, parent_and_last}
 use Rattle.assise_seq_tree.proofs.Paths.{apart_from}
@@ -19,15 +19,15 @@ use Rattle.assise_seq_tree.proofs.Checks.{same_is, not_begins}
 use Rattle.assise_seq_tree.proofs.Receiving.{entry_there}
 use Rattle.assise_inode_table.specs.Contents.{Content, regular, directory, Links, Values}
 use Rattle.assise_inode_table.specs.Effects.{after}
-use Rattle.assise_inode_table.specs.Interaction.{Interaction, finish}
-use Rattle.assise_inode_table.specs.Calls.{then_or_error, as_links, may_replace, vacant, move_effects, move_to, receive, replace_target, room_beside, walk_to_entry, rename_call}
+use Rattle.assise_inode_table.specs.Interaction.{finish}
+use Rattle.assise_inode_table.specs.Calls.{then_or_error, may_replace, vacant, move_effects, move_to, receive, replace_target, room_beside, walk_to_entry, rename_call}
 use Rattle.assise_inode_table.specs.Reach.{children, reach, link_of}
 use Rattle.assise_inode_table.specs.Spelled.{Spells}
 use Rattle.assise_inode_table.proofs.Agreeing.{Agrees, agrees, agrees_quietly}
 use Rattle.assise_inode_table.proofs.Displacing.{displaced_spells}
 use Rattle.assise_inode_table.proofs.Fronts.{past, past-Some}
 use Rattle.assise_inode_table.proofs.Leaves.{LeadsNowhere, ends, file_nowhere, vacant_nowhere}
-use Rattle.assise_inode_table.proofs.Meeting.{settled, walk_fails, walk_to_file, walk_to_directory, Meets, nothing, a_file, a_directory, FindsFile, FindsDirectory, meets, same_count}
+use Rattle.assise_inode_table.proofs.Meeting.{settled, walk_fails, walk_to_file, walk_to_directory, Meets, nothing, a_file, a_directory, FindsDirectory, meets, same_count}
 use Rattle.assise_inode_table.proofs.MeetingEntries.{HasEntry, entry_at, walk_finds_entry, walk_fails_entry}
 use Rattle.assise_inode_table.proofs.Moving.{moved_spells}
 use Rattle.assise_inode_table.proofs.Naming.{same_found}

@@ -5,6 +5,7 @@ pub mod Spelled
 pub mod Interaction
 pub mod Calls
 pub mod Traces
+pub mod Numbers
 pub mod Unseen
 pub mod Late
 pub mod Kind

@@ -1,5 +1,5 @@
 // The links of a directory.
-ghost use Rattle.std.specs.Prelude.{◌≡◌, ◌==◌, IfOk, IsOkUnless, OnErr, OnOk, length};
+ghost use Rattle.std.specs.Prelude.{◌≡◌, ◌==◌, IfOk, IsOkUnless, None, OnErr, OnOk, length};
 ghost use Rattle.std.specs.FinMap as map;
 ghost use Rattle.assise_names.specs.declared.refusal.Refusal.TheVariants.{OutOfMemory};
 ghost use Rattle.assise_inode_table.specs.Calls.{room_among};
@@ -85,14 +85,29 @@ impl Directory {
     }
 
     /// Links a name to an inode, in place of what it linked to before. The one refusal is [`Refusal::OutOfMemory`],
-    /// and it leaves the directory as it was.
+    /// where the name is new, and it leaves the directory as it was.
     pub fn insert(&mut self, name: Name, inode: u64) -> Result<(), Refusal>
         ensures ok { OnOk result (self.new ≡ map.insert self.old name inode) }
         ensures err { OnErr result (self.new ≡ self.old) }
+        ensures asked { OnErr result (map.get self.old name ≡ None) }
         ensures only_memory { IsOkUnless result OutOfMemory }
     {
         self.links.insert(name, inode)?;
         Ok(())
+    }
+
+    /// As [`Directory::insert`], by a copy of the name where it is new.
+    pub fn link(&mut self, alloc: Global, name: &Name, inode: u64) -> Result<(), Refusal>
+        ensures ok { OnOk result (self.new ≡ map.insert self.old name.now inode) }
+        ensures err { OnErr result (self.new ≡ self.old) }
+        ensures asked { OnErr result (map.get self.old name.now ≡ None) }
+        ensures only_memory { IsOkUnless result OutOfMemory }
+    {
+        if let Some(target) = self.links.get_mut(name) {
+            *target = inode;
+            return Ok(());
+        }
+        self.insert(name.copy(alloc)?, inode)
     }
 
     /// Takes the entry of a name out, if it is there.

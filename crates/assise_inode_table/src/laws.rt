@@ -1,21 +1,23 @@
 // Laws of inodes, of what effects make of them, and of calls over them. Each function does nothing: its contract is
 // the law.
-ghost use Rattle.std.specs.Prelude.{◌≡◌, ◌++◌, ◌∷◌, ◌≤◌, ◌||◌, Bool, List, None, Ok, Option, Some, [], false, filter, true, ℕ};
+ghost use Rattle.std.specs.Prelude.{◌≡◌, ◌++◌, ◌∷◌, ◌≤◌, ◌<◌, ◌^◌, ◌≢◌, ◌||◌, Bool, List, None, Ok, Option, Some, [], false, filter, length, true, ℕ};
 ghost use Rattle.std.specs.List.{list_any};
 ghost use Rattle.std.specs.FinMap as map;
 ghost use Rattle.assise_names.specs.declared.call.Op.{Op};
 ghost use Rattle.assise_record.specs.declared.effect.Effect.{Effect};
 ghost use Rattle.assise_seq_tree.specs.Answer.{answer};
 ghost use Rattle.assise_seq_tree.specs.Runs.{AreAnswered, tree_after_calls};
-ghost use Rattle.assise_seq_tree.specs.Tree.{IsOrdered, Tree, at, dir, file, no_entries, put, without};
+ghost use Rattle.assise_seq_tree.specs.Tree.{IsOrdered, Tree, at, dir, file, no_entries, opening as opening_tree, put, without};
 ghost use Rattle.assise_inode_table.specs.Calls.{step};
-ghost use Rattle.assise_inode_table.specs.Contents.{Content, InodeMap, Links, Values, directory, regular};
+ghost use Rattle.assise_inode_table.specs.Contents.{Content, InodeMap, Links, Values, directory, regular, values};
 ghost use Rattle.assise_inode_table.specs.Effects.{SameNetEffect, after, applied, contains, makes, touched, value_after};
 ghost use Rattle.assise_inode_table.specs.Interaction.{AgreeOn, Step};
 ghost use Rattle.assise_inode_table.specs.Late.{NoneBetween, raised, value_of};
+ghost use Rattle.assise_inode_table.specs.Numbers.{AnsweredCall, inode_number, inodes_made, makes_inode, numbered, numbered_call};
+ghost use Rattle.assise_inode_table.specs.Opening.{opening};
 ghost use Rattle.assise_inode_table.specs.Reach.{children, reach};
 ghost use Rattle.assise_inode_table.specs.Spelled.{AddsLink, AgreeBut, RemovesLink, ShareNone, Spells, SpellsFrom};
-ghost use Rattle.assise_inode_table.specs.Traces.{AllMakeNew, NumberedCall, Rises, below, exchanges, ops, trace, values_after_calls, window};
+ghost use Rattle.assise_inode_table.specs.Traces.{AllMakeNew, Each, NumberedCall, Rises, below, exchanges, ops, trace, values_after_calls, window};
 ghost use Rattle.assise_inode_table.specs.Unseen.{Unseen};
 
 /// A map spells at most one tree. The names in each of its directories rise.
@@ -84,6 +86,13 @@ pub fn a_step_depends_on_what_it_visits()
     ensures { (v w : Values) (op : Op) (fresh : ℕ) → AgreeOn (step v op fresh).visits v w → step v op fresh ≡ step w op fresh }
 {}
 
+/// A call has at most four effects. It makes no inode but its own, and that only as a create or a mkdir that is done.
+pub fn a_call_has_few_effects()
+    ensures few { (v : Values) (op : Op) (fresh : ℕ) → length (step v op fresh).effects ≤ 4 }
+    ensures own { (v : Values) (op : Op) (fresh i : ℕ) → list_any (makes i) (step v op fresh).effects ≡ true →
+        (i ≡ fresh) × (makes_inode op (step v op fresh).reply ≡ true) }
+{}
+
 /// Over inodes that spell a tree a call answers what the tree answers, and after its effects they spell the tree
 /// after the call, if the inode that it makes was not there.
 pub fn a_step_is_the_call_on_the_tree()
@@ -118,4 +127,24 @@ pub fn unseen_changes_may_come_late()
     ensures client { (v : Values) (a b : ℕ → ℕ) (c k i : ℕ) (old : Option Content) (xs : List NumberedCall) → Unseen a (trace v xs) → Rises xs →
         a c ≤ b c → b c ≤ k →
         value_of (below (raised b c k)) i old (trace v xs) ≡ value_of (window c (b c) k) i (value_of (below b) i old (trace v xs)) (trace v xs) }
+{}
+
+/// The inodes at the opening spell the opening tree.
+pub fn the_opening_spells_the_opening_tree()
+    ensures { Spells (values opening) opening_tree }
+{}
+
+/// Two inodes have two numbers: those of different clients, and of one client those that it made one after another.
+/// None has the root's.
+pub fn each_inode_has_a_number_of_its_own()
+    ensures own { (c d j k : ℕ) → j < 2 ^ 32 → k < 2 ^ 32 → inode_number c j ≡ inode_number d k → (c ≡ d) × (j ≡ k) }
+    ensures root { (c k : ℕ) → 0 < c → inode_number c k ≢ 0 }
+{}
+
+/// A call more has the number that follows from the calls before it. In a run from the opening each call that makes an
+/// inode makes a new one.
+pub fn numbered_calls_make_new_inodes()
+    ensures more { (xs : List AnsweredCall) (x : AnsweredCall) → numbered (xs ++ x ∷ []) ≡ numbered xs ++ numbered_call xs x ∷ [] }
+    ensures new { (xs : List AnsweredCall) → Each (λ x. 0 < x.client) xs → ((c : ℕ) → inodes_made c xs < 2 ^ 32) →
+        AreAnswered opening_tree (exchanges (numbered xs)) → AllMakeNew (values opening) (numbered xs) }
 {}

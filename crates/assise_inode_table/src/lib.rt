@@ -6,6 +6,7 @@ pub mod file_bytes;
 pub mod inode;
 pub mod inodes;
 pub mod laws;
+pub mod numbers;
 pub mod table;
 #[cfg(test)]
 mod tests;

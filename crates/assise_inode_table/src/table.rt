@@ -1,8 +1,8 @@
 // A table of inodes.
-ghost use Rattle.std.specs.Prelude.{◌≡◌, IfOk, IsOk, IsOkUnless, OnErr, OnOk, option_copied, option_map};
+ghost use Rattle.std.specs.Prelude.{◌≡◌, IfOk, IsOk, IsOkUnless, None, OnErr, OnOk, option_copied, option_map};
 ghost use Rattle.std.specs.FinMap as map;
 ghost use Rattle.assise_names.specs.declared.refusal.Refusal.TheVariants.{OutOfMemory};
-ghost use Rattle.assise_inode_table.specs.Effects.{TakesAway, applied, changed, with_value};
+ghost use Rattle.assise_inode_table.specs.Effects.{AsksForMemory, TakesAway, applied, changed, with_value};
 ghost use Rattle.assise_inode_table.specs.Opening.{opening};
 ghost use Rattle.assise_record.specs.Touched.{touched_by};
 
@@ -64,11 +64,12 @@ impl InodeTable {
         self.inodes.get(&inode)
     }
 
-    /// Gives a number an inode, in place of the one that it had. The one refusal is [`Refusal::OutOfMemory`], and it
-    /// leaves the table as it was.
+    /// Gives a number an inode, in place of the one that it had. The one refusal is [`Refusal::OutOfMemory`], where it
+    /// had none, and it leaves the table as it was.
     pub fn insert(&mut self, inode: u64, content: Inode) -> Result<(), Refusal>
         ensures ok { OnOk result (self.new ≡ map.insert self.old inode content) }
         ensures err { OnErr result (self.new ≡ self.old) }
+        ensures asked { OnErr result (map.get self.old inode ≡ None) }
         ensures only_memory { IsOkUnless result OutOfMemory }
     {
         self.inodes.insert(inode, content)?;
@@ -84,12 +85,14 @@ impl InodeTable {
 
     /// Makes an effect: a new file or directory stands in place of what its number had, a freed inode is gone, and
     /// each other effect changes the inode that it touches, where there is one of its kind. No other inode changes.
-    /// The one refusal is [`Refusal::OutOfMemory`], and it leaves the table as it was. What only takes away takes no
-    /// memory.
+    /// The one refusal is [`Refusal::OutOfMemory`], where a number that has none gets an inode, a file gets longer or an
+    /// entry gets a new name, and it leaves the table as it was. What only takes away takes no memory, and neither does
+    /// an effect for the other kind or on an inode that isn't there.
     pub fn apply(&mut self, effect: &Effect) -> Result<(), Refusal>
         ensures ok { OnOk result (self.new ≡ applied self.old effect.now) }
         ensures taken_away { TakesAway effect.now → IsOk result }
         ensures err { OnErr result (self.new ≡ self.old) }
+        ensures asked { OnErr result (AsksForMemory effect.now (map.get self.old (touched_by effect.now))) }
         ensures only_memory { IsOkUnless result OutOfMemory }
     {
         match effect {
@@ -109,6 +112,7 @@ impl InodeTable {
         ensures ok { let inode = touched_by effect.now in
             OnOk result (self.new ≡ with_value self.old inode (option_map (λ content. changed content effect.now) (map.get self.old inode))) }
         ensures err { OnErr result (self.new ≡ self.old) }
+        ensures asked { OnErr result (AsksForMemory effect.now (map.get self.old (touched_by effect.now))) }
         ensures only_memory { IsOkUnless result OutOfMemory }
     {
         let Some(inode) = self.inodes.get_mut(&effect.touches()) else {

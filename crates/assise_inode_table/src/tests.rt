@@ -2,6 +2,7 @@
 use crate::directory::Directory;
 use crate::inode::Inode;
 use crate::inodes::Inodes;
+use crate::numbers::inode_number;
 use crate::table::{InodeTable, ROOT};
 use assise_names::byte_string::ByteString;
 use assise_names::call::Op;
@@ -312,7 +313,11 @@ fn names_of(alloc: Global, texts: &[&str]) -> Result<NameList, Fail> {
     for text in texts {
         names.push(Name::parse(alloc, text)?)?;
     }
-    Ok(NameList::from_vec(names))
+    if NameList::rise(names.as_slice()) {
+        Ok(NameList::from_vec(names))
+    } else {
+        Err(Fail::new("the names don't rise"))
+    }
 }
 
 #[test]
@@ -524,5 +529,22 @@ fn what_is_taken_out_is_not_reached(rt: HostRuntime) -> Result<(), Fail> {
     make(rt.alloc(), &rt, &mut table, directory_out.as_slice())?;
     assert!(rt; lead_to(rt.alloc(), &table, after.as_slice())?);
     assert!(rt; table.get(10).is_none() && table.get(11).is_none());
+    Ok(())
+}
+
+#[test]
+fn each_client_has_its_own_numbers(rt: HostRuntime) -> Result<(), Fail> {
+    let rows = [
+        (1, 0, 4_294_967_296),
+        (1, 1, 4_294_967_297),
+        (1, 4_294_967_295, 8_589_934_591),
+        (2, 0, 8_589_934_592),
+        (4_294_967_295, 0, 18_446_744_069_414_584_320),
+        (4_294_967_295, 4_294_967_295, 18_446_744_073_709_551_615),
+    ];
+    for (client, count, number) in rows {
+        assert!(rt; count < 4_294_967_296);
+        assert_eq!(rt; inode_number(client, count), number);
+    }
     Ok(())
 }

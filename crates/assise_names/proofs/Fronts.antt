@@ -20,6 +20,3 @@ from_tests p q b h is begun = goes_on (drop (length p) q) p q ((starts_is bytes_
 
 pub to_tests : (p q : Names) (b : Bool) → Begins b q p → IsProperFront p q → IsTrue b
 to_tests p q b is front = (starts_is bytes_eq-Decides q p b is).1 (front.0 ∷ front.1.0) front.1.1
-
-pub longer : (p q : Names) → IsProperFront p q → length p < length q
-longer p q front = let whole : length q ≡ length p + length (front.0 ∷ front.1.0) = ap length front.1.1 ∙ length-append p (front.0 ∷ front.1.0) in omega arith

@@ -1,5 +1,5 @@
 -- A text has the path that it spells, and no other: the names of a spelling are its pieces between slashes.
-use Rattle.std.proofs.Common.{◌≡◌, ℕ, ◌≤◌, Bool, true, false, ◌||◌, ◌==◌, nat_lt, List, [], ◌∷◌, ◌++◌, length, Result, Ok, Err, refl, ap, sym, ◌∙◌, inl, inr, arith, IsTrue, All, IsOkUnless}
+use Rattle.std.proofs.Common.{◌≡◌, ℕ, ◌≤◌, Bool, true, false, ◌||◌, ◌==◌, nat_lt, List, [], ◌∷◌, ◌++◌, length, Result, Ok, Err, refl, ap, sym, ◌∙◌, inl, inr, arith, IsTrue, All, IsOkUnless, MatchResult, is_ok}
 use Rattle.std.proofs.lemmas.Bool.{cases_Bool, and_parts, not-true, le-ltb, leb-true, ltb-false, le-leb}
 use Rattle.std.proofs.lemmas.Bool.Decides.{nat_tests}
 use Rattle.std.proofs.lemmas.List.{append-nil}
@@ -74,6 +74,20 @@ lawful_name text utf8 h =
           | inr good ↦ rw (utf8, some, good, le-leb (length text) 255 (ltb-false 255 (length text) few)) refl
         ]
       ]
+    ]
+
+-- a name is a text without a fault
+pub faultless_name : (text : List ℕ) → is_name text ≡ true → name_of text ≡ Ok text
+faultless_name text h = let p = parts_of text h in rw (p.some, p.few, p.good) refl
+
+-- the same as a test
+pub is_faultless : (text : List ℕ) (found : Result (Unit {0}) PathFault) → is_utf8 text ≡ true →
+    MatchResult found (λ _. name_of text ≡ Ok text) (λ fault. name_of text ≡ Err fault) → is_ok found ≡ is_name text
+is_faultless text (Ok _) utf8 h = sym (lawful_name text utf8 h)
+is_faultless text (Err fault) utf8 h =
+    elim (cases_Bool (is_name text)) [
+      | inl named ↦ let bad : Err fault ≡ Ok text = sym h ∙ faultless_name text named in cc
+      | inr other ↦ sym other
     ]
 
 -- ---- the names of a path

@@ -58,6 +58,11 @@ abbrev pub path_of : List ℕ → Result (List (List ℕ)) PathFault
 path_of [] = Err NotAbsolute
 path_of (b ∷ rest) = if b == 47 then (names_behind rest >>= no_deeper) else Err NotAbsolute
 
+-- how many names there are, or the first fault
+abbrev pub count_of : Result (List (List ℕ)) PathFault → Result ℕ PathFault
+count_of (Ok names) = Ok (length names)
+count_of (Err fault) = Err fault
+
 -- what is wanted was given, or memory ran out
 abbrev pub Gives : {X : Type 0} → Result X PathFault → Result X PathFault → Type 0
 Gives (Ok x) wanted = wanted ≡ Ok x

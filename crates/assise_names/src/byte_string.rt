@@ -1,5 +1,5 @@
 // A list of bytes as one value.
-ghost use Rattle.std.specs.Prelude.{◌≡◌, ◌==◌, IfOk, IsOkUnless, length};
+ghost use Rattle.std.specs.Prelude.{◌≡◌, ◌==◌, IfOk, IsOk, IsOkUnless, length};
 ghost use Rattle.std.proofs.Common.{rules};
 ghost use Rattle.std.specs.Cmp.Rules.{comparing};
 ghost use Rattle.std.specs.Cmp.Lexicographic.{pointwise};
@@ -53,14 +53,15 @@ impl ByteString {
         self.bytes.is_empty()
     }
 
-    /// An equal value, or [`Refusal::OutOfMemory`].
+    /// An equal value, or [`Refusal::OutOfMemory`]. No bytes take no memory.
     pub fn copy(&self, alloc: Global) -> Result<ByteString, Refusal>
         ensures equal { IfOk result (λ copied. copied ≡ self.now) }
+        ensures none { length self.now ≡ 0 → IsOk result }
         ensures only_memory { IsOkUnless result OutOfMemory }
     {
-        Ok(ByteString {
-            bytes: Vec::from_slice(alloc, self.bytes.as_slice())?,
-        })
+        let mut bytes = Vec::with_capacity(alloc, self.bytes.len())?;
+        bytes.extend_from_slice(self.bytes.as_slice())?;
+        Ok(ByteString { bytes })
     }
 }
 

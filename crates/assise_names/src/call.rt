@@ -1,5 +1,5 @@
 // The calls of the file system.
-ghost use Rattle.std.specs.Prelude.{◌≡◌, IfOk, IsOkUnless, Some};
+ghost use Rattle.std.specs.Prelude.{◌≡◌, IfOk, IsOk, IsOkUnless, Some};
 ghost use Rattle.assise_names.specs.Text.{op_text};
 ghost use Rattle.assise_names.specs.declared.refusal.Refusal.TheVariants.{OutOfMemory};
 
@@ -38,9 +38,10 @@ pub enum Op {
 }
 
 impl Op {
-    /// An equal value, or [`Refusal::OutOfMemory`].
+    /// An equal value, or [`Refusal::OutOfMemory`]. `fsync` takes no memory.
     pub fn copy(&self, alloc: Global) -> Result<Op, Refusal>
         ensures equal { IfOk result (λ copied. copied ≡ self.now) }
+        ensures fsync { self.now ≡ Op.Fsync → IsOk result }
         ensures only_memory { IsOkUnless result OutOfMemory }
     {
         match self {

@@ -1,5 +1,5 @@
 // The name of an entry.
-ghost use Rattle.std.specs.Prelude.{◌≡◌, ◌==◌, IfOk, IsOkUnless, IsTrue, MatchResult, Some};
+ghost use Rattle.std.specs.Prelude.{◌≡◌, ◌==◌, IfOk, IsOk, IsOkUnless, IsTrue, MatchResult, Some, length};
 ghost use Rattle.std.specs.List.{list_any};
 ghost use Rattle.std.proofs.Common.{rules};
 ghost use Rattle.std.specs.Cmp.{partial_order_from_own_ties};
@@ -8,6 +8,7 @@ ghost use Rattle.std.specs.Cmp.Lexicographic.{slice_cmp, pointwise};
 ghost use Rattle.std.specs.Ordering.{nat_cmp, on, as_partial_cmp};
 ghost use Rattle.assise_names.specs.Name.{is_name, name_of, is_barred};
 ghost use Rattle.assise_names.specs.Path.{Gives};
+ghost use Rattle.assise_names.specs.declared.path.PathFault.{PathFault};
 ghost use Rattle.assise_names.specs.declared.refusal.Refusal.TheVariants.{OutOfMemory};
 
 use crate::path::PathFault;
@@ -42,14 +43,26 @@ impl Model for Name {
 
 impl Name {
     /// The name that a text is. A text without bytes is [`PathFault::EmptyName`], one of more than 255 bytes
-    /// [`PathFault::NameTooLong`], and any other that is no name [`PathFault::BadName`].
+    /// [`PathFault::NameTooLong`], and any other that is no name [`PathFault::BadName`], where memory is wanting too.
     pub fn parse(alloc: Global, text: &str) -> Result<Name, PathFault>
         ensures first_fault { Gives result (name_of text.now) }
+        ensures faults { (fault : PathFault) → name_of text.now ≡ Err fault → result ≡ Err fault }
         ensures lawful { IfOk result (λ name. IsTrue (is_name name)) }
     {
         check(text)?;
         let text = String::from_str(alloc, text)?;
         Ok(Name { text })
+    }
+
+    /// The name that a text is which is one. The one refusal is [`Refusal::OutOfMemory`].
+    pub fn of_text(alloc: Global, text: &str) -> Result<Name, Refusal>
+        requires { IsTrue (is_name text.now) }
+        ensures name { IfOk result (λ name. name ≡ text.now) }
+        ensures only_memory { IsOkUnless result OutOfMemory }
+    {
+        Ok(Name {
+            text: String::from_str(alloc, text)?,
+        })
     }
 
     /// The name's text.
@@ -71,9 +84,17 @@ impl Name {
     }
 }
 
-/// Equal names.
+/// Whether a text is a name.
+pub fn is_name(text: &str) -> bool
+    ensures { result ≡ is_name text.now }
+{
+    check(text).is_ok()
+}
+
+/// Equal names. None take no memory.
 pub(crate) fn copy_names(alloc: Global, names: &[Name]) -> Result<Vec<Name>, Refusal>
     ensures equal { IfOk result (λ copied. copied.items ≡ names.now) }
+    ensures none { length names.now ≡ 0 → IsOk result }
     ensures only_memory { IsOkUnless result OutOfMemory }
 {
     let mut copied = Vec::with_capacity(alloc, names.len())?;
@@ -84,7 +105,7 @@ pub(crate) fn copy_names(alloc: Global, names: &[Name]) -> Result<Vec<Name>, Ref
 }
 
 /// What is wrong with a text as a name.
-fn check(text: &str) -> Result<(), PathFault>
+pub(crate) fn check(text: &str) -> Result<(), PathFault>
     ensures { MatchResult result (λ _. name_of text.now ≡ Ok text.now) (λ fault. name_of text.now ≡ Err fault) }
 {
     if text.is_empty() {

@@ -1,5 +1,5 @@
 // A list of names as one value.
-ghost use Rattle.std.specs.Prelude.{◌≡◌, ◌==◌, IfOk, IsOkUnless};
+ghost use Rattle.std.specs.Prelude.{◌≡◌, ◌==◌, ◌↔◌, IfOk, IsOk, IsOkUnless, IsTrue, length};
 ghost use Rattle.std.proofs.Common.{rules};
 ghost use Rattle.std.specs.Cmp.Rules.{comparing};
 ghost use Rattle.std.specs.Cmp.Lexicographic.{pointwise, slice_cmp};
@@ -14,7 +14,8 @@ use std::alloc::Global;
 use std::collections::BTreeMap;
 use std::marker::Model;
 
-/// Names that a call lists. A contract sees the list of them, and nothing of where they lie.
+/// Names that a call lists, rising strictly by their bytes. A contract sees the list of them, and nothing of where
+/// they lie.
 #[derive(Debug, Drop)]
 pub struct NameList {
     names: Vec<Name>,
@@ -26,11 +27,30 @@ impl Model for NameList {
     ghost Value = { List (List ℕ) };
 
     ghost view = { λ l. l.names.items };
+
+    ghost use Rattle.std.specs.Cmp.Lexicographic.{slice_cmp};
+    ghost use Rattle.std.specs.List.Sorted.{IsStrictlySortedBy};
+    ghost use Rattle.std.specs.Ordering.{nat_cmp};
+
+    ghost invariant = { λ l. IsStrictlySortedBy (slice_cmp nat_cmp) l.names.items };
 }
 
 impl NameList {
+    /// Whether names rise strictly by their bytes, as those of a list do.
+    pub fn rise(names: &[Name]) -> bool
+        ensures { IsTrue result ↔ IsStrictlySortedBy (slice_cmp nat_cmp) names.now }
+    {
+        for i in 1..names.len() {
+            if names[i - 1] >= names[i] {
+                return false;
+            }
+        }
+        true
+    }
+
     /// The names of a vector, without a copy.
     pub fn from_vec(names: Vec<Name>) -> NameList
+        requires { IsStrictlySortedBy (slice_cmp nat_cmp) names.items }
         ensures { result ≡ names.items }
     {
         NameList { names }
@@ -51,14 +71,16 @@ impl NameList {
 
     /// The names as a slice.
     pub fn as_slice(&self) -> &[Name]
-        ensures { result.now ≡ self.now }
+        ensures names { result.now ≡ self.now }
+        ensures rising { IsStrictlySortedBy (slice_cmp nat_cmp) self.now }
     {
         self.names.as_slice()
     }
 
-    /// An equal value, or [`Refusal::OutOfMemory`].
+    /// An equal value, or [`Refusal::OutOfMemory`]. No names take no memory.
     pub fn copy(&self, alloc: Global) -> Result<NameList, Refusal>
         ensures equal { IfOk result (λ copied. copied ≡ self.now) }
+        ensures none { length self.now ≡ 0 → IsOk result }
         ensures only_memory { IsOkUnless result OutOfMemory }
     {
         Ok(NameList {

@@ -1,15 +1,16 @@
 // A path from the root.
-ghost use Rattle.std.specs.Prelude.{All, ◌≡◌, ◌==◌, ◌≤◌, ◌↔◌, IfOk, IsOkUnless, IsTrue, List, Some, length, ℕ};
+ghost use Rattle.std.specs.Prelude.{All, ◌≡◌, ◌==◌, ◌≤◌, ◌↔◌, [], ◌∷◌, IfErr, IfOk, IsOk, IsOkUnless, IsTrue, List, Some, length, ℕ};
 ghost use Rattle.std.proofs.Common.{rules};
 ghost use Rattle.std.specs.Cmp.Rules.{comparing};
 ghost use Rattle.std.specs.Cmp.Lexicographic.{pointwise};
 ghost use Rattle.std.specs.Ordering.{on};
 ghost use Rattle.assise_names.specs.Name.{is_name};
-ghost use Rattle.assise_names.specs.Path.{Gives, GivesNames, IsProperFront, Spells, is_proper_front, path_of, names_behind, spelling};
+ghost use Rattle.assise_names.specs.Path.{Gives, GivesNames, IsProperFront, Spells, count_of, is_proper_front, path_of, names_behind, spelling};
 ghost use Rattle.assise_names.specs.Text.{path_fault_text};
+ghost use Rattle.assise_names.specs.declared.path.PathFault.{PathFault};
 ghost use Rattle.assise_names.specs.declared.refusal.Refusal.TheVariants.{OutOfMemory};
 
-use crate::name::{Name, copy_names};
+use crate::name::{Name, check, copy_names};
 use crate::refusal::Refusal;
 use std::alloc::{AllocError, AllocFailed, Global};
 use std::error::Error;
@@ -27,7 +28,7 @@ pub enum PathFault {
     NotAbsolute,
     /// Two slashes stand together, or one at the end of a text that is more than a slash.
     EmptyName,
-    /// A name has a NUL, or is `.` or `..`.
+    /// A name has a NUL or, given alone, a slash; or it is `.` or `..`.
     BadName,
     /// A name has more than 255 bytes.
     NameTooLong,
@@ -96,13 +97,25 @@ impl Path {
     /// The path that a text spells: a slash before each name, or one slash alone for the root. The faults are
     /// looked for in this order: [`PathFault::NotAbsolute`]; then the names from the left, each for
     /// [`PathFault::EmptyName`], [`PathFault::NameTooLong`] and [`PathFault::BadName`]; then
-    /// [`PathFault::TooDeep`].
+    /// [`PathFault::TooDeep`]. A text with a fault is answered by it where memory is wanting too, and the root takes
+    /// no memory.
     pub fn parse(alloc: Global, text: &str) -> Result<Path, PathFault>
         ensures first_fault { Gives result (path_of text.now) }
+        ensures faults { (fault : PathFault) → path_of text.now ≡ Err fault → result ≡ Err fault }
+        ensures root { text.now ≡ spelling [] → IsOk result }
         ensures spelled { IfOk result (Spells text.now) }
         ensures complete { (path : List (List ℕ)) → Spells text.now path → IsOkUnless result PathFault.Memory }
     {
         path_of(alloc, text)
+    }
+
+    /// Whether a text spells a path, or its first fault. It takes no memory.
+    pub fn check(text: &str) -> Result<(), PathFault>
+        ensures spells { IsOk result ↔ IsOk (path_of text.now) }
+        ensures first_fault { IfErr result (λ fault. path_of text.now ≡ Err fault) }
+    {
+        behind_slash(text)?;
+        Ok(())
     }
 
     /// The names, the outermost first.
@@ -122,9 +135,10 @@ impl Path {
             && other.names.as_slice().starts_with(self.names.as_slice())
     }
 
-    /// An equal value, or [`Refusal::OutOfMemory`].
+    /// An equal value, or [`Refusal::OutOfMemory`]. The root takes no memory.
     pub fn copy(&self, alloc: Global) -> Result<Path, Refusal>
         ensures equal { IfOk result (λ copied. copied ≡ self.now) }
+        ensures root { length self.now ≡ 0 → IsOk result }
         ensures only_memory { IsOkUnless result OutOfMemory }
     {
         let names = copy_names(alloc, self.names.as_slice())?;
@@ -146,24 +160,56 @@ impl Eq for Path {
     ghost laws = { Prim.search (comparing, rules) };
 }
 
-/// The path that a text spells, or its first fault.
+/// The path that a text spells, or its first fault. The text is looked through before memory is asked for.
 fn path_of(alloc: Global, text: &str) -> Result<Path, PathFault>
     ensures first_fault { Gives result (path_of text.now) }
+    ensures faults { (fault : PathFault) → path_of text.now ≡ Err fault → result ≡ Err fault }
+    ensures root { text.now ≡ spelling [] → IsOk result }
     ensures spelled { IfOk result (Spells text.now) }
+{
+    let rest = behind_slash(text)?;
+    let names = names_of(alloc, rest)?;
+    Ok(Path { names })
+}
+
+/// What stands behind the first slash of a text that spells a path, or the text's first fault.
+fn behind_slash(text: &str) -> Result<&str, PathFault>
+    ensures rest { IfOk result (λ rest. text.now ≡ 47 ∷ rest.now) }
+    ensures names { IfOk result (λ rest. path_of text.now ≡ names_behind rest.now) }
+    ensures spells { IfOk result (λ _. IsOk (path_of text.now)) }
+    ensures first_fault { IfErr result (λ fault. path_of text.now ≡ Err fault) }
 {
     let Some(rest) = text.strip_prefix('/') else {
         return Err(PathFault::NotAbsolute);
     };
-    let names = names_of(alloc, rest)?;
-    if names.len() > MOST_NAMES {
+    if count_names(rest)? > MOST_NAMES {
         return Err(PathFault::TooDeep);
     }
-    Ok(Path { names })
+    Ok(rest)
+}
+
+/// How many names stand between slashes, or the first fault of one. There is none where there is no text.
+fn count_names(text: &str) -> Result<usize, PathFault>
+    ensures { result ≡ count_of (names_behind text.now) }
+{
+    if text.is_empty() {
+        return Ok(0);
+    }
+    let mut count = 0;
+    let mut rest = text;
+    while let Some((piece, more)) = rest.split_once('/') {
+        check(piece)?;
+        count += 1;
+        rest = more;
+    }
+    check(rest)?;
+    Ok(count + 1)
 }
 
 /// The names that stand between slashes, or none where there is no text.
 fn names_of(alloc: Global, text: &str) -> Result<Vec<Name>, PathFault>
     ensures first_fault { GivesNames (λ names. names.items) result (names_behind text.now) }
+    ensures none { length text.now ≡ 0 → IsOk result }
     ensures lawful { IfOk result (λ names. All (λ name. IsTrue (is_name name)) names.items) }
 {
     let mut names = Vec::new(alloc);

@@ -1,5 +1,6 @@
 // What calls answer.
-ghost use Rattle.std.specs.Prelude.{◌≡◌, ◌↔◌, IfOk, IsOkUnless, IsTrue, OnErr, Some};
+ghost use Rattle.std.specs.Prelude.{◌≡◌, ◌≤◌, IfOk, IsOkUnless, OnErr, Some, length};
+ghost use Rattle.std.specs.Fmt.{WritesOnOk};
 ghost use Rattle.assise_names.specs.Reply.{HoldsWhatWasRead};
 ghost use Rattle.assise_names.specs.Text.{error_text, hex, reply_text, spaced};
 ghost use Rattle.assise_names.specs.declared.refusal.Refusal.TheVariants.{OutOfMemory};
@@ -112,6 +113,9 @@ impl Display for Reply {
     }
 }
 
+/// The most bytes whose digits are written at once.
+const PIECE: usize = 256;
+
 /// Two lower-case hexadecimal digits for each byte.
 #[derive(Drop)]
 struct Hex<'a>(&'a [u8]);
@@ -120,12 +124,26 @@ impl Display for Hex<'_> {
     ghost output = { λ digits. Some (hex digits.0.now) };
 
     fn fmt<W: fmt::Write>(&self, f: &mut Formatter<W>) -> fmt::Result {
-        for byte in self.0 {
-            let high = *byte / 16;
-            let low = *byte % 16;
-            write!(f, "{high:x}{low:x}")?;
+        for piece in self.0.chunks(PIECE) {
+            write_digits(f, piece)?;
         }
         Ok(())
+    }
+}
+
+/// Writes the digits of some bytes from a buffer, by one call of the writer.
+fn write_digits<W: fmt::Write>(f: &mut Formatter<W>, bytes: &[u8]) -> fmt::Result
+    requires { length bytes.now ≤ PIECE }
+    ensures { WritesOnOk W.write_str_gives f.old result (hex bytes.now) f.new }
+{
+    let mut buffer = [0u8; 2 * PIECE];
+    let digits = &mut buffer[..2 * bytes.len()];
+    if hex::encode_to_slice(bytes, digits).is_err() {
+        unreachable!();
+    }
+    match str::from_utf8(digits) {
+        Ok(text) => f.write_str(text),
+        Err(_) => unreachable!(),
     }
 }
 

@@ -17,13 +17,17 @@ fn repeated(rt: &HostRuntime, front: &str, piece: &str, count: usize) -> Result<
     Ok(text)
 }
 
-/// The names of these texts.
+/// The list of names that have these texts, which rise.
 fn names(rt: &HostRuntime, texts: &[&str]) -> Result<NameList, Fail> {
     let mut names = Vec::new(rt.alloc());
     for text in texts {
         names.push(Name::parse(rt.alloc(), text)?)?;
     }
-    Ok(NameList::from_vec(names))
+    if NameList::rise(names.as_slice()) {
+        Ok(NameList::from_vec(names))
+    } else {
+        Err(Fail::new("the names don't rise"))
+    }
 }
 
 #[test]
@@ -72,9 +76,44 @@ fn the_first_fault_of_a_text_is_named(rt: HostRuntime) -> Result<(), Fail> {
 #[test]
 fn limits_of_paths_are_taken(rt: HostRuntime) -> Result<(), Fail> {
     let long = repeated(&rt, "/", "a", 255)?;
-    assert_eq!(rt; Path::parse(rt.alloc(), long.as_str())?.names().len(), 1);
     let deep = repeated(&rt, "", "/a", 32)?;
-    assert_eq!(rt; Path::parse(rt.alloc(), deep.as_str())?.names().len(), 32);
+    let most = repeated(&rt, "", long.as_str(), 32)?;
+    for (text, depth) in [(long.as_str(), 1), (deep.as_str(), 32), (most.as_str(), 32)] {
+        let path = Path::parse(rt.alloc(), text)?;
+        assert_eq!(rt; path.names().len(), depth);
+        let printed = format!(in rt.alloc(); "{path}")?;
+        assert_eq!(rt; printed.as_str(), text);
+        let copied = path.copy(rt.alloc())?;
+        assert!(rt; copied == path);
+    }
+    Ok(())
+}
+
+#[test]
+fn names_of_255_bytes_are_taken(rt: HostRuntime) -> Result<(), Fail> {
+    let text = repeated(&rt, "", "a", 255)?;
+    let name = Name::parse(rt.alloc(), text.as_str())?;
+    assert_eq!(rt; name.as_str(), text.as_str());
+    let printed = format!(in rt.alloc(); "{name}")?;
+    assert_eq!(rt; printed.as_str(), text.as_str());
+    assert!(rt; name == name.copy(rt.alloc())?);
+    Ok(())
+}
+
+#[test]
+fn many_bytes_are_printed(rt: HostRuntime) -> Result<(), Fail> {
+    for (count, front) in [
+        (255, "bytes 255 x"),
+        (256, "bytes 256 x"),
+        (257, "bytes 257 x"),
+        (65_536, "bytes 65536 x"),
+    ] {
+        let bytes = vec![in rt.alloc(); 0x5a; count]?;
+        let reply = Reply::Bytes(ByteString::from_vec(bytes));
+        let printed = format!(in rt.alloc(); "{reply}")?;
+        let wanted = repeated(&rt, front, "5a", count)?;
+        assert_eq!(rt; printed.as_str(), wanted.as_str());
+    }
     Ok(())
 }
 
@@ -147,10 +186,7 @@ fn replies_are_printed_by_their_words(rt: HostRuntime) -> Result<(), Fail> {
             "bytes 0 x",
         ),
         (Reply::Bytes(bytes), "bytes 3 x0061ff"),
-        (
-            Reply::Names(NameList::from_vec(Vec::new(rt.alloc()))),
-            "names 0",
-        ),
+        (Reply::Names(names(&rt, &[])?), "names 0"),
         (Reply::Names(names(&rt, &["b", "e"])?), "names 2 b e"),
         (Reply::File(1_048_576), "file 1048576"),
         (Reply::Dir(0), "dir 0"),
@@ -209,9 +245,31 @@ fn a_name_list_is_its_names(rt: HostRuntime) -> Result<(), Fail> {
     let list = names(&rt, &["a", "b"])?;
     assert_eq!(rt; list.as_slice().len(), 2);
     assert!(rt; list == list.copy(rt.alloc())?);
-    for other in [["a", "c"], ["b", "a"]] {
+    for other in [["a", "c"], ["B", "b"]] {
         assert!(rt; list != names(&rt, other.as_slice())?);
     }
     assert!(rt; list != names(&rt, &["a"])?);
+    Ok(())
+}
+
+#[test]
+fn names_rise_by_their_bytes(rt: HostRuntime) -> Result<(), Fail> {
+    let rows: [(&[&str], bool); 8] = [
+        (&[], true),
+        (&["a"], true),
+        (&["a", "a"], false),
+        (&["b", "a"], false),
+        (&["B", "a", "ab", "b"], true),
+        (&["a", "b", "b", "c"], false),
+        (&["z", "~", "\u{e9}"], true),
+        (&["a", "c", "b"], false),
+    ];
+    for (row, (texts, rise)) in rows.iter().enumerate() {
+        let mut names = Vec::new(rt.alloc());
+        for text in *texts {
+            names.push(Name::parse(rt.alloc(), text)?)?;
+        }
+        assert_eq!(rt; NameList::rise(names.as_slice()), *rise, "in row {row}");
+    }
     Ok(())
 }

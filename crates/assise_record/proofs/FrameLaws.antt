@@ -47,13 +47,13 @@ magic_reads = record { takes = magic_takes; again = magic_again }
 
 -- ---- the first number and the count
 
-count_is : (first count : ℕ) → has_count first count ≡ true → HasCount first count
+pub count_is : (first count : ℕ) → has_count first count ≡ true → HasCount first count
 count_is first count e =
     let a = and_parts (nat_lt 0 count) (nat_le count 64 && nat_le (first + count) 18446744073709551615) e in
     let b = and_parts (nat_le count 64) (nat_le (first + count) 18446744073709551615) a.1 in
     record { some = ltb-true 0 count a.0; few = leb-true count 64 b.0; numbers = leb-true (first + count) 18446744073709551615 b.1 }
 
-count_again : (first count : ℕ) → HasCount first count → has_count first count ≡ true
+pub count_again : (first count : ℕ) → HasCount first count → has_count first count ≡ true
 count_again first count h = and_from _ _ (lt-ltb 0 count h.some) (and_from _ _ (le-leb count 64 h.few) (le-leb (first + count) 18446744073709551615 h.numbers))
 
 abbrev numbers_spelling : ℕ × ℕ → List ℕ

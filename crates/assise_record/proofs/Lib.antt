@@ -1,8 +1,11 @@
 pub mod EffectLaws
+pub mod Equality
 pub mod FieldLaws
 pub mod FrameLaws
+pub mod Headers
 pub mod Loop
 pub mod Names
+pub mod Never
 pub mod Outcomes
 pub mod RecordLaws
 pub mod RoomLaws

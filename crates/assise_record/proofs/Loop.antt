@@ -1,7 +1,7 @@
 -- Readings one behind the other, as a loop makes them.
 use Rattle.std.proofs.Common.{◌≡◌, ℕ, zero, suc, ◌-◌, ◌+◌, ◌≤◌, ◌<◌, List, [], ◌∷◌, ◌++◌, length, Result, Ok, Err, refl, sym, ap, ◌∙◌, append_assoc, arith}
 use Rattle.std.proofs.lemmas.List.{append-nil}
-use Rattle.assise_record.specs.Reading.{◌>>=◌, Read, Fails, many_at}
+use Rattle.assise_record.specs.Reading.{◌>>=◌, Read, Fails, many_at, rest_of}
 use Rattle.assise_record.specs.declared.fault.FrameFault.{FrameFault}
 use Rattle.assise_record.specs.declared.fault.FrameFault.TheVariants.{Short, BadMagic, BadVersion, BadTag, BadLength, BadValue, Memory}
 
@@ -72,3 +72,40 @@ many_counted {A} read (suc n) bytes xs rest e =
     let b = bind_ok (many_at read n a.0.1) (λ others. Ok (a.0.0 ∷ others.0, others.1)) (xs, rest) a.2 in
     let made : List A × List ℕ = (a.0.0 ∷ b.0.0, b.0.1) in
     ap (λ (y : List A × List ℕ). length y.0) (sym (ok_is made (xs, rest) b.2)) ∙ ap suc (many_counted read n a.0.1 b.0.0 b.0.1 b.1)
+
+-- ---- the same where what is read is passed over
+
+one_passed : {A : Type 0} (x : A) (others : Read (List A)) → rest_of (others >>= λ y. Ok (x ∷ y.0, y.1)) ≡ rest_of others
+one_passed x (Ok y) = refl
+one_passed x (Err fault) = refl
+
+passed : {A : Type 0} (read : List ℕ → Read A) (n : ℕ) (first : Read A) (after : List ℕ) → rest_of first ≡ Ok after
+    → rest_of (first >>= λ x. many_at read n x.1 >>= λ y. Ok (x.0 ∷ y.0, y.1)) ≡ rest_of (many_at read n after)
+passed {A} read n (Ok x) after e = one_passed x.0 (many_at read n x.1) ∙ ap (λ bytes. rest_of (many_at read n bytes)) (ok_is x.1 after e)
+passed {A} read n (Err fault) after e = absurd cc
+
+failed : {A : Type 0} (read : List ℕ → Read A) (n : ℕ) (first : Read A) (fault : FrameFault) → rest_of first ≡ Err fault
+    → rest_of (first >>= λ x. many_at read n x.1 >>= λ y. Ok (x.0 ∷ y.0, y.1)) ≡ Err fault
+failed {A} read n (Ok x) fault e = absurd cc
+failed {A} read n (Err other) fault e = e
+
+pub skip_goes_on : {A : Type 0} (read : List ℕ → Read A) (count i : ℕ) (bytes after : List ℕ) (total : Result (List ℕ) FrameFault) → i < count → rest_of (read bytes) ≡ Ok after
+    → rest_of (many_at read (count - i) bytes) ≡ total → rest_of (many_at read (count - (i + 1)) after) ≡ total
+unfolding many_at
+skip_goes_on read count i bytes after total lt h so_far =
+    let k : count - i ≡ suc (count - (i + 1)) = omega arith in
+    sym (passed read (count - (i + 1)) (read bytes) after h) ∙ sym (ap (λ n. rest_of (many_at read n bytes)) k) ∙ so_far
+
+pub skip_stops : {A : Type 0} (read : List ℕ → Read A) (fault : FrameFault) (count i : ℕ) (bytes : List ℕ) (total : Result (List ℕ) FrameFault) → i < count → rest_of (read bytes) ≡ Err fault
+    → rest_of (many_at read (count - i) bytes) ≡ total → total ≡ Err fault
+unfolding many_at
+skip_stops read fault count i bytes total lt h so_far =
+    let k : count - i ≡ suc (count - (i + 1)) = omega arith in
+    sym so_far ∙ ap (λ n. rest_of (many_at read n bytes)) k ∙ failed read (count - (i + 1)) (read bytes) fault h
+
+pub skip_is_done : {A : Type 0} (read : List ℕ → Read A) (count i : ℕ) (bytes : List ℕ) (total : Result (List ℕ) FrameFault) → count ≤ i
+    → rest_of (many_at read (count - i) bytes) ≡ total → total ≡ Ok bytes
+unfolding many_at
+skip_is_done read count i bytes total le so_far =
+    let k : count - i ≡ 0 = omega arith in
+    sym so_far ∙ ap (λ n. rest_of (many_at read n bytes)) k

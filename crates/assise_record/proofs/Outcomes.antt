@@ -8,6 +8,7 @@ use Rattle.assise_record.specs.Spelling.{BeginsWith}
 use Rattle.assise_record.specs.Reading.{Fails, Gives, frame_at}
 use Rattle.assise_record.proofs.FieldLaws.{IsBytes}
 use Rattle.assise_record.proofs.FrameLaws.{frame_takes, begins_again}
+use Rattle.assise_record.proofs.Never.{frame_always}
 
 abbrev Outcome : Type 0
 Outcome = Result (LogFrame × ℕ) FrameFault
@@ -44,3 +45,14 @@ is_no_frame bytes (Err fault) given =
       | inl memory ↦ inl memory
       | inr failed ↦ inr (λ f n h. let both : fails_with fault ≡ Ok (f, n) = sym failed ∙ begins_again bytes f n h in absurd cc)
     ]
+
+-- memory runs out only where there is a frame
+pub is_there : (bytes : List ℕ) (r : Outcome) → IsBytes bytes → ((fault : FrameFault) → frame_at bytes ≡ Err fault → r ≡ Err fault)
+    → IfErr r (λ fault. fault ≡ Memory → (f : LogFrame) × ((n : ℕ) × BeginsWith bytes f n))
+is_there bytes (Ok x) fits faults = tt
+is_there bytes (Err fault) fits faults = λ memory. by_read (frame_at bytes) refl memory where
+  by_read : (read : Outcome) → frame_at bytes ≡ read → fault ≡ Memory → (f : LogFrame) × ((n : ℕ) × BeginsWith bytes f n)
+  by_read (Ok x) is memory = (x.0, (x.1, frame_takes bytes x fits is))
+  by_read (Err other) is memory =
+      let same : fails_with fault ≡ fails_with other = faults other is in
+      absurd (frame_always bytes (is ∙ sym same ∙ ap fails_with memory))

@@ -1,3 +1,4 @@
+pub mod Copied
 pub mod FaultText
 pub mod Header
 pub mod LogFrame
@@ -7,3 +8,5 @@ pub mod Reading
 pub mod Room
 pub mod Spelling
 pub mod Touched
+pub mod Views
+pub mod Unfinished

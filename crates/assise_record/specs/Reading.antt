@@ -1,7 +1,7 @@
 -- The first fault of bytes. Fields are read from left to right, each behind the one before it: a reading is a value
 -- and the bytes behind it, or the fault that was found first. Which bytes are frames is said apart from this, in
 -- `Spelling`; that both agree are laws of the crate.
-use Rattle.std.specs.Prelude.{◌≡◌, ◌⊎◌, ◌<◌, ◌≤◌, ℕ, ◌+◌, zero, suc, Bool, nat_lt, nat_le, ◌==◌, ◌&&◌, if◌then◌else◌, List, [], ◌∷◌, length, take, drop, Result, Ok, Err}
+use Rattle.std.specs.Prelude.{◌≡◌, ◌<◌, ◌≤◌, ℕ, ◌+◌, zero, suc, Bool, nat_lt, nat_le, ◌==◌, ◌&&◌, if◌then◌else◌, List, [], ◌∷◌, length, take, drop, Result, Ok, Err}
 use Rattle.byteorder.specs.Endian.{big_number}
 use Rattle.assise_names.specs.Name.{is_name}
 use Rattle.assise_record.specs.Patch.{Patch}
@@ -199,11 +199,28 @@ frame_at bytes = do
   records ← body_at head.0.count body.0
   Ok (record { epoch = head.0.epoch; client = head.0.client; first = head.0.first; records = records }, 29 + head.0.size)
 
--- the bytes end inside the header, each field so far being lawful, or fewer stand behind it than it announces
-abbrev pub IsUnfinished : List ℕ → Type 0
-IsUnfinished bytes = (header_at bytes ≡ Err Short) ⊎ ((h : Header) × (rest : List ℕ) × (header_at bytes ≡ Ok (h, rest)) × (length rest < h.size))
+-- ---- what is left of a reading
 
--- ---- what a function returned, seen by view, is what reading gives, unless memory ran out
+-- the value that is seen of it
+abbrev pub seen : {A B : Type 0} → (A → B) → Result A FrameFault → Result B FrameFault
+seen view (Ok x) = Ok (view x)
+seen view (Err fault) = Err fault
+
+-- what stands behind it
+abbrev pub rest_of : {A : Type 0} → Read A → Result (List ℕ) FrameFault
+rest_of read = seen (λ x. x.1) read
+
+-- that there is one
+abbrev pub checked : {A : Type 0} → Result A FrameFault → Result (Unit {0}) FrameFault
+checked read = seen (λ x. tt) read
+
+-- ---- what a function returned, seen by view, is what reading gives
+
+abbrev pub Exactly : {X Y : Type 0} → (X → Y) → Result X FrameFault → Result Y FrameFault → Type 0
+Exactly view (Ok x) read = read ≡ Ok (view x)
+Exactly view (Err fault) read = read ≡ Err fault
+
+-- ---- the same, unless memory ran out
 
 abbrev pub Fails : {Y : Type 0} → FrameFault → Result Y FrameFault → Type 0
 Fails Memory read = Unit {0}

@@ -2,10 +2,11 @@
 ghost use Rattle.std.specs.Prelude.{◌≡◌, ◌<◌, ◌⊎◌, ℕ, IfOk, IfErr, Ok, Err, length};
 ghost use Rattle.assise_record.specs.LogFrame.{LogFrame};
 ghost use Rattle.assise_record.specs.Spelling.{BeginsWith};
+ghost use Rattle.assise_record.specs.declared.fault.FrameFault.{FrameFault};
 ghost use Rattle.assise_record.specs.declared.fault.FrameFault.TheVariants.{Memory};
-ghost use Rattle.assise_record.specs.Reading.{Gives, HasCount, many_at, record_at, body_at, magic_at, numbers_at, header_at, frame_at};
+ghost use Rattle.assise_record.specs.Reading.{Exactly, Gives, HasCount, checked, many_at, record_at, body_at, magic_at, numbers_at, header_at, frame_at, rest_of};
 
-use crate::effects::effects_at;
+use crate::effects::{effects_at, skip_effects};
 use crate::fault::FrameFault;
 use crate::fields::{slice_at, u8_at, u16_at, u32_at, u64_at};
 use crate::frame::{Frame, MOST_RECORDS};
@@ -54,6 +55,42 @@ fn record_at(alloc: Global, bytes: &[u8]) -> Result<(Record, &[u8]), FrameFault>
     Ok((Record::new(call, effects), rest))
 }
 
+/// What stands behind a record, of which nothing is copied.
+#[tactic(auto, unfolding(crate::specs::Reading::record_at))]
+fn skip_record(bytes: &[u8]) -> Result<&[u8], FrameFault>
+    ensures { Exactly (λ rest. rest.now) result (rest_of (record_at bytes.now)) }
+{
+    let (_, rest) = u64_at(bytes, FrameFault::BadLength)?;
+    let (count, rest) = u8_at(rest, FrameFault::BadLength)?;
+    if count == 0 || usize::from(count) > MOST_EFFECTS {
+        return Err(FrameFault::BadValue);
+    }
+    skip_effects(count, rest)
+}
+
+/// What stands behind so many records, of which nothing is copied.
+fn skip_records(count: u16, bytes: &[u8]) -> Result<&[u8], FrameFault>
+    ensures { Exactly (λ rest. rest.now) result (rest_of (many_at record_at count bytes.now)) }
+{
+    let mut rest = bytes;
+    for _ in 0..count {
+        rest = skip_record(rest)?;
+    }
+    Ok(rest)
+}
+
+/// Looks for the first fault of a body, without a copy of anything in it.
+#[tactic(auto, unfolding(crate::specs::Reading::body_at))]
+fn check_body(count: u16, body: &[u8]) -> Result<(), FrameFault>
+    ensures { Exactly (λ _. tt) result (checked (body_at count body.now)) }
+{
+    let rest = skip_records(count, body)?;
+    if !rest.is_empty() {
+        return Err(FrameFault::BadLength);
+    }
+    Ok(())
+}
+
 /// So many records.
 fn records_at(alloc: Global, count: u16, bytes: &[u8]) -> Result<(Vec<Record>, &[u8]), FrameFault>
     ensures read { Gives (λ x. (x.0.items, x.1.now)) result (many_at record_at count bytes.now) }
@@ -85,7 +122,7 @@ fn body_at(alloc: Global, count: u16, body: &[u8]) -> Result<Vec<Record>, FrameF
 /// The magic bytes and the version.
 #[tactic(auto, unfolding(crate::specs::Reading::magic_at))]
 fn magic_at(bytes: &[u8]) -> Result<((), &[u8]), FrameFault>
-    ensures { Gives (λ x. (tt, x.1.now)) result (magic_at bytes.now) }
+    ensures { Exactly (λ x. (tt, x.1.now)) result (magic_at bytes.now) }
 {
     let (first, rest) = u8_at(bytes, FrameFault::Short)?;
     if first != MAGIC[0] {
@@ -105,7 +142,7 @@ fn magic_at(bytes: &[u8]) -> Result<((), &[u8]), FrameFault>
 /// The first number and the count of records.
 #[tactic(auto, unfolding(crate::specs::Reading::numbers_at))]
 fn numbers_at(bytes: &[u8]) -> Result<((u64, u16), &[u8]), FrameFault>
-    ensures read { Gives (λ x. (x.0, x.1.now)) result (numbers_at bytes.now) }
+    ensures read { Exactly (λ x. (x.0, x.1.now)) result (numbers_at bytes.now) }
     ensures fits { IfOk result (λ x. HasCount x.0.0 x.0.1) }
 {
     let (first, rest) = u64_at(bytes, FrameFault::Short)?;
@@ -118,7 +155,7 @@ fn numbers_at(bytes: &[u8]) -> Result<((u64, u16), &[u8]), FrameFault>
 
 #[tactic(auto, unfolding(crate::specs::Reading::header_at))]
 fn header_at(bytes: &[u8]) -> Result<(Header, &[u8]), FrameFault>
-    ensures read { Gives (λ x. (x.0, x.1.now)) result (header_at bytes.now) }
+    ensures read { Exactly (λ x. (x.0, x.1.now)) result (header_at bytes.now) }
     ensures a_client { IfOk result (λ x. 0 < x.0.client) }
     ensures fits { IfOk result (λ x. HasCount x.0.first x.0.count) }
 {
@@ -141,8 +178,9 @@ fn header_at(bytes: &[u8]) -> Result<(Header, &[u8]), FrameFault>
 }
 
 /// The frame that bytes begin with, and of how many bytes it is: of the bytes behind it none is looked at. Where they
-/// begin with no frame, the fault is the first from left to right; [`FrameFault::Memory`] may stand in place of any
-/// answer. The bytes of a write are copied once, and only once all of them are there.
+/// begin with no frame, the fault is the first from left to right, where memory is wanting too: nothing is copied before
+/// the whole body was looked at. Only in place of a frame [`FrameFault::Memory`] may stand. The bytes of a write are
+/// copied once.
 pub fn decode(alloc: Global, bytes: &[u8]) -> Result<(Frame, usize), FrameFault>
     // What is read is spelled so.
     ensures found { IfOk result (λ x. BeginsWith bytes.now x.0 x.1) }
@@ -150,6 +188,10 @@ pub fn decode(alloc: Global, bytes: &[u8]) -> Result<(Frame, usize), FrameFault>
     ensures only { (f : LogFrame) (n : ℕ) → BeginsWith bytes.now f n → (result ≡ Ok (f, n)) ⊎ (result ≡ Err Memory) }
     // Which fault it is.
     ensures first_fault { IfErr result (λ fault. (fault ≡ Memory) ⊎ (frame_at bytes.now ≡ Err fault)) }
+    // A fault is answered, and not want of memory.
+    ensures faults { (fault : FrameFault) → frame_at bytes.now ≡ Err fault → result ≡ Err fault }
+    // Memory is asked for only where the bytes begin with a frame.
+    ensures memory { IfErr result (λ fault. fault ≡ Memory → (f : LogFrame) × ((n : ℕ) × BeginsWith bytes.now f n)) }
     // With a fault the bytes begin with no frame.
     ensures no_frame { IfErr result (λ fault. (fault ≡ Memory) ⊎ ((f : LogFrame) (n : ℕ) → ¬ (BeginsWith bytes.now f n))) }
 {
@@ -158,11 +200,13 @@ pub fn decode(alloc: Global, bytes: &[u8]) -> Result<(Frame, usize), FrameFault>
 
 #[tactic(auto, unfolding(crate::specs::Reading::frame_at))]
 fn frame_at(alloc: Global, bytes: &[u8]) -> Result<(Frame, usize), FrameFault>
-    ensures { Gives (λ x. x) result (frame_at bytes.now) }
+    ensures read { Gives (λ x. x) result (frame_at bytes.now) }
+    ensures faults { (fault : FrameFault) → frame_at bytes.now ≡ Err fault → result ≡ Err fault }
 {
     let (header, rest) = header_at(bytes)?;
     let size = header.size as usize;
     let (body, _) = slice_at(rest, size, FrameFault::Short)?;
+    check_body(header.count, body)?;
     let records = body_at(alloc, header.count, body)?;
     let frame = Frame::new(header.epoch, header.client, header.first, records);
     Ok((frame, HEADER_BYTES + size))

@@ -1,5 +1,10 @@
 // What a call does to one inode.
-ghost use Rattle.std.specs.Prelude.{◌≡◌, ◌+◌, ◌<◌, ◌≤◌, IfOk, IsOkUnless, length};
+ghost use Rattle.std.specs.Prelude.{◌≡◌, ◌==◌, ◌+◌, ◌<◌, ◌≤◌, IfOk, IsOkUnless, OnErr, length};
+ghost use Rattle.std.proofs.Common.{rules};
+ghost use Rattle.std.specs.Cmp.Rules.{comparing};
+ghost use Rattle.std.specs.Cmp.Lexicographic.{pointwise};
+ghost use Rattle.std.specs.Ordering.{eq_of_both, on};
+ghost use Rattle.assise_record.specs.Copied.{HoldsNameOrBytes};
 ghost use Rattle.assise_record.specs.Patch.{IsPatch};
 ghost use Rattle.assise_record.specs.Touched.{touched_by};
 ghost use Rattle.assise_names.specs.declared.refusal.Refusal.TheVariants.{OutOfMemory};
@@ -72,11 +77,25 @@ impl Extent {
     }
 }
 
+impl PartialEq for Extent {
+    ghost eq = { eq_of_both (on (λ e. e.offset) ◌==◌) (on (λ e. e.bytes) (pointwise ◌==◌)) };
+
+    ghost laws = { Prim.search (comparing, rules) };
+
+    fn eq(&self, other: &Extent) -> bool {
+        self.offset == other.offset && self.bytes() == other.bytes()
+    }
+}
+
+impl Eq for Extent {
+    ghost laws = { Prim.search (comparing, rules) };
+}
+
 /// The most bytes of a file.
 pub const MOST_FILE_BYTES: u32 = 1_048_576;
 
 /// The length of a file in bytes, at most 1,048,576. A contract sees the number.
-#[derive(Clone, Copy, Debug)]
+#[derive(Clone, Copy, Debug, PartialEq, Eq)]
 pub struct FileSize {
     length: u32,
 }
@@ -112,7 +131,7 @@ impl FileSize {
 }
 
 /// What a call does to one inode, which it names by its number.
-#[derive(Debug, Drop)]
+#[derive(Debug, Drop, PartialEq, Eq)]
 pub enum Effect {
     /// The inode is a file without bytes.
     NewFile {
@@ -177,10 +196,12 @@ impl Effect {
         }
     }
 
-    /// An equal value, or [`Refusal::OutOfMemory`]. The bytes of a write are shared, and a name is copied.
+    /// An equal value, or [`Refusal::OutOfMemory`]. The bytes of a write are shared, and a name is copied. Only these
+    /// take memory.
     pub fn copy(&self, alloc: Global) -> Result<Effect, Refusal>
         ensures equal { IfOk result (λ copied. copied ≡ self.now) }
         ensures only_memory { IsOkUnless result OutOfMemory }
+        ensures only_name_or_bytes { OnErr result (HoldsNameOrBytes self.now) }
     {
         match self {
             Effect::NewFile { inode } => Ok(Effect::NewFile { inode: *inode }),

@@ -1,10 +1,15 @@
 // The effects of a record, as they stand in the body of a frame.
-ghost use Rattle.std.specs.Prelude.{◌≡◌, IfOk, length};
-ghost use Rattle.assise_record.specs.Reading.{Gives, many_at, effect_at, fields_at, write_at, set_len_at, link_at, unlink_at};
+ghost use Rattle.std.specs.Prelude.{◌≡◌, IfOk, IsOkUnless, IsTrue, length};
+ghost use Rattle.assise_record.specs.Reading.{Exactly, Gives, many_at, effect_at, fields_at, rest_of, write_at, set_len_at, link_at, unlink_at};
+ghost use Rattle.assise_names.specs.Name.{is_name};
+ghost use Rattle.assise_record.specs.Views.{IsLawful, effect_of};
+ghost use Rattle.assise_record.specs.declared.fault.FrameFault.TheVariants.{Memory};
 
-use crate::effect::{Effect, FileSize};
+use crate::effect::{Effect, Extent, FileSize};
 use crate::fault::FrameFault;
-use crate::fields::{extent_at, name_at, size_at, u8_at, u64_at};
+use crate::fields::{name_at, payload_at, size_at, u8_at, u64_at};
+use assise_names::name::Name;
+use bytes::Bytes;
 use std::alloc::Global;
 
 pub(crate) const NEW_FILE: u8 = 1;
@@ -21,6 +26,94 @@ pub(crate) const UNLINK: u8 = 6;
 
 pub(crate) const FREE: u8 = 7;
 
+/// An effect whose name and bytes lie in the body still.
+#[derive(Clone, Copy)]
+pub(crate) enum EffectView<'a> {
+    NewFile {
+        inode: u64,
+    },
+    NewDir {
+        inode: u64,
+    },
+    Write {
+        inode: u64,
+        offset: u32,
+        bytes: &'a [u8],
+    },
+    SetLen {
+        inode: u64,
+        size: u32,
+    },
+    Link {
+        directory: u64,
+        name: &'a str,
+        inode: u64,
+    },
+    Unlink {
+        directory: u64,
+        name: &'a str,
+    },
+    Free {
+        inode: u64,
+    },
+}
+
+impl EffectView<'_> {
+    /// The effect, with a copy of its name and bytes. The one fault is [`FrameFault::Memory`].
+    fn to_effect(self, alloc: Global) -> Result<Effect, FrameFault>
+        requires { IsLawful self }
+        ensures equal { IfOk result (λ effect. effect ≡ effect_of self.entry) }
+        ensures only_memory { IsOkUnless result Memory }
+    {
+        match self {
+            EffectView::NewFile { inode } => Ok(Effect::NewFile { inode }),
+            EffectView::NewDir { inode } => Ok(Effect::NewDir { inode }),
+            EffectView::Write {
+                inode,
+                offset,
+                bytes,
+            } => {
+                let bytes = Bytes::copy_from_slice(alloc, bytes)?;
+                let extent = Extent::new(offset, bytes);
+                Ok(Effect::Write { inode, extent })
+            }
+            EffectView::SetLen { inode, size } => {
+                let size = FileSize::new(size);
+                Ok(Effect::SetLen { inode, size })
+            }
+            EffectView::Link {
+                directory,
+                name,
+                inode,
+            } => {
+                let name = name_of(alloc, name)?;
+                Ok(Effect::Link {
+                    directory,
+                    name,
+                    inode,
+                })
+            }
+            EffectView::Unlink { directory, name } => {
+                let name = name_of(alloc, name)?;
+                Ok(Effect::Unlink { directory, name })
+            }
+            EffectView::Free { inode } => Ok(Effect::Free { inode }),
+        }
+    }
+}
+
+/// The name that a text is which is one.
+fn name_of(alloc: Global, text: &str) -> Result<Name, FrameFault>
+    requires { IsTrue (is_name text.now) }
+    ensures name { IfOk result (λ name. name ≡ text.now) }
+    ensures only_memory { IsOkUnless result Memory }
+{
+    match Name::of_text(alloc, text) {
+        Ok(name) => Ok(name),
+        Err(_) => Err(FrameFault::Memory),
+    }
+}
+
 /// So many effects, and what stands behind them.
 pub(crate) fn effects_at(
     alloc: Global,
@@ -33,89 +126,117 @@ pub(crate) fn effects_at(
     let mut effects = Vec::new(alloc);
     let mut rest = bytes;
     for _ in 0..count {
-        let (effect, after) = effect_at(alloc, rest)?;
+        let (effect, after) = own_effect_at(alloc, rest)?;
         effects.push(effect)?;
         rest = after;
     }
     Ok((effects, rest))
 }
 
-/// An effect, which begins with its tag.
-#[tactic(auto, unfolding(crate::specs::Reading::effect_at))]
-fn effect_at(alloc: Global, bytes: &[u8]) -> Result<(Effect, &[u8]), FrameFault>
+/// An effect, with a copy of its name and bytes.
+fn own_effect_at(alloc: Global, bytes: &[u8]) -> Result<(Effect, &[u8]), FrameFault>
     ensures { Gives (λ x. (x.0, x.1.now)) result (effect_at bytes.now) }
 {
+    let (view, rest) = effect_at(bytes)?;
+    Ok((view.to_effect(alloc)?, rest))
+}
+
+/// What stands behind so many effects, of which none is copied.
+pub(crate) fn skip_effects(count: u8, bytes: &[u8]) -> Result<&[u8], FrameFault>
+    ensures { Exactly (λ rest. rest.now) result (rest_of (many_at effect_at count bytes.now)) }
+{
+    let mut rest = bytes;
+    for _ in 0..count {
+        let (_, after) = effect_at(rest)?;
+        rest = after;
+    }
+    Ok(rest)
+}
+
+/// An effect, which begins with its tag.
+#[tactic(auto, unfolding(crate::specs::Reading::effect_at))]
+fn effect_at(bytes: &[u8]) -> Result<(EffectView<'_>, &[u8]), FrameFault>
+    ensures read { Exactly (λ x. (effect_of x.0, x.1.now)) result (effect_at bytes.now) }
+    ensures lawful { IfOk result (λ x. IsLawful x.0) }
+{
     let (tag, rest) = u8_at(bytes, FrameFault::BadLength)?;
-    fields_at(alloc, tag, rest)
+    fields_at(tag, rest)
 }
 
 /// The effect whose fields stand behind a tag.
 #[tactic(auto, unfolding(crate::specs::Reading::fields_at, crate::specs::Reading::new_file_at, crate::specs::Reading::new_dir_at, crate::specs::Reading::free_at))]
-fn fields_at(alloc: Global, tag: u8, bytes: &[u8]) -> Result<(Effect, &[u8]), FrameFault>
-    ensures { Gives (λ x. (x.0, x.1.now)) result (fields_at tag bytes.now) }
+fn fields_at(tag: u8, bytes: &[u8]) -> Result<(EffectView<'_>, &[u8]), FrameFault>
+    ensures read { Exactly (λ x. (effect_of x.0, x.1.now)) result (fields_at tag bytes.now) }
+    ensures lawful { IfOk result (λ x. IsLawful x.0) }
 {
     match tag {
         NEW_FILE => {
             let (inode, rest) = u64_at(bytes, FrameFault::BadLength)?;
-            Ok((Effect::NewFile { inode }, rest))
+            Ok((EffectView::NewFile { inode }, rest))
         }
         NEW_DIR => {
             let (inode, rest) = u64_at(bytes, FrameFault::BadLength)?;
-            Ok((Effect::NewDir { inode }, rest))
+            Ok((EffectView::NewDir { inode }, rest))
         }
-        WRITE => write_at(alloc, bytes),
+        WRITE => write_at(bytes),
         SET_LEN => set_len_at(bytes),
-        LINK => link_at(alloc, bytes),
-        UNLINK => unlink_at(alloc, bytes),
+        LINK => link_at(bytes),
+        UNLINK => unlink_at(bytes),
         FREE => {
             let (inode, rest) = u64_at(bytes, FrameFault::BadLength)?;
-            Ok((Effect::Free { inode }, rest))
+            Ok((EffectView::Free { inode }, rest))
         }
         _ => Err(FrameFault::BadTag),
     }
 }
 
 #[tactic(auto, unfolding(crate::specs::Reading::write_at))]
-fn write_at(alloc: Global, bytes: &[u8]) -> Result<(Effect, &[u8]), FrameFault>
-    ensures { Gives (λ x. (x.0, x.1.now)) result (write_at bytes.now) }
+fn write_at(bytes: &[u8]) -> Result<(EffectView<'_>, &[u8]), FrameFault>
+    ensures read { Exactly (λ x. (effect_of x.0, x.1.now)) result (write_at bytes.now) }
+    ensures lawful { IfOk result (λ x. IsLawful x.0) }
 {
     let (inode, rest) = u64_at(bytes, FrameFault::BadLength)?;
-    let (extent, rest) = extent_at(alloc, rest)?;
-    Ok((Effect::Write { inode, extent }, rest))
+    let ((offset, bytes), rest) = payload_at(rest)?;
+    let view = EffectView::Write {
+        inode,
+        offset,
+        bytes,
+    };
+    Ok((view, rest))
 }
 
 #[tactic(auto, unfolding(crate::specs::Reading::set_len_at))]
-fn set_len_at(bytes: &[u8]) -> Result<(Effect, &[u8]), FrameFault>
-    ensures { Gives (λ x. (x.0, x.1.now)) result (set_len_at bytes.now) }
+fn set_len_at(bytes: &[u8]) -> Result<(EffectView<'_>, &[u8]), FrameFault>
+    ensures read { Exactly (λ x. (effect_of x.0, x.1.now)) result (set_len_at bytes.now) }
+    ensures lawful { IfOk result (λ x. IsLawful x.0) }
 {
     let (inode, rest) = u64_at(bytes, FrameFault::BadLength)?;
     let (size, rest) = size_at(rest)?;
-    let size = FileSize::new(size);
-    Ok((Effect::SetLen { inode, size }, rest))
+    Ok((EffectView::SetLen { inode, size }, rest))
 }
 
 #[tactic(auto, unfolding(crate::specs::Reading::link_at))]
-fn link_at(alloc: Global, bytes: &[u8]) -> Result<(Effect, &[u8]), FrameFault>
-    ensures { Gives (λ x. (x.0, x.1.now)) result (link_at bytes.now) }
+fn link_at(bytes: &[u8]) -> Result<(EffectView<'_>, &[u8]), FrameFault>
+    ensures read { Exactly (λ x. (effect_of x.0, x.1.now)) result (link_at bytes.now) }
+    ensures lawful { IfOk result (λ x. IsLawful x.0) }
 {
     let (directory, rest) = u64_at(bytes, FrameFault::BadLength)?;
-    let (name, rest) = name_at(alloc, rest)?;
+    let (name, rest) = name_at(rest)?;
     let (inode, rest) = u64_at(rest, FrameFault::BadLength)?;
-    Ok((
-        Effect::Link {
-            directory,
-            name,
-            inode,
-        },
-        rest,
-    ))
+    let view = EffectView::Link {
+        directory,
+        name,
+        inode,
+    };
+    Ok((view, rest))
 }
 
 #[tactic(auto, unfolding(crate::specs::Reading::unlink_at))]
-fn unlink_at(alloc: Global, bytes: &[u8]) -> Result<(Effect, &[u8]), FrameFault>
-    ensures { Gives (λ x. (x.0, x.1.now)) result (unlink_at bytes.now) }
+fn unlink_at(bytes: &[u8]) -> Result<(EffectView<'_>, &[u8]), FrameFault>
+    ensures read { Exactly (λ x. (effect_of x.0, x.1.now)) result (unlink_at bytes.now) }
+    ensures lawful { IfOk result (λ x. IsLawful x.0) }
 {
     let (directory, rest) = u64_at(bytes, FrameFault::BadLength)?;
-    let (name, rest) = name_at(alloc, rest)?;
-    Ok((Effect::Unlink { directory, name }, rest))
+    let (name, rest) = name_at(rest)?;
+    Ok((EffectView::Unlink { directory, name }, rest))
 }

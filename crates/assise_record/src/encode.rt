@@ -1,5 +1,5 @@
 // The bytes of frames.
-ghost use Rattle.std.specs.Prelude.{◌≡◌, ◌+◌, ◌≤◌, ◌++◌, ◌∷◌, [], IsOk, IsOkUnless, IsTrue, OnErr, OnOk, flat_map};
+ghost use Rattle.std.specs.Prelude.{◌≡◌, ◌+◌, ◌≤◌, ◌++◌, ◌∷◌, [], IsOk, IsOkUnless, IsTrue, OnErr, OnOk, flat_map, vec_capacity};
 ghost use Rattle.std.specs.List.{AllByRecursion};
 ghost use Rattle.byteorder.specs.Endian.{big_bytes};
 ghost use Rattle.assise_names.specs.declared.refusal.Refusal.TheVariants.{OutOfMemory};
@@ -25,6 +25,7 @@ pub fn encode(frame: &Frame, out: &mut Vec<u8>) -> Result<(), Refusal>
     ensures ok { OnOk result (out.new.items ≡ out.old.items ++ spelling frame.now) }
     ensures spelled { OnOk result (Spells (spelling frame.now) frame.now) }
     ensures err { OnErr result (out.new.items ≡ out.old.items) }
+    ensures room { OnErr result (vec_capacity out.new ≡ vec_capacity out.old) }
     ensures fits { HasRoom out.old (spelling frame.now) → IsOk result }
     ensures only_memory { IsOkUnless result OutOfMemory }
 {

@@ -1,5 +1,11 @@
 // The effects of one call.
-ghost use Rattle.std.specs.Prelude.{◌≡◌, ◌<◌, ◌≤◌, IfOk, IsOkUnless, length};
+ghost use Rattle.std.specs.Prelude.{◌≡◌, ◌==◌, ◌<◌, ◌≤◌, IfOk, IsOkUnless, length};
+ghost use Rattle.std.proofs.Common.{rules};
+ghost use Rattle.std.specs.Cmp.Rules.{comparing};
+ghost use Rattle.std.specs.Cmp.Lexicographic.{pointwise};
+ghost use Rattle.std.specs.Ordering.{eq_of_both, on};
+ghost use Rattle.assise_record.specs.contracts.effect.EffectPartialEq.TheImpl.{eq-value};
+ghost use Rattle.assise_record.specs.contracts.effect.EffectEq.TheImpl.Laws.{laws-law};
 ghost use Rattle.assise_names.specs.declared.refusal.Refusal.TheVariants.{OutOfMemory};
 
 use crate::effect::Effect;
@@ -67,6 +73,20 @@ impl Record {
             effects,
         })
     }
+}
+
+impl PartialEq for Record {
+    ghost eq = { eq_of_both (on (λ r. r.call) ◌==◌) (on (λ r. r.effects) (pointwise eq-value.it)) };
+
+    ghost laws = { Prim.search (comparing, laws-law, rules) };
+
+    fn eq(&self, other: &Record) -> bool {
+        self.call == other.call && self.effects() == other.effects()
+    }
+}
+
+impl Eq for Record {
+    ghost laws = { Prim.search (comparing, laws-law, rules) };
 }
 
 /// Equal effects, in order.

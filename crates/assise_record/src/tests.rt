@@ -127,12 +127,19 @@ fn a_created_file_is_66_bytes(rt: HostRuntime) -> Result<(), Fail> {
     Ok(())
 }
 
+// By the clauses it is so whatever memory there is: a cut frame is Short, and a fault is answered where memory is
+// wanting. So no memory is taken for bytes that aren't there.
 #[test]
-fn each_front_is_short(rt: HostRuntime) {
-    for count in 0..CREATE_F.len() {
-        let found = decode(rt.alloc(), &CREATE_F[..count]);
-        assert!(rt; matches!(found, Err(FrameFault::Short)), "at {count}");
+fn each_front_is_short(rt: HostRuntime) -> Result<(), Fail> {
+    let full = full_frame(&rt, 64, &FREE_9[9..])?;
+    for frame in [CREATE_F.as_slice(), full.as_slice()] {
+        for count in 0..frame.len() {
+            let found = decode(rt.alloc(), &frame[..count]);
+            assert!(rt; matches!(found, Err(FrameFault::Short)), "at {count}");
+        }
+        assert!(rt; decode(rt.alloc(), frame).is_ok());
     }
+    Ok(())
 }
 
 /// The 66 bytes with one of them changed.
@@ -366,16 +373,55 @@ fn a_fault_in_the_second_record_is_found(rt: HostRuntime) -> Result<(), Fail> {
     Ok(())
 }
 
-#[test]
-fn a_frame_has_64_records(rt: HostRuntime) -> Result<(), Fail> {
+/// A frame of so many records of call 7 that have this effect four times each.
+fn full_frame(rt: &HostRuntime, count: u8, effect: &[u8]) -> Result<Vec<u8>, Fail> {
     let mut body = Vec::new(rt.alloc());
-    let mut words = String::from_str(rt.alloc(), "1 1 0")?;
-    for _ in 0..64 {
-        body.extend_from_slice(&FREE_9)?;
-        words.push_str("; 7, free 9")?;
+    for _ in 0..count {
+        body.extend_from_slice(&[0, 0, 0, 0, 0, 0, 0, 7, 4])?;
+        for _ in 0..4 {
+            body.extend_from_slice(effect)?;
+        }
     }
-    let bytes = framed(&rt, 64, body.as_slice())?;
-    assert!(rt; spells(&rt, bytes.as_slice(), words.as_str())?);
+    framed(rt, count, body.as_slice())
+}
+
+/// The bytes of an effect that ends with so many `x`.
+fn long_effect(rt: &HostRuntime, front: &[u8], count: usize) -> Result<Vec<u8>, Fail> {
+    let mut effect = Vec::from_slice(rt.alloc(), front)?;
+    for _ in 0..count {
+        effect.push(0x78)?;
+    }
+    Ok(effect)
+}
+
+#[test]
+fn full_frames_are_read_and_spelled(rt: HostRuntime) -> Result<(), Fail> {
+    for (records, front, count, size) in [
+        (64, b"\x07\0\0\0\0\0\0\0\x09".as_slice(), 0, 2_909),
+        (64, b"\x06\0\0\0\0\0\0\0\x01\xff".as_slice(), 255, 68_445),
+        (
+            1,
+            b"\x03\0\0\0\0\0\0\0\x09\0\x0f\0\0\0\x01\0\0".as_slice(),
+            65_536,
+            262_250,
+        ),
+    ] {
+        let effect = long_effect(&rt, front, count)?;
+        let bytes = full_frame(&rt, records, effect.as_slice())?;
+        let (frame, length) = decode(rt.alloc(), bytes.as_slice())?;
+        assert_eq!(rt; length, size);
+        assert_eq!(rt; frame.records().len(), usize::from(records), "at {size}");
+        for record in frame.records() {
+            assert_eq!(rt; record.effects().len(), 4, "at {size}");
+        }
+        // Into no room it grows once, by what the frame has, and into room enough not at all.
+        for room in [0, size] {
+            let mut out = Vec::with_capacity(rt.alloc(), room)?;
+            encode(&frame, &mut out)?;
+            assert_eq!(rt; out.capacity(), size, "from {room}");
+            assert!(rt; out.as_slice() == bytes.as_slice(), "at {size}");
+        }
+    }
     Ok(())
 }
 
@@ -407,6 +453,19 @@ fn a_copy_is_alike(rt: HostRuntime) -> Result<(), Fail> {
             assert_eq!(rt; extent.bytes(), b"hi".as_slice());
         }
         _ => assert!(rt; false, "no write"),
+    }
+    Ok(())
+}
+
+#[test]
+fn an_effect_equals_its_copy_alone(rt: HostRuntime) -> Result<(), Fail> {
+    let record = four_effects(&rt)?;
+    let copied = record.copy(rt.alloc())?;
+    assert!(rt; record == copied);
+    for (i, left) in record.effects().iter().enumerate() {
+        for (j, right) in copied.effects().iter().enumerate() {
+            assert_eq!(rt; left == right, i == j, "at {i} and {j}");
+        }
     }
     Ok(())
 }

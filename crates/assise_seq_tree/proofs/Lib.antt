@@ -18,3 +18,4 @@ pub mod Checks
 pub mod Receiving
 pub mod Renamed
 pub mod CallLimits
+pub mod CallOrder

@@ -1,6 +1,6 @@
 -- One step of each walk.
 use Rattle.std.proofs.lemmas.Bool.Decides.{nat_tests}
-use Rattle.std.proofs.Common.{◌==◌, Bool, true, false, ◌≡◌, ℕ, ◌-◌, ◌≤◌, ◌<◌, List, [], ◌∷◌, length, take, drop, get_or, Option, Some, None, Result, Ok, Err, BTreeMap, Bor, MutBor, MatchResult, refl, ap, sym, ◌∙◌, arith}
+use Rattle.std.proofs.Common.{◌==◌, Bool, true, false, ◌≡◌, ℕ, ◌-◌, ◌≤◌, ◌<◌, List, [], ◌∷◌, length, take, drop, get_or, Option, Some, None, Result, Ok, Err, IsErr, OnErr, BTreeMap, Bor, MutBor, MatchResult, refl, ap, sym, ◌∙◌, arith}
 use Rattle.std.specs.Option.{option_copied, option_map_or}
 use Rattle.std.specs.BTreeMap.{get_by, is_at}
 use Rattle.assise_names.specs.declared.reply.TreeError.{TreeError}
@@ -99,6 +99,11 @@ at_below t names es name p x e is h = rw (e, is, h)
 -- nothing is claimed where nothing stands at the path
 pub no_tree : {P : Type 0} (r : Result Tree TreeError) (e : TreeError) (x : Tree) → r ≡ Err e → r ≡ Ok x → P
 no_tree r e x a b = cc
+
+-- a call that may fail where nothing stands
+pub fails_at_none : {T E : Type 0} (r : Result T E) (there : Result Tree TreeError) (e : TreeError) → there ≡ Err e → OnErr r (IsErr there)
+fails_at_none (Ok x) there e h = tt
+fails_at_none (Err y) there e h = rw h refl
 
 pub same_tree : (r : Result Tree TreeError) (x y : Tree) → r ≡ Ok x → r ≡ Ok y → x ≡ y
 same_tree r x y a b = cc

@@ -4,4 +4,5 @@ pub mod Size
 pub mod Code
 pub mod Contents
 pub mod Answer
+pub mod Memory
 pub mod Runs

@@ -1,11 +1,14 @@
 // What each call answers.
-ghost use Rattle.std.specs.Prelude.{◌≡◌, IfOk, IsOkUnless, MatchResult, OnErr};
+ghost use Rattle.std.specs.Prelude.{◌≡◌, ◌+◌, ◌<◌, IfOk, IsOk, IsOkUnless, MatchResult, OnErr, length};
 ghost use Rattle.assise_names.specs.Reply.{HoldsWhatWasRead};
 ghost use Rattle.assise_names.specs.declared.refusal.Refusal.TheVariants.{OutOfMemory};
+ghost use Rattle.assise_names.specs.declared.reply.Reply.TheVariants.{Error};
+ghost use Rattle.assise_names.specs.declared.reply.TreeError.{TreeError};
 ghost use Rattle.assise_seq_tree.specs.Answer.{answer, create_answer, entries_at, file_at, list_answer, may_rmdir, may_unlink, mkdir_answer, read_answer, rmdir_answer, room_at, room_for, stat_answer, truncate_answer, unlink_answer, vacant, write_answer};
+ghost use Rattle.assise_seq_tree.specs.Memory.{AsksForMemory, size_at};
 ghost use Rattle.assise_seq_tree.specs.View.{entries_of};
 
-use crate::contents::{MOST_FILE_BYTES, bytes_from, is_within};
+use crate::contents::{MOST_FILE_BYTES, bytes_from, copied, is_within};
 use crate::renaming::rename;
 use crate::tree::Tree;
 use assise_names::byte_string::ByteString;
@@ -31,16 +34,17 @@ pub const MOST_ENTRIES: usize = 4096;
 ///   [`TreeError::DirFull`].
 /// - [`Op::Mkdir`]: as [`Op::Create`].
 /// - [`Op::Read`]: the walk; a directory is [`TreeError::IsDir`]. At or past the end there are no bytes.
-/// - [`Op::Write`]: the walk; a directory is [`TreeError::IsDir`]; where the bytes would end past 1,048,576 it is
-///   [`TreeError::TooBig`]. A gap before the bytes is filled with zeros. Without bytes nothing is written.
-/// - [`Op::Truncate`]: the walk; a directory is [`TreeError::IsDir`]; more than 1,048,576 bytes are
+/// - [`Op::Write`]: the walk; a directory is [`TreeError::IsDir`]; where the offset plus the count of the bytes is over
+///   1,048,576, without bytes too, it is [`TreeError::TooBig`]. A gap before the bytes is filled with zeros. Without
+///   bytes nothing is written.
+/// - [`Op::Truncate`]: the walk; a directory is [`TreeError::IsDir`]; a size over 1,048,576 is
 ///   [`TreeError::TooBig`]. A file that grows is filled with zeros.
-/// - [`Op::Rename`]: the root, as either path, is [`TreeError::Invalid`], and so is a move of a directory into itself; the
-///   walk of the path; the walk to the other's parent, which has to be a directory ([`TreeError::NotDir`]). Where both
-///   paths are the same, it is done. What stands at the other path is replaced: a directory in the way of a file is
-///   [`TreeError::IsDir`], a file in the way of a directory [`TreeError::NotDir`], a directory with entries
-///   [`TreeError::NotEmpty`]. Where nothing stands there, another directory of 4,096 entries is
-///   [`TreeError::DirFull`].
+/// - [`Op::Rename`]: the root, as either path, is [`TreeError::Invalid`], and so is a move of a path to one below it,
+///   whatever stands there; the walk of the path; the walk to the other's parent, which has to be a directory
+///   ([`TreeError::NotDir`]). Where both paths are the same, it is done. What stands at the other path is replaced: a
+///   directory in the way of a file is [`TreeError::IsDir`], a file in the way of a directory [`TreeError::NotDir`], a
+///   directory with entries in the way of another [`TreeError::NotEmpty`]. Where nothing stands there, another directory
+///   of 4,096 entries is [`TreeError::DirFull`].
 /// - [`Op::Unlink`]: the root is [`TreeError::IsDir`]; the walk; a directory is [`TreeError::IsDir`].
 /// - [`Op::Rmdir`]: the root is [`TreeError::Invalid`]; the walk; a file is [`TreeError::NotDir`]; a directory with
 ///   entries is [`TreeError::NotEmpty`].
@@ -48,11 +52,15 @@ pub const MOST_ENTRIES: usize = 4096;
 /// - [`Op::Stat`]: the walk.
 /// - [`Op::Fsync`]: no check.
 ///
-/// The one refusal is [`Refusal::OutOfMemory`], and it leaves the tree as it was.
+/// The one refusal is [`Refusal::OutOfMemory`], and it leaves the tree as it was. An error is answered without memory.
+/// Of the calls that are done, those alone ask for memory that make an entry where there was none, make a file longer,
+/// or read names or at least a byte.
 pub fn answer(alloc: Global, tree: &mut Tree, op: &Op) -> Result<Reply, Refusal>
     ensures ok { IfOk result (λ reply. (reply, tree.new) ≡ answer tree.old op.now) }
     ensures reads_change_nothing { IfOk result (λ reply. HoldsWhatWasRead reply → tree.new ≡ tree.old) }
     ensures err { OnErr result (tree.new ≡ tree.old) }
+    ensures errors { (error : TreeError) → (answer tree.old op.now).0 ≡ Error error → IsOk result }
+    ensures asked { OnErr result (AsksForMemory tree.old op.now) }
     ensures only_memory { IsOkUnless result OutOfMemory }
 {
     match op {
@@ -80,6 +88,7 @@ pub fn answer(alloc: Global, tree: &mut Tree, op: &Op) -> Result<Reply, Refusal>
 fn create(alloc: Global, tree: &mut Tree, names: &[Name]) -> Result<Reply, Refusal>
     ensures ok { IfOk result (λ reply. (reply, tree.new) ≡ create_answer tree.old names.now) }
     ensures err { OnErr result (tree.new ≡ tree.old) }
+    ensures errors { (error : TreeError) → (create_answer tree.old names.now).0 ≡ Error error → IsOk result }
     ensures only_memory { IsOkUnless result OutOfMemory }
 {
     if let Err(error) = room_at(tree, names) {
@@ -93,6 +102,7 @@ fn create(alloc: Global, tree: &mut Tree, names: &[Name]) -> Result<Reply, Refus
 fn mkdir(alloc: Global, tree: &mut Tree, names: &[Name]) -> Result<Reply, Refusal>
     ensures ok { IfOk result (λ reply. (reply, tree.new) ≡ mkdir_answer tree.old names.now) }
     ensures err { OnErr result (tree.new ≡ tree.old) }
+    ensures errors { (error : TreeError) → (mkdir_answer tree.old names.now).0 ≡ Error error → IsOk result }
     ensures only_memory { IsOkUnless result OutOfMemory }
 {
     if let Err(error) = room_at(tree, names) {
@@ -111,12 +121,14 @@ fn read(
     length: u64,
 ) -> Result<Reply, Refusal>
     ensures ok { IfOk result (λ reply. (reply, tree.now) ≡ read_answer tree.now names.now offset length) }
+    ensures errors { (error : TreeError) → (read_answer tree.now names.now offset length).0 ≡ Error error → IsOk result }
+    ensures asked { OnErr result ((0 < length) × (offset < size_at tree.now names.now)) }
     ensures only_memory { IsOkUnless result OutOfMemory }
 {
     match file_at(tree, names) {
         Ok(bytes) => {
-            let copied = Vec::from_slice(alloc, bytes_from(bytes, offset, length))?;
-            Ok(Reply::Bytes(ByteString::from_vec(copied)))
+            let read = copied(alloc, bytes_from(bytes, offset, length))?;
+            Ok(Reply::Bytes(ByteString::from_vec(read)))
         }
         Err(error) => Ok(Reply::Error(error)),
     }
@@ -132,6 +144,8 @@ fn write(
 ) -> Result<Reply, Refusal>
     ensures ok { IfOk result (λ reply. (reply, tree.new) ≡ write_answer tree.old names.now offset new.now) }
     ensures err { OnErr result (tree.new ≡ tree.old) }
+    ensures errors { (error : TreeError) → (write_answer tree.old names.now offset new.now).0 ≡ Error error → IsOk result }
+    ensures asked { OnErr result ((0 < length new.now) × (size_at tree.old names.now < offset + length new.now)) }
     ensures only_memory { IsOkUnless result OutOfMemory }
 {
     if let Err(error) = file_at(tree, names) {
@@ -151,6 +165,8 @@ fn write(
 fn truncate(alloc: Global, tree: &mut Tree, names: &[Name], size: u64) -> Result<Reply, Refusal>
     ensures ok { IfOk result (λ reply. (reply, tree.new) ≡ truncate_answer tree.old names.now size) }
     ensures err { OnErr result (tree.new ≡ tree.old) }
+    ensures errors { (error : TreeError) → (truncate_answer tree.old names.now size).0 ≡ Error error → IsOk result }
+    ensures asked { OnErr result (size_at tree.old names.now < size) }
     ensures only_memory { IsOkUnless result OutOfMemory }
 {
     if let Err(error) = file_at(tree, names) {
@@ -192,6 +208,7 @@ fn rmdir(tree: &mut Tree, names: &[Name]) -> Reply
 /// Lists the names of a directory's entries.
 fn list(alloc: Global, tree: &Tree, names: &[Name]) -> Result<Reply, Refusal>
     ensures ok { IfOk result (λ reply. (reply, tree.now) ≡ list_answer tree.now names.now) }
+    ensures errors { (error : TreeError) → (list_answer tree.now names.now).0 ≡ Error error → IsOk result }
     ensures only_memory { IsOkUnless result OutOfMemory }
 {
     match entries_at(tree, names) {

@@ -11,6 +11,7 @@ ghost use Rattle.assise_names.specs.declared.reply.Reply.TheVariants.{Bytes, Don
 ghost use Rattle.assise_names.specs.declared.reply.TreeError.{TreeError};
 ghost use Rattle.assise_names.specs.declared.reply.TreeError.TheVariants.{NoEnt};
 ghost use Rattle.assise_seq_tree.specs.Answer.{IsApartFrom, answer, parent_of};
+ghost use Rattle.assise_seq_tree.specs.Runs.{tree_after_calls};
 ghost use Rattle.assise_seq_tree.specs.Tree.{Entries, IsOrdered, IsWithinLimits, LieApart, Tree, at, dir, opening, put, without};
 
 /// What is put at a path stands there, where its parent is a directory, and the last that is put there stays.
@@ -103,4 +104,12 @@ pub fn a_call_changes_no_more_than_it_names()
 pub fn limits_hold()
     ensures first { IsWithinLimits opening }
     ensures kept { (t u : Tree) (op : Op) (reply : Reply) → answer t op ≡ (reply, u) → IsWithinLimits t → IsWithinLimits u }
+{}
+
+/// The names of each directory of the opening tree rise, each call leaves them so, and so they do after any calls. What
+/// is said of ordered trees is said of each tree that calls make.
+pub fn names_rise_in_each_directory()
+    ensures first { IsOrdered opening }
+    ensures kept { (t : Tree) (op : Op) → IsOrdered t → IsOrdered (answer t op).1 }
+    ensures after_calls { (ops : List Op) → IsOrdered (tree_after_calls opening ops) }
 {}

@@ -1,8 +1,10 @@
 // Moves of what stands at a path to another.
-ghost use Rattle.std.specs.Prelude.{◌≡◌, IfOk, IsOkUnless, OnErr};
+ghost use Rattle.std.specs.Prelude.{◌≡◌, IfOk, IsErr, IsOk, IsOkUnless, OnErr};
 ghost use Rattle.assise_names.specs.declared.refusal.Refusal.TheVariants.{OutOfMemory};
+ghost use Rattle.assise_names.specs.declared.reply.Reply.TheVariants.{Error};
+ghost use Rattle.assise_names.specs.declared.reply.TreeError.{TreeError};
 ghost use Rattle.assise_seq_tree.specs.Answer.{may_receive, may_rename, rename_answer};
-ghost use Rattle.assise_seq_tree.specs.Tree.{find};
+ghost use Rattle.assise_seq_tree.specs.Tree.{at, find};
 ghost use Rattle.assise_seq_tree.specs.View.{entries_of};
 
 use crate::answer::{MOST_ENTRIES, entries_at};
@@ -23,6 +25,8 @@ pub(crate) fn rename(
 ) -> Result<Reply, Refusal>
     ensures ok { IfOk result (λ reply. (reply, tree.new) ≡ rename_answer tree.old from.now to.now) }
     ensures err { OnErr result (tree.new ≡ tree.old) }
+    ensures errors { (error : TreeError) → (rename_answer tree.old from.now to.now).0 ≡ Error error → IsOk result }
+    ensures asked { OnErr result (IsErr (at tree.old to.now)) }
     ensures only_memory { IsOkUnless result OutOfMemory }
 {
     if let Err(error) = may_rename(tree, from, to) {

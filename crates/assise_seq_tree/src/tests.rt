@@ -68,7 +68,11 @@ fn names_of(alloc: Global, texts: &[&str]) -> Result<NameList, Fail> {
     for text in texts {
         names.push(Name::parse(alloc, text)?)?;
     }
-    Ok(NameList::from_vec(names))
+    if NameList::rise(names.as_slice()) {
+        Ok(NameList::from_vec(names))
+    } else {
+        Err(Fail::new("the names don't rise"))
+    }
 }
 
 fn reply_of(alloc: Global, answer: Answer<'_>) -> Result<Reply, Fail> {
@@ -205,6 +209,33 @@ fn a_directory_has_at_most_4096_entries(rt: HostRuntime) -> Result<(), Fail> {
         (Call::Unlink("/7"), Answer::Done),
         (Call::Mkdir("/4096"), Answer::Done),
         (Call::Stat("/"), Answer::Dir(4096)),
+    ];
+    run(rt.alloc(), &rt, &mut tree, calls.as_slice())
+}
+
+/// A path of 32 names, and 65,536 bytes that are written and read there at once.
+#[test]
+fn the_longest_path_and_the_most_bytes_of_a_call(rt: HostRuntime) -> Result<(), Fail> {
+    let mut tree = Tree::new(rt.alloc());
+    let mut path = String::new(rt.alloc());
+    for _ in 0..31 {
+        path.push_str("/d")?;
+        let call = [(Call::Mkdir(path.as_str()), Answer::Done)];
+        run(rt.alloc(), &rt, &mut tree, call.as_slice())?;
+    }
+    path.push_str("/f")?;
+    let bytes = Vec::from_elem(rt.alloc(), b'z', 65_536)?;
+    let calls = [
+        (Call::Create(path.as_str()), Answer::Done),
+        (
+            Call::Write(path.as_str(), 0, bytes.as_slice()),
+            Answer::Done,
+        ),
+        (
+            Call::Read(path.as_str(), 0, 65_536),
+            Answer::Bytes(bytes.as_slice()),
+        ),
+        (Call::Stat(path.as_str()), Answer::File(65_536)),
     ];
     run(rt.alloc(), &rt, &mut tree, calls.as_slice())
 }

@@ -1,5 +1,5 @@
 // A tree of files and directories, and the walks along a path.
-ghost use Rattle.std.specs.Prelude.{◌≡◌, ◌+◌, ◌^◌, ◌<◌, IsOkUnless, List, MatchResult, OnErr, OnOk, [], length, ℕ};
+ghost use Rattle.std.specs.Prelude.{◌≡◌, ◌+◌, ◌^◌, ◌<◌, IsErr, IsOkUnless, List, MatchResult, OnErr, OnOk, [], length, ℕ};
 ghost use Rattle.assise_names.specs.declared.refusal.Refusal.TheVariants.{OutOfMemory};
 ghost use Rattle.assise_seq_tree.specs.Answer.{as_directory, as_file, description_of, may_replace, parent_of};
 ghost use Rattle.assise_seq_tree.specs.Contents.{overwritten, resized};
@@ -139,10 +139,12 @@ impl Tree {
         }
     }
 
-    /// Puts a tree at a path. A directory that is missing on the way is made.
+    /// Puts a tree at a path. A directory that is missing on the way is made. Where something stands at the path, it
+    /// takes no memory.
     pub(crate) fn put(&mut self, alloc: Global, names: &[Name], tree: Tree) -> Result<(), Refusal>
         ensures ok { OnOk result (self.new ≡ put self.old names.now tree) }
         ensures err { OnErr result (self.new ≡ self.old) }
+        ensures asked { OnErr result (IsErr (at self.old names.now)) }
         ensures only_memory { IsOkUnless result OutOfMemory }
     {
         let [name, rest @ ..] = names else {
@@ -211,7 +213,8 @@ impl Tree {
     }
 
     /// Moves the tree at a path to another, where the parent of that is a directory and neither path begins with the
-    /// other. What stood there is gone. The one refusal is [`Refusal::OutOfMemory`], and it leaves the tree as it was.
+    /// other. What stood there is gone. The one refusal is [`Refusal::OutOfMemory`], where nothing stood there, and it
+    /// leaves the tree as it was.
     pub(crate) fn move_entry(
         &mut self,
         alloc: Global,
@@ -222,6 +225,7 @@ impl Tree {
         requires parent { (es : _) × (at self.old (parent_of to.now) ≡ Ok (dir es)) }
         ensures ok { (moved : _) → at self.old from.now ≡ Ok moved → OnOk result (self.new ≡ put (without self.old from.now) to.now moved) }
         ensures err { OnErr result (self.new ≡ self.old) }
+        ensures asked { OnErr result (IsErr (at self.old to.now)) }
         ensures only_memory { IsOkUnless result OutOfMemory }
     {
         let _ = &self.node;
@@ -238,6 +242,7 @@ impl Tree {
         requires { offset + length new.now < 2 ^ 64 }
         ensures ok { (bytes : List ℕ) → self.old ≡ file bytes → OnOk result (self.new ≡ file (overwritten bytes offset new.now)) }
         ensures err { OnErr result (self.new ≡ self.old) }
+        ensures asked { (bytes : List ℕ) → self.old ≡ file bytes → OnErr result (length bytes < offset + length new.now) }
         ensures only_memory { IsOkUnless result OutOfMemory }
     {
         match &mut self.node {
@@ -257,6 +262,7 @@ impl Tree {
         requires { offset + length new.now < 2 ^ 64 }
         ensures ok { (bytes : List ℕ) → at self.old names.now ≡ Ok (file bytes) → OnOk result (self.new ≡ put self.old names.now (file (overwritten bytes offset new.now))) }
         ensures err { (bytes : List ℕ) → at self.old names.now ≡ Ok (file bytes) → OnErr result (self.new ≡ self.old) }
+        ensures asked { (bytes : List ℕ) → at self.old names.now ≡ Ok (file bytes) → OnErr result (length bytes < offset + length new.now) }
         ensures only_memory { IsOkUnless result OutOfMemory }
     {
         let mut tree = Tree::empty_file(alloc);
@@ -270,6 +276,7 @@ impl Tree {
     fn resize(&mut self, size: usize) -> Result<(), Refusal>
         ensures ok { (bytes : List ℕ) → self.old ≡ file bytes → OnOk result (self.new ≡ file (resized bytes size)) }
         ensures err { OnErr result (self.new ≡ self.old) }
+        ensures asked { (bytes : List ℕ) → self.old ≡ file bytes → OnErr result (length bytes < size) }
         ensures only_memory { IsOkUnless result OutOfMemory }
     {
         match &mut self.node {
@@ -287,6 +294,7 @@ impl Tree {
     ) -> Result<(), Refusal>
         ensures ok { (bytes : List ℕ) → at self.old names.now ≡ Ok (file bytes) → OnOk result (self.new ≡ put self.old names.now (file (resized bytes size))) }
         ensures err { (bytes : List ℕ) → at self.old names.now ≡ Ok (file bytes) → OnErr result (self.new ≡ self.old) }
+        ensures asked { (bytes : List ℕ) → at self.old names.now ≡ Ok (file bytes) → OnErr result (length bytes < size) }
         ensures only_memory { IsOkUnless result OutOfMemory }
     {
         let mut tree = Tree::empty_file(alloc);

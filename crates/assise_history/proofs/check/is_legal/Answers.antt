@@ -1,9 +1,10 @@
 use Rattle.std.proofs.Common.{◌≡◌, ◌∙◌, ap, sym, take, true, false, subst}
 use Rattle.assise_seq_tree.specs.Tree.{opening}
 use Rattle.assise_history.specs.Kept.{kept, kept_more, IsRun}
-use Rattle.assise_history.specs.Legal.{summary, follows, after}
+use Rattle.assise_history.specs.Summary.{summary, follows, after}
 use Rattle.assise_history.specs.Played.{Goes, calls_of}
-use Rattle.assise_history.proofs.Legality.{legal-nil, not_allowed, no_run, checked_more, kept_at, summary_at}
+use Rattle.assise_history.proofs.Legality.{legal-nil}
+use Rattle.assise_history.proofs.Checking.{not_allowed, no_run, checked_more, kept_at, summary_at}
 use Rattle.assise_history.proofs.check.is_legal.Goals as goal
 
 pub loop-entry-init : goal.loop-entry-init

@@ -1,6 +1,7 @@
 use Rattle.std.proofs.Common.{◌≡◌, take}
 use Rattle.assise_history.specs.Kept.{kept}
-use Rattle.assise_history.specs.Legal.{IsLegal, summary}
+use Rattle.assise_history.specs.Legal.{IsLegal}
+use Rattle.assise_history.specs.Summary.{summary}
 use Rattle.assise_history.specs.Played.{IsPlayed, calls_of}
 use Rattle.assise_history.proofs.check.is_legal.Given as goal
 

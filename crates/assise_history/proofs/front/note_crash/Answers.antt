@@ -1,5 +1,5 @@
 use Rattle.assise_history.proofs.Steps.{changed_more}
-use Rattle.assise_history.specs.Legal.{with_crash}
+use Rattle.assise_history.specs.Summary.{with_crash}
 use Rattle.assise_history.proofs.front.note_crash.Goals as goal
 
 pub loop-k-preserved : goal.loop-k-preserved

@@ -1,5 +1,5 @@
 use Rattle.assise_history.proofs.Steps.{changed_more}
-use Rattle.assise_history.specs.Legal.{with_failure}
+use Rattle.assise_history.specs.Summary.{with_failure}
 use Rattle.assise_history.proofs.front.note_failure.Goals as goal
 
 pub loop-k-preserved : goal.loop-k-preserved

@@ -1,5 +1,5 @@
 use Rattle.std.proofs.Common.{◌≡◌, ◌++◌, map, take, drop}
-use Rattle.assise_history.specs.Legal.{with_failure}
+use Rattle.assise_history.specs.Summary.{with_failure}
 use Rattle.assise_history.proofs.front.note_failure.Given as goal
 
 abbrev pub invariant-loop-k : goal.invariant-loop-k

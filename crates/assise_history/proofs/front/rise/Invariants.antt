@@ -1,5 +1,5 @@
 use Rattle.std.proofs.Common.{◌≡◌, drop, None}
-use Rattle.assise_history.specs.Legal.{rise_from}
+use Rattle.assise_history.specs.Summary.{rise_from}
 use Rattle.assise_history.proofs.front.rise.Given as goal
 
 abbrev pub invariant-loop-loss : goal.invariant-loop-loss

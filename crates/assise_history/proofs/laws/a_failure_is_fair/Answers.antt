@@ -1,20 +1,20 @@
 use Rattle.std.proofs.Common.{◌++◌, ◌∷◌, refl}
 use Rattle.assise_history.specs.Entries.{fails}
-use Rattle.assise_history.specs.Words.{FailureFits, MayLose}
+use Rattle.assise_history.specs.Legal.{IsFair, MayLose}
 use Rattle.assise_history.proofs.OneMore.{follows_in}
 use Rattle.assise_history.proofs.laws.a_failure_is_fair.Goals as goal
 
 pub returns-clause-rising : goal.returns-clause-rising
-returns-clause-rising c = λ h before later n losses legal split. let fits : FailureFits before n losses = follows_in h before later (fails n losses) legal split in fits.rising
+returns-clause-rising c = λ h before later n losses legal split. let fair : IsFair before n losses = follows_in h before later (fails n losses) legal split in fair.rising
 
 pub returns-clause-on : goal.returns-clause-on
 returns-clause-on c = λ h before later n lower higher l legal split.
-    let fits : FailureFits before n (lower ++ l ∷ higher) = follows_in h before later (fails n (lower ++ l ∷ higher)) legal split in
-    let pair : MayLose before n l = fits.fair lower higher l refl in
+    let fair : IsFair before n (lower ++ l ∷ higher) = follows_in h before later (fails n (lower ++ l ∷ higher)) legal split in
+    let pair : MayLose before n l = fair.each lower higher l refl in
     pair.on
 
 pub returns-clause-past : goal.returns-clause-past
 returns-clause-past c = λ h before later n lower higher l legal split.
-    let fits : FailureFits before n (lower ++ l ∷ higher) = follows_in h before later (fails n (lower ++ l ∷ higher)) legal split in
-    let pair : MayLose before n l = fits.fair lower higher l refl in
+    let fair : IsFair before n (lower ++ l ∷ higher) = follows_in h before later (fails n (lower ++ l ∷ higher)) legal split in
+    let pair : MayLose before n l = fair.each lower higher l refl in
     pair.past

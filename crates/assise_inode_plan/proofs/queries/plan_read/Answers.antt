@@ -3,6 +3,9 @@ use Rattle.assise_names.specs.declared.reply.Reply.TheVariants.{Bytes}
 use Rattle.assise_inode_table.specs.Contents.{values}
 use Rattle.assise_inode_plan.proofs.WalkEnds.{quiet, at_stop}
 use Rattle.assise_inode_plan.proofs.Asking.{read_ends, read_fails}
+use Rattle.assise_inode_table.proofs.TableView.{on_err}
+use Rattle.assise_inode_plan.proofs.Leaving.{seen_here}
+use Rattle.assise_inode_plan.proofs.Noting.{note_walk}
 use Rattle.assise_inode_plan.proofs.queries.plan_read.Goals as goal
 
 pub returns-in-Err-clause-exact : goal.returns-in-Err-clause-exact
@@ -17,3 +20,12 @@ pub returns-in-Err-file-clause-exact : goal.returns-in-Err-file-clause-exact
 returns-in-Err-file-clause-exact g c =
     c.answered-in-Err-file.ensures
     ∙ read_fails (g.V.View.leased c.args.view.now) (values (g.V.View.contents c.args.view.now)) c.new-reads.result.items c.args.names.now c.walk.new.reads.items c.in_ok-reached.field-0 c.new-reads.ensures.items c.in_ok-reached.ensures.left c.in-Ok.reached c.in-Ok.is c.args.offset c.args.length c.in-Err-file.error c.in-Err-file.ensures
+
+pub returns-in_err-reached-clause-asked : goal.returns-in_err-reached-clause-asked
+returns-in_err-reached-clause-asked g c =
+    on_err c.from_residual.result _ (note_walk (g.V.View.leased c.args.view.now) (values (g.V.View.contents c.args.view.now)) c.args.names.now _ c.in_err-reached.ensures.asked)
+
+pub returns-in_err-bytes-in-Ok-file-clause-asked : goal.returns-in_err-bytes-in-Ok-file-clause-asked
+returns-in_err-bytes-in-Ok-file-clause-asked g c =
+    on_err c.from_residual-in_err-bytes-in-Ok-file.result _
+    (note_walk (g.V.View.leased c.args.view.now) (values (g.V.View.contents c.args.view.now)) c.args.names.now _ (seen_here c.in_ok-reached.field-0 c.in_ok-reached.ensures.seen c.in-Ok.is))

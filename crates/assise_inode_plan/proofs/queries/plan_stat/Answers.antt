@@ -2,6 +2,8 @@ use Rattle.std.proofs.Common.{ap, ◌∙◌}
 use Rattle.assise_inode_table.specs.Contents.{values}
 use Rattle.assise_inode_plan.proofs.WalkEnds.{quiet, at_stop}
 use Rattle.assise_inode_plan.proofs.Asking.{stat_ends}
+use Rattle.assise_inode_table.proofs.TableView.{on_err}
+use Rattle.assise_inode_plan.proofs.Noting.{note_walk}
 use Rattle.assise_inode_plan.proofs.queries.plan_stat.Goals as goal
 
 pub returns-in-Ok-clause-exact : goal.returns-in-Ok-clause-exact
@@ -11,3 +13,7 @@ returns-in-Ok-clause-exact g c =
 
 pub returns-in-Err-clause-exact : goal.returns-in-Err-clause-exact
 returns-in-Err-clause-exact g c = c.stopped.ensures ∙ at_stop (g.V.View.leased c.args.view.now) (values (g.V.View.contents c.args.view.now)) c.new-reads.result.items c.args.names.now c.walk.new.reads.items c.in_ok-inode.field-0 c.new-reads.ensures.items c.in_ok-inode.ensures.left c.in-Err.stop c.in-Err.is _
+
+pub returns-in_err-inode-clause-asked : goal.returns-in_err-inode-clause-asked
+returns-in_err-inode-clause-asked g c =
+    on_err c.from_residual.result _ (note_walk (g.V.View.leased c.args.view.now) (values (g.V.View.contents c.args.view.now)) c.args.names.now _ c.in_err-inode.ensures.asked)

@@ -1,6 +1,5 @@
-use Rattle.std.proofs.Common.{◌≡◌, ◌<◌, true, nat_lt, length, ap, ◌∙◌, arith}
+use Rattle.std.proofs.Common.{◌≡◌, ◌<◌, true, nat_lt, length, ap, arith}
 use Rattle.std.proofs.lemmas.Bool.Decides.{nat_tests}
-use Rattle.assise_names.specs.Path.{is_proper_front}
 use Rattle.assise_names.proofs.Fronts.{Begins, from_tests, to_tests}
 use Rattle.assise_names.proofs.path.Path.is_front_of.Goals as goal
 

@@ -1,9 +1,9 @@
-use Rattle.std.proofs.Common.{subst}
+use Rattle.std.proofs.Common.{subst, IsErr}
 use Rattle.assise_seq_tree.specs.Tree.{IsOrdered}
 use Rattle.assise_seq_tree.proofs.Order.{ordered-after}
 use Rattle.std.proofs.Common.{◌∙◌, ap, sym}
 use Rattle.assise_seq_tree.specs.View.{tree_of}
-use Rattle.assise_seq_tree.proofs.Walk.{no_items, first_and_rest, put_root, put_file, put_found, put_missing, kept_found}
+use Rattle.assise_seq_tree.proofs.Walk.{no_items, first_and_rest, found_mut, missing_mut, at_missing, at_below, fails_at_none, put_root, put_file, put_found, put_missing, kept_found}
 use Rattle.std.proofs.lemmas.Result.{on_ok_weaker, on_err_weaker}
 use Rattle.assise_seq_tree.proofs.tree.Tree.+put.Goals as goal
 use Rattle.assise_seq_tree.proofs.tree.Tree.+put.Goals.{in-File+in-File-1, in-File+in-Directory-1, in-Directory+in-Some, in-Directory+in-None+in_ok-put-in-None+in_ok-key-in-None+in_ok-insert-in-None, in-Some+in-File-1, in-Some+in-Directory-1, in-None-1}
@@ -41,6 +41,33 @@ returns-clause-err t c =
           let value = w.get_mut.ensures.value in
           let written = w.get_mut.follows.holds w.put.new.self in
           rw (w.result-is, w.self-inside-is) (on_err_weaker w.put.result (kept_found _ _ w.in-Directory.entries (w.get_mut.follows.lender w.put.new.self) w.get_mut.result _ _ is w.in-Some.is value written.0) w.put.ensures.err)
+      | in-Directory+in-None+in_ok-put-in-None+in_ok-key-in-None+in_ok-insert-in-None w ↦ rw w.result-is tt
+    ]
+
+pub returns-in_err-put-in-None-clause-asked : goal.returns-in_err-put-in-None-clause-asked
+returns-in_err-put-in-None-clause-asked t c =
+    let none = missing_mut _ c.in-Directory.entries c.get_mut.result c.in-None.is c.get_mut.ensures.value in
+    fails_at_none c.from_residual.result _ _ (at_missing _ _ _ _ _ (first_and_rest _ _ c.in-len1-up.len_at_least c.name-item.is) (sym c.self.view_is ∙ ap tree_of c.in-Directory.is) none)
+
+pub returns-in_err-key-in-None-clause-asked : goal.returns-in_err-key-in-None-clause-asked
+returns-in_err-key-in-None-clause-asked t c =
+    let none = missing_mut _ c.in-Directory.entries c.get_mut.result c.in-None.is c.get_mut.ensures.value in
+    fails_at_none c.from_residual-in_err-key-in-None.result _ _ (at_missing _ _ _ _ _ (first_and_rest _ _ c.in-len1-up.len_at_least c.name-item.is) (sym c.self.view_is ∙ ap tree_of c.in-Directory.is) none)
+
+pub returns-in_err-insert-in-None-clause-asked : goal.returns-in_err-insert-in-None-clause-asked
+returns-in_err-insert-in-None-clause-asked t c =
+    let none = missing_mut _ c.in-Directory.entries c.get_mut.result c.in-None.is c.get_mut.ensures.value in
+    fails_at_none c.from_residual-in_err-insert-in-None.result _ _ (at_missing _ _ _ _ _ (first_and_rest _ _ c.in-len1-up.len_at_least c.name-item.is) (sym c.self.view_is ∙ ap tree_of c.in-Directory.is) none)
+
+pub returns-clause-asked : goal.returns-clause-asked
+returns-clause-asked t c =
+    elim c.match-self.branch [
+      | in-File+in-File-1 w ↦ rw w.result-is tt
+      | in-File+in-Directory-1 w ↦ rw w.result-is tt
+      | in-Directory+in-Some w ↦
+          let is = sym c.self.view_is ∙ ap tree_of w.in-Directory.is in
+          let below = at_below _ _ _ _ _ _ (first_and_rest _ _ c.in-len1-up.len_at_least c.name-item.is) is (found_mut _ w.in-Directory.entries w.get_mut.result _ w.in-Some.is w.get_mut.ensures.value) in
+          rw w.result-is (on_err_weaker w.put.result (λ h. subst IsErr (sym below) h) w.put.ensures.asked)
       | in-Directory+in-None+in_ok-put-in-None+in_ok-key-in-None+in_ok-insert-in-None w ↦ rw w.result-is tt
     ]
 

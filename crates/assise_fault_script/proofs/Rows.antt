@@ -1,0 +1,75 @@
+-- Six words or more make no command, whatever stands behind the sixth.
+use Rattle.std.proofs.Common.{◌≡◌, ℕ, Bool, List, [], ◌∷◌, take, Result, Err, refl, ap, sym, ◌∙◌, inl, inr}
+use Rattle.std.proofs.lemmas.Bool.{cases_Bool}
+use Rattle.assise_names.specs.Path.{path_of}
+use Rattle.assise_names.specs.declared.path.PathFault.{PathFault}
+use Rattle.assise_fault_script.specs.declared.command.CallWord.{CallWord}
+use Rattle.assise_fault_script.specs.declared.command.CallWord.TheVariants.{Create as for_create, Mkdir as for_mkdir, Read as for_read, Write as for_write, Truncate as for_truncate, Rename as for_rename, Unlink as for_unlink, Rmdir as for_rmdir, List as for_list, Stat as for_stat, Fsync as for_fsync}
+use Rattle.assise_fault_script.specs.declared.command.Keyword as first
+use Rattle.assise_fault_script.specs.declared.command.Keyword.TheVariants.{Cluster as for_cluster, Open as for_open, History as for_history}
+use Rattle.assise_fault_script.specs.declared.command.Command.TheVariants.{Call}
+use Rattle.std.proofs.Common.{IsOk, Some, Ok}
+use Rattle.assise_fault_script.specs.declared.fault.ScriptFault.{ScriptFault}
+use Rattle.assise_fault_script.specs.declared.fault.ScriptFault.TheVariants.{WrongCount}
+use Rattle.assise_fault_script.specs.Calls.{call_of, call_word, of_path, path_word}
+use Rattle.assise_fault_script.specs.Fault.{◌>>=◌}
+use Rattle.assise_fault_script.specs.Keywords.{keyword_command, keyword_of}
+use Rattle.assise_fault_script.specs.Line.{begins_with_digit, client_command, cluster_there, command_of, in_turn, other_command}
+use Rattle.assise_fault_script.specs.Number.{number_of}
+
+abbrev Word : Type 0
+Word = List ℕ
+
+many_for_call : (k : CallWord) (a b c d : Word) (rest : List Word) → call_of k (a ∷ b ∷ c ∷ d ∷ rest) ≡ Err WrongCount
+many_for_call for_create a b c d rest = refl
+many_for_call for_mkdir a b c d rest = refl
+many_for_call for_read a b c d rest = refl
+many_for_call for_write a b c d rest = refl
+many_for_call for_truncate a b c d rest = refl
+many_for_call for_rename a b c d rest = refl
+many_for_call for_unlink a b c d rest = refl
+many_for_call for_rmdir a b c d rest = refl
+many_for_call for_list a b c d rest = refl
+many_for_call for_stat a b c d rest = refl
+many_for_call for_fsync a b c d rest = refl
+
+many_for_keyword : (k : first.Keyword) (a b c d : Word) (rest : List Word) → keyword_command k (a ∷ b ∷ c ∷ d ∷ rest) ≡ Err WrongCount
+many_for_keyword for_cluster a b c d rest = refl
+many_for_keyword for_open a b c d rest = refl
+many_for_keyword for_history a b c d rest = refl
+
+same_after : {A B : Type 0} (r : Result A ScriptFault) (f g : A → Result B ScriptFault) → ((x : A) → f x ≡ g x) → (r >>= f) ≡ (r >>= g)
+same_after (Ok x) f g h = h x
+same_after (Err e) f g h = refl
+
+for_client : (built : Bool) (client name a b c d : Word) (rest : List Word) → client_command built client (name ∷ a ∷ b ∷ c ∷ d ∷ []) ≡ client_command built client (name ∷ a ∷ b ∷ c ∷ d ∷ rest)
+for_client built client name a b c d rest =
+    same_after (number_of client) _ _ (λ n. same_after (call_word name) _ _ (λ k. same_after (cluster_there built) _ _ (λ u.
+    ap (λ r. r >>= λ op. Ok (Some (Call n op))) (many_for_call k a b c d [] ∙ sym (many_for_call k a b c d rest)))))
+
+for_other : (built : Bool) (word b c d e : Word) (rest more : List Word) → other_command built word (b ∷ c ∷ d ∷ e ∷ rest) ≡ other_command built word (b ∷ c ∷ d ∷ e ∷ more)
+for_other built word b c d e rest more =
+    same_after (keyword_of word) _ _ (λ k. same_after (in_turn built k) _ _ (λ u.
+    ap (λ r. r >>= λ command. Ok (Some command)) (many_for_keyword k b c d e rest ∙ sym (many_for_keyword k b c d e more))))
+
+pub six : (built : Bool) (words : List Word) → command_of built (take 6 words) ≡ command_of built words
+six built [] = refl
+six built (a ∷ []) = refl
+six built (a ∷ b ∷ []) = refl
+six built (a ∷ b ∷ c ∷ []) = refl
+six built (a ∷ b ∷ c ∷ d ∷ []) = refl
+six built (a ∷ b ∷ c ∷ d ∷ e ∷ []) = refl
+six built (a ∷ b ∷ c ∷ d ∷ e ∷ f ∷ rest) =
+    elim (cases_Bool (begins_with_digit a)) [
+      | inl client ↦ rw client (for_client built a b c d e f rest)
+      | inr other ↦ rw other (for_other built a b c d e (f ∷ []) (f ∷ rest))
+    ]
+
+-- ---- a word that spells a path
+
+pub spelled : (word : List ℕ) → IsOk (path_of word) → (path : List (List ℕ)) × (path_word word ≡ Ok path)
+spelled word h = given (path_of word) h
+  where
+    given : (r : Result (List (List ℕ)) PathFault) → IsOk r → (path : List (List ℕ)) × (of_path r ≡ Ok path)
+    given (Ok path) h = (path, refl)
+    given (Err e) h = cc

@@ -1,0 +1,223 @@
+-- What stands in a history with an entry more: which entries keep that a client is alive or may call, and that a node is
+-- down, and what they add to the counts. For whoever makes a history one entry at a time.
+use Rattle.std.proofs.Common.{◌≡◌, ℕ, ◌+◌, ◌<◌, Bool, true, false, ◌||◌, ◌==◌, List, [], ◌∷◌, ◌++◌, refl, ap, sym, subst, ◌∙◌, ◌⊎◌, inl, inr, arith, append_assoc, eq-eqb}
+use Rattle.std.specs.List.{list_any}
+use Rattle.std.proofs.lemmas.Bool.{or_parts, or_from}
+use Rattle.std.proofs.lemmas.List.Folds.{list_any-append}
+use Rattle.assise_history.specs.declared.call.Call.{Call}
+use Rattle.assise_history.specs.declared.call.Loss.{Loss}
+use Rattle.assise_history.specs.Entries.{Event, opens, calls, fails}
+use Rattle.assise_history.specs.Legal.{IsLegal, Fits, IsAlive, IsDown, IsOn, IsPastFsyncs, MayCall, calls_made, clients_opened, is_call_of, is_crash_of, is_failure_of, is_fsync, is_opening, is_return_of}
+use Rattle.assise_history.proofs.Passing.{cut_end, not_nil}
+use Rattle.assise_history.proofs.Legality.{along}
+use Rattle.assise_history.proofs.Counting.{made_append, next_opened, opened_append, opened_within}
+
+-- none passes of a list and one more
+none_more : {X : Type 0} (p : X → Bool) (xs : List X) (x : X) → list_any p xs ≡ false → p x ≡ false → list_any p (xs ++ x ∷ []) ≡ false
+none_more p xs x none not_it = list_any-append p xs (x ∷ []) ∙ or_from (list_any p xs) (p x || false) none (or_from (p x) false not_it refl)
+
+none_before : {X : Type 0} (p : X → Bool) (xs : List X) (x : X) → list_any p (xs ++ x ∷ []) ≡ false → (list_any p xs ≡ false) × (p x ≡ false)
+none_before p xs x none =
+    let parts = or_parts (list_any p xs) (p x || false) (sym (list_any-append p xs (x ∷ [])) ∙ none) in
+    (parts.0, (or_parts (p x) false parts.1).0)
+
+-- where an entry stood it stands with an entry more
+further : (h before since : List Event) (x e : Event) → h ≡ before ++ x ∷ since → h ++ e ∷ [] ≡ before ++ x ∷ (since ++ e ∷ [])
+further h before since x e split = ap (λ g. g ++ e ∷ []) split ∙ append_assoc before (x ∷ since) (e ∷ [])
+
+-- ---- a client that may call
+
+pub may_call-opened : (h : List Event) (c n : ℕ) → MayCall (h ++ opens c n ∷ []) c
+may_call-opened h c n = record { node = n; before = h; since = []; split = refl; no_crash = refl; no_failure = refl }
+
+pub may_call-push : (h : List Event) (e : Event) (c : ℕ) (m : MayCall h c) → is_crash_of c e ≡ false → is_failure_of m.node e ≡ false → MayCall (h ++ e ∷ []) c
+may_call-push h e c m crash failure = record {
+  node = m.node;
+  before = m.before;
+  since = m.since ++ e ∷ [];
+  split = further h m.before m.since (opens c m.node) e m.split;
+  no_crash = none_more (is_crash_of c) m.since e m.no_crash crash;
+  no_failure = none_more (is_failure_of m.node) m.since e m.no_failure failure;
+}
+
+-- it might call before the entry, which is neither its crash nor its node's failure
+pub record StillCalls (h : List Event) (e : Event) (c : ℕ) : Type 0 where
+  pub could : MayCall h c
+  pub no_crash : is_crash_of c e ≡ false
+  pub no_failure : is_failure_of could.node e ≡ false
+
+pub may_call-last : (h : List Event) (e : Event) (c : ℕ) → MayCall (h ++ e ∷ []) c → ((n : ℕ) × (e ≡ opens c n)) ⊎ StillCalls h e c
+may_call-last h e c m =
+    elim (cut_end h e m.before (opens c m.node) m.since m.split) [
+      | inl last ↦ inl (m.node, last.last_is)
+      | inr earlier ↦
+          let crash = none_before (is_crash_of c) earlier.rest e (subst (λ es. list_any (is_crash_of c) es ≡ false) earlier.more_is m.no_crash) in
+          let failure = none_before (is_failure_of m.node) earlier.rest e (subst (λ es. list_any (is_failure_of m.node) es ≡ false) earlier.more_is m.no_failure) in
+          inr record {
+            could = record { node = m.node; before = m.before; since = earlier.rest; split = earlier.split; no_crash = crash.0; no_failure = failure.0 };
+            no_crash = crash.1;
+            no_failure = failure.1;
+          }
+    ]
+
+-- ---- a client that is alive
+
+pub alive-opened : (h : List Event) (c n : ℕ) → IsAlive (h ++ opens c n ∷ []) c
+alive-opened h c n = record { node = n; before = h; since = []; split = refl; no_crash = refl }
+
+pub alive-push : (h : List Event) (e : Event) (c : ℕ) → IsAlive h c → is_crash_of c e ≡ false → IsAlive (h ++ e ∷ []) c
+alive-push h e c a crash = record {
+  node = a.node;
+  before = a.before;
+  since = a.since ++ e ∷ [];
+  split = further h a.before a.since (opens c a.node) e a.split;
+  no_crash = none_more (is_crash_of c) a.since e a.no_crash crash;
+}
+
+pub alive-last : (h : List Event) (e : Event) (c : ℕ) → IsAlive (h ++ e ∷ []) c → ((n : ℕ) × (e ≡ opens c n)) ⊎ (IsAlive h c × (is_crash_of c e ≡ false))
+alive-last h e c a =
+    elim (cut_end h e a.before (opens c a.node) a.since a.split) [
+      | inl last ↦ inl (a.node, last.last_is)
+      | inr earlier ↦
+          let crash = none_before (is_crash_of c) earlier.rest e (subst (λ es. list_any (is_crash_of c) es ≡ false) earlier.more_is a.no_crash) in
+          inr (record { node = a.node; before = a.before; since = earlier.rest; split = earlier.split; no_crash = crash.0 }, crash.1)
+    ]
+
+-- ---- a client on a node that hasn't failed since
+
+pub on-opened : (h : List Event) (c n : ℕ) → IsOn (h ++ opens c n ∷ []) c n
+on-opened h c n = record { before = h; since = []; split = refl; no_failure = refl }
+
+pub on-push : (h : List Event) (e : Event) (c n : ℕ) → IsOn h c n → is_failure_of n e ≡ false → IsOn (h ++ e ∷ []) c n
+on-push h e c n o failure = record {
+  before = o.before;
+  since = o.since ++ e ∷ [];
+  split = further h o.before o.since (opens c n) e o.split;
+  no_failure = none_more (is_failure_of n) o.since e o.no_failure failure;
+}
+
+pub on-last : (h : List Event) (e : Event) (c n : ℕ) → IsOn (h ++ e ∷ []) c n → (e ≡ opens c n) ⊎ (IsOn h c n × (is_failure_of n e ≡ false))
+on-last h e c n o =
+    elim (cut_end h e o.before (opens c n) o.since o.split) [
+      | inl last ↦ inl last.last_is
+      | inr earlier ↦
+          let failure = none_before (is_failure_of n) earlier.rest e (subst (λ es. list_any (is_failure_of n) es ≡ false) earlier.more_is o.no_failure) in
+          inr (record { before = o.before; since = earlier.rest; split = earlier.split; no_failure = failure.0 }, failure.1)
+    ]
+
+-- ---- a node that is down
+
+pub down-failed : (h : List Event) (n : ℕ) (losses : List Loss) → IsDown (h ++ fails n losses ∷ []) n
+down-failed h n losses = record { losses = losses; before = h; since = []; split = refl; no_return = refl }
+
+pub down-push : (h : List Event) (e : Event) (n : ℕ) → IsDown h n → is_return_of n e ≡ false → IsDown (h ++ e ∷ []) n
+down-push h e n d return = record {
+  losses = d.losses;
+  before = d.before;
+  since = d.since ++ e ∷ [];
+  split = further h d.before d.since (fails n d.losses) e d.split;
+  no_return = none_more (is_return_of n) d.since e d.no_return return;
+}
+
+pub down-last : (h : List Event) (e : Event) (n : ℕ) → IsDown (h ++ e ∷ []) n → ((losses : List Loss) × (e ≡ fails n losses)) ⊎ (IsDown h n × (is_return_of n e ≡ false))
+down-last h e n d =
+    elim (cut_end h e d.before (fails n d.losses) d.since d.split) [
+      | inl last ↦ inl (d.losses, last.last_is)
+      | inr earlier ↦
+          let return = none_before (is_return_of n) earlier.rest e (subst (λ es. list_any (is_return_of n) es ≡ false) earlier.more_is d.no_return) in
+          inr (record { losses = d.losses; before = d.before; since = earlier.rest; split = earlier.split; no_return = return.0 }, return.1)
+    ]
+
+-- ---- where nothing happened
+
+pub may_call-nil : (c : ℕ) → MayCall [] c → ⊥
+may_call-nil c m = not_nil m.before m.since (opens c m.node) m.split
+
+pub alive-nil : (c : ℕ) → IsAlive [] c → ⊥
+alive-nil c a = not_nil a.before a.since (opens c a.node) a.split
+
+pub on-nil : (c n : ℕ) → IsOn [] c n → ⊥
+on-nil c n o = not_nil o.before o.since (opens c n) o.split
+
+pub down-nil : (n : ℕ) → IsDown [] n → ⊥
+down-nil n d = not_nil d.before d.since (fails n d.losses) d.split
+
+-- ---- fsyncs
+
+pub past_fsyncs-push : (h : List Event) (e : Event) (l : Loss) → ((x : Call) → e ≡ calls x → x.client ≡ l.client → is_fsync x.op ≡ true → x.number < l.first) → IsPastFsyncs h l → IsPastFsyncs (h ++ e ∷ []) l
+past_fsyncs-push h e l last all before since x split client fsync =
+    elim (cut_end h e before (calls x) since split) [
+      | inl end ↦ last x end.last_is client fsync
+      | inr earlier ↦ all before earlier.rest x earlier.split client fsync
+    ]
+
+pub past_fsyncs-front : (h : List Event) (e : Event) (l : Loss) → IsPastFsyncs (h ++ e ∷ []) l → IsPastFsyncs h l
+past_fsyncs-front h e l all before since x split = all before (since ++ e ∷ []) x (further h before since (calls x) e split)
+
+-- ---- counts
+
+pub opened-push : (h : List Event) (c n : ℕ) → clients_opened (h ++ opens c n ∷ []) ≡ clients_opened h + 1
+opened-push h c n = opened_append h (opens c n ∷ [])
+
+pub opened-still : (h : List Event) (e : Event) → is_opening e ≡ false → clients_opened (h ++ e ∷ []) ≡ clients_opened h
+opened-still h e other = let all = opened_append h (e ∷ []) in let still = rw other at all in omega arith
+
+pub made-push : (h : List Event) (x : Call) (c : ℕ) → x.client ≡ c → calls_made c (h ++ calls x ∷ []) ≡ calls_made c h + 1
+made-push h x c client =
+    let own : (c == x.client) ≡ true = eq-eqb c x.client (sym client) in
+    let all = made_append c h (calls x ∷ []) in
+    let grown = rw own at all in
+    grown
+
+pub made-still : (h : List Event) (e : Event) (c : ℕ) → is_call_of c e ≡ false → calls_made c (h ++ e ∷ []) ≡ calls_made c h
+made-still h e c other = let all = made_append c h (e ∷ []) in let still = rw other at all in omega arith
+
+-- ---- one open of each client
+
+-- two places of an open are one
+pub record SamePlace (before since : List Event) (n : ℕ) (before2 since2 : List Event) (n2 : ℕ) : Type 0 where
+  pub front : before ≡ before2
+  pub rest : since ≡ since2
+  pub node : n ≡ n2
+
+abbrev OnePlace : List Event → Type 0
+OnePlace h = (c n n2 : ℕ) (before since before2 since2 : List Event) → h ≡ before ++ opens c n ∷ since → h ≡ before2 ++ opens c n2 ∷ since2 → SamePlace before since n before2 since2 n2
+
+opened_late : (h : List Event) (c n m : ℕ) (before since : List Event) → IsLegal h → Fits h (opens c n) → h ≡ before ++ opens c m ∷ since → ⊥
+opened_late h c n m before since legal fits split =
+    let next = next_opened h c n fits in
+    let within = opened_within h before since c m legal split in
+    omega arith
+
+one_place_more : (h : List Event) (e : Event) → IsLegal h → Fits h e → OnePlace h → OnePlace (h ++ e ∷ [])
+one_place_more h e legal fits place c n n2 before since before2 since2 split split2 =
+    elim (cut_end h e before (opens c n) since split) [
+      | inl a ↦ elim (cut_end h e before2 (opens c n2) since2 split2) [
+        | inl b ↦
+            let same : opens c n ≡ opens c n2 = sym a.last_is ∙ b.last_is in
+            let node : n ≡ n2 = cc in
+            record { front = sym a.front_is ∙ b.front_is; rest = a.more_is ∙ sym b.more_is; node = node }
+        | inr b ↦ absurd (opened_late h c n n2 before2 b.rest legal (subst (Fits h) a.last_is fits) b.split)
+      ]
+      | inr a ↦ elim (cut_end h e before2 (opens c n2) since2 split2) [
+        | inl b ↦ absurd (opened_late h c n2 n before a.rest legal (subst (Fits h) b.last_is fits) a.split)
+        | inr b ↦
+            let same = place c n n2 before a.rest before2 b.rest a.split b.split in
+            record { front = same.front; rest = a.more_is ∙ ap (λ es. es ++ e ∷ []) same.rest ∙ sym b.more_is; node = same.node }
+      ]
+    ]
+
+pub one_place : (h : List Event) → IsLegal h → (c n n2 : ℕ) (before since before2 since2 : List Event) → h ≡ before ++ opens c n ∷ since → h ≡ before2 ++ opens c n2 ∷ since2 → SamePlace before since n before2 since2 n2
+one_place = along OnePlace (λ c n n2 before since before2 since2 split split2. absurd (not_nil before since (opens c n) split)) one_place_more
+
+-- a client may call that is alive, and whose node hasn't failed
+pub may_call-from : (h : List Event) (c n : ℕ) → IsLegal h → IsAlive h c → IsOn h c n → MayCall h c
+may_call-from h c n legal a o =
+    let same = one_place h legal c n a.node o.before o.since a.before a.since o.split a.split in
+    record { node = n; before = o.before; since = o.since; split = o.split; no_crash = subst (λ es. list_any (is_crash_of c) es ≡ false) (sym same.rest) a.no_crash; no_failure = o.no_failure }
+
+pub alive_from : (h : List Event) (c : ℕ) → MayCall h c → IsAlive h c
+alive_from h c m = record { node = m.node; before = m.before; since = m.since; split = m.split; no_crash = m.no_crash }
+
+pub on_from : (h : List Event) (c : ℕ) (m : MayCall h c) → IsOn h c m.node
+on_from h c m = record { before = m.before; since = m.since; split = m.split; no_failure = m.no_failure }

@@ -1,0 +1,150 @@
+-- How calls may end: with an error and no effects, or with what each call does.
+use Rattle.std.proofs.Common.{◌≡◌, ◌≤◌, ℕ, Bool, true, false, List, [], ◌∷◌, length, cond, ◌||◌, ◌==◌, nat_le, Option, Some, None, Result, Ok, Err, refl, sym, arith}
+use Rattle.std.specs.Prelude.{ok_or}
+use Rattle.std.specs.List.{list_any}
+use Rattle.std.specs.FinMap as map
+use Rattle.std.proofs.lemmas.Bool.{eqb-true}
+use Rattle.assise_names.specs.Path.{is_proper_front, same_path}
+use Rattle.assise_names.specs.declared.call.Op.{Op}
+use Rattle.assise_names.specs.declared.call.Op.TheVariants.{Create, Mkdir, Read, Write as WriteCall, Truncate, Rename, Unlink as UnlinkCall, Rmdir, List as ListCall, Stat, Fsync}
+use Rattle.assise_names.specs.declared.reply.Reply.{Reply}
+use Rattle.assise_names.specs.declared.reply.Reply.TheVariants.{Done, Bytes, Names, Error}
+use Rattle.assise_names.specs.declared.reply.TreeError.{TreeError}
+use Rattle.assise_names.specs.declared.reply.TreeError.TheVariants.{NoEnt, Exists, IsDir, Invalid, TooBig}
+use Rattle.assise_record.specs.declared.effect.Effect.{Effect}
+use Rattle.assise_record.specs.declared.effect.Effect.TheVariants.{NewFile, NewDir, Write, SetLen, Link, Unlink, Free}
+use Rattle.assise_seq_tree.specs.Answer.{parent_of, last_name}
+use Rattle.assise_seq_tree.specs.Contents.{bytes_from, is_within}
+use Rattle.assise_inode_table.specs.Calls.{then_or_error, walk_from, walk_to_entry, as_regular, as_links, room_among, vacant, may_replace, description_of, room_beside, receive, move_effects, make_call, write_effects, interaction, step}
+use Rattle.assise_inode_table.specs.Contents.{Content, Links, Values}
+use Rattle.assise_inode_table.specs.Effects.{makes}
+use Rattle.assise_inode_table.specs.Interaction.{Interaction, finish, reply_of, effects_of}
+use Rattle.assise_inode_table.specs.Numbers.{makes_inode}
+use Rattle.assise_inode_table.specs.Reach.{link_of}
+
+-- what holds of the reply and the effects of a call, where it is done
+abbrev pub HoldsWhereDone : (Reply → List Effect → Type 0) → Op → ℕ → Type 0
+HoldsWhereDone P (Create p) fresh = (d : ℕ) → P Done (NewFile fresh ∷ Link d (last_name p) fresh ∷ [])
+HoldsWhereDone P (Mkdir p) fresh = (d : ℕ) → P Done (NewDir fresh ∷ Link d (last_name p) fresh ∷ [])
+HoldsWhereDone P (Read p offset most) fresh = (bytes : List ℕ) → P (Bytes bytes) []
+HoldsWhereDone P (WriteCall p offset new) fresh = (i : ℕ) → P Done (write_effects i offset new)
+HoldsWhereDone P (Truncate p size) fresh = (i : ℕ) → P Done (SetLen i size ∷ [])
+HoldsWhereDone P (Rename p q) fresh =
+    P Done [] × ((d e i : ℕ) → P Done (move_effects d (last_name p) e (last_name q) i))
+    × ((d e i g : ℕ) → P Done (Unlink e (last_name q) ∷ Free g ∷ move_effects d (last_name p) e (last_name q) i))
+HoldsWhereDone P (UnlinkCall p) fresh = (d i : ℕ) → P Done (Unlink d (last_name p) ∷ Free i ∷ [])
+HoldsWhereDone P (Rmdir p) fresh = (d i : ℕ) → P Done (Unlink d (last_name p) ∷ Free i ∷ [])
+HoldsWhereDone P (ListCall p) fresh = (names : List (List ℕ)) → P (Names names) []
+HoldsWhereDone P (Stat p) fresh = (content : Content) → P (description_of content) []
+HoldsWhereDone P Fsync fresh = P Done []
+
+module _ (v : Values) (P : Reply → List Effect → Type 0) (faults : (e : TreeError) → P (Error e) []) where
+  abbrev Ends : Interaction → Type 0
+  Ends x = P (reply_of v x) (effects_of v x)
+
+  or_error : {A : Type 0} (r : Result A TreeError) (next : A → Interaction) → ((x : A) → Ends (next x)) → Ends (then_or_error r next)
+  or_error (Ok x) next h = h x
+  or_error (Err e) next h = faults e
+
+  chosen : (b : Bool) (x y : Interaction) → Ends x → Ends y → Ends (cond b x y)
+  chosen true x y p q = p
+  chosen false x y p q = q
+
+  walked : (i : ℕ) (p : List (List ℕ)) (next : ℕ → Content → Interaction) → ((j : ℕ) (content : Content) → Ends (next j content)) → Ends (walk_from i p next)
+  walked i [] next h = or_error (ok_or (v i) NoEnt) (λ content. next i content) (λ content. h i content)
+  walked i (name ∷ p) next h = or_error (link_of (v i) name) (λ j. walk_from j p next) (λ j. walked j p next h)
+
+  walked_to_entry : (p : List (List ℕ)) (name : List ℕ) (next : ℕ → ℕ → Content → Interaction) → ((d i : ℕ) (content : Content) → Ends (next d i content)) → Ends (walk_to_entry p name next)
+  walked_to_entry p name next h =
+      walked 0 p (λ d content. then_or_error (link_of (Some content) name) (λ i. walk_from i [] (next d)))
+      (λ d content. or_error (link_of (Some content) name) (λ i. walk_from i [] (next d)) (λ i. walked i [] (next d) (λ j found. h d j found)))
+
+  made : (new : Effect) (p : List (List ℕ)) (fresh : ℕ) → ((d : ℕ) → P Done (new ∷ Link d (last_name p) fresh ∷ [])) → Ends (make_call new p fresh)
+  made new p fresh h =
+      chosen (length p == 0) _ _ (faults Exists)
+      (walked 0 _ _ (λ d content. or_error (as_links content) _ (λ links. or_error (room_among (last_name p) links) _ (λ _. h d))))
+
+  received : (moved : Content) (stays : Bool) (e : ℕ) (links : Links) (new : List ℕ) (moves : List Effect) (o : Option ℕ) → P Done moves → ((g : ℕ) → P Done (Unlink e new ∷ Free g ∷ moves)) →
+      Ends (receive moved stays e links new moves o)
+  received moved stays e links new moves None h k = or_error (room_beside stays links) _ (λ _. h)
+  received moved stays e links new moves (Some g) h k =
+      walked g [] (λ j target. then_or_error (may_replace moved target) (λ _. finish Done (Unlink e new ∷ Free j ∷ moves)))
+      (λ j target. or_error (may_replace moved target) _ (λ _. k j))
+
+  renamed : (p q : List (List ℕ)) (fresh : ℕ) → HoldsWhereDone P (Rename p q) fresh → Ends (interaction (Rename p q) fresh)
+  renamed p q fresh h =
+      chosen ((length p == 0) || (length q == 0)) _ _ (faults Invalid)
+      (chosen (is_proper_front p q) _ _ (faults Invalid)
+      (walked_to_entry _ _ _ (λ d i content. walked 0 _ _ (λ e goal. or_error (as_links goal) _ (λ links.
+      chosen (same_path p q) _ _ h.0 (received content (same_path (parent_of p) (parent_of q)) e links (last_name q) (move_effects d (last_name p) e (last_name q) i) (map.get links (last_name q)) (h.1 d e i) (λ g. h.2 d e i g)))))))
+
+  pub call_ends : (op : Op) (fresh : ℕ) → HoldsWhereDone P op fresh → Ends (interaction op fresh)
+  call_ends (Create p) fresh h = made (NewFile fresh) p fresh h
+  call_ends (Mkdir p) fresh h = made (NewDir fresh) p fresh h
+  call_ends (Read p offset most) fresh h = walked 0 p _ (λ i content. or_error (as_regular content) _ (λ bytes. h (bytes_from offset most bytes)))
+  call_ends (WriteCall p offset new) fresh h = walked 0 p _ (λ i content. or_error (as_regular content) _ (λ _. chosen (is_within offset new) _ _ (h i) (faults TooBig)))
+  call_ends (Truncate p size) fresh h = walked 0 p _ (λ i content. or_error (as_regular content) _ (λ _. chosen (nat_le size 1048576) _ _ (h i) (faults TooBig)))
+  call_ends (Rename p q) fresh h = renamed p q fresh h
+  call_ends (UnlinkCall p) fresh h =
+      chosen (length p == 0) _ _ (faults IsDir)
+      (walked_to_entry _ _ _ (λ d i content. or_error (as_regular content) _ (λ _. h d i)))
+  call_ends (Rmdir p) fresh h =
+      chosen (length p == 0) _ _ (faults Invalid)
+      (walked_to_entry _ _ _ (λ d i content. or_error (as_links content) _ (λ links. or_error (vacant links) _ (λ _. h d i))))
+  call_ends (ListCall p) fresh h = walked 0 p _ (λ i content. or_error (as_links content) _ (λ links. h (map.keys links)))
+  call_ends (Stat p) fresh h = walked 0 p _ (λ i content. h content)
+  call_ends Fsync fresh h = h
+
+-- ---- a call has at most four effects
+
+abbrev AreFew : Reply → List Effect → Type 0
+AreFew reply es = length es ≤ 4
+
+few_written : (none : Bool) (e : Effect) → length (cond none [] (e ∷ [])) ≤ 4
+few_written true e = omega arith
+few_written false e = omega arith
+
+few_where_done : (op : Op) (fresh : ℕ) → HoldsWhereDone AreFew op fresh
+few_where_done (Create p) fresh = λ d. omega arith
+few_where_done (Mkdir p) fresh = λ d. omega arith
+few_where_done (Read p offset most) fresh = λ bytes. omega arith
+few_where_done (WriteCall p offset new) fresh = λ i. few_written (length new == 0) (Write i (record { offset = offset; bytes = new }))
+few_where_done (Truncate p size) fresh = λ i. omega arith
+few_where_done (Rename p q) fresh = (omega arith, λ d e i. omega arith, λ d e i g. omega arith)
+few_where_done (UnlinkCall p) fresh = λ d i. omega arith
+few_where_done (Rmdir p) fresh = λ d i. omega arith
+few_where_done (ListCall p) fresh = λ names. omega arith
+few_where_done (Stat p) fresh = λ content. omega arith
+few_where_done Fsync fresh = omega arith
+
+pub few_effects : (v : Values) (op : Op) (fresh : ℕ) → length (step v op fresh).effects ≤ 4
+few_effects v op fresh = call_ends v AreFew (λ e. omega arith) op fresh (few_where_done op fresh)
+
+-- ---- a call makes no inode but its own, and that only where it is a create or a mkdir that is done
+
+abbrev MakesOwn : Op → ℕ → Reply → List Effect → Type 0
+MakesOwn op fresh reply es = (i : ℕ) → list_any (makes i) es ≡ true → (i ≡ fresh) × (makes_inode op reply ≡ true)
+
+own : (b : Bool) (i fresh : ℕ) → (b ≡ true → i ≡ fresh) → (b || (false || false)) ≡ true → i ≡ fresh
+own true i fresh f h = f refl
+own false i fresh f h = cc
+
+none_written : (none : Bool) (i j : ℕ) (offset : ℕ) (new : List ℕ) → list_any (makes j) (cond none [] (Write i (record { offset = offset; bytes = new }) ∷ [])) ≡ false
+none_written true i j offset new = refl
+none_written false i j offset new = refl
+
+own_where_done : (op : Op) (fresh : ℕ) → HoldsWhereDone (MakesOwn op fresh) op fresh
+own_where_done (Create p) fresh = λ d i h. (own (fresh == i) i fresh (λ t. sym (eqb-true fresh i t)) h, refl)
+own_where_done (Mkdir p) fresh = λ d i h. (own (fresh == i) i fresh (λ t. sym (eqb-true fresh i t)) h, refl)
+own_where_done (Read p offset most) fresh = λ bytes i h. cc
+own_where_done (WriteCall p offset new) fresh = λ i j h. let none = none_written (length new == 0) i j offset new in cc
+own_where_done (Truncate p size) fresh = λ i j h. cc
+own_where_done (Rename p q) fresh = (λ j h. cc, λ d e i j h. cc, λ d e i g j h. cc)
+own_where_done (UnlinkCall p) fresh = λ d i j h. cc
+own_where_done (Rmdir p) fresh = λ d i j h. cc
+own_where_done (ListCall p) fresh = λ names j h. cc
+own_where_done (Stat p) fresh = λ content j h. cc
+own_where_done Fsync fresh = λ j h. cc
+
+pub makes_own : (v : Values) (op : Op) (fresh i : ℕ) → list_any (makes i) (step v op fresh).effects ≡ true → (i ≡ fresh) × (makes_inode op (step v op fresh).reply ≡ true)
+makes_own v op fresh = call_ends v (MakesOwn op fresh) (λ e i h. cc) op fresh (own_where_done op fresh)
