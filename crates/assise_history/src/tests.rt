@@ -529,12 +529,12 @@ fn wrong_replies_are_found(rt: HostRuntime) -> Result<(), Fail> {
             Rmdir(1, 2, "/d"),
         ],
         &[Open(1, 1), Create(1, 0, "/a"), List(1, 1, "/", &[])],
-        // The names fall.
+        // A name is left out.
         &[
             Open(1, 1),
             Create(1, 0, "/a"),
             Create(1, 1, "/b"),
-            List(1, 2, "/", &["b", "a"]),
+            List(1, 2, "/", &["a"]),
         ],
         // A file grows by zeros.
         &[
