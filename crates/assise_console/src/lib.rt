@@ -8,5 +8,3 @@ pub mod laws;
 pub mod options;
 mod outcome;
 pub mod state;
-#[cfg(test)]
-mod tests;

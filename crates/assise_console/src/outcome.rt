@@ -19,9 +19,6 @@ use assise_names::reply::Reply;
 use assise_record::effect::Effect;
 use std::alloc::Global;
 
-#[cfg(test)]
-mod tests;
-
 /// What a call answers, and what it does, in order.
 #[derive(Debug, Drop)]
 pub(crate) struct Outcome {

@@ -1,0 +1,104 @@
+// The words of the command line.
+use assise_console::options::{CommandLine, options};
+use clap::Error;
+use std::test::Fail;
+
+/// The script that the words name, or the kind of their fault, whether its text goes to standard error, the exit
+/// status, and whether the text begins as a fault's.
+fn described(rt: &HostRuntime, found: &Result<CommandLine<'_>, Error>) -> Result<String, Fail> {
+    match found {
+        Ok(line) => {
+            let script = line.script;
+            Ok(format!(in rt.alloc(); "script {script}\n")?)
+        }
+        Err(error) => {
+            let kind = error.kind();
+            let stream = if error.use_stderr() {
+                "error"
+            } else {
+                "output"
+            };
+            let status = error.exit_code();
+            Ok(format!(in rt.alloc(); "{kind:?}, standard {stream}, status {status}\n")?)
+        }
+    }
+}
+
+/// Reads a command line, and adds what it says.
+fn add_line(rt: &HostRuntime, text: &mut String, words: &[&str]) -> Result<(), Fail> {
+    let found = options(rt.alloc(), words);
+    let line = described(rt, &found)?;
+    text.push_str(line.as_str())?;
+    Ok(())
+}
+
+#[test]
+fn the_command_line_is_one_script(rt: HostRuntime) -> Result<(), Fail> {
+    let mut text = String::new(rt.alloc());
+    let lines: [&[&str]; 8] = [
+        &["assise", "a.script"],
+        &["assise", "-"],
+        &["assise"],
+        &["assise", "a", "b"],
+        &["assise", "--threads", "a"],
+        &["assise", "--none", "a"],
+        &["assise", "--help"],
+        &["assise", "--version"],
+    ];
+    for words in lines {
+        add_line(&rt, &mut text, words)?;
+    }
+    let wanted = "script a.script\n\
+        script -\n\
+        MissingRequiredArgument, standard error, status 2\n\
+        UnknownArgument, standard error, status 2\n\
+        UnknownArgument, standard error, status 2\n\
+        UnknownArgument, standard error, status 2\n\
+        DisplayHelp, standard output, status 0\n\
+        DisplayVersion, standard output, status 0\n";
+    assert_eq!(rt; text.as_str(), wanted);
+    Ok(())
+}
+
+/// What is printed of words that name no script.
+fn printed(rt: &HostRuntime, words: &[&str]) -> Result<String, Fail> {
+    let Err(error) = options(rt.alloc(), words) else {
+        return Err(Fail::new("a script was found"));
+    };
+    Ok(format!(in rt.alloc(); "{error}")?)
+}
+
+#[test]
+fn the_version_is_printed(rt: HostRuntime) -> Result<(), Fail> {
+    let text = printed(&rt, &["assise", "--version"])?;
+    assert_eq!(rt; text.as_str(), "assise 0.1.0\n");
+    Ok(())
+}
+
+#[test]
+fn the_help_says_what_a_script_looks_like(rt: HostRuntime) -> Result<(), Fail> {
+    let text = printed(&rt, &["assise", "--help"])?;
+    for line in [
+        "Usage: assise <SCRIPT>\n",
+        "'cluster 1 8 4', 'open 1 least', '1 create /f', '1 write /f 0 thello', 'history'.\n",
+        "docs/SCRIPT.md",
+        "Exit status: 0 ",
+    ] {
+        assert!(rt; text.contains(line), "{line}");
+    }
+    Ok(())
+}
+
+#[test]
+fn a_fault_of_the_words_is_said_to_be_one(rt: HostRuntime) -> Result<(), Fail> {
+    let lines: [&[&str]; 3] = [
+        &["assise"],
+        &["assise", "a", "b"],
+        &["assise", "--none", "a"],
+    ];
+    for words in lines {
+        let text = printed(&rt, words)?;
+        assert!(rt; text.starts_with("error: "), "{text}");
+    }
+    Ok(())
+}

@@ -1,0 +1,11 @@
+//! Tests of `assise_console`: scripts over memory, readers and writers that fail, and the command line.
+#![tactic(auto)]
+
+#[cfg(test)]
+mod command_line;
+#[cfg(test)]
+mod failing;
+#[cfg(test)]
+mod faults;
+#[cfg(test)]
+mod scripts;
