@@ -5,6 +5,4 @@ pub mod answer;
 pub mod contents;
 pub mod laws;
 mod renaming;
-#[cfg(test)]
-mod tests;
 pub mod tree;
