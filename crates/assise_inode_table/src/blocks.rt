@@ -57,6 +57,23 @@ pub fn joined(
     Ok(joined)
 }
 
+/// The bytes of blocks from an offset on, at most so many, in one piece: shared with the block where one has them all.
+pub fn piece(
+    alloc: Global,
+    blocks: &[Bytes],
+    offset: usize,
+    count: usize,
+) -> Result<Bytes, AllocError>
+    ensures { IfOk result (λ piece. piece ≡ bytes_from offset count (concat blocks.now)) }
+{
+    if let [block] = blocks {
+        let start = offset.min(block.len());
+        let end = start + count.min(block.len() - start);
+        return block.slice(start..end);
+    }
+    Ok(Bytes::from_vec(joined(alloc, blocks, offset, count)?)?)
+}
+
 /// Other owners of the same blocks.
 pub fn shared(alloc: Global, blocks: &[Bytes]) -> Result<Vec<Bytes>, AllocError>
     ensures { IfOk result (λ shared. shared.items ≡ blocks.now) }

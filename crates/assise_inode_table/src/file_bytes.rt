@@ -69,21 +69,25 @@ impl FileBytes {
         let start = self.size.min(offset as usize);
         let end = start + (self.size - start).min(most as usize);
         if start == end {
-            return Ok(ByteString::from_vec(Vec::new(alloc)));
+            return Ok(ByteString::new());
         }
-        Ok(ByteString::from_vec(self.part(alloc, start, end)?))
+        Ok(ByteString::from_bytes(self.part(alloc, start, end)?))
     }
 
     /// The bytes from a start to an end, in one piece.
-    fn part(&self, alloc: Global, start: usize, end: usize) -> Result<Vec<u8>, AllocError>
+    fn part(&self, alloc: Global, start: usize, end: usize) -> Result<Bytes, AllocError>
         requires some { start < end }
         requires within { end ≤ length self.now }
-        ensures { IfOk result (λ part. part.items ≡ bytes_from start (end - start) self.now) }
+        ensures { IfOk result (λ part. part ≡ bytes_from start (end - start) self.now) }
     {
         let first = start / BLOCK;
         let until = (end - 1) / BLOCK + 1;
-        let blocks = &self.blocks[first..until];
-        blocks::joined(alloc, blocks, start - first * BLOCK, end - start)
+        blocks::piece(
+            alloc,
+            &self.blocks[first..until],
+            start - first * BLOCK,
+            end - start,
+        )
     }
 
     /// Writes bytes at an offset, and zeros before them where the file was shorter (POSIX.1-2017, write() and
