@@ -95,7 +95,7 @@ fn copied(alloc: Global, bytes: &[u8]) -> Result<ByteString, ScriptFault>
     ensures { Gives result (Ok bytes.now) }
 {
     let bytes = Vec::from_slice(alloc, bytes)?;
-    Ok(ByteString::from_vec(bytes))
+    Ok(ByteString::from_vec(bytes)?)
 }
 
 /// A byte for each pair of hexadecimal digits.
@@ -111,7 +111,7 @@ fn hex(alloc: Global, digits: &[u8]) -> Result<ByteString, ScriptFault>
     if !rest.is_empty() {
         return Err(ScriptFault::BadData);
     }
-    Ok(ByteString::from_vec(bytes))
+    Ok(ByteString::from_vec(bytes)?)
 }
 
 fn pair(high: u8, low: u8) -> Result<u8, ScriptFault>
@@ -149,5 +149,5 @@ fn some_zeros(alloc: Global, count: u64) -> Result<ByteString, ScriptFault>
         return Err(ScriptFault::BadData);
     }
     let bytes = vec![in alloc; 0; count as usize]?;
-    Ok(ByteString::from_vec(bytes))
+    Ok(ByteString::from_vec(bytes)?)
 }

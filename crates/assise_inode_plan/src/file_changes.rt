@@ -13,12 +13,12 @@ use crate::ending::{answered, finished, stopped};
 use crate::plan::Planned;
 use crate::view::View;
 use crate::walk::walk;
+use assise_names::byte_string::ByteString;
 use assise_names::name::Name;
 use assise_names::refusal::Refusal;
 use assise_names::reply::{Reply, TreeError};
 use assise_record::effect::{Effect, Extent, FileSize};
 use assise_seq_tree::contents::{MOST_FILE_BYTES, is_within};
-use bytes::Bytes;
 use std::alloc::Global;
 
 /// Writes bytes at an offset.
@@ -27,7 +27,7 @@ pub(crate) fn plan_write<V: View>(
     view: &V,
     names: &[Name],
     offset: u64,
-    new: &[u8],
+    new: &ByteString,
 ) -> Result<Planned, Refusal>
     requires one_write { length new.now ≤ 65536 }
     ensures exact { IfOk result (λ p. shown p ≡ plan_from (V.leased view.now) (values (V.contents view.now)) [] (write_call names.now offset new.now)) }
@@ -42,7 +42,7 @@ pub(crate) fn plan_write<V: View>(
     if let Err(error) = inode.file() {
         return Ok(answered(alloc, Reply::Error(error), reads));
     }
-    if !is_within(offset, new) {
+    if !is_within(offset, new.as_slice()) {
         return Ok(answered(alloc, Reply::Error(TreeError::TooBig), reads));
     }
     let effects = write_effects(alloc, file, offset, new)?;
@@ -75,8 +75,13 @@ pub(crate) fn plan_truncate<V: View>(
     Ok(finished(view, Reply::Done, reads, effects))
 }
 
-/// The written bytes, copied once; nothing where there are none.
-fn write_effects(alloc: Global, inode: u64, offset: u64, new: &[u8]) -> Result<Vec<Effect>, Refusal>
+/// The written bytes, shared; nothing where there are none.
+fn write_effects(
+    alloc: Global,
+    inode: u64,
+    offset: u64,
+    new: &ByteString,
+) -> Result<Vec<Effect>, Refusal>
     requires few_bytes { length new.now ≤ 65536 }
     requires ends_in_the_file { offset + length new.now ≤ 1048576 }
     ensures effects { IfOk result (λ effects. effects.items ≡ write_effects inode offset new.now) }
@@ -84,8 +89,7 @@ fn write_effects(alloc: Global, inode: u64, offset: u64, new: &[u8]) -> Result<V
 {
     let mut effects = Vec::new(alloc);
     if !new.is_empty() {
-        let bytes = Bytes::copy_from_slice(alloc, new)?;
-        let extent = Extent::new(offset as u32, bytes);
+        let extent = Extent::new(offset as u32, new.share()?);
         effects.push(Effect::Write { inode, extent })?;
     }
     Ok(effects)

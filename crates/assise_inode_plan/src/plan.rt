@@ -105,9 +105,7 @@ fn plan_call<V: View>(alloc: Global, view: &V, op: &Op, fresh: u64) -> Result<Pl
         Op::Create(path) => plan_create(alloc, view, path.names(), fresh),
         Op::Mkdir(path) => plan_mkdir(alloc, view, path.names(), fresh),
         Op::Read(path, offset, length) => plan_read(alloc, view, path.names(), *offset, *length),
-        Op::Write(path, offset, new) => {
-            plan_write(alloc, view, path.names(), *offset, new.as_slice())
-        }
+        Op::Write(path, offset, new) => { plan_write(alloc, view, path.names(), *offset, new) }
         Op::Truncate(path, size) => plan_truncate(alloc, view, path.names(), *size),
         Op::Rename(from, to) => plan_rename(alloc, view, from, to),
         Op::Unlink(path) => plan_unlink(alloc, view, path.names()),

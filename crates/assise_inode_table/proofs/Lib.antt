@@ -1,3 +1,5 @@
+pub mod Writing
+pub mod Cutting
 pub mod Making
 pub mod Local
 pub mod Pairing

@@ -1,6 +1,6 @@
 -- What effects make of the values of inodes.
 -- Strata, SOSP 2017, section 3: the operations that a log records; POSIX.1-2017, system interfaces: write(), ftruncate(), link(), unlink().
-use Rattle.std.specs.Prelude.{◌≡◌, ℕ, ◌==◌, ◌+◌, ◌<◌, length, Bool, false, if◌then◌else◌, List, [], ◌∷◌, map, Option, Some, None, option_map}
+use Rattle.std.specs.Prelude.{◌≡◌, ℕ, ◌==◌, ◌+◌, ◌-◌, ◌<◌, length, Bool, false, if◌then◌else◌, List, [], ◌∷◌, map, Option, Some, None, option_map}
 use Rattle.std.specs.List.{list_any}
 use Rattle.std.specs.FinMap as fin
 use Rattle.assise_record.specs.declared.effect.Effect.{Effect}
@@ -62,17 +62,17 @@ TakesAway (Write i patch) = ⊥
 TakesAway (SetLen i size) = ⊥
 TakesAway (Link d name i) = ⊥
 
--- the effect makes a file longer, or an entry under a new name
-abbrev pub MakesLarger : Effect → Content → Type 0
-MakesLarger (Write i patch) (regular bytes) = length bytes < patch.offset + length patch.bytes
-MakesLarger (SetLen i size) (regular bytes) = length bytes < size
-MakesLarger e (regular bytes) = ⊥
-MakesLarger (Link d name i) (directory links) = fin.get links name ≡ None
-MakesLarger e (directory links) = ⊥
+-- the effect adds bytes or zeros to a file, in or behind what it has, or an entry under a new name to a directory
+abbrev pub AddsContent : Effect → Content → Type 0
+AddsContent (Write i patch) (regular bytes) = 0 < length patch.bytes + (patch.offset - length bytes)
+AddsContent (SetLen i size) (regular bytes) = length bytes < size
+AddsContent e (regular bytes) = ⊥
+AddsContent (Link d name i) (directory links) = fin.get links name ≡ None
+AddsContent e (directory links) = ⊥
 
--- the effect asks for memory: it makes an inode of a number that has none, or makes the one that is there larger
+-- the effect asks for memory: it makes an inode of a number that has none, or adds to what is there
 abbrev pub AsksForMemory : Effect → Option Content → Type 0
-AsksForMemory e (Some content) = MakesLarger e content
+AsksForMemory e (Some content) = AddsContent e content
 AsksForMemory (NewFile i) None = Unit {0}
 AsksForMemory (NewDir i) None = Unit {0}
 AsksForMemory e None = ⊥

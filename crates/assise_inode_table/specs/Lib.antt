@@ -10,3 +10,4 @@ pub mod Unseen
 pub mod Late
 pub mod Kind
 pub mod Opening
+pub mod Blocks

@@ -1,27 +1,36 @@
 // The bytes of a file.
-ghost use Rattle.std.specs.Prelude.{◌≡◌, ◌+◌, ◌^◌, ◌<◌, ◌==◌, IfOk, IsOkUnless, OnErr, OnOk, [], length};
+ghost use Rattle.std.specs.Prelude.{◌≡◌, ◌+◌, ◌-◌, ◌^◌, ◌<◌, ◌≤◌, ◌==◌, IfOk, IsOk, IsOkUnless, OnErr, OnOk, [], length, take};
 ghost use Rattle.assise_names.specs.declared.refusal.Refusal.TheVariants.{OutOfMemory};
 ghost use Rattle.assise_seq_tree.specs.Contents.{bytes_from, overwritten, resized};
 
+use crate::blocks;
+use crate::blocks::BLOCK;
 use assise_names::byte_string::ByteString;
 use assise_names::refusal::Refusal;
 use assise_seq_tree::contents;
-use std::alloc::Global;
+use bytes::Bytes;
+use std::alloc::{AllocError, Global};
 use std::marker::Model;
 
-/// The bytes of a regular file. Offsets and lengths are counts of bytes. A contract sees the list of the bytes, and
-/// nothing of how they are held.
+/// The bytes of a regular file. Offsets and lengths are counts of bytes. They are held in blocks of 4,096 bytes, which
+/// copies of the file share. A contract sees the list of the bytes, and nothing of how they are held.
 #[derive(Debug, Drop)]
 pub struct FileBytes {
-    bytes: Vec<u8>,
+    alloc: Global,
+    blocks: Vec<Bytes>,
+    size: usize,
 }
 
 impl Model for FileBytes {
     ghost use Rattle.std.specs.Prelude.{List, ℕ};
+    ghost use Rattle.std.specs.List.{concat};
+    ghost use Rattle.assise_inode_table.specs.Blocks.{AreBlocks};
 
     ghost Value = { List ℕ };
 
-    ghost view = { λ f. f.bytes.items };
+    ghost view = { λ f. concat f.blocks.items };
+
+    ghost invariant = { λ f. AreBlocks f.blocks.items f.size };
 }
 
 impl FileBytes {
@@ -30,7 +39,9 @@ impl FileBytes {
         ensures { result ≡ [] }
     {
         FileBytes {
-            bytes: Vec::new(alloc),
+            alloc,
+            blocks: Vec::new(alloc),
+            size: 0,
         }
     }
 
@@ -38,14 +49,14 @@ impl FileBytes {
     pub fn len(&self) -> usize
         ensures { result ≡ length self.now }
     {
-        self.bytes.len()
+        self.size
     }
 
     /// Whether the file has no bytes.
     pub fn is_empty(&self) -> bool
         ensures { result ≡ (length self.now == 0) }
     {
-        self.bytes.is_empty()
+        self.size == 0
     }
 
     /// The bytes from an offset on, at most so many: none at or past the end (POSIX.1-2017, read()). The one
@@ -55,20 +66,55 @@ impl FileBytes {
         ensures asked { OnErr result ((0 < most) × (offset < length self.now)) }
         ensures only_memory { IsOkUnless result OutOfMemory }
     {
-        let bytes = contents::bytes_from(self.bytes.as_slice(), offset, most);
-        Ok(ByteString::from_vec(contents::copied(alloc, bytes)?))
+        let start = self.size.min(offset as usize);
+        let end = start + (self.size - start).min(most as usize);
+        if start == end {
+            return Ok(ByteString::new());
+        }
+        Ok(ByteString::from_bytes(self.part(alloc, start, end)?))
+    }
+
+    /// The bytes from a start to an end, in one piece.
+    fn part(&self, alloc: Global, start: usize, end: usize) -> Result<Bytes, AllocError>
+        requires some { start < end }
+        requires within { end ≤ length self.now }
+        ensures { IfOk result (λ part. part ≡ bytes_from start (end - start) self.now) }
+    {
+        let first = start / BLOCK;
+        let until = (end - 1) / BLOCK + 1;
+        blocks::piece(
+            alloc,
+            &self.blocks[first..until],
+            start - first * BLOCK,
+            end - start,
+        )
     }
 
     /// Writes bytes at an offset, and zeros before them where the file was shorter (POSIX.1-2017, write() and
-    /// lseek()). The one refusal is [`Refusal::OutOfMemory`], where the file gets longer, and it leaves it as it was.
+    /// lseek()). The one refusal is [`Refusal::OutOfMemory`], where there is a byte or a zero to write, and it leaves
+    /// the file as it was. The blocks that the write doesn't reach stay those that they were.
     pub fn write(&mut self, offset: usize, new: &[u8]) -> Result<(), Refusal>
         requires { offset + length new.now < 2 ^ 64 }
         ensures ok { OnOk result (self.new ≡ overwritten self.old offset new.now) }
         ensures err { OnErr result (self.new ≡ self.old) }
-        ensures asked { OnErr result (length self.old < offset + length new.now) }
+        ensures asked { OnErr result (0 < length new.now + (offset - length self.old)) }
         ensures only_memory { IsOkUnless result OutOfMemory }
     {
-        contents::overwrite(&mut self.bytes, offset, new)
+        let start = self.size.min(offset);
+        let end = offset + new.len();
+        if start == end {
+            return Ok(());
+        }
+        let first = start / BLOCK;
+        let past = (end - 1) / BLOCK + 1;
+        let until = self.blocks.len().min(past);
+        let old = blocks::end(self.size, past) - first * BLOCK;
+        let mut bytes = blocks::joined(self.alloc, &self.blocks[first..until], 0, old)?;
+        contents::overwrite(&mut bytes, offset - first * BLOCK, new)?;
+        let made = blocks::cut(self.alloc, bytes.as_slice())?;
+        blocks::replace(&mut self.blocks, first, until, made)?;
+        self.size = self.size.max(end);
+        Ok(())
     }
 
     /// Cuts the file to a size, or fills it up to the size with zeros (POSIX.1-2017, ftruncate()). The one refusal
@@ -79,16 +125,28 @@ impl FileBytes {
         ensures asked { OnErr result (length self.old < size) }
         ensures only_memory { IsOkUnless result OutOfMemory }
     {
-        contents::resize(&mut self.bytes, size)
+        if size <= self.size {
+            blocks::shorten(&mut self.blocks, size);
+            self.size = size;
+            return Ok(());
+        }
+        self.write(size, &[])
     }
 
-    /// An equal value. The one refusal is [`Refusal::OutOfMemory`], where there are bytes.
+    /// An equal value, which shares the blocks. The one refusal is [`Refusal::OutOfMemory`], where there are bytes.
     pub fn copy(&self, alloc: Global) -> Result<FileBytes, Refusal>
         ensures equal { IfOk result (λ copied. copied ≡ self.now) }
         ensures asked { OnErr result (0 < length self.now) }
         ensures only_memory { IsOkUnless result OutOfMemory }
     {
-        let bytes = contents::copied(alloc, self.bytes.as_slice())?;
-        Ok(FileBytes { bytes })
+        if self.size == 0 {
+            return Ok(FileBytes::new(alloc));
+        }
+        let blocks = blocks::shared(alloc, self.blocks.as_slice())?;
+        Ok(FileBytes {
+            alloc,
+            blocks,
+            size: self.size,
+        })
     }
 }

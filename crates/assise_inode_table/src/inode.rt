@@ -4,7 +4,7 @@ ghost use Rattle.std.specs.FinMap as map;
 ghost use Rattle.assise_names.specs.declared.refusal.Refusal.TheVariants.{OutOfMemory};
 ghost use Rattle.assise_inode_table.specs.Calls.{as_links, as_regular, description_of};
 ghost use Rattle.assise_inode_table.specs.Contents.{directory, regular};
-ghost use Rattle.assise_inode_table.specs.Effects.{MakesLarger, TakesAway, changed};
+ghost use Rattle.assise_inode_table.specs.Effects.{AddsContent, TakesAway, changed};
 ghost use Rattle.assise_inode_table.specs.Reach.{link_of};
 
 use crate::directory::Directory;
@@ -103,13 +103,13 @@ impl Inode {
     }
 
     /// Makes of the inode what an effect makes of its content. An effect for the other kind leaves it, and so do
-    /// those that make or free an inode. The one refusal is [`Refusal::OutOfMemory`], where a file gets longer or an
+    /// those that make or free an inode. The one refusal is [`Refusal::OutOfMemory`], where a file gets bytes or an
     /// entry gets a new name, and it leaves the inode as it was. What only takes away takes no memory.
     pub fn change(&mut self, alloc: Global, effect: &Effect) -> Result<(), Refusal>
         ensures taken_away { TakesAway effect.now → IsOk result }
         ensures ok { OnOk result (self.new ≡ changed self.old effect.now) }
         ensures err { OnErr result (self.new ≡ self.old) }
-        ensures asked { OnErr result (MakesLarger effect.now self.old) }
+        ensures asked { OnErr result (AddsContent effect.now self.old) }
         ensures only_memory { IsOkUnless result OutOfMemory }
     {
         match &mut self.kind {
@@ -136,7 +136,7 @@ fn change_file(bytes: &mut FileBytes, effect: &Effect) -> Result<(), Refusal>
     ensures taken_away { TakesAway effect.now → IsOk result }
     ensures ok { OnOk result (regular bytes.new ≡ changed (regular bytes.old) effect.now) }
     ensures err { OnErr result (bytes.new ≡ bytes.old) }
-    ensures asked { OnErr result (MakesLarger effect.now (regular bytes.old)) }
+    ensures asked { OnErr result (AddsContent effect.now (regular bytes.old)) }
     ensures only_memory { IsOkUnless result OutOfMemory }
 {
     match effect {
@@ -151,7 +151,7 @@ fn change_directory(alloc: Global, links: &mut Directory, effect: &Effect) -> Re
     ensures taken_away { TakesAway effect.now → IsOk result }
     ensures ok { OnOk result (directory links.new ≡ changed (directory links.old) effect.now) }
     ensures err { OnErr result (links.new ≡ links.old) }
-    ensures asked { OnErr result (MakesLarger effect.now (directory links.old)) }
+    ensures asked { OnErr result (AddsContent effect.now (directory links.old)) }
     ensures only_memory { IsOkUnless result OutOfMemory }
 {
     match effect {

@@ -1,6 +1,7 @@
 //! Inodes by their numbers, what effects make of them, and which tree they spell.
 #![tactic(auto)]
 
+mod blocks;
 pub mod directory;
 pub mod file_bytes;
 pub mod inode;

@@ -85,7 +85,7 @@ impl InodeTable {
 
     /// Makes an effect: a new file or directory stands in place of what its number had, a freed inode is gone, and
     /// each other effect changes the inode that it touches, where there is one of its kind. No other inode changes.
-    /// The one refusal is [`Refusal::OutOfMemory`], where a number that has none gets an inode, a file gets longer or an
+    /// The one refusal is [`Refusal::OutOfMemory`], where a number that has none gets an inode, a file gets bytes or an
     /// entry gets a new name, and it leaves the table as it was. What only takes away takes no memory, and neither does
     /// an effect for the other kind or on an inode that isn't there.
     pub fn apply(&mut self, effect: &Effect) -> Result<(), Refusal>

@@ -1,5 +1,5 @@
 // A list of bytes as one value.
-ghost use Rattle.std.specs.Prelude.{◌≡◌, ◌==◌, IfOk, IsOk, IsOkUnless, length};
+ghost use Rattle.std.specs.Prelude.{◌≡◌, ◌==◌, [], IfOk, IsOk, IsOkUnless, length};
 ghost use Rattle.std.proofs.Common.{rules};
 ghost use Rattle.std.specs.Cmp.Rules.{comparing};
 ghost use Rattle.std.specs.Cmp.Lexicographic.{pointwise};
@@ -7,13 +7,15 @@ ghost use Rattle.std.specs.Ordering.{on};
 ghost use Rattle.assise_names.specs.declared.refusal.Refusal.TheVariants.{OutOfMemory};
 
 use crate::refusal::Refusal;
-use std::alloc::Global;
+use bytes::Bytes;
+use std::alloc::AllocError;
 use std::marker::Model;
 
-/// Bytes that a call writes or reads. A contract sees the list of them, and nothing of where they lie.
+/// Bytes that a call writes or reads. Copies share them. A contract sees the list of the bytes, and nothing of where
+/// they lie.
 #[derive(Debug, Drop)]
 pub struct ByteString {
-    bytes: Vec<u8>,
+    bytes: Bytes,
 }
 
 impl Model for ByteString {
@@ -21,15 +23,41 @@ impl Model for ByteString {
 
     ghost Value = { List ℕ };
 
-    ghost view = { λ s. s.bytes.items };
+    ghost view = { λ s. s.bytes };
 }
 
 impl ByteString {
-    /// The bytes of a vector, without a copy.
-    pub fn from_vec(bytes: Vec<u8>) -> ByteString
-        ensures { result ≡ bytes.items }
+    /// No bytes. It takes no memory.
+    pub fn new() -> ByteString
+        ensures { result ≡ [] }
+    {
+        ByteString {
+            bytes: Bytes::new(),
+        }
+    }
+
+    /// The bytes of a vector, without a copy. An error says that there is no memory for the count of their owners.
+    pub fn from_vec(bytes: Vec<u8>) -> Result<ByteString, AllocError>
+        ensures bytes { IfOk result (λ made. made ≡ bytes.items) }
+        ensures none { length bytes.items ≡ 0 → IsOk result }
+    {
+        let bytes = Bytes::from_vec(bytes)?;
+        Ok(ByteString { bytes })
+    }
+
+    /// Bytes that others may share.
+    pub fn from_bytes(bytes: Bytes) -> ByteString
+        ensures { result ≡ bytes }
     {
         ByteString { bytes }
+    }
+
+    /// The bytes, shared. An error says that there is no memory.
+    pub fn share(&self) -> Result<Bytes, AllocError>
+        ensures bytes { IfOk result (λ shared. shared ≡ self.now) }
+        ensures none { length self.now ≡ 0 → IsOk result }
+    {
+        self.bytes.slice(0..self.bytes.len())
     }
 
     /// The bytes as a slice.
@@ -53,14 +81,13 @@ impl ByteString {
         self.bytes.is_empty()
     }
 
-    /// An equal value, or [`Refusal::OutOfMemory`]. No bytes take no memory.
-    pub fn copy(&self, alloc: Global) -> Result<ByteString, Refusal>
+    /// An equal value that shares the bytes, or [`Refusal::OutOfMemory`]. No bytes take no memory.
+    pub fn copy(&self) -> Result<ByteString, Refusal>
         ensures equal { IfOk result (λ copied. copied ≡ self.now) }
         ensures none { length self.now ≡ 0 → IsOk result }
         ensures only_memory { IsOkUnless result OutOfMemory }
     {
-        let mut bytes = Vec::with_capacity(alloc, self.bytes.len())?;
-        bytes.extend_from_slice(self.bytes.as_slice())?;
+        let bytes = self.share()?;
         Ok(ByteString { bytes })
     }
 }

@@ -50,7 +50,7 @@ impl Op {
             Op::Read(path, offset, length) => Ok(Op::Read(path.copy(alloc)?, *offset, *length)),
             Op::Write(path, offset, bytes) => {
                 let path = path.copy(alloc)?;
-                Ok(Op::Write(path, *offset, bytes.copy(alloc)?))
+                Ok(Op::Write(path, *offset, bytes.copy()?))
             }
             Op::Truncate(path, size) => Ok(Op::Truncate(path.copy(alloc)?, *size)),
             Op::Rename(from, to) => {

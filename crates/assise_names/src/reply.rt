@@ -80,7 +80,7 @@ impl Reply {
     {
         match self {
             Reply::Done => Ok(Reply::Done),
-            Reply::Bytes(bytes) => Ok(Reply::Bytes(bytes.copy(alloc)?)),
+            Reply::Bytes(bytes) => Ok(Reply::Bytes(bytes.copy()?)),
             Reply::Names(names) => Ok(Reply::Names(names.copy(alloc)?)),
             Reply::File(size) => Ok(Reply::File(*size)),
             Reply::Dir(entries) => Ok(Reply::Dir(*entries)),

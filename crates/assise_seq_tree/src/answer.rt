@@ -128,7 +128,7 @@ fn read(
     match file_at(tree, names) {
         Ok(bytes) => {
             let read = copied(alloc, bytes_from(bytes, offset, length))?;
-            Ok(Reply::Bytes(ByteString::from_vec(read)))
+            Ok(Reply::Bytes(ByteString::from_vec(read)?))
         }
         Err(error) => Ok(Reply::Error(error)),
     }

@@ -1,5 +1,6 @@
 use Rattle.std.proofs.Common.{sym, ap, ◌∙◌}
 use Rattle.assise_names.specs.declared.reply.Reply.TheVariants.{Done}
+use Rattle.assise_seq_tree.specs.Contents.{is_within}
 use Rattle.assise_inode_table.specs.Contents.{values}
 use Rattle.assise_inode_table.specs.Interaction.{finish}
 use Rattle.assise_inode_plan.specs.Walking.{plan_from}
@@ -20,12 +21,12 @@ returns-in-Err-file-clause-exact g c =
 pub returns-then-not-is_within-clause-exact : goal.returns-then-not-is_within-clause-exact
 returns-then-not-is_within-clause-exact g c =
     c.answered-then-not-is_within.ensures
-    ∙ write_is_big (g.V.View.leased c.args.view.now) (values (g.V.View.contents c.args.view.now)) c.new-reads.result.items c.args.names.now c.walk.new.reads.items c.in_ok-reached.field-0 c.new-reads.ensures.items c.in_ok-reached.ensures.left c.in-Ok.reached c.in-Ok.is c.args.offset c.args.new.now c.in_default.field-0.now c.in_default.ensures (sym c.if-not-is_within.ensures)
+    ∙ write_is_big (g.V.View.leased c.args.view.now) (values (g.V.View.contents c.args.view.now)) c.new-reads.result.items c.args.names.now c.walk.new.reads.items c.in_ok-reached.field-0 c.new-reads.ensures.items c.in_ok-reached.ensures.left c.in-Ok.reached c.in-Ok.is c.args.offset c.args.new.now c.in_default.field-0.now c.in_default.ensures (ap (is_within c.args.offset) (sym c.as_slice.ensures) ∙ sym c.if-not-is_within.ensures)
 
 pub returns-clause-exact : goal.returns-clause-exact
 returns-clause-exact g c =
     c.finished.ensures ∙ ap (λ es. plan_from (g.V.View.leased c.args.view.now) (values (g.V.View.contents c.args.view.now)) c.walk.new.reads.items (finish Done es)) c.in_ok-effects.ensures.effects
-    ∙ write_ends (g.V.View.leased c.args.view.now) (values (g.V.View.contents c.args.view.now)) c.new-reads.result.items c.args.names.now c.walk.new.reads.items c.in_ok-reached.field-0 c.new-reads.ensures.items c.in_ok-reached.ensures.left c.in-Ok.reached c.in-Ok.is c.args.offset c.args.new.now c.in_default.field-0.now c.in_default.ensures (sym c.if-not-is_within.ensures)
+    ∙ write_ends (g.V.View.leased c.args.view.now) (values (g.V.View.contents c.args.view.now)) c.new-reads.result.items c.args.names.now c.walk.new.reads.items c.in_ok-reached.field-0 c.new-reads.ensures.items c.in_ok-reached.ensures.left c.in-Ok.reached c.in-Ok.is c.args.offset c.args.new.now c.in_default.field-0.now c.in_default.ensures (ap (is_within c.args.offset) (sym c.as_slice.ensures) ∙ sym c.if-not-is_within.ensures)
 
 pub returns-in_err-reached-clause-asked : goal.returns-in_err-reached-clause-asked
 returns-in_err-reached-clause-asked g c =

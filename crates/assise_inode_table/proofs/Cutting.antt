@@ -1,0 +1,157 @@
+-- Blocks of bytes, joined.
+use Rattle.std.proofs.Common.{◌≡◌, ℕ, zero, suc, ◌+◌, ◌-◌, ◌*◌, ◌<◌, ◌≤◌, List, [], ◌∷◌, ◌++◌, length, take, drop, refl, ap, sym, ◌∙◌, arith, min, append_assoc, append-nil, length-append, take_at, take-append-drop}
+use Rattle.std.proofs.lemmas.List.{take_all, drop_all, drop_at, length-take, length-drop}
+use Rattle.std.proofs.lemmas.List.Folds.{concat-append}
+use Rattle.std.specs.List.{concat}
+use Rattle.assise_inode_table.specs.Blocks.{IsCut}
+use Rattle.assise_seq_tree.specs.Contents.{bytes_from}
+
+-- ---- the shape
+pub cut_take : (bs : List (List ℕ)) (k : ℕ) → IsCut bs → IsCut (take k bs)
+unfolding IsCut
+cut_take bs zero h = tt
+cut_take [] (suc k) h = tt
+cut_take (b ∷ bs) (suc k) h = (h.0, h.1, (λ p. h.2 (omega (arith, length-take k bs))), cut_take bs k h.3)
+
+pub cut_drop : (bs : List (List ℕ)) (k : ℕ) → IsCut bs → IsCut (drop k bs)
+unfolding IsCut
+cut_drop bs zero h = h
+cut_drop [] (suc k) h = tt
+cut_drop (b ∷ bs) (suc k) h = cut_drop bs k h.3
+
+-- no more bytes than room
+pub most : (bs : List (List ℕ)) → IsCut bs → length (concat bs) ≤ 4096 * length bs
+unfolding IsCut
+most [] h = omega arith
+most (b ∷ bs) h = let rest = most bs h.3 in let one = h.1 in omega (arith, length-append b (concat bs), rest, one)
+
+-- and each block has one
+pub least : (bs : List (List ℕ)) → IsCut bs → 0 < length bs → 4096 * length bs < length (concat bs) + 4096
+unfolding IsCut
+least [] h p = absurd (omega arith)
+least (b ∷ []) h p = let one = h.0 in omega (arith, length-append b [], one)
+least (b ∷ d ∷ bs) h p =
+    let rest = least (d ∷ bs) h.3 (omega arith) in
+    let full = h.2 (omega arith) in
+    omega (arith, length-append b (concat (d ∷ bs)), rest, full)
+
+-- what stands before another block is full
+pub full : (bs : List (List ℕ)) (k : ℕ) → IsCut bs → k < length bs → length (concat (take k bs)) ≡ 4096 * k
+unfolding IsCut
+full bs zero h p = omega arith
+full [] (suc k) h p = absurd (omega arith)
+full (b ∷ bs) (suc k) h p =
+    let rest = full bs k h.3 (omega arith) in
+    let one = h.2 (omega arith) in
+    omega (arith, length-append b (concat (take k bs)), rest, one)
+
+either : (n : ℕ) (cs bs : List (List ℕ)) → 0 < length (cs ++ bs) → (0 < length cs → n ≡ 4096) → (0 < length bs → n ≡ 4096) → n ≡ 4096
+either n [] bs p f g = g p
+either n (x ∷ xs) bs p f g = f (omega arith)
+
+-- cut blocks after full ones
+pub cut_append : (cs bs : List (List ℕ)) → IsCut cs → IsCut bs → (0 < length bs → length (concat cs) ≡ 4096 * length cs) → IsCut (cs ++ bs)
+unfolding IsCut
+cut_append [] bs h k f = k
+cut_append (a ∷ cs) bs h k f =
+    (h.0, h.1, whole, cut_append cs bs h.3 k rest)
+  where
+    rest : 0 < length bs → length (concat cs) ≡ 4096 * length cs
+    rest p = let all = f p in let one = h.1 in omega (arith, length-append a (concat cs), all, one, most cs h.3)
+
+    whole : 0 < length (cs ++ bs) → length a ≡ 4096
+    whole p = either (length a) cs bs p h.2 (λ q. let all = f q in let one = h.1 in omega (arith, length-append a (concat cs), all, one, most cs h.3))
+
+pub cut_one : (b : List ℕ) → 0 < length b → length b ≤ 4096 → IsCut (b ∷ [])
+unfolding IsCut
+cut_one b p q = (p, q, (λ r. absurd (omega arith)), tt)
+
+pub cut_none : IsCut []
+unfolding IsCut
+cut_none = tt
+
+-- ---- the bytes
+split : (bs : List (List ℕ)) (k : ℕ) → concat bs ≡ concat (take k bs) ++ concat (drop k bs)
+split bs k = ap concat (sym (take-append-drop k bs)) ∙ concat-append (take k bs) (drop k bs)
+
+pub concat_take : (bs : List (List ℕ)) (k : ℕ) → IsCut bs → k ≤ length bs → concat (take k bs) ≡ take (4096 * k) (concat bs)
+concat_take bs k h p = go (drop k bs) refl
+  where
+    go : (rest : List (List ℕ)) → rest ≡ drop k bs → concat (take k bs) ≡ take (4096 * k) (concat bs)
+    go [] e =
+        let all = take_all k bs (omega (arith, length-drop k bs, ap length e)) in
+        ap concat all ∙ sym (take_all (4096 * k) (concat bs) (omega (arith, most bs h, length-drop k bs, ap length e)))
+    go (x ∷ xs) e =
+        let size = full bs k h (omega (arith, length-drop k bs, ap length e)) in
+        sym (ap (take (4096 * k)) (split bs k) ∙ take_at (concat (take k bs)) (concat (drop k bs)) (4096 * k) size)
+
+pub concat_drop : (bs : List (List ℕ)) (k : ℕ) → IsCut bs → k ≤ length bs → concat (drop k bs) ≡ drop (4096 * k) (concat bs)
+concat_drop bs k h p = go (drop k bs) refl
+  where
+    go : (rest : List (List ℕ)) → rest ≡ drop k bs → concat (drop k bs) ≡ drop (4096 * k) (concat bs)
+    go [] e =
+        ap concat (sym e) ∙ sym (drop_all (4096 * k) (concat bs) (omega (arith, most bs h, length-drop k bs, ap length e)))
+    go (x ∷ xs) e =
+        let size = full bs k h (omega (arith, length-drop k bs, ap length e)) in
+        sym (ap (drop (4096 * k)) (split bs k) ∙ drop_at (concat (take k bs)) (concat (drop k bs)) (4096 * k) size)
+
+-- ---- cutting
+-- the blocks so far, and the bytes that are left
+pub record CutSoFar (blocks : List (List ℕ)) (rest bytes : List ℕ) : Type 0 where
+  pub shape : IsCut blocks
+  pub full : 0 < length rest → length (concat blocks) ≡ 4096 * length blocks
+  pub whole : concat blocks ++ rest ≡ bytes
+
+pub cut_nothing : (bytes : List ℕ) → CutSoFar [] bytes bytes
+cut_nothing bytes = record { shape = cut_none; full = λ p. omega arith; whole = refl }
+
+pub cut_more : (blocks : List (List ℕ)) (rest bytes block : List ℕ) (n : ℕ) → CutSoFar blocks rest bytes → 0 < length rest → n ≡ min (length rest) 4096
+    → block ≡ take n rest → CutSoFar (blocks ++ block ∷ []) (drop n rest) bytes
+cut_more blocks rest bytes block n so_far some n_is is =
+    let before = so_far.full some in
+    let size : length block ≡ n = ap length is ∙ omega (arith, length-take n rest) in
+    record {
+      shape = cut_append blocks (block ∷ []) so_far.shape (cut_one block (omega arith) (omega arith)) (λ p. before);
+      full = λ p.
+          omega (arith, before, size, ap length (concat-append blocks (block ∷ [])), length-append (concat blocks) (block ++ []), length-append block [], length-append blocks (block ∷ []), length-drop n rest);
+      whole =
+          ap (λ xs. xs ++ drop n rest) (concat-append blocks (block ∷ []) ∙ ap (λ xs. concat blocks ++ xs) (append-nil block))
+          ∙ append_assoc (concat blocks) block (drop n rest)
+          ∙ ap (λ xs. concat blocks ++ xs) (ap (λ xs. xs ++ drop n rest) is ∙ take-append-drop n rest)
+          ∙ so_far.whole;
+    }
+
+-- ---- joining
+take-over : (n : ℕ) (xs ys : List ℕ) → take n (xs ++ ys) ≡ take n xs ++ take (n - length xs) ys
+take-over zero xs ys = let none : 0 - length xs ≡ 0 = omega arith in rw none
+take-over (suc n) [] ys = let all : suc n - 0 ≡ suc n = omega arith in rw all
+take-over (suc n) (x ∷ xs) ys = let less : suc n - length (x ∷ xs) ≡ n - length xs = omega arith in rw less (ap (λ zs. x ∷ zs) (take-over n xs ys))
+
+drop-over : (n : ℕ) (xs ys : List ℕ) → drop n (xs ++ ys) ≡ drop n xs ++ drop (n - length xs) ys
+drop-over zero xs ys = let none : 0 - length xs ≡ 0 = omega arith in rw none
+drop-over (suc n) [] ys = let all : suc n - 0 ≡ suc n = omega arith in rw all
+drop-over (suc n) (x ∷ xs) ys = let less : suc n - length (x ∷ xs) ≡ n - length xs = omega arith in rw less (drop-over n xs ys)
+
+-- what is joined of some blocks, and how much of the offset is left
+pub record JoinedSoFar (blocks : List (List ℕ)) (offset most : ℕ) (joined : List ℕ) (skipped : ℕ) : Type 0 where
+  pub bytes : joined ≡ bytes_from offset most (concat blocks)
+  pub left : skipped ≡ offset - length (concat blocks)
+
+pub not_over : (blocks : List (List ℕ)) (offset n : ℕ) (joined : List ℕ) (skipped : ℕ) → JoinedSoFar blocks offset n joined skipped → length joined ≤ n
+not_over blocks offset n joined skipped so_far = omega (arith, ap length so_far.bytes, length-take n (drop offset (concat blocks)))
+
+pub joined_more : (blocks : List (List ℕ)) (block : List ℕ) (offset n : ℕ) (joined : List ℕ) (skipped : ℕ) → JoinedSoFar blocks offset n joined skipped
+    → JoinedSoFar (blocks ++ block ∷ []) offset n (joined ++ bytes_from skipped (n - length joined) block) (skipped - length block)
+joined_more blocks block offset n joined skipped so_far =
+    let xs = concat blocks in
+    let all : concat (blocks ++ block ∷ []) ≡ concat blocks ++ block = concat-append blocks (block ∷ []) ∙ ap (λ zs. concat blocks ++ zs) (append-nil block) in
+    let left : n - length joined ≡ n - length (drop offset (concat blocks)) = omega (arith, ap length so_far.bytes, length-take n (drop offset (concat blocks))) in
+    record {
+      bytes = sym (ap (bytes_from offset n) all ∙ ap (take n) (drop-over offset (concat blocks) block) ∙ take-over n (drop offset (concat blocks)) (drop (offset - length (concat blocks)) block) ∙ rw (left, so_far.left, so_far.bytes) refl);
+      left = rw all (omega (arith, so_far.left, length-append (concat blocks) block));
+    }
+
+-- blocks with the bytes of so many full ones are as many
+pub as_many : (bs : List (List ℕ)) (k : ℕ) → IsCut bs → length (concat bs) ≡ 4096 * k → length bs ≡ k
+as_many [] k h e = omega (arith, e)
+as_many (b ∷ bs) k h e = let low = least (b ∷ bs) h (omega arith) in let high = most (b ∷ bs) h in omega (arith, e, low, high)

@@ -1,0 +1,216 @@
+-- Writes, reads and cuts of bytes in blocks.
+use Rattle.std.proofs.Common.{◌≡◌, ℕ, zero, suc, ◌+◌, ◌-◌, ◌*◌, ◌/◌, ◌<◌, ◌≤◌, List, [], ◌∷◌, ◌++◌, length, take, drop, replicate, refl, ap, sym, ◌∙◌, subst, get_or, arith, min, max, append_assoc, append-nil, length-append, take-append-drop}
+use Rattle.std.proofs.lemmas.List.{length-take, length-drop, length-replicate, take-take, drop-take, drop-drop, drop_more, take-append-le}
+use Rattle.std.proofs.lemmas.List.Folds.{concat-append}
+use Rattle.std.proofs.Math.Seq.{take-add}
+use Rattle.std.specs.List.{concat}
+use Rattle.assise_seq_tree.specs.Contents.{bytes_from, overwritten}
+use Rattle.assise_seq_tree.proofs.Reading.{length-overwritten}
+use Rattle.assise_inode_table.specs.Blocks.{IsCut, AreBlocks}
+use Rattle.assise_inode_table.proofs.Cutting.{cut_take, cut_drop, cut_append, cut_one, concat_take, concat_drop, most, full, as_many}
+
+-- ---- plain lists
+same_take : (n m : ℕ) (xs : List ℕ) → min n (length xs) ≡ min m (length xs) → take n xs ≡ take m xs
+same_take zero zero xs e = refl
+same_take zero (suc m) [] e = refl
+same_take zero (suc m) (x ∷ xs) e = absurd (omega arith)
+same_take (suc n) zero [] e = refl
+same_take (suc n) zero (x ∷ xs) e = absurd (omega arith)
+same_take (suc n) (suc m) [] e = refl
+same_take (suc n) (suc m) (x ∷ xs) e = ap (λ zs. x ∷ zs) (same_take n m xs (omega arith))
+
+same_drop : (n m : ℕ) (xs : List ℕ) → min n (length xs) ≡ min m (length xs) → drop n xs ≡ drop m xs
+same_drop zero zero xs e = refl
+same_drop zero (suc m) [] e = refl
+same_drop zero (suc m) (x ∷ xs) e = absurd (omega arith)
+same_drop (suc n) zero [] e = refl
+same_drop (suc n) zero (x ∷ xs) e = absurd (omega arith)
+same_drop (suc n) (suc m) [] e = refl
+same_drop (suc n) (suc m) (x ∷ xs) e = same_drop n m xs (omega arith)
+
+twice_taken : (n m k : ℕ) (xs : List ℕ) → min (min n m) (length xs) ≡ min k (length xs) → take n (take m xs) ≡ take k xs
+twice_taken n m k xs e =
+    same_take n (min n m) (take m xs) (omega (arith, length-take m xs)) ∙ take-take (min n m) m xs (omega arith) ∙ same_take (min n m) k xs e
+
+abbrev zeros : ℕ → List ℕ
+zeros n = replicate n 0
+
+length-zeros : (n : ℕ) → length (zeros n) ≡ n
+length-zeros n = let none : ℕ = 0 in length-replicate n none
+
+-- a write into a part that it lies in
+pub written_within : (xs : List ℕ) (f p o : ℕ) (new : List ℕ) → f ≤ length xs → f ≤ o → o + length new ≤ p
+    → take f xs ++ (overwritten (take (p - f) (drop f xs)) (o - f) new ++ drop p xs) ≡ overwritten xs o new
+written_within xs f p o new held before behind =
+    let ys = drop f xs in
+    let r = take (p - f) (drop f xs) in
+    let e = o + length new in
+    let front : take f xs ++ take (o - f) r ≡ take o xs =
+    ap (λ zs. take f xs ++ zs) (take-take (o - f) (p - f) (drop f xs) (omega arith)) ∙ sym (take-add f (o - f) xs) ∙ ap (λ n. take n xs) (omega arith) in
+    let gap : (o - f) - length r ≡ o - length xs = omega (arith, length-take (p - f) (drop f xs), length-drop f xs) in
+    let whole : p - f ≡ ((o - f) + length new) + (p - e) = omega arith in
+    let inner : drop ((o - f) + length new) r ≡ take (p - e) (drop e xs) =
+    ap (λ n. drop ((o - f) + length new) (take n (drop f xs))) whole ∙ drop-take ((o - f) + length new) (p - e) (drop f xs)
+    ∙ ap (take (p - e)) (drop-drop ((o - f) + length new) f xs ∙ ap (λ n. drop n xs) (omega arith)) in
+    let outer : drop p xs ≡ drop (p - e) (drop e xs) = sym (drop-drop (p - e) e xs ∙ ap (λ n. drop n xs) (omega arith)) in
+    let back : drop ((o - f) + length new) r ++ drop p xs ≡ drop e xs = ap (λ zs. zs ++ drop p xs) inner ∙ ap (λ zs. take (p - e) (drop e xs) ++ zs) outer ∙ take-append-drop (p - e) (drop e xs) in
+    joined (take f xs) (take (o - f) r) (zeros ((o - f) - length r)) (zeros (o - length xs)) new (drop ((o - f) + length new) r) (drop p xs) (take o xs) (drop e xs) front (ap zeros gap) back
+  where
+    joined : (a b z y n d t u v : List ℕ) → a ++ b ≡ u → z ≡ y → d ++ t ≡ v → a ++ ((((b ++ z) ++ n) ++ d) ++ t) ≡ ((u ++ y) ++ n) ++ v
+    joined a b z y n d t u v p q r = rw (← p, ← q, ← r) (simp append_assoc)
+
+pub written_nothing : (xs : List ℕ) (o : ℕ) (new : List ℕ) → min (length xs) o ≡ o + length new → xs ≡ overwritten xs o new
+written_nothing xs o [] h =
+    let none : o - length xs ≡ 0 = omega arith in
+    let same : o + 0 ≡ o = omega arith in
+    rw (none, same) (simp append-nil (sym (take-append-drop o xs)))
+written_nothing xs o (x ∷ new) h = absurd (omega arith)
+
+-- ---- writes
+-- the blocks that a write reaches
+pub record Reach (bs : List (List ℕ)) (size o : ℕ) (new : List ℕ) (first past until : ℕ) : Type 0 where
+  pub blocks : AreBlocks bs size
+  pub held : 4096 * first ≤ size
+  pub before : 4096 * first ≤ o
+  pub behind : o + length new ≤ 4096 * past
+  pub some : first < past
+  pub stop : until ≡ min (length bs) past
+
+pub reach : (bs : List (List ℕ)) (size o : ℕ) (new : List ℕ) (first past until : ℕ) → AreBlocks bs size → first ≡ min size o / 4096 → past ≡ (o + length new - 1) / 4096 + 1
+    → until ≡ min (length bs) past → min size o < o + length new → Reach bs size o new first past until
+reach bs size o new first past until blocks f p u some =
+    record { blocks = blocks; held = omega arith; before = omega arith; behind = omega arith; some = omega arith; stop = u }
+
+pub first_held : (bs : List (List ℕ)) (size o : ℕ) (new : List ℕ) (first past until : ℕ) → Reach bs size o new first past until → first ≤ until
+first_held bs size o new first past until r = omega (arith, most bs r.blocks.cut, r.blocks.bytes, r.held, r.some, r.stop)
+
+pub made_of : (bs : List (List ℕ)) (size o : ℕ) (new : List ℕ) (first past until old : ℕ) → Reach bs size o new first past until → old ≡ min (4096 * past) size - 4096 * first
+    → bytes_from 0 old (concat (take (until - first) (drop first bs))) ≡ take (4096 * past - 4096 * first) (drop (4096 * first) (concat bs))
+made_of bs size o new first past until old r is =
+    let xs = concat bs in
+    let fits = first_held bs size o new first past until r in
+    let part : concat (take (until - first) (drop first bs)) ≡ take (4096 * (until - first)) (drop (4096 * first) (concat bs)) =
+    concat_take (drop first bs) (until - first) (cut_drop bs first r.blocks.cut) (omega (arith, r.stop, length-drop first bs))
+    ∙ ap (take (4096 * (until - first))) (concat_drop bs first r.blocks.cut (omega (arith, r.stop, fits))) in
+    ap (take old) part
+    ∙ twice_taken old (4096 * (until - first)) (4096 * past - 4096 * first) (drop (4096 * first) (concat bs))
+    (omega (arith, length-drop (4096 * first) (concat bs), r.blocks.bytes, most bs r.blocks.cut, r.stop, fits, is, r.held))
+
+pub made_is : (bs : List (List ℕ)) (size o : ℕ) (new region bytes : List ℕ) (first past until old : ℕ) → Reach bs size o new first past until → old ≡ min (4096 * past) size - first * 4096
+    → region ≡ bytes_from 0 old (concat (take (until - first) (drop first bs))) → bytes ≡ overwritten region (o - first * 4096) new
+    → bytes ≡ overwritten (take (4096 * past - 4096 * first) (drop (4096 * first) (concat bs))) (o - 4096 * first) new
+made_is bs size o new region bytes first past until old r is part whole =
+    let same : o - first * 4096 ≡ o - 4096 * first = omega arith in
+    whole ∙ ap (λ n. overwritten region n new) same
+    ∙ ap (λ xs. overwritten xs (o - 4096 * first) new) (part ∙ made_of bs size o new first past until old r (omega (arith, is)))
+
+past_same : (bs : List (List ℕ)) (size o : ℕ) (new : List ℕ) (first past until : ℕ) → Reach bs size o new first past until → concat (drop until bs) ≡ drop (4096 * past) (concat bs)
+past_same bs size o new first past until r =
+    concat_drop bs until r.blocks.cut (omega (arith, r.stop)) ∙ same_drop (4096 * until) (4096 * past) (concat bs) (omega (arith, r.stop, most bs r.blocks.cut))
+
+pub written : (bs made : List (List ℕ)) (size o : ℕ) (new : List ℕ) (first past until : ℕ) → Reach bs size o new first past until
+    → concat made ≡ overwritten (take (4096 * past - 4096 * first) (drop (4096 * first) (concat bs))) (o - 4096 * first) new
+    → concat (take first bs ++ (made ++ drop until bs)) ≡ overwritten (concat bs) o new
+written bs made size o new first past until r is =
+    let fits = first_held bs size o new first past until r in
+    concat-append (take first bs) (made ++ drop until bs)
+    ∙ ap (λ zs. concat (take first bs) ++ zs) (concat-append made (drop until bs))
+    ∙ ap (λ zs. zs ++ (concat made ++ concat (drop until bs))) (concat_take bs first r.blocks.cut (omega (arith, r.stop, fits)))
+    ∙ ap (λ zs. take (4096 * first) (concat bs) ++ (zs ++ concat (drop until bs))) is
+    ∙ ap (λ zs. take (4096 * first) (concat bs) ++ (overwritten (take (4096 * past - 4096 * first) (drop (4096 * first) (concat bs))) (o - 4096 * first) new ++ zs)) (past_same bs size o new first past until r)
+    ∙ written_within (concat bs) (4096 * first) (4096 * past) o new (omega (arith, r.held, r.blocks.bytes)) r.before r.behind
+
+pub still_blocks : (bs made : List (List ℕ)) (size o : ℕ) (new : List ℕ) (first past until after : ℕ) → Reach bs size o new first past until → IsCut made
+    → concat made ≡ overwritten (take (4096 * past - 4096 * first) (drop (4096 * first) (concat bs))) (o - 4096 * first) new
+    → after ≡ max size (o + length new) → AreBlocks (take first bs ++ (made ++ drop until bs)) after
+still_blocks bs made size o new first past until after r cut is size_is =
+    let fits = first_held bs size o new first past until r in
+    let xs = concat bs in
+    let tail : 0 < length (drop until bs) → length (concat made) ≡ 4096 * length made = λ p.
+    let room : length (concat (take until bs)) ≡ 4096 * until = full bs until r.blocks.cut (omega (arith, length-drop until bs)) in
+    let front = concat_take bs until r.blocks.cut (omega (arith, r.stop)) in
+    let bytes : length (concat made) ≡ 4096 * (past - first) =
+    ap length is ∙ length-overwritten (take (4096 * past - 4096 * first) (drop (4096 * first) (concat bs))) (o - 4096 * first) new
+    ∙ omega (arith, length-take (4096 * past - 4096 * first) (drop (4096 * first) (concat bs)), length-drop (4096 * first) (concat bs), length-take (4096 * until) (concat bs), ap length front, room, r.stop, r.behind, r.before, r.some, length-drop until bs, p) in
+    omega (arith, bytes, as_many made (past - first) cut bytes) in
+    let head : length (concat (take first bs)) ≡ 4096 * length (take first bs) =
+    ap length (concat_take bs first r.blocks.cut (omega (arith, r.stop, fits))) ∙ omega (arith, length-take (4096 * first) (concat bs), length-take first bs, r.held, r.blocks.bytes, r.stop, fits) in
+    record {
+      cut = cut_append (take first bs) (made ++ drop until bs) (cut_take bs first r.blocks.cut) (cut_append made (drop until bs) cut (cut_drop bs until r.blocks.cut) tail) (λ p. head);
+      bytes = size_is ∙ omega (arith, r.blocks.bytes, length-overwritten (concat bs) o new) ∙ sym (ap length (written bs made size o new first past until r is));
+    }
+
+-- ---- reads
+pub end_held : (bs : List (List ℕ)) (size start end : ℕ) → AreBlocks bs size → start < end → end ≤ size → (end - 1) / 4096 + 1 ≤ length bs
+end_held bs size start end blocks some within = omega (arith, most bs blocks.cut, blocks.bytes)
+
+pub part_of : (bs : List (List ℕ)) (size start end first until : ℕ) → AreBlocks bs size → start < end → end ≤ size → first ≡ start / 4096 → until ≡ (end - 1) / 4096 + 1
+    → bytes_from (start - first * 4096) (end - start) (concat (take (until - first) (drop first bs))) ≡ bytes_from start (end - start) (concat bs)
+part_of bs size start end first until blocks some within f u =
+    let held = end_held bs size start end blocks some within in
+    let part : concat (take (until - first) (drop first bs)) ≡ take (4096 * (until - first)) (drop (4096 * first) (concat bs)) =
+    concat_take (drop first bs) (until - first) (cut_drop bs first blocks.cut) (omega (arith, length-drop first bs, held))
+    ∙ ap (take (4096 * (until - first))) (concat_drop bs first blocks.cut (omega (arith, held))) in
+    let same : start - first * 4096 ≡ start - 4096 * first = omega arith in
+    let room : 4096 * (until - first) ≡ (start - 4096 * first) + (4096 * (until - first) - (start - 4096 * first)) = omega arith in
+    ap (λ n. bytes_from n (end - start) (concat (take (until - first) (drop first bs)))) same
+    ∙ ap (bytes_from (start - 4096 * first) (end - start)) part
+    ∙ ap (λ n. bytes_from (start - 4096 * first) (end - start) (take n (drop (4096 * first) (concat bs)))) room
+    ∙ ap (take (end - start)) (drop-take (start - 4096 * first) (4096 * (until - first) - (start - 4096 * first)) (drop (4096 * first) (concat bs)))
+    ∙ take-take (end - start) (4096 * (until - first) - (start - 4096 * first)) (drop (start - 4096 * first) (drop (4096 * first) (concat bs))) (omega arith)
+    ∙ ap (take (end - start)) (drop-drop (start - 4096 * first) (4096 * first) (concat bs) ∙ ap (λ n. drop n (concat bs)) (omega arith))
+
+-- ---- cuts
+pub cut_between : (bs : List (List ℕ)) (size k : ℕ) → IsCut bs → size ≤ length (concat bs) → size ≡ 4096 * k → AreBlocks (take k bs) size
+cut_between bs size k cut within e =
+    let held : k ≤ length bs = omega (arith, most bs cut) in
+    record { cut = cut_take bs k cut; bytes = sym (ap length (concat_take bs k cut held) ∙ omega (arith, length-take (4096 * k) (concat bs))) }
+
+pub bytes_between : (bs : List (List ℕ)) (size k : ℕ) → IsCut bs → size ≤ length (concat bs) → size ≡ 4096 * k → concat (take k bs) ≡ take size (concat bs)
+bytes_between bs size k cut within e =
+    let held : k ≤ length bs = omega (arith, most bs cut) in
+    concat_take bs k cut held ∙ ap (λ n. take n (concat bs)) (sym e)
+
+-- the first block has so many bytes
+first_long : (rest : ℕ) (b : List ℕ) (bs : List (List ℕ)) → IsCut (b ∷ bs) → rest ≤ length (concat (b ∷ bs)) → rest < 4096 → rest ≤ length b
+unfolding IsCut
+first_long rest b [] cut within small = omega (arith, length-append b [])
+first_long rest b (c ∷ bs) cut within small = let one = cut.2 (omega arith) in omega (arith, one)
+
+block_long : (bs : List (List ℕ)) (k rest : ℕ) (d : List ℕ) → IsCut bs → k < length bs → 4096 * k + rest ≤ length (concat bs) → rest < 4096 → rest ≤ length (get_or bs k d)
+unfolding IsCut
+block_long [] k rest d cut held within small = absurd (omega arith)
+block_long (b ∷ bs) zero rest d cut held within small = first_long rest b bs cut (omega arith) small
+block_long (b ∷ bs) (suc k) rest d cut held within small =
+    let one = cut.2 (omega arith) in
+    block_long bs k rest d cut.3 (omega arith) (omega (arith, one, length-append b (concat bs))) small
+
+block_taken : (bs : List (List ℕ)) (k rest : ℕ) (d : List ℕ) → IsCut bs → k < length bs → 4096 * k + rest ≤ length (concat bs) → rest < 4096 → concat (take k bs) ++ take rest (get_or bs k d) ≡ take (4096 * k + rest) (concat bs)
+unfolding IsCut
+block_taken bs k rest d cut held within small =
+    let xs = concat bs in
+    let rests : concat (drop k bs) ≡ get_or bs k d ++ concat (drop (k + 1) bs) = ap concat (drop_more bs k d held) in
+    let long = block_long bs k rest d cut held within small in
+    let front = concat_take bs k cut (omega arith) in
+    let back : take rest (drop (4096 * k) (concat bs)) ≡ take rest (get_or bs k d) =
+    ap (take rest) (sym (concat_drop bs k cut (omega arith)) ∙ rests) ∙ take-append-le rest (get_or bs k d) (concat (drop (k + 1) bs)) long in
+    ap (λ zs. zs ++ take rest (get_or bs k d)) front ∙ ap (λ zs. take (4096 * k) (concat bs) ++ zs) (sym back) ∙ sym (take-add (4096 * k) rest (concat bs))
+
+one_more : (xs : List (List ℕ)) (y : List ℕ) → concat (xs ++ y ∷ []) ≡ concat xs ++ y
+one_more xs y = concat-append xs (y ∷ []) ∙ ap (λ zs. concat xs ++ zs) (append-nil y)
+
+pub bytes_within : (bs cs : List (List ℕ)) (size k rest : ℕ) (d : List ℕ) → IsCut bs → size ≤ length (concat bs) → size ≡ 4096 * k + rest → 0 < rest → rest < 4096 → k < length bs
+    → cs ≡ take k bs ++ take rest (get_or bs k d) ∷ [] → concat cs ≡ take size (concat bs)
+bytes_within bs cs size k rest d cut within e some small held is =
+    ap concat is ∙ one_more (take k bs) (take rest (get_or bs k d)) ∙ block_taken bs k rest d cut held (omega arith) small ∙ ap (λ n. take n (concat bs)) (sym e)
+
+pub cut_within : (bs cs : List (List ℕ)) (size k rest : ℕ) (d : List ℕ) → IsCut bs → size ≤ length (concat bs) → size ≡ 4096 * k + rest → 0 < rest → rest < 4096 → k < length bs
+    → cs ≡ take k bs ++ take rest (get_or bs k d) ∷ [] → AreBlocks cs size
+cut_within bs cs size k rest d cut within e some small held is =
+    let long = block_long bs k rest d cut held (omega arith) small in
+    let room : length (concat (take k bs)) ≡ 4096 * length (take k bs) = full bs k cut held ∙ omega (arith, length-take k bs) in
+    let last : length (take rest (get_or bs k d)) ≡ rest = omega (arith, length-take rest (get_or bs k d)) in
+    record {
+      cut = subst IsCut (sym is) (cut_append (take k bs) (take rest (get_or bs k d) ∷ []) (cut_take bs k cut) (cut_one (take rest (get_or bs k d)) (omega arith) (omega arith)) (λ p. room));
+      bytes = sym (ap length (bytes_within bs cs size k rest d cut within e some small held is) ∙ omega (arith, length-take size (concat bs)));
+    }

@@ -1,0 +1,118 @@
+// Blocks of bytes.
+ghost use Rattle.std.specs.Prelude.{◌≡◌, ◌*◌, ◌≤◌, ◌++◌, min, IfOk, OnErr, OnOk, length, take, drop};
+ghost use Rattle.std.specs.List.{concat};
+ghost use Rattle.assise_seq_tree.specs.Contents.{bytes_from};
+ghost use Rattle.assise_inode_table.specs.Blocks.{AreBlocks, IsCut};
+
+use assise_seq_tree::contents;
+use bytes::Bytes;
+use std::alloc::{AllocError, Global};
+
+/// How many bytes a block has that isn't the last.
+pub const BLOCK: usize = 4096;
+
+/// Where the first blocks of so many bytes end.
+pub fn end(size: usize, blocks: usize) -> usize
+    ensures { result ≡ min (4096 * blocks) size }
+{
+    if blocks <= size / BLOCK {
+        blocks * BLOCK
+    } else {
+        size
+    }
+}
+
+/// Bytes, cut into blocks.
+pub fn cut(alloc: Global, bytes: &[u8]) -> Result<Vec<Bytes>, AllocError>
+    ensures shape { IfOk result (λ blocks. IsCut blocks.items) }
+    ensures bytes { IfOk result (λ blocks. concat blocks.items ≡ bytes.now) }
+{
+    let mut blocks = Vec::new(alloc);
+    let mut rest = bytes;
+    while !rest.is_empty() {
+        let size = rest.len().min(BLOCK);
+        blocks.push(Bytes::copy_from_slice(alloc, &rest[..size])?)?;
+        rest = &rest[size..];
+    }
+    Ok(blocks)
+}
+
+/// The bytes of blocks from an offset on, at most so many, in one piece.
+pub fn joined(
+    alloc: Global,
+    blocks: &[Bytes],
+    offset: usize,
+    most: usize,
+) -> Result<Vec<u8>, AllocError>
+    ensures { IfOk result (λ joined. joined.items ≡ bytes_from offset most (concat blocks.now)) }
+{
+    let mut joined = Vec::with_capacity(alloc, most)?;
+    let mut skipped = offset;
+    for block in blocks {
+        let wanted = most - joined.len();
+        let part = contents::bytes_from(block.as_slice(), skipped as u64, wanted as u64);
+        joined.extend_from_slice(part)?;
+        skipped = skipped.saturating_sub(block.len());
+    }
+    Ok(joined)
+}
+
+/// The bytes of blocks from an offset on, at most so many, in one piece: shared with the block where one has them all.
+pub fn piece(
+    alloc: Global,
+    blocks: &[Bytes],
+    offset: usize,
+    count: usize,
+) -> Result<Bytes, AllocError>
+    ensures { IfOk result (λ piece. piece ≡ bytes_from offset count (concat blocks.now)) }
+{
+    if let [block] = blocks {
+        let start = offset.min(block.len());
+        let end = start + count.min(block.len() - start);
+        return block.slice(start..end);
+    }
+    Ok(Bytes::from_vec(joined(alloc, blocks, offset, count)?)?)
+}
+
+/// Other owners of the same blocks.
+pub fn shared(alloc: Global, blocks: &[Bytes]) -> Result<Vec<Bytes>, AllocError>
+    ensures { IfOk result (λ shared. shared.items ≡ blocks.now) }
+{
+    let mut shared = Vec::with_capacity(alloc, blocks.len())?;
+    for block in blocks {
+        shared.push(block.clone()?)?;
+    }
+    Ok(shared)
+}
+
+/// Puts blocks in the place of a part of a list. On an error the list is as it was.
+pub fn replace(
+    blocks: &mut Vec<Bytes>,
+    first: usize,
+    until: usize,
+    made: Vec<Bytes>,
+) -> Result<(), AllocError>
+    requires { (first ≤ until) × (until ≤ length blocks.old.items) }
+    ensures ok { OnOk result (blocks.new.items ≡ take first blocks.old.items ++ (made.items ++ drop until blocks.old.items)) }
+    ensures err { OnErr result (blocks.new.items ≡ blocks.old.items) }
+{
+    blocks.splice(first..until, made)?;
+    Ok(())
+}
+
+/// Cuts blocks to a size. What stays of the last block is shared with its other owners.
+pub fn shorten(blocks: &mut Vec<Bytes>, size: usize)
+    requires shape { IsCut blocks.old.items }
+    requires within { size ≤ length (concat blocks.old.items) }
+    ensures shape { AreBlocks blocks.new.items size }
+    ensures bytes { concat blocks.new.items ≡ take size (concat blocks.old.items) }
+{
+    let full = size / BLOCK;
+    let rest = size % BLOCK;
+    if rest == 0 {
+        blocks.truncate(full);
+        return;
+    }
+    blocks[full].truncate(rest);
+    blocks.truncate(full + 1);
+}

@@ -1,0 +1,5 @@
+//! Tests of `assise_inode_table`.
+#![tactic(auto)]
+
+#[cfg(test)]
+mod blocks;
