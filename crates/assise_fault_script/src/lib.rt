@@ -9,6 +9,4 @@ mod keywords;
 mod line;
 mod number;
 pub mod parse;
-#[cfg(test)]
-mod tests;
 mod words;

@@ -9,5 +9,3 @@ pub mod name_list;
 pub mod path;
 pub mod refusal;
 pub mod reply;
-#[cfg(test)]
-mod tests;
