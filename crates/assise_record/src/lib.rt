@@ -11,5 +11,3 @@ pub mod frame;
 pub mod laws;
 pub mod record;
 mod sizes;
-#[cfg(test)]
-mod tests;

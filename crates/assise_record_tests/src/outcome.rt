@@ -1,0 +1,73 @@
+// What bytes are read as, in words.
+use assise_record::decode::decode;
+use assise_record::encode::encode;
+use assise_record::fault::FrameFault;
+use assise_record::frame::Frame;
+use std::alloc::{AllocError, Global};
+
+/// The capacity of a vector that was made for so many bytes, once a frame stands in it: 0 where the frame isn't spelled
+/// by these bytes.
+fn room_taken(
+    alloc: Global,
+    frame: &Frame,
+    bytes: &[u8],
+    room: usize,
+) -> Result<usize, AllocError> {
+    let mut out = Vec::with_capacity(alloc, room)?;
+    if encode(frame, &mut out).is_err() {
+        return Err(AllocError);
+    }
+    Ok(if out.as_slice() == bytes {
+        out.capacity()
+    } else {
+        0
+    })
+}
+
+/// How many fronts of bytes are [`FrameFault::Short`], up to the first that isn't.
+fn short_fronts(alloc: Global, bytes: &[u8]) -> usize {
+    for count in 0..bytes.len() {
+        if !matches!(decode(alloc, &bytes[..count]), Err(FrameFault::Short)) {
+            return count;
+        }
+    }
+    bytes.len()
+}
+
+/// How many effects the records of a frame have, all together.
+fn count_effects(frame: &Frame) -> usize {
+    let mut count = 0usize;
+    for record in frame.records() {
+        count = count.saturating_add(record.effects().len());
+    }
+    count
+}
+
+/// What a frame of so many bytes says, or of a long one how many records and effects it has.
+fn content(alloc: Global, frame: &Frame, count: usize) -> Result<String, AllocError> {
+    if count < 1000 {
+        return format!(in alloc; "{frame:?}");
+    }
+    let records = frame.records().len();
+    let effects = count_effects(frame);
+    format!(in alloc; "{records} records, {effects} effects")
+}
+
+/// The words of a frame that is spelled by these bytes: what it says, how many bytes it has, how many of their fronts are
+/// short, and what room its spelling takes, in a vector without room and in one with as much as the frame needs.
+fn frame_words(alloc: Global, frame: &Frame, bytes: &[u8]) -> Result<String, AllocError> {
+    let count = bytes.len();
+    let says = content(alloc, frame, count)?;
+    let fronts = short_fronts(alloc, bytes);
+    let grown = room_taken(alloc, frame, bytes, 0)?;
+    let kept = room_taken(alloc, frame, bytes, count)?;
+    format!(in alloc; "{says} in {count}, {fronts} fronts, room {grown} {kept}")
+}
+
+/// The words of the frame that bytes begin with, or their fault.
+pub fn outcome(alloc: Global, bytes: &[u8]) -> Result<String, AllocError> {
+    match decode(alloc, bytes) {
+        Ok((frame, count)) => frame_words(alloc, &frame, bytes.get(..count).unwrap_or_default()),
+        Err(fault) => format!(in alloc; "{fault:?}"),
+    }
+}
