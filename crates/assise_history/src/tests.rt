@@ -72,7 +72,7 @@ fn path(rt: &HostRuntime, text: &str) -> Result<Path, Fail> {
 }
 
 fn bytes(rt: &HostRuntime, bytes: &[u8]) -> Result<ByteString, Fail> {
-    Ok(ByteString::from_vec(bytes.to_vec(rt.alloc())?))
+    Ok(ByteString::from_vec(bytes.to_vec(rt.alloc())?)?)
 }
 
 fn names(rt: &HostRuntime, texts: &[&str]) -> Result<NameList, Fail> {
@@ -437,7 +437,7 @@ fn reads_of_65536_bytes_are_checked(rt: HostRuntime) -> Result<(), Fail> {
     for number in 2..18 {
         let zeros = vec![in rt.alloc(); 0; 65_536]?;
         let op = Op::Read(path(&rt, "/f")?, 0, 65_536);
-        let reply = Reply::Bytes(ByteString::from_vec(zeros));
+        let reply = Reply::Bytes(ByteString::from_vec(zeros)?);
         history.reserve()?;
         history.push(called(1, number, op, reply));
     }

@@ -82,7 +82,7 @@ pub(crate) fn op_of(alloc: Global, call: Call<'_>) -> Result<Op, Fail>
         Call::Write(path, offset, bytes) => {
             let path = Path::parse(alloc, path)?;
             let few = &bytes[..bytes.len().min(65_536)];
-            Ok(Op::Write(path, offset, ByteString::from_vec(few.to_vec(alloc)?)))
+            Ok(Op::Write(path, offset, ByteString::from_vec(few.to_vec(alloc)?)?))
         }
         Call::Truncate(path, size) => Ok(Op::Truncate(Path::parse(alloc, path)?, size)),
         Call::Rename(from, to) => {

@@ -401,6 +401,6 @@ fn the_longest_path_and_the_most_bytes_of_a_call(rt: HostRuntime) -> Result<(), 
     let write = Call::Write(path.as_str(), 0, bytes.as_slice());
     run_one(rt.alloc(), &rt, &mut inodes, write, MORE, 33, &Reply::Done)?;
     let read = Call::Read(path.as_str(), 0, 65_536);
-    let answer = Reply::Bytes(ByteString::from_vec(bytes));
+    let answer = Reply::Bytes(ByteString::from_vec(bytes)?);
     run_one(rt.alloc(), &rt, &mut inodes, read, MORE, 33, &answer)
 }

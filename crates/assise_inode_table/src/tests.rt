@@ -410,7 +410,7 @@ fn read<I: Inodes>(
 /// A tree with two files in the root, one of them with bytes behind a gap.
 fn two_files_in_a_tree(alloc: Global) -> Result<Tree, Fail> {
     let mut tree = Tree::new(alloc);
-    let bytes = ByteString::from_vec(b"abc".to_vec(alloc)?);
+    let bytes = ByteString::from_vec(b"abc".to_vec(alloc)?)?;
     for call in [
         Op::Create(Path::parse(alloc, "/f")?),
         Op::Create(Path::parse(alloc, "/g")?),
