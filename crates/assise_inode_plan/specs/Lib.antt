@@ -2,4 +2,3 @@ pub mod Leased
 pub mod Moving
 pub mod Planning
 pub mod Walking
-pub mod Views

@@ -5,17 +5,9 @@ mod creation;
 mod ending;
 mod file_changes;
 pub mod laws;
-#[cfg(test)]
-mod lease_tests;
 pub mod plan;
 mod queries;
 mod removal;
 mod renaming;
-#[cfg(test)]
-mod renaming_tests;
-#[cfg(test)]
-mod tables;
-#[cfg(test)]
-mod tests;
 pub mod view;
 mod walk;

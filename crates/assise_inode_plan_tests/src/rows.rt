@@ -1,0 +1,176 @@
+// Rows of a call and of what is planned for it.
+ghost use Rattle.std.specs.Prelude.{IsTrue};
+ghost use Rattle.assise_inode_plan.specs.Planning.{IsWritable};
+
+use crate::leases::PartlyLeased;
+use crate::plan_text::put_plan;
+use assise_fault_script::command::Command;
+use assise_fault_script::parse::{NumberedCommand, parse};
+use assise_inode_plan::plan::{Planned, plan};
+use assise_inode_plan::view::{AllLeased, View};
+use assise_inode_table::table::InodeTable;
+use assise_names::call::Op;
+use assise_names::refusal::Refusal;
+use assise_record::effect::MOST_EXTENT_BYTES;
+use std::alloc::{AllocError, Global};
+use std::process::Abort;
+
+/// The number of the first inode that a row makes. The others follow it.
+pub(crate) const FIRST: u64 = 4_294_967_296;
+
+/// Sees that in each text each row `CALL => PLAN` says what is planned. The rows of a text come one after another, from
+/// the opening of a file system on.
+pub(crate) fn show(alloc: Global, rt: &impl Abort, texts: &[&str]) {
+    for rows in texts {
+        show_rows(alloc, rt, rows);
+    }
+}
+
+fn show_rows(alloc: Global, rt: &impl Abort, rows: &str) {
+    let wrong = wrong_rows(alloc, rows).expect(rt, "out of memory");
+    assert!(rt; wrong.is_empty(), "what is planned:\n{wrong}");
+}
+
+/// The rows that say something else than what is planned, with what is planned in its place.
+fn wrong_rows(alloc: Global, rows: &str) -> Result<String, Refusal> {
+    let mut inodes = InodeTable::opening(alloc)?;
+    let mut wrong = String::new(alloc);
+    put_wrong_rows(alloc, &mut inodes, rows, &mut wrong)?;
+    Ok(wrong)
+}
+
+fn put_wrong_rows(
+    alloc: Global,
+    inodes: &mut InodeTable,
+    rows: &str,
+    wrong: &mut String,
+) -> Result<(), AllocError> {
+    let mut fresh = FIRST;
+    for row in rows.lines() {
+        let right = right_row(alloc, inodes, call_of(row), fresh)?;
+        put_if_wrong(wrong, row, right)?;
+        fresh = next(inodes, fresh);
+    }
+    Ok(())
+}
+
+/// Appends the right row, if the row is another one.
+fn put_if_wrong(wrong: &mut String, row: &str, right: String) -> Result<(), AllocError> {
+    if row == right.as_str() {
+        Ok(())
+    } else {
+        writeln!(wrong, "{right}")
+    }
+}
+
+/// The number of the next inode.
+fn next(inodes: &InodeTable, fresh: u64) -> u64 {
+    if inodes.get(fresh).is_some() {
+        fresh.wrapping_add(1)
+    } else {
+        fresh
+    }
+}
+
+/// The row `CALL => PLAN` of a call. Where there is no such call the plan is empty.
+fn right_row(
+    alloc: Global,
+    inodes: &mut InodeTable,
+    call: &str,
+    fresh: u64,
+) -> Result<String, AllocError> {
+    let mut text = format!(in alloc; "{call} => ")?;
+    if let Some(planned) = planned_row(alloc, inodes, call, fresh) {
+        put_plan(&mut text, &planned)?;
+    }
+    Ok(text)
+}
+
+fn call_of(row: &str) -> &str {
+    match row.split_once(" => ") {
+        Some((call, _)) => call,
+        None => row,
+    }
+}
+
+/// Plans a call over all inodes and makes its effects; or, where it is `LEASES: CALL`, over the inodes with these
+/// leases, and makes none.
+fn planned_row(alloc: Global, inodes: &mut InodeTable, call: &str, fresh: u64) -> Option<Planned> {
+    match call.split_once(": ") {
+        Some((leases, call)) => planned_under(alloc, inodes, leases, call, fresh),
+        None => planned_and_made(alloc, inodes, call, fresh),
+    }
+}
+
+fn planned_under(
+    alloc: Global,
+    inodes: &InodeTable,
+    leases: &str,
+    call: &str,
+    fresh: u64,
+) -> Option<Planned> {
+    let view = PartlyLeased::parse(inodes, leases)?;
+    planned_call(alloc, &view, call, fresh)
+}
+
+fn planned_and_made(
+    alloc: Global,
+    inodes: &mut InodeTable,
+    call: &str,
+    fresh: u64,
+) -> Option<Planned> {
+    let planned = planned_call(alloc, &AllLeased { inodes: &*inodes }, call, fresh)?;
+    make(inodes, &planned).ok()?;
+    Some(planned)
+}
+
+/// Makes the effects of a plan.
+fn make(inodes: &mut InodeTable, planned: &Planned) -> Result<(), Refusal> {
+    if let Planned::Ready { effects, .. } = planned {
+        for effect in effects {
+            inodes.apply(effect)?;
+        }
+    }
+    Ok(())
+}
+
+/// Plans a call that is written as in a script.
+fn planned_call<V: View>(alloc: Global, view: &V, call: &str, fresh: u64) -> Option<Planned> {
+    let commands = commands_of(alloc, call)?;
+    planned_op(alloc, view, op_in(commands.as_slice())?, fresh)
+}
+
+/// The commands of a script with this call behind a cluster.
+fn commands_of(alloc: Global, call: &str) -> Option<Vec<NumberedCommand>> {
+    let script = script_of(alloc, call).ok()?;
+    parse(alloc, script.as_bytes()).ok()
+}
+
+fn script_of(alloc: Global, call: &str) -> Result<String, AllocError> {
+    format!(in alloc; "cluster 1 8 1\n1 {call}")
+}
+
+fn op_in(commands: &[NumberedCommand]) -> Option<&Op> {
+    match &commands.last()?.command {
+        Command::Call { op, .. } => Some(op),
+        _ => None,
+    }
+}
+
+fn planned_op<V: View>(alloc: Global, view: &V, op: &Op, fresh: u64) -> Option<Planned> {
+    if is_writable(op) {
+        plan(alloc, view, op, fresh).ok()
+    } else {
+        None
+    }
+}
+
+/// Whether a call writes at most 65,536 bytes.
+fn is_writable(op: &Op) -> bool
+    ensures { IsTrue result → IsWritable op.now }
+{
+    match op {
+        Op::Write(_, _, bytes) => bytes.len() <= MOST_EXTENT_BYTES,
+        _ => true,
+    }
+}
