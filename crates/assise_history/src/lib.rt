@@ -11,5 +11,3 @@ pub mod kept;
 pub mod laws;
 mod played;
 pub mod replay;
-#[cfg(test)]
-mod tests;

@@ -35,15 +35,15 @@ fn reply(alloc: Global, tree: &mut Tree, op: &Op) -> Option<Reply> {
 
 /// Makes the call of such a script, and gives the text of its reply.
 fn reply_to(alloc: Global, rt: &impl Abort, tree: &mut Tree, script: &str) -> String {
-    let commands = commands(alloc, script).expect(rt, "no script");
-    let op = only_call(commands.as_slice()).expect(rt, "no call");
+    let commands = commands(alloc, script).expect(rt, script);
+    let op = only_call(commands.as_slice()).expect(rt, script);
     let reply = reply(alloc, tree, op).expect(rt, "no memory");
     reply.to_string(alloc).expect(rt, "no memory")
 }
 
 /// Makes the call of a line `CALL = REPLY`, and compares its reply.
 fn show_line(alloc: Global, rt: &impl Abort, tree: &mut Tree, line: &str) {
-    let (call, wanted) = line.split_once(" = ").expect(rt, "no reply");
+    let (call, wanted) = line.split_once(" = ").expect(rt, line);
     let script = format!(in alloc; "cluster 1 8 1\n1 {call}").expect(rt, "no memory");
     let reply = reply_to(alloc, rt, tree, script.as_str());
     assert!(rt; reply.as_str() == wanted, "{line}, and not {reply}");
