@@ -1,0 +1,15 @@
+//! Tests of `assise_inode_table`.
+#![tactic(auto)]
+
+#[cfg(test)]
+mod calls;
+#[cfg(test)]
+mod effects;
+#[cfg(test)]
+mod inode_text;
+#[cfg(test)]
+mod rows;
+#[cfg(test)]
+mod subjects;
+#[cfg(test)]
+mod tests;
