@@ -9,5 +9,3 @@ pub mod inodes;
 pub mod laws;
 pub mod numbers;
 pub mod table;
-#[cfg(test)]
-mod tests;

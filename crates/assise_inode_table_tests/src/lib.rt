@@ -3,3 +3,15 @@
 
 #[cfg(test)]
 mod blocks;
+#[cfg(test)]
+mod calls;
+#[cfg(test)]
+mod effects;
+#[cfg(test)]
+mod inode_text;
+#[cfg(test)]
+mod rows;
+#[cfg(test)]
+mod subjects;
+#[cfg(test)]
+mod tests;
