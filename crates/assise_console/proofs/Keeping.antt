@@ -17,11 +17,12 @@ use Rattle.assise_history.specs.Kept.{kept, tree_after}
 use Rattle.assise_history.proofs.Runs.{kept-push, tree_after-push}
 use Rattle.assise_inode_table.specs.Calls.{step}
 use Rattle.assise_inode_table.specs.Contents.{Content, InodeMap, Values, values}
-use Rattle.assise_inode_table.specs.Effects.{after}
+use Rattle.assise_inode_table.specs.Effects.{after, all_applied}
 use Rattle.assise_inode_table.specs.Numbers.{AnsweredCall, inode_number, inodes_made, makes_inode, numbered, numbered_call}
 use Rattle.assise_inode_table.specs.Opening.{opening}
 use Rattle.assise_inode_table.specs.Spelled.{Spells}
 use Rattle.assise_inode_table.specs.Traces.{NumberedCall, step_of, values_after_calls}
+use Rattle.assise_inode_table.proofs.Applying.{values-all_applied}
 use Rattle.assise_inode_table.proofs.AtOpening.{opening_spells, root_alone}
 use Rattle.assise_inode_table.proofs.CallEnds.{makes_own}
 use Rattle.assise_inode_table.proofs.CallSteps.{step_replies, step_spells}
@@ -29,9 +30,7 @@ use Rattle.assise_inode_table.proofs.Numbering.{one_more, there_or_made}
 use Rattle.assise_console.specs.declared.answer.Answer.TheVariants.{Client, Refused, Replied}
 use Rattle.assise_console.specs.Sound.{IsKept, IsMade, answered_call, answered_calls, state_of}
 use Rattle.assise_console.specs.Steps.{State, answered, made_after, newly_opened, opened, with_reply}
-use Rattle.assise_console.specs.Undone.{all_applied}
 use Rattle.assise_console.proofs.Soundness.{keeps_called, keeps_opened, keeps_start}
-use Rattle.assise_console.proofs.Undoing.{values-all_applied}
 
 -- ---- at the opening
 

@@ -1,7 +1,6 @@
 pub mod CommandLine
 pub mod Steps
 pub mod Sound
-pub mod Undone
 pub mod Lines
 pub mod Engines
 pub mod Faults

@@ -7,7 +7,7 @@ ghost use Rattle.assise_names.specs.declared.refusal.Refusal.TheVariants.{OutOfM
 ghost use Rattle.assise_seq_tree.specs.Answer.{answer as tree_answer};
 
 use crate::answer::Answer;
-use crate::outcome::{make_all, outcome_of};
+use crate::outcome::outcome_of;
 use assise_fault_script::command::Command;
 use assise_history::call::Call;
 use assise_history::entry::Entry;
@@ -163,7 +163,7 @@ impl Console {
         };
         let reply = outcome.reply.copy(alloc)?;
         self.history.reserve()?;
-        make_all(&mut self.inodes, outcome.effects.as_slice(), fresh)?;
+        self.inodes.apply_all(outcome.effects.as_slice())?;
         let number = self.calls;
         self.history.push(Entry::call(Call {
             client: CLIENT,

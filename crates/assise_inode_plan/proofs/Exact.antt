@@ -13,7 +13,9 @@ use Rattle.assise_inode_table.specs.Effects.{touched}
 use Rattle.assise_inode_table.specs.Interaction.{Interaction, visit, finish, visits_of, reply_of, effects_of, Step, step_by}
 use Rattle.assise_inode_table.specs.Spelled.{Spells}
 use Rattle.assise_inode_table.proofs.CallEnds.{few_effects}
+use Rattle.assise_inode_table.specs.Whole.{CanBeMadeWhole}
 use Rattle.assise_inode_table.proofs.CallSteps.{step_replies, step_spells}
+use Rattle.assise_inode_table.proofs.Wholeness.{effects_whole}
 use Rattle.assise_inode_plan.specs.Leased.{Leases, wants, for_writing, first_missing}
 use Rattle.assise_inode_plan.specs.Planning.{Answers, effects_planned, plan_lacking, plan_of, shown}
 use Rattle.assise_inode_plan.specs.Walking.{plan_from}
@@ -67,3 +69,15 @@ pub few_effects_planned : {E : Type 0} (r : Result Planned E) (leased : Leases) 
 few_effects_planned (Ok p) leased v op fresh h =
     subst (λ plan. length (effects_planned plan) ≤ 4) (sym (h ∙ whole_plan leased v (interaction op fresh))) (few_planned leased v op fresh (first_missing leased (wants (step v op fresh))))
 few_effects_planned (Err e) leased v op fresh h = tt
+
+-- ---- they can be made all or none
+
+whole_planned : (v : Values) (op : Op) (fresh : ℕ) (lack : Option (ℕ × Mode)) → CanBeMadeWhole (effects_planned (plan_lacking (step v op fresh) lack))
+whole_planned v op fresh None = effects_whole v op fresh
+whole_planned v op fresh (Some w) = inr (inl tt)
+
+pub whole_effects_planned : {E : Type 0} (r : Result Planned E) (leased : Leases) (v : Values) (op : Op) (fresh : ℕ) → IfOk r (λ p. shown p ≡ plan_from leased v [] (interaction op fresh)) →
+    IfOk r (λ p. CanBeMadeWhole (effects_planned (shown p)))
+whole_effects_planned (Ok p) leased v op fresh h =
+    subst (λ plan. CanBeMadeWhole (effects_planned plan)) (sym (h ∙ whole_plan leased v (interaction op fresh))) (whole_planned v op fresh (first_missing leased (wants (step v op fresh))))
+whole_effects_planned (Err e) leased v op fresh h = tt

@@ -8,6 +8,7 @@ ghost use Rattle.assise_inode_table.specs.Calls.{interaction, step};
 ghost use Rattle.assise_inode_table.specs.Contents.{Values, values};
 ghost use Rattle.assise_inode_table.specs.Interaction.{visits_of};
 ghost use Rattle.assise_inode_table.specs.Spelled.{Spells};
+ghost use Rattle.assise_inode_table.specs.Whole.{CanBeMadeWhole};
 ghost use Rattle.assise_names.specs.declared.refusal.Refusal.TheVariants.{OutOfMemory};
 ghost use Rattle.assise_seq_tree.specs.Answer.{answer};
 ghost use Rattle.assise_seq_tree.specs.Tree.{Tree};
@@ -79,7 +80,8 @@ pub enum Planned {
 ///
 /// The one refusal is [`Refusal::OutOfMemory`]. Memory is asked for only where the first inode that the call visits is
 /// leased: what visits nothing, as [`Op::Fsync`] and a change of the root itself, is answered without, and so is a
-/// missing lease of the root. There are at most four effects.
+/// missing lease of the root. There are at most four effects, and they can be made all or none without a copy (see
+/// [`apply_all`](assise_inode_table::whole::apply_all)).
 pub fn plan<V: View>(alloc: Global, view: &V, op: &Op, fresh: u64) -> Result<Planned, Refusal>
     requires one_write { IsWritable op.now }
     ensures exact { IfOk result (λ p. shown p ≡ plan_of (V.leased view.now) (step (values (V.contents view.now)) op.now fresh)) }
@@ -88,6 +90,7 @@ pub fn plan<V: View>(alloc: Global, view: &V, op: &Op, fresh: u64) -> Result<Pla
     ensures answers { (t : Tree) → Spells (values (V.contents view.now)) t → map.get (V.contents view.now) fresh ≡ None
         → IfOk result (λ p. Answers (values (V.contents view.now)) (answer t op.now) (shown p)) }
     ensures few_effects { IfOk result (λ p. length (effects_planned (shown p)) ≤ 4) }
+    ensures whole { IfOk result (λ p. CanBeMadeWhole (effects_planned (shown p))) }
     ensures asked { OnErr result (NotesAVisit (V.leased view.now) (step (values (V.contents view.now)) op.now fresh).visits) }
     ensures only_memory { IsOkUnless result OutOfMemory }
 {

@@ -8,7 +8,7 @@ ghost use Rattle.assise_inode_table.specs.Reach.{link_of};
 ghost use Rattle.assise_names.specs.declared.mode.Mode.TheVariants.{Read};
 ghost use Rattle.assise_names.specs.declared.refusal.Refusal.TheVariants.{OutOfMemory};
 
-use crate::view::View;
+use crate::view::{View, look_at};
 use assise_inode_table::inode::Inode;
 use assise_inode_table::table::ROOT;
 use assise_names::mode::Mode;
@@ -143,7 +143,7 @@ fn visit<'a, V: View>(
         return Ok(Err(Stop::Unleased(inode)));
     }
     reads.push(inode)?;
-    Ok(Ok(view.get(inode)))
+    Ok(Ok(look_at(view, inode)))
 }
 
 /// The inode that a name links to from what was visited.

@@ -1,6 +1,7 @@
 // Inodes of which some are leased.
 use assise_inode_plan::view::View;
 use assise_inode_table::inode::Inode;
+use assise_inode_table::inodes::Inodes;
 use assise_inode_table::table::InodeTable;
 use assise_names::mode::Mode;
 
@@ -39,10 +40,16 @@ fn inode_of(text: &str) -> Option<u64> {
     number.parse::<u64>().ok()
 }
 
+impl Inodes for PartlyLeased<'_> {
+    ghost contents = { λ view. view.inodes.now };
+
+    fn get(&self, inode: u64) -> Option<&Inode> {
+        self.inodes.get(inode)
+    }
+}
+
 impl View for PartlyLeased<'_> {
     ghost use Rattle.assise_inode_plan_tests.specs.Views.{partly};
-
-    ghost contents = { λ view. view.inodes.now };
 
     ghost leased = { λ view. partly view.unread view.written view.inode };
 
@@ -52,9 +59,5 @@ impl View for PartlyLeased<'_> {
             Mode::Write if self.written => inode == self.inode,
             Mode::Write => inode != self.inode,
         }
-    }
-
-    fn get(&self, inode: u64) -> Option<&Inode> {
-        self.inodes.get(inode)
     }
 }

@@ -36,3 +36,8 @@ pub mod RenamingCalls
 pub mod CallEnds
 pub mod AtOpening
 pub mod Numbering
+pub mod Applying
+pub mod LinkingFirst
+pub mod Wholeness
+pub mod Changing
+pub mod Putting

@@ -56,7 +56,7 @@ same_number i j =
       | inr apart ↦ apart_number i j apart (eq_by_cmp nat_cmp i j) refl ∙ sym (ne_eqb j i apart)
     ]
 
-get-with_value : (m : InodeMap) (j : ℕ) (o : Option Content) (i : ℕ) → fin.get (with_value m j o) i ≡ (if j == i then o else fin.get m i)
+pub get-with_value : (m : InodeMap) (j : ℕ) (o : Option Content) (i : ℕ) → fin.get (with_value m j o) i ≡ (if j == i then o else fin.get m i)
 get-with_value m j None i = fin.get-remove nat_cmp_total m j i ∙ ap (λ b. cond b None (fin.get m i)) (same_number i j)
 get-with_value m j (Some content) i = fin.get-insert nat_cmp_total m j content i ∙ ap (λ b. cond b (Some content) (fin.get m i)) (same_number i j)
 

@@ -52,6 +52,16 @@ makes i (Link d name j) = false
 makes i (Unlink d name) = false
 makes i (Free j) = false
 
+-- the inode that an effect makes, whatever its number had
+abbrev pub made_by : Effect → Option Content
+made_by (NewFile i) = Some (regular [])
+made_by (NewDir i) = Some (directory fin.empty)
+made_by (Write i patch) = None
+made_by (SetLen i size) = None
+made_by (Link d name i) = None
+made_by (Unlink d name) = None
+made_by (Free i) = None
+
 -- the effect takes away what is there, for which no memory is needed
 abbrev pub TakesAway : Effect → Type 0
 TakesAway (Unlink d name) = Unit {0}
@@ -91,3 +101,8 @@ with_value m i (Some content) = fin.insert m i content
 -- the map after an effect
 abbrev pub applied : InodeMap → Effect → InodeMap
 applied m e = with_value m (touched_by e) (effect_on (fin.get m (touched_by e)) e)
+
+-- the map after effects, one after another
+abbrev pub all_applied : InodeMap → List Effect → InodeMap
+all_applied m [] = m
+all_applied m (e ∷ es) = all_applied (applied m e) es

@@ -11,3 +11,5 @@ pub mod Late
 pub mod Kind
 pub mod Opening
 pub mod Blocks
+pub mod Whole
+pub mod Changes

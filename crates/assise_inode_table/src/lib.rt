@@ -2,10 +2,13 @@
 #![tactic(auto)]
 
 mod blocks;
+pub mod changes;
 pub mod directory;
 pub mod file_bytes;
 pub mod inode;
 pub mod inodes;
 pub mod laws;
 pub mod numbers;
+pub mod store;
 pub mod table;
+pub mod whole;

@@ -2,12 +2,15 @@
 ghost use Rattle.std.specs.Prelude.{◌≡◌, IfOk, IsOk, IsOkUnless, None, OnErr, OnOk, option_copied, option_map};
 ghost use Rattle.std.specs.FinMap as map;
 ghost use Rattle.assise_names.specs.declared.refusal.Refusal.TheVariants.{OutOfMemory};
-ghost use Rattle.assise_inode_table.specs.Effects.{AsksForMemory, TakesAway, applied, changed, with_value};
+ghost use Rattle.assise_inode_table.specs.Effects.{AsksForMemory, TakesAway, all_applied, applied, changed, with_value};
 ghost use Rattle.assise_inode_table.specs.Opening.{opening};
+ghost use Rattle.assise_inode_table.specs.Whole.{CanBeMadeWhole, OnlyTakeAway};
 ghost use Rattle.assise_record.specs.Touched.{touched_by};
 
 use crate::inode::Inode;
 use crate::inodes::Inodes;
+use crate::store::InodeStore;
+use crate::whole::apply_all;
 use assise_names::refusal::Refusal;
 use assise_record::effect::Effect;
 use std::alloc::Global;
@@ -64,23 +67,24 @@ impl InodeTable {
         self.inodes.get(&inode)
     }
 
-    /// Gives a number an inode, in place of the one that it had. The one refusal is [`Refusal::OutOfMemory`], where it
-    /// had none, and it leaves the table as it was.
-    pub fn insert(&mut self, inode: u64, content: Inode) -> Result<(), Refusal>
+    /// Gives a number an inode, and gives back the one that it had. The one refusal is [`Refusal::OutOfMemory`], where
+    /// it had none, and it leaves the table as it was.
+    pub fn insert(&mut self, inode: u64, content: Inode) -> Result<Option<Inode>, Refusal>
         ensures ok { OnOk result (self.new ≡ map.insert self.old inode content) }
+        ensures replaced { IfOk result (λ had. had ≡ map.get self.old inode) }
         ensures err { OnErr result (self.new ≡ self.old) }
         ensures asked { OnErr result (map.get self.old inode ≡ None) }
         ensures only_memory { IsOkUnless result OutOfMemory }
     {
-        self.inodes.insert(inode, content)?;
-        Ok(())
+        Ok(self.inodes.insert(inode, content)?)
     }
 
     /// Takes the inode of a number out, if it is there.
-    pub fn remove(&mut self, inode: u64)
-        ensures { self.new ≡ map.remove self.old inode }
+    pub fn remove(&mut self, inode: u64) -> Option<Inode>
+        ensures removed { result ≡ map.get self.old inode }
+        ensures others { self.new ≡ map.remove self.old inode }
     {
-        self.inodes.remove(&inode);
+        self.inodes.remove(&inode)
     }
 
     /// Makes an effect: a new file or directory stands in place of what its number had, a freed inode is gone, and
@@ -96,14 +100,30 @@ impl InodeTable {
         ensures only_memory { IsOkUnless result OutOfMemory }
     {
         match effect {
-            Effect::NewFile { inode } => self.insert(*inode, Inode::new_file(self.alloc)),
-            Effect::NewDir { inode } => self.insert(*inode, Inode::new_directory(self.alloc)),
+            Effect::NewFile { inode } => {
+                self.insert(*inode, Inode::new_file(self.alloc))?;
+            }
+            Effect::NewDir { inode } => {
+                self.insert(*inode, Inode::new_directory(self.alloc))?;
+            }
             Effect::Free { inode } => {
                 self.remove(*inode);
-                Ok(())
             }
-            change => self.change(change),
+            change => self.change(change)?,
         }
+        Ok(())
+    }
+
+    /// Makes the effects of a call, all of them in their order or none, without a copy of what they change (see
+    /// [`apply_all`]). The one refusal is [`Refusal::OutOfMemory`], and it leaves the table as it was.
+    pub fn apply_all(&mut self, effects: &[Effect]) -> Result<(), Refusal>
+        requires whole { CanBeMadeWhole effects.now }
+        ensures ok { OnOk result (self.new ≡ all_applied self.old effects.now) }
+        ensures taken_away { OnlyTakeAway effects.now → IsOk result }
+        ensures err { OnErr result (self.new ≡ self.old) }
+        ensures only_memory { IsOkUnless result OutOfMemory }
+    {
+        apply_all(self, effects)
     }
 
     /// Changes the inode that an effect touches, where there is one.
@@ -128,5 +148,23 @@ impl Inodes for InodeTable {
 
     fn get(&self, inode: u64) -> Option<&Inode> {
         InodeTable::get(self, inode)
+    }
+}
+
+impl InodeStore for InodeTable {
+    fn allocator(&self) -> Global {
+        self.alloc
+    }
+
+    fn insert(&mut self, inode: u64, content: Inode) -> Result<Option<Inode>, Refusal> {
+        InodeTable::insert(self, inode, content)
+    }
+
+    fn remove(&mut self, inode: u64) -> Option<Inode> {
+        InodeTable::remove(self, inode)
+    }
+
+    fn apply(&mut self, effect: &Effect) -> Result<(), Refusal> {
+        InodeTable::apply(self, effect)
     }
 }

@@ -4,13 +4,13 @@ use Rattle.assise_inode_plan.proofs.WalkEnds.{entry_walk_stops, entry_fault, ent
 use Rattle.assise_inode_plan.proofs.walk.walk_to_entry.Goals as goal
 
 pub returns-in-Err-clause-left : goal.returns-in-Err-clause-left
-returns-in-Err-clause-left g c = entry_walk_stops (g.V.View.leased c.args.view.now) (values (g.V.View.contents c.args.view.now)) c.args.reads.now.items c.args.parent.now c.walk.new.reads.items c.in_ok-reached.field-0 c.in_ok-reached.ensures.left c.in-Err.stop c.in-Err.is c.args.name.now
+returns-in-Err-clause-left g c = entry_walk_stops (g.V.View.leased c.args.view.now) (values (g.V.Inodes.contents c.args.view.now)) c.args.reads.now.items c.args.parent.now c.walk.new.reads.items c.in_ok-reached.field-0 c.in_ok-reached.ensures.left c.in-Err.stop c.in-Err.is c.args.name.now
 
 pub returns-in-Err-link-clause-left : goal.returns-in-Err-link-clause-left
-returns-in-Err-link-clause-left g c = entry_fault (g.V.View.leased c.args.view.now) (values (g.V.View.contents c.args.view.now)) c.args.reads.now.items c.args.parent.now c.walk.new.reads.items c.in_ok-reached.field-0 c.in_ok-reached.ensures.left c.in-Ok.reached c.in-Ok.is c.args.name.now c.in-Err-link.error (sym c.link.ensures ∙ c.in-Err-link.is)
+returns-in-Err-link-clause-left g c = entry_fault (g.V.View.leased c.args.view.now) (values (g.V.Inodes.contents c.args.view.now)) c.args.reads.now.items c.args.parent.now c.walk.new.reads.items c.in_ok-reached.field-0 c.in_ok-reached.ensures.left c.in-Ok.reached c.in-Ok.is c.args.name.now c.in-Err-link.error (sym c.link.ensures ∙ c.in-Err-link.is)
 
 pub returns-in-Ok-2-clause-left : goal.returns-in-Ok-2-clause-left
-returns-in-Ok-2-clause-left g c = entry_ends (g.V.View.leased c.args.view.now) (values (g.V.View.contents c.args.view.now)) c.args.reads.now.items c.args.parent.now c.walk.new.reads.items c.in_ok-reached.field-0 c.in_ok-reached.ensures.left c.in-Ok.reached c.in-Ok.is c.args.name.now c.in-Ok-link.inode (sym c.link.ensures ∙ c.in-Ok-link.is) c.reach.new.reads.items c.in_ok-content.field-0 c.in_ok-content.ensures.left c.in-Ok-2.content c.in-Ok-2.is
+returns-in-Ok-2-clause-left g c = entry_ends (g.V.View.leased c.args.view.now) (values (g.V.Inodes.contents c.args.view.now)) c.args.reads.now.items c.args.parent.now c.walk.new.reads.items c.in_ok-reached.field-0 c.in_ok-reached.ensures.left c.in-Ok.reached c.in-Ok.is c.args.name.now c.in-Ok-link.inode (sym c.link.ensures ∙ c.in-Ok-link.is) c.reach.new.reads.items c.in_ok-content.field-0 c.in_ok-content.ensures.left c.in-Ok-2.content c.in-Ok-2.is
 
 pub returns-in-Err-2-clause-left : goal.returns-in-Err-2-clause-left
-returns-in-Err-2-clause-left g c = entry_stops (g.V.View.leased c.args.view.now) (values (g.V.View.contents c.args.view.now)) c.args.reads.now.items c.args.parent.now c.walk.new.reads.items c.in_ok-reached.field-0 c.in_ok-reached.ensures.left c.in-Ok.reached c.in-Ok.is c.args.name.now c.in-Ok-link.inode (sym c.link.ensures ∙ c.in-Ok-link.is) c.reach.new.reads.items c.in_ok-content.field-0 c.in_ok-content.ensures.left c.in-Err-2.stop c.in-Err-2.is
+returns-in-Err-2-clause-left g c = entry_stops (g.V.View.leased c.args.view.now) (values (g.V.Inodes.contents c.args.view.now)) c.args.reads.now.items c.args.parent.now c.walk.new.reads.items c.in_ok-reached.field-0 c.in_ok-reached.ensures.left c.in-Ok.reached c.in-Ok.is c.args.name.now c.in-Ok-link.inode (sym c.link.ensures ∙ c.in-Ok-link.is) c.reach.new.reads.items c.in_ok-content.field-0 c.in_ok-content.ensures.left c.in-Err-2.stop c.in-Err-2.is

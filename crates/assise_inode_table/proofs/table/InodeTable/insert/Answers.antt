@@ -15,3 +15,6 @@ pub returns-in_err-insert-clause-asked : goal.returns-in_err-insert-clause-asked
 returns-in_err-insert-clause-asked c =
     on_err c.from_residual.result _
     (ap (λ m. map.get m c.args.inode) (sym c.self.view_is) ∙ get-view nat_cmp_total c.self.inside.inodes.entries c.args.inode ∙ c.in_err-insert.ensures.absent)
+
+pub returns-clause-replaced : goal.returns-clause-replaced
+returns-clause-replaced c = c.in_ok-insert.ensures.old ∙ sym (get-view nat_cmp_total c.self.inside.inodes.entries c.args.inode) ∙ ap (λ m. map.get m c.args.inode) c.self.view_is

@@ -1,5 +1,5 @@
 -- A link that is made before effects that only take away.
-use Rattle.std.proofs.Common.{◌≡◌, ℕ, ◌==◌, ◌&&◌, not, Bool, true, false, if◌then◌else◌, cond, List, [], ◌∷◌, ◌++◌, ◌+◌, ◌<◌, ◌≤◌, ◌-◌, arith, length, take, slice_index_or, Option, Some, None, refl, ap, sym, ◌∙◌, inl, inr}
+use Rattle.std.proofs.Common.{◌≡◌, ℕ, ◌==◌, ◌&&◌, not, Bool, true, false, if◌then◌else◌, cond, List, [], ◌∷◌, ◌++◌, ◌+◌, ◌<◌, ◌≤◌, ◌-◌, arith, length, take, slice_index_or, Option, Some, None, refl, ap, sym, subst, ◌∙◌, inl, inr}
 use Rattle.std.specs.List.{filter, list_all}
 use Rattle.std.proofs.lemmas.List.{take_all, take_more}
 use Rattle.std.proofs.lemmas.List.Elements.{filter-append}
@@ -11,9 +11,9 @@ use Rattle.assise_record.specs.declared.effect.Effect.TheVariants.{NewFile, NewD
 use Rattle.assise_seq_tree.specs.Tree.{same_name}
 use Rattle.assise_seq_tree.proofs.Sets.{same_itself, one_name}
 use Rattle.assise_inode_table.specs.Contents.{Content, regular, directory, Links, InodeMap}
-use Rattle.assise_inode_table.specs.Effects.{TakesAway, applied, effect_on, value_after}
-use Rattle.assise_console.specs.Undone.{CanBeMadeWhole, CanBeUndone, OnlyTakeAway, all_applied, is_link, leaves_entry, takes_away}
-use Rattle.assise_console.proofs.Undoing.{append_applied, get-all_applied, same_inodes}
+use Rattle.assise_inode_table.specs.Effects.{TakesAway, all_applied, applied, effect_on, value_after}
+use Rattle.assise_inode_table.specs.Whole.{CanBeChangedWhole, OnlyFirstAsks, OnlyTakeAway, is_link, leaves_entry, takes_away}
+use Rattle.assise_inode_table.proofs.Applying.{append_applied, get-all_applied, same_inodes}
 
 -- ---- the entries of one directory
 
@@ -201,9 +201,9 @@ all_pass [] t = refl
 all_pass (e ∷ es) t = rw (away_test e t.0) (all_pass es t.1)
 
 -- a list whose last effect is no link, or whose others don't only take away, is made in its order
-pub made_in_order : (fresh : ℕ) (es before : List Effect) (last : Effect) → es ≡ before ++ last ∷ [] → CanBeMadeWhole fresh es → (is_link last ≡ true → list_all takes_away before ≡ true → ⊥) → CanBeUndone fresh es
-made_in_order fresh es before last are (inl undone) other = undone
-made_in_order fresh es before last are (inr w) other =
+pub made_in_order : (es before : List Effect) (last : Effect) → es ≡ before ++ last ∷ [] → CanBeChangedWhole es → (is_link last ≡ true → list_all takes_away before ≡ true → ⊥) → OnlyFirstAsks es
+made_in_order es before last are (inl asks) other = asks
+made_in_order es before last are (inr w) other =
     let same = in_front w.before before w.last last (sym w.are ∙ are) in
     absurd (other (ap is_link (sym same.1) ∙ w.links) (ap (list_all takes_away) (sym same.0) ∙ all_pass w.before w.take_away))
 
@@ -211,3 +211,21 @@ made_in_order fresh es before last are (inr w) other =
 pub last_behind : (es : List Effect) (last : Effect) → 1 ≤ length es → last ≡ slice_index_or es (length es - 1) last → es ≡ take (length es - 1) es ++ last ∷ []
 last_behind es last some is =
     sym (take_all (length es - 1 + 1) es (omega (arith, some))) ∙ take_more es (length es - 1) last (omega (arith, some)) ∙ ap (λ x. take (length es - 1) es ++ x ∷ []) (sym is)
+
+-- a link doesn't take away
+link_not_away : (e : Effect) → is_link e ≡ true → TakesAway e → ⊥
+link_not_away (Link d name i) links t = t
+link_not_away (NewFile i) links t = t
+link_not_away (NewDir i) links t = t
+link_not_away (Write i patch) links t = t
+link_not_away (SetLen i size) links t = t
+link_not_away (Unlink d name) links t = cc
+link_not_away (Free i) links t = cc
+
+last_away : (before : List Effect) (last : Effect) → OnlyTakeAway (before ++ last ∷ []) → TakesAway last
+last_away [] last t = t.0
+last_away (b ∷ bs) last t = last_away bs last t.1
+
+-- where the last one is a link, not all take away
+pub link_last_asks : (es before : List Effect) (last : Effect) → es ≡ before ++ last ∷ [] → is_link last ≡ true → OnlyTakeAway es → ⊥
+link_last_asks es before last are links t = link_not_away last links (last_away before last (subst OnlyTakeAway are t))

@@ -1,27 +1,25 @@
--- Effects that are made all or none.
--- Strata, SOSP 2017, section 3: the operations that a log records.
-use Rattle.std.specs.Prelude.{◌≡◌, ◌⊎◌, ℕ, ◌==◌, ◌&&◌, not, Bool, true, false, List, [], ◌∷◌, ◌++◌}
+-- Effects that can be made all or none without a copy of what they change.
+-- Strata, SOSP 2017, section 3: the operations that a log records; POSIX.1-2017, rename(): the entry is there throughout.
+use Rattle.std.specs.Prelude.{◌≡◌, ◌⊎◌, ℕ, ◌==◌, ◌&&◌, not, Bool, true, false, List, [], ◌∷◌, ◌++◌, IsSome}
 use Rattle.assise_record.specs.declared.effect.Effect.{Effect}
 use Rattle.assise_record.specs.declared.effect.Effect.TheVariants.{NewFile, NewDir, Write, SetLen, Link, Unlink, Free}
-use Rattle.assise_record.specs.Touched.{touched_by}
 use Rattle.assise_seq_tree.specs.Tree.{same_name}
-use Rattle.assise_inode_table.specs.Contents.{InodeMap}
-use Rattle.assise_inode_table.specs.Effects.{TakesAway, applied}
-
--- the map after effects
-abbrev pub all_applied : InodeMap → List Effect → InodeMap
-all_applied m [] = m
-all_applied m (e ∷ es) = all_applied (applied m e) es
+use Rattle.assise_inode_table.specs.Effects.{TakesAway, made_by}
 
 -- each of them takes away what is there, for which no memory is needed
 abbrev pub OnlyTakeAway : List Effect → Type 0
 OnlyTakeAway [] = Unit {0}
 OnlyTakeAway (e ∷ es) = TakesAway e × OnlyTakeAway es
 
--- those on this inode come first; of the others only the first may take memory
-abbrev pub CanBeUndone : ℕ → List Effect → Type 0
-CanBeUndone i [] = Unit {0}
-CanBeUndone i (e ∷ es) = ((touched_by e ≡ i) × CanBeUndone i es) ⊎ OnlyTakeAway es
+-- of the effects only the first may ask for memory
+abbrev pub OnlyFirstAsks : List Effect → Type 0
+OnlyFirstAsks [] = Unit {0}
+OnlyFirstAsks (e ∷ es) = OnlyTakeAway es
+
+-- the first makes an inode, and of the others only the first may ask for memory
+abbrev pub MakesThenAsks : List Effect → Type 0
+MakesThenAsks [] = ⊥
+MakesThenAsks (e ∷ es) = IsSome (made_by e) × OnlyFirstAsks es
 
 -- the effect makes an entry of a directory
 abbrev pub is_link : Effect → Bool
@@ -51,9 +49,13 @@ pub record EndsWithLink (es : List Effect) : Type 0 where
   pub take_away : OnlyTakeAway before
   pub links : is_link last ≡ true
 
--- they are made or undone in their order, or their last one is made first
-abbrev pub CanBeMadeWhole : ℕ → List Effect → Type 0
-CanBeMadeWhole i es = CanBeUndone i es ⊎ EndsWithLink es
+-- in their order, or with the last one first
+abbrev pub CanBeChangedWhole : List Effect → Type 0
+CanBeChangedWhole es = OnlyFirstAsks es ⊎ EndsWithLink es
+
+-- in their order, or behind a new inode, or with the last one first
+abbrev pub CanBeMadeWhole : List Effect → Type 0
+CanBeMadeWhole es = MakesThenAsks es ⊎ CanBeChangedWhole es
 
 -- the effect doesn't take this very entry out
 abbrev pub leaves_entry : ℕ → List ℕ → Effect → Bool

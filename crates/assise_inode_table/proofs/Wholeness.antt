@@ -1,0 +1,40 @@
+-- The effects of a call can be made all or none.
+use Rattle.std.proofs.Common.{◌≡◌, ℕ, ◌==◌, Bool, true, false, cond, List, [], ◌∷◌, length, refl, inl, inr}
+use Rattle.assise_names.specs.declared.call.Op.{Op}
+use Rattle.assise_names.specs.declared.call.Op.TheVariants.{Create, Mkdir, Read, Write as WriteCall, Truncate, Rename, Unlink as UnlinkCall, Rmdir, List as ListCall, Stat, Fsync}
+use Rattle.assise_names.specs.declared.reply.Reply.{Reply}
+use Rattle.assise_record.specs.Patch.{Patch}
+use Rattle.assise_record.specs.declared.effect.Effect.{Effect}
+use Rattle.assise_record.specs.declared.effect.Effect.TheVariants.{Write, Link, Unlink, Free}
+use Rattle.assise_seq_tree.specs.Answer.{last_name}
+use Rattle.assise_inode_table.specs.Calls.{step}
+use Rattle.assise_inode_table.specs.Contents.{Values}
+use Rattle.assise_inode_table.proofs.CallEnds.{HoldsWhereDone, call_ends}
+use Rattle.assise_inode_table.specs.Whole.{CanBeMadeWhole}
+
+abbrev IsWhole : Reply → List Effect → Type 0
+IsWhole reply es = CanBeMadeWhole es
+
+one_written : (none : Bool) (i : ℕ) (patch : Patch) → CanBeMadeWhole (cond none [] (Write i patch ∷ []))
+one_written true i patch = inr (inl tt)
+one_written false i patch = inr (inl tt)
+
+whole_where_done : (op : Op) (fresh : ℕ) → HoldsWhereDone IsWhole op fresh
+whole_where_done (Create p) fresh = λ d. inl (refl, tt)
+whole_where_done (Mkdir p) fresh = λ d. inl (refl, tt)
+whole_where_done (Read p offset most) fresh = λ bytes. inr (inl tt)
+whole_where_done (WriteCall p offset new) fresh = λ i. one_written (length new == 0) i (record { offset = offset; bytes = new })
+whole_where_done (Truncate p size) fresh = λ i. inr (inl tt)
+whole_where_done (Rename p q) fresh = (
+  inr (inl tt),
+  λ d e i. inr (inr (record { before = Unlink d (last_name p) ∷ []; last = Link e (last_name q) i; are = refl; take_away = (tt, tt); links = refl })),
+  λ d e i g. inr (inr (record { before = Unlink e (last_name q) ∷ Free g ∷ Unlink d (last_name p) ∷ []; last = Link e (last_name q) i; are = refl; take_away = (tt, (tt, (tt, tt))); links = refl })),
+)
+whole_where_done (UnlinkCall p) fresh = λ d i. inr (inl (tt, tt))
+whole_where_done (Rmdir p) fresh = λ d i. inr (inl (tt, tt))
+whole_where_done (ListCall p) fresh = λ names. inr (inl tt)
+whole_where_done (Stat p) fresh = λ content. inr (inl tt)
+whole_where_done Fsync fresh = inr (inl tt)
+
+pub effects_whole : (v : Values) (op : Op) (fresh : ℕ) → CanBeMadeWhole (step v op fresh).effects
+effects_whole v op fresh = call_ends v IsWhole (λ e. inr (inl tt)) op fresh (whole_where_done op fresh)

@@ -1,0 +1,10 @@
+use Rattle.std.proofs.Common.{◌≡◌, take}
+use Rattle.assise_inode_table.specs.Changes.{placed, without}
+use Rattle.assise_inode_table.proofs.changes.make_places.Given as goal
+
+abbrev pub invariant-loop-change : goal.invariant-loop-change
+invariant-loop-change g l =
+    record {
+      placed : g.S.Inodes.contents l.store ≡ placed (g.S.Inodes.contents l.fn.store) (take l.change-index l.changes);
+      noted : without (g.S.Inodes.contents l.store) l.made.items ≡ g.S.Inodes.contents l.fn.store;
+    }

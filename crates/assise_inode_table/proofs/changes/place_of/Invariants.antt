@@ -1,0 +1,6 @@
+use Rattle.std.proofs.Common.{take}
+use Rattle.assise_inode_table.specs.Changes.{Lacks}
+use Rattle.assise_inode_table.proofs.changes.place_of.Given as goal
+
+abbrev pub invariant-loop-place : goal.invariant-loop-place
+invariant-loop-place l = Lacks (take l.place l.changes) l.inode

@@ -1,0 +1,9 @@
+use Rattle.std.proofs.Common.{◌≡◌}
+use Rattle.assise_inode_table.specs.Changes.{without}
+use Rattle.assise_inode_table.proofs.changes.take_out.Given as goal
+
+abbrev pub invariant-loop-inode : goal.invariant-loop-inode
+invariant-loop-inode g l = without (g.S.Inodes.contents l.store) l.inodes.items ≡ without (g.S.Inodes.contents l.fn.store) l.fn.inodes.items
+
+abbrev pub decreases-loop-inode : goal.decreases-loop-inode
+decreases-loop-inode g l = goal.left-loop-inode g l
