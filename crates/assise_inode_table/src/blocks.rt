@@ -115,13 +115,19 @@ pub fn replace(
     blocks: &mut Vec<Bytes>,
     first: usize,
     until: usize,
-    made: Vec<Bytes>,
+    mut made: Vec<Bytes>,
 ) -> Result<(), AllocError>
     requires { (first ≤ until) × (until ≤ length blocks.old.items) }
     ensures ok { OnOk result (blocks.new.items ≡ take first blocks.old.items ++ (made.items ++ drop until blocks.old.items)) }
     ensures err { OnErr result (blocks.new.items ≡ blocks.old.items) }
 {
-    blocks.splice(first..until, made)?;
+    if until - first != 1 || made.len() != 1 {
+        blocks.splice(first..until, made)?;
+        return Ok(());
+    }
+    if let Some(block) = made.pop() {
+        blocks[first] = block;
+    }
     Ok(())
 }
 
