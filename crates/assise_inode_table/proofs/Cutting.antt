@@ -1,7 +1,8 @@
 -- Blocks of bytes, joined.
-use Rattle.std.proofs.Common.{◌≡◌, ℕ, zero, suc, ◌+◌, ◌-◌, ◌*◌, ◌<◌, ◌≤◌, List, [], ◌∷◌, ◌++◌, length, take, drop, refl, ap, sym, ◌∙◌, arith, min, append_assoc, append-nil, length-append, take_at, take-append-drop}
-use Rattle.std.proofs.lemmas.List.{take_all, drop_all, drop_at, length-take, length-drop}
+use Rattle.std.proofs.Common.{◌≡◌, ℕ, zero, suc, ◌+◌, ◌-◌, ◌*◌, ◌<◌, ◌≤◌, List, [], ◌∷◌, ◌++◌, length, take, drop, refl, ap, sym, ◌∙◌, subst, get_or, arith, min, append-nil, length-append, take_at, take-append-drop}
+use Rattle.std.proofs.lemmas.List.{take_all, drop_all, drop_at, drop_more, length-take, length-drop}
 use Rattle.std.proofs.lemmas.List.Folds.{concat-append}
+use Rattle.std.proofs.Math.Seq.{take-add}
 use Rattle.std.specs.List.{concat}
 use Rattle.assise_inode_table.specs.Blocks.{IsCut}
 use Rattle.assise_seq_tree.specs.Contents.{bytes_from}
@@ -95,30 +96,41 @@ concat_drop bs k h p = go (drop k bs) refl
         let size = full bs k h (omega (arith, length-drop k bs, ap length e)) in
         sym (ap (drop (4096 * k)) (split bs k) ∙ drop_at (concat (take k bs)) (concat (drop k bs)) (4096 * k) size)
 
+-- ---- one block
+first_taken : (b : List ℕ) (bs : List (List ℕ)) → IsCut (b ∷ bs) → take 4096 (b ++ concat bs) ≡ b
+unfolding IsCut
+first_taken b [] cut = ap (take 4096) (append-nil b) ∙ take_all 4096 b cut.1
+first_taken b (c ∷ bs) cut = take_at b (concat (c ∷ bs)) 4096 (cut.2 (omega arith))
+
+pub block_at : (bs : List (List ℕ)) (k : ℕ) (d : List ℕ) → IsCut bs → k < length bs → get_or bs k d ≡ bytes_from (4096 * k) 4096 (concat bs)
+block_at bs k d h p =
+    let rests : concat (drop k bs) ≡ get_or bs k d ++ concat (drop (k + 1) bs) = ap concat (drop_more bs k d p) in
+    sym (ap (take 4096) (sym (concat_drop bs k h (omega arith)) ∙ rests) ∙ first_taken (get_or bs k d) (drop (k + 1) bs) (subst IsCut (drop_more bs k d p) (cut_drop bs k h)))
+
+pub block_past : (bs : List (List ℕ)) (k : ℕ) → IsCut bs → length bs ≤ k → [] ≡ bytes_from (4096 * k) 4096 (concat bs)
+block_past bs k h p = sym (ap (take 4096) (drop_all (4096 * k) (concat bs) (omega (arith, most bs h))))
+
 -- ---- cutting
--- the blocks so far, and the bytes that are left
-pub record CutSoFar (blocks : List (List ℕ)) (rest bytes : List ℕ) : Type 0 where
+-- the first so many of the blocks that the bytes are cut into
+pub record CutSoFar (blocks : List (List ℕ)) (count : ℕ) (bytes : List ℕ) : Type 0 where
   pub shape : IsCut blocks
-  pub full : 0 < length rest → length (concat blocks) ≡ 4096 * length blocks
-  pub whole : concat blocks ++ rest ≡ bytes
+  pub whole : concat blocks ≡ take (4096 * count) bytes
+  pub many : length blocks ≡ count
 
-pub cut_nothing : (bytes : List ℕ) → CutSoFar [] bytes bytes
-cut_nothing bytes = record { shape = cut_none; full = λ p. omega arith; whole = refl }
+pub cut_nothing : (bytes : List ℕ) → CutSoFar [] 0 bytes
+cut_nothing bytes = record { shape = cut_none; whole = refl; many = refl }
 
-pub cut_more : (blocks : List (List ℕ)) (rest bytes block : List ℕ) (n : ℕ) → CutSoFar blocks rest bytes → 0 < length rest → n ≡ min (length rest) 4096
-    → block ≡ take n rest → CutSoFar (blocks ++ block ∷ []) (drop n rest) bytes
-cut_more blocks rest bytes block n so_far some n_is is =
-    let before = so_far.full some in
-    let size : length block ≡ n = ap length is ∙ omega (arith, length-take n rest) in
+pub cut_more : (blocks : List (List ℕ)) (count : ℕ) (bytes block : List ℕ) → CutSoFar blocks count bytes → 4096 * count < length bytes → block ≡ bytes_from (4096 * count) 4096 bytes
+    → CutSoFar (blocks ++ block ∷ []) (count + 1) bytes
+cut_more blocks count bytes block so_far some is =
+    let size : length block ≡ min 4096 (length bytes - 4096 * count) = ap length is ∙ omega (arith, length-take 4096 (drop (4096 * count) bytes), length-drop (4096 * count) bytes) in
+    let many = so_far.many in
+    let before : length (concat blocks) ≡ 4096 * length blocks = ap length so_far.whole ∙ omega (arith, length-take (4096 * count) bytes, some, many) in
+    let last : concat (blocks ++ block ∷ []) ≡ concat blocks ++ block = concat-append blocks (block ∷ []) ∙ ap (λ xs. concat blocks ++ xs) (append-nil block) in
     record {
-      shape = cut_append blocks (block ∷ []) so_far.shape (cut_one block (omega arith) (omega arith)) (λ p. before);
-      full = λ p.
-          omega (arith, before, size, ap length (concat-append blocks (block ∷ [])), length-append (concat blocks) (block ++ []), length-append block [], length-append blocks (block ∷ []), length-drop n rest);
-      whole =
-          ap (λ xs. xs ++ drop n rest) (concat-append blocks (block ∷ []) ∙ ap (λ xs. concat blocks ++ xs) (append-nil block))
-          ∙ append_assoc (concat blocks) block (drop n rest)
-          ∙ ap (λ xs. concat blocks ++ xs) (ap (λ xs. xs ++ drop n rest) is ∙ take-append-drop n rest)
-          ∙ so_far.whole;
+      shape = cut_append blocks (block ∷ []) so_far.shape (cut_one block (omega (arith, size, some)) (omega (arith, size))) (λ p. before);
+      whole = last ∙ ap (λ xs. xs ++ block) so_far.whole ∙ ap (λ xs. take (4096 * count) bytes ++ xs) is ∙ sym (take-add (4096 * count) 4096 bytes) ∙ ap (λ n. take n bytes) (omega arith);
+      many = omega (arith, length-append blocks (block ∷ []), many);
     }
 
 -- ---- joining

@@ -1,13 +1,14 @@
 -- Writes, reads and cuts of bytes in blocks.
 use Rattle.std.proofs.Common.{◌≡◌, ℕ, zero, suc, ◌+◌, ◌-◌, ◌*◌, ◌/◌, ◌<◌, ◌≤◌, List, [], ◌∷◌, ◌++◌, length, take, drop, replicate, refl, ap, sym, ◌∙◌, subst, get_or, arith, min, max, append_assoc, append-nil, length-append, take-append-drop}
-use Rattle.std.proofs.lemmas.List.{length-take, length-drop, length-replicate, take-take, drop-take, drop-drop, drop_more, take-append-le}
+use Rattle.std.proofs.lemmas.List.{length-take, length-drop, length-replicate, take_all, drop_all, take-take, drop-take, drop-drop, drop_more, take-append-le}
 use Rattle.std.proofs.lemmas.List.Folds.{concat-append}
 use Rattle.std.proofs.Math.Seq.{take-add}
+use Rattle.std.specs.Int.{div_ceil}
 use Rattle.std.specs.List.{concat}
 use Rattle.assise_seq_tree.specs.Contents.{bytes_from, overwritten}
 use Rattle.assise_seq_tree.proofs.Reading.{length-overwritten}
 use Rattle.assise_inode_table.specs.Blocks.{IsCut, AreBlocks}
-use Rattle.assise_inode_table.proofs.Cutting.{cut_take, cut_drop, cut_append, cut_one, concat_take, concat_drop, most, full, as_many}
+use Rattle.assise_inode_table.proofs.Cutting.{cut_take, cut_drop, cut_append, cut_one, concat_take, concat_drop, least, most, full, as_many}
 
 -- ---- plain lists
 same_take : (n m : ℕ) (xs : List ℕ) → min n (length xs) ≡ min m (length xs) → take n xs ≡ take m xs
@@ -27,10 +28,6 @@ same_drop (suc n) zero [] e = refl
 same_drop (suc n) zero (x ∷ xs) e = absurd (omega arith)
 same_drop (suc n) (suc m) [] e = refl
 same_drop (suc n) (suc m) (x ∷ xs) e = same_drop n m xs (omega arith)
-
-twice_taken : (n m k : ℕ) (xs : List ℕ) → min (min n m) (length xs) ≡ min k (length xs) → take n (take m xs) ≡ take k xs
-twice_taken n m k xs e =
-    same_take n (min n m) (take m xs) (omega (arith, length-take m xs)) ∙ take-take (min n m) m xs (omega arith) ∙ same_take (min n m) k xs e
 
 abbrev zeros : ℕ → List ℕ
 zeros n = replicate n 0
@@ -66,6 +63,109 @@ written_nothing xs o [] h =
     rw (none, same) (simp append-nil (sym (take-append-drop o xs)))
 written_nothing xs o (x ∷ new) h = absurd (omega arith)
 
+-- ---- a part of what is written over
+nothing_over : (xs : List ℕ) → overwritten xs 0 [] ≡ xs
+nothing_over xs = let none : 0 - length xs ≡ 0 = omega arith in rw none refl
+
+over_first : (x : ℕ) (new xs : List ℕ) → overwritten xs 0 (x ∷ new) ≡ x ∷ overwritten (drop 1 xs) 0 new
+over_first x new xs =
+    let none : 0 - length xs ≡ 0 = omega arith in
+    let still : 0 - length (drop 1 xs) ≡ 0 = omega arith in
+    let rest : drop (0 + length (x ∷ new)) xs ≡ drop (0 + length new) (drop 1 xs) = sym (drop-drop (0 + length new) 1 xs ∙ ap (λ n. drop n xs) (omega arith)) in
+    rw (none, still, rest) refl
+
+over_later : (x o : ℕ) (xs new : List ℕ) → overwritten (x ∷ xs) (suc o) new ≡ x ∷ overwritten xs o new
+over_later x o xs new =
+    let gap : suc o - length (x ∷ xs) ≡ o - length xs = omega arith in
+    let more : suc o + length new ≡ suc (o + length new) = omega arith in
+    let rest : drop (suc o + length new) (x ∷ xs) ≡ drop (o + length new) xs = ap (λ n. drop n (x ∷ xs)) more in
+    rw (gap, rest) refl
+
+over_none : (o : ℕ) (new : List ℕ) → overwritten [] (suc o) new ≡ 0 ∷ overwritten [] o new
+over_none o new =
+    let gap : suc o - 0 ≡ suc (o - 0) = omega arith in
+    let front : take {A = ℕ} o [] ≡ [] = take_all o [] (omega arith) in
+    let rest : drop {A = ℕ} (suc o + length new) [] ≡ [] = drop_all (suc o + length new) [] (omega arith) in
+    let still : drop {A = ℕ} (o + length new) [] ≡ [] = drop_all (o + length new) [] (omega arith) in
+    rw (gap, front, rest, still) refl
+
+dropped : (s : ℕ) (xs : List ℕ) (o : ℕ) (new : List ℕ) → drop s (overwritten xs o new) ≡ overwritten (drop s xs) (o - s) (drop (s - o) new)
+dropped zero xs o new =
+    let same : o - 0 ≡ o = omega arith in
+    let all : 0 - o ≡ 0 = omega arith in
+    rw (same, all) refl
+dropped (suc s) xs zero [] =
+    let same : 0 - suc s ≡ 0 = omega arith in
+    let none : drop {A = ℕ} (suc s - 0) [] ≡ [] = drop_all (suc s - 0) [] (omega arith) in
+    rw (same, none) (ap (drop (suc s)) (nothing_over xs) ∙ sym (nothing_over (drop (suc s) xs)))
+dropped (suc s) xs zero (x ∷ new) =
+    let still : 0 - suc s ≡ 0 - s = omega arith in
+    let more : suc s - 0 ≡ suc (s - 0) = omega arith in
+    let rest : drop (suc s - 0) (x ∷ new) ≡ drop (s - 0) new = ap (λ n. drop n (x ∷ new)) more in
+    let one : 1 + s ≡ suc s = omega arith in
+    let back : drop (suc s) xs ≡ drop s (drop 1 xs) = sym (drop-drop s 1 xs ∙ ap (λ n. drop n xs) one) in
+    rw (still, rest, back) (ap (drop (suc s)) (over_first x new xs) ∙ dropped s (drop 1 xs) zero new)
+dropped (suc s) [] (suc o) new =
+    let at : suc o - suc s ≡ o - s = omega arith in
+    let rest : suc s - suc o ≡ s - o = omega arith in
+    let none : drop {A = ℕ} s [] ≡ [] = drop_all s [] (omega arith) in
+    rw (at, rest) (ap (drop (suc s)) (over_none o new) ∙ dropped s [] o new ∙ ap (λ ys. overwritten ys (o - s) (drop (s - o) new)) none)
+dropped (suc s) (x ∷ xs) (suc o) new =
+    let at : suc o - suc s ≡ o - s = omega arith in
+    let rest : suc s - suc o ≡ s - o = omega arith in
+    rw (at, rest) (ap (drop (suc s)) (over_later x o xs new) ∙ dropped s xs o new)
+
+behind_one : (n : ℕ) (xs : List ℕ) → drop 1 (take (suc n) xs) ≡ take n (drop 1 xs)
+behind_one n [] = sym (take_all n [] (omega arith))
+behind_one n (x ∷ xs) = refl
+
+taken : (n : ℕ) (xs : List ℕ) (o : ℕ) (new : List ℕ) → take n (overwritten xs o new) ≡ overwritten (take n xs) (min o n) (take (n - min o n) new)
+taken zero xs o new =
+    let at : min o 0 ≡ 0 = omega arith in
+    rw at refl
+taken (suc n) xs zero [] =
+    let at : min 0 (suc n) ≡ 0 = omega arith in
+    let none : take {A = ℕ} (suc n - 0) [] ≡ [] = take_all (suc n - 0) [] (omega arith) in
+    rw (at, none) (ap (take (suc n)) (nothing_over xs) ∙ sym (nothing_over (take (suc n) xs)))
+taken (suc n) xs zero (x ∷ new) =
+    let at : min 0 (suc n) ≡ 0 = omega arith in
+    let still : min 0 n ≡ 0 = omega arith in
+    let more : suc n - 0 ≡ suc (n - 0) = omega arith in
+    let part : take (suc n - 0) (x ∷ new) ≡ x ∷ take (n - 0) new = ap (λ k. take k (x ∷ new)) more in
+    let later : take n (overwritten (drop 1 xs) 0 new) ≡ overwritten (take n (drop 1 xs)) 0 (take (n - 0) new) = taken n (drop 1 xs) zero new ∙ rw still refl in
+    rw (at, part)
+    (ap (take (suc n)) (over_first x new xs) ∙ ap (λ ys. x ∷ ys) later
+    ∙ ap (λ ys. x ∷ overwritten ys 0 (take (n - 0) new)) (sym (behind_one n xs)) ∙ sym (over_first x (take (n - 0) new) (take (suc n) xs)))
+taken (suc n) [] (suc o) new =
+    let at : min (suc o) (suc n) ≡ suc (min o n) = omega arith in
+    let rest : suc n - suc (min o n) ≡ n - min o n = omega arith in
+    let none : take {A = ℕ} n [] ≡ [] = take_all n [] (omega arith) in
+    rw (at, rest)
+    (ap (take (suc n)) (over_none o new) ∙ ap (λ ys. 0 ∷ ys) (taken n [] o new)
+    ∙ ap (λ ys. 0 ∷ overwritten ys (min o n) (take (n - min o n) new)) none ∙ sym (over_none (min o n) (take (n - min o n) new)))
+taken (suc n) (x ∷ xs) (suc o) new =
+    let at : min (suc o) (suc n) ≡ suc (min o n) = omega arith in
+    let rest : suc n - suc (min o n) ≡ n - min o n = omega arith in
+    rw (at, rest)
+    (ap (take (suc n)) (over_later x o xs new) ∙ ap (λ ys. x ∷ ys) (taken n xs o new)
+    ∙ sym (over_later x (min o n) (take n xs) (take (n - min o n) new)))
+
+-- a part of what is written over is a part that is written over
+pub part_over : (k n : ℕ) (xs : List ℕ) (o : ℕ) (new : List ℕ)
+    → bytes_from k n (overwritten xs o new) ≡ overwritten (bytes_from k n xs) (min (o - k) n) (bytes_from (k - o) (n - min (o - k) n) new)
+part_over k n xs o new = ap (take n) (dropped k xs o new) ∙ taken n (drop k xs) (o - k) (drop (k - o) new)
+
+-- so many blocks hold it, and no fewer
+pub over_more : (bs : List (List ℕ)) (o : ℕ) (new : List ℕ) (count k : ℕ) → IsCut bs → count ≡ max (length bs) (div_ceil (o + length new) 4096) → k < count → 4096 * k < length (overwritten (concat bs) o new)
+over_more bs o new count k cut is more = go bs refl
+  where
+    go : (cs : List (List ℕ)) → cs ≡ bs → 4096 * k < length (overwritten (concat bs) o new)
+    go [] e = omega (arith, is, more, length-overwritten (concat bs) o new, ap length e)
+    go (c ∷ cs) e = omega (arith, is, more, length-overwritten (concat bs) o new, least bs cut (omega (arith, ap length e)))
+
+pub over_room : (bs : List (List ℕ)) (o : ℕ) (new : List ℕ) (count : ℕ) → IsCut bs → count ≡ max (length bs) (div_ceil (o + length new) 4096) → length (overwritten (concat bs) o new) ≤ 4096 * count
+over_room bs o new count cut is = omega (arith, is, length-overwritten (concat bs) o new, most bs cut)
+
 -- ---- writes
 -- the blocks that a write reaches
 pub record Reach (bs : List (List ℕ)) (size o : ℕ) (new : List ℕ) (first past until : ℕ) : Type 0 where
@@ -84,25 +184,31 @@ reach bs size o new first past until blocks f p u some =
 pub first_held : (bs : List (List ℕ)) (size o : ℕ) (new : List ℕ) (first past until : ℕ) → Reach bs size o new first past until → first ≤ until
 first_held bs size o new first past until r = omega (arith, most bs r.blocks.cut, r.blocks.bytes, r.held, r.some, r.stop)
 
-pub made_of : (bs : List (List ℕ)) (size o : ℕ) (new : List ℕ) (first past until old : ℕ) → Reach bs size o new first past until → old ≡ min (4096 * past) size - 4096 * first
-    → bytes_from 0 old (concat (take (until - first) (drop first bs))) ≡ take (4096 * past - 4096 * first) (drop (4096 * first) (concat bs))
-made_of bs size o new first past until old r is =
-    let xs = concat bs in
-    let fits = first_held bs size o new first past until r in
-    let part : concat (take (until - first) (drop first bs)) ≡ take (4096 * (until - first)) (drop (4096 * first) (concat bs)) =
-    concat_take (drop first bs) (until - first) (cut_drop bs first r.blocks.cut) (omega (arith, r.stop, length-drop first bs))
-    ∙ ap (take (4096 * (until - first))) (concat_drop bs first r.blocks.cut (omega (arith, r.stop, fits))) in
-    ap (take old) part
-    ∙ twice_taken old (4096 * (until - first)) (4096 * past - 4096 * first) (drop (4096 * first) (concat bs))
-    (omega (arith, length-drop (4096 * first) (concat bs), r.blocks.bytes, most bs r.blocks.cut, r.stop, fits, is, r.held))
+pub cut_reached : (bs : List (List ℕ)) (size o : ℕ) (new : List ℕ) (first past until : ℕ) → Reach bs size o new first past until → IsCut (take (until - first) (drop first bs))
+cut_reached bs size o new first past until r = cut_take (drop first bs) (until - first) (cut_drop bs first r.blocks.cut)
 
-pub made_is : (bs : List (List ℕ)) (size o : ℕ) (new region bytes : List ℕ) (first past until old : ℕ) → Reach bs size o new first past until → old ≡ min (4096 * past) size - first * 4096
-    → region ≡ bytes_from 0 old (concat (take (until - first) (drop first bs))) → bytes ≡ overwritten region (o - first * 4096) new
+reached_is : (bs : List (List ℕ)) (size o : ℕ) (new : List ℕ) (first past until : ℕ) → Reach bs size o new first past until
+    → concat (take (until - first) (drop first bs)) ≡ take (4096 * (until - first)) (drop (4096 * first) (concat bs))
+reached_is bs size o new first past until r =
+    let fits = first_held bs size o new first past until r in
+    concat_take (drop first bs) (until - first) (cut_drop bs first r.blocks.cut) (omega (arith, r.stop, length-drop first bs))
+    ∙ ap (take (4096 * (until - first))) (concat_drop bs first r.blocks.cut (omega (arith, r.stop, fits)))
+
+pub reached_held : (bs : List (List ℕ)) (size o : ℕ) (new : List ℕ) (first past until : ℕ) → Reach bs size o new first past until → length (concat (take (until - first) (drop first bs))) ≤ size
+reached_held bs size o new first past until r =
+    omega (arith, ap length (reached_is bs size o new first past until r), length-take (4096 * (until - first)) (drop (4096 * first) (concat bs)), length-drop (4096 * first) (concat bs), r.blocks.bytes)
+
+pub made_is : (bs : List (List ℕ)) (size o : ℕ) (new bytes : List ℕ) (first past until : ℕ) → Reach bs size o new first past until
+    → bytes ≡ overwritten (concat (take (until - first) (drop first bs))) (o - first * 4096) new
     → bytes ≡ overwritten (take (4096 * past - 4096 * first) (drop (4096 * first) (concat bs))) (o - 4096 * first) new
-made_is bs size o new region bytes first past until old r is part whole =
+made_is bs size o new bytes first past until r is =
+    let fits = first_held bs size o new first past until r in
+    let region : take (4096 * (until - first)) (drop (4096 * first) (concat bs)) ≡ take (4096 * past - 4096 * first) (drop (4096 * first) (concat bs)) =
+    same_take (4096 * (until - first)) (4096 * past - 4096 * first) (drop (4096 * first) (concat bs))
+    (omega (arith, length-drop (4096 * first) (concat bs), most bs r.blocks.cut, r.stop, fits)) in
     let same : o - first * 4096 ≡ o - 4096 * first = omega arith in
-    whole ∙ ap (λ n. overwritten region n new) same
-    ∙ ap (λ xs. overwritten xs (o - 4096 * first) new) (part ∙ made_of bs size o new first past until old r (omega (arith, is)))
+    is ∙ ap (λ n. overwritten (concat (take (until - first) (drop first bs))) n new) same
+    ∙ ap (λ xs. overwritten xs (o - 4096 * first) new) (reached_is bs size o new first past until r ∙ region)
 
 past_same : (bs : List (List ℕ)) (size o : ℕ) (new : List ℕ) (first past until : ℕ) → Reach bs size o new first past until → concat (drop until bs) ≡ drop (4096 * past) (concat bs)
 past_same bs size o new first past until r =

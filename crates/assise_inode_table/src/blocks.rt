@@ -1,7 +1,7 @@
 // Blocks of bytes.
-ghost use Rattle.std.specs.Prelude.{◌≡◌, ◌*◌, ◌≤◌, ◌++◌, min, IfOk, OnErr, OnOk, length, take, drop};
+ghost use Rattle.std.specs.Prelude.{◌≡◌, ◌+◌, ◌*◌, ◌^◌, ◌<◌, ◌≤◌, ◌++◌, IfOk, OnErr, OnOk, length, take, drop};
 ghost use Rattle.std.specs.List.{concat};
-ghost use Rattle.assise_seq_tree.specs.Contents.{bytes_from};
+ghost use Rattle.assise_seq_tree.specs.Contents.{bytes_from, overwritten};
 ghost use Rattle.assise_inode_table.specs.Blocks.{AreBlocks, IsCut};
 
 use assise_seq_tree::contents;
@@ -11,30 +11,55 @@ use std::alloc::{AllocError, Global};
 /// How many bytes a block has that isn't the last.
 pub const BLOCK: usize = 4096;
 
-/// Where the first blocks of so many bytes end.
-pub fn end(size: usize, blocks: usize) -> usize
-    ensures { result ≡ min (4096 * blocks) size }
+/// The bytes of a block, or none where there is no such block.
+fn bytes_of(blocks: &[Bytes], index: usize) -> &[u8]
+    requires { IsCut blocks.now }
+    ensures { result.now ≡ bytes_from (4096 * index) 4096 (concat blocks.now) }
 {
-    if blocks <= size / BLOCK {
-        blocks * BLOCK
-    } else {
-        size
+    match blocks.get(index) {
+        Some(block) => block.as_slice(),
+        None => &[],
     }
 }
 
-/// Bytes, cut into blocks.
-pub fn cut(alloc: Global, bytes: &[u8]) -> Result<Vec<Bytes>, AllocError>
-    ensures shape { IfOk result (λ blocks. IsCut blocks.items) }
-    ensures bytes { IfOk result (λ blocks. concat blocks.items ≡ bytes.now) }
+/// A block with new bytes at an offset in it, and zeros before those where there was nothing.
+fn block(alloc: Global, old: &[u8], offset: usize, new: &[u8]) -> Result<Bytes, AllocError>
+    requires { offset + length new.now ≤ 4096 }
+    ensures { IfOk result (λ block. block ≡ overwritten old.now offset new.now) }
 {
-    let mut blocks = Vec::new(alloc);
-    let mut rest = bytes;
-    while !rest.is_empty() {
-        let size = rest.len().min(BLOCK);
-        blocks.push(Bytes::copy_from_slice(alloc, &rest[..size])?)?;
-        rest = &rest[size..];
+    let end = offset + new.len();
+    let mut bytes = Vec::with_capacity(alloc, old.len().max(end))?;
+    bytes.extend_from_slice(&old[..offset.min(old.len())])?;
+    bytes.resize(offset, 0)?;
+    bytes.extend_from_slice(new)?;
+    bytes.extend_from_slice(&old[end.min(old.len())..])?;
+    Ok(Bytes::from_vec(bytes)?)
+}
+
+/// Blocks with new bytes at an offset from the start of the first, and zeros before those where there was nothing. Each
+/// byte is copied once.
+pub fn overwritten(
+    alloc: Global,
+    blocks: &[Bytes],
+    offset: usize,
+    new: &[u8],
+) -> Result<Vec<Bytes>, AllocError>
+    requires shape { IsCut blocks.now }
+    requires held { length (concat blocks.now) < 2 ^ 64 }
+    requires fits { offset + length new.now < 2 ^ 64 }
+    ensures shape { IfOk result (λ made. IsCut made.items) }
+    ensures bytes { IfOk result (λ made. concat made.items ≡ overwritten (concat blocks.now) offset new.now) }
+{
+    let count = blocks.len().max((offset + new.len()).div_ceil(BLOCK));
+    let mut made = Vec::with_capacity(alloc, count)?;
+    for index in 0..count {
+        let start = index * BLOCK;
+        let at = offset.saturating_sub(start).min(BLOCK);
+        let skipped = start.saturating_sub(offset) as u64;
+        let part = contents::bytes_from(new, skipped, (BLOCK - at) as u64);
+        made.push(block(alloc, bytes_of(blocks, index), at, part)?)?;
     }
-    Ok(blocks)
+    Ok(made)
 }
 
 /// The bytes of blocks from an offset on, at most so many, in one piece.
@@ -90,13 +115,19 @@ pub fn replace(
     blocks: &mut Vec<Bytes>,
     first: usize,
     until: usize,
-    made: Vec<Bytes>,
+    mut made: Vec<Bytes>,
 ) -> Result<(), AllocError>
     requires { (first ≤ until) × (until ≤ length blocks.old.items) }
     ensures ok { OnOk result (blocks.new.items ≡ take first blocks.old.items ++ (made.items ++ drop until blocks.old.items)) }
     ensures err { OnErr result (blocks.new.items ≡ blocks.old.items) }
 {
-    blocks.splice(first..until, made)?;
+    if until - first != 1 || made.len() != 1 {
+        blocks.splice(first..until, made)?;
+        return Ok(());
+    }
+    if let Some(block) = made.pop() {
+        blocks[first] = block;
+    }
     Ok(())
 }
 

@@ -7,7 +7,6 @@ use crate::blocks;
 use crate::blocks::BLOCK;
 use assise_names::byte_string::ByteString;
 use assise_names::refusal::Refusal;
-use assise_seq_tree::contents;
 use bytes::Bytes;
 use std::alloc::{AllocError, Global};
 use std::marker::Model;
@@ -106,12 +105,9 @@ impl FileBytes {
             return Ok(());
         }
         let first = start / BLOCK;
-        let past = (end - 1) / BLOCK + 1;
-        let until = self.blocks.len().min(past);
-        let old = blocks::end(self.size, past) - first * BLOCK;
-        let mut bytes = blocks::joined(self.alloc, &self.blocks[first..until], 0, old)?;
-        contents::overwrite(&mut bytes, offset - first * BLOCK, new)?;
-        let made = blocks::cut(self.alloc, bytes.as_slice())?;
+        let until = self.blocks.len().min((end - 1) / BLOCK + 1);
+        let reached = &self.blocks[first..until];
+        let made = blocks::overwritten(self.alloc, reached, offset - first * BLOCK, new)?;
         blocks::replace(&mut self.blocks, first, until, made)?;
         self.size = self.size.max(end);
         Ok(())

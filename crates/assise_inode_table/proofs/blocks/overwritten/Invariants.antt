@@ -1,0 +1,7 @@
+use Rattle.std.specs.List.{concat}
+use Rattle.assise_seq_tree.specs.Contents.{overwritten}
+use Rattle.assise_inode_table.proofs.Cutting.{CutSoFar}
+use Rattle.assise_inode_table.proofs.blocks.overwritten.Given as goal
+
+abbrev pub invariant-loop-index : goal.invariant-loop-index
+invariant-loop-index l = CutSoFar l.made.items l.index (overwritten (concat l.blocks) l.offset l.new)
