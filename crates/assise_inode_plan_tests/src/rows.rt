@@ -119,19 +119,29 @@ fn planned_and_made(
     call: &str,
     fresh: u64,
 ) -> Option<Planned> {
-    let planned = planned_call(alloc, &AllLeased { inodes: &*inodes }, call, fresh)?;
-    make(inodes, &planned).ok()?;
-    Some(planned)
+    let commands = commands_of(alloc, call)?;
+    let op = op_in(commands.as_slice())?;
+    if is_writable(op) {
+        plan_and_make(alloc, inodes, op, fresh).ok()
+    } else {
+        None
+    }
 }
 
-/// Makes the effects of a plan.
-fn make(inodes: &mut InodeTable, planned: &Planned) -> Result<(), Refusal> {
-    if let Planned::Ready { effects, .. } = planned {
-        for effect in effects {
-            inodes.apply(effect)?;
-        }
+/// Plans a call over all inodes and makes its effects, all or none.
+fn plan_and_make(
+    alloc: Global,
+    inodes: &mut InodeTable,
+    op: &Op,
+    fresh: u64,
+) -> Result<Planned, Refusal>
+    requires one_write { IsWritable op.now }
+{
+    let planned = plan(alloc, &AllLeased { inodes: &*inodes }, op, fresh)?;
+    if let Planned::Ready { effects, .. } = &planned {
+        inodes.apply_all(effects.as_slice())?;
     }
-    Ok(())
+    Ok(planned)
 }
 
 /// Plans a call that is written as in a script.

@@ -1,11 +1,12 @@
 // Effects written as text: a name, the inode that is changed, and what else there is.
+use assise_inode_table::changes::apply_all_on_copies;
 use assise_inode_table::table::InodeTable;
 use assise_names::name::Name;
 use assise_record::effect::{Effect, Extent, FileSize, MOST_FILE_BYTES};
 use bytes::Bytes;
 use std::alloc::Global;
 
-/// Makes effects, which have commas between them.
+/// Makes effects, which have commas between them, one after another.
 pub(crate) fn make(alloc: Global, table: &mut InodeTable, effects: &str) -> Option<()> {
     for effect in effects.split_terminator(", ") {
         make_one(alloc, table, effect)?;
@@ -16,6 +17,20 @@ pub(crate) fn make(alloc: Global, table: &mut InodeTable, effects: &str) -> Opti
 fn make_one(alloc: Global, table: &mut InodeTable, effect: &str) -> Option<()> {
     let effect = effect_of(alloc, effect)?;
     table.apply(&effect).ok()
+}
+
+/// Makes effects, which have commas between them, on copies of the inodes that they touch.
+pub(crate) fn make_on_copies(alloc: Global, table: &mut InodeTable, effects: &str) -> Option<()> {
+    let effects = effects_of(alloc, effects)?;
+    apply_all_on_copies(table, effects.as_slice()).ok()
+}
+
+fn effects_of(alloc: Global, texts: &str) -> Option<Vec<Effect>> {
+    let mut effects = Vec::new(alloc);
+    for text in texts.split_terminator(", ") {
+        effects.push(effect_of(alloc, text)?).ok()?;
+    }
+    Some(effects)
 }
 
 fn effect_of(alloc: Global, text: &str) -> Option<Effect> {

@@ -1,6 +1,6 @@
 // What the tests ask.
 use crate::calls::{reply_on, reply_over};
-use crate::effects::make;
+use crate::effects::{make, make_on_copies};
 use crate::inode_text::put_inodes;
 use crate::rows::Subject;
 use assise_inode_table::directory::Directory;
@@ -11,7 +11,7 @@ use assise_names::reply::Reply;
 use assise_seq_tree::tree::Tree;
 use std::alloc::{AllocError, Global};
 
-/// Effects on a table with only what the effects `before` make. All inodes come out.
+/// Effects on a table with only what the effects `before` make, all or none. All inodes come out.
 #[derive(Clone, Copy)]
 pub(crate) struct Effects {
     pub(crate) before: &'static str,
@@ -21,7 +21,8 @@ impl Subject for Effects {
     fn put(&mut self, alloc: Global, asked: &str, text: &mut String) -> Option<()> {
         let mut table = InodeTable::new(alloc);
         make(alloc, &mut table, self.before)?;
-        put_effects(alloc, &mut table, asked, text)
+        make_on_copies(alloc, &mut table, asked)?;
+        put_inodes(alloc, text, &table)
     }
 }
 
@@ -51,8 +52,11 @@ impl Subject for Copies {
 
 fn copy(alloc: Global, table: &mut InodeTable) -> Option<()> {
     let copied = table.get(7)?.copy(alloc).ok()?;
-    table.remove(7);
-    table.insert(9, copied).ok()
+    table.remove(7)?;
+    match table.insert(9, copied) {
+        Ok(None) => Some(()),
+        _ => None,
+    }
 }
 
 /// Effects and calls, one after another. Calls are known by their paths.
