@@ -91,7 +91,7 @@ impl Log {
     pub fn spare(&self) -> usize
         ensures { result + length self.now.records ≡ self.now.limit }
     {
-        self.view.records.capacity() - self.view.records.len()
+        self.limit() - self.len()
     }
 
     /// What a revoker sees of the log.
@@ -119,6 +119,7 @@ impl Log {
     }
 
     /// Whether a record of this number or a greater one touches an inode.
+    #[tactic(auto, using(crate::proofs::Touching::untouched_exactly))]
     pub fn touches_after(&self, inode: u64, from: u64) -> bool
         ensures exact { result ≡ touches_after self.now inode from }
         ensures untouched { (result ≡ false) ↔ UntouchedFrom self.now inode from }
@@ -148,7 +149,7 @@ impl Log {
         ensures { self.new ≡ without_front self.old to }
     {
         let dropped = (to - self.view.first) as usize;
-        let kept = self.view.records.len() - dropped;
+        let kept = self.len() - dropped;
         self.view.records.truncate_front(kept);
         self.view.first = to;
     }

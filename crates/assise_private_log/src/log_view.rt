@@ -48,7 +48,8 @@ impl LogView {
 
     /// Whether the record of a number touches an inode. Where there is none of that number, none does.
     pub fn touches(&self, number: u64, inode: u64) -> bool
-        ensures { result ≡ touches self.now number inode }
+        ensures touches { result ≡ touches self.now number inode }
+        ensures within { result ≡ true → (self.now.first ≤ number) × (number < end self.now) }
     {
         match self.get(number) {
             Some(record) => record_touches(record, inode),
