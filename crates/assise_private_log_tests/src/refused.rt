@@ -1,10 +1,9 @@
 // Allocations that are refused: run with `rt try --test --fail-alloc N`, as `checks/log_allocations` does.
-use crate::steps::put_steps;
+use crate::steps::append;
 use assise_names::name::Name;
 use assise_names::refusal::Refusal;
 use assise_private_log::log::Log;
 use assise_record::effect::{Effect, Extent};
-use assise_record::record::Record;
 use bytes::Bytes;
 use std::alloc::Global;
 
@@ -22,16 +21,11 @@ fn effects(alloc: Global) -> Result<Vec<Effect>, Refusal> {
 /// A log of 8 with two such records.
 fn log_of_two(alloc: Global) -> Result<Log, Refusal> {
     let mut log = Log::new(alloc, 8)?;
-    for call in 0..2 {
-        let record = Record::new(call, effects(alloc)?);
-        log = with_record(log, record)?;
-    }
-    Ok(log)
-}
-
-fn with_record(mut log: Log, record: Record) -> Result<Log, Refusal> {
-    if log.end() < u64::MAX {
-        log.append(record).map_err(|refused| refused.0)?;
+    for _ in 0..2 {
+        match append(&mut log, effects(alloc)?) {
+            Some(Ok(())) => {}
+            _ => return Err(Refusal::LogFull),
+        }
     }
     Ok(log)
 }

@@ -53,8 +53,8 @@ fn put_added(alloc: Global, log: &mut Log, inodes: &str, text: &mut String) -> O
     }
 }
 
-/// Adds a record of such effects. Its call has the number that the record is to get.
-fn append(log: &mut Log, effects: Vec<Effect>) -> Option<Result<(), (Refusal, Record)>> {
+/// Adds a record of such effects, if there may be one. Its call has the number that the record is to get.
+pub(crate) fn append(log: &mut Log, effects: Vec<Effect>) -> Option<Result<(), (Refusal, Record)>> {
     let number = log.end();
     if number == u64::MAX || effects.is_empty() || effects.len() > 4 {
         return None;
