@@ -1,9 +1,8 @@
 // Laws of logs. Each function does nothing: its contract is the law.
-ghost use Rattle.std.specs.Prelude.{◌≡◌, ◌≢◌, ◌<◌, ◌≤◌, ℕ, None, Some, true};
+ghost use Rattle.std.specs.Prelude.{◌≡◌, ◌≢◌, ◌<◌, ◌≤◌, None, Option, Some, true, ℕ};
 ghost use Rattle.assise_record.specs.LogRecord.{LogRecord};
 ghost use Rattle.assise_private_log.specs.NumberedLog.{NumberedLog, end, record_at, with_record, without_front, without_tail};
 ghost use Rattle.assise_private_log.specs.Touches.{IsLastTouch, touches};
-ghost use Rattle.std.specs.Prelude.{Option};
 
 /// The next record gets the number behind the last, and each other number is that of the record that it was.
 pub fn an_appended_record_has_the_next_number()

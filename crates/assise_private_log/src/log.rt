@@ -1,5 +1,5 @@
 // A log of numbered records.
-ghost use Rattle.std.specs.Prelude.{◌≡◌, ◌+◌, ◌<◌, ◌≤◌, ◌==◌, ◌^◌, ◌↔◌, ℕ, true, false, IfErr, IfOk, IfSome, IsOk, IsOkUnless, OnErr, OnOk, length, option_copied};
+ghost use Rattle.std.specs.Prelude.{◌≡◌, ◌+◌, ◌<◌, ◌≤◌, ◌==◌, ◌^◌, ◌↔◌, false, IfErr, IfOk, IsOk, IsOkUnless, OnErr, OnOk, length, option_copied};
 ghost use Rattle.std.specs.Map.Iter.{ShowsInOrder, ShowsInReverse, deref};
 ghost use Rattle.assise_names.specs.declared.refusal.Refusal.TheVariants.{LogFull, OutOfMemory};
 ghost use Rattle.assise_private_log.specs.NumberedLog.{IsNumberedLog, empty_log, end, record_at, records_from, with_record, without_front, without_tail};

@@ -1,8 +1,6 @@
 // A log as it is lent: its numbers, and which records touch an inode.
-ghost use Rattle.std.specs.Prelude.{◌≡◌, ◌<◌, ◌≤◌, ◌==◌, ◌^◌, true, IfSome, length, option_copied};
-ghost use Rattle.std.specs.List.{list_any};
+ghost use Rattle.std.specs.Prelude.{◌≡◌, ◌<◌, ◌≤◌, ◌^◌, true, IfSome, option_copied};
 ghost use Rattle.std.specs.Map.Iter.{ShowsInOrder, ShowsInReverse, deref};
-ghost use Rattle.assise_record.specs.Touched.{touched_by};
 ghost use Rattle.assise_private_log.specs.NumberedLog.{IsNumberedLog, end, record_at, records_from};
 ghost use Rattle.assise_private_log.specs.Touches.{IsLastTouch, record_touches, touches, touches_after};
 
