@@ -1,6 +1,8 @@
 // A log as it is lent: its numbers, and which records touch an inode.
-ghost use Rattle.std.specs.Prelude.{◌≡◌, ◌<◌, ◌≤◌, ◌^◌, true, IfSome, option_copied};
+ghost use Rattle.std.specs.Prelude.{◌≡◌, ◌<◌, ◌≤◌, ◌^◌, false, true, IfSome, length, option_copied, ℕ};
+ghost use Rattle.std.specs.List.{slice_index_or};
 ghost use Rattle.std.specs.Map.Iter.{ShowsInOrder, ShowsInReverse, deref};
+ghost use Rattle.assise_record.specs.LogRecord.{LogRecord};
 ghost use Rattle.assise_private_log.specs.NumberedLog.{IsNumberedLog, end, record_at, records_from};
 ghost use Rattle.assise_private_log.specs.Touches.{IsLastTouch, record_touches, touches, touches_after};
 
@@ -61,9 +63,20 @@ impl LogView {
         ensures last { IsLastTouch self.now inode result }
         ensures within { IfSome result (λ number. (self.now.first ≤ number) × (number < end self.now)) }
     {
+        let place = self.last_place(inode)?;
+        Some(self.first + place as u64)
+    }
+
+    /// How many records stand before the last that touches an inode, if one does.
+    fn last_place(&self, inode: u64) -> Option<usize>
+        ensures inside { IfSome result (λ place. place < length self.now.records) }
+        ensures found { IfSome result (λ place. (r : LogRecord) → record_touches (slice_index_or self.now.records place r) inode ≡ true) }
+        ensures none_behind { IfSome result (λ place. (k : ℕ) (r : LogRecord) → place < k → k < length self.now.records → record_touches (slice_index_or self.now.records k r) inode ≡ false) }
+        ensures none { result ≡ None → (k : ℕ) (r : LogRecord) → k < length self.now.records → record_touches (slice_index_or self.now.records k r) inode ≡ false }
+    {
         let mut records = self.since(self.first);
         let place = records.rposition(|record| record_touches(record, inode))?;
-        Some(self.first + place as u64)
+        Some(place)
     }
 
     /// The record of a number, if it is there.
