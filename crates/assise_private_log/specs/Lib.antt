@@ -1,0 +1,2 @@
+pub mod NumberedLog
+pub mod Touches

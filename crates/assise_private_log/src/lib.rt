@@ -1,0 +1,7 @@
+//! A client's private log: a ring of records, numbered without a gap.
+#![tactic(auto)]
+
+pub mod laws;
+pub mod log;
+pub mod log_view;
+pub mod records;

@@ -1,0 +1,192 @@
+// A log of numbered records.
+ghost use Rattle.std.specs.Prelude.{◌≡◌, ◌+◌, ◌<◌, ◌≤◌, ◌==◌, ◌^◌, ◌↔◌, false, IfErr, IfOk, IsOk, IsOkUnless, OnErr, OnOk, length, option_copied};
+ghost use Rattle.std.specs.Map.Iter.{ShowsInOrder, ShowsInReverse, deref};
+ghost use Rattle.assise_names.specs.declared.refusal.Refusal.TheVariants.{LogFull, OutOfMemory};
+ghost use Rattle.assise_private_log.specs.NumberedLog.{IsNumberedLog, empty_log, end, record_at, records_from, with_record, without_front, without_tail};
+ghost use Rattle.assise_private_log.specs.Touches.{UntouchedFrom, touches_after};
+
+use crate::log_view::LogView;
+use crate::records::Records;
+use assise_names::refusal::Refusal;
+use assise_record::record::Record;
+use circular_buffer::HeapCircularBuffer;
+use std::alloc::Global;
+use std::marker::Model;
+
+/// The fewest records that a log's limit may be.
+pub const LEAST_LIMIT: usize = 8;
+
+/// The most records that a log's limit may be.
+pub const MOST_LIMIT: usize = 4096;
+
+/// The records of one client, numbered without a gap, at most as many as a limit of 8 to 4,096. Their numbers are below
+/// 2^64 - 1. Room for as many records as the limit is taken when the log is made, and never again. A contract sees the
+/// first number, the limit and the list of records.
+#[derive(Debug, Drop)]
+pub struct Log {
+    view: LogView,
+}
+
+impl Model for Log {
+    ghost use Rattle.assise_private_log.specs.NumberedLog.{NumberedLog};
+
+    ghost Value = { NumberedLog };
+
+    ghost view = { λ l. l.view };
+}
+
+impl Log {
+    /// A log without records, whose first number is 0, with room for so many. The one refusal is
+    /// [`Refusal::OutOfMemory`].
+    pub fn new(alloc: Global, limit: usize) -> Result<Log, Refusal>
+        requires least { 8 ≤ limit }
+        requires most { limit ≤ 4096 }
+        ensures empty { IfOk result (λ log. log ≡ empty_log limit) }
+        ensures only_memory { IsOkUnless result OutOfMemory }
+    {
+        let records = HeapCircularBuffer::with_capacity(alloc, limit)?;
+        let view = LogView { first: 0, records };
+        Ok(Log { view })
+    }
+
+    /// The number of the first record, or that of the next one where there are none.
+    pub fn first(&self) -> u64
+        ensures { result ≡ self.now.first }
+    {
+        self.view.first()
+    }
+
+    /// The number behind the last record, which the next one gets.
+    pub fn end(&self) -> u64
+        ensures end { result ≡ end self.now }
+        ensures fits { end self.now < 2 ^ 64 }
+    {
+        self.view.end()
+    }
+
+    /// How many records there are.
+    pub fn len(&self) -> usize
+        ensures len { result ≡ length self.now.records }
+        ensures within { length self.now.records ≤ self.now.limit }
+    {
+        self.view.records.len()
+    }
+
+    /// Whether there are no records.
+    pub fn is_empty(&self) -> bool
+        ensures { result ≡ (length self.now.records == 0) }
+    {
+        self.view.records.is_empty()
+    }
+
+    /// The most records that there may be, which is what [`Log::new`] was given.
+    pub fn limit(&self) -> usize
+        ensures limit { result ≡ self.now.limit }
+        ensures lawful { IsNumberedLog self.now }
+    {
+        self.view.records.capacity()
+    }
+
+    /// How many records more there is room for.
+    pub fn spare(&self) -> usize
+        ensures { result + length self.now.records ≡ self.now.limit }
+    {
+        self.limit() - self.len()
+    }
+
+    /// What a revoker sees of the log.
+    pub fn view(&self) -> &LogView
+        ensures { result.now ≡ self.now }
+    {
+        &self.view
+    }
+
+    /// The record of a number, if it is there.
+    pub fn get(&self, number: u64) -> Option<&Record>
+        ensures { option_copied result ≡ record_at self.now number }
+    {
+        self.view.get(number)
+    }
+
+    /// The records from a number on, in the order of their numbers: all, where the number lies before the first, and
+    /// none, where it lies behind the last. They are lent, and those before the number are not looked at.
+    pub fn since(&self, from: u64) -> Records<'_>
+        ensures rest { result ≡ records_from self.now from }
+        ensures runs { ShowsInOrder (deref {X = Record}) }
+        ensures runs_back { ShowsInReverse (deref {X = Record}) }
+    {
+        self.view.since(from)
+    }
+
+    /// Whether a record of this number or a greater one touches an inode.
+    #[tactic(auto, using(crate::proofs::Touching::untouched_exactly))]
+    pub fn touches_after(&self, inode: u64, from: u64) -> bool
+        ensures exact { result ≡ touches_after self.now inode from }
+        ensures untouched { (result ≡ false) ↔ UntouchedFrom self.now inode from }
+    {
+        self.view.touches_after(inode, from)
+    }
+
+    /// Takes a record in, behind the last. The one refusal is [`Refusal::LogFull`], where there are as many records as
+    /// the limit: it leaves the log as it was, and gives the record back. It takes no memory.
+    pub fn append(&mut self, added: Record) -> Result<(), (Refusal, Record)>
+        requires number_fits { end self.old + 1 < 2 ^ 64 }
+        ensures ok { OnOk result (self.new ≡ with_record self.old added) }
+        ensures err { OnErr result (self.new ≡ self.old) }
+        ensures given_back { IfErr result (λ back. back ≡ (LogFull, added)) }
+        ensures room { IsOk result ↔ (length self.old.records < self.old.limit) }
+    {
+        match self.view.records.try_push_back(added) {
+            Ok(()) => Ok(()),
+            Err(added) => Err((Refusal::LogFull, added)),
+        }
+    }
+
+    /// Lets the records below a number go, which is the first number then.
+    pub fn drop_front(&mut self, to: u64)
+        requires from_first { self.old.first ≤ to }
+        requires to_end { to ≤ end self.old }
+        ensures { self.new ≡ without_front self.old to }
+    {
+        let dropped = (to - self.view.first) as usize;
+        let kept = self.len() - dropped;
+        self.view.records.truncate_front(kept);
+        self.view.first = to;
+    }
+
+    /// Lets the record of a number and all behind it go. Where there are none, nothing changes.
+    pub fn cut_tail(&mut self, from: u64)
+        ensures { self.new ≡ without_tail self.old from }
+    {
+        let kept = from.saturating_sub(self.view.first) as usize;
+        self.view.records.truncate_back(kept);
+    }
+
+    /// An equal value with as much room, or [`Refusal::OutOfMemory`]. The bytes of writes are shared.
+    pub fn copy(&self, alloc: Global) -> Result<Log, Refusal>
+        ensures equal { IfOk result (λ copied. copied ≡ self.now) }
+        ensures only_memory { IsOkUnless result OutOfMemory }
+    {
+        let records = copies(alloc, &self.view.records)?;
+        let first = self.view.first;
+        let view = LogView { first, records };
+        Ok(Log { view })
+    }
+}
+
+/// Equal records in a ring of the same capacity.
+fn copies(
+    alloc: Global,
+    records: &HeapCircularBuffer<Record>,
+) -> Result<HeapCircularBuffer<Record>, Refusal>
+    ensures equal { IfOk result (λ copied. copied ≡ records.now) }
+    ensures only_memory { IsOkUnless result OutOfMemory }
+{
+    let mut copied = HeapCircularBuffer::with_capacity(alloc, records.capacity())?;
+    for record in records {
+        let Ok(()) = copied.try_push_back(record.copy(alloc)?) else {
+            unreachable!()
+        };
+    }
+    Ok(copied)
+}

@@ -1,0 +1,56 @@
+// Allocations that are refused: `checks/log_allocations` refuses each in turn.
+use crate::steps::append;
+use assise_names::name::Name;
+use assise_names::refusal::Refusal;
+use assise_private_log::log::Log;
+use assise_record::effect::Effect;
+use std::alloc::Global;
+
+/// An effect that takes memory when it is copied.
+fn effects(alloc: Global) -> Result<Vec<Effect>, Refusal> {
+    let name = Name::parse(alloc, "f").map_err(|_| Refusal::OutOfMemory)?;
+    let mut effects = Vec::new(alloc);
+    effects.push(Effect::Unlink { directory: 7, name })?;
+    Ok(effects)
+}
+
+/// A log of 8 with two records.
+fn log_of_two(alloc: Global) -> Result<Log, Refusal> {
+    let mut log = Log::new(alloc, 8)?;
+    for _ in 0..2 {
+        match append(&mut log, effects(alloc)?) {
+            Some(Ok(())) => {}
+            _ => return Err(Refusal::LogFull),
+        }
+    }
+    Ok(log)
+}
+
+/// Whether a log is that of two records.
+fn has_two(log: &Log) -> bool {
+    let mut same = log.first() == 0 && log.end() == 2 && log.spare() == 6;
+    for number in 0..2 {
+        let call = log.get(number).map(|record| record.call());
+        same = same && call == Some(number) && log.view().touches(number, 7);
+    }
+    same
+}
+
+/// Copies a log, and says whether log and copy are what the log was.
+fn copy_is_alike(alloc: Global) -> Result<bool, Refusal> {
+    let log = log_of_two(alloc)?;
+    let copied = log.copy(alloc);
+    if !has_two(&log) {
+        return Ok(false);
+    }
+    Ok(has_two(&copied?))
+}
+
+#[test]
+fn a_refused_allocation_is_answered(rt: HostRuntime) {
+    let ended = copy_is_alike(rt.alloc());
+    assert!(rt;
+        matches!(ended, Ok(true) | Err(Refusal::OutOfMemory)),
+        "{ended:?}"
+    );
+}

@@ -1,0 +1,113 @@
+// Logs step by step, and a log beside a plain list.
+use crate::plain::{Plain, is_alike};
+use crate::rows::{new_log, show};
+use crate::steps::{add_one, drop_front};
+use assise_private_log::log::Log;
+use std::alloc::Global;
+
+/// At the limit, cut and emptied.
+const NUMBERS: &str = "\
+sizes => 0..0 0+8=8 true
+add 1, sizes, get 0, get 1 => 0..1 1+7=8 true 0:1 none
+fill 8 1, sizes, add 2 3, sizes, since 6 => 0..8 8+0=8 true LogFull 8:2:3 0..8 8+0=8 true 6:1 7:1
+fill 8 1, drop 1, sizes, add 2, sizes, get 0, get 1, get 8 => 1..8 7+1=8 true 1..9 8+0=8 true none 1:1 8:2
+fill 8 1, drop 8, sizes, get 7, get 8, add 2, sizes, since 0 => 8..8 0+8=8 true none none 8..9 1+7=8 true 8:2
+fill 8 1, drop 3, cut 6, sizes, add 2, since 0, sizes => 3..6 3+5=8 true 3:1 4:1 5:1 6:2 3..7 4+4=8 true
+fill 5 1, cut 5, sizes, cut 4, sizes, cut 9, sizes => 0..5 5+3=8 true 0..4 4+4=8 true 0..4 4+4=8 true
+fill 5 1, drop 2, cut 2, sizes, cut 1, sizes => 2..2 0+8=8 true 2..2 0+8=8 true
+add 1, add 2, add 3, drop 1, since 0, since 1, since 2, since 3, since 9 => 1:2 2:3 1:2 2:3 2:3
+";
+
+/// Which records touch an inode.
+const TOUCHES: &str = "\
+add 1, add 2 5, add 1, touches 0 1, touches 1 2, touches 1 5, touches 1 1, touches 3 1 => true true true false false
+add 1, add 2, add 1, add 3, after 1 0, after 1 2, after 1 3, after 1 4 => true true false false
+add 1, add 2 5, after 5 1, after 5 2, after 2 0, after 3 0 => true false true false
+add 1, add 2, drop 1, after 1 0, after 2 0, touches 0 1 => false true false
+add 1, add 2, cut 1, after 2 0, after 1 0, last 2 => false true none
+add 1, add 2 1, add 3, last 1, last 2, last 3, last 4 => 1 1 2 none
+add 1, add 1, drop 1, last 1, drop 2, last 1 => 1 none
+";
+
+#[test]
+fn a_log_is_asked_step_by_step(rt: HostRuntime) {
+    show(rt.alloc(), &rt, 8, NUMBERS);
+    show(rt.alloc(), &rt, 8, TOUCHES);
+}
+
+/// What a revoker is told of a log: its first number, its end, and the last touch of an inode.
+const VIEWS: &str = "\
+fill 9 1, add 7, fill 20 1, drop 3, sizes, last 7 => 3..20 17+15=32 true 9
+fill 20 1, drop 3, sizes, last 7 => 3..20 17+15=32 true none
+fill 4 1, add 7, fill 6 1, drop 3, sizes, last 7 => 3..6 3+29=32 true 4
+sizes, last 7 => 0..0 0+32=32 true none
+";
+
+#[test]
+fn a_view_says_what_a_revoker_asks(rt: HostRuntime) {
+    show(rt.alloc(), &rt, 32, VIEWS);
+}
+
+/// How many records are added, and how many then go from the front and from the end.
+const TURNS: &[(u64, u64, u64)] = &[
+    (9, 3, 0),
+    (4, 1, 2),
+    (5, 7, 0),
+    (9, 0, 8),
+    (8, 4, 1),
+    (6, 6, 1),
+    (9, 8, 0),
+    (7, 2, 3),
+    (9, 5, 0),
+];
+
+/// Adds a record to both, if there is room, and looks at both.
+fn adds_alike(alloc: Global, log: &mut Log, plain: &mut Plain) -> Option<bool> {
+    let inode = plain.end() % 3;
+    let had_room = log.spare() != 0;
+    let taken = add_one(alloc, log, inode)?;
+    if taken {
+        plain.add(inode).ok()?;
+    }
+    Some(taken == had_room && is_alike(log, plain))
+}
+
+/// Makes a turn of both, and looks at both after each step.
+fn turns_alike(
+    alloc: Global,
+    log: &mut Log,
+    plain: &mut Plain,
+    turn: (u64, u64, u64),
+) -> Option<bool> {
+    let (added, front, back) = turn;
+    let mut same = true;
+    for _ in 0..added {
+        same = adds_alike(alloc, log, plain)? && same;
+    }
+    let to = log.first().saturating_add(front).min(log.end());
+    drop_front(log, to)?;
+    plain.drop_front(to);
+    same = is_alike(log, plain) && same;
+    let from = log.end().saturating_sub(back).max(log.first());
+    log.cut_tail(from);
+    plain.cut_tail(from);
+    Some(is_alike(log, plain) && same)
+}
+
+/// The end of a ring of 8 that was alike after all turns.
+fn end_of_turns(alloc: Global) -> Option<u64> {
+    let mut log = new_log(alloc, 8)?;
+    let mut plain = Plain::new(alloc);
+    for turn in TURNS {
+        if !turns_alike(alloc, &mut log, &mut plain, *turn)? {
+            return None;
+        }
+    }
+    Some(log.end())
+}
+
+#[test]
+fn a_ring_that_wraps_is_a_plain_list(rt: HostRuntime) {
+    let end = end_of_turns(rt.alloc());
+    assert!(rt; end.is_some_and(|end| 24 < end), "{end:?}");
+}
