@@ -1,5 +1,5 @@
 -- Effects made one after another.
-use Rattle.std.proofs.Common.{◌≡◌, ℕ, zero, suc, Bool, true, false, ◌+◌, ◌<◌, ◌==◌, if◌then◌else◌, cond, List, [], ◌∷◌, ◌++◌, ◌≤◌, ◌-◌, length, take, drop, slice_index_or, Option, Some, None, IsSome, refl, ap, sym, subst, ◌∙◌, inl, inr, arith}
+use Rattle.std.proofs.Common.{◌≡◌, ℕ, zero, suc, true, ◌+◌, ◌<◌, cond, List, [], ◌∷◌, ◌++◌, ◌≤◌, ◌-◌, length, take, drop, slice_index_or, Option, Some, None, IsSome, refl, ap, sym, subst, ◌∙◌, inl, inr, arith}
 use Rattle.std.proofs.lemmas.Bool.{eq-eqb, ne_eqb, cases_eq}
 use Rattle.std.proofs.lemmas.List.{take_all, take_more}
 use Rattle.std.specs.Cmp.{nat_cmp_total}
@@ -10,7 +10,7 @@ use Rattle.assise_record.specs.declared.effect.Effect.TheVariants.{NewFile, NewD
 use Rattle.assise_record.specs.Touched.{touched_by}
 use Rattle.assise_inode_table.specs.Contents.{Content, InodeMap, values}
 use Rattle.assise_inode_table.specs.Effects.{TakesAway, after, all_applied, applied, made_by, value_after, with_value}
-use Rattle.assise_inode_table.specs.Whole.{CanBeChangedWhole, CanBeMadeWhole, EndsWithLink, MakesThenAsks, OnlyFirstAsks, OnlyTakeAway, is_link}
+use Rattle.assise_inode_table.specs.Whole.{CanBeChangedWhole, CanBeMadeWhole, OnlyFirstAsks, OnlyTakeAway, is_link}
 use Rattle.assise_inode_table.proofs.Making.{get-applied, get-with_value}
 
 -- ---- one after another

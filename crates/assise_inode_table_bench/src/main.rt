@@ -1,6 +1,6 @@
 //! `assise_inode_table_bench MODE SIZE COUNT`: does one thing with a file of SIZE bytes COUNT times, for `bench/copies` to
-//! time. MODE is `copies`, which copies the inode, `bytes`, which copies the bytes, or `writes`, which writes one byte
-//! into each block in turn.
+//! time. MODE is `copies`, which copies the inode, `bytes`, which copies the bytes, `kept_copies` or `kept_bytes`, which
+//! keep all copies to the end, or `writes`, which writes one byte into each block in turn.
 #![tactic(auto)]
 
 use assise_inode_table::inode::Inode;
@@ -43,6 +43,8 @@ fn run(alloc: Global, words: &[String]) -> Option<&'static str> {
     match mode.as_str() {
         "copies" => copies(alloc, &inode, count).ok()?,
         "bytes" => bytes(alloc, &inode, count).ok()?,
+        "kept_copies" => kept_copies(alloc, &inode, count).ok()?,
+        "kept_bytes" => kept_bytes(alloc, &inode, count).ok()?,
         "writes" => writes(alloc, &mut inode, size, count).ok()?,
         _ => return None,
     }
@@ -70,6 +72,27 @@ fn bytes(alloc: Global, inode: &Inode, count: u32) -> Result<(), Refusal> {
         let whole = file.read(alloc, 0, u64::MAX)?;
         for _ in 0..count {
             drop(contents::copied(alloc, whole.as_slice())?);
+        }
+    }
+    Ok(())
+}
+
+/// Copies an inode so many times, and keeps the copies to the end.
+fn kept_copies(alloc: Global, inode: &Inode, count: u32) -> Result<(), Refusal> {
+    let mut kept = Vec::new(alloc);
+    for _ in 0..count {
+        kept.push(inode.copy(alloc)?)?;
+    }
+    Ok(())
+}
+
+/// Copies the bytes of a file so many times, and keeps the copies to the end.
+fn kept_bytes(alloc: Global, inode: &Inode, count: u32) -> Result<(), Refusal> {
+    let mut kept = Vec::new(alloc);
+    if let Ok(file) = inode.file() {
+        let whole = file.read(alloc, 0, u64::MAX)?;
+        for _ in 0..count {
+            kept.push(contents::copied(alloc, whole.as_slice())?)?;
         }
     }
     Ok(())

@@ -1,9 +1,8 @@
 use Rattle.std.proofs.Common.{◌≡◌, ◌∷◌, List, ◌-◌, length, take, drop, ◌∙◌, ap, sym, subst, arith}
 use Rattle.std.proofs.lemmas.List.{take_all}
-use Rattle.std.proofs.lemmas.Result.{on_err_weaker}
 use Rattle.assise_record.specs.declared.effect.Effect.{Effect}
-use Rattle.assise_inode_table.specs.Effects.{TakesAway, all_applied, applied}
-use Rattle.assise_inode_table.specs.Whole.{OnlyFirstAsks, OnlyTakeAway}
+use Rattle.assise_inode_table.specs.Effects.{all_applied, applied}
+use Rattle.assise_inode_table.specs.Whole.{OnlyFirstAsks}
 use Rattle.assise_inode_table.proofs.Applying.{first_ahead, one_more_applied, takes_away_at}
 use Rattle.assise_inode_table.proofs.whole.apply_in_order.Goals as goal
 

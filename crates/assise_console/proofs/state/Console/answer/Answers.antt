@@ -1,4 +1,4 @@
-use Rattle.std.proofs.Common.{◌+◌, ◌++◌, ◌∷◌, [], sym, ap, ap₂, subst, ◌∙◌}
+use Rattle.std.proofs.Common.{◌++◌, ◌∷◌, [], sym, ap, ap₂, subst, ◌∙◌}
 use Rattle.assise_history.specs.Entries.{calls}
 use Rattle.assise_inode_table.specs.Calls.{step}
 use Rattle.assise_inode_table.specs.Contents.{values}
