@@ -1,5 +1,5 @@
 -- What two parts are as one map.
-use Rattle.std.proofs.Common.{◌≡◌, ℕ, Bool, true, false, cond, List, [], ◌∷◌, ◌++◌, Option, Some, None, IsSome, Result, Ok, Err, OnOk, OnErr, refl, sym, ap, subst, ◌∙◌, eqb, ◌||◌, is_some, true≢false}
+use Rattle.std.proofs.Common.{◌≡◌, ℕ, Bool, true, false, cond, [], ◌∷◌, ◌++◌, Option, Some, None, IsSome, Result, Ok, Err, OnOk, OnErr, refl, sym, ap, subst, ◌∙◌, eqb, ◌||◌, is_some, true≢false}
 use Rattle.std.proofs.lemmas.Bool.{eqb-true, eqb-false}
 use Rattle.std.specs.Option.{option_or}
 use Rattle.std.specs.declared.cmp.Ordering.{Ordering}
@@ -7,16 +7,16 @@ use Rattle.std.specs.declared.cmp.Ordering.TheVariants.{Less, Equal, Greater}
 use Rattle.std.specs.Ordering.{nat_cmp, is_eq}
 use Rattle.std.specs.Cmp.{nat_cmp_total, tied_itself, nat_eq_equiv}
 use Rattle.std.specs.List.{list_any}
-use Rattle.std.specs.Map.{lookup, keys_of}
+use Rattle.std.specs.Map.{keys_of}
 use Rattle.std.specs.BTreeMap.{is_at}
 use Rattle.std.proofs.lemmas.Map.Lookups.{exact_unsigned}
 use Rattle.std.specs.FinMap as map
 use Rattle.lru.specs.LruCache.{LruCache}
-use Rattle.assise_inode_table.specs.Contents.{Content, InodeMap}
+use Rattle.assise_inode_table.specs.Contents.{Content}
 use Rattle.assise_inode_table.specs.Effects.{with_value}
 use Rattle.assise_inode_table.proofs.Making.{get-with_value}
 use Rattle.assise_area.specs.Hot.{AreaValue, is_hot}
-use Rattle.assise_area.specs.Parts.{Entries, AreApart, HoldSame, joined, value_in, hot_at, cold_at, seen}
+use Rattle.assise_area.specs.Parts.{Entries, HoldSame, joined, value_in, hot_at, cold_at, seen}
 
 -- ---- numbers
 
@@ -114,3 +114,7 @@ ok_map (Err e) a f = tt
 pub err_map : {T E A B : Type 0} (r : Result T E) → OnErr r A → (A → B) → OnErr r B
 err_map (Ok x) a f = tt
 err_map (Err e) a f = f a
+
+pub either_two : {T E A B C P : Type 0} (r : Result T E) → OnOk r A → OnErr r B → OnErr r C → (A → P) → (B → C → P) → P
+either_two (Ok x) a b c f g = f a
+either_two (Err e) a b c f g = g b c

@@ -1,20 +1,20 @@
 -- A value that is written or taken out.
-use Rattle.std.proofs.Common.{◌≡◌, ◌≤◌, ℕ, Bool, true, false, cond, List, [], ◌∷◌, Option, Some, None, IsSome, refl, sym, ap, subst, ◌∙◌, eqb, nat_eq, option_map, is_some}
+use Rattle.std.proofs.Common.{◌≡◌, ◌≤◌, ℕ, Bool, true, false, cond, [], ◌∷◌, Option, Some, None, IsSome, refl, sym, ap, subst, ◌∙◌, eqb, nat_eq}
 use Rattle.std.proofs.lemmas.Bool.{eqb-true}
 use Rattle.std.proofs.lemmas.Map.{lookup-set_value, lookup-remove_entry, keys-set_value}
 use Rattle.std.specs.Option.{option_or}
 use Rattle.std.specs.Ordering.{nat_cmp}
 use Rattle.std.specs.Cmp.{nat_eq_equiv}
 use Rattle.std.specs.List.{IsDistinct}
-use Rattle.std.specs.Map.{lookup, keys_of, set_value, remove_entry}
+use Rattle.std.specs.Map.{keys_of, set_value, remove_entry}
 use Rattle.std.specs.BTreeMap.{is_at}
 use Rattle.std.specs.FinMap as map
 use Rattle.lru.specs.LruCache.{LruCache, lru_cache}
-use Rattle.assise_inode_table.specs.Contents.{Content, InodeMap}
+use Rattle.assise_inode_table.specs.Contents.{Content}
 use Rattle.assise_inode_table.specs.Effects.{with_value}
 use Rattle.assise_area.specs.Hot.{AreaValue, with_inodes, without, removed}
-use Rattle.assise_area.specs.Parts.{Entries, AreApart, IsSound, joined, value_in, hot_at, cold_at, seen}
-use Rattle.assise_area.proofs.Seen.{alike, turned, some≢none, from_some, with_value-joined}
+use Rattle.assise_area.specs.Parts.{Entries, AreApart, IsSound, value_in, hot_at, cold_at, seen}
+use Rattle.assise_area.proofs.Seen.{alike, some≢none, from_some, with_value-joined}
 
 pub one_class : (k x y : ℕ) → nat_eq k x ≡ true → nat_eq k y ≡ nat_eq x y
 one_class k x y e = ap (λ j. nat_eq j y) (eqb-true k x e)

@@ -8,6 +8,7 @@ ghost use Rattle.assise_inode_table.specs.Whole.{CanBeMadeWhole, OnlyTakeAway};
 ghost use Rattle.assise_names.specs.declared.refusal.Refusal.TheVariants.{OutOfMemory};
 ghost use Rattle.assise_record.specs.Touched.{touched_by};
 
+use crate::moves::warm;
 use crate::parts::{change_cold, see_order};
 use assise_inode_table::inode::Inode;
 use assise_inode_table::inodes::Inodes;
@@ -49,6 +50,11 @@ impl Model for Area {
 }
 
 impl Area {
+    ghost use Rattle.std.specs.Prelude.{⊤};
+    ghost use Rattle.std.specs.Borrow.{sem, follows_so};
+    ghost use mathlib.Core.Option.{none};
+    ghost use Rattle.assise_area.specs.contracts.area.Area.{the_row};
+
     /// An area without inodes, of which 1 to 4,096 may be hot. The one refusal is [`Refusal::OutOfMemory`].
     pub fn new(alloc: Global, capacity: usize) -> Result<Area, Refusal>
         requires least { 1 ≤ capacity }
@@ -98,6 +104,32 @@ impl Area {
             Some(held) => Some(held),
             None => self.cold.get(&inode),
         }
+    }
+
+    /// Uses an inode: it comes first among the hot ones, and of more than may be hot the longest unused one is cold then.
+    /// An inode that is hot already needs no memory for that; where it runs out for a cold one nothing moves. Nor does
+    /// anything where the number has no inode. No inode changes.
+    pub fn touch(&mut self, inode: u64)
+        ensures { IsTouched self.old inode self.new }
+    {
+        see_order(&self.hot);
+        if self.hot.promote(&inode) {
+            return;
+        }
+        if !self.cold.contains_key(&inode) {
+            return;
+        }
+        let _ = warm(self.alloc, &mut self.hot, &mut self.cold, inode);
+    }
+
+    /// The inode of a number, if there is one, which is used by that (see [`Area::touch`]). It is there whether it becomes
+    /// hot or not.
+    pub fn get(&mut self, inode: u64) -> Option<&Inode>
+        ensures* used { sem 𝓛 (follows_so the_row the_row self.entry.ghost_name none (λ _ _. ⊤) (λ n. IsTouched self.old inode n)) }
+        ensures value { option_copied result ≡ map.get self.old.inodes inode }
+    {
+        self.touch(inode);
+        self.peek(inode)
     }
 
     /// Gives a number an inode, and gives back the one that it had. What was hot is hot as before, and a new inode is

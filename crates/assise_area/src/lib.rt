@@ -2,4 +2,5 @@
 #![tactic(auto)]
 
 pub mod area;
+mod moves;
 mod parts;

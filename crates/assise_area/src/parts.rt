@@ -43,10 +43,11 @@ pub(crate) fn see_order(hot: &LruCache<u64, Inode>)
 }
 
 /// Writes over a cold inode. It takes no memory.
-pub(crate) fn overwrite(cold: &mut BTreeMap<u64, Inode>, inode: u64, content: Inode)
-    requires there { IsSome (cold_at cold.old.entries inode) }
-    ensures { (q : ℕ) → cold_at cold.new.entries q ≡ cond (is_at (nat_cmp inode) q) (Some content) (cold_at cold.old.entries q) }
+pub(crate) fn overwrite(cold: &mut BTreeMap<u64, Inode>, entry: (u64, Inode))
+    requires there { IsSome (cold_at cold.old.entries entry.0) }
+    ensures { (q : ℕ) → cold_at cold.new.entries q ≡ cond (is_at (nat_cmp entry.0) q) (Some entry.1) (cold_at cold.old.entries q) }
 {
+    let (inode, content) = entry;
     if cold.insert(inode, content).is_err() {
         unreachable!();
     }
