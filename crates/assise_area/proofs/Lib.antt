@@ -1,0 +1,4 @@
+pub mod Seen
+pub mod Writing
+pub mod Using
+pub mod Warming

@@ -1,0 +1,120 @@
+-- What two parts are as one map.
+use Rattle.std.proofs.Common.{◌≡◌, ℕ, Bool, true, false, cond, [], ◌∷◌, ◌++◌, Option, Some, None, IsSome, Result, Ok, Err, OnOk, OnErr, refl, sym, ap, subst, ◌∙◌, eqb, ◌||◌, is_some, true≢false}
+use Rattle.std.proofs.lemmas.Bool.{eqb-true, eqb-false}
+use Rattle.std.specs.Option.{option_or}
+use Rattle.std.specs.declared.cmp.Ordering.{Ordering}
+use Rattle.std.specs.declared.cmp.Ordering.TheVariants.{Less, Equal, Greater}
+use Rattle.std.specs.Ordering.{nat_cmp, is_eq}
+use Rattle.std.specs.Cmp.{nat_cmp_total, tied_itself, nat_eq_equiv}
+use Rattle.std.specs.List.{list_any}
+use Rattle.std.specs.Map.{keys_of}
+use Rattle.std.specs.BTreeMap.{is_at}
+use Rattle.std.proofs.lemmas.Map.Lookups.{exact_unsigned}
+use Rattle.std.specs.FinMap as map
+use Rattle.lru.specs.LruCache.{LruCache}
+use Rattle.assise_inode_table.specs.Contents.{Content}
+use Rattle.assise_inode_table.specs.Effects.{with_value}
+use Rattle.assise_inode_table.proofs.Making.{get-with_value}
+use Rattle.assise_area.specs.Hot.{AreaValue, is_hot}
+use Rattle.assise_area.specs.Parts.{Entries, HoldSame, joined, value_in, hot_at, cold_at, seen}
+
+-- ---- numbers
+
+tied : (o : Ordering) → is_eq o ≡ true → o ≡ Equal
+tied Less e = cc
+tied Equal e = refl
+tied Greater e = cc
+
+-- both parts compare numbers alike
+pub alike : (k q : ℕ) → is_at (nat_cmp k) q ≡ eqb k q
+alike k q = go (is_at (nat_cmp k) q) (eqb k q) refl refl
+  where
+    go : (a b : Bool) → is_at (nat_cmp k) q ≡ a → eqb k q ≡ b → a ≡ b
+    go true true e f = refl
+    go false false e f = refl
+    go true false e f = absurd (eqb-false k q f (exact_unsigned k q (tied (nat_cmp k q) e)))
+    go false true e f = absurd (true≢false (sym (ap is_eq (tied_itself nat_cmp_total k)) ∙ ap (λ j. is_at (nat_cmp k) j) (eqb-true k q f) ∙ e))
+
+pub turned : (k q : ℕ) → eqb k q ≡ eqb q k
+turned k q = nat_eq_equiv.symm k q
+
+-- ---- options
+
+pub some≢none : {X : Type 0} (x : X) → Some x ≡ None → ⊥
+some≢none x e = true≢false (ap is_some e)
+
+pub is_there : {X : Type 0} (x : X) (o : Option X) → Some x ≡ o → IsSome o
+is_there x o e = subst IsSome e refl
+
+pub from_some : {X A : Type 0} (o : Option X) → IsSome o → ((x : X) → o ≡ Some x → A) → A
+from_some None s f = absurd (true≢false (sym s))
+from_some (Some x) s f = f x refl
+
+pub nothing : {X : Type 0} (o : Option X) → false ≡ is_some o → o ≡ None
+nothing None e = refl
+nothing (Some x) e = absurd (true≢false (sym e))
+
+-- ---- the map
+
+find-joined : (hot cold : Entries) (q : ℕ) → map.find nat_cmp q (hot ++ cold) ≡ value_in hot cold q
+find-joined [] [] q = refl
+find-joined [] (e ∷ cold) q = ap (cond (is_at (nat_cmp q) e.0) (Some e.1)) (find-joined [] cold q)
+find-joined (e ∷ hot) cold q = ap (λ b. cond b (Some e.1) (map.find nat_cmp q (hot ++ cold))) (alike q e.0) ∙ go (eqb q e.0) (find-joined hot cold q)
+  where
+    go : (b : Bool) → map.find nat_cmp q (hot ++ cold) ≡ value_in hot cold q → cond b (Some e.1) (map.find nat_cmp q (hot ++ cold)) ≡ option_or (cond b (Some e.1) (hot_at hot q)) (cold_at cold q)
+    go true ih = refl
+    go false ih = ih
+
+pub get-joined : (hot cold : Entries) (q : ℕ) → map.get (joined hot cold) q ≡ value_in hot cold q
+get-joined hot cold q = map.get-from_entries nat_cmp_total (hot ++ cold) q ∙ find-joined hot cold q
+
+-- parts that hold the same are the same map
+pub same_joined : (hot cold hot' cold' : Entries) → HoldSame hot cold hot' cold' → joined hot' cold' ≡ joined hot cold
+same_joined hot cold hot' cold' same = map.same_map nat_cmp_total exact_unsigned _ _ (λ q. get-joined hot' cold' q ∙ same q ∙ sym (get-joined hot cold q))
+
+-- parts that hold another value of one inode
+pub with_value-joined : (hot cold hot' cold' : Entries) (k : ℕ) (w : Option Content)
+    → ((q : ℕ) → value_in hot' cold' q ≡ cond (eqb k q) w (value_in hot cold q)) → joined hot' cold' ≡ with_value (joined hot cold) k w
+with_value-joined hot cold hot' cold' k w values = map.same_map nat_cmp_total exact_unsigned _ _ (λ q.
+    get-joined hot' cold' q ∙ values q ∙ ap (cond (eqb k q) w) (sym (get-joined hot cold q)) ∙ sym (get-with_value (joined hot cold) k w q))
+
+-- what an area has of a number
+pub value_of : (a : AreaValue) (hot : LruCache ℕ Content) (cold : Entries) (q : ℕ) → seen hot cold ≡ a → map.get a.inodes q ≡ value_in hot.entries cold q
+value_of a hot cold q view = ap (λ b. map.get b.inodes q) (sym view) ∙ get-joined hot.entries cold q
+
+-- a number that isn't hot has what the cold part has
+pub value_of_cold : (a : AreaValue) (hot : LruCache ℕ Content) (cold : Entries) (q : ℕ) → seen hot cold ≡ a → hot_at hot.entries q ≡ None → map.get a.inodes q ≡ cold_at cold q
+value_of_cold a hot cold q view none = value_of a hot cold q view ∙ ap (λ o. option_or o (cold_at cold q)) none
+
+pub value_of_hot : (a : AreaValue) (hot : LruCache ℕ Content) (cold : Entries) (q : ℕ) (v : Content) → seen hot cold ≡ a → hot_at hot.entries q ≡ Some v → map.get a.inodes q ≡ Some v
+value_of_hot a hot cold q v view is = value_of a hot cold q view ∙ ap (λ o. option_or o (cold_at cold q)) is
+
+-- the number of what is hot is among the keys
+pub is_some-lookup : (i : ℕ) (es : Entries) → is_some (hot_at es i) ≡ list_any (λ j. eqb i j) (keys_of es)
+is_some-lookup i [] = refl
+is_some-lookup i (e ∷ es) = go (eqb i e.0) (is_some-lookup i es)
+  where
+    go : (b : Bool) → is_some (hot_at es i) ≡ list_any (λ j. eqb i j) (keys_of es) → is_some (cond b (Some e.1) (hot_at es i)) ≡ (b || list_any (λ j. eqb i j) (keys_of es))
+    go true ih = refl
+    go false ih = ih
+
+pub hot_now : (a : AreaValue) (hot : LruCache ℕ Content) (cold : Entries) (i : ℕ) → seen hot cold ≡ a → is_hot a i ≡ is_some (hot_at hot.entries i)
+hot_now a hot cold i view = ap (λ b. is_hot b i) (sym view) ∙ sym (is_some-lookup i hot.entries)
+
+-- ---- results
+
+pub either : {T E A B P : Type 0} (r : Result T E) → OnOk r A → OnErr r B → (A → P) → (B → P) → P
+either (Ok x) a b f g = f a
+either (Err e) a b f g = g b
+
+pub ok_map : {T E A B : Type 0} (r : Result T E) → OnOk r A → (A → B) → OnOk r B
+ok_map (Ok x) a f = f a
+ok_map (Err e) a f = tt
+
+pub err_map : {T E A B : Type 0} (r : Result T E) → OnErr r A → (A → B) → OnErr r B
+err_map (Ok x) a f = tt
+err_map (Err e) a f = f a
+
+pub either_two : {T E A B C P : Type 0} (r : Result T E) → OnOk r A → OnErr r B → OnErr r C → (A → P) → (B → C → P) → P
+either_two (Ok x) a b c f g = f a
+either_two (Err e) a b c f g = g b c

@@ -1,0 +1,2 @@
+pub mod Hot
+pub mod Parts

@@ -1,0 +1,59 @@
+-- A hot part and a cold part, seen as one map.
+-- Assise, OSDI 2020, section 3: hot and cold shared areas; the textbooks' finite maps.
+use Rattle.std.specs.Prelude.{◌≡◌, ℕ, ◌-◌, ◌≤◌, List, ◌∷◌, ◌++◌, take, Option, Some, None, nat_eq}
+use Rattle.std.specs.Option.{option_or}
+use Rattle.std.specs.Ordering.{nat_cmp}
+use Rattle.std.specs.Map.{lookup, keys_of}
+use Rattle.std.specs.BTreeMap.{is_at}
+use Rattle.std.specs.FinMap as map
+use Rattle.lru.specs.LruCache.{LruCache}
+use Rattle.assise_inode_table.specs.Contents.{Content, InodeMap}
+use Rattle.assise_area.specs.Hot.{AreaValue}
+
+abbrev pub Entries : Type 0
+Entries = List (ℕ × Content)
+
+-- what each part has at a number
+abbrev pub hot_at : Entries → ℕ → Option Content
+hot_at hot q = lookup (nat_eq q) hot
+
+abbrev pub cold_at : Entries → ℕ → Option Content
+cold_at cold q = lookup (is_at (nat_cmp q)) cold
+
+-- what both have, the hot part first
+abbrev pub value_in : Entries → Entries → ℕ → Option Content
+value_in hot cold q = option_or (hot_at hot q) (cold_at cold q)
+
+-- both as one map
+abbrev pub joined : Entries → Entries → InodeMap
+joined hot cold = map.from_entries (hot ++ cold)
+
+abbrev pub seen : LruCache ℕ Content → Entries → AreaValue
+seen hot cold = record { inodes = joined hot.entries cold; hot = keys_of hot.entries; capacity = hot.cap }
+
+-- no inode is in both
+unfoldable pub AreApart : Entries → Entries → Type 0
+AreApart hot cold = (q : ℕ) (content : Content) → hot_at hot q ≡ Some content → cold_at cold q ≡ None
+
+-- what holds of the parts of an area
+pub record IsSound (hot : LruCache ℕ Content) (cold : Entries) : Type 0 where
+  pub apart : AreApart hot.entries cold
+  pub most : hot.cap ≤ 4096
+
+-- both parts hold together what they held
+abbrev pub HoldSame : Entries → Entries → Entries → Entries → Type 0
+HoldSame hot cold hot' cold' = (q : ℕ) → value_in hot' cold' q ≡ value_in hot cold q
+
+-- a cold inode is the first of the hot ones, and of more than may be hot the last is cold
+pub record IsWarmed (i : ℕ) (hot hot' : LruCache ℕ Content) (cold cold' : Entries) : Type 0 where
+  pub keys : keys_of hot'.entries ≡ i ∷ take (hot.cap - 1) (keys_of hot.entries)
+  pub cap : hot'.cap ≡ hot.cap
+  pub same : HoldSame hot.entries cold hot'.entries cold'
+  pub apart : AreApart hot'.entries cold'
+
+-- a cold inode is the first of the hot ones, of which no more are left than may be
+pub record IsPushed (i : ℕ) (hot hot' : LruCache ℕ Content) (cold : Entries) : Type 0 where
+  pub content : Content
+  pub there : cold_at cold i ≡ Some content
+  pub entries : hot'.entries ≡ (i, content) ∷ take (hot.cap - 1) hot.entries
+  pub cap : hot'.cap ≡ hot.cap

@@ -1,0 +1,242 @@
+// The inodes of a node: the recently used ones in a hot part, the others in a cold one.
+ghost use Rattle.std.specs.Prelude.{◌≡◌, ◌≤◌, IfOk, IsOk, IsOkUnless, None, OnErr, OnOk, length, nat_eq, option_copied, option_map};
+ghost use Rattle.std.specs.FinMap as map;
+ghost use Rattle.std.specs.List.{IsDistinct};
+ghost use Rattle.assise_area.specs.Hot.{IsTouched, after_effect, is_hot, removed, with_inodes, without_inodes};
+ghost use Rattle.assise_inode_table.specs.Effects.{AsksForMemory, TakesAway, all_applied, changed, with_value};
+ghost use Rattle.assise_inode_table.specs.Whole.{CanBeMadeWhole, OnlyTakeAway};
+ghost use Rattle.assise_names.specs.declared.refusal.Refusal.TheVariants.{OutOfMemory};
+ghost use Rattle.assise_record.specs.Touched.{touched_by};
+
+use crate::moves::warm;
+use crate::parts::{change_cold, see_order};
+use assise_inode_table::inode::Inode;
+use assise_inode_table::inodes::Inodes;
+use assise_inode_table::store::InodeStore;
+use assise_inode_table::whole::apply_all;
+use assise_names::refusal::Refusal;
+use assise_record::effect::Effect;
+use lru::LruCache;
+use std::alloc::Global;
+use std::collections::BTreeMap;
+use std::marker::Model;
+use std::mem;
+use std::num::NonZeroUsize;
+
+/// The most inodes that may be hot.
+pub const MOST_HOT: usize = 4096;
+
+/// The inodes of a node, each of them in the hot part or in the cold one. What was used last is hot (Assise, OSDI 2020,
+/// section 3). A contract sees all inodes as one finite map, the numbers of the hot ones by their last use, the most
+/// recent first, and how many may be hot.
+#[derive(Drop)]
+pub struct Area {
+    alloc: Global,
+    hot: LruCache<u64, Inode>,
+    cold: BTreeMap<u64, Inode>,
+}
+
+impl Model for Area {
+    ghost use Rattle.assise_area.specs.Hot.{AreaValue, coded_area};
+    ghost use Rattle.assise_area.specs.Parts.{IsSound, seen};
+
+    ghost Value = { AreaValue };
+
+    ghost coded = { coded_area };
+
+    ghost view = { λ a. seen a.hot a.cold.entries };
+
+    ghost invariant = { λ a. IsSound a.hot a.cold.entries };
+}
+
+impl Area {
+    ghost use Rattle.std.specs.Prelude.{⊤};
+    ghost use Rattle.std.specs.Borrow.{sem, follows_so};
+    ghost use mathlib.Core.Option.{none};
+    ghost use Rattle.assise_area.specs.contracts.area.Area.{the_row};
+
+    /// An area without inodes, of which 1 to 4,096 may be hot. The one refusal is [`Refusal::OutOfMemory`].
+    pub fn new(alloc: Global, capacity: usize) -> Result<Area, Refusal>
+        requires least { 1 ≤ capacity }
+        requires most { capacity ≤ 4096 }
+        ensures empty { IfOk result (λ area. area ≡ without_inodes capacity) }
+        ensures only_memory { IsOkUnless result OutOfMemory }
+    {
+        let capacity = NonZeroUsize::new(capacity).unwrap();
+        let hot = LruCache::sparse(alloc, capacity)?;
+        Ok(Area {
+            alloc,
+            hot,
+            cold: BTreeMap::new(alloc),
+        })
+    }
+
+    /// How many inodes may be hot.
+    pub fn hot_capacity(&self) -> usize
+        ensures value { result ≡ self.now.capacity }
+        ensures least { 1 ≤ result }
+        ensures most { result ≤ 4096 }
+    {
+        self.hot.cap().get()
+    }
+
+    /// How many inodes are hot: each once, and no more than may be.
+    pub fn hot_count(&self) -> usize
+        ensures value { result ≡ length self.now.hot }
+        ensures within { length self.now.hot ≤ self.now.capacity }
+        ensures once { IsDistinct nat_eq self.now.hot }
+    {
+        self.hot.len()
+    }
+
+    /// Whether an inode is hot.
+    pub fn is_hot(&self, inode: u64) -> bool
+        ensures { result ≡ is_hot self.now inode }
+    {
+        self.hot.contains(&inode)
+    }
+
+    /// The inode of a number, if there is one. Nothing moves.
+    pub fn peek(&self, inode: u64) -> Option<&Inode>
+        ensures { option_copied result ≡ map.get self.now.inodes inode }
+    {
+        match self.hot.peek(&inode) {
+            Some(held) => Some(held),
+            None => self.cold.get(&inode),
+        }
+    }
+
+    /// Uses an inode: it comes first among the hot ones, and of more than may be hot the longest unused one is cold then.
+    /// An inode that is hot already needs no memory for that; where it runs out for a cold one nothing moves. Nor does
+    /// anything where the number has no inode. No inode changes.
+    pub fn touch(&mut self, inode: u64)
+        ensures { IsTouched self.old inode self.new }
+    {
+        see_order(&self.hot);
+        if self.hot.promote(&inode) {
+            return;
+        }
+        if !self.cold.contains_key(&inode) {
+            return;
+        }
+        let _ = warm(self.alloc, &mut self.hot, &mut self.cold, inode);
+    }
+
+    /// The inode of a number, if there is one, which is used by that (see [`Area::touch`]). It is there whether it becomes
+    /// hot or not.
+    pub fn get(&mut self, inode: u64) -> Option<&Inode>
+        ensures* used { sem 𝓛 (follows_so the_row the_row self.entry.ghost_name none (λ _ _. ⊤) (λ n. IsTouched self.old inode n)) }
+        ensures value { option_copied result ≡ map.get self.old.inodes inode }
+    {
+        self.touch(inode);
+        self.peek(inode)
+    }
+
+    /// Gives a number an inode, and gives back the one that it had. What was hot is hot as before, and a new inode is
+    /// cold. The one refusal is [`Refusal::OutOfMemory`], where the number had none, and it leaves the area as it was.
+    pub fn insert(&mut self, inode: u64, content: Inode) -> Result<Option<Inode>, Refusal>
+        ensures ok { OnOk result (self.new ≡ with_inodes self.old (map.insert self.old.inodes inode content)) }
+        ensures replaced { IfOk result (λ had. had ≡ map.get self.old.inodes inode) }
+        ensures err { OnErr result (self.new ≡ self.old) }
+        ensures asked { OnErr result (map.get self.old.inodes inode ≡ None) }
+        ensures only_memory { IsOkUnless result OutOfMemory }
+    {
+        let Some(held) = self.hot.peek_mut(&inode) else {
+            return Ok(self.cold.insert(inode, content)?);
+        };
+        Ok(Some(mem::replace(held, content)))
+    }
+
+    /// Takes the inode of a number out, if it is there.
+    pub fn remove(&mut self, inode: u64) -> Option<Inode>
+        ensures removed { result ≡ map.get self.old.inodes inode }
+        ensures others { self.new ≡ removed self.old inode }
+    {
+        see_order(&self.hot);
+        match self.hot.pop(&inode) {
+            Some(content) => Some(content),
+            None => self.cold.remove(&inode),
+        }
+    }
+
+    /// Makes an effect: a new file or directory stands in place of what its number had, a freed inode is gone, and
+    /// each other effect changes the inode that it touches, where there is one of its kind. No other inode changes, and
+    /// none becomes hot. The one refusal is [`Refusal::OutOfMemory`], where a number that has none gets an inode, a file
+    /// gets bytes or an entry gets a new name, and it leaves the area as it was. What only takes away takes no memory,
+    /// and neither does an effect for the other kind or on an inode that isn't there.
+    pub fn apply(&mut self, effect: &Effect) -> Result<(), Refusal>
+        ensures ok { OnOk result (self.new ≡ after_effect self.old effect.now) }
+        ensures taken_away { TakesAway effect.now → IsOk result }
+        ensures err { OnErr result (self.new ≡ self.old) }
+        ensures asked { OnErr result (AsksForMemory effect.now (map.get self.old.inodes (touched_by effect.now))) }
+        ensures only_memory { IsOkUnless result OutOfMemory }
+    {
+        match effect {
+            Effect::NewFile { inode } => {
+                self.insert(*inode, Inode::new_file(self.alloc))?;
+            }
+            Effect::NewDir { inode } => {
+                self.insert(*inode, Inode::new_directory(self.alloc))?;
+            }
+            Effect::Free { inode } => {
+                self.remove(*inode);
+            }
+            change => self.change(change)?,
+        }
+        Ok(())
+    }
+
+    /// Makes the effects of a call, all of them in their order or none, without a copy of what they change (see
+    /// [`apply_all`]). The one refusal is [`Refusal::OutOfMemory`], and it leaves the inodes as they were.
+    pub fn apply_all(&mut self, effects: &[Effect]) -> Result<(), Refusal>
+        requires whole { CanBeMadeWhole effects.now }
+        ensures ok { OnOk result (self.new.inodes ≡ all_applied self.old.inodes effects.now) }
+        ensures taken_away { OnlyTakeAway effects.now → IsOk result }
+        ensures err { OnErr result (self.new.inodes ≡ self.old.inodes) }
+        ensures only_memory { IsOkUnless result OutOfMemory }
+    {
+        apply_all(self, effects)
+    }
+
+    /// Changes the inode that an effect touches, where there is one.
+    fn change(&mut self, effect: &Effect) -> Result<(), Refusal>
+        ensures taken_away { TakesAway effect.now → IsOk result }
+        ensures ok { let inode = touched_by effect.now in let had = map.get self.old.inodes inode in
+            OnOk result (self.new ≡ with_inodes self.old (with_value self.old.inodes inode (option_map (λ content. changed content effect.now) had))) }
+        ensures err { OnErr result (self.new ≡ self.old) }
+        ensures asked { OnErr result (AsksForMemory effect.now (map.get self.old.inodes (touched_by effect.now))) }
+        ensures only_memory { IsOkUnless result OutOfMemory }
+    {
+        let Some(held) = self.hot.peek_mut(&effect.touches()) else {
+            return change_cold(self.alloc, &mut self.cold, effect);
+        };
+        held.change(self.alloc, effect)?;
+        Ok(())
+    }
+}
+
+impl Inodes for Area {
+    ghost contents = { λ area. area.inodes };
+
+    fn get(&self, inode: u64) -> Option<&Inode> {
+        self.peek(inode)
+    }
+}
+
+impl InodeStore for Area {
+    fn allocator(&self) -> Global {
+        self.alloc
+    }
+
+    fn insert(&mut self, inode: u64, content: Inode) -> Result<Option<Inode>, Refusal> {
+        Area::insert(self, inode, content)
+    }
+
+    fn remove(&mut self, inode: u64) -> Option<Inode> {
+        Area::remove(self, inode)
+    }
+
+    fn apply(&mut self, effect: &Effect) -> Result<(), Refusal> {
+        Area::apply(self, effect)
+    }
+}

@@ -1,0 +1,54 @@
+// What is done to one of the two parts.
+ghost use Rattle.std.specs.Prelude.{◌≡◌, ℕ, IsOk, IsOkUnless, IsSome, OnErr, OnOk, Some, cond, nat_eq, option_map};
+ghost use Rattle.std.specs.BTreeMap.{is_at};
+ghost use Rattle.std.specs.Ordering.{nat_cmp};
+ghost use Rattle.assise_area.specs.Parts.{cold_at};
+ghost use Rattle.assise_inode_table.specs.Effects.{AsksForMemory, TakesAway, changed};
+ghost use Rattle.assise_names.specs.declared.refusal.Refusal.TheVariants.{OutOfMemory};
+ghost use Rattle.assise_record.specs.Touched.{touched_by};
+ghost use Rattle.lru.specs.LruCache.{IsValid};
+
+use assise_inode_table::inode::Inode;
+use assise_names::refusal::Refusal;
+use assise_record::effect::Effect;
+use lru::LruCache;
+use std::alloc::Global;
+use std::collections::BTreeMap;
+
+/// Changes the cold inode that an effect touches, where there is one.
+pub(crate) fn change_cold(
+    alloc: Global,
+    cold: &mut BTreeMap<u64, Inode>,
+    effect: &Effect,
+) -> Result<(), Refusal>
+    ensures taken_away { TakesAway effect.now → IsOk result }
+    ensures ok { let inode = touched_by effect.now in let had = cold_at cold.old.entries inode in
+        OnOk result ((q : ℕ) → cold_at cold.new.entries q ≡ cond (is_at (nat_cmp inode) q) (option_map (λ content. changed content effect.now) had) (cold_at cold.old.entries q)) }
+    ensures err { OnErr result (cold.new.entries ≡ cold.old.entries) }
+    ensures asked { OnErr result (AsksForMemory effect.now (cold_at cold.old.entries (touched_by effect.now))) }
+    ensures only_memory { IsOkUnless result OutOfMemory }
+{
+    let Some(inode) = cold.get_mut(&effect.touches()) else {
+        return Ok(());
+    };
+    inode.change(alloc, effect)?;
+    Ok(())
+}
+
+/// Sees that no inode is hot twice, and no more are hot than may be.
+pub(crate) fn see_order(hot: &LruCache<u64, Inode>)
+    ensures { IsValid nat_eq hot.now }
+{
+    let _ = hot.len();
+}
+
+/// Writes over a cold inode. It takes no memory.
+pub(crate) fn overwrite(cold: &mut BTreeMap<u64, Inode>, entry: (u64, Inode))
+    requires there { IsSome (cold_at cold.old.entries entry.0) }
+    ensures { (q : ℕ) → cold_at cold.new.entries q ≡ cond (is_at (nat_cmp entry.0) q) (Some entry.1) (cold_at cold.old.entries q) }
+{
+    let (inode, content) = entry;
+    if cold.insert(inode, content).is_err() {
+        unreachable!();
+    }
+}
