@@ -1,0 +1,6 @@
+use Rattle.std.proofs.Common.{◌≡◌, drop}
+use Rattle.assise_digest.specs.Pending.{forgotten}
+use Rattle.assise_digest.proofs.pending.Pending.forget.Given as goal
+
+abbrev pub invariant-loop-effect : goal.invariant-loop-effect
+invariant-loop-effect l = forgotten l.self l.number (drop l.effect-index l.effects) ≡ forgotten l.initial.self l.number l.effects

@@ -1,0 +1,5 @@
+//! A region.
+#![tactic(auto)]
+
+mod numbers;
+mod pending;
