@@ -1,2 +1,4 @@
 pub mod Ahead
 pub mod Pending
+pub mod Region
+pub mod Sound

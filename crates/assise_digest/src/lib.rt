@@ -1,5 +1,7 @@
-//! A region.
+//! A node's region: its inodes, and the logs that it received, which are digested into them.
 #![tactic(auto)]
 
 mod numbers;
 mod pending;
+mod received;
+pub mod region;

@@ -1,0 +1,116 @@
+-- A node's region: its inodes, and for each client the log that it received, some of which is digested into the inodes.
+-- Assise (OSDI 2020), section 3: a replica's update logs and shared areas; Strata (SOSP 2017), section 3: digests.
+use Rattle.std.specs.Prelude.{◌≡◌, ◌≢◌, ℕ, ◌+◌, ◌-◌, ◌<◌, ◌≤◌, Bool, true, false, List, [], ◌∷◌, ◌++◌, length, take, slice_index_or, slice_set, Option}
+use Rattle.std.specs.FinMap as map
+use Rattle.assise_record.specs.declared.effect.Effect.{Effect}
+use Rattle.assise_record.specs.LogRecord.{LogRecord}
+use Rattle.assise_private_log.specs.NumberedLog.{NumberedLog, empty_log, end, records_from, with_record, without_front, without_tail}
+use Rattle.assise_inode_table.specs.Contents.{Content, InodeMap, Values}
+use Rattle.assise_inode_table.specs.Effects.{all_applied, contains, touched, value_after, with_value}
+use Rattle.assise_inode_table.specs.Whole.{CanBeMadeWhole}
+use Rattle.assise_digest.specs.Ahead.{all_effects}
+
+-- the log of a client as far as the node received it, the number up to which it is digested, and whether the client
+-- lives on this node
+pub record ReceivedLog : Type 0 where
+  pub log : NumberedLog
+  pub digested : ℕ
+  pub at_home : Bool
+
+-- the log of client c stands at place c - 1
+pub record RegionValue : Type 0 where
+  pub inodes : InodeMap
+  pub logs : List ReceivedLog
+
+abbrev pub no_log : ReceivedLog
+no_log = record { log = empty_log 0; digested = 0; at_home = false }
+
+abbrev pub log_at : RegionValue → ℕ → ReceivedLog
+log_at r place = slice_index_or r.logs place no_log
+
+abbrev pub log_of : RegionValue → ℕ → ReceivedLog
+log_of r client = log_at r (client - 1)
+
+-- the region has a log of this client
+pub record HasClient (r : RegionValue) (client : ℕ) : Type 0 where
+  pub some : 0 < client
+  pub there : client ≤ length r.logs
+
+abbrev pub with_log : RegionValue → ℕ → ReceivedLog → RegionValue
+with_log r client l = record { inodes = r.inodes; logs = slice_set r.logs (client - 1) l }
+
+-- what is digested is a part of what was received, of which only digested records went from the front
+pub record IsBegun (l : ReceivedLog) : Type 0 where
+  pub from_first : l.log.first ≤ l.digested
+  pub to_end : l.digested ≤ end l.log
+
+-- the records that aren't digested
+abbrev pub ahead : ReceivedLog → List LogRecord
+ahead l = records_from l.log l.digested
+
+-- the effects of the first of them
+abbrev pub first_effects : List LogRecord → List Effect
+first_effects [] = []
+first_effects (r ∷ rs) = r.effects
+
+abbrev pub next_effects : ReceivedLog → List Effect
+next_effects l = first_effects (ahead l)
+
+-- those of them below a number
+abbrev pub ahead_below : ReceivedLog → ℕ → List LogRecord
+ahead_below l to = take (to - l.digested) (ahead l)
+
+-- each record can be made all or none
+abbrev pub AreWhole : List LogRecord → Type 0
+AreWhole [] = Unit {0}
+AreWhole (r ∷ rs) = CanBeMadeWhole r.effects × AreWhole rs
+
+-- ---- changes of one log
+
+abbrev pub with_more : ReceivedLog → LogRecord → ReceivedLog
+with_more l r = record { log = with_record l.log r; digested = l.digested; at_home = l.at_home }
+
+abbrev pub from_number : ReceivedLog → ℕ → ReceivedLog
+from_number l to = record { log = without_front l.log to; digested = l.digested; at_home = l.at_home }
+
+abbrev pub up_to_number : ReceivedLog → ℕ → ReceivedLog
+up_to_number l from = record { log = without_tail l.log from; digested = l.digested; at_home = l.at_home }
+
+abbrev pub digested_further : ReceivedLog → ℕ → ReceivedLog
+digested_further l count = record { log = l.log; digested = l.digested + count; at_home = l.at_home }
+
+-- the first records that aren't digested, so many, are made of the inodes
+abbrev pub digested_by : RegionValue → ℕ → ℕ → RegionValue
+digested_by r client count = record {
+  inodes = all_applied r.inodes (all_effects (take count (ahead (log_of r client))));
+  logs = slice_set r.logs (client - 1) (digested_further (log_of r client) count);
+}
+
+-- ---- what is read
+
+-- an inode as the client reads it: after all its records
+abbrev pub read_by : RegionValue → ℕ → ℕ → Option Content
+read_by r client i = value_after i (map.get r.inodes i) (all_effects (ahead (log_of r client)))
+
+-- the effects of the records that aren't digested and are acknowledged, client by client; each client has a number
+-- below which its records are
+abbrev pub all_ahead : List ReceivedLog → List ℕ → List Effect
+all_ahead [] acked = []
+all_ahead (l ∷ ls) [] = []
+all_ahead (l ∷ ls) (a ∷ acked) = all_effects (ahead_below l a) ++ all_ahead ls acked
+
+-- the inodes that this region alone gives: its own, after those records
+abbrev pub alone : RegionValue → List ℕ → Values
+alone r acked i = value_after i (map.get r.inodes i) (all_ahead r.logs acked)
+
+-- no inode is touched by records of two clients that aren't digested
+abbrev pub TouchApart : RegionValue → Type 0
+TouchApart r = (j k : ℕ) → j ≢ k → (i : ℕ) → contains (touched (all_effects (ahead (log_at r j)))) i ≡ true → contains (touched (all_effects (ahead (log_at r k)))) i ≡ false
+
+-- no record that isn't digested, of a client that lives on this node, touches the inode
+abbrev pub IsQuiet : RegionValue → ℕ → Type 0
+IsQuiet r i = (k : ℕ) → (log_at r k).at_home ≡ true → contains (touched (all_effects (ahead (log_at r k)))) i ≡ false
+
+-- the acknowledged numbers aren't below the digested ones
+abbrev pub AreNotBelow : List ReceivedLog → List ℕ → Type 0
+AreNotBelow ls acked = (k : ℕ) → k < length ls → (slice_index_or ls k no_log).digested ≤ slice_index_or acked k 0

@@ -1,0 +1,126 @@
+// What a node received of a client's log.
+ghost use Rattle.std.specs.Prelude.{◌≡◌, ◌≢◌, ◌⊎◌, ◌+◌, ◌^◌, ◌<◌, ◌≤◌, IfErr, IsOk, Option, Some, None, OnErr, OnOk, false, is_some, length, true, option_map, ℕ};
+ghost use Rattle.assise_inode_table.specs.Contents.{InodeMap};
+ghost use Rattle.assise_inode_table.specs.Effects.{all_applied};
+ghost use Rattle.assise_inode_table.specs.Whole.{CanBeMadeWhole};
+ghost use Rattle.assise_names.specs.declared.refusal.Refusal.TheVariants.{LogFull, OutOfMemory};
+ghost use Rattle.assise_private_log.specs.NumberedLog.{end};
+ghost use Rattle.assise_digest.specs.Region.{IsBegun, digested_further, from_number, next_effects, up_to_number, with_more};
+ghost use Rattle.assise_digest.specs.Pending.{forgotten};
+ghost use Rattle.assise_digest.specs.Sound.{IsKeptFor, IsSoundLog, seen_log};
+
+use crate::pending::Pending;
+use assise_area::area::Area;
+use assise_names::refusal::Refusal;
+use assise_private_log::log::Log;
+use assise_record::record::Record;
+use std::alloc::Global;
+
+/// What a node received of a client's log.
+#[derive(Debug, Drop)]
+pub(crate) struct Received {
+    pub(crate) log: Log,
+    /// The number of the first record that isn't in the area.
+    pub(crate) digested: u64,
+    /// Where the client lives on this node, what its records make that aren't digested.
+    pub(crate) pending: Option<Pending>,
+}
+
+impl Received {
+    /// Takes the effects of the next record into what is kept for a client that lives here.
+    fn keep(&mut self, alloc: Global, area: &Area, added: &Record) -> Result<(), Refusal>
+        requires sound { IsSoundLog area.now.inodes self.old }
+        requires whole { CanBeMadeWhole added.now.effects }
+        ensures log { self.new.log ≡ self.old.log }
+        ensures digested { self.new.digested ≡ self.old.digested }
+        ensures at_home { is_some self.new.pending ≡ is_some self.old.pending }
+        ensures kept { OnOk result (IsKeptFor area.now.inodes (seen_log self.old) added.now self.new.pending) }
+        ensures err { OnErr result (self.new ≡ self.old) }
+        ensures only_memory { IfErr result (λ e. (e ≡ OutOfMemory) × (is_some self.old.pending ≡ true)) }
+    {
+        let number = self.log.end();
+        match &mut self.pending {
+            Some(pending) => pending.take_in(alloc, area, number, added.effects()),
+            None => Ok(()),
+        }
+    }
+
+    /// Takes a record in, behind the last. It is refused with [`Refusal::LogFull`] exactly where there is no room, and
+    /// else with [`Refusal::OutOfMemory`], for a client that lives here alone. What is refused leaves all as it was, and
+    /// comes back.
+    pub(crate) fn append(
+        &mut self,
+        alloc: Global,
+        area: &Area,
+        added: Record,
+    ) -> Result<(), (Refusal, Record)>
+        requires sound { IsSoundLog area.now.inodes self.old }
+        requires number_fits { end self.old.log + 1 < 2 ^ 64 }
+        requires whole { CanBeMadeWhole added.effects }
+        ensures sound { IsSoundLog area.now.inodes self.new }
+        ensures ok { OnOk result (seen_log self.new ≡ with_more (seen_log self.old) added) }
+        ensures err { OnErr result (self.new ≡ self.old) }
+        ensures given_back { IfErr result (λ back. back.1 ≡ added) }
+        ensures room { IsOk result → length self.old.log.records < self.old.log.limit }
+        ensures refused { IfErr result (λ back. ((back.0 ≡ LogFull) × (length self.old.log.records ≡ self.old.log.limit))
+            ⊎ ((back.0 ≡ OutOfMemory) × (length self.old.log.records < self.old.log.limit) × (is_some self.old.pending ≡ true))) }
+    {
+        if self.log.spare() == 0 {
+            return Err((Refusal::LogFull, added));
+        }
+        if let Err(refusal) = self.keep(alloc, area, &added) {
+            return Err((refusal, added));
+        }
+        self.log.append(added)
+    }
+
+    /// Lets go of what the next record is the last to touch.
+    fn forget_next(&mut self)
+        requires begun { IsBegun (seen_log self.old) }
+        requires more { self.old.digested < end self.old.log }
+        ensures log { self.new.log ≡ self.old.log }
+        ensures digested { self.new.digested ≡ self.old.digested }
+        ensures pending { self.new.pending ≡ option_map (λ p. forgotten p self.old.digested (next_effects (seen_log self.old))) self.old.pending }
+    {
+        let Some(next) = self.log.get(self.digested) else {
+            return;
+        };
+        if let Some(pending) = &mut self.pending {
+            pending.forget(self.digested, next.effects());
+        }
+    }
+
+    /// Counts the next record as digested: what it is the last to touch is read from the area from now on.
+    pub(crate) fn count_digested(&mut self)
+        requires begun { IsBegun (seen_log self.old) }
+        requires more { self.old.digested < end self.old.log }
+        ensures seen { seen_log self.new ≡ digested_further (seen_log self.old) 1 }
+        ensures sound { (m : InodeMap) → IsSoundLog m self.old → IsSoundLog (all_applied m (next_effects (seen_log self.old))) self.new }
+    {
+        let _fits = self.log.end();
+        self.forget_next();
+        self.digested += 1;
+    }
+
+    /// Lets the records below a number go, all of which are digested.
+    pub(crate) fn drop_front(&mut self, to: u64)
+        requires begun { IsBegun (seen_log self.old) }
+        requires from_first { self.old.log.first ≤ to }
+        requires digested { to ≤ self.old.digested }
+        ensures seen { seen_log self.new ≡ from_number (seen_log self.old) to }
+        ensures sound { (m : InodeMap) → IsSoundLog m self.old → IsSoundLog m self.new }
+    {
+        self.log.drop_front(to);
+    }
+
+    /// Lets the records from a number on go, none of which are digested, of a client that lives on another node.
+    pub(crate) fn cut_tail(&mut self, from: u64)
+        requires begun { IsBegun (seen_log self.old) }
+        requires elsewhere { is_some self.old.pending ≡ false }
+        requires digested { self.old.digested ≤ from }
+        ensures seen { seen_log self.new ≡ up_to_number (seen_log self.old) from }
+        ensures sound { (m : InodeMap) → IsSoundLog m self.old → IsSoundLog m self.new }
+    {
+        self.log.cut_tail(from);
+    }
+}

@@ -1,0 +1,121 @@
+// A node's region.
+ghost use Rattle.std.specs.Prelude.{◌≡◌, ◌↔◌, ◌⊎◌, ◌+◌, ◌^◌, ◌<◌, ◌≤◌, [], ◌∷◌, ◌++◌, IfErr, IfOk, IsOk, IsOkUnless, OnErr, OnOk, false, true, length, option_copied};
+ghost use Rattle.std.specs.FinMap as map;
+ghost use Rattle.assise_inode_table.specs.Opening.{opening};
+ghost use Rattle.assise_names.specs.declared.refusal.Refusal.TheVariants.{LogFull, OutOfMemory};
+ghost use Rattle.assise_private_log.specs.NumberedLog.{end};
+ghost use Rattle.assise_digest.specs.Region.{HasClient, IsBegun, log_of, read_by};
+
+use crate::pending::Pending;
+use crate::received::Received;
+use assise_area::area::Area;
+use assise_inode_table::inode::Inode;
+use assise_inode_table::store::InodeStore;
+use assise_inode_table::table::ROOT;
+use assise_names::refusal::Refusal;
+use assise_private_log::log::Log;
+use assise_record::record::Record;
+use std::alloc::Global;
+use std::marker::Model;
+
+/// What one node has of the file system: its inodes, and for each client, from number 1 on, the log that it received. A
+/// contract sees the inodes as one finite map, whatever is hot, and each log with the number up to which it is digested
+/// into them, and whether the client lives on this node.
+#[derive(Drop)]
+pub struct Region {
+    area: Area,
+    logs: Vec<Received>,
+}
+
+impl Model for Region {
+    ghost use Rattle.std.specs.Coded.{codes};
+    ghost use Rattle.assise_inode_table.specs.Contents.{coded_inodes};
+    ghost use Rattle.assise_digest.specs.Region.{RegionValue};
+    ghost use Rattle.assise_digest.specs.Sound.{AreSound, seen_logs};
+
+    ghost Value = { RegionValue };
+
+    ghost coded = { Prim.hlevel (codes, coded_inodes) };
+
+    ghost view = { λ r. record { inodes = r.area.inodes; logs = seen_logs r.logs.items } };
+
+    ghost invariant = { λ r. AreSound r.area.inodes r.logs.items };
+}
+
+impl Region {
+    /// The region of a new node: the root as a directory without entries, no clients, and 1 to 4,096 inodes that may be
+    /// hot. The one refusal is [`Refusal::OutOfMemory`].
+    pub fn new(alloc: Global, hot_capacity: usize) -> Result<Region, Refusal>
+        requires least { 1 ≤ hot_capacity }
+        requires most { hot_capacity ≤ 4096 }
+        ensures opening { IfOk result (λ region. region ≡ record { inodes = opening; logs = [] }) }
+        ensures only_memory { IsOkUnless result OutOfMemory }
+    {
+        let mut area = Area::new(alloc, hot_capacity)?;
+        area.insert(ROOT, Inode::new_directory(alloc))?;
+        Ok(Region {
+            area,
+            logs: Vec::new(alloc),
+        })
+    }
+
+    /// How many clients there are.
+    pub fn clients(&self) -> usize
+        ensures { result ≡ length self.now.logs }
+    {
+        self.logs.len()
+    }
+
+    /// The log of a client, as far as this node received it.
+    pub fn log(&self, client: usize) -> &Log
+        requires client { HasClient self.now client }
+        ensures { result.now ≡ (log_of self.now client).log }
+    {
+        &self.logs[client - 1].log
+    }
+
+    /// The number of the first record of a client that isn't digested.
+    pub fn digested(&self, client: usize) -> u64
+        requires client { HasClient self.now client }
+        ensures value { result ≡ (log_of self.now client).digested }
+        ensures begun { IsBegun (log_of self.now client) }
+    {
+        self.logs[client - 1].digested
+    }
+
+    /// Whether a client lives on this node.
+    pub fn is_at_home(&self, client: usize) -> bool
+        requires client { HasClient self.now client }
+        ensures { result ≡ (log_of self.now client).at_home }
+    {
+        self.logs[client - 1].pending.is_some()
+    }
+
+    /// The inode of a number, if there is one, without records that aren't digested. Nothing becomes hot.
+    pub fn peek(&self, inode: u64) -> Option<&Inode>
+        ensures { option_copied result ≡ map.get self.now.inodes inode }
+    {
+        self.area.peek(inode)
+    }
+
+    /// Uses an inode, which is hot then, unless there is no memory for that.
+    pub fn touch(&mut self, inode: u64)
+        ensures { self.new ≡ self.old }
+    {
+        self.area.touch(inode);
+    }
+
+    /// An inode as a client that lives here reads it: after all its records. It costs one look-up in what they make, and
+    /// one in the inodes.
+    pub fn read(&self, client: usize, inode: u64) -> Option<&Inode>
+        requires client { HasClient self.now client }
+        requires at_home { (log_of self.now client).at_home ≡ true }
+        ensures { option_copied result ≡ read_by self.now client inode }
+    {
+        let base = self.area.peek(inode);
+        match &self.logs[client - 1].pending {
+            Some(pending) => pending.value(inode, base),
+            None => base,
+        }
+    }
+}
