@@ -60,6 +60,13 @@ next_effects l = first_effects (ahead l)
 abbrev pub ahead_below : ReceivedLog → ℕ → List LogRecord
 ahead_below l to = take (to - l.digested) (ahead l)
 
+-- there is room for one more record, or there is none
+abbrev pub HasRoom : ReceivedLog → Type 0
+HasRoom l = length l.log.records < l.log.limit
+
+abbrev pub IsFull : ReceivedLog → Type 0
+IsFull l = length l.log.records ≡ l.log.limit
+
 -- each record can be made all or none
 abbrev pub AreWhole : List LogRecord → Type 0
 AreWhole [] = Unit {0}

@@ -2,9 +2,10 @@
 ghost use Rattle.std.specs.Prelude.{◌≡◌, ◌↔◌, ◌⊎◌, ◌+◌, ◌^◌, ◌<◌, ◌≤◌, [], ◌∷◌, ◌++◌, IfErr, IfOk, IsOk, IsOkUnless, OnErr, OnOk, false, true, length, option_copied};
 ghost use Rattle.std.specs.FinMap as map;
 ghost use Rattle.assise_inode_table.specs.Opening.{opening};
+ghost use Rattle.assise_inode_table.specs.Whole.{CanBeMadeWhole};
 ghost use Rattle.assise_names.specs.declared.refusal.Refusal.TheVariants.{LogFull, OutOfMemory};
 ghost use Rattle.assise_private_log.specs.NumberedLog.{end};
-ghost use Rattle.assise_digest.specs.Region.{HasClient, IsBegun, log_of, read_by};
+ghost use Rattle.assise_digest.specs.Region.{HasClient, HasRoom, IsBegun, IsFull, TouchApart, digested_by, from_number, log_of, read_by, up_to_number, with_log, with_more};
 
 use crate::pending::Pending;
 use crate::received::Received;
@@ -117,5 +118,63 @@ impl Region {
             Some(pending) => pending.value(inode, base),
             None => base,
         }
+    }
+
+    /// Takes a record of a client in, behind the last, with effects that can be made all or none. It is refused with
+    /// [`Refusal::LogFull`] exactly where the log has no room; for a client that lives here, what the record makes is kept
+    /// for its reads, and where there is no memory for that it is refused with [`Refusal::OutOfMemory`]. What is refused
+    /// leaves the region as it was, and comes back.
+    pub fn append(&mut self, client: usize, added: Record) -> Result<(), (Refusal, Record)>
+        requires client { HasClient self.old client }
+        requires number_fits { end (log_of self.old client).log + 1 < 2 ^ 64 }
+        requires whole { CanBeMadeWhole added.effects }
+        ensures ok { OnOk result (self.new ≡ with_log self.old client (with_more (log_of self.old client) added)) }
+        ensures err { OnErr result (self.new ≡ self.old) }
+        ensures given_back { IfErr result (λ back. back.1 ≡ added) }
+        ensures room { IsOk result → HasRoom (log_of self.old client) }
+        ensures refused { IfErr result (λ back. ((back.0 ≡ LogFull) × IsFull (log_of self.old client))
+            ⊎ ((back.0 ≡ OutOfMemory) × HasRoom (log_of self.old client) × ((log_of self.old client).at_home ≡ true))) }
+    {
+        let alloc = self.area.allocator();
+        self.logs[client - 1].append(alloc, &self.area, added)
+    }
+
+    /// Lets the records of a client below a number go, all of which are digested here. It takes no memory.
+    pub fn drop_front(&mut self, client: usize, to: u64)
+        requires client { HasClient self.old client }
+        requires from_first { (log_of self.old client).log.first ≤ to }
+        requires digested { to ≤ (log_of self.old client).digested }
+        ensures { self.new ≡ with_log self.old client (from_number (log_of self.old client) to) }
+    {
+        self.logs[client - 1].drop_front(to);
+    }
+
+    /// Lets the record of a number and all behind it go, none of which are digested here, of a client that lives on
+    /// another node. It takes no memory.
+    pub fn cut_tail(&mut self, client: usize, from: u64)
+        requires client { HasClient self.old client }
+        requires elsewhere { (log_of self.old client).at_home ≡ false }
+        requires digested { (log_of self.old client).digested ≤ from }
+        ensures { self.new ≡ with_log self.old client (up_to_number (log_of self.old client) from) }
+    {
+        self.logs[client - 1].cut_tail(from);
+    }
+
+    /// Puts the next record of a client into the inodes: whole, or not at all.
+    fn digest_next(&mut self, client: usize) -> Result<(), Refusal>
+        requires client { HasClient self.old client }
+        requires apart { TouchApart self.old }
+        requires more { (log_of self.old client).digested < end (log_of self.old client).log }
+        ensures ok { OnOk result (self.new ≡ digested_by self.old client 1) }
+        ensures err { OnErr result (self.new ≡ self.old) }
+        ensures only_memory { IsOkUnless result OutOfMemory }
+    {
+        let received = &self.logs[client - 1];
+        let Some(next) = received.log.get(received.digested) else {
+            unreachable!()
+        };
+        self.area.apply_all(next.effects())?;
+        self.logs[client - 1].count_digested();
+        Ok(())
     }
 }

@@ -1,0 +1,123 @@
+-- The logs of a region, of which one changes.
+use Rattle.std.proofs.Common.{◌≡◌, ◌≢◌, ◌≤◌, ◌<◌, ◌+◌, ◌-◌, ℕ, zero, suc, false, List, [], ◌∷◌, ◌++◌, length, take, slice_index_or, slice_set, Option, Some, None, refl, sym, ap, subst, ◌∙◌, inl, inr, true, arith}
+use Rattle.std.proofs.lemmas.Bool.{cases_eq}
+use Rattle.std.proofs.lemmas.List.{get_or-map, get_or-set_same, get_or-set_other, length-map, length-set, map-set}
+use Rattle.std.specs.FinMap as map
+use Rattle.assise_inode_table.specs.Contents.{InodeMap}
+use Rattle.assise_record.specs.LogRecord.{LogRecord}
+use Rattle.assise_inode_table.specs.Effects.{all_applied, contains, touched, value_after}
+use Rattle.assise_inode_table.specs.Whole.{CanBeMadeWhole}
+use Rattle.assise_inode_table.proofs.Applying.{append_applied, get-all_applied}
+use Rattle.assise_inode_table.proofs.Making.{or_left, untouched}
+use Rattle.assise_private_log.specs.NumberedLog.{record_at}
+use Rattle.assise_digest.specs.Ahead.{all_effects}
+use Rattle.assise_digest.specs.Pending.{StandsFor, seen}
+use Rattle.assise_digest.specs.Region.{AreWhole, HasClient, IsBegun, ReceivedLog, RegionValue, TouchApart, ahead, digested_by, digested_further, log_at, log_of, no_log, read_by, with_log}
+use Rattle.assise_digest.specs.Sound.{AreSound, IsSoundLog, StandsHere, seen_log, seen_logs}
+use Rattle.assise_digest.specs.declared.pending.Pending.{Pending}
+use Rattle.assise_digest.specs.declared.received.Received.{Received}
+use Rattle.assise_digest.proofs.Receiving.{ahead_next, whole_drop}
+use Rattle.assise_digest.proofs.Standing.{seen_after, stands_beside, touched_both}
+
+abbrev pub region : InodeMap → List Received → RegionValue
+region m xs = record { inodes = m; logs = seen_logs xs }
+
+-- the place of a client
+pub in_place : (m : InodeMap) (xs : List Received) (r : RegionValue) (c : ℕ) → region m xs ≡ r → HasClient r c → c - 1 < length xs
+in_place m xs r c view has =
+    let counted : length r.logs ≡ length xs = sym (ap (λ s. length s.logs) view) ∙ length-map xs seen_log in
+    omega (arith, has.some, has.there, counted)
+
+-- what stands there
+pub log_there : (m : InodeMap) (xs : List Received) (r : RegionValue) (c : ℕ) (x : Received) → region m xs ≡ r → HasClient r c → x ≡ slice_index_or xs (c - 1) x → log_of r c ≡ seen_log x
+log_there m xs r c x view has is =
+    sym (ap (λ s. log_of s c) view) ∙ get_or-map seen_log xs (c - 1) x no_log (in_place m xs r c view has) ∙ ap seen_log (sym is)
+
+pub sound_there : (m : InodeMap) (xs : List Received) (k : ℕ) (x : Received) → AreSound m xs → k < length xs → x ≡ slice_index_or xs k x → IsSoundLog m x
+sound_there m xs k x sound h is = subst (IsSoundLog m) (sym is) (sound k x h)
+
+-- another log stands in a place, and the others are as sound as before
+pub sound_others : (m w : InodeMap) (xs : List Received) (k : ℕ) (y : Received) → ((j : ℕ) (none : Received) → j ≢ k → j < length xs → IsSoundLog w (slice_index_or xs j none)) → IsSoundLog w y → AreSound w (slice_set xs k y)
+sound_others m w xs k y others here j none h =
+    elim (cases_eq j k) [
+      | inl same ↦ subst (IsSoundLog w) (sym (ap (λ n. slice_index_or (slice_set xs k y) n none) same ∙ get_or-set_same xs k y none (omega (arith, within, same)))) here
+      | inr other ↦ subst (IsSoundLog w) (sym (get_or-set_other xs k j y none other)) (others j none other within)
+    ]
+  where
+    within : j < length xs
+    within = subst (λ n. j < n) (length-set xs k y) h
+
+pub sound_set : (m : InodeMap) (xs : List Received) (k : ℕ) (y : Received) → AreSound m xs → IsSoundLog m y → AreSound m (slice_set xs k y)
+sound_set m xs k y sound here = sound_others m m xs k y (λ j none other h. sound j none h) here
+
+-- the region with another log
+pub with_one : (m w : InodeMap) (xs : List Received) (r : RegionValue) (c : ℕ) (y : Received) → region m xs ≡ r → region w (slice_set xs (c - 1) y) ≡ record { inodes = w; logs = slice_set r.logs (c - 1) (seen_log y) }
+with_one m w xs r c y view =
+    ap (λ ls. record { inodes = w; logs = ls }) (map-set seen_log xs (c - 1) y ∙ ap (λ s. slice_set s.logs (c - 1) (seen_log y)) view)
+
+pub read_there : (m : InodeMap) (xs : List Received) (r : RegionValue) (c i : ℕ) (x : Received) (p : Pending) → region m xs ≡ r → AreSound m xs → HasClient r c
+    → x ≡ slice_index_or xs (c - 1) x → x.pending ≡ Some p → seen p i (map.get m i) ≡ read_by r c i
+read_there m xs r c i x p view sound has is kept =
+    let here = sound_there m xs (c - 1) x sound (in_place m xs r c view has) is in
+    seen_after p m x.digested (ahead (seen_log x)) (subst (StandsHere m (seen_log x)) kept here.stands) i
+    ∙ ap (λ l. value_after i (map.get m i) (all_effects (ahead l))) (sym (log_there m xs r c x view has is))
+    ∙ ap (λ n. value_after i (map.get n i) (all_effects (ahead (log_of r c)))) (ap (λ s. s.inodes) view)
+
+-- a log changed in its place
+pub changed_there : (F : ReceivedLog → ReceivedLog) (m : InodeMap) (xs : List Received) (r : RegionValue) (c : ℕ) (x y : Received) → region m xs ≡ r → HasClient r c
+    → x ≡ slice_index_or xs (c - 1) x → seen_log y ≡ F (seen_log x) → region m (slice_set xs (c - 1) y) ≡ with_log r c (F (log_of r c))
+changed_there F m xs r c x y view has is step =
+    with_one m m xs r c y view ∙ ap (λ n. record { inodes = n; logs = slice_set r.logs (c - 1) (seen_log y) }) (ap (λ s. s.inodes) view)
+    ∙ ap (λ l. with_log r c l) (step ∙ ap F (sym (log_there m xs r c x view has is)))
+
+-- ---- the next record is digested
+
+pub next_whole : (x : Received) (next : LogRecord) → IsBegun (seen_log x) → AreWhole x.log.records → Some next ≡ record_at x.log x.digested → CanBeMadeWhole next.effects
+next_whole x next b w is =
+    (subst AreWhole (ahead_next (seen_log x) next b is) (whole_drop (x.digested - x.log.first) x.log.records w)).0
+
+pub digested_view : (m w : InodeMap) (xs : List Received) (r : RegionValue) (c : ℕ) (x y : Received) (next : LogRecord) → region m xs ≡ r → HasClient r c → x ≡ slice_index_or xs (c - 1) x
+    → IsBegun (seen_log x) → Some next ≡ record_at x.log x.digested → w ≡ all_applied m next.effects → seen_log y ≡ digested_further (seen_log x) 1 → region w (slice_set xs (c - 1) y) ≡ digested_by r c 1
+digested_view m w xs r c x y next view has at b is applied step =
+    let here = log_there m xs r c x view has at in
+    let front : take 1 (ahead (log_of r c)) ≡ next ∷ [] = ap (λ l. take 1 (ahead l)) here ∙ ap (take 1) (ahead_next (seen_log x) next b is) in
+    with_one m w xs r c y view
+    ∙ ap (λ n. record { inodes = n; logs = slice_set r.logs (c - 1) (seen_log y) })
+      (applied ∙ sym (append_applied m next.effects []) ∙ ap (λ n. all_applied n (all_effects (next ∷ []))) (ap (λ s. s.inodes) view) ∙ ap (λ rs. all_applied r.inodes (all_effects rs)) (sym front))
+    ∙ ap (λ l. record { inodes = all_applied r.inodes (all_effects (take 1 (ahead (log_of r c)))); logs = slice_set r.logs (c - 1) l }) (step ∙ ap (λ l. digested_further l 1) (sym here))
+
+-- what is kept for other clients is untouched
+pub sound_beside : (m w : InodeMap) (x : Received) → IsSoundLog m x → ((i : ℕ) → contains (touched (all_effects (ahead (seen_log x)))) i ≡ true → map.get w i ≡ map.get m i) → IsSoundLog w x
+sound_beside m w x s same = record { begun = s.begun; whole = s.whole; stands = go x.pending s.stands }
+  where
+    go : (o : Option Pending) → StandsHere m (seen_log x) o → StandsHere w (seen_log x) o
+    go None h = tt
+    go (Some p) h = stands_beside p m w x.digested (ahead (seen_log x)) h same
+
+pub digested_sound : (m w : InodeMap) (xs : List Received) (r : RegionValue) (c : ℕ) (x y : Received) (next : LogRecord) → region m xs ≡ r → HasClient r c → TouchApart r → AreSound m xs
+    → x ≡ slice_index_or xs (c - 1) x → Some next ≡ record_at x.log x.digested → w ≡ all_applied m next.effects → IsSoundLog w y → AreSound w (slice_set xs (c - 1) y)
+digested_sound m w xs r c x y next view has apart sound at is applied here =
+    sound_others m w xs (c - 1) y
+    (λ j none other h.
+        sound_beside m w (slice_index_or xs j none) (sound j none h)
+        (λ i among. ap (λ n. map.get n i) applied ∙ get-all_applied m next.effects i ∙ untouched i (map.get m i) next.effects (quiet j none other h i among)))
+    here
+  where
+    b : IsBegun (seen_log x)
+    b = (sound_there m xs (c - 1) x sound (in_place m xs r c view has) at).begun
+
+    seen_other : (j : ℕ) (none : Received) → j < length xs → log_at r j ≡ seen_log (slice_index_or xs j none)
+    seen_other j none h = sym (ap (λ s. log_at s j) view) ∙ get_or-map seen_log xs j none no_log h
+
+    quiet : (j : ℕ) (none : Received) → j ≢ c - 1 → j < length xs → (i : ℕ) → contains (touched (all_effects (ahead (seen_log (slice_index_or xs j none))))) i ≡ true → contains (touched next.effects) i ≡ false
+    quiet j none other h i among =
+        let theirs : contains (touched (all_effects (ahead (log_at r j)))) i ≡ true = ap (λ l. contains (touched (all_effects (ahead l))) i) (seen_other j none h) ∙ among in
+        let ours = apart j (c - 1) other i theirs in
+        let first : ahead (log_of r c) ≡ next ∷ ahead (digested_further (seen_log x) 1) = ap ahead (log_there m xs r c x view has at) ∙ ahead_next (seen_log x) next b is in
+        or_left (contains (touched next.effects) i) _
+        (sym (touched_both next.effects (all_effects (ahead (digested_further (seen_log x) 1))) i) ∙ sym (ap (λ rs. contains (touched (all_effects rs)) i) first) ∙ ours)
+
+pub same_item : {X : Type 0} (xs : List X) (k : ℕ) (x y : X) → k < length xs → x ≡ slice_index_or xs k x → y ≡ slice_index_or xs k y → x ≡ y
+same_item [] k x y h a b = absurd (omega (arith, h))
+same_item (z ∷ xs) zero x y h a b = a ∙ sym b
+same_item (z ∷ xs) (suc k) x y h a b = same_item xs k x y (omega (arith, h)) a b
