@@ -1,11 +1,11 @@
 // A node's region.
-ghost use Rattle.std.specs.Prelude.{◌≡◌, ◌↔◌, ◌⊎◌, ◌+◌, ◌^◌, ◌<◌, ◌≤◌, [], ◌∷◌, ◌++◌, IfErr, IfOk, IsOk, IsOkUnless, OnErr, OnOk, false, true, length, option_copied};
+ghost use Rattle.std.specs.Prelude.{◌≡◌, ◌↔◌, ◌⊎◌, ◌+◌, ◌^◌, ◌<◌, ◌≤◌, [], ◌∷◌, ◌++◌, IfErr, IfOk, IsOk, IsOkUnless, List, OnErr, OnOk, false, true, length, option_copied, ℕ};
 ghost use Rattle.std.specs.FinMap as map;
 ghost use Rattle.assise_inode_table.specs.Opening.{opening};
 ghost use Rattle.assise_inode_table.specs.Whole.{CanBeMadeWhole};
 ghost use Rattle.assise_names.specs.declared.refusal.Refusal.TheVariants.{LogFull, OutOfMemory};
 ghost use Rattle.assise_private_log.specs.NumberedLog.{end};
-ghost use Rattle.assise_digest.specs.Region.{HasClient, HasRoom, IsBegun, IsFull, TouchApart, digested_by, from_number, log_of, read_by, up_to_number, with_log, with_more};
+ghost use Rattle.assise_digest.specs.Region.{AreNotBelow, HasClient, HasRoom, IsBegun, IsFull, TouchApart, ahead_below, alone, digested_by, from_number, log_of, read_by, up_to_number, with_log, with_more};
 
 use crate::pending::Pending;
 use crate::received::Received;
@@ -158,6 +158,53 @@ impl Region {
         ensures { self.new ≡ with_log self.old client (up_to_number (log_of self.old client) from) }
     {
         self.logs[client - 1].cut_tail(from);
+    }
+
+    /// Puts records of a client into the inodes, in their order, so many at most, and of those alone that are numbered
+    /// below what is acknowledged (Strata, SOSP 2017, section 3: digest). Each is put in whole or not at all. It answers how
+    /// many there were, and only where there was none to digest, or none was asked for, is that 0. Where memory runs out
+    /// it answers those before, and the one refusal, [`Refusal::OutOfMemory`], comes where there were none: it leaves the
+    /// region as it was. Nobody can see a digest: clients read what they read before, and the inodes that the region
+    /// alone gives stay, whatever else is acknowledged.
+    pub fn digest_some(
+        &mut self,
+        client: usize,
+        acked: u64,
+        at_most: usize,
+    ) -> Result<usize, Refusal>
+        requires client { HasClient self.old client }
+        requires apart { TouchApart self.old }
+        ensures ok { IfOk result (λ n. self.new ≡ digested_by self.old client n) }
+        ensures at_most { IfOk result (λ n. n ≤ at_most) }
+        ensures acked { IfOk result (λ n. n ≤ length (ahead_below (log_of self.old client) acked)) }
+        ensures none { IfOk result (λ n. n ≡ 0 → (at_most ≡ 0) ⊎ (length (ahead_below (log_of self.old client) acked) ≡ 0)) }
+        ensures err { OnErr result (self.new ≡ self.old) }
+        ensures asked { OnErr result ((0 < at_most) × (0 < length (ahead_below (log_of self.old client) acked))) }
+        ensures alone { (numbers : List ℕ) → AreNotBelow self.new.logs numbers → (i : ℕ) → alone self.new numbers i ≡ alone self.old numbers i }
+        ensures only_memory { IsOkUnless result OutOfMemory }
+    {
+        let most = self.count_ahead(client, acked).min(at_most);
+        for count in 0..most {
+            if let Err(refusal) = self.digest_next(client) {
+                return if count == 0 {
+                    Err(refusal)
+                } else {
+                    Ok(count)
+                };
+            }
+        }
+        Ok(most)
+    }
+
+    /// How many records of a client aren't digested, of those numbered below what is acknowledged.
+    fn count_ahead(&self, client: usize, acked: u64) -> usize
+        requires client { HasClient self.now client }
+        ensures count { result ≡ length (ahead_below (log_of self.now client) acked) }
+        ensures begun { IsBegun (log_of self.now client) }
+    {
+        let received = &self.logs[client - 1];
+        let to = acked.min(received.log.end());
+        to.saturating_sub(received.digested) as usize
     }
 
     /// Puts the next record of a client into the inodes: whole, or not at all.
