@@ -11,7 +11,7 @@ use Rattle.assise_inode_table.proofs.Applying.{append_applied, get-all_applied}
 use Rattle.assise_inode_table.proofs.Making.{or_left, or_right, untouched, value_after-append}
 use Rattle.assise_private_log.specs.NumberedLog.{end}
 use Rattle.assise_digest.specs.Ahead.{all_effects}
-use Rattle.assise_digest.specs.Region.{AreNotBelow, HasClient, IsBegun, ReceivedLog, RegionValue, TouchApart, ahead, ahead_below, all_ahead, alone, digested_by, digested_further, log_at, log_of, no_log}
+use Rattle.assise_digest.specs.Region.{AreNotBelow, HasClient, IsBegun, ReceivedLog, RegionValue, TouchApart, ahead, ahead_below, all_ahead, alone, digested_by, digested_further, log_at, log_of, no_log, read_by}
 use Rattle.assise_digest.proofs.Receiving.{count_ahead}
 use Rattle.assise_digest.proofs.Standing.{all_effects-append, touched_both}
 
@@ -223,3 +223,16 @@ begun_further l n b h =
 pub given_alone : (r s : RegionValue) (c n : ℕ) → s ≡ digested_by r c n → HasClient r c → IsBegun (log_of r c) → TouchApart r → (numbers : List ℕ) → AreNotBelow s.logs numbers → (i : ℕ) → alone s numbers i ≡ alone r numbers i
 given_alone r s c n is has b apart numbers reached i =
     ap (λ t. alone t numbers i) is ∙ alone_kept r c n has b apart numbers (subst (λ t. AreNotBelow t.logs numbers) is reached) i
+
+-- and its client reads what it read
+pub given_read : (r s : RegionValue) (c n : ℕ) → s ≡ digested_by r c n → HasClient r c → IsBegun (log_of r c) → (i : ℕ) → read_by s c i ≡ read_by r c i
+given_read r s c n is has b i =
+    ap (λ t. read_by t c i) is
+    ∙ ap (λ l. value_after i (map.get (all_applied r.inodes (all_effects (take n rs))) i) (all_effects (ahead l))) (log_digested r c n has)
+    ∙ ap (λ xs. value_after i (map.get (all_applied r.inodes (all_effects (take n rs))) i) (all_effects xs)) (ahead_further (log_of r c) n b)
+    ∙ ap (λ v. value_after i v (all_effects (drop n rs))) (get-all_applied r.inodes (all_effects (take n rs)) i)
+    ∙ sym (value_after-append i (map.get r.inodes i) (all_effects (take n rs)) (all_effects (drop n rs)))
+    ∙ ap (value_after i (map.get r.inodes i)) (sym (all_effects-append (take n rs) (drop n rs)) ∙ ap all_effects (take-append-drop n rs))
+  where
+    rs : List LogRecord
+    rs = ahead (log_of r c)

@@ -39,6 +39,17 @@ pub record HasClient (r : RegionValue) (client : ℕ) : Type 0 where
 abbrev pub with_log : RegionValue → ℕ → ReceivedLog → RegionValue
 with_log r client l = record { inodes = r.inodes; logs = slice_set r.logs (client - 1) l }
 
+-- one client more, or one less
+abbrev pub with_client : RegionValue → ReceivedLog → RegionValue
+with_client r l = record { inodes = r.inodes; logs = r.logs ++ l ∷ [] }
+
+abbrev pub without_last_client : RegionValue → RegionValue
+without_last_client r = record { inodes = r.inodes; logs = take (length r.logs - 1) r.logs }
+
+-- another value of one inode
+abbrev pub with_inode : RegionValue → ℕ → Option Content → RegionValue
+with_inode r i v = record { inodes = with_value r.inodes i v; logs = r.logs }
+
 -- what is digested is a part of what was received, of which only digested records went from the front
 pub record IsBegun (l : ReceivedLog) : Type 0 where
   pub from_first : l.log.first ≤ l.digested

@@ -1,11 +1,12 @@
 // A node's region.
-ghost use Rattle.std.specs.Prelude.{◌≡◌, ◌↔◌, ◌⊎◌, ◌+◌, ◌^◌, ◌<◌, ◌≤◌, [], ◌∷◌, ◌++◌, IfErr, IfOk, IsOk, IsOkUnless, List, OnErr, OnOk, false, true, length, option_copied, ℕ};
+ghost use Rattle.std.specs.Prelude.{◌≡◌, ◌↔◌, ◌⊎◌, ◌+◌, ◌^◌, ◌<◌, ◌≤◌, [], ◌∷◌, ◌++◌, IfErr, IfOk, IsOk, IsOkUnless, List, None, Some, OnErr, OnOk, false, true, length, option_copied, ℕ};
 ghost use Rattle.std.specs.FinMap as map;
 ghost use Rattle.assise_inode_table.specs.Opening.{opening};
 ghost use Rattle.assise_inode_table.specs.Whole.{CanBeMadeWhole};
 ghost use Rattle.assise_names.specs.declared.refusal.Refusal.TheVariants.{LogFull, OutOfMemory};
 ghost use Rattle.assise_private_log.specs.NumberedLog.{end};
-ghost use Rattle.assise_digest.specs.Region.{AreNotBelow, HasClient, HasRoom, IsBegun, IsFull, TouchApart, ahead_below, alone, digested_by, from_number, log_of, read_by, up_to_number, with_log, with_more};
+ghost use Rattle.assise_digest.specs.Region.{AreNotBelow, AreWhole, HasClient, HasRoom, IsBegun, IsFull, IsQuiet, TouchApart, ahead_below, alone, digested_by, from_number, log_of, read_by, up_to_number, with_client, with_inode, with_log, with_more, without_last_client};
+ghost use Rattle.assise_digest.specs.Sound.{IsSoundLog, seen_log};
 
 use crate::pending::Pending;
 use crate::received::Received;
@@ -120,6 +121,108 @@ impl Region {
         }
     }
 
+    /// Adds a client that lives on another node, with what is received of its log, digested up to a number. The one
+    /// refusal is [`Refusal::OutOfMemory`]: it leaves the region as it was, and gives the log back.
+    pub fn add_client(&mut self, log: Log, digested: u64) -> Result<(), (Refusal, Log)>
+        requires from_first { log.first ≤ digested }
+        requires to_end { digested ≤ end log }
+        requires whole { AreWhole log.records }
+        ensures ok { OnOk result (self.new ≡ with_client self.old (record { log = log; digested = digested; at_home = false })) }
+        ensures err { OnErr result (self.new ≡ self.old) }
+        ensures given_back { IfErr result (λ back. back ≡ (OutOfMemory, log)) }
+    {
+        self.add(Received {
+            log,
+            digested,
+            pending: None,
+        })
+    }
+
+    /// Adds a client that lives on this node, with a log without records. The one refusal is
+    /// [`Refusal::OutOfMemory`]: it leaves the region as it was, and gives the log back.
+    pub fn add_own_client(&mut self, log: Log) -> Result<(), (Refusal, Log)>
+        requires empty { log.records ≡ [] }
+        ensures ok { OnOk result (self.new ≡ with_client self.old (record { log = log; digested = log.first; at_home = true })) }
+        ensures err { OnErr result (self.new ≡ self.old) }
+        ensures given_back { IfErr result (λ back. back ≡ (OutOfMemory, log)) }
+    {
+        let digested = log.first();
+        let pending = Some(Pending::new(self.area.allocator()));
+        self.add(Received {
+            log,
+            digested,
+            pending,
+        })
+    }
+
+    /// Adds what is received of a log.
+    fn add(&mut self, received: Received) -> Result<(), (Refusal, Log)>
+        requires sound { IsSoundLog self.old.inodes received }
+        ensures ok { OnOk result (self.new ≡ with_client self.old (seen_log received)) }
+        ensures err { OnErr result (self.new ≡ self.old) }
+        ensures given_back { IfErr result (λ back. back ≡ (OutOfMemory, received.log)) }
+    {
+        match self.logs.push(received) {
+            Ok(()) => Ok(()),
+            Err(failed) => Err((Refusal::OutOfMemory, failed.value.log)),
+        }
+    }
+
+    /// Takes the client of the greatest number out, with its log. It takes no memory.
+    pub fn remove_last_client(&mut self)
+        ensures { self.new ≡ without_last_client self.old }
+    {
+        let kept = self.logs.len().saturating_sub(1);
+        self.logs.truncate(kept);
+    }
+
+    /// Takes all clients out, with their logs, as a failure does: the inodes stay. It takes no memory.
+    pub fn remove_clients(&mut self)
+        ensures { self.new ≡ record { inodes = self.old.inodes; logs = [] } }
+    {
+        self.logs.clear();
+    }
+
+    /// Takes the inode of a number out: it isn't what it is on other nodes. No client that lives here has a record that
+    /// touches it and isn't digested. It takes no memory.
+    pub fn stale(&mut self, inode: u64)
+        requires quiet { IsQuiet self.old inode }
+        ensures { self.new ≡ with_inode self.old inode None }
+    {
+        self.area.remove(inode);
+    }
+
+    /// Gives a number the inode that it has on another node, or none. No client that lives here has a record that
+    /// touches it and isn't digested. The one refusal is [`Refusal::OutOfMemory`], where a number that has none gets an
+    /// inode, and it leaves the region as it was.
+    pub fn refill_one(&mut self, inode: u64, value: Option<Inode>) -> Result<(), Refusal>
+        requires quiet { IsQuiet self.old inode }
+        ensures ok { OnOk result (self.new ≡ with_inode self.old inode value) }
+        ensures err { OnErr result (self.new ≡ self.old) }
+        ensures asked { OnErr result (map.get self.old.inodes inode ≡ None) }
+        ensures only_memory { IsOkUnless result OutOfMemory }
+    {
+        match value {
+            Some(content) => self.put(inode, content),
+            None => {
+                self.stale(inode);
+                Ok(())
+            }
+        }
+    }
+
+    /// Gives a number an inode.
+    fn put(&mut self, inode: u64, content: Inode) -> Result<(), Refusal>
+        requires quiet { IsQuiet self.old inode }
+        ensures ok { OnOk result (self.new ≡ with_inode self.old inode (Some content)) }
+        ensures err { OnErr result (self.new ≡ self.old) }
+        ensures asked { OnErr result (map.get self.old.inodes inode ≡ None) }
+        ensures only_memory { IsOkUnless result OutOfMemory }
+    {
+        self.area.insert(inode, content)?;
+        Ok(())
+    }
+
     /// Takes a record of a client in, behind the last, with effects that can be made all or none. It is refused with
     /// [`Refusal::LogFull`] exactly where the log has no room; for a client that lives here, what the record makes is kept
     /// for its reads, and where there is no memory for that it is refused with [`Refusal::OutOfMemory`]. What is refused
@@ -164,7 +267,7 @@ impl Region {
     /// below what is acknowledged (Strata, SOSP 2017, section 3: digest). Each is put in whole or not at all. It answers how
     /// many there were, and only where there was none to digest, or none was asked for, is that 0. Where memory runs out
     /// it answers those before, and the one refusal, [`Refusal::OutOfMemory`], comes where there were none: it leaves the
-    /// region as it was. Nobody can see a digest: clients read what they read before, and the inodes that the region
+    /// region as it was. Nobody can see a digest: the client reads what it read before, and the inodes that the region
     /// alone gives stay, whatever else is acknowledged.
     pub fn digest_some(
         &mut self,
@@ -180,6 +283,7 @@ impl Region {
         ensures none { IfOk result (λ n. n ≡ 0 → (at_most ≡ 0) ⊎ (length (ahead_below (log_of self.old client) acked) ≡ 0)) }
         ensures err { OnErr result (self.new ≡ self.old) }
         ensures asked { OnErr result ((0 < at_most) × (0 < length (ahead_below (log_of self.old client) acked))) }
+        ensures read { (i : ℕ) → read_by self.new client i ≡ read_by self.old client i }
         ensures alone { (numbers : List ℕ) → AreNotBelow self.new.logs numbers → (i : ℕ) → alone self.new numbers i ≡ alone self.old numbers i }
         ensures only_memory { IsOkUnless result OutOfMemory }
     {
