@@ -1,0 +1,62 @@
+// What is asked of a region.
+ghost use Rattle.assise_digest.specs.Region.{HasClient};
+
+use crate::apart::has_client;
+use crate::inode_text::put_found;
+use assise_digest::region::Region;
+use std::alloc::{AllocError, Global};
+
+/// Appends what a region answers: `clients`, `log CLIENT`, `peek INODE` or `read CLIENT INODE`.
+pub(crate) fn put_answer(
+    alloc: Global,
+    region: &Region,
+    word: &str,
+    rest: &str,
+    text: &mut String,
+) -> Option<()> {
+    match word {
+        "clients" => put_clients(text, region).ok(),
+        "log" => put_log(text, region, rest.parse::<usize>().ok()?),
+        "peek" => put_found(alloc, text, region.peek(rest.parse::<u64>().ok()?)),
+        "read" => put_read(alloc, text, region, rest),
+        _ => None,
+    }
+}
+
+fn put_clients(text: &mut String, region: &Region) -> Result<(), AllocError> {
+    let count = region.clients();
+    write!(text, " {count};")
+}
+
+fn put_log(text: &mut String, region: &Region, client: usize) -> Option<()> {
+    if !has_client(region, client) {
+        return None;
+    }
+    put_numbers(text, region, client).ok()
+}
+
+/// Appends the numbers of a log: its first, that up to which it is digested, and that behind the last. `home` or
+/// `away` says where the client lives.
+fn put_numbers(text: &mut String, region: &Region, client: usize) -> Result<(), AllocError>
+    requires client { HasClient region.now client }
+{
+    let (first, end) = (region.log(client).first(), region.log(client).end());
+    let digested = region.digested(client);
+    let place = if region.is_at_home(client) {
+        "home"
+    } else {
+        "away"
+    };
+    write!(text, " {first}..{digested}..{end} {place};")
+}
+
+/// Appends an inode as a client that lives here reads it.
+fn put_read(alloc: Global, text: &mut String, region: &Region, asked: &str) -> Option<()> {
+    let (client, inode) = asked.split_once(' ')?;
+    let client = client.parse::<usize>().ok()?;
+    let inode = inode.parse::<u64>().ok()?;
+    if !has_client(region, client) || !region.is_at_home(client) {
+        return None;
+    }
+    put_found(alloc, text, region.read(client, inode))
+}

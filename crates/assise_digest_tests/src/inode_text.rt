@@ -1,0 +1,58 @@
+// Inodes as text.
+use assise_inode_table::directory::Directory;
+use assise_inode_table::file_bytes::FileBytes;
+use assise_inode_table::inode::Inode;
+use assise_names::name::Name;
+use assise_names::reply::TreeError;
+use std::alloc::{AllocError, Global};
+
+/// Appends what a stat says of an inode, and its bytes, which are text, or its links; or that there is none.
+pub(crate) fn put_found(alloc: Global, text: &mut String, found: Option<&Inode>) -> Option<()> {
+    match found {
+        Some(inode) => put_inode(alloc, text, inode),
+        None => text.push_str(" none;").ok(),
+    }
+}
+
+fn put_inode(alloc: Global, text: &mut String, inode: &Inode) -> Option<()> {
+    put_description(text, inode).ok()?;
+    put_content(alloc, text, inode)?;
+    text.push(';').ok()
+}
+
+fn put_description(text: &mut String, inode: &Inode) -> Result<(), AllocError> {
+    let description = inode.describe();
+    write!(text, " {description}")
+}
+
+fn put_content(alloc: Global, text: &mut String, inode: &Inode) -> Option<()> {
+    match (inode.file(), inode.directory()) {
+        (Ok(file), Err(TreeError::NotDir)) => put_bytes(alloc, text, file),
+        (Err(TreeError::IsDir), Ok(directory)) => put_links(alloc, text, directory),
+        _ => None,
+    }
+}
+
+fn put_bytes(alloc: Global, text: &mut String, file: &FileBytes) -> Option<()> {
+    if file.is_empty() {
+        return Some(());
+    }
+    let bytes = file.read(alloc, 0, file.len() as u64).ok()?;
+    put_word(text, str::from_utf8(bytes.as_slice()).ok()?).ok()
+}
+
+fn put_word(text: &mut String, word: &str) -> Result<(), AllocError> {
+    write!(text, " {word}")
+}
+
+fn put_links(alloc: Global, text: &mut String, directory: &Directory) -> Option<()> {
+    let names = directory.names(alloc).ok()?;
+    for name in names.as_slice() {
+        put_link(text, name, directory.get(name)?).ok()?;
+    }
+    Some(())
+}
+
+fn put_link(text: &mut String, name: &Name, inode: u64) -> Result<(), AllocError> {
+    write!(text, " {name}:{inode}")
+}

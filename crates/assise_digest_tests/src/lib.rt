@@ -1,0 +1,19 @@
+//! Tests of `assise_digest`.
+#![tactic(auto)]
+
+#[cfg(test)]
+mod apart;
+#[cfg(test)]
+mod asked;
+#[cfg(test)]
+mod changes;
+#[cfg(test)]
+mod inode_text;
+#[cfg(test)]
+mod records;
+#[cfg(test)]
+mod rows;
+#[cfg(test)]
+mod steps;
+#[cfg(test)]
+mod tests;
