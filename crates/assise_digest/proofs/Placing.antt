@@ -1,23 +1,23 @@
 -- The logs of a region, of which one changes.
-use Rattle.std.proofs.Common.{◌≡◌, ◌≢◌, ◌≤◌, ◌<◌, ◌+◌, ◌-◌, ℕ, zero, suc, false, List, [], ◌∷◌, ◌++◌, length, take, slice_index_or, slice_set, Option, Some, None, refl, sym, ap, subst, ◌∙◌, inl, inr, true, arith}
-use Rattle.std.proofs.lemmas.Bool.{cases_eq}
+use Rattle.std.proofs.Common.{◌≡◌, ◌≢◌, ◌≤◌, ◌<◌, ◌+◌, ◌-◌, ℕ, zero, suc, false, List, [], ◌∷◌, ◌++◌, length, take, drop, is_some, if◌then◌else◌, true≢false, slice_index_or, slice_set, Option, Some, None, refl, sym, ap, subst, ◌∙◌, inl, inr, true, arith}
+use Rattle.std.proofs.lemmas.Bool.{cases_eq, ne_eqb}
 use Rattle.std.proofs.lemmas.List.{get_or-map, get_or-set_same, get_or-set_other, length-map, length-set, map-set}
 use Rattle.std.specs.FinMap as map
-use Rattle.assise_inode_table.specs.Contents.{InodeMap}
+use Rattle.assise_inode_table.specs.Contents.{Content, InodeMap}
 use Rattle.assise_record.specs.LogRecord.{LogRecord}
-use Rattle.assise_inode_table.specs.Effects.{all_applied, contains, touched, value_after}
+use Rattle.assise_inode_table.specs.Effects.{all_applied, contains, touched, value_after, with_value}
 use Rattle.assise_inode_table.specs.Whole.{CanBeMadeWhole}
 use Rattle.assise_inode_table.proofs.Applying.{append_applied, get-all_applied}
-use Rattle.assise_inode_table.proofs.Making.{or_left, untouched}
-use Rattle.assise_private_log.specs.NumberedLog.{record_at}
+use Rattle.assise_inode_table.proofs.Making.{get-with_value, or_left, untouched}
+use Rattle.assise_private_log.specs.NumberedLog.{NumberedLog, record_at}
 use Rattle.assise_digest.specs.Ahead.{all_effects}
 use Rattle.assise_digest.specs.Pending.{StandsFor, seen}
-use Rattle.assise_digest.specs.Region.{AreWhole, HasClient, IsBegun, ReceivedLog, RegionValue, TouchApart, ahead, digested_by, digested_further, log_at, log_of, no_log, read_by, with_log}
+use Rattle.assise_digest.specs.Region.{AreWhole, HasClient, IsBegun, IsQuiet, ReceivedLog, RegionValue, TouchApart, ahead, digested_by, digested_further, log_at, log_of, no_log, read_by, with_log}
 use Rattle.assise_digest.specs.Sound.{AreSound, IsSoundLog, StandsHere, seen_log, seen_logs}
 use Rattle.assise_digest.specs.declared.pending.Pending.{Pending}
 use Rattle.assise_digest.specs.declared.received.Received.{Received}
 use Rattle.assise_digest.proofs.Receiving.{ahead_next, whole_drop}
-use Rattle.assise_digest.proofs.Standing.{seen_after, stands_beside, touched_both}
+use Rattle.assise_digest.proofs.Standing.{seen_after, stands_beside, stands_for_none, touched_both}
 
 abbrev pub region : InodeMap → List Received → RegionValue
 region m xs = record { inodes = m; logs = seen_logs xs }
@@ -121,3 +121,39 @@ pub same_item : {X : Type 0} (xs : List X) (k : ℕ) (x y : X) → k < length xs
 same_item [] k x y h a b = absurd (omega (arith, h))
 same_item (z ∷ xs) zero x y h a b = a ∙ sym b
 same_item (z ∷ xs) (suc k) x y h a b = same_item xs k x y (omega (arith, h)) a b
+
+-- ---- one inode changes that no client's records touch that lives here
+
+pub sound_changed : (m w : InodeMap) (xs : List Received) (r : RegionValue) (i : ℕ) (v : Option Content) → region m xs ≡ r → AreSound m xs → IsQuiet r i → w ≡ with_value m i v → AreSound w xs
+sound_changed m w xs r i v view sound quiet is k none h = record { begun = here.begun; whole = here.whole; stands = go x.pending refl here.stands }
+  where
+    x : Received
+    x = slice_index_or xs k none
+
+    here : IsSoundLog m x
+    here = sound k none h
+
+    there : log_at r k ≡ seen_log x
+    there = sym (ap (λ s. log_at s k) view) ∙ get_or-map seen_log xs k none no_log h
+
+    value : (j : ℕ) → (j ≡ i → ⊥) → map.get w j ≡ map.get m j
+    value j other = ap (λ n. map.get n j) is ∙ get-with_value m i v j ∙ ap (λ b. if b then v else map.get m j) (ne_eqb i j (λ same. other (sym same)))
+
+    go : (o : Option Pending) → x.pending ≡ o → StandsHere m (seen_log x) o → StandsHere w (seen_log x) o
+    go None e s = tt
+    go (Some p) e s = stands_beside p m w x.digested (ahead (seen_log x)) s (λ j among. value j (λ same.
+        true≢false (sym among ∙ ap (contains (touched (all_effects (ahead (seen_log x))))) same ∙ sym (ap (λ l. contains (touched (all_effects (ahead l))) i) there) ∙ quiet k (ap (λ l. l.at_home) there ∙ ap is_some e))))
+
+-- ---- a client without records
+
+drop_nothing : {X : Type 0} (n : ℕ) → ◌≡◌ {A = List X} (drop n []) []
+drop_nothing zero = refl
+drop_nothing (suc n) = refl
+
+pub sound_empty : (m : InodeMap) (l : NumberedLog) (d : ℕ) (p : Pending) → l.records ≡ [] → d ≡ l.first → p.inodes ≡ map.empty → p.last ≡ map.empty
+    → IsSoundLog m (record { log = l; digested = d; pending = Some p })
+sound_empty m l d p empty is inodes last = record {
+  begun = record { from_first = omega (arith, is); to_end = omega (arith, is) };
+  whole = subst AreWhole (sym empty) tt;
+  stands = subst (StandsFor p m d) (sym (ap (λ rs. drop (d - l.first) rs) empty ∙ drop_nothing (d - l.first))) (stands_for_none p m d inodes last);
+}
