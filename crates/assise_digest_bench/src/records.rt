@@ -1,5 +1,5 @@
 // Records that are appended.
-ghost use Rattle.std.specs.Prelude.{◌≡◌, ◌∷◌, [], IfSome};
+ghost use Rattle.std.specs.Prelude.{IfSome};
 ghost use Rattle.assise_inode_table.specs.Whole.{CanBeMadeWhole};
 
 use crate::built::{DIRECTORY, FILES, FIRST_FILE, FIRST_NEW, link, name};

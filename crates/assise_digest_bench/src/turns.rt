@@ -146,10 +146,10 @@ fn drop_all(region: &mut Region) -> Option<()> {
 /// Looks for as many inodes, one after another, and does nothing with them.
 fn peek_all(rt: &HostRuntime, region: &Region) -> Option<Duration> {
     let start = Instant::now(rt).ok()?;
-    let mut found = 0;
+    let mut found = 0usize;
     for number in 0..RECORDS {
         if region.peek(FIRST_FILE + number * 1031).is_some() {
-            found += 1;
+            found = found.saturating_add(1);
         }
     }
     let took = start.elapsed(rt).ok()?;

@@ -1,7 +1,7 @@
 // What has to hold before a region is asked.
 ghost use Rattle.std.specs.Prelude.{◌≡◌, true};
 ghost use Rattle.assise_digest.specs.Region.{HasClient, IsQuiet, TouchApart};
-ghost use Rattle.assise_digest_tests.specs.Apart.{AreApart, HasBoth, IsApart};
+ghost use Rattle.assise_digest_tests.specs.Apart.{HasBoth, record_meets, records_meet};
 ghost use Rattle.assise_private_log.specs.NumberedLog.{records_from};
 
 use assise_digest::region::Region;
@@ -35,7 +35,7 @@ pub(crate) fn are_apart(region: &Region) -> bool
     ensures { result ≡ true → TouchApart region.now }
 {
     has_both(region)
-        && logs_are_apart(
+        && !logs_meet(
             region.log(1),
             region.digested(1),
             region.log(2),
@@ -43,26 +43,19 @@ pub(crate) fn are_apart(region: &Region) -> bool
         )
 }
 
-/// Whether none of the records of a log from a number on touches what those of another log do.
-fn logs_are_apart(log: &Log, from: u64, other: &Log, other_from: u64) -> bool
-    ensures { result ≡ true → AreApart (records_from log.now from) other.now other_from }
+/// Whether a record of a log from a number on touches an inode that one of another log does.
+fn logs_meet(log: &Log, from: u64, other: &Log, other_from: u64) -> bool
+    ensures { result ≡ records_meet other.now other_from (records_from log.now from) }
 {
-    for record in log.since(from) {
-        if !record_is_apart(record, other, other_from) {
-            return false;
-        }
-    }
-    true
+    log.since(from)
+        .any(|of| record_meets(of, other, other_from))
 }
 
-/// Whether a record touches nothing that the records of a log from a number on do.
-fn record_is_apart(record: &Record, other: &Log, from: u64) -> bool
-    ensures { result ≡ true → IsApart record.now other.now from }
+/// Whether a record touches an inode that a record of a log from a number on does.
+fn record_meets(of: &Record, other: &Log, from: u64) -> bool
+    ensures { result ≡ record_meets other.now from of.now }
 {
-    for effect in record.effects() {
-        if other.touches_after(effect.touches(), from) {
-            return false;
-        }
-    }
-    true
+    of.effects()
+        .iter()
+        .any(|effect| other.touches_after(effect.touches(), from))
 }
