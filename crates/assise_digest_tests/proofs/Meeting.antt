@@ -1,5 +1,5 @@
 -- What is seen of two logs, for a region.
-use Rattle.std.proofs.Common.{◌≡◌, ◌≢◌, ◌≤◌, ◌<◌, ℕ, zero, suc, ◌+◌, ◌==◌, ◌||◌, Bool, true, false, not, List, [], ◌∷◌, ◌++◌, length, refl, sym, ap, subst, ◌∙◌, inl, inr, true≢false, arith}
+use Rattle.std.proofs.Common.{◌≡◌, ℕ, zero, suc, ◌==◌, ◌||◌, Bool, true, false, not, List, [], ◌∷◌, ◌++◌, refl, sym, ap, ◌∙◌, inl, inr, true≢false, arith}
 use Rattle.std.specs.List.{list_any}
 use Rattle.std.proofs.lemmas.Bool.{cases_eq, ne_eqb}
 use Rattle.std.proofs.lemmas.List.{get_or_past}
@@ -8,12 +8,10 @@ use Rattle.assise_record.specs.declared.effect.Effect.{Effect}
 use Rattle.assise_record.specs.LogRecord.{LogRecord}
 use Rattle.assise_record.specs.Touched.{touched_by}
 use Rattle.assise_inode_table.specs.Effects.{contains, touched}
-use Rattle.assise_inode_table.proofs.Making.{or_left, or_right}
 use Rattle.assise_private_log.specs.NumberedLog.{NumberedLog, records_from}
 use Rattle.assise_private_log.specs.Touches.{record_touches, touches_after}
 use Rattle.assise_digest.specs.Ahead.{all_effects}
 use Rattle.assise_digest.specs.Region.{IsQuiet, RegionValue, TouchApart, ahead, log_at, log_of, no_log}
-use Rattle.assise_digest.proofs.Standing.{touched_both}
 use Rattle.assise_digest_tests.specs.Apart.{HasBoth, record_meets, records_meet}
 
 -- ---- records and their effects
@@ -25,9 +23,8 @@ effects_touch (e ∷ es) i = ap (λ b. (touched_by e == i) || b) (effects_touch 
 records_touch : (rs : List LogRecord) (i : ℕ) → list_any (λ r. record_touches r i) rs ≡ contains (touched (all_effects rs)) i
 records_touch [] i = refl
 records_touch (r ∷ rs) i =
-    ap (λ b. b || list_any (λ s. record_touches s i) rs) (effects_touch r.effects i)
-    ∙ ap (λ b. contains (touched r.effects) i || b) (records_touch rs i)
-    ∙ sym (touched_both r.effects (all_effects rs) i)
+    ap (λ b. record_touches r i || b) (records_touch rs i ∙ sym (effects_touch (all_effects rs) i))
+    ∙ sym (list_any-append (λ e. touched_by e == i) r.effects (all_effects rs)) ∙ effects_touch (r.effects ++ all_effects rs) i
 
 all_meet : (other : NumberedLog) (from : ℕ) (rs : List LogRecord) → records_meet other from rs ≡ list_any (λ e. touches_after other (touched_by e) from) (all_effects rs)
 all_meet other from [] = refl
@@ -35,13 +32,17 @@ all_meet other from (r ∷ rs) =
     ap (λ b. record_meets other from r || b) (all_meet other from rs)
     ∙ sym (list_any-append (λ e. touches_after other (touched_by e) from) r.effects (all_effects rs))
 
+neither : (a b : Bool) → (a || b) ≡ false → (a ≡ false) × (b ≡ false)
+neither false b none = (refl, none)
+neither true b none = absurd (true≢false none)
+
 -- what none of the effects' inodes is, isn't one of them
 none_of : (p : ℕ → Bool) (es : List Effect) (i : ℕ) → list_any (λ e. p (touched_by e)) es ≡ false → contains (touched es) i ≡ true → p i ≡ false
 none_of p [] i none h = absurd (true≢false (sym h))
 none_of p (e ∷ es) i none h =
     elim (cases_eq (touched_by e) i) [
-      | inl same ↦ ap p (sym same) ∙ or_left (p (touched_by e)) _ none
-      | inr other ↦ none_of p es i (or_right (p (touched_by e)) _ none) (ap (λ b. b || contains (touched es) i) (sym (ne_eqb (touched_by e) i other)) ∙ h)
+      | inl same ↦ ap p (sym same) ∙ (neither (p (touched_by e)) _ none).0
+      | inr other ↦ none_of p es i (neither (p (touched_by e)) _ none).1 (ap (λ b. b || contains (touched es) i) (sym (ne_eqb (touched_by e) i other)) ∙ h)
     ]
 
 -- ---- a region of two clients

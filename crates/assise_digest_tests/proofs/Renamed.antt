@@ -1,8 +1,8 @@
 -- A rename can be made all or none.
-use Rattle.std.proofs.Common.{◌≡◌, ℕ, List, [], ◌∷◌, Option, Some, None, IfSome, refl, sym, subst, inl, inr}
+use Rattle.std.proofs.Common.{◌≡◌, ℕ, List, [], ◌∷◌, Option, Some, None, IfSome, refl, sym, subst, inr}
 use Rattle.assise_record.specs.LogRecord.{LogRecord}
 use Rattle.assise_record.specs.declared.effect.Effect.TheVariants.{Link, Unlink}
-use Rattle.assise_inode_table.specs.Whole.{CanBeMadeWhole, EndsWithLink}
+use Rattle.assise_inode_table.specs.Whole.{CanBeMadeWhole}
 
 pub renamed_whole : (o : Option LogRecord) (d e i : ℕ) (a b : List ℕ) → IfSome o (λ r. r.effects ≡ Unlink d a ∷ Link e b i ∷ []) → IfSome o (λ r. CanBeMadeWhole r.effects)
 renamed_whole None d e i a b h = tt
