@@ -1,0 +1,2 @@
+pub mod Postorder
+pub mod Targets
