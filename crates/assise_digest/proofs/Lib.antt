@@ -1,0 +1,5 @@
+pub mod Forests
+pub mod Pieces
+pub mod Listed
+pub mod Growing
+pub mod Assembling
