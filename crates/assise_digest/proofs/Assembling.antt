@@ -1,5 +1,5 @@
 -- Trees are put together in postorder.
-use Rattle.std.proofs.Common.{◌≡◌, ℕ, List, [], ◌∷◌, ◌++◌, length, map, reverse, refl, sym, ap, ◌∙◌, append_assoc, append-nil, arith}
+use Rattle.std.proofs.Common.{◌≡◌, ℕ, ◌+◌, List, [], ◌∷◌, ◌++◌, length, map, reverse, refl, sym, ap, ◌∙◌, append_assoc, append-nil, length-append, arith}
 use Rattle.std.proofs.lemmas.List.{reverse-append, map-append}
 use Rattle.assise_seq_tree.specs.Tree.{Tree}
 use Rattle.assise_inode_table.specs.Reach.{Shape, shape_of_tree}
@@ -7,11 +7,17 @@ use Rattle.assise_digest.specs.Postorder.{postorder, shape, subtrees}
 use Rattle.assise_digest.specs.declared.spelled.Place.{Place}
 use Rattle.assise_digest.proofs.Forests.{forest, forest_ends, same_forest}
 
+pub shapes_more : (places more : List Place) (p : Place) → more ≡ places ++ p ∷ [] → map shape more ≡ map shape places ++ shape p ∷ []
+shapes_more places more p is = ap (map shape) is ∙ map-append shape places (p ∷ [])
+
+pub one_more : (places more : List Place) (p : Place) → more ≡ places ++ p ∷ [] → length more ≡ length places + 1
+one_more places more p is = ap length is ∙ length-append places (p ∷ [])
+
 -- the last that is left comes next
 pub opened : (items rest : List Place) (p : Place) (ts : List Tree) (all : List Shape) → items ≡ rest ++ p ∷ [] → forest ts ++ reverse (map shape items) ≡ all
     → forest ts ++ shape p ∷ reverse (map shape rest) ≡ all
 opened items rest p ts all is whole =
-    ap (λ ps. forest ts ++ ps) (sym (ap (λ xs. reverse (map shape xs)) is ∙ ap reverse (map-append shape rest (p ∷ [])) ∙ reverse-append (map shape rest) (shape p ∷ []))) ∙ whole
+    ap (λ ps. forest ts ++ ps) (sym (ap reverse (shapes_more rest items p is) ∙ reverse-append (map shape rest) (shape p ∷ []))) ∙ whole
 
 -- the tree that it makes stands in the place of the subtrees
 pub closed : (old mid new : List Tree) (t : Tree) (s : Shape) (rest all : List Shape) → old ≡ mid ++ subtrees t → shape_of_tree t ≡ s → new ≡ mid ++ t ∷ []

@@ -17,7 +17,7 @@ below_names : (name : List ℕ) (es : Entries) → AllByRecursion (λ other. sli
 below_names name no_entries h = tt
 below_names name (entry other t es) h = (h.0, below_names name es h.1)
 
-none_below : (name : List ℕ) (es : Entries) → IsBelow name es → find name es ≡ None
+pub none_below : (name : List ℕ) (es : Entries) → IsBelow name es → find name es ≡ None
 none_below name no_entries below = refl
 none_below name (entry other t es) below = ap (λ o. cond (is_eq o) (Some t) (find name es)) below.0 ∙ none_below name es below.1
 

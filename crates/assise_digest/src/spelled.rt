@@ -31,7 +31,7 @@ enum Place {
 /// [`Refusal::OutOfMemory`].
 pub(crate) fn tree_of<I: Inodes>(alloc: Global, inodes: &I, inode: u64) -> Result<Tree, Refusal>
     ghost t: { PlainTree }
-    requires { SpellsFrom (values (I.contents inodes.now)) inode t }
+    requires spelled { SpellsFrom (values (I.contents inodes.now)) inode t }
     ensures tree { IfOk result (λ tree. tree ≡ t) }
     ensures only_memory { IsOkUnless result OutOfMemory }
 {
@@ -42,7 +42,7 @@ pub(crate) fn tree_of<I: Inodes>(alloc: Global, inodes: &I, inode: u64) -> Resul
 /// What stands at the places of the tree that the inodes spell from one of them on, the last of the postorder first.
 fn places_of<I: Inodes>(alloc: Global, inodes: &I, inode: u64) -> Result<Vec<Place>, Refusal>
     ghost t: { PlainTree }
-    requires { SpellsFrom (values (I.contents inodes.now)) inode t }
+    requires spelled { SpellsFrom (values (I.contents inodes.now)) inode t }
     ensures places { IfOk result (λ places. reverse (map shape places.items) ≡ postorder t) }
     ensures only_memory { IsOkUnless result OutOfMemory }
 {
