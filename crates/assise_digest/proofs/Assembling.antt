@@ -1,5 +1,5 @@
 -- Trees are put together in postorder.
-use Rattle.std.proofs.Common.{◌≡◌, ℕ, ◌+◌, List, [], ◌∷◌, ◌++◌, length, map, reverse, refl, sym, ap, ◌∙◌, append_assoc, append-nil, length-append, arith}
+use Rattle.std.proofs.Common.{◌≡◌, ◌+◌, List, [], ◌∷◌, ◌++◌, length, map, reverse, sym, ap, ◌∙◌, append_assoc, append-nil, length-append, arith}
 use Rattle.std.proofs.lemmas.List.{reverse-append, map-append}
 use Rattle.assise_seq_tree.specs.Tree.{Tree}
 use Rattle.assise_inode_table.specs.Reach.{Shape, shape_of_tree}

@@ -1,10 +1,10 @@
 -- Trees one after another, and their places in postorder: the list of the places tells the trees.
-use Rattle.std.proofs.Common.{◌≡◌, ℕ, ◌≤◌, ◌+◌, suc, List, [], ◌∷◌, ◌++◌, length, reverse, refl, sym, ap, ◌∙◌, ◌⊎◌, inl, inr, append_assoc, append-nil, length-append, arith}
+use Rattle.std.proofs.Common.{◌≡◌, ◌≤◌, suc, List, [], ◌∷◌, ◌++◌, length, reverse, refl, sym, ap, ◌∙◌, ◌⊎◌, inl, inr, append_assoc, append-nil, length-append, arith}
 use Rattle.std.proofs.lemmas.List.{reverse-reverse, reverse-append}
 use Rattle.std.specs.List.{flat_map}
 use Rattle.std.proofs.lemmas.Grind.{flat_map-append}
 use Rattle.assise_seq_tree.specs.Tree.{Tree, file, dir, Entries, no_entries, entry, names_of}
-use Rattle.assise_inode_table.specs.Reach.{Shape, plain, folder, shape_of_tree}
+use Rattle.assise_inode_table.specs.Reach.{Shape, folder, shape_of_tree}
 use Rattle.assise_digest.specs.Postorder.{postorder, postorder_of, subtrees, subtrees_of, degree}
 
 -- ---- lists by their last element

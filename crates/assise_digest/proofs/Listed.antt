@@ -1,5 +1,5 @@
 -- What is listed of a tree so far, and what is pending.
-use Rattle.std.proofs.Common.{◌≡◌, ℕ, ◌≤◌, ◌<◌, ◌+◌, Bool, true, false, List, [], ◌∷◌, ◌++◌, length, reverse, Option, Some, None, IsSome, is_some, Result, Ok, Err, cond, refl, sym, ap, subst, ◌∙◌, inl, inr, append_assoc, append-nil, length-append, arith}
+use Rattle.std.proofs.Common.{◌≡◌, ℕ, ◌≤◌, List, [], ◌∷◌, ◌++◌, length, reverse, Option, Some, None, IsSome, is_some, Ok, cond, refl, sym, ap, subst, ◌∙◌, inl, inr, append_assoc, append-nil, length-append, arith}
 use Rattle.std.specs.Prelude.{ok_or}
 use Rattle.std.specs.List.{cons_option}
 use Rattle.std.specs.FinMap as map
@@ -9,7 +9,7 @@ use Rattle.assise_names.specs.declared.reply.TreeError.TheVariants.{NoEnt}
 use Rattle.assise_seq_tree.specs.Tree.{Tree, file, dir, Entries, no_entries, entry, find, same_name, names_of, IsBelow, AreOrdered}
 use Rattle.assise_seq_tree.proofs.Sets.{same_itself, one_name}
 use Rattle.assise_inode_table.specs.Contents.{Content, regular, directory, Links, Values}
-use Rattle.assise_inode_table.specs.Reach.{Shape, children, link_of, shape_of, shape_of_tree}
+use Rattle.assise_inode_table.specs.Reach.{Shape, link_of, shape_of, shape_of_tree}
 use Rattle.assise_inode_table.specs.Spelled.{SpellsFrom}
 use Rattle.assise_inode_table.proofs.Descending.{Child, child, shape_here, reached_is_there}
 use Rattle.assise_inode_table.proofs.Naming.{same_found}

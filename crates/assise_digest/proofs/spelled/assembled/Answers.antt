@@ -1,5 +1,4 @@
-use Rattle.std.proofs.Common.{◌≡◌, ◌∷◌, [], ◌++◌, length, map, reverse, sym, ap, ◌∙◌, append-nil, arith, List, ℕ}
-use Rattle.assise_seq_tree.specs.Tree.{Tree}
+use Rattle.std.proofs.Common.{◌≡◌, ◌∷◌, [], length, map, reverse, sym, ap, ◌∙◌, append-nil, arith}
 use Rattle.assise_digest.specs.Postorder.{postorder, shape}
 use Rattle.assise_digest.proofs.Forests.{enough, same_end}
 use Rattle.assise_digest.proofs.Assembling.{opened, closed, whole_tree}

@@ -1,4 +1,4 @@
-use Rattle.std.proofs.Common.{◌++◌, drop, ap, ◌∙◌, sym}
+use Rattle.std.proofs.Common.{◌++◌, drop, ap, ◌∙◌}
 use Rattle.assise_digest.proofs.Pieces.{piece_more}
 use Rattle.assise_digest.proofs.spelled.bytes_of.Goals as goal
 

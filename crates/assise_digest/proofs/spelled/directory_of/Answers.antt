@@ -1,4 +1,4 @@
-use Rattle.std.proofs.Common.{◌≡◌, ◌∷◌, ◌++◌, [], ◌<◌, length, arith, sym, ap, ◌∙◌, append_assoc, length-append, ℕ, List}
+use Rattle.std.proofs.Common.{◌≡◌, ◌∷◌, ◌++◌, [], ◌<◌, length, arith, sym, ap, ◌∙◌, append_assoc}
 use Rattle.assise_seq_tree.specs.Tree.{dir, entry, names_of, put}
 use Rattle.assise_digest.specs.Postorder.{subtrees_of}
 use Rattle.assise_digest.proofs.Growing.{grows, some_left}
@@ -17,8 +17,9 @@ loop-name-preserved c =
     let before = c.in-Some.before.now in
     let names : before ++ name ∷ names_of i.0 ≡ c.args.names.now = sym (append_assoc before (name ∷ []) (names_of i.0)) ∙ ap (λ rest. rest ++ names_of i.0) (sym c.in-Some.ensures.cases.0) ∙ i.2 in
     let tree : c.insert.new.self ≡ dir (entry name c.in-Some-pop.subtree i.0) = c.in_ok-insert.ensures.ok ∙ ap (λ u. put u (c.in_ok-copy.field-0 ∷ []) c.in-Some-pop.subtree) i.1
-        ∙ ap (λ key. put (dir i.0) (key ∷ []) c.in-Some-pop.subtree) c.in_ok-copy.ensures.equal ∙ grows c.args.names.now before name i.0 c.in-Some-pop.subtree c.as_slice-rest.ensures.rising names in
-    (entry name c.in-Some-pop.subtree i.0,
-    tree,
-    names,
-    sym (append_assoc c.pop.new.self.items (c.in-Some-pop.subtree ∷ []) (subtrees_of i.0)) ∙ ap (λ trees. trees ++ subtrees_of i.0) (sym c.in-Some-pop.ensures.items) ∙ i.3)
+    ∙ ap (λ key. put (dir i.0) (key ∷ []) c.in-Some-pop.subtree) c.in_ok-copy.ensures.equal ∙ grows c.args.names.now before name i.0 c.in-Some-pop.subtree c.as_slice-rest.ensures.rising names in (
+      entry name c.in-Some-pop.subtree i.0,
+      tree,
+      names,
+      sym (append_assoc c.pop.new.self.items (c.in-Some-pop.subtree ∷ []) (subtrees_of i.0)) ∙ ap (λ trees. trees ++ subtrees_of i.0) (sym c.in-Some-pop.ensures.items) ∙ i.3,
+    )

@@ -1,5 +1,4 @@
-use Rattle.std.proofs.Common.{◌≡◌, ◌≤◌, ◌+◌, ℕ, ◌∷◌, ◌++◌, [], Option, Some, None, length, map, refl, sym, ap, subst, ◌∙◌, arith, length-append, List}
-use Rattle.std.specs.FinMap as map
+use Rattle.std.proofs.Common.{◌≡◌, ◌≤◌, ℕ, ◌∷◌, ◌++◌, [], Option, Some, None, length, map, refl, sym, ap, ◌∙◌, arith, List}
 use Rattle.std.specs.Option.{option_copied}
 use Rattle.std.proofs.lemmas.List.{length-map}
 use Rattle.std.proofs.lemmas.Bool.{false≢true}
@@ -8,7 +7,7 @@ use Rattle.assise_inode_table.specs.Contents.{Content, values}
 use Rattle.assise_digest.specs.Postorder.{postorder, shape}
 use Rattle.assise_digest.specs.Targets.{targets}
 use Rattle.assise_digest.proofs.Assembling.{shapes_more, one_more}
-use Rattle.assise_digest.proofs.Listed.{IsListed, listed_as, listed_first, listed_next, next_is_there, not_more}
+use Rattle.assise_digest.proofs.Listed.{listed_as, listed_first, listed_next, next_is_there, not_more}
 use Rattle.assise_digest.proofs.spelled.places_of.Goals as goal
 
 pub loop-next-init : goal.loop-next-init
