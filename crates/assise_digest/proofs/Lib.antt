@@ -3,3 +3,8 @@ pub mod Standing
 pub mod Receiving
 pub mod Placing
 pub mod Digesting
+pub mod Forests
+pub mod Pieces
+pub mod Listed
+pub mod Growing
+pub mod Assembling

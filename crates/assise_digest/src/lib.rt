@@ -5,3 +5,4 @@ mod numbers;
 mod pending;
 mod received;
 pub mod region;
+mod spelled;
