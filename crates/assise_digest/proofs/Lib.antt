@@ -3,6 +3,8 @@ pub mod Standing
 pub mod Receiving
 pub mod Placing
 pub mod Digesting
+pub mod Laying
+pub mod Rebuilding
 pub mod Forests
 pub mod Pieces
 pub mod Listed

@@ -2,6 +2,7 @@
 #![tactic(auto)]
 
 mod numbers;
+pub mod overlay;
 mod pending;
 mod received;
 pub mod region;

@@ -92,8 +92,8 @@ impl Pending {
     }
 
     /// Makes effects, on inodes that are kept then. Where memory runs out, what the record of this number is the last to
-    /// touch is more than there was.
-    fn make(
+    /// touch is more than there was, if the number is a new one.
+    pub(crate) fn make(
         &mut self,
         alloc: Global,
         area: &Area,
@@ -102,10 +102,9 @@ impl Pending {
     ) -> Result<(), Refusal>
         requires whole { CanBeMadeWhole effects.now }
         requires no_more { KeepsNoMore self.old }
-        requires fresh { IsNew self.old number }
         ensures ok_inodes { OnOk result (self.new.inodes ≡ all_applied (all_held self.old area.now.inodes number effects.now).inodes effects.now) }
         ensures ok_last { OnOk result (self.new.last ≡ (all_held self.old area.now.inodes number effects.now).last) }
-        ensures err { OnErr result (forgotten self.new number effects.now ≡ self.old) }
+        ensures err { IsNew self.old number → OnErr result (forgotten self.new number effects.now ≡ self.old) }
         ensures only_memory { IsOkUnless result OutOfMemory }
     {
         for effect in effects {

@@ -1,15 +1,22 @@
 // A node's region.
 ghost use Rattle.std.specs.Prelude.{◌≡◌, ◌↔◌, ◌⊎◌, ◌+◌, ◌^◌, ◌<◌, ◌≤◌, [], ◌∷◌, ◌++◌, IfErr, IfOk, IsOk, IsOkUnless, List, None, Some, OnErr, OnOk, false, true, length, option_copied, ℕ};
 ghost use Rattle.std.specs.FinMap as map;
+ghost use Rattle.assise_inode_table.specs.Effects.{all_applied};
 ghost use Rattle.assise_inode_table.specs.Opening.{opening};
+ghost use Rattle.assise_inode_table.specs.Spelled.{Spells};
 ghost use Rattle.assise_inode_table.specs.Whole.{CanBeMadeWhole};
 ghost use Rattle.assise_names.specs.declared.refusal.Refusal.TheVariants.{LogFull, OutOfMemory};
 ghost use Rattle.assise_private_log.specs.NumberedLog.{end};
-ghost use Rattle.assise_digest.specs.Region.{AreNotBelow, AreWhole, HasClient, HasRoom, IsBegun, IsFull, IsQuiet, TouchApart, ahead_below, alone, digested_by, from_number, log_of, read_by, up_to_number, with_client, with_inode, with_log, with_more, without_last_client};
+ghost use Rattle.assise_seq_tree.specs.Tree.{Tree as PlainTree};
+ghost use Rattle.assise_digest.specs.Ahead.{all_effects};
+ghost use Rattle.assise_digest.specs.Pending.{Lays};
+ghost use Rattle.assise_digest.specs.Region.{AreNotBelow, AreWhole, HasClient, HasRoom, IsBegun, IsFull, IsQuiet, TouchApart, ahead, ahead_below, all_ahead, alone, digested_by, from_number, log_of, read_by, up_to_number, with_client, with_inode, with_log, with_more, without_last_client};
 ghost use Rattle.assise_digest.specs.Sound.{IsSoundLog, seen_log};
 
+use crate::overlay::Overlay;
 use crate::pending::Pending;
 use crate::received::Received;
+use crate::spelled::tree_of;
 use assise_area::area::Area;
 use assise_inode_table::inode::Inode;
 use assise_inode_table::store::InodeStore;
@@ -17,6 +24,7 @@ use assise_inode_table::table::ROOT;
 use assise_names::refusal::Refusal;
 use assise_private_log::log::Log;
 use assise_record::record::Record;
+use assise_seq_tree::tree::Tree;
 use std::alloc::Global;
 use std::marker::Model;
 
@@ -119,6 +127,43 @@ impl Region {
             Some(pending) => pending.value(inode, base),
             None => base,
         }
+    }
+
+    /// The inodes as a client that lives here reads them: after all its records.
+    pub fn inodes_of(&self, client: usize) -> Overlay<'_>
+        requires client { HasClient self.now client }
+        requires at_home { (log_of self.now client).at_home ≡ true }
+        ensures { result ≡ all_applied self.now.inodes (all_effects (ahead (log_of self.now client))) }
+    {
+        let Some(pending) = &self.logs[client - 1].pending else {
+            unreachable!()
+        };
+        Overlay::new(&self.area, pending)
+    }
+
+    /// The tree that this region alone gives: that of its inodes after the records that aren't digested and are
+    /// acknowledged. There is a number for each client, from client 1 on, below which its records are acknowledged. It costs
+    /// the tree and those records. The one refusal is [`Refusal::OutOfMemory`].
+    pub fn rebuild(&self, alloc: Global, acked: &[u64]) -> Result<Tree, Refusal>
+        ghost t: { PlainTree }
+        requires spelled { Spells (alone self.now acked.now) t }
+        ensures tree { IfOk result (λ tree. tree ≡ t) }
+        ensures only_memory { IsOkUnless result OutOfMemory }
+    {
+        let ahead = self.all_ahead(alloc, acked)?;
+        tree_of(alloc, &Overlay::new(&self.area, &ahead), ROOT)
+    }
+
+    /// What the records make that aren't digested and are acknowledged, client by client.
+    fn all_ahead(&self, alloc: Global, acked: &[u64]) -> Result<Pending, Refusal>
+        ensures lays { IfOk result (λ ahead. Lays ahead self.now.inodes (all_ahead self.now.logs acked.now)) }
+        ensures only_memory { IsOkUnless result OutOfMemory }
+    {
+        let mut ahead = Pending::new(alloc);
+        for place in 0..self.logs.len().min(acked.len()) {
+            self.logs[place].lay(alloc, &self.area, acked[place], &mut ahead)?;
+        }
+        Ok(ahead)
     }
 
     /// Adds a client that lives on another node, with what is received of its log, digested up to a number. The one
