@@ -16,7 +16,6 @@ ghost use Rattle.assise_digest.specs.Sound.{IsSoundLog, seen_log};
 use crate::overlay::Overlay;
 use crate::pending::Pending;
 use crate::received::Received;
-use crate::spelled::tree_of;
 use assise_area::area::Area;
 use assise_inode_table::inode::Inode;
 use assise_inode_table::store::InodeStore;
@@ -151,7 +150,7 @@ impl Region {
         ensures only_memory { IsOkUnless result OutOfMemory }
     {
         let ahead = self.all_ahead(alloc, acked)?;
-        tree_of(alloc, &Overlay::new(&self.area, &ahead), ROOT)
+        Overlay::new(&self.area, &ahead).tree(alloc)
     }
 
     /// What the records make that aren't digested and are acknowledged, client by client.

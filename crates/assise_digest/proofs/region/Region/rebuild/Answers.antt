@@ -6,9 +6,9 @@ use Rattle.assise_digest.specs.Region.{all_ahead}
 use Rattle.assise_digest.proofs.Rebuilding.{alone_over}
 use Rattle.assise_digest.proofs.region.Region.rebuild.Goals as goal
 
-pub tree_of-requires : goal.tree_of-requires
-tree_of-requires g c =
+pub tree-requires : goal.tree-requires
+tree-requires g c =
     let p = c.in_ok-ahead.ahead in
     let r = c.args.self.now in
     let made = c.new.ensures ∙ ap (λ s. overlaid s.inodes p) c.self.view_is in
-    (λ a h. h, subst (λ v. SpellsFrom v 0 g.t) (sym (ap values made ∙ alone_over p r c.args.acked.now c.in_ok-ahead.ensures.lays)) c.requires.tree)
+    (subst (λ v. SpellsFrom v 0 g.t) (sym (ap values made ∙ alone_over p r c.args.acked.now c.in_ok-ahead.ensures.lays)) c.requires.tree)

@@ -1,4 +1,4 @@
 use Rattle.assise_digest.proofs.region.Region.rebuild.Given as goal
 
-abbrev pub ghost-tree_of : goal.ghost-tree_of
-ghost-tree_of g a = g.t
+abbrev pub ghost-tree : goal.ghost-tree
+ghost-tree g a = g.t
