@@ -12,12 +12,12 @@ use Rattle.assise_private_log.specs.NumberedLog.{record_at}
 use Rattle.assise_digest.specs.Region.{AreWhole, IsBegun, ReceivedLog, ahead}
 use Rattle.assise_digest.proofs.Receiving.{drop_item}
 use Rattle.assise_inode_table.specs.Contents.{Content, InodeMap}
-use Rattle.assise_inode_table.specs.Effects.{all_applied, contains, touched, value_after, with_value}
+use Rattle.assise_inode_table.specs.Effects.{all_applied, contains, touched, value_after}
 use Rattle.assise_inode_table.proofs.Applying.{get-all_applied, same_inodes}
 use Rattle.assise_inode_table.proofs.Making.{get-with_value, same_number, untouched, value_after-append}
 use Rattle.assise_digest.specs.Pending.{KeepsNoMore, Lays, all_held, overlaid, overlaid_with, seen}
 use Rattle.assise_digest.specs.declared.pending.Pending.{Pending}
-use Rattle.assise_digest.proofs.Keeping.{all_held_point, kept_at, none_of, point}
+use Rattle.assise_digest.proofs.Keeping.{all_held_point, kept_at, point}
 use Rattle.assise_digest.proofs.Standing.{touched_both}
 
 or_true : (a : Bool) → (a || true) ≡ true
@@ -36,7 +36,7 @@ get-overlaid_with m kept (e ∷ es) i =
   where
     go : (b : Bool) → (e.0 == i) ≡ b
         → (if b then map.get kept e.0 else (if is_some (map.find nat_cmp i es) then map.get kept i else map.get m i))
-          ≡ (if is_some (cond b (Some e.1) (map.find nat_cmp i es)) then map.get kept i else map.get m i)
+        ≡ (if is_some (cond b (Some e.1) (map.find nat_cmp i es)) then map.get kept i else map.get m i)
     go true same = ap (map.get kept) (eqb-true e.0 i same)
     go false other = refl
 
@@ -95,7 +95,7 @@ lays_more p q m n es fs l inodes last = record { kept = kept; values = values }
       where
         go : (b : Bool) → contains (touched fs) i ≡ b → (a : Bool) → contains (touched es) i ≡ a
             → value_after i (if b then kept_at m n i (map.get p.last i, if contains (touched es) i then value_after i (map.get m i) es else None) else (map.get p.last i, if contains (touched es) i then value_after i (map.get m i) es else None)).1 fs
-              ≡ (if (contains (touched es) i || b) then value_after i (map.get m i) (es ++ fs) else None)
+            ≡ (if (contains (touched es) i || b) then value_after i (map.get m i) (es ++ fs) else None)
         go true e a f =
             ap (λ v. value_after i v fs) (stood i (map.get p.last i) (l.kept i)) ∙ sym (value_after-append i (map.get m i) es fs)
             ∙ ap (λ c. if c then value_after i (map.get m i) (es ++ fs) else None) (sym (or_true (contains (touched es) i)))

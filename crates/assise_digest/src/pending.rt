@@ -67,13 +67,7 @@ impl Pending {
 
     /// Keeps an inode as it is in the area, unless it is kept already. The one refusal is [`Refusal::OutOfMemory`], and
     /// it leaves all as it was.
-    fn hold(
-        &mut self,
-        alloc: Global,
-        area: &Area,
-        number: u64,
-        inode: u64,
-    ) -> Result<(), Refusal>
+    fn hold(&mut self, alloc: Global, area: &Area, number: u64, inode: u64) -> Result<(), Refusal>
         requires no_more { KeepsNoMore self.old }
         ensures ok { OnOk result (self.new ≡ held self.old area.now.inodes number inode) }
         ensures err { OnErr result (self.new ≡ self.old) }

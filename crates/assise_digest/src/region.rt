@@ -334,11 +334,7 @@ impl Region {
         let most = self.count_ahead(client, acked).min(at_most);
         for count in 0..most {
             if let Err(refusal) = self.digest_next(client) {
-                return if count == 0 {
-                    Err(refusal)
-                } else {
-                    Ok(count)
-                };
+                return if count == 0 { Err(refusal) } else { Ok(count) };
             }
         }
         Ok(most)

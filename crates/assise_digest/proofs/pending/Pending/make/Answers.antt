@@ -20,6 +20,6 @@ loop-effect-preserved c =
           ∙ c.loop-effect.invariant.held;
       back = λ fresh. ap (λ p. forgotten p n es) step
           ∙ forgotten_again c.loop-effect.self m n (touched_by c.effect-item.result) es c.loop-effect.invariant.no_more
-            (touched_item es c.loop-effect.effect-index c.effect-item.result c.loop-effect-test.true c.effect-item.is)
+          (touched_item es c.loop-effect.effect-index c.effect-item.result c.loop-effect-test.true c.effect-item.is)
           ∙ c.loop-effect.invariant.back fresh;
     }

@@ -1,10 +1,7 @@
-use Rattle.std.proofs.Common.{◌≡◌, ◌≤◌, ◌+◌, ◌-◌, ◌++◌, ◌∙◌, [], ◌∷◌, List, min, length, take, ap, sym, subst, arith}
-use Rattle.std.proofs.lemmas.List.{length-drop}
-use Rattle.assise_record.specs.declared.effect.Effect.{Effect}
-use Rattle.assise_inode_table.specs.Effects.{all_applied}
+use Rattle.std.proofs.Common.{◌≡◌, ◌-◌, ◌++◌, ◌∙◌, [], ◌∷◌, min, length, take, ap, sym, subst, arith}
 use Rattle.assise_inode_table.specs.Whole.{CanBeMadeWhole}
 use Rattle.assise_digest.specs.Ahead.{all_effects}
-use Rattle.assise_digest.specs.Pending.{Lays, all_held}
+use Rattle.assise_digest.specs.Pending.{Lays}
 use Rattle.assise_digest.specs.Region.{ahead}
 use Rattle.assise_digest.specs.Sound.{seen_log}
 use Rattle.assise_digest.proofs.Receiving.{count_ahead}
@@ -42,6 +39,6 @@ returns-clause-lays c = λ es h.
     let l = seen_log c.args.self.now in
     let all = count_ahead l c.requires.begun in
     let same : min (c.loop-number.number - l.digested) (length (ahead l)) ≡ min (c.args.acked - l.digested) (length (ahead l)) =
-        grind (arith, all, c.loop-number-test.false, c.loop-number.auto.number, c.loop-number.auto.number-end, c.clamp-to.ensures, c.end.ensures.end) in
+    grind (arith, all, c.loop-number-test.false, c.loop-number.auto.number, c.loop-number.auto.number-end, c.clamp-to.ensures, c.end.ensures.end) in
     subst (λ rs. Lays c.loop-number.pending c.args.area.now.inodes (es ++ all_effects rs)) (take_same (c.loop-number.number - l.digested) (c.args.acked - l.digested) (ahead l) same)
     (c.loop-number.invariant.lays es h)

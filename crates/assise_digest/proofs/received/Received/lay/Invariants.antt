@@ -1,4 +1,4 @@
-use Rattle.std.proofs.Common.{◌≡◌, ◌-◌, ◌++◌, ℕ, List, take}
+use Rattle.std.proofs.Common.{◌-◌, ◌++◌, List, take}
 use Rattle.assise_record.specs.declared.effect.Effect.{Effect}
 use Rattle.assise_digest.specs.Ahead.{all_effects}
 use Rattle.assise_digest.specs.Pending.{KeepsNoMore, Lays}

@@ -1,8 +1,7 @@
 use Rattle.std.proofs.Common.{◌∙◌, ap, subst, sym}
 use Rattle.assise_inode_table.specs.Contents.{values}
 use Rattle.assise_inode_table.specs.Spelled.{SpellsFrom}
-use Rattle.assise_digest.specs.Pending.{Lays, overlaid}
-use Rattle.assise_digest.specs.Region.{all_ahead}
+use Rattle.assise_digest.specs.Pending.{overlaid}
 use Rattle.assise_digest.proofs.Rebuilding.{alone_over}
 use Rattle.assise_digest.proofs.region.Region.rebuild.Goals as goal
 
