@@ -10,7 +10,7 @@ ghost use Rattle.assise_record.specs.Touched.{touched_by};
 
 use crate::cooling::cool;
 use crate::moves::warm;
-use crate::parts::{change_cold, see_order};
+use crate::parts::{change_cold, hot_places, see_order};
 use assise_inode_table::inode::Inode;
 use assise_inode_table::inodes::Inodes;
 use assise_inode_table::store::InodeStore;
@@ -22,7 +22,6 @@ use std::alloc::Global;
 use std::collections::BTreeMap;
 use std::marker::Model;
 use std::mem;
-use std::num::NonZeroUsize;
 
 /// The most inodes that may be hot.
 pub const MOST_HOT: usize = 4096;
@@ -63,8 +62,7 @@ impl Area {
         ensures empty { IfOk result (λ area. area ≡ without_inodes capacity) }
         ensures only_memory { IsOkUnless result OutOfMemory }
     {
-        let capacity = NonZeroUsize::new(capacity).unwrap();
-        let hot = LruCache::sparse(alloc, capacity)?;
+        let hot = LruCache::sparse(alloc, hot_places(capacity))?;
         Ok(Area {
             alloc,
             hot,
@@ -93,7 +91,7 @@ impl Area {
         ensures only_memory { IsOkUnless result OutOfMemory }
     {
         cool(self.alloc, &mut self.hot, &mut self.cold, capacity)?;
-        self.hot.resize(NonZeroUsize::new(capacity).unwrap());
+        self.hot.resize(hot_places(capacity));
         Ok(())
     }
 

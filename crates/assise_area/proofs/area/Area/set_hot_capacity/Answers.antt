@@ -1,5 +1,4 @@
-use Rattle.std.proofs.Common.{◌≡◌, ap, subst, ◌∙◌, take, MatchOption}
-use Rattle.std.specs.NonZero.{non_zero_usize_get}
+use Rattle.std.proofs.Common.{ap, ◌∙◌, take}
 use Rattle.lru.specs.LruCache.{lru_cache}
 use Rattle.assise_inode_table.proofs.TableView.{on_err}
 use Rattle.assise_area.proofs.Cooled.{seen_resized}
@@ -16,6 +15,5 @@ returns-in_err-cool-clause-err c =
 
 pub returns-clause-ok : goal.returns-clause-ok
 returns-clause-ok c =
-    let same : non_zero_usize_get c.unwrap.result ≡ c.args.capacity = subst (λ o. MatchOption o (c.args.capacity ≡ 0) (λ x. non_zero_usize_get x ≡ c.args.capacity)) c.unwrap.ensures c.new.ensures in
     seen_resized c.args.capacity c.self.inside.hot c.cool.new.hot c.resize.new.self c.self.inside.cold.entries c.cool.new.cold.entries c.in_ok-cool.ensures.ok
-    (c.resize.ensures ∙ ap (λ n. lru_cache (take n c.cool.new.hot.entries) n) same) c.args.self.now c.self.view_is
+    (c.resize.ensures ∙ ap (λ n. lru_cache (take n c.cool.new.hot.entries) n) c.hot_places.ensures) c.args.self.now c.self.view_is
