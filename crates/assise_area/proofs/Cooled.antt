@@ -1,7 +1,7 @@
 -- Hot inodes that become cold, in places that were made for them.
-use Rattle.std.proofs.Common.{◌≡◌, ◌≤◌, ◌<◌, ◌+◌, ◌-◌, ℕ, zero, suc, Bool, true, false, cond, List, [], ◌∷◌, ◌||◌, length, take, drop, Option, Some, None, IsSome, refl, sym, ap, subst, ◌∙◌, eqb, nat_eq, is_some, true≢false, arith, get_or}
+use Rattle.std.proofs.Common.{◌≡◌, ◌≤◌, ◌<◌, ◌+◌, ◌-◌, ℕ, zero, suc, Bool, true, false, cond, List, [], ◌∷◌, ◌||◌, length, take, drop, Option, Some, None, IsSome, refl, sym, ap, ◌∙◌, eqb, nat_eq, is_some, arith, get_or}
 use Rattle.std.proofs.lemmas.Bool.{eqb-true, eq-eqb}
-use Rattle.std.proofs.lemmas.List.{length-take-le, take-append-drop, take_all, take_more}
+use Rattle.std.proofs.lemmas.List.{length-take-le, take-append-drop, take_more}
 use Rattle.std.proofs.lemmas.List.Folds.{list_any-append}
 use Rattle.std.specs.Option.{option_or}
 use Rattle.std.specs.Ordering.{nat_cmp}
@@ -11,7 +11,7 @@ use Rattle.std.specs.BTreeMap.{is_at}
 use Rattle.lru.specs.LruCache.{LruCache, lru_cache}
 use Rattle.assise_inode_table.specs.Contents.{Content}
 use Rattle.assise_area.specs.Hot.{AreaValue, with_capacity}
-use Rattle.assise_area.specs.Parts.{Entries, AreApart, AreWritten, HoldSame, IsCooled, IsSound, joined, value_in, hot_at, cold_at, seen}
+use Rattle.assise_area.specs.Parts.{Entries, AreApart, AreWritten, HoldSame, IsCooled, joined, value_in, hot_at, cold_at, seen}
 use Rattle.assise_area.proofs.Seen.{turned, some≢none, from_some, same_joined, is_some-lookup}
 use Rattle.assise_area.proofs.Writing.{cold-written, apart_at}
 use Rattle.assise_area.proofs.Warming.{hot-append, keys_take}

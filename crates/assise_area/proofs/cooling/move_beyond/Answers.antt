@@ -1,4 +1,4 @@
-use Rattle.std.proofs.Common.{◌≡◌, ◌<◌, ◌-◌, length, refl, sym, ap, subst, ◌∙◌, arith, take, drop}
+use Rattle.std.proofs.Common.{◌≡◌, ◌<◌, ◌-◌, length, refl, sym, ap, ◌∙◌, arith, take, drop}
 use Rattle.std.specs.Option.{option_or}
 use Rattle.assise_area.specs.Parts.{cold_at, hot_at}
 use Rattle.assise_area.proofs.Cooled.{last_moved, last_placed, length_shorter, shorter_front, take_fewer}
