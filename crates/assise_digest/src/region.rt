@@ -114,6 +114,17 @@ impl Region {
         self.area.touch(inode);
     }
 
+    /// Sets how many inodes may be hot, 1 to 4,096: of more than that the longest unused ones are cold then. The one
+    /// refusal is [`Refusal::OutOfMemory`], where some have to cool, and it leaves the region as it was, and as many hot.
+    pub fn set_hot_capacity(&mut self, capacity: usize) -> Result<(), Refusal>
+        requires least { 1 ≤ capacity }
+        requires most { capacity ≤ 4096 }
+        ensures same { self.new ≡ self.old }
+        ensures only_memory { IsOkUnless result OutOfMemory }
+    {
+        self.area.set_hot_capacity(capacity)
+    }
+
     /// An inode as a client that lives here reads it: after all its records. It costs one look-up in what they make, and
     /// one in the inodes.
     pub fn read(&self, client: usize, inode: u64) -> Option<&Inode>
