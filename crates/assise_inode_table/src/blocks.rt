@@ -2,7 +2,7 @@
 ghost use Rattle.std.specs.Prelude.{◌≡◌, ◌+◌, ◌-◌, ◌*◌, ◌^◌, ◌<◌, ◌≤◌, ◌++◌, IfOk, OnErr, OnOk, length, take, drop};
 ghost use Rattle.std.specs.List.{concat};
 ghost use Rattle.assise_seq_tree.specs.Contents.{bytes_from, overwritten};
-ghost use Rattle.assise_inode_table.specs.Blocks.{AreBlocks, IsCut};
+ghost use Rattle.assise_inode_table.specs.Blocks.{IsCut};
 
 use assise_seq_tree::contents;
 use bytes::Bytes;
@@ -129,7 +129,8 @@ pub fn overwrite(
     offset: usize,
     new: &[u8],
 ) -> Result<(), AllocError>
-    requires shape { AreBlocks blocks.old.items size }
+    requires shape { IsCut blocks.old.items }
+    requires bytes { size ≡ length (concat blocks.old.items) }
     requires some { 0 < length new.now + (offset - size) }
     requires fits { offset + length new.now < 2 ^ 64 }
     ensures shape { OnOk result (IsCut blocks.new.items) }
@@ -143,10 +144,11 @@ pub fn overwrite(
 }
 
 /// Cuts blocks to a size. What stays of the last block is shared with its other owners.
+#[tactic(auto, using(crate::proofs::Cutting::cut_take, crate::proofs::Writing::bytes_between, crate::proofs::Writing::last_held, crate::proofs::Writing::cut_within, crate::proofs::Writing::bytes_within))]
 pub fn shorten(blocks: &mut Vec<Bytes>, size: usize)
     requires shape { IsCut blocks.old.items }
     requires within { size ≤ length (concat blocks.old.items) }
-    ensures shape { AreBlocks blocks.new.items size }
+    ensures shape { IsCut blocks.new.items }
     ensures bytes { concat blocks.new.items ≡ take size (concat blocks.old.items) }
 {
     let full = size / BLOCK;
