@@ -244,9 +244,11 @@ module _ {bs : List (List ℕ)} {size o : ℕ} {new : List ℕ} {first past unti
 pub end_held : (bs : List (List ℕ)) (start end : ℕ) → IsCut bs → start < end → end ≤ length (concat bs) → (end - 1) / 4096 + 1 ≤ length bs
 end_held bs start end cut some within = omega (arith, most bs cut)
 
-pub part_of : (bs : List (List ℕ)) (start end first until : ℕ) → IsCut bs → start < end → end ≤ length (concat bs) → first ≡ start / 4096 → until ≡ (end - 1) / 4096 + 1
-    → bytes_from (start - first * 4096) (end - start) (concat (take (until - first) (drop first bs))) ≡ bytes_from start (end - start) (concat bs)
-part_of bs start end first until cut some within f u =
+pub part_of : (bs : List (List ℕ)) (start end : ℕ) → IsCut bs → start < end → end ≤ length (concat bs)
+    → bytes_from (start - start / 4096 * 4096) (end - start) (concat (take ((end - 1) / 4096 + 1 - start / 4096) (drop (start / 4096) bs))) ≡ bytes_from start (end - start) (concat bs)
+part_of bs start end cut some within =
+    let first = start / 4096 in
+    let until = (end - 1) / 4096 + 1 in
     let held = end_held bs start end cut some within in
     let part : concat (take (until - first) (drop first bs)) ≡ take (4096 * (until - first)) (drop (4096 * first) (concat bs)) =
     concat_take (drop first bs) (until - first) (cut_drop bs first cut) (omega (arith, length-drop first bs, held))

@@ -72,7 +72,7 @@ impl FileBytes {
 
     /// Writes bytes at an offset, and zeros before them where the file was shorter (POSIX.1-2017, write() and
     /// lseek()). The one refusal is [`Refusal::OutOfMemory`], where there is a byte or a zero to write, and it leaves
-    /// the file as it was. The blocks that the write doesn't reach stay those that they were.
+    /// the file as it was. The blocks that the write doesn't reach stay those that they were, and copies keep theirs.
     pub fn write(&mut self, offset: usize, new: &[u8]) -> Result<(), Refusal>
         requires { offset + length new.now < 2 ^ 64 }
         ensures ok { OnOk result (self.new ≡ overwritten self.old offset new.now) }

@@ -12,8 +12,8 @@ use std::alloc::{AllocError, Global};
 use std::marker::Model;
 use std::sync::Arc;
 
-/// Bytes in blocks of 4,096. Copies share the list of the blocks, until one of them writes. A contract sees the list of
-/// the bytes.
+/// Bytes in blocks of 4,096. Copies share the list of the blocks, and a copy that writes makes a list of its own first,
+/// which shares each block. A contract sees the list of the bytes.
 #[derive(Debug, Drop)]
 pub struct SharedBlocks {
     list: Option<Arc<Vec<Bytes>>>,
@@ -33,13 +33,14 @@ impl Model for SharedBlocks {
 
 impl SharedBlocks {
     /// No bytes. It takes no memory.
+    #[tactic(auto, using(crate::proofs::Cutting::cut_none))]
     pub fn new() -> SharedBlocks
         ensures { result ≡ [] }
     {
         SharedBlocks { list: None }
     }
 
-    /// Another owner of the same blocks. It takes no memory.
+    /// Another owner of the same blocks. It takes no memory: the one error is that the count of the owners is full.
     pub fn share(&self) -> Result<SharedBlocks, AllocError>
         ensures { IfOk result (λ shared. shared ≡ self.now) }
     {
@@ -63,6 +64,7 @@ impl SharedBlocks {
     }
 
     /// The bytes from a start to an end, in one piece: shared with the block where one has them all.
+    #[tactic(auto, using(crate::proofs::Writing::end_held, crate::proofs::Writing::part_of))]
     pub fn piece(&self, alloc: Global, start: usize, end: usize) -> Result<Bytes, AllocError>
         requires some { start < end }
         requires within { end ≤ length self.now }
@@ -115,7 +117,8 @@ impl SharedBlocks {
     }
 }
 
-/// Cuts the blocks to a size and writes bytes at an offset. Where the list has other owners it is copied before that.
+/// Cuts the blocks to a size and writes bytes at an offset, into a list of its own: where it has other owners it is copied
+/// first.
 fn overwrite(
     alloc: Global,
     list: &mut Arc<Vec<Bytes>>,
