@@ -149,7 +149,7 @@ impl Area {
 
     /// Gives a number an inode, and gives back the one that it had. What was hot is hot as before, and a new inode is
     /// cold. The one refusal is [`Refusal::OutOfMemory`], where the number had none, and it leaves the area as it was.
-    pub fn insert(&mut self, inode: u64, content: Inode) -> Result<Option<Inode>, Refusal>
+    pub fn put(&mut self, inode: u64, content: Inode) -> Result<Option<Inode>, Refusal>
         ensures ok { OnOk result (self.new ≡ with_inodes self.old (map.insert self.old.inodes inode content)) }
         ensures replaced { IfOk result (λ had. had ≡ map.get self.old.inodes inode) }
         ensures err { OnErr result (self.new ≡ self.old) }
@@ -188,10 +188,10 @@ impl Area {
     {
         match effect {
             Effect::NewFile { inode } => {
-                self.insert(*inode, Inode::new_file(self.alloc))?;
+                self.put(*inode, Inode::new_file(self.alloc))?;
             }
             Effect::NewDir { inode } => {
-                self.insert(*inode, Inode::new_directory(self.alloc))?;
+                self.put(*inode, Inode::new_directory(self.alloc))?;
             }
             Effect::Free { inode } => {
                 self.remove(*inode);
@@ -244,7 +244,7 @@ impl InodeStore for Area {
     }
 
     fn insert(&mut self, inode: u64, content: Inode) -> Result<Option<Inode>, Refusal> {
-        Area::insert(self, inode, content)
+        Area::put(self, inode, content)
     }
 
     fn remove(&mut self, inode: u64) -> Option<Inode> {

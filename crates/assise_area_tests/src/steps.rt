@@ -43,7 +43,7 @@ fn get(area: &mut Area, inode: u64) -> Option<()> {
 }
 
 fn put(alloc: Global, area: &mut Area, inode: u64) -> Option<()> {
-    area.insert(inode, Inode::new_directory(alloc)).ok()?;
+    area.put(inode, Inode::new_directory(alloc)).ok()?;
     Some(())
 }
 

@@ -61,7 +61,7 @@ impl Region {
         ensures only_memory { IsOkUnless result OutOfMemory }
     {
         let mut area = Area::new(alloc, hot_capacity)?;
-        area.insert(ROOT, Inode::new_directory(alloc))?;
+        area.put(ROOT, Inode::new_directory(alloc))?;
         Ok(Region {
             area,
             logs: Vec::new(alloc),
@@ -274,7 +274,7 @@ impl Region {
         ensures asked { OnErr result (map.get self.old.inodes inode ≡ None) }
         ensures only_memory { IsOkUnless result OutOfMemory }
     {
-        self.area.insert(inode, content)?;
+        self.area.put(inode, content)?;
         Ok(())
     }
 
