@@ -26,7 +26,7 @@ split (suc n) [] h = refl
 split zero (e ∷ es) h = ap (λ l. e ∷ l) (no_entries es (omega (arith, h)))
 split (suc n) (e ∷ es) h = ap (λ l. e ∷ l) (split n es (omega (arith, h)))
 
-hot-append : (es fs : Entries) (q : ℕ) → hot_at (es ++ fs) q ≡ option_or (hot_at es q) (hot_at fs q)
+pub hot-append : (es fs : Entries) (q : ℕ) → hot_at (es ++ fs) q ≡ option_or (hot_at es q) (hot_at fs q)
 hot-append [] fs q = refl
 hot-append (e ∷ es) fs q = go (hot-append es fs q) (eqb q e.0)
   where
@@ -65,13 +65,13 @@ or_none : {X : Type 0} (a : Option X) → option_or a None ≡ a
 or_none None = refl
 or_none (Some x) = refl
 
+pub keys_take : (n : ℕ) (es : Entries) → take n (keys_of es) ≡ keys_of (take n es)
+keys_take zero es = refl
+keys_take (suc n) [] = refl
+keys_take (suc n) (e ∷ es) = ap (λ ks. e.0 ∷ ks) (keys_take n es)
+
 keys_pushed : (hot hot' : LruCache ℕ Content) (cold : Entries) (i : ℕ) → IsPushed i hot hot' cold → keys_of hot'.entries ≡ i ∷ take (hot.cap - 1) (keys_of hot.entries)
 keys_pushed hot hot' cold i p = ap keys_of p.entries ∙ ap (λ ks. i ∷ ks) (sym (keys_take (hot.cap - 1) hot.entries))
-  where
-    keys_take : (n : ℕ) (es : Entries) → take n (keys_of es) ≡ keys_of (take n es)
-    keys_take zero es = refl
-    keys_take (suc n) [] = refl
-    keys_take (suc n) (e ∷ es) = ap (λ ks. e.0 ∷ ks) (keys_take n es)
 
 -- ---- a cold inode gets hot where there is room
 

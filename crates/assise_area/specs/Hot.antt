@@ -53,6 +53,10 @@ hot_after hot (Unlink d name) = hot
 abbrev pub after_effect : AreaValue → Effect → AreaValue
 after_effect a e = record { inodes = applied a.inodes e; hot = hot_after a.hot e; capacity = a.capacity }
 
+-- with another capacity: of more hot ones than may be, those go that are longest unused
+abbrev pub with_capacity : AreaValue → ℕ → AreaValue
+with_capacity a n = record { inodes = a.inodes; hot = take n a.hot; capacity = n }
+
 -- the used one comes first, and of more than may be hot the one goes that is longest unused
 abbrev pub used : List ℕ → ℕ → ℕ → List ℕ
 used hot i capacity = i ∷ take (capacity - 1) (without hot i)

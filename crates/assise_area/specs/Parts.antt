@@ -1,12 +1,13 @@
 -- A hot part and a cold part, seen as one map.
 -- Assise, OSDI 2020, section 3: hot and cold shared areas; the textbooks' finite maps.
-use Rattle.std.specs.Prelude.{◌≡◌, ℕ, ◌-◌, ◌≤◌, List, ◌∷◌, ◌++◌, take, Option, Some, None, nat_eq}
+use Rattle.std.specs.Prelude.{◌≡◌, ℕ, ◌-◌, ◌≤◌, List, ◌∷◌, ◌++◌, take, Option, Some, None, cond, nat_eq}
 use Rattle.std.specs.Option.{option_or}
 use Rattle.std.specs.Ordering.{nat_cmp}
+use Rattle.std.specs.List.{list_any}
 use Rattle.std.specs.Map.{lookup, keys_of}
 use Rattle.std.specs.BTreeMap.{is_at}
 use Rattle.std.specs.FinMap as map
-use Rattle.lru.specs.LruCache.{LruCache}
+use Rattle.lru.specs.LruCache.{LruCache, lru_cache}
 use Rattle.assise_inode_table.specs.Contents.{Content, InodeMap}
 use Rattle.assise_area.specs.Hot.{AreaValue}
 
@@ -57,3 +58,13 @@ pub record IsPushed (i : ℕ) (hot hot' : LruCache ℕ Content) (cold : Entries)
   pub there : cold_at cold i ≡ Some content
   pub entries : hot'.entries ≡ (i, content) ∷ take (hot.cap - 1) hot.entries
   pub cap : hot'.cap ≡ hot.cap
+
+-- some numbers have that in the cold part, and the others what they had
+abbrev pub AreWritten : List ℕ → Option Content → Entries → Entries → Type 0
+AreWritten numbers value cold cold' = (q : ℕ) → cold_at cold' q ≡ cond (list_any (nat_eq q) numbers) value (cold_at cold q)
+
+-- the first n hot inodes stay hot, and the others are cold
+pub record IsCooled (n : ℕ) (hot hot' : LruCache ℕ Content) (cold cold' : Entries) : Type 0 where
+  pub left : hot' ≡ lru_cache (take n hot.entries) hot.cap
+  pub same : HoldSame hot.entries cold hot'.entries cold'
+  pub apart : AreApart hot'.entries cold'

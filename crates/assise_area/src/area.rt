@@ -1,15 +1,16 @@
 // The inodes of a node: the recently used ones in a hot part, the others in a cold one.
-ghost use Rattle.std.specs.Prelude.{◌≡◌, ◌≤◌, IfOk, IsOk, IsOkUnless, None, OnErr, OnOk, length, nat_eq, option_copied, option_map};
+ghost use Rattle.std.specs.Prelude.{◌≡◌, ◌≤◌, ◌<◌, IfOk, IsOk, IsOkUnless, None, OnErr, OnOk, length, nat_eq, option_copied, option_map};
 ghost use Rattle.std.specs.FinMap as map;
 ghost use Rattle.std.specs.List.{IsDistinct};
-ghost use Rattle.assise_area.specs.Hot.{IsTouched, after_effect, is_hot, removed, with_inodes, without_inodes};
+ghost use Rattle.assise_area.specs.Hot.{IsTouched, after_effect, is_hot, removed, with_capacity, with_inodes, without_inodes};
 ghost use Rattle.assise_inode_table.specs.Effects.{AsksForMemory, TakesAway, all_applied, changed, with_value};
 ghost use Rattle.assise_inode_table.specs.Whole.{CanBeMadeWhole, OnlyTakeAway};
 ghost use Rattle.assise_names.specs.declared.refusal.Refusal.TheVariants.{OutOfMemory};
 ghost use Rattle.assise_record.specs.Touched.{touched_by};
 
+use crate::cooling::cool;
 use crate::moves::warm;
-use crate::parts::{change_cold, see_order};
+use crate::parts::{change_cold, hot_places, see_order};
 use assise_inode_table::inode::Inode;
 use assise_inode_table::inodes::Inodes;
 use assise_inode_table::store::InodeStore;
@@ -21,7 +22,6 @@ use std::alloc::Global;
 use std::collections::BTreeMap;
 use std::marker::Model;
 use std::mem;
-use std::num::NonZeroUsize;
 
 /// The most inodes that may be hot.
 pub const MOST_HOT: usize = 4096;
@@ -62,8 +62,7 @@ impl Area {
         ensures empty { IfOk result (λ area. area ≡ without_inodes capacity) }
         ensures only_memory { IsOkUnless result OutOfMemory }
     {
-        let capacity = NonZeroUsize::new(capacity).unwrap();
-        let hot = LruCache::sparse(alloc, capacity)?;
+        let hot = LruCache::sparse(alloc, hot_places(capacity))?;
         Ok(Area {
             alloc,
             hot,
@@ -78,6 +77,22 @@ impl Area {
         ensures most { result ≤ 4096 }
     {
         self.hot.cap().get()
+    }
+
+    /// Sets how many inodes may be hot, from 1 to 4,096. Of more hot inodes the longest unused ones are cold then, and the
+    /// others are hot as before. No inode changes. The one refusal is [`Refusal::OutOfMemory`], where more were hot than
+    /// may be, and it leaves the area as it was.
+    pub fn set_hot_capacity(&mut self, capacity: usize) -> Result<(), Refusal>
+        requires least { 1 ≤ capacity }
+        requires most { capacity ≤ 4096 }
+        ensures ok { OnOk result (self.new ≡ with_capacity self.old capacity) }
+        ensures err { OnErr result (self.new ≡ self.old) }
+        ensures asked { OnErr result (capacity < length self.old.hot) }
+        ensures only_memory { IsOkUnless result OutOfMemory }
+    {
+        cool(self.alloc, &mut self.hot, &mut self.cold, capacity)?;
+        self.hot.resize(hot_places(capacity));
+        Ok(())
     }
 
     /// How many inodes are hot: each once, and no more than may be.
@@ -134,7 +149,7 @@ impl Area {
 
     /// Gives a number an inode, and gives back the one that it had. What was hot is hot as before, and a new inode is
     /// cold. The one refusal is [`Refusal::OutOfMemory`], where the number had none, and it leaves the area as it was.
-    pub fn insert(&mut self, inode: u64, content: Inode) -> Result<Option<Inode>, Refusal>
+    pub fn put(&mut self, inode: u64, content: Inode) -> Result<Option<Inode>, Refusal>
         ensures ok { OnOk result (self.new ≡ with_inodes self.old (map.insert self.old.inodes inode content)) }
         ensures replaced { IfOk result (λ had. had ≡ map.get self.old.inodes inode) }
         ensures err { OnErr result (self.new ≡ self.old) }
@@ -173,10 +188,10 @@ impl Area {
     {
         match effect {
             Effect::NewFile { inode } => {
-                self.insert(*inode, Inode::new_file(self.alloc))?;
+                self.put(*inode, Inode::new_file(self.alloc))?;
             }
             Effect::NewDir { inode } => {
-                self.insert(*inode, Inode::new_directory(self.alloc))?;
+                self.put(*inode, Inode::new_directory(self.alloc))?;
             }
             Effect::Free { inode } => {
                 self.remove(*inode);
@@ -229,7 +244,7 @@ impl InodeStore for Area {
     }
 
     fn insert(&mut self, inode: u64, content: Inode) -> Result<Option<Inode>, Refusal> {
-        Area::insert(self, inode, content)
+        Area::put(self, inode, content)
     }
 
     fn remove(&mut self, inode: u64) -> Option<Inode> {

@@ -2,5 +2,6 @@
 #![tactic(auto)]
 
 pub mod area;
+mod cooling;
 mod moves;
 mod parts;

@@ -1,6 +1,7 @@
 // What is done to one of the two parts.
-ghost use Rattle.std.specs.Prelude.{◌≡◌, ℕ, IsOk, IsOkUnless, IsSome, OnErr, OnOk, Some, cond, nat_eq, option_map};
+ghost use Rattle.std.specs.Prelude.{◌≡◌, ◌≤◌, ℕ, IsOk, IsOkUnless, IsSome, OnErr, OnOk, Some, cond, nat_eq, option_map};
 ghost use Rattle.std.specs.BTreeMap.{is_at};
+ghost use Rattle.std.specs.NonZero.{non_zero_usize_get};
 ghost use Rattle.std.specs.Ordering.{nat_cmp};
 ghost use Rattle.assise_area.specs.Parts.{cold_at};
 ghost use Rattle.assise_inode_table.specs.Effects.{AsksForMemory, TakesAway, changed};
@@ -14,6 +15,7 @@ use assise_record::effect::Effect;
 use lru::LruCache;
 use std::alloc::Global;
 use std::collections::BTreeMap;
+use std::num::NonZeroUsize;
 
 /// Changes the cold inode that an effect touches, where there is one.
 pub(crate) fn change_cold(
@@ -40,6 +42,14 @@ pub(crate) fn see_order(hot: &LruCache<u64, Inode>)
     ensures { IsValid nat_eq hot.now }
 {
     let _ = hot.len();
+}
+
+/// How many inodes may be hot, as the hot part takes it.
+pub(crate) fn hot_places(capacity: usize) -> NonZeroUsize
+    requires { 1 ≤ capacity }
+    ensures { non_zero_usize_get result ≡ capacity }
+{
+    NonZeroUsize::new(capacity).unwrap()
 }
 
 /// Writes over a cold inode. It takes no memory.

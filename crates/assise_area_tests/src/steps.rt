@@ -13,7 +13,8 @@ pub(crate) fn after(alloc: Global, capacity: usize, steps: &str) -> Option<Strin
     show(alloc, &area).ok()
 }
 
-fn area_of(alloc: Global, capacity: usize) -> Option<Area> {
+/// An area of which so many inodes may be hot.
+pub(crate) fn area_of(alloc: Global, capacity: usize) -> Option<Area> {
     if capacity == 0 || capacity > MOST_HOT {
         return None;
     }
@@ -31,6 +32,7 @@ fn make(alloc: Global, area: &mut Area, step: &str) -> Option<()> {
         "get" => get(area, inode),
         "put" => put(alloc, area, inode),
         "take" => take(area, inode),
+        "capacity" => set_capacity(area, number.parse::<usize>().ok()?),
         _ => make_effect(area, name, inode),
     }
 }
@@ -41,13 +43,25 @@ fn get(area: &mut Area, inode: u64) -> Option<()> {
 }
 
 fn put(alloc: Global, area: &mut Area, inode: u64) -> Option<()> {
-    area.insert(inode, Inode::new_directory(alloc)).ok()?;
+    area.put(inode, Inode::new_directory(alloc)).ok()?;
     Some(())
 }
 
 fn take(area: &mut Area, inode: u64) -> Option<()> {
     area.remove(inode)?;
     Some(())
+}
+
+fn set_capacity(area: &mut Area, capacity: usize) -> Option<()> {
+    if capacity == 0 || capacity > MOST_HOT {
+        return None;
+    }
+    area.set_hot_capacity(capacity).ok()?;
+    if area.hot_capacity() == capacity {
+        Some(())
+    } else {
+        None
+    }
 }
 
 fn make_effect(area: &mut Area, name: &str, inode: u64) -> Option<()> {

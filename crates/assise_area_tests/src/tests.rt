@@ -11,7 +11,7 @@ struct Row {
     shown: &'static str,
 }
 
-static ROWS: [Row; 10] = [
+static ROWS: [Row; 16] = [
     Row {
         capacity: 1,
         steps: "new 1, put 2",
@@ -61,6 +61,36 @@ static ROWS: [Row; 10] = [
         capacity: 4096,
         steps: "new 1, new 2, touch 2, take 1",
         shown: "2 file 0 hot;",
+    },
+    Row {
+        capacity: 2,
+        steps: "put 1, put 2, touch 1, touch 2, capacity 1",
+        shown: "1 dir 0 cold;2 dir 0 hot;",
+    },
+    Row {
+        capacity: 3,
+        steps: "put 1, put 2, put 3, touch 1, touch 2, touch 3, touch 1, capacity 2",
+        shown: "1 dir 0 hot;2 dir 0 cold;3 dir 0 hot;",
+    },
+    Row {
+        capacity: 3,
+        steps: "put 1, put 2, put 3, touch 1, touch 2, touch 3, capacity 1, capacity 3",
+        shown: "1 dir 0 cold;2 dir 0 cold;3 dir 0 hot;",
+    },
+    Row {
+        capacity: 1,
+        steps: "put 1, put 2, touch 1, capacity 2, touch 2",
+        shown: "1 dir 0 hot;2 dir 0 hot;",
+    },
+    Row {
+        capacity: 3,
+        steps: "put 1, put 2, touch 1, touch 2, capacity 2",
+        shown: "1 dir 0 hot;2 dir 0 hot;",
+    },
+    Row {
+        capacity: 2,
+        steps: "put 1, put 2, touch 1, touch 2, capacity 1, touch 1",
+        shown: "1 dir 0 hot;2 dir 0 cold;",
     },
 ];
 

@@ -1,11 +1,10 @@
 -- Records of one client are digested, and what is read stays.
-use Rattle.std.proofs.Common.{◌≡◌, ◌≢◌, ◌≤◌, ◌<◌, ◌+◌, ◌-◌, ◌||◌, ◌⊎◌, Option, ℕ, zero, suc, Bool, true, false, List, [], ◌∷◌, ◌++◌, length, take, drop, slice_index_or, slice_set, refl, sym, ap, subst, ◌∙◌, inl, inr, drop-drop, take-add, true≢false, arith}
+use Rattle.std.proofs.Common.{◌≡◌, ◌≢◌, ◌≤◌, ◌<◌, ◌+◌, ◌-◌, ◌||◌, ◌⊎◌, Option, ℕ, zero, suc, Bool, true, false, List, [], ◌∷◌, ◌++◌, length, take, drop, slice_index_or, slice_set, refl, sym, ap, subst, ◌∙◌, inl, inr, drop-drop, take-add, arith}
 use Rattle.std.proofs.lemmas.Bool.{cases_eq}
 use Rattle.std.proofs.lemmas.List.{get_or-set_same, get_or-set_other, length-drop, length-set, length-take, set-get_or, take-append-drop}
 use Rattle.std.specs.FinMap as map
-use Rattle.assise_record.specs.declared.effect.Effect.{Effect}
 use Rattle.assise_record.specs.LogRecord.{LogRecord}
-use Rattle.assise_inode_table.specs.Contents.{Content, InodeMap}
+use Rattle.assise_inode_table.specs.Contents.{Content}
 use Rattle.assise_inode_table.specs.Effects.{all_applied, contains, touched, value_after}
 use Rattle.assise_inode_table.proofs.Applying.{append_applied, get-all_applied}
 use Rattle.assise_inode_table.proofs.Making.{or_left, or_right, untouched, value_after-append}
@@ -78,18 +77,18 @@ set_again (l ∷ ls) (suc k) x y = ap (λ xs. l ∷ xs) (set_again ls k x y)
 pub digested_one_more : (r : RegionValue) (c n : ℕ) → HasClient r c → IsBegun (log_of r c) → digested_by (digested_by r c n) c 1 ≡ digested_by r c (n + 1)
 digested_one_more r c n has b =
     ap (λ l. record {
-        inodes = all_applied (all_applied r.inodes (all_effects (take n rs))) (all_effects (take 1 (ahead l)));
-        logs = slice_set (slice_set r.logs (c - 1) (digested_further (log_of r c) n)) (c - 1) (digested_further l 1);
-      }) (log_digested r c n has)
+      inodes = all_applied (all_applied r.inodes (all_effects (take n rs))) (all_effects (take 1 (ahead l)));
+      logs = slice_set (slice_set r.logs (c - 1) (digested_further (log_of r c) n)) (c - 1) (digested_further l 1);
+    }) (log_digested r c n has)
     ∙ ap (λ ls. record {
-        inodes = all_applied (all_applied r.inodes (all_effects (take n rs))) (all_effects (take 1 (ahead (digested_further (log_of r c) n))));
-        logs = ls;
-      }) (set_again r.logs (c - 1) (digested_further (log_of r c) n) (digested_further (digested_further (log_of r c) n) 1)
-        ∙ ap (λ d. slice_set r.logs (c - 1) (record { log = (log_of r c).log; digested = d; at_home = (log_of r c).at_home })) both)
+      inodes = all_applied (all_applied r.inodes (all_effects (take n rs))) (all_effects (take 1 (ahead (digested_further (log_of r c) n))));
+      logs = ls;
+    }) (set_again r.logs (c - 1) (digested_further (log_of r c) n) (digested_further (digested_further (log_of r c) n) 1)
+    ∙ ap (λ d. slice_set r.logs (c - 1) (record { log = (log_of r c).log; digested = d; at_home = (log_of r c).at_home })) both)
     ∙ ap (λ m. record { inodes = m; logs = slice_set r.logs (c - 1) (digested_further (log_of r c) (n + 1)) })
-      (ap (λ xs. all_applied (all_applied r.inodes (all_effects (take n rs))) (all_effects (take 1 xs))) (ahead_further (log_of r c) n b)
-      ∙ sym (append_applied r.inodes (all_effects (take n rs)) (all_effects (take 1 (drop n rs))))
-      ∙ ap (all_applied r.inodes) (sym (all_effects-append (take n rs) (take 1 (drop n rs))) ∙ ap all_effects (sym (take-add n 1 rs))))
+    (ap (λ xs. all_applied (all_applied r.inodes (all_effects (take n rs))) (all_effects (take 1 xs))) (ahead_further (log_of r c) n b)
+    ∙ sym (append_applied r.inodes (all_effects (take n rs)) (all_effects (take 1 (drop n rs))))
+    ∙ ap (all_applied r.inodes) (sym (all_effects-append (take n rs) (take 1 (drop n rs))) ∙ ap all_effects (sym (take-add n 1 rs))))
   where
     rs : List LogRecord
     rs = ahead (log_of r c)

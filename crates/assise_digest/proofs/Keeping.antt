@@ -146,8 +146,8 @@ nothing_forgotten p n es new = same_pending _ _ (λ q. forgotten_point n p es q 
 pub forgotten_again : (p : Pending) (m : InodeMap) (n i : ℕ) (es : List Effect) → KeepsNoMore p → contains (touched es) i ≡ true → forgotten (held p m n i) n es ≡ forgotten p n es
 forgotten_again p m n i es no_more among =
     same_pending _ _ (λ q.
-        forgotten_point n (held p m n i) es q ∙ ap (λ x. if contains (touched es) q then left_at n x else x) (held_point m n p i q)
-        ∙ go q (i == q) (contains (touched es) q) refl refl ∙ sym (forgotten_point n p es q))
+    forgotten_point n (held p m n i) es q ∙ ap (λ x. if contains (touched es) q then left_at n x else x) (held_point m n p i q)
+    ∙ go q (i == q) (contains (touched es) q) refl refl ∙ sym (forgotten_point n p es q))
   where
     both : (q : ℕ) (o : Option ℕ) → map.get p.last q ≡ o → left_at n (kept_at m n q (o, map.get p.inodes q)) ≡ left_at n (o, map.get p.inodes q)
     both q None e = ap (λ b. if b then (None, None) else (Some n, map.get m q)) (eq-eqb n n refl) ∙ sym (ap (λ v. (None, v)) (no_more q e))

@@ -3,3 +3,10 @@ pub mod Standing
 pub mod Receiving
 pub mod Placing
 pub mod Digesting
+pub mod Laying
+pub mod Rebuilding
+pub mod Forests
+pub mod Pieces
+pub mod Listed
+pub mod Growing
+pub mod Assembling

@@ -1,5 +1,5 @@
 -- The logs of a region, of which one changes.
-use Rattle.std.proofs.Common.{◌≡◌, ◌≢◌, ◌≤◌, ◌<◌, ◌+◌, ◌-◌, ℕ, zero, suc, false, List, [], ◌∷◌, ◌++◌, length, take, drop, is_some, if◌then◌else◌, true≢false, slice_index_or, slice_set, Option, Some, None, refl, sym, ap, subst, ◌∙◌, inl, inr, true, arith}
+use Rattle.std.proofs.Common.{◌≡◌, ◌≢◌, ◌<◌, ◌-◌, ℕ, zero, suc, false, List, [], ◌∷◌, length, take, drop, is_some, if◌then◌else◌, true≢false, slice_index_or, slice_set, Option, Some, None, refl, sym, ap, subst, ◌∙◌, inl, inr, true, arith}
 use Rattle.std.proofs.lemmas.Bool.{cases_eq, ne_eqb}
 use Rattle.std.proofs.lemmas.List.{get_or-map, get_or-set_same, get_or-set_other, length-map, length-set, map-set}
 use Rattle.std.specs.FinMap as map
@@ -83,7 +83,7 @@ digested_view m w xs r c x y next view has at b is applied step =
     let front : take 1 (ahead (log_of r c)) ≡ next ∷ [] = ap (λ l. take 1 (ahead l)) here ∙ ap (take 1) (ahead_next (seen_log x) next b is) in
     with_one m w xs r c y view
     ∙ ap (λ n. record { inodes = n; logs = slice_set r.logs (c - 1) (seen_log y) })
-      (applied ∙ sym (append_applied m next.effects []) ∙ ap (λ n. all_applied n (all_effects (next ∷ []))) (ap (λ s. s.inodes) view) ∙ ap (λ rs. all_applied r.inodes (all_effects rs)) (sym front))
+    (applied ∙ sym (append_applied m next.effects []) ∙ ap (λ n. all_applied n (all_effects (next ∷ []))) (ap (λ s. s.inodes) view) ∙ ap (λ rs. all_applied r.inodes (all_effects rs)) (sym front))
     ∙ ap (λ l. record { inodes = all_applied r.inodes (all_effects (take 1 (ahead (log_of r c)))); logs = slice_set r.logs (c - 1) l }) (step ∙ ap (λ l. digested_further l 1) (sym here))
 
 -- what is kept for other clients is untouched
@@ -99,8 +99,8 @@ pub digested_sound : (m w : InodeMap) (xs : List Received) (r : RegionValue) (c 
 digested_sound m w xs r c x y next view has apart sound at is applied here =
     sound_others m w xs (c - 1) y
     (λ j none other h.
-        sound_beside m w (slice_index_or xs j none) (sound j none h)
-        (λ i among. ap (λ n. map.get n i) applied ∙ get-all_applied m next.effects i ∙ untouched i (map.get m i) next.effects (quiet j none other h i among)))
+    sound_beside m w (slice_index_or xs j none) (sound j none h)
+    (λ i among. ap (λ n. map.get n i) applied ∙ get-all_applied m next.effects i ∙ untouched i (map.get m i) next.effects (quiet j none other h i among)))
     here
   where
     b : IsBegun (seen_log x)

@@ -1,19 +1,18 @@
 -- The log that a node received of a client, while records come and go.
-use Rattle.std.proofs.Common.{◌≡◌, ◌≤◌, ◌<◌, ◌+◌, ◌-◌, ℕ, zero, suc, nat_lt, if◌then◌else◌, drop-drop, Bool, true, false, List, [], ◌∷◌, ◌++◌, length, take, drop, Option, Some, None, OnOk, Result, Ok, Err, option_map, refl, sym, ap, subst, ◌∙◌, is_some, true≢false, arith}
+use Rattle.std.proofs.Common.{◌≡◌, ◌≤◌, ◌<◌, ◌+◌, ◌-◌, ℕ, zero, suc, nat_lt, if◌then◌else◌, drop-drop, false, List, [], ◌∷◌, ◌++◌, length, take, drop, Option, Some, None, option_map, refl, sym, ap, subst, ◌∙◌, is_some, true≢false, arith}
 use Rattle.std.proofs.lemmas.List.{drop-append-le, length-append, length-drop, length-take}
-use Rattle.std.proofs.lemmas.Option.{slice_get_within}
 use Rattle.std.specs.List.{slice_get}
 use Rattle.assise_record.specs.LogRecord.{LogRecord}
 use Rattle.assise_inode_table.specs.Contents.{InodeMap}
 use Rattle.assise_inode_table.specs.Effects.{all_applied}
 use Rattle.assise_inode_table.specs.Whole.{CanBeMadeWhole}
-use Rattle.assise_private_log.specs.NumberedLog.{NumberedLog, end, record_at, records_from, with_record, without_front, without_tail}
-use Rattle.assise_digest.specs.Pending.{IsNew, KeepsNoMore, StandsFor, forgotten, taken_in}
+use Rattle.assise_private_log.specs.NumberedLog.{end, record_at, with_record, without_front, without_tail}
+use Rattle.assise_digest.specs.Pending.{IsNew, StandsFor, forgotten, taken_in}
 use Rattle.assise_digest.specs.Region.{AreWhole, IsBegun, ReceivedLog, ahead, digested_further, first_effects, from_number, next_effects, up_to_number, with_more}
 use Rattle.assise_digest.specs.Sound.{IsSoundLog, StandsHere, seen_log}
 use Rattle.assise_digest.specs.declared.pending.Pending.{Pending}
 use Rattle.assise_digest.specs.declared.received.Received.{Received}
-use Rattle.assise_digest.proofs.Standing.{keeps_no_more, next_is_new, stands_for_one_more, stands_for_the_rest}
+use Rattle.assise_digest.proofs.Standing.{next_is_new, stands_for_one_more, stands_for_the_rest}
 
 -- ---- lists
 
@@ -72,7 +71,6 @@ ahead_next l r b is =
   where
     next : (l.digested - l.log.first) + 1 ≡ (l.digested + 1) - l.log.first
     next = omega (arith, b.from_first)
-
 
 -- those before it went from the front
 pub ahead_front : (l : ReceivedLog) (to : ℕ) → l.log.first ≤ to → to ≤ l.digested → ahead (from_number l to) ≡ ahead l
@@ -172,7 +170,6 @@ next_there l b h = go (record_at l.log l.digested) refl
     go : (o : Option LogRecord) → record_at l.log l.digested ≡ o → (r : LogRecord) × (Some r ≡ record_at l.log l.digested)
     go (Some r) is = (r, sym is)
     go None is = absurd (there l.log.records (l.digested - l.log.first) (omega (arith, b.from_first, h)) (sym (placed l b) ∙ is))
-
 
 pub sound_counted_next : (m : InodeMap) (x : Received) → IsSoundLog m x → x.digested < end x.log
     → IsSoundLog (all_applied m (next_effects (seen_log x))) (record { log = x.log; digested = x.digested + 1; pending = option_map (λ p. forgotten p x.digested (next_effects (seen_log x))) x.pending })

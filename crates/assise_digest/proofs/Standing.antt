@@ -1,5 +1,5 @@
 -- What is kept beside the area stands for the records that aren't digested.
-use Rattle.std.proofs.Common.{◌≡◌, ◌≤◌, ◌<◌, ◌+◌, ◌||◌, ◌==◌, ℕ, suc, Bool, true, false, if◌then◌else◌, List, [], ◌∷◌, ◌++◌, length, Option, Some, None, refl, sym, ap, subst, ◌∙◌, is_some, true≢false, arith}
+use Rattle.std.proofs.Common.{◌≡◌, ◌≤◌, ◌<◌, ◌+◌, ◌||◌, ◌==◌, ℕ, suc, Bool, true, false, if◌then◌else◌, List, [], ◌∷◌, ◌++◌, length, Option, Some, None, refl, sym, ap, ◌∙◌, is_some, true≢false, arith}
 use Rattle.std.proofs.lemmas.Bool.{eq-eqb, ne_eqb}
 use Rattle.std.proofs.lemmas.List.{map-append}
 use Rattle.std.specs.Option.{option_or, option_map_or}
@@ -12,7 +12,7 @@ use Rattle.assise_inode_table.specs.Effects.{all_applied, contains, touched, val
 use Rattle.assise_inode_table.proofs.Making.{contains-append, untouched, value_after-append}
 use Rattle.assise_inode_table.proofs.Applying.{get-all_applied}
 use Rattle.assise_digest.specs.Ahead.{all_effects, last_touch}
-use Rattle.assise_digest.specs.Pending.{IsNew, KeepsNoMore, StandsFor, all_held, forgotten, noted, seen, taken_in}
+use Rattle.assise_digest.specs.Pending.{IsNew, KeepsNoMore, StandsFor, all_held, forgotten, seen, taken_in}
 use Rattle.assise_digest.specs.declared.pending.Pending.{Pending}
 use Rattle.assise_digest.proofs.Keeping.{all_held_point, forgotten_point, get-noted, kept_at, left_at, point}
 
@@ -129,7 +129,7 @@ seen_after p m n rs s i =
 pub stands_for_one_more : (p : Pending) (m : InodeMap) (n k : ℕ) (rs : List LogRecord) (r : LogRecord) → StandsFor p m n rs → k ≡ n + length rs → StandsFor (taken_in p m k r.effects) m n (rs ++ r ∷ [])
 stands_for_one_more p m n k rs r s is =
     from_points (taken_in p m k r.effects) m n (rs ++ r ∷ []) (λ i.
-        at_one i (contains (touched r.effects) i) refl ∙ ap (standing_at m n (rs ++ r ∷ []) i) (sym (last_touch-append n rs r i)))
+    at_one i (contains (touched r.effects) i) refl ∙ ap (standing_at m n (rs ++ r ∷ []) i) (sym (last_touch-append n rs r i)))
   where
     es : List Effect
     es = r.effects
@@ -152,15 +152,15 @@ stands_for_one_more p m n k rs r s is =
     at_one i true e =
         ap (λ o. (o, map.get (taken_in p m k es).inodes i)) (get-noted (all_held p m k es).last k es i ∙ ap (λ c. if c then Some k else map.get (all_held p m k es).last i) e ∙ ap Some is)
         ∙ ap (λ v. (Some (n + length rs), v))
-          (value i ∙ ap (λ v. value_after i v es) (held_value i true e ∙ ap (λ x. (kept_at m k i x).1) (point_of p m n rs s i) ∙ before i (last_touch n rs i) refl)
-          ∙ sym (value_after_one_more i (map.get m i) rs r))
+        (value i ∙ ap (λ v. value_after i v es) (held_value i true e ∙ ap (λ x. (kept_at m k i x).1) (point_of p m n rs s i) ∙ before i (last_touch n rs i) refl)
+        ∙ sym (value_after_one_more i (map.get m i) rs r))
     at_one i false e =
         ap (λ o. (o, map.get (taken_in p m k es).inodes i))
-          (get-noted (all_held p m k es).last k es i ∙ ap (λ c. if c then Some k else map.get (all_held p m k es).last i) e ∙ held_last i false e ∙ s.last i)
+        (get-noted (all_held p m k es).last k es i ∙ ap (λ c. if c then Some k else map.get (all_held p m k es).last i) e ∙ held_last i false e ∙ s.last i)
         ∙ ap (λ v. (last_touch n rs i, v))
-          (value i ∙ untouched i (map.get (all_held p m k es).inodes i) es e ∙ held_value i false e ∙ s.values i
-          ∙ ap (λ v. if is_some (last_touch n rs i) then v else None)
-            (sym (untouched i (value_after i (map.get m i) (all_effects rs)) es e) ∙ sym (value_after_one_more i (map.get m i) rs r)))
+        (value i ∙ untouched i (map.get (all_held p m k es).inodes i) es e ∙ held_value i false e ∙ s.values i
+        ∙ ap (λ v. if is_some (last_touch n rs i) then v else None)
+        (sym (untouched i (value_after i (map.get m i) (all_effects rs)) es e) ∙ sym (value_after_one_more i (map.get m i) rs r)))
 
 -- ---- a record is digested
 
@@ -168,16 +168,16 @@ stands_for_one_more p m n k rs r s is =
 pub stands_for_the_rest : (p : Pending) (m : InodeMap) (n : ℕ) (r : LogRecord) (rs : List LogRecord) → StandsFor p m n (r ∷ rs) → StandsFor (forgotten p n r.effects) (all_applied m r.effects) (n + 1) rs
 stands_for_the_rest p m n r rs s =
     from_points (forgotten p n r.effects) (all_applied m r.effects) (n + 1) rs (λ i.
-        forgotten_point n p r.effects i
-        ∙ ap (λ x. if contains (touched r.effects) i then left_at n x else x) (point_of p m n (r ∷ rs) s i)
-        ∙ at_one i (last_touch (n + 1) rs i) refl (contains (touched r.effects) i))
+    forgotten_point n p r.effects i
+    ∙ ap (λ x. if contains (touched r.effects) i then left_at n x else x) (point_of p m n (r ∷ rs) s i)
+    ∙ at_one i (last_touch (n + 1) rs i) refl (contains (touched r.effects) i))
   where
     value : (i : ℕ) → value_after i (map.get m i) (r.effects ++ all_effects rs) ≡ value_after i (map.get (all_applied m r.effects) i) (all_effects rs)
     value i = value_after-append i (map.get m i) r.effects (all_effects rs) ∙ ap (λ v. value_after i v (all_effects rs)) (sym (get-all_applied m r.effects i))
 
     at_one : (i : ℕ) (o : Option ℕ) → last_touch (n + 1) rs i ≡ o → (b : Bool)
         → (if b then left_at n (standing_at m n (r ∷ rs) i (option_or o (if b then Some n else None))) else standing_at m n (r ∷ rs) i (option_or o (if b then Some n else None)))
-          ≡ standing_at (all_applied m r.effects) (n + 1) rs i o
+        ≡ standing_at (all_applied m r.effects) (n + 1) rs i o
     at_one i (Some k) is true =
         ap (λ c. if c then (None, None) else standing_at m n (r ∷ rs) i (Some k)) (ne_eqb k n (λ e. absurd (omega (arith, e, (within (n + 1) rs i k is).0))))
         ∙ ap (λ v. (Some k, v)) (value i)

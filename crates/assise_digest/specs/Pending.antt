@@ -1,6 +1,6 @@
 -- The values of the inodes that records touch, kept beside the area until the records are digested.
 -- Assise (OSDI 2020), section 3: a process reads its update log over the shared areas.
-use Rattle.std.specs.Prelude.{◌≡◌, ℕ, ◌==◌, Bool, true, false, if◌then◌else◌, List, [], ◌∷◌, Option, Some, None, is_some, IsSome}
+use Rattle.std.specs.Prelude.{◌≡◌, ℕ, ◌==◌, Bool, true, false, if◌then◌else◌, List, [], ◌∷◌, Option, None, is_some, IsSome}
 use Rattle.std.specs.Option.{option_map_or}
 use Rattle.std.specs.FinMap as map
 use Rattle.std.specs.Ordering.{nat_cmp}
@@ -67,3 +67,16 @@ taken_in p m number es = record { inodes = all_applied (all_held p m number es).
 pub record StandsFor (p : Pending) (m : InodeMap) (n : ℕ) (rs : List LogRecord) : Type 0 where
   pub last : (i : ℕ) → map.get p.last i ≡ last_touch n rs i
   pub values : (i : ℕ) → map.get p.inodes i ≡ (if is_some (last_touch n rs i) then value_after i (map.get m i) (all_effects rs) else None)
+
+-- what is kept is what the effects make of the map: the value of each inode that one of them touches
+pub record Lays (p : Pending) (m : InodeMap) (es : List Effect) : Type 0 where
+  pub kept : (i : ℕ) → is_some (map.get p.last i) ≡ contains (touched es) i
+  pub values : (i : ℕ) → map.get p.inodes i ≡ (if contains (touched es) i then value_after i (map.get m i) es else None)
+
+-- the map with what is kept in place of what it has
+abbrev pub overlaid_with : InodeMap → InodeMap → List (ℕ × ℕ) → InodeMap
+overlaid_with m kept [] = m
+overlaid_with m kept (e ∷ es) = with_value (overlaid_with m kept es) e.0 (map.get kept e.0)
+
+abbrev pub overlaid : InodeMap → Pending → InodeMap
+overlaid m p = overlaid_with m p.inodes (map.entries p.last)

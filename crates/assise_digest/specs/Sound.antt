@@ -1,5 +1,5 @@
 -- What holds of the parts of a region.
-use Rattle.std.specs.Prelude.{◌≡◌, ℕ, ◌<◌, List, map, length, slice_index_or, Option, Some, None, is_some}
+use Rattle.std.specs.Prelude.{ℕ, ◌<◌, List, map, length, slice_index_or, Option, Some, None, is_some}
 use Rattle.assise_record.specs.LogRecord.{LogRecord}
 use Rattle.assise_inode_table.specs.Contents.{InodeMap}
 use Rattle.assise_digest.specs.Pending.{StandsFor}

@@ -2,6 +2,8 @@
 #![tactic(auto)]
 
 mod numbers;
+pub mod overlay;
 mod pending;
 mod received;
 pub mod region;
+mod spelled;

@@ -67,13 +67,7 @@ impl Pending {
 
     /// Keeps an inode as it is in the area, unless it is kept already. The one refusal is [`Refusal::OutOfMemory`], and
     /// it leaves all as it was.
-    fn hold(
-        &mut self,
-        alloc: Global,
-        area: &Area,
-        number: u64,
-        inode: u64,
-    ) -> Result<(), Refusal>
+    fn hold(&mut self, alloc: Global, area: &Area, number: u64, inode: u64) -> Result<(), Refusal>
         requires no_more { KeepsNoMore self.old }
         ensures ok { OnOk result (self.new ≡ held self.old area.now.inodes number inode) }
         ensures err { OnErr result (self.new ≡ self.old) }
@@ -92,8 +86,8 @@ impl Pending {
     }
 
     /// Makes effects, on inodes that are kept then. Where memory runs out, what the record of this number is the last to
-    /// touch is more than there was.
-    fn make(
+    /// touch is more than there was, if the number is a new one.
+    pub(crate) fn make(
         &mut self,
         alloc: Global,
         area: &Area,
@@ -102,10 +96,9 @@ impl Pending {
     ) -> Result<(), Refusal>
         requires whole { CanBeMadeWhole effects.now }
         requires no_more { KeepsNoMore self.old }
-        requires fresh { IsNew self.old number }
         ensures ok_inodes { OnOk result (self.new.inodes ≡ all_applied (all_held self.old area.now.inodes number effects.now).inodes effects.now) }
         ensures ok_last { OnOk result (self.new.last ≡ (all_held self.old area.now.inodes number effects.now).last) }
-        ensures err { OnErr result (forgotten self.new number effects.now ≡ self.old) }
+        ensures err { IsNew self.old number → OnErr result (forgotten self.new number effects.now ≡ self.old) }
         ensures only_memory { IsOkUnless result OutOfMemory }
     {
         for effect in effects {

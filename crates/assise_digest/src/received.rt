@@ -1,12 +1,14 @@
 // What a node received of a client's log.
-ghost use Rattle.std.specs.Prelude.{◌≡◌, ◌≢◌, ◌⊎◌, ◌+◌, ◌^◌, ◌<◌, ◌≤◌, IfErr, IsOk, Option, Some, None, OnErr, OnOk, false, is_some, length, true, option_map, ℕ};
+ghost use Rattle.std.specs.Prelude.{◌≡◌, ◌≢◌, ◌⊎◌, ◌+◌, ◌^◌, ◌<◌, ◌≤◌, ◌++◌, IfErr, IsOk, IsOkUnless, List, Option, Some, None, OnErr, OnOk, false, is_some, length, true, option_map, ℕ};
 ghost use Rattle.assise_inode_table.specs.Contents.{InodeMap};
 ghost use Rattle.assise_inode_table.specs.Effects.{all_applied};
 ghost use Rattle.assise_inode_table.specs.Whole.{CanBeMadeWhole};
 ghost use Rattle.assise_names.specs.declared.refusal.Refusal.TheVariants.{LogFull, OutOfMemory};
 ghost use Rattle.assise_private_log.specs.NumberedLog.{end};
-ghost use Rattle.assise_digest.specs.Region.{IsBegun, digested_further, from_number, next_effects, up_to_number, with_more};
-ghost use Rattle.assise_digest.specs.Pending.{forgotten};
+ghost use Rattle.assise_digest.specs.Region.{AreWhole, IsBegun, ahead_below, digested_further, from_number, next_effects, up_to_number, with_more};
+ghost use Rattle.assise_record.specs.declared.effect.Effect.{Effect};
+ghost use Rattle.assise_digest.specs.Ahead.{all_effects};
+ghost use Rattle.assise_digest.specs.Pending.{KeepsNoMore, Lays, forgotten};
 ghost use Rattle.assise_digest.specs.Sound.{IsKeptFor, IsSoundLog, seen_log};
 
 use crate::pending::Pending;
@@ -122,5 +124,31 @@ impl Received {
         ensures sound { (m : InodeMap) → IsSoundLog m self.old → IsSoundLog m self.new }
     {
         self.log.cut_tail(from);
+    }
+
+    /// Takes in what the records make that aren't digested, of those numbered below what is acknowledged. Where memory
+    /// runs out, some of it may be taken in.
+    pub(crate) fn lay(
+        &self,
+        alloc: Global,
+        area: &Area,
+        acked: u64,
+        pending: &mut Pending,
+    ) -> Result<(), Refusal>
+        requires begun { IsBegun (seen_log self.now) }
+        requires whole { AreWhole self.now.log.records }
+        requires no_more { KeepsNoMore pending.old }
+        ensures no_more { OnOk result (KeepsNoMore pending.new) }
+        ensures lays { (es : List Effect) → Lays pending.old area.now.inodes es → OnOk result (Lays pending.new area.now.inodes (es ++ all_effects (ahead_below (seen_log self.now) acked))) }
+        ensures only_memory { IsOkUnless result OutOfMemory }
+    {
+        let to = acked.clamp(self.digested, self.log.end());
+        for number in self.digested..to {
+            let Some(record) = self.log.get(number) else {
+                unreachable!()
+            };
+            pending.make(alloc, area, 0, record.effects())?;
+        }
+        Ok(())
     }
 }

@@ -1,13 +1,19 @@
 // A node's region.
 ghost use Rattle.std.specs.Prelude.{◌≡◌, ◌↔◌, ◌⊎◌, ◌+◌, ◌^◌, ◌<◌, ◌≤◌, [], ◌∷◌, ◌++◌, IfErr, IfOk, IsOk, IsOkUnless, List, None, Some, OnErr, OnOk, false, true, length, option_copied, ℕ};
 ghost use Rattle.std.specs.FinMap as map;
+ghost use Rattle.assise_inode_table.specs.Effects.{all_applied};
 ghost use Rattle.assise_inode_table.specs.Opening.{opening};
+ghost use Rattle.assise_inode_table.specs.Spelled.{Spells};
 ghost use Rattle.assise_inode_table.specs.Whole.{CanBeMadeWhole};
 ghost use Rattle.assise_names.specs.declared.refusal.Refusal.TheVariants.{LogFull, OutOfMemory};
 ghost use Rattle.assise_private_log.specs.NumberedLog.{end};
-ghost use Rattle.assise_digest.specs.Region.{AreNotBelow, AreWhole, HasClient, HasRoom, IsBegun, IsFull, IsQuiet, TouchApart, ahead_below, alone, digested_by, from_number, log_of, read_by, up_to_number, with_client, with_inode, with_log, with_more, without_last_client};
+ghost use Rattle.assise_seq_tree.specs.Tree.{Tree as PlainTree};
+ghost use Rattle.assise_digest.specs.Ahead.{all_effects};
+ghost use Rattle.assise_digest.specs.Pending.{Lays};
+ghost use Rattle.assise_digest.specs.Region.{AreNotBelow, AreWhole, HasClient, HasRoom, IsBegun, IsFull, IsQuiet, TouchApart, ahead, ahead_below, all_ahead, alone, digested_by, from_number, log_of, read_by, up_to_number, with_client, with_inode, with_log, with_more, without_last_client};
 ghost use Rattle.assise_digest.specs.Sound.{IsSoundLog, seen_log};
 
+use crate::overlay::Overlay;
 use crate::pending::Pending;
 use crate::received::Received;
 use assise_area::area::Area;
@@ -17,6 +23,7 @@ use assise_inode_table::table::ROOT;
 use assise_names::refusal::Refusal;
 use assise_private_log::log::Log;
 use assise_record::record::Record;
+use assise_seq_tree::tree::Tree;
 use std::alloc::Global;
 use std::marker::Model;
 
@@ -54,7 +61,7 @@ impl Region {
         ensures only_memory { IsOkUnless result OutOfMemory }
     {
         let mut area = Area::new(alloc, hot_capacity)?;
-        area.insert(ROOT, Inode::new_directory(alloc))?;
+        area.put(ROOT, Inode::new_directory(alloc))?;
         Ok(Region {
             area,
             logs: Vec::new(alloc),
@@ -107,6 +114,17 @@ impl Region {
         self.area.touch(inode);
     }
 
+    /// Sets how many inodes may be hot, 1 to 4,096: of more than that the longest unused ones are cold then. The one
+    /// refusal is [`Refusal::OutOfMemory`], where some have to cool, and it leaves the region as it was, and as many hot.
+    pub fn set_hot_capacity(&mut self, capacity: usize) -> Result<(), Refusal>
+        requires least { 1 ≤ capacity }
+        requires most { capacity ≤ 4096 }
+        ensures same { self.new ≡ self.old }
+        ensures only_memory { IsOkUnless result OutOfMemory }
+    {
+        self.area.set_hot_capacity(capacity)
+    }
+
     /// An inode as a client that lives here reads it: after all its records. It costs one look-up in what they make, and
     /// one in the inodes.
     pub fn read(&self, client: usize, inode: u64) -> Option<&Inode>
@@ -119,6 +137,43 @@ impl Region {
             Some(pending) => pending.value(inode, base),
             None => base,
         }
+    }
+
+    /// The inodes as a client that lives here reads them: after all its records.
+    pub fn inodes_of(&self, client: usize) -> Overlay<'_>
+        requires client { HasClient self.now client }
+        requires at_home { (log_of self.now client).at_home ≡ true }
+        ensures { result ≡ all_applied self.now.inodes (all_effects (ahead (log_of self.now client))) }
+    {
+        let Some(pending) = &self.logs[client - 1].pending else {
+            unreachable!()
+        };
+        Overlay::new(&self.area, pending)
+    }
+
+    /// The tree that this region alone gives: that of its inodes after the records that aren't digested and are
+    /// acknowledged. There is a number for each client, from client 1 on, below which its records are acknowledged. It costs
+    /// the tree and those records. The one refusal is [`Refusal::OutOfMemory`].
+    pub fn rebuild(&self, alloc: Global, acked: &[u64]) -> Result<Tree, Refusal>
+        ghost t: { PlainTree }
+        requires spelled { Spells (alone self.now acked.now) t }
+        ensures tree { IfOk result (λ tree. tree ≡ t) }
+        ensures only_memory { IsOkUnless result OutOfMemory }
+    {
+        let ahead = self.all_ahead(alloc, acked)?;
+        Overlay::new(&self.area, &ahead).tree(alloc)
+    }
+
+    /// What the records make that aren't digested and are acknowledged, client by client.
+    fn all_ahead(&self, alloc: Global, acked: &[u64]) -> Result<Pending, Refusal>
+        ensures lays { IfOk result (λ ahead. Lays ahead self.now.inodes (all_ahead self.now.logs acked.now)) }
+        ensures only_memory { IsOkUnless result OutOfMemory }
+    {
+        let mut ahead = Pending::new(alloc);
+        for place in 0..self.logs.len().min(acked.len()) {
+            self.logs[place].lay(alloc, &self.area, acked[place], &mut ahead)?;
+        }
+        Ok(ahead)
     }
 
     /// Adds a client that lives on another node, with what is received of its log, digested up to a number. The one
@@ -219,7 +274,7 @@ impl Region {
         ensures asked { OnErr result (map.get self.old.inodes inode ≡ None) }
         ensures only_memory { IsOkUnless result OutOfMemory }
     {
-        self.area.insert(inode, content)?;
+        self.area.put(inode, content)?;
         Ok(())
     }
 
@@ -290,11 +345,7 @@ impl Region {
         let most = self.count_ahead(client, acked).min(at_most);
         for count in 0..most {
             if let Err(refusal) = self.digest_next(client) {
-                return if count == 0 {
-                    Err(refusal)
-                } else {
-                    Ok(count)
-                };
+                return if count == 0 { Err(refusal) } else { Ok(count) };
             }
         }
         Ok(most)

@@ -1,13 +1,13 @@
 -- Writes, reads and cuts of bytes in blocks.
-use Rattle.std.proofs.Common.{◌≡◌, ℕ, zero, suc, ◌+◌, ◌-◌, ◌*◌, ◌/◌, ◌<◌, ◌≤◌, List, [], ◌∷◌, ◌++◌, length, take, drop, replicate, refl, ap, sym, ◌∙◌, subst, get_or, arith, min, max, append_assoc, append-nil, length-append, take-append-drop}
-use Rattle.std.proofs.lemmas.List.{length-take, length-drop, length-replicate, take_all, drop_all, take-take, drop-take, drop-drop, drop_more, take-append-le}
+use Rattle.std.proofs.Common.{◌≡◌, ℕ, zero, suc, ◌+◌, ◌-◌, ◌*◌, ◌/◌, ◌%◌, ◌<◌, ◌≤◌, ◌≢◌, List, [], ◌∷◌, ◌++◌, length, take, drop, replicate, refl, ap, sym, ◌∙◌, subst, get_or, set, arith, min, max, append_assoc, append-nil, length-append, take-append-drop}
+use Rattle.std.proofs.lemmas.List.{length-take, length-drop, length-replicate, take_all, drop_all, take-take, drop-take, drop-drop, drop_more, take-append-le, take_more_set}
 use Rattle.std.proofs.lemmas.List.Folds.{concat-append}
 use Rattle.std.proofs.Math.Seq.{take-add}
 use Rattle.std.specs.Int.{div_ceil}
 use Rattle.std.specs.List.{concat}
 use Rattle.assise_seq_tree.specs.Contents.{bytes_from, overwritten}
 use Rattle.assise_seq_tree.proofs.Reading.{length-overwritten}
-use Rattle.assise_inode_table.specs.Blocks.{IsCut, AreBlocks}
+use Rattle.assise_inode_table.specs.Blocks.{IsCut}
 use Rattle.assise_inode_table.proofs.Cutting.{cut_take, cut_drop, cut_append, cut_one, concat_take, concat_drop, least, most, full, as_many}
 
 -- ---- plain lists
@@ -169,94 +169,90 @@ over_room bs o new count cut is = omega (arith, is, length-overwritten (concat b
 -- ---- writes
 -- the blocks that a write reaches
 pub record Reach (bs : List (List ℕ)) (size o : ℕ) (new : List ℕ) (first past until : ℕ) : Type 0 where
-  pub blocks : AreBlocks bs size
+  pub cut : IsCut bs
+  pub bytes : size ≡ length (concat bs)
   pub held : 4096 * first ≤ size
   pub before : 4096 * first ≤ o
   pub behind : o + length new ≤ 4096 * past
   pub some : first < past
   pub stop : until ≡ min (length bs) past
 
-pub reach : (bs : List (List ℕ)) (size o : ℕ) (new : List ℕ) (first past until : ℕ) → AreBlocks bs size → first ≡ min size o / 4096 → past ≡ (o + length new - 1) / 4096 + 1
-    → until ≡ min (length bs) past → min size o < o + length new → Reach bs size o new first past until
-reach bs size o new first past until blocks f p u some =
-    record { blocks = blocks; held = omega arith; before = omega arith; behind = omega arith; some = omega arith; stop = u }
+pub reach : (bs : List (List ℕ)) (size o : ℕ) (new : List ℕ) (start held until : ℕ) → IsCut bs → size ≡ length (concat bs) → 0 < length new + (o - size) → start ≡ min size o → held ≡ length bs
+    → until ≡ min held ((o + length new - 1) / 4096 + 1) → Reach bs size o new (start / 4096) ((o + length new - 1) / 4096 + 1) until
+reach bs size o new start held until cut bytes some s h u =
+    record { cut = cut; bytes = bytes; held = omega arith; before = omega arith; behind = omega arith; some = omega arith; stop = omega (arith, h, u) }
 
-pub first_held : (bs : List (List ℕ)) (size o : ℕ) (new : List ℕ) (first past until : ℕ) → Reach bs size o new first past until → first ≤ until
-first_held bs size o new first past until r = omega (arith, most bs r.blocks.cut, r.blocks.bytes, r.held, r.some, r.stop)
+module _ {bs : List (List ℕ)} {size o : ℕ} {new : List ℕ} {first past until : ℕ} (r : Reach bs size o new first past until) where
+  pub first_held : first ≤ until
+  first_held = omega (arith, most bs r.cut, r.bytes, r.held, r.some, r.stop)
 
-pub cut_reached : (bs : List (List ℕ)) (size o : ℕ) (new : List ℕ) (first past until : ℕ) → Reach bs size o new first past until → IsCut (take (until - first) (drop first bs))
-cut_reached bs size o new first past until r = cut_take (drop first bs) (until - first) (cut_drop bs first r.blocks.cut)
+  pub until_held : until ≤ length bs
+  until_held = omega (arith, r.stop)
 
-reached_is : (bs : List (List ℕ)) (size o : ℕ) (new : List ℕ) (first past until : ℕ) → Reach bs size o new first past until
-    → concat (take (until - first) (drop first bs)) ≡ take (4096 * (until - first)) (drop (4096 * first) (concat bs))
-reached_is bs size o new first past until r =
-    let fits = first_held bs size o new first past until r in
-    concat_take (drop first bs) (until - first) (cut_drop bs first r.blocks.cut) (omega (arith, r.stop, length-drop first bs))
-    ∙ ap (take (4096 * (until - first))) (concat_drop bs first r.blocks.cut (omega (arith, r.stop, fits)))
+  pub cut_reached : IsCut (take (until - first) (drop first bs))
+  cut_reached = cut_take (drop first bs) (until - first) (cut_drop bs first r.cut)
 
-pub reached_held : (bs : List (List ℕ)) (size o : ℕ) (new : List ℕ) (first past until : ℕ) → Reach bs size o new first past until → length (concat (take (until - first) (drop first bs))) ≤ size
-reached_held bs size o new first past until r =
-    omega (arith, ap length (reached_is bs size o new first past until r), length-take (4096 * (until - first)) (drop (4096 * first) (concat bs)), length-drop (4096 * first) (concat bs), r.blocks.bytes)
+  reached_is : concat (take (until - first) (drop first bs)) ≡ take (4096 * (until - first)) (drop (4096 * first) (concat bs))
+  reached_is =
+      concat_take (drop first bs) (until - first) (cut_drop bs first r.cut) (omega (arith, r.stop, length-drop first bs))
+      ∙ ap (take (4096 * (until - first))) (concat_drop bs first r.cut (omega (arith, r.stop, first_held)))
 
-pub made_is : (bs : List (List ℕ)) (size o : ℕ) (new bytes : List ℕ) (first past until : ℕ) → Reach bs size o new first past until
-    → bytes ≡ overwritten (concat (take (until - first) (drop first bs))) (o - first * 4096) new
-    → bytes ≡ overwritten (take (4096 * past - 4096 * first) (drop (4096 * first) (concat bs))) (o - 4096 * first) new
-made_is bs size o new bytes first past until r is =
-    let fits = first_held bs size o new first past until r in
-    let region : take (4096 * (until - first)) (drop (4096 * first) (concat bs)) ≡ take (4096 * past - 4096 * first) (drop (4096 * first) (concat bs)) =
-    same_take (4096 * (until - first)) (4096 * past - 4096 * first) (drop (4096 * first) (concat bs))
-    (omega (arith, length-drop (4096 * first) (concat bs), most bs r.blocks.cut, r.stop, fits)) in
-    let same : o - first * 4096 ≡ o - 4096 * first = omega arith in
-    is ∙ ap (λ n. overwritten (concat (take (until - first) (drop first bs))) n new) same
-    ∙ ap (λ xs. overwritten xs (o - 4096 * first) new) (reached_is bs size o new first past until r ∙ region)
+  pub reached_held : length (concat (take (until - first) (drop first bs))) ≤ size
+  reached_held =
+      omega (arith, ap length reached_is, length-take (4096 * (until - first)) (drop (4096 * first) (concat bs)), length-drop (4096 * first) (concat bs), r.bytes)
 
-past_same : (bs : List (List ℕ)) (size o : ℕ) (new : List ℕ) (first past until : ℕ) → Reach bs size o new first past until → concat (drop until bs) ≡ drop (4096 * past) (concat bs)
-past_same bs size o new first past until r =
-    concat_drop bs until r.blocks.cut (omega (arith, r.stop)) ∙ same_drop (4096 * until) (4096 * past) (concat bs) (omega (arith, r.stop, most bs r.blocks.cut))
+  pub made_is : (bytes : List ℕ) → bytes ≡ overwritten (concat (take (until - first) (drop first bs))) (o - first * 4096) new
+      → bytes ≡ overwritten (take (4096 * past - 4096 * first) (drop (4096 * first) (concat bs))) (o - 4096 * first) new
+  made_is bytes is =
+      let region : take (4096 * (until - first)) (drop (4096 * first) (concat bs)) ≡ take (4096 * past - 4096 * first) (drop (4096 * first) (concat bs)) =
+      same_take (4096 * (until - first)) (4096 * past - 4096 * first) (drop (4096 * first) (concat bs))
+      (omega (arith, length-drop (4096 * first) (concat bs), most bs r.cut, r.stop, first_held)) in
+      let same : o - first * 4096 ≡ o - 4096 * first = omega arith in
+      is ∙ ap (λ n. overwritten (concat (take (until - first) (drop first bs))) n new) same
+      ∙ ap (λ xs. overwritten xs (o - 4096 * first) new) (reached_is ∙ region)
 
-pub written : (bs made : List (List ℕ)) (size o : ℕ) (new : List ℕ) (first past until : ℕ) → Reach bs size o new first past until
-    → concat made ≡ overwritten (take (4096 * past - 4096 * first) (drop (4096 * first) (concat bs))) (o - 4096 * first) new
-    → concat (take first bs ++ (made ++ drop until bs)) ≡ overwritten (concat bs) o new
-written bs made size o new first past until r is =
-    let fits = first_held bs size o new first past until r in
-    concat-append (take first bs) (made ++ drop until bs)
-    ∙ ap (λ zs. concat (take first bs) ++ zs) (concat-append made (drop until bs))
-    ∙ ap (λ zs. zs ++ (concat made ++ concat (drop until bs))) (concat_take bs first r.blocks.cut (omega (arith, r.stop, fits)))
-    ∙ ap (λ zs. take (4096 * first) (concat bs) ++ (zs ++ concat (drop until bs))) is
-    ∙ ap (λ zs. take (4096 * first) (concat bs) ++ (overwritten (take (4096 * past - 4096 * first) (drop (4096 * first) (concat bs))) (o - 4096 * first) new ++ zs)) (past_same bs size o new first past until r)
-    ∙ written_within (concat bs) (4096 * first) (4096 * past) o new (omega (arith, r.held, r.blocks.bytes)) r.before r.behind
+  past_same : concat (drop until bs) ≡ drop (4096 * past) (concat bs)
+  past_same =
+      concat_drop bs until r.cut (omega (arith, r.stop)) ∙ same_drop (4096 * until) (4096 * past) (concat bs) (omega (arith, r.stop, most bs r.cut))
 
-pub still_blocks : (bs made : List (List ℕ)) (size o : ℕ) (new : List ℕ) (first past until after : ℕ) → Reach bs size o new first past until → IsCut made
-    → concat made ≡ overwritten (take (4096 * past - 4096 * first) (drop (4096 * first) (concat bs))) (o - 4096 * first) new
-    → after ≡ max size (o + length new) → AreBlocks (take first bs ++ (made ++ drop until bs)) after
-still_blocks bs made size o new first past until after r cut is size_is =
-    let fits = first_held bs size o new first past until r in
-    let xs = concat bs in
-    let tail : 0 < length (drop until bs) → length (concat made) ≡ 4096 * length made = λ p.
-    let room : length (concat (take until bs)) ≡ 4096 * until = full bs until r.blocks.cut (omega (arith, length-drop until bs)) in
-    let front = concat_take bs until r.blocks.cut (omega (arith, r.stop)) in
-    let bytes : length (concat made) ≡ 4096 * (past - first) =
-    ap length is ∙ length-overwritten (take (4096 * past - 4096 * first) (drop (4096 * first) (concat bs))) (o - 4096 * first) new
-    ∙ omega (arith, length-take (4096 * past - 4096 * first) (drop (4096 * first) (concat bs)), length-drop (4096 * first) (concat bs), length-take (4096 * until) (concat bs), ap length front, room, r.stop, r.behind, r.before, r.some, length-drop until bs, p) in
-    omega (arith, bytes, as_many made (past - first) cut bytes) in
-    let head : length (concat (take first bs)) ≡ 4096 * length (take first bs) =
-    ap length (concat_take bs first r.blocks.cut (omega (arith, r.stop, fits))) ∙ omega (arith, length-take (4096 * first) (concat bs), length-take first bs, r.held, r.blocks.bytes, r.stop, fits) in
-    record {
-      cut = cut_append (take first bs) (made ++ drop until bs) (cut_take bs first r.blocks.cut) (cut_append made (drop until bs) cut (cut_drop bs until r.blocks.cut) tail) (λ p. head);
-      bytes = size_is ∙ omega (arith, r.blocks.bytes, length-overwritten (concat bs) o new) ∙ sym (ap length (written bs made size o new first past until r is));
-    }
+  pub written : (made : List (List ℕ)) → concat made ≡ overwritten (take (4096 * past - 4096 * first) (drop (4096 * first) (concat bs))) (o - 4096 * first) new
+      → concat (take first bs ++ (made ++ drop until bs)) ≡ overwritten (concat bs) o new
+  written made is =
+      concat-append (take first bs) (made ++ drop until bs)
+      ∙ ap (λ zs. concat (take first bs) ++ zs) (concat-append made (drop until bs))
+      ∙ ap (λ zs. zs ++ (concat made ++ concat (drop until bs))) (concat_take bs first r.cut (omega (arith, r.stop, first_held)))
+      ∙ ap (λ zs. take (4096 * first) (concat bs) ++ (zs ++ concat (drop until bs))) is
+      ∙ ap (λ zs. take (4096 * first) (concat bs) ++ (overwritten (take (4096 * past - 4096 * first) (drop (4096 * first) (concat bs))) (o - 4096 * first) new ++ zs)) past_same
+      ∙ written_within (concat bs) (4096 * first) (4096 * past) o new (omega (arith, r.held, r.bytes)) r.before r.behind
+
+  pub still_cut : (made : List (List ℕ)) → IsCut made → concat made ≡ overwritten (take (4096 * past - 4096 * first) (drop (4096 * first) (concat bs))) (o - 4096 * first) new
+      → IsCut (take first bs ++ (made ++ drop until bs))
+  still_cut made cut is =
+      let fits = first_held in
+      let tail : 0 < length (drop until bs) → length (concat made) ≡ 4096 * length made = λ p.
+      let room : length (concat (take until bs)) ≡ 4096 * until = full bs until r.cut (omega (arith, length-drop until bs)) in
+      let front = concat_take bs until r.cut (omega (arith, r.stop)) in
+      let bytes : length (concat made) ≡ 4096 * (past - first) =
+      ap length is ∙ length-overwritten (take (4096 * past - 4096 * first) (drop (4096 * first) (concat bs))) (o - 4096 * first) new
+      ∙ omega (arith, length-take (4096 * past - 4096 * first) (drop (4096 * first) (concat bs)), length-drop (4096 * first) (concat bs), length-take (4096 * until) (concat bs), ap length front, room, r.stop, r.behind, r.before, r.some, length-drop until bs, p) in
+      omega (arith, bytes, as_many made (past - first) cut bytes) in
+      let head : length (concat (take first bs)) ≡ 4096 * length (take first bs) =
+      ap length (concat_take bs first r.cut (omega (arith, r.stop, fits))) ∙ omega (arith, length-take (4096 * first) (concat bs), length-take first bs, r.held, r.bytes, r.stop, fits) in
+      cut_append (take first bs) (made ++ drop until bs) (cut_take bs first r.cut) (cut_append made (drop until bs) cut (cut_drop bs until r.cut) tail) (λ p. head)
 
 -- ---- reads
-pub end_held : (bs : List (List ℕ)) (size start end : ℕ) → AreBlocks bs size → start < end → end ≤ size → (end - 1) / 4096 + 1 ≤ length bs
-end_held bs size start end blocks some within = omega (arith, most bs blocks.cut, blocks.bytes)
+pub end_held : (bs : List (List ℕ)) (start end : ℕ) → IsCut bs → start < end → end ≤ length (concat bs) → (end - 1) / 4096 + 1 ≤ length bs
+end_held bs start end cut some within = omega (arith, most bs cut)
 
-pub part_of : (bs : List (List ℕ)) (size start end first until : ℕ) → AreBlocks bs size → start < end → end ≤ size → first ≡ start / 4096 → until ≡ (end - 1) / 4096 + 1
-    → bytes_from (start - first * 4096) (end - start) (concat (take (until - first) (drop first bs))) ≡ bytes_from start (end - start) (concat bs)
-part_of bs size start end first until blocks some within f u =
-    let held = end_held bs size start end blocks some within in
+pub part_of : (bs : List (List ℕ)) (start end : ℕ) → IsCut bs → start < end → end ≤ length (concat bs)
+    → bytes_from (start - start / 4096 * 4096) (end - start) (concat (take ((end - 1) / 4096 + 1 - start / 4096) (drop (start / 4096) bs))) ≡ bytes_from start (end - start) (concat bs)
+part_of bs start end cut some within =
+    let first = start / 4096 in
+    let until = (end - 1) / 4096 + 1 in
+    let held = end_held bs start end cut some within in
     let part : concat (take (until - first) (drop first bs)) ≡ take (4096 * (until - first)) (drop (4096 * first) (concat bs)) =
-    concat_take (drop first bs) (until - first) (cut_drop bs first blocks.cut) (omega (arith, length-drop first bs, held))
-    ∙ ap (take (4096 * (until - first))) (concat_drop bs first blocks.cut (omega (arith, held))) in
+    concat_take (drop first bs) (until - first) (cut_drop bs first cut) (omega (arith, length-drop first bs, held))
+    ∙ ap (take (4096 * (until - first))) (concat_drop bs first cut (omega (arith, held))) in
     let same : start - first * 4096 ≡ start - 4096 * first = omega arith in
     let room : 4096 * (until - first) ≡ (start - 4096 * first) + (4096 * (until - first) - (start - 4096 * first)) = omega arith in
     ap (λ n. bytes_from n (end - start) (concat (take (until - first) (drop first bs)))) same
@@ -266,16 +262,23 @@ part_of bs size start end first until blocks some within f u =
     ∙ take-take (end - start) (4096 * (until - first) - (start - 4096 * first)) (drop (start - 4096 * first) (drop (4096 * first) (concat bs))) (omega arith)
     ∙ ap (take (end - start)) (drop-drop (start - 4096 * first) (4096 * first) (concat bs) ∙ ap (λ n. drop n (concat bs)) (omega arith))
 
--- ---- cuts
-pub cut_between : (bs : List (List ℕ)) (size k : ℕ) → IsCut bs → size ≤ length (concat bs) → size ≡ 4096 * k → AreBlocks (take k bs) size
-cut_between bs size k cut within e =
-    let held : k ≤ length bs = omega (arith, most bs cut) in
-    record { cut = cut_take bs k cut; bytes = sym (ap length (concat_take bs k cut held) ∙ omega (arith, length-take (4096 * k) (concat bs))) }
+-- a read that starts before the size reads the bytes up to it
+pub read_within : (xs : List ℕ) (size offset most start end : ℕ) → size ≤ length xs → start ≡ min size offset → end ≡ start + min (size - start) most → start < end
+    → bytes_from start (end - start) xs ≡ bytes_from offset most (take size xs)
+read_within xs size offset most start end held s e some =
+    let at : start ≡ offset = omega arith in
+    let ys = drop offset xs in
+    let left = size - offset in
+    let whole : size ≡ offset + left = omega arith in
+    let count : min most (length (take left ys)) ≡ min (end - start) (length (take left ys)) = omega (arith, length-take left ys, length-drop offset xs) in
+    sym (ap (λ n. take most (drop offset (take n xs))) whole ∙ ap (take most) (drop-take offset left xs) ∙ same_take most (end - start) (take left ys) count
+    ∙ take-take (end - start) left ys (omega arith) ∙ ap (λ n. take (end - start) (drop n xs)) (sym at))
 
-pub bytes_between : (bs : List (List ℕ)) (size k : ℕ) → IsCut bs → size ≤ length (concat bs) → size ≡ 4096 * k → concat (take k bs) ≡ take size (concat bs)
-bytes_between bs size k cut within e =
-    let held : k ≤ length bs = omega (arith, most bs cut) in
-    concat_take bs k cut held ∙ ap (λ n. take n (concat bs)) (sym e)
+-- ---- cuts
+pub bytes_between : (bs : List (List ℕ)) (size : ℕ) → IsCut bs → size ≤ length (concat bs) → size % 4096 ≡ 0 → concat (take (size / 4096) bs) ≡ take size (concat bs)
+bytes_between bs size cut within e =
+    let held : size / 4096 ≤ length bs = omega (arith, most bs cut) in
+    concat_take bs (size / 4096) cut held ∙ ap (λ n. take n (concat bs)) (omega arith)
 
 -- the first block has so many bytes
 first_long : (rest : ℕ) (b : List ℕ) (bs : List (List ℕ)) → IsCut (b ∷ bs) → rest ≤ length (concat (b ∷ bs)) → rest < 4096 → rest ≤ length b
@@ -305,18 +308,23 @@ block_taken bs k rest d cut held within small =
 one_more : (xs : List (List ℕ)) (y : List ℕ) → concat (xs ++ y ∷ []) ≡ concat xs ++ y
 one_more xs y = concat-append xs (y ∷ []) ∙ ap (λ zs. concat xs ++ zs) (append-nil y)
 
-pub bytes_within : (bs cs : List (List ℕ)) (size k rest : ℕ) (d : List ℕ) → IsCut bs → size ≤ length (concat bs) → size ≡ 4096 * k + rest → 0 < rest → rest < 4096 → k < length bs
-    → cs ≡ take k bs ++ take rest (get_or bs k d) ∷ [] → concat cs ≡ take size (concat bs)
-bytes_within bs cs size k rest d cut within e some small held is =
-    ap concat is ∙ one_more (take k bs) (take rest (get_or bs k d)) ∙ block_taken bs k rest d cut held (omega arith) small ∙ ap (λ n. take n (concat bs)) (sym e)
+pub last_held : (bs : List (List ℕ)) (size : ℕ) → IsCut bs → size ≤ length (concat bs) → size % 4096 ≢ 0 → size / 4096 < length bs
+last_held bs size cut within some = omega (arith, most bs cut)
 
-pub cut_within : (bs cs : List (List ℕ)) (size k rest : ℕ) (d : List ℕ) → IsCut bs → size ≤ length (concat bs) → size ≡ 4096 * k + rest → 0 < rest → rest < 4096 → k < length bs
-    → cs ≡ take k bs ++ take rest (get_or bs k d) ∷ [] → AreBlocks cs size
-cut_within bs cs size k rest d cut within e some small held is =
-    let long = block_long bs k rest d cut held (omega arith) small in
+pub cut_within : (bs : List (List ℕ)) (size : ℕ) (b d : List ℕ) → IsCut bs → size ≤ length (concat bs) → size % 4096 ≢ 0
+    → b ≡ take (size % 4096) (get_or bs (size / 4096) d) → IsCut (take (size / 4096 + 1) (set bs (size / 4096) b))
+cut_within bs size b d cut within some part =
+    let k = size / 4096 in
+    let held = last_held bs size cut within some in
+    let long = block_long bs k (size % 4096) d cut held (omega arith) (omega arith) in
+    let last : length b ≡ size % 4096 = ap length part ∙ omega (arith, length-take (size % 4096) (get_or bs k d)) in
     let room : length (concat (take k bs)) ≡ 4096 * length (take k bs) = full bs k cut held ∙ omega (arith, length-take k bs) in
-    let last : length (take rest (get_or bs k d)) ≡ rest = omega (arith, length-take rest (get_or bs k d)) in
-    record {
-      cut = subst IsCut (sym is) (cut_append (take k bs) (take rest (get_or bs k d) ∷ []) (cut_take bs k cut) (cut_one (take rest (get_or bs k d)) (omega arith) (omega arith)) (λ p. room));
-      bytes = sym (ap length (bytes_within bs cs size k rest d cut within e some small held is) ∙ omega (arith, length-take size (concat bs)));
-    }
+    subst IsCut (sym (take_more_set bs k b held)) (cut_append (take k bs) (b ∷ []) (cut_take bs k cut) (cut_one b (omega arith) (omega arith)) (λ p. room))
+
+pub bytes_within : (bs : List (List ℕ)) (size : ℕ) (b d : List ℕ) → IsCut bs → size ≤ length (concat bs) → size % 4096 ≢ 0
+    → b ≡ take (size % 4096) (get_or bs (size / 4096) d) → concat (take (size / 4096 + 1) (set bs (size / 4096) b)) ≡ take size (concat bs)
+bytes_within bs size b d cut within some part =
+    let k = size / 4096 in
+    let held = last_held bs size cut within some in
+    ap concat (take_more_set bs k b held) ∙ one_more (take k bs) b ∙ ap (λ zs. concat (take k bs) ++ zs) part
+    ∙ block_taken bs k (size % 4096) d cut held (omega arith) (omega arith) ∙ ap (λ n. take n (concat bs)) (omega arith)

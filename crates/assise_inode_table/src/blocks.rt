@@ -1,8 +1,8 @@
 // Blocks of bytes.
-ghost use Rattle.std.specs.Prelude.{◌≡◌, ◌+◌, ◌*◌, ◌^◌, ◌<◌, ◌≤◌, ◌++◌, IfOk, OnErr, OnOk, length, take, drop};
+ghost use Rattle.std.specs.Prelude.{◌≡◌, ◌+◌, ◌-◌, ◌*◌, ◌^◌, ◌<◌, ◌≤◌, ◌++◌, IfOk, OnErr, OnOk, length, take, drop};
 ghost use Rattle.std.specs.List.{concat};
 ghost use Rattle.assise_seq_tree.specs.Contents.{bytes_from, overwritten};
-ghost use Rattle.assise_inode_table.specs.Blocks.{AreBlocks, IsCut};
+ghost use Rattle.assise_inode_table.specs.Blocks.{IsCut};
 
 use assise_seq_tree::contents;
 use bytes::Bytes;
@@ -99,17 +99,6 @@ pub fn piece(
     Ok(Bytes::from_vec(joined(alloc, blocks, offset, count)?)?)
 }
 
-/// Other owners of the same blocks.
-pub fn shared(alloc: Global, blocks: &[Bytes]) -> Result<Vec<Bytes>, AllocError>
-    ensures { IfOk result (λ shared. shared.items ≡ blocks.now) }
-{
-    let mut shared = Vec::with_capacity(alloc, blocks.len())?;
-    for block in blocks {
-        shared.push(block.clone()?)?;
-    }
-    Ok(shared)
-}
-
 /// Puts blocks in the place of a part of a list. On an error the list is as it was.
 pub fn replace(
     blocks: &mut Vec<Bytes>,
@@ -131,11 +120,35 @@ pub fn replace(
     Ok(())
 }
 
+/// Writes bytes at an offset, and zeros before them where there was nothing. The blocks that the write reaches are made
+/// anew, and the others stay. On an error the list is as it was.
+pub fn overwrite(
+    alloc: Global,
+    blocks: &mut Vec<Bytes>,
+    size: usize,
+    offset: usize,
+    new: &[u8],
+) -> Result<(), AllocError>
+    requires shape { IsCut blocks.old.items }
+    requires bytes { size ≡ length (concat blocks.old.items) }
+    requires some { 0 < length new.now + (offset - size) }
+    requires fits { offset + length new.now < 2 ^ 64 }
+    ensures shape { OnOk result (IsCut blocks.new.items) }
+    ensures bytes { OnOk result (concat blocks.new.items ≡ overwritten (concat blocks.old.items) offset new.now) }
+    ensures err { OnErr result (blocks.new.items ≡ blocks.old.items) }
+{
+    let first = size.min(offset) / BLOCK;
+    let until = blocks.len().min((offset + new.len() - 1) / BLOCK + 1);
+    let made = overwritten(alloc, &blocks[first..until], offset - first * BLOCK, new)?;
+    replace(blocks, first, until, made)
+}
+
 /// Cuts blocks to a size. What stays of the last block is shared with its other owners.
+#[tactic(auto, using(crate::proofs::Cutting::cut_take, crate::proofs::Writing::bytes_between, crate::proofs::Writing::last_held, crate::proofs::Writing::cut_within, crate::proofs::Writing::bytes_within))]
 pub fn shorten(blocks: &mut Vec<Bytes>, size: usize)
     requires shape { IsCut blocks.old.items }
     requires within { size ≤ length (concat blocks.old.items) }
-    ensures shape { AreBlocks blocks.new.items size }
+    ensures shape { IsCut blocks.new.items }
     ensures bytes { concat blocks.new.items ≡ take size (concat blocks.old.items) }
 {
     let full = size / BLOCK;

@@ -3,33 +3,29 @@ ghost use Rattle.std.specs.Prelude.{◌≡◌, ◌+◌, ◌-◌, ◌^◌, ◌<�
 ghost use Rattle.assise_names.specs.declared.refusal.Refusal.TheVariants.{OutOfMemory};
 ghost use Rattle.assise_seq_tree.specs.Contents.{bytes_from, overwritten, resized};
 
-use crate::blocks;
-use crate::blocks::BLOCK;
+use crate::shared_blocks::SharedBlocks;
 use assise_names::byte_string::ByteString;
 use assise_names::refusal::Refusal;
-use bytes::Bytes;
-use std::alloc::{AllocError, Global};
+use std::alloc::Global;
 use std::marker::Model;
 
-/// The bytes of a regular file. Offsets and lengths are counts of bytes. They are held in blocks of 4,096 bytes, which
-/// copies of the file share. A contract sees the list of the bytes, and nothing of how they are held.
+/// The bytes of a regular file. Offsets and lengths are counts of bytes. They are held in blocks of 4,096 bytes, and copies
+/// of the file share the list of the blocks. A contract sees the list of the bytes, and nothing of how they are held.
 #[derive(Debug, Drop)]
 pub struct FileBytes {
     alloc: Global,
-    blocks: Vec<Bytes>,
+    blocks: SharedBlocks,
     size: usize,
 }
 
 impl Model for FileBytes {
-    ghost use Rattle.std.specs.Prelude.{List, ℕ};
-    ghost use Rattle.std.specs.List.{concat};
-    ghost use Rattle.assise_inode_table.specs.Blocks.{AreBlocks};
+    ghost use Rattle.std.specs.Prelude.{List, ℕ, ◌≤◌, length, take};
 
     ghost Value = { List ℕ };
 
-    ghost view = { λ f. concat f.blocks.items };
+    ghost view = { λ f. take f.size f.blocks };
 
-    ghost invariant = { λ f. AreBlocks f.blocks.items f.size };
+    ghost invariant = { λ f. f.size ≤ length f.blocks };
 }
 
 impl FileBytes {
@@ -39,7 +35,7 @@ impl FileBytes {
     {
         FileBytes {
             alloc,
-            blocks: Vec::new(alloc),
+            blocks: SharedBlocks::new(),
             size: 0,
         }
     }
@@ -60,6 +56,7 @@ impl FileBytes {
 
     /// The bytes from an offset on, at most so many: none at or past the end (POSIX.1-2017, read()). The one
     /// refusal is [`Refusal::OutOfMemory`], where there is a byte to read.
+    #[tactic(auto, using(crate::proofs::Writing::read_within))]
     pub fn read(&self, alloc: Global, offset: u64, most: u64) -> Result<ByteString, Refusal>
         ensures bytes { IfOk result (λ read. read ≡ bytes_from offset most self.now) }
         ensures asked { OnErr result ((0 < most) × (offset < length self.now)) }
@@ -70,28 +67,12 @@ impl FileBytes {
         if start == end {
             return Ok(ByteString::new());
         }
-        Ok(ByteString::from_bytes(self.part(alloc, start, end)?))
-    }
-
-    /// The bytes from a start to an end, in one piece.
-    fn part(&self, alloc: Global, start: usize, end: usize) -> Result<Bytes, AllocError>
-        requires some { start < end }
-        requires within { end ≤ length self.now }
-        ensures { IfOk result (λ part. part ≡ bytes_from start (end - start) self.now) }
-    {
-        let first = start / BLOCK;
-        let until = (end - 1) / BLOCK + 1;
-        blocks::piece(
-            alloc,
-            &self.blocks[first..until],
-            start - first * BLOCK,
-            end - start,
-        )
+        Ok(ByteString::from_bytes(self.blocks.piece(alloc, start, end)?))
     }
 
     /// Writes bytes at an offset, and zeros before them where the file was shorter (POSIX.1-2017, write() and
     /// lseek()). The one refusal is [`Refusal::OutOfMemory`], where there is a byte or a zero to write, and it leaves
-    /// the file as it was. The blocks that the write doesn't reach stay those that they were.
+    /// the file as it was. The blocks that the write doesn't reach stay those that they were, and copies keep theirs.
     pub fn write(&mut self, offset: usize, new: &[u8]) -> Result<(), Refusal>
         requires { offset + length new.now < 2 ^ 64 }
         ensures ok { OnOk result (self.new ≡ overwritten self.old offset new.now) }
@@ -104,11 +85,7 @@ impl FileBytes {
         if start == end {
             return Ok(());
         }
-        let first = start / BLOCK;
-        let until = self.blocks.len().min((end - 1) / BLOCK + 1);
-        let reached = &self.blocks[first..until];
-        let made = blocks::overwritten(self.alloc, reached, offset - first * BLOCK, new)?;
-        blocks::replace(&mut self.blocks, first, until, made)?;
+        self.blocks.overwrite(self.alloc, self.size, offset, new)?;
         self.size = self.size.max(end);
         Ok(())
     }
@@ -122,14 +99,14 @@ impl FileBytes {
         ensures only_memory { IsOkUnless result OutOfMemory }
     {
         if size <= self.size {
-            blocks::shorten(&mut self.blocks, size);
+            self.blocks.cut(size);
             self.size = size;
             return Ok(());
         }
         self.write(size, &[])
     }
 
-    /// An equal value, which shares the blocks. The one refusal is [`Refusal::OutOfMemory`], where there are bytes.
+    /// An equal value, which shares the list of the blocks. The one refusal is [`Refusal::OutOfMemory`], where there are bytes.
     pub fn copy(&self, alloc: Global) -> Result<FileBytes, Refusal>
         ensures equal { IfOk result (λ copied. copied ≡ self.now) }
         ensures asked { OnErr result (0 < length self.now) }
@@ -138,7 +115,7 @@ impl FileBytes {
         if self.size == 0 {
             return Ok(FileBytes::new(alloc));
         }
-        let blocks = blocks::shared(alloc, self.blocks.as_slice())?;
+        let blocks = self.blocks.share()?;
         Ok(FileBytes {
             alloc,
             blocks,

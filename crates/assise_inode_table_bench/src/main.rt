@@ -1,6 +1,7 @@
 //! `assise_inode_table_bench MODE SIZE COUNT`: does one thing with a file of SIZE bytes COUNT times, for `bench/copies` to
 //! time. MODE is `copies`, which copies the inode, `bytes`, which copies the bytes, `kept_copies` or `kept_bytes`, which
-//! keep all copies to the end, or `writes`, which writes one byte into each block in turn.
+//! keep all copies to the end, `writes`, which writes one byte into each block in turn, or `first_writes`, which copies the
+//! inode and writes one byte into the copy.
 #![tactic(auto)]
 
 use assise_inode_table::inode::Inode;
@@ -46,6 +47,7 @@ fn run(alloc: Global, words: &[String]) -> Option<&'static str> {
         "kept_copies" => kept_copies(alloc, &inode, count).ok()?,
         "kept_bytes" => kept_bytes(alloc, &inode, count).ok()?,
         "writes" => writes(alloc, &mut inode, size, count).ok()?,
+        "first_writes" => first_writes(alloc, &inode, size, count).ok()?,
         _ => return None,
     }
     Some("done")
@@ -105,6 +107,15 @@ fn writes(alloc: Global, inode: &mut Inode, size: u32, count: u32) -> Result<(),
         let offset = k % blocks * 4096 + 2048;
         let extent = Extent::new(offset, Bytes::copy_from_slice(alloc, b"a")?);
         inode.change(alloc, &Effect::Write { inode: 0, extent })?;
+    }
+    Ok(())
+}
+
+/// Copies an inode and writes one byte into the copy, so many times.
+fn first_writes(alloc: Global, inode: &Inode, size: u32, count: u32) -> Result<(), Refusal> {
+    for _ in 0..count {
+        let mut copied = inode.copy(alloc)?;
+        writes(alloc, &mut copied, size, 1)?;
     }
     Ok(())
 }

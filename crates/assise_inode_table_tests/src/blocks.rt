@@ -30,6 +30,86 @@ static FILES: [&[Step]; 12] = [
     &[Resize(12_289), Write(5000, 2), Resize(5001), Resize(0)],
 ];
 
+/// A step on one of two files, or a copy of one in the place of the other.
+#[derive(Clone, Copy)]
+enum Turn {
+    Left(Step),
+    Right(Step),
+    CopyToRight,
+    CopyToLeft,
+}
+
+use Turn::{CopyToLeft, CopyToRight, Left, Right};
+
+/// The turns of two files, in their order. A file that is cut to 0 gives up what it shares.
+static PAIRS: [&[Turn]; 10] = [
+    &[
+        Left(Write(0, 4095)),
+        CopyToRight,
+        Right(Resize(4094)),
+        Right(Resize(4097)),
+    ],
+    &[
+        Left(Write(0, 4096)),
+        CopyToRight,
+        Left(Resize(4095)),
+        Left(Write(4096, 1)),
+    ],
+    &[
+        Left(Write(0, 4097)),
+        CopyToRight,
+        Right(Resize(4096)),
+        Right(Write(4097, 4096)),
+    ],
+    &[
+        Left(Write(0, 4097)),
+        CopyToRight,
+        Left(Resize(4095)),
+        Right(Resize(0)),
+        Left(Resize(4097)),
+    ],
+    &[
+        Left(Write(0, 8192)),
+        CopyToRight,
+        Left(Resize(4096)),
+        Right(Resize(0)),
+        Left(Write(8191, 1)),
+    ],
+    &[
+        Left(Write(0, 9000)),
+        CopyToRight,
+        Right(Resize(4097)),
+        CopyToLeft,
+        Left(Write(4098, 1)),
+    ],
+    &[
+        Left(Write(0, 12_289)),
+        CopyToRight,
+        Right(Write(4095, 4098)),
+        Left(Write(8191, 2)),
+    ],
+    &[
+        Left(Write(0, 9000)),
+        CopyToRight,
+        Left(Resize(0)),
+        Left(Write(4095, 2)),
+        CopyToLeft,
+    ],
+    &[
+        Left(Write(0, 9000)),
+        Left(Resize(4095)),
+        Left(Resize(9000)),
+        Left(Write(9001, 0)),
+    ],
+    &[
+        CopyToRight,
+        Right(Write(4096, 1)),
+        CopyToLeft,
+        Left(Resize(5000)),
+        Right(Resize(1)),
+    ],
+];
+
 /// So many bytes, none of which is 0, and at most 20,000.
 fn some_bytes(alloc: Global, count: usize) -> Result<Vec<u8>, Fail> {
     let mut bytes = Vec::new(alloc);
@@ -89,28 +169,88 @@ fn reads_as(alloc: Global, file: &FileBytes, plain: &[u8]) -> Result<bool, Fail>
     Ok(same)
 }
 
-/// Makes a change of both, and looks at both, and at a copy from before the change.
-fn step_reads(
+/// A file, and the plain bytes that it is to have.
+#[derive(Drop)]
+struct Beside {
+    file: FileBytes,
+    plain: Vec<u8>,
+}
+
+impl Beside {
+    /// A file without bytes.
+    fn new(alloc: Global) -> Beside {
+        Beside {
+            file: FileBytes::new(alloc),
+            plain: Vec::new(alloc),
+        }
+    }
+
+    /// A copy of both.
+    fn copy(&self, alloc: Global) -> Result<Beside, Fail> {
+        Ok(Beside {
+            file: self.file.copy(alloc)?,
+            plain: contents::copied(alloc, self.plain.as_slice())?,
+        })
+    }
+
+    /// Makes a change of both.
+    fn change(&mut self, alloc: Global, rt: &impl Abort, step: Step) -> Result<(), Fail> {
+        change(alloc, rt, &mut self.file, step)?;
+        change_plain(alloc, rt, &mut self.plain, step)
+    }
+
+    /// Whether the file reads as the plain bytes do.
+    fn agrees(&self, alloc: Global) -> Result<bool, Fail> {
+        reads_as(alloc, &self.file, self.plain.as_slice())
+    }
+}
+
+/// Makes a change of a file, and looks at it, and at a copy from before the change.
+fn step_agrees(
     alloc: Global,
     rt: &impl Abort,
-    file: &mut FileBytes,
-    plain: &mut Vec<u8>,
+    beside: &mut Beside,
     step: Step,
 ) -> Result<bool, Fail> {
-    let copied = file.copy(alloc)?;
-    let old = contents::copied(alloc, plain.as_slice())?;
-    change(alloc, rt, file, step)?;
-    change_plain(alloc, rt, plain, step)?;
-    Ok(reads_as(alloc, file, plain.as_slice())? && reads_as(alloc, &copied, old.as_slice())?)
+    let copied = beside.copy(alloc)?;
+    beside.change(alloc, rt, step)?;
+    Ok(beside.agrees(alloc)? && copied.agrees(alloc)?)
 }
 
 /// Whether all changes of a file are those of plain bytes.
-fn steps_read(alloc: Global, rt: &impl Abort, steps: &[Step]) -> Result<bool, Fail> {
-    let mut file = FileBytes::new(alloc);
-    let mut plain = Vec::new(alloc);
+fn steps_agree(alloc: Global, rt: &impl Abort, steps: &[Step]) -> Result<bool, Fail> {
+    let mut beside = Beside::new(alloc);
     let mut same = true;
     for step in steps {
-        same = step_reads(alloc, rt, &mut file, &mut plain, *step)? && same;
+        same = step_agrees(alloc, rt, &mut beside, *step)? && same;
+    }
+    Ok(same)
+}
+
+/// Makes a turn of two files, and looks at both.
+fn turn_agrees(
+    alloc: Global,
+    rt: &impl Abort,
+    left: &mut Beside,
+    right: &mut Beside,
+    turn: Turn,
+) -> Result<bool, Fail> {
+    match turn {
+        Left(step) => left.change(alloc, rt, step)?,
+        Right(step) => right.change(alloc, rt, step)?,
+        CopyToRight => *right = left.copy(alloc)?,
+        CopyToLeft => *left = right.copy(alloc)?,
+    }
+    Ok(left.agrees(alloc)? && right.agrees(alloc)?)
+}
+
+/// Whether all turns of two files are those of plain bytes.
+fn turns_agree(alloc: Global, rt: &impl Abort, turns: &[Turn]) -> Result<bool, Fail> {
+    let mut left = Beside::new(alloc);
+    let mut right = Beside::new(alloc);
+    let mut same = true;
+    for turn in turns {
+        same = turn_agrees(alloc, rt, &mut left, &mut right, *turn)? && same;
     }
     Ok(same)
 }
@@ -118,7 +258,15 @@ fn steps_read(alloc: Global, rt: &impl Abort, steps: &[Step]) -> Result<bool, Fa
 #[test]
 fn a_file_in_blocks_is_its_bytes(rt: HostRuntime) -> Result<(), Fail> {
     for (row, steps) in FILES.iter().enumerate() {
-        assert!(rt; steps_read(rt.alloc(), &rt, steps)?, "row {row}");
+        assert!(rt; steps_agree(rt.alloc(), &rt, steps)?, "row {row}");
+    }
+    Ok(())
+}
+
+#[test]
+fn copies_of_a_file_change_apart(rt: HostRuntime) -> Result<(), Fail> {
+    for (row, turns) in PAIRS.iter().enumerate() {
+        assert!(rt; turns_agree(rt.alloc(), &rt, turns)?, "row {row}");
     }
     Ok(())
 }

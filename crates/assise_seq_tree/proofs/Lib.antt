@@ -19,3 +19,4 @@ pub mod Receiving
 pub mod Renamed
 pub mod CallLimits
 pub mod CallOrder
+pub mod Entering

@@ -1,5 +1,5 @@
 // A tree of files and directories, and the walks along a path.
-ghost use Rattle.std.specs.Prelude.{◌≡◌, ◌+◌, ◌^◌, ◌<◌, IsErr, IsOkUnless, List, MatchResult, OnErr, OnOk, [], length, ℕ};
+ghost use Rattle.std.specs.Prelude.{◌≡◌, ◌∷◌, ◌+◌, ◌^◌, ◌<◌, IsErr, IsOkUnless, List, MatchResult, OnErr, OnOk, [], length, ℕ};
 ghost use Rattle.assise_names.specs.declared.refusal.Refusal.TheVariants.{OutOfMemory};
 ghost use Rattle.assise_seq_tree.specs.Answer.{as_directory, as_file, description_of, may_replace, parent_of};
 ghost use Rattle.assise_seq_tree.specs.Contents.{overwritten, resized};
@@ -64,6 +64,15 @@ impl Tree {
     {
         Tree {
             node: Node::Directory(BTreeMap::new(alloc)),
+        }
+    }
+
+    /// A file of these bytes, without a copy.
+    pub fn of_bytes(bytes: Vec<u8>) -> Tree
+        ensures { result ≡ file bytes.items }
+    {
+        Tree {
+            node: Node::File(bytes),
         }
     }
 
@@ -163,6 +172,25 @@ impl Tree {
                     Ok(())
                 }
             },
+        }
+    }
+
+    /// Gives a directory an entry, in place of one of the same name. A file stays as it is. The one refusal is
+    /// [`Refusal::OutOfMemory`], where the name is new, and it leaves the tree as it was.
+    pub fn insert(&mut self, name: Name, tree: Tree) -> Result<(), Refusal>
+        ensures ok { OnOk result (self.new ≡ put self.old (name ∷ []) tree) }
+        ensures err { OnErr result (self.new ≡ self.old) }
+        ensures asked { OnErr result (IsErr (at self.old (name ∷ []))) }
+        ensures only_memory { IsOkUnless result OutOfMemory }
+    {
+        // A look at the field tells the proof that the new tree is ordered.
+        let _ = &tree.node;
+        match &mut self.node {
+            Node::File(_) => Ok(()),
+            Node::Directory(entries) => {
+                entries.insert(name, tree)?;
+                Ok(())
+            }
         }
     }
 

@@ -6,8 +6,10 @@ use Rattle.assise_digest.proofs.pending.note.Goals as goal
 
 pub set-requires : goal.set-requires
 set-requires c =
-    record { there = subst (λ i. IsSome (map.get c.loop-effect.last i)) (sym c.touches.ensures)
-        (c.loop-effect.invariant.there _ (touched_item c.args.effects.now c.loop-effect.effect-index c.effect-item.result c.loop-effect-test.true c.effect-item.is)) }
+    record {
+      there = subst (λ i. IsSome (map.get c.loop-effect.last i)) (sym c.touches.ensures)
+          (c.loop-effect.invariant.there _ (touched_item c.args.effects.now c.loop-effect.effect-index c.effect-item.result c.loop-effect-test.true c.effect-item.is));
+    }
 
 pub loop-effect-preserved : goal.loop-effect-preserved
 loop-effect-preserved c =

@@ -5,7 +5,7 @@ use Rattle.assise_digest.proofs.Keeping.{forgotten_again, held_no_more, left_aft
 use Rattle.assise_digest.proofs.pending.Pending.make.Goals as goal
 
 pub loop-effect-init : goal.loop-effect-init
-loop-effect-init c = record { no_more = c.requires.no_more; held = refl; back = nothing_forgotten c.args.self.now c.args.number c.args.effects.now c.requires.fresh }
+loop-effect-init c = record { no_more = c.requires.no_more; held = refl; back = nothing_forgotten c.args.self.now c.args.number c.args.effects.now }
 
 pub loop-effect-preserved : goal.loop-effect-preserved
 loop-effect-preserved c =
@@ -18,8 +18,8 @@ loop-effect-preserved c =
       held = ap (λ p. all_held p m n (drop (c.loop-effect.effect-index + 1) es)) step
           ∙ left_after (all_held c.loop-effect.self m n) es c.loop-effect.effect-index c.effect-item.result c.loop-effect-test.true c.effect-item.is
           ∙ c.loop-effect.invariant.held;
-      back = ap (λ p. forgotten p n es) step
+      back = λ fresh. ap (λ p. forgotten p n es) step
           ∙ forgotten_again c.loop-effect.self m n (touched_by c.effect-item.result) es c.loop-effect.invariant.no_more
-            (touched_item es c.loop-effect.effect-index c.effect-item.result c.loop-effect-test.true c.effect-item.is)
-          ∙ c.loop-effect.invariant.back;
+          (touched_item es c.loop-effect.effect-index c.effect-item.result c.loop-effect-test.true c.effect-item.is)
+          ∙ c.loop-effect.invariant.back fresh;
     }

@@ -1,6 +1,5 @@
 use Rattle.std.proofs.Common.{◌≡◌, drop}
-use Rattle.assise_inode_table.specs.Effects.{touched}
-use Rattle.assise_digest.specs.Pending.{KeepsNoMore, all_held, forgotten}
+use Rattle.assise_digest.specs.Pending.{IsNew, KeepsNoMore, all_held, forgotten}
 use Rattle.assise_digest.proofs.pending.Pending.make.Given as goal
 
 abbrev pub invariant-loop-effect : goal.invariant-loop-effect
@@ -8,5 +7,5 @@ invariant-loop-effect l =
     record {
       no_more : KeepsNoMore l.self;
       held : all_held l.self l.area.inodes l.number (drop l.effect-index l.effects) ≡ all_held l.initial.self l.area.inodes l.number l.effects;
-      back : forgotten l.self l.number l.effects ≡ l.initial.self;
+      back : IsNew l.initial.self l.number → forgotten l.self l.number l.effects ≡ l.initial.self;
     }

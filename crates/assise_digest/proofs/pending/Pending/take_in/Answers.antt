@@ -1,7 +1,6 @@
 use Rattle.std.proofs.Common.{sym, subst}
 use Rattle.assise_digest.specs.Pending.{HasAll}
 use Rattle.assise_digest.proofs.Keeping.{all_held_has}
-use Rattle.assise_digest.proofs.Standing.{stands_beside}
 use Rattle.assise_digest.proofs.pending.Pending.take_in.Goals as goal
 
 pub note-requires : goal.note-requires

@@ -1,6 +1,6 @@
 use Rattle.std.proofs.Common.{◌≡◌, ◌<◌, ◌∙◌, IsOk, OnOk, Result, Ok, Err, length, ap, sym, subst, arith, true≢false}
 use Rattle.assise_private_log.specs.NumberedLog.{with_record}
-use Rattle.assise_digest.specs.Sound.{IsSoundLog, seen_log}
+use Rattle.assise_digest.specs.Sound.{IsSoundLog}
 use Rattle.assise_digest.proofs.Receiving.{sound_more}
 use Rattle.assise_digest.proofs.received.Received.append.Goals as goal
 

@@ -1,4 +1,4 @@
-use Rattle.std.proofs.Common.{◌≡◌, ◌+◌, ◌∙◌, ap, sym, subst}
+use Rattle.std.proofs.Common.{◌+◌, ◌∙◌, ap, sym, subst}
 use Rattle.assise_inode_table.specs.Effects.{all_applied}
 use Rattle.assise_digest.specs.Region.{next_effects}
 use Rattle.assise_digest.specs.Sound.{IsSoundLog, seen_log}

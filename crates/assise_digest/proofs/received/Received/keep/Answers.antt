@@ -1,4 +1,4 @@
-use Rattle.std.proofs.Common.{◌≡◌, ◌∙◌, OnOk, Result, Ok, Err, ap, subst, sym}
+use Rattle.std.proofs.Common.{◌∙◌, OnOk, Result, Ok, Err, ap, subst, sym}
 use Rattle.assise_digest.specs.Pending.{StandsFor, taken_in}
 use Rattle.assise_digest.specs.Region.{ahead, with_more}
 use Rattle.assise_digest.specs.Sound.{StandsHere, seen_log}
@@ -21,5 +21,5 @@ returns-in-Some-clause-kept c =
     let l = seen_log c.args.self.now in
     let r = c.args.added.now in
     let more : StandsFor (taken_in c.in-Some.pending m c.end-number.result r.effects) m l.digested (ahead (with_more l r)) =
-        kept_more c.in-Some.pending m l r c.end-number.result c.requires.sound.begun (subst (StandsHere m l) c.in-Some.is c.requires.sound.stands) c.end-number.ensures.end in
+    kept_more c.in-Some.pending m l r c.end-number.result c.requires.sound.begun (subst (StandsHere m l) c.in-Some.is c.requires.sound.stands) c.end-number.ensures.end in
     ok_map c.take_in.result c.take_in.ensures.ok (λ is. subst (λ p. StandsFor p m l.digested (ahead (with_more l r))) (sym (is ∙ ap (taken_in c.in-Some.pending m c.end-number.result) c.effects.ensures.effects)) more)

@@ -1,4 +1,4 @@
-use Rattle.std.proofs.Common.{◌≡◌, OnOk, Result, Ok, Err}
+use Rattle.std.proofs.Common.{OnOk, Result, Ok, Err}
 use Rattle.assise_digest.specs.Region.{with_more}
 use Rattle.assise_digest.proofs.Placing.{changed_there}
 use Rattle.assise_digest.proofs.region.Region.append.Goals as goal
@@ -10,5 +10,5 @@ ok_map (Err e) a f = tt
 pub returns-clause-ok : goal.returns-clause-ok
 returns-clause-ok c =
     ok_map c.append.result c.append.ensures.ok (λ step.
-        changed_there (λ l. with_more l c.args.added) c.self.inside.area.inodes c.self.inside.logs.items c.args.self.now c.args.client c.index_mut.result.now c.append.new.self c.self.view_is
-        c.requires.client c.index_mut.ensures.value step)
+    changed_there (λ l. with_more l c.args.added) c.self.inside.area.inodes c.self.inside.logs.items c.args.self.now c.args.client c.index_mut.result.now c.append.new.self c.self.view_is
+    c.requires.client c.index_mut.ensures.value step)

@@ -24,8 +24,8 @@ invariant_of-self-2 c =
     let here : IsSoundLog m x = sound_there m xs _ x c.self.invariant (in_place m xs c.args.self.now c.args.client c.self.view_is c.requires.client) c.index_mut.ensures.value in
     let next = c.in-Some.next.now in
     let is : Some next ≡ record_at x.log x.digested =
-        subst (λ z. Some next ≡ record_at z.log z.digested)
-        (same_item xs _ c.index-received.result.now x (in_place m xs c.args.self.now c.args.client c.self.view_is c.requires.client) c.index-received.ensures c.index_mut.ensures.value) c.in-Some.ensures in
+    subst (λ z. Some next ≡ record_at z.log z.digested)
+    (same_item xs _ c.index-received.result.now x (in_place m xs c.args.self.now c.args.client c.self.view_is c.requires.client) c.index-received.ensures c.index_mut.ensures.value) c.in-Some.ensures in
     let applied : c.apply_all.new.self.inodes ≡ all_applied m next.effects = c.in_ok-apply_all.ensures.ok ∙ ap (all_applied m) c.effects.ensures.effects in
     let made : next_effects (seen_log x) ≡ next.effects = ap first_effects (ahead_next (seen_log x) next here.begun is) in
     digested_sound m c.apply_all.new.self.inodes xs c.args.self.now c.args.client x c.count_digested.new.self next c.self.view_is c.requires.client c.requires.apart c.self.invariant
@@ -41,6 +41,6 @@ returns-clause-ok c =
     let here : IsSoundLog m x = sound_there m xs _ x c.self.invariant within c.index_mut.ensures.value in
     let next = c.in-Some.next.now in
     let is : Some next ≡ record_at x.log x.digested =
-        subst (λ z. Some next ≡ record_at z.log z.digested) (same_item xs _ c.index-received.result.now x within c.index-received.ensures c.index_mut.ensures.value) c.in-Some.ensures in
+    subst (λ z. Some next ≡ record_at z.log z.digested) (same_item xs _ c.index-received.result.now x within c.index-received.ensures c.index_mut.ensures.value) c.in-Some.ensures in
     digested_view m c.apply_all.new.self.inodes xs c.args.self.now c.args.client x c.count_digested.new.self next c.self.view_is c.requires.client c.index_mut.ensures.value here.begun is
     (c.in_ok-apply_all.ensures.ok ∙ ap (all_applied m) c.effects.ensures.effects) c.count_digested.ensures.seen

@@ -1,0 +1,6 @@
+use Rattle.std.proofs.Common.{None, take}
+use Rattle.assise_area.specs.Parts.{AreWritten}
+use Rattle.assise_area.proofs.cooling.take_places.Given as goal
+
+abbrev pub invariant-loop-number : goal.invariant-loop-number
+invariant-loop-number l = AreWritten (take l.number-index l.numbers) None l.fn.cold.entries l.cold.entries

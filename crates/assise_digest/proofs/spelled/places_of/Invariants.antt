@@ -1,0 +1,11 @@
+use Rattle.std.proofs.Common.{◌-◌, length, map}
+use Rattle.assise_inode_table.specs.Contents.{values}
+use Rattle.assise_digest.specs.Postorder.{postorder, shape}
+use Rattle.assise_digest.proofs.Listed.{IsListed}
+use Rattle.assise_digest.proofs.spelled.places_of.Given as goal
+
+abbrev pub invariant-loop-next : goal.invariant-loop-next
+invariant-loop-next g l = IsListed (values (g.I.Inodes.contents l.inodes)) g.t l.pending.items (map shape l.places.items)
+
+abbrev pub decreases-loop-next : goal.decreases-loop-next
+decreases-loop-next g l = length (postorder g.t) - length l.places.items
