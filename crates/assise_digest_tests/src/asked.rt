@@ -1,9 +1,11 @@
 // What is asked of a region.
-ghost use Rattle.assise_digest.specs.Region.{HasClient};
+ghost use Rattle.std.specs.Prelude.{◌≡◌, true};
+ghost use Rattle.assise_digest.specs.Region.{HasClient, log_of};
 
 use crate::apart::has_client;
 use crate::inode_text::put_found;
 use assise_digest::region::Region;
+use assise_inode_table::inodes::Inodes;
 use std::alloc::{AllocError, Global};
 
 /// Appends what a region answers: `clients`, `log CLIENT`, `peek INODE` or `read CLIENT INODE`.
@@ -58,5 +60,29 @@ fn put_read(alloc: Global, text: &mut String, region: &Region, asked: &str) -> O
     if !has_client(region, client) || !region.is_at_home(client) {
         return None;
     }
-    put_found(alloc, text, region.read(client, inode))
+    put_found(alloc, text, region.read(client, inode))?;
+    put_if_other(alloc, text, region, client, inode)
+}
+
+/// Appends the inode as it is among those of the client, if that is another one.
+fn put_if_other(
+    alloc: Global,
+    text: &mut String,
+    region: &Region,
+    client: usize,
+    inode: u64,
+) -> Option<()>
+    requires client { HasClient region.now client }
+    requires at_home { (log_of region.now client).at_home ≡ true }
+{
+    let inodes = region.inodes_of(client);
+    let mut read = String::new(alloc);
+    put_found(alloc, &mut read, region.read(client, inode))?;
+    let mut found = String::new(alloc);
+    put_found(alloc, &mut found, inodes.get(inode))?;
+    if read.as_str() == found.as_str() {
+        Some(())
+    } else {
+        text.push_str(found.as_str()).ok()
+    }
 }

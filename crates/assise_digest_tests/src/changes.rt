@@ -119,6 +119,14 @@ fn value_of(alloc: Global, text: &str) -> Option<Option<Inode>> {
     }
 }
 
+/// Lets so many inodes be hot, if so many may.
+pub(crate) fn set_hot_capacity(region: &mut Region, capacity: usize) -> Option<()> {
+    if capacity == 0 || capacity > 4096 {
+        return None;
+    }
+    region.set_hot_capacity(capacity).ok()
+}
+
 /// `last` or `all`: takes clients out.
 pub(crate) fn lose(region: &mut Region, text: &str) -> Option<()> {
     match text {

@@ -10,6 +10,8 @@ mod changes;
 #[cfg(test)]
 mod inode_text;
 #[cfg(test)]
+mod rebuilt;
+#[cfg(test)]
 mod records;
 #[cfg(test)]
 mod rows;

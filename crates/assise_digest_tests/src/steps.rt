@@ -1,6 +1,8 @@
 // What is done to a region and asked of it, as text.
 use crate::asked::put_answer;
-use crate::changes::{append, cut_tail, digest, drop_front, fill, lose, refill, stale};
+use crate::changes::{
+    append, cut_tail, digest, drop_front, fill, lose, refill, set_hot_capacity, stale,
+};
 use assise_digest::region::Region;
 use std::alloc::Global;
 
@@ -43,6 +45,7 @@ fn put_step_of_inode(
             region.touch(rest.parse::<u64>().ok()?);
             Some(())
         }
+        "hot" => set_hot_capacity(region, rest.parse::<usize>().ok()?),
         "lose" => lose(region, rest),
         _ => put_answer(alloc, region, word, rest, text),
     }

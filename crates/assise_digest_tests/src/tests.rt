@@ -1,4 +1,5 @@
 // Regions step by step.
+use crate::rebuilt::stats;
 use crate::rows::show;
 use std::alloc::Global;
 
@@ -15,6 +16,7 @@ append 1 create 0 f 10, append 1 rename 0 f 0 g 10, digest 1 1 1, peek 0, read 1
 append 1 create 0 f 10, append 1 rename 0 f 0 f 10, digest 1 2 2, peek 0 => 2; dir 1 f:10;
 append 1 write 10 0 ab, read 1 10, digest 1 1 1, read 1 10 => none; 1; none;
 touch 0, touch 10, peek 0, peek 10 => dir 0; none;
+refill 10 dir, touch 0, touch 10, hot 1, peek 0, peek 10, hot 9, peek 0, read 1 10 => dir 0; dir 0; dir 0; dir 0;
 ";
 
 /// How many records are digested.
@@ -74,4 +76,10 @@ append 1 create 0 f 10, digest 1 1 1, append 1 create 0 g 11, lose all, clients,
 fn logs_and_inodes_come_and_go(rt: HostRuntime) {
     show(rt.alloc(), &rt, LOGS);
     show(rt.alloc(), &rt, INODES);
+}
+
+#[test]
+fn a_region_alone_gives_the_tree(rt: HostRuntime) {
+    let text = stats(rt.alloc()).expect(&rt, "no memory");
+    assert!(rt; text.as_str() == "E1 NoEnt, file 0", "{text}");
 }
