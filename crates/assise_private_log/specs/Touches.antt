@@ -4,7 +4,7 @@ use Rattle.std.specs.Prelude.{◌≡◌, ℕ, ◌+◌, ◌≤◌, ◌==◌, Bool
 use Rattle.std.specs.List.{list_any}
 use Rattle.assise_record.specs.LogRecord.{LogRecord}
 use Rattle.assise_record.specs.Touched.{touched_by}
-use Rattle.assise_private_log.specs.NumberedLog.{NumberedLog, record_at, records_from}
+use Rattle.assise_private_log.specs.NumberedLog.{NumberedLog, end, record_at, records_from}
 
 -- one of its effects changes the inode
 abbrev pub record_touches : LogRecord → ℕ → Bool
@@ -31,3 +31,10 @@ UntouchedFrom l inode from = (n : ℕ) → from ≤ n → touches l n inode ≡ 
 abbrev pub IsLastTouch : NumberedLog → ℕ → Option ℕ → Type 0
 IsLastTouch l inode None = UntouchedFrom l inode 0
 IsLastTouch l inode (Some number) = (touches l number inode ≡ true) × UntouchedFrom l inode (number + 1)
+
+-- a cut of a log at an inode: a number between its first and its end, from which on no record touches the inode. Once what
+-- lies before it is everywhere, the inode can be handed over: Assise (OSDI 2020), section 3, on leases that are revoked.
+pub record Covers (l : NumberedLog) (inode cut : ℕ) : Type 0 where
+  pub from_first : l.first ≤ cut
+  pub to_end : cut ≤ end l
+  pub untouched : UntouchedFrom l inode cut

@@ -1,0 +1,115 @@
+-- Which changes keep leases compatible.
+use Rattle.std.proofs.Common.{◌≡◌, ◌≢◌, ℕ, ◌==◌, Bool, true, false, cond, not, ◌&&◌, List, [], ◌∷◌, ◌++◌, inl, inr, filter, map, sym, refl, ap, ◌∙◌, eq-eqb, ne_eqb}
+use mathlib.Core.Logic.{dite}
+use native.Mathlib.Decide.{ℕ_discrete}
+use Rattle.std.specs.List.{list_all, list_any}
+use Rattle.assise_names.specs.declared.mode.Mode.{Mode}
+use Rattle.assise_names.specs.declared.mode.Mode.TheVariants.{Read, Write}
+use Rattle.assise_lease_table.specs.declared.lease.Lease.{Lease}
+use Rattle.assise_lease_table.specs.Modes.{against}
+use Rattle.assise_lease_table.specs.Leases.{is_rival, Among, apart, compatible, IsFree, without, with_lease}
+use Rattle.assise_lease_table.proofs.Elements.{cases_of, both_true, and_true, not_true, true_not, not_both, none_among, all_among, among_all, among_filter, among_push}
+
+pub against_swap : (a b : Mode) → against a b ≡ against b a
+against_swap Read Read = refl
+against_swap Read Write = refl
+against_swap Write Read = refl
+against_swap Write Write = refl
+
+pub same_number : (a b : ℕ) → (a == b) ≡ true → a ≡ b
+same_number a b e = dite (ℕ_discrete a b) (λ y. y) (λ n. not_both (a == b) e (ne_eqb a b n))
+
+pub other_number : (a b : ℕ) → a ≢ b → (a == b) ≡ false
+other_number a b n = ne_eqb a b n
+
+pub differ : (a b : ℕ) → (a == b) ≡ false → a ≢ b
+differ a b e same = not_both (a == b) (eq-eqb a b same) e
+
+apart_from : (a b : Lease) → apart a b ≡ true → (a.holder ≢ b.holder) × (against a.mode b.mode ≡ false)
+apart_from a b e =
+    let parts = both_true (not (a.holder == b.holder)) (not (against a.mode b.mode)) e in
+    (differ a.holder b.holder (not_true (a.holder == b.holder) parts.0), not_true (against a.mode b.mode) parts.1)
+
+to_apart : (a b : Lease) → a.holder ≢ b.holder → against a.mode b.mode ≡ false → apart a b ≡ true
+to_apart a b n e =
+    and_true (not (a.holder == b.holder)) (not (against a.mode b.mode)) (true_not (a.holder == b.holder) (other_number a.holder b.holder n)) (true_not (against a.mode b.mode) e)
+
+-- two leases of one holder are one
+pub one_lease : (ls : List Lease) → compatible ls ≡ true → (a b : Lease) → Among ls a → Among ls b → a.holder ≡ b.holder → a ≡ b
+one_lease [] c a b in_a in_b same = absurd in_a
+one_lease (l ∷ ls) c a b in_a in_b same =
+    let parts = both_true (list_all (apart l) ls) (compatible ls) c in
+    elim in_a [
+      | inl head_a ↦ elim in_b [
+        | inl head_b ↦ head_a ∙ sym head_b
+        | inr rest_b ↦ absurd ((apart_from l b (all_among (apart l) ls parts.0 b rest_b)).0 (sym (ap (λ (z : Lease). z.holder) head_a) ∙ same))
+      ]
+      | inr rest_a ↦ elim in_b [
+        | inl head_b ↦ absurd ((apart_from l a (all_among (apart l) ls parts.0 a rest_a)).0 (sym (ap (λ (z : Lease). z.holder) head_b) ∙ sym same))
+        | inr rest_b ↦ one_lease ls parts.1 a b rest_a rest_b same
+      ]
+    ]
+
+-- leases of two holders are not against each other
+pub not_against : (ls : List Lease) → compatible ls ≡ true → (a b : Lease) → Among ls a → Among ls b → a.holder ≢ b.holder → against a.mode b.mode ≡ false
+not_against [] c a b in_a in_b other = absurd in_a
+not_against (l ∷ ls) c a b in_a in_b other =
+    let parts = both_true (list_all (apart l) ls) (compatible ls) c in
+    elim in_a [
+      | inl head_a ↦ elim in_b [
+        | inl head_b ↦ absurd (other (ap (λ (z : Lease). z.holder) (head_a ∙ sym head_b)))
+        | inr rest_b ↦ ap (λ (z : Lease). against z.mode b.mode) head_a ∙ (apart_from l b (all_among (apart l) ls parts.0 b rest_b)).1
+      ]
+      | inr rest_a ↦ elim in_b [
+        | inl head_b ↦ ap (λ (z : Lease). against a.mode z.mode) head_b ∙ (against_swap a.mode l.mode ∙ (apart_from l a (all_among (apart l) ls parts.0 a rest_a)).1)
+        | inr rest_b ↦ not_against ls parts.1 a b rest_a rest_b other
+      ]
+    ]
+
+filtered_head : (b : Bool) (l : Lease) (ls : List Lease) → list_all (apart l) ls ≡ true → compatible ls ≡ true → compatible (cond b (l ∷ ls) ls) ≡ true
+filtered_head true l ls h c = and_true (list_all (apart l) ls) (compatible ls) h c
+filtered_head false l ls h c = c
+
+pub filter_compatible : (p : Lease → Bool) (ls : List Lease) → compatible ls ≡ true → compatible (filter p ls) ≡ true
+filter_compatible p [] c = refl
+filter_compatible p (l ∷ ls) c =
+    let parts = both_true (list_all (apart l) ls) (compatible ls) c in
+    filtered_head (p l) l (filter p ls) (among_all (apart l) (filter p ls) (λ x a. all_among (apart l) ls parts.0 x (among_filter p ls x a).0)) (filter_compatible p ls parts.1)
+
+-- a change that keeps holders and modes
+module _ (f : Lease → Lease) (keeps : (l : Lease) → ((f l).holder ≡ l.holder) × ((f l).mode ≡ l.mode)) where
+  apart_same : (a b : Lease) → apart (f a) (f b) ≡ apart a b
+  apart_same a b = λ i. not ((keeps a).0 i == (keeps b).0 i) && not (against ((keeps a).1 i) ((keeps b).1 i))
+
+  all_apart_same : (l : Lease) (ls : List Lease) → list_all (apart (f l)) (map f ls) ≡ list_all (apart l) ls
+  all_apart_same l [] = refl
+  all_apart_same l (k ∷ ks) = λ i. apart_same l k i && all_apart_same l ks i
+
+  pub map_compatible : (ls : List Lease) → compatible (map f ls) ≡ compatible ls
+  map_compatible [] = refl
+  map_compatible (l ∷ ls) = λ i. all_apart_same l ls i && map_compatible ls i
+
+pub push_compatible : (ls : List Lease) (x : Lease) → compatible ls ≡ true → ((l : Lease) → Among ls l → (l.holder ≢ x.holder) × (against l.mode x.mode ≡ false)) → compatible (ls ++ x ∷ []) ≡ true
+push_compatible [] x c h = refl
+push_compatible (l ∷ ls) x c h =
+    let parts = both_true (list_all (apart l) ls) (compatible ls) c in
+    and_true (list_all (apart l) (ls ++ x ∷ [])) (compatible (ls ++ x ∷ []))
+    (among_all (apart l) (ls ++ x ∷ []) (λ k a. elim (among_push ls x k a) [
+      | inl before ↦ all_among (apart l) ls parts.0 k before
+      | inr last ↦ let head = h l (inl refl) in to_apart l k (λ e. head.0 (e ∙ ap (λ (z : Lease). z.holder) last)) (ap (λ (z : Lease). against l.mode z.mode) last ∙ head.1)
+    ]))
+    (push_compatible ls x parts.1 (λ k a. h k (inr a)))
+
+-- a lease that no other holder's stands against
+pub with_compatible : (ls : List Lease) (x : Lease) → compatible ls ≡ true → IsFree ls x.holder x.mode → compatible (with_lease x ls) ≡ true
+with_compatible ls x c free =
+    push_compatible (without x.holder ls) x (filter_compatible (λ l. not (l.holder == x.holder)) ls c) (λ l a.
+    let was = among_filter (λ (k : Lease). not (k.holder == x.holder)) ls l a in
+    let other : l.holder ≢ x.holder = differ l.holder x.holder (not_true (l.holder == x.holder) was.1) in
+    (other, against_swap l.mode x.mode ∙ free l was.0 other))
+
+-- a holder without rivals is free to hold
+pub no_rivals : (ls : List Lease) (h : ℕ) (mode : Mode) → list_any (is_rival h mode) ls ≡ false → IsFree ls h mode
+no_rivals ls h mode none l a other = elim (cases_of (against mode l.mode)) [
+    inl is ↦ not_both (is_rival h mode l) (and_true (not (l.holder == h)) (against mode l.mode) (true_not (l.holder == h) (other_number l.holder h other)) is) (none_among (is_rival h mode) ls none l a)
+    | inr not_so ↦ not_so ]

@@ -1,0 +1,7 @@
+pub mod Elements
+pub mod Compatibles
+pub mod Answering
+pub mod Becoming
+mod Lists
+mod Retained
+pub mod Room

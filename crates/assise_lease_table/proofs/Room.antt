@@ -1,0 +1,49 @@
+-- Where a list has a place for one more lease.
+use Rattle.std.proofs.Common.{◌≡◌, ℕ, ◌<◌, ◌≤◌, suc, Bool, true, false, cond, not, List, [], ◌∷◌, Option, Some, is_some, inl, inr, filter, length, sym, refl, ap, subst, ◌∙◌, arith, vec_len, vec_capacity}
+use Rattle.std.specs.Global.{Vec}
+use Rattle.assise_lease_table.specs.declared.lease.Lease.{Lease}
+use Rattle.assise_lease_table.specs.declared.lease_map.LeaseMap.{LeaseMap}
+use Rattle.assise_lease_table.specs.LeaseMaps.{HasPlace}
+use Rattle.assise_lease_table.specs.Lists.{HasPlaceIn}
+use Rattle.assise_lease_table.specs.Leases.{lease_of, leave_out, without, is_own}
+
+kept_or_not : (b : Bool) (l : Lease) (ls : List Lease) (n : ℕ) → length ls ≤ n → length (cond b (l ∷ ls) ls) ≤ suc n
+kept_or_not true l ls n h = omega (arith, h)
+kept_or_not false l ls n h = omega (arith, h)
+
+pub not_longer : (choice : Lease → Bool) (ls : List Lease) → length (leave_out choice ls) ≤ length ls
+not_longer choice [] = omega arith
+not_longer choice (l ∷ ls) = kept_or_not (not (choice l)) l (leave_out choice ls) (length ls) (not_longer choice ls)
+
+shorter_at : (b : Bool) (l : Lease) (rest ls : List Lease) (found : Option Lease) → length rest ≤ length ls → (is_some found ≡ true → length rest < length ls)
+    → is_some (cond b (Some l) found) ≡ true → length (cond (not b) (l ∷ rest) rest) < suc (length ls)
+shorter_at true l rest ls found long less e = omega (arith, long)
+shorter_at false l rest ls found long less e = let now = less e in omega (arith, now)
+
+-- a list with a lease of the holder is shorter without it
+pub shorter : (h : ℕ) (ls : List Lease) → is_some (lease_of ls h) ≡ true → length (without h ls) < length ls
+shorter h [] e = cc
+shorter h (l ∷ ls) e = shorter_at (is_own h l) l (without h ls) ls (lease_of ls h) (not_longer (is_own h) ls) (shorter h ls) e
+
+-- without the holder's lease, and perhaps without others, the list has a place for it
+pub place_without : (h : ℕ) (v w : Vec Lease) → HasPlaceIn h v → w.items ≡ without h v.items → vec_len w ≤ vec_len v → vec_capacity w ≡ vec_capacity v → vec_len w < vec_capacity w
+place_without h v w place items len capacity = elim place [
+  | inl own ↦ let less = shorter h v.items own in let short = ap length items in omega (arith, less, short, w.ok.0, v.ok.0, v.ok.1, capacity)
+  | inr room ↦ omega (arith, room, len, capacity)
+]
+
+pub place_left : (m : LeaseMap) (h : ℕ) (o : Option (Vec Lease)) (v w : Vec Lease) → HasPlace m h o → o ≡ Some v → w.items ≡ without h v.items → vec_len w ≤ vec_len v → vec_capacity w ≡ vec_capacity v
+    → vec_len w < vec_capacity w
+place_left m h o v w place is items len capacity = place_without h v w (subst (HasPlace m h) is place) items len capacity
+
+swapped : (a b : Bool) (l : Lease) (xs ys zs : List Lease) (p q : Lease → Bool) → p l ≡ a → q l ≡ b → filter p ys ≡ zs → filter q xs ≡ zs
+    → filter p (cond b (l ∷ ys) ys) ≡ filter q (cond a (l ∷ xs) xs)
+swapped true true l xs ys zs p q pa qb left right = ap (λ c. cond c (l ∷ filter p ys) (filter p ys)) pa ∙ ap (λ z. l ∷ z) (left ∙ sym right) ∙ sym (ap (λ c. cond c (l ∷ filter q xs) (filter q xs)) qb)
+swapped true false l xs ys zs p q pa qb left right = left ∙ sym right ∙ sym (ap (λ c. cond c (l ∷ filter q xs) (filter q xs)) qb)
+swapped false true l xs ys zs p q pa qb left right = ap (λ c. cond c (l ∷ filter p ys) (filter p ys)) pa ∙ left ∙ sym right
+swapped false false l xs ys zs p q pa qb left right = left ∙ sym right
+
+-- two filters in either order
+pub either_order : (p q : Lease → Bool) (ls : List Lease) → filter p (filter q ls) ≡ filter q (filter p ls)
+either_order p q [] = refl
+either_order p q (l ∷ ls) = swapped (p l) (q l) l (filter p ls) (filter q ls) (filter p (filter q ls)) p q refl refl refl (sym (either_order p q ls))

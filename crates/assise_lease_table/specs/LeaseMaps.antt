@@ -1,0 +1,29 @@
+-- The leases of each inode.
+use Rattle.std.specs.Prelude.{◌≡◌, ◌≢◌, ℕ, ◌<◌, List, Option, Some, None, nat_eq, vec_len, vec_capacity}
+use Rattle.std.specs.Global.{Vec}
+use Rattle.indexmap.specs.IndexMap.{get, spare}
+use Rattle.assise_lease_table.specs.declared.lease.Lease.{Lease}
+use Rattle.assise_lease_table.specs.declared.lease_map.LeaseMap.{LeaseMap}
+use Rattle.assise_lease_table.specs.Lists.{items_or_none, HasPlaceIn}
+
+-- the leases of the inode
+abbrev pub leases_at : LeaseMap → ℕ → List Lease
+leases_at m i = items_or_none (get nat_eq m.inodes i)
+
+-- the inode has these leases, and each other inode those that it had
+pub record Becomes (old new : ℕ → List Lease) (inode : ℕ) (ls : List Lease) : Type 0 where
+  pub here : new inode ≡ ls
+  pub elsewhere : (i : ℕ) → i ≢ inode → new i ≡ old i
+
+-- each inode has the leases that it had
+abbrev pub SameLeases : (ℕ → List Lease) → (ℕ → List Lease) → Type 0
+SameLeases old new = (i : ℕ) → new i ≡ old i
+
+-- the inode's list has a place for a lease of the holder; or, where it has none, a new list has one and the map has one for it
+abbrev pub HasPlace : LeaseMap → ℕ → Option (Vec Lease) → Type 0
+HasPlace m h None = (vec_len m.spare < vec_capacity m.spare) × (0 < spare m.inodes)
+HasPlace m h (Some v) = HasPlaceIn h v
+
+-- a lease of the inode for the holder takes no memory
+abbrev pub HasRoom : LeaseMap → ℕ → ℕ → Type 0
+HasRoom m h i = HasPlace m h (get nat_eq m.inodes i)

@@ -1,0 +1,6 @@
+pub mod Answers
+pub mod LeaseMaps
+pub mod Leases
+pub mod Lists
+pub mod Modes
+pub mod Tables

@@ -1,0 +1,252 @@
+// The leases of clients, and their revokers.
+ghost use Rattle.std.specs.Prelude.{◌≡◌, ℕ, true, nat_eq, is_some};
+ghost use Rattle.indexmap.specs.IndexMap.{get};
+ghost use Rattle.assise_lease_table.specs.LeaseMaps.{leases_at};
+ghost use Rattle.assise_lease_table.specs.Leases.{compatible, Among};
+
+use crate::holders::{lease_of_holder, may_be_held};
+use crate::lease::{Asked, Chooses, Lease, Own, Rivals, is_strong, is_to_ask};
+use crate::lease_map::LeaseMap;
+use crate::revoker::{Revoker, Revokes};
+use crate::views::Views;
+use assise_names::mode::Mode;
+use assise_names::refusal::Refusal;
+use indexmap::IndexMap;
+use std::alloc::Global;
+
+/// Which client holds which inode, and what each client stored to be asked (Assise, OSDI 2020, section 3). Two clients
+/// hold one inode only if both read, a client has at most one lease of it, and whoever holds one has a revoker.
+#[derive(Drop)]
+pub struct ClientTableOf<C> {
+    alloc: Global,
+    revokers: IndexMap<u32, C>,
+    leases: LeaseMap,
+    ghost compatible_leases: { (i : ℕ) → compatible (leases_at leases i) ≡ true },
+    ghost enrolled: { (i : ℕ) (l : _) → Among (leases_at leases i) l → is_some (get nat_eq revokers l.holder) ≡ true },
+}
+
+/// A table whose clients store a [`Revoker`].
+pub type ClientTable = ClientTableOf<Revoker>;
+
+impl<C: Revokes + Drop> ClientTableOf<C> {
+    ghost use Rattle.std.specs.Prelude.{◌≡◌, ◌≢◌, ◌&&◌, ℕ, [], true, false, Some, None, is_some, IsOk, OnOk, OnErr, IfErr, IfOk};
+    ghost use Rattle.std.specs.List.{list_any};
+    ghost use Rattle.assise_lease_table.specs.LeaseMaps.{Becomes, SameLeases};
+    ghost use Rattle.assise_lease_table.specs.Leases.{Among, with_lease, new_lease, without, freeze, is_own, is_rival, is_to_ask, lease_of, may_be_held, may_raise, serves, IsFree, compatible};
+    ghost use Rattle.assise_lease_table.specs.Answers.{AnswerAll, IsAnswer};
+    ghost use Rattle.assise_lease_table.specs.Tables.{client_leases, revoker_of, HasClientRoom, Enrols, SameRevokers};
+
+    /// No clients. It takes no memory.
+    pub fn new(alloc: Global) -> ClientTableOf<C>
+        ensures leases { (i : ℕ) → client_leases result i ≡ [] }
+        ensures revokers { (c : ℕ) → revoker_of result c ≡ None }
+    {
+        ClientTableOf {
+            alloc,
+            revokers: IndexMap::new(alloc),
+            leases: LeaseMap::new(alloc),
+        }
+    }
+
+    /// Whether a client was taken in.
+    pub fn is_enrolled(&self, client: u32) -> bool
+        ensures { result ≡ is_some (revoker_of self.now client) }
+    {
+        self.revokers.contains_key(&client)
+    }
+
+    /// Takes a client in. The one refusal is [`Refusal::OutOfMemory`], which hands the revoker back.
+    pub fn enrol(&mut self, client: u32, revoker: C) -> Result<(), (Refusal, C)>
+        requires new { revoker_of self.old client ≡ None }
+        ensures ok { OnOk result (Enrols (revoker_of self.old) (revoker_of self.new) client revoker) }
+        ensures err { OnErr result (SameRevokers (revoker_of self.old) (revoker_of self.new)) }
+        ensures given_back { IfErr result (λ e. e.1 ≡ revoker) }
+        ensures leases { SameLeases (client_leases self.old) (client_leases self.new) }
+    {
+        match self.revokers.insert(client, revoker) {
+            Ok(_) => Ok(()),
+            Err(failed) => Err((Refusal::OutOfMemory, failed.value.1)),
+        }
+    }
+
+    /// The leases of an inode.
+    pub fn leases(&self, inode: u64) -> &[Lease]
+        ensures leases { result.now ≡ client_leases self.now inode }
+        ensures compatible { compatible (client_leases self.now inode) ≡ true }
+        ensures enrolled { (l : _) → Among (client_leases self.now inode) l → is_some (revoker_of self.now l.holder) ≡ true }
+    {
+        self.leases.leases(inode)
+    }
+
+    /// Whether some lease of some inode is chosen. It walks over all leases.
+    pub fn is_any_chosen<T: Chooses>(&self, test: &T) -> bool
+        ensures none { result ≡ false → (i : ℕ) → list_any (T.choice test.now) (client_leases self.now i) ≡ false }
+        ensures some { result ≡ true → (i : ℕ) × (list_any (T.choice test.now) (client_leases self.now i) ≡ true) }
+    {
+        self.leases.is_any_chosen(test)
+    }
+
+    /// A client's lease of an inode.
+    pub fn lease(&self, client: u32, inode: u64) -> Option<Lease>
+        ensures { result ≡ lease_of (client_leases self.now inode) client }
+    {
+        lease_of_holder(self.leases.leases(inode), client)
+    }
+
+    /// Whether a client's lease serves where the mode is wanted: it is strong enough and not frozen.
+    pub fn holds(&self, client: u32, inode: u64, mode: Mode) -> bool
+        ensures { result ≡ serves (lease_of (client_leases self.now inode) client) mode }
+    {
+        match self.lease(client, inode) {
+            Some(lease) => !lease.frozen && is_strong(lease.mode, mode),
+            None => false,
+        }
+    }
+
+    /// Whether [`ClientTableOf::hold`] may be called: the client was taken in, its own lease of the inode, if any, is
+    /// neither frozen nor stronger, and no other client's stands against the mode.
+    pub fn may_hold(&self, client: u32, inode: u64, mode: Mode) -> bool
+        ensures exact { result ≡ (is_some (revoker_of self.now client) && may_be_held (client_leases self.now inode) client mode) }
+        ensures enrolled { result ≡ true → is_some (revoker_of self.now client) ≡ true }
+        ensures own { result ≡ true → may_raise (lease_of (client_leases self.now inode) client) mode ≡ true }
+        ensures free { result ≡ true → IsFree (client_leases self.now inode) client mode }
+    {
+        self.is_enrolled(client) && may_be_held(self.leases.leases(inode), client, mode)
+    }
+
+    /// Makes room for a client's lease of an inode. The one refusal is [`Refusal::OutOfMemory`], which never comes where
+    /// the client has a lease of it.
+    pub fn reserve(&mut self, client: u32, inode: u64) -> Result<(), Refusal>
+        ensures same { SameLeases (client_leases self.old) (client_leases self.new) }
+        ensures room { OnOk result (HasClientRoom self.new client inode) }
+        ensures held { is_some (lease_of (client_leases self.old inode) client) ≡ true → IsOk result }
+        ensures revokers { SameRevokers (revoker_of self.old) (revoker_of self.new) }
+    {
+        self.leases.reserve(client, inode)?;
+        Ok(())
+    }
+
+    /// Gives a client a lease for which there is room, in place of its old one. It takes no memory.
+    pub fn hold_reserved(&mut self, client: u32, inode: u64, mode: Mode)
+        requires enrolled { is_some (revoker_of self.old client) ≡ true }
+        requires room { HasClientRoom self.old client inode }
+        requires free { IsFree (client_leases self.old inode) client mode }
+        ensures becomes { Becomes (client_leases self.old) (client_leases self.new) inode (with_lease (new_lease client mode) (client_leases self.old inode)) }
+        ensures revokers { SameRevokers (revoker_of self.old) (revoker_of self.new) }
+    {
+        let lease = Lease {
+            holder: client,
+            mode,
+            frozen: false,
+        };
+        self.leases.put(inode, lease);
+    }
+
+    /// Gives a client a lease that no other client's stands against, in place of its old one, which is neither frozen nor
+    /// stronger. The one refusal is [`Refusal::OutOfMemory`], which leaves all leases as they were and never comes where
+    /// the client has a lease of the inode.
+    pub fn hold(&mut self, client: u32, inode: u64, mode: Mode) -> Result<(), Refusal>
+        requires enrolled { is_some (revoker_of self.old client) ≡ true }
+        requires own { may_raise (lease_of (client_leases self.old inode) client) mode ≡ true }
+        requires free { IsFree (client_leases self.old inode) client mode }
+        ensures ok { OnOk result (Becomes (client_leases self.old) (client_leases self.new) inode (with_lease (new_lease client mode) (client_leases self.old inode))) }
+        ensures err { OnErr result (SameLeases (client_leases self.old) (client_leases self.new)) }
+        ensures held { is_some (lease_of (client_leases self.old inode) client) ≡ true → IsOk result }
+        ensures revokers { SameRevokers (revoker_of self.old) (revoker_of self.new) }
+    {
+        self.reserve(client, inode)?;
+        self.hold_reserved(client, inode, mode);
+        Ok(())
+    }
+
+    /// Takes a client's lease of an inode away. It takes no memory.
+    pub fn release(&mut self, client: u32, inode: u64)
+        ensures becomes { Becomes (client_leases self.old) (client_leases self.new) inode (without client (client_leases self.old inode)) }
+        ensures revokers { SameRevokers (revoker_of self.old) (revoker_of self.new) }
+    {
+        self.leases.take(inode, &Own { holder: client });
+    }
+
+    /// Freezes all leases of a client. No revoker is called, and it takes no memory.
+    pub fn freeze(&mut self, client: u32)
+        ensures leases { (i : ℕ) → client_leases self.new i ≡ freeze (is_own client) (client_leases self.old i) }
+        ensures revokers { SameRevokers (revoker_of self.old) (revoker_of self.new) }
+    {
+        self.leases.freeze_all(client);
+    }
+
+    /// Freezes the chosen leases of an inode. No revoker is called, and it takes no memory.
+    pub fn freeze_chosen<T: Chooses>(&mut self, inode: u64, test: &T)
+        ensures becomes { Becomes (client_leases self.old) (client_leases self.new) inode (freeze (T.choice test.now) (client_leases self.old inode)) }
+        ensures revokers { SameRevokers (revoker_of self.old) (revoker_of self.new) }
+    {
+        self.leases.freeze(inode, test);
+    }
+
+    /// What a client answers when its lease of an inode is asked for.
+    fn answer<V: Views>(&self, client: u32, inode: u64, views: &V) -> Asked
+        requires enrolled { is_some (revoker_of self.now client) ≡ true }
+        requires viewed { is_some (V.view_of views.now client) ≡ true }
+        ensures client_is { result.client ≡ client }
+        ensures answer { IsAnswer C.answers (revoker_of self.now) (V.view_of views.now) inode result }
+    {
+        let Some(revoker) = self.revokers.get(&client) else {
+            unreachable!()
+        };
+        let Some(view) = views.view(client) else {
+            unreachable!()
+        };
+        Asked {
+            client,
+            inode,
+            cut: revoker.cut(view, inode),
+        }
+    }
+
+    /// The answers of those whose leases are chosen and not frozen yet. Nothing is frozen. The one refusal is
+    /// [`Refusal::OutOfMemory`], which never comes where nobody is asked.
+    pub fn answers<T: Chooses, V: Views>(
+        &self,
+        inode: u64,
+        test: &T,
+        views: &V,
+    ) -> Result<Vec<Asked>, Refusal>
+        requires viewed { (l : _) → Among (client_leases self.now inode) l → is_to_ask (T.choice test.now) l ≡ true → is_some (V.view_of views.now l.holder) ≡ true }
+        ensures answers { IfOk result (λ asked. AnswerAll C.answers (revoker_of self.now) (V.view_of views.now) inode (T.choice test.now) (client_leases self.now inode) asked.items) }
+        ensures nobody { list_any (is_to_ask (T.choice test.now)) (client_leases self.now inode) ≡ false → IsOk result }
+    {
+        let mut asked = Vec::new(self.alloc);
+        for lease in self.leases.leases(inode) {
+            if is_to_ask(test, lease) {
+                asked.push(self.answer(lease.holder, inode, views))?;
+            }
+        }
+        Ok(asked)
+    }
+
+    /// Asks each other client for its lease that stands against a mode: its revoker is called once, with the client's log,
+    /// and the lease is frozen. Who was asked before isn't asked again. The one refusal is [`Refusal::OutOfMemory`], which
+    /// leaves all leases as they were and never comes where nobody is asked.
+    pub fn ask<V: Views>(
+        &mut self,
+        inode: u64,
+        mode: Mode,
+        client: u32,
+        views: &V,
+    ) -> Result<Vec<Asked>, Refusal>
+        requires viewed { (l : _) → Among (client_leases self.old inode) l → is_to_ask (is_rival client mode) l ≡ true → is_some (V.view_of views.now l.holder) ≡ true }
+        ensures asked { IfOk result (λ asked. AnswerAll C.answers (revoker_of self.old) (V.view_of views.now) inode (is_rival client mode) (client_leases self.old inode) asked.items) }
+        ensures frozen { OnOk result (Becomes (client_leases self.old) (client_leases self.new) inode (freeze (is_rival client mode) (client_leases self.old inode))) }
+        ensures err { OnErr result (SameLeases (client_leases self.old) (client_leases self.new)) }
+        ensures nobody { list_any (is_to_ask (is_rival client mode)) (client_leases self.old inode) ≡ false → IsOk result }
+        ensures revokers { SameRevokers (revoker_of self.old) (revoker_of self.new) }
+    {
+        let rivals = Rivals {
+            holder: client,
+            mode,
+        };
+        let asked = self.answers(inode, &rivals, views)?;
+        self.freeze_chosen(inode, &rivals);
+        Ok(asked)
+    }
+}

@@ -1,0 +1,94 @@
+// The leases of one inode.
+ghost use Rattle.std.specs.Prelude.{◌≡◌, ◌≤◌, true, vec_len, vec_capacity};
+ghost use Rattle.assise_lease_table.specs.Lists.{HasPlaceIn, is_any};
+ghost use Rattle.assise_lease_table.specs.Leases.{with_lease, leave_out, freeze, frozen_if, lease_of, is_own, may_be_held, may_raise, IsFree};
+
+use crate::lease::{Chooses, Lease, Own, Rivals, is_any_chosen, is_strong};
+use assise_names::mode::Mode;
+
+/// The holder's lease.
+pub(crate) fn lease_of_holder(leases: &[Lease], holder: u32) -> Option<Lease>
+    ensures { result ≡ lease_of leases.now holder }
+{
+    for lease in leases {
+        if lease.holder == holder {
+            return Some(*lease);
+        }
+    }
+    None
+}
+
+/// Whether a holder may be given a lease in a mode: its own, if any, is neither frozen nor stronger, and no other holder's
+/// stands against the mode.
+pub(crate) fn may_be_held(leases: &[Lease], holder: u32, mode: Mode) -> bool
+    ensures exact { result ≡ may_be_held leases.now holder mode }
+    ensures own { result ≡ true → may_raise (lease_of leases.now holder) mode ≡ true }
+    ensures free { result ≡ true → IsFree leases.now holder mode }
+{
+    let may_raise = match lease_of_holder(leases, holder) {
+        Some(lease) => !lease.frozen && is_strong(mode, lease.mode),
+        None => true,
+    };
+    may_raise && !is_any_chosen(&Rivals { holder, mode }, leases)
+}
+
+/// Takes the chosen leases out.
+pub(crate) fn take_out<T: Chooses>(leases: &mut Vec<Lease>, test: &T)
+    ensures items { leases.new.items ≡ leave_out (T.choice test.now) leases.old.items }
+    ensures len { vec_len leases.new ≤ vec_len leases.old }
+    ensures capacity { vec_capacity leases.new ≡ vec_capacity leases.old }
+{
+    leases.retain(|lease| !test.chooses(lease));
+}
+
+/// Takes the holder's lease out.
+pub(crate) fn take_own_out(leases: &mut Vec<Lease>, holder: u32)
+    ensures items { leases.new.items ≡ leave_out (is_own holder) leases.old.items }
+    ensures len { vec_len leases.new ≤ vec_len leases.old }
+    ensures capacity { vec_capacity leases.new ≡ vec_capacity leases.old }
+{
+    take_out(leases, &Own { holder });
+}
+
+/// Takes the holder's lease out, and says whether the leases of others are left.
+pub(crate) fn leaves_others(leases: &mut Vec<Lease>, holder: u32) -> bool
+    ensures items { leases.new.items ≡ leave_out (is_own holder) leases.old.items }
+    ensures left { result ≡ is_any leases.new.items }
+{
+    take_own_out(leases, holder);
+    !leases.is_empty()
+}
+
+/// Puts a lease in place of its holder's old one and of the chosen ones.
+pub(crate) fn put_over<T: Chooses>(leases: &mut Vec<Lease>, lease: Lease, over: &T)
+    requires place { HasPlaceIn lease.holder leases.old }
+    ensures { leases.new.items ≡ with_lease lease (leave_out (T.choice over.now) leases.old.items) }
+{
+    take_own_out(leases, lease.holder);
+    take_out(leases, over);
+    leases.push_reserved(lease);
+}
+
+/// The lease, frozen if it is chosen.
+fn frozen_if_chosen<T: Chooses>(test: &T, lease: Lease) -> Lease
+    ensures { result ≡ frozen_if (T.choice test.now lease) lease }
+{
+    let frozen = test.chooses(&lease) || lease.frozen;
+    Lease { frozen, ..lease }
+}
+
+/// Freezes the chosen leases.
+pub(crate) fn freeze_chosen<T: Chooses>(leases: &mut [Lease], test: &T)
+    ensures { leases.new ≡ freeze (T.choice test.now) leases.old }
+{
+    for lease in leases.iter_mut() {
+        *lease = frozen_if_chosen(test, *lease);
+    }
+}
+
+/// Freezes the holder's lease.
+pub(crate) fn freeze_own(leases: &mut Vec<Lease>, holder: u32)
+    ensures { leases.new.items ≡ freeze (is_own holder) leases.old.items }
+{
+    freeze_chosen(leases, &Own { holder });
+}

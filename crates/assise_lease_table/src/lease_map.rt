@@ -1,0 +1,166 @@
+// Leases by inodes.
+ghost use Rattle.std.specs.Prelude.{◌≡◌, ℕ, length, nat_eq, true};
+ghost use Rattle.indexmap.specs.IndexMap.{get};
+ghost use Rattle.assise_lease_table.specs.Lists.{is_held};
+
+use crate::holders::{
+    freeze_chosen, freeze_own, lease_of_holder, leaves_others, put_over, take_out, take_own_out,
+};
+use crate::lease::{Chooses, Lease, is_any_chosen};
+use indexmap::IndexMap;
+use std::alloc::{AllocError, Global};
+use std::mem;
+
+/// The leases of each inode. Few hold one inode, so they stand in a short list; no list is empty, so nothing stays for an
+/// inode that nobody holds. Room for the list of one inode more stands beside the map.
+#[derive(Drop)]
+pub struct LeaseMap {
+    alloc: Global,
+    inodes: IndexMap<u64, Vec<Lease>>,
+    spare: Vec<Lease>,
+    ghost held: { (i : ℕ) → is_held (get nat_eq inodes i) ≡ true },
+    ghost spared: { length spare.items ≡ 0 },
+}
+
+impl LeaseMap {
+    ghost use Rattle.std.specs.Prelude.{◌≡◌, ℕ, OnOk, [], ◌∷◌, true, false, is_some, IsOk};
+    ghost use Rattle.std.specs.List.{list_any};
+    ghost use Rattle.indexmap.specs.IndexMap.{values};
+    ghost use Rattle.assise_lease_table.specs.LeaseMaps.{leases_at, HasRoom, Becomes, SameLeases};
+    ghost use Rattle.assise_lease_table.specs.Leases.{with_lease, without, leave_out, freeze, is_own, lease_of};
+
+    /// No leases. It takes no memory.
+    pub fn new(alloc: Global) -> LeaseMap
+        ensures { (i : ℕ) → leases_at result i ≡ [] }
+    {
+        LeaseMap {
+            alloc,
+            inodes: IndexMap::new(alloc),
+            spare: Vec::new(alloc),
+        }
+    }
+
+    /// The leases of an inode.
+    pub fn leases(&self, inode: u64) -> &[Lease]
+        ensures { result.now ≡ leases_at self.now inode }
+    {
+        match self.inodes.get(&inode) {
+            Some(leases) => leases.as_slice(),
+            None => &[],
+        }
+    }
+
+    /// Whether some lease of some inode is chosen.
+    pub fn is_any_chosen<T: Chooses>(&self, test: &T) -> bool
+        ensures none { result ≡ false → (i : ℕ) → list_any (T.choice test.now) (leases_at self.now i) ≡ false }
+        ensures some { result ≡ true → (i : ℕ) × (list_any (T.choice test.now) (leases_at self.now i) ≡ true) }
+    {
+        let _distinct = self.inodes.iter();
+        self.is_any_list_chosen(test)
+    }
+
+    /// Whether some list has a lease that is chosen.
+    fn is_any_list_chosen<T: Chooses>(&self, test: &T) -> bool
+        ensures { result ≡ list_any (λ v. list_any (T.choice test.now) v.items) (values self.now.inodes) }
+    {
+        self.inodes
+            .values()
+            .any(|leases| is_any_chosen(test, leases))
+    }
+
+    /// Makes room for a holder's lease of an inode. None is asked for where the holder has a lease of it.
+    pub fn reserve(&mut self, holder: u32, inode: u64) -> Result<(), AllocError>
+        ensures same { SameLeases (leases_at self.old) (leases_at self.new) }
+        ensures room { OnOk result (HasRoom self.new holder inode) }
+        ensures held { is_some (lease_of (leases_at self.old inode) holder) ≡ true → IsOk result }
+    {
+        if let Some(leases) = self.inodes.get_mut(&inode) {
+            if lease_of_holder(leases, holder).is_some() {
+                return Ok(());
+            }
+            return leases.reserve(1);
+        }
+        self.spare.reserve(1)?;
+        self.inodes.reserve(1)
+    }
+
+    /// Gives a holder a lease of an inode in place of its old one.
+    pub fn put(&mut self, inode: u64, lease: Lease)
+        requires { HasRoom self.old lease.holder inode }
+        ensures { Becomes (leases_at self.old) (leases_at self.new) inode (with_lease lease (leases_at self.old inode)) }
+    {
+        if let Some(leases) = self.inodes.get_mut(&inode) {
+            take_own_out(leases, lease.holder);
+            leases.push_reserved(lease);
+            return;
+        }
+        self.put_first(inode, lease);
+    }
+
+    /// Gives a holder a lease of an inode in place of its old one and of the chosen ones.
+    pub fn put_over<T: Chooses>(&mut self, inode: u64, lease: Lease, over: &T)
+        requires { HasRoom self.old lease.holder inode }
+        ensures { Becomes (leases_at self.old) (leases_at self.new) inode (with_lease lease (leave_out (T.choice over.now) (leases_at self.old inode))) }
+    {
+        if let Some(leases) = self.inodes.get_mut(&inode) {
+            put_over(leases, lease, over);
+            return;
+        }
+        self.put_first(inode, lease);
+    }
+
+    /// Gives a holder the first lease of an inode.
+    fn put_first(&mut self, inode: u64, lease: Lease)
+        requires room { HasRoom self.old lease.holder inode }
+        requires first { leases_at self.old inode ≡ [] }
+        ensures { Becomes (leases_at self.old) (leases_at self.new) inode (lease ∷ []) }
+    {
+        let mut leases = mem::replace(&mut self.spare, Vec::new(self.alloc));
+        leases.push_reserved(lease);
+        let Ok(_) = self.inodes.insert(inode, leases) else {
+            unreachable!()
+        };
+    }
+
+    /// Takes the chosen leases of an inode away.
+    pub fn take<T: Chooses>(&mut self, inode: u64, test: &T)
+        ensures { Becomes (leases_at self.old) (leases_at self.new) inode (leave_out (T.choice test.now) (leases_at self.old inode)) }
+    {
+        let Some(leases) = self.inodes.get_mut(&inode) else {
+            return;
+        };
+        take_out(leases, test);
+        if leases.is_empty() {
+            self.inodes.swap_remove(&inode);
+        }
+    }
+
+    /// Freezes the chosen leases of an inode.
+    pub fn freeze<T: Chooses>(&mut self, inode: u64, test: &T)
+        ensures { Becomes (leases_at self.old) (leases_at self.new) inode (freeze (T.choice test.now) (leases_at self.old inode)) }
+    {
+        let Some(leases) = self.inodes.get_mut(&inode) else {
+            return;
+        };
+        freeze_chosen(leases, test);
+    }
+
+    /// Freezes all leases of a holder.
+    pub fn freeze_all(&mut self, holder: u32)
+        ensures { (i : ℕ) → leases_at self.new i ≡ freeze (is_own holder) (leases_at self.old i) }
+    {
+        self.inodes.retain(|_, leases| {
+            freeze_own(leases, holder);
+            true
+        });
+    }
+
+    /// Takes all leases of a holder away.
+    pub fn take_all(&mut self, holder: u32)
+        ensures { (i : ℕ) → leases_at self.new i ≡ without holder (leases_at self.old i) }
+    {
+        let _distinct = self.inodes.iter();
+        self.inodes
+            .retain(|_, leases| leaves_others(leases, holder));
+    }
+}

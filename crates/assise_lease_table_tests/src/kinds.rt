@@ -1,0 +1,48 @@
+// What the kinds of revokers answer for four logs.
+use crate::logs::log_of;
+use crate::steps::{ask, enrol, hold, show};
+use crate::stored::stored_cut;
+use assise_lease_table::client_table::{ClientTable, ClientTableOf};
+use assise_names::mode::Mode;
+use assise_revokers::kinds::{eights, least, whole};
+use assise_rows::Steps;
+use std::alloc::Global;
+
+/// `FIRST END LAST`: a log, with the last touch of inode 7. What the three kinds answer is told twice: as the functions
+/// answer, and as three clients that stored them answer when they are asked for inode 7.
+#[derive(Drop)]
+struct Kinds {}
+
+impl Steps for Kinds {
+    fn put_outcome(alloc: Global, steps: &str, text: &mut String) -> Option<()> {
+        let mut words = steps.split(' ');
+        let first = words.next()?.parse::<u64>().ok()?;
+        let end = words.next()?.parse::<u64>().ok()?;
+        let last = words.next()?.parse::<u64>().ok();
+        let logs = log_of(alloc, first, end, last)?;
+        let view = logs.log.view();
+        write!(text, " {} {} {}", least(view, 7), whole(view, 7), eights(view, 7)).ok()?;
+        write!(text, " {}", stored_cut(alloc, view, 7).ok()?).ok()?;
+        let mut table: ClientTable = ClientTableOf::new(alloc);
+        enrol(alloc, &mut table, 1, "least")?;
+        enrol(alloc, &mut table, 2, "whole")?;
+        enrol(alloc, &mut table, 3, "eights")?;
+        for client in 1..4 {
+            hold(&mut table, client, 7, Mode::Read)?;
+        }
+        ask(&mut table, &logs, 4, 7, Mode::Write, text)
+    }
+}
+
+/// The cuts of four logs.
+const CUTS: &str = "\
+3 20 9 => 10 20 16 10 1:7:10 2:7:20 3:7:16
+3 20 none => 3 20 8 3 1:7:3 2:7:20 3:7:8
+3 6 4 => 5 6 6 5 1:7:5 2:7:6 3:7:6
+0 0 none => 0 0 0 0 1:7:0 2:7:0 3:7:0
+";
+
+#[test]
+fn the_kinds_answer_cuts(rt: HostRuntime) {
+    show::<Kinds>(rt.alloc(), &rt, CUTS);
+}

@@ -1,0 +1,63 @@
+-- What is lawful inode by inode.
+use Rattle.std.proofs.Common.{◌≡◌, ℕ, Bool, true, cond, List, [], ◌∷◌, filter, sym, refl, ap, subst, ◌∙◌}
+use mathlib.Core.Logic.{dite}
+use native.Mathlib.Decide.{ℕ_discrete}
+use Rattle.assise_lease_table.specs.declared.lease.Lease.{Lease}
+use Rattle.assise_lease_table.specs.LeaseMaps.{Becomes, SameLeases}
+use Rattle.assise_lease_table.specs.Leases.{compatible}
+use Rattle.assise_lease_tree.specs.Levels.{Homes, Under, AskedBelow}
+use Rattle.assise_lease_tree.specs.TwoLevels.{TwoLevels, IsLawful, SameLevels, nobody}
+
+-- the leases of one inode are lawful
+pub record LawfulAt (home : Homes) (cs ns : List Lease) : Type 0 where
+  pub fits_c : compatible cs ≡ true
+  pub fits_n : compatible ns ≡ true
+  pub under : Under home cs ns
+  pub asked : AskedBelow home cs ns
+
+pub lawful_at : {t : TwoLevels} → IsLawful t → (i : ℕ) → LawfulAt t.home (t.clients i) (t.nodes i)
+lawful_at l i = record { fits_c = l.clients_compatible i; fits_n = l.nodes_compatible i; under = l.under i; asked = l.asked i }
+
+pub from_each : (t : TwoLevels) → ((i : ℕ) → LawfulAt t.home (t.clients i) (t.nodes i)) → IsLawful t
+from_each t h = record { clients_compatible = λ i. (h i).fits_c; nodes_compatible = λ i. (h i).fits_n; under = λ i. (h i).under; asked = λ i. (h i).asked }
+
+same_at : {home later : Homes} {cs ds ns ms : List Lease} → ((c : ℕ) → later c ≡ home c) → ds ≡ cs → ms ≡ ns → LawfulAt home cs ns → LawfulAt later ds ms
+same_at {home} {later} {cs} {ds} {ns} {ms} homes clients nodes l =
+    let homes_are : later ≡ home = λ i c. homes c i in
+    subst (λ h. LawfulAt h ds ms) (sym homes_are) (subst (λ ls. LawfulAt home ls ms) (sym clients) (subst (λ ls. LawfulAt home cs ls) (sym nodes) l))
+
+-- where each inode's leases are known
+pub each_lawful : {home : Homes} (new : TwoLevels) (cs ns : ℕ → List Lease) → ((c : ℕ) → new.home c ≡ home c) → ((i : ℕ) → new.clients i ≡ cs i) → ((i : ℕ) → new.nodes i ≡ ns i)
+    → ((i : ℕ) → LawfulAt home (cs i) (ns i)) → IsLawful new
+each_lawful new cs ns homes clients nodes h = from_each new (λ i. same_at homes (clients i) (nodes i) (h i))
+
+-- where the leases of one inode change
+pub becomes_lawful : (old new : TwoLevels) {inode : ℕ} {cs ns : List Lease} → ((c : ℕ) → new.home c ≡ old.home c) → Becomes old.clients new.clients inode cs → Becomes old.nodes new.nodes inode ns
+    → LawfulAt old.home cs ns → IsLawful old → IsLawful new
+becomes_lawful old new {inode} {cs} {ns} homes clients nodes here lawful = from_each new (λ i. dite (ℕ_discrete i inode)
+    (λ e. same_at homes (ap new.clients e ∙ clients.here) (ap new.nodes e ∙ nodes.here) here)
+    (λ n. same_at homes (clients.elsewhere i n) (nodes.elsewhere i n) (lawful_at lawful i)))
+
+pub same_lawful : {old new : TwoLevels} → SameLevels old new → IsLawful old → IsLawful new
+same_lawful {old} {new} same lawful = each_lawful new old.clients old.nodes same.home same.clients same.nodes (lawful_at lawful)
+
+pub nobody_lawful : IsLawful nobody
+nobody_lawful = from_each nobody (λ i. record { fits_c = refl; fits_n = refl; under = λ l a. absurd a; asked = λ k a frozen. absurd a })
+
+-- a change after one that changed no leases
+pub becomes_after : {a b d : ℕ → List Lease} {inode : ℕ} {ls : List Lease} → SameLeases a b → Becomes b d inode ls → Becomes a d inode ls
+becomes_after same change = record { here = change.here; elsewhere = λ i n. change.elsewhere i n ∙ same i }
+
+-- two changes of one inode
+pub becomes_twice : {a b d : ℕ → List Lease} {inode : ℕ} {ls ks : List Lease} → Becomes a b inode ls → Becomes b d inode ks → Becomes a d inode ks
+becomes_twice first second = record { here = second.here; elsewhere = λ i n. second.elsewhere i n ∙ first.elsewhere i n }
+
+pub becomes_is : {a b : ℕ → List Lease} {inode : ℕ} {ls ks : List Lease} → ls ≡ ks → Becomes a b inode ls → Becomes a b inode ks
+becomes_is same change = record { here = change.here ∙ same; elsewhere = change.elsewhere }
+
+pub unchanged : {m : ℕ → List Lease} {inode : ℕ} {ls : List Lease} → ls ≡ m inode → Becomes m m inode ls
+unchanged same = record { here = sym same; elsewhere = λ i n. refl }
+
+pub filter_alike : (p q : Lease → Bool) → ((l : Lease) → p l ≡ q l) → (ls : List Lease) → filter p ls ≡ filter q ls
+filter_alike p q same [] = refl
+filter_alike p q same (l ∷ ls) = λ i. cond (same l i) (l ∷ filter_alike p q same ls i) (filter_alike p q same ls i)

@@ -1,0 +1,5 @@
+pub mod LeaseCalls
+pub mod Levels
+pub mod Trees
+pub mod Turns
+pub mod TwoLevels

@@ -1,0 +1,263 @@
+// The leases of clients below their nodes, and of nodes from the manager.
+ghost use Rattle.std.specs.Prelude.{◌≡◌, ℕ, nat_eq, is_some};
+ghost use Rattle.indexmap.specs.IndexMap.{get};
+ghost use Rattle.assise_lease_table.specs.Tables.{client_leases, node_leases, revoker_of};
+ghost use Rattle.assise_lease_tree.specs.Levels.{Under, AskedBelow};
+
+use crate::acquired::Acquired;
+use crate::levels::{GivenUp, InTheWay, OfNode, is_busy, is_frozen, raised};
+use crate::request::Request;
+use assise_lease_table::client_table::ClientTableOf;
+use assise_lease_table::lease::{Asked, is_any_chosen};
+use assise_lease_table::node_table::NodeTable;
+use assise_lease_table::revoker::{Revoker, Revokes};
+use assise_lease_table::views::Views;
+use assise_names::mode::Mode;
+use assise_names::refusal::Refusal;
+use indexmap::IndexMap;
+use std::alloc::Global;
+
+/// Who holds which inode on two levels (Assise, OSDI 2020, section 3): the manager delegates leases to nodes, and a node to
+/// its clients. On each level two hold one inode only if both read. A client's lease lies under one of its node that is as
+/// strong. Below a node's lease that was asked for some client holds the inode, and each that does was asked: such a lease
+/// grants nothing.
+#[derive(Drop)]
+pub struct LeaseTreeOf<C> {
+    homes: IndexMap<u32, u32>,
+    clients: ClientTableOf<C>,
+    nodes: NodeTable,
+    ghost under: { (i : ℕ) → Under (get nat_eq homes) (client_leases clients i) (node_leases nodes i) },
+    ghost asked_below: { (i : ℕ) → AskedBelow (get nat_eq homes) (client_leases clients i) (node_leases nodes i) },
+    ghost known: { (c : ℕ) → is_some (get nat_eq homes c) ≡ is_some (revoker_of clients c) },
+}
+
+/// A tree whose clients store a [`Revoker`].
+pub type LeaseTree = LeaseTreeOf<Revoker>;
+
+impl<C: Revokes + Drop> LeaseTreeOf<C> {
+    ghost use Rattle.std.specs.Prelude.{◌≡◌, ℕ, ⊤, true, false, Some, None, is_some, OnOk, OnErr, IfOk, IfErr, IsOk};
+    ghost use Rattle.std.specs.List.{list_any};
+    ghost use Rattle.assise_lease_table.specs.Answers.{AnswerAll};
+    ghost use Rattle.assise_lease_table.specs.Leases.{Among, lease_of, serves, is_to_ask};
+    ghost use Rattle.assise_lease_table.specs.Tables.{Enrols, SameRevokers};
+    ghost use Rattle.assise_lease_tree.specs.Levels.{in_way, is_busy};
+    ghost use Rattle.assise_lease_tree.specs.Trees.{levels_of, stored_by};
+    ghost use Rattle.assise_lease_tree.specs.Turns.{is_granted, MatchAcquired};
+    ghost use Rattle.assise_lease_tree.specs.TwoLevels.{nobody, IsLawful, SameLevels, EnrolsAt, is_free_for, IsGranted, IsAskedFor, IsReleased, IsFrozen, IsIdle, IsFreed};
+
+    /// No clients and no leases. It takes no memory.
+    pub fn new(alloc: Global) -> LeaseTreeOf<C>
+        ensures levels { SameLevels nobody (levels_of result) }
+        ensures revokers { (c : ℕ) → stored_by result c ≡ None }
+    {
+        LeaseTreeOf {
+            homes: IndexMap::new(alloc),
+            clients: ClientTableOf::new(alloc),
+            nodes: NodeTable::new(alloc),
+        }
+    }
+
+    /// The node of a client, if it was taken in.
+    pub fn node_of(&self, client: u32) -> Option<u32>
+        ensures { result ≡ (levels_of self.now).home client }
+    {
+        self.homes.get(&client).copied()
+    }
+
+    /// Takes a client of a node in. The one refusal is [`Refusal::OutOfMemory`], which hands the revoker back and leaves
+    /// all as it was.
+    pub fn enrol(&mut self, client: u32, node: u32, revoker: C) -> Result<(), (Refusal, C)>
+        requires new { (levels_of self.old).home client ≡ None }
+        ensures ok { OnOk result (EnrolsAt (levels_of self.old) (levels_of self.new) client node) }
+        ensures revokers { OnOk result (Enrols (stored_by self.old) (stored_by self.new) client revoker) }
+        ensures err { OnErr result (SameLevels (levels_of self.old) (levels_of self.new)) }
+        ensures err_revokers { OnErr result (SameRevokers (stored_by self.old) (stored_by self.new)) }
+        ensures given_back { IfErr result (λ e. e.1 ≡ revoker) }
+    {
+        let Ok(()) = self.homes.reserve(1) else {
+            return Err((Refusal::OutOfMemory, revoker));
+        };
+        self.clients.enrol(client, revoker)?;
+        let Ok(_) = self.homes.insert(client, node) else {
+            unreachable!()
+        };
+        Ok(())
+    }
+
+    /// Whether a client's lease serves where the mode is wanted: it is strong enough and not frozen.
+    pub fn holds(&self, client: u32, inode: u64, mode: Mode) -> bool
+        ensures holds { result ≡ serves (lease_of ((levels_of self.now).clients inode) client) mode }
+        ensures lawful { IsLawful (levels_of self.now) }
+    {
+        self.clients.holds(client, inode, mode)
+    }
+
+    /// Whether a request is granted at once.
+    fn is_free(&self, request: Request) -> bool
+        ensures { result ≡ is_free_for (levels_of self.now) request.client request.node request.inode request.mode }
+    {
+        let way = InTheWay {
+            request,
+            homes: &self.homes,
+            nodes: self.nodes.leases(request.inode),
+        };
+        !is_any_chosen(&way, self.clients.leases(request.inode))
+            && !is_frozen(self.clients.lease(request.client, request.inode))
+            && !is_frozen(self.nodes.lease(request.node, request.inode))
+    }
+
+    /// Grants a request that nobody stands in the way of. All room is made before the first change.
+    fn grant(&mut self, request: Request) -> Result<(), Refusal>
+        requires at_home { (levels_of self.old).home request.client ≡ Some request.node }
+        requires free { is_free_for (levels_of self.old) request.client request.node request.inode request.mode ≡ true }
+        ensures granted { OnOk result (IsGranted (levels_of self.old) (levels_of self.new) request.client request.node request.inode request.mode) }
+        ensures err { OnErr result (SameLevels (levels_of self.old) (levels_of self.new)) }
+        ensures raised { is_some (lease_of ((levels_of self.old).clients request.inode) request.client) ≡ true → IsOk result }
+        ensures revokers { SameRevokers (stored_by self.old) (stored_by self.new) }
+    {
+        let Request {
+            client,
+            node,
+            inode,
+            mode,
+        } = request;
+        self.clients.reserve(client, inode)?;
+        self.nodes.reserve(node, inode)?;
+        let client_mode = raised(mode, self.clients.lease(client, inode));
+        let node_mode = raised(mode, self.nodes.lease(node, inode));
+        let given_up = GivenUp {
+            request,
+            homes: &self.homes,
+            clients: self.clients.leases(inode),
+        };
+        self.nodes.hold_over(node, inode, node_mode, &given_up);
+        self.clients.hold_reserved(client, inode, client_mode);
+        Ok(())
+    }
+
+    /// Asks those who stand in the way of a request. All answers are there before the first lease is frozen.
+    fn ask<V: Views>(&mut self, request: Request, views: &V) -> Result<Vec<Asked>, Refusal>
+        requires at_home { (levels_of self.old).home request.client ≡ Some request.node }
+        requires blocked { is_free_for (levels_of self.old) request.client request.node request.inode request.mode ≡ false }
+        requires viewed { (l : _) → Among ((levels_of self.old).clients request.inode) l → l.frozen ≡ false → is_some (V.view_of views.now l.holder) ≡ true }
+        ensures asked { OnOk result (IsAskedFor (levels_of self.old) (levels_of self.new) request.client request.node request.inode request.mode) }
+        ensures answers { IfOk result (λ asked. AnswerAll C.answers (stored_by self.old) (V.view_of views.now) request.inode (in_way (levels_of self.old).home ((levels_of self.old).nodes request.inode) request.client request.node request.mode) ((levels_of self.old).clients request.inode) asked.items) }
+        ensures err { OnErr result (SameLevels (levels_of self.old) (levels_of self.new)) }
+        ensures nobody { list_any (is_to_ask (in_way (levels_of self.old).home ((levels_of self.old).nodes request.inode) request.client request.node request.mode)) ((levels_of self.old).clients request.inode) ≡ false → IsOk result }
+        ensures revokers { SameRevokers (stored_by self.old) (stored_by self.new) }
+    {
+        let Request {
+            node,
+            inode,
+            mode,
+            ..
+        } = request;
+        let way = InTheWay {
+            request,
+            homes: &self.homes,
+            nodes: self.nodes.leases(inode),
+        };
+        let asked = self.clients.answers(inode, &way, views)?;
+        self.clients.freeze_chosen(inode, &way);
+        let given_up = GivenUp {
+            request,
+            homes: &self.homes,
+            clients: self.clients.leases(inode),
+        };
+        self.nodes.take(inode, &given_up);
+        self.nodes.ask(inode, mode, node);
+        Ok(asked)
+    }
+
+    /// Gets a client a lease. It asks its node first, which grants where its own lease was not asked for and is strong
+    /// enough and no other local client stands against the mode. Else in one step each local client that stands against
+    /// it is asked, and each client of a node that stands against it; a node with no client that holds the inode gives
+    /// its lease up at once. Where nobody stands against the mode then, the client gets the lease. Who was asked before
+    /// isn't asked again. The one refusal is [`Refusal::OutOfMemory`], which leaves all leases as they were; it never comes
+    /// where a lease is raised in its place, nor where nobody is asked.
+    pub fn acquire<V: Views>(
+        &mut self,
+        client: u32,
+        inode: u64,
+        mode: Mode,
+        views: &V,
+    ) -> Result<Acquired, Refusal>
+        requires enrolled { is_some ((levels_of self.old).home client) ≡ true }
+        requires viewed { (l : _) → Among ((levels_of self.old).clients inode) l → l.frozen ≡ false → is_some (V.view_of views.now l.holder) ≡ true }
+        ensures granted { (node : ℕ) → (levels_of self.old).home client ≡ Some node → IfOk result (λ acquired. is_granted acquired ≡ is_free_for (levels_of self.old) client node inode mode) }
+        ensures levels { (node : ℕ) → (levels_of self.old).home client ≡ Some node → IfOk result (λ acquired. MatchAcquired acquired
+            (IsGranted (levels_of self.old) (levels_of self.new) client node inode mode)
+            (λ asked. IsAskedFor (levels_of self.old) (levels_of self.new) client node inode mode)) }
+        ensures answers { (node : ℕ) → (levels_of self.old).home client ≡ Some node → IfOk result (λ acquired. MatchAcquired acquired
+            ⊤
+            (AnswerAll C.answers (stored_by self.old) (V.view_of views.now) inode (in_way (levels_of self.old).home ((levels_of self.old).nodes inode) client node mode) ((levels_of self.old).clients inode))) }
+        ensures err { OnErr result (SameLevels (levels_of self.old) (levels_of self.new)) }
+        ensures raised { (node : ℕ) → (levels_of self.old).home client ≡ Some node → is_free_for (levels_of self.old) client node inode mode ≡ true → is_some (lease_of ((levels_of self.old).clients inode) client) ≡ true → IsOk result }
+        ensures nobody { (node : ℕ) → (levels_of self.old).home client ≡ Some node → is_free_for (levels_of self.old) client node inode mode ≡ false → list_any (is_to_ask (in_way (levels_of self.old).home ((levels_of self.old).nodes inode) client node mode)) ((levels_of self.old).clients inode) ≡ false → IsOk result }
+        ensures revokers { SameRevokers (stored_by self.old) (stored_by self.new) }
+    {
+        let Some(home) = self.homes.get(&client) else {
+            unreachable!()
+        };
+        let request = Request {
+            client,
+            node: *home,
+            inode,
+            mode,
+        };
+        if self.is_free(request) {
+            self.grant(request)?;
+            return Ok(Acquired::Granted);
+        }
+        let asked = self.ask(request, views)?;
+        Ok(Acquired::AskedFor(asked))
+    }
+
+    /// Takes a client's lease of an inode away, and the asked lease of its node with the last client below. It takes no
+    /// memory.
+    pub fn release(&mut self, client: u32, inode: u64)
+        requires enrolled { is_some ((levels_of self.old).home client) ≡ true }
+        ensures released { (node : ℕ) → (levels_of self.old).home client ≡ Some node → IsReleased (levels_of self.old) (levels_of self.new) client node inode }
+        ensures revokers { SameRevokers (stored_by self.old) (stored_by self.new) }
+    {
+        let Some(home) = self.homes.get(&client) else {
+            unreachable!()
+        };
+        let node = *home;
+        self.clients.release(client, inode);
+        if is_frozen(self.nodes.lease(node, inode))
+            && !is_busy(&self.homes, self.clients.leases(inode), node)
+        {
+            self.nodes.release(node, inode);
+        }
+    }
+
+    /// Freezes all leases of a client. No revoker is called, and it takes no memory.
+    pub fn freeze(&mut self, client: u32)
+        ensures frozen { IsFrozen (levels_of self.old) (levels_of self.new) client }
+        ensures revokers { SameRevokers (stored_by self.old) (stored_by self.new) }
+    {
+        self.clients.freeze(client);
+    }
+
+    /// Whether no client of a node holds an inode, frozen or not. It walks over all leases of clients.
+    pub fn is_idle(&self, node: u32) -> bool
+        ensures idle { result ≡ true → IsIdle (levels_of self.now) node }
+        ensures busy { result ≡ false → (i : ℕ) × (is_busy (levels_of self.now).home ((levels_of self.now).clients i) node ≡ true) }
+    {
+        let of_node = OfNode {
+            homes: &self.homes,
+            node,
+        };
+        !self.clients.is_any_chosen(&of_node)
+    }
+
+    /// Takes all leases of a node away, none of whose clients holds one. It takes no memory.
+    pub fn free_node(&mut self, node: u32)
+        requires idle { IsIdle (levels_of self.old) node }
+        ensures freed { IsFreed (levels_of self.old) (levels_of self.new) node }
+        ensures revokers { SameRevokers (stored_by self.old) (stored_by self.new) }
+    {
+        self.nodes.free(node);
+    }
+}

@@ -1,0 +1,55 @@
+// Leases step by step. Of who is asked the client, the inode and the cut are told.
+use crate::steps::{NewTree, show};
+
+/// Readers and writers of one inode.
+const MODES: &str = "\
+enrol 1 1 least, enrol 2 1 least, enrol 3 2 least, read 1 7, read 2 7, read 3 7, holds 1 7, holds 2 7, holds 3 7 => granted granted granted read read read
+enrol 1 1 least, enrol 2 2 least, write 1 7, holds 1 7, holds 1 8, holds 2 7, write 2 8, holds 2 8 => granted write - - granted write
+enrol 1 1 whole, enrol 2 1 least, write 1 7, read 2 7, holds 1 7, holds 2 7, release 1 7, read 2 7 => granted asked 1:7:0 - - granted
+enrol 1 1 whole, enrol 2 2 least, write 1 7, read 2 7, holds 1 7, release 1 7, read 2 7, holds 2 7 => granted asked 1:7:0 - granted read
+enrol 1 1 least, read 1 7, write 1 7, holds 1 7, read 1 7, holds 1 7 => granted granted write granted write
+enrol 1 1 least, enrol 2 1 least, read 1 7, read 2 7, release 2 7, write 1 7, holds 1 7 => granted granted granted write
+";
+
+/// Who stands in the way on two nodes, each asked once, with the cuts of their own logs.
+const ASKED: &str = "\
+enrol 1 1 least, enrol 2 2 whole, enrol 3 3 least, fill 1 9 1, fill 1 10 7, fill 1 20 1, drop 1 3, fill 2 6 1, read 1 7, read 2 7, write 3 7, holds 1 7, holds 2 7, holds 3 7, write 3 7 => granted granted asked 1:7:10 2:7:6 - - - asked
+enrol 1 1 least, enrol 2 2 least, enrol 3 3 least, read 1 7, read 2 7, write 3 7, release 1 7, write 3 7, release 2 7, write 3 7, holds 3 7 => granted granted asked 1:7:0 2:7:0 asked granted write
+enrol 1 1 eights, enrol 2 1 least, enrol 3 2 least, fill 1 20 1, read 1 7, read 2 7, write 3 7, holds 2 7 => granted granted asked 1:7:0 2:7:0 -
+enrol 1 1 eights, enrol 2 2 least, fill 1 10 7, fill 1 20 1, write 1 7, read 2 7 => granted asked 1:7:16
+enrol 1 1 least, enrol 2 2 least, read 1 7, read 1 8, write 2 7, holds 1 8 => granted granted asked 1:7:0 read
+";
+
+/// Two readers that both want to write: each is asked, and the first to be let go of gets it.
+const CROSSING: &str = "\
+enrol 1 1 least, enrol 2 2 least, read 1 7, read 2 7, write 1 7, write 2 7, holds 1 7, holds 2 7, release 1 7, write 2 7, release 2 7, write 2 7, holds 2 7 => granted granted asked 2:7:0 asked 1:7:0 - - asked granted write
+enrol 1 1 least, enrol 2 1 least, read 1 7, read 2 7, write 1 7, write 2 7, release 2 7, write 1 7, release 1 7, write 1 7, holds 1 7 => granted granted asked 2:7:0 asked 1:7:0 asked granted write
+";
+
+/// An asked lease of a node grants nothing, and goes with the last client below.
+const NODES: &str = "\
+enrol 1 1 least, enrol 2 1 least, enrol 3 2 least, read 1 7, write 3 7, read 2 7, release 1 7, read 2 7, write 3 7, holds 2 7 => granted asked 1:7:0 asked granted asked 2:7:0 -
+enrol 1 1 least, enrol 2 1 least, enrol 3 2 least, read 1 7, read 2 7, write 3 7, release 1 7, write 3 7, read 1 7, release 2 7, write 3 7 => granted granted asked 1:7:0 2:7:0 asked asked granted
+enrol 1 1 least, enrol 3 2 least, write 1 7, release 1 7, write 3 7, holds 3 7 => granted granted write
+enrol 1 1 least, enrol 2 1 least, write 1 7, release 1 7, write 2 7, holds 2 7 => granted granted write
+enrol 1 1 least, write 1 7, free 1, release 1 7, free 1, free 2, home 1, home 2 => granted busy Some(1) None
+";
+
+/// All leases of one client are frozen, and nobody else's.
+const FROZEN: &str = "\
+enrol 1 1 least, enrol 2 1 least, read 1 7, write 1 8, read 2 7, freeze 1, holds 1 7, holds 1 8, holds 2 7, read 1 7, release 1 7, read 1 7, holds 1 7 => granted granted granted - - read asked granted read
+enrol 1 1 least, enrol 2 2 least, write 1 7, freeze 1, write 2 7, release 1 7, write 2 7 => granted asked granted
+";
+
+#[test]
+fn leases_are_acquired_step_by_step(rt: HostRuntime) {
+    show::<NewTree>(rt.alloc(), &rt, MODES);
+    show::<NewTree>(rt.alloc(), &rt, ASKED);
+    show::<NewTree>(rt.alloc(), &rt, CROSSING);
+}
+
+#[test]
+fn nodes_give_their_leases_up_and_clients_are_frozen(rt: HostRuntime) {
+    show::<NewTree>(rt.alloc(), &rt, NODES);
+    show::<NewTree>(rt.alloc(), &rt, FROZEN);
+}

@@ -1,0 +1,50 @@
+//! Rows of tests: `STEPS => OUTCOME`, and whether each row says what comes out.
+#![tactic(auto)]
+
+use std::alloc::{AllocError, Global};
+
+/// What the steps of a row are made on.
+pub trait Steps {
+    /// Makes the steps, and appends what comes out behind a space each. None ends a row that can't be made.
+    fn put_outcome(alloc: Global, steps: &str, text: &mut String) -> Option<()>;
+}
+
+/// The rows that say something else than what comes out, with what comes out in its place. A test shows that there are none.
+pub fn wrong_rows<S: Steps>(alloc: Global, rows: &str) -> Result<String, AllocError> {
+    let mut wrong = String::new(alloc);
+    for row in rows.lines() {
+        let right = right_row::<S>(alloc, steps_in(row))?;
+        put_if_wrong(&mut wrong, row, right)?;
+    }
+    Ok(wrong)
+}
+
+/// Appends the right row, if the row is another one.
+fn put_if_wrong(wrong: &mut String, row: &str, right: String) -> Result<(), AllocError> {
+    if row == right.as_str() {
+        Ok(())
+    } else {
+        writeln!(wrong, "{right}")
+    }
+}
+
+fn right_row<S: Steps>(alloc: Global, steps: &str) -> Result<String, AllocError> {
+    let mut text = format!(in alloc; "{steps} =>")?;
+    let _ = S::put_outcome(alloc, steps, &mut text);
+    Ok(text)
+}
+
+fn steps_in(row: &str) -> &str {
+    match row.split_once(" =>") {
+        Some((steps, _)) => steps,
+        None => row,
+    }
+}
+
+/// The word in front, and what stands behind it.
+pub fn split_word(text: &str) -> (&str, &str) {
+    match text.split_once(' ') {
+        Some(parts) => parts,
+        None => (text, ""),
+    }
+}
