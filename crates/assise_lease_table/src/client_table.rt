@@ -29,7 +29,8 @@ pub struct ClientTableOf<C> {
 pub type ClientTable = ClientTableOf<Revoker>;
 
 impl<C: Revokes + Drop> ClientTableOf<C> {
-    ghost use Rattle.std.specs.Prelude.{◌≡◌, ◌≢◌, ◌&&◌, ℕ, [], true, false, Some, None, is_some, IsOk, OnOk, OnErr, IfErr, IfOk};
+    ghost use Rattle.std.specs.Prelude.{◌≡◌, ◌≢◌, ◌&&◌, ℕ, [], true, false, Some, None, is_some, IsOk, IsOkUnless, OnOk, OnErr, IfErr, IfOk};
+    ghost use Rattle.assise_names.specs.declared.refusal.Refusal.TheVariants.{OutOfMemory};
     ghost use Rattle.std.specs.List.{list_any};
     ghost use Rattle.assise_lease_table.specs.LeaseMaps.{Becomes, SameLeases};
     ghost use Rattle.assise_lease_table.specs.Leases.{Among, with_lease, new_lease, without, freeze, is_own, is_rival, is_to_ask, lease_of, may_be_held, may_raise, serves, IsFree, compatible};
@@ -60,7 +61,7 @@ impl<C: Revokes + Drop> ClientTableOf<C> {
         requires new { revoker_of self.old client ≡ None }
         ensures ok { OnOk result (Enrols (revoker_of self.old) (revoker_of self.new) client revoker) }
         ensures err { OnErr result (SameRevokers (revoker_of self.old) (revoker_of self.new)) }
-        ensures given_back { IfErr result (λ e. e.1 ≡ revoker) }
+        ensures given_back { IfErr result (λ back. back ≡ (OutOfMemory, revoker)) }
         ensures leases { SameLeases (client_leases self.old) (client_leases self.new) }
     {
         match self.revokers.insert(client, revoker) {
@@ -120,6 +121,7 @@ impl<C: Revokes + Drop> ClientTableOf<C> {
         ensures same { SameLeases (client_leases self.old) (client_leases self.new) }
         ensures room { OnOk result (HasClientRoom self.new client inode) }
         ensures held { is_some (lease_of (client_leases self.old inode) client) ≡ true → IsOk result }
+        ensures only_memory { IsOkUnless result OutOfMemory }
         ensures revokers { SameRevokers (revoker_of self.old) (revoker_of self.new) }
     {
         self.leases.reserve(client, inode)?;
@@ -152,6 +154,7 @@ impl<C: Revokes + Drop> ClientTableOf<C> {
         ensures ok { OnOk result (Becomes (client_leases self.old) (client_leases self.new) inode (with_lease (new_lease client mode) (client_leases self.old inode))) }
         ensures err { OnErr result (SameLeases (client_leases self.old) (client_leases self.new)) }
         ensures held { is_some (lease_of (client_leases self.old inode) client) ≡ true → IsOk result }
+        ensures only_memory { IsOkUnless result OutOfMemory }
         ensures revokers { SameRevokers (revoker_of self.old) (revoker_of self.new) }
     {
         self.reserve(client, inode)?;
@@ -214,6 +217,7 @@ impl<C: Revokes + Drop> ClientTableOf<C> {
         requires viewed { (l : _) → Among (client_leases self.now inode) l → is_to_ask (T.choice test.now) l ≡ true → is_some (V.view_of views.now l.holder) ≡ true }
         ensures answers { IfOk result (λ asked. AnswerAll C.answers (revoker_of self.now) (V.view_of views.now) inode (T.choice test.now) (client_leases self.now inode) asked.items) }
         ensures nobody { list_any (is_to_ask (T.choice test.now)) (client_leases self.now inode) ≡ false → IsOk result }
+        ensures only_memory { IsOkUnless result OutOfMemory }
     {
         let mut asked = Vec::new(self.alloc);
         for lease in self.leases.leases(inode) {
@@ -239,6 +243,7 @@ impl<C: Revokes + Drop> ClientTableOf<C> {
         ensures frozen { OnOk result (Becomes (client_leases self.old) (client_leases self.new) inode (freeze (is_rival client mode) (client_leases self.old inode))) }
         ensures err { OnErr result (SameLeases (client_leases self.old) (client_leases self.new)) }
         ensures nobody { list_any (is_to_ask (is_rival client mode)) (client_leases self.old inode) ≡ false → IsOk result }
+        ensures only_memory { IsOkUnless result OutOfMemory }
         ensures revokers { SameRevokers (revoker_of self.old) (revoker_of self.new) }
     {
         let rivals = Rivals {

@@ -19,7 +19,8 @@ pub struct NodeTable {
 }
 
 impl NodeTable {
-    ghost use Rattle.std.specs.Prelude.{◌≡◌, ℕ, [], true, is_some, OnOk, OnErr, IsOk};
+    ghost use Rattle.std.specs.Prelude.{◌≡◌, ℕ, [], true, is_some, OnOk, OnErr, IsOk, IsOkUnless};
+    ghost use Rattle.assise_names.specs.declared.refusal.Refusal.TheVariants.{OutOfMemory};
     ghost use Rattle.assise_lease_table.specs.LeaseMaps.{HasRoom, Becomes, SameLeases};
     ghost use Rattle.assise_lease_table.specs.Leases.{with_lease, new_lease, without, leave_out, freeze, is_own, is_rival, IsFree, compatible, lease_of, may_be_held, may_raise, serves};
     ghost use Rattle.assise_lease_table.specs.Tables.{node_leases, HasNodeRoom};
@@ -74,6 +75,7 @@ impl NodeTable {
         ensures same { SameLeases (node_leases self.old) (node_leases self.new) }
         ensures room { OnOk result (HasNodeRoom self.new node inode) }
         ensures held { is_some (lease_of (node_leases self.old inode) node) ≡ true → IsOk result }
+        ensures only_memory { IsOkUnless result OutOfMemory }
     {
         self.leases.reserve(node, inode)?;
         Ok(())
@@ -101,6 +103,7 @@ impl NodeTable {
         ensures ok { OnOk result (Becomes (node_leases self.old) (node_leases self.new) inode (with_lease (new_lease node mode) (node_leases self.old inode))) }
         ensures err { OnErr result (SameLeases (node_leases self.old) (node_leases self.new)) }
         ensures held { is_some (lease_of (node_leases self.old inode) node) ≡ true → IsOk result }
+        ensures only_memory { IsOkUnless result OutOfMemory }
     {
         self.reserve(node, inode)?;
         self.hold_reserved(node, inode, mode);

@@ -35,7 +35,8 @@ pub struct LeaseTreeOf<C> {
 pub type LeaseTree = LeaseTreeOf<Revoker>;
 
 impl<C: Revokes + Drop> LeaseTreeOf<C> {
-    ghost use Rattle.std.specs.Prelude.{◌≡◌, ℕ, ⊤, true, false, Some, None, is_some, OnOk, OnErr, IfOk, IfErr, IsOk};
+    ghost use Rattle.std.specs.Prelude.{◌≡◌, ℕ, ⊤, true, false, Some, None, is_some, OnOk, OnErr, IfOk, IfErr, IsOk, IsOkUnless};
+    ghost use Rattle.assise_names.specs.declared.refusal.Refusal.TheVariants.{OutOfMemory};
     ghost use Rattle.std.specs.List.{list_any};
     ghost use Rattle.assise_lease_table.specs.Answers.{AnswerAll};
     ghost use Rattle.assise_lease_table.specs.Leases.{Among, lease_of, serves, is_to_ask};
@@ -72,7 +73,7 @@ impl<C: Revokes + Drop> LeaseTreeOf<C> {
         ensures revokers { OnOk result (Enrols (stored_by self.old) (stored_by self.new) client revoker) }
         ensures err { OnErr result (SameLevels (levels_of self.old) (levels_of self.new)) }
         ensures err_revokers { OnErr result (SameRevokers (stored_by self.old) (stored_by self.new)) }
-        ensures given_back { IfErr result (λ e. e.1 ≡ revoker) }
+        ensures given_back { IfErr result (λ back. back ≡ (OutOfMemory, revoker)) }
     {
         let Ok(()) = self.homes.reserve(1) else {
             return Err((Refusal::OutOfMemory, revoker));
@@ -113,6 +114,7 @@ impl<C: Revokes + Drop> LeaseTreeOf<C> {
         ensures granted { OnOk result (IsGranted (levels_of self.old) (levels_of self.new) request.client request.node request.inode request.mode) }
         ensures err { OnErr result (SameLevels (levels_of self.old) (levels_of self.new)) }
         ensures raised { is_some (lease_of ((levels_of self.old).clients request.inode) request.client) ≡ true → IsOk result }
+        ensures only_memory { IsOkUnless result OutOfMemory }
         ensures revokers { SameRevokers (stored_by self.old) (stored_by self.new) }
     {
         let Request {
@@ -144,6 +146,7 @@ impl<C: Revokes + Drop> LeaseTreeOf<C> {
         ensures answers { IfOk result (λ asked. AnswerAll C.answers (stored_by self.old) (V.view_of views.now) request.inode (in_way (levels_of self.old).home ((levels_of self.old).nodes request.inode) request.client request.node request.mode) ((levels_of self.old).clients request.inode) asked.items) }
         ensures err { OnErr result (SameLevels (levels_of self.old) (levels_of self.new)) }
         ensures nobody { list_any (is_to_ask (in_way (levels_of self.old).home ((levels_of self.old).nodes request.inode) request.client request.node request.mode)) ((levels_of self.old).clients request.inode) ≡ false → IsOk result }
+        ensures only_memory { IsOkUnless result OutOfMemory }
         ensures revokers { SameRevokers (stored_by self.old) (stored_by self.new) }
     {
         let Request {
@@ -194,6 +197,7 @@ impl<C: Revokes + Drop> LeaseTreeOf<C> {
         ensures err { OnErr result (SameLevels (levels_of self.old) (levels_of self.new)) }
         ensures raised { (node : ℕ) → (levels_of self.old).home client ≡ Some node → is_free_for (levels_of self.old) client node inode mode ≡ true → is_some (lease_of ((levels_of self.old).clients inode) client) ≡ true → IsOk result }
         ensures nobody { (node : ℕ) → (levels_of self.old).home client ≡ Some node → is_free_for (levels_of self.old) client node inode mode ≡ false → list_any (is_to_ask (in_way (levels_of self.old).home ((levels_of self.old).nodes inode) client node mode)) ((levels_of self.old).clients inode) ≡ false → IsOk result }
+        ensures only_memory { IsOkUnless result OutOfMemory }
         ensures revokers { SameRevokers (stored_by self.old) (stored_by self.new) }
     {
         let Some(home) = self.homes.get(&client) else {
