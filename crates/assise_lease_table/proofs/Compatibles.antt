@@ -111,5 +111,6 @@ with_compatible ls x c free =
 -- a holder without rivals is free to hold
 pub no_rivals : (ls : List Lease) (h : ℕ) (mode : Mode) → list_any (is_rival h mode) ls ≡ false → IsFree ls h mode
 no_rivals ls h mode none l a other = elim (cases_of (against mode l.mode)) [
-    inl is ↦ not_both (is_rival h mode l) (and_true (not (l.holder == h)) (against mode l.mode) (true_not (l.holder == h) (other_number l.holder h other)) is) (none_among (is_rival h mode) ls none l a)
-    | inr not_so ↦ not_so ]
+  | inl is ↦ not_both (is_rival h mode l) (and_true (not (l.holder == h)) (against mode l.mode) (true_not (l.holder == h) (other_number l.holder h other)) is) (none_among (is_rival h mode) ls none l a)
+  | inr not_so ↦ not_so
+]

@@ -114,6 +114,7 @@ module _ (choice : Lease → Bool) where
   unfolding IsDistinct
   some_at [] apart e = cc
   some_at (x ∷ xs) apart e = elim (or_cases (list_any choice x.1.items) (AnyIn xs) e) [
-      inl here ↦ (x.0, ap (λ b. list_any choice (items_or_none (cond b (Some x.1) (lookup (nat_eq x.0) xs)))) (eq-eqb x.0 x.0 refl) ∙ here)
-      | inr rest ↦ let found = some_at xs apart.1 rest in
-        (found.0, behind_key (nat_eq found.0 x.0) x.1 (lookup (nat_eq found.0) xs) (λ same. absent found.0 x.0 xs same apart.0) found.1) ]
+    | inl here ↦ (x.0, ap (λ b. list_any choice (items_or_none (cond b (Some x.1) (lookup (nat_eq x.0) xs)))) (eq-eqb x.0 x.0 refl) ∙ here)
+    | inr rest ↦ let found = some_at xs apart.1 rest in
+        (found.0, behind_key (nat_eq found.0 x.0) x.1 (lookup (nat_eq found.0) xs) (λ same. absent found.0 x.0 xs same apart.0) found.1)
+  ]

@@ -21,7 +21,14 @@ impl Steps for Kinds {
         let last = words.next()?.parse::<u64>().ok();
         let logs = log_of(alloc, first, end, last)?;
         let view = logs.log.view();
-        write!(text, " {} {} {}", least(view, 7), whole(view, 7), eights(view, 7)).ok()?;
+        write!(
+            text,
+            " {} {} {}",
+            least(view, 7),
+            whole(view, 7),
+            eights(view, 7)
+        )
+        .ok()?;
         write!(text, " {}", stored_cut(alloc, view, 7).ok()?).ok()?;
         let mut table: ClientTable = ClientTableOf::new(alloc);
         enrol(alloc, &mut table, 1, "least")?;

@@ -9,7 +9,10 @@ use std::alloc::Global;
 /// How many leases an inode has, and how many of them are frozen.
 fn held(table: &ClientTable, inode: u64) -> (usize, usize) {
     let leases = table.leases(inode);
-    (leases.len(), leases.iter().filter(|lease| lease.frozen).count())
+    (
+        leases.len(),
+        leases.iter().filter(|lease| lease.frozen).count(),
+    )
 }
 
 /// Two clients that read an inode, and a third that asks for it. None tells of leases that a refused call changed.
@@ -23,7 +26,11 @@ fn ask_two(alloc: Global, logs: &OneLog) -> Option<Result<(), Refusal>> {
     for client in 1..3 {
         let before = held(&table, 7);
         if hold(&mut table, client, 7, Mode::Read).is_none() {
-            return if held(&table, 7) == before { Some(Err(Refusal::OutOfMemory)) } else { None };
+            return if held(&table, 7) == before {
+                Some(Err(Refusal::OutOfMemory))
+            } else {
+                None
+            };
         }
     }
     match table.ask(7, Mode::Write, 3, logs) {

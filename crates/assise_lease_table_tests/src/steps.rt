@@ -79,12 +79,7 @@ fn put_lease_step(
 }
 
 /// Takes a client in with a revoker of a kind, if it isn't there.
-pub(crate) fn enrol(
-    alloc: Global,
-    table: &mut ClientTable,
-    client: u32,
-    kind: &str,
-) -> Option<()> {
+pub(crate) fn enrol(alloc: Global, table: &mut ClientTable, client: u32, kind: &str) -> Option<()> {
     match kind {
         "least" => {
             let cut: Cut = Box::new(alloc, least).ok()?;

@@ -72,13 +72,7 @@ fn acquire(tree: &mut LeaseTree, logs: &Logs, client: u32, inode: u64) -> Option
 }
 
 /// One call, or two that undo each other, and whether the inode is held then.
-fn turn(
-    tree: &mut LeaseTree,
-    logs: &Logs,
-    inodes: u64,
-    clients: u32,
-    call: &str,
-) -> Option<bool> {
+fn turn(tree: &mut LeaseTree, logs: &Logs, inodes: u64, clients: u32, call: &str) -> Option<bool> {
     match call {
         "holds" => Some(tree.holds(1, 0, Mode::Read)),
         "acquire" => {

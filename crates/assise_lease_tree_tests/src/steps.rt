@@ -48,7 +48,12 @@ fn put_step(
         "enrol" => enrol(alloc, tree, number, rest),
         "fill" => {
             let (end, inode) = rest.split_once(' ')?;
-            logs.fill(alloc, number, end.parse::<u64>().ok()?, inode.parse::<u64>().ok()?)
+            logs.fill(
+                alloc,
+                number,
+                end.parse::<u64>().ok()?,
+                inode.parse::<u64>().ok()?,
+            )
         }
         "drop" => logs.drop_front(number, rest.parse::<u64>().ok()?),
         "freeze" => {
