@@ -74,4 +74,12 @@ impl Frame {
     {
         self.records.as_slice()
     }
+
+    /// The records, in order, in place of the frame.
+    pub fn into_records(self) -> Vec<Record>
+        ensures records { result.items ≡ self.records }
+        ensures ranges { HasRanges self }
+    {
+        self.records
+    }
 }
