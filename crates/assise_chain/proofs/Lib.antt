@@ -1,0 +1,2 @@
+mod Successors
+mod Taking

@@ -1,0 +1,10 @@
+use Rattle.std.proofs.Common.{◌≡◌, ◌++◌}
+use Rattle.assise_chain.proofs.acceptance.accept.Given as goal
+
+-- what the log had, and then what came so far
+abbrev pub invariant-loop-record : goal.invariant-loop-record
+invariant-loop-record l = record {
+  first : l.log.first ≡ l.fn.log.first;
+  limit : l.log.limit ≡ l.fn.log.limit;
+  records : l.log.records ≡ l.fn.log.records ++ l.yielded;
+}

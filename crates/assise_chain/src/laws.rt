@@ -1,0 +1,1 @@
+// Laws of chains. Each function does nothing: its contract is the law.

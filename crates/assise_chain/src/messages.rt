@@ -1,0 +1,51 @@
+// What a node sends of its log.
+ghost use Rattle.std.specs.Prelude.{◌≡◌, ◌<◌, IfOk, IsOk, IsOkUnless, [], take};
+ghost use Rattle.assise_private_log.specs.NumberedLog.{records_from};
+ghost use Rattle.assise_names.specs.declared.refusal.Refusal.TheVariants.{OutOfMemory};
+ghost use Rattle.assise_chain.specs.Messages.{message_of, sent};
+
+use assise_names::refusal::Refusal;
+use assise_private_log::log::Log;
+use assise_record::frame::{Frame, MOST_RECORDS};
+use assise_record::record::Record;
+use std::alloc::Global;
+
+/// A frame of the records of a log that are numbered from `from` on, or from the log's first where that is later, and below
+/// `to`: the first 64 of them, where there are more. None, where there are none. The bytes of writes are shared. The one
+/// refusal is [`Refusal::OutOfMemory`].
+pub fn message(
+    alloc: Global,
+    log: &Log,
+    epoch: u64,
+    client: u32,
+    from: u64,
+    to: u64,
+) -> Result<Option<Frame>, Refusal>
+    requires a_client { 0 < client }
+    ensures exact { IfOk result (λ message. message ≡ message_of log.now epoch client from to) }
+    ensures only_memory { IsOkUnless result OutOfMemory }
+    ensures nothing_asked { sent log.now from to ≡ [] → IsOk result }
+{
+    let _fits = log.end();
+    let first = from.max(log.first());
+    let count = to.min(log.end()).saturating_sub(first) as usize;
+    let count = count.min(MOST_RECORDS);
+    if count == 0 {
+        return Ok(None);
+    }
+    let records = copies(alloc, log, from, count)?;
+    Ok(Some(Frame::new(epoch, client, first, records)))
+}
+
+/// Equal records, the first of those of a number or a greater one.
+#[tactic(auto, using(crate::proofs::Taking::taken_first))]
+fn copies(alloc: Global, log: &Log, from: u64, count: usize) -> Result<Vec<Record>, Refusal>
+    ensures equal { IfOk result (λ copied. copied.items ≡ take count (records_from log.now from)) }
+    ensures only_memory { IsOkUnless result OutOfMemory }
+{
+    let mut copied = Vec::with_capacity(alloc, count)?;
+    for record in log.since(from).take(count) {
+        copied.push(record.copy(alloc)?)?;
+    }
+    Ok(copied)
+}
