@@ -2,7 +2,12 @@
 use Rattle.std.proofs.Common.{◌≡◌, ℕ, ◌==◌, Bool, true, false, cond, if◌then◌else◌, List, [], ◌∷◌, Option, Some, None, Bor, ap, sym, ◌∙◌, refl, subst}
 use denote.Param.Members.{Mut}
 use Rattle.std.specs.Fn.{CalledAt}
-use Rattle.std.specs.Iterator.{AlwaysYields, Yields}
+use Rattle.std.specs.Iterator.{AlwaysYields, Yields, YieldsThen}
+use Rattle.std.specs.Option.{MatchOption}
+use Rattle.std.specs.Bool.{⊤}
+use Rattle.std.proofs.lemmas.Iterator.{YieldsList}
+use Rattle.std.proofs.lemmas.Iterator.Adapters.{option_map_id}
+use Rattle.std.proofs.lemmas.Iterator.Search.{find_from_yields_List}
 use Rattle.std.specs.List.{FoldsTo, find}
 use Rattle.assise_chain.specs.Chains.{behind, first_of_all}
 
@@ -28,7 +33,7 @@ module _ {S F : Type 0} (steps : S → Option ℕ → S → Type 0) (g : Mut F (
   abbrev Passes : F → ℕ → F → Type 0
   Passes p x q = CalledAt g p x false q
 
-  pub next_behind : (all xs : List ℕ) (s t u w : S) (x : ℕ) (j h : F) (r : Option ℕ) → AlwaysYields steps (λ x. x) s all → Yields steps s xs t → steps t (Some x) u
+  next_behind : (all xs : List ℕ) (s t u w : S) (x : ℕ) (j h : F) (r : Option ℕ) → AlwaysYields steps (λ x. x) s all → Yields steps s xs t → steps t (Some x) u
       → FoldsTo Passes f xs j → CalledAt g j x true h → steps u r w → r ≡ behind node all
   next_behind [] [] s t u w x j h r e y p folds called next = absurd (subst (λ a. AlwaysYields steps (λ z. z) a []) y e x u p)
   next_behind (n ∷ ns) [] s t u w x j h r e y p folds called next =
@@ -42,3 +47,19 @@ module _ {S F : Type 0} (steps : S → Option ℕ → S → Type 0) (g : Mut F (
       let passed = tells z false folds.0 folds.1 in
       let isnt : (n == node) ≡ false = ap (λ m. m == node) (sym here.0) ∙ sym passed.1 in
       rw isnt (next_behind ns zs y.0 t u w x j h r here.1 y.2 p (subst (λ q. FoldsTo Passes q zs j) passed.0 folds.2) called next)
+
+-- a search of the chain that found nobody
+pub nobody_found : {S F : Type 0} {steps : S → Option ℕ → S → Type 0} {g : Mut F (Bor ℕ × Unit {0}) Bool} {s : S} {all : List ℕ} (node : ℕ) (u : S) (f : F) (r answer : Option ℕ)
+    → ((xs : List ℕ) × (j : F) × YieldsThen steps s xs r u × FoldsTo (λ p x q. CalledAt g p x false q) f xs j × MatchOption r ⊤ (λ x. (h : F) × CalledAt g j x true h))
+    → YieldsList steps (λ x. x) s all → ((x : ℕ) (b : Bool) (q : F) → CalledAt g f x b q → (q ≡ f) × (b ≡ (x == node))) → r ≡ None → answer ≡ None → answer ≡ behind node all
+nobody_found {all = all} node u f r answer ran road tells none is =
+    is ∙ none_behind node all (sym none ∙ sym (option_map_id r) ∙ find_from_yields_List (λ m. m == node) u f r ran road tells)
+
+-- a search of the chain that found the node, and what comes next
+pub found_then_next : {S F : Type 0} {steps : S → Option ℕ → S → Type 0} {g : Mut F (Bor ℕ × Unit {0}) Bool} {s : S} {all : List ℕ} (node : ℕ) (u w : S) (f : F) (r next : Option ℕ) (x : ℕ)
+    → ((xs : List ℕ) × (j : F) × YieldsThen steps s xs r u × FoldsTo (λ p x q. CalledAt g p x false q) f xs j × MatchOption r ⊤ (λ x. (h : F) × CalledAt g j x true h))
+    → YieldsList steps (λ x. x) s all → ((x : ℕ) (b : Bool) (q : F) → CalledAt g f x b q → (q ≡ f) × (b ≡ (x == node))) → r ≡ Some x → steps u next w → next ≡ behind node all
+found_then_next {S} {F} {steps} {g} {s} {all} node u w f r next x ran road tells some after =
+    let at : (xs : List ℕ) × (j : F) × YieldsThen steps s xs (Some x) u × FoldsTo (λ p x q. CalledAt g p x false q) f xs j × MatchOption (Some x) ⊤ (λ x. (h : F) × CalledAt g j x true h)
+        = subst (λ o. (xs : List ℕ) × (j : F) × YieldsThen steps s xs o u × FoldsTo (λ p x q. CalledAt g p x false q) f xs j × MatchOption o ⊤ (λ x. (h : F) × CalledAt g j x true h)) some ran in
+    next_behind steps g node f tells all at.0 s at.2.0 u w x at.1 at.4.0 next road.runs at.2.1 at.2.2 at.3 at.4.1 after

@@ -1,7 +1,8 @@
 -- The nodes of a chain in their order, and who stands behind whom: what a node takes in from the node in front it passes to
 -- the node behind, until the last has it. van Renesse and Schneider, chain replication (OSDI 2004), section 2; Assise (OSDI
--- 2020), section 3, where each head has a chain of its own.
-use Rattle.std.specs.Prelude.{◌≡◌, ℕ, ◌<◌, ◌==◌, nat_lt, nat_le, if◌then◌else◌, List, [], ◌∷◌, ◌++◌, filter, Option, Some, None}
+-- 2020), section 3.
+use Rattle.std.specs.Prelude.{ℕ, ◌<◌, ◌==◌, nat_lt, nat_le, if◌then◌else◌, List, [], ◌∷◌, ◌++◌, filter, Option, Some, None}
+use Rattle.std.specs.List.{AllByRecursion}
 
 -- the chain of a head: the full nodes from the head on, then those below it, each in the order in which they are given
 abbrev pub chain : List ℕ → ℕ → List ℕ
@@ -17,12 +18,7 @@ abbrev pub behind : ℕ → List ℕ → Option ℕ
 behind node [] = None
 behind node (n ∷ ns) = if n == node then first_of_all ns else behind node ns
 
--- a node is below the first of some, if there is one
-abbrev pub IsBelowFirst : ℕ → List ℕ → Type 0
-IsBelowFirst n [] = Unit {0}
-IsBelowFirst n (m ∷ ms) = n < m
-
--- each node is below the one behind it
+-- each node is below all behind it
 abbrev pub IsRising : List ℕ → Type 0
 IsRising [] = Unit {0}
-IsRising (n ∷ ns) = IsBelowFirst n ns × IsRising ns
+IsRising (n ∷ ns) = AllByRecursion (λ m. n < m) ns × IsRising ns

@@ -1,1 +1,31 @@
 // Laws of chains. Each function does nothing: its contract is the law.
+ghost use Rattle.std.specs.Prelude.{◌≡◌, ◌≢◌, ◌↔◌, ℕ, List, [], ◌∷◌, ◌++◌, Some, None};
+ghost use Rattle.assise_chain.specs.Chains.{IsRising, behind, chain, first_of_all};
+ghost use Rattle.assise_chain.specs.Lists.{AllDiffer, IsOneOf};
+ghost use Rattle.assise_chain.specs.Passing.{AllDo, IsBegun, IsFrontOf, Nodes, Step};
+
+/// The full nodes stand in the chain, and nobody else does: whoever isn't full has nobody behind.
+pub fn the_full_nodes_stand_in_the_chain()
+    ensures full { (full : List ℕ) (head node : ℕ) → IsOneOf (chain full head) node ↔ IsOneOf full node }
+    ensures others { (full : List ℕ) (head node : ℕ) → (IsOneOf full node → ⊥) → behind node (chain full head) ≡ None }
+{}
+
+/// Where the full nodes are given in rising order, each stands in the chain once, and the head first, if it is full.
+pub fn each_full_node_stands_once()
+    ensures once { (full : List ℕ) (head : ℕ) → IsRising full → AllDiffer (chain full head) }
+    ensures first { (full : List ℕ) (head : ℕ) → IsRising full → IsOneOf full head → first_of_all (chain full head) ≡ Some head }
+{}
+
+/// Where the full nodes are given in rising order, each node but the last passes to the next, the last to nobody, and nobody
+/// to itself.
+pub fn each_node_passes_to_the_next()
+    ensures next { (full front rest : List ℕ) (head node next : ℕ) → IsRising full → chain full head ≡ front ++ node ∷ next ∷ rest → behind node (chain full head) ≡ Some next }
+    ensures last { (full front : List ℕ) (head node : ℕ) → IsRising full → chain full head ≡ front ++ node ∷ [] → behind node (chain full head) ≡ None }
+    ensures other { (full : List ℕ) (head node : ℕ) → IsRising full → behind node (chain full head) ≢ Some node }
+{}
+
+/// Whatever of the messages of an epoch is lost, repeated or brought in another order, and whoever sends them, what a node
+/// has is a front of the head's log, also while all nodes let go what each of them has.
+pub fn each_log_is_a_front_of_the_heads()
+    ensures { (head epoch client : ℕ) (steps : List Step) (old new : Nodes) → IsBegun head epoch old → AllDo head epoch client old steps new → (node : ℕ) → IsFrontOf (new.logs node) (new.logs head) }
+{}

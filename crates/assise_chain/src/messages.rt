@@ -38,7 +38,6 @@ pub fn message(
 }
 
 /// Equal records, the first of those of a number or a greater one.
-#[tactic(auto, using(crate::proofs::Taking::taken_first))]
 fn copies(alloc: Global, log: &Log, from: u64, count: usize) -> Result<Vec<Record>, Refusal>
     ensures equal { IfOk result (λ copied. copied.items ≡ take count (records_from log.now from)) }
     ensures only_memory { IsOkUnless result OutOfMemory }
