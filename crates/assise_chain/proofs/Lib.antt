@@ -1,2 +1,4 @@
+mod Rows
+mod Standing
 mod Successors
 mod Taking
