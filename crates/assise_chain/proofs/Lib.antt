@@ -1,4 +1,6 @@
+mod Parts
 mod Rows
+mod Sending
 mod Standing
 mod Successors
 mod Taking

@@ -1,0 +1,115 @@
+-- Records that agree, number by number, with a log: each of them that the log hasn't let go is the log's record of its number.
+use Rattle.std.proofs.Common.{◌≡◌, ℕ, zero, suc, ◌+◌, ◌-◌, ◌<◌, ◌≤◌, nat_lt, true, false, min, max, Option, Some, None, List, [], ◌∷◌, ◌++◌, length, take, drop, ap, sym, ◌∙◌, refl, subst, arith, inl, inr}
+use Rattle.std.specs.List.{slice_get}
+use Rattle.std.proofs.lemmas.List.{length-take, length-append}
+use Rattle.std.proofs.lemmas.Option.{slice_get_within}
+use Rattle.std.proofs.lemmas.Bool.{cases_lt}
+use Rattle.circular_buffer.proofs.Places.{slice_get-append_left, slice_get-append_right, slice_get-drop, slice_get-take}
+use Rattle.assise_record.specs.LogRecord.{LogRecord}
+use Rattle.assise_record.specs.LogFrame.{LogFrame}
+use Rattle.assise_private_log.specs.NumberedLog.{NumberedLog, end, record_at, records_from, with_record, without_front}
+use Rattle.assise_chain.specs.Acceptance.{accepted, records_past}
+use Rattle.assise_chain.specs.Messages.{first_sent, sent}
+use Rattle.assise_chain.specs.Passing.{IsFrontOf}
+
+-- ---- places
+
+of_take : {X : Type 0} (n : ℕ) (xs : List X) (k : ℕ) (x : X) → slice_get (take n xs) k ≡ Some x → slice_get xs k ≡ Some x
+of_take n xs k x is =
+    let within = slice_get_within (take n xs) k x is in
+    let front : k < n = omega (arith, length-take n xs) in
+    sym (slice_get-take n xs k front) ∙ is
+
+of_drop : {X : Type 0} (n : ℕ) (xs : List X) (k : ℕ) (x : X) → slice_get (drop n xs) k ≡ Some x → slice_get xs (n + k) ≡ Some x
+of_drop n xs k x is = sym (slice_get-drop n xs k (n + k) refl) ∙ is
+
+-- what has the items of another at its places is its front
+front_of : {X : Type 0} (xs ys : List X) → ((k : ℕ) (x : X) → slice_get xs k ≡ Some x → slice_get ys k ≡ Some x) → xs ≡ take (length xs) ys
+front_of [] ys same = refl
+front_of (x ∷ xs) [] same = let none : None ≡ Some x = same zero x refl in cc
+front_of (x ∷ xs) (y ∷ ys) same =
+    let first : Some y ≡ Some x = same zero x refl in
+    let is : x ≡ y = cc in
+    ap (λ z. z ∷ xs) is ∙ ap (λ l. y ∷ l) (front_of xs ys (λ k z s. same (suc k) z s))
+
+-- ---- numbers
+
+-- a number that isn't below the first is that of a place
+at_place : (l : NumberedLog) (number : ℕ) → l.first ≤ number → record_at l number ≡ slice_get l.records (number - l.first)
+at_place l number high = let is_high : nat_lt number l.first ≡ false = search arith in rw is_high refl
+
+-- records from a number on agree with a log
+pub record IsPart (first : ℕ) (rs : List LogRecord) (whole : NumberedLog) : Type 0 where
+  pub agrees : (k : ℕ) (r : LogRecord) → slice_get rs k ≡ Some r → whole.first ≤ first + k → slice_get whole.records (first + k - whole.first) ≡ Some r
+
+-- a log agrees with itself
+pub whole_part : (l : NumberedLog) → IsPart l.first l.records l
+whole_part l = record { agrees = λ k r is from. let place : l.first + k - l.first ≡ k = omega arith in ap (slice_get l.records) place ∙ is }
+
+-- a front agrees
+pub front_part : (l whole : NumberedLog) → IsFrontOf l whole → IsPart l.first l.records whole
+front_part l whole front = record {
+  agrees = λ k r is from.
+      let place : k ≡ l.first + k - whole.first = omega (arith, front.first) in
+      ap (slice_get whole.records) (sym place) ∙ of_take (length l.records) whole.records k r (ap (λ rs. slice_get rs k) (sym front.records) ∙ is);
+}
+
+-- and what agrees and begins with the log is a front
+pub part_front : (l whole : NumberedLog) → l.first ≡ whole.first → IsPart l.first l.records whole → IsFrontOf l whole
+part_front l whole first part = record {
+  first = first;
+  records = front_of l.records whole.records (λ k r is.
+      let place : l.first + k - whole.first ≡ k = omega arith in
+      ap (slice_get whole.records) (sym place) ∙ part.agrees k r is (omega arith));
+}
+
+-- with one record more in the log
+pub part_longer : (first : ℕ) (rs : List LogRecord) (whole : NumberedLog) (added : LogRecord) → IsPart first rs whole → IsPart first rs (with_record whole added)
+part_longer first rs whole added part = record {
+  agrees = λ k r is from.
+      let there = part.agrees k r is from in
+      slice_get-append_left whole.records (added ∷ []) (first + k - whole.first) (slice_get_within whole.records (first + k - whole.first) r there) ∙ there;
+}
+
+-- without the log's first records
+pub part_shorter : (first to : ℕ) (rs : List LogRecord) (whole : NumberedLog) → whole.first ≤ to → IsPart first rs whole → IsPart first rs (without_front whole to)
+part_shorter first to rs whole reached part = record {
+  agrees = λ k r is from.
+      let place : first + k - whole.first ≡ (to - whole.first) + (first + k - to) = omega arith in
+      slice_get-drop (to - whole.first) whole.records (first + k - to) (first + k - whole.first) place ∙ part.agrees k r is (omega arith);
+}
+
+-- without the first of the records themselves
+pub part_behind : (l : NumberedLog) (to : ℕ) (whole : NumberedLog) → l.first ≤ to → IsPart l.first l.records whole → IsPart to (records_from l to) whole
+part_behind l to whole reached part = record {
+  agrees = λ k r is from.
+      let number : l.first + ((to - l.first) + k) ≡ to + k = omega arith in
+      let there = part.agrees ((to - l.first) + k) r (of_drop (to - l.first) l.records k r is) (omega arith) in
+      ap (λ n. slice_get whole.records (n - whole.first)) (sym number) ∙ there;
+}
+
+-- what is sent agrees
+pub part_sent : (l : NumberedLog) (from to : ℕ) (whole : NumberedLog) → IsPart l.first l.records whole → IsPart (first_sent l from) (sent l from to) whole
+part_sent l from to whole part = record {
+  agrees = λ k r is here.
+      let rs = records_from l from in
+      let one = of_take (to - first_sent l from) rs k r (of_take 64 (take (to - first_sent l from) rs) k r is) in
+      let number : l.first + ((from - l.first) + k) ≡ first_sent l from + k = omega arith in
+      let there = part.agrees ((from - l.first) + k) r (of_drop (from - l.first) l.records k r one) (omega arith) in
+      ap (λ n. slice_get whole.records (n - whole.first)) (sym number) ∙ there;
+}
+
+-- what is taken in agrees
+pub part_accepted : (l : NumberedLog) (f : LogFrame) (whole : NumberedLog) → f.first ≤ end l → IsPart l.first l.records whole → IsPart f.first f.records whole
+    → IsPart l.first (accepted l f).records whole
+part_accepted l f whole no_gap had came = record {
+  agrees = λ k r is from. elim (cases_lt k (length l.records)) [
+    | inl old ↦ had.agrees k r (sym (slice_get-append_left l.records (records_past l f) k old) ∙ is) from
+    | inr past ↦
+        let j : k ≡ length l.records + (k - length l.records) = omega arith in
+        let one = of_drop (end l - f.first) f.records (k - length l.records) r (sym (slice_get-append_right l.records (records_past l f) k (k - length l.records) j) ∙ is) in
+        let number : f.first + ((end l - f.first) + (k - length l.records)) ≡ l.first + k = omega arith in
+        let there = came.agrees ((end l - f.first) + (k - length l.records)) r one (omega arith) in
+        ap (λ n. slice_get whole.records (n - whole.first)) (sym number) ∙ there
+  ];
+}

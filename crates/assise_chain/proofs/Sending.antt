@@ -1,0 +1,123 @@
+-- What each step leaves true of all logs and of what was sent, and what lists of steps do.
+use Rattle.std.proofs.Common.{◌≡◌, ◌≢◌, ℕ, ◌≤◌, List, [], ◌∷◌, Option, Some, None, ap, sym, ◌∙◌, refl, subst, arith, inl, inr}
+use mathlib.Core.Logic.{dite}
+use native.Mathlib.Decide.{ℕ_discrete}
+use Rattle.assise_record.specs.LogRecord.{LogRecord}
+use Rattle.assise_record.specs.LogFrame.{LogFrame}
+use Rattle.assise_private_log.specs.NumberedLog.{NumberedLog, end, with_record, without_front}
+use Rattle.assise_chain.specs.Acceptance.{IsTimely, accepted}
+use Rattle.assise_chain.specs.Lists.{IsOneOf}
+use Rattle.assise_chain.specs.Messages.{first_sent, frame_of, message_of, sent}
+use Rattle.assise_chain.specs.Passing.{AllDo, AllReach, Becomes, Does, IsBegun, IsFrontOf, MayDo, Nodes, SameLogs, Step, with_message}
+use Rattle.assise_chain.specs.Passing.Step.{append, send, deliver, let_go}
+use Rattle.assise_chain.proofs.Parts.{IsPart, front_part, part_accepted, part_behind, part_front, part_longer, part_sent, part_shorter, whole_part}
+
+module _ (head epoch : ℕ) where
+  -- all logs begin with the head's and agree with it, and so does each frame of the epoch
+  pub record AllAgree (s : Nodes) : Type 0 where
+    pub first : (node : ℕ) → (s.logs node).first ≡ (s.logs head).first
+    pub logs : (node : ℕ) → IsPart (s.logs node).first (s.logs node).records (s.logs head)
+    pub frames : (f : LogFrame) → IsOneOf s.sent f → f.epoch ≡ epoch → IsPart f.first f.records (s.logs head)
+
+  begun_agree : (s : Nodes) → IsBegun head epoch s → AllAgree s
+  begun_agree s begun = record {
+    first = λ node. (begun.fronts node).first;
+    logs = λ node. front_part (s.logs node) (s.logs head) (begun.fronts node);
+    frames = λ f a this. absurd (begun.sent_before f a this);
+  }
+
+  same_agree : (old new : Nodes) → AllAgree old → SameLogs old.logs new.logs → new.sent ≡ old.sent → AllAgree new
+  same_agree old new agree same is_sent = record {
+    first = λ node. ap (λ (l : NumberedLog). l.first) (same node) ∙ agree.first node ∙ ap (λ (l : NumberedLog). l.first) (sym (same head));
+    logs = λ node. subst (λ (l : NumberedLog). IsPart l.first l.records (new.logs head)) (sym (same node))
+        (subst (λ (w : NumberedLog). IsPart (old.logs node).first (old.logs node).records w) (sym (same head)) (agree.logs node));
+    frames = λ f a this. subst (λ (w : NumberedLog). IsPart f.first f.records w) (sym (same head)) (agree.frames f (subst (λ fs. IsOneOf fs f) is_sent a) this);
+  }
+
+  -- the head takes a record in
+  append_agree : (old new : Nodes) (r : LogRecord) → AllAgree old → Becomes old.logs new.logs head (with_record (old.logs head) r) → new.sent ≡ old.sent → AllAgree new
+  append_agree old new r agree becomes is_sent =
+      let to_new : (first : ℕ) (rs : List LogRecord) → IsPart first rs (old.logs head) → IsPart first rs (new.logs head)
+          = λ first rs p. subst (λ (w : NumberedLog). IsPart first rs w) (sym becomes.here) (part_longer first rs (old.logs head) r p) in
+      record {
+        first = λ node. dite (ℕ_discrete node head)
+            (λ (same : node ≡ head). ap (λ n. (new.logs n).first) same)
+            (λ other. ap (λ (l : NumberedLog). l.first) (becomes.elsewhere node other) ∙ agree.first node ∙ ap (λ (l : NumberedLog). l.first) (sym becomes.here));
+        logs = λ node. dite (ℕ_discrete node head)
+            (λ (same : node ≡ head). subst (λ n. IsPart (new.logs n).first (new.logs n).records (new.logs head)) (sym same) (whole_part (new.logs head)))
+            (λ other. subst (λ (l : NumberedLog). IsPart l.first l.records (new.logs head)) (sym (becomes.elsewhere node other))
+            (to_new (old.logs node).first (old.logs node).records (agree.logs node)));
+        frames = λ f a this. to_new f.first f.records (agree.frames f (subst (λ fs. IsOneOf fs f) is_sent a) this);
+      }
+
+  -- a message is among what was sent
+  message_agrees : (whole : NumberedLog) (e client first : ℕ) (rs : List LogRecord) (before : List LogFrame) (f : LogFrame) → IsPart first rs whole
+      → (IsOneOf before f → f.epoch ≡ epoch → IsPart f.first f.records whole)
+      → IsOneOf (with_message (frame_of e client first rs) before) f → f.epoch ≡ epoch → IsPart f.first f.records whole
+  message_agrees whole e client first [] before f part rest a this = rest a this
+  message_agrees whole e client first (r ∷ rs) before f part rest (inl is) this = subst (λ (g : LogFrame). IsPart g.first g.records whole) is part
+  message_agrees whole e client first (r ∷ rs) before f part rest (inr a) this = rest a this
+
+  send_agree : (old new : Nodes) (client node from to : ℕ) → AllAgree old → SameLogs old.logs new.logs
+      → new.sent ≡ with_message (message_of (old.logs node) epoch client from to) old.sent → AllAgree new
+  send_agree old new client node from to agree same is_sent =
+      let between : Nodes = record { logs = old.logs; sent = with_message (message_of (old.logs node) epoch client from to) old.sent } in
+      let part = part_sent (old.logs node) from to (old.logs head) (agree.logs node) in
+      let middle : AllAgree between = record {
+        first = agree.first;
+        logs = agree.logs;
+        frames = λ f a this. message_agrees (old.logs head) epoch client (first_sent (old.logs node) from) (sent (old.logs node) from to) old.sent f part (agree.frames f) a this;
+      } in
+      same_agree between new middle same is_sent
+
+  -- a frame is taken in
+  deliver_agree : (old new : Nodes) (node : ℕ) (f : LogFrame) → AllAgree old → IsOneOf old.sent f → node ≢ head → IsTimely (old.logs node) f epoch
+      → Becomes old.logs new.logs node (accepted (old.logs node) f) → new.sent ≡ old.sent → AllAgree new
+  deliver_agree old new node f agree a other timely becomes is_sent =
+      let at_head : new.logs head ≡ old.logs head = becomes.elsewhere head (λ (same : head ≡ node). other (sym same)) in
+      let to_new : (first : ℕ) (rs : List LogRecord) → IsPart first rs (old.logs head) → IsPart first rs (new.logs head)
+          = λ first rs p. subst (λ (w : NumberedLog). IsPart first rs w) (sym at_head) p in
+      let here : NumberedLog = accepted (old.logs node) f in
+      record {
+        first = λ n. dite (ℕ_discrete n node)
+            (λ (same : n ≡ node). ap (λ m. (new.logs m).first) same ∙ ap (λ (l : NumberedLog). l.first) becomes.here ∙ agree.first node ∙ ap (λ (l : NumberedLog). l.first) (sym at_head))
+            (λ away. ap (λ (l : NumberedLog). l.first) (becomes.elsewhere n away) ∙ agree.first n ∙ ap (λ (l : NumberedLog). l.first) (sym at_head));
+        logs = λ n. dite (ℕ_discrete n node)
+            (λ (same : n ≡ node). subst (λ (l : NumberedLog). IsPart l.first l.records (new.logs head)) (sym (ap new.logs same ∙ becomes.here))
+            (to_new here.first here.records (part_accepted (old.logs node) f (old.logs head) timely.no_gap (agree.logs node) (agree.frames f a timely.this_epoch))))
+            (λ away. subst (λ (l : NumberedLog). IsPart l.first l.records (new.logs head)) (sym (becomes.elsewhere n away))
+            (to_new (old.logs n).first (old.logs n).records (agree.logs n)));
+        frames = λ g b this. to_new g.first g.records (agree.frames g (subst (λ fs. IsOneOf fs g) is_sent b) this);
+      }
+
+  -- all let the records below a number go
+  let_go_agree : (old new : Nodes) (to : ℕ) → AllAgree old → AllReach old.logs to → ((node : ℕ) → new.logs node ≡ without_front (old.logs node) to) → new.sent ≡ old.sent → AllAgree new
+  let_go_agree old new to agree reach shorter is_sent =
+      let to_new : (first : ℕ) (rs : List LogRecord) → IsPart first rs (old.logs head) → IsPart first rs (new.logs head)
+          = λ first rs p. subst (λ (w : NumberedLog). IsPart first rs w) (sym (shorter head)) (part_shorter first to rs (old.logs head) (reach head).0 p) in
+      record {
+        first = λ node. ap (λ (l : NumberedLog). l.first) (shorter node) ∙ ap (λ (l : NumberedLog). l.first) (sym (shorter head));
+        logs = λ node. subst (λ (l : NumberedLog). IsPart l.first l.records (new.logs head)) (sym (shorter node))
+            (to_new to (without_front (old.logs node) to).records (part_behind (old.logs node) to (old.logs head) (reach node).0 (agree.logs node)));
+        frames = λ f a this. to_new f.first f.records (agree.frames f (subst (λ fs. IsOneOf fs f) is_sent a) this);
+      }
+
+  step_agree : (client : ℕ) (old new : Nodes) (step : Step) → AllAgree old → Does head epoch client old step new → AllAgree new
+  step_agree client old new (append r) agree d = append_agree old new r agree d.0 d.1
+  step_agree client old new (send node from to) agree d = send_agree old new client node from to agree d.0 d.1
+  step_agree client old new (deliver node f) agree d = deliver_agree old new node f agree d.0 d.1 d.2 d.3 d.4
+  step_agree client old new (let_go to) agree d = let_go_agree old new to agree d.0 d.1 d.2
+
+  all_agree : (client : ℕ) (steps : List Step) (old new : Nodes) → AllAgree old → AllDo head epoch client old steps new → AllAgree new
+  all_agree client [] old new agree d = same_agree old new agree d.0 d.1
+  all_agree client (step ∷ steps) old new agree d =
+      let next : AllAgree d.0 = elim d.1 [
+        | inl does ↦ step_agree client old d.0 step agree does
+        | inr stays ↦ same_agree old d.0 agree stays.0 stays.1
+      ] in
+      all_agree client steps d.0 new next d.2
+
+  pub all_fronts : (client : ℕ) (steps : List Step) (old new : Nodes) → IsBegun head epoch old → AllDo head epoch client old steps new → (node : ℕ) → IsFrontOf (new.logs node) (new.logs head)
+  all_fronts client steps old new begun d node =
+      let agree = all_agree client steps old new (begun_agree old begun) d in
+      part_front (new.logs node) (new.logs head) (agree.first node) (agree.logs node)
