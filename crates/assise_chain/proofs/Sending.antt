@@ -1,14 +1,14 @@
 -- What each step leaves true of all logs and of what was sent, and what lists of steps do.
-use Rattle.std.proofs.Common.{◌≡◌, ◌≢◌, ℕ, ◌≤◌, List, [], ◌∷◌, Option, Some, None, ap, sym, ◌∙◌, refl, subst, arith, inl, inr}
+use Rattle.std.proofs.Common.{◌≡◌, ◌≢◌, ℕ, List, [], ◌∷◌, ap, sym, ◌∙◌, subst, inl, inr}
 use mathlib.Core.Logic.{dite}
 use native.Mathlib.Decide.{ℕ_discrete}
 use Rattle.assise_record.specs.LogRecord.{LogRecord}
 use Rattle.assise_record.specs.LogFrame.{LogFrame}
-use Rattle.assise_private_log.specs.NumberedLog.{NumberedLog, end, with_record, without_front}
+use Rattle.assise_private_log.specs.NumberedLog.{NumberedLog, with_record, without_front}
 use Rattle.assise_chain.specs.Acceptance.{IsTimely, accepted}
 use Rattle.assise_chain.specs.Lists.{IsOneOf}
 use Rattle.assise_chain.specs.Messages.{first_sent, frame_of, message_of, sent}
-use Rattle.assise_chain.specs.Passing.{AllDo, AllReach, Becomes, Does, IsBegun, IsFrontOf, MayDo, Nodes, SameLogs, Step, with_message}
+use Rattle.assise_chain.specs.Passing.{AllDo, AllReach, Becomes, Does, IsBegun, IsFrontOf, Nodes, SameLogs, Step, with_message}
 use Rattle.assise_chain.specs.Passing.Step.{append, send, deliver, let_go}
 use Rattle.assise_chain.proofs.Parts.{IsPart, front_part, part_accepted, part_behind, part_front, part_longer, part_sent, part_shorter, whole_part}
 
@@ -38,7 +38,7 @@ module _ (head epoch : ℕ) where
   append_agree : (old new : Nodes) (r : LogRecord) → AllAgree old → Becomes old.logs new.logs head (with_record (old.logs head) r) → new.sent ≡ old.sent → AllAgree new
   append_agree old new r agree becomes is_sent =
       let to_new : (first : ℕ) (rs : List LogRecord) → IsPart first rs (old.logs head) → IsPart first rs (new.logs head)
-          = λ first rs p. subst (λ (w : NumberedLog). IsPart first rs w) (sym becomes.here) (part_longer first rs (old.logs head) r p) in
+      = λ first rs p. subst (λ (w : NumberedLog). IsPart first rs w) (sym becomes.here) (part_longer first rs (old.logs head) r p) in
       record {
         first = λ node. dite (ℕ_discrete node head)
             (λ (same : node ≡ head). ap (λ n. (new.logs n).first) same)
@@ -76,7 +76,7 @@ module _ (head epoch : ℕ) where
   deliver_agree old new node f agree a other timely becomes is_sent =
       let at_head : new.logs head ≡ old.logs head = becomes.elsewhere head (λ (same : head ≡ node). other (sym same)) in
       let to_new : (first : ℕ) (rs : List LogRecord) → IsPart first rs (old.logs head) → IsPart first rs (new.logs head)
-          = λ first rs p. subst (λ (w : NumberedLog). IsPart first rs w) (sym at_head) p in
+      = λ first rs p. subst (λ (w : NumberedLog). IsPart first rs w) (sym at_head) p in
       let here : NumberedLog = accepted (old.logs node) f in
       record {
         first = λ n. dite (ℕ_discrete n node)
@@ -94,7 +94,7 @@ module _ (head epoch : ℕ) where
   let_go_agree : (old new : Nodes) (to : ℕ) → AllAgree old → AllReach old.logs to → ((node : ℕ) → new.logs node ≡ without_front (old.logs node) to) → new.sent ≡ old.sent → AllAgree new
   let_go_agree old new to agree reach shorter is_sent =
       let to_new : (first : ℕ) (rs : List LogRecord) → IsPart first rs (old.logs head) → IsPart first rs (new.logs head)
-          = λ first rs p. subst (λ (w : NumberedLog). IsPart first rs w) (sym (shorter head)) (part_shorter first to rs (old.logs head) (reach head).0 p) in
+      = λ first rs p. subst (λ (w : NumberedLog). IsPart first rs w) (sym (shorter head)) (part_shorter first to rs (old.logs head) (reach head).0 p) in
       record {
         first = λ node. ap (λ (l : NumberedLog). l.first) (shorter node) ∙ ap (λ (l : NumberedLog). l.first) (sym (shorter head));
         logs = λ node. subst (λ (l : NumberedLog). IsPart l.first l.records (new.logs head)) (sym (shorter node))

@@ -1,5 +1,5 @@
 -- Who stands behind whom in a chain whose nodes differ.
-use Rattle.std.proofs.Common.{◌≡◌, ◌≢◌, ℕ, ◌<◌, ◌==◌, Bool, true, false, if◌then◌else◌, List, [], ◌∷◌, ◌++◌, Option, Some, None, ap, sym, ◌∙◌, refl, subst, arith, inl, inr, filter, nat_lt, nat_le}
+use Rattle.std.proofs.Common.{◌≡◌, ℕ, ◌<◌, ◌==◌, Bool, true, false, if◌then◌else◌, List, [], ◌∷◌, ◌++◌, Some, None, ap, sym, refl, subst, arith, inl, inr, filter, nat_lt, nat_le}
 use Rattle.assise_chain.specs.Chains.{IsRising, behind, chain, first_of_all}
 use Rattle.assise_chain.specs.Lists.{AllDiffer, IsOneOf}
 use Rattle.assise_chain.proofs.Rows.{above_all, in_right}

@@ -61,5 +61,5 @@ pub found_then_next : {S F : Type 0} {steps : S → Option ℕ → S → Type 0}
     → YieldsList steps (λ x. x) s all → ((x : ℕ) (b : Bool) (q : F) → CalledAt g f x b q → (q ≡ f) × (b ≡ (x == node))) → r ≡ Some x → steps u next w → next ≡ behind node all
 found_then_next {S} {F} {steps} {g} {s} {all} node u w f r next x ran road tells some after =
     let at : (xs : List ℕ) × (j : F) × YieldsThen steps s xs (Some x) u × FoldsTo (λ p x q. CalledAt g p x false q) f xs j × MatchOption (Some x) ⊤ (λ x. (h : F) × CalledAt g j x true h)
-        = subst (λ o. (xs : List ℕ) × (j : F) × YieldsThen steps s xs o u × FoldsTo (λ p x q. CalledAt g p x false q) f xs j × MatchOption o ⊤ (λ x. (h : F) × CalledAt g j x true h)) some ran in
+    = subst (λ o. (xs : List ℕ) × (j : F) × YieldsThen steps s xs o u × FoldsTo (λ p x q. CalledAt g p x false q) f xs j × MatchOption o ⊤ (λ x. (h : F) × CalledAt g j x true h)) some ran in
     next_behind steps g node f tells all at.0 s at.2.0 u w x at.1 at.4.0 next road.runs at.2.1 at.2.2 at.3 at.4.1 after

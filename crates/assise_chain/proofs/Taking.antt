@@ -1,5 +1,5 @@
 -- Fronts of records: what is sent, and what was read of an iterator.
-use Rattle.std.proofs.Common.{◌≡◌, ℕ, zero, suc, ◌+◌, ◌-◌, ◌<◌, min, max, List, [], ◌∷◌, ◌++◌, length, take, drop, Some, ap, sym, ◌∙◌, refl, arith}
+use Rattle.std.proofs.Common.{◌≡◌, ℕ, zero, suc, ◌+◌, ◌-◌, ◌<◌, min, max, List, [], ◌∷◌, length, take, Some, ap, sym, ◌∙◌, refl, arith}
 use Rattle.std.proofs.lemmas.List.{take_min, length-drop}
 use Rattle.assise_record.specs.LogRecord.{LogRecord}
 use Rattle.assise_private_log.specs.NumberedLog.{NumberedLog, end, records_from}

@@ -9,16 +9,15 @@ pub returns-in_err-find : goal.returns-in_err-find
 returns-in_err-find c =
     nobody_found c.args.node _ _ _ _ c.find.ensures.ran
     (YieldsList-from_chain
-        (YieldsList-at c.chain-chain.ensures.first (YieldsList-from_filter _ (nat_le c.args.head) (YieldsList-at c.filter-above.ensures.source (YieldsList-from_copied (YieldsList-at c.copied.ensures.source (YieldsList-from_slice c.args.full_nodes.now c.iter.ensures.rest)))) c.filter-above.ensures.closure (λ x b q k. search (rules, tests))))
-        (YieldsList-at c.chain-chain.ensures.second (YieldsList-from_filter _ (λ n. nat_lt n c.args.head) (YieldsList-at c.filter-below.ensures.source (YieldsList-from_copied (YieldsList-at c.copied-2.ensures.source (YieldsList-from_slice c.args.full_nodes.now c.iter-2.ensures.rest)))) c.filter-below.ensures.closure (λ x b q k. search (rules, tests))))
-        c.chain-chain.ensures.first_done c.chain-chain.ensures.second_done)
+    (YieldsList-at c.chain-chain.ensures.first (YieldsList-from_filter _ (nat_le c.args.head) (YieldsList-at c.filter-above.ensures.source (YieldsList-from_copied (YieldsList-at c.copied.ensures.source (YieldsList-from_slice c.args.full_nodes.now c.iter.ensures.rest)))) c.filter-above.ensures.closure (λ x b q k. search (rules, tests))))
+    (YieldsList-at c.chain-chain.ensures.second (YieldsList-from_filter _ (λ n. nat_lt n c.args.head) (YieldsList-at c.filter-below.ensures.source (YieldsList-from_copied (YieldsList-at c.copied-2.ensures.source (YieldsList-from_slice c.args.full_nodes.now c.iter-2.ensures.rest)))) c.filter-below.ensures.closure (λ x b q k. search (rules, tests))))
+    c.chain-chain.ensures.first_done c.chain-chain.ensures.second_done)
     (λ x b q k. search (rules, tests)) (search rules) (search rules)
 
 pub returns : goal.returns
-returns c =
-    found_then_next c.args.node _ _ _ _ _ c.in_ok-find.field-0 c.find.ensures.ran
+returns c = search (found_then_next c.args.node _ _ _ _ _ c.in_ok-find.field-0 c.find.ensures.ran
     (YieldsList-from_chain
-        (YieldsList-at c.chain-chain.ensures.first (YieldsList-from_filter _ (nat_le c.args.head) (YieldsList-at c.filter-above.ensures.source (YieldsList-from_copied (YieldsList-at c.copied.ensures.source (YieldsList-from_slice c.args.full_nodes.now c.iter.ensures.rest)))) c.filter-above.ensures.closure (λ x b q k. search (rules, tests))))
-        (YieldsList-at c.chain-chain.ensures.second (YieldsList-from_filter _ (λ n. nat_lt n c.args.head) (YieldsList-at c.filter-below.ensures.source (YieldsList-from_copied (YieldsList-at c.copied-2.ensures.source (YieldsList-from_slice c.args.full_nodes.now c.iter-2.ensures.rest)))) c.filter-below.ensures.closure (λ x b q k. search (rules, tests))))
-        c.chain-chain.ensures.first_done c.chain-chain.ensures.second_done)
-    (λ x b q k. search (rules, tests)) c.in_ok-find.was c.next.ensures.steps
+    (YieldsList-at c.chain-chain.ensures.first (YieldsList-from_filter _ (nat_le c.args.head) (YieldsList-at c.filter-above.ensures.source (YieldsList-from_copied (YieldsList-at c.copied.ensures.source (YieldsList-from_slice c.args.full_nodes.now c.iter.ensures.rest)))) c.filter-above.ensures.closure (λ x b q k. search (rules, tests))))
+    (YieldsList-at c.chain-chain.ensures.second (YieldsList-from_filter _ (λ n. nat_lt n c.args.head) (YieldsList-at c.filter-below.ensures.source (YieldsList-from_copied (YieldsList-at c.copied-2.ensures.source (YieldsList-from_slice c.args.full_nodes.now c.iter-2.ensures.rest)))) c.filter-below.ensures.closure (λ x b q k. search (rules, tests))))
+    c.chain-chain.ensures.first_done c.chain-chain.ensures.second_done)
+    (λ x b q k. search (rules, tests)) c.in_ok-find.was c.next.ensures.steps)
