@@ -1,0 +1,84 @@
+// What a node takes in.
+ghost use Rattle.std.specs.Prelude.{◌≡◌, ◌+◌, ◌≤◌, true, length};
+
+use crate::logs::{log_of, put_log, show};
+use assise_chain::acceptance::accept;
+use assise_chain::messages::message;
+use assise_private_log::log::Log;
+use assise_record::frame::Frame;
+use assise_rows::{Steps, split_word};
+use std::alloc::Global;
+
+/// Whether a log has room up to a frame's last record.
+pub(crate) fn has_room(log: &Log, frame: &Frame) -> bool
+    ensures { result ≡ true → frame.now.first + length frame.now.records ≤ log.now.first + log.now.limit }
+{
+    let end = frame.first() + frame.records().len() as u64;
+    end <= log.first().saturating_add(log.limit() as u64)
+}
+
+/// `FIRST END, EPOCH FROM TO`: in epoch 5, a log takes in what a head with the records 0 to 99 sends in an epoch. What is
+/// answered is told, and the log after it.
+#[derive(Drop)]
+struct Accepted {}
+
+impl Steps for Accepted {
+    fn put_outcome(alloc: Global, steps: &str, text: &mut String) -> Option<()> {
+        let (numbers, sent) = steps.split_once(", ")?;
+        let (first, end) = split_word(numbers);
+        let mut log = log_of(alloc, first.parse::<u64>().ok()?, end.parse::<u64>().ok()?)?;
+        let frame = frame_of(alloc, sent)?;
+        if !has_room(&log, &frame) {
+            return None;
+        }
+        match accept(&mut log, frame, 5) {
+            Ok(received) => write!(text, " {received}").ok()?,
+            Err(refusal) => write!(text, " {refusal}").ok()?,
+        }
+        put_log(&log, text).ok()
+    }
+}
+
+/// `EPOCH FROM TO`: what the head sends.
+fn frame_of(alloc: Global, sent: &str) -> Option<Frame> {
+    let head = log_of(alloc, 0, 100)?;
+    let (epoch, between) = split_word(sent);
+    let (from, to) = split_word(between);
+    let from = from.parse::<u64>().ok()?;
+    let to = to.parse::<u64>().ok()?;
+    message(alloc, &head, epoch.parse::<u64>().ok()?, 1, from, to).ok()?
+}
+
+/// The next records, some again, all again, and those that the log has let go.
+const TAKEN: &str = "\
+0 0, 5 0 64 => 64 0-64
+0 3, 5 3 6 => 6 0-6
+0 4, 5 2 6 => 6 0-6
+0 6, 5 3 6 => 6 0-6
+0 9, 5 3 6 => 9 0-9
+0 6, 5 0 7 => 7 0-7
+4 6, 5 6 8 => 8 4-8
+4 6, 5 2 8 => 8 4-8
+4 4, 5 0 6 => 6 4-6
+4 6, 5 0 3 => 6 4-6
+";
+
+/// A gap, and other epochs.
+const REFUSED: &str = "\
+0 3, 5 4 6 => F11 StaleMessage 0-3
+0 0, 5 1 2 => F11 StaleMessage 0-0
+4 6, 5 7 9 => F11 StaleMessage 4-6
+0 3, 4 3 6 => F11 StaleMessage 0-3
+0 3, 6 3 6 => F11 StaleMessage 0-3
+0 6, 4 3 6 => F11 StaleMessage 0-6
+";
+
+#[test]
+fn what_lies_past_the_end_is_taken_in(rt: HostRuntime) {
+    show::<Accepted>(rt.alloc(), &rt, TAKEN);
+}
+
+#[test]
+fn a_gap_and_another_epoch_are_refused(rt: HostRuntime) {
+    show::<Accepted>(rt.alloc(), &rt, REFUSED);
+}

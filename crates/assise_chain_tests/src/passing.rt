@@ -1,0 +1,58 @@
+// Records that go along a chain.
+use crate::accepting::has_room;
+use crate::logs::{log_of, put_log, show};
+use assise_chain::acceptance::accept;
+use assise_chain::acknowledged::acked;
+use assise_chain::messages::message;
+use assise_private_log::log::Log;
+use assise_rows::{Steps, split_word};
+use std::alloc::Global;
+
+/// `NODES END`: a head's log up to an end goes along so many nodes, one message from node to node and then one more. The
+/// nodes' logs are told, and up to which number all have it.
+#[derive(Drop)]
+struct Passed {}
+
+impl Steps for Passed {
+    fn put_outcome(alloc: Global, steps: &str, text: &mut String) -> Option<()> {
+        let (nodes, end) = split_word(steps);
+        let mut before = log_of(alloc, 0, end.parse::<u64>().ok()?)?;
+        let mut received = Vec::new(alloc);
+        for _ in 0..nodes.parse::<u32>().ok()? {
+            let mut log = log_of(alloc, 0, 0)?;
+            for _ in 0..2 {
+                received.push(pass(alloc, &before, &mut log)?).ok()?;
+            }
+            put_log(&log, text).ok()?;
+            before = log;
+        }
+        if received.is_empty() {
+            return None;
+        }
+        write!(text, " all {}", acked(&received)).ok()
+    }
+}
+
+/// Sends what a node lacks from the node in front of it, and answers what it has then.
+fn pass(alloc: Global, before: &Log, log: &mut Log) -> Option<u64> {
+    let frame = message(alloc, before, 5, 1, log.end(), before.end()).ok()?;
+    let Some(frame) = frame else {
+        return Some(log.end());
+    };
+    if !has_room(log, &frame) {
+        return None;
+    }
+    accept(log, frame, 5).ok()
+}
+
+const PASSED: &str = "\
+1 0 => 0-0 all 0
+1 10 => 0-10 all 10
+3 10 => 0-10 0-10 0-10 all 10
+7 100 => 0-100 0-100 0-100 0-100 0-100 0-100 0-100 all 64
+";
+
+#[test]
+fn a_log_goes_along_a_chain(rt: HostRuntime) {
+    show::<Passed>(rt.alloc(), &rt, PASSED);
+}

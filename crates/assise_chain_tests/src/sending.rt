@@ -1,0 +1,62 @@
+// What a node sends of its log.
+use crate::logs::{log_of, put_frame, show};
+use assise_chain::messages::message;
+use assise_rows::{Steps, split_word};
+use std::alloc::Global;
+
+/// `FIRST END, FROM TO`: a log, and what is sent of it.
+#[derive(Drop)]
+struct Sent {}
+
+impl Steps for Sent {
+    fn put_outcome(alloc: Global, steps: &str, text: &mut String) -> Option<()> {
+        let (numbers, between) = steps.split_once(", ")?;
+        let (first, end) = split_word(numbers);
+        let log = log_of(alloc, first.parse::<u64>().ok()?, end.parse::<u64>().ok()?)?;
+        let (from, to) = split_word(between);
+        let from = from.parse::<u64>().ok()?;
+        let to = to.parse::<u64>().ok()?;
+        match message(alloc, &log, 5, 1, from, to) {
+            Ok(Some(frame)) => put_frame(&frame, text).ok(),
+            Ok(None) => write!(text, " none").ok(),
+            Err(refusal) => write!(text, " {refusal}").ok(),
+        }
+    }
+}
+
+const MESSAGES: &str = "\
+0 10, 2 5 => 3 from 2: 2 4
+0 10, 0 10 => 10 from 0: 0 9
+0 10, 5 6 => 1 from 5: 5 5
+0 10, 5 5 => none
+0 10, 6 5 => none
+0 0, 0 9 => none
+0 10, 8 20 => 2 from 8: 8 9
+0 10, 10 20 => none
+0 10, 9 18446744073709551615 => 1 from 9: 9 9
+4 10, 0 7 => 3 from 4: 4 6
+4 10, 4 7 => 3 from 4: 4 6
+4 10, 0 4 => none
+4 10, 0 3 => none
+4 4, 0 9 => none
+";
+
+/// Of 64 records and of more.
+const LONG: &str = "\
+0 100, 0 64 => 64 from 0: 0 63
+0 100, 0 65 => 64 from 0: 0 63
+0 100, 3 100 => 64 from 3: 3 66
+0 100, 36 100 => 64 from 36: 36 99
+0 100, 37 100 => 63 from 37: 37 99
+20 100, 0 100 => 64 from 20: 20 83
+";
+
+#[test]
+fn records_between_two_numbers_are_sent(rt: HostRuntime) {
+    show::<Sent>(rt.alloc(), &rt, MESSAGES);
+}
+
+#[test]
+fn at_most_64_are_sent(rt: HostRuntime) {
+    show::<Sent>(rt.alloc(), &rt, LONG);
+}

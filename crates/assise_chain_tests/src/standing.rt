@@ -1,0 +1,101 @@
+// Who stands behind whom, and how far all have come.
+use crate::logs::show;
+use assise_chain::acknowledged::acked;
+use assise_chain::order::successor;
+use assise_rows::Steps;
+use std::alloc::Global;
+
+/// `HEAD of NODE NODE ..`: a chain of full nodes. What stands behind each of the nodes 1 to 8 is told.
+#[derive(Drop)]
+struct Chain {}
+
+impl Steps for Chain {
+    fn put_outcome(alloc: Global, steps: &str, text: &mut String) -> Option<()> {
+        let (head, nodes) = steps.split_once(" of ")?;
+        let head = head.parse::<u32>().ok()?;
+        let mut full = Vec::new(alloc);
+        for node in nodes.split(' ') {
+            full.push(node.parse::<u32>().ok()?).ok()?;
+        }
+        for node in 1..9 {
+            match successor(&full, head, node) {
+                Some(next) => write!(text, " {next}").ok()?,
+                None => write!(text, " -").ok()?,
+            }
+        }
+        Some(())
+    }
+}
+
+/// Chains of 1 to 8 full nodes.
+const CHAINS: &str = "\
+1 of 1 => - - - - - - - -
+1 of 1 2 => 2 - - - - - - -
+2 of 1 2 => - 1 - - - - - -
+1 of 1 2 3 => 2 3 - - - - - -
+2 of 1 2 3 => - 3 1 - - - - -
+3 of 1 2 3 => 2 - 1 - - - - -
+2 of 1 2 3 4 => - 3 4 1 - - - -
+3 of 1 2 3 4 5 => 2 - 4 5 1 - - -
+6 of 1 2 3 4 5 6 => 2 3 4 5 - 1 - -
+4 of 1 2 3 4 5 6 7 => 2 3 - 5 6 7 1 -
+1 of 1 2 3 4 5 6 7 8 => 2 3 4 5 6 7 8 -
+5 of 1 2 3 4 5 6 7 8 => 2 3 4 - 6 7 8 1
+8 of 1 2 3 4 5 6 7 8 => 2 3 4 5 6 7 - 1
+";
+
+/// Of 8 nodes, whose chain is that of node 3, one is down; and chains of which more are.
+const DOWN: &str = "\
+3 of 2 3 4 5 6 7 8 => - - 4 5 6 7 8 2
+3 of 1 3 4 5 6 7 8 => - - 4 5 6 7 8 1
+3 of 1 2 4 5 6 7 8 => 2 - - 5 6 7 8 1
+3 of 1 2 3 5 6 7 8 => 2 - 5 - 6 7 8 1
+3 of 1 2 3 4 6 7 8 => 2 - 4 6 - 7 8 1
+3 of 1 2 3 4 5 7 8 => 2 - 4 5 7 - 8 1
+3 of 1 2 3 4 5 6 8 => 2 - 4 5 6 8 - 1
+3 of 1 2 3 4 5 6 7 => 2 - 4 5 6 7 1 -
+4 of 2 4 7 => - - - 7 - - 2 -
+7 of 2 4 7 => - 4 - - - - 2 -
+3 of 3 => - - - - - - - -
+";
+
+#[test]
+fn each_node_passes_to_the_next(rt: HostRuntime) {
+    show::<Chain>(rt.alloc(), &rt, CHAINS);
+}
+
+#[test]
+fn who_is_down_is_passed_over(rt: HostRuntime) {
+    show::<Chain>(rt.alloc(), &rt, DOWN);
+}
+
+/// `NUMBER NUMBER ..`: what the nodes received.
+#[derive(Drop)]
+struct Received {}
+
+impl Steps for Received {
+    fn put_outcome(alloc: Global, steps: &str, text: &mut String) -> Option<()> {
+        let mut received = Vec::new(alloc);
+        for number in steps.split(' ') {
+            received.push(number.parse::<u64>().ok()?).ok()?;
+        }
+        if received.is_empty() {
+            return None;
+        }
+        write!(text, " {}", acked(&received)).ok()
+    }
+}
+
+const RECEIVED: &str = "\
+7 => 7
+5 3 9 => 3
+3 5 9 => 3
+9 5 3 => 3
+4 4 => 4
+0 18446744073709551615 => 0
+";
+
+#[test]
+fn the_least_is_acknowledged(rt: HostRuntime) {
+    show::<Received>(rt.alloc(), &rt, RECEIVED);
+}
