@@ -2,6 +2,7 @@
 use Rattle.std.proofs.Common.{◌≡◌, ℕ, zero, suc, ◌+◌, ◌-◌, ◌<◌, min, max, List, [], ◌∷◌, length, take, Some, ap, sym, ◌∙◌, refl, arith}
 use Rattle.std.proofs.lemmas.List.{take_min, length-drop}
 use Rattle.assise_record.specs.LogRecord.{LogRecord}
+use Rattle.assise_record.specs.LogFrame.{LogFrame}
 use Rattle.assise_private_log.specs.NumberedLog.{NumberedLog, end, records_from}
 use Rattle.assise_chain.specs.Messages.{first_sent, frame_of, sent}
 
@@ -31,3 +32,13 @@ sent_first l from to count is =
 pub frame_of_some : (epoch client first : ℕ) (rs : List LogRecord) → 0 < length rs → Some (record { epoch = epoch; client = client; first = first; records = rs }) ≡ frame_of epoch client first rs
 frame_of_some epoch client first [] some = absurd (omega arith)
 frame_of_some epoch client first (r ∷ rs) some = refl
+
+-- what a frame that is sent has
+pub parts_of_frame : (epoch client first : ℕ) (rs : List LogRecord) (f : LogFrame) → frame_of epoch client first rs ≡ Some f → (f.epoch ≡ epoch) × (f.first ≡ first) × (f.records ≡ rs)
+parts_of_frame epoch client first [] f is = cc
+parts_of_frame epoch client first (r ∷ rs) f is =
+    let same : record { epoch = epoch; client = client; first = first; records = r ∷ rs } ≡ f = cc in (
+      ap (λ (g : LogFrame). g.epoch) (sym same),
+      ap (λ (g : LogFrame). g.first) (sym same),
+      ap (λ (g : LogFrame). g.records) (sym same),
+    )

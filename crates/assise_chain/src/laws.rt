@@ -1,7 +1,11 @@
 // Laws of chains. Each function does nothing: its contract is the law.
-ghost use Rattle.std.specs.Prelude.{◌≡◌, ◌≢◌, ◌↔◌, ℕ, List, [], ◌∷◌, ◌++◌, Some, None};
+ghost use Rattle.std.specs.Prelude.{◌≡◌, ◌≢◌, ◌≤◌, ◌↔◌, ℕ, List, [], ◌∷◌, ◌++◌, Some, None};
+ghost use Rattle.assise_record.specs.LogFrame.{LogFrame};
+ghost use Rattle.assise_private_log.specs.NumberedLog.{NumberedLog, end};
+ghost use Rattle.assise_chain.specs.Acceptance.{IsTimely, records_past};
 ghost use Rattle.assise_chain.specs.Chains.{IsRising, behind, chain, first_of_all};
 ghost use Rattle.assise_chain.specs.Lists.{AllDiffer, IsOneOf};
+ghost use Rattle.assise_chain.specs.Messages.{message_of, sent};
 ghost use Rattle.assise_chain.specs.Passing.{AllDo, IsBegun, IsFrontOf, Nodes, Step};
 
 /// The full nodes stand in the chain, and nobody else does: whoever isn't full has nobody behind.
@@ -22,6 +26,12 @@ pub fn each_node_passes_to_the_next()
     ensures next { (full front rest : List ℕ) (head node next : ℕ) → IsRising full → chain full head ≡ front ++ node ∷ next ∷ rest → behind node (chain full head) ≡ Some next }
     ensures last { (full front : List ℕ) (head node : ℕ) → IsRising full → chain full head ≡ front ++ node ∷ [] → behind node (chain full head) ≡ None }
     ensures other { (full : List ℕ) (head node : ℕ) → IsRising full → behind node (chain full head) ≢ Some node }
+{}
+
+/// Records that are sent from a log's end on, by a node that hasn't let them go, are taken in, all of them.
+pub fn what_is_sent_from_the_end_is_taken_in()
+    ensures timely { (from l : NumberedLog) (f : LogFrame) (epoch client to : ℕ) → from.first ≤ end l → message_of from epoch client (end l) to ≡ Some f → IsTimely l f epoch }
+    ensures taken { (from l : NumberedLog) (f : LogFrame) (epoch client to : ℕ) → from.first ≤ end l → message_of from epoch client (end l) to ≡ Some f → records_past l f ≡ sent from (end l) to }
 {}
 
 /// Whatever of the messages of an epoch is lost, repeated or brought in another order, and whoever sends them, what a node
