@@ -26,10 +26,9 @@ pub fn message(
     ensures only_memory { IsOkUnless result OutOfMemory }
     ensures nothing_asked { sent log.now from to ≡ [] → IsOk result }
 {
-    let _fits = log.end();
     let first = from.max(log.first());
-    let count = to.min(log.end()).saturating_sub(first) as usize;
-    let count = count.min(MOST_RECORDS);
+    let end = to.min(log.end());
+    let count = MOST_RECORDS.min(end.saturating_sub(first) as usize);
     if count == 0 {
         return Ok(None);
     }
@@ -37,7 +36,7 @@ pub fn message(
     Ok(Some(Frame::new(epoch, client, first, records)))
 }
 
-/// Equal records, the first of those of a number or a greater one.
+/// Equal records: the first ones of those from a number on.
 fn copies(alloc: Global, log: &Log, from: u64, count: usize) -> Result<Vec<Record>, Refusal>
     ensures equal { IfOk result (λ copied. copied.items ≡ take count (records_from log.now from)) }
     ensures only_memory { IsOkUnless result OutOfMemory }
