@@ -8,29 +8,32 @@ use Rattle.assise_private_log.specs.NumberedLog.{NumberedLog, with_record, witho
 use Rattle.assise_chain.specs.Acceptance.{IsTimely, accepted}
 use Rattle.assise_chain.specs.Lists.{IsOneOf}
 use Rattle.assise_chain.specs.Messages.{first_sent, frame_of, message_of, sent}
-use Rattle.assise_chain.specs.Passing.{AllDo, AllReach, Becomes, Does, IsBegun, IsFrontOf, Nodes, SameLogs, Step, with_message}
+use Rattle.assise_chain.specs.Passing.{AllDo, AllLetGo, AllReach, Becomes, Does, IsBegun, IsFrontOf, Nodes, SameLogs, Step, with_message}
 use Rattle.assise_chain.specs.Passing.Step.{append, send, deliver, let_go}
 use Rattle.assise_chain.proofs.Parts.{IsPart, front_part, part_accepted, part_behind, part_front, part_longer, part_sent, part_shorter, whole_part}
 
-module _ (head epoch : ℕ) where
-  -- all logs begin with the head's and agree with it, and so does each frame of the epoch
+module _ (full : List ℕ) (head epoch : ℕ) where
+  -- all full nodes' logs begin with the head's and agree with it, and so does each frame of the epoch
   pub record AllAgree (s : Nodes) : Type 0 where
-    pub first : (node : ℕ) → (s.logs node).first ≡ (s.logs head).first
-    pub logs : (node : ℕ) → IsPart (s.logs node).first (s.logs node).records (s.logs head)
+    pub head_full : IsOneOf full head
+    pub first : (node : ℕ) → IsOneOf full node → (s.logs node).first ≡ (s.logs head).first
+    pub logs : (node : ℕ) → IsOneOf full node → IsPart (s.logs node).first (s.logs node).records (s.logs head)
     pub frames : (f : LogFrame) → IsOneOf s.sent f → f.epoch ≡ epoch → IsPart f.first f.records (s.logs head)
 
-  begun_agree : (s : Nodes) → IsBegun head epoch s → AllAgree s
+  begun_agree : (s : Nodes) → IsBegun full head epoch s → AllAgree s
   begun_agree s begun = record {
-    first = λ node. (begun.fronts node).first;
-    logs = λ node. front_part (s.logs node) (s.logs head) (begun.fronts node);
+    head_full = begun.head_full;
+    first = λ node is. (begun.fronts node is).first;
+    logs = λ node is. front_part (s.logs node) (s.logs head) (begun.fronts node is);
     frames = λ f a this. absurd (begun.sent_before f a this);
   }
 
   same_agree : (old new : Nodes) → AllAgree old → SameLogs old.logs new.logs → new.sent ≡ old.sent → AllAgree new
   same_agree old new agree same is_sent = record {
-    first = λ node. ap (λ (l : NumberedLog). l.first) (same node) ∙ agree.first node ∙ ap (λ (l : NumberedLog). l.first) (sym (same head));
-    logs = λ node. subst (λ (l : NumberedLog). IsPart l.first l.records (new.logs head)) (sym (same node))
-        (subst (λ (w : NumberedLog). IsPart (old.logs node).first (old.logs node).records w) (sym (same head)) (agree.logs node));
+    head_full = agree.head_full;
+    first = λ node is. ap (λ (l : NumberedLog). l.first) (same node) ∙ agree.first node is ∙ ap (λ (l : NumberedLog). l.first) (sym (same head));
+    logs = λ node is. subst (λ (l : NumberedLog). IsPart l.first l.records (new.logs head)) (sym (same node))
+        (subst (λ (w : NumberedLog). IsPart (old.logs node).first (old.logs node).records w) (sym (same head)) (agree.logs node is));
     frames = λ f a this. subst (λ (w : NumberedLog). IsPart f.first f.records w) (sym (same head)) (agree.frames f (subst (λ fs. IsOneOf fs f) is_sent a) this);
   }
 
@@ -40,13 +43,14 @@ module _ (head epoch : ℕ) where
       let to_new : (first : ℕ) (rs : List LogRecord) → IsPart first rs (old.logs head) → IsPart first rs (new.logs head)
       = λ first rs p. subst (λ (w : NumberedLog). IsPart first rs w) (sym becomes.here) (part_longer first rs (old.logs head) r p) in
       record {
-        first = λ node. dite (ℕ_discrete node head)
+        head_full = agree.head_full;
+        first = λ node is. dite (ℕ_discrete node head)
             (λ (same : node ≡ head). ap (λ n. (new.logs n).first) same)
-            (λ other. ap (λ (l : NumberedLog). l.first) (becomes.elsewhere node other) ∙ agree.first node ∙ ap (λ (l : NumberedLog). l.first) (sym becomes.here));
-        logs = λ node. dite (ℕ_discrete node head)
+            (λ other. ap (λ (l : NumberedLog). l.first) (becomes.elsewhere node other) ∙ agree.first node is ∙ ap (λ (l : NumberedLog). l.first) (sym becomes.here));
+        logs = λ node is. dite (ℕ_discrete node head)
             (λ (same : node ≡ head). subst (λ n. IsPart (new.logs n).first (new.logs n).records (new.logs head)) (sym same) (whole_part (new.logs head)))
             (λ other. subst (λ (l : NumberedLog). IsPart l.first l.records (new.logs head)) (sym (becomes.elsewhere node other))
-            (to_new (old.logs node).first (old.logs node).records (agree.logs node)));
+            (to_new (old.logs node).first (old.logs node).records (agree.logs node is)));
         frames = λ f a this. to_new f.first f.records (agree.frames f (subst (λ fs. IsOneOf fs f) is_sent a) this);
       }
 
@@ -58,12 +62,13 @@ module _ (head epoch : ℕ) where
   message_agrees whole e client first (r ∷ rs) before f part rest (inl is) this = subst (λ (g : LogFrame). IsPart g.first g.records whole) is part
   message_agrees whole e client first (r ∷ rs) before f part rest (inr a) this = rest a this
 
-  send_agree : (old new : Nodes) (client node from to : ℕ) → AllAgree old → SameLogs old.logs new.logs
+  send_agree : (old new : Nodes) (client node from to : ℕ) → AllAgree old → IsOneOf full node → SameLogs old.logs new.logs
       → new.sent ≡ with_message (message_of (old.logs node) epoch client from to) old.sent → AllAgree new
-  send_agree old new client node from to agree same is_sent =
+  send_agree old new client node from to agree is same is_sent =
       let between : Nodes = record { logs = old.logs; sent = with_message (message_of (old.logs node) epoch client from to) old.sent } in
-      let part = part_sent (old.logs node) from to (old.logs head) (agree.logs node) in
+      let part = part_sent (old.logs node) from to (old.logs head) (agree.logs node is) in
       let middle : AllAgree between = record {
+        head_full = agree.head_full;
         first = agree.first;
         logs = agree.logs;
         frames = λ f a this. message_agrees (old.logs head) epoch client (first_sent (old.logs node) from) (sent (old.logs node) from to) old.sent f part (agree.frames f) a this;
@@ -71,44 +76,46 @@ module _ (head epoch : ℕ) where
       same_agree between new middle same is_sent
 
   -- a frame is taken in
-  deliver_agree : (old new : Nodes) (node : ℕ) (f : LogFrame) → AllAgree old → IsOneOf old.sent f → node ≢ head → IsTimely (old.logs node) f epoch
+  deliver_agree : (old new : Nodes) (node : ℕ) (f : LogFrame) → AllAgree old → IsOneOf old.sent f → IsOneOf full node → node ≢ head → IsTimely (old.logs node) f epoch
       → Becomes old.logs new.logs node (accepted (old.logs node) f) → new.sent ≡ old.sent → AllAgree new
-  deliver_agree old new node f agree a other timely becomes is_sent =
+  deliver_agree old new node f agree a is other timely becomes is_sent =
       let at_head : new.logs head ≡ old.logs head = becomes.elsewhere head (λ (same : head ≡ node). other (sym same)) in
       let to_new : (first : ℕ) (rs : List LogRecord) → IsPart first rs (old.logs head) → IsPart first rs (new.logs head)
       = λ first rs p. subst (λ (w : NumberedLog). IsPart first rs w) (sym at_head) p in
       let here : NumberedLog = accepted (old.logs node) f in
       record {
-        first = λ n. dite (ℕ_discrete n node)
-            (λ (same : n ≡ node). ap (λ m. (new.logs m).first) same ∙ ap (λ (l : NumberedLog). l.first) becomes.here ∙ agree.first node ∙ ap (λ (l : NumberedLog). l.first) (sym at_head))
-            (λ away. ap (λ (l : NumberedLog). l.first) (becomes.elsewhere n away) ∙ agree.first n ∙ ap (λ (l : NumberedLog). l.first) (sym at_head));
-        logs = λ n. dite (ℕ_discrete n node)
+        head_full = agree.head_full;
+        first = λ n is_n. dite (ℕ_discrete n node)
+            (λ (same : n ≡ node). ap (λ m. (new.logs m).first) same ∙ ap (λ (l : NumberedLog). l.first) becomes.here ∙ agree.first node is ∙ ap (λ (l : NumberedLog). l.first) (sym at_head))
+            (λ away. ap (λ (l : NumberedLog). l.first) (becomes.elsewhere n away) ∙ agree.first n is_n ∙ ap (λ (l : NumberedLog). l.first) (sym at_head));
+        logs = λ n is_n. dite (ℕ_discrete n node)
             (λ (same : n ≡ node). subst (λ (l : NumberedLog). IsPart l.first l.records (new.logs head)) (sym (ap new.logs same ∙ becomes.here))
-            (to_new here.first here.records (part_accepted (old.logs node) f (old.logs head) timely.no_gap (agree.logs node) (agree.frames f a timely.this_epoch))))
+            (to_new here.first here.records (part_accepted (old.logs node) f (old.logs head) timely.no_gap (agree.logs node is) (agree.frames f a timely.this_epoch))))
             (λ away. subst (λ (l : NumberedLog). IsPart l.first l.records (new.logs head)) (sym (becomes.elsewhere n away))
-            (to_new (old.logs n).first (old.logs n).records (agree.logs n)));
+            (to_new (old.logs n).first (old.logs n).records (agree.logs n is_n)));
         frames = λ g b this. to_new g.first g.records (agree.frames g (subst (λ fs. IsOneOf fs g) is_sent b) this);
       }
 
   -- all let the records below a number go
-  let_go_agree : (old new : Nodes) (to : ℕ) → AllAgree old → AllReach old.logs to → ((node : ℕ) → new.logs node ≡ without_front (old.logs node) to) → new.sent ≡ old.sent → AllAgree new
+  let_go_agree : (old new : Nodes) (to : ℕ) → AllAgree old → AllReach full old.logs to → AllLetGo full old.logs new.logs to → new.sent ≡ old.sent → AllAgree new
   let_go_agree old new to agree reach shorter is_sent =
       let to_new : (first : ℕ) (rs : List LogRecord) → IsPart first rs (old.logs head) → IsPart first rs (new.logs head)
-      = λ first rs p. subst (λ (w : NumberedLog). IsPart first rs w) (sym (shorter head)) (part_shorter first to rs (old.logs head) (reach head).0 p) in
+      = λ first rs p. subst (λ (w : NumberedLog). IsPart first rs w) (sym (shorter head agree.head_full)) (part_shorter first to rs (old.logs head) (reach head agree.head_full).0 p) in
       record {
-        first = λ node. ap (λ (l : NumberedLog). l.first) (shorter node) ∙ ap (λ (l : NumberedLog). l.first) (sym (shorter head));
-        logs = λ node. subst (λ (l : NumberedLog). IsPart l.first l.records (new.logs head)) (sym (shorter node))
-            (to_new to (without_front (old.logs node) to).records (part_behind (old.logs node) to (old.logs head) (reach node).0 (agree.logs node)));
+        head_full = agree.head_full;
+        first = λ node is. ap (λ (l : NumberedLog). l.first) (shorter node is) ∙ ap (λ (l : NumberedLog). l.first) (sym (shorter head agree.head_full));
+        logs = λ node is. subst (λ (l : NumberedLog). IsPart l.first l.records (new.logs head)) (sym (shorter node is))
+            (to_new to (without_front (old.logs node) to).records (part_behind (old.logs node) to (old.logs head) (reach node is).0 (agree.logs node is)));
         frames = λ f a this. to_new f.first f.records (agree.frames f (subst (λ fs. IsOneOf fs f) is_sent a) this);
       }
 
-  step_agree : (client : ℕ) (old new : Nodes) (step : Step) → AllAgree old → Does head epoch client old step new → AllAgree new
+  step_agree : (client : ℕ) (old new : Nodes) (step : Step) → AllAgree old → Does full head epoch client old step new → AllAgree new
   step_agree client old new (append r) agree d = append_agree old new r agree d.0 d.1
-  step_agree client old new (send node from to) agree d = send_agree old new client node from to agree d.0 d.1
-  step_agree client old new (deliver node f) agree d = deliver_agree old new node f agree d.0 d.1 d.2 d.3 d.4
+  step_agree client old new (send node from to) agree d = send_agree old new client node from to agree d.0 d.1 d.2
+  step_agree client old new (deliver node f) agree d = deliver_agree old new node f agree d.0 d.1 d.2 d.3 d.4 d.5
   step_agree client old new (let_go to) agree d = let_go_agree old new to agree d.0 d.1 d.2
 
-  all_agree : (client : ℕ) (steps : List Step) (old new : Nodes) → AllAgree old → AllDo head epoch client old steps new → AllAgree new
+  all_agree : (client : ℕ) (steps : List Step) (old new : Nodes) → AllAgree old → AllDo full head epoch client old steps new → AllAgree new
   all_agree client [] old new agree d = same_agree old new agree d.0 d.1
   all_agree client (step ∷ steps) old new agree d =
       let next : AllAgree d.0 = elim d.1 [
@@ -117,7 +124,7 @@ module _ (head epoch : ℕ) where
       ] in
       all_agree client steps d.0 new next d.2
 
-  pub all_fronts : (client : ℕ) (steps : List Step) (old new : Nodes) → IsBegun head epoch old → AllDo head epoch client old steps new → (node : ℕ) → IsFrontOf (new.logs node) (new.logs head)
-  all_fronts client steps old new begun d node =
+  pub all_fronts : (client : ℕ) (steps : List Step) (old new : Nodes) → IsBegun full head epoch old → AllDo full head epoch client old steps new → (node : ℕ) → IsOneOf full node → IsFrontOf (new.logs node) (new.logs head)
+  all_fronts client steps old new begun d node is =
       let agree = all_agree client steps old new (begun_agree old begun) d in
-      part_front (new.logs node) (new.logs head) (agree.first node) (agree.logs node)
+      part_front (new.logs node) (new.logs head) (agree.first node is) (agree.logs node is)

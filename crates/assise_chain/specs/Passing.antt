@@ -21,7 +21,7 @@ pub data Step : Type 0 where
   send : (node from to : ℕ) → Step
   -- a frame that was sent, now or long ago, comes to a node that isn't the head
   deliver : (node : ℕ) → LogFrame → Step
-  -- all nodes let the records below a number go
+  -- all full nodes let the records below a number go
   let_go : (to : ℕ) → Step
 
 -- one node's log becomes this, and no other changes
@@ -33,39 +33,45 @@ pub record Becomes (old new : ℕ → NumberedLog) (node : ℕ) (l : NumberedLog
 abbrev pub SameLogs : (ℕ → NumberedLog) → (ℕ → NumberedLog) → Type 0
 SameLogs old new = (node : ℕ) → new node ≡ old node
 
--- a number lies between the first and the end of each log: every node has all records below it
-abbrev pub AllReach : (ℕ → NumberedLog) → ℕ → Type 0
-AllReach logs number = (node : ℕ) → ((logs node).first ≤ number) × (number ≤ end (logs node))
+-- a number lies between the first and the end of each full node's log: every such node has had all records below it
+abbrev pub AllReach : List ℕ → (ℕ → NumberedLog) → ℕ → Type 0
+AllReach full logs number = (node : ℕ) → IsOneOf full node → ((logs node).first ≤ number) × (number ≤ end (logs node))
+
+-- each full node lets the records below a number go
+abbrev pub AllLetGo : List ℕ → (ℕ → NumberedLog) → (ℕ → NumberedLog) → ℕ → Type 0
+AllLetGo full old new number = (node : ℕ) → IsOneOf full node → new node ≡ without_front (old node) number
 
 -- what was sent, with a message if there is one
 abbrev pub with_message : Option LogFrame → List LogFrame → List LogFrame
 with_message None sent = sent
 with_message (Some f) sent = f ∷ sent
 
--- what a step does in an epoch, where its condition holds
-abbrev pub Does : (head epoch client : ℕ) → Nodes → Step → Nodes → Type 0
-Does head epoch client old (append r) new = Becomes old.logs new.logs head (with_record (old.logs head) r) × (new.sent ≡ old.sent)
-Does head epoch client old (send node from to) new = SameLogs old.logs new.logs × (new.sent ≡ with_message (message_of (old.logs node) epoch client from to) old.sent)
-Does head epoch client old (deliver node f) new =
-    IsOneOf old.sent f × (node ≢ head) × IsTimely (old.logs node) f epoch × Becomes old.logs new.logs node (accepted (old.logs node) f) × (new.sent ≡ old.sent)
-Does head epoch client old (let_go to) new =
-    AllReach old.logs to × ((node : ℕ) → new.logs node ≡ without_front (old.logs node) to) × (new.sent ≡ old.sent)
+-- what a step does among the full nodes in an epoch, where its condition holds
+abbrev pub Does : (full : List ℕ) (head epoch client : ℕ) → Nodes → Step → Nodes → Type 0
+Does full head epoch client old (append r) new = Becomes old.logs new.logs head (with_record (old.logs head) r) × (new.sent ≡ old.sent)
+Does full head epoch client old (send node from to) new =
+    IsOneOf full node × SameLogs old.logs new.logs × (new.sent ≡ with_message (message_of (old.logs node) epoch client from to) old.sent)
+Does full head epoch client old (deliver node f) new =
+    IsOneOf old.sent f × IsOneOf full node × (node ≢ head) × IsTimely (old.logs node) f epoch × Becomes old.logs new.logs node (accepted (old.logs node) f) × (new.sent ≡ old.sent)
+Does full head epoch client old (let_go to) new = AllReach full old.logs to × AllLetGo full old.logs new.logs to × (new.sent ≡ old.sent)
 
 -- where its condition doesn't hold, as at a frame that isn't timely, all stays as it was
-abbrev pub MayDo : (head epoch client : ℕ) → Nodes → Step → Nodes → Type 0
-MayDo head epoch client old step new = Does head epoch client old step new ⊎ (SameLogs old.logs new.logs × (new.sent ≡ old.sent))
+abbrev pub MayDo : (full : List ℕ) (head epoch client : ℕ) → Nodes → Step → Nodes → Type 0
+MayDo full head epoch client old step new = Does full head epoch client old step new ⊎ (SameLogs old.logs new.logs × (new.sent ≡ old.sent))
 
 -- what a list of steps does, one after another
-abbrev pub AllDo : (head epoch client : ℕ) → Nodes → List Step → Nodes → Type 0
-AllDo head epoch client old [] new = SameLogs old.logs new.logs × (new.sent ≡ old.sent)
-AllDo head epoch client old (step ∷ steps) new = (next : Nodes) × MayDo head epoch client old step next × AllDo head epoch client next steps new
+abbrev pub AllDo : (full : List ℕ) (head epoch client : ℕ) → Nodes → List Step → Nodes → Type 0
+AllDo full head epoch client old [] new = SameLogs old.logs new.logs × (new.sent ≡ old.sent)
+AllDo full head epoch client old (step ∷ steps) new = (next : Nodes) × MayDo full head epoch client old step next × AllDo full head epoch client next steps new
 
 -- a log has the first records of another, and begins where that does
 pub record IsFrontOf (l whole : NumberedLog) : Type 0 where
   pub first : l.first ≡ whole.first
   pub records : l.records ≡ take (length l.records) whole.records
 
--- an epoch begins: each log is a front of the head's, as where all are empty, and what was sent was sent in other epochs
-pub record IsBegun (head epoch : ℕ) (nodes : Nodes) : Type 0 where
-  pub fronts : (node : ℕ) → IsFrontOf (nodes.logs node) (nodes.logs head)
+-- an epoch begins: the head is full, the log of each full node is a front of the head's, as where all are empty, and what was
+-- sent was sent in other epochs
+pub record IsBegun (full : List ℕ) (head epoch : ℕ) (nodes : Nodes) : Type 0 where
+  pub head_full : IsOneOf full head
+  pub fronts : (node : ℕ) → IsOneOf full node → IsFrontOf (nodes.logs node) (nodes.logs head)
   pub sent_before : (f : LogFrame) → IsOneOf nodes.sent f → f.epoch ≢ epoch

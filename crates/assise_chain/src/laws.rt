@@ -34,8 +34,8 @@ pub fn what_is_sent_from_the_end_is_taken_in()
     ensures taken { (from l : NumberedLog) (f : LogFrame) (epoch client to : ℕ) → from.first ≤ end l → message_of from epoch client (end l) to ≡ Some f → records_past l f ≡ sent from (end l) to }
 {}
 
-/// Whatever of the messages of an epoch is lost, repeated or brought in another order, and whoever sends them, what a node
-/// has is a front of the head's log, also while all nodes let go what each of them has.
+/// Whatever of the messages of an epoch is lost, repeated or brought in another order, and whoever sends them, what a full
+/// node has is a front of the head's log, also while all full nodes let go what each of them has had.
 pub fn each_log_is_a_front_of_the_heads()
-    ensures { (head epoch client : ℕ) (steps : List Step) (old new : Nodes) → IsBegun head epoch old → AllDo head epoch client old steps new → (node : ℕ) → IsFrontOf (new.logs node) (new.logs head) }
+    ensures { (full : List ℕ) (head epoch client : ℕ) (steps : List Step) (old new : Nodes) → IsBegun full head epoch old → AllDo full head epoch client old steps new → (node : ℕ) → IsOneOf full node → IsFrontOf (new.logs node) (new.logs head) }
 {}
