@@ -1,0 +1,592 @@
+-- What the changes keep: each leaves a lawful membership lawful.
+use Rattle.std.proofs.Common.{◌≡◌, ℕ, zero, suc, ◌+◌, ◌-◌, ◌<◌, ◌≤◌, Bool, true, false, cond, ◌&&◌, not, inl, inr, Option, Some, None}
+use Rattle.std.proofs.Common.{List, [], ◌∷◌, ◌++◌, drop, length, refl, sym, ap, ◌∙◌, subst, arith, true≢false}
+use Rattle.std.specs.Prelude.{◌==◌, nat_le}
+use Rattle.std.specs.List.{list_all, list_any, slice_get}
+use Rattle.std.specs.Ordering.{nat_cmp, eq_by_cmp}
+use Rattle.std.specs.FinSet as set
+use Rattle.std.specs.FinSet.{contains-union, contains-empty, contains-remove}
+use Rattle.std.specs.Cmp.{nat_cmp_total}
+use Rattle.std.proofs.lemmas.Bool.{and_parts, and_from, or_cases, or_left, or_right, cases_order, cond_both, eqb-false, leb-true, le-leb}
+use Rattle.std.proofs.lemmas.Option.{none-some}
+use Rattle.std.proofs.lemmas.List.{length-append}
+use Rattle.assise_names.specs.declared.refusal.Refusal.{Refusal}
+use Rattle.assise_names.specs.declared.refusal.Refusal.TheVariants.{BadNode, WrongPhase, LastNode}
+use Rattle.assise_manager.specs.Standings.{Standing, is_full, full_nodes, standing_of, with_standing}
+use Rattle.assise_manager.specs.Standings.Standing.{full, down, returning}
+use Rattle.assise_manager.specs.Membership.{Membership, IsMembership, first_listed, all_inodes, written_since, lowest_full, is_listed}
+use Rattle.assise_manager.specs.Membership.{is_known}
+use Rattle.assise_manager.specs.Changes.{fulls, all_full, with_node, refilled_from, with_new_donor, with_epoch, failed_as, failed}
+use Rattle.assise_manager.specs.Changes.{failure_fault_of, failure_fault, back_as, back, return_fault_of, return_fault, is_away}
+use Rattle.assise_manager.specs.Changes.{filling_fault_of, filling_fault, copied_as, copied, joined, join_fault, with_written, stale_again}
+use Rattle.assise_manager.specs.Changes.{noted}
+use Rattle.assise_manager.specs.MemberCalls.{MemberCall, Does, AllDo}
+use Rattle.assise_manager.specs.MemberCalls.MemberCall.{fail, come_back, note_copied, join, note_written}
+use Rattle.assise_manager.proofs.Sets.{Numbers, all_push}
+use Rattle.assise_manager.proofs.Nodes.{never, full_from_set_away, full_from_map, all_full_map, full_there, list_all_set, list_all_map}
+use Rattle.assise_manager.proofs.Nodes.{list_all_more, list_all_place, slice_get_set, others_stay, one_full_less, all_stay, no_fewer_full}
+use Rattle.assise_manager.proofs.Nodes.{first_there, away_not_full}
+
+-- ---- sets within sets
+
+-- what is in the one is in the other
+abbrev pub Within : Numbers → Numbers → Type 0
+Within s t = (q : ℕ) → set.contains s q ≡ true → set.contains t q ≡ true
+
+pub subset_within : (s t : Numbers) → set.is_subset s t ≡ true → Within s t
+subset_within s t subset = set.is_subset-contains nat_cmp_total s t subset
+
+pub within_subset : (s t : Numbers) → Within s t → set.is_subset s t ≡ true
+within_subset s t within = set.contains-is_subset nat_cmp_total s t within
+
+pub subset_more : (s t u : Numbers) → set.is_subset s t ≡ true → Within t u → set.is_subset s u ≡ true
+subset_more s t u subset within = within_subset s u (λ q inside. within q (subset_within s t subset q inside))
+
+union_left : (s t : Numbers) → Within s (set.union s t)
+union_left s t q inside = contains-union nat_cmp_total s t q ∙ or_left (set.contains s q) (set.contains t q) inside
+
+union_right : (s t : Numbers) → Within t (set.union s t)
+union_right s t q inside = contains-union nat_cmp_total s t q ∙ or_right (set.contains s q) (set.contains t q) inside
+
+union_within : (s t u : Numbers) → Within s u → Within t u → Within (set.union s t) u
+union_within s t u left right q inside =
+    elim (or_cases (set.contains s q) (set.contains t q) (sym (contains-union nat_cmp_total s t q) ∙ inside)) [
+      | inl l ↦ left q l
+      | inr r ↦ right q r
+    ]
+
+nothing_within : (s : Numbers) → Within set.empty s
+nothing_within s q inside = never (sym (contains-empty nat_cmp q) ∙ inside)
+
+remove_within : (s : Numbers) (k : ℕ) → Within (set.remove s k) s
+remove_within s k q inside =
+    (and_parts (not (eq_by_cmp nat_cmp q k)) (set.contains s q) (sym (contains-remove nat_cmp_total s k q) ∙ inside)).1
+
+-- ---- lists of inodes
+
+-- what was written since stays so with one list more
+later_within : (k : ℕ) (ls : List Numbers) (l : Numbers) → Within (all_inodes (drop k ls)) (all_inodes (drop k (ls ++ l ∷ [])))
+later_within zero ls l q inside = ap (λ s. set.contains s q) (all_push ls l) ∙ union_left (all_inodes ls) l q inside
+later_within (suc k) [] l q inside = nothing_within (all_inodes (drop k [])) q inside
+later_within (suc k) (x ∷ ls) l q inside = later_within k ls l q inside
+
+-- as many lists as before
+length_with_written : (ls : List Numbers) (inodes : Numbers) → length (with_written ls inodes) ≡ length ls
+length_with_written [] inodes = refl
+length_with_written (l ∷ []) inodes = refl
+length_with_written (l ∷ next ∷ ls) inodes = ap suc (length_with_written (next ∷ ls) inodes)
+
+-- what was written since stays so with more on the last list
+noted_keeps : (k : ℕ) (ls : List Numbers) (inodes : Numbers)
+    → Within (all_inodes (drop k ls)) (all_inodes (drop k (with_written ls inodes)))
+noted_keeps k [] inodes q inside = inside
+noted_keeps zero (l ∷ []) inodes q inside =
+    union_within l set.empty (set.union (set.union l inodes) set.empty)
+    (λ r there. union_left (set.union l inodes) set.empty r (union_left l inodes r there))
+    (nothing_within (set.union (set.union l inodes) set.empty)) q inside
+noted_keeps zero (l ∷ next ∷ ls) inodes q inside =
+    let rest = all_inodes (with_written (next ∷ ls) inodes) in
+    union_within l (all_inodes (next ∷ ls)) (set.union l rest)
+    (union_left l rest)
+    (λ r there. union_right l rest r (noted_keeps zero (next ∷ ls) inodes r there)) q inside
+noted_keeps (suc k) (l ∷ []) inodes q inside = inside
+noted_keeps (suc k) (l ∷ next ∷ ls) inodes q inside = noted_keeps k (next ∷ ls) inodes q inside
+
+-- what comes on the last list was written since any epoch that has a list
+noted_there : (k : ℕ) (ls : List Numbers) (inodes : Numbers) → k < length ls → Within inodes (all_inodes (drop k (with_written ls inodes)))
+noted_there k [] inodes few q inside = absurd (omega arith)
+noted_there zero (l ∷ []) inodes few q inside =
+    union_left (set.union l inodes) set.empty q (union_right l inodes q inside)
+noted_there zero (l ∷ next ∷ ls) inodes few q inside =
+    union_right l (all_inodes (with_written (next ∷ ls) inodes)) q (noted_there zero (next ∷ ls) inodes (omega arith) q inside)
+noted_there (suc k) (l ∷ []) inodes few q inside = absurd (omega arith)
+noted_there (suc k) (l ∷ next ∷ ls) inodes few q inside = noted_there k (next ∷ ls) inodes (omega arith) q inside
+
+-- ---- places
+
+back_one : (place : ℕ) → suc place - 1 ≡ place
+back_one place = omega arith
+
+-- a node's place in the list
+place_of : (nodes : List Standing) (node : ℕ) (s : Standing) → standing_of nodes node ≡ Some s → slice_get nodes (node - 1) ≡ Some s
+place_of nodes zero s at = absurd (none-some s at)
+place_of nodes (suc place) s at = ap (slice_get nodes) (back_one place) ∙ at
+
+numbered : (nodes : List Standing) (node : ℕ) (s : Standing) → standing_of nodes node ≡ Some s → 0 < node
+numbered nodes zero s at = absurd (none-some s at)
+numbered nodes (suc place) s at = omega arith
+
+away_some : (o : Option Standing) → is_away o ≡ true → (s : Standing) × (o ≡ Some s)
+away_some None away = never away
+away_some (Some s) away = (s, refl)
+
+away_place : (nodes : List Standing) (node : ℕ) → is_away (standing_of nodes node) ≡ true → is_away (slice_get nodes (node - 1)) ≡ true
+away_place nodes zero away = never away
+away_place nodes (suc place) away = ap (λ i. is_away (slice_get nodes i)) (back_one place) ∙ away
+
+-- what is known of each is known of this one
+pub known_of : (m : Membership) (node : ℕ) (s : Standing) → IsMembership m → standing_of m.nodes node ≡ Some s → is_known m s ≡ true
+known_of m node s lawful at = list_all_place (is_known m) m.nodes (node - 1) s lawful.known (place_of m.nodes node s at)
+
+-- where one that isn't full is put in, not all are
+not_all_full : (nodes : List Standing) (node : ℕ) (old s : Standing) → standing_of nodes node ≡ Some old → is_full s ≡ false
+    → list_all is_full (with_standing nodes node s) ≡ true → ⊥
+not_all_full nodes node old s at new all =
+    let there : slice_get (with_standing nodes node s) (node - 1) ≡ Some s =
+    slice_get_set nodes (node - 1) old s (place_of nodes node old at) in
+    true≢false (sym (list_all_place is_full (with_standing nodes node s) (node - 1) s all there) ∙ new)
+
+-- ---- what is known
+
+listed_both : (m : Membership) (since : ℕ) → is_listed m since ≡ true → (first_listed m ≤ since) × (since ≤ m.epoch)
+listed_both m since listed =
+    let both = and_parts (nat_le (first_listed m) since) (nat_le since m.epoch) listed in
+    (leb-true (first_listed m) since both.0, leb-true since m.epoch both.1)
+
+listed_from : (m : Membership) (since : ℕ) → first_listed m ≤ since → since ≤ m.epoch → is_listed m since ≡ true
+listed_from m since first last =
+    and_from (nat_le (first_listed m) since) (nat_le since m.epoch) (le-leb (first_listed m) since first) (le-leb since m.epoch last)
+
+listed_more : (m n : Membership) → first_listed n ≡ first_listed m → m.epoch ≤ n.epoch → (since : ℕ) → is_listed m since ≡ true
+    → is_listed n since ≡ true
+listed_more m n first later since listed =
+    let both = listed_both m since listed in
+    let low : first_listed m ≤ since = both.0 in
+    let high : since ≤ m.epoch = both.1 in
+    listed_from n since (subst (λ k. k ≤ since) (sym first) low) (omega arith)
+
+-- a node is full
+abbrev pub IsFullNode : Membership → ℕ → Type 0
+IsFullNode m node = list_any (λ n. n == node) (full_nodes m.nodes) ≡ true
+
+-- what is known of a node that comes back
+pub record IsKnownReturn (m : Membership) (since donor : ℕ) (stale : Numbers) : Type 0 where
+  pub listed : is_listed m since ≡ true
+  pub donor_full : IsFullNode m donor
+  pub within : set.is_subset stale (written_since m since) ≡ true
+
+pub return_parts : (m : Membership) (since donor : ℕ) (stale : Numbers) → is_known m (returning since donor stale) ≡ true
+    → IsKnownReturn m since donor stale
+return_parts m since donor stale known =
+    let donor_there = list_any (λ n. n == donor) (full_nodes m.nodes) in
+    let within = set.is_subset stale (written_since m since) in
+    let first = and_parts (is_listed m since) (donor_there && within) known in
+    let rest = and_parts donor_there within first.1 in
+    record { listed = first.0; donor_full = rest.0; within = rest.1 }
+
+pub return_from : (m : Membership) (since donor : ℕ) (stale : Numbers) → IsKnownReturn m since donor stale
+    → is_known m (returning since donor stale) ≡ true
+return_from m since donor stale r =
+    let donor_there = list_any (λ n. n == donor) (full_nodes m.nodes) in
+    let within = set.is_subset stale (written_since m since) in
+    and_from (is_listed m since) (donor_there && within) r.listed (and_from donor_there within r.donor_full r.within)
+
+-- what is known stays known where lists and full nodes stay
+known_more : (m n : Membership) → first_listed n ≡ first_listed m → m.epoch ≤ n.epoch → ((d : ℕ) → IsFullNode m d → IsFullNode n d)
+    → ((since : ℕ) → Within (written_since m since) (written_since n since)) → (s : Standing) → is_known m s ≡ true → is_known n s ≡ true
+known_more m n first later donors written full known = refl
+known_more m n first later donors written (down since) known = listed_more m n first later since known
+known_more m n first later donors written (returning since donor stale) known =
+    let r = return_parts m since donor stale known in
+    return_from n since donor stale (record {
+      listed = listed_more m n first later since r.listed;
+      donor_full = donors donor r.donor_full;
+      within = subset_more stale (written_since m since) (written_since n since) r.within (written since);
+    })
+
+-- ---- the start
+
+fulls_pass : (p : Standing → Bool) (count : ℕ) → p full ≡ true → list_all p (fulls count) ≡ true
+fulls_pass p zero one = refl
+fulls_pass p (suc count) one = and_from (p full) (list_all p (fulls count)) one (fulls_pass p count one)
+
+some_fulls : (count : ℕ) → 0 < count → 0 < length (full_nodes (fulls count))
+some_fulls zero some = some
+some_fulls (suc count) some = omega arith
+
+-- some full nodes in the first epoch
+pub all_full_lawful : (count : ℕ) → 0 < count → IsMembership (all_full count)
+all_full_lawful count some = record {
+  began = omega arith;
+  lists = omega arith;
+  some_full = some_fulls count some;
+  known = fulls_pass (is_known (all_full count)) count refl;
+  none_listed = λ _. refl;
+}
+
+-- ---- one node that is away
+
+-- a node that is away becomes another one that is: the same nodes are full
+pub with_node_full : (m : Membership) (node : ℕ) (s : Standing) → is_away (standing_of m.nodes node) ≡ true → is_away (Some s) ≡ true
+    → full_nodes (with_standing m.nodes node s) ≡ full_nodes m.nodes
+with_node_full m node s away new = full_from_set_away 1 m.nodes (node - 1) s (away_place m.nodes node away) new
+
+-- a node that is away becomes another one that is, and of which is known what has to be
+pub with_node_lawful : (m : Membership) (node : ℕ) (s : Standing) → IsMembership m → is_away (standing_of m.nodes node) ≡ true
+    → is_away (Some s) ≡ true → is_known m s ≡ true → IsMembership (with_node m node s)
+with_node_lawful m node s lawful away new known =
+    let n = with_node m node s in
+    let same : full_nodes n.nodes ≡ full_nodes m.nodes = with_node_full m node s away new in
+    let old = away_some (standing_of m.nodes node) away in
+    record {
+      began = lawful.began;
+      lists = lawful.lists;
+      some_full = subst (λ l. 0 < length l) (sym same) lawful.some_full;
+      known = list_all_more (is_known m) (is_known n) n.nodes (list_all_set (is_known m) m.nodes (node - 1) s lawful.known known)
+          (known_more m n refl (omega arith) (λ d there. subst (λ l. list_any (λ k. k == d) l ≡ true) (sym same) there)
+          (λ since q inside. inside));
+      none_listed = λ all. absurd (not_all_full m.nodes node old.0 s old.1 (away_not_full s new) all);
+    }
+
+-- a node that came back fails: its first failure is known
+pub down_known : (m : Membership) (node since donor : ℕ) (stale : Numbers) → IsMembership m
+    → standing_of m.nodes node ≡ Some (returning since donor stale) → is_known m (down since) ≡ true
+down_known m node since donor stale lawful at =
+    (return_parts m since donor stale (known_of m node (returning since donor stale) lawful at)).listed
+
+-- a node that was down comes back: its donor is full, and what it may lack was written since
+pub back_known : (m : Membership) (node since : ℕ) → IsMembership m → standing_of m.nodes node ≡ Some (down since)
+    → is_known m (returning since (lowest_full m.nodes) (written_since m since)) ≡ true
+back_known m node since lawful at = return_from m since (lowest_full m.nodes) (written_since m since) (record {
+  listed = known_of m node (down since) lawful at;
+  donor_full = first_there (full_nodes m.nodes) lawful.some_full;
+  within = within_subset (written_since m since) (written_since m since) (λ q inside. inside);
+})
+
+-- a node that comes back lacks an inode less
+pub copied_known : (m : Membership) (node since donor : ℕ) (stale : Numbers) → IsMembership m
+    → standing_of m.nodes node ≡ Some (returning since donor stale) → (inode : ℕ)
+    → is_known m (returning since donor (set.remove stale inode)) ≡ true
+copied_known m node since donor stale lawful at inode =
+    let r = return_parts m since donor stale (known_of m node (returning since donor stale) lawful at) in
+    return_from m since donor (set.remove stale inode) (record {
+      listed = r.listed;
+      donor_full = r.donor_full;
+      within = within_subset (set.remove stale inode) (written_since m since)
+          (λ q inside. subset_within stale (written_since m since) r.within q (remove_within stale inode q inside));
+    })
+
+-- ---- one epoch more
+
+-- an epoch more, with a list
+abbrev one_more : Membership → List Standing → Numbers → Membership
+one_more m nodes l = record { epoch = m.epoch + 1; nodes = nodes; written = m.written ++ l ∷ [] }
+
+one_list_more : (m : Membership) (l : Numbers) → length (m.written ++ l ∷ []) ≡ length m.written + 1
+one_list_more m l = length-append m.written (l ∷ [])
+
+less_by : (epoch few more : ℕ) → more ≡ few + 1 → (epoch + 1 + 1) - more ≡ (epoch + 1) - few
+less_by epoch few more e = omega arith
+
+-- the first list is that of the same epoch
+same_first : (m : Membership) (nodes : List Standing) (l : Numbers) → first_listed (one_more m nodes l) ≡ first_listed m
+same_first m nodes l = less_by m.epoch (length m.written) (length (m.written ++ l ∷ [])) (one_list_more m l)
+
+since_within : (m : Membership) (nodes : List Standing) (l : Numbers) (since : ℕ)
+    → Within (written_since m since) (written_since (one_more m nodes l) since)
+since_within m nodes l since q inside =
+    subst (λ k. set.contains (all_inodes (drop (since - k) (m.written ++ l ∷ []))) q ≡ true) (sym (same_first m nodes l))
+    (later_within (since - first_listed m) m.written l q inside)
+
+more_lists : (few more epoch : ℕ) → few ≤ epoch → more ≡ few + 1 → more ≤ epoch + 1
+more_lists few more epoch h e = omega arith
+
+-- the epoch that begins has a list
+now_listed : (m : Membership) (nodes : List Standing) (l : Numbers) → is_listed (one_more m nodes l) (m.epoch + 1) ≡ true
+now_listed m nodes l =
+    listed_from (one_more m nodes l) (m.epoch + 1) (subst (λ k. k ≤ m.epoch + 1) (sym (same_first m nodes l)) (omega arith)) (omega arith)
+
+-- ---- failures
+
+returning_refilled : (b : Bool) (since donor from : ℕ) (s t : Numbers)
+    → is_full (cond b (returning since donor s) (returning since from t)) ≡ false
+returning_refilled true since donor from s t = refl
+returning_refilled false since donor from s t = refl
+
+refilled_full : (written : ℕ → Numbers) (donor failed : ℕ) (s : Standing) → is_full (refilled_from written donor failed s) ≡ is_full s
+refilled_full written donor failed full = refl
+refilled_full written donor failed (down since) = refl
+refilled_full written donor failed (returning since from stale) = returning_refilled (from == failed) since donor from (written since) stale
+
+module _
+    (m : Membership) (node : ℕ) (inodes : Numbers) (lawful : IsMembership m) (at : standing_of m.nodes node ≡ Some full)
+    (others : 1 < length (full_nodes m.nodes)) where
+  abbrev begun : Membership
+  begun = with_epoch m node inodes
+
+  abbrev refill : Standing → Standing
+  refill = refilled_from (written_since begun) (lowest_full begun.nodes) node
+
+  abbrev after : Membership
+  after = with_new_donor begun node
+
+  same_full : full_nodes after.nodes ≡ full_nodes begun.nodes
+  same_full = full_from_map refill (refilled_full (written_since begun) (lowest_full begun.nodes) node) 1 begun.nodes
+
+  still_full : 0 < length (full_nodes begun.nodes)
+  still_full =
+      let less : length (full_nodes begun.nodes) + 1 ≡ length (full_nodes m.nodes) =
+      one_full_less 1 m.nodes (node - 1) (down (m.epoch + 1)) refl (place_of m.nodes node full at) in
+      omega arith
+
+  -- a donor that didn't fail is full still
+  other_full : (d : ℕ) → IsFullNode m d → (d ≡ node → ⊥) → IsFullNode after d
+  other_full d there other =
+      let some : 0 < node = numbered m.nodes node full at in
+      subst (λ l. list_any (λ k. k == d) l ≡ true) (sym same_full)
+      (others_stay 1 d m.nodes (node - 1) (down (m.epoch + 1)) refl there (λ e. other (omega arith)))
+
+  each_known : (s : Standing) → is_known m s ≡ true → is_known after (refill s) ≡ true
+  each_known full known = refl
+  each_known (down since) known = listed_more m after (same_first m after.nodes inodes) (omega arith) since known
+  each_known (returning since from stale) known =
+      let r = return_parts m since from stale known in
+      let listed = listed_more m after (same_first m after.nodes inodes) (omega arith) since r.listed in
+      cond_both (from == node) (returning since (lowest_full begun.nodes) (written_since begun since)) (returning since from stale)
+      (λ s. is_known after s ≡ true)
+      (λ _. return_from after since (lowest_full begun.nodes) (written_since begun since) (record {
+        listed = listed;
+        donor_full = subst (λ l. list_any (λ k. k == lowest_full begun.nodes) l ≡ true) (sym same_full)
+            (first_there (full_nodes begun.nodes) still_full);
+        within = within_subset (written_since begun since) (written_since after since) (λ q inside. inside);
+      }))
+      (λ other. return_from after since from stale (record {
+        listed = listed;
+        donor_full = other_full from r.donor_full (eqb-false from node other);
+        within = subset_more stale (written_since m since) (written_since after since) r.within (since_within m after.nodes inodes since);
+      }))
+
+  -- a full node that isn't the only one fails
+  full_failed_lawful : IsMembership after
+  full_failed_lawful = record {
+    began = omega arith;
+    lists = more_lists (length m.written) (length (m.written ++ inodes ∷ [])) m.epoch lawful.lists (one_list_more m inodes);
+    some_full = subst (λ l. 0 < length l) (sym same_full) still_full;
+    known = list_all_map (λ s. is_known after (refill s)) (is_known after) refill begun.nodes
+        (list_all_set (λ s. is_known after (refill s)) m.nodes (node - 1) (down (m.epoch + 1))
+        (list_all_more (is_known m) (λ s. is_known after (refill s)) m.nodes lawful.known each_known)
+        (now_listed m after.nodes inodes))
+        (λ s known. known);
+    none_listed = λ all. absurd (not_all_full m.nodes node full (down (m.epoch + 1)) at refl
+        (sym (all_full_map refill (refilled_full (written_since begun) (lowest_full begun.nodes) node) begun.nodes) ∙ all));
+  }
+
+not_last : (b : Bool) → ◌≡◌ {A = Option Refusal} (cond b (Some LastNode) None) None → b ≡ false
+not_last true none = absurd (none-some LastNode (sym none))
+not_last false none = refl
+
+more_than_one : (n : ℕ) → 0 < n → (n ≡ 1 → ⊥) → 1 < n
+more_than_one n some other =
+    elim (cases_order n 1) [ inl one ↦ absurd (other one) | inr (inl none) ↦ absurd (omega arith) | inr (inr more) ↦ more ]
+
+failed_as_lawful : (m : Membership) (node : ℕ) (inodes : Numbers) → IsMembership m → (o : Option Standing) → standing_of m.nodes node ≡ o
+    → failure_fault_of m o ≡ None → IsMembership (failed_as m node inodes o)
+failed_as_lawful m node inodes lawful None at fine = lawful
+failed_as_lawful m node inodes lawful (Some full) at fine =
+    let count = length (full_nodes m.nodes) in
+    full_failed_lawful m node inodes lawful at (more_than_one count lawful.some_full (eqb-false count 1 (not_last (count == 1) fine)))
+failed_as_lawful m node inodes lawful (Some (down since)) at fine = lawful
+failed_as_lawful m node inodes lawful (Some (returning since donor stale)) at fine =
+    with_node_lawful m node (down since) lawful (ap is_away at) refl (down_known m node since donor stale lawful at)
+
+-- a failure that isn't refused
+pub failed_lawful : (m : Membership) (node : ℕ) (inodes : Numbers) → IsMembership m → failure_fault m node ≡ None
+    → IsMembership (failed m node inodes)
+failed_lawful m node inodes lawful fine = failed_as_lawful m node inodes lawful (standing_of m.nodes node) refl fine
+
+-- ---- returns
+
+back_as_lawful : (m : Membership) (node : ℕ) → IsMembership m → (o : Option Standing) → standing_of m.nodes node ≡ o
+    → return_fault_of o ≡ None → IsMembership (back_as m node o)
+back_as_lawful m node lawful None at fine = lawful
+back_as_lawful m node lawful (Some full) at fine = lawful
+back_as_lawful m node lawful (Some (down since)) at fine =
+    with_node_lawful m node (returning since (lowest_full m.nodes) (written_since m since)) lawful (ap is_away at) refl
+    (back_known m node since lawful at)
+back_as_lawful m node lawful (Some (returning since donor stale)) at fine = lawful
+
+-- a return that isn't refused
+pub back_lawful : (m : Membership) (node : ℕ) → IsMembership m → return_fault m node ≡ None → IsMembership (back m node)
+back_lawful m node lawful fine = back_as_lawful m node lawful (standing_of m.nodes node) refl fine
+
+-- what is refused isn't
+refused : {P : Type 0} (r : Refusal) → ◌≡◌ {A = Option Refusal} (Some r) None → P
+refused r none = absurd (none-some r (sym none))
+
+copied_as_lawful : (m : Membership) (node inode : ℕ) → IsMembership m → (o : Option Standing) → standing_of m.nodes node ≡ o
+    → filling_fault_of o ≡ None → IsMembership (record { epoch = m.epoch; nodes = copied_as m.nodes node inode o; written = m.written })
+copied_as_lawful m node inode lawful None at fine = refused BadNode fine
+copied_as_lawful m node inode lawful (Some full) at fine = refused WrongPhase fine
+copied_as_lawful m node inode lawful (Some (down since)) at fine = refused WrongPhase fine
+copied_as_lawful m node inode lawful (Some (returning since donor stale)) at fine =
+    with_node_lawful m node (returning since donor (set.remove stale inode)) lawful (ap is_away at) refl
+    (copied_known m node since donor stale lawful at inode)
+
+-- a node that comes back got an inode
+pub copied_lawful : (m : Membership) (node : ℕ) → IsMembership m → filling_fault m node ≡ None → (inode : ℕ)
+    → IsMembership (copied m node inode)
+copied_lawful m node lawful fine inode = copied_as_lawful m node inode lawful (standing_of m.nodes node) refl fine
+
+full_known : (m : Membership) (s : Standing) → is_full s ≡ true → is_known m s ≡ true
+full_known m full is = refl
+full_known m (down since) is = never is
+full_known m (returning since donor stale) is = never is
+
+joined_as_lawful : (m : Membership) (node : ℕ) → IsMembership m → (b : Bool) → list_all is_full (with_standing m.nodes node full) ≡ b
+    → IsMembership (record {
+      epoch = m.epoch + 1;
+      nodes = with_standing m.nodes node full;
+      written = cond b [] (m.written ++ set.empty ∷ []);
+    })
+joined_as_lawful m node lawful true all =
+    let nodes = with_standing m.nodes node full in
+    let n : Membership = record { epoch = m.epoch + 1; nodes = nodes; written = [] } in
+    let some : 0 < length (full_nodes m.nodes) = lawful.some_full in
+    let no_fewer : length (full_nodes m.nodes) ≤ length (full_nodes nodes) = no_fewer_full 1 m.nodes (node - 1) in
+    record {
+      began = omega arith;
+      lists = omega arith;
+      some_full = omega arith;
+      known = list_all_more is_full (is_known n) nodes all (full_known n);
+      none_listed = λ _. refl;
+    }
+joined_as_lawful m node lawful false some_away =
+    let nodes = with_standing m.nodes node full in
+    let n = one_more m nodes set.empty in
+    let some : 0 < length (full_nodes m.nodes) = lawful.some_full in
+    let no_fewer : length (full_nodes m.nodes) ≤ length (full_nodes nodes) = no_fewer_full 1 m.nodes (node - 1) in
+    record {
+      began = omega arith;
+      lists = more_lists (length m.written) (length (m.written ++ set.empty ∷ [])) m.epoch lawful.lists (one_list_more m set.empty);
+      some_full = omega arith;
+      known = list_all_set (is_known n) m.nodes (node - 1) full
+          (list_all_more (is_known m) (is_known n) m.nodes lawful.known
+          (known_more m n (same_first m nodes set.empty) (omega arith) (λ d. all_stay 1 d m.nodes (node - 1))
+          (since_within m nodes set.empty)))
+          refl;
+      none_listed = λ all. absurd (true≢false (sym all ∙ some_away));
+    }
+
+-- a node is full again
+pub joined_lawful : (m : Membership) (node : ℕ) → IsMembership m → join_fault m node ≡ None → IsMembership (joined m node)
+joined_lawful m node lawful fine = joined_as_lawful m node lawful (list_all is_full (with_standing m.nodes node full)) refl
+
+-- ---- digests
+
+stale_full : (node : ℕ) (inodes : Numbers) (s : Standing) → is_full (stale_again node inodes s) ≡ is_full s
+stale_full node inodes full = refl
+stale_full node inodes (down since) = refl
+stale_full node inodes (returning since donor stale) = refl
+
+inside_lists : (epoch count since first : ℕ) → first ≡ (epoch + 1) - count → count ≤ epoch → first ≤ since → since ≤ epoch
+    → since - first < count
+inside_lists epoch count since first e few low high = omega arith
+
+module _ (m : Membership) (node : ℕ) (inodes : Numbers) (lawful : IsMembership m) where
+  abbrev noted_now : Membership
+  noted_now = noted m node inodes
+
+  noted_full : full_nodes noted_now.nodes ≡ full_nodes m.nodes
+  noted_full = full_from_map (stale_again node inodes) (stale_full node inodes) 1 m.nodes
+
+  noted_first : first_listed noted_now ≡ first_listed m
+  noted_first = ap (λ k. (m.epoch + 1) - k) (length_with_written m.written inodes)
+
+  noted_since : (since : ℕ) → Within (written_since m since) (written_since noted_now since)
+  noted_since since q inside =
+      subst (λ k. set.contains (all_inodes (drop (since - k) (with_written m.written inodes))) q ≡ true) (sym noted_first)
+      (noted_keeps (since - first_listed m) m.written inodes q inside)
+
+  -- what is written now was written since any epoch that has a list
+  noted_new : (since : ℕ) → is_listed m since ≡ true → Within inodes (written_since noted_now since)
+  noted_new since listed q inside =
+      let both = listed_both m since listed in
+      subst (λ k. set.contains (all_inodes (drop (since - k) (with_written m.written inodes))) q ≡ true) (sym noted_first)
+      (noted_there (since - first_listed m) m.written inodes
+      (inside_lists m.epoch (length m.written) since (first_listed m) refl lawful.lists both.0 both.1) q inside)
+
+  each_noted : (s : Standing) → is_known m s ≡ true → is_known noted_now (stale_again node inodes s) ≡ true
+  each_noted full known = refl
+  each_noted (down since) known = listed_more m noted_now noted_first (omega arith) since known
+  each_noted (returning since donor stale) known =
+      let r = return_parts m since donor stale known in
+      let old : Within stale (written_since noted_now since) =
+      λ q inside. noted_since since q (subset_within stale (written_since m since) r.within q inside) in
+      return_from noted_now since donor (cond (donor == node) (set.union stale inodes) stale) (record {
+        listed = listed_more m noted_now noted_first (omega arith) since r.listed;
+        donor_full = subst (λ l. list_any (λ k. k == donor) l ≡ true) (sym noted_full) r.donor_full;
+        within = within_subset (cond (donor == node) (set.union stale inodes) stale) (written_since noted_now since)
+            (cond_both (donor == node) (set.union stale inodes) stale (λ s. Within s (written_since noted_now since))
+            (λ _. union_within stale inodes (written_since noted_now since) old (noted_new since r.listed))
+            (λ _. old));
+      })
+
+  -- inodes were written at a node
+  pub noted_lawful_at : IsMembership noted_now
+  noted_lawful_at = record {
+    began = lawful.began;
+    lists = subst (λ k. k ≤ m.epoch) (sym (length_with_written m.written inodes)) lawful.lists;
+    some_full = subst (λ l. 0 < length l) (sym noted_full) lawful.some_full;
+    known = list_all_map (is_known m) (is_known noted_now) (stale_again node inodes) m.nodes lawful.known each_noted;
+    none_listed = λ all. length_with_written m.written inodes
+        ∙ lawful.none_listed (sym (all_full_map (stale_again node inodes) (stale_full node inodes) m.nodes) ∙ all);
+  }
+
+-- inodes were written at a node
+pub noted_lawful : (m : Membership) (node : ℕ) (inodes : Numbers) → IsMembership m → IsMembership (noted m node inodes)
+noted_lawful m node inodes lawful = noted_lawful_at m node inodes lawful
+
+-- ---- calls
+
+-- each call that isn't refused
+pub call_lawful : (old new : Membership) (call : MemberCall) → IsMembership old → Does old call new → IsMembership new
+call_lawful old new (fail node inodes) lawful done = subst IsMembership (sym done.1) (failed_lawful old node inodes lawful done.0)
+call_lawful old new (come_back node) lawful done = subst IsMembership (sym done.1) (back_lawful old node lawful done.0)
+call_lawful old new (note_copied node inode) lawful done = subst IsMembership (sym done.1) (copied_lawful old node lawful done.0 inode)
+call_lawful old new (join node) lawful done = subst IsMembership (sym done.1) (joined_lawful old node lawful done.0)
+call_lawful old new (note_written node inodes) lawful done = subst IsMembership (sym done) (noted_lawful old node inodes lawful)
+
+all_lawful : (calls : List MemberCall) (old new : Membership) → IsMembership old → AllDo old calls new → IsMembership new
+all_lawful [] old new lawful done = subst IsMembership (sym done) lawful
+all_lawful (call ∷ calls) old new lawful done =
+    let next : IsMembership done.0 = elim done.1 [
+      | inl does ↦ call_lawful old done.0 call lawful does
+      | inr same ↦ subst IsMembership (sym same) lawful
+    ] in
+    all_lawful calls done.0 new next done.2
+
+-- any list of calls, from the start on
+pub after_all : (count : ℕ) (calls : List MemberCall) (new : Membership) → 0 < count → AllDo (all_full count) calls new → IsMembership new
+after_all count calls new some done = all_lawful calls (all_full count) new (all_full_lawful count some) done
+
+-- ---- what a lawful membership says of one node
+
+pub down_listed : (m : Membership) (node since : ℕ) → IsMembership m → standing_of m.nodes node ≡ Some (down since)
+    → (first_listed m ≤ since) × (since ≤ m.epoch)
+down_listed m node since lawful at = listed_both m since (known_of m node (down since) lawful at)
+
+return_of : (m : Membership) (node since donor : ℕ) (stale : Numbers) → IsMembership m
+    → standing_of m.nodes node ≡ Some (returning since donor stale) → IsKnownReturn m since donor stale
+return_of m node since donor stale lawful at = return_parts m since donor stale (known_of m node (returning since donor stale) lawful at)
+
+pub return_listed : (m : Membership) (node since donor : ℕ) (stale : Numbers) → IsMembership m
+    → standing_of m.nodes node ≡ Some (returning since donor stale) → (first_listed m ≤ since) × (since ≤ m.epoch)
+return_listed m node since donor stale lawful at = listed_both m since (return_of m node since donor stale lawful at).listed
+
+-- an epoch from the first one that is listed to the current one has a list
+pub list_there : (m : Membership) (epoch : ℕ) → IsMembership m → first_listed m ≤ epoch → epoch ≤ m.epoch
+    → epoch - first_listed m < length m.written
+list_there m epoch lawful low high = inside_lists m.epoch (length m.written) epoch (first_listed m) refl lawful.lists low high
+
+pub stale_written : (m : Membership) (node since donor : ℕ) (stale : Numbers) → IsMembership m
+    → standing_of m.nodes node ≡ Some (returning since donor stale) → Within stale (written_since m since)
+stale_written m node since donor stale lawful at =
+    subset_within stale (written_since m since) (return_of m node since donor stale lawful at).within
+
+pub donor_full : (m : Membership) (node since donor : ℕ) (stale : Numbers) → IsMembership m
+    → standing_of m.nodes node ≡ Some (returning since donor stale) → standing_of m.nodes donor ≡ Some full
+donor_full m node since donor stale lawful at =
+    let there = full_there 1 donor m.nodes (return_of m node since donor stale lawful at).donor_full in
+    let is : donor ≡ 1 + there.0 = there.1 in
+    let next : donor ≡ suc there.0 = omega arith in
+    subst (λ d. standing_of m.nodes d ≡ Some full) (sym next) there.2

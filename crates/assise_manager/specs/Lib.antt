@@ -1,0 +1,6 @@
+pub mod Standings
+pub mod Membership
+pub mod Changes
+pub mod Seen
+pub mod Whole
+pub mod MemberCalls

@@ -1,0 +1,35 @@
+-- Lists of calls about members, and what stands after them.
+use Rattle.std.specs.Prelude.{◌≡◌, ℕ, List, [], ◌∷◌, None, ◌⊎◌}
+use Rattle.std.specs.Ordering.{nat_cmp}
+use Rattle.std.specs.FinSet as set
+use Rattle.assise_manager.specs.Membership.{Membership}
+use Rattle.assise_manager.specs.Changes.{failed, failure_fault, back, return_fault, copied, filling_fault, joined, join_fault, noted}
+
+pub data MemberCall : Type 0 where
+  -- a node failed, while these inodes may not be everywhere
+  fail : (node : ℕ) (inodes : set.FinSet nat_cmp) → MemberCall
+  -- a node that was down comes back
+  come_back : (node : ℕ) → MemberCall
+  -- a node that comes back got an inode
+  note_copied : (node inode : ℕ) → MemberCall
+  -- a node that came back is full again
+  join : (node : ℕ) → MemberCall
+  -- inodes were written at a node
+  note_written : (node : ℕ) (inodes : set.FinSet nat_cmp) → MemberCall
+
+-- what a call that isn't refused does, where its condition holds
+abbrev pub Does : Membership → MemberCall → Membership → Type 0
+Does old (fail node inodes) new = (failure_fault old node ≡ None) × (new ≡ failed old node inodes)
+Does old (come_back node) new = (return_fault old node ≡ None) × (new ≡ back old node)
+Does old (note_copied node inode) new = (filling_fault old node ≡ None) × (new ≡ copied old node inode)
+Does old (join node) new = (join_fault old node ≡ None) × (new ≡ joined old node)
+Does old (note_written node inodes) new = new ≡ noted old node inodes
+
+-- a refused call leaves all as it was
+abbrev pub MayDo : Membership → MemberCall → Membership → Type 0
+MayDo old call new = Does old call new ⊎ (new ≡ old)
+
+-- what a list of calls does, one after another
+abbrev pub AllDo : Membership → List MemberCall → Membership → Type 0
+AllDo old [] new = new ≡ old
+AllDo old (call ∷ calls) new = (next : Membership) × MayDo old call next × AllDo next calls new
