@@ -1,0 +1,9 @@
+//! Tests of `assise_manager`.
+#![tactic(auto)]
+
+#[cfg(test)]
+mod refused;
+#[cfg(test)]
+mod steps;
+#[cfg(test)]
+mod tests;
