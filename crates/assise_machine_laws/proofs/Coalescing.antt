@@ -1,0 +1,409 @@
+-- Last records give way to others with the same net effect.
+use Rattle.std.proofs.Common.{◌≡◌, ℕ, zero, suc, ◌+◌, ◌-◌, ◌<◌, ◌≤◌, ◌≢◌, inl, inr, true, false, List, [], ◌∷◌, ◌++◌, refl, ap, sym, ◌∙◌, subst, ◌||◌, arith, take, drop, length}
+use Rattle.std.proofs.lemmas.List.{take_all, take-append-le, take-take}
+use Rattle.std.proofs.lemmas.Bool.{both_ways, cases_eq, or_from, or_right, or_cases, or_parts, cases_lt}
+use Rattle.assise_seq_tree.specs.Tree.{opening as opening_tree}
+use Rattle.assise_seq_tree.specs.Runs.{AreAnswered}
+use Rattle.assise_record.specs.LogRecord.{LogRecord}
+use Rattle.assise_inode_table.specs.Effects.{value_after, touched, contains}
+use Rattle.assise_inode_table.specs.Late.{value_of}
+use Rattle.assise_inode_table.specs.Traces.{AllMakeNew, exchanges, Rises, below, window}
+use Rattle.assise_inode_table.specs.Unseen.{Unseen}
+use Rattle.assise_digest.specs.Ahead.{all_effects}
+use Rattle.assise_machine_laws.specs.Coalescing.{Coalesces}
+use Rattle.assise_machine_laws.specs.Records.{call_of, Rising}
+use Rattle.assise_machine_laws.specs.Runs.{NoneFalls}
+use Rattle.assise_machine_laws.specs.Sound.{IsSound, AreDropped, StandFor, Stands, Guarded, Compatible, IsOrdered, Areas, IsCoherent}
+use Rattle.assise_machine_laws.specs.Staying.{SameLeases}
+use Rattle.assise_machine_laws.specs.World.{World, Full, opening_values, least_of, end, digested_by_all, received_by_all, records_between, call_at, first_undigested_at, first_undigested, first_unreplicated, steps, value_below}
+use Rattle.assise_inode_table.proofs.Making.{value_after-append}
+use Rattle.assise_machine_laws.proofs.Lists.{unseen-raise, below-same}
+use Rattle.assise_machine_laws.proofs.Logs.{at_mono, take-of_take, take-of_append, all_effects-append, length-both, drop-front, rising-append, contains-both, contains-take, at-take}
+use Rattle.assise_machine_laws.proofs.Observing.{least_of-same, least_of-most, least_of-below, least_of-above, least_of-end, part_of, call_at-end, digested_by_all-first, first-received_by_all, part-whole, part-append, part_moves, call_at-same, steps-same, part_none, end-else, part-else, area_at}
+use Rattle.assise_machine_laws.proofs.Between.{digested_by_all-received_by_all}
+use Rattle.assise_machine_laws.proofs.Staying.{held-same, spelled-same, are_made-same, numbered-same, counted-same}
+use Rattle.assise_machine_laws.proofs.Logs.{take-all, at-before, at-seam}
+
+length-front : (k : ℕ) (rs : List LogRecord) → k ≤ length rs → length (take k rs) ≡ k
+length-front zero rs h = refl
+length-front (suc k) [] h = absurd (omega arith)
+length-front (suc k) (r ∷ rs) h = ap suc (length-front k rs (omega arith))
+
+rising-cut : (rs : List LogRecord) (n d : ℕ) → Rising rs d → Rising (take n rs) (call_of rs n d)
+rising-cut [] n d h = elim n as (λ n. Rising (take {A = LogRecord} n []) d) [ zero ↦ tt | suc n ↦ tt ]
+rising-cut (r ∷ rs) zero d h = tt
+rising-cut (r ∷ []) (suc n) d h = (elim n as (λ n. r.call < call_of (take {A = LogRecord} n []) 0 d) [ zero ↦ h.0 | suc n ↦ h.0 ], rising-cut [] n d tt)
+rising-cut (r ∷ (q ∷ rs)) (suc n) d h =
+    (elim n as (λ n. r.call < call_of (take n (q ∷ rs)) 0 (call_of (q ∷ rs) n d)) [ zero ↦ h.0 | suc n ↦ h.0 ], rising-cut (q ∷ rs) n d h.1)
+
+in_end : (w : World) (c s : ℕ) → s ≤ end w c → s - w.first c ≤ length (w.records c)
+unfolding end
+in_end w c s h = omega arith
+
+front-length : (w w' : World) (c s : ℕ) (new : List LogRecord) → IsCoherent w → Coalesces w c s new w' → length (take (s - w.first c) (w.records c)) ≡ s - w.first c
+front-length w w' c s new so e = length-front (s - w.first c) (w.records c) (within e.high)
+  where
+    within : s ≤ end w c → s - w.first c ≤ length (w.records c)
+    within h = in_end w c s h
+
+end-coalesce : (w w' : World) (c s : ℕ) (new : List LogRecord) → IsCoherent w → Coalesces w c s new w' → end w' c ≡ s + length new
+unfolding end
+end-coalesce w w' c s new so e =
+    rw (e.first c, e.records_own)
+    (let a : length (take (s - w.first c) (w.records c) ++ new) ≡ length (take (s - w.first c) (w.records c)) + length new = length-both (take (s - w.first c) (w.records c)) new in
+    omega (arith, a, front-length w w' c s new so e, first-received_by_all w so c, e.low))
+
+call_at-coalesce : (w w' : World) (c s : ℕ) (new : List LogRecord) → IsCoherent w → Coalesces w c s new w' → (k : ℕ) → w.first c ≤ k → k ≤ s → call_at w' c k ≡ call_at w c k
+unfolding call_at
+call_at-coalesce w w' c s new so e k low high =
+    let n : ℕ = s - w.first c in
+    let len : length (take n (w.records c)) ≡ n = front-length w w' c s new so e in
+    rw (e.first c, e.records_own, e.next c)
+    (elim (cases_lt k s) [
+      | inl h ↦ at-before (take n (w.records c)) new (k - w.first c) (w.next c) (omega (arith, len)) ∙ at-take (w.records c) n (k - w.first c) (w.next c) (omega arith)
+      | inr h ↦
+          let is : k - w.first c ≡ length (take n (w.records c)) = omega (arith, len) in
+          let ks : k ≡ s = omega arith in
+          ap (λ j. call_of (take n (w.records c) ++ new) j (w.next c)) is ∙ at-seam (take n (w.records c)) new (w.next c) ∙ e.begins ∙ ap (λ j. call_of (w.records c) (j - w.first c) (w.next c)) (sym ks)
+    ])
+
+part-before : (w w' : World) (c s : ℕ) (new : List LogRecord) → IsCoherent w → Coalesces w c s new w' → (j k : ℕ) → w.first c ≤ j → j ≤ k → k ≤ s → records_between w' c j k ≡ records_between w c j k
+unfolding records_between
+part-before w w' c s new so e j k low le high =
+    let n : ℕ = s - w.first c in
+    let len : length (take n (w.records c)) ≡ n = front-length w w' c s new so e in
+    rw (e.first c, e.records_own)
+    (take-of_append (take n (w.records c)) new (j - w.first c) (k - j) (omega (arith, len)) ∙ take-of_take (w.records c) (j - w.first c) (k - j) n (omega arith))
+
+part-new : (w w' : World) (c s : ℕ) (new : List LogRecord) → IsCoherent w → Coalesces w c s new w' → (k : ℕ) → k ≡ s + length new → records_between w' c s k ≡ new
+unfolding records_between
+part-new w w' c s new so e k is =
+    let n : ℕ = s - w.first c in
+    let len : n ≡ length (take n (w.records c)) = sym (front-length w w' c s new so e) in
+    rw (e.first c, e.records_own)
+    (ap (λ j. take (k - s) (drop j (take n (w.records c) ++ new))) len ∙ ap (λ l. take (k - s) l) (drop-front (take n (w.records c)) new) ∙ take-all new (k - s) (omega arith))
+
+-- from a border before s to the new end
+stands-over : (w w' : World) (c s : ℕ) (new : List LogRecord) → IsCoherent w → Coalesces w c s new w' → (j : ℕ) → w.border c j ≡ true → w.first c ≤ j → j ≤ s → StandFor w' c j (end w' c)
+stands-over w w' c s new so e j bj low le =
+    let E : ℕ = end w' c in
+    let is : E ≡ s + length new = end-coalesce w w' c s new so e in
+    let old : StandFor w c j (end w c) = part_of w c j (end w c) so bj (so.end_border c) low (omega (arith, e.high)) (omega arith) in
+    let low' : w'.first c ≤ j = rw (e.first c) low in
+    let now_is : records_between w' c j E ≡ records_between w c j s ++ new =
+    part-append w' c j s E low' le (omega arith) ∙ ap (λ l. l ++ records_between w' c s E) (part-before w w' c s new so e j s low le (omega arith)) ∙ ap (λ l. records_between w c j s ++ l) (part-new w w' c s new so e E is) in
+    let was : records_between w c j (end w c) ≡ records_between w c j s ++ records_between w c s (end w c) = part-append w c j s (end w c) low le e.high in
+    let J : call_at w' c j ≡ call_at w c j = call_at-coalesce w w' c s new so e j low le in
+    let K : call_at w' c E ≡ call_at w c (end w c) = call_at-end w' c E (omega arith) ∙ e.next c ∙ sym (call_at-end w c (end w c) (omega arith)) in
+    let same : steps w' ≡ steps w = steps-same w w' e.calls in
+    record {
+      value = λ i v.
+          ap (λ rs. value_after i v (all_effects rs)) now_is ∙ ap (λ es. value_after i v es) (all_effects-append (records_between w c j s) new) ∙ value_after-append i v (all_effects (records_between w c j s)) (all_effects new)
+          ∙ e.net i (value_after i v (all_effects (records_between w c j s)))
+          ∙ sym (ap (λ rs. value_after i v (all_effects rs)) was ∙ ap (λ es. value_after i v es) (all_effects-append (records_between w c j s) (records_between w c s (end w c))) ∙ value_after-append i v (all_effects (records_between w c j s)) (all_effects (records_between w c s (end w c))))
+          ∙ old.value i v
+          ∙ ap (λ k. value_of (window c k (call_at w c (end w c))) i v (steps w)) (sym J)
+          ∙ ap (λ k. value_of (window c (call_at w' c j) k) i v (steps w)) (sym K)
+          ∙ ap (λ xs. value_of (window c (call_at w' c j) (call_at w' c E)) i v xs) (sym same);
+      touch = λ i q.
+          (let split : (contains (touched (all_effects (records_between w c j s))) i || contains (touched (all_effects new)) i) ≡ false =
+          sym (contains-both (all_effects (records_between w c j s)) (all_effects new) i) ∙ ap (λ es. contains (touched es) i) (sym (all_effects-append (records_between w c j s) new)) ∙ ap (λ rs. contains (touched (all_effects rs)) i) (sym now_is) ∙ q in
+          let parts : (contains (touched (all_effects (records_between w c j s))) i ≡ false) × (contains (touched (all_effects new)) i ≡ false) = or_parts (contains (touched (all_effects (records_between w c j s))) i) (contains (touched (all_effects new)) i) split in
+          let none : contains (touched (all_effects (records_between w c j (end w c)))) i ≡ false =
+          ap (λ rs. contains (touched (all_effects rs)) i) was ∙ ap (λ es. contains (touched es) i) (all_effects-append (records_between w c j s) (records_between w c s (end w c)))
+          ∙ contains-both (all_effects (records_between w c j s)) (all_effects (records_between w c s (end w c))) i
+          ∙ or_from (contains (touched (all_effects (records_between w c j s))) i) (contains (touched (all_effects (records_between w c s (end w c)))) i) parts.0 (sym (e.touch i) ∙ parts.1) in
+          rw (J, K, same) (old.touch i none));
+    }
+
+of_own : (w w' : World) (c s : ℕ) (new : List LogRecord) → IsCoherent w → Coalesces w c s new w' → (j k : ℕ) → j ≤ k →
+    w'.border c j ≡ true → w'.border c k ≡ true → w'.first c ≤ j → k ≤ end w' c → StandFor w' c j k
+of_own w w' c s new so e j k le bj bk low high =
+    let low_w : w.first c ≤ j = rw (e.first c) at low in
+    elim (cases_lt s k) [
+      | inl after_s ↦
+          elim (cases_lt k (end w' c)) [
+            | inl inner ↦ absurd (e.border_none k after_s inner bk)
+            | inr outer ↦
+                let ke : end w' c ≡ k = omega arith in
+                subst (λ k. StandFor w' c j k) ke
+                (elim (cases_lt s j) [
+                  | inr before ↦ stands-over w w' c s new so e j (sym (e.border_old j before) ∙ bj) low_w before
+                  | inl past ↦
+                      elim (cases_lt j (end w' c)) [
+                        | inl inner ↦ absurd (e.border_none j past inner bj)
+                        | inr outer ↦ (let je : end w' c ≡ j = omega arith in subst (λ j. StandFor w' c j (end w' c)) je (part_none w' c (end w' c) (omega arith)))
+                      ]
+                ])
+          ]
+      | inr before ↦
+          part_moves w w' c j k (part-before w w' c s new so e j k low_w le before)
+          (call_at-coalesce w w' c s new so e j low_w (omega arith)) (call_at-coalesce w w' c s new so e k (omega arith) before)
+          (steps-same w w' e.calls)
+          (part_of w c j k so (sym (e.border_old j (omega arith)) ∙ bj) (sym (e.border_old k before) ∙ bk) low_w le (omega (arith, before, e.high)))
+    ]
+
+stands-coalesce : (w w' : World) (c s : ℕ) (new : List LogRecord) → IsCoherent w → Coalesces w c s new w' → (d : ℕ) → Stands w' d
+unfolding Stands
+stands-coalesce w w' c s new so e d j k bj bk low le high =
+    elim (cases_eq d c) [
+      | inl own ↦
+          subst (λ d. w'.border d j ≡ true → w'.border d k ≡ true → w'.first d ≤ j → k ≤ end w' d → StandFor w' d j k) (sym own) (of_own w w' c s new so e j k le) bj bk low high
+      | inr other ↦
+          let same : end w' d ≡ end w d = end-else w w' d (e.first d) (e.records_else d other) in
+          part_moves w w' d j k
+          (part-else w w' d j k (e.first d) (e.records_else d other))
+          (call_at-same w w' d j (e.records_else d other) (e.first d) (e.next d))
+          (call_at-same w w' d k (e.records_else d other) (e.first d) (e.next d))
+          (steps-same w w' e.calls)
+          (part_of w d j k so (sym (e.border_else d j other) ∙ bj) (sym (e.border_else d k other) ∙ bk) (rw (e.first d) at low) le (rw same at high))
+    ]
+
+received_by_all-coalesce : (w w' : World) (c s : ℕ) (new : List LogRecord) → IsCoherent w → Coalesces w c s new w' → (d : ℕ) → received_by_all w d ≤ received_by_all w' d
+unfolding received_by_all
+received_by_all-coalesce w w' c s new so e d =
+    elim (cases_eq d c) [
+      | inl own ↦ subst (λ d. least_of w.full (λ n. w.received n d) (end w d) ≤ least_of w'.full (λ n. w'.received n d) (end w' d)) (sym own)
+          (let a : least_of w.full (λ n. w.received n c) (end w c) ≤ s = low_of w c s e.low in
+          let z : end w' c ≡ s + length new = end-coalesce w w' c s new so e in
+          least_of-above w'.full (λ n. w'.received n c) (end w' c) (least_of w.full (λ n. w.received n c) (end w c)) (omega (arith, a, z))
+          (λ n h. let f : Full w n = subst (λ ns. contains ns n ≡ true) e.full h in
+          elim (e.here n f) [
+            | inl t ↦ rw t.received (least_of-below w.full (λ n. w.received n c) (end w c) n f)
+            | inr t ↦ rw t.received (omega (arith, a, z))
+          ]))
+      | inr other ↦
+          least_of-above w'.full (λ n. w'.received n d) (end w' d) (least_of w.full (λ n. w.received n d) (end w d))
+          (rw (end-else w w' d (e.first d) (e.records_else d other)) (least_of-end w.full (λ n. w.received n d) (end w d)))
+          (λ n h. let f : Full w n = subst (λ ns. contains ns n ≡ true) e.full h in rw (e.received_else n d f other) (least_of-below w.full (λ n. w.received n d) (end w d) n f))
+    ]
+  where
+    low_of : (w : World) (c s : ℕ) → received_by_all w c ≤ s → least_of w.full (λ n. w.received n c) (end w c) ≤ s
+    low_of w c s h = h
+
+digested_by_all-coalesce : (w w' : World) (c s : ℕ) (new : List LogRecord) → IsCoherent w → Coalesces w c s new w' → (d : ℕ) → digested_by_all w d ≤ digested_by_all w' d
+unfolding digested_by_all
+digested_by_all-coalesce w w' c s new so e d =
+    least_of-above w'.full (λ n. w'.digested n d) (end w' d) (least_of w.full (λ n. w.digested n d) (end w d))
+    (elim (cases_eq d c) [
+      | inl own ↦ subst (λ d. least_of w.full (λ n. w.digested n d) (end w d) ≤ end w' d) (sym own)
+          (omega (arith, digested_by_all-received_by_all w so c, e.low, end-coalesce w w' c s new so e))
+      | inr other ↦ rw (end-else w w' d (e.first d) (e.records_else d other)) (least_of-end w.full (λ n. w.digested n d) (end w d))
+    ])
+    (λ n h. let f : Full w n = subst (λ ns. contains ns n ≡ true) e.full h in rw (e.digested n d f) (least_of-below w.full (λ n. w.digested n d) (end w d) n f))
+
+-- call numbers up to what all have, stay
+call_at-stays : (w w' : World) (c s : ℕ) (new : List LogRecord) → IsCoherent w → Coalesces w c s new w' → (d k : ℕ) → w.first d ≤ k → k ≤ received_by_all w d → call_at w' d k ≡ call_at w d k
+call_at-stays w w' c s new so e d k low high =
+    elim (cases_eq d c) [
+      | inl own ↦ subst (λ d. w.first d ≤ k → k ≤ received_by_all w d → call_at w' d k ≡ call_at w d k) (sym own) (λ l h. call_at-coalesce w w' c s new so e k l (omega (arith, h, e.low))) low high
+      | inr other ↦ call_at-same w w' d k (e.records_else d other) (e.first d) (e.next d)
+    ]
+
+rising-coalesce : (w w' : World) (c s : ℕ) (new : List LogRecord) → IsCoherent w → Coalesces w c s new w' → (d : ℕ) → Rising (w'.records d) (w'.next d)
+unfolding call_at
+rising-coalesce w w' c s new so e d =
+    elim (cases_eq d c) [
+      | inl own ↦ subst (λ d. Rising (w'.records d) (w'.next d)) (sym own)
+          (rw (e.records_own, e.next c)
+          (rising-append (take (s - w.first c) (w.records c)) new (w.next c)
+          (subst (λ k. Rising (take (s - w.first c) (w.records c)) k) (sym e.begins) (rising-cut (w.records c) (s - w.first c) (w.next c) (so.ascending c))) e.rising))
+      | inr other ↦ rw (e.records_else d other, e.next d) (so.ascending d)
+    ]
+
+places : (w : World) (c j k : ℕ) → Rising (w.records c) (w.next c) → j ≤ k → call_at w c j ≤ call_at w c k
+unfolding call_at
+places w c j k r le = at_mono (w.records c) (j - w.first c) (k - w.first c) (w.next c) r (omega arith)
+
+first_undigested-coalesce : (w w' : World) (c s : ℕ) (new : List LogRecord) → IsCoherent w → Coalesces w c s new w' → (d : ℕ) → first_undigested w d ≤ first_undigested w' d
+unfolding first_undigested
+first_undigested-coalesce w w' c s new so e d =
+    let up : call_at w' d (digested_by_all w d) ≤ call_at w' d (digested_by_all w' d) = places w' d (digested_by_all w d) (digested_by_all w' d) (rising-coalesce w w' c s new so e d) (digested_by_all-coalesce w w' c s new so e d) in
+    let is : call_at w' d (digested_by_all w d) ≡ call_at w d (digested_by_all w d) = call_at-stays w w' c s new so e d (digested_by_all w d) (digested_by_all-first w so d) (digested_by_all-received_by_all w so d) in
+    omega (arith, up, is)
+
+of_part : (w : World) (c s i : ℕ) → w.first c ≤ s → s ≤ end w c → contains (touched (all_effects (records_between w c s (end w c)))) i ≡ true → contains (touched (all_effects (w.records c))) i ≡ true
+of_part w c s i low high h =
+    ap (λ rs. contains (touched (all_effects rs)) i) (sym (part-whole w c)) ∙ ap (λ rs. contains (touched (all_effects rs)) i) (part-append w c (w.first c) s (end w c) (omega arith) low high)
+    ∙ ap (λ es. contains (touched es) i) (all_effects-append (records_between w c (w.first c) s) (records_between w c s (end w c)))
+    ∙ contains-both (all_effects (records_between w c (w.first c) s)) (all_effects (records_between w c s (end w c))) i
+    ∙ or_right (contains (touched (all_effects (records_between w c (w.first c) s))) i) (contains (touched (all_effects (records_between w c s (end w c)))) i) h
+
+guarded-coalesce : (w w' : World) (c s : ℕ) (new : List LogRecord) → IsCoherent w → Coalesces w c s new w' → Guarded w'
+unfolding Guarded
+guarded-coalesce w w' c s new so e d i h =
+    elim (cases_eq d c) [
+      | inl own ↦ subst (λ d. contains (touched (all_effects (w'.records d))) i ≡ true → w'.writes d i ≡ true) (sym own)
+          (λ h. e.leases.writes c i ∙ so.guarded c i
+          (let n : ℕ = s - w.first c in
+          let split : (contains (touched (all_effects (take n (w.records c)))) i || contains (touched (all_effects new)) i) ≡ true =
+          sym (contains-both (all_effects (take n (w.records c))) (all_effects new) i) ∙ ap (λ es. contains (touched es) i) (sym (all_effects-append (take n (w.records c)) new)) ∙ ap (λ rs. contains (touched (all_effects rs)) i) (sym e.records_own) ∙ h in
+          elim (or_cases (contains (touched (all_effects (take n (w.records c)))) i) (contains (touched (all_effects new)) i) split) [
+            | inl t ↦ contains-take (w.records c) n i t
+            | inr t ↦ of_part w c s i (omega (arith, first-received_by_all w so c, e.low)) e.high (sym (e.touch i) ∙ t)
+          ])) h
+      | inr other ↦ e.leases.writes d i ∙ so.guarded d i (rw (e.records_else d other) at h)
+    ]
+
+compatible-coalesce : (w w' : World) → IsCoherent w → SameLeases w w' → Compatible w'
+unfolding Compatible
+compatible-coalesce w w' s e c d i other wr ho = s.compatible c d i other (sym (e.writes c i) ∙ wr) (sym (e.holds d i) ∙ ho)
+
+areas-coalesce : (w w' : World) (c s : ℕ) (new : List LogRecord) → IsCoherent w → Coalesces w c s new w' → Areas w'
+unfolding Areas value_below first_undigested_at
+areas-coalesce w w' c s new so e m h i =
+    let full : Full w m = subst (λ ns. contains ns m ≡ true) e.full h in
+    e.area m i full ∙ area_at w m i so full
+    ∙ below-same (first_undigested_at w m) (λ d. call_at w' d (w'.digested m d)) i (opening_values i) (steps w)
+    (λ d. sym (ap (λ k. call_at w' d k) (e.digested m d full) ∙ call_at-stays w w' c s new so e d (w.digested m d) (so.order m d full).begun (so.order m d full).acknowledged))
+    ∙ ap (λ xs. value_of (below (λ d. call_at w' d (w'.digested m d))) i (opening_values i) xs) (sym (steps-same w w' e.calls))
+
+-- a border among what all have, or of another client, stays one
+border-stays : (w w' : World) (c s : ℕ) (new : List LogRecord) → IsCoherent w → Coalesces w c s new w' → (d k : ℕ) → k ≤ received_by_all w d → w'.border d k ≡ w.border d k
+border-stays w w' c s new so e d k high =
+    elim (cases_eq d c) [
+      | inl own ↦ subst (λ d. k ≤ received_by_all w d → w'.border d k ≡ w.border d k) (sym own) (λ h. e.border_old k (omega (arith, h, e.low))) high
+      | inr other ↦ e.border_else d k other
+    ]
+
+received_good : (w w' : World) (c s : ℕ) (new : List LogRecord) → IsCoherent w → Coalesces w c s new w' → (m d : ℕ) → Full w m →
+    (w'.received m d ≤ end w' d) × (w'.border d (w'.received m d) ≡ true)
+received_good w w' c s new so e m d full =
+    elim (cases_eq d c) [
+      | inl own ↦ subst (λ d. (w'.received m d ≤ end w' d) × (w'.border d (w'.received m d) ≡ true)) (sym own)
+          (elim (e.here m full) [
+            | inl t ↦ (rw t.received (omega (arith, t.before, end-coalesce w w' c s new so e)), ap (λ k. w'.border c k) t.received ∙ e.border_old (w.received m c) t.before ∙ (so.order m c full).received_border)
+            | inr t ↦ (rw t.received (omega arith), ap (λ k. w'.border c k) t.received ∙ e.border_end)
+          ])
+      | inr other ↦ (
+        rw (e.received_else m d full other, end-else w w' d (e.first d) (e.records_else d other)) (so.order m d full).known,
+        ap (λ k. w'.border d k) (e.received_else m d full other) ∙ e.border_else d (w.received m d) other ∙ (so.order m d full).received_border,
+      )
+    ]
+
+end_good : (w w' : World) (c s : ℕ) (new : List LogRecord) → IsCoherent w → Coalesces w c s new w' → (d : ℕ) → w'.border d (end w' d) ≡ true
+end_good w w' c s new so e d =
+    elim (cases_eq d c) [
+      | inl own ↦ subst (λ d. w'.border d (end w' d) ≡ true) (sym own) e.border_end
+      | inr other ↦ e.border_else d (end w' d) other ∙ ap (λ k. w.border d k) (end-else w w' d (e.first d) (e.records_else d other)) ∙ so.end_border d
+    ]
+
+order-coalesce : (w w' : World) (c s : ℕ) (new : List LogRecord) → IsCoherent w → Coalesces w c s new w' → (m d : ℕ) → Full w' m → IsOrdered w' m d
+order-coalesce w w' c s new so e m d h =
+    let full : Full w m = subst (λ ns. contains ns m ≡ true) e.full h in
+    let o : IsOrdered w m d = so.order m d full in
+    record {
+      begun = rw (e.first d, e.digested m d full) o.begun;
+      acknowledged = rw (e.digested m d full) (omega (arith, o.acknowledged, received_by_all-coalesce w w' c s new so e d));
+      known = (received_good w w' c s new so e m d full).0;
+      digested_border = ap (λ k. w'.border d k) (e.digested m d full) ∙ border-stays w w' c s new so e d (w.digested m d) o.acknowledged ∙ o.digested_border;
+      received_border = (received_good w w' c s new so e m d full).1;
+    }
+
+coalesce_coherent : (w w' : World) (c s : ℕ) (new : List LogRecord) → IsCoherent w → Coalesces w c s new w' → IsCoherent w'
+coalesce_coherent w w' c s new so e = record {
+  answered = subst (λ xs. AreAnswered opening_tree (exchanges xs)) (sym e.calls) so.answered;
+  make_new = subst (AllMakeNew opening_values) (sym e.calls) so.make_new;
+  spelled = spelled-same w w' e.calls so;
+  fresh_numbers = are_made-same w w' e.calls e.made (rw e.clients.clients (omega arith)) so;
+  fresh_calls = numbered-same w w' e.calls e.made so;
+  fewer = λ c. rw (e.made c) (so.fewer c);
+  counted = counted-same w w' e.calls e.next (rw e.clients.clients (omega arith)) so;
+  rises = subst Rises (sym e.calls) so.rises;
+  stands = stands-coalesce w w' c s new so e;
+  ascending = rising-coalesce w w' c s new so e;
+  first_border = λ d. ap (λ k. w'.border d k) (e.first d) ∙ border-stays w w' c s new so e d (w.first d) (first-received_by_all w so d) ∙ so.first_border d;
+  end_border = end_good w w' c s new so e;
+  order = order-coalesce w w' c s new so e;
+  guarded = guarded-coalesce w w' c s new so e;
+  compatible = compatible-coalesce w w' so e.leases;
+  unseen = subst (λ xs. Unseen (first_undigested w') xs) (sym (steps-same w w' e.calls)) (unseen-raise (first_undigested w) (first_undigested w') (steps w) (first_undigested-coalesce w w' c s new so e) so.unseen);
+  areas = areas-coalesce w w' c s new so e;
+}
+
+falls : (w w' : World) (c s : ℕ) (new : List LogRecord) → IsCoherent w → Coalesces w c s new w' → NoneFalls w w'
+unfolding first_unreplicated
+falls w w' c s new so e = record {
+  unreplicated = λ d.
+      let up : call_at w' d (received_by_all w d) ≤ call_at w' d (received_by_all w' d) = places w' d (received_by_all w d) (received_by_all w' d) (rising-coalesce w w' c s new so e d) (received_by_all-coalesce w w' c s new so e d) in
+      let is : call_at w' d (received_by_all w d) ≡ call_at w d (received_by_all w d) = call_at-stays w w' c s new so e d (received_by_all w d) (first-received_by_all w so d) (omega arith) in
+      omega (arith, up, is);
+  undigested = first_undigested-coalesce w w' c s new so e;
+}
+
+pub coalesce_falls : (w w' : World) (c s : ℕ) (new : List LogRecord) → IsSound w → Coalesces w c s new w' → NoneFalls w w'
+coalesce_falls w w' c s new so e = falls w w' c s new so.coherent e
+
+-- ---- nodes' logs
+
+-- of the client's log the front that a node has of the part that stays
+front-stays : (w w' : World) (c s : ℕ) (new : List LogRecord) → IsSound w → Coalesces w c s new w' → (n : ℕ) → Full w n → w.received n c ≤ s →
+    take (w.received n c - w.first c) (w'.records c) ≡ w.log n c
+front-stays w w' c s new so e n f low =
+    let j : ℕ = w.received n c - w.first c in
+    let k : ℕ = s - w.first c in
+    let len : length (take k (w.records c)) ≡ k = front-length w w' c s new so.coherent e in
+    ap (take j) e.records_own ∙ take-append-le j (take k (w.records c)) new (omega (arith, len, low)) ∙ take-take j k (w.records c) (omega (arith, low)) ∙ sym (so.fronts n c f)
+
+whole-front : (w' : World) (c : ℕ) → take (end w' c - w'.first c) (w'.records c) ≡ w'.records c
+unfolding end
+whole-front w' c = take_all ((w'.first c + length (w'.records c)) - w'.first c) (w'.records c) (omega arith)
+
+front_now : (w w' : World) (c s : ℕ) (new : List LogRecord) → IsSound w → Coalesces w c s new w' → (n d : ℕ) → Full w n → w'.log n d ≡ take (w'.received n d - w'.first d) (w'.records d)
+front_now w w' c s new so e n d f =
+    elim (cases_eq d c) [
+      | inr other ↦ rw (e.log_else n d f other, e.received_else n d f other, e.first d, e.records_else d other) (so.fronts n d f)
+      | inl own ↦ subst (λ d. w'.log n d ≡ take (w'.received n d - w'.first d) (w'.records d)) (sym own)
+          (elim (e.here n f) [
+            | inl t ↦ t.log ∙ sym (front-stays w w' c s new so e n f t.before) ∙ sym (ap (λ k. take (k - w'.first c) (w'.records c)) t.received ∙ ap (λ k. take (w.received n c - k) (w'.records c)) (e.first c))
+            | inr t ↦ t.log ∙ sym (ap (λ k. take (k - w'.first c) (w'.records c)) t.received ∙ whole-front w' c)
+          ])
+    ]
+
+pub coalesce_sound : (w w' : World) (c s : ℕ) (new : List LogRecord) → IsSound w → Coalesces w c s new w' → IsSound w'
+coalesce_sound w w' c s new so e = record {
+  coherent = coalesce_coherent w w' c s new so.coherent e;
+  few_records = λ d. elim (cases_eq d c) [
+    | inl own ↦ subst (λ d. end w' d ≤ w'.next d) (sym own) (omega (arith, e.no_more, so.few_records c, e.next c))
+    | inr other ↦ rw (end-else w w' d (e.first d) (e.records_else d other), e.next d) (so.few_records d)
+  ];
+  goals = λ d. elim (cases_eq d c) [
+    | inl own ↦ subst (λ d. w'.goal d ≤ end w' d) (sym own) (omega (arith, e.goal_here))
+    | inr other ↦ rw (end-else w w' d (e.first d) (e.records_else d other), e.goal_else d other) (so.goals d)
+  ];
+  held = held-same w w' so e.leases;
+  fronts = λ n d h. front_now w w' c s new so e n d (subst (λ ns. contains ns n ≡ true) e.full h);
+  opened = λ d t. rw e.clients.clients (so.opened d (sym (e.clients.lives d) ∙ t));
+  homes = λ d t. rw (e.clients.home d, e.full) (so.homes d (sym (e.clients.lives d) ∙ t));
+  whole = λ d t. rw (e.clients.home d) (elim (cases_eq d c) [
+    | inl own ↦ subst (λ d. w'.received (w.home d) d ≡ end w' d) (sym own) e.at_home.received
+    | inr other ↦ (let u : w.lives d ≡ true = sym (e.clients.lives d) ∙ t in
+        e.received_else (w.home d) d (so.homes d u) other ∙ so.whole d u ∙ sym (end-else w w' d (e.first d) (e.records_else d other)))
+  ]);
+  left = λ n d t h. (let u : w.lives d ≡ false = sym (e.clients.lives d) ∙ t in
+      let f : Full w n = subst (λ ns. contains ns n ≡ true) e.full h in
+      let other : d ≢ c = λ own. both_ways (w.lives d) u (subst (λ k. w.lives k ≡ true) (sym own) e.lives) in
+      e.received_else n d f other ∙ so.left n d u f ∙ sym (end-else w w' d (e.first d) (e.records_else d other)));
+}
+
+-- the home has digested no more than all have, which stays
+pub coalesce_dropped : (w w' : World) (c s : ℕ) (new : List LogRecord) → IsSound w → AreDropped w → Coalesces w c s new w' → AreDropped w'
+unfolding AreDropped digested_by_all
+coalesce_dropped w w' c s new so dropped e d =
+    e.first d ∙ dropped d
+    ∙ least_of-same w.full (λ n. w.digested n d) (λ n. w'.digested n d) (end w d) (λ n h. sym (e.digested n d h))
+    ∙ elim (cases_eq d c) [
+      | inl own ↦ subst (λ d. least_of w.full (λ n. w'.digested n d) (end w d) ≡ least_of w'.full (λ n. w'.digested n d) (end w' d)) (sym own) shorter
+      | inr other ↦ ap (least_of w.full (λ n. w'.digested n d)) (sym (end-else w w' d (e.first d) (e.records_else d other))) ∙ ap (λ ns. least_of ns (λ n. w'.digested n d) (end w' d)) (sym e.full)
+    ]
+  where
+    home : Full w (w.home c)
+    home = so.homes c e.lives
+
+    low : w'.digested (w.home c) c ≤ end w' c
+    low = rw (e.digested (w.home c) c home) (omega (arith, (so.coherent.order (w.home c) c home).acknowledged, e.low, end-coalesce w w' c s new so.coherent e))
+
+    shorter : least_of w.full (λ n. w'.digested n c) (end w c) ≡ least_of w'.full (λ n. w'.digested n c) (end w' c)
+    shorter =
+        sym (least_of-most w.full (λ n. w'.digested n c) (end w' c) (end w c) (w.home c) home low e.no_more)
+        ∙ ap (λ ns. least_of ns (λ n. w'.digested n c) (end w' c)) (sym e.full)

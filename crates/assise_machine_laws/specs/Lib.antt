@@ -1,0 +1,9 @@
+pub mod Chances
+pub mod ClientSteps
+pub mod Coalescing
+pub mod NodeSteps
+pub mod Records
+pub mod Runs
+pub mod Sound
+pub mod Staying
+pub mod World

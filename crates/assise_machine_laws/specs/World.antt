@@ -1,0 +1,158 @@
+-- The machine as it is observed: its nodes with their areas and logs, its clients, and the calls that are kept.
+-- Assise (OSDI 2020), section 3 (CC-NVM: update logs, replication, digests, leases, recovery).
+use Rattle.std.specs.Prelude.{◌≡◌, ℕ, zero, suc, ◌+◌, ◌-◌, ◌≤◌, min, Bool, true, List, [], ◌∷◌, ◌++◌, length, take, drop, filter}
+use Rattle.std.specs.List.{list_any}
+use Rattle.assise_seq_tree.specs.Tree.{Tree, opening as opening_tree}
+use Rattle.assise_seq_tree.specs.Runs.{tree_after_calls}
+use Rattle.assise_record.specs.declared.effect.Effect.{Effect}
+use Rattle.assise_record.specs.LogRecord.{LogRecord}
+use Rattle.assise_inode_table.specs.Contents.{Values, values}
+use Rattle.assise_inode_table.specs.Effects.{value_after, contains, makes}
+use Rattle.assise_inode_table.specs.Interaction.{Step}
+use Rattle.assise_inode_table.specs.Late.{value_of}
+use Rattle.assise_inode_table.specs.Opening.{opening}
+use Rattle.assise_inode_table.specs.Traces.{NumberedCall, trace, step_of, values_after_calls, ops, below}
+use Rattle.assise_digest.specs.Ahead.{all_effects}
+use Rattle.assise_machine_laws.specs.Records.{call_of}
+
+-- A client's records have places, from 0 on: those that went from the front of its log are counted. Its calls have
+-- numbers, from 0 on. A call without effects has no record, so a record's place is at most the number of its call.
+pub record World : Type 0 where
+  -- ---- nodes
+  -- those that have all that is acknowledged, in any order
+  pub full : List ℕ
+  -- the inodes of each node's area
+  pub area : ℕ → Values
+  -- the records of each client that each node has, those that went from the front left out; the place behind the last of
+  -- them; and the place up to which they are in the node's area
+  pub log : ℕ → ℕ → List LogRecord
+  pub received : ℕ → ℕ → ℕ
+  pub digested : ℕ → ℕ → ℕ
+  -- ---- clients
+  -- they are numbered from 1 to this
+  pub clients : ℕ
+  -- the node on which each was opened
+  pub home : ℕ → ℕ
+  -- it was opened, and its node hasn't failed since
+  pub lives : ℕ → Bool
+  pub crashed : ℕ → Bool
+  -- each client's own log: its records, and the place of the first
+  pub records : ℕ → List LogRecord
+  pub first : ℕ → ℕ
+  -- the places at which it may be cut, handed over, digested or dropped
+  pub border : ℕ → ℕ → Bool
+  -- the place up to which it is to be replicated
+  pub goal : ℕ → ℕ
+  -- how many of its calls were answered, and how many inodes it made
+  pub next : ℕ → ℕ
+  pub made : ℕ → ℕ
+  -- which inodes it holds leases of, and which of them for writing
+  pub holds : ℕ → ℕ → Bool
+  pub writes : ℕ → ℕ → Bool
+  -- ---- the history
+  -- the calls that are kept, in their order
+  pub calls : List NumberedCall
+
+abbrev pub Full : World → ℕ → Type 0
+Full w n = contains w.full n ≡ true
+
+abbrev pub IsClient : World → ℕ → Type 0
+IsClient w c = (1 ≤ c) × (c ≤ w.clients)
+
+-- ---- places in a client's log
+
+-- the least number for the nodes, and no more than the last argument
+abbrev pub least_of : List ℕ → (ℕ → ℕ) → ℕ → ℕ
+least_of [] f most = most
+least_of (n ∷ ns) f most = min (f n) (least_of ns f most)
+
+-- the place behind the last record
+unfoldable pub end : World → ℕ → ℕ
+end w c = w.first c + length (w.records c)
+
+-- up to here the records are in the areas of all full nodes
+unfoldable pub digested_by_all : World → ℕ → ℕ
+digested_by_all w c = least_of w.full (λ n. w.digested n c) (end w c)
+
+-- up to here all full nodes have the records: these are acknowledged
+unfoldable pub received_by_all : World → ℕ → ℕ
+received_by_all w c = least_of w.full (λ n. w.received n c) (end w c)
+
+-- the records from a place on, below another
+unfoldable pub records_between : World → ℕ → ℕ → ℕ → List LogRecord
+records_between w c j k = take (k - j) (drop (j - w.first c) (w.records c))
+
+-- ---- numbers of a client's calls
+
+-- the call of the record at a place, or the next call past the end
+unfoldable pub call_at : World → ℕ → ℕ → ℕ
+call_at w c k = call_of (w.records c) (k - w.first c) (w.next c)
+
+-- the first call that node n may lack in its area
+unfoldable pub first_undigested_at : World → ℕ → ℕ → ℕ
+first_undigested_at w n c = call_at w c (w.digested n c)
+
+-- the first call that some full node may lack in its area
+unfoldable pub first_undigested : World → ℕ → ℕ
+first_undigested w c = call_at w c (digested_by_all w c)
+
+-- the first call that some full node may lack
+unfoldable pub first_unreplicated : World → ℕ → ℕ
+first_unreplicated w c = call_at w c (received_by_all w c)
+
+-- ---- what the calls make
+
+abbrev pub opening_values : Values
+opening_values = values opening
+
+unfoldable pub steps : World → List (NumberedCall × Step)
+steps w = trace opening_values w.calls
+
+-- the inodes after the calls
+unfoldable pub now : World → Values
+now w = values_after_calls opening_values w.calls
+
+-- the tree after the calls
+unfoldable pub tree : World → Tree
+tree w = tree_after_calls opening_tree (ops w.calls)
+
+-- the value of an inode after the calls below the thresholds
+unfoldable pub value_below : World → (ℕ → ℕ) → Values
+value_below w a i = value_of (below a) i (opening_values i) (steps w)
+
+-- the calls that all full nodes have
+unfoldable pub firm : World → List NumberedCall
+firm w = filter (below (first_unreplicated w)) w.calls
+
+-- ---- what is read of a node
+
+-- the records of a client that the node has and has not digested
+unfoldable pub ahead : World → ℕ → ℕ → List LogRecord
+ahead w n c = drop (w.digested n c - w.first c) (w.log n c)
+
+-- those of them below a place
+unfoldable pub ahead_below : World → ℕ → ℕ → ℕ → List LogRecord
+ahead_below w n c k = take (k - w.digested n c) (ahead w n c)
+
+-- the inodes as a client reads them at node n: the area, and over it the client's own records
+unfoldable pub view : World → ℕ → ℕ → Values
+view w n c i = value_after i (w.area n i) (all_effects (ahead w n c))
+
+-- the effects of the records of clients 1 to m that are acknowledged and that node n has not digested
+abbrev pub all_ahead : World → ℕ → ℕ → List Effect
+all_ahead w n zero = []
+all_ahead w n (suc m) = all_ahead w n m ++ all_effects (ahead_below w n (suc m) (received_by_all w (suc m)))
+
+-- the inodes that node n's own area and logs give, with what is acknowledged
+unfoldable pub alone : World → ℕ → Values
+alone w n i = value_after i (w.area n i) (all_ahead w n w.clients)
+
+-- ---- calls
+
+-- the step of a call over what its client reads at its home
+abbrev pub step_at_home : World → NumberedCall → Step
+step_at_home w x = step_of (view w (w.home x.client) x.client) x
+
+-- the call makes an inode
+abbrev pub makes_inode : World → NumberedCall → Bool
+makes_inode w x = list_any (makes x.fresh) (step_at_home w x).effects

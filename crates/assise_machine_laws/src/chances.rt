@@ -1,0 +1,31 @@
+// Each step can be made.
+ghost use Rattle.std.specs.Prelude.{◌≡◌, ◌≤◌, false, true, ℕ};
+ghost use Rattle.assise_names.specs.declared.mode.Mode.{Mode};
+ghost use Rattle.assise_inode_table.specs.Effects.{contains, touched};
+ghost use Rattle.assise_inode_table.specs.Traces.{NumberedCall};
+ghost use Rattle.assise_digest.specs.Ahead.{all_effects};
+ghost use Rattle.assise_machine_laws.specs.Chances.{MayCall, MayDeliver, MayDigest, MayDrop, MayFail, MayJoin};
+ghost use Rattle.assise_machine_laws.specs.ClientSteps.{Acquires, Crashes, IsFree, MakesCall, Opens, RaisesGoals, Releases};
+ghost use Rattle.assise_machine_laws.specs.NodeSteps.{Delivers, Digests, Drops, Fails, Joins, Rests};
+ghost use Rattle.assise_machine_laws.specs.Sound.{IsSound};
+ghost use Rattle.assise_machine_laws.specs.World.{Full, World, end};
+
+/// What clients do can be done: where what a step asks for holds, there is a state to which it leads.
+pub fn each_step_of_a_client_can_be_made()
+    ensures opened { (w : World) (n : ℕ) → Full w n → (u : World) × Opens w n u }
+    ensures called { (w : World) (x : NumberedCall) → IsSound w → MayCall w x → (u : World) × MakesCall w x u }
+    ensures raised { (w : World) (k : ℕ → ℕ) → ((c : ℕ) → k c ≤ end w c) → (u : World) × RaisesGoals w k u }
+    ensures crashed { (w : World) (c : ℕ) → w.lives c ≡ true → w.crashed c ≡ false → (u : World) × Crashes w c u }
+    ensures acquired { (w : World) (c i : ℕ) (mode : Mode) → IsFree w c i mode → (u : World) × Acquires w c i mode u }
+    ensures released { (w : World) (c i : ℕ) → contains (touched (all_effects (w.records c))) i ≡ false → (u : World) × Releases w c i u }
+{}
+
+/// What nodes do, and what happens to them, can be.
+pub fn each_step_of_a_node_can_be_made()
+    ensures delivered { (w : World) (n c k : ℕ) → MayDeliver w n c k → (u : World) × Delivers w n c k u }
+    ensures digested { (w : World) (n c k : ℕ) → MayDigest w n c k → (u : World) × Digests w n c k u }
+    ensures dropped { (w : World) (f : ℕ → ℕ) → MayDrop w f → (u : World) × Drops w f u }
+    ensures failed { (w : World) (n : ℕ) → MayFail w n → (u : World) × Fails w n u }
+    ensures joined { (w : World) (n donor : ℕ) → MayJoin w n donor → (u : World) × Joins w n donor u }
+    ensures rested { (w : World) → (u : World) × Rests w u }
+{}
