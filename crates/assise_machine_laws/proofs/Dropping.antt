@@ -165,6 +165,6 @@ unfolding StayFirm firm
 drop_stays w w' f s e = ap (filter (below (first_unreplicated w))) e.calls
 
 -- once all that may go has gone, each log begins where some full node has not digested it
-pub drop_dropped : (w w' : World) → IsSound w → Drops w (digested_by_all w) w' → AreDropped w'
+pub drop_dropped : (w w' : World) → Drops w (digested_by_all w) w' → AreDropped w'
 unfolding AreDropped
-drop_dropped w w' s e c = e.first c ∙ sym (digested_by_all-drop w w' (digested_by_all w) e c)
+drop_dropped w w' e c = e.first c ∙ sym (digested_by_all-drop w w' (digested_by_all w) e c)

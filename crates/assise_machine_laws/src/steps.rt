@@ -13,7 +13,7 @@ ghost use Rattle.assise_seq_tree.specs.Answer.{answer};
 /// A client more keeps what holds.
 pub fn an_open_keeps_what_holds()
     ensures keeps { (w u : World) (n : ℕ) → IsSound w → Opens w n u → IsSound u }
-    ensures dropped { (w u : World) (n : ℕ) → IsSound w → AreDropped w → Opens w n u → AreDropped u }
+    ensures dropped { (w u : World) (n : ℕ) → AreDropped w → Opens w n u → AreDropped u }
 {}
 
 /// A call keeps what holds, and its reply is that of the tree of all calls before it.
@@ -26,31 +26,31 @@ pub fn a_call_keeps_what_holds()
 /// Goals that are raised keep what holds.
 pub fn raised_goals_keep_what_holds()
     ensures keeps { (w u : World) (k : ℕ → ℕ) → IsSound w → RaisesGoals w k u → IsSound u }
-    ensures dropped { (w u : World) (k : ℕ → ℕ) → IsSound w → AreDropped w → RaisesGoals w k u → AreDropped u }
+    ensures dropped { (w u : World) (k : ℕ → ℕ) → AreDropped w → RaisesGoals w k u → AreDropped u }
 {}
 
 /// A crash of a client keeps what holds.
 pub fn a_crash_keeps_what_holds()
     ensures keeps { (w u : World) (c : ℕ) → IsSound w → Crashes w c u → IsSound u }
-    ensures dropped { (w u : World) (c : ℕ) → IsSound w → AreDropped w → Crashes w c u → AreDropped u }
+    ensures dropped { (w u : World) (c : ℕ) → AreDropped w → Crashes w c u → AreDropped u }
 {}
 
 /// A lease that no other client stands against keeps what holds.
 pub fn an_acquisition_keeps_what_holds()
     ensures keeps { (w u : World) (c i : ℕ) (mode : Mode) → IsSound w → Acquires w c i mode u → IsSound u }
-    ensures dropped { (w u : World) (c i : ℕ) (mode : Mode) → IsSound w → AreDropped w → Acquires w c i mode u → AreDropped u }
+    ensures dropped { (w u : World) (c i : ℕ) (mode : Mode) → AreDropped w → Acquires w c i mode u → AreDropped u }
 {}
 
 /// A lease that is given up keeps what holds, where none of the client's records touches its inode.
 pub fn a_release_keeps_what_holds()
     ensures keeps { (w u : World) (c i : ℕ) → IsSound w → Releases w c i u → IsSound u }
-    ensures dropped { (w u : World) (c i : ℕ) → IsSound w → AreDropped w → Releases w c i u → AreDropped u }
+    ensures dropped { (w u : World) (c i : ℕ) → AreDropped w → Releases w c i u → AreDropped u }
 {}
 
 /// Records that come to a node keep what holds.
 pub fn a_delivery_keeps_what_holds()
     ensures keeps { (w u : World) (n c k : ℕ) → IsSound w → Delivers w n c k u → IsSound u }
-    ensures dropped { (w u : World) (n c k : ℕ) → IsSound w → AreDropped w → Delivers w n c k u → AreDropped u }
+    ensures dropped { (w u : World) (n c k : ℕ) → AreDropped w → Delivers w n c k u → AreDropped u }
 {}
 
 /// A digest keeps what holds: records that all full nodes have go into a full node's area.
@@ -62,7 +62,7 @@ pub fn a_digest_keeps_what_holds()
 /// has not digested it.
 pub fn a_drop_keeps_what_holds()
     ensures keeps { (w u : World) (f : ℕ → ℕ) → IsSound w → Drops w f u → IsSound u }
-    ensures dropped { (w u : World) → IsSound w → Drops w (digested_by_all w) u → AreDropped u }
+    ensures dropped { (w u : World) → Drops w (digested_by_all w) u → AreDropped u }
 {}
 
 /// A failure of a node keeps what holds: it takes no record that all full nodes have.
@@ -78,7 +78,7 @@ pub fn a_join_keeps_what_holds()
 /// What nodes have that aren't full may become anything.
 pub fn what_other_nodes_have_is_free()
     ensures keeps { (w u : World) → IsSound w → Rests w u → IsSound u }
-    ensures dropped { (w u : World) → IsSound w → AreDropped w → Rests w u → AreDropped u }
+    ensures dropped { (w u : World) → AreDropped w → Rests w u → AreDropped u }
 {}
 
 /// A client's last records may give way to others with the same net effect on the same inodes, where each full node has none of

@@ -6,4 +6,4 @@ pub returns-clause-keeps : goal.returns-clause-keeps
 returns-clause-keeps c = λ w u d s e. crash_sound w u d s e
 
 pub returns-clause-dropped : goal.returns-clause-dropped
-returns-clause-dropped c = λ w u d s t e. still_dropped w u e.logs e.nodes t
+returns-clause-dropped c = λ w u d t e. still_dropped w u e.logs e.nodes t

@@ -5,4 +5,4 @@ pub returns-clause-keeps : goal.returns-clause-keeps
 returns-clause-keeps c = λ w u n d k s e. deliver_sound w u n d k e s
 
 pub returns-clause-dropped : goal.returns-clause-dropped
-returns-clause-dropped c = λ w u n d k s t e. deliver_dropped w u n d k e t
+returns-clause-dropped c = λ w u n d k t e. deliver_dropped w u n d k e t

@@ -5,4 +5,4 @@ pub returns-clause-keeps : goal.returns-clause-keeps
 returns-clause-keeps c = λ w u f s e. drop_sound w u f s e
 
 pub returns-clause-dropped : goal.returns-clause-dropped
-returns-clause-dropped c = λ w u s e. drop_dropped w u s e
+returns-clause-dropped c = λ w u e. drop_dropped w u e

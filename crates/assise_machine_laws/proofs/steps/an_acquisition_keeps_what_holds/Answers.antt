@@ -6,4 +6,4 @@ pub returns-clause-keeps : goal.returns-clause-keeps
 returns-clause-keeps c = λ w u d i mode s e. acquire_sound w u d i mode s e
 
 pub returns-clause-dropped : goal.returns-clause-dropped
-returns-clause-dropped c = λ w u d i mode s t e. still_dropped w u e.logs e.nodes t
+returns-clause-dropped c = λ w u d i mode t e. still_dropped w u e.logs e.nodes t

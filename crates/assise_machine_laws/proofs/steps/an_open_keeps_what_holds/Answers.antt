@@ -5,4 +5,4 @@ pub returns-clause-keeps : goal.returns-clause-keeps
 returns-clause-keeps c = λ w u n s e. open_sound w u n s e
 
 pub returns-clause-dropped : goal.returns-clause-dropped
-returns-clause-dropped c = λ w u n s d e. open_dropped w u n d e
+returns-clause-dropped c = λ w u n d e. open_dropped w u n d e

@@ -6,4 +6,4 @@ pub returns-clause-keeps : goal.returns-clause-keeps
 returns-clause-keeps c = λ w u s e. rest_sound w u s e
 
 pub returns-clause-dropped : goal.returns-clause-dropped
-returns-clause-dropped c = λ w u s t e. still_dropped w u e.logs e.nodes t
+returns-clause-dropped c = λ w u t e. still_dropped w u e.logs e.nodes t

@@ -1,0 +1,10 @@
+pub mod Numbering
+pub mod Making
+pub mod Entering
+pub mod Listing
+pub mod Recording
+pub mod Failing
+pub mod Fsynced
+pub mod Running
+pub mod Happening
+pub mod Eventful

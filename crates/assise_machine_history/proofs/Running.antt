@@ -1,0 +1,218 @@
+-- Whatever happens.
+use Rattle.std.proofs.Common.{◌≡◌, ℕ, zero, suc, ◌<◌, ◌≤◌, true, false, if◌then◌else◌, List, [], ◌∷◌, ◌++◌, filter, map, Contains, refl, ap, sym, subst, ◌∙◌, inl, inr, arith, append_assoc, append-nil, eqb-true, ◌==◌}
+use Rattle.std.proofs.lemmas.Bool.{cases_Bool, cases_eq, lt-ltb, or_left, or_right, eq-eqb}
+use Rattle.std.proofs.lemmas.List.Elements.{Contains-append_right, Contains-append_cases}
+use Rattle.assise_seq_tree.specs.Tree.{opening as opening_tree}
+use Rattle.assise_seq_tree.specs.Runs.{AreAnswered, tree_after_calls}
+use Rattle.assise_history.specs.declared.call.Call.{Call}
+use Rattle.assise_history.specs.Entries.{Event, opens, calls, crashes, fails, returns}
+use Rattle.assise_history.specs.Legal.{IsFair}
+use Rattle.assise_history.proofs.Legality.{legal-nil}
+use Rattle.assise_history.proofs.OneMore.{follows_in}
+use Rattle.assise_history.proofs.Passing.{not_nil}
+use Rattle.assise_history.proofs.Standing.{down-nil}
+use Rattle.assise_inode_table.specs.Effects.{contains}
+use Rattle.assise_inode_table.specs.Spelled.{Spells}
+use Rattle.assise_inode_table.specs.Traces.{NumberedCall, exchanges, ops, below}
+use Rattle.assise_machine_laws.specs.Runs.{Moves, NoneFalls, StayFirm, Runs, last, opens as opens_client, makes_call, crashes as crashes_client, fails as fails_node, joins as joins_node, rests as rests_all}
+use Rattle.assise_machine_laws.specs.Sound.{IsSound}
+use Rattle.assise_machine_laws.specs.World.{World, first_unreplicated, firm, alone}
+use Rattle.assise_machine_laws.proofs.Rebuilding.{rebuilds_tree, rebuilds_run}
+use Rattle.assise_machine_laws.proofs.Running.{every_run, step_sound, run_falls, run_stays}
+use Rattle.assise_machine_history.specs.Courses.{Happens, opening, call, crash, failure, failure_again, comeback, quiet, IsCourse, last_of, firm_calls, IsFsynced, IsSafe, IsLasting}
+use Rattle.assise_machine_history.specs.Lost.{losses_of}
+use Rattle.assise_machine_history.specs.Numbered.{plain_call, kept_numbered}
+use Rattle.assise_machine_history.specs.State.{State, IsRecorded, down_from, begun_with}
+use Rattle.assise_machine_history.proofs.Failing.{failure_recorded, failure_again_recorded, return_recorded}
+use Rattle.assise_machine_history.proofs.Fsynced.{fsynced_kept}
+use Rattle.assise_machine_history.proofs.Listing.{one_in}
+use Rattle.assise_machine_history.proofs.Numbering.{kept_plain}
+use Rattle.assise_machine_history.proofs.Recording.{untold_moves, opening_recorded, call_recorded, crash_recorded, quiet_recorded}
+
+-- ---- one thing that happens
+
+pub happens_moves : (s s' : State) → Happens s s' → Moves s.world s'.world
+happens_moves s s' (opening n e) = opens_client n e.world
+happens_moves s s' (call x e) = makes_call x e.world
+happens_moves s s' (crash c e) = crashes_client c e.world
+happens_moves s s' (failure n e) = fails_node n e.world
+happens_moves s s' (failure_again n e) = rests_all e.world
+happens_moves s s' (comeback n donor e) = joins_node n donor e.world
+happens_moves s s' (quiet e) = untold_moves s.world s'.world e.world
+
+pub happens_sound : (s s' : State) → IsSound s.world → Happens s s' → IsSound s'.world
+happens_sound s s' sound m = step_sound s.world s'.world sound (happens_moves s s' m)
+
+-- the nodes stay
+happens_nodes : (s s' : State) → Happens s s' → s'.nodes ≡ s.nodes
+happens_nodes s s' (opening n e) = e.adds.nodes
+happens_nodes s s' (call x e) = e.adds.nodes
+happens_nodes s s' (crash c e) = e.adds.nodes
+happens_nodes s s' (failure n e) = e.adds.nodes
+happens_nodes s s' (failure_again n e) = e.adds.nodes
+happens_nodes s s' (comeback n donor e) = e.adds.nodes
+happens_nodes s s' (quiet e) = e.nodes
+
+-- the history grows
+happens_grows : (s s' : State) → Happens s s' → (more : List Event) × (s'.history ≡ s.history ++ more)
+happens_grows s s' (opening n e) = (opens (suc s.world.clients) n ∷ [], e.adds.entry)
+happens_grows s s' (call x e) = (calls (plain_call x) ∷ [], e.adds.entry)
+happens_grows s s' (crash c e) = (crashes c ∷ [], e.adds.entry)
+happens_grows s s' (failure n e) = (fails n (losses_of s.world n) ∷ [], e.adds.entry)
+happens_grows s s' (failure_again n e) = (fails n [] ∷ [], e.adds.entry)
+happens_grows s s' (comeback n donor e) = (returns n ∷ [], e.adds.entry)
+happens_grows s s' (quiet e) = ([], e.entries ∙ sym (append-nil s.history))
+
+pub happens_recorded : (s s' : State) → IsSound s.world → IsRecorded s → Happens s s' → IsRecorded s'
+happens_recorded s s' sound r (opening n e) = opening_recorded s n s' sound r e
+happens_recorded s s' sound r (call x e) = call_recorded s x s' sound r e
+happens_recorded s s' sound r (crash c e) = crash_recorded s c s' sound r e
+happens_recorded s s' sound r (failure n e) = failure_recorded s n s' sound r e
+happens_recorded s s' sound r (failure_again n e) = failure_again_recorded s n s' sound r e
+happens_recorded s s' sound r (comeback n donor e) = return_recorded s n donor s' sound r e
+happens_recorded s s' sound r (quiet e) = quiet_recorded s s' sound r e
+
+-- ---- one after another
+
+pub course_sound : (s : State) (ts : List State) → IsSound s.world → IsCourse s ts → IsSound (last_of s ts).world
+course_sound s [] sound m = sound
+course_sound s (t ∷ ts) sound m = course_sound t ts (happens_sound s t sound m.0) m.1
+
+pub course_recorded : (s : State) (ts : List State) → IsSound s.world → IsRecorded s → IsCourse s ts → IsRecorded (last_of s ts)
+course_recorded s [] sound r m = r
+course_recorded s (t ∷ ts) sound r m = course_recorded t ts (happens_sound s t sound m.0) (happens_recorded s t sound r m.0) m.1
+
+-- a course is a run of the machine
+worlds : List State → List World
+worlds [] = []
+worlds (t ∷ ts) = t.world ∷ worlds ts
+
+course_runs : (s : State) (ts : List State) → IsCourse s ts → Runs s.world (worlds ts)
+unfolding worlds
+course_runs s [] m = tt
+course_runs s (t ∷ ts) m = (happens_moves s t m.0, course_runs t ts m.1)
+
+last_world : (s : State) (ts : List State) → last s.world (worlds ts) ≡ (last_of s ts).world
+unfolding worlds
+last_world s [] = refl
+last_world s (t ∷ ts) = last_world t ts
+
+course_falls : (s : State) (ts : List State) → IsSound s.world → IsCourse s ts → NoneFalls s.world (last_of s ts).world
+course_falls s ts sound m = subst (NoneFalls s.world) (last_world s ts) (run_falls s.world (worlds ts) sound (course_runs s ts m))
+
+course_stays : (s : State) (ts : List State) → IsSound s.world → IsCourse s ts → StayFirm s.world (last_of s ts).world
+course_stays s ts sound m = subst (StayFirm s.world) (last_world s ts) (run_stays s.world (worlds ts) sound (course_runs s ts m))
+
+course_nodes : (s : State) (ts : List State) → IsCourse s ts → (last_of s ts).nodes ≡ s.nodes
+course_nodes s [] m = refl
+course_nodes s (t ∷ ts) m = course_nodes t ts m.1 ∙ happens_nodes s t m.0
+
+course_grows : (s : State) (ts : List State) → IsCourse s ts → (more : List Event) × ((last_of s ts).history ≡ s.history ++ more)
+course_grows s [] m = ([], sym (append-nil s.history))
+course_grows s (t ∷ ts) m =
+    let one = happens_grows s t m.0 in
+    let rest = course_grows t ts m.1 in
+    (one.0 ++ rest.0, rest.1 ∙ ap (λ h. h ++ rest.0) one.1 ∙ append_assoc s.history one.0 rest.0)
+
+-- ---- what follows of it
+
+firm_same : (s : State) → IsRecorded s → firm s.world ≡ firm_calls s
+unfolding firm
+firm_same s r = ap (λ xs. filter (below (first_unreplicated s.world)) xs) r.calls
+
+-- a call of a list that passes a test on its number
+first_of : (xs : List Call) (y x : Call) → x ≡ y → Contains (x ∷ xs) y
+first_of xs y x same = (0, omega arith, same)
+
+among_low : (a : ℕ → ℕ) (xs : List NumberedCall) (y : Call) → y.number < a y.client → Contains (map plain_call xs) y → Contains (map plain_call (filter (below a) xs)) y
+among_low a [] y low h = absurd (omega (arith, h.1))
+among_low a (x ∷ xs) y low h =
+    elim (Contains-append_cases (plain_call x ∷ []) (map plain_call xs) y h) [
+      | inl first ↦
+          let here : plain_call x ≡ y = one_in (plain_call x) y first in
+          let number : x.number ≡ y.number = ap (λ z. z.number) here in
+          let client : x.client ≡ y.client = ap (λ z. z.client) here in
+          let passes : below a x ≡ true = lt-ltb x.number (a x.client) (subst (λ c. x.number < a c) (sym client) (omega (arith, number, low))) in
+          rw passes (first_of (map plain_call (filter (below a) xs)) y (plain_call x) here)
+      | inr there ↦
+          let rest : Contains (map plain_call (filter (below a) xs)) y = among_low a xs y low there in
+          elim (below a x) as (λ b. Contains (map plain_call (if b then x ∷ filter (below a) xs else filter (below a) xs)) y) [
+            | true ↦ Contains-append_right (plain_call x ∷ []) (map plain_call (filter (below a) xs)) y rest
+            | false ↦ rest
+          ]
+    ]
+
+fsynced_firm : (s : State) (before since : List Event) (y : Call) → IsRecorded s → s.history ≡ before ++ calls y ∷ since → IsFsynced s.history y → Contains (map plain_call (firm_calls s)) y
+fsynced_firm s before since y r split f =
+    let low : f.fsync.number < first_unreplicated s.world y.client = r.synced y.client f.before f.since f.fsync f.split f.client f.is_one in
+    among_low (first_unreplicated s.world) (kept_numbered s.history) y (omega (arith, low, f.number)) (subst (λ cs. Contains cs y) (sym (kept_plain s.history)) (fsynced_kept s.history before since y r.legal split f))
+
+pub kept_of : (s : State) → IsSound s.world → IsRecorded s → IsSafe s
+kept_of s sound r = record {
+  legal = r.legal;
+  rebuilt = λ n full. subst (λ xs. Spells (alone s.world n) (tree_after_calls opening_tree (ops xs))) (firm_same s r) (rebuilds_tree s.world n sound full);
+  run = subst (λ xs. AreAnswered opening_tree (exchanges xs)) (firm_same s r) (rebuilds_run s.world sound);
+  fsynced = λ before since y split f. fsynced_firm s before since y r split f;
+  fair = λ before later n lower higher l split.
+      let fair : IsFair before n (lower ++ l ∷ higher) = follows_in s.history before later (fails n (lower ++ l ∷ higher)) r.legal split in
+      (fair.each lower higher l refl).past;
+}
+
+stays_firm : (s t : State) → IsRecorded s → IsRecorded t → StayFirm s.world t.world → filter (below (first_unreplicated s.world)) (kept_numbered t.history) ≡ firm_calls s
+unfolding StayFirm
+stays_firm s t r q stay = ap (λ xs. filter (below (first_unreplicated s.world)) xs) (sym q.calls) ∙ stay ∙ firm_same s r
+
+pub course_lasts : (s : State) (ts : List State) → IsSound s.world → IsRecorded s → IsCourse s ts → IsLasting s (last_of s ts)
+course_lasts s ts sound r m =
+    let grows = course_grows s ts m in
+    record {
+      nodes = course_nodes s ts m;
+      more = grows.0;
+      grown = grows.1;
+      stay = stays_firm s (last_of s ts) r (course_recorded s ts sound r m) (course_stays s ts sound m);
+      none_falls = course_falls s ts sound m;
+    }
+
+-- ---- the start
+
+pub begun_sound : (nodes : ℕ) → IsSound (begun_with nodes).world
+begun_sound nodes = every_run (down_from nodes) [] tt
+
+node_of : (k n : ℕ) → contains (down_from k) n ≡ true → (1 ≤ n) × (n ≤ k)
+node_of zero n h = cc
+node_of (suc k) n h =
+    elim (cases_Bool (suc k == n)) [
+      | inl is ↦ (let same : suc k ≡ n = eqb-true (suc k) n is in (omega (arith, same), omega (arith, same)))
+      | inr other ↦ (let rest : (1 ≤ n) × (n ≤ k) = node_of k n (rw other at h) in (rest.0, omega (arith, rest.1)))
+    ]
+
+of_node : (k n : ℕ) → 1 ≤ n → n ≤ k → contains (down_from k) n ≡ true
+of_node zero n low high = absurd (omega (arith, low, high))
+of_node (suc k) n low high =
+    elim (cases_eq (suc k) n) [
+      | inl is ↦ or_left (suc k == n) (contains (down_from k) n) (eq-eqb (suc k) n is)
+      | inr other ↦ or_right (suc k == n) (contains (down_from k) n) (of_node k n low (omega (arith, high, other)))
+    ]
+
+pub begun_recorded : (nodes : ℕ) → IsRecorded (begun_with nodes)
+begun_recorded nodes = record {
+  legal = legal-nil;
+  calls = refl;
+  count = refl;
+  opened = λ c client. absurd (omega (arith, client.0, client.1));
+  next = λ c. refl;
+  made = λ c. refl;
+  nodes = λ n full. node_of nodes n full;
+  up = λ n full down. down-nil n down;
+  down = λ n node absent. absurd (absent (of_node nodes n node.0 node.1));
+  synced = λ c before since x split client fsync. absurd (not_nil before since (calls x) split);
+}
+
+pub whatever_recorded : (nodes : ℕ) (ts : List State) → IsCourse (begun_with nodes) ts → IsRecorded (last_of (begun_with nodes) ts)
+whatever_recorded nodes ts m = course_recorded (begun_with nodes) ts (begun_sound nodes) (begun_recorded nodes) m
+
+pub whatever_sound : (nodes : ℕ) (ts : List State) → IsCourse (begun_with nodes) ts → IsSound (last_of (begun_with nodes) ts).world
+whatever_sound nodes ts m = course_sound (begun_with nodes) ts (begun_sound nodes) m
+
+pub whatever_kept : (nodes : ℕ) (ts : List State) → IsCourse (begun_with nodes) ts → IsSafe (last_of (begun_with nodes) ts)
+whatever_kept nodes ts m = kept_of (last_of (begun_with nodes) ts) (whatever_sound nodes ts m) (whatever_recorded nodes ts m)

@@ -1,0 +1,78 @@
+-- Whatever happens to the machine, from its start.
+-- Assise (OSDI 2020), section 3 (CC-NVM: prefix crash consistency, fail-over, node recovery).
+use Rattle.std.specs.Prelude.{◌≡◌, ℕ, ◌≤◌, true, List, [], ◌∷◌, ◌++◌, filter, map, Contains}
+use Rattle.assise_seq_tree.specs.Tree.{opening as opening_tree}
+use Rattle.assise_seq_tree.specs.Runs.{AreAnswered, tree_after_calls}
+use Rattle.assise_history.specs.declared.call.Call.{Call}
+use Rattle.assise_history.specs.declared.call.Loss.{Loss}
+use Rattle.assise_history.specs.Entries.{Event, opens, calls, crashes, fails, returns}
+use Rattle.assise_history.specs.Legal.{IsLegal, IsPastFsyncs, is_fsync}
+use Rattle.assise_inode_table.specs.Spelled.{Spells}
+use Rattle.assise_inode_table.specs.Traces.{NumberedCall, exchanges, ops, below}
+use Rattle.assise_machine_laws.specs.World.{Full, first_unreplicated, alone}
+use Rattle.assise_machine_laws.specs.Runs.{NoneFalls}
+use Rattle.assise_machine_history.specs.Numbered.{plain_call, kept_numbered}
+use Rattle.assise_machine_history.specs.State.{State}
+use Rattle.assise_machine_history.specs.Entered.{IsOpening, IsCall, IsCrash, IsFailure, IsFailureAgain, IsReturn, IsUntold}
+
+-- one thing that happens
+pub data Happens (s s' : State) : Type 0 where
+  opening : (n : ℕ) → IsOpening s n s' → Happens s s'
+  call : (x : NumberedCall) → IsCall s x s' → Happens s s'
+  crash : (c : ℕ) → IsCrash s c s' → Happens s s'
+  failure : (n : ℕ) → IsFailure s n s' → Happens s s'
+  failure_again : (n : ℕ) → IsFailureAgain s n s' → Happens s s'
+  comeback : (n donor : ℕ) → IsReturn s n donor s' → Happens s s'
+  quiet : IsUntold s s' → Happens s s'
+
+-- from each state to the next
+abbrev pub IsCourse : State → List State → Type 0
+IsCourse s [] = Unit {0}
+IsCourse s (t ∷ ts) = Happens s t × IsCourse t ts
+
+abbrev pub last_of : State → List State → State
+last_of s [] = s
+last_of s (t ∷ ts) = last_of t ts
+
+-- the calls of the history that are kept and that all full nodes have
+abbrev pub firm_calls : State → List NumberedCall
+firm_calls s = filter (below (first_unreplicated s.world)) (kept_numbered s.history)
+
+-- the client's fsync was answered with this call, or after it
+pub record IsFsynced (h : List Event) (y : Call) : Type 0 where
+  pub before : List Event
+  pub since : List Event
+  pub fsync : Call
+  pub split : h ≡ before ++ calls fsync ∷ since
+  pub is_one : is_fsync fsync.op ≡ true
+  pub client : fsync.client ≡ y.client
+  pub number : y.number ≤ fsync.number
+
+-- what clients and recovery may rest on
+pub record IsSafe (s : State) : Type 0 where
+  pub legal : IsLegal s.history
+  -- what a full node's region says alone is the tree of the firm calls, which are a run
+  pub rebuilt : (n : ℕ) → Full s.world n → Spells (alone s.world n) (tree_after_calls opening_tree (ops (firm_calls s)))
+  pub run : AreAnswered opening_tree (exchanges (firm_calls s))
+  -- each call is among these up to its client's last fsync
+  pub fsynced : (before since : List Event) (y : Call) → s.history ≡ before ++ calls y ∷ since → IsFsynced s.history y → Contains (map plain_call (firm_calls s)) y
+  -- what a failure lists begins after the client's last fsync
+  pub fair : (before later : List Event) (n : ℕ) (lower higher : List Loss) (l : Loss) → s.history ≡ before ++ fails n (lower ++ l ∷ higher) ∷ later → IsPastFsyncs before l
+
+-- from a state to a later one
+pub record IsLasting (s t : State) : Type 0 where
+  -- its nodes stay
+  pub nodes : t.nodes ≡ s.nodes
+  -- the history grows
+  pub more : List Event
+  pub grown : t.history ≡ s.history ++ more
+  -- and the calls that all full nodes had are the same still
+  pub stay : filter (below (first_unreplicated s.world)) (kept_numbered t.history) ≡ firm_calls s
+  pub none_falls : NoneFalls s.world t.world
+
+-- the entries of a course in which a client is opened, calls and crashes, and its node fails and returns
+pub record IsEventful (h : List Event) : Type 0 where
+  pub fsync : Call
+  pub losses : List Loss
+  pub is_one : is_fsync fsync.op ≡ true
+  pub entries : h ≡ opens 1 1 ∷ calls fsync ∷ crashes 1 ∷ fails 1 losses ∷ returns 1 ∷ []

@@ -1,0 +1,74 @@
+-- What happens to the machine, with the entry that its history gets.
+-- Assise (OSDI 2020), section 3 (CC-NVM: fsync, process crash, fail-over, node recovery).
+use Rattle.std.specs.Prelude.{◌≡◌, ℕ, suc, true, List, [], ◌∷◌, ◌++◌}
+use Rattle.assise_names.specs.declared.mode.Mode.{Mode}
+use Rattle.assise_history.specs.Entries.{Event, opens, calls, crashes, fails, returns}
+use Rattle.assise_history.specs.Legal.{is_fsync}
+use Rattle.assise_inode_table.specs.Traces.{NumberedCall}
+use Rattle.assise_record.specs.LogRecord.{LogRecord}
+use Rattle.assise_machine_laws.specs.World.{World, Full, end, received_by_all}
+use Rattle.assise_machine_laws.specs.ClientSteps.{Opens, MakesCall, RaisesGoals, Crashes, Acquires, Releases}
+use Rattle.assise_machine_laws.specs.NodeSteps.{Delivers, Digests, Drops, Fails, Joins, Rests}
+use Rattle.assise_machine_laws.specs.Coalescing.{Coalesces}
+use Rattle.assise_machine_history.specs.Lost.{losses_of}
+use Rattle.assise_machine_history.specs.Numbered.{plain_call}
+use Rattle.assise_machine_history.specs.State.{State, IsNode}
+
+-- ---- with an entry
+
+-- the history gets this entry
+pub record Adds (s : State) (e : Event) (s' : State) : Type 0 where
+  pub nodes : s'.nodes ≡ s.nodes
+  pub entry : s'.history ≡ s.history ++ e ∷ []
+
+-- the next client is opened on full node n
+pub record IsOpening (s : State) (n : ℕ) (s' : State) : Type 0 where
+  pub adds : Adds s (opens (suc s.world.clients) n) s'
+  pub world : Opens s.world n s'.world
+
+-- a client makes a call; an fsync is answered only where all full nodes have all of the client's records
+pub record IsCall (s : State) (x : NumberedCall) (s' : State) : Type 0 where
+  pub adds : Adds s (calls (plain_call x)) s'
+  pub world : MakesCall s.world x s'.world
+  pub replicated : is_fsync x.op ≡ true → received_by_all s.world x.client ≡ end s.world x.client
+
+-- a client crashes
+pub record IsCrash (s : State) (c : ℕ) (s' : State) : Type 0 where
+  pub adds : Adds s (crashes c) s'
+  pub world : Crashes s.world c s'.world
+
+-- full node n fails, and the entry lists the first lost call of each client that loses any
+pub record IsFailure (s : State) (n : ℕ) (s' : State) : Type 0 where
+  pub adds : Adds s (fails n (losses_of s.world n)) s'
+  pub world : Fails s.world n s'.world
+
+-- a node fails that isn't full, and nothing is lost
+pub record IsFailureAgain (s : State) (n : ℕ) (s' : State) : Type 0 where
+  pub adds : Adds s (fails n []) s'
+  pub node : IsNode s n
+  pub absent : Full s.world n → ⊥
+  pub world : Rests s.world s'.world
+
+-- node n is taken in again, with all that a full node has
+pub record IsReturn (s : State) (n donor : ℕ) (s' : State) : Type 0 where
+  pub adds : Adds s (returns n) s'
+  pub node : IsNode s n
+  pub world : Joins s.world n donor s'.world
+
+-- ---- with none
+
+-- a step that no entry tells of
+pub data NeedsNoEntry (w w' : World) : Type 0 where
+  raises_goals : (k : ℕ → ℕ) → RaisesGoals w k w' → NeedsNoEntry w w'
+  acquires : (c i : ℕ) (mode : Mode) → Acquires w c i mode w' → NeedsNoEntry w w'
+  releases : (c i : ℕ) → Releases w c i w' → NeedsNoEntry w w'
+  delivers : (n c k : ℕ) → Delivers w n c k w' → NeedsNoEntry w w'
+  digests : (n c k : ℕ) → Digests w n c k w' → NeedsNoEntry w w'
+  drops : (f : ℕ → ℕ) → Drops w f w' → NeedsNoEntry w w'
+  coalesces : (c s : ℕ) (new : List LogRecord) → Coalesces w c s new w' → NeedsNoEntry w w'
+  rests : Rests w w' → NeedsNoEntry w w'
+
+pub record IsUntold (s s' : State) : Type 0 where
+  pub nodes : s'.nodes ≡ s.nodes
+  pub entries : s'.history ≡ s.history
+  pub world : NeedsNoEntry s.world s'.world

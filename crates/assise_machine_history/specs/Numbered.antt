@@ -1,0 +1,61 @@
+-- The calls of a history, each with the number of the inode that it makes, if it makes one.
+-- Assise (OSDI 2020), section 3 (prefix crash consistency, fail-over, node recovery).
+use Rattle.std.specs.Prelude.{◌≡◌, ℕ, ◌+◌, ◌*◌, Bool, false, ◌&&◌, ◌==◌, if◌then◌else◌, List, [], ◌∷◌, ◌++◌, filter, length}
+use Rattle.assise_history.specs.declared.call.Call.{Call}
+use Rattle.assise_history.specs.Entries.{Event, opens, calls, crashes, fails, returns}
+use Rattle.assise_history.specs.Kept.{is_lost}
+use Rattle.assise_inode_table.specs.Numbers.{makes_inode}
+use Rattle.assise_inode_table.specs.Traces.{NumberedCall}
+
+-- a call of the client that made an inode
+abbrev pub is_making_of : ℕ → Event → Bool
+is_making_of c (calls x) = (c == x.client) && makes_inode x.op x.reply
+is_making_of c (opens d n) = false
+is_making_of c (crashes d) = false
+is_making_of c (fails n losses) = false
+is_making_of c (returns n) = false
+
+-- how many inodes the client made, by calls that were lost since too
+abbrev pub made_in : ℕ → List Event → ℕ
+made_in c h = length (filter (is_making_of c) h)
+
+-- a call after a front of a history: the k-th inode of client c, from 0, has the number c * 2^32 + k
+abbrev pub numbered_in : List Event → Call → NumberedCall
+numbered_in front x = record { client = x.client; number = x.number; op = x.op; reply = x.reply; fresh = x.client * 4294967296 + made_in x.client front }
+
+-- the call as a history has it
+abbrev pub plain_call : NumberedCall → Call
+plain_call x = record { client = x.client; number = x.number; op = x.op; reply = x.reply }
+
+-- the calls among the entries after a front
+abbrev pub all_after : List Event → List Event → List NumberedCall
+all_after front [] = []
+all_after front (calls x ∷ es) = numbered_in front x ∷ all_after (front ++ calls x ∷ []) es
+all_after front (opens c n ∷ es) = all_after (front ++ opens c n ∷ []) es
+all_after front (crashes c ∷ es) = all_after (front ++ crashes c ∷ []) es
+all_after front (fails n losses ∷ es) = all_after (front ++ fails n losses ∷ []) es
+all_after front (returns n ∷ es) = all_after (front ++ returns n ∷ []) es
+
+abbrev pub all_numbered : List Event → List NumberedCall
+all_numbered h = all_after [] h
+
+-- those of them that no later failure loses; their numbers are those that they have among all
+abbrev pub kept_after : List Event → List Event → List NumberedCall
+kept_after front [] = []
+kept_after front (calls x ∷ es) = if is_lost es x then kept_after (front ++ calls x ∷ []) es else numbered_in front x ∷ kept_after (front ++ calls x ∷ []) es
+kept_after front (opens c n ∷ es) = kept_after (front ++ opens c n ∷ []) es
+kept_after front (crashes c ∷ es) = kept_after (front ++ crashes c ∷ []) es
+kept_after front (fails n losses ∷ es) = kept_after (front ++ fails n losses ∷ []) es
+kept_after front (returns n ∷ es) = kept_after (front ++ returns n ∷ []) es
+
+abbrev pub kept_numbered : List Event → List NumberedCall
+kept_numbered h = kept_after [] h
+
+-- the call was answered after a front that numbered it, and no later failure loses it
+pub record IsKeptAs (h : List Event) (y : NumberedCall) : Type 0 where
+  pub before : List Event
+  pub later : List Event
+  pub plain : Call
+  pub split : h ≡ before ++ calls plain ∷ later
+  pub safe : is_lost later plain ≡ false
+  pub numbered : y ≡ numbered_in before plain

@@ -1,0 +1,26 @@
+// The calls of a history, with the numbers of the inodes that they make.
+ghost use Rattle.std.specs.List.{list_any};
+ghost use Rattle.std.specs.Prelude.{◌≡◌, ◌↔◌, ◌++◌, Contains, List, filter, map, not, ℕ};
+ghost use Rattle.assise_history.specs.Entries.{Event};
+ghost use Rattle.assise_history.specs.Kept.{is_lost, kept};
+ghost use Rattle.assise_inode_table.specs.Calls.{step};
+ghost use Rattle.assise_inode_table.specs.Contents.{Values};
+ghost use Rattle.assise_inode_table.specs.Effects.{makes};
+ghost use Rattle.assise_inode_table.specs.Numbers.{makes_inode};
+ghost use Rattle.assise_inode_table.specs.Traces.{NumberedCall};
+ghost use Rattle.assise_machine_history.specs.Numbered.{IsKeptAs, all_after, all_numbered, kept_after, kept_numbered, plain_call};
+ghost use Rattle.assise_names.specs.declared.call.Op.{Op};
+
+/// The kept calls have the numbers that they have among all calls of the history, so that losing calls changes no
+/// number. Without their numbers they are the history's kept calls.
+pub fn the_kept_calls_have_their_numbers()
+    ensures numbered { (h more : List Event) → all_numbered (h ++ more) ≡ all_numbered h ++ all_after h more }
+    ensures parts { (h more : List Event) → kept_numbered (h ++ more) ≡ filter (λ x. not (is_lost more (plain_call x))) (kept_numbered h) ++ kept_after h more }
+    ensures exactly { (h : List Event) (x : NumberedCall) → Contains (kept_numbered h) x ↔ IsKeptAs h x }
+    ensures plain { (h : List Event) → map plain_call (kept_numbered h) ≡ kept h }
+{}
+
+/// A call makes an inode exactly where it is a create or a mkdir that is answered as done.
+pub fn an_inode_is_made_where_the_reply_says_so()
+    ensures { (v : Values) (op : Op) (fresh : ℕ) → list_any (makes fresh) (step v op fresh).effects ≡ makes_inode op (step v op fresh).reply }
+{}

@@ -1,0 +1,3 @@
+pub mod Chances
+pub mod Handing
+pub mod Leases
