@@ -146,7 +146,7 @@ up_same k h h' w w' same back forth a = record {
   down = λ n node absent. forth n (a.down n node (λ full. absent (full_moves w' w n (sym same) full)));
 }
 
-pub down_before : (h : List Event) (e : Event) (n : ℕ) → IsOfClient e → IsDown (h ++ e ∷ []) n → IsDown h n
+down_before : (h : List Event) (e : Event) (n : ℕ) → IsOfClient e → IsDown (h ++ e ∷ []) n → IsDown h n
 down_before h e n o d =
     elim (down-last h e n d) [
       | inl last ↦ absurd (subst IsOfClient last.1 o)

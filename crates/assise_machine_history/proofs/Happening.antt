@@ -1,9 +1,10 @@
 -- Each thing that an entry tells of can happen.
-use Rattle.std.proofs.Common.{◌≡◌, ℕ, ◌*◌, ◌+◌, suc, true, false, [], ◌∷◌, ◌++◌, refl}
+use Rattle.std.proofs.Common.{◌≡◌, ℕ, suc, true, false, [], ◌∷◌, ◌++◌, refl}
 use Rattle.assise_names.specs.declared.call.Op.TheVariants.{Fsync}
 use Rattle.assise_names.specs.declared.reply.Reply.TheVariants.{Done}
 use Rattle.assise_history.specs.Entries.{Event, opens, calls, crashes, fails, returns}
 use Rattle.assise_history.specs.Legal.{is_fsync}
+use Rattle.assise_inode_table.specs.Numbers.{inode_number}
 use Rattle.assise_inode_table.specs.Traces.{NumberedCall}
 use Rattle.assise_machine_laws.specs.Chances.{MayCall, MayFail}
 use Rattle.assise_machine_laws.specs.Sound.{IsSound}
@@ -34,7 +35,7 @@ can_call s x sound may replicated =
 
 -- an fsync of client c
 abbrev fsync_of : World → ℕ → NumberedCall
-fsync_of w c = record { client = c; number = w.next c; op = Fsync; reply = Done; fresh = c * 4294967296 + w.made c }
+fsync_of w c = record { client = c; number = w.next c; op = Fsync; reply = Done; fresh = inode_number c (w.made c) }
 
 pub can_fsync : (s : State) (c : ℕ) → IsSound s.world → s.world.lives c ≡ true → s.world.crashed c ≡ false → received_by_all s.world c ≡ end s.world c → (x : NumberedCall) × ((x.client ≡ c) × (x.op ≡ Fsync) × ((t : State) × IsCall s x t))
 can_fsync s c sound lives running all = (

@@ -8,3 +8,4 @@ pub mod Fsynced
 pub mod Running
 pub mod Happening
 pub mod Eventful
+pub mod Losing

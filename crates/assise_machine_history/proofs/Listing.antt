@@ -21,7 +21,7 @@ pub one_in : {X : Type 0} (x y : X) → Contains (x ∷ []) y → x ≡ y
 one_in x y (zero, few, is) = is
 one_in x y (suc k, few, is) = absurd (omega arith)
 
-pub first_in : {X : Type 0} (xs : List X) (x : X) → Contains (x ∷ xs) x
+first_in : {X : Type 0} (xs : List X) (x : X) → Contains (x ∷ xs) x
 first_in xs x = (0, omega arith, refl)
 
 pub in_midst : {X : Type 0} (xs before behind : List X) (x : X) → xs ≡ before ++ x ∷ behind → Contains xs x
@@ -102,7 +102,7 @@ left_of (k ∷ ns) n m h =
       ]
     ]
 
-is_left : (ns : List ℕ) (n m : ℕ) → contains ns m ≡ true → m ≢ n → contains (filter (λ k. not (k == n)) ns) m ≡ true
+pub is_left : (ns : List ℕ) (n m : ℕ) → contains ns m ≡ true → m ≢ n → contains (filter (λ k. not (k == n)) ns) m ≡ true
 is_left [] n m h other = h
 is_left (k ∷ ns) n m h other =
     elim (cases_Bool (k == n)) [
@@ -113,10 +113,10 @@ is_left (k ∷ ns) n m h other =
       ])
     ]
 
-abbrev others_of : World → ℕ → List ℕ
+abbrev pub others_of : World → ℕ → List ℕ
 others_of w n = filter (λ m. not (m == n)) w.full
 
-abbrev least_kept : World → ℕ → ℕ → ℕ
+abbrev pub least_kept : World → ℕ → ℕ → ℕ
 least_kept w n c = least_of (others_of w n) (λ m. w.received m c) (end w c)
 
 -- where records of a client are cut it lives there, and the cut is what all others have
@@ -128,7 +128,7 @@ cut_lives w n c some =
       | inr not_there ↦ (let still : end w c < end w c = rw not_there at some in absurd (omega (arith, still)))
     ]
 
-cut_there : (w : World) (n c : ℕ) → w.lives c ≡ true → w.home c ≡ n → kept_at_failure w n c ≡ least_kept w n c
+pub cut_there : (w : World) (n c : ℕ) → w.lives c ≡ true → w.home c ≡ n → kept_at_failure w n c ≡ least_kept w n c
 unfolding kept_at_failure
 cut_there w n c lives home =
     let there : (w.lives c && (w.home c == n)) ≡ true = and_from (w.lives c) (w.home c == n) lives (eq-eqb (w.home c) n home) in

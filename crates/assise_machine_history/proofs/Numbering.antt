@@ -12,7 +12,7 @@ use Rattle.assise_machine_history.specs.Numbered.{numbered_in, plain_call, all_a
 
 -- lists that pass a test
 
-pub filter_all : {X : Type 0} (xs : List X) → filter (λ x. true) xs ≡ xs
+filter_all : {X : Type 0} (xs : List X) → filter (λ x. true) xs ≡ xs
 filter_all [] = refl
 filter_all (x ∷ xs) = ap (λ ys. x ∷ ys) (filter_all xs)
 
@@ -20,7 +20,7 @@ pub filter_like : {X : Type 0} (p q : X → Bool) (xs : List X) → Each (λ x. 
 filter_like p q [] h = refl
 filter_like p q (x ∷ xs) h = rw h.0 (ap (λ ys. if q x then x ∷ ys else ys) (filter_like p q xs h.1))
 
-pub each_of : {X : Type 0} (P : X → Type 0) (xs : List X) → ((x : X) → P x) → Each P xs
+each_of : {X : Type 0} (P : X → Type 0) (xs : List X) → ((x : X) → P x) → Each P xs
 each_of P [] h = tt
 each_of P (x ∷ xs) h = (h x, each_of P xs h)
 

@@ -1,5 +1,5 @@
 -- Openings, calls, crashes, and what is quiet, keep what the history says of the state.
-use Rattle.std.proofs.Common.{◌≡◌, ℕ, suc, ◌+◌, ◌*◌, ◌<◌, ◌≤◌, true, false, ◌||◌, ◌==◌, List, [], ◌∷◌, ◌++◌, map, refl, ap, sym, subst, ◌∙◌, inl, inr, arith, append-nil, eq-eqb, ne_eqb}
+use Rattle.std.proofs.Common.{◌≡◌, ℕ, suc, ◌<◌, ◌≤◌, true, false, ◌||◌, ◌==◌, List, [], ◌∷◌, ◌++◌, map, refl, ap, sym, subst, ◌∙◌, inl, inr, arith, append-nil, eq-eqb, ne_eqb}
 use Rattle.std.specs.List.{list_any}
 use Rattle.std.proofs.lemmas.Bool.{cases_Bool, cases_eq, not-true, or_right}
 use Rattle.assise_seq_tree.specs.Tree.{opening as opening_tree}
@@ -11,14 +11,14 @@ use Rattle.assise_history.specs.Kept.{kept, IsRun, exchange, tree_after}
 use Rattle.assise_history.specs.Legal.{IsAlive, IsLegal, IsNextCall, MayOpen, calls_made, clients_opened, is_call_of, is_failure_of, is_fsync, is_opening}
 use Rattle.assise_history.proofs.OneMore.{legal-open, legal-call, legal-crash}
 use Rattle.assise_inode_table.specs.Effects.{contains}
-use Rattle.assise_inode_table.specs.Numbers.{makes_inode as says_made}
+use Rattle.assise_inode_table.specs.Numbers.{inode_number, makes_inode}
 use Rattle.assise_inode_table.specs.Traces.{NumberedCall, exchanges, ops}
 use Rattle.assise_machine_laws.specs.Records.{record_of}
 use Rattle.assise_machine_laws.specs.ClientSteps.{MakesCall}
 use Rattle.assise_machine_laws.specs.Runs.{Moves, NoneFalls, opens as opens_client, makes_call, crashes as crashes_client, raises_goals, acquires, releases, delivers, digests, drops, coalesces, rests}
 use Rattle.assise_machine_laws.specs.Sound.{IsSound}
 use Rattle.assise_machine_laws.specs.Staying.{SameLogs, SameClients}
-use Rattle.assise_machine_laws.specs.World.{World, Full, IsClient, least_of, end, received_by_all, first_unreplicated, view, tree, step_at_home, makes_inode}
+use Rattle.assise_machine_laws.specs.World.{World, Full, IsClient, least_of, end, received_by_all, first_unreplicated, view, tree, step_at_home, call_makes_inode}
 use Rattle.assise_machine_laws.proofs.Committing.{call_reply}
 use Rattle.assise_machine_laws.proofs.Firm.{next_unreplicated}
 use Rattle.assise_machine_laws.proofs.Observing.{received_by_all-below, received_by_all-end, least_of-above}
@@ -34,12 +34,12 @@ use Rattle.assise_machine_history.proofs.Numbering.{kept_call, kept_open, kept_c
 -- ---- one state after another
 
 -- with the nodes and the history that it has
-pub with_history : (s : State) (k : ℕ) (h : List Event) → s.nodes ≡ k → s.history ≡ h → IsRecorded (record { nodes = k; history = h; world = s.world }) → IsRecorded s
+with_history : (s : State) (k : ℕ) (h : List Event) → s.nodes ≡ k → s.history ≡ h → IsRecorded (record { nodes = k; history = h; world = s.world }) → IsRecorded s
 with_history s k h nodes same r =
     subst (λ j. IsRecorded (record { nodes = j; history = s.history; world = s.world })) (sym nodes)
     (subst (λ g. IsRecorded (record { nodes = k; history = g; world = s.world })) (sym same) r)
 
-pub nodes_of : (s : State) → IsRecorded s → AreUp s.nodes s.history s.world
+nodes_of : (s : State) → IsRecorded s → AreUp s.nodes s.history s.world
 nodes_of s r = record { nodes = r.nodes; up = r.up; down = r.down }
 
 -- the calls and the counts stay
@@ -51,7 +51,7 @@ pub record SameCounts (w w' : World) : Type 0 where
 pub counts_of : (w w' : World) → SameLogs w w' → w'.clients ≡ w.clients → SameCounts w w'
 counts_of w w' logs clients = record { clients = clients; next = logs.next; made = logs.made }
 
-pub client_before : (w w' : World) (c : ℕ) → w'.clients ≡ w.clients → IsClient w' c → IsClient w c
+client_before : (w w' : World) (c : ℕ) → w'.clients ≡ w.clients → IsClient w' c → IsClient w c
 client_before w w' c same h = (h.0, subst (λ k. c ≤ k) same h.1)
 
 -- an entry more that is neither an opening nor a call
@@ -118,7 +118,7 @@ exchanges_plain [] = refl
 exchanges_plain (x ∷ xs) = ap (λ ps. (x.op, x.reply) ∷ ps) (exchanges_plain xs)
 
 -- the machine's tree is that of the kept calls
-pub same_tree : (w : World) (h : List Event) → w.calls ≡ kept_numbered h → tree w ≡ tree_after opening_tree (kept h)
+same_tree : (w : World) (h : List Event) → w.calls ≡ kept_numbered h → tree w ≡ tree_after opening_tree (kept h)
 unfolding tree
 same_tree w h same =
     ap (λ os. tree_after_calls opening_tree os) (sym (ops_plain w.calls) ∙ ap (λ xs. map (λ x. x.op) (map plain_call xs)) same ∙ ap (λ cs. map (λ x. x.op) cs) (kept_plain h))
@@ -145,7 +145,7 @@ call_answered s x s' sound r e = call_reply s.world s'.world x sound e.world ∙
 
 -- the call has its number
 same_number : (s : State) (x : NumberedCall) (s' : State) → IsRecorded s → IsCall s x s' → numbered_in s.history (plain_call x) ≡ x
-same_number s x s' r e = ap (λ f. record x { fresh = f }) (sym (e.world.fresh ∙ ap (λ m. x.client * 4294967296 + m) (r.made x.client)))
+same_number s x s' r e = ap (λ f. record x { fresh = f }) (sym (e.world.fresh ∙ ap (inode_number x.client) (r.made x.client)))
 
 call_next : (s : State) (x : NumberedCall) (s' : State) → IsRecorded s → IsCall s x s' → (c : ℕ) → s'.world.next c ≡ calls_made c (s.history ++ calls (plain_call x) ∷ [])
 call_next s x s' r e c =
@@ -158,8 +158,8 @@ call_next s x s' r e c =
     ]
 
 -- whether it made an inode is seen from its reply
-made_seen : (w w' : World) (x : NumberedCall) → MakesCall w x w' → says_made x.op x.reply ≡ makes_inode w x
-made_seen w w' x e = ap (says_made x.op) e.reply ∙ sym (makes_where_done (view w (w.home x.client) x.client) x.op x.fresh)
+made_seen : (w w' : World) (x : NumberedCall) → MakesCall w x w' → makes_inode x.op x.reply ≡ call_makes_inode w x
+made_seen w w' x e = ap (makes_inode x.op) e.reply ∙ sym (makes_where_done (view w (w.home x.client) x.client) x.op x.fresh)
 
 call_made : (s : State) (x : NumberedCall) (s' : State) → IsRecorded s → IsCall s x s' → (c : ℕ) → s'.world.made c ≡ made_in c (s.history ++ calls (plain_call x) ∷ [])
 call_made s x s' r e c =
@@ -167,7 +167,7 @@ call_made s x s' r e c =
     elim (cases_eq c x.client) [
       | inl own ↦
           subst (λ d. s'.world.made d ≡ made_in d (s.history ++ entry ∷ [])) (sym own)
-          (elim (cases_Bool (makes_inode s.world x)) [
+          (elim (cases_Bool (call_makes_inode s.world x)) [
             | inl some ↦
                 let grown : s'.world.made x.client ≡ suc (s.world.made x.client) = e.world.made_own ∙ rw some refl in
                 let making : is_making_of x.client entry ≡ true = rw (eq-eqb x.client x.client refl) (made_seen s.world s'.world x e.world ∙ some) in

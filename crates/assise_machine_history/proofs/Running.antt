@@ -74,11 +74,11 @@ happens_recorded s s' sound r (quiet e) = quiet_recorded s s' sound r e
 
 -- ---- one after another
 
-pub course_sound : (s : State) (ts : List State) → IsSound s.world → IsCourse s ts → IsSound (last_of s ts).world
+course_sound : (s : State) (ts : List State) → IsSound s.world → IsCourse s ts → IsSound (last_of s ts).world
 course_sound s [] sound m = sound
 course_sound s (t ∷ ts) sound m = course_sound t ts (happens_sound s t sound m.0) m.1
 
-pub course_recorded : (s : State) (ts : List State) → IsSound s.world → IsRecorded s → IsCourse s ts → IsRecorded (last_of s ts)
+course_recorded : (s : State) (ts : List State) → IsSound s.world → IsRecorded s → IsCourse s ts → IsRecorded (last_of s ts)
 course_recorded s [] sound r m = r
 course_recorded s (t ∷ ts) sound r m = course_recorded t ts (happens_sound s t sound m.0) (happens_recorded s t sound r m.0) m.1
 
@@ -147,7 +147,7 @@ fsynced_firm s before since y r split f =
     let low : f.fsync.number < first_unreplicated s.world y.client = r.synced y.client f.before f.since f.fsync f.split f.client f.is_one in
     among_low (first_unreplicated s.world) (kept_numbered s.history) y (omega (arith, low, f.number)) (subst (λ cs. Contains cs y) (sym (kept_plain s.history)) (fsynced_kept s.history before since y r.legal split f))
 
-pub kept_of : (s : State) → IsSound s.world → IsRecorded s → IsSafe s
+kept_of : (s : State) → IsSound s.world → IsRecorded s → IsSafe s
 kept_of s sound r = record {
   legal = r.legal;
   rebuilt = λ n full. subst (λ xs. Spells (alone s.world n) (tree_after_calls opening_tree (ops xs))) (firm_same s r) (rebuilds_tree s.world n sound full);
@@ -194,7 +194,7 @@ of_node (suc k) n low high =
       | inr other ↦ or_right (suc k == n) (contains (down_from k) n) (of_node k n low (omega (arith, high, other)))
     ]
 
-pub begun_recorded : (nodes : ℕ) → IsRecorded (begun_with nodes)
+begun_recorded : (nodes : ℕ) → IsRecorded (begun_with nodes)
 begun_recorded nodes = record {
   legal = legal-nil;
   calls = refl;

@@ -6,7 +6,9 @@ use Rattle.assise_seq_tree.specs.Runs.{AreAnswered, tree_after_calls}
 use Rattle.assise_history.specs.declared.call.Call.{Call}
 use Rattle.assise_history.specs.declared.call.Loss.{Loss}
 use Rattle.assise_history.specs.Entries.{Event, opens, calls, crashes, fails, returns}
+use Rattle.assise_history.specs.Kept.{kept}
 use Rattle.assise_history.specs.Legal.{IsLegal, IsPastFsyncs, is_fsync}
+use Rattle.assise_inode_table.specs.Numbers.{makes_inode}
 use Rattle.assise_inode_table.specs.Spelled.{Spells}
 use Rattle.assise_inode_table.specs.Traces.{NumberedCall, exchanges, ops, below}
 use Rattle.assise_machine_laws.specs.World.{Full, first_unreplicated, alone}
@@ -76,3 +78,10 @@ pub record IsEventful (h : List Event) : Type 0 where
   pub losses : List Loss
   pub is_one : is_fsync fsync.op ≡ true
   pub entries : h ≡ opens 1 1 ∷ calls fsync ∷ crashes 1 ∷ fails 1 losses ∷ returns 1 ∷ []
+
+-- the entries of a course in which a client makes an inode, and its node's failure takes this call
+pub record IsLossy (h : List Event) : Type 0 where
+  pub create : Call
+  pub makes : makes_inode create.op create.reply ≡ true
+  pub entries : h ≡ opens 1 1 ∷ calls create ∷ fails 1 (record { client = 1; first = 0 } ∷ []) ∷ []
+  pub none_left : kept h ≡ []

@@ -68,6 +68,7 @@ pub data NeedsNoEntry (w w' : World) : Type 0 where
   coalesces : (c s : ℕ) (new : List LogRecord) → Coalesces w c s new w' → NeedsNoEntry w w'
   rests : Rests w w' → NeedsNoEntry w w'
 
+-- nothing but such a step happened
 pub record IsUntold (s s' : State) : Type 0 where
   pub nodes : s'.nodes ≡ s.nodes
   pub entries : s'.history ≡ s.history

@@ -1,10 +1,10 @@
 -- The calls of a history, each with the number of the inode that it makes, if it makes one.
 -- Assise (OSDI 2020), section 3 (prefix crash consistency, fail-over, node recovery).
-use Rattle.std.specs.Prelude.{◌≡◌, ℕ, ◌+◌, ◌*◌, Bool, false, ◌&&◌, ◌==◌, if◌then◌else◌, List, [], ◌∷◌, ◌++◌, filter, length}
+use Rattle.std.specs.Prelude.{◌≡◌, ℕ, Bool, false, ◌&&◌, ◌==◌, if◌then◌else◌, List, [], ◌∷◌, ◌++◌, filter, length}
 use Rattle.assise_history.specs.declared.call.Call.{Call}
 use Rattle.assise_history.specs.Entries.{Event, opens, calls, crashes, fails, returns}
 use Rattle.assise_history.specs.Kept.{is_lost}
-use Rattle.assise_inode_table.specs.Numbers.{makes_inode}
+use Rattle.assise_inode_table.specs.Numbers.{inode_number, makes_inode}
 use Rattle.assise_inode_table.specs.Traces.{NumberedCall}
 
 -- a call of the client that made an inode
@@ -19,9 +19,9 @@ is_making_of c (returns n) = false
 abbrev pub made_in : ℕ → List Event → ℕ
 made_in c h = length (filter (is_making_of c) h)
 
--- a call after a front of a history: the k-th inode of client c, from 0, has the number c * 2^32 + k
+-- a call after a front of a history: it has the number of the next inode that its client makes
 abbrev pub numbered_in : List Event → Call → NumberedCall
-numbered_in front x = record { client = x.client; number = x.number; op = x.op; reply = x.reply; fresh = x.client * 4294967296 + made_in x.client front }
+numbered_in front x = record { client = x.client; number = x.number; op = x.op; reply = x.reply; fresh = inode_number x.client (made_in x.client front) }
 
 -- the call as a history has it
 abbrev pub plain_call : NumberedCall → Call

@@ -17,7 +17,7 @@ pub record State : Type 0 where
 abbrev pub IsNode : State → ℕ → Type 0
 IsNode s n = (1 ≤ n) × (n ≤ s.nodes)
 
--- the client was opened on its home, and crashed and lost its node where entries since say so
+-- the client was opened on its home, and it crashed, or its home failed, exactly where an entry since says so
 pub record IsOpened (h : List Event) (w : World) (c : ℕ) : Type 0 where
   pub before : List Event
   pub since : List Event

@@ -2,7 +2,7 @@
 ghost use Rattle.std.specs.Prelude.{◌≡◌, List, false, true, ℕ};
 ghost use Rattle.assise_history.specs.Legal.{is_fsync};
 ghost use Rattle.assise_inode_table.specs.Traces.{NumberedCall};
-ghost use Rattle.assise_machine_history.specs.Courses.{IsCourse, IsEventful, last_of};
+ghost use Rattle.assise_machine_history.specs.Courses.{IsCourse, IsEventful, IsLossy, last_of};
 ghost use Rattle.assise_machine_history.specs.Entered.{IsCall, IsCrash, IsFailure, IsFailureAgain, IsOpening, IsReturn};
 ghost use Rattle.assise_machine_history.specs.State.{IsNode, State, begun_with};
 ghost use Rattle.assise_machine_laws.specs.Chances.{MayCall, MayFail};
@@ -26,4 +26,9 @@ pub fn each_entry_can_come()
 /// All of them can in one course from the start.
 pub fn all_entries_can_come_in_one_course()
     ensures { (ts : List State) × (IsCourse (begun_with 2) ts × IsEventful (last_of (begun_with 2) ts).history) }
+{}
+
+/// A failure can take a call, and then it lists it.
+pub fn a_failure_can_take_a_call()
+    ensures { (ts : List State) × (IsCourse (begun_with 2) ts × IsLossy (last_of (begun_with 2) ts).history) }
 {}

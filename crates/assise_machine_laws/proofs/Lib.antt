@@ -4,7 +4,6 @@ pub mod Observing
 pub mod Staying
 pub mod ClientsStaying
 pub mod Between
-pub mod Opening
 pub mod Numbering
 pub mod Views
 pub mod Rebuilding

@@ -11,7 +11,7 @@ use Rattle.assise_machine_laws.specs.NodeSteps.{Delivers, Digests, Drops, kept_a
 use Rattle.assise_machine_laws.specs.Records.{record_of}
 use Rattle.assise_machine_laws.specs.Sound.{IsSound}
 use Rattle.assise_machine_laws.specs.Staying.{SameLogs, SameClients, SameLeases, SameNodes}
-use Rattle.assise_machine_laws.specs.World.{World, Full, end, call_at, records_between, ahead_below, step_at_home, makes_inode}
+use Rattle.assise_machine_laws.specs.World.{World, Full, end, call_at, records_between, ahead_below, step_at_home, call_makes_inode}
 use Rattle.assise_machine_laws.proofs.Logs.{length-both}
 
 -- ---- one of many
@@ -116,7 +116,7 @@ called w x =
       log = at_one (w.home x.client) x.client (w.log (w.home x.client) x.client ++ record_of x.number (step_at_home w x).effects) w.log;
       received = at_one (w.home x.client) x.client (w.first x.client + length (w.records x.client ++ record_of x.number (step_at_home w x).effects)) w.received;
       next = λ d. if d == x.client then suc x.number else w.next d;
-      made = λ d. if d == x.client then (if makes_inode w x then suc (w.made d) else w.made d) else w.made d;
+      made = λ d. if d == x.client then (if call_makes_inode w x then suc (w.made d) else w.made d) else w.made d;
       border = λ d k. if nat_le k (end w d) then w.border d k else true;
     }
 
@@ -142,7 +142,7 @@ made_few : (w : World) (x : NumberedCall) → IsSound w → MayCall w x → (cal
 unfolding called
 made_few w x s m =
     rw (eq-eqb x.client x.client refl)
-    (elim (makes_inode w x) as (λ b. (b ≡ true → w.made x.client < 1048576) → (if b then suc (w.made x.client) else w.made x.client) ≤ 1048576) [
+    (elim (call_makes_inode w x) as (λ b. (b ≡ true → w.made x.client < 1048576) → (if b then suc (w.made x.client) else w.made x.client) ≤ 1048576) [
       | true ↦ λ room. room refl
       | false ↦ λ room. s.coherent.fewer x.client
     ] m.room)

@@ -17,7 +17,7 @@ use Rattle.assise_machine_laws.proofs.Lists.{value-cong, value-filter, values-va
 use Rattle.assise_machine_laws.proofs.Observing.{call_at-mono, received_by_all-below, received_by_all-end, first_undigested-low, first_undigested-received_by_all, received_by_all-border, IsCounted, all_counted, part_value, raised_same, raised_other, later, area_at}
 use Rattle.assise_machine_laws.proofs.Between.{digested_by_all-received_by_all}
 use Rattle.assise_machine_laws.proofs.Views.{ahead_below_between}
-use Rattle.assise_machine_laws.proofs.Opening.{opening_spells}
+use Rattle.assise_inode_table.proofs.AtOpening.{opening_spells}
 use Rattle.assise_inode_table.proofs.Removing.{tails_trace, tails_run, tails_new, tails_spelled}
 
 -- the thresholds that are acknowledged for clients 1 to m, and digested at n for the others

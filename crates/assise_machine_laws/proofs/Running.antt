@@ -16,7 +16,7 @@ use Rattle.assise_machine_laws.proofs.Digesting.{digest_sound, digest_falls}
 use Rattle.assise_machine_laws.proofs.Dropping.{drop_sound, drop_falls}
 use Rattle.assise_machine_laws.proofs.Failing.{fail_sound, fail_falls, fail_stays, filter-lower}
 use Rattle.assise_machine_laws.proofs.Joining.{join_sound, join_falls}
-use Rattle.assise_machine_laws.proofs.Opening.{opening_spells, root_only}
+use Rattle.assise_inode_table.proofs.AtOpening.{opening_spells, root_alone}
 
 -- ---- one step
 
@@ -104,7 +104,7 @@ begun_coherent nodes = record {
   answered = tt;
   make_new = tt;
   spelled = opening_spells;
-  fresh_numbers = λ i h. inl (root_only i h);
+  fresh_numbers = λ i h. inl (root_alone i h);
   fresh_calls = tt;
   fewer = λ c. omega arith;
   counted = tt;

@@ -1,8 +1,9 @@
 -- What a step asks of the state before it.
-use Rattle.std.specs.Prelude.{◌≡◌, ◌≢◌, ℕ, ◌+◌, ◌*◌, ◌<◌, ◌≤◌, true, false, ◌++◌}
+use Rattle.std.specs.Prelude.{◌≡◌, ◌≢◌, ℕ, ◌<◌, ◌≤◌, true, false, ◌++◌}
 use Rattle.assise_inode_table.specs.Effects.{touched, contains}
+use Rattle.assise_inode_table.specs.Numbers.{inode_number}
 use Rattle.assise_inode_table.specs.Traces.{NumberedCall}
-use Rattle.assise_machine_laws.specs.World.{World, Full, end, digested_by_all, received_by_all, step_at_home, makes_inode}
+use Rattle.assise_machine_laws.specs.World.{World, Full, end, digested_by_all, received_by_all, step_at_home, call_makes_inode}
 
 -- the call is its client's next one, with the step's reply over what the client reads at its home, and the client holds what the
 -- step visits and changes
@@ -10,11 +11,11 @@ pub record MayCall (w : World) (x : NumberedCall) : Type 0 where
   pub lives : w.lives x.client ≡ true
   pub running : w.crashed x.client ≡ false
   pub number : x.number ≡ w.next x.client
-  pub fresh : x.fresh ≡ x.client * 4294967296 + w.made x.client
+  pub fresh : x.fresh ≡ inode_number x.client (w.made x.client)
   pub reply : x.reply ≡ (step_at_home w x).reply
   pub held : (i : ℕ) → contains ((step_at_home w x).visits ++ touched (step_at_home w x).effects) i ≡ true → w.holds x.client i ≡ true
   pub written : (i : ℕ) → contains (touched (step_at_home w x).effects) i ≡ true → w.writes x.client i ≡ true
-  pub room : makes_inode w x ≡ true → w.made x.client < 1048576
+  pub room : call_makes_inode w x ≡ true → w.made x.client < 1048576
 
 -- full node n has records of client c up to a place before this one
 pub record MayDeliver (w : World) (n c k : ℕ) : Type 0 where

@@ -1,13 +1,14 @@
 -- What clients do, and what happens to their leases.
 -- Assise (OSDI 2020), section 3 (CC-NVM: update logs, fsync, leases, process crash).
-use Rattle.std.specs.Prelude.{◌≡◌, ◌≢◌, ℕ, suc, ◌+◌, ◌*◌, ◌≤◌, max, Bool, true, false, [], ◌∷◌, ◌++◌, ◌||◌, if◌then◌else◌}
+use Rattle.std.specs.Prelude.{◌≡◌, ◌≢◌, ℕ, suc, ◌≤◌, max, Bool, true, false, [], ◌∷◌, ◌++◌, ◌||◌, if◌then◌else◌}
 use Rattle.assise_names.specs.declared.mode.Mode.{Mode}
 use Rattle.assise_names.specs.declared.mode.Mode.TheVariants.{Read, Write}
 use Rattle.assise_inode_table.specs.Effects.{touched, contains}
+use Rattle.assise_inode_table.specs.Numbers.{inode_number}
 use Rattle.assise_inode_table.specs.Traces.{NumberedCall}
 use Rattle.assise_digest.specs.Ahead.{all_effects}
 use Rattle.assise_machine_laws.specs.Records.{record_of}
-use Rattle.assise_machine_laws.specs.World.{World, Full, end, step_at_home, makes_inode}
+use Rattle.assise_machine_laws.specs.World.{World, Full, end, step_at_home, call_makes_inode}
 use Rattle.assise_machine_laws.specs.Staying.{SameLogs, SameClients, SameGoals, SameLeases, SameNodes}
 
 -- ---- clients
@@ -34,7 +35,7 @@ pub record MakesCall (w : World) (x : NumberedCall) (w' : World) : Type 0 where
   pub lives : w.lives x.client ≡ true
   pub running : w.crashed x.client ≡ false
   pub number : x.number ≡ w.next x.client
-  pub fresh : x.fresh ≡ x.client * 4294967296 + w.made x.client
+  pub fresh : x.fresh ≡ inode_number x.client (w.made x.client)
   pub reply : x.reply ≡ (step_at_home w x).reply
   pub held : (i : ℕ) → contains ((step_at_home w x).visits ++ touched (step_at_home w x).effects) i ≡ true → w.holds x.client i ≡ true
   pub written : (i : ℕ) → contains (touched (step_at_home w x).effects) i ≡ true → w.writes x.client i ≡ true
@@ -47,7 +48,7 @@ pub record MakesCall (w : World) (x : NumberedCall) (w' : World) : Type 0 where
   pub border_new : w'.border x.client (end w' x.client) ≡ true
   pub next_own : w'.next x.client ≡ suc x.number
   pub next_else : (c : ℕ) → c ≢ x.client → w'.next c ≡ w.next c
-  pub made_own : w'.made x.client ≡ (if makes_inode w x then suc (w.made x.client) else w.made x.client)
+  pub made_own : w'.made x.client ≡ (if call_makes_inode w x then suc (w.made x.client) else w.made x.client)
   pub made_else : (c : ℕ) → c ≢ x.client → w'.made c ≡ w.made c
   pub made_few : w'.made x.client ≤ 1048576
   -- its home has the record, and no other node gets it

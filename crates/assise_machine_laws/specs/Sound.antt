@@ -1,12 +1,13 @@
 -- What holds of the machine between its steps.
 -- Assise (OSDI 2020), section 3 (CC-NVM: update logs, replication, digests, leases, recovery).
-use Rattle.std.specs.Prelude.{◌≡◌, ◌≢◌, ◌⊎◌, ℕ, ◌+◌, ◌-◌, ◌*◌, ◌<◌, ◌≤◌, true, false, take, Option, IsSome}
+use Rattle.std.specs.Prelude.{◌≡◌, ◌≢◌, ◌⊎◌, ℕ, ◌-◌, ◌<◌, ◌≤◌, true, false, take, Option, IsSome}
 use Rattle.std.specs.List.{list_any}
 use Rattle.assise_seq_tree.specs.Tree.{opening as opening_tree}
 use Rattle.assise_seq_tree.specs.Runs.{AreAnswered}
 use Rattle.assise_inode_table.specs.Contents.{Content}
 use Rattle.assise_inode_table.specs.Effects.{value_after, touched, contains, makes}
 use Rattle.assise_inode_table.specs.Late.{value_of}
+use Rattle.assise_inode_table.specs.Numbers.{inode_number}
 use Rattle.assise_inode_table.specs.Spelled.{Spells}
 use Rattle.assise_inode_table.specs.Traces.{AllMakeNew, exchanges, Each, Rises, window}
 use Rattle.assise_inode_table.specs.Unseen.{Unseen}
@@ -16,9 +17,9 @@ use Rattle.assise_machine_laws.specs.World.{World, Full, IsClient, opening_value
 
 -- ---- numbers of inodes
 
--- one of the first so many inodes of client c, whose number k, from 0, is c * 2^32 + k
+-- one of the inodes that client c made
 abbrev pub IsMadeBy : World → ℕ → ℕ → Type 0
-IsMadeBy w c i = (k : ℕ) × ((k < w.made c) × (i ≡ c * 4294967296 + k))
+IsMadeBy w c i = (k : ℕ) × ((k < w.made c) × (i ≡ inode_number c k))
 
 -- the root, or an inode that a client made
 abbrev pub IsMade : World → ℕ → Type 0

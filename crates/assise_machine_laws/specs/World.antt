@@ -154,5 +154,5 @@ abbrev pub step_at_home : World → NumberedCall → Step
 step_at_home w x = step_of (view w (w.home x.client) x.client) x
 
 -- the call makes an inode
-abbrev pub makes_inode : World → NumberedCall → Bool
-makes_inode w x = list_any (makes x.fresh) (step_at_home w x).effects
+abbrev pub call_makes_inode : World → NumberedCall → Bool
+call_makes_inode w x = list_any (makes x.fresh) (step_at_home w x).effects
