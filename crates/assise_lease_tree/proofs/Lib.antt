@@ -1,8 +1,8 @@
-mod Homing
+pub mod Homing
 mod Granting
 mod Asking
 mod Releasing
 mod Doing
 mod Lawful
-mod Lookups
+pub mod Lookups
 pub mod Steps

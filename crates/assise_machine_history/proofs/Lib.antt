@@ -9,3 +9,4 @@ pub mod Running
 pub mod Happening
 pub mod Eventful
 pub mod Losing
+pub mod Bounding

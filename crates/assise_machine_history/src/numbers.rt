@@ -1,6 +1,6 @@
 // The calls of a history, with the numbers of the inodes that they make.
 ghost use Rattle.std.specs.List.{list_any};
-ghost use Rattle.std.specs.Prelude.{◌≡◌, ◌↔◌, ◌++◌, Contains, List, filter, map, not, ℕ};
+ghost use Rattle.std.specs.Prelude.{◌≡◌, ◌↔◌, ◌≤◌, ◌++◌, Contains, List, filter, length, map, not, ℕ};
 ghost use Rattle.assise_history.specs.Entries.{Event};
 ghost use Rattle.assise_history.specs.Kept.{is_lost, kept};
 ghost use Rattle.assise_inode_table.specs.Calls.{step};
@@ -9,6 +9,9 @@ ghost use Rattle.assise_inode_table.specs.Effects.{makes};
 ghost use Rattle.assise_inode_table.specs.Numbers.{makes_inode};
 ghost use Rattle.assise_inode_table.specs.Traces.{NumberedCall};
 ghost use Rattle.assise_machine_history.specs.Numbered.{IsKeptAs, all_after, all_numbered, kept_after, kept_numbered, plain_call};
+ghost use Rattle.assise_machine_history.specs.State.{IsRecorded, State};
+ghost use Rattle.assise_machine_laws.specs.Sound.{IsSound};
+ghost use Rattle.assise_machine_laws.specs.World.{end};
 ghost use Rattle.assise_names.specs.declared.call.Op.{Op};
 
 /// The kept calls have the numbers that they have among all calls of the history, so that losing calls changes no
@@ -23,4 +26,11 @@ pub fn the_kept_calls_have_their_numbers()
 /// A call makes an inode exactly where it is a create or a mkdir that is answered as done.
 pub fn an_inode_is_made_where_the_reply_says_so()
     ensures { (v : Values) (op : Op) (fresh : ℕ) → list_any (makes fresh) (step v op fresh).effects ≡ makes_inode op (step v op fresh).reply }
+{}
+
+/// A client made at most as many calls as the history has entries, and its records have no higher numbers: so these fit
+/// wherever the history's length does.
+pub fn a_client_made_no_more_calls_than_there_are_entries()
+    ensures calls { (s : State) (c : ℕ) → IsRecorded s → s.world.next c ≤ length s.history }
+    ensures records { (s : State) (c : ℕ) → IsSound s.world → IsRecorded s → end s.world c ≤ length s.history }
 {}

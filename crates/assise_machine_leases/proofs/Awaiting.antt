@@ -11,7 +11,8 @@ use Rattle.assise_machine_laws.specs.World.{World, end, digested_by_all, receive
 use Rattle.assise_machine_laws.proofs.Observing.{least_of-above}
 use Rattle.assise_machine_leases.specs.Handing.{Asks, is_newly_frozen}
 use Rattle.assise_machine_leases.specs.Leases.{AreLeases, IsFrozenLease, Leases, client_lease}
-use Rattle.assise_machine_leases.proofs.Finding.{lease_among, frozen_one, freeze_of}
+use Rattle.assise_lease_tree.proofs.Homing.{lease_among}
+use Rattle.assise_machine_leases.proofs.Finding.{frozen_one, freeze_of}
 
 -- ---- what is asked for
 

@@ -15,7 +15,8 @@ use Rattle.assise_machine_laws.specs.World.{World, end}
 use Rattle.assise_machine_laws.proofs.Observing.{part-whole}
 use Rattle.assise_machine_leases.specs.Handing.{CrashesWith, FailsWith}
 use Rattle.assise_machine_leases.specs.Leases.{Leases, client_lease, IsFrozenLease, Covers, AreLeases, is_held, is_written}
-use Rattle.assise_machine_leases.proofs.Finding.{frozen_one, freeze_of, held_one, written_one, still_frozen, now_frozen, was_frozen, lease_among}
+use Rattle.assise_lease_tree.proofs.Homing.{lease_among}
+use Rattle.assise_machine_leases.proofs.Finding.{frozen_one, freeze_of, held_one, written_one, still_frozen, now_frozen, was_frozen}
 use Rattle.assise_machine_leases.proofs.Covering.{covers_same, covers_end}
 use Rattle.assise_machine_leases.proofs.Keeping.{holder_home}
 

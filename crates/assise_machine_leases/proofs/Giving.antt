@@ -10,22 +10,18 @@ use Rattle.assise_lease_table.specs.Modes.{against, strong, stronger}
 use Rattle.assise_lease_table.proofs.Elements.{any_among, none_among, both_true}
 use Rattle.assise_lease_tree.specs.Levels.{Homes, Under, carries, in_way, is_frozen, lives, raised, clients_granted}
 use Rattle.assise_lease_tree.proofs.Steps.{nobody_in_way, granted_lawful}
+use Rattle.assise_lease_tree.proofs.Homing.{weaker_against}
 use Rattle.assise_machine_laws.specs.ClientSteps.{IsFree, Acquires, is_for_writing}
 use Rattle.assise_machine_laws.specs.Sound.{IsSound}
 use Rattle.assise_machine_laws.specs.World.{World}
 use Rattle.assise_machine_leases.specs.Handing.{Grants}
 use Rattle.assise_machine_leases.specs.Leases.{Leases, client_lease, IsFrozenLease, AreLeases, is_held, is_written}
-use Rattle.assise_machine_leases.proofs.Finding.{lease_among, with_own, with_other}
+use Rattle.assise_lease_tree.proofs.Homing.{lease_among}
+use Rattle.assise_lease_tree.proofs.Lookups.{with_own, with_other}
 use Rattle.assise_machine_leases.proofs.Covering.{covers_same}
 use Rattle.assise_machine_leases.proofs.Keeping.{still_client, was_client}
 
 -- ---- modes
-
-weaker_against : (m k l : Mode) → strong k l ≡ true → against m k ≡ false → against m l ≡ false
-weaker_against Read Read Read s a = refl
-weaker_against Read Read Write s a = cc
-weaker_against Read Write l s a = cc
-weaker_against Write k l s a = cc
 
 writing_raised : (m : Mode) (o : Option Lease) → is_for_writing (raised m o) ≡ (is_written o || is_for_writing m)
 writing_raised m None = refl

@@ -11,7 +11,7 @@ use Rattle.assise_machine_laws.specs.Sound.{AreDropped}
 use Rattle.assise_machine_laws.specs.World.{World}
 use Rattle.assise_machine_leases.specs.Handing.{ReleasesReady, FreesNode}
 use Rattle.assise_machine_leases.specs.Leases.{Leases, client_lease, IsFrozenLease, records_from, AreLeases, is_held, is_written}
-use Rattle.assise_machine_leases.proofs.Finding.{without_own, without_other}
+use Rattle.assise_lease_tree.proofs.Lookups.{without_own, without_other}
 use Rattle.assise_machine_leases.proofs.Covering.{covers_same}
 use Rattle.assise_machine_leases.proofs.Keeping.{still_client, was_client, holder_home, frozen_holder}
 

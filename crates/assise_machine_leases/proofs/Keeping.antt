@@ -18,7 +18,8 @@ use Rattle.assise_machine_laws.specs.World.{World, IsClient, step_at_home}
 use Rattle.assise_machine_laws.proofs.Logs.{of_fresh}
 use Rattle.assise_machine_leases.specs.Handing.{OpensAt, CallsUnder, CoalescesUnder}
 use Rattle.assise_machine_leases.specs.Leases.{Leases, client_lease, IsFrozenLease, Covers, AreLeases, is_held, is_written}
-use Rattle.assise_machine_leases.proofs.Finding.{held_some, frozen_held, frozen_serves, lease_among, home_of}
+use Rattle.assise_lease_tree.proofs.Homing.{lease_among, home_of}
+use Rattle.assise_machine_leases.proofs.Finding.{held_some, frozen_held, frozen_serves}
 use Rattle.assise_machine_leases.proofs.Covering.{covers_same, covers_call, covers_drop, covers_coalesced}
 
 -- ---- who holds

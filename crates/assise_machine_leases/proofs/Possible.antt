@@ -3,15 +3,14 @@ use Rattle.std.proofs.Common.{◌≡◌, ◌≢◌, ℕ, suc, ◌≤◌, ◌==�
 use Rattle.std.specs.List.{list_any}
 use Rattle.std.proofs.lemmas.Bool.{and_from, and_parts, both_ways, cases_Bool, eqb-true, false_from_ne_true}
 use Rattle.assise_names.specs.declared.mode.Mode.{Mode}
-use Rattle.assise_names.specs.declared.mode.Mode.TheVariants.{Read, Write}
 use Rattle.assise_inode_table.specs.Traces.{NumberedCall}
 use Rattle.assise_lease_table.specs.declared.lease.Lease.{Lease}
 use Rattle.assise_lease_table.specs.LeaseMaps.{Becomes}
 use Rattle.assise_lease_table.specs.Leases.{Among, lease_of, new_lease, without, freeze, frozen_if, is_own, serves}
-use Rattle.assise_lease_table.specs.Modes.{strong, stronger}
 use Rattle.assise_lease_table.proofs.Elements.{any_among, among_any, map_among}
 use Rattle.assise_lease_tree.specs.Levels.{Homes, AskedBelow, in_way, is_free, is_frozen, lives, raised, clients_granted, nodes_granted, nodes_asked, nodes_released}
 use Rattle.assise_lease_tree.specs.TwoLevels.{TwoLevels, IsGranted, IsAskedFor, IsIdle}
+use Rattle.assise_lease_tree.proofs.Homing.{strong_raised}
 use Rattle.assise_machine_laws.specs.Chances.{MayFail}
 use Rattle.assise_machine_laws.specs.Sound.{IsSound}
 use Rattle.assise_machine_laws.specs.World.{World, Full, end}
@@ -19,7 +18,9 @@ use Rattle.assise_machine_laws.proofs.Possible.{may_open, may_call, may_raise, m
 use Rattle.assise_machine_leases.specs.Chances.{MayAsk, MayCallUnder, MayGrant, MayRelease}
 use Rattle.assise_machine_leases.specs.Handing.{Holds, Asks, CallsUnder, CrashesWith, FailsWith, FreesNode, Grants, OpensAt, ReleasesReady, asked_goal}
 use Rattle.assise_machine_leases.specs.Leases.{AreLeases, Leases, is_held, is_written, client_lease}
-use Rattle.assise_machine_leases.proofs.Finding.{lease_among, still_frozen, with_own, with_other}
+use Rattle.assise_lease_tree.proofs.Homing.{lease_among}
+use Rattle.assise_lease_tree.proofs.Lookups.{with_own, with_other}
+use Rattle.assise_machine_leases.proofs.Finding.{still_frozen}
 use Rattle.assise_machine_leases.proofs.Covering.{covers_end}
 
 -- ---- one of many
@@ -74,16 +75,6 @@ pub may_call_under : (w : World) (l : Leases) (x : NumberedCall) → IsSound w �
 may_call_under w l x s m = (let (u, e) = may_call w x s m.may in (u, record { call = e; visited = m.visited; changed = m.changed }))
 
 -- ---- granting
-
-strong_raised : (m : Mode) (o : Option Lease) → strong (raised m o) m ≡ true
-strong_raised Read None = refl
-strong_raised Write None = refl
-strong_raised m (Some a) = of_modes a.mode m
-  where
-    of_modes : (k m : Mode) → strong (stronger k m) m ≡ true
-    of_modes Write m = refl
-    of_modes Read Read = refl
-    of_modes Read Write = refl
 
 module _ (t : TwoLevels) (c n i : ℕ) (mode : Mode) where
   granted : TwoLevels

@@ -42,10 +42,10 @@ within_subset s t within = set.contains-is_subset nat_cmp_total s t within
 pub subset_more : (s t u : Numbers) → set.is_subset s t ≡ true → Within t u → set.is_subset s u ≡ true
 subset_more s t u subset within = within_subset s u (λ q inside. within q (subset_within s t subset q inside))
 
-union_left : (s t : Numbers) → Within s (set.union s t)
+pub union_left : (s t : Numbers) → Within s (set.union s t)
 union_left s t q inside = contains-union nat_cmp_total s t q ∙ or_left (set.contains s q) (set.contains t q) inside
 
-union_right : (s t : Numbers) → Within t (set.union s t)
+pub union_right : (s t : Numbers) → Within t (set.union s t)
 union_right s t q inside = contains-union nat_cmp_total s t q ∙ or_right (set.contains s q) (set.contains t q) inside
 
 union_within : (s t u : Numbers) → Within s u → Within t u → Within (set.union s t) u
@@ -55,7 +55,7 @@ union_within s t u left right q inside =
       | inr r ↦ right q r
     ]
 
-nothing_within : (s : Numbers) → Within set.empty s
+pub nothing_within : (s : Numbers) → Within set.empty s
 nothing_within s q inside = never (sym (contains-empty nat_cmp q) ∙ inside)
 
 remove_within : (s : Numbers) (k : ℕ) → Within (set.remove s k) s
@@ -65,19 +65,19 @@ remove_within s k q inside =
 -- ---- lists of inodes
 
 -- what was written since stays so with one list more
-later_within : (k : ℕ) (ls : List Numbers) (l : Numbers) → Within (all_inodes (drop k ls)) (all_inodes (drop k (ls ++ l ∷ [])))
+pub later_within : (k : ℕ) (ls : List Numbers) (l : Numbers) → Within (all_inodes (drop k ls)) (all_inodes (drop k (ls ++ l ∷ [])))
 later_within zero ls l q inside = ap (λ s. set.contains s q) (all_push ls l) ∙ union_left (all_inodes ls) l q inside
 later_within (suc k) [] l q inside = nothing_within (all_inodes (drop k [])) q inside
 later_within (suc k) (x ∷ ls) l q inside = later_within k ls l q inside
 
 -- as many lists as before
-length_with_written : (ls : List Numbers) (inodes : Numbers) → length (with_written ls inodes) ≡ length ls
+pub length_with_written : (ls : List Numbers) (inodes : Numbers) → length (with_written ls inodes) ≡ length ls
 length_with_written [] inodes = refl
 length_with_written (l ∷ []) inodes = refl
 length_with_written (l ∷ next ∷ ls) inodes = ap suc (length_with_written (next ∷ ls) inodes)
 
 -- what was written since stays so with more on the last list
-noted_keeps : (k : ℕ) (ls : List Numbers) (inodes : Numbers)
+pub noted_keeps : (k : ℕ) (ls : List Numbers) (inodes : Numbers)
     → Within (all_inodes (drop k ls)) (all_inodes (drop k (with_written ls inodes)))
 noted_keeps k [] inodes q inside = inside
 noted_keeps zero (l ∷ []) inodes q inside =
@@ -93,7 +93,7 @@ noted_keeps (suc k) (l ∷ []) inodes q inside = inside
 noted_keeps (suc k) (l ∷ next ∷ ls) inodes q inside = noted_keeps k (next ∷ ls) inodes q inside
 
 -- what comes on the last list was written since any epoch that has a list
-noted_there : (k : ℕ) (ls : List Numbers) (inodes : Numbers) → k < length ls → Within inodes (all_inodes (drop k (with_written ls inodes)))
+pub noted_there : (k : ℕ) (ls : List Numbers) (inodes : Numbers) → k < length ls → Within inodes (all_inodes (drop k (with_written ls inodes)))
 noted_there k [] inodes few q inside = absurd (omega arith)
 noted_there zero (l ∷ []) inodes few q inside =
     union_left (set.union l inodes) set.empty q (union_right l inodes q inside)
