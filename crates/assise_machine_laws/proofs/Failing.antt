@@ -63,30 +63,28 @@ was_full w n m h = contains-filter (λ m. not (m == n)) w.full m h
 
 -- ---- places up to which logs are kept
 
+either : (P : ℕ → Type 0) (b : Bool) (x y : ℕ) → P x → P y → P (if b then x else y)
+either P true x y p q = p
+either P false x y p q = q
+
 -- what all full nodes have is kept
 pub kept_low : (w : World) (n c : ℕ) → received_by_all w c ≤ kept_at_failure w n c
 unfolding kept_at_failure
 kept_low w n c =
-    elim (w.lives c && (w.home c == n)) as (λ b. received_by_all w c ≤ (if b then least_of (survivors w n) (λ m. w.received m c) (end w c) else end w c)) [
-      | true ↦ least_of-above (survivors w n) (λ m. w.received m c) (end w c) (received_by_all w c) (received_by_all-end w c) (λ m h. received_by_all-below w m c (was_full w n m h))
-      | false ↦ received_by_all-end w c
-    ]
+    either (λ k. received_by_all w c ≤ k) (w.lives c && (w.home c == n)) _ _
+    (least_of-above (survivors w n) _ (end w c) (received_by_all w c) (received_by_all-end w c) (λ m h. received_by_all-below w m c (was_full w n m h)))
+    (received_by_all-end w c)
 
 pub kept_high : (w : World) (n c : ℕ) → kept_at_failure w n c ≤ end w c
 unfolding kept_at_failure
-kept_high w n c =
-    elim (w.lives c && (w.home c == n)) as (λ b. (if b then least_of (survivors w n) (λ m. w.received m c) (end w c) else end w c) ≤ end w c) [
-      | true ↦ least_of-end (survivors w n) (λ m. w.received m c) (end w c)
-      | false ↦ omega arith
-    ]
+kept_high w n c = either (λ k. k ≤ end w c) (w.lives c && (w.home c == n)) _ _ (least_of-end (survivors w n) _ (end w c)) (omega arith)
 
 pub kept_border : (w : World) (n c : ℕ) → IsCoherent w → w.border c (kept_at_failure w n c) ≡ true
 unfolding kept_at_failure
 kept_border w n c s =
-    elim (w.lives c && (w.home c == n)) as (λ b. w.border c (if b then least_of (survivors w n) (λ m. w.received m c) (end w c) else end w c) ≡ true) [
-      | true ↦ least_of-is (λ k. w.border c k ≡ true) (survivors w n) (λ m. w.received m c) (end w c) (s.end_border c) (λ m h. (s.order m c (was_full w n m h)).received_border)
-      | false ↦ s.end_border c
-    ]
+    either (λ k. w.border c k ≡ true) (w.lives c && (w.home c == n)) _ _
+    (least_of-is (λ k. w.border c k ≡ true) (survivors w n) _ (end w c) (s.end_border c) (λ m h. (s.order m c (was_full w n m h)).received_border))
+    (s.end_border c)
 
 -- of a client that lives elsewhere all is kept
 kept_elsewhere : (w : World) (n c : ℕ) → w.home c ≢ n → kept_at_failure w n c ≡ end w c
