@@ -74,11 +74,11 @@ happens_recorded s s' sound r (quiet e) = quiet_recorded s s' sound r e
 
 -- ---- one after another
 
-course_sound : (s : State) (ts : List State) → IsSound s.world → IsCourse s ts → IsSound (last_of s ts).world
+pub course_sound : (s : State) (ts : List State) → IsSound s.world → IsCourse s ts → IsSound (last_of s ts).world
 course_sound s [] sound m = sound
 course_sound s (t ∷ ts) sound m = course_sound t ts (happens_sound s t sound m.0) m.1
 
-course_recorded : (s : State) (ts : List State) → IsSound s.world → IsRecorded s → IsCourse s ts → IsRecorded (last_of s ts)
+pub course_recorded : (s : State) (ts : List State) → IsSound s.world → IsRecorded s → IsCourse s ts → IsRecorded (last_of s ts)
 course_recorded s [] sound r m = r
 course_recorded s (t ∷ ts) sound r m = course_recorded t ts (happens_sound s t sound m.0) (happens_recorded s t sound r m.0) m.1
 
@@ -147,7 +147,7 @@ fsynced_firm s before since y r split f =
     let low : f.fsync.number < first_unreplicated s.world y.client = r.synced y.client f.before f.since f.fsync f.split f.client f.is_one in
     among_low (first_unreplicated s.world) (kept_numbered s.history) y (omega (arith, low, f.number)) (subst (λ cs. Contains cs y) (sym (kept_plain s.history)) (fsynced_kept s.history before since y r.legal split f))
 
-kept_of : (s : State) → IsSound s.world → IsRecorded s → IsSafe s
+pub kept_of : (s : State) → IsSound s.world → IsRecorded s → IsSafe s
 kept_of s sound r = record {
   legal = r.legal;
   rebuilt = λ n full. subst (λ xs. Spells (alone s.world n) (tree_after_calls opening_tree (ops xs))) (firm_same s r) (rebuilds_tree s.world n sound full);
@@ -178,7 +178,7 @@ course_lasts s ts sound r m =
 pub begun_sound : (nodes : ℕ) → IsSound (begun_with nodes).world
 begun_sound nodes = every_run (down_from nodes) [] tt
 
-node_of : (k n : ℕ) → contains (down_from k) n ≡ true → (1 ≤ n) × (n ≤ k)
+pub node_of : (k n : ℕ) → contains (down_from k) n ≡ true → (1 ≤ n) × (n ≤ k)
 node_of zero n h = cc
 node_of (suc k) n h =
     elim (cases_Bool (suc k == n)) [
@@ -186,7 +186,7 @@ node_of (suc k) n h =
       | inr other ↦ (let rest : (1 ≤ n) × (n ≤ k) = node_of k n (rw other at h) in (rest.0, omega (arith, rest.1)))
     ]
 
-of_node : (k n : ℕ) → 1 ≤ n → n ≤ k → contains (down_from k) n ≡ true
+pub of_node : (k n : ℕ) → 1 ≤ n → n ≤ k → contains (down_from k) n ≡ true
 of_node zero n low high = absurd (omega (arith, low, high))
 of_node (suc k) n low high =
     elim (cases_eq (suc k) n) [
@@ -194,7 +194,7 @@ of_node (suc k) n low high =
       | inr other ↦ or_right (suc k == n) (contains (down_from k) n) (of_node k n low (omega (arith, high, other)))
     ]
 
-begun_recorded : (nodes : ℕ) → IsRecorded (begun_with nodes)
+pub begun_recorded : (nodes : ℕ) → IsRecorded (begun_with nodes)
 begun_recorded nodes = record {
   legal = legal-nil;
   calls = refl;

@@ -1,0 +1,147 @@
+-- What each answer says.
+use Rattle.std.proofs.Common.{◌≡◌, ◌≢◌, ◌↔◌, ◌⊎◌, inl, inr, ℕ, zero, suc, ◌<◌, ◌≤◌, true, List, [], ◌∷◌, Contains, Some, None, refl, ap, sym, subst, ◌∙◌, arith}
+use Rattle.assise_names.specs.declared.call.Op.{Op}
+use Rattle.assise_names.specs.declared.refusal.Refusal.{Refusal}
+use Rattle.assise_names.specs.declared.refusal.Refusal.TheVariants.{Busy}
+use Rattle.assise_names.specs.declared.reply.Reply.{Reply}
+use Rattle.assise_history.specs.declared.call.Loss.{Loss}
+use Rattle.assise_lease_table.specs.Leases.{lease_of}
+use Rattle.assise_record.specs.LogFrame.{LogFrame}
+use Rattle.assise_manager.specs.Changes.{join_fault, is_returning}
+use Rattle.assise_manager.specs.Standings.{full, standing_of}
+use Rattle.assise_machine_laws.specs.World.{World, end, received_by_all}
+use Rattle.assise_machine_leases.specs.Leases.{Leases, client_lease}
+use Rattle.assise_machine_leases.proofs.Awaiting.{asked_other, asked_in_way, asked_elsewhere}
+use Rattle.assise_machine_history.specs.Lost.{IsFirstLost, losses_of}
+use Rattle.assise_machine_history.proofs.Listing.{exactly_lost}
+use Rattle.assise_machine_events.specs.ClientEvents.{Calling, Syncing, is_answered, is_awaited, is_spent, is_full, is_refused, lacks_memory, is_synced, is_replicating, last_leases, last_world}
+use Rattle.assise_machine_events.specs.Events.{Answer, digested, failed, joined, not_yet, received, refused, replied}
+use Rattle.assise_machine_events.specs.Machine.{Machine, Holds}
+use Rattle.assise_machine_events.specs.MemberEvents.{Failing, Joining, is_failed, is_failed_again, is_joined, is_refused, lacks_memory}
+use Rattle.assise_machine_events.specs.NodeEvents.{Delivering, Digesting, Releasing, is_delivered, is_stale, is_digested, is_released, is_refused, lacks_memory, is_ready, most_digested, undigested_to, place_after, Frees, Freed, leases_freed}
+use Rattle.assise_machine_events.specs.Outcomes.{AwaitsLease}
+
+-- ---- calls
+
+pub awaits : (m m' : Machine) (c : ℕ) (op : Op) → Calling m c op not_yet m' → AwaitsLease m c op m'
+awaits m m' c op (is_answered reply granted is e) = absurd (let z : not_yet ≡ replied reply = is in cc)
+awaits m m' c op (is_awaited reply granted is e) =
+    let w : World = last_world m.world granted in
+    let l : Leases = last_leases m.leases granted in
+    record {
+      reply = reply;
+      granted = granted;
+      inode = e.inode;
+      mode = e.mode;
+      needed = e.missing.needed;
+      frozen = e.asks.asked.frozen;
+      nothing_else = λ d i other. asked_elsewhere w m'.world l m'.leases c e.inode e.mode e.asks d i other;
+      of_others = λ d newly. asked_other w m'.world l m'.leases c e.inode e.mode e.asks d newly;
+      in_the_way = λ d a newly is_lease. asked_in_way w m'.world l m'.leases c e.inode e.mode e.asks d a newly is_lease;
+    }
+awaits m m' c op (is_spent reply granted is e keeps) = cc
+awaits m m' c op (is_full reply granted is e keeps) = cc
+awaits m m' c op (lacks_memory reply granted is e keeps) = cc
+awaits m m' c op (is_refused r fault is same) = cc
+
+-- ---- an fsync
+
+pub synced_all : (m m' : Machine) (c : ℕ) (reply : Reply) → Syncing m c (replied reply) m' → received_by_all m.world c ≡ end m.world c
+synced_all m m' c reply (is_synced own fine is e) = e.replicated
+synced_all m m' c reply (is_replicating fine is e) = cc
+synced_all m m' c reply (lacks_memory fine all is same) = all
+synced_all m m' c reply (is_refused r fault is same) = cc
+
+pub syncing_lacks : (m m' : Machine) (c : ℕ) → Syncing m c not_yet m' → received_by_all m.world c < end m.world c
+syncing_lacks m m' c (is_synced own fine is e) = cc
+syncing_lacks m m' c (is_replicating fine is e) = e.lacking
+syncing_lacks m m' c (lacks_memory fine all is same) = cc
+syncing_lacks m m' c (is_refused r fault is same) = cc
+
+-- ---- a delivery
+
+same_place : (j k : ℕ) → received j ≡ received k → j ≡ k
+same_place j k is = cc
+
+pub delivered_place : (m m' : Machine) (f : LogFrame) (n k : ℕ) → Delivering m f n (received k) m' → k ≡ place_after m f n
+delivered_place m m' f n k (is_delivered fine is e) = same_place k (place_after m f n) is
+delivered_place m m' f n k (is_stale fine late is same) = cc
+delivered_place m m' f n k (lacks_memory fine timely is same) = cc
+delivered_place m m' f n k (is_refused r fault is same) = cc
+
+pub delivered_stands : (m m' : Machine) (f : LogFrame) (n k : ℕ) → Delivering m f n (received k) m' → m'.world.received n f.client ≡ k
+delivered_stands m m' f n k (is_delivered fine is e) = e.delivers.received_here ∙ sym (same_place k (place_after m f n) is)
+delivered_stands m m' f n k (is_stale fine late is same) = cc
+delivered_stands m m' f n k (lacks_memory fine timely is same) = cc
+delivered_stands m m' f n k (is_refused r fault is same) = cc
+
+-- ---- a digest
+
+same_count : (j k : ℕ) → digested j ≡ digested k → j ≡ k
+same_count j k is = cc
+
+pub digested_none : (m m' : Machine) (n : ℕ) → Digesting m n (digested 0) m' → undigested_to m.world n m.world.clients ≡ 0
+digested_none m m' n (is_digested count fine is e) =
+    let none : 0 ≡ count = same_count 0 count is in
+    elim (either_some (undigested_to m.world n m.world.clients)) [
+      | inl empty ↦ empty
+      | inr some ↦ absurd (let more : 0 < count = e.some some in omega (arith, none, more))
+    ]
+  where
+    either_some : (k : ℕ) → (k ≡ 0) ⊎ (0 < k)
+    either_some zero = inl refl
+    either_some (suc k) = inr (omega arith)
+digested_none m m' n (lacks_memory fine some is same) = cc
+digested_none m m' n (is_refused r fault is same) = cc
+
+pub digested_most : (m m' : Machine) (n count : ℕ) → Digesting m n (digested count) m' → count ≤ most_digested
+digested_most m m' n count (is_digested k fine is e) = (let own : count ≡ k = same_count count k is in omega (arith, own, e.few))
+digested_most m m' n count (lacks_memory fine some is same) = cc
+digested_most m m' n count (is_refused r fault is same) = cc
+
+-- ---- leases that go
+
+freed_same : (w : World) (l : Leases) (fs : List Freed) (c i : ℕ) → Frees w l fs → client_lease (leases_freed l fs) c i ≡ client_lease l c i
+freed_same w l [] c i frees = refl
+freed_same w l (f ∷ fs) c i frees = freed_same w f.leases fs c i frees.1 ∙ ap (λ ls. lease_of ls c) (frees.0.freed.clients i)
+
+pub ready_goes : (m m' : Machine) (a : Answer) (c i : ℕ) → Releasing m a m' → is_ready m.world m.leases c i ≡ true → client_lease m'.leases c i ≡ None
+ready_goes m m' a c i (is_released gone freed is e) ready =
+    ap (λ l. client_lease l c i) e.leases ∙ freed_same m.world _ freed c i e.frees ∙ e.none_left c i ready
+
+-- ---- failures and returns
+
+same_losses : (a b : List Loss) → failed a ≡ failed b → a ≡ b
+same_losses a b is = cc
+
+pub listed_exactly : (m m' : Machine) (n : ℕ) (losses : List Loss) (l : Loss) → Holds m → standing_of m.members.nodes n ≡ Some full → Failing m n (failed losses) m' →
+    Contains losses l ↔ IsFirstLost m.world n l
+listed_exactly m m' n losses l h at (is_failed fine is e) =
+    subst (λ ls. Contains ls l ↔ IsFirstLost m.world n l) (sym (same_losses losses (losses_of m.world n) is)) (exactly_lost m.world n l h.sound)
+listed_exactly m m' n losses l h at (is_failed_again fine is e) = absurd (let back : is_returning (Some full) ≡ true = ap is_returning (sym at) ∙ e.failure.was_returning in cc)
+listed_exactly m m' n losses l h at (lacks_memory fine is same) = cc
+listed_exactly m m' n losses l h at (is_refused r fault is same) = cc
+
+pub again_none : (m m' : Machine) (n : ℕ) (losses : List Loss) → standing_of m.members.nodes n ≢ Some full → Failing m n (failed losses) m' → losses ≡ []
+again_none m m' n losses away (is_failed fine is e) = absurd (away e.was_full)
+again_none m m' n losses away (is_failed_again fine is e) = same_losses losses [] is
+again_none m m' n losses away (lacks_memory fine is same) = cc
+again_none m m' n losses away (is_refused r fault is same) = cc
+
+pub join_busy : (m m' : Machine) (n : ℕ) → Joining m n (refused Busy) m' → join_fault m.members n ≡ Some Busy
+join_busy m m' n (is_joined fine is e) = cc
+join_busy m m' n (lacks_memory fine is same) = cc
+join_busy m m' n (is_refused r fault is same) = fault ∙ ap Some (refusal_of r is)
+  where
+    refusal_of : (r : Refusal) → refused Busy ≡ refused r → r ≡ Busy
+    refusal_of r is = cc
+
+pub busy_same : (m m' : Machine) (n : ℕ) → Joining m n (refused Busy) m' → m' ≡ m
+busy_same m m' n (is_joined fine is e) = cc
+busy_same m m' n (lacks_memory fine is same) = same
+busy_same m m' n (is_refused r fault is same) = same
+
+pub join_fine : (m m' : Machine) (n : ℕ) → Joining m n joined m' → join_fault m.members n ≡ None
+join_fine m m' n (is_joined fine is e) = fine
+join_fine m m' n (lacks_memory fine is same) = fine
+join_fine m m' n (is_refused r fault is same) = cc

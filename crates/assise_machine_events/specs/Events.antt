@@ -1,0 +1,77 @@
+-- The events of a cluster, and their answers. One event is one call of the cluster.
+-- Assise (OSDI 2020), section 3; van Renesse and Schneider, chain replication (OSDI 2004), section 2.
+use Rattle.std.specs.Prelude.{ℕ, List, [], ◌∷◌, ◌++◌}
+use Rattle.assise_names.specs.declared.call.Op.{Op}
+use Rattle.assise_names.specs.declared.call.Op.TheVariants.{Fsync}
+use Rattle.assise_names.specs.declared.refusal.Refusal.{Refusal}
+use Rattle.assise_names.specs.declared.reply.Reply.{Reply}
+use Rattle.assise_history.specs.declared.call.Loss.{Loss}
+use Rattle.assise_history.specs.Entries.{Event as Entry, opens, calls, crashes, fails, returns}
+use Rattle.assise_history.specs.Legal.{calls_made}
+use Rattle.assise_record.specs.LogFrame.{LogFrame}
+
+pub data ClusterEvent : Type 0 where
+  -- a client is opened on a node
+  open_client : (node : ℕ) → ClusterEvent
+  -- a client tries a call, an fsync
+  try_call : (client : ℕ) → Op → ClusterEvent
+  try_fsync : (client : ℕ) → ClusterEvent
+  -- a node's frames for the node behind it in each client's chain
+  outgoing : (node : ℕ) → ClusterEvent
+  -- a frame comes to a node
+  deliver : LogFrame → (node : ℕ) → ClusterEvent
+  -- a node digests what all full nodes have
+  digest : (node : ℕ) → ClusterEvent
+  -- leases that were asked for go, where they may
+  release_ready : ClusterEvent
+  -- a client crashes
+  crash : (client : ℕ) → ClusterEvent
+  -- a node fails
+  fail : (node : ℕ) → ClusterEvent
+  -- a node that failed begins to come back, gets an inode that it may lack, and is full again
+  back : (node : ℕ) → ClusterEvent
+  refill : (node : ℕ) → ClusterEvent
+  join : (node : ℕ) → ClusterEvent
+
+pub data Answer : Type 0 where
+  refused : Refusal → Answer
+  -- the number of the client that was opened
+  opened : (client : ℕ) → Answer
+  replied : Reply → Answer
+  -- a lease or a replication is awaited
+  not_yet : Answer
+  -- frames, each with the node that it is for
+  sent : List (LogFrame × ℕ) → Answer
+  -- the place behind the last record of the frame's client that the node has
+  received : (place : ℕ) → Answer
+  -- how many records were digested, and how many clients' leases released
+  digested : (count : ℕ) → Answer
+  released : (count : ℕ) → Answer
+  crashed : Answer
+  -- the first lost call of each client that lost any
+  failed : List Loss → Answer
+  -- how many inodes the node may lack, at the beginning and then
+  began : (stale : ℕ) → Answer
+  left : (stale : ℕ) → Answer
+  joined : Answer
+
+-- ---- entries
+
+abbrev pub call_entry : List Entry → ℕ → Op → Reply → List Entry
+call_entry h c op reply = calls (record { client = c; number = calls_made c h; op = op; reply = reply }) ∷ []
+
+-- the entries that an answer is told by, after a history: one where a client was opened, was answered or crashed, a node failed or
+-- was taken in again, and none where the event was refused, is awaited, or is none of these
+abbrev pub entries_of : List Entry → ClusterEvent → Answer → List Entry
+entries_of h (open_client n) (opened c) = opens c n ∷ []
+entries_of h (try_call c op) (replied reply) = call_entry h c op reply
+entries_of h (try_fsync c) (replied reply) = call_entry h c Fsync reply
+entries_of h (crash c) crashed = crashes c ∷ []
+entries_of h (fail n) (failed losses) = fails n losses ∷ []
+entries_of h (join n) joined = returns n ∷ []
+entries_of h e a = []
+
+-- events with their answers, one after another
+abbrev pub all_entries : List Entry → List (ClusterEvent × Answer) → List Entry
+all_entries h [] = []
+all_entries h ((e, a) ∷ es) = entries_of h e a ++ all_entries (h ++ entries_of h e a) es

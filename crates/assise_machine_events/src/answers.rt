@@ -1,0 +1,63 @@
+// What each answer says.
+ghost use Rattle.std.specs.Prelude.{◌≡◌, ◌≢◌, ◌+◌, ◌<◌, ◌≤◌, ◌↔◌, Contains, List, None, Some, [], length, max, true, ℕ};
+ghost use Rattle.assise_names.specs.declared.call.Op.{Op};
+ghost use Rattle.assise_names.specs.declared.refusal.Refusal.TheVariants.{Busy};
+ghost use Rattle.assise_names.specs.declared.reply.Reply.{Reply};
+ghost use Rattle.assise_history.specs.declared.call.Loss.{Loss};
+ghost use Rattle.assise_record.specs.LogFrame.{LogFrame};
+ghost use Rattle.assise_manager.specs.Changes.{join_fault};
+ghost use Rattle.assise_manager.specs.Standings.{full, standing_of};
+ghost use Rattle.assise_machine_laws.specs.World.{end, received_by_all};
+ghost use Rattle.assise_machine_leases.specs.Leases.{client_lease};
+ghost use Rattle.assise_machine_history.specs.Lost.{IsFirstLost};
+ghost use Rattle.assise_machine_events.specs.ClientEvents.{Calling, Syncing};
+ghost use Rattle.assise_machine_events.specs.Events.{Answer, digested, failed, joined, not_yet, received, refused, released, replied};
+ghost use Rattle.assise_machine_events.specs.Machine.{Holds, Machine};
+ghost use Rattle.assise_machine_events.specs.MemberEvents.{Failing, Joining};
+ghost use Rattle.assise_machine_events.specs.NodeEvents.{Delivering, Digesting, Releasing, is_ready, most_digested, undigested_to};
+ghost use Rattle.assise_machine_events.specs.Outcomes.{AwaitsLease};
+
+/// A call is awaited only where some client then holds a frozen lease of an inode that the call visits or changes. Its asking
+/// froze no lease of its own client, nor one of another inode, nor one that didn't stand in the way.
+pub fn a_call_is_awaited_only_for_a_lease()
+    ensures { (m m' : Machine) (c : ℕ) (op : Op) → Calling m c op not_yet m' → AwaitsLease m c op m' }
+{}
+
+/// An fsync is answered exactly where all full nodes have all records of its client.
+pub fn an_fsync_is_answered_once_all_full_nodes_have_all()
+    ensures answered { (m m' : Machine) (c : ℕ) (reply : Reply) → Syncing m c (replied reply) m' → received_by_all m.world c ≡ end m.world c }
+    ensures awaited { (m m' : Machine) (c : ℕ) → Syncing m c not_yet m' → received_by_all m.world c < end m.world c }
+{}
+
+/// A delivery answers the greater of what the node had received and the end of the frame, and so much it has then.
+pub fn a_delivery_answers_what_the_node_has()
+    ensures answered { (m m' : Machine) (f : LogFrame) (n k : ℕ) → Delivering m f n (received k) m' →
+        k ≡ max (m.world.received n f.client) (f.first + length f.records) }
+    ensures stands { (m m' : Machine) (f : LogFrame) (n k : ℕ) → Delivering m f n (received k) m' → m'.world.received n f.client ≡ k }
+{}
+
+/// A digest answers 0 only where nothing is to be digested, and never more than 64.
+pub fn a_digest_answers_none_only_where_there_is_none()
+    ensures none { (m m' : Machine) (n : ℕ) → Digesting m n (digested 0) m' → undigested_to m.world n m.world.clients ≡ 0 }
+    ensures most { (m m' : Machine) (n count : ℕ) → Digesting m n (digested count) m' → count ≤ most_digested }
+{}
+
+/// All leases go that are ready.
+pub fn all_leases_go_that_are_ready()
+    ensures { (m m' : Machine) (a : Answer) (c i : ℕ) → Releasing m a m' → is_ready m.world m.leases c i ≡ true → client_lease m'.leases c i ≡ None }
+{}
+
+/// A failure of a full node lists exactly those clients that live there and of which some other full node lacks a record, each with
+/// the call of the first such record. A failure of a node that isn't full lists none.
+pub fn a_failure_lists_exactly_the_first_lost_calls()
+    ensures exactly { (m m' : Machine) (n : ℕ) (losses : List Loss) (l : Loss) → Holds m → standing_of m.members.nodes n ≡ Some full → Failing m n (failed losses) m' →
+        Contains losses l ↔ IsFirstLost m.world n l }
+    ensures again { (m m' : Machine) (n : ℕ) (losses : List Loss) → standing_of m.members.nodes n ≢ Some full → Failing m n (failed losses) m' → losses ≡ [] }
+{}
+
+/// A node that may lack inodes can't join, and one that lacks none isn't refused so.
+pub fn a_join_is_refused_exactly_while_inodes_are_stale()
+    ensures busy { (m m' : Machine) (n : ℕ) → Joining m n (refused Busy) m' → join_fault m.members n ≡ Some Busy }
+    ensures same { (m m' : Machine) (n : ℕ) → Joining m n (refused Busy) m' → m' ≡ m }
+    ensures joined { (m m' : Machine) (n : ℕ) → Joining m n joined m' → join_fault m.members n ≡ None }
+{}

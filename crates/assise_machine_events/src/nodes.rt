@@ -1,0 +1,35 @@
+// What nodes do keeps what holds, and no entry tells of it.
+ghost use Rattle.std.specs.Prelude.{◌≡◌, ◌++◌, ℕ};
+ghost use Rattle.assise_machine_events.specs.NodeEvents.{Delivering, Digesting, Releasing, Sending};
+ghost use Rattle.assise_machine_events.specs.Events.{Answer, deliver, digest, outgoing, release_ready, entries_of};
+ghost use Rattle.assise_machine_events.specs.Happenings.{Leads};
+ghost use Rattle.assise_machine_events.specs.Machine.{Holds, Machine};
+ghost use Rattle.assise_record.specs.LogFrame.{LogFrame};
+
+/// Frames that go out keep what holds.
+pub fn frames_that_go_out_keep_what_holds()
+    ensures told { (m m' : Machine) (n : ℕ) (a : Answer) → Sending m n a m' → m'.history ≡ m.history ++ entries_of m.history (outgoing n) a }
+    ensures leads { (m m' : Machine) (n : ℕ) (a : Answer) → Holds m → Sending m n a m' → Leads m m' }
+    ensures keeps { (m m' : Machine) (n : ℕ) (a : Answer) → Holds m → Sending m n a m' → Holds m' }
+{}
+
+/// So does a frame that comes to a node.
+pub fn a_delivery_keeps_what_holds()
+    ensures told { (m m' : Machine) (f : LogFrame) (n : ℕ) (a : Answer) → Delivering m f n a m' → m'.history ≡ m.history ++ entries_of m.history (deliver f n) a }
+    ensures leads { (m m' : Machine) (f : LogFrame) (n : ℕ) (a : Answer) → Holds m → Delivering m f n a m' → Leads m m' }
+    ensures keeps { (m m' : Machine) (f : LogFrame) (n : ℕ) (a : Answer) → Holds m → Delivering m f n a m' → Holds m' }
+{}
+
+/// So does a digest.
+pub fn a_digest_keeps_what_holds()
+    ensures told { (m m' : Machine) (n : ℕ) (a : Answer) → Digesting m n a m' → m'.history ≡ m.history ++ entries_of m.history (digest n) a }
+    ensures leads { (m m' : Machine) (n : ℕ) (a : Answer) → Holds m → Digesting m n a m' → Leads m m' }
+    ensures keeps { (m m' : Machine) (n : ℕ) (a : Answer) → Holds m → Digesting m n a m' → Holds m' }
+{}
+
+/// So does the release of all leases that may go.
+pub fn a_release_keeps_what_holds()
+    ensures told { (m m' : Machine) (a : Answer) → Releasing m a m' → m'.history ≡ m.history ++ entries_of m.history release_ready a }
+    ensures leads { (m m' : Machine) (a : Answer) → Holds m → Releasing m a m' → Leads m m' }
+    ensures keeps { (m m' : Machine) (a : Answer) → Holds m → Releasing m a m' → Holds m' }
+{}
