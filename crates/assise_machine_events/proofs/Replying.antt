@@ -1,25 +1,67 @@
 -- What each answer says.
-use Rattle.std.proofs.Common.{◌≡◌, ◌≢◌, ◌↔◌, ◌⊎◌, inl, inr, ℕ, zero, suc, ◌<◌, ◌≤◌, true, List, [], ◌∷◌, Contains, Some, None, refl, ap, sym, subst, ◌∙◌, arith}
+use Rattle.std.proofs.Common.{◌≡◌, ◌≢◌, ◌↔◌, ◌⊎◌, inl, inr, ℕ, zero, suc, ◌<◌, ◌≤◌, true, false, List, [], ◌∷◌, Contains, Some, None, refl, ap, sym, subst, ◌∙◌, arith}
 use Rattle.assise_names.specs.declared.call.Op.{Op}
+use Rattle.assise_names.specs.declared.call.Op.TheVariants.{Fsync}
 use Rattle.assise_names.specs.declared.refusal.Refusal.{Refusal}
 use Rattle.assise_names.specs.declared.refusal.Refusal.TheVariants.{Busy}
 use Rattle.assise_names.specs.declared.reply.Reply.{Reply}
+use Rattle.assise_seq_tree.specs.Answer.{answer}
+use Rattle.assise_seq_tree.specs.Tree.{opening as opening_tree}
 use Rattle.assise_history.specs.declared.call.Loss.{Loss}
+use Rattle.assise_history.specs.Kept.{kept, tree_after}
+use Rattle.assise_inode_table.specs.Traces.{NumberedCall}
 use Rattle.assise_lease_table.specs.Leases.{lease_of}
+use Rattle.assise_lease_tree.specs.Levels.{is_frozen}
+use Rattle.std.proofs.lemmas.Bool.{cases_eq}
+use Rattle.assise_names.specs.declared.mode.Mode.{Mode}
 use Rattle.assise_record.specs.LogFrame.{LogFrame}
 use Rattle.assise_manager.specs.Changes.{join_fault, is_returning}
 use Rattle.assise_manager.specs.Standings.{full, standing_of}
+use Rattle.assise_machine_laws.specs.ClientSteps.{MakesCall}
+use Rattle.assise_machine_laws.specs.Sound.{IsSound}
 use Rattle.assise_machine_laws.specs.World.{World, end, received_by_all}
-use Rattle.assise_machine_leases.specs.Leases.{Leases, client_lease}
+use Rattle.assise_machine_laws.proofs.ClientsStaying.{raise_sound}
+use Rattle.assise_machine_laws.proofs.Committing.{call_reply}
+use Rattle.assise_machine_leases.specs.Handing.{Grants}
+use Rattle.assise_machine_leases.specs.Leases.{Leases, client_lease, IsFrozenLease}
+use Rattle.assise_machine_leases.proofs.Finding.{frozen_serves}
 use Rattle.assise_machine_leases.proofs.Awaiting.{asked_other, asked_in_way, asked_elsewhere}
 use Rattle.assise_machine_history.specs.Lost.{IsFirstLost, losses_of}
 use Rattle.assise_machine_history.proofs.Listing.{exactly_lost}
-use Rattle.assise_machine_events.specs.ClientEvents.{Calling, Syncing, is_answered, is_awaited, is_spent, is_full, is_refused, lacks_memory, is_synced, is_replicating, last_leases, last_world}
+use Rattle.assise_machine_history.proofs.Recording.{same_tree}
+use Rattle.assise_machine_events.specs.ClientEvents.{Granted, Gets, Calling, Syncing, is_answered, is_awaited, is_spent, is_full, is_refused, lacks_memory, is_synced, is_replicating, last_leases, last_world, call_of_client, goal_of_fsync}
 use Rattle.assise_machine_events.specs.Events.{Answer, digested, failed, joined, not_yet, received, refused, replied}
 use Rattle.assise_machine_events.specs.Machine.{Machine, Holds}
 use Rattle.assise_machine_events.specs.MemberEvents.{Failing, Joining, is_failed, is_failed_again, is_joined, is_refused, lacks_memory}
 use Rattle.assise_machine_events.specs.NodeEvents.{Delivering, Digesting, Releasing, is_delivered, is_stale, is_digested, is_released, is_refused, lacks_memory, is_ready, most_digested, undigested_to, place_after, Frees, Freed, leases_freed}
 use Rattle.assise_machine_events.specs.Outcomes.{AwaitsLease}
+use Rattle.assise_machine_events.proofs.Granting.{comes_to}
+
+-- ---- grants
+
+-- a grant freezes nothing
+grant_freezes : (w : World) (l : Leases) (c i : ℕ) (mode : Mode) (u : World) (k : Leases) → Grants w l c i mode u k → (d j : ℕ) → IsFrozenLease k d j → IsFrozenLease l d j
+grant_freezes w l c i mode u k g d j frozen =
+    elim (cases_eq d c) [
+      | inl own ↦
+          elim (cases_eq j i) [
+            | inl here ↦
+                let at : IsFrozenLease k c i = subst (λ y. IsFrozenLease k c y) here (subst (λ x. IsFrozenLease k x j) own frozen) in
+                absurd (let both : false ≡ true = sym (frozen_serves (client_lease k c i) mode at) ∙ g.granted.held in cc)
+            | inr away ↦ subst (λ o. is_frozen o ≡ true) (ap (λ ls. lease_of ls d) (g.granted.clients.elsewhere j away)) frozen
+          ]
+      | inr other ↦ subst (λ o. is_frozen o ≡ true) (g.granted.others j d other) frozen
+    ]
+
+grants_freeze : (x : NumberedCall) (w : World) (l : Leases) (gs : List Granted) → Gets x w l gs → (d j : ℕ) → IsFrozenLease (last_leases l gs) d j → IsFrozenLease l d j
+grants_freeze x w l [] gets d j frozen = frozen
+grants_freeze x w l (g ∷ gs) (missing, grant, others, more) d j frozen =
+    grant_freezes w l x.client g.inode g.mode g.world g.leases grant d j (grants_freeze x g.world g.leases gs more d j frozen)
+
+-- and changes no other client's lease
+grants_leave : (x : NumberedCall) (w : World) (l : Leases) (gs : List Granted) → Gets x w l gs → (d j : ℕ) → d ≢ x.client → client_lease (last_leases l gs) d j ≡ client_lease l d j
+grants_leave x w l [] gets d j other = refl
+grants_leave x w l (g ∷ gs) (missing, grant, others, more) d j other = grants_leave x g.world g.leases gs more d j other ∙ grant.granted.others j d other
 
 -- ---- calls
 
@@ -35,6 +77,8 @@ awaits m m' c op (is_awaited reply granted is e) =
       mode = e.mode;
       needed = e.missing.needed;
       frozen = e.asks.asked.frozen;
+      frozen_before = grants_freeze (call_of_client m.world c op reply) m.world m.leases granted e.tried.gets;
+      held_before = grants_leave (call_of_client m.world c op reply) m.world m.leases granted e.tried.gets;
       nothing_else = λ d i other. asked_elsewhere w m'.world l m'.leases c e.inode e.mode e.asks d i other;
       of_others = λ d newly. asked_other w m'.world l m'.leases c e.inode e.mode e.asks d newly;
       in_the_way = λ d a newly is_lease. asked_in_way w m'.world l m'.leases c e.inode e.mode e.asks d a newly is_lease;
@@ -43,6 +87,33 @@ awaits m m' c op (is_spent reply granted is e keeps) = cc
 awaits m m' c op (is_full reply granted is e keeps) = cc
 awaits m m' c op (lacks_memory reply granted is e keeps) = cc
 awaits m m' c op (is_refused r fault is same) = cc
+
+-- ---- replies
+
+of_the_tree : (m m' : Machine) (w : World) (x : NumberedCall) → Holds m → IsSound w → w.calls ≡ m.world.calls → MakesCall w x m'.world →
+    x.reply ≡ (answer (tree_after opening_tree (kept m.history)) x.op).0
+of_the_tree m m' w x h sound same e = call_reply w m'.world x sound e ∙ ap (λ t. (answer t x.op).0) (same_tree w m.history (same ∙ h.recorded.calls))
+
+same_reply : (a b : Reply) → replied a ≡ replied b → a ≡ b
+same_reply a b is = cc
+
+pub call_replies : (m m' : Machine) (c : ℕ) (op : Op) (reply : Reply) → Holds m → Calling m c op (replied reply) m' → reply ≡ (answer (tree_after opening_tree (kept m.history)) op).0
+call_replies m m' c op reply h (is_answered own granted is e) =
+    let x : NumberedCall = call_of_client m.world c op own in
+    let r = comes_to m x granted h e.tried.gets in
+    same_reply reply own is ∙ of_the_tree m m' (last_world m.world granted) x h r.sound r.logs.calls e.call.call
+call_replies m m' c op reply h (is_awaited own granted is e) = cc
+call_replies m m' c op reply h (is_spent own granted is e keeps) = cc
+call_replies m m' c op reply h (is_full own granted is e keeps) = cc
+call_replies m m' c op reply h (lacks_memory own granted is e keeps) = cc
+call_replies m m' c op reply h (is_refused r fault is same) = cc
+
+pub fsync_replies : (m m' : Machine) (c : ℕ) (reply : Reply) → Holds m → Syncing m c (replied reply) m' → reply ≡ (answer (tree_after opening_tree (kept m.history)) Fsync).0
+fsync_replies m m' c reply h (is_synced own fine is e) =
+    same_reply reply own is ∙ of_the_tree m m' e.between (call_of_client m.world c Fsync own) h (raise_sound m.world e.between (goal_of_fsync m.world c) h.sound e.raises) e.raises.logs.calls e.call.call
+fsync_replies m m' c reply h (is_replicating fine is e) = cc
+fsync_replies m m' c reply h (lacks_memory fine all is same) = cc
+fsync_replies m m' c reply h (is_refused r fault is same) = cc
 
 -- ---- an fsync
 

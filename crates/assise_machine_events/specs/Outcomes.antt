@@ -8,7 +8,7 @@ use Rattle.assise_names.specs.declared.reply.Reply.{Reply}
 use Rattle.assise_lease_table.specs.declared.lease.Lease.{Lease}
 use Rattle.assise_lease_tree.specs.Levels.{in_way}
 use Rattle.assise_machine_leases.specs.Handing.{is_newly_frozen}
-use Rattle.assise_machine_leases.specs.Leases.{client_lease}
+use Rattle.assise_machine_leases.specs.Leases.{client_lease, IsFrozenLease}
 use Rattle.assise_machine_events.specs.ClientEvents.{Granted, IsNeeded, call_of_client, last_leases, last_world}
 use Rattle.assise_machine_events.specs.Machine.{Machine}
 
@@ -22,6 +22,9 @@ pub record AwaitsLease (m : Machine) (c : ℕ) (op : Op) (m' : Machine) : Type 0
   pub needed : IsNeeded (last_world m.world granted) (call_of_client m.world c op reply) inode mode
   -- which some client holds frozen now
   pub frozen : list_any (λ a. a.frozen) (m'.leases.levels.clients inode) ≡ true
+  -- its own grants froze nothing, and changed no other client's lease
+  pub frozen_before : (d i : ℕ) → IsFrozenLease (last_leases m.leases granted) d i → IsFrozenLease m.leases d i
+  pub held_before : (d i : ℕ) → d ≢ c → client_lease (last_leases m.leases granted) d i ≡ client_lease m.leases d i
   -- what was frozen by it are leases of this inode that other clients hold, and each of them, or the lease of its holder's node,
   -- stood against the mode
   pub nothing_else : (d i : ℕ) → i ≢ inode → client_lease m'.leases d i ≡ client_lease (last_leases m.leases granted) d i

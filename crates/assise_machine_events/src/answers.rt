@@ -1,9 +1,13 @@
 // What each answer says.
 ghost use Rattle.std.specs.Prelude.{◌≡◌, ◌≢◌, ◌+◌, ◌<◌, ◌≤◌, ◌↔◌, Contains, List, None, Some, [], length, max, true, ℕ};
 ghost use Rattle.assise_names.specs.declared.call.Op.{Op};
+ghost use Rattle.assise_names.specs.declared.call.Op.TheVariants.{Fsync};
 ghost use Rattle.assise_names.specs.declared.refusal.Refusal.TheVariants.{Busy};
 ghost use Rattle.assise_names.specs.declared.reply.Reply.{Reply};
+ghost use Rattle.assise_seq_tree.specs.Answer.{answer};
+ghost use Rattle.assise_seq_tree.specs.Tree.{opening};
 ghost use Rattle.assise_history.specs.declared.call.Loss.{Loss};
+ghost use Rattle.assise_history.specs.Kept.{kept, tree_after};
 ghost use Rattle.assise_record.specs.LogFrame.{LogFrame};
 ghost use Rattle.assise_manager.specs.Changes.{join_fault};
 ghost use Rattle.assise_manager.specs.Standings.{full, standing_of};
@@ -21,6 +25,12 @@ ghost use Rattle.assise_machine_events.specs.Outcomes.{AwaitsLease};
 /// froze no lease of its own client, nor one of another inode, nor one that didn't stand in the way.
 pub fn a_call_is_awaited_only_for_a_lease()
     ensures { (m m' : Machine) (c : ℕ) (op : Op) → Calling m c op not_yet m' → AwaitsLease m c op m' }
+{}
+
+/// A call is answered what the tree of the kept calls answers, and so is an fsync.
+pub fn a_reply_is_that_of_the_tree_of_the_kept_calls()
+    ensures call { (m m' : Machine) (c : ℕ) (op : Op) (reply : Reply) → Holds m → Calling m c op (replied reply) m' → reply ≡ (answer (tree_after opening (kept m.history)) op).0 }
+    ensures fsync { (m m' : Machine) (c : ℕ) (reply : Reply) → Holds m → Syncing m c (replied reply) m' → reply ≡ (answer (tree_after opening (kept m.history)) Fsync).0 }
 {}
 
 /// An fsync is answered exactly where all full nodes have all records of its client.

@@ -118,7 +118,7 @@ exchanges_plain [] = refl
 exchanges_plain (x ∷ xs) = ap (λ ps. (x.op, x.reply) ∷ ps) (exchanges_plain xs)
 
 -- the machine's tree is that of the kept calls
-same_tree : (w : World) (h : List Event) → w.calls ≡ kept_numbered h → tree w ≡ tree_after opening_tree (kept h)
+pub same_tree : (w : World) (h : List Event) → w.calls ≡ kept_numbered h → tree w ≡ tree_after opening_tree (kept h)
 unfolding tree
 same_tree w h same =
     ap (λ os. tree_after_calls opening_tree os) (sym (ops_plain w.calls) ∙ ap (λ xs. map (λ x. x.op) (map plain_call xs)) same ∙ ap (λ cs. map (λ x. x.op) cs) (kept_plain h))
