@@ -1,14 +1,17 @@
 -- What nodes do keeps what holds: leases that may go do.
-use Rattle.std.proofs.Common.{◌≡◌, ℕ, List, [], ◌∷◌, length, true, refl, ap, sym, subst, ◌∙◌, arith}
+use Rattle.std.proofs.Common.{◌≡◌, inl, inr, ℕ, List, [], ◌∷◌, length, true, false, refl, ap, sym, subst, ◌∙◌, arith}
 use Rattle.assise_inode_table.specs.Effects.{contains}
+use Rattle.std.proofs.lemmas.Bool.{cases_eq, le-leb}
+use Rattle.assise_lease_table.specs.Leases.{lease_of}
+use Rattle.assise_lease_tree.proofs.Lookups.{without_other}
 use Rattle.assise_machine_laws.specs.Sound.{AreDropped}
-use Rattle.assise_machine_laws.specs.World.{World}
+use Rattle.assise_machine_laws.specs.World.{World, digested_by_all}
 use Rattle.assise_machine_laws.proofs.Staying.{still_dropped}
 use Rattle.assise_machine_history.specs.Courses.{IsCourse, last_of}
 use Rattle.assise_machine_history.specs.Entered.NeedsNoEntry.{releases}
 use Rattle.assise_machine_history.specs.State.{State}
 use Rattle.assise_machine_leases.specs.Handing.{ReleasesReady}
-use Rattle.assise_machine_leases.specs.Leases.{Leases, AreLeases}
+use Rattle.assise_machine_leases.specs.Leases.{Leases, AreLeases, client_lease}
 use Rattle.assise_machine_leases.proofs.Going.{goes, release_keeps, free_keeps}
 use Rattle.assise_machine_returns.specs.Members.{AreMembers}
 use Rattle.assise_machine_returns.specs.Returns.{OtherAreasStay}
@@ -16,7 +19,7 @@ use Rattle.assise_manager.specs.Membership.{Membership}
 use Rattle.assise_machine_events.specs.Events.{Answer}
 use Rattle.assise_machine_events.specs.Happenings.{Leads}
 use Rattle.assise_machine_events.specs.Machine.{Machine, Holds}
-use Rattle.assise_machine_events.specs.NodeEvents.{Gone, LetsGo, world_after, leases_after, Freed, Frees, leases_freed, IsReleased, Releasing}
+use Rattle.assise_machine_events.specs.NodeEvents.{is_ready, Gone, LetsGo, world_after, leases_after, Freed, Frees, leases_freed, IsReleased, Releasing}
 use Rattle.assise_machine_events.specs.NodeEvents.Releasing.{is_released}
 use Rattle.assise_machine_events.proofs.Leading.{with_world, quietly, ends_as}
 use Rattle.assise_machine_events.proofs.Noding.{quiet_holds, areas_stay}
@@ -63,7 +66,42 @@ last_gone : (m : Machine) (w : World) (gone : List Gone) → last_of (with_world
 last_gone m w [] = refl
 last_gone m w (g ∷ gs) = last_gone m g.world gs
 
+-- ---- what isn't ready stays
+
+went_ready : (w : World) (l : Leases) (c i : ℕ) (u : World) (k : Leases) → ReleasesReady w l c i u k → is_ready w l c i ≡ true
+went_ready w l c i u k e = rw (e.frozen) (le-leb (l.cut c i) (digested_by_all w c) e.ready)
+
+one_stays : (w : World) (l : Leases) (c i : ℕ) (u : World) (k : Leases) → ReleasesReady w l c i u k → (d j : ℕ) → is_ready w l d j ≡ false → client_lease k d j ≡ client_lease l d j
+one_stays w l c i u k e d j unready =
+    elim (cases_eq j i) [
+      | inl here ↦
+          elim (cases_eq d c) [
+            | inl own ↦ absurd (let both : true ≡ false = sym (went_ready w l c i u k e) ∙ subst (λ y. is_ready w l c y ≡ false) here (subst (λ x. is_ready w l x j ≡ false) own unready) in cc)
+            | inr other ↦ subst (λ y. client_lease k d y ≡ client_lease l d y) (sym here) (ap (λ ls. lease_of ls d) e.released.clients.here ∙ without_other (l.levels.clients i) c d other)
+          ]
+      | inr away ↦ ap (λ ls. lease_of ls d) (e.released.clients.elsewhere j away)
+    ]
+
+still_ready : (w : World) (l : Leases) (c i : ℕ) (u : World) (k : Leases) → AreDropped w → AreDropped u → ReleasesReady w l c i u k → (d j : ℕ) → client_lease k d j ≡ client_lease l d j →
+    is_ready u k d j ≡ is_ready w l d j
+unfolding AreDropped
+still_ready w l c i u k before after e d j same =
+    let all : digested_by_all u d ≡ digested_by_all w d = sym (after d) ∙ e.holds.logs.first d ∙ before d in
+    rw (same, e.cuts d j, all) refl
+
+unready_stays : (o : Membership) (w₀ w : World) (l : Leases) (gone : List Gone) → Stand o w₀ w l → LetsGo w l gone → (d j : ℕ) → is_ready w l d j ≡ false →
+    client_lease (leases_after l gone) d j ≡ client_lease l d j
+unready_stays o w₀ w l [] s t d j unready = refl
+unready_stays o w₀ w l (g ∷ gs) s (e, others, t) d j unready =
+    let next : Stand o w₀ g.world g.leases = still_stand o w₀ w g.world l g.leases g.client g.inode s e others in
+    let same : client_lease g.leases d j ≡ client_lease l d j = one_stays w l g.client g.inode g.world g.leases e d j unready in
+    unready_stays o w₀ g.world g.leases gs next t d j (still_ready w l g.client g.inode g.world g.leases s.dropped next.dropped e d j same ∙ unready) ∙ same
+
 -- ---- nodes give up theirs
+
+pub freed_same : (w : World) (l : Leases) (fs : List Freed) (c i : ℕ) → Frees w l fs → client_lease (leases_freed l fs) c i ≡ client_lease l c i
+freed_same w l [] c i frees = refl
+freed_same w l (f ∷ fs) c i frees = freed_same w f.leases fs c i frees.1 ∙ ap (λ ls. lease_of ls c) (frees.0.freed.clients i)
 
 freed_keeps : (w u : World) (l : Leases) (freed : List Freed) → u.full ≡ w.full → AreLeases u l → Frees w l freed → AreLeases u (leases_freed l freed)
 freed_keeps w u l [] full a t = a
@@ -107,3 +145,8 @@ release_leads m m' a h (is_released gone freed is e) = released_leads m m' gone 
 
 pub release_holds : (m m' : Machine) (a : Answer) → Holds m → Releasing m a m' → Holds m'
 release_holds m m' a h (is_released gone freed is e) = released_holds m m' gone freed h e
+
+pub unready_kept : (m m' : Machine) (a : Answer) → Holds m → Releasing m a m' → (c i : ℕ) → is_ready m.world m.leases c i ≡ false → client_lease m'.leases c i ≡ client_lease m.leases c i
+unready_kept m m' a h (is_released gone freed is e) c i unready =
+    ap (λ l. client_lease l c i) e.leases ∙ freed_same m.world (leases_after m.leases gone) freed c i e.frees ∙
+    unready_stays m.members m.world m.world m.leases gone (begins m m' gone freed h e) e.releases c i unready

@@ -16,3 +16,4 @@ pub mod Beginning
 pub mod EachEvent
 pub mod Whatever
 pub mod Replying
+pub mod Apart

@@ -33,9 +33,10 @@ use Rattle.assise_machine_events.specs.ClientEvents.{Granted, Gets, Calling, Syn
 use Rattle.assise_machine_events.specs.Events.{Answer, digested, failed, joined, not_yet, received, refused, replied}
 use Rattle.assise_machine_events.specs.Machine.{Machine, Holds}
 use Rattle.assise_machine_events.specs.MemberEvents.{Failing, Joining, is_failed, is_failed_again, is_joined, is_refused, lacks_memory}
-use Rattle.assise_machine_events.specs.NodeEvents.{Delivering, Digesting, Releasing, is_delivered, is_stale, is_digested, is_released, is_refused, lacks_memory, is_ready, most_digested, undigested_to, place_after, Frees, Freed, leases_freed}
+use Rattle.assise_machine_events.specs.NodeEvents.{Delivering, Digesting, Releasing, is_delivered, is_stale, is_digested, is_released, is_refused, lacks_memory, is_ready, most_digested, undigested_to, place_after}
 use Rattle.assise_machine_events.specs.Outcomes.{AwaitsLease}
 use Rattle.assise_machine_events.proofs.Granting.{comes_to}
+use Rattle.assise_machine_events.proofs.Letting.{freed_same}
 
 -- ---- grants
 
@@ -171,10 +172,6 @@ digested_most m m' n count (lacks_memory fine some is same) = cc
 digested_most m m' n count (is_refused r fault is same) = cc
 
 -- ---- leases that go
-
-freed_same : (w : World) (l : Leases) (fs : List Freed) (c i : ℕ) → Frees w l fs → client_lease (leases_freed l fs) c i ≡ client_lease l c i
-freed_same w l [] c i frees = refl
-freed_same w l (f ∷ fs) c i frees = freed_same w f.leases fs c i frees.1 ∙ ap (λ ls. lease_of ls c) (frees.0.freed.clients i)
 
 pub ready_goes : (m m' : Machine) (a : Answer) (c i : ℕ) → Releasing m a m' → is_ready m.world m.leases c i ≡ true → client_lease m'.leases c i ≡ None
 ready_goes m m' a c i (is_released gone freed is e) ready =

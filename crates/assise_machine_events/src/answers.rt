@@ -1,5 +1,5 @@
 // What each answer says.
-ghost use Rattle.std.specs.Prelude.{◌≡◌, ◌≢◌, ◌+◌, ◌<◌, ◌≤◌, ◌↔◌, Contains, List, None, Some, [], length, max, true, ℕ};
+ghost use Rattle.std.specs.Prelude.{◌≡◌, ◌≢◌, ◌+◌, ◌<◌, ◌≤◌, ◌↔◌, Contains, List, None, Some, false, [], length, max, true, ℕ};
 ghost use Rattle.assise_names.specs.declared.call.Op.{Op};
 ghost use Rattle.assise_names.specs.declared.call.Op.TheVariants.{Fsync};
 ghost use Rattle.assise_names.specs.declared.refusal.Refusal.TheVariants.{Busy};
@@ -11,7 +11,7 @@ ghost use Rattle.assise_history.specs.Kept.{kept, tree_after};
 ghost use Rattle.assise_record.specs.LogFrame.{LogFrame};
 ghost use Rattle.assise_manager.specs.Changes.{join_fault};
 ghost use Rattle.assise_manager.specs.Standings.{full, standing_of};
-ghost use Rattle.assise_machine_laws.specs.World.{end, received_by_all};
+ghost use Rattle.assise_machine_laws.specs.World.{Full, end, received_by_all};
 ghost use Rattle.assise_machine_leases.specs.Leases.{client_lease};
 ghost use Rattle.assise_machine_history.specs.Lost.{IsFirstLost};
 ghost use Rattle.assise_machine_events.specs.ClientEvents.{Calling, Syncing};
@@ -52,9 +52,10 @@ pub fn a_digest_answers_none_only_where_there_is_none()
     ensures most { (m m' : Machine) (n count : ℕ) → Digesting m n (digested count) m' → count ≤ most_digested }
 {}
 
-/// All leases go that are ready.
+/// All leases go that are ready, and no others.
 pub fn all_leases_go_that_are_ready()
-    ensures { (m m' : Machine) (a : Answer) (c i : ℕ) → Releasing m a m' → is_ready m.world m.leases c i ≡ true → client_lease m'.leases c i ≡ None }
+    ensures ready { (m m' : Machine) (a : Answer) (c i : ℕ) → Releasing m a m' → is_ready m.world m.leases c i ≡ true → client_lease m'.leases c i ≡ None }
+    ensures others { (m m' : Machine) (a : Answer) (c i : ℕ) → Holds m → Releasing m a m' → is_ready m.world m.leases c i ≡ false → client_lease m'.leases c i ≡ client_lease m.leases c i }
 {}
 
 /// A failure of a full node lists exactly those clients that live there and of which some other full node lacks a record, each with
@@ -70,4 +71,12 @@ pub fn a_join_is_refused_exactly_while_inodes_are_stale()
     ensures busy { (m m' : Machine) (n : ℕ) → Joining m n (refused Busy) m' → join_fault m.members n ≡ Some Busy }
     ensures same { (m m' : Machine) (n : ℕ) → Joining m n (refused Busy) m' → m' ≡ m }
     ensures joined { (m m' : Machine) (n : ℕ) → Joining m n joined m' → join_fault m.members n ≡ None }
+{}
+
+/// What happens at one node leaves the areas of all others: a frame that comes in leaves all areas, and a digest leaves each but its
+/// own node's, as a call leaves all of them.
+pub fn what_happens_at_one_node_leaves_the_areas_of_others()
+    ensures delivery { (m m' : Machine) (f : LogFrame) (n k : ℕ) → Delivering m f n (received k) m' → (j i : ℕ) → Full m.world j → m'.world.area j i ≡ m.world.area j i }
+    ensures digest { (m m' : Machine) (n count : ℕ) → Digesting m n (digested count) m' → (j i : ℕ) → Full m.world j → j ≢ n → m'.world.area j i ≡ m.world.area j i }
+    ensures call { (m m' : Machine) (c : ℕ) (op : Op) (reply : Reply) → Holds m → Calling m c op (replied reply) m' → (j i : ℕ) → Full m.world j → m'.world.area j i ≡ m.world.area j i }
 {}
