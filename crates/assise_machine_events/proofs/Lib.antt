@@ -17,3 +17,11 @@ pub mod EachEvent
 pub mod Whatever
 pub mod Replying
 pub mod Apart
+pub mod Befalling
+pub mod Failable
+pub mod Steady
+pub mod Faultless
+pub mod Answerable
+pub mod Doable
+pub mod Ready
+pub mod Freeable

@@ -4,6 +4,7 @@
 #![tactic(auto)]
 
 pub mod answers;
+pub mod chances;
 pub mod clients;
 pub mod failures;
 pub mod headline;

@@ -1,0 +1,46 @@
+// Each outcome of an event can come, where what it asks for holds.
+ghost use Rattle.std.specs.Prelude.{◌≡◌, ◌<◌, List, [], None, false, length, suc, true, ℕ};
+ghost use Rattle.assise_names.specs.declared.call.Op.{Op};
+ghost use Rattle.assise_names.specs.declared.mode.Mode.{Mode};
+ghost use Rattle.assise_names.specs.declared.reply.Reply.{Reply};
+ghost use Rattle.assise_names.specs.declared.reply.Reply.TheVariants.{Done};
+ghost use Rattle.assise_history.specs.declared.call.Loss.{Loss};
+ghost use Rattle.assise_record.specs.LogFrame.{LogFrame};
+ghost use Rattle.assise_lease_tree.specs.TwoLevels.{is_free_for};
+ghost use Rattle.assise_manager.specs.Changes.{failure_fault, filling_fault, join_fault, return_fault};
+ghost use Rattle.assise_machine_laws.specs.Records.{has_some};
+ghost use Rattle.assise_machine_laws.specs.World.{end, received_by_all, step_at_home};
+ghost use Rattle.assise_machine_leases.specs.Chances.{MayCallUnder};
+ghost use Rattle.assise_machine_events.specs.ClientEvents.{Calling, Crashing, IsMissing, Opening, Syncing, call_of_client};
+ghost use Rattle.assise_machine_events.specs.Events.{Answer, began, crashed, failed, joined, left, not_yet, opened, received, replied};
+ghost use Rattle.assise_machine_events.specs.Faults.{IsTimely, call_fault, client_fault, delivery_fault, open_fault};
+ghost use Rattle.assise_machine_events.specs.Machine.{Holds, Machine};
+ghost use Rattle.assise_machine_events.specs.MemberEvents.{Failing, Joining, Refilling, Returning, stale_at};
+ghost use Rattle.assise_machine_events.specs.NodeEvents.{Delivering, Releasing, place_after};
+
+/// What clients do can be answered where no fault stands.
+pub fn what_clients_do_can_be_answered()
+    ensures opened { (m : Machine) (n : ℕ) → Holds m → open_fault m n ≡ None → (m' : Machine) × Opening m n (opened (suc m.world.clients)) m' }
+    ensures called { (m : Machine) (c : ℕ) (op : Op) (reply : Reply) → Holds m → call_fault m c op ≡ None → MayCallUnder m.world m.leases (call_of_client m.world c op reply) →
+        (has_some (step_at_home m.world (call_of_client m.world c op reply)).effects ≡ true → length (m.world.records c) < m.limit) → (m' : Machine) × Calling m c op (replied reply) m' }
+    ensures awaited { (m : Machine) (c i : ℕ) (op : Op) (reply : Reply) (mode : Mode) → Holds m → call_fault m c op ≡ None →
+        IsMissing m.world m.leases (call_of_client m.world c op reply) i mode → is_free_for m.leases.levels c (m.world.home c) i mode ≡ false → (m' : Machine) × Calling m c op not_yet m' }
+    ensures synced { (m : Machine) (c : ℕ) → Holds m → client_fault m c ≡ None → received_by_all m.world c ≡ end m.world c → (m' : Machine) × Syncing m c (replied Done) m' }
+    ensures replicating { (m : Machine) (c : ℕ) → Holds m → client_fault m c ≡ None → received_by_all m.world c < end m.world c → (m' : Machine) × Syncing m c not_yet m' }
+    ensures crashed { (m : Machine) (c : ℕ) → Holds m → client_fault m c ≡ None → (m' : Machine) × Crashing m c crashed m' }
+{}
+
+/// What nodes do can be done where no fault stands. Leases go where clients hold only so many inodes.
+pub fn what_nodes_do_can_be_done()
+    ensures delivered { (m : Machine) (f : LogFrame) (n : ℕ) → Holds m → delivery_fault m f n ≡ None → IsTimely m f n →
+        m.world.border f.client (place_after m f n) ≡ true → (m' : Machine) × Delivering m f n (received (place_after m f n)) m' }
+    ensures released { (m : Machine) (most : ℕ) → Holds m → ((i : ℕ) → most < i → m.leases.levels.clients i ≡ []) → (m' : Machine) × ((a : Answer) × Releasing m a m') }
+{}
+
+/// What happens to nodes can happen where no fault stands.
+pub fn what_happens_to_nodes_can_happen()
+    ensures failed { (m : Machine) (n : ℕ) → Holds m → failure_fault m.members n ≡ None → (m' : Machine) × ((losses : List Loss) × Failing m n (failed losses) m') }
+    ensures back { (m : Machine) (n : ℕ) → Holds m → return_fault m.members n ≡ None → (m' : Machine) × Returning m n (began (stale_at m'.members n)) m' }
+    ensures refilled { (m : Machine) (n : ℕ) → Holds m → filling_fault m.members n ≡ None → 0 < stale_at m.members n → (m' : Machine) × Refilling m n (left (stale_at m'.members n)) m' }
+    ensures joined { (m : Machine) (n : ℕ) → Holds m → join_fault m.members n ≡ None → (m' : Machine) × Joining m n joined m' }
+{}
