@@ -1,14 +1,13 @@
 -- Leases that are ready can go, where clients hold only so many inodes.
-use Rattle.std.proofs.Common.{◌≡◌, ◌⊎◌, ℕ, zero, suc, ◌≤◌, ◌==◌, ◌&&◌, nat_le, inl, inr, true, false, if◌then◌else◌, List, [], ◌∷◌, None, refl, ap, sym, ◌∙◌, subst, arith, eq-eqb}
+use Rattle.std.proofs.Common.{◌≡◌, ◌⊎◌, ℕ, zero, suc, ◌≤◌, ◌&&◌, nat_le, inl, inr, true, false, List, [], ◌∷◌, None, refl, ap, sym, ◌∙◌, subst, arith, eq-eqb}
 use Rattle.std.proofs.lemmas.Bool.{and_parts, both_ways, cases_Bool, cases_eq, leb-true, ne_eqb}
-use Rattle.assise_lease_table.specs.declared.lease.Lease.{Lease}
-use Rattle.assise_lease_table.specs.LeaseMaps.{Becomes}
 use Rattle.assise_lease_table.specs.Leases.{Among, lease_of, without}
 use Rattle.assise_lease_tree.specs.Levels.{is_frozen, nodes_released}
 use Rattle.assise_lease_tree.proofs.Lookups.{without_other, without_own}
 use Rattle.assise_machine_laws.specs.World.{World, end, digested_by_all}
-use Rattle.assise_machine_leases.specs.Handing.{Holds as HoldsThem, ReleasesReady}
-use Rattle.assise_machine_leases.specs.Leases.{Leases, client_lease, is_held, is_written}
+use Rattle.assise_machine_leases.specs.Handing.{ReleasesReady}
+use Rattle.assise_machine_leases.specs.Leases.{Leases, client_lease}
+use Rattle.assise_machine_leases.proofs.Possible.{with_at, becomes, holding, holds_them}
 use Rattle.assise_machine_events.specs.NodeEvents.{Gone, LetsGo, is_ready, leases_after}
 
 -- ---- all pairs of numbers up to two others
@@ -42,25 +41,6 @@ in_pairs (suc b) k c i few low =
     ]
 
 -- ---- one lease goes
-
-abbrev holding : World → Leases → World
-holding w l = record w { holds = λ c i. is_held (client_lease l c i); writes = λ c i. is_written (client_lease l c i) }
-
-holds_them : (w : World) (l : Leases) → HoldsThem w (holding w l) l
-holds_them w l = record {
-  logs = record { calls = refl; records = λ c. refl; first = λ c. refl; next = λ c. refl; border = λ c k. refl; made = λ c. refl };
-  clients = record { clients = refl; home = λ c. refl; lives = λ c. refl; crashed = λ c. refl };
-  goals = λ c. refl;
-  nodes = record { full = refl; same = λ n f. record { area = λ i. refl; log = λ c. refl; received = λ c. refl; digested = λ c. refl } };
-  held = record { holds = λ c i. refl; writes = λ c i. refl };
-}
-
--- one inode has other leases
-abbrev with_at : (ℕ → List Lease) → ℕ → List Lease → ℕ → List Lease
-with_at f i ls j = if j == i then ls else f j
-
-becomes : (f : ℕ → List Lease) (i : ℕ) (ls : List Lease) → Becomes f (with_at f i ls) i ls
-becomes f i ls = record { here = rw (eq-eqb i i refl) refl; elsewhere = λ j other. rw (ne_eqb j i other) refl }
 
 abbrev let_go : World → Leases → ℕ → ℕ → Leases
 let_go w l c i = record {

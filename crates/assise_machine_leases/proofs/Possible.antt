@@ -32,17 +32,17 @@ passed : {A : Type 0} (d c : ℕ) (x y : A) → d ≢ c → (if d == c then x el
 passed d c x y e = rw (ne_eqb d c e) refl
 
 -- one inode has other leases
-abbrev with_at : (ℕ → List Lease) → ℕ → List Lease → ℕ → List Lease
+abbrev pub with_at : (ℕ → List Lease) → ℕ → List Lease → ℕ → List Lease
 with_at f i ls j = if j == i then ls else f j
 
-becomes : (f : ℕ → List Lease) (i : ℕ) (ls : List Lease) → Becomes f (with_at f i ls) i ls
+pub becomes : (f : ℕ → List Lease) (i : ℕ) (ls : List Lease) → Becomes f (with_at f i ls) i ls
 becomes f i ls = record { here = chosen i i ls (f i) refl; elsewhere = λ j other. passed j i ls (f j) other }
 
 -- the world whose clients hold what the leases say
-abbrev holding : World → Leases → World
+abbrev pub holding : World → Leases → World
 holding w l = record w { holds = λ c i. is_held (client_lease l c i); writes = λ c i. is_written (client_lease l c i) }
 
-holds_them : (w : World) (l : Leases) → Holds w (holding w l) l
+pub holds_them : (w : World) (l : Leases) → Holds w (holding w l) l
 holds_them w l = record {
   logs = record { calls = refl; records = λ c. refl; first = λ c. refl; next = λ c. refl; border = λ c k. refl; made = λ c. refl };
   clients = record { clients = refl; home = λ c. refl; lives = λ c. refl; crashed = λ c. refl };
