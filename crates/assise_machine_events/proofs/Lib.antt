@@ -25,3 +25,4 @@ pub mod Answerable
 pub mod Doable
 pub mod Ready
 pub mod Freeable
+pub mod Refusing

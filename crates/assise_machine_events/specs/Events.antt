@@ -1,6 +1,6 @@
 -- The events of a cluster, and their answers. One event is one call of the cluster.
 -- Assise (OSDI 2020), section 3; van Renesse and Schneider, chain replication (OSDI 2004), section 2.
-use Rattle.std.specs.Prelude.{ℕ, List, [], ◌∷◌, ◌++◌}
+use Rattle.std.specs.Prelude.{ℕ, Bool, true, false, List, [], ◌∷◌, ◌++◌}
 use Rattle.assise_names.specs.declared.call.Op.{Op}
 use Rattle.assise_names.specs.declared.call.Op.TheVariants.{Fsync}
 use Rattle.assise_names.specs.declared.refusal.Refusal.{Refusal}
@@ -32,6 +32,21 @@ pub data ClusterEvent : Type 0 where
   back : (node : ℕ) → ClusterEvent
   refill : (node : ℕ) → ClusterEvent
   join : (node : ℕ) → ClusterEvent
+
+-- a client tries a call
+abbrev pub is_call : ClusterEvent → Bool
+is_call (open_client n) = false
+is_call (try_call c op) = true
+is_call (try_fsync c) = false
+is_call (outgoing n) = false
+is_call (deliver f n) = false
+is_call (digest n) = false
+is_call release_ready = false
+is_call (crash c) = false
+is_call (fail n) = false
+is_call (back n) = false
+is_call (refill n) = false
+is_call (join n) = false
 
 pub data Answer : Type 0 where
   refused : Refusal → Answer

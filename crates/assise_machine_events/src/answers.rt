@@ -2,6 +2,7 @@
 ghost use Rattle.std.specs.Prelude.{◌≡◌, ◌≢◌, ◌+◌, ◌<◌, ◌≤◌, ◌↔◌, Contains, List, None, Some, false, [], length, max, true, ℕ};
 ghost use Rattle.assise_names.specs.declared.call.Op.{Op};
 ghost use Rattle.assise_names.specs.declared.call.Op.TheVariants.{Fsync};
+ghost use Rattle.assise_names.specs.declared.refusal.Refusal.{Refusal};
 ghost use Rattle.assise_names.specs.declared.refusal.Refusal.TheVariants.{Busy};
 ghost use Rattle.assise_names.specs.declared.reply.Reply.{Reply};
 ghost use Rattle.assise_seq_tree.specs.Answer.{answer};
@@ -15,7 +16,8 @@ ghost use Rattle.assise_machine_laws.specs.World.{Full, end, received_by_all};
 ghost use Rattle.assise_machine_leases.specs.Leases.{client_lease};
 ghost use Rattle.assise_machine_history.specs.Lost.{IsFirstLost};
 ghost use Rattle.assise_machine_events.specs.ClientEvents.{Calling, Syncing};
-ghost use Rattle.assise_machine_events.specs.Events.{Answer, digested, failed, joined, not_yet, received, refused, released, replied};
+ghost use Rattle.assise_machine_events.specs.Events.{Answer, ClusterEvent, is_call, digested, failed, joined, not_yet, received, refused, released, replied};
+ghost use Rattle.assise_machine_events.specs.Happenings.{Happens};
 ghost use Rattle.assise_machine_events.specs.Machine.{Holds, Machine};
 ghost use Rattle.assise_machine_events.specs.MemberEvents.{Failing, Joining};
 ghost use Rattle.assise_machine_events.specs.NodeEvents.{Delivering, Digesting, Releasing, is_ready, most_digested, undigested_to};
@@ -79,4 +81,11 @@ pub fn what_happens_at_one_node_leaves_the_areas_of_others()
     ensures delivery { (m m' : Machine) (f : LogFrame) (n k : ℕ) → Delivering m f n (received k) m' → (j i : ℕ) → Full m.world j → m'.world.area j i ≡ m.world.area j i }
     ensures digest { (m m' : Machine) (n count : ℕ) → Digesting m n (digested count) m' → (j i : ℕ) → Full m.world j → j ≢ n → m'.world.area j i ≡ m.world.area j i }
     ensures call { (m m' : Machine) (c : ℕ) (op : Op) (reply : Reply) → Holds m → Calling m c op (replied reply) m' → (j i : ℕ) → Full m.world j → m'.world.area j i ≡ m.world.area j i }
+{}
+
+/// A refused event leaves the machine as it was. A call that is refused may have got leases, and leaves the history and the members.
+pub fn a_refused_event_leaves_the_machine_as_it_was()
+    ensures same { (m m' : Machine) (e : ClusterEvent) (r : Refusal) → is_call e ≡ false → Happens m e (refused r) m' → m' ≡ m }
+    ensures history { (m m' : Machine) (c : ℕ) (op : Op) (r : Refusal) → Calling m c op (refused r) m' → m'.history ≡ m.history }
+    ensures members { (m m' : Machine) (c : ℕ) (op : Op) (r : Refusal) → Calling m c op (refused r) m' → m'.members ≡ m.members }
 {}
