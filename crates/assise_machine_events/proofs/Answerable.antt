@@ -61,7 +61,7 @@ crashed_can m c h fine =
 
 -- ---- a call is answered, or awaits a lease
 
-is_tried : (m : Machine) (c : ℕ) (op : Op) (reply : Reply) → call_fault m c op ≡ None → IsTried m (call_of_client m.world c op reply) []
+pub is_tried : (m : Machine) (c : ℕ) (op : Op) (reply : Reply) → call_fault m c op ≡ None → IsTried m (call_of_client m.world c op reply) []
 is_tried m c op reply fine = record { fine = fine; next = refl; fresh = refl; gets = tt }
 
 pub called_can : (m : Machine) (c : ℕ) (op : Op) (reply : Reply) → Holds m → call_fault m c op ≡ None → MayCallUnder m.world m.leases (call_of_client m.world c op reply) →

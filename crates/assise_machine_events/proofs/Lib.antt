@@ -26,3 +26,4 @@ pub mod Doable
 pub mod Ready
 pub mod Freeable
 pub mod Refusing
+pub mod Lacking

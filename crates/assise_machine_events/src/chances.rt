@@ -1,6 +1,7 @@
 // Each outcome of an event can come, where what it asks for holds.
 ghost use Rattle.std.specs.Prelude.{◌≡◌, ◌<◌, List, [], None, false, length, suc, true, ℕ};
 ghost use Rattle.assise_names.specs.declared.call.Op.{Op};
+ghost use Rattle.assise_names.specs.declared.refusal.Refusal.TheVariants.{InodesSpent, LogFull, OutOfMemory};
 ghost use Rattle.assise_names.specs.declared.mode.Mode.{Mode};
 ghost use Rattle.assise_names.specs.declared.reply.Reply.{Reply};
 ghost use Rattle.assise_names.specs.declared.reply.Reply.TheVariants.{Done};
@@ -9,10 +10,10 @@ ghost use Rattle.assise_record.specs.LogFrame.{LogFrame};
 ghost use Rattle.assise_lease_tree.specs.TwoLevels.{is_free_for};
 ghost use Rattle.assise_manager.specs.Changes.{failure_fault, filling_fault, join_fault, return_fault};
 ghost use Rattle.assise_machine_laws.specs.Records.{has_some};
-ghost use Rattle.assise_machine_laws.specs.World.{end, received_by_all, step_at_home};
+ghost use Rattle.assise_machine_laws.specs.World.{call_makes_inode, end, received_by_all, step_at_home};
 ghost use Rattle.assise_machine_leases.specs.Chances.{MayCallUnder};
-ghost use Rattle.assise_machine_events.specs.ClientEvents.{Calling, Crashing, IsMissing, Opening, Syncing, call_of_client};
-ghost use Rattle.assise_machine_events.specs.Events.{Answer, began, crashed, failed, joined, left, not_yet, opened, received, replied};
+ghost use Rattle.assise_machine_events.specs.ClientEvents.{Calling, Crashing, IsMissing, IsServed, Opening, Syncing, call_of_client};
+ghost use Rattle.assise_machine_events.specs.Events.{Answer, began, crashed, failed, joined, left, not_yet, opened, received, refused, replied};
 ghost use Rattle.assise_machine_events.specs.Faults.{IsTimely, call_fault, client_fault, delivery_fault, open_fault};
 ghost use Rattle.assise_machine_events.specs.Machine.{Holds, Machine};
 ghost use Rattle.assise_machine_events.specs.MemberEvents.{Failing, Joining, Refilling, Returning, stale_at};
@@ -28,6 +29,16 @@ pub fn what_clients_do_can_be_answered()
     ensures synced { (m : Machine) (c : ℕ) → Holds m → client_fault m c ≡ None → received_by_all m.world c ≡ end m.world c → (m' : Machine) × Syncing m c (replied Done) m' }
     ensures replicating { (m : Machine) (c : ℕ) → Holds m → client_fault m c ≡ None → received_by_all m.world c < end m.world c → (m' : Machine) × Syncing m c not_yet m' }
     ensures crashed { (m : Machine) (c : ℕ) → Holds m → client_fault m c ≡ None → (m' : Machine) × Crashing m c crashed m' }
+{}
+
+/// A call whose leases serve, and that lacks numbers of inodes, room in its client's log, or memory, can be refused for it.
+pub fn what_a_call_lacks_can_be_answered()
+    ensures inodes { (m : Machine) (c : ℕ) (op : Op) (reply : Reply) → call_fault m c op ≡ None → IsServed m.world m.leases (call_of_client m.world c op reply) →
+        call_makes_inode m.world (call_of_client m.world c op reply) ≡ true → m.world.made c ≡ 1048576 → Calling m c op (refused InodesSpent) m }
+    ensures room { (m : Machine) (c : ℕ) (op : Op) (reply : Reply) → call_fault m c op ≡ None → IsServed m.world m.leases (call_of_client m.world c op reply) →
+        (call_makes_inode m.world (call_of_client m.world c op reply) ≡ true → m.world.made c < 1048576) →
+        has_some (step_at_home m.world (call_of_client m.world c op reply)).effects ≡ true → length (m.world.records c) ≡ m.limit → Calling m c op (refused LogFull) m }
+    ensures memory { (m : Machine) (c : ℕ) (op : Op) (reply : Reply) → call_fault m c op ≡ None → Calling m c op (refused OutOfMemory) m }
 {}
 
 /// What nodes do can be done where no fault stands. Leases go where clients hold only so many inodes.
