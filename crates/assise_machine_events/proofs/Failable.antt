@@ -98,7 +98,7 @@ dropped_world w = record w {
   log = λ n c. drop (digested_by_all w c - w.first c) (w.log n c);
 }
 
-drops_them : (w : World) → IsSound w → Drops w (digested_by_all w) (dropped_world w)
+pub drops_them : (w : World) → IsSound w → Drops w (digested_by_all w) (dropped_world w)
 drops_them w s = record {
   low = digested_by_all-first w s.coherent;
   high = λ c. omega arith;

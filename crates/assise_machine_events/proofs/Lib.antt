@@ -27,3 +27,13 @@ pub mod Ready
 pub mod Freeable
 pub mod Refusing
 pub mod Lacking
+pub mod Course
+pub mod Creating
+pub mod ClientsCome
+pub mod MembersCome
+pub mod MembersFail
+pub mod Digestible
+pub mod NodesCome
+pub mod LeasesGo
+pub mod Rounds
+pub mod Spending

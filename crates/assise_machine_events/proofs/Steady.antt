@@ -1,10 +1,13 @@
 -- Steps that keep all areas: the world that such a step leads to, with the areas that were there before.
 use Rattle.std.proofs.Common.{ℕ, refl}
+use Rattle.assise_names.specs.declared.mode.Mode.{Mode}
 use Rattle.assise_inode_table.specs.Traces.{NumberedCall}
 use Rattle.assise_machine_laws.specs.ClientSteps.{Crashes, MakesCall, Opens, RaisesGoals}
 use Rattle.assise_machine_laws.specs.NodeSteps.{Delivers}
 use Rattle.assise_machine_laws.specs.Staying.{SameLogs, SameClients, SameNodes}
 use Rattle.assise_machine_laws.specs.World.{World, end}
+use Rattle.assise_machine_leases.specs.Handing.{Grants}
+use Rattle.assise_machine_leases.specs.Leases.{Leases}
 
 abbrev pub with_old_areas : World → World → World
 with_old_areas w u = record u { area = w.area }
@@ -114,4 +117,20 @@ old_delivers w u n c k e = record {
   received_else = e.received_else;
   digested = e.digested;
   area = λ m i f. refl;
+}
+
+pub old_grants : (w u : World) (l k : Leases) (c i : ℕ) (mode : Mode) → Grants w l c i mode u k → Grants w l c i mode (with_old_areas w u) k
+old_grants w u l k c i mode e = record {
+  lives_on = e.lives_on;
+  running = e.running;
+  free = e.free;
+  granted = e.granted;
+  cuts = e.cuts;
+  holds = record {
+    logs = old_logs w u e.holds.logs;
+    clients = old_clients w u e.holds.clients;
+    goals = e.holds.goals;
+    nodes = old_nodes w u e.holds.nodes;
+    held = record { holds = e.holds.held.holds; writes = e.holds.held.writes };
+  };
 }

@@ -6,3 +6,4 @@ pub mod Machine
 pub mod MemberEvents
 pub mod NodeEvents
 pub mod Outcomes
+pub mod Reached

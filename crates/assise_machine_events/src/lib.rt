@@ -9,3 +9,4 @@ pub mod clients;
 pub mod failures;
 pub mod headline;
 pub mod nodes;
+pub mod reachable;

@@ -42,23 +42,23 @@ use Rattle.assise_machine_history.proofs.Listing.{cut_there, least_kept, others_
 use Rattle.assise_machine_history.proofs.Running.{begun_sound, happens_sound}
 
 -- client 1 lives on node 1 of two full nodes, and made no call
-record IsNew (w : World) : Type 0 where
-  clients : w.clients ≡ 1
-  home : w.home 1 ≡ 1
-  lives : w.lives 1 ≡ true
-  runs : w.crashed 1 ≡ false
-  records : w.records 1 ≡ []
-  first : w.first 1 ≡ 0
-  next : w.next 1 ≡ 0
-  made : w.made 1 ≡ 0
-  full : w.full ≡ 2 ∷ 1 ∷ []
-  log : w.log 1 1 ≡ []
-  received : w.received 2 1 ≡ 0
-  area : w.area 1 0 ≡ opening_values 0
+pub record IsNew (w : World) : Type 0 where
+  pub clients : w.clients ≡ 1
+  pub home : w.home 1 ≡ 1
+  pub lives : w.lives 1 ≡ true
+  pub runs : w.crashed 1 ≡ false
+  pub records : w.records 1 ≡ []
+  pub first : w.first 1 ≡ 0
+  pub next : w.next 1 ≡ 0
+  pub made : w.made 1 ≡ 0
+  pub full : w.full ≡ 2 ∷ 1 ∷ []
+  pub log : w.log 1 1 ≡ []
+  pub received : w.received 2 1 ≡ 0
+  pub area : w.area 1 0 ≡ opening_values 0
 
 -- ---- the client is opened, and gets leases of the root and of the inode that it will make
 
-abbrev made_number : ℕ
+abbrev pub made_number : ℕ
 made_number = 4294967296
 
 abbrev start : State
@@ -91,7 +91,7 @@ opened_new =
 nobody : (d i : ℕ) → with_client.world.holds d i ≡ false
 nobody d i = opened.1.world.leases.holds d i
 
-acquired_new : (w w' : World) (i : ℕ) → IsNew w → Acquires w 1 i Write w' → IsNew w'
+pub acquired_new : (w w' : World) (i : ℕ) → IsNew w → Acquires w 1 i Write w' → IsNew w'
 acquired_new w w' i n e =
     let f1 : Full w 1 = rw n.full refl in
     let f2 : Full w 2 = rw n.full refl in
@@ -153,59 +153,63 @@ writes_own = own_lease.1.writes_here ∙ or_right (with_root.world.writes 1 made
 
 -- ---- it creates a file
 
-abbrev create_op : Op
+abbrev pub create_op : Op
 create_op = Create ((97 ∷ []) ∷ [])
 
-abbrev creation : NumberedCall
+abbrev pub creation : NumberedCall
 creation = record { client = 1; number = 0; op = create_op; reply = Done; fresh = made_number }
 
-abbrev first_step : Step
-first_step = record { visits = 0 ∷ []; reply = Done; effects = NewFile made_number ∷ Link 0 (97 ∷ []) made_number ∷ [] }
+-- what it does in an empty root, where the file gets this number
+abbrev pub create_step : ℕ → Step
+create_step fresh = record { visits = 0 ∷ []; reply = Done; effects = NewFile fresh ∷ Link 0 (97 ∷ []) fresh ∷ [] }
 
-abbrev no_links : Links
+abbrev pub first_step : Step
+first_step = create_step made_number
+
+abbrev pub no_links : Links
 no_links = map.empty
 
-empty_root : opening_values 0 ≡ Some (directory no_links)
+pub empty_root : opening_values 0 ≡ Some (directory no_links)
 empty_root = map.get-insert nat_cmp_total map.empty 0 (directory no_links) 0 ∙ ap (λ b. cond b (Some (directory no_links)) (map.get {R = nat_cmp} map.empty 0)) (same_number 0 0)
 
-room : room_among (97 ∷ []) no_links ≡ Ok tt
+pub room : room_among (97 ∷ []) no_links ≡ Ok tt
 room =
     let no_link = map.get-empty {X = ℕ} (slice_cmp nat_cmp) (97 ∷ []) in
     let no_keys : map.keys no_links ≡ [] = sym (names_are_keys no_entries no_links tt (λ q. ap is_some (sym (map.get-empty (slice_cmp nat_cmp) q)))) in
     rw (no_link, no_keys) refl
 
--- where the root is an empty directory, this is the step
-abbrev with_room : Result (Unit {0}) TreeError → Interaction
-with_room r = then_or_error r (λ _. finish Done first_step.effects)
+-- what follows once the root was visited, and once it is known that there is room
+abbrev with_room : ℕ → Result (Unit {0}) TreeError → Interaction
+with_room fresh r = then_or_error r (λ _. finish Done (create_step fresh).effects)
 
-abbrev with_links : Option Content → Interaction
-with_links o = then_or_error (ok_or o NoEnt) (λ content. then_or_error (as_links content) (λ links. with_room (room_among (97 ∷ []) links)))
+abbrev with_links : ℕ → Option Content → Interaction
+with_links fresh o = then_or_error (ok_or o NoEnt) (λ content. then_or_error (as_links content) (λ links. with_room fresh (room_among (97 ∷ []) links)))
 
-creates : (v : Values) → v 0 ≡ Some (directory no_links) → step v create_op made_number ≡ first_step
-creates v root =
-    let after_root : with_links (v 0) ≡ finish Done first_step.effects = ap with_links root ∙ ap with_room room in
+pub creates : (v : Values) (fresh : ℕ) → v 0 ≡ Some (directory no_links) → step v create_op fresh ≡ create_step fresh
+creates v fresh root =
+    let after_root : with_links fresh (v 0) ≡ finish Done (create_step fresh).effects = ap (with_links fresh) root ∙ ap (with_room fresh) room in
     ap (λ r. record { visits = 0 ∷ visits_of v r; reply = reply_of v r; effects = effects_of v r }) after_root
 
-sees_root : (w : World) → IsNew w → view w (w.home 1) 1 0 ≡ opening_values 0
+pub sees_root : (w : World) → IsNew w → view w (w.home 1) 1 0 ≡ opening_values 0
 unfolding view ahead
 sees_root w n =
     let none : drop (w.digested 1 1 - w.first 1) (w.log 1 1) ≡ [] = ap (λ rs. drop (w.digested 1 1 - w.first 1) rs) n.log ∙ drop-nil (w.digested 1 1 - w.first 1) in
     rw (n.home, none) n.area
 
-step_is : (w : World) → IsNew w → step_at_home w creation ≡ first_step
-step_is w n = creates (view w (w.home 1) 1) (sees_root w n ∙ empty_root)
+pub step_is : (w : World) → IsNew w → step_at_home w creation ≡ first_step
+step_is w n = creates (view w (w.home 1) 1) made_number (sees_root w n ∙ empty_root)
 
-of_two : (P : ℕ → Type 0) (i : ℕ) → P 0 → P made_number → contains (made_number ∷ 0 ∷ []) i ≡ true → P i
-of_two P i root own h =
-    elim (or_cases (made_number == i) ((0 == i) || false) h) [
-      | inl is ↦ subst P (eqb-true made_number i is) own
-      | inr rest ↦ elim (or_cases (0 == i) false rest) [
-        | inl is ↦ subst P (eqb-true 0 i is) root
+pub of_either : (P : ℕ → Type 0) (a b i : ℕ) → P a → P b → contains (a ∷ b ∷ []) i ≡ true → P i
+of_either P a b i at_a at_b there =
+    elim (or_cases (a == i) ((b == i) || false) there) [
+      | inl is ↦ subst P (eqb-true a i is) at_a
+      | inr rest ↦ elim (or_cases (b == i) false rest) [
+        | inl is ↦ subst P (eqb-true b i is) at_b
         | inr never ↦ cc
       ]
     ]
 
-may_create : (w : World) → IsNew w → ((i : ℕ) → contains (made_number ∷ 0 ∷ []) i ≡ true → w.holds 1 i ≡ true) → ((i : ℕ) → contains (made_number ∷ 0 ∷ []) i ≡ true → w.writes 1 i ≡ true) → MayCall w creation
+pub may_create : (w : World) → IsNew w → ((i : ℕ) → contains (made_number ∷ 0 ∷ []) i ≡ true → w.holds 1 i ≡ true) → ((i : ℕ) → contains (made_number ∷ 0 ∷ []) i ≡ true → w.writes 1 i ≡ true) → MayCall w creation
 may_create w n holds writes =
     let is : step_at_home w creation ≡ first_step = step_is w n in
     record {
@@ -228,7 +232,7 @@ may_create w n holds writes =
 created : (t : State) × IsCall with_leases creation t
 created =
     can_call with_leases creation leases_sound
-    (may_create with_leases.world leases_new (λ i h. of_two (λ k. with_leases.world.holds 1 k ≡ true) i holds_root holds_own h) (λ i h. of_two (λ k. with_leases.world.writes 1 k ≡ true) i writes_root writes_own h))
+    (may_create with_leases.world leases_new (λ i h. of_either (λ k. with_leases.world.holds 1 k ≡ true) made_number 0 i holds_own holds_root h) (λ i h. of_either (λ k. with_leases.world.writes 1 k ≡ true) made_number 0 i writes_own writes_root h))
     (λ fsync. cc)
 
 abbrev with_file : State
