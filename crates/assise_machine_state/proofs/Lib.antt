@@ -1,0 +1,4 @@
+pub mod Regions
+pub mod Starting
+pub mod Seeing
+pub mod Raising

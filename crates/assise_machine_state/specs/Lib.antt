@@ -1,0 +1,5 @@
+pub mod Places
+pub mod ClientValues
+pub mod NodeValues
+pub mod Observed
+pub mod Sound

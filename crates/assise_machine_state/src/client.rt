@@ -1,0 +1,92 @@
+// One client.
+ghost use Rattle.std.specs.Prelude.{◌≡◌};
+ghost use Rattle.assise_machine_state.specs.ClientValues.{cut_of};
+
+use assise_digest::numbers::Numbers;
+use std::marker::Model;
+
+/// What is known of a client, beside its logs and its leases.
+#[derive(Debug, Drop)]
+pub struct Client {
+    /// The node on which it was opened.
+    pub(crate) home: u32,
+    /// The place up to which its log is to be replicated.
+    pub(crate) goal: u64,
+    /// How many of its calls were answered, which is the number of its next one.
+    pub(crate) next: u64,
+    /// How many inodes it made, at most 1,048,576.
+    pub(crate) made: u64,
+    /// Whether it crashed.
+    pub(crate) crashed: bool,
+    /// Whether its node has failed since it was opened.
+    pub(crate) failed: bool,
+    /// The cuts of its frozen leases by inode, while it isn't over.
+    pub(crate) cuts: Numbers,
+    /// The cut of all its leases, once it crashed or its node failed.
+    pub(crate) last_cut: u64,
+}
+
+impl Model for Client {
+    ghost use Rattle.assise_machine_state.specs.ClientValues.{ClientValue, coded_client};
+
+    ghost Value = { ClientValue };
+
+    ghost coded = { coded_client };
+
+    ghost view = { λ c. record { home = c.home; goal = c.goal; next = c.next; made = c.made; crashed = c.crashed; failed = c.failed; cuts = c.cuts; last_cut = c.last_cut } };
+}
+
+impl Client {
+    /// The node on which it was opened.
+    pub fn home(&self) -> u32
+        ensures { result ≡ self.now.home }
+    {
+        self.home
+    }
+
+    /// The place up to which its log is to be replicated.
+    pub fn goal(&self) -> u64
+        ensures { result ≡ self.now.goal }
+    {
+        self.goal
+    }
+
+    /// How many of its calls were answered, which is the number of its next one.
+    pub fn next(&self) -> u64
+        ensures { result ≡ self.now.next }
+    {
+        self.next
+    }
+
+    /// How many inodes it made.
+    pub fn made(&self) -> u64
+        ensures { result ≡ self.now.made }
+    {
+        self.made
+    }
+
+    /// Whether it crashed.
+    pub fn has_crashed(&self) -> bool
+        ensures { result ≡ self.now.crashed }
+    {
+        self.crashed
+    }
+
+    /// Whether its node has failed since it was opened.
+    pub fn has_failed(&self) -> bool
+        ensures { result ≡ self.now.failed }
+    {
+        self.failed
+    }
+
+    /// The cut of its frozen lease of an inode: the place in its log before which all full nodes have to have digested it
+    /// before the lease goes. One serves all its leases once it crashed or its node failed.
+    pub fn cut(&self, inode: u64) -> u64
+        ensures { result ≡ cut_of self.now inode }
+    {
+        if self.crashed || self.failed {
+            return self.last_cut;
+        }
+        self.cuts.get(inode).unwrap_or(0)
+    }
+}

@@ -1,0 +1,106 @@
+// What is seen of clients and of nodes, as text.
+ghost use Rattle.std.specs.Prelude.{◌≡◌, [], ◌∷◌, IfSome, true, ℕ};
+ghost use Rattle.assise_digest.specs.Region.{IsQuiet};
+ghost use Rattle.assise_machine_state.specs.ClientValues.{opened_on};
+ghost use Rattle.assise_machine_state.specs.NodeValues.{region_in};
+ghost use Rattle.assise_machine_state.specs.Places.{IsNumber};
+
+use assise_digest::region::Region;
+use assise_inode_table::inode::Inode;
+use assise_machine_state::client::Client;
+use assise_machine_state::clients::Clients;
+use assise_machine_state::nodes::Nodes;
+use std::alloc::{AllocError, Global};
+use std::process::Abort;
+
+/// Client 1 of node 3, and client 2 of node 5.
+pub(crate) fn two_clients(alloc: Global) -> Option<Clients>
+    ensures { IfSome result (λ clients. clients ≡ opened_on 3 ∷ opened_on 5 ∷ []) }
+{
+    let mut clients = Clients::new(alloc);
+    clients.open(alloc, 3).ok()?;
+    clients.open(alloc, 5).ok()?;
+    Some(clients)
+}
+
+/// Sees what is known of a client, but for its cuts.
+pub(crate) fn see(alloc: Global, rt: &impl Abort, clients: &Clients, client: u32, known: &str)
+    requires client { IsNumber clients.now client }
+{
+    let text = text_of(alloc, clients.get(client)).expect(rt, "no memory");
+    assert!(rt; text.as_str() == known, "{text}");
+}
+
+fn text_of(alloc: Global, client: &Client) -> Result<String, AllocError> {
+    let (home, goal) = (client.home(), client.goal());
+    let (next, made) = (client.next(), client.made());
+    let crashed = if client.has_crashed() {
+        ", crashed"
+    } else {
+        ""
+    };
+    let failed = if client.has_failed() { ", failed" } else { "" };
+    format!(in alloc; "node {home}, goal {goal}, next {next}, made {made}{crashed}{failed}")
+}
+
+/// Sees that client 2 of [`two_clients`] is as it was opened.
+pub(crate) fn see_other(alloc: Global, rt: &impl Abort, clients: &Clients)
+    requires client { IsNumber clients.now 2 }
+{
+    see(alloc, rt, clients, 2, "node 5, goal 0, next 0, made 0");
+    assert_eq!(rt; clients.get(2).cut(10), 0);
+    assert_eq!(rt; clients.get(2).cut(12), 0);
+}
+
+/// Whether there is a node of this number.
+pub(crate) fn has_node(nodes: &Nodes, node: u32) -> bool
+    ensures { result ≡ true → IsNumber nodes.now node }
+{
+    0 < node && node as usize <= nodes.len()
+}
+
+/// Whether there is a node of this number, and it has no logs.
+pub(crate) fn is_quiet(nodes: &Nodes, node: u32) -> bool
+    ensures node { result ≡ true → IsNumber nodes.now node }
+    ensures quiet { result ≡ true → (inode : ℕ) → IsQuiet (region_in nodes.now node) inode }
+{
+    has_node(nodes, node) && nodes.region(node).clients() == 0
+}
+
+/// What each node has of an inode, from node 1 on: what a stat says of it, or that there is none.
+pub(crate) fn found(alloc: Global, nodes: &Nodes, inode: u64) -> Option<String> {
+    let mut text = String::new(alloc);
+    for node in 1..9 {
+        if has_node(nodes, node) {
+            put_found(&mut text, nodes.region(node).peek(inode)).ok()?;
+        }
+    }
+    Some(text)
+}
+
+/// Sees what each node has of an inode.
+pub(crate) fn see_inode(alloc: Global, rt: &impl Abort, nodes: &Nodes, inode: u64, known: &str) {
+    let text = found(alloc, nodes, inode).expect(rt, "no memory");
+    assert!(rt; text.as_str() == known, "inode {inode}:{text}");
+}
+
+fn put_found(text: &mut String, found: Option<&Inode>) -> Result<(), AllocError> {
+    match found {
+        Some(inode) => put_inode(text, inode),
+        None => text.push_str(" none;"),
+    }
+}
+
+fn put_inode(text: &mut String, inode: &Inode) -> Result<(), AllocError> {
+    let description = inode.describe();
+    write!(text, " {description};")
+}
+
+/// Sees that no node has logs, from node 1 on.
+pub(crate) fn see_no_logs(rt: &impl Abort, nodes: &Nodes) {
+    for node in 1..9 {
+        if has_node(nodes, node) {
+            assert_eq!(rt; nodes.region(node).clients(), 0, "node {node}");
+        }
+    }
+}
