@@ -1,7 +1,7 @@
 //! A node's region: its inodes, and the logs that it received, which are digested into them.
 #![tactic(auto)]
 
-pub mod numbers;
+mod numbers;
 pub mod overlay;
 mod pending;
 mod received;

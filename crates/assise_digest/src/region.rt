@@ -78,7 +78,8 @@ impl Region {
     /// The log of a client, as far as this node received it.
     pub fn log(&self, client: usize) -> &Log
         requires client { HasClient self.now client }
-        ensures { result.now ≡ (log_of self.now client).log }
+        ensures log { result.now ≡ (log_of self.now client).log }
+        ensures whole { AreWhole (log_of self.now client).log.records }
     {
         &self.logs[client - 1].log
     }
