@@ -8,7 +8,7 @@ use crate::acquired::Acquired;
 use crate::levels::{GivenUp, InTheWay, OfNode, is_busy, is_frozen, raised};
 use crate::request::Request;
 use assise_lease_table::client_table::ClientTableOf;
-use assise_lease_table::lease::{Asked, is_any_chosen};
+use assise_lease_table::lease::{Asked, Lease, is_any_chosen};
 use assise_lease_table::node_table::NodeTable;
 use assise_lease_table::revoker::{Revoker, Revokes};
 use assise_lease_table::views::Views;
@@ -85,6 +85,13 @@ impl<C: Revokes + Drop> LeaseTreeOf<C> {
         Ok(())
     }
 
+    /// The leases that clients have of an inode.
+    pub fn leases(&self, inode: u64) -> &[Lease]
+        ensures { result.now ≡ (levels_of self.now).clients inode }
+    {
+        self.clients.leases(inode)
+    }
+
     /// Whether a client's lease serves where the mode is wanted: it is strong enough and not frozen.
     pub fn holds(&self, client: u32, inode: u64, mode: Mode) -> bool
         ensures holds { result ≡ serves (lease_of ((levels_of self.now).clients inode) client) mode }
@@ -93,8 +100,8 @@ impl<C: Revokes + Drop> LeaseTreeOf<C> {
         self.clients.holds(client, inode, mode)
     }
 
-    /// Whether a request is granted at once.
-    fn is_free(&self, request: Request) -> bool
+    /// Whether a request is granted at once: nobody stands in its way.
+    pub fn is_free(&self, request: Request) -> bool
         ensures { result ≡ is_free_for (levels_of self.now) request.client request.node request.inode request.mode }
     {
         let way = InTheWay {
@@ -107,8 +114,10 @@ impl<C: Revokes + Drop> LeaseTreeOf<C> {
             && !is_frozen(self.nodes.lease(request.node, request.inode))
     }
 
-    /// Grants a request that nobody stands in the way of. All room is made before the first change.
-    fn grant(&mut self, request: Request) -> Result<(), Refusal>
+    /// Grants a request that nobody stands in the way of. The one refusal is [`Refusal::OutOfMemory`], which leaves all leases
+    /// as they were; it never comes where a lease is raised in its place.
+    // All room is made before the first change.
+    pub fn grant(&mut self, request: Request) -> Result<(), Refusal>
         requires at_home { (levels_of self.old).home request.client ≡ Some request.node }
         requires free { is_free_for (levels_of self.old) request.client request.node request.inode request.mode ≡ true }
         ensures granted { OnOk result (IsGranted (levels_of self.old) (levels_of self.new) request.client request.node request.inode request.mode) }
@@ -137,8 +146,10 @@ impl<C: Revokes + Drop> LeaseTreeOf<C> {
         Ok(())
     }
 
-    /// Asks those who stand in the way of a request. All answers are there before the first lease is frozen.
-    fn ask<V: Views>(&mut self, request: Request, views: &V) -> Result<Vec<Asked>, Refusal>
+    /// Asks those who stand in the way of a request, and answers their cuts. Who was asked before isn't asked again. The one
+    /// refusal is [`Refusal::OutOfMemory`], which leaves all leases as they were; it never comes where nobody is asked.
+    // All answers are there before the first lease is frozen.
+    pub fn ask<V: Views>(&mut self, request: Request, views: &V) -> Result<Vec<Asked>, Refusal>
         requires at_home { (levels_of self.old).home request.client ≡ Some request.node }
         requires blocked { is_free_for (levels_of self.old) request.client request.node request.inode request.mode ≡ false }
         requires viewed { (l : _) → Among ((levels_of self.old).clients request.inode) l → l.frozen ≡ false → is_some (V.view_of views.now l.holder) ≡ true }

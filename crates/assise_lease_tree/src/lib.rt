@@ -5,4 +5,4 @@ pub mod acquired;
 pub mod laws;
 pub mod lease_tree;
 mod levels;
-mod request;
+pub mod request;

@@ -5,8 +5,12 @@ use assise_names::mode::Mode;
 /// A client of a node wants an inode in a mode.
 #[derive(Clone, Copy, PartialEq, Eq, Debug)]
 pub struct Request {
-    pub(crate) client: u32,
-    pub(crate) node: u32,
-    pub(crate) inode: u64,
-    pub(crate) mode: Mode,
+    /// The client.
+    pub client: u32,
+    /// Its node.
+    pub node: u32,
+    /// The inode.
+    pub inode: u64,
+    /// What the lease is to serve for.
+    pub mode: Mode,
 }
