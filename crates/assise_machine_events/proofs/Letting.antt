@@ -1,9 +1,10 @@
 -- What nodes do keeps what holds: leases that may go do.
 use Rattle.std.proofs.Common.{◌≡◌, inl, inr, ℕ, List, [], ◌∷◌, length, true, false, refl, ap, sym, subst, ◌∙◌, arith}
 use Rattle.assise_inode_table.specs.Effects.{contains}
-use Rattle.std.proofs.lemmas.Bool.{cases_eq, le-leb}
+use Rattle.std.proofs.lemmas.Bool.{cases_Bool, cases_eq, le-leb}
 use Rattle.assise_lease_table.specs.Leases.{lease_of}
 use Rattle.assise_lease_tree.proofs.Lookups.{without_other}
+use Rattle.assise_lease_tree.specs.Levels.{is_frozen}
 use Rattle.assise_machine_laws.specs.Sound.{AreDropped}
 use Rattle.assise_machine_laws.specs.World.{World, digested_by_all}
 use Rattle.assise_machine_laws.proofs.Staying.{still_dropped}
@@ -87,7 +88,10 @@ still_ready : (w : World) (l : Leases) (c i : ℕ) (u : World) (k : Leases) → 
 unfolding AreDropped
 still_ready w l c i u k before after e d j same =
     let all : digested_by_all u d ≡ digested_by_all w d = sym (after d) ∙ e.holds.logs.first d ∙ before d in
-    rw (same, e.cuts d j, all) refl
+    elim (cases_Bool (is_frozen (client_lease k d j))) [
+      | inl frozen ↦ rw (same, e.cuts d j frozen, all) refl
+      | inr not ↦ (let was : is_frozen (client_lease l d j) ≡ false = ap is_frozen (sym same) ∙ not in rw (not, was) refl)
+    ]
 
 unready_stays : (o : Membership) (w₀ w : World) (l : Leases) (gone : List Gone) → Stand o w₀ w l → LetsGo w l gone → (d j : ℕ) → is_ready w l d j ≡ false →
     client_lease (leases_after l gone) d j ≡ client_lease l d j

@@ -67,7 +67,7 @@ module _ (w : World) (l : Leases) (c i : ℕ) where
           clients = becomes l.levels.clients i (without c (l.levels.clients i));
           nodes = becomes l.levels.nodes i (nodes_released l.levels.home (without c (l.levels.clients i)) (w.home c) (l.levels.nodes i));
         };
-        cuts = λ d j. refl;
+        cuts = λ d j frozen. refl;
         holds = holds_them w after;
       }
 

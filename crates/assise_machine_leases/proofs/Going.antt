@@ -60,8 +60,8 @@ module _ (w u : World) (l k : Leases) (c i : ℕ) (a : AreLeases w l) (e : Relea
     held = e.holds.held;
     homes = λ d o. e.released.home d ∙ a.homes d (still_client w u l a e.holds.clients d o) ∙ ap (λ m. Some m) (sym (e.holds.clients.home d));
     strangers = λ d no. e.released.home d ∙ a.strangers d (λ o. no (was_client w u l a e.holds.clients d o));
-    covered = λ d j h. rw (e.cuts d j) (covers_same w u d j (l.cut d j) (e.holds.logs.records d) (e.holds.logs.first d) (a.covered d j (was_frozen d j h)));
-    goals = λ d j lives h. rw (e.cuts d j, e.holds.goals d) (a.goals d j (sym (e.holds.clients.lives d) ∙ lives) (was_frozen d j h));
+    covered = λ d j h. rw (e.cuts d j h) (covers_same w u d j (l.cut d j) (e.holds.logs.records d) (e.holds.logs.first d) (a.covered d j (was_frozen d j h)));
+    goals = λ d j lives h. rw (e.cuts d j h, e.holds.goals d) (a.goals d j (sym (e.holds.clients.lives d) ∙ lives) (was_frozen d j h));
     crashed = λ d j over h. ap is_frozen (was_there d j h) ∙ a.crashed d j (sym (e.holds.clients.crashed d) ∙ over) (ap is_held (sym (was_there d j h)) ∙ h);
     failed = λ d j over h. ap is_frozen (was_there d j h) ∙ a.failed d j (sym (e.holds.clients.lives d) ∙ over) (ap is_held (sym (was_there d j h)) ∙ h);
   }

@@ -225,7 +225,7 @@ may_release w l c i m =
         frozen = m.frozen;
         ready = m.ready;
         released = record { home = λ d. refl; clients = becomes l.levels.clients i left; nodes = becomes l.levels.nodes i above };
-        cuts = λ d j. refl;
+        cuts = λ d j frozen. refl;
         holds = holds_them w k;
       },
     )

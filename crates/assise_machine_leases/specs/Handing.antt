@@ -20,6 +20,10 @@ use Rattle.assise_machine_leases.specs.Leases.{Leases, client_lease, IsFrozenLea
 abbrev pub SameCuts : Leases → Leases → Type 0
 SameCuts l l' = (c i : ℕ) → l'.cut c i ≡ l.cut c i
 
+-- the cuts of what is still frozen stay: those of other leases say nothing
+abbrev pub KeepsCuts : Leases → Leases → Type 0
+KeepsCuts l l' = (c i : ℕ) → IsFrozenLease l' c i → l'.cut c i ≡ l.cut c i
+
 -- all stays but what clients hold, which is what the leases say
 pub record Holds (w w' : World) (l' : Leases) : Type 0 where
   pub logs : SameLogs w w'
@@ -80,7 +84,7 @@ pub record ReleasesReady (w : World) (l : Leases) (c i : ℕ) (w' : World) (l' :
   pub frozen : IsFrozenLease l c i
   pub ready : l.cut c i ≤ digested_by_all w c
   pub released : IsReleased l.levels l'.levels c (w.home c) i
-  pub cuts : SameCuts l l'
+  pub cuts : KeepsCuts l l'
   pub holds : Holds w w' l'
 
 -- node n, which isn't full and none of whose clients holds a lease, gives up all of its own
