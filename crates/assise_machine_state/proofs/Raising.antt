@@ -1,51 +1,41 @@
 -- What the laws observe of a goal that is raised.
-use Rattle.std.proofs.Common.{◌≡◌, ◌≢◌, ℕ, ◌-◌, ◌≤◌, not, max, inl, inr, List, refl, ap, sym, subst, ◌∙◌, arith, eq-eqb}
+use Rattle.std.proofs.Common.{◌≡◌, ◌≢◌, ℕ, ◌≤◌, max, inl, inr, refl, ap, sym, subst, ◌∙◌, arith, eq-eqb}
 use Rattle.std.proofs.lemmas.Bool.{cases_eq, ne_eqb}
-use Rattle.std.proofs.lemmas.List.{length-set}
-use Rattle.assise_history.specs.Entries.{Event}
-use Rattle.assise_digest.specs.Region.{RegionValue}
-use Rattle.assise_manager.specs.Standings.{Standing}
 use Rattle.assise_machine_laws.specs.ClientSteps.{RaisesGoals}
 use Rattle.assise_machine_laws.specs.World.{World, end}
-use Rattle.assise_machine_leases.specs.Leases.{Leases}
-use Rattle.assise_machine_state.specs.ClientValues.{ClientValue, client_in, no_client, with_client, with_goal}
-use Rattle.assise_machine_state.specs.Observed.{client_seen, goal_of, log_seen, own_node, own_seen, world_of}
+use Rattle.assise_machine_state.specs.Changes.{after_goal, goal_of}
+use Rattle.assise_machine_state.specs.ClientValues.{ClientValue, client_in, client_seen, with_client, with_goal}
+use Rattle.assise_machine_state.specs.Observed.{world_of}
 use Rattle.assise_machine_state.specs.Places.{IsNumber}
-use Rattle.assise_machine_state.proofs.Seeing.{is_seen, seen_else, seen_here, seen_same}
+use Rattle.assise_machine_state.specs.Shape.{IsShaped}
+use Rattle.assise_machine_state.specs.StateValues.{StateValue}
+use Rattle.assise_machine_state.proofs.Seeing.{client_else, client_here, client_is}
+use Rattle.assise_machine_state.proofs.ShapedClients.{Remains, clients_stay, logs_stay, nodes_stay, still_shaped}
+use Rattle.assise_machine_state.proofs.Staying.{leases_as}
 
-module _ (rs : List RegionValue) (nodes : List Standing) (cs : List ClientValue) (l : Leases) (h : List Event) (c to : ℕ) (there : IsNumber cs c) where
-  abbrev raised : List ClientValue
-  raised = with_client cs c (with_goal to (client_in cs c))
+module _ (s : StateValue) (c to : ℕ) (there : IsNumber s.clients c) where
+  abbrev now : ClientValue
+  now = with_goal to (client_in s.clients c)
 
   abbrev w : World
-  w = world_of rs nodes cs l h
+  w = world_of s
 
   abbrev w' : World
-  w' = world_of rs nodes raised l h
+  w' = world_of (after_goal s c to)
 
-  -- all but the goal stays
-  stays : {A : Type 0} (f : ClientValue → A) → f (with_goal to (client_in cs c)) ≡ f (client_in cs c) → (d : ℕ) → f (client_seen raised d) ≡ f (client_seen cs d)
-  unfolding client_seen
-  stays f same d = seen_same f no_client (with_goal to (client_in cs c)) cs c d there same
+  remains : Remains (client_in s.clients c) now
+  remains = record { home = refl; failed = refl; next = refl; made = refl }
 
-  same_own : (d : ℕ) → own_seen rs nodes raised d ≡ own_seen rs nodes cs d
-  unfolding own_seen
-  same_own d = ap (λ n. log_seen rs n d) (stays (own_node nodes) refl d)
+  goal_here : (client_seen (with_client s.clients c now) c).goal ≡ max (client_seen s.clients c).goal to
+  goal_here = ap (λ x. x.goal) (client_here s.clients c now there) ∙ ap (λ x. max x.goal to) (sym (client_is s.clients c there))
 
-  goal_here : (client_seen raised c).goal ≡ max (client_seen cs c).goal to
-  unfolding client_seen
-  goal_here =
-      ap (λ x. x.goal) (seen_here no_client (with_goal to (client_in cs c)) cs c there)
-      ∙ ap (λ x. max x.goal to) (sym (is_seen no_client cs c there))
+  goal_else : (d : ℕ) → d ≢ c → (client_seen (with_client s.clients c now) d).goal ≡ (client_seen s.clients d).goal
+  goal_else d other = ap (λ x. x.goal) (client_else s.clients c now there d other)
 
-  goal_else : (d : ℕ) → d ≢ c → (client_seen raised d).goal ≡ (client_seen cs d).goal
-  unfolding client_seen
-  goal_else d other = ap (λ x. x.goal) (seen_else no_client (with_goal to (client_in cs c)) cs c d there other)
-
-  goals : (d : ℕ) → (client_seen raised d).goal ≡ max (client_seen cs d).goal (goal_of c to d)
+  goals : (d : ℕ) → (client_seen (with_client s.clients c now) d).goal ≡ max (client_seen s.clients d).goal (goal_of c to d)
   goals d =
       elim (cases_eq d c) [
-        | inl is ↦ rw (eq-eqb d c is) (subst (λ e. (client_seen raised e).goal ≡ max (client_seen cs e).goal to) (sym is) goal_here)
+        | inl is ↦ rw (eq-eqb d c is) (subst (λ e. (client_seen (with_client s.clients c now) e).goal ≡ max (client_seen s.clients e).goal to) (sym is) goal_here)
         | inr other ↦ rw (ne_eqb d c other) (goal_else d other ∙ omega arith)
       ]
 
@@ -60,21 +50,12 @@ module _ (rs : List RegionValue) (nodes : List Standing) (cs : List ClientValue)
   unfolding world_of
   goal_raised known = record {
     there = low known;
-    logs = record {
-      calls = refl;
-      records = λ d. ap (λ x. x.log.records) (same_own d);
-      first = λ d. ap (λ x. x.log.first) (same_own d);
-      next = stays (λ x. x.next) refl;
-      border = λ d k. refl;
-      made = stays (λ x. x.made) refl;
-    };
-    clients = record {
-      clients = length-set cs (c - 1) (with_goal to (client_in cs c));
-      home = stays (λ x. x.home) refl;
-      lives = stays (λ x. not x.failed) refl;
-      crashed = stays (λ x. x.crashed) refl;
-    };
-    nodes = record { full = refl; same = λ n f. record { area = λ i. refl; log = λ d. refl; received = λ d. refl; digested = λ d. refl } };
-    leases = record { holds = λ d i. refl; writes = λ d i. refl };
+    logs = logs_stay s c now s.levels s.history remains refl;
+    clients = clients_stay s c now s.levels s.history remains refl;
+    nodes = nodes_stay s c now s.levels s.history;
+    leases = leases_as s (after_goal s c to) (λ i. refl);
     goals = goals;
   }
+
+  pub goal_shaped : IsShaped s → IsShaped (after_goal s c to)
+  goal_shaped shape = still_shaped s c now s.levels s.history remains shape

@@ -1,10 +1,10 @@
 -- What is known of clients, beside their logs and leases.
 -- Assise (OSDI 2020), section 3 (CC-NVM: update logs, leases, process crash, fail-over).
-use Rattle.std.specs.Prelude.{ℕ, ◌+◌, max, min, Bool, true, false, ◌||◌, if◌then◌else◌, List, Option, Some, None, refl}
+use Rattle.std.specs.Prelude.{ℕ, ◌+◌, max, min, Bool, true, false, ◌||◌, if◌then◌else◌, List, refl}
 use Rattle.std.specs.Coded.{Coded, code_by, coded×, coded_bool, coded_ℕ}
-use Rattle.std.specs.FinMap as map
-use Rattle.std.specs.Ordering.{nat_cmp}
-use Rattle.assise_machine_state.specs.Places.{item, put}
+use Rattle.assise_lease_table.specs.declared.lease.Asked.{Asked}
+use Rattle.assise_machine_state.specs.Cuts.{cut_in}
+use Rattle.assise_machine_state.specs.Places.{at, item, put}
 
 -- ---- one client
 
@@ -19,39 +19,33 @@ pub record ClientValue : Type 0 where
   pub crashed : Bool
   -- its node has failed since it was opened
   pub failed : Bool
-  -- the cuts of its frozen leases by inode while it isn't over, and the one of all of them once it is
-  pub cuts : map.FinMap nat_cmp ℕ
+  -- the cut of all its leases once it is over
   pub last_cut : ℕ
 
 abbrev ClientParts : Type 0
-ClientParts = ℕ × (ℕ × (ℕ × (ℕ × (Bool × (Bool × (map.FinMap nat_cmp ℕ × ℕ))))))
+ClientParts = ℕ × (ℕ × (ℕ × (ℕ × (Bool × (Bool × ℕ)))))
 
 -- a client is stored as the tuple of its fields
 abbrev pub coded_client : Coded ClientValue
 coded_client =
-    code_by ClientParts (coded× coded_ℕ (coded× coded_ℕ (coded× coded_ℕ (coded× coded_ℕ (coded× coded_bool (coded× coded_bool (coded× (map.code coded_ℕ coded_ℕ) coded_ℕ)))))))
-    (λ c. (c.home, (c.goal, (c.next, (c.made, (c.crashed, (c.failed, (c.cuts, c.last_cut))))))))
-    (λ p. record { home = p.0; goal = p.1.0; next = p.1.1.0; made = p.1.1.1.0; crashed = p.1.1.1.1.0; failed = p.1.1.1.1.1.0; cuts = p.1.1.1.1.1.1.0; last_cut = p.1.1.1.1.1.1.1 })
+    code_by ClientParts (coded× coded_ℕ (coded× coded_ℕ (coded× coded_ℕ (coded× coded_ℕ (coded× coded_bool (coded× coded_bool coded_ℕ))))))
+    (λ c. (c.home, (c.goal, (c.next, (c.made, (c.crashed, (c.failed, c.last_cut)))))))
+    (λ p. record { home = p.0; goal = p.1.0; next = p.1.1.0; made = p.1.1.1.0; crashed = p.1.1.1.1.0; failed = p.1.1.1.1.1.0; last_cut = p.1.1.1.1.1.1 })
     (λ _. refl)
 
 -- it crashed, or its node has failed since it was opened
 abbrev pub is_over : ClientValue → Bool
 is_over c = c.crashed || c.failed
 
--- up to where a client that is asked for no inode has to be digested
-abbrev pub or_nothing : Option ℕ → ℕ
-or_nothing None = 0
-or_nothing (Some cut) = cut
-
--- the cut of its frozen lease of an inode: one serves all its leases once it is over
-abbrev pub cut_of : ClientValue → ℕ → ℕ
-cut_of c i = if is_over c then c.last_cut else or_nothing (map.get c.cuts i)
+-- the cut of its frozen lease of an inode: what it answered, and one serves all its leases once it is over
+abbrev pub cut_of : List Asked → (client : ℕ) → ClientValue → (inode : ℕ) → ℕ
+cut_of asked c x i = if is_over x then x.last_cut else cut_in asked c i
 
 -- ---- changes of one
 
 -- opened on a node
 abbrev pub opened_on : ℕ → ClientValue
-opened_on home = record { home = home; goal = 0; next = 0; made = 0; crashed = false; failed = false; cuts = map.empty; last_cut = 0 }
+opened_on home = record { home = home; goal = 0; next = 0; made = 0; crashed = false; failed = false; last_cut = 0 }
 
 -- a call more is answered, which makes an inode or none
 abbrev pub with_call : Bool → ClientValue → ClientValue
@@ -60,14 +54,6 @@ with_call makes c = record c { next = c.next + 1; made = if makes then c.made + 
 -- its log is to be replicated up to this place, or further where it was
 abbrev pub with_goal : ℕ → ClientValue → ClientValue
 with_goal to c = record c { goal = max c.goal to }
-
--- its lease of an inode is frozen with this cut
-abbrev pub with_cut : ℕ → ℕ → ClientValue → ClientValue
-with_cut inode cut c = record c { cuts = map.insert c.cuts inode cut }
-
--- its lease of an inode went
-abbrev pub without_cut : ℕ → ClientValue → ClientValue
-without_cut inode c = record c { cuts = map.remove c.cuts inode }
 
 -- it crashed, and its log ends here
 abbrev pub crashed_at : ℕ → ClientValue → ClientValue
@@ -81,10 +67,14 @@ failed_at end c = record c { goal = min c.goal end; failed = true; last_cut = en
 
 -- where no client was opened, none lives
 abbrev pub no_client : ClientValue
-no_client = record { home = 0; goal = 0; next = 0; made = 0; crashed = false; failed = true; cuts = map.empty; last_cut = 0 }
+no_client = record { home = 0; goal = 0; next = 0; made = 0; crashed = false; failed = true; last_cut = 0 }
 
 abbrev pub client_in : List ClientValue → ℕ → ClientValue
 client_in cs c = item no_client cs c
 
 abbrev pub with_client : List ClientValue → ℕ → ClientValue → List ClientValue
 with_client cs c x = put cs c x
+
+-- the client of any number
+unfoldable pub client_seen : List ClientValue → ℕ → ClientValue
+client_seen cs c = at no_client cs c

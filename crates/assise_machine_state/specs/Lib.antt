@@ -1,5 +1,9 @@
 pub mod Places
+pub mod Cuts
 pub mod ClientValues
 pub mod NodeValues
+pub mod StateValues
 pub mod Observed
-pub mod Sound
+pub mod Changes
+pub mod Shape
+pub mod Whole

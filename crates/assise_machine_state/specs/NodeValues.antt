@@ -1,9 +1,13 @@
 -- What nodes have: for each its inodes, and the logs that it received.
 -- Assise (OSDI 2020), section 3 (CC-NVM: update logs, shared areas, recovery).
-use Rattle.std.specs.Prelude.{◌≡◌, ℕ, zero, suc, ◌≤◌, nat_le, false, if◌then◌else◌, List, [], ◌∷◌, length, map}
+use Rattle.std.specs.Prelude.{◌≡◌, ℕ, zero, suc, ◌≤◌, nat_le, Bool, false, ◌==◌, if◌then◌else◌, List, [], ◌∷◌, ◌++◌, length, map}
 use Rattle.assise_inode_table.specs.Opening.{opening}
-use Rattle.assise_digest.specs.Region.{HasClient, ReceivedLog, RegionValue, from_number, log_of, up_to_number, with_log}
-use Rattle.assise_machine_state.specs.Places.{IsNumber, item, put}
+use Rattle.assise_record.specs.declared.effect.Effect.{Effect}
+use Rattle.assise_record.specs.LogRecord.{LogRecord}
+use Rattle.assise_private_log.specs.NumberedLog.{NumberedLog, empty_log}
+use Rattle.assise_digest.specs.Region.{AreWhole, HasClient, IsBegun, ReceivedLog, RegionValue, from_number, log_of, no_log, up_to_number, with_client, with_log, with_more, without_last_client}
+use Rattle.assise_machine_laws.specs.Records.{has_some}
+use Rattle.assise_machine_state.specs.Places.{IsNumber, at, item, put}
 
 -- a node that received nothing
 abbrev pub new_region : RegionValue
@@ -26,6 +30,14 @@ pub record HasLog (rs : List RegionValue) (n c : ℕ) : Type 0 where
   pub node : IsNumber rs n
   pub client : HasClient (region_in rs n) c
 
+-- ---- of any number
+
+unfoldable pub region_seen : List RegionValue → ℕ → RegionValue
+region_seen rs n = at new_region rs n
+
+unfoldable pub log_seen : List RegionValue → ℕ → ℕ → ReceivedLog
+log_seen rs n c = at no_log (region_seen rs n).logs c
+
 -- ---- changes at one node
 
 abbrev pub with_region : List RegionValue → ℕ → RegionValue → List RegionValue
@@ -33,6 +45,52 @@ with_region rs n r = put rs n r
 
 abbrev pub with_log_in : List RegionValue → ℕ → ℕ → ReceivedLog → List RegionValue
 with_log_in rs n c l = with_region rs n (with_log (region_in rs n) c l)
+
+-- the effects of a call, if it has some, are a record more of the client's log
+abbrev pub with_call_in : List RegionValue → ℕ → ℕ → ℕ → List Effect → List RegionValue
+with_call_in rs n c call es = if has_some es then with_log_in rs n c (with_more (log_in rs n c) (record { call = call; effects = es })) else rs
+
+-- records come in behind the last
+abbrev pub with_records : ReceivedLog → List LogRecord → ReceivedLog
+with_records l more = record { log = record { first = l.log.first; limit = l.log.limit; records = l.log.records ++ more }; digested = l.digested; at_home = l.at_home }
+
+-- a node gets another's logs: no client lives there
+abbrev pub away : ReceivedLog → ReceivedLog
+away l = record { log = l.log; digested = l.digested; at_home = false }
+
+-- a copy of a log, with the number up to which it is digested
+abbrev pub copied : NumberedLog × ℕ → ReceivedLog
+copied c = record { log = c.0; digested = c.1; at_home = false }
+
+-- what is digested is a part of each, and each record can be made all or none
+abbrev pub AreTaken : List (NumberedLog × ℕ) → Type 0
+AreTaken [] = Unit {0}
+AreTaken (c ∷ cs) = IsBegun (copied c) × AreWhole c.0.records × AreTaken cs
+
+abbrev pub with_logs_of : List RegionValue → ℕ → ℕ → List RegionValue
+with_logs_of rs n donor = with_region rs n (record { inodes = (region_in rs n).inodes; logs = map away (region_in rs donor).logs })
+
+-- a node has no logs any more
+abbrev pub without_logs : List RegionValue → ℕ → List RegionValue
+without_logs rs n = with_region rs n (record { inodes = (region_in rs n).inodes; logs = [] })
+
+-- ---- a client more
+
+-- a log without records, of a client that lives here or elsewhere
+abbrev pub begun_log : ℕ → Bool → ReceivedLog
+begun_log limit at_home = record { log = empty_log limit; digested = 0; at_home = at_home }
+
+-- of the nodes, which are numbered from n on, the full ones begin a log of the client
+abbrev pub with_logs_begun : (full : ℕ → Bool) (limit home n : ℕ) → List RegionValue → List RegionValue
+with_logs_begun full limit home n [] = []
+with_logs_begun full limit home n (r ∷ rs) = (if full n then with_client r (begun_log limit (n == home)) else r) ∷ with_logs_begun full limit home (suc n) rs
+
+-- the log of the client of the greatest number goes again
+abbrev pub without_log_of : ℕ → RegionValue → RegionValue
+without_log_of c r = if length r.logs == c then without_last_client r else r
+
+abbrev pub with_logs_ended : List RegionValue → ℕ → List RegionValue
+with_logs_ended rs c = map (without_log_of c) rs
 
 -- ---- changes at all nodes that have a log of the client: those that aren't full have none
 

@@ -1,23 +1,21 @@
 -- The state as the laws observe it.
 -- Assise (OSDI 2020), section 3 (CC-NVM: update logs, replication, digests, leases, recovery).
-use Rattle.std.specs.Prelude.{ℕ, ◌==◌, Bool, true, false, not, if◌then◌else◌, List, filter, length, Option, Some, None}
-use Rattle.assise_history.specs.Entries.{Event}
-use Rattle.assise_inode_table.specs.Contents.{values}
+use Rattle.std.specs.Prelude.{ℕ, Bool, true, false, not, if◌then◌else◌, List, filter, length, Option, Some, None}
+use Rattle.assise_inode_table.specs.Contents.{InodeMap, values}
+use Rattle.assise_inode_table.specs.Effects.{all_applied}
 use Rattle.assise_private_log.specs.NumberedLog.{end}
-use Rattle.assise_digest.specs.Region.{ReceivedLog, RegionValue, no_log}
-use Rattle.assise_lease_tree.specs.Trees.{levels_of}
+use Rattle.assise_digest.specs.Ahead.{all_effects}
+use Rattle.assise_digest.specs.Region.{ReceivedLog, ahead}
 use Rattle.assise_manager.specs.Membership.{lowest_full}
 use Rattle.assise_manager.specs.Standings.{Standing, is_full, standing_of}
-use Rattle.assise_manager.specs.Whole.{membership}
 use Rattle.assise_machine_laws.specs.World.{World}
-use Rattle.assise_machine_leases.specs.Leases.{Leases, client_lease, is_held, is_written}
+use Rattle.assise_machine_leases.specs.Leases.{client_lease, is_held, is_written}
 use Rattle.assise_machine_history.specs.Numbered.{kept_numbered}
 use Rattle.assise_machine_history.specs.State.{down_from}
 use Rattle.assise_machine_events.specs.Machine.{Machine}
-use Rattle.assise_machine_state.specs.ClientValues.{ClientValue, cut_of, no_client}
-use Rattle.assise_machine_state.specs.NodeValues.{new_region}
-use Rattle.assise_machine_state.specs.Places.{at}
-use Rattle.assise_machine_state.specs.declared.state.StateOf.{StateOf}
+use Rattle.assise_machine_state.specs.ClientValues.{ClientValue, client_in, client_seen}
+use Rattle.assise_machine_state.specs.NodeValues.{log_in, log_seen, region_in, region_seen}
+use Rattle.assise_machine_state.specs.StateValues.{StateValue, leases_of, standings}
 
 -- ---- nodes
 
@@ -25,67 +23,54 @@ abbrev pub stands_full : Option Standing → Bool
 stands_full None = false
 stands_full (Some s) = is_full s
 
+-- the node of this number is full
+unfoldable pub is_full_in : List Standing → ℕ → Bool
+is_full_in nodes n = stands_full (standing_of nodes n)
+
 -- the numbers of the full nodes
 unfoldable pub full_in : List Standing → List ℕ
-full_in nodes = filter (λ n. stands_full (standing_of nodes n)) (down_from (length nodes))
-
-unfoldable pub region_seen : List RegionValue → ℕ → RegionValue
-region_seen rs n = at new_region rs n
-
-unfoldable pub log_seen : List RegionValue → ℕ → ℕ → ReceivedLog
-log_seen rs n c = at no_log (region_seen rs n).logs c
+full_in nodes = filter (is_full_in nodes) (down_from (length nodes))
 
 -- ---- clients
-
-unfoldable pub client_seen : List ClientValue → ℕ → ClientValue
-client_seen cs c = at no_client cs c
 
 -- the node whose log of the client is the client's own: its home, and once that failed a full one, since all of them have the same
 abbrev pub own_node : List Standing → ClientValue → ℕ
 own_node nodes c = if c.failed then lowest_full nodes else c.home
 
-unfoldable pub own_seen : List RegionValue → List Standing → List ClientValue → ℕ → ReceivedLog
-own_seen rs nodes cs c = log_seen rs (own_node nodes (client_seen cs c)) c
+unfoldable pub own_seen : StateValue → ℕ → ReceivedLog
+own_seen s c = log_seen s.nodes (own_node (standings s) (client_seen s.clients c)) c
+
+-- ---- what is read
+
+-- the inodes as a client reads them at its home: after its records that aren't digested there
+abbrev pub inodes_read : StateValue → ℕ → InodeMap
+inodes_read s c =
+    let home : ℕ = (client_in s.clients c).home in
+    all_applied (region_in s.nodes home).inodes (all_effects (ahead (log_in s.nodes home c)))
 
 -- ---- all of it
 
-unfoldable pub world_of : List RegionValue → List Standing → List ClientValue → Leases → List Event → World
-world_of rs nodes cs l h = record {
-  full = full_in nodes;
-  area = λ n. values (region_seen rs n).inodes;
-  log = λ n c. (log_seen rs n c).log.records;
-  received = λ n c. end (log_seen rs n c).log;
-  digested = λ n c. (log_seen rs n c).digested;
-  clients = length cs;
-  home = λ c. (client_seen cs c).home;
-  lives = λ c. not (client_seen cs c).failed;
-  crashed = λ c. (client_seen cs c).crashed;
-  records = λ c. (own_seen rs nodes cs c).log.records;
-  first = λ c. (own_seen rs nodes cs c).log.first;
+unfoldable pub world_of : StateValue → World
+world_of s = record {
+  full = full_in (standings s);
+  area = λ n. values (region_seen s.nodes n).inodes;
+  log = λ n c. (log_seen s.nodes n c).log.records;
+  received = λ n c. end (log_seen s.nodes n c).log;
+  digested = λ n c. (log_seen s.nodes n c).digested;
+  clients = length s.clients;
+  home = λ c. (client_seen s.clients c).home;
+  lives = λ c. not (client_seen s.clients c).failed;
+  crashed = λ c. (client_seen s.clients c).crashed;
+  records = λ c. (own_seen s c).log.records;
+  first = λ c. (own_seen s c).log.first;
   border = λ c k. true;
-  goal = λ c. (client_seen cs c).goal;
-  next = λ c. (client_seen cs c).next;
-  made = λ c. (client_seen cs c).made;
-  holds = λ c i. is_held (client_lease l c i);
-  writes = λ c i. is_written (client_lease l c i);
-  calls = kept_numbered h;
+  goal = λ c. (client_seen s.clients c).goal;
+  next = λ c. (client_seen s.clients c).next;
+  made = λ c. (client_seen s.clients c).made;
+  holds = λ c i. is_held (client_lease (leases_of s) c i);
+  writes = λ c i. is_written (client_lease (leases_of s) c i);
+  calls = kept_numbered s.history;
 }
 
--- who holds which inode, and the cuts of what is frozen
-unfoldable pub leases_of : {C : Type 0} → StateOf C → Leases
-leases_of s = record { levels = levels_of s.leases; cut = λ c i. cut_of (client_seen s.clients c) i }
-
-unfoldable pub machine_of : {C : Type 0} → StateOf C → Machine
-machine_of s = record {
-  limit = s.limit;
-  history = s.history.events;
-  world = world_of s.nodes (membership s.members).nodes s.clients (leases_of s) s.history.events;
-  leases = leases_of s;
-  members = membership s.members;
-}
-
--- ---- changes as the laws say them
-
--- one client's log is to be replicated up to a place
-abbrev pub goal_of : ℕ → ℕ → ℕ → ℕ
-goal_of c to d = if d == c then to else 0
+unfoldable pub observed : StateValue → Machine
+observed s = record { limit = s.limit; history = s.history; world = world_of s; leases = leases_of s; members = s.members }

@@ -1,8 +1,6 @@
 // One client.
 ghost use Rattle.std.specs.Prelude.{◌≡◌};
-ghost use Rattle.assise_machine_state.specs.ClientValues.{cut_of};
 
-use assise_digest::numbers::Numbers;
 use std::marker::Model;
 
 /// What is known of a client, beside its logs and its leases.
@@ -20,8 +18,6 @@ pub struct Client {
     pub(crate) crashed: bool,
     /// Whether its node has failed since it was opened.
     pub(crate) failed: bool,
-    /// The cuts of its frozen leases by inode, while it isn't over.
-    pub(crate) cuts: Numbers,
     /// The cut of all its leases, once it crashed or its node failed.
     pub(crate) last_cut: u64,
 }
@@ -33,7 +29,7 @@ impl Model for Client {
 
     ghost coded = { coded_client };
 
-    ghost view = { λ c. record { home = c.home; goal = c.goal; next = c.next; made = c.made; crashed = c.crashed; failed = c.failed; cuts = c.cuts; last_cut = c.last_cut } };
+    ghost view = { λ c. record { home = c.home; goal = c.goal; next = c.next; made = c.made; crashed = c.crashed; failed = c.failed; last_cut = c.last_cut } };
 }
 
 impl Client {
@@ -79,14 +75,11 @@ impl Client {
         self.failed
     }
 
-    /// The cut of its frozen lease of an inode: the place in its log before which all full nodes have to have digested it
-    /// before the lease goes. One serves all its leases once it crashed or its node failed.
-    pub fn cut(&self, inode: u64) -> u64
-        ensures { result ≡ cut_of self.now inode }
+    /// The cut of all its leases once it is over: the place in its log before which all full nodes have to have digested it
+    /// before they go.
+    pub fn last_cut(&self) -> u64
+        ensures { result ≡ self.now.last_cut }
     {
-        if self.crashed || self.failed {
-            return self.last_cut;
-        }
-        self.cuts.get(inode).unwrap_or(0)
+        self.last_cut
     }
 }

@@ -1,20 +1,22 @@
 // What is known of all clients.
-ghost use Rattle.std.specs.Prelude.{◌≡◌, ◌==◌, ◌+◌, ◌^◌, ◌<◌, [], ◌∷◌, ◌++◌, IsOkUnless, None, OnErr, OnOk, length};
-ghost use Rattle.std.specs.FinMap as map;
+ghost use Rattle.std.specs.Prelude.{◌≡◌, ◌==◌, ◌+◌, ◌^◌, ◌<◌, ◌≤◌, [], ◌∷◌, ◌++◌, IfOk, IsOkUnless, length, vec_capacity};
 ghost use Rattle.assise_names.specs.declared.refusal.Refusal.TheVariants.{OutOfMemory};
-ghost use Rattle.assise_machine_state.specs.ClientValues.{client_in, crashed_at, failed_at, opened_on, with_call, with_client, with_cut, with_goal, without_cut};
+ghost use Rattle.assise_machine_state.specs.ClientValues.{client_in, crashed_at, failed_at, opened_on, with_call, with_client, with_goal};
 ghost use Rattle.assise_machine_state.specs.Places.{IsNumber};
 
 use crate::client::Client;
-use assise_digest::numbers::Numbers;
 use assise_names::refusal::Refusal;
 use std::alloc::Global;
 use std::marker::Model;
+
+/// The most clients that are ever opened.
+pub const MOST_CLIENTS: usize = 16;
 
 /// The clients that were opened, by their numbers, from 1 on. A contract sees their list.
 #[derive(Debug, Drop)]
 pub struct Clients {
     clients: Vec<Client>,
+    ghost room: { 16 ≤ vec_capacity clients },
 }
 
 impl Model for Clients {
@@ -30,13 +32,14 @@ impl Model for Clients {
 }
 
 impl Clients {
-    /// No clients. It takes no memory.
-    pub fn new(alloc: Global) -> Clients
-        ensures { result ≡ [] }
+    /// No clients, with room for 16. The one refusal is [`Refusal::OutOfMemory`].
+    pub fn new(alloc: Global) -> Result<Clients, Refusal>
+        ensures none { IfOk result (λ clients. clients ≡ []) }
+        ensures only_memory { IsOkUnless result OutOfMemory }
     {
-        Clients {
-            clients: Vec::new(alloc),
-        }
+        Ok(Clients {
+            clients: Vec::with_capacity(alloc, MOST_CLIENTS)?,
+        })
     }
 
     /// How many were opened.
@@ -61,23 +64,20 @@ impl Clients {
         &self.clients[client as usize - 1]
     }
 
-    /// Adds a client that is opened on a node. The one refusal is [`Refusal::OutOfMemory`], which leaves all as it was.
-    pub fn open(&mut self, alloc: Global, home: u32) -> Result<(), Refusal>
-        ensures ok { OnOk result (self.new ≡ self.old ++ opened_on home ∷ []) }
-        ensures err { OnErr result (self.new ≡ self.old) }
-        ensures only_memory { IsOkUnless result OutOfMemory }
+    /// Adds a client that is opened on a node, the sixteenth at most. It takes no memory.
+    pub fn open(&mut self, home: u32)
+        requires room { length self.old < 16 }
+        ensures { self.new ≡ self.old ++ opened_on home ∷ [] }
     {
-        self.clients.push(Client {
+        self.clients.push_reserved(Client {
             home,
             goal: 0,
             next: 0,
             made: 0,
             crashed: false,
             failed: false,
-            cuts: Numbers::new(alloc),
             last_cut: 0,
-        })?;
-        Ok(())
+        });
     }
 
     /// A call more of a client is answered, which makes an inode or none. It takes no memory.
@@ -101,26 +101,6 @@ impl Clients {
     {
         let it = &mut self.clients[client as usize - 1];
         it.goal = it.goal.max(to);
-    }
-
-    /// Notes the cut of a lease that was frozen. The one refusal is [`Refusal::OutOfMemory`], where the inode has no cut
-    /// yet, and it leaves all as it was.
-    pub fn set_cut(&mut self, client: u32, inode: u64, cut: u64) -> Result<(), Refusal>
-        requires client { IsNumber self.old client }
-        ensures ok { OnOk result (self.new ≡ with_client self.old client (with_cut inode cut (client_in self.old client))) }
-        ensures err { OnErr result (self.new ≡ self.old) }
-        ensures asked { OnErr result (map.get (client_in self.old client).cuts inode ≡ None) }
-        ensures only_memory { IsOkUnless result OutOfMemory }
-    {
-        self.clients[client as usize - 1].cuts.insert(inode, cut)
-    }
-
-    /// Forgets the cut of a lease that went. It takes no memory.
-    pub fn forget_cut(&mut self, client: u32, inode: u64)
-        requires client { IsNumber self.old client }
-        ensures { self.new ≡ with_client self.old client (without_cut inode (client_in self.old client)) }
-    {
-        self.clients[client as usize - 1].cuts.remove(inode);
     }
 
     /// A client crashes, and its log ends at a place. It takes no memory.

@@ -3,8 +3,11 @@
 #![tactic(auto)]
 
 pub mod client;
+pub mod client_view;
 pub mod clients;
-pub mod laws;
 pub mod nodes;
+pub mod seen_clients;
+pub mod seen_failures;
+pub mod seen_nodes;
 pub mod sound;
 pub mod state;

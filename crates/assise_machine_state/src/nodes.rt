@@ -1,19 +1,24 @@
 // What all nodes have.
-ghost use Rattle.std.specs.Prelude.{◌≡◌, ◌⊎◌, ◌+◌, ◌^◌, ◌<◌, ◌≤◌, [], IfErr, IfOk, IsOk, IsOkUnless, None, OnErr, OnOk, length, true};
+ghost use Rattle.std.specs.Prelude.{◌≡◌, ◌⊎◌, ◌+◌, ◌^◌, ◌<◌, ◌≤◌, [], ◌++◌, IfErr, IfOk, IsOk, IsOkUnless, None, OnErr, OnOk, drop, false, length, map as mapped, true};
 ghost use Rattle.std.specs.FinMap as map;
 ghost use Rattle.assise_names.specs.declared.refusal.Refusal.TheVariants.{LogFull, OutOfMemory};
 ghost use Rattle.assise_inode_table.specs.Whole.{CanBeMadeWhole};
 ghost use Rattle.assise_private_log.specs.NumberedLog.{end};
-ghost use Rattle.assise_digest.specs.Region.{HasClient, HasRoom, IsFull, IsQuiet, TouchApart, ahead_below, digested_by, from_number, log_of, up_to_number, with_inode, with_more};
-ghost use Rattle.assise_machine_state.specs.NodeValues.{AreDigested, AreUndigested, HasLog, IsDigestedTo, IsUndigestedFrom, changed_in, log_in, new_regions, region_in, with_fronts_dropped, with_log_in, with_region, with_tails_cut};
+ghost use Rattle.assise_digest.specs.Region.{AreWhole, HasClient, HasRoom, IsFull, IsQuiet, ReceivedLog, TouchApart, ahead_below, digested_by, from_number, log_of, up_to_number, with_client, with_inode, with_log, with_more};
+ghost use Rattle.assise_manager.specs.Whole.{membership};
+ghost use Rattle.assise_machine_state.specs.NodeValues.{AreDigested, AreTaken, AreUndigested, HasLog, IsDigestedTo, IsUndigestedFrom, away, begun_log, changed_in, copied, log_in, new_regions, region_in, with_fronts_dropped, with_log_in, with_logs_begun, with_logs_ended, with_logs_of, with_records, with_region, with_tails_cut, without_log_of, without_logs};
+ghost use Rattle.assise_machine_state.specs.Observed.{is_full_in};
 ghost use Rattle.assise_machine_state.specs.Places.{IsNumber};
 
 use assise_digest::region::Region;
 use assise_inode_table::inode::Inode;
+use assise_manager::members::Members;
 use assise_names::refusal::Refusal;
+use assise_private_log::log::Log;
 use assise_record::record::Record;
 use std::alloc::Global;
 use std::marker::Model;
+use std::vec::IntoIter;
 
 /// The regions of the nodes, by their numbers, from 1 on. A contract sees their list. A node that isn't full has its inodes
 /// still, and no logs.
@@ -64,6 +69,77 @@ impl Nodes {
         ensures { result.now ≡ region_in self.now node }
     {
         &self.regions[node as usize - 1]
+    }
+
+    /// All full nodes begin a log of the next client, which lives on one of them, of 8 to 4,096 records at most. The one
+    /// refusal is [`Refusal::OutOfMemory`], and it leaves all nodes as they were.
+    pub fn begin_logs(
+        &mut self,
+        alloc: Global,
+        members: &Members,
+        home: u32,
+        limit: usize,
+    ) -> Result<(), Refusal>
+        requires numbers_fit { length self.old + 1 < 2 ^ 32 }
+        requires least { 8 ≤ limit }
+        requires most { limit ≤ 4096 }
+        ensures ok { OnOk result (self.new ≡ with_logs_begun (is_full_in (membership members.now).nodes) limit home 1 self.old) }
+        ensures err { OnErr result (self.new ≡ self.old) }
+        ensures only_memory { IsOkUnless result OutOfMemory }
+    {
+        begin_all(alloc, &mut self.regions, 1, members, home, limit)
+    }
+
+    /// The log of the client of the greatest number goes from all nodes that have it. It takes no memory.
+    pub fn end_logs(&mut self, client: u32)
+        ensures { self.new ≡ with_logs_ended self.old client }
+    {
+        end_all(&mut self.regions, client);
+    }
+
+    /// Takes records of a client that lives elsewhere in at a node, behind the last, but for so many at the front. They have
+    /// room there. It takes no memory.
+    pub fn extend(&mut self, node: u32, client: u32, records: Vec<Record>, skipped: usize)
+        requires there { HasLog self.old node client }
+        requires elsewhere { (log_in self.old node client).at_home ≡ false }
+        requires room { length (log_in self.old node client).log.records + length (drop skipped records.items) ≤ (log_in self.old node client).log.limit }
+        requires numbers_fit { end (log_in self.old node client).log + length records.items < 2 ^ 64 }
+        requires whole { AreWhole records.items }
+        ensures { self.new ≡ with_log_in self.old node client (with_records (log_in self.old node client) (drop skipped records.items)) }
+    {
+        take_in(
+            &mut self.regions[node as usize - 1],
+            client,
+            records.into_iter(),
+            skipped,
+        );
+    }
+
+    /// A node that has no logs gets copies of another's, whose clients live elsewhere. Payloads are shared. The one refusal is
+    /// [`Refusal::OutOfMemory`], and it leaves all as it was.
+    pub fn copy_logs(&mut self, alloc: Global, node: u32, donor: u32) -> Result<(), Refusal>
+        requires node { IsNumber self.old node }
+        requires donor { IsNumber self.old donor }
+        requires none { (region_in self.old node).logs ≡ [] }
+        ensures ok { OnOk result (self.new ≡ with_logs_of self.old node donor) }
+        ensures err { OnErr result (self.new ≡ self.old) }
+        ensures only_memory { IsOkUnless result OutOfMemory }
+    {
+        let copies = copies_of(alloc, &self.regions[donor as usize - 1])?;
+        let region = &mut self.regions[node as usize - 1];
+        let added = add_copies(region, copies.into_iter());
+        if added.is_err() {
+            region.remove_clients();
+        }
+        added
+    }
+
+    /// A node uses an inode, which is hot there then, unless there is no memory for that.
+    pub fn touch(&mut self, node: u32, inode: u64)
+        requires node { IsNumber self.old node }
+        ensures { self.new ≡ self.old }
+    {
+        self.regions[node as usize - 1].touch(inode);
     }
 
     /// Takes a record of a client in at a node, behind the last, with effects that can be made all or none. It is refused
@@ -130,7 +206,7 @@ impl Nodes {
     /// A node that fails loses its logs, and keeps its inodes. It takes no memory.
     pub fn remove_logs(&mut self, node: u32)
         requires node { IsNumber self.old node }
-        ensures { self.new ≡ with_region self.old node (record { inodes = (region_in self.old node).inodes; logs = [] }) }
+        ensures { self.new ≡ without_logs self.old node }
     {
         self.regions[node as usize - 1].remove_clients();
     }
@@ -154,6 +230,125 @@ impl Nodes {
     {
         cut_all(&mut self.regions, client, from);
     }
+}
+
+/// A node begins a log of the next client.
+fn begin_log(alloc: Global, region: &mut Region, here: bool, limit: usize) -> Result<(), Refusal>
+    requires least { 8 ≤ limit }
+    requires most { limit ≤ 4096 }
+    ensures ok { OnOk result (region.new ≡ with_client region.old (begun_log limit here)) }
+    ensures err { OnErr result (region.new ≡ region.old) }
+    ensures only_memory { IsOkUnless result OutOfMemory }
+{
+    let log = Log::new(alloc, limit)?;
+    let added = if here {
+        region.add_own_client(log)
+    } else {
+        region.add_client(log, 0)
+    };
+    added.map_err(|refused| refused.0)
+}
+
+/// Those of the nodes, which are numbered from one on, that are full begin a log of the next client, or none does.
+fn begin_all(
+    alloc: Global,
+    regions: &mut [Region],
+    node: u32,
+    members: &Members,
+    home: u32,
+    limit: usize,
+) -> Result<(), Refusal>
+    requires numbers_fit { length regions.old + node < 2 ^ 32 }
+    requires least { 8 ≤ limit }
+    requires most { limit ≤ 4096 }
+    ensures ok { OnOk result (regions.new ≡ with_logs_begun (is_full_in (membership members.now).nodes) limit home node regions.old) }
+    ensures err { OnErr result (regions.new ≡ regions.old) }
+    ensures only_memory { IsOkUnless result OutOfMemory }
+{
+    let Some((first, rest)) = regions.split_first_mut() else {
+        return Ok(());
+    };
+    if !members.full_nodes().contains(&node) {
+        return begin_all(alloc, rest, node + 1, members, home, limit);
+    }
+    begin_log(alloc, first, node == home, limit)?;
+    let others = begin_all(alloc, rest, node + 1, members, home, limit);
+    if others.is_err() {
+        first.remove_last_client();
+    }
+    others
+}
+
+/// A node that has a log of the client of the greatest number lets it go.
+fn end_log(region: &mut Region, client: u32)
+    ensures { region.new ≡ without_log_of client region.old }
+{
+    if region.clients() == client as usize {
+        region.remove_last_client();
+    }
+}
+
+/// Each node that has a log of the client of the greatest number lets it go.
+fn end_all(regions: &mut [Region], client: u32)
+    ensures { regions.new ≡ with_logs_ended regions.old client }
+{
+    let Some((first, rest)) = regions.split_first_mut() else {
+        return;
+    };
+    end_log(first, client);
+    end_all(rest, client);
+}
+
+/// A node takes records of a client that lives elsewhere in, but for so many at the front.
+fn take_in(region: &mut Region, client: u32, mut records: IntoIter<Record>, skipped: usize)
+    requires there { HasClient region.old client }
+    requires elsewhere { (log_of region.old client).at_home ≡ false }
+    requires room { length (log_of region.old client).log.records + length (drop skipped records.rest.items) ≤ (log_of region.old client).log.limit }
+    requires numbers_fit { end (log_of region.old client).log + length records.rest.items < 2 ^ 64 }
+    requires whole { AreWhole records.rest.items }
+    ensures { region.new ≡ with_log region.old client (with_records (log_of region.old client) (drop skipped records.rest.items)) }
+{
+    let Some(added) = records.next() else {
+        return;
+    };
+    if 0 < skipped {
+        return take_in(region, client, records, skipped - 1);
+    }
+    let Ok(()) = region.append(client as usize, added) else {
+        unreachable!()
+    };
+    take_in(region, client, records, 0);
+}
+
+/// Copies of all logs of a node, each with the number up to which it is digested.
+fn copies_of(alloc: Global, region: &Region) -> Result<Vec<(Log, u64)>, Refusal>
+    ensures copies { IfOk result (λ copies. mapped copied copies.items ≡ mapped away region.now.logs) }
+    ensures sound { IfOk result (λ copies. AreTaken copies.items) }
+    ensures only_memory { IsOkUnless result OutOfMemory }
+{
+    let mut copies = Vec::with_capacity(alloc, region.clients())?;
+    for place in 0..region.clients() {
+        let log = region.log(place + 1).copy(alloc)?;
+        let digested = region.digested(place + 1);
+        copies.push((log, digested))?;
+    }
+    Ok(copies)
+}
+
+/// A node gets these logs behind its own, of clients that live elsewhere, up to the first for which there is no memory.
+fn add_copies(region: &mut Region, mut copies: IntoIter<(Log, u64)>) -> Result<(), Refusal>
+    requires sound { AreTaken copies.rest.items }
+    ensures ok { OnOk result (region.new ≡ record { inodes = region.old.inodes; logs = region.old.logs ++ mapped copied copies.rest.items }) }
+    ensures err { OnErr result (region.new.inodes ≡ region.old.inodes) }
+    ensures only_memory { IsOkUnless result OutOfMemory }
+{
+    let Some((log, digested)) = copies.next() else {
+        return Ok(());
+    };
+    if region.add_client(log, digested).is_err() {
+        return Err(Refusal::OutOfMemory);
+    }
+    add_copies(region, copies)
 }
 
 /// A node that has a log of a client lets its records below a place go.

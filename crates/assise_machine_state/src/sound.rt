@@ -1,42 +1,53 @@
 // The state as it is between events.
 ghost use Rattle.assise_machine_events.specs.Machine.{Holds};
-ghost use Rattle.assise_machine_state.specs.Observed.{machine_of};
+ghost use Rattle.assise_machine_state.specs.Shape.{AreNoted, IsShaped};
+ghost use Rattle.assise_machine_state.specs.Whole.{machine_of, value_of};
 
 use crate::state::StateOf;
+use assise_digest::region::Region;
 use assise_history::history::History;
 use assise_lease_table::revoker::{Revoker, Revokes};
+use assise_manager::phase::Phase;
 use assise_names::refusal::Refusal;
 use std::alloc::Global;
 
-/// A state in which all holds that holds between events.
+/// A state in which all holds that holds between events. An event that changes it gives it back so.
 #[derive(Drop)]
 pub struct SoundOf<C> {
-    state: StateOf<C>,
+    /// The state.
+    pub state: StateOf<C>,
     ghost holds: { ∥ Holds (machine_of state) ∥₁ },
+    ghost shape: { IsShaped (value_of state) },
+    ghost noted: { AreNoted (value_of state) },
 }
 
 /// A state whose clients store a [`Revoker`].
 pub type Sound = SoundOf<Revoker>;
 
 impl<C: Revokes + Drop> SoundOf<C> {
-    ghost use Rattle.std.specs.Prelude.{◌≡◌, ◌<◌, ◌≤◌, IfOk, IsOkUnless};
-    ghost use Rattle.assise_names.specs.declared.refusal.Refusal.TheVariants.{OutOfMemory};
+    ghost use Rattle.std.specs.Prelude.{◌≡◌, ◌↔◌, ◌<◌, ◌≤◌, Err, IfOk, IsOk, IsOkUnless, None, Some};
+    ghost use Rattle.assise_names.specs.declared.refusal.Refusal.{Refusal as Refused};
+    ghost use Rattle.assise_names.specs.declared.refusal.Refusal.TheVariants.{BadClient, OutOfMemory};
+    ghost use Rattle.assise_machine_laws.specs.World.{IsClient, received_by_all};
+    ghost use Rattle.assise_machine_events.specs.Faults.{node_fault};
     ghost use Rattle.assise_machine_events.specs.Machine.{begun_as};
-    ghost use Rattle.assise_machine_state.specs.Observed.{machine_of};
-    ghost use Rattle.assise_machine_state.specs.Sound.{machine_in};
+    ghost use Rattle.assise_machine_state.specs.NodeValues.{region_seen};
 
-    /// A cluster in which nothing happened: so many full nodes, at least one, whose clients' logs have 8 to 4,096 records at
-    /// most, and 1 to 4,096 inodes that may be hot. The one refusal is [`Refusal::OutOfMemory`].
+    /// A cluster in which nothing happened: 1 to 8 full nodes, whose clients' logs have 8 to 4,096 records at most, and 1 to
+    /// 4,096 inodes that may be hot. The one refusal is [`Refusal::OutOfMemory`].
     pub fn new(
         alloc: Global,
         nodes: u32,
         limit: usize,
         hot_capacity: usize,
     ) -> Result<SoundOf<C>, Refusal>
-        requires some { 0 < nodes }
+        requires some_nodes { 0 < nodes }
+        requires few_nodes { nodes ≤ 8 }
+        requires least_limit { 8 ≤ limit }
+        requires most_limit { limit ≤ 4096 }
         requires least_hot { 1 ≤ hot_capacity }
         requires most_hot { hot_capacity ≤ 4096 }
-        ensures begun { IfOk result (λ s. machine_in s ≡ begun_as nodes limit) }
+        ensures begun { IfOk result (λ s. machine_of s.state ≡ begun_as nodes limit) }
         ensures only_memory { IsOkUnless result OutOfMemory }
     {
         Ok(SoundOf {
@@ -46,8 +57,34 @@ impl<C: Revokes + Drop> SoundOf<C> {
 
     /// What was answered and what happened, in order.
     pub fn history(&self) -> &History
-        ensures { result.now.events ≡ (machine_in self.now).history }
+        ensures { result.now.events ≡ (machine_of self.now.state).history }
     {
         &self.state.history
+    }
+
+    /// What a full node has. Refused with [`Refusal::BadNode`] where there is no such node, and [`Refusal::WrongPhase`] where
+    /// it isn't full.
+    pub fn region(&self, node: u32) -> Result<&Region, Refusal>
+        ensures fault { (e : Refused) → node_fault (machine_of self.now.state) node ≡ Some e → result ≡ Err e }
+        ensures ok { IsOk result ↔ (node_fault (machine_of self.now.state) node ≡ None) }
+        ensures region { IfOk result (λ r. r.now ≡ region_seen self.now.state.nodes node) }
+    {
+        match self.state.members.phase(node)? {
+            Phase::Full => Ok(self.state.nodes.region(node)),
+            Phase::Down | Phase::Returning => Err(Refusal::WrongPhase),
+        }
+    }
+
+    /// The place up to which all full nodes have a client's log: its records below are acknowledged. The one refusal is
+    /// [`Refusal::BadClient`]. It costs the nodes.
+    pub fn acked(&self, client: u32) -> Result<u64, Refusal>
+        ensures acked { IfOk result (λ place. place ≡ received_by_all (machine_of self.now.state).world client) }
+        ensures ok { IsOk result ↔ IsClient (machine_of self.now.state).world client }
+        ensures only_bad { IsOkUnless result BadClient }
+    {
+        if client == 0 || client as usize > self.state.clients.len() {
+            return Err(Refusal::BadClient);
+        }
+        Ok(self.state.acked(client))
     }
 }

@@ -2,9 +2,12 @@
 ghost use Rattle.std.specs.Prelude.{◌≡◌, ◌<◌, ◌≤◌, IfOk, IsOkUnless};
 ghost use Rattle.assise_names.specs.declared.refusal.Refusal.TheVariants.{OutOfMemory};
 
+use crate::client_view::ClientView;
 use crate::clients::Clients;
 use crate::nodes::Nodes;
+use assise_digest::region::Region;
 use assise_history::history::History;
+use assise_lease_table::lease::Asked;
 use assise_lease_table::revoker::{Revoker, Revokes};
 use assise_lease_tree::lease_tree::LeaseTreeOf;
 use assise_manager::members::Members;
@@ -22,6 +25,8 @@ pub struct StateOf<C> {
     pub clients: Clients,
     /// Who holds which inode.
     pub leases: LeaseTreeOf<C>,
+    /// What clients answered that were asked for their leases, until these go.
+    pub cuts: Vec<Asked>,
     /// What was answered and what happened.
     pub history: History,
     /// The most records of a client's log.
@@ -32,34 +37,109 @@ pub struct StateOf<C> {
 pub type State = StateOf<Revoker>;
 
 impl<C: Revokes + Drop> StateOf<C> {
-    ghost use Rattle.std.specs.Prelude.{◌≡◌, IfOk, IsOkUnless};
+    ghost use Rattle.std.specs.Prelude.{◌≡◌, ◌<◌, ◌≤◌, IfOk, IsOkUnless, false};
     ghost use Rattle.assise_names.specs.declared.refusal.Refusal.TheVariants.{OutOfMemory};
+    ghost use Rattle.assise_digest.specs.Region.{HasClient};
+    ghost use Rattle.assise_manager.specs.Whole.{membership};
+    ghost use Rattle.assise_machine_laws.specs.World.{digested_by_all, received_by_all};
     ghost use Rattle.assise_machine_events.specs.Machine.{begun_as};
-    ghost use Rattle.assise_machine_state.specs.NodeValues.{new_regions};
-    ghost use Rattle.assise_machine_state.specs.Observed.{machine_of};
+    ghost use Rattle.assise_machine_state.specs.ClientValues.{client_in};
+    ghost use Rattle.assise_machine_state.specs.NodeValues.{new_regions, region_in};
+    ghost use Rattle.assise_machine_state.specs.Observed.{inodes_read, own_node, world_of};
+    ghost use Rattle.assise_machine_state.specs.Places.{IsNumber};
+    ghost use Rattle.assise_machine_state.specs.Shape.{AreNoted, IsShaped};
+    ghost use Rattle.assise_machine_state.specs.Whole.{machine_of, value_of};
 
-    /// A cluster in which nothing happened: so many full nodes, at least one, whose clients' logs have 8 to 4,096 records at
-    /// most, and 1 to 4,096 inodes that may be hot. The one refusal is [`Refusal::OutOfMemory`].
+    /// A cluster in which nothing happened: 1 to 8 full nodes, whose clients' logs have 8 to 4,096 records at most, and 1 to
+    /// 4,096 inodes that may be hot. The one refusal is [`Refusal::OutOfMemory`].
     pub fn new(
         alloc: Global,
         nodes: u32,
         limit: usize,
         hot_capacity: usize,
     ) -> Result<StateOf<C>, Refusal>
-        requires some { 0 < nodes }
+        requires some_nodes { 0 < nodes }
+        requires few_nodes { nodes ≤ 8 }
+        requires least_limit { 8 ≤ limit }
+        requires most_limit { limit ≤ 4096 }
         requires least_hot { 1 ≤ hot_capacity }
         requires most_hot { hot_capacity ≤ 4096 }
         ensures begun { IfOk result (λ s. machine_of s ≡ begun_as nodes limit) }
+        ensures shape { IfOk result (λ s. IsShaped (value_of s)) }
+        ensures noted { IfOk result (λ s. AreNoted (value_of s)) }
         ensures regions { IfOk result (λ s. s.nodes ≡ new_regions nodes) }
         ensures only_memory { IsOkUnless result OutOfMemory }
     {
         Ok(StateOf {
             nodes: Nodes::new(alloc, nodes, hot_capacity)?,
             members: Members::new(alloc, nodes)?,
-            clients: Clients::new(alloc),
+            clients: Clients::new(alloc)?,
             leases: LeaseTreeOf::new(alloc),
+            cuts: Vec::new(alloc),
             history: History::new(alloc),
             limit,
         })
+    }
+
+    /// The place up to which all full nodes have a client's log: its records below are acknowledged. It costs the nodes.
+    pub fn acked(&self, client: u32) -> u64
+        requires client { IsNumber self.now.clients client }
+        requires shape { IsShaped (value_of self.now) }
+        ensures { result ≡ received_by_all (world_of (value_of self.now)) client }
+    {
+        let mut least = self.own_region(client).log(client as usize).end();
+        for node in self.members.full_nodes() {
+            let received = self.nodes.region(*node).log(client as usize).end();
+            least = least.min(received);
+        }
+        least
+    }
+
+    /// The place up to which all full nodes have digested a client's log. It costs the nodes.
+    pub fn digested(&self, client: u32) -> u64
+        requires client { IsNumber self.now.clients client }
+        requires shape { IsShaped (value_of self.now) }
+        ensures { result ≡ digested_by_all (world_of (value_of self.now)) client }
+    {
+        let mut least = self.own_region(client).log(client as usize).end();
+        for node in self.members.full_nodes() {
+            let digested = self.nodes.region(*node).digested(client as usize);
+            least = least.min(digested);
+        }
+        least
+    }
+
+    /// The region whose log of a client is the client's own: that of its home, and once that failed of the lowest full node,
+    /// since all full nodes have the same then.
+    pub fn own_region(&self, client: u32) -> &Region
+        requires client { IsNumber self.now.clients client }
+        requires shape { IsShaped (value_of self.now) }
+        ensures region { result.now ≡ region_in self.now.nodes (own_node (membership self.now.members).nodes (client_in self.now.clients client)) }
+        ensures log { HasClient result.now client }
+    {
+        let known = self.clients.get(client);
+        let node = if known.has_failed() {
+            self.members.full_nodes()[0]
+        } else {
+            known.home()
+        };
+        self.nodes.region(node)
+    }
+
+    /// What a client reads whose node hasn't failed since it was opened, with its leases.
+    pub fn view(&self, client: u32) -> ClientView<'_, C>
+        requires client { IsNumber self.now.clients client }
+        requires lives { (client_in self.now.clients client).failed ≡ false }
+        requires shape { IsShaped (value_of self.now) }
+        ensures client { result.client ≡ client }
+        ensures inodes { result.inodes ≡ inodes_read (value_of self.now) client }
+        ensures leases { result.leases.now ≡ self.now.leases }
+    {
+        let home = self.clients.get(client).home();
+        ClientView {
+            client,
+            inodes: self.nodes.region(home).inodes_of(client as usize),
+            leases: &self.leases,
+        }
     }
 }

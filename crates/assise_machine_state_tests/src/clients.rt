@@ -4,15 +4,15 @@ use assise_machine_state::clients::Clients;
 
 #[test]
 fn nobody_is_there_at_first(rt: HostRuntime) {
-    let clients = Clients::new(rt.alloc());
+    let clients = Clients::new(rt.alloc()).expect(&rt, "no memory");
     assert!(rt; clients.is_empty());
     assert_eq!(rt; clients.len(), 0);
 }
 
 #[test]
 fn clients_are_numbered_from_1_as_they_are_opened(rt: HostRuntime) {
-    let mut clients = Clients::new(rt.alloc());
-    clients.open(rt.alloc(), 3).expect(&rt, "no memory");
+    let mut clients = Clients::new(rt.alloc()).expect(&rt, "no memory");
+    clients.open(3);
     assert!(rt; !clients.is_empty());
     assert_eq!(rt; clients.len(), 1);
     see(
@@ -22,7 +22,7 @@ fn clients_are_numbered_from_1_as_they_are_opened(rt: HostRuntime) {
         1,
         "node 3, goal 0, next 0, made 0",
     );
-    clients.open(rt.alloc(), 5).expect(&rt, "no memory");
+    clients.open(5);
     assert_eq!(rt; clients.len(), 2);
     see_other(rt.alloc(), &rt, &clients);
 }
@@ -75,33 +75,11 @@ fn a_goal_is_never_lowered(rt: HostRuntime) {
 }
 
 #[test]
-fn each_inode_has_the_cut_that_was_set_last(rt: HostRuntime) {
+fn a_client_that_is_not_over_has_no_last_cut(rt: HostRuntime) {
     let mut clients = two_clients(rt.alloc()).expect(&rt, "no memory");
-    clients.set_cut(1, 12, 6).expect(&rt, "no memory");
-    clients.set_cut(1, 10, 4).expect(&rt, "no memory");
-    clients.set_cut(1, 12, 5).expect(&rt, "no memory");
-    assert_eq!(rt; clients.get(1).cut(10), 4);
-    assert_eq!(rt; clients.get(1).cut(12), 5);
-    assert_eq!(rt; clients.get(1).cut(11), 0);
-    see(
-        rt.alloc(),
-        &rt,
-        &clients,
-        1,
-        "node 3, goal 0, next 0, made 0",
-    );
-    see_other(rt.alloc(), &rt, &clients);
-}
-
-#[test]
-fn one_cut_alone_is_forgotten(rt: HostRuntime) {
-    let mut clients = two_clients(rt.alloc()).expect(&rt, "no memory");
-    clients.set_cut(1, 10, 4).expect(&rt, "no memory");
-    clients.set_cut(1, 12, 5).expect(&rt, "no memory");
-    clients.forget_cut(1, 12);
-    clients.forget_cut(1, 11);
-    assert_eq!(rt; clients.get(1).cut(10), 4);
-    assert_eq!(rt; clients.get(1).cut(12), 0);
+    clients.raise_goal(1, 7);
+    clients.note_call(1, false);
+    assert_eq!(rt; clients.get(1).last_cut(), 0);
     see_other(rt.alloc(), &rt, &clients);
 }
 
@@ -109,10 +87,8 @@ fn one_cut_alone_is_forgotten(rt: HostRuntime) {
 fn a_crash_sets_the_goal_to_the_end(rt: HostRuntime) {
     let mut clients = two_clients(rt.alloc()).expect(&rt, "no memory");
     clients.raise_goal(1, 7);
-    clients.set_cut(1, 10, 4).expect(&rt, "no memory");
     clients.crash(1, 12);
-    assert_eq!(rt; clients.get(1).cut(10), 12);
-    assert_eq!(rt; clients.get(1).cut(12), 12);
+    assert_eq!(rt; clients.get(1).last_cut(), 12);
     see(
         rt.alloc(),
         &rt,
@@ -127,10 +103,8 @@ fn a_crash_sets_the_goal_to_the_end(rt: HostRuntime) {
 fn a_failure_lowers_the_goal_to_what_is_kept(rt: HostRuntime) {
     let mut clients = two_clients(rt.alloc()).expect(&rt, "no memory");
     clients.raise_goal(1, 7);
-    clients.set_cut(1, 10, 6).expect(&rt, "no memory");
     clients.fail(1, 4);
-    assert_eq!(rt; clients.get(1).cut(10), 4);
-    assert_eq!(rt; clients.get(1).cut(12), 4);
+    assert_eq!(rt; clients.get(1).last_cut(), 4);
     see(
         rt.alloc(),
         &rt,
@@ -146,6 +120,7 @@ fn a_failure_leaves_a_goal_below_what_is_kept(rt: HostRuntime) {
     let mut clients = two_clients(rt.alloc()).expect(&rt, "no memory");
     clients.raise_goal(1, 7);
     clients.fail(1, 9);
+    assert_eq!(rt; clients.get(1).last_cut(), 9);
     see(
         rt.alloc(),
         &rt,
@@ -161,6 +136,7 @@ fn a_client_crashes_and_its_node_fails(rt: HostRuntime) {
     let mut clients = two_clients(rt.alloc()).expect(&rt, "no memory");
     clients.crash(1, 12);
     clients.fail(1, 8);
+    assert_eq!(rt; clients.get(1).last_cut(), 8);
     see(
         rt.alloc(),
         &rt,

@@ -2,7 +2,7 @@
 ghost use Rattle.std.specs.Prelude.{◌≡◌, IfSome};
 ghost use Rattle.assise_machine_state.specs.NodeValues.{new_regions};
 
-use crate::seen::{is_quiet, see_inode, see_no_logs};
+use crate::seen::{has_node, is_quiet, see_inode, see_no_logs};
 use assise_inode_table::inode::Inode;
 use assise_machine_state::nodes::Nodes;
 use std::alloc::Global;
@@ -27,6 +27,15 @@ fn stale(nodes: &mut Nodes, node: u32, inode: u64) -> Option<()> {
         return None;
     }
     nodes.stale(node, inode);
+    Some(())
+}
+
+/// A node uses an inode, if there is such a node.
+fn touch(nodes: &mut Nodes, node: u32, inode: u64) -> Option<()> {
+    if !has_node(nodes, node) {
+        return None;
+    }
+    nodes.touch(node, inode);
     Some(())
 }
 
@@ -74,6 +83,20 @@ fn one_node_alone_gets_none_in_place_of_an_inode(rt: HostRuntime) {
     refill(&mut nodes, 1, 9, None).expect(&rt, "no memory");
     see_inode(rt.alloc(), &rt, &nodes, 0, " none; dir 0; dir 0;");
     see_inode(rt.alloc(), &rt, &nodes, 9, " none; none; none;");
+}
+
+#[test]
+fn a_node_that_touches_an_inode_has_what_it_had(rt: HostRuntime) {
+    let mut nodes = three_nodes(rt.alloc()).expect(&rt, "no memory");
+    let file = Inode::new_file(rt.alloc());
+    refill(&mut nodes, 2, 9, Some(file)).expect(&rt, "no memory");
+    touch(&mut nodes, 2, 9).expect(&rt, "no node");
+    touch(&mut nodes, 2, 0).expect(&rt, "no node");
+    touch(&mut nodes, 3, 9).expect(&rt, "no node");
+    see_inode(rt.alloc(), &rt, &nodes, 9, " none; file 0; none;");
+    see_inode(rt.alloc(), &rt, &nodes, 0, " dir 0; dir 0; dir 0;");
+    see_no_logs(&rt, &nodes);
+    assert_eq!(rt; nodes.len(), 3);
 }
 
 #[test]

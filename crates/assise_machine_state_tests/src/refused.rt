@@ -5,57 +5,17 @@ use assise_machine_state::clients::Clients;
 use assise_machine_state::nodes::Nodes;
 use assise_machine_state::sound::Sound;
 use assise_names::refusal::Refusal;
-use std::alloc::{AllocError, Global};
+use std::alloc::Global;
 
-/// All clients as text.
-fn text_of(alloc: Global, clients: &Clients) -> Result<String, AllocError> {
-    format!(in alloc; "{clients:?}")
-}
-
-/// Opens a client, and says whether a refusal left the clients as they were.
-fn open(alloc: Global, clients: &mut Clients, home: u32) -> Result<bool, Refusal> {
-    let before = text_of(alloc, clients)?;
-    match clients.open(alloc, home) {
-        Ok(()) => Ok(true),
-        Err(Refusal::OutOfMemory) => Ok(before.as_str() == text_of(alloc, clients)?.as_str()),
-        Err(_) => Ok(false),
-    }
-}
-
-/// Opens clients, so many that their list grows.
+/// A table of clients, with the sixteen that there may be.
 fn opens(alloc: Global) -> Result<bool, Refusal> {
-    let mut clients = Clients::new(alloc);
-    for home in 1..9 {
-        if !open(alloc, &mut clients, home)? {
-            return Ok(false);
+    let mut clients = Clients::new(alloc)?;
+    for home in 1..17 {
+        if clients.len() < 16 {
+            clients.open(home);
         }
     }
-    Ok(true)
-}
-
-/// Sets a cut of client 1, if it is there, and says whether a refusal left the clients as they were.
-fn set_cut(alloc: Global, clients: &mut Clients, inode: u64) -> Result<bool, Refusal> {
-    let before = text_of(alloc, clients)?;
-    if clients.is_empty() {
-        return Ok(false);
-    }
-    match clients.set_cut(1, inode, 4) {
-        Ok(()) => Ok(true),
-        Err(Refusal::OutOfMemory) => Ok(before.as_str() == text_of(alloc, clients)?.as_str()),
-        Err(_) => Ok(false),
-    }
-}
-
-/// Sets cuts of a client, so many that their map grows.
-fn sets_cuts(alloc: Global) -> Result<bool, Refusal> {
-    let mut clients = Clients::new(alloc);
-    clients.open(alloc, 3)?;
-    for inode in 0..16 {
-        if !set_cut(alloc, &mut clients, inode)? {
-            return Ok(false);
-        }
-    }
-    Ok(true)
+    Ok(clients.len() == 16)
 }
 
 /// Makes two nodes, and gives the second an inode.
@@ -84,17 +44,8 @@ fn begins(alloc: Global) -> Result<bool, Refusal> {
 }
 
 #[test]
-fn a_client_that_is_refused_leaves_all_as_it_was(rt: HostRuntime) {
+fn a_table_of_clients_is_refused_or_has_room_for_all(rt: HostRuntime) {
     let ended = opens(rt.alloc());
-    assert!(rt;
-        matches!(ended, Ok(true) | Err(Refusal::OutOfMemory)),
-        "{ended:?}"
-    );
-}
-
-#[test]
-fn a_cut_that_is_refused_leaves_all_as_it_was(rt: HostRuntime) {
-    let ended = sets_cuts(rt.alloc());
     assert!(rt;
         matches!(ended, Ok(true) | Err(Refusal::OutOfMemory)),
         "{ended:?}"

@@ -17,13 +17,13 @@ use std::process::Abort;
 pub(crate) fn two_clients(alloc: Global) -> Option<Clients>
     ensures { IfSome result (λ clients. clients ≡ opened_on 3 ∷ opened_on 5 ∷ []) }
 {
-    let mut clients = Clients::new(alloc);
-    clients.open(alloc, 3).ok()?;
-    clients.open(alloc, 5).ok()?;
+    let mut clients = Clients::new(alloc).ok()?;
+    clients.open(3);
+    clients.open(5);
     Some(clients)
 }
 
-/// Sees what is known of a client, but for its cuts.
+/// Sees what is known of a client, but for its last cut.
 pub(crate) fn see(alloc: Global, rt: &impl Abort, clients: &Clients, client: u32, known: &str)
     requires client { IsNumber clients.now client }
 {
@@ -48,8 +48,7 @@ pub(crate) fn see_other(alloc: Global, rt: &impl Abort, clients: &Clients)
     requires client { IsNumber clients.now 2 }
 {
     see(alloc, rt, clients, 2, "node 5, goal 0, next 0, made 0");
-    assert_eq!(rt; clients.get(2).cut(10), 0);
-    assert_eq!(rt; clients.get(2).cut(12), 0);
+    assert_eq!(rt; clients.get(2).last_cut(), 0);
 }
 
 /// Whether there is a node of this number.
@@ -62,6 +61,7 @@ pub(crate) fn has_node(nodes: &Nodes, node: u32) -> bool
 /// Whether there is a node of this number, and it has no logs.
 pub(crate) fn is_quiet(nodes: &Nodes, node: u32) -> bool
     ensures node { result ≡ true → IsNumber nodes.now node }
+    ensures none { result ≡ true → (region_in nodes.now node).logs ≡ [] }
     ensures quiet { result ≡ true → (inode : ℕ) → IsQuiet (region_in nodes.now node) inode }
 {
     has_node(nodes, node) && nodes.region(node).clients() == 0
@@ -84,7 +84,7 @@ pub(crate) fn see_inode(alloc: Global, rt: &impl Abort, nodes: &Nodes, inode: u6
     assert!(rt; text.as_str() == known, "inode {inode}:{text}");
 }
 
-fn put_found(text: &mut String, found: Option<&Inode>) -> Result<(), AllocError> {
+pub(crate) fn put_found(text: &mut String, found: Option<&Inode>) -> Result<(), AllocError> {
     match found {
         Some(inode) => put_inode(text, inode),
         None => text.push_str(" none;"),
@@ -103,4 +103,36 @@ pub(crate) fn see_no_logs(rt: &impl Abort, nodes: &Nodes) {
             assert_eq!(rt; nodes.region(node).clients(), 0, "node {node}");
         }
     }
+}
+
+/// What each node has of a client's log, from node 1 on: its first number, that up to which it is digested, that behind
+/// the last, and whether the client lives there; or that there is none.
+pub(crate) fn logs_of(alloc: Global, nodes: &Nodes, client: u32) -> Option<String> {
+    let mut text = String::new(alloc);
+    for node in 1..9 {
+        if has_node(nodes, node) {
+            put_log(&mut text, nodes.region(node), client as usize).ok()?;
+        }
+    }
+    Some(text)
+}
+
+fn put_log(text: &mut String, region: &Region, client: usize) -> Result<(), AllocError> {
+    if client == 0 || region.clients() < client {
+        return text.push_str(" none;");
+    }
+    let (first, end) = (region.log(client).first(), region.log(client).end());
+    let digested = region.digested(client);
+    let place = if region.is_at_home(client) {
+        "home"
+    } else {
+        "away"
+    };
+    write!(text, " {first}..{digested}..{end} {place};")
+}
+
+/// Sees what each node has of a client's log.
+pub(crate) fn see_logs(alloc: Global, rt: &impl Abort, nodes: &Nodes, client: u32, known: &str) {
+    let text = logs_of(alloc, nodes, client).expect(rt, "no memory");
+    assert!(rt; text.as_str() == known, "client {client}:{text}");
 }

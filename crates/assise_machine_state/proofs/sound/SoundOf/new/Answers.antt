@@ -4,4 +4,4 @@ use Rattle.assise_machine_events.proofs.Beginning.{begun_holds}
 use Rattle.assise_machine_state.proofs.sound.SoundOf.new.Goals as goal
 
 pub invariant_of-result : goal.invariant_of-result
-invariant_of-result g c = record { holds = ∣ subst Holds (sym c.in_ok-new.ensures.begun) (begun_holds c.args.nodes c.args.limit c.requires.some) ∣₁ }
+invariant_of-result g c = record { holds = ∣ subst Holds (sym c.in_ok-new.ensures.begun) (begun_holds c.args.nodes c.args.limit c.requires.some_nodes) ∣₁; shape = c.in_ok-new.ensures.shape; noted = c.in_ok-new.ensures.noted }

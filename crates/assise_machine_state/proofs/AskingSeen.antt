@@ -1,0 +1,499 @@
+-- What the laws observe where those who stand in a call's way are asked for their leases.
+use Rattle.std.proofs.Common.{◌≡◌, ◌≢◌, ◌⊎◌, inl, inr, ℕ, zero, suc, ◌+◌, ◌-◌, ◌≤◌, max, nat_lt, ◌==◌, Bool, true, false, cond, not, ◌&&◌, ◌||◌, if◌then◌else◌, List, [], ◌∷◌, ◌++◌, length, filter, drop, slice_get, Option, Some, None, refl, ap, sym, subst, ◌∙◌, arith, eq-eqb}
+use Rattle.std.specs.List.{list_all, list_any}
+use Rattle.std.proofs.Math.Bool.{and-true}
+use Rattle.std.proofs.lemmas.Bool.{and_from, and_parts, and_right, cases_Bool, cases_eq, eqb-true, false_from_ne_true, ne_eqb, not-true, or_cases, or_left, or_parts, or_right}
+use Rattle.std.proofs.lemmas.List.{length-set}
+use Rattle.std.proofs.lemmas.List.Folds.{list_any-append}
+use Rattle.assise_names.specs.declared.mode.Mode.{Mode}
+use Rattle.assise_record.specs.declared.effect.Effect.{Effect}
+use Rattle.assise_record.specs.LogRecord.{LogRecord}
+use Rattle.assise_record.specs.Touched.{touched_by}
+use Rattle.assise_inode_table.specs.Effects.{contains, touched}
+use Rattle.assise_private_log.specs.NumberedLog.{NumberedLog, record_at}
+use Rattle.assise_private_log.specs.Touches.{Covers as CoversLog, found_touches}
+use Rattle.assise_digest.specs.Ahead.{all_effects}
+use Rattle.assise_lease_table.specs.declared.lease.Asked.{Asked}
+use Rattle.assise_lease_table.specs.declared.lease.Lease.{Lease}
+use Rattle.assise_lease_table.specs.Answers.{clients_of}
+use Rattle.assise_lease_table.specs.Leases.{Among, apart, compatible, holders, is_to_ask, lease_of}
+use Rattle.assise_lease_table.proofs.Compatibles.{differ, filter_compatible}
+use Rattle.assise_lease_table.proofs.Elements.{all_among, among_all, among_any, among_filter, not_both}
+use Rattle.assise_lease_tree.specs.Levels.{in_way, is_frozen}
+use Rattle.assise_lease_tree.specs.TwoLevels.{IsAskedFor, TwoLevels, is_free_for}
+use Rattle.assise_machine_laws.specs.ClientSteps.{RaisesGoals}
+use Rattle.assise_machine_laws.specs.Staying.{SameClients, SameLeases, SameLogs, SameNodes}
+use Rattle.assise_machine_laws.specs.World.{end}
+use Rattle.assise_machine_laws.proofs.Logs.{contains-all_effects}
+use Rattle.assise_machine_leases.specs.Handing.{Asks, asked_goal, is_newly_frozen}
+use Rattle.assise_machine_leases.specs.Leases.{AreLeases, Covers, IsFrozenLease, Leases, client_lease, is_held, is_written, records_from}
+use Rattle.assise_machine_leases.proofs.Finding.{freeze_of, frozen_held, frozen_one, held_one, still_frozen, written_one}
+use Rattle.assise_machine_state.specs.Changes.{after_asking, with_goals}
+use Rattle.assise_machine_state.specs.ClientValues.{ClientValue, client_in, client_seen, is_over, with_client, with_goal}
+use Rattle.assise_machine_state.specs.Cuts.{are_once, cut_in, is_asked, is_of}
+use Rattle.assise_machine_state.specs.Observed.{own_seen, world_of}
+use Rattle.assise_machine_state.specs.Places.{IsNumber}
+use Rattle.assise_machine_state.specs.Shape.{AreAnswers, AreNoted, IsShaped}
+use Rattle.assise_machine_state.specs.StateValues.{StateValue, leases_of}
+use Rattle.assise_machine_state.proofs.Fullness.{lives_number}
+use Rattle.assise_machine_state.proofs.Noted.{none_cut}
+use Rattle.assise_machine_state.proofs.Seeing.{client_else, client_here, client_is, client_same}
+use Rattle.assise_machine_state.proofs.Shaping.{shaped_as}
+use Rattle.assise_machine_state.proofs.Staying.{node_as}
+
+-- ---- the holders that are left of compatible leases
+
+-- there is a lease, and it passes
+abbrev passes : (Lease → Bool) → Option Lease → Bool
+passes p None = false
+passes p (Some a) = p a
+
+-- a lease has no other of its holder beside it
+none_else : (l : Lease) (ls : List Lease) → list_all (apart l) ls ≡ true → contains (holders ls) l.holder ≡ false
+none_else l [] all = refl
+none_else l (k ∷ ks) all =
+    let parts = and_parts (apart l k) (list_all (apart l) ks) all in
+    let other : (l.holder == k.holder) ≡ false = not-true (l.holder == k.holder) (and_parts (not (l.holder == k.holder)) _ parts.0).0 in
+    ap (λ b. b || contains (holders ks) l.holder) (ne_eqb k.holder l.holder (λ same. differ l.holder k.holder other (sym same)))
+    ∙ none_else l ks parts.1
+
+-- the first lease, which stays or goes
+
+own_left : (b : Bool) (l : Lease) (ls : List Lease) (d : ℕ) → (l.holder == d) ≡ true → contains (holders ls) d ≡ false → contains (holders (cond b (l ∷ ls) ls)) d ≡ b
+own_left true l ls d own none = ap (λ e. e || contains (holders ls) d) own
+own_left false l ls d own none = none
+
+else_left : (b : Bool) (l : Lease) (ls : List Lease) (d : ℕ) → (l.holder == d) ≡ false → contains (holders (cond b (l ∷ ls) ls)) d ≡ contains (holders ls) d
+else_left true l ls d other = ap (λ e. e || contains (holders ls) d) other
+else_left false l ls d other = refl
+
+-- a holder is left where its lease passes
+holder_left : (p : Lease → Bool) (ls : List Lease) (d : ℕ) → compatible ls ≡ true → contains (holders (filter p ls)) d ≡ passes p (lease_of ls d)
+holder_left p [] d fits = refl
+holder_left p (l ∷ ls) d fits =
+    let parts = and_parts (list_all (apart l) ls) (compatible ls) fits in
+    let apart_left : list_all (apart l) (filter p ls) ≡ true = among_all (apart l) (filter p ls) (λ x a. all_among (apart l) ls parts.0 x (among_filter p ls x a).0) in
+    elim (cases_Bool (l.holder == d)) [
+      | inl own ↦
+          own_left (p l) l (filter p ls) d own (ap (contains (holders (filter p ls))) (sym (eqb-true l.holder d own)) ∙ none_else l (filter p ls) apart_left)
+          ∙ sym (ap (λ b. passes p (cond b (Some l) (lease_of ls d))) own)
+      | inr other ↦
+          else_left (p l) l (filter p ls) d other ∙ holder_left p ls d parts.1
+          ∙ sym (ap (λ b. passes p (cond b (Some l) (lease_of ls d))) other)
+    ]
+
+-- no number is there twice
+abbrev AreDistinct : List ℕ → Type 0
+AreDistinct [] = Unit {0}
+AreDistinct (n ∷ ns) = (contains ns n ≡ false) × AreDistinct ns
+
+holders_distinct : (ls : List Lease) → compatible ls ≡ true → AreDistinct (holders ls)
+holders_distinct [] fits = tt
+holders_distinct (l ∷ ls) fits =
+    let parts = and_parts (list_all (apart l) ls) (compatible ls) fits in
+    (none_else l ls parts.0, holders_distinct ls parts.1)
+
+-- what is frozen once the chosen leases are, and wasn't before, was to be asked for
+newly_one : (choice : Lease → Bool) (o : Option Lease) → (not (is_frozen o) && is_frozen (frozen_one choice o)) ≡ passes (is_to_ask choice) o
+newly_one choice None = refl
+newly_one choice (Some a) = both a.frozen (choice a)
+  where
+    both : (f b : Bool) → (not f && cond b true f) ≡ (not f && b)
+    both true b = refl
+    both false true = refl
+    both false false = refl
+
+-- ---- answers
+
+-- all are of one inode
+abbrev AreAt : ℕ → List Asked → Type 0
+AreAt i xs = (a : Asked) → Among xs a → a.inode ≡ i
+
+of_client : (a : Asked) (i d : ℕ) → a.inode ≡ i → is_of d i a ≡ (a.client == d)
+of_client a i d at = ap (λ b. (a.client == d) && b) (eq-eqb a.inode i at) ∙ and-true (a.client == d)
+
+-- who gave one of them was asked for it
+asked_is : (xs : List Asked) (i d : ℕ) → AreAt i xs → is_asked xs d i ≡ contains (clients_of xs) d
+asked_is [] i d all = refl
+asked_is (a ∷ xs) i d all = λ k. of_client a i d (all a (inl refl)) k || asked_is xs i d (λ b there. all b (inr there)) k
+
+-- and nobody for another inode
+unasked_elsewhere : (xs : List Asked) (i d j : ℕ) → AreAt i xs → j ≢ i → is_asked xs d j ≡ false
+unasked_elsewhere [] i d j all other = refl
+unasked_elsewhere (a ∷ xs) i d j all other =
+    ap (λ b. b || is_asked xs d j) (and_right (a.client == d) (a.inode == j) (ne_eqb a.inode j (λ same. other (sym same ∙ all a (inl refl)))))
+    ∙ unasked_elsewhere xs i d j (λ b there. all b (inr there)) other
+
+once_of : (xs : List Asked) (i : ℕ) → AreAt i xs → AreDistinct (clients_of xs) → are_once xs ≡ true
+once_of [] i all distinct = refl
+once_of (a ∷ xs) i all distinct =
+    let rest : AreAt i xs = λ b there. all b (inr there) in
+    and_from (not (is_asked xs a.client a.inode)) (are_once xs)
+    (ap not (ap (is_asked xs a.client) (all a (inl refl)) ∙ asked_is xs i a.client rest ∙ distinct.0))
+    (once_of xs i rest distinct.1)
+
+once_both : (xs ys : List Asked) → are_once xs ≡ true → are_once ys ≡ true → ((d j : ℕ) → is_asked xs d j ≡ true → is_asked ys d j ≡ false) → are_once (xs ++ ys) ≡ true
+once_both [] ys once more other = more
+once_both (x ∷ xs) ys once more other =
+    let parts = and_parts (not (is_asked xs x.client x.inode)) (are_once xs) once in
+    let own : is_of x.client x.inode x ≡ true = and_from (x.client == x.client) (x.inode == x.inode) (eq-eqb x.client x.client refl) (eq-eqb x.inode x.inode refl) in
+    let none : is_asked (xs ++ ys) x.client x.inode ≡ false =
+    list_any-append (is_of x.client x.inode) xs ys
+    ∙ rw (not-true (is_asked xs x.client x.inode) parts.0) (other x.client x.inode (or_left (is_of x.client x.inode x) (is_asked xs x.client x.inode) own)) in
+    and_from (not (is_asked (xs ++ ys) x.client x.inode)) (are_once (xs ++ ys)) (ap not none)
+    (once_both xs ys parts.1 more (λ d j asked. other d j (or_right (is_of d j x) (is_asked xs d j) asked)))
+
+-- ---- cuts that were answered
+
+-- that of who was is one of the answers
+answer_of : (xs : List Asked) (d j : ℕ) → is_asked xs d j ≡ true → (a : Asked) × Among xs a × (a.client ≡ d) × (cut_in xs d j ≡ a.cut)
+answer_of [] d j asked = cc
+answer_of (a ∷ xs) d j asked =
+    elim (cases_Bool (is_of d j a)) [
+      | inl is ↦ (a, inl refl, eqb-true a.client d (and_parts (a.client == d) (a.inode == j) is).0, ap (λ b. if b then a.cut else cut_in xs d j) is)
+      | inr other ↦
+          let rest = answer_of xs d j (sym (ap (λ b. b || is_asked xs d j) other) ∙ asked) in
+          (rest.0, inr rest.1, rest.2, ap (λ b. if b then a.cut else cut_in xs d j) other ∙ rest.3)
+    ]
+
+-- of two lists, the one in which the client was asked counts
+
+cut_before : (xs ys : List Asked) (d j : ℕ) → is_asked ys d j ≡ false → cut_in (xs ++ ys) d j ≡ cut_in xs d j
+cut_before [] ys d j none = none_cut ys d j none
+cut_before (x ∷ xs) ys d j none = ap (λ k. if is_of d j x then x.cut else k) (cut_before xs ys d j none)
+
+cut_behind : (xs ys : List Asked) (d j : ℕ) → is_asked xs d j ≡ false → cut_in (xs ++ ys) d j ≡ cut_in ys d j
+cut_behind [] ys d j none = refl
+cut_behind (x ∷ xs) ys d j none =
+    let parts = or_parts (is_of d j x) (is_asked xs d j) none in
+    ap (λ b. if b then x.cut else cut_in (xs ++ ys) d j) parts.0 ∙ cut_behind xs ys d j parts.1
+
+-- ---- goals of many clients
+
+-- what a raised goal leaves of a client they all leave
+goals_keep : {A : Type 0} (f : ClientValue → A) → ((to : ℕ) (x : ClientValue) → f (with_goal to x) ≡ f x) → (xs : List Asked) (cs : List ClientValue) (d : ℕ) →
+    f (client_seen (with_goals xs cs) d) ≡ f (client_seen cs d)
+goals_keep f same [] cs d = refl
+goals_keep f same (a ∷ xs) cs d =
+    goals_keep f same xs (with_client cs a.client (with_goal a.cut (client_in cs a.client))) d
+    ∙ client_same f cs a.client (with_goal a.cut (client_in cs a.client)) (same a.cut (client_in cs a.client)) d
+
+count_kept : (xs : List Asked) (cs : List ClientValue) → length (with_goals xs cs) ≡ length cs
+count_kept [] cs = refl
+count_kept (a ∷ xs) cs =
+    count_kept xs (with_client cs a.client (with_goal a.cut (client_in cs a.client)))
+    ∙ length-set cs (a.client - 1) (with_goal a.cut (client_in cs a.client))
+
+same_number : (cs ds : List ClientValue) (d : ℕ) → length ds ≡ length cs → IsNumber cs d → IsNumber ds d
+same_number cs ds d count there = record { some = there.some; there = subst (λ n. d ≤ n) (sym count) there.there }
+
+-- each is raised to its client's answer, where all are of one inode, and one of each client
+goals_raised : (xs : List Asked) (cs : List ClientValue) (i d : ℕ) → AreAt i xs → AreDistinct (clients_of xs) → ((a : Asked) → Among xs a → IsNumber cs a.client) →
+    (client_seen (with_goals xs cs) d).goal ≡ max (client_seen cs d).goal (cut_in xs d i)
+goals_raised [] cs i d all distinct there = omega arith
+goals_raised (a ∷ xs) cs i d all distinct there =
+    let now : ClientValue = with_goal a.cut (client_in cs a.client) in
+    let at : AreAt i xs = λ b in_it. all b (inr in_it) in
+    let here : IsNumber cs a.client = there a (inl refl) in
+    let rest : (client_seen (with_goals xs (with_client cs a.client now)) d).goal ≡ max (client_seen (with_client cs a.client now) d).goal (cut_in xs d i) =
+    goals_raised xs (with_client cs a.client now) i d at distinct.1
+    (λ b in_it. same_number cs (with_client cs a.client now) b.client (length-set cs (a.client - 1) now) (there b (inr in_it))) in
+    elim (cases_eq a.client d) [
+      | inl is ↦
+          let raised : (client_seen (with_client cs a.client now) d).goal ≡ max (client_seen cs d).goal a.cut =
+          subst (λ e. (client_seen (with_client cs a.client now) e).goal ≡ max (client_seen cs e).goal a.cut) is
+          (ap (λ x. x.goal) (client_here cs a.client now here) ∙ ap (λ x. max x.goal a.cut) (sym (client_is cs a.client here))) in
+          let none : cut_in xs d i ≡ 0 = none_cut xs d i (asked_is xs i d at ∙ ap (contains (clients_of xs)) (sym is) ∙ distinct.0) in
+          let cut : cut_in (a ∷ xs) d i ≡ a.cut = ap (λ b. if b then a.cut else cut_in xs d i) (of_client a i d (all a (inl refl)) ∙ eq-eqb a.client d is) in
+          rest ∙ ap (max (client_seen (with_client cs a.client now) d).goal) none ∙ rw cut (omega (arith, raised))
+      | inr other ↦
+          let cut : cut_in (a ∷ xs) d i ≡ cut_in xs d i = ap (λ b. if b then a.cut else cut_in xs d i) (of_client a i d (all a (inl refl)) ∙ ne_eqb a.client d other) in
+          rest
+          ∙ ap (λ x. max x.goal (cut_in xs d i)) (client_else cs a.client now here d (λ same. other (sym same)))
+          ∙ sym (ap (max (client_seen cs d).goal) cut)
+    ]
+
+-- ---- what holds of a cut in a client's log holds of it for the laws
+
+effects_touch : (es : List Effect) (i : ℕ) → contains (touched es) i ≡ list_any (λ e. touched_by e == i) es
+effects_touch [] i = refl
+effects_touch (e ∷ es) i = ap (λ b. (touched_by e == i) || b) (effects_touch es i)
+
+places_untouched : (rs : List LogRecord) (j i : ℕ) → ((k : ℕ) → j ≤ k → found_touches (slice_get rs k) i ≡ false) → contains (touched (all_effects (drop j rs))) i ≡ false
+places_untouched [] zero i none = refl
+places_untouched [] (suc j) i none = refl
+places_untouched (r ∷ rs) zero i none =
+    contains-all_effects r rs i
+    ∙ rw (effects_touch r.effects i ∙ none zero (omega arith)) (places_untouched rs zero i (λ k from. none (suc k) (omega arith)))
+places_untouched (r ∷ rs) (suc j) i none = places_untouched rs j i (λ k from. none (suc k) (omega (arith, from)))
+
+place_of : (l : NumberedLog) (k : ℕ) → record_at l (l.first + k) ≡ slice_get l.records k
+place_of l k =
+    let high : nat_lt (l.first + k) l.first ≡ false = search arith in
+    let place : (l.first + k) - l.first ≡ k = omega arith in
+    rw high (ap (slice_get l.records) place)
+
+log_covers : (s : StateValue) (c i cut : ℕ) → CoversLog (own_seen s c).log i cut → Covers (world_of s) c i cut
+unfolding world_of end records_from
+log_covers s c i cut covers =
+    let l : NumberedLog = (own_seen s c).log in
+    record {
+      to_end = covers.to_end;
+      untouched = places_untouched l.records (cut - l.first) i (λ k from. ap (λ o. found_touches o i) (sym (place_of l k)) ∙ covers.untouched (l.first + k) (omega (arith, from)));
+    }
+
+-- ---- what stays
+
+module _ (s : StateValue) (levels : TwoLevels) (asked : List Asked) where
+  abbrev after : StateValue
+  after = after_asking s levels asked
+
+  stays : {A : Type 0} (f : ClientValue → A) → ((to : ℕ) (x : ClientValue) → f (with_goal to x) ≡ f x) → (d : ℕ) → f (client_seen after.clients d) ≡ f (client_seen s.clients d)
+  stays f same d = goals_keep f same asked s.clients d
+
+  own_stays : (d : ℕ) → own_seen after d ≡ own_seen s d
+  unfolding own_seen
+  own_stays d = rw (stays (λ x. x.home) (λ to x. refl) d, stays (λ x. x.failed) (λ to x. refl) d) refl
+
+  logs_stay : SameLogs (world_of s) (world_of after)
+  unfolding world_of
+  logs_stay = record {
+    calls = refl;
+    records = λ d. ap (λ l. l.log.records) (own_stays d);
+    first = λ d. ap (λ l. l.log.first) (own_stays d);
+    next = stays (λ x. x.next) (λ to x. refl);
+    border = λ d k. refl;
+    made = stays (λ x. x.made) (λ to x. refl);
+  }
+
+  clients_stay : SameClients (world_of s) (world_of after)
+  unfolding world_of
+  clients_stay = record {
+    clients = count_kept asked s.clients;
+    home = stays (λ x. x.home) (λ to x. refl);
+    lives = stays (λ x. not x.failed) (λ to x. refl);
+    crashed = stays (λ x. x.crashed) (λ to x. refl);
+  }
+
+  nodes_stay : SameNodes (world_of s) (world_of after)
+  unfolding world_of
+  nodes_stay = record { full = refl; same = λ n f. node_as s after n (λ j. refl) (λ d. refl) }
+
+  pub asking_shaped : IsShaped s → IsShaped after
+  asking_shaped shape = shaped_as s after shape record {
+    nodes = refl;
+    members = refl;
+    full = λ n. refl;
+    logs = λ n. refl;
+    clients = count_kept asked s.clients;
+    home = stays (λ x. x.home) (λ to x. refl);
+    failed = stays (λ x. x.failed) (λ to x. refl);
+    limit = refl;
+    limits = λ n d. refl;
+    at_home = λ n d. refl;
+  }
+
+-- ---- leases that are asked for
+
+module _ (s : StateValue) (c i : ℕ) (mode : Mode) (levels : TwoLevels) (asked : List Asked) (noted : AreNoted s) (leases : AreLeases (world_of s) (leases_of s))
+    (asks : IsAskedFor s.levels levels c (client_seen s.clients c).home i mode) (answers : AreAnswers s c i mode asked) where
+  abbrev way : Lease → Bool
+  way = in_way s.levels.home (s.levels.nodes i) c (client_seen s.clients c).home mode
+
+  abbrev l : Leases
+  l = leases_of s
+
+  abbrev l' : Leases
+  l' = leases_of (after_asking s levels asked)
+
+  here : (d : ℕ) → client_lease l' d i ≡ frozen_one way (client_lease l d i)
+  unfolding leases_of
+  here d = ap (λ ls. lease_of ls d) asks.clients.here ∙ freeze_of way (s.levels.clients i) d
+
+  elsewhere : (d j : ℕ) → j ≢ i → client_lease l' d j ≡ client_lease l d j
+  unfolding leases_of
+  elsewhere d j other = ap (λ ls. lease_of ls d) (asks.clients.elsewhere j other)
+
+  -- what holds of a lease and of what is left of it where it is frozen, and of a lease and itself
+  of_each : (P : Option Lease → Option Lease → Type 0) → ((o : Option Lease) → P (frozen_one way o) o) → ((o : Option Lease) → P o o) →
+      (d j : ℕ) → P (client_lease l' d j) (client_lease l d j)
+  of_each P one same d j =
+      elim (cases_eq j i) [
+        | inl is ↦ subst (λ k. P (client_lease l' d k) (client_lease l d k)) (sym is) (subst (λ o. P o (client_lease l d i)) (sym (here d)) (one (client_lease l d i)))
+        | inr other ↦ subst (λ o. P o (client_lease l d j)) (sym (elsewhere d j other)) (same (client_lease l d j))
+      ]
+
+  same_held : (d j : ℕ) → is_held (client_lease l' d j) ≡ is_held (client_lease l d j)
+  same_held = of_each (λ x y. is_held x ≡ is_held y) (held_one way) (λ o. refl)
+
+  leases_stay : SameLeases (world_of s) (world_of (after_asking s levels asked))
+  unfolding world_of
+  leases_stay = record {
+    holds = same_held;
+    writes = of_each (λ x y. is_written x ≡ is_written y) (written_one way) (λ o. refl);
+  }
+
+  frozen_stays : (d j : ℕ) → IsFrozenLease l d j → IsFrozenLease l' d j
+  frozen_stays = of_each (λ x y. is_frozen y ≡ true → is_frozen x ≡ true) (still_frozen way) (λ o frozen. frozen)
+
+  -- ---- who is asked
+
+  newly : (d : ℕ) → is_newly_frozen l l' d i ≡ is_asked asked d i
+  unfolding leases_of
+  newly d =
+      ap (λ o. not (is_frozen (client_lease l d i)) && is_frozen o) (here d)
+      ∙ newly_one way (client_lease l d i)
+      ∙ sym (asked_is asked i d answers.inodes ∙ ap (λ ns. contains ns d) answers.who ∙ holder_left (is_to_ask way) (s.levels.clients i) d (leases.lawful.clients_compatible i))
+
+  distinct : AreDistinct (clients_of asked)
+  unfolding leases_of
+  distinct =
+      subst AreDistinct (sym answers.who)
+      (holders_distinct (filter (is_to_ask way) (s.levels.clients i)) (filter_compatible (is_to_ask way) (s.levels.clients i) (leases.lawful.clients_compatible i)))
+
+  at_inode : (d j : ℕ) → is_asked asked d j ≡ true → j ≡ i
+  at_inode d j h =
+      elim (cases_eq j i) [
+        | inl is ↦ is
+        | inr other ↦ not_both (is_asked asked d j) h (unasked_elsewhere asked i d j answers.inodes other)
+      ]
+
+  asked_here : (d j : ℕ) → is_asked asked d j ≡ true → is_asked asked d i ≡ true
+  asked_here d j h = subst (λ k. is_asked asked d k ≡ true) (at_inode d j h) h
+
+  frozen_now : (d : ℕ) → is_asked asked d i ≡ true → IsFrozenLease l' d i
+  frozen_now d h = (and_parts (not (is_frozen (client_lease l d i))) (is_frozen (client_lease l' d i)) (newly d ∙ h)).1
+
+  unfrozen : (d : ℕ) → is_asked asked d i ≡ true → is_frozen (client_lease l d i) ≡ false
+  unfrozen d h = not-true (is_frozen (client_lease l d i)) (and_parts (not (is_frozen (client_lease l d i))) (is_frozen (client_lease l' d i)) (newly d ∙ h)).0
+
+  held : (d : ℕ) → is_asked asked d i ≡ true → is_held (client_lease l d i) ≡ true
+  held d h = sym (same_held d i) ∙ frozen_held (client_lease l' d i) (frozen_now d h)
+
+  -- who is asked isn't over
+
+  lives : (d : ℕ) → is_asked asked d i ≡ true → (world_of s).lives d ≡ true
+  lives d h =
+      elim (cases_Bool ((world_of s).lives d)) [
+        | inl so ↦ so
+        | inr failed ↦ not_both (is_frozen (client_lease l d i)) (leases.failed d i failed (held d h)) (unfrozen d h)
+      ]
+
+  runs : (d : ℕ) → is_asked asked d i ≡ true → is_over (client_seen s.clients d) ≡ false
+  unfolding world_of
+  runs d h =
+      let running : (client_seen s.clients d).crashed ≡ false =
+      false_from_ne_true (client_seen s.clients d).crashed (λ crashed. not_both (is_frozen (client_lease l d i)) (leases.crashed d i crashed (held d h)) (unfrozen d h)) in
+      rw running (not-true (client_seen s.clients d).failed (lives d h))
+
+  number : (d : ℕ) → is_asked asked d i ≡ true → IsNumber s.clients d
+  number d h = lives_number s d (lives d h)
+
+  -- nobody gave an answer before
+  first_answer : (d : ℕ) → is_asked asked d i ≡ true → is_asked s.cuts d i ≡ false
+  first_answer d h =
+      false_from_ne_true (is_asked s.cuts d i) (λ before. not_both (is_frozen (client_lease l d i)) (noted.frozen d i before (runs d h)) (unfrozen d h))
+
+  -- ---- cuts
+
+  same_over : (d : ℕ) → is_over (client_seen (with_goals asked s.clients) d) ≡ is_over (client_seen s.clients d)
+  same_over = stays s levels asked is_over (λ to x. refl)
+
+  cut_now : (d : ℕ) → is_asked asked d i ≡ true → l'.cut d i ≡ cut_in asked d i
+  unfolding leases_of
+  cut_now d h =
+      ap (λ b. if b then (client_seen (with_goals asked s.clients) d).last_cut else cut_in (s.cuts ++ asked) d i) (same_over d ∙ runs d h)
+      ∙ cut_behind s.cuts asked d i (first_answer d h)
+
+  cut_stays : (d j : ℕ) → is_asked asked d j ≡ false → l'.cut d j ≡ l.cut d j
+  unfolding leases_of
+  cut_stays d j none = λ k. if same_over d k then stays s levels asked (λ x. x.last_cut) (λ to x. refl) d k else cut_before s.cuts asked d j none k
+
+  goal_is : (d : ℕ) → asked_goal l l' i d ≡ cut_in asked d i
+  goal_is d =
+      elim (cases_Bool (is_asked asked d i)) [
+        | inl h ↦ rw (newly d ∙ h) (cut_now d h)
+        | inr none ↦ rw (newly d ∙ none) (sym (none_cut asked d i none))
+      ]
+
+  covers : (d : ℕ) → is_asked asked d i ≡ true → CoversLog (own_seen s d).log i (l'.cut d i)
+  covers d h =
+      let a = answer_of asked d i h in
+      subst (λ e. CoversLog (own_seen s e).log i (l'.cut d i)) a.2
+      (subst (λ k. CoversLog (own_seen s a.0.client).log i k) (sym (cut_now d h ∙ a.3)) (answers.covers a.0 a.1))
+
+  goals_known : (d : ℕ) → asked_goal l l' i d ≤ end (world_of s) d
+  goals_known d =
+      elim (cases_Bool (is_asked asked d i)) [
+        | inl h ↦ rw (newly d ∙ h) (log_covers s d i (l'.cut d i) (covers d h)).to_end
+        | inr none ↦ rw (newly d ∙ none) (omega arith)
+      ]
+
+  asked_number : (a : Asked) → Among asked a → IsNumber s.clients a.client
+  asked_number a there =
+      number a.client (among_any (is_of a.client i) asked a there (of_client a i a.client (answers.inodes a there) ∙ eq-eqb a.client a.client refl))
+
+  raises : RaisesGoals (world_of s) (asked_goal l l' i) (world_of (after_asking s levels asked))
+  unfolding world_of
+  raises = record {
+    there = goals_known;
+    logs = logs_stay s levels asked;
+    clients = clients_stay s levels asked;
+    nodes = nodes_stay s levels asked;
+    leases = leases_stay;
+    goals = λ d. goals_raised asked s.clients i d answers.inodes distinct asked_number ∙ ap (max (client_seen s.clients d).goal) (sym (goal_is d));
+  }
+
+  pub asking_seen : (world_of s).lives c ≡ true → (world_of s).crashed c ≡ false → is_free_for s.levels c ((world_of s).home c) i mode ≡ false →
+      Asks (world_of s) l c i mode (world_of (after_asking s levels asked)) l'
+  unfolding world_of leases_of own_seen
+  asking_seen lives_on running not_free = record {
+    lives_on = lives_on;
+    running = running;
+    not_free = not_free;
+    asked = asks;
+    answered = λ d h. log_covers s d i (l'.cut d i) (covers d (sym (newly d) ∙ h));
+    from_first = λ d h. (covers d (sym (newly d) ∙ h)).from_first;
+    cuts_else = λ d j other. cut_stays d j (false_from_ne_true (is_asked asked d j) (λ h. other (at_inode d j h) (newly d ∙ asked_here d j h)));
+    goals = raises;
+  }
+
+  -- ---- what is noted
+
+  -- what is frozen was so before, or was asked for
+  was_or_asked : (d j : ℕ) → IsFrozenLease l' d j → IsFrozenLease l d j ⊎ (is_asked asked d j ≡ true)
+  was_or_asked d j frozen =
+      elim (cases_Bool (is_frozen (client_lease l d j))) [
+        | inl was ↦ inl was
+        | inr fresh ↦ elim (cases_eq j i) [
+          | inl is ↦
+              let new : is_newly_frozen l l' d j ≡ true = and_from (not (is_frozen (client_lease l d j))) (is_frozen (client_lease l' d j)) (ap not fresh) frozen in
+              inr (subst (λ k. is_asked asked d k ≡ true) (sym is) (sym (newly d) ∙ subst (λ k. is_newly_frozen l l' d k ≡ true) is new))
+          | inr other ↦ inl (ap is_frozen (sym (elsewhere d j other)) ∙ frozen)
+        ]
+      ]
+
+  either : (d j : ℕ) → is_asked (s.cuts ++ asked) d j ≡ true → (is_asked s.cuts d j ≡ true) ⊎ (is_asked asked d j ≡ true)
+  either d j h = or_cases (is_asked s.cuts d j) (is_asked asked d j) (sym (list_any-append (is_of d j) s.cuts asked) ∙ h)
+
+  not_twice : (d j : ℕ) → is_asked s.cuts d j ≡ true → is_asked asked d j ≡ false
+  not_twice d j before =
+      false_from_ne_true (is_asked asked d j)
+      (λ h. not_both (is_asked s.cuts d i) (subst (λ k. is_asked s.cuts d k ≡ true) (at_inode d j h) before) (first_answer d (asked_here d j h)))
+
+  pub asking_noted : AreNoted (after_asking s levels asked)
+  asking_noted = record {
+    once = once_both s.cuts asked noted.once (once_of asked i answers.inodes distinct) not_twice;
+    known = λ d j h. same_number s.clients (with_goals asked s.clients) d (count_kept asked s.clients) (elim (either d j h) [
+      | inl before ↦ noted.known d j before
+      | inr now ↦ number d (asked_here d j now)
+    ]);
+    frozen = λ d j h ran. elim (either d j h) [
+      | inl before ↦ frozen_stays d j (noted.frozen d j before (sym (same_over d) ∙ ran))
+      | inr now ↦ subst (λ k. IsFrozenLease l' d k) (sym (at_inode d j now)) (frozen_now d (asked_here d j now))
+    ];
+    noted = λ d j ran frozen. list_any-append (is_of d j) s.cuts asked ∙ elim (was_or_asked d j frozen) [
+      | inl was ↦ or_left (is_asked s.cuts d j) (is_asked asked d j) (noted.noted d j (sym (same_over d) ∙ ran) was)
+      | inr now ↦ or_right (is_asked s.cuts d j) (is_asked asked d j) now
+    ];
+  }

@@ -1,0 +1,138 @@
+-- What the laws observe of records that a node digests.
+use Rattle.std.proofs.Common.{◌≡◌, ◌≢◌, ℕ, ◌+◌, ◌-◌, ◌≤◌, List, length, map, take, refl, ap, sym, subst, ◌∙◌, arith}
+use Rattle.std.proofs.lemmas.List.{length-map}
+use Rattle.std.specs.FinSet as set
+use Rattle.std.specs.Ordering.{nat_cmp}
+use Rattle.assise_inode_table.proofs.Applying.{get-all_applied}
+use Rattle.assise_inode_table.specs.Contents.{InodeMap, values}
+use Rattle.assise_inode_table.specs.Effects.{all_applied, contains, touched, value_after}
+use Rattle.assise_private_log.specs.NumberedLog.{end as log_end}
+use Rattle.assise_digest.specs.Ahead.{all_effects}
+use Rattle.assise_digest.specs.Region.{ReceivedLog, RegionValue, ahead, digested_further}
+use Rattle.assise_manager.specs.Changes.{noted, stale_again}
+use Rattle.assise_manager.specs.Standings.{Standing, down, full, is_full, returning}
+use Rattle.assise_machine_laws.specs.Chances.{MayDigest}
+use Rattle.assise_machine_laws.specs.NodeSteps.{Digests}
+use Rattle.assise_machine_laws.specs.Sound.{IsSound}
+use Rattle.assise_machine_laws.specs.World.{Full, World, ahead_below}
+use Rattle.assise_machine_returns.specs.Returns.{DigestsNoted, OtherAreasStay}
+use Rattle.assise_machine_state.specs.Changes.{after_digest}
+use Rattle.assise_machine_state.specs.ClientValues.{client_seen}
+use Rattle.assise_machine_state.specs.NodeValues.{HasLog, log_in, log_seen, region_in}
+use Rattle.assise_machine_state.specs.Observed.{is_full_in, own_node, own_seen, world_of}
+use Rattle.assise_machine_state.specs.Places.{IsNumber}
+use Rattle.assise_machine_state.specs.Shape.{IsShaped}
+use Rattle.assise_machine_state.specs.StateValues.{StateValue, standings}
+use Rattle.assise_machine_state.proofs.Fullness.{full_seen, has_log, log_is, region_is}
+use Rattle.assise_machine_state.proofs.Logging.{log_else, log_here, log_same, region_else, region_here, region_with}
+use Rattle.assise_machine_state.proofs.Reading.{ahead_is}
+use Rattle.assise_machine_state.proofs.Shaping.{shaped_log}
+use Rattle.assise_machine_state.proofs.Standings.{mapped_full, same_full, same_own}
+use Rattle.assise_machine_state.proofs.Staying.{clients_as, goals_as, leases_as, logs_as}
+
+-- ---- the same nodes are full after the manager noted inodes
+
+one_noted : (n : ℕ) (inodes : set.FinSet nat_cmp) (x : Standing) → is_full (stale_again n inodes x) ≡ is_full x
+one_noted n inodes full = refl
+one_noted n inodes (down since) = refl
+one_noted n inodes (returning since donor stale) = refl
+
+module _ (nodes : List Standing) (n : ℕ) (inodes : set.FinSet nat_cmp) where
+  same_count : length (map (stale_again n inodes) nodes) ≡ length nodes
+  same_count = length-map nodes (stale_again n inodes)
+
+  still_full : (k : ℕ) → is_full_in (map (stale_again n inodes) nodes) k ≡ is_full_in nodes k
+  still_full k = mapped_full (stale_again n inodes) (one_noted n inodes) nodes k
+
+-- ---- the records below place k are made of node n's inodes
+
+abbrev further : StateValue → (n c k : ℕ) → ReceivedLog
+further s n c k = digested_further (log_in s.nodes n c) (k - (log_in s.nodes n c).digested)
+
+abbrev inodes_now : StateValue → (n c k : ℕ) → InodeMap
+inodes_now s n c k = all_applied (region_in s.nodes n).inodes (all_effects (take (k - (log_in s.nodes n c).digested) (ahead (log_in s.nodes n c))))
+
+pub digest_shaped : (s : StateValue) (n c k : ℕ) (inodes : set.FinSet nat_cmp) → IsShaped s → IsShaped (after_digest s n c k inodes)
+digest_shaped s n c k inodes shape =
+    shaped_log s (noted s.members n inodes) n c (inodes_now s n c k) (further s n c k) shape refl refl (same_count (standings s) n inodes) (still_full (standings s) n inodes)
+
+module _ (s : StateValue) (n c k : ℕ) (inodes : set.FinSet nat_cmp) (shape : IsShaped s) (sound : IsSound (world_of s)) (client : IsNumber s.clients c) (may : MayDigest (world_of s) n c k) where
+  abbrev w : World
+  w = world_of s
+
+  abbrev t : StateValue
+  t = after_digest s n c k inodes
+
+  abbrev w' : World
+  w' = world_of t
+
+  abbrev now : RegionValue
+  now = region_with s.nodes n c (inodes_now s n c k) (further s n c k)
+
+  has : HasLog s.nodes n c
+  has = has_log s n c shape (full_seen s n may.full_node) client
+
+  was : log_seen s.nodes n c ≡ log_in s.nodes n c
+  was = log_is s n c has
+
+  -- all but the area and the digested number stays
+
+  same_log : (m d : ℕ) → (log_seen t.nodes m d).log ≡ (log_seen s.nodes m d).log
+  same_log m d = log_same s.nodes n c (inodes_now s n c k) (further s n c k) (λ x. x.log) m d refl
+
+  own_log : (d : ℕ) → (own_seen t d).log ≡ (own_seen s d).log
+  unfolding own_seen
+  own_log d =
+      ap (λ m. (log_seen t.nodes m d).log) (same_own (standings t) (standings s) (same_count (standings s) n inodes) (still_full (standings s) n inodes) (client_seen s.clients d))
+      ∙ same_log (own_node (standings s) (client_seen s.clients d)) d
+
+  digested_now : w'.digested n c ≡ k
+  unfolding world_of
+  digested_now =
+      let from : (log_seen s.nodes n c).digested ≤ k = may.from in
+      let same : (log_seen s.nodes n c).digested ≡ (log_in s.nodes n c).digested = ap (λ x. x.digested) was in
+      let sum : (log_in s.nodes n c).digested + (k - (log_in s.nodes n c).digested) ≡ k = omega (arith, from, same) in
+      ap (λ x. x.digested) (log_here s.nodes n c (inodes_now s n c k) (further s n c k) has) ∙ sum
+
+  -- the area has what the observed records make of it
+  below_is : ahead_below w n c k ≡ take (k - (log_in s.nodes n c).digested) (ahead (log_in s.nodes n c))
+  unfolding ahead_below world_of
+  below_is = ap (take (k - (log_seen s.nodes n c).digested)) (ahead_is s n c sound may.full_node) ∙ ap (λ x. take (k - x.digested) (ahead x)) was
+
+  area_now : (i : ℕ) → w'.area n i ≡ value_after i (w.area n i) (all_effects (ahead_below w n c k))
+  unfolding world_of
+  area_now i =
+      ap (λ r. values r.inodes i) (region_here s.nodes n now has.node)
+      ∙ get-all_applied (region_in s.nodes n).inodes (all_effects (take (k - (log_in s.nodes n c).digested) (ahead (log_in s.nodes n c)))) i
+      ∙ ap (λ r. value_after i (values r.inodes i) (all_effects (take (k - (log_in s.nodes n c).digested) (ahead (log_in s.nodes n c))))) (sym (region_is s n has.node))
+      ∙ ap (λ rs. value_after i (w.area n i) (all_effects rs)) (sym below_is)
+
+  area_beside : (m i : ℕ) → m ≢ n → w'.area m i ≡ w.area m i
+  unfolding world_of
+  area_beside m i other = ap (λ r. values r.inodes i) (region_else s.nodes n now has.node m other)
+
+  digested : Digests w n c k w'
+  unfolding world_of
+  digested = record {
+    full_node = may.full_node;
+    from = may.from;
+    to = may.to;
+    border_to = may.border_to;
+    logs = logs_as s t refl refl (λ d. ap (λ x. x.records) (own_log d)) (λ d. ap (λ x. x.first) (own_log d));
+    clients = clients_as s t refl;
+    goals = goals_as s t refl;
+    leases = leases_as s t (λ i. refl);
+    full = same_full (standings t) (standings s) (same_count (standings s) n inodes) (still_full (standings s) n inodes);
+    log = λ m d f. ap (λ x. x.records) (same_log m d);
+    received = λ m d f. ap (λ x. log_end x) (same_log m d);
+    digested_here = digested_now;
+    digested_else = λ m d f other. ap (λ x. x.digested) (log_else s.nodes n c (inodes_now s n c k) (further s n c k) has m d other);
+    area_here = area_now;
+    area_else = λ m i f other. area_beside m i other;
+  }
+
+  other_areas : OtherAreasStay w w'
+  other_areas m i away = area_beside m i (λ is. away (subst (λ j. Full w j) (sym is) may.full_node))
+
+  pub digest_noted : ((i : ℕ) → set.contains inodes i ≡ contains (touched (all_effects (ahead_below w n c k))) i) → DigestsNoted w s.members n c k inodes w' t.members
+  digest_noted touches = record { digests = digested; touches = touches; members = refl; others = other_areas }

@@ -1,0 +1,353 @@
+-- What the laws observe of a full node that fails, where another is left.
+use Rattle.std.proofs.Common.{◌≡◌, ◌≢◌, ◌⊎◌, ℕ, ◌+◌, ◌-◌, ◌<◌, ◌≤◌, min, Bool, true, false, not, ◌==◌, List, length, take, filter, Some, None, inl, inr, refl, ap, sym, subst, ◌∙◌, arith, true≢false, []}
+use Rattle.std.specs.Ordering.{nat_cmp}
+use Rattle.std.specs.FinSet as set
+use Rattle.std.proofs.Math.Bool.{and-false}
+use Rattle.std.proofs.lemmas.Bool.{cases_Bool, cases_eq, ne_eqb}
+use Rattle.std.proofs.lemmas.List.{length-take, nil_from_length}
+use Rattle.assise_inode_table.specs.Contents.{values}
+use Rattle.assise_inode_table.specs.Traces.{NumberedCall, below}
+use Rattle.assise_private_log.specs.NumberedLog.{end as log_end}
+use Rattle.assise_digest.specs.Region.{up_to_number}
+use Rattle.assise_lease_table.specs.declared.lease.Asked.{Asked}
+use Rattle.assise_lease_table.specs.declared.lease.Lease.{Lease}
+use Rattle.assise_lease_table.specs.LeaseMaps.{SameLeases as SameLeasesOf}
+use Rattle.assise_lease_table.specs.Leases.{freeze}
+use Rattle.assise_lease_tree.specs.Levels.{lives}
+use Rattle.assise_lease_tree.specs.TwoLevels.{TwoLevels}
+use Rattle.assise_manager.specs.Changes.{failure_fault}
+use Rattle.assise_manager.specs.Membership.{lowest_full}
+use Rattle.assise_manager.specs.Standings.{full, standing_of}
+use Rattle.assise_machine_laws.specs.NodeSteps.{Fails, kept_at_failure}
+use Rattle.assise_machine_laws.specs.Sound.{IsSound}
+use Rattle.assise_machine_laws.specs.Staying.{SameLeases}
+use Rattle.assise_machine_laws.specs.World.{Full, World, call_at, end}
+use Rattle.assise_machine_laws.proofs.Failing.{kept_high}
+use Rattle.assise_machine_leases.specs.Handing.{FailsWith}
+use Rattle.assise_machine_history.specs.Lost.{losses_of}
+use Rattle.assise_machine_history.proofs.Failing.{failure_takes}
+use Rattle.assise_machine_history.proofs.Numbering.{kept_fail}
+use Rattle.assise_machine_state.specs.Changes.{after_failure}
+use Rattle.assise_machine_state.specs.ClientValues.{ClientValue, client_seen, cut_of, failed_at}
+use Rattle.assise_machine_state.specs.NodeValues.{log_seen, region_seen}
+use Rattle.assise_machine_state.specs.Observed.{is_full_in, own_seen, world_of}
+use Rattle.assise_machine_state.specs.Places.{IsNumber}
+use Rattle.assise_machine_state.specs.Shape.{IsShaped}
+use Rattle.assise_machine_state.specs.StateValues.{StateValue, leases_of, standings}
+use Rattle.assise_machine_state.proofs.CutSeen.{client_fails, client_stays, count_over, home_number, inodes_left, log_cut_left, log_left, count_left, logs_gone, logs_left}
+use Rattle.assise_machine_state.proofs.Fullness.{full_seen, node_number, same_first, seen_full, no_log_in}
+use Rattle.assise_machine_state.proofs.Kept.{kept_elsewhere, kept_from_first, kept_received, part_first, front_kept, front_whole, all_kept, end_cut}
+use Rattle.assise_machine_state.proofs.Noted.{failed_over}
+use Rattle.assise_machine_state.proofs.Shaping.{KnowsHome, limit_seen, limits_all}
+use Rattle.assise_machine_state.proofs.Standings.{else_then, full_as, gone_then, lowest_is_full, survivor_left, count_then}
+use Rattle.assise_machine_state.proofs.Staying.{leases_frozen}
+
+-- the cut of a client whose node failed
+cut_once_failed : (asked : List Asked) (c k : ℕ) (x : ClientValue) (i : ℕ) → cut_of asked c (failed_at k x) i ≡ k
+cut_once_failed asked c k x i = rw (failed_over k x) refl
+
+-- ---- what is seen of nodes and clients
+
+pub failure_areas : (s : StateValue) (n k i : ℕ) (inodes : set.FinSet nat_cmp) (levels : TwoLevels) → (world_of (after_failure s n inodes levels)).area k i ≡ (world_of s).area k i
+unfolding world_of
+failure_areas s n k i inodes levels = ap (λ m. values m i) (inodes_left s.nodes n s.clients (kept_at_failure (world_of s) n) k)
+
+module _ (s : StateValue) (n : ℕ) (inodes : set.FinSet nat_cmp) (levels : TwoLevels) (shape : IsShaped s) (stands : standing_of (standings s) n ≡ Some full) where
+  abbrev w : World
+  w = world_of s
+
+  abbrev t : StateValue
+  t = after_failure s n inodes levels
+
+  abbrev w' : World
+  w' = world_of t
+
+  abbrev kept : ℕ → ℕ
+  kept = kept_at_failure w n
+
+  stood : is_full_in (standings s) n ≡ true
+  stood = full_as (standings s) n full stands
+
+  failed_there : IsNumber s.nodes n
+  failed_there = node_number s n full shape stands
+
+  gone : is_full_in (standings t) n ≡ false
+  gone = gone_then s.members n inodes stands
+
+  else_stands : (k : ℕ) → k ≢ n → is_full_in (standings t) k ≡ is_full_in (standings s) k
+  else_stands k other = else_then s.members n inodes stands k other
+
+  not_failed : (k : ℕ) → is_full_in (standings t) k ≡ true → k ≢ n
+  not_failed k f same = true≢false (sym f ∙ ap (is_full_in (standings t)) same ∙ gone)
+
+  was_full : (k : ℕ) → is_full_in (standings t) k ≡ true → Full w k
+  was_full k f = seen_full s k (sym (else_stands k (not_failed k f)) ∙ f)
+
+  -- clients
+  client_same : (c : ℕ) → (client_seen s.clients c).home ≢ n → client_seen t.clients c ≡ client_seen s.clients c
+  client_same c other = client_stays n kept s.clients (length s.clients) c (omega arith) other
+
+  client_over : (c : ℕ) → (client_seen s.clients c).home ≡ n → client_seen t.clients c ≡ failed_at (kept c) (client_seen s.clients c)
+  client_over c here =
+      let client : IsNumber s.clients c = home_number s.clients c (subst (λ h. 0 < h) (sym here) failed_there.some) in
+      client_fails n kept s.clients (length s.clients) c (omega arith) client.some client.there here
+
+  client_keeps : {A : Type 0} (f : ClientValue → A) → ((k : ℕ) (x : ClientValue) → f (failed_at k x) ≡ f x) → (c : ℕ) → f (client_seen t.clients c) ≡ f (client_seen s.clients c)
+  client_keeps f same c =
+      elim (cases_eq (client_seen s.clients c).home n) [
+        | inl here ↦ ap f (client_over c here) ∙ same (kept c) (client_seen s.clients c)
+        | inr other ↦ ap f (client_same c other)
+      ]
+
+  -- logs of the nodes that are left
+  log_there : (m c : ℕ) → m ≢ n → (client_seen s.clients c).home ≡ n → log_seen t.nodes m c ≡ up_to_number (log_seen s.nodes m c) (kept c)
+  log_there m c apart here = log_cut_left s.nodes n s.clients kept m c failed_there apart here
+
+  log_same : (m c : ℕ) → m ≢ n → (client_seen s.clients c).home ≢ n → log_seen t.nodes m c ≡ log_seen s.nodes m c
+  log_same m c apart other = log_left s.nodes n s.clients kept m c failed_there apart other
+
+  -- ---- its shape
+
+  clients_left : length t.clients ≡ length s.clients
+  clients_left = count_over n kept s.clients (length s.clients)
+
+  emptied : (region_seen t.nodes n).logs ≡ []
+  emptied = nil_from_length (region_seen t.nodes n).logs (logs_gone s.nodes n s.clients kept failed_there)
+
+  left_logs : (k : ℕ) → is_full_in (standings t) k ≡ true → length (region_seen t.nodes k).logs ≡ length t.clients
+  left_logs k f =
+      let other : k ≢ n = not_failed k f in
+      logs_left s.nodes n s.clients kept k failed_there other ∙ shape.logs k (sym (else_stands k other) ∙ f) ∙ sym clients_left
+
+  left_none : (k : ℕ) → is_full_in (standings t) k ≡ false → (region_seen t.nodes k).logs ≡ []
+  left_none k away = elim (cases_eq k n) [
+    | inl is ↦ subst (λ m. (region_seen t.nodes m).logs ≡ []) (sym is) emptied
+    | inr other ↦ nil_from_length (region_seen t.nodes k).logs (logs_left s.nodes n s.clients kept k failed_there other ∙ ap length (shape.no_logs k (sym (else_stands k other) ∙ away)))
+  ]
+
+  -- no client lives at the node, and the others live where they did
+  gone_home : (c : ℕ) → KnowsHome t n c
+  gone_home c =
+      ap (λ l. l.at_home) (no_log_in t.nodes n c emptied)
+      ∙ elim (cases_eq (client_seen s.clients c).home n) [
+        | inl here ↦ rw (client_over c here) (sym (and-false (n == (client_seen s.clients c).home)))
+        | inr other ↦ rw (client_same c other, ne_eqb n (client_seen s.clients c).home (λ e. other (sym e))) refl
+      ]
+
+  left_home : (k c : ℕ) → k ≢ n → KnowsHome t k c
+  left_home k c apart = elim (cases_eq (client_seen s.clients c).home n) [
+    | inl here ↦
+        let elsewhere : (k == (client_seen s.clients c).home) ≡ false = ne_eqb k (client_seen s.clients c).home (λ e. apart (e ∙ here)) in
+        rw (log_there k c apart here, client_over c here, elsewhere) (shape.at_home k c ∙ rw elsewhere refl)
+    | inr other ↦ rw (log_same k c apart other, client_same c other) (shape.at_home k c)
+  ]
+
+  same_limit : (k c : ℕ) → k ≢ n → (log_seen t.nodes k c).log.limit ≡ (log_seen s.nodes k c).log.limit
+  same_limit k c apart = elim (cases_eq (client_seen s.clients c).home n) [
+    | inl here ↦ ap (λ l. l.log.limit) (log_there k c apart here)
+    | inr other ↦ ap (λ l. l.log.limit) (log_same k c apart other)
+  ]
+
+  left_limit : (k c : ℕ) → is_full_in (standings t) k ≡ true → IsNumber t.clients c → (log_seen t.nodes k c).log.limit ≡ s.limit
+  left_limit k c f client =
+      let other : k ≢ n = not_failed k f in
+      same_limit k c other ∙ limit_seen s k c shape (sym (else_stands k other) ∙ f) record { some = client.some; there = subst (λ m. c ≤ m) clients_left client.there }
+
+  pub failure_shaped : IsShaped t
+  failure_shaped = record {
+    nodes = count_left s.nodes n s.clients kept ∙ shape.nodes ∙ sym (count_then s.members n inodes stands);
+    few_nodes = subst (λ k. k ≤ 8) (sym (count_left s.nodes n s.clients kept)) shape.few_nodes;
+    logs = left_logs;
+    no_logs = left_none;
+    at_home = λ k c. elim (cases_eq k n) [ inl is ↦ subst (λ m. KnowsHome t m c) (sym is) (gone_home c) | inr apart ↦ left_home k c apart ];
+    limits = limits_all t left_logs left_none left_limit;
+    least_limit = shape.least_limit;
+    most_limit = shape.most_limit;
+  }
+
+  -- ---- what the laws observe
+
+  module _ (sound : IsSound w) where
+    cut_records : (m c : ℕ) → is_full_in (standings t) m ≡ true → w'.log m c ≡ take (kept c - w.first c) (w.log m c)
+    unfolding world_of
+    cut_records m c f =
+        elim (cases_eq (client_seen s.clients c).home n) [
+          | inl here ↦
+              ap (λ l. l.log.records) (log_there m c (not_failed m f) here)
+              ∙ ap (λ k. take (kept c - k) (log_seen s.nodes m c).log.records) (same_first s m c sound (was_full m f))
+          | inr other ↦ ap (λ l. l.log.records) (log_same m c (not_failed m f) other) ∙ sym (front_whole w n m c sound (was_full m f) (kept_elsewhere w n c other))
+        ]
+
+    cut_first : (m c : ℕ) → is_full_in (standings t) m ≡ true → (log_seen t.nodes m c).log.first ≡ w.first c
+    cut_first m c f =
+        elim (cases_eq (client_seen s.clients c).home n) [
+          | inl here ↦ ap (λ l. l.log.first) (log_there m c (not_failed m f) here) ∙ same_first s m c sound (was_full m f)
+          | inr other ↦ ap (λ l. l.log.first) (log_same m c (not_failed m f) other) ∙ same_first s m c sound (was_full m f)
+        ]
+
+    cut_received : (m c : ℕ) → is_full_in (standings t) m ≡ true → w'.received m c ≡ min (w.received m c) (kept c)
+    unfolding world_of
+    cut_received m c f =
+        elim (cases_eq (client_seen s.clients c).home n) [
+          | inl here ↦
+              let low : (log_seen s.nodes m c).log.first ≤ kept c = subst (λ k. k ≤ kept c) (sym (same_first s m c sound (was_full m f))) (kept_from_first w n c sound) in
+              ap (λ l. log_end l.log) (log_there m c (not_failed m f) here) ∙ end_cut (log_seen s.nodes m c).log (kept c) low
+          | inr other ↦
+              let all : kept c ≡ end w c = kept_elsewhere w n c other in
+              let known : w.received m c ≤ end w c = (sound.coherent.order m c (was_full m f)).known in
+              let whole : w.received m c ≡ min (w.received m c) (kept c) = omega (arith, all, known) in
+              ap (λ l. log_end l.log) (log_same m c (not_failed m f) other) ∙ whole
+        ]
+
+    cut_digested : (m c : ℕ) → is_full_in (standings t) m ≡ true → w'.digested m c ≡ w.digested m c
+    unfolding world_of
+    cut_digested m c f =
+        elim (cases_eq (client_seen s.clients c).home n) [
+          | inl here ↦ ap (λ l. l.digested) (log_there m c (not_failed m f) here)
+          | inr other ↦ ap (λ l. l.digested) (log_same m c (not_failed m f) other)
+        ]
+
+    -- clients
+    goals : (c : ℕ) → w'.goal c ≡ min (w.goal c) (kept c)
+    unfolding world_of
+    goals c =
+        elim (cases_eq (client_seen s.clients c).home n) [
+          | inl here ↦ ap (λ x. x.goal) (client_over c here)
+          | inr other ↦
+              let all : kept c ≡ end w c = kept_elsewhere w n c other in
+              let low : w.goal c ≤ end w c = sound.goals c in
+              let whole : w.goal c ≡ min (w.goal c) (kept c) = omega (arith, all, low) in
+              ap (λ x. x.goal) (client_same c other) ∙ whole
+        ]
+
+    lives_there : (c : ℕ) → w.home c ≡ n → w'.lives c ≡ false
+    unfolding world_of
+    lives_there c here = ap (λ x. not x.failed) (client_over c here)
+
+    lives_else : (c : ℕ) → w.home c ≢ n → w'.lives c ≡ w.lives c
+    unfolding world_of
+    lives_else c other = ap (λ x. not x.failed) (client_same c other)
+
+    -- the own log of a client whose node failed, or failed before
+    module _ (fine : failure_fault s.members n ≡ None) where
+      abbrev low : ℕ
+      low = lowest_full (standings t)
+
+      low_stands : is_full_in (standings t) low ≡ true
+      low_stands =
+          let k : (m : ℕ) × ((m ≢ n) × (is_full_in (standings s) m ≡ true)) = survivor_left s.members n stands fine in
+          lowest_is_full (standings t) k.0 (else_stands k.0 k.1.0 ∙ k.1.1)
+
+      has_ended : (c : ℕ) → (client_seen t.clients c).failed ≡ true → (w.lives c ≡ false) ⊎ (w.home c ≡ n)
+      unfolding world_of
+      has_ended c over =
+          elim (cases_eq (client_seen s.clients c).home n) [
+            | inl here ↦ inr here
+            | inr other ↦ inl (ap (λ x. not x.failed) (sym (client_same c other)) ∙ ap not over)
+          ]
+
+      own_once_over : (c : ℕ) → (client_seen t.clients c).failed ≡ true → own_seen t c ≡ log_seen t.nodes low c
+      unfolding own_seen
+      own_once_over c over = rw over refl
+
+      low_records : (c : ℕ) → (client_seen t.clients c).failed ≡ true → w'.log low c ≡ take (kept c - w.first c) (w.records c)
+      low_records c over =
+          cut_records low c low_stands
+          ∙ front_kept w n low c sound (was_full low low_stands) (kept_received w n low c sound (was_full low low_stands) (not_failed low low_stands) (has_ended c over))
+
+      -- and of one that lives on
+      lives_apart : (c : ℕ) → (client_seen t.clients c).failed ≡ false → (client_seen s.clients c).home ≢ n
+      lives_apart c unfailed here = true≢false (ap (λ x. x.failed) (sym (client_over c here)) ∙ unfailed)
+
+      own_while_lives : (c : ℕ) → (client_seen t.clients c).failed ≡ false → own_seen t c ≡ own_seen s c
+      unfolding own_seen
+      own_while_lives c unfailed =
+          let apart : (client_seen s.clients c).home ≢ n = lives_apart c unfailed in
+          let before : (client_seen s.clients c).failed ≡ false = ap (λ x. x.failed) (sym (client_same c apart)) ∙ unfailed in
+          rw (unfailed, before)
+          (ap (λ x. log_seen t.nodes x.home c) (client_same c apart) ∙ log_same (client_seen s.clients c).home c apart apart)
+
+      own_records : (c : ℕ) → w'.records c ≡ take (kept c - w.first c) (w.records c)
+      unfolding world_of
+      own_records c =
+          elim (cases_Bool (client_seen t.clients c).failed) [
+            | inl over ↦ ap (λ l. l.log.records) (own_once_over c over) ∙ low_records c over
+            | inr unfailed ↦ ap (λ l. l.log.records) (own_while_lives c unfailed) ∙ sym (all_kept w n c (kept_elsewhere w n c (lives_apart c unfailed)))
+          ]
+
+      own_first : (c : ℕ) → w'.first c ≡ w.first c
+      unfolding world_of
+      own_first c =
+          elim (cases_Bool (client_seen t.clients c).failed) [
+            | inl over ↦ ap (λ l. l.log.first) (own_once_over c over) ∙ cut_first low c low_stands
+            | inr unfailed ↦ ap (λ l. l.log.first) (own_while_lives c unfailed)
+          ]
+
+      own_end : (c : ℕ) → end w' c ≡ kept c
+      unfolding end
+      own_end c =
+          let first : w.first c ≤ kept c = kept_from_first w n c sound in
+          let top : kept c ≤ w.first c + length (w.records c) = kept_high w n c in
+          let cut : length (w'.records c) ≡ min (kept c - w.first c) (length (w.records c)) = ap length (own_records c) ∙ length-take (kept c - w.first c) (w.records c) in
+          omega (arith, first, top, cut, own_first c)
+
+      -- ---- the failure
+
+      survivor : (m : ℕ) × ((m ≢ n) × Full w m)
+      survivor = (let k : (m : ℕ) × ((m ≢ n) × (is_full_in (standings s) m ≡ true)) = survivor_left s.members n stands fine in (k.0, (k.1.0, seen_full s k.0 k.1.1)))
+
+      module _ (frozen : (i : ℕ) → levels.clients i ≡ freeze (λ a. lives s.levels.home a.holder n) (s.levels.clients i)) where
+        abbrev choice : Lease → Bool
+        choice a = lives s.levels.home a.holder n
+
+        held : SameLeases w w'
+        held = leases_frozen s t choice frozen
+
+        -- where the calls are those that are kept
+        with_calls : (xs : List NumberedCall) → xs ≡ filter (below (λ c. call_at w c (kept c))) w.calls → Fails w n (record w' { calls = xs })
+        unfolding world_of
+        with_calls xs same = record {
+          full_node = seen_full s n stood;
+          survivor = survivor;
+          gone = λ f. true≢false (sym (full_seen t n f) ∙ gone);
+          only = λ m f. was_full m (full_seen t m f);
+          others = λ m f other. seen_full t m (else_stands m other ∙ full_seen s m f);
+          calls = same;
+          records = λ c. own_records c ∙ sym (part_first w c (kept c));
+          first = own_first;
+          border = λ c k. refl;
+          next = client_keeps (λ x. x.next) (λ k x. refl);
+          made = client_keeps (λ x. x.made) (λ k x. refl);
+          goals = goals;
+          clients = count_over n kept s.clients (length s.clients);
+          home = client_keeps (λ x. x.home) (λ k x. refl);
+          lives_there = lives_there;
+          lives_else = lives_else;
+          crashed = client_keeps (λ x. x.crashed) (λ k x. refl);
+          leases = record { holds = held.holds; writes = held.writes };
+          log = λ m c f. cut_records m c (full_seen t m f);
+          received = λ m c f. cut_received m c (full_seen t m f);
+          digested = λ m c f. cut_digested m c (full_seen t m f);
+          area = λ m i f. failure_areas s n m i inodes levels;
+        }
+
+        -- and they are: a failure in the history takes those that are listed
+        calls_kept : w'.calls ≡ filter (below (λ c. call_at w c (kept c))) w.calls
+        unfolding world_of
+        calls_kept =
+            kept_fail s.history n (losses_of w n)
+            ∙ sym (failure_takes w (record w' { calls = filter (below (λ c. call_at w c (kept c))) w.calls }) n sound (with_calls (filter (below (λ c. call_at w c (kept c))) w.calls) refl))
+
+        node_fails : Fails w n w'
+        node_fails = with_calls w'.calls calls_kept
+
+        pub failure_seen : ((c : ℕ) → levels.home c ≡ s.levels.home c) → SameLeasesOf s.levels.nodes levels.nodes → FailsWith w (leases_of s) n w' (leases_of t)
+        unfolding world_of leases_of
+        failure_seen homes nodes = record {
+          fails = node_fails;
+          home = homes;
+          clients = frozen;
+          nodes = nodes;
+          cut_here = λ c i here. ap (λ x. cut_of s.cuts c x i) (client_over c here) ∙ cut_once_failed s.cuts c (kept c) (client_seen s.clients c) i ∙ sym (own_end c);
+          cut_else = λ c i other. ap (λ x. cut_of s.cuts c x i) (client_same c other);
+        }

@@ -1,0 +1,203 @@
+-- What the laws observe of fronts that are dropped at all nodes.
+use Rattle.std.proofs.Common.{◌≡◌, ◌≢◌, ℕ, ◌+◌, ◌-◌, ◌≤◌, true, List, length, drop, inl, inr, refl, ap, sym, subst, ◌∙◌, arith, eq-eqb}
+use Rattle.std.proofs.lemmas.Bool.{cases_Bool, cases_eq, ne_eqb}
+use Rattle.std.proofs.lemmas.List.{length-drop}
+use Rattle.assise_record.specs.LogRecord.{LogRecord}
+use Rattle.assise_inode_table.specs.Contents.{values}
+use Rattle.assise_private_log.specs.NumberedLog.{end as log_end}
+use Rattle.assise_digest.specs.Region.{from_number, no_log}
+use Rattle.assise_machine_laws.specs.NodeSteps.{Drops}
+use Rattle.assise_machine_laws.specs.Sound.{IsSound}
+use Rattle.assise_machine_laws.specs.World.{Full, World, digested_by_all, end}
+use Rattle.assise_machine_laws.proofs.Logs.{drop-of_drop}
+use Rattle.assise_machine_laws.proofs.Observing.{digested_by_all-below, digested_by_all-first, least_of-end, least_of-same, received_by_all-below}
+use Rattle.assise_machine_events.proofs.Granting.{clients_after, full_after}
+use Rattle.assise_machine_state.specs.Changes.{after_drop, first_but}
+use Rattle.assise_machine_state.specs.ClientValues.{client_seen}
+use Rattle.assise_machine_state.specs.NodeValues.{log_seen}
+use Rattle.assise_machine_state.specs.Observed.{is_full_in, own_node, own_seen, world_of}
+use Rattle.assise_machine_state.specs.Places.{IsNumber}
+use Rattle.assise_machine_state.specs.Shape.{IsShaped}
+use Rattle.assise_machine_state.specs.StateValues.{StateValue, standings}
+use Rattle.assise_machine_state.proofs.Fullness.{full_seen, has_log, no_log_there, same_first}
+use Rattle.assise_machine_state.proofs.Logging.{beside_seen, inodes_seen, own_changes, part_seen}
+use Rattle.assise_machine_state.proofs.Shaping.{shaped_all}
+use Rattle.assise_machine_state.proofs.Staying.{clients_as, goals_as, leases_as}
+
+-- ---- fronts are dropped
+
+pub drop_shaped : (s : StateValue) (c to : ℕ) → IsShaped s → IsShaped (after_drop s c to)
+drop_shaped s c to shape = shaped_all s c (λ l. from_number l to) shape (λ l. refl) (λ l. refl)
+
+pub drop_areas : (s : StateValue) (c to n i : ℕ) → (world_of (after_drop s c to)).area n i ≡ (world_of s).area n i
+unfolding world_of
+drop_areas s c to n i = ap (λ v. values v i) (inodes_seen c (λ l. from_number l to) s.nodes n)
+
+digested_by_all-end : (w : World) (c : ℕ) → digested_by_all w c ≤ end w c
+unfolding digested_by_all
+digested_by_all-end w c = least_of-end w.full (λ m. w.digested m c) (end w c)
+
+module _ (s : StateValue) (c to : ℕ) (shape : IsShaped s) (sound : IsSound (world_of s)) (client : IsNumber s.clients c)
+    (from_first : (world_of s).first c ≤ to) (all_digested : to ≤ digested_by_all (world_of s) c) where
+  abbrev w : World
+  w = world_of s
+
+  abbrev w' : World
+  w' = world_of (after_drop s c to)
+
+  abbrev f : ℕ → ℕ
+  f = first_but w c to
+
+  -- a full node's log of the client begins there, and so does the client's own
+
+  begins : (n : ℕ) → is_full_in (standings s) n ≡ true → log_seen (after_drop s c to).nodes n c ≡ from_number (log_seen s.nodes n c) to
+  begins n full = own_changes c (λ l. from_number l to) s.nodes n (has_log s n c shape full client)
+
+  -- where no node has it, there is nothing to drop
+  nowhere : log_seen s.nodes (own_node (standings s) (client_seen s.clients c)) c ≡ no_log → to ≡ 0
+  unfolding end world_of own_seen
+  nowhere none =
+      let high : to ≤ end w c = omega (arith, all_digested, digested_by_all-end w c) in
+      let nothing : end w c ≡ 0 = ap (λ x. log_end x.log) none in
+      omega (arith, high, nothing)
+
+  own_begins : own_seen (after_drop s c to) c ≡ from_number (own_seen s c) to
+  unfolding own_seen
+  own_begins =
+      let own : ℕ = own_node (standings s) (client_seen s.clients c) in
+      elim (cases_Bool (is_full_in (standings s) own)) [
+        | inl full ↦ begins own full
+        | inr away ↦
+            let none : log_seen s.nodes own c ≡ no_log = no_log_there s own c shape away in
+            no_log_there (after_drop s c to) own c (drop_shaped s c to shape) away
+            ∙ ap (from_number no_log) (sym (nowhere none))
+            ∙ ap (λ x. from_number x to) (sym none)
+      ]
+
+  beside : (n d : ℕ) → d ≢ c → log_seen (after_drop s c to).nodes n d ≡ log_seen s.nodes n d
+  beside n d other = beside_seen c (λ l. from_number l to) s.nodes n d client.some other
+
+  own_beside : (d : ℕ) → d ≢ c → own_seen (after_drop s c to) d ≡ own_seen s d
+  unfolding own_seen
+  own_beside d other = beside (own_node (standings s) (client_seen s.clients d)) d other
+
+  -- ---- of all clients
+
+  f_here : f c ≡ to
+  f_here = rw (eq-eqb c c refl) refl
+
+  f_else : (d : ℕ) → d ≢ c → f d ≡ w.first d
+  f_else d other = rw (ne_eqb d c other) refl
+
+  -- a statement of each client holds where it holds of this one and of the others
+  each : (P : ℕ → ℕ → Type 0) → P c to → ((d : ℕ) → d ≢ c → P d (w.first d)) → (d : ℕ) → P d (f d)
+  each P here else d =
+      elim (cases_eq d c) [
+        | inl is ↦ subst (λ e. P e (f e)) (sym is) (subst (P c) (sym f_here) here)
+        | inr other ↦ subst (P d) (sym (f_else d other)) (else d other)
+      ]
+
+  none_dropped : (k : ℕ) (rs : List LogRecord) → rs ≡ drop (k - k) rs
+  none_dropped k rs = (let none : k - k ≡ 0 = omega arith in ap (λ j. drop j rs) (sym none))
+
+  records_now : (d : ℕ) → w'.records d ≡ drop (f d - w.first d) (w.records d)
+  unfolding world_of
+  records_now = each (λ d k. w'.records d ≡ drop (k - w.first d) (w.records d))
+      (ap (λ x. x.log.records) own_begins)
+      (λ d other. ap (λ x. x.log.records) (own_beside d other) ∙ none_dropped (w.first d) (w.records d))
+
+  first_now : (d : ℕ) → w'.first d ≡ f d
+  unfolding world_of
+  first_now = each (λ d k. w'.first d ≡ k) (ap (λ x. x.log.first) own_begins) (λ d other. ap (λ x. x.log.first) (own_beside d other))
+
+  log_now : (n d : ℕ) → Full w n → w'.log n d ≡ drop (f d - w.first d) (w.log n d)
+  unfolding world_of
+  log_now n d full = each (λ d k. w'.log n d ≡ drop (k - w.first d) (w.log n d))
+      (ap (λ x. x.log.records) (begins n (full_seen s n full)) ∙ ap (λ k. drop (to - k) (w.log n c)) (same_first s n c sound full))
+      (λ d other. ap (λ x. x.log.records) (beside n d other) ∙ none_dropped (w.first d) (w.log n d))
+      d
+
+  -- a front that goes leaves the end
+  ends : (first cut : ℕ) (rs : List LogRecord) → first ≤ cut → cut ≤ first + length rs → cut + length (drop (cut - first) rs) ≡ first + length rs
+  ends first cut rs low high = (let left : length (drop (cut - first) rs) ≡ length rs - (cut - first) = length-drop (cut - first) rs in omega (arith, low, high, left))
+
+  received_now : (n d : ℕ) → Full w n → w'.received n d ≡ w.received n d
+  unfolding world_of
+  received_now n d full =
+      elim (cases_eq d c) [
+        | inl is ↦ subst (λ e. w'.received n e ≡ w.received n e) (sym is) (
+            let first : w.first c ≡ (log_seen s.nodes n c).log.first = sym (same_first s n c sound full) in
+            let low : (log_seen s.nodes n c).log.first ≤ to = subst (λ k. k ≤ to) first from_first in
+            let high : to ≤ log_end (log_seen s.nodes n c).log =
+            omega (arith, all_digested, digested_by_all-below w n c full, (sound.coherent.order n c full).acknowledged, received_by_all-below w n c full) in
+            ap (λ x. log_end x.log) (begins n (full_seen s n full)) ∙ ends (log_seen s.nodes n c).log.first to (log_seen s.nodes n c).log.records low high)
+        | inr other ↦ ap (λ x. log_end x.log) (beside n d other)
+      ]
+
+  pub dropped : Drops w f w'
+  unfolding world_of
+  dropped = record {
+    low = each (λ d k. w.first d ≤ k) from_first (λ d other. omega arith);
+    high = each (λ d k. k ≤ digested_by_all w d) all_digested (λ d other. digested_by_all-first w sound.coherent d);
+    border_at = λ d. refl;
+    calls = refl;
+    records = records_now;
+    first = first_now;
+    border = λ d k. refl;
+    next = λ d. refl;
+    made = λ d. refl;
+    clients = clients_as s (after_drop s c to) refl;
+    goals = goals_as s (after_drop s c to) refl;
+    leases = leases_as s (after_drop s c to) (λ i. refl);
+    full = refl;
+    log = log_now;
+    received = received_now;
+    digested = λ n d full. part_seen c (λ l. from_number l to) (λ x. x.digested) s.nodes n d (λ l. refl);
+    area = λ n i full. drop_areas s c to n i;
+  }
+
+-- ---- one after another
+
+module _ (w v u : World) (f g : ℕ → ℕ) (front : Drops w f v) (next : Drops v g u) where
+  still_full : (n : ℕ) → Full w n → Full v n
+  still_full n full = full_after w v n front.full full
+
+  low_both : (c : ℕ) → f c ≤ g c
+  low_both c = subst (λ k. k ≤ g c) (front.first c) (next.low c)
+
+  same_end : (c : ℕ) → end v c ≡ end w c
+  unfolding end
+  same_end c =
+      let high : digested_by_all w c ≤ w.first c + length (w.records c) = digested_by_all-end w c in
+      let left : length (drop (f c - w.first c) (w.records c)) ≡ length (w.records c) - (f c - w.first c) = length-drop (f c - w.first c) (w.records c) in
+      rw (front.first c, front.records c) (omega (arith, left, high, front.low c, front.high c))
+
+  same_digested : (c : ℕ) → digested_by_all v c ≡ digested_by_all w c
+  unfolding digested_by_all
+  same_digested c = rw (same_end c, front.full) (least_of-same w.full (λ m. v.digested m c) (λ m. w.digested m c) (end w c) (λ m full. front.digested m c full))
+
+  both_dropped : (c : ℕ) (rs : List LogRecord) → drop (g c - v.first c) (drop (f c - w.first c) rs) ≡ drop (g c - w.first c) rs
+  both_dropped c rs =
+      let sum : (f c - w.first c) + (g c - v.first c) ≡ g c - w.first c = omega (arith, front.first c, front.low c, low_both c) in
+      drop-of_drop rs (f c - w.first c) (g c - v.first c) ∙ ap (λ k. drop k rs) sum
+
+  pub dropped_twice : Drops w g u
+  dropped_twice = record {
+    low = λ c. omega (arith, front.low c, low_both c);
+    high = λ c. subst (λ k. g c ≤ k) (same_digested c) (next.high c);
+    border_at = λ c. sym (front.border c (g c)) ∙ next.border_at c;
+    calls = next.calls ∙ front.calls;
+    records = λ c. next.records c ∙ ap (drop (g c - v.first c)) (front.records c) ∙ both_dropped c (w.records c);
+    first = next.first;
+    border = λ c k. next.border c k ∙ front.border c k;
+    next = λ c. next.next c ∙ front.next c;
+    made = λ c. next.made c ∙ front.made c;
+    clients = clients_after w v u front.clients next.clients;
+    goals = λ c. next.goals c ∙ front.goals c;
+    leases = record { holds = λ c i. next.leases.holds c i ∙ front.leases.holds c i; writes = λ c i. next.leases.writes c i ∙ front.leases.writes c i };
+    full = next.full ∙ front.full;
+    log = λ n c full. next.log n c (still_full n full) ∙ ap (drop (g c - v.first c)) (front.log n c full) ∙ both_dropped c (w.log n c);
+    received = λ n c full. next.received n c (still_full n full) ∙ front.received n c full;
+    digested = λ n c full. next.digested n c (still_full n full) ∙ front.digested n c full;
+    area = λ n i full. next.area n i (still_full n full) ∙ front.area n i full;
+  }

@@ -1,0 +1,122 @@
+-- Which nodes are full, and which logs they have.
+use Rattle.std.proofs.Common.{◌≡◌, ℕ, ◌-◌, ◌≤◌, min, Bool, true, false, ◌&&◌, ◌==◌, List, [], length, filter, Some, inl, inr, refl, ap, sym, subst, ◌∙◌, arith, eq-eqb, true≢false}
+use Rattle.std.proofs.lemmas.Bool.{cases_Bool, eqb-true, not-true}
+use Rattle.std.proofs.lemmas.List.{length-take}
+use Rattle.std.proofs.lemmas.Map.Views.{any-filter_same}
+use Rattle.assise_inode_table.specs.Effects.{contains}
+use Rattle.assise_digest.specs.Region.{RegionValue, no_log}
+use Rattle.assise_manager.specs.Standings.{Standing, full, standing_of}
+use Rattle.assise_machine_laws.specs.Sound.{IsSound}
+use Rattle.assise_machine_laws.specs.World.{Full, IsClient, World, end}
+use Rattle.assise_machine_laws.proofs.Observing.{received_by_all-below}
+use Rattle.assise_machine_history.specs.State.{down_from}
+use Rattle.assise_machine_history.proofs.Running.{of_node}
+use Rattle.assise_machine_state.specs.ClientValues.{ClientValue, client_seen, no_client}
+use Rattle.assise_machine_state.specs.NodeValues.{HasLog, log_in, log_seen, new_region, region_in, region_seen}
+use Rattle.assise_machine_state.specs.Observed.{full_in, is_full_in, observed, world_of}
+use Rattle.assise_machine_state.specs.Places.{IsNumber, at}
+use Rattle.assise_machine_state.specs.Shape.{IsShaped}
+use Rattle.assise_machine_state.specs.StateValues.{StateValue, standings}
+use Rattle.assise_machine_state.proofs.Logging.{log_number}
+use Rattle.assise_machine_state.proofs.Seeing.{is_seen, seen_nothing, seen_number}
+use Rattle.assise_machine_state.proofs.Standings.{numbers, stands_so}
+
+-- ---- the list of full nodes
+
+filter_has : (p : ℕ → Bool) (ns : List ℕ) (n : ℕ) → contains (filter p ns) n ≡ (p n && contains ns n)
+filter_has p ns n = any-filter_same (λ k. k == n) p (p n) (λ k is. ap p (eqb-true k n is)) ns
+
+pub full_is : (nodes : List Standing) (n : ℕ) → contains (full_in nodes) n ≡ is_full_in nodes n
+unfolding full_in
+full_is nodes n =
+    filter_has (is_full_in nodes) (down_from (length nodes)) n
+    ∙ elim (cases_Bool (is_full_in nodes n)) [
+      | inl f ↦ (let g : (1 ≤ n) × (n ≤ length nodes) = numbers nodes n full (stands_so nodes n f) in rw f (of_node (length nodes) n g.0 g.1))
+      | inr other ↦ rw other refl
+    ]
+
+pub full_seen : (s : StateValue) (n : ℕ) → Full (world_of s) n → is_full_in (standings s) n ≡ true
+unfolding world_of
+full_seen s n f = sym (full_is (standings s) n) ∙ f
+
+pub seen_full : (s : StateValue) (n : ℕ) → is_full_in (standings s) n ≡ true → Full (world_of s) n
+unfolding world_of
+seen_full s n f = full_is (standings s) n ∙ f
+
+pub node_number : (s : StateValue) (n : ℕ) (x : Standing) → IsShaped s → standing_of (standings s) n ≡ Some x → IsNumber s.nodes n
+node_number s n x shape stands = (let g : (1 ≤ n) × (n ≤ length (standings s)) = numbers (standings s) n x stands in record { some = g.0; there = subst (λ k. n ≤ k) (sym shape.nodes) g.1 })
+
+pub full_number : (s : StateValue) (n : ℕ) → IsShaped s → is_full_in (standings s) n ≡ true → IsNumber s.nodes n
+full_number s n shape f = node_number s n full shape (stands_so (standings s) n f)
+
+-- ---- logs
+
+pub region_is : (s : StateValue) (n : ℕ) → IsNumber s.nodes n → region_seen s.nodes n ≡ region_in s.nodes n
+unfolding region_seen
+region_is s n there = is_seen new_region s.nodes n there
+
+pub has_log : (s : StateValue) (n c : ℕ) → IsShaped s → is_full_in (standings s) n ≡ true → IsNumber s.clients c → HasLog s.nodes n c
+has_log s n c shape f client =
+    let there : IsNumber s.nodes n = full_number s n shape f in
+    let all : length (region_in s.nodes n).logs ≡ length s.clients = ap (λ r. length r.logs) (sym (region_is s n there)) ∙ shape.logs n f in
+    record { node = there; client = record { some = client.some; there = subst (λ k. c ≤ k) (sym all) client.there } }
+
+pub log_is : (s : StateValue) (n c : ℕ) → HasLog s.nodes n c → log_seen s.nodes n c ≡ log_in s.nodes n c
+unfolding log_seen
+log_is s n c has =
+    ap (λ r. at no_log r.logs c) (region_is s n has.node)
+    ∙ is_seen no_log (region_in s.nodes n).logs c (log_number s.nodes n c has)
+
+-- a node that isn't full has no log
+pub no_log_in : (rs : List RegionValue) (n c : ℕ) → (region_seen rs n).logs ≡ [] → log_seen rs n c ≡ no_log
+unfolding log_seen
+no_log_in rs n c none = ap (λ ls. at no_log ls c) none ∙ seen_nothing no_log c
+
+pub no_log_there : (s : StateValue) (n c : ℕ) → IsShaped s → is_full_in (standings s) n ≡ false → log_seen s.nodes n c ≡ no_log
+no_log_there s n c shape away = no_log_in s.nodes n c (shape.no_logs n away)
+
+-- ---- clients that live
+
+unfailed_number : (cs : List ClientValue) (c : ℕ) → (client_seen cs c).failed ≡ false → IsNumber cs c
+unfolding client_seen
+unfailed_number cs c lives = seen_number no_client cs c (λ none. true≢false (sym (ap (λ x. x.failed) none) ∙ lives))
+
+pub lives_unfailed : (s : StateValue) (c : ℕ) → (world_of s).lives c ≡ true → (client_seen s.clients c).failed ≡ false
+unfolding world_of
+lives_unfailed s c lives = not-true (client_seen s.clients c).failed lives
+
+pub lives_number : (s : StateValue) (c : ℕ) → (world_of s).lives c ≡ true → IsNumber s.clients c
+lives_number s c lives = unfailed_number s.clients c (lives_unfailed s c lives)
+
+-- its home is full
+pub home_full : (s : StateValue) (c : ℕ) → IsShaped s → (client_seen s.clients c).failed ≡ false → is_full_in (standings s) (client_seen s.clients c).home ≡ true
+home_full s c shape unfailed =
+    let home : ℕ = (client_seen s.clients c).home in
+    let here : (log_seen s.nodes home c).at_home ≡ true = shape.at_home home c ∙ rw (unfailed, eq-eqb home home refl) refl in
+    elim (cases_Bool (is_full_in (standings s) home)) [
+      | inl f ↦ f
+      | inr away ↦ (let none : log_seen s.nodes home c ≡ no_log = no_log_there s home c shape away in absurd (cc (ap (λ l. l.at_home) none, here)))
+    ]
+
+-- ---- a full node's log of a client is a front of the client's own, and begins where that does
+
+pub front_length : (w : World) (n c : ℕ) → IsSound w → Full w n → length (w.log n c) ≡ min (w.received n c - w.first c) (length (w.records c))
+front_length w n c sound f = ap length (sound.fronts n c f) ∙ length-take (w.received n c - w.first c) (w.records c)
+
+pub same_first : (s : StateValue) (n c : ℕ) → IsSound (world_of s) → Full (world_of s) n → (log_seen s.nodes n c).log.first ≡ (world_of s).first c
+unfolding world_of end
+same_first s n c sound f =
+    let order = sound.coherent.order n c f in
+    let all : (world_of s).digested n c ≤ (world_of s).received n c = omega (arith, order.acknowledged, received_by_all-below (world_of s) n c f) in
+    let front : length ((world_of s).log n c) ≡ min ((world_of s).received n c - (world_of s).first c) (length ((world_of s).records c)) = front_length (world_of s) n c sound f in
+    omega (arith, order.begun, order.known, all, front)
+
+-- ---- what a client and a node are to the laws
+
+pub client_number : (s : StateValue) (c : ℕ) → IsClient (observed s).world c → IsNumber s.clients c
+unfolding observed world_of
+client_number s c is = record { some = is.0; there = is.1 }
+
+pub number_client : (s : StateValue) (c : ℕ) → IsNumber s.clients c → IsClient (observed s).world c
+unfolding observed world_of
+number_client s c is = (is.some, is.there)

@@ -1,0 +1,140 @@
+-- What the laws observe of records that come to a node.
+use Rattle.std.proofs.Common.{◌≡◌, ℕ, ◌+◌, ◌-◌, min, not, [], ◌++◌, List, length, take, drop, inl, inr, refl, ap, sym, subst, ◌∙◌, arith}
+use Rattle.std.proofs.lemmas.Bool.{cases_Bool, cases_eq}
+use Rattle.std.proofs.lemmas.List.{length-append, length-drop, length-take}
+use Rattle.assise_record.specs.LogRecord.{LogRecord}
+use Rattle.assise_inode_table.specs.Contents.{values}
+use Rattle.assise_private_log.specs.NumberedLog.{end as log_end}
+use Rattle.assise_digest.specs.Region.{ReceivedLog, with_log}
+use Rattle.assise_machine_laws.specs.Chances.{MayDeliver}
+use Rattle.assise_machine_laws.specs.NodeSteps.{Delivers}
+use Rattle.assise_machine_laws.specs.Sound.{IsSound}
+use Rattle.assise_machine_laws.specs.World.{World, end, records_between}
+use Rattle.assise_machine_returns.specs.Returns.{OtherAreasStay}
+use Rattle.assise_machine_state.specs.Changes.{after_delivery}
+use Rattle.assise_machine_state.specs.ClientValues.{client_seen}
+use Rattle.assise_machine_state.specs.NodeValues.{HasLog, log_in, log_seen, region_in, with_records}
+use Rattle.assise_machine_state.specs.Observed.{own_node, own_seen, world_of}
+use Rattle.assise_machine_state.specs.Places.{IsNumber}
+use Rattle.assise_machine_state.specs.Shape.{IsShaped}
+use Rattle.assise_machine_state.specs.StateValues.{StateValue, standings}
+use Rattle.assise_machine_state.proofs.Fullness.{full_seen, has_log, log_is, same_first}
+use Rattle.assise_machine_state.proofs.Logging.{log_else, log_here, log_same, none_more, region_kept}
+use Rattle.assise_machine_state.proofs.Shaping.{shaped_log}
+use Rattle.assise_machine_state.proofs.Staying.{clients_as, goals_as, leases_as, logs_as}
+
+-- the node's log of the client then
+abbrev delivered_log : StateValue → (n c k : ℕ) → ReceivedLog
+delivered_log s n c k = with_records (log_in s.nodes n c) (records_between (world_of s) c ((world_of s).received n c) k)
+
+-- the areas of all nodes stay
+same_area : (s : StateValue) (n c k m i : ℕ) → (world_of (after_delivery s n c k)).area m i ≡ (world_of s).area m i
+unfolding world_of
+same_area s n c k m i = region_kept s.nodes n (with_log (region_in s.nodes n) c (delivered_log s n c k)) (λ r. values r.inodes i) refl m
+
+pub other_areas : (s : StateValue) (n c k : ℕ) → OtherAreasStay (world_of s) (world_of (after_delivery s n c k))
+other_areas s n c k m i else = same_area s n c k m i
+
+pub delivery_shaped : (s : StateValue) (n c k : ℕ) → IsShaped s → IsShaped (after_delivery s n c k)
+delivery_shaped s n c k shape = shaped_log s s.members n c (region_in s.nodes n).inodes (delivered_log s n c k) shape refl refl refl (λ m. refl)
+
+module _ (s : StateValue) (n c k : ℕ) (shape : IsShaped s) (sound : IsSound (world_of s)) (client : IsNumber s.clients c) (may : MayDeliver (world_of s) n c k) where
+  abbrev w : World
+  w = world_of s
+
+  abbrev t : StateValue
+  t = after_delivery s n c k
+
+  abbrev w' : World
+  w' = world_of t
+
+  abbrev more : List LogRecord
+  more = records_between w c (w.received n c) k
+
+  abbrev longer : ReceivedLog
+  longer = delivered_log s n c k
+
+  has : HasLog s.nodes n c
+  has = has_log s n c shape (full_seen s n may.full_node) client
+
+  was : log_seen s.nodes n c ≡ log_in s.nodes n c
+  was = log_is s n c has
+
+  -- ---- the client's own log stays: where it is this node's, nothing is missing there
+
+  all_there : own_node (standings s) (client_seen s.clients c) ≡ n → w.received n c ≡ end w c
+  unfolding world_of
+  all_there own =
+      elim (cases_Bool (client_seen s.clients c).failed) [
+        | inl failed ↦ sound.left n c (ap not failed) may.full_node
+        | inr unfailed ↦ (let home : (client_seen s.clients c).home ≡ n = rw unfailed at own in subst (λ m. w.received m c ≡ end w c) home (sound.whole c (ap not unfailed)))
+      ]
+
+  no_more : w.received n c ≡ end w c → longer ≡ log_in s.nodes n c
+  unfolding records_between
+  no_more all =
+      let none : k - w.received n c ≡ 0 = omega (arith, all, may.to) in
+      let nothing : take (k - w.received n c) (drop (w.received n c - w.first c) (w.records c)) ≡ [] = ap (λ j. take j (drop (w.received n c - w.first c) (w.records c))) none in
+      ap (with_records (log_in s.nodes n c)) nothing ∙ none_more (log_in s.nodes n c)
+
+  same_here : own_node (standings s) (client_seen s.clients c) ≡ n → (m d : ℕ) → log_seen t.nodes m d ≡ log_seen s.nodes m d
+  same_here own m d = log_same s.nodes n c (region_in s.nodes n).inodes longer (λ x. x) m d (no_more (all_there own))
+
+  same_else : (m d : ℕ) → (m ≡ n → d ≡ c → ⊥) → log_seen t.nodes m d ≡ log_seen s.nodes m d
+  same_else m d other = log_else s.nodes n c (region_in s.nodes n).inodes longer has m d other
+
+  same_own : (d : ℕ) → own_seen t d ≡ own_seen s d
+  unfolding own_seen
+  same_own d =
+      elim (cases_eq d c) [
+        | inl is ↦ (elim (cases_eq (own_node (standings s) (client_seen s.clients c)) n) [
+          | inl own ↦ same_here own (own_node (standings s) (client_seen s.clients d)) d
+          | inr other ↦ same_else (own_node (standings s) (client_seen s.clients d)) d (λ there same. other (ap (λ e. own_node (standings s) (client_seen s.clients e)) (sym same) ∙ there))
+        ])
+        | inr other ↦ same_else (own_node (standings s) (client_seen s.clients d)) d (λ there same. other same)
+      ]
+
+  -- ---- this node's log
+
+  log_now : w'.log n c ≡ w.log n c ++ more
+  unfolding world_of
+  log_now = ap (λ x. x.log.records) (log_here s.nodes n c (region_in s.nodes n).inodes longer has) ∙ ap (λ x. x.log.records ++ more) (sym was)
+
+  -- the number behind the last record
+
+  counted : (log_seen s.nodes n c).log.first + length ((log_seen s.nodes n c).log.records ++ more) ≡ k
+  unfolding world_of end records_between
+  counted =
+      let first : (log_seen s.nodes n c).log.first ≡ w.first c = same_first s n c sound may.full_node in
+      let both : length ((log_seen s.nodes n c).log.records ++ more) ≡ length (log_seen s.nodes n c).log.records + length more = length-append (log_seen s.nodes n c).log.records more in
+      let part : length more ≡ min (k - w.received n c) (length (drop (w.received n c - w.first c) (w.records c))) =
+      length-take (k - w.received n c) (drop (w.received n c - w.first c) (w.records c)) in
+      let rest : length (drop (w.received n c - w.first c) (w.records c)) ≡ length (w.records c) - (w.received n c - w.first c) = length-drop (w.received n c - w.first c) (w.records c) in
+      omega (arith, first, both, part, rest, may.from, may.to)
+
+  received_now : w'.received n c ≡ k
+  unfolding world_of
+  received_now =
+      ap (λ x. log_end x.log) (log_here s.nodes n c (region_in s.nodes n).inodes longer has)
+      ∙ ap (λ x. x.log.first + length (x.log.records ++ more)) (sym was)
+      ∙ counted
+
+  pub delivered : Delivers w n c k w'
+  unfolding world_of
+  delivered = record {
+    full_node = may.full_node;
+    from = may.from;
+    to = may.to;
+    border_to = may.border_to;
+    logs = logs_as s t refl refl (λ d. ap (λ x. x.log.records) (same_own d)) (λ d. ap (λ x. x.log.first) (same_own d));
+    clients = clients_as s t refl;
+    goals = goals_as s t refl;
+    leases = leases_as s t (λ i. refl);
+    full = refl;
+    log_here = log_now;
+    log_else = λ m d f other. ap (λ x. x.log.records) (same_else m d other);
+    received_here = received_now;
+    received_else = λ m d f other. ap (λ x. log_end x.log) (same_else m d other);
+    digested = λ m d f. log_same s.nodes n c (region_in s.nodes n).inodes longer (λ x. x.digested) m d refl;
+    area = λ m i f. same_area s n c k m i;
+  }

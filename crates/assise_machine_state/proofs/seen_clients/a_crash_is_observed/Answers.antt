@@ -1,0 +1,18 @@
+use Rattle.std.proofs.Common.{refl}
+use Rattle.assise_machine_state.specs.Changes.{after_crash}
+use Rattle.assise_machine_state.proofs.Crashing.{crash_seen, crash_shaped}
+use Rattle.assise_machine_state.proofs.Noted.{crash_noted}
+use Rattle.assise_machine_state.proofs.ShapedClients.{areas_stay}
+use Rattle.assise_machine_state.proofs.seen_clients.a_crash_is_observed.Goals as goal
+
+pub returns-clause-crashes : goal.returns-clause-crashes
+returns-clause-crashes r = λ s c levels lives runs frozen. crash_seen s c levels lives runs frozen
+
+pub returns-clause-others : goal.returns-clause-others
+returns-clause-others r = λ s c levels. areas_stay s (after_crash s c levels) refl
+
+pub returns-clause-shape : goal.returns-clause-shape
+returns-clause-shape r = λ s c levels shape there. crash_shaped s c levels shape
+
+pub returns-clause-noted : goal.returns-clause-noted
+returns-clause-noted r = λ s c levels noted frozen. crash_noted s c levels noted frozen

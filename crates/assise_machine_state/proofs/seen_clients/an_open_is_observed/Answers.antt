@@ -1,0 +1,15 @@
+use Rattle.assise_machine_state.proofs.Noted.{open_noted}
+use Rattle.assise_machine_state.proofs.Opening.{open_areas, open_seen, open_shaped}
+use Rattle.assise_machine_state.proofs.seen_clients.an_open_is_observed.Goals as goal
+
+pub returns-clause-opens : goal.returns-clause-opens
+returns-clause-opens r = λ s n levels shape noted full_node enrols. open_seen s n levels shape noted full_node enrols
+
+pub returns-clause-others : goal.returns-clause-others
+returns-clause-others r = λ s n levels. open_areas s n levels
+
+pub returns-clause-shape : goal.returns-clause-shape
+returns-clause-shape r = λ s n levels shape full_node. open_shaped s n levels shape full_node
+
+pub returns-clause-noted : goal.returns-clause-noted
+returns-clause-noted r = λ s n levels noted leases enrols. open_noted s n levels noted leases enrols

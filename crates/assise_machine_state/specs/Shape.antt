@@ -1,0 +1,48 @@
+-- What holds of the parts of the state, beside what the laws say of it.
+-- Assise (OSDI 2020), section 3 (CC-NVM: a replica has the logs of all clients).
+use Rattle.std.specs.Prelude.{◌≡◌, ℕ, ◌≤◌, true, false, not, ◌&&◌, ◌==◌, List, [], filter, length}
+use Rattle.assise_names.specs.declared.mode.Mode.{Mode}
+use Rattle.assise_private_log.specs.Touches.{Covers}
+use Rattle.assise_lease_table.specs.declared.lease.Asked.{Asked}
+use Rattle.assise_lease_table.specs.Answers.{clients_of}
+use Rattle.assise_lease_table.specs.Leases.{Among, holders, is_to_ask, lease_of}
+use Rattle.assise_lease_tree.specs.Levels.{in_way, is_frozen}
+use Rattle.assise_lease_tree.specs.TwoLevels.{TwoLevels}
+use Rattle.assise_machine_leases.specs.Leases.{IsFrozenLease}
+use Rattle.assise_machine_state.specs.ClientValues.{client_seen, is_over}
+use Rattle.assise_machine_state.specs.Cuts.{are_once, is_asked}
+use Rattle.assise_machine_state.specs.NodeValues.{HasLog, log_in, log_seen, region_seen}
+use Rattle.assise_machine_state.specs.Observed.{is_full_in, own_seen}
+use Rattle.assise_machine_state.specs.Places.{IsNumber}
+use Rattle.assise_machine_state.specs.StateValues.{StateValue, leases_of, standings}
+
+pub record IsShaped (s : StateValue) : Type 0 where
+  -- each node stands somehow
+  pub nodes : length s.nodes ≡ length (standings s)
+  pub few_nodes : length s.nodes ≤ 8
+  -- a full node has a log of each client, and another has none
+  pub logs : (n : ℕ) → is_full_in (standings s) n ≡ true → length (region_seen s.nodes n).logs ≡ length s.clients
+  pub no_logs : (n : ℕ) → is_full_in (standings s) n ≡ false → (region_seen s.nodes n).logs ≡ []
+  -- at a client's home its log is known as that of a client that lives there, until the node fails, and nowhere else
+  pub at_home : (n c : ℕ) → (log_seen s.nodes n c).at_home ≡ ((n == (client_seen s.clients c).home) && not (client_seen s.clients c).failed)
+  -- all logs have one limit, 8 to 4,096 records
+  pub limits : (n c : ℕ) → HasLog s.nodes n c → (log_in s.nodes n c).log.limit ≡ s.limit
+  pub least_limit : 8 ≤ s.limit
+  pub most_limit : s.limit ≤ 4096
+
+-- the answers are those of the leases that are frozen, one of each, but for clients that are over
+pub record AreNoted (s : StateValue) : Type 0 where
+  pub once : are_once s.cuts ≡ true
+  pub known : (c i : ℕ) → is_asked s.cuts c i ≡ true → IsNumber s.clients c
+  pub frozen : (c i : ℕ) → is_asked s.cuts c i ≡ true → is_over (client_seen s.clients c) ≡ false → IsFrozenLease (leases_of s) c i
+  pub noted : (c i : ℕ) → is_over (client_seen s.clients c) ≡ false → IsFrozenLease (leases_of s) c i → is_asked s.cuts c i ≡ true
+
+-- those who stand in the way of client c were asked, each once, and answered cuts that cover in their own logs
+pub record AreAnswers (s : StateValue) (c i : ℕ) (mode : Mode) (asked : List Asked) : Type 0 where
+  pub who : clients_of asked ≡ holders (filter (is_to_ask (in_way s.levels.home (s.levels.nodes i) c (client_seen s.clients c).home mode)) (s.levels.clients i))
+  pub inodes : (a : Asked) → Among asked a → a.inode ≡ i
+  pub covers : (a : Asked) → Among asked a → Covers (own_seen s a.client).log i a.cut
+
+-- the same leases are frozen
+abbrev pub SameFrozen : StateValue → TwoLevels → Type 0
+SameFrozen s levels = (c i : ℕ) → is_frozen (lease_of (levels.clients i) c) ≡ is_frozen (lease_of (s.levels.clients i) c)
