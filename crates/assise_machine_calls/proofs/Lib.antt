@@ -1,0 +1,13 @@
+pub mod OpenFaults
+pub mod Opened
+pub mod ClientFaults
+pub mod Fsyncing
+pub mod Committing
+pub mod Granted
+pub mod Wanting
+pub mod Leasing
+pub mod Answering
+pub mod Trying
+pub mod Releasing
+pub mod Freeing
+pub mod Released

@@ -1,0 +1,352 @@
+-- A call that is tried: what it finds, what it lacks, and what it comes to.
+use Rattle.std.proofs.Common.{◌≡◌, ℕ, ◌<◌, true, false, not, ◌&&◌, ◌||◌, ◌==◌, if◌then◌else◌, ◌⊎◌, List, [], ◌∷◌, ◌++◌, Option, Some, None, inl, inr, refl, ap, sym, subst, ◌∙◌, append-nil, eq-eqb}
+use Rattle.std.proofs.Math.Logic.{∥∥₁_elim, ∥∥₁_map}
+use Rattle.std.proofs.lemmas.Bool.{cases_Bool, cases_eq, and_parts, ne_eqb, not-true, or_right}
+use Rattle.std.specs.Coded.{Coded-set, coded_option}
+use Rattle.std.specs.FinMap as map
+use Rattle.std.specs.List.{list_any}
+use Rattle.assise_names.specs.declared.call.Op.{Op}
+use Rattle.assise_names.specs.declared.call.Op.TheVariants.{Create, Mkdir, Read as ReadCall, Write as WriteCall, Truncate, Rename, Unlink, Rmdir, List as ListCall, Stat, Fsync}
+use Rattle.assise_names.specs.declared.mode.Mode.{Mode}
+use Rattle.assise_names.specs.declared.mode.Mode.TheVariants.{Read, Write}
+use Rattle.assise_names.specs.declared.refusal.Refusal.{Refusal}
+use Rattle.assise_names.specs.declared.refusal.Refusal.TheVariants.{OutOfMemory}
+use Rattle.assise_names.specs.declared.reply.Reply.TheVariants.{Done}
+use Rattle.assise_history.specs.Legal.{is_fsync}
+use Rattle.assise_inode_plan.specs.Leased.{AreLeased, Leases as Leased, first_missing, for_reading, for_writing, wants}
+use Rattle.assise_inode_plan.specs.Planning.{Plan, missing, plan_lacking, plan_of, ready}
+use Rattle.assise_inode_plan.proofs.Wanting.{ready_has_all}
+use Rattle.assise_inode_table.specs.Calls.{step}
+use Rattle.assise_inode_table.specs.Contents.{InodeMap, coded_content, values}
+use Rattle.assise_inode_table.specs.Effects.{contains, touched}
+use Rattle.assise_inode_table.specs.Interaction.{Step}
+use Rattle.assise_inode_table.specs.Numbers.{inode_number}
+use Rattle.assise_lease_table.specs.declared.lease.Lease.{Lease}
+use Rattle.assise_lease_table.specs.Leases.{lease_of, new_lease, serves}
+use Rattle.assise_lease_table.specs.Modes.{strong, stronger}
+use Rattle.assise_lease_tree.proofs.Lookups.{with_own}
+use Rattle.assise_lease_tree.specs.Levels.{clients_granted, in_way, is_frozen, raised}
+use Rattle.assise_lease_tree.specs.TwoLevels.{IsGranted, SameLevels, TwoLevels, is_free_for}
+use Rattle.assise_machine_laws.specs.World.{World, ahead, view}
+use Rattle.assise_machine_leases.specs.Handing.{Grants}
+use Rattle.assise_machine_leases.specs.Leases.{client_lease}
+use Rattle.assise_machine_events.specs.ClientEvents.{Calling, IsMissing, IsNeeded, is_awaited, lacks_memory}
+use Rattle.assise_machine_events.specs.Events.{Answer, not_yet, refused}
+use Rattle.assise_machine_events.specs.Faults.{call_fault}
+use Rattle.assise_machine_events.specs.Happenings.{Trying}
+use Rattle.assise_machine_events.specs.Machine.{Holds, Machine}
+use Rattle.assise_machine_events.proofs.Calling.{calling_keeps}
+use Rattle.assise_machine_events.proofs.Faultless.{client_runs}
+use Rattle.assise_machine_state.specs.Changes.{after_leases}
+use Rattle.assise_machine_state.specs.ClientValues.{client_in}
+use Rattle.assise_machine_state.specs.Observed.{inodes_read, observed, own_seen, world_of}
+use Rattle.assise_machine_state.specs.Places.{IsNumber}
+use Rattle.assise_machine_state.specs.Shape.{AreNoted, IsShaped, SameFrozen}
+use Rattle.assise_machine_state.specs.StateValues.{StateValue, leases_of}
+use Rattle.assise_machine_state.proofs.Noted.{leases_noted}
+use Rattle.assise_machine_state.proofs.Reading.{read_at_home}
+use Rattle.assise_machine_state.proofs.Seeing.{client_is}
+use Rattle.assise_machine_state.proofs.ShapedClients.{areas_stay, leases_held}
+use Rattle.assise_machine_calls.specs.Asked.{AsksThem}
+use Rattle.assise_machine_calls.specs.Leasing.{IsReady, next_call, next_step}
+use Rattle.assise_machine_calls.proofs.Committing.{call_client, call_number}
+use Rattle.assise_machine_calls.proofs.Granted.{granted_first}
+use Rattle.assise_machine_calls.proofs.Wanting.{fewer, first_unserved, unserved}
+
+-- ---- nothing is granted
+
+-- memory runs out before the call changes anything
+pub lacking : (m : Machine) (c : ℕ) (op : Op) → call_fault m c op ≡ None → Calling m c op (refused OutOfMemory) m
+lacking m c op fine = lacks_memory Done [] refl (record { fine = fine; next = refl; fresh = refl; gets = tt }) (record {
+  world = refl;
+  leases = refl;
+  members = refl;
+  adds = record { history = sym (append-nil m.history); limit = refl };
+})
+
+pub lacking_as : (m m' : Machine) (c : ℕ) (op : Op) (a : Answer) (r : Refusal) → call_fault m c op ≡ None → a ≡ refused r → r ≡ OutOfMemory → m' ≡ m → Calling m c op a m'
+lacking_as m m' c op a r fine is only same = subst (λ b. Calling m c op b m') (sym (is ∙ ap refused only)) (subst (λ n. Calling m c op (refused OutOfMemory) n) (sym same) (lacking m c op fine))
+
+-- those who stand in the way are asked
+pub awaited : (m m' : Machine) (c : ℕ) (op : Op) (i : ℕ) (mode : Mode) (n : ℕ) → call_fault m c op ≡ None → IsMissing m.world m.leases (next_call m.world c op) i mode →
+    AsksThem m (record { client = c; node = n; inode = i; mode = mode }) m' → Calling m c op not_yet m'
+awaited m m' c op i mode n fine lacks e = is_awaited Done [] refl (record {
+  tried = record { fine = fine; next = refl; fresh = refl; gets = tt };
+  inode = i;
+  mode = mode;
+  missing = lacks;
+  asks = e.asks;
+  adds = e.adds;
+  keeps = e.keeps;
+})
+
+-- ---- leases that a step wants
+
+first_lacks : (s : Step) (o : Option (ℕ × Mode)) (i : ℕ) (mode : Mode) → plan_lacking s o ≡ missing i mode → o ≡ Some (i, mode)
+first_lacks s None i mode e = cc
+first_lacks s (Some w) i mode e =
+    let number : w.0 ≡ i = cc in
+    let kind : w.1 ≡ mode = cc in
+    ap (λ j. Some (j, w.1)) number ∙ ap (λ m. Some (i, m)) kind
+
+-- an inode of a list or of the rest of it is in it
+in_rest : (j : ℕ) (is : List ℕ) (i : ℕ) → contains is i ≡ true → contains (j ∷ is) i ≡ true
+in_rest j is i rest = or_right (j == i) (contains is i) rest
+
+in_front : (j : ℕ) (is : List ℕ) (i : ℕ) → j ≡ i → contains (j ∷ is) i ≡ true
+in_front j is i same = rw (eq-eqb j i same) refl
+
+some_same : (p q : ℕ × Mode) → Some p ≡ Some q → p ≡ q
+some_same p q e = cc
+
+wanted_writing : (leased : Leased) (js : List ℕ) (i : ℕ) (mode : Mode) → first_missing leased (for_writing js) ≡ Some (i, mode) → (mode ≡ Write) × (contains js i ≡ true)
+wanted_writing leased [] i mode e = absurd (let none : None ≡ Some (i, mode) = e in cc)
+wanted_writing leased (j ∷ js) i mode e =
+    elim (cases_Bool (leased j Write)) [
+      | inl had ↦
+          let rest = wanted_writing leased js i mode (subst (λ b. (if b then first_missing leased (for_writing js) else Some (j, Write)) ≡ Some (i, mode)) had e) in
+          (rest.0, in_rest j js i rest.1)
+      | inr lacked ↦
+          let here : Some (j, Write) ≡ Some (i, mode) = subst (λ b. (if b then first_missing leased (for_writing js) else Some (j, Write)) ≡ Some (i, mode)) lacked e in
+          let pair : (j, Write) ≡ (i, mode) = some_same (j, Write) (i, mode) here in
+          (sym (ap (λ p. p.1) pair), in_front j js i (ap (λ p. p.0) pair))
+    ]
+
+wanted : (leased : Leased) (is js : List ℕ) (i : ℕ) (mode : Mode) → first_missing leased (for_reading is ++ for_writing js) ≡ Some (i, mode) →
+    ((mode ≡ Read) × (contains is i ≡ true)) ⊎ ((mode ≡ Write) × (contains js i ≡ true))
+wanted leased [] js i mode e = inr (wanted_writing leased js i mode e)
+wanted leased (j ∷ is) js i mode e =
+    elim (cases_Bool (leased j Read)) [
+      | inl had ↦
+          elim (wanted leased is js i mode (subst (λ b. (if b then first_missing leased (for_reading is ++ for_writing js) else Some (j, Read)) ≡ Some (i, mode)) had e)) [
+            | inl visited ↦ inl (visited.0, in_rest j is i visited.1)
+            | inr changed ↦ inr changed
+          ]
+      | inr lacked ↦
+          let here : Some (j, Read) ≡ Some (i, mode) = subst (λ b. (if b then first_missing leased (for_reading is ++ for_writing js) else Some (j, Read)) ≡ Some (i, mode)) lacked e in
+          let pair : (j, Read) ≡ (i, mode) = some_same (j, Read) (i, mode) here in
+          inl (sym (ap (λ p. p.1) pair), in_front j is i (ap (λ p. p.0) pair))
+    ]
+
+-- what is all leased serves for each
+serves_writing : (leased : Leased) (js : List ℕ) → AreLeased leased (for_writing js) → (i : ℕ) → contains js i ≡ true → leased i Write ≡ true
+serves_writing leased [] all i found = cc
+serves_writing leased (j ∷ js) all i found =
+    elim (cases_eq j i) [
+      | inl same ↦ subst (λ k. leased k Write ≡ true) same all.0
+      | inr other ↦ serves_writing leased js all.1 i (subst (λ b. (b || contains js i) ≡ true) (ne_eqb j i other) found)
+    ]
+
+serves_later : (leased : Leased) (is js : List ℕ) → AreLeased leased (for_reading is ++ for_writing js) → AreLeased leased (for_writing js)
+serves_later leased [] js all = all
+serves_later leased (j ∷ is) js all = serves_later leased is js all.1
+
+serves_reading : (leased : Leased) (is js : List ℕ) → AreLeased leased (for_reading is ++ for_writing js) → (i : ℕ) → contains is i ≡ true → leased i Read ≡ true
+serves_reading leased [] js all i found = cc
+serves_reading leased (j ∷ is) js all i found =
+    elim (cases_eq j i) [
+      | inl same ↦ subst (λ k. leased k Read ≡ true) same all.0
+      | inr other ↦ serves_reading leased is js all.1 i (subst (λ b. (b || contains is i) ≡ true) (ne_eqb j i other) found)
+    ]
+
+-- ---- a lease that is granted
+
+stronger_serves : (a b m : Mode) → strong a m ≡ true → strong (stronger a b) m ≡ true
+stronger_serves Write b m s = s
+stronger_serves Read Read m s = s
+stronger_serves Read Write m s = refl
+
+raised_serves : (c : ℕ) (mode : Mode) (o : Option Lease) (m : Mode) → serves o m ≡ true → serves (Some (new_lease c (raised mode o))) m ≡ true
+raised_serves c mode None m s = absurd (let f : false ≡ true = s in cc)
+raised_serves c mode (Some l) m s = stronger_serves l.mode mode m (and_parts (not l.frozen) (strong l.mode m) s).1
+
+module _ (old new : TwoLevels) (c n i : ℕ) (mode : Mode) (e : IsGranted old new c n i mode) where
+  own_now : lease_of (new.clients i) c ≡ Some (new_lease c (raised mode (lease_of (old.clients i) c)))
+  unfolding clients_granted
+  own_now = ap (λ ls. lease_of ls c) e.clients.here ∙ with_own (new_lease c (raised mode (lease_of (old.clients i) c))) (old.clients i)
+
+  pub still_serves : (j : ℕ) (m : Mode) → serves (lease_of (old.clients j) c) m ≡ true → serves (lease_of (new.clients j) c) m ≡ true
+  still_serves j m s =
+      elim (cases_eq j i) [
+        | inl here ↦
+            subst (λ k. serves (lease_of (new.clients k) c) m ≡ true) (sym here)
+            (ap (λ o. serves o m) own_now ∙ raised_serves c mode (lease_of (old.clients i) c) m (subst (λ k. serves (lease_of (old.clients k) c) m ≡ true) here s))
+        | inr away ↦ ap (λ ls. serves (lease_of ls c) m) (e.clients.elsewhere j away) ∙ s
+      ]
+
+  -- the same leases are frozen: the client's own wasn't, and isn't
+  pub same_frozen : is_frozen (lease_of (old.clients i) c) ≡ false → (d j : ℕ) → is_frozen (lease_of (new.clients j) d) ≡ is_frozen (lease_of (old.clients j) d)
+  same_frozen free d j =
+      elim (cases_eq d c) [
+        | inl own ↦
+            elim (cases_eq j i) [
+              | inl here ↦
+                  subst (λ x. is_frozen (lease_of (new.clients j) x) ≡ is_frozen (lease_of (old.clients j) x)) (sym own)
+                  (subst (λ k. is_frozen (lease_of (new.clients k) c) ≡ is_frozen (lease_of (old.clients k) c)) (sym here) (ap is_frozen own_now ∙ sym free))
+              | inr away ↦ ap (λ ls. is_frozen (lease_of ls d)) (e.clients.elsewhere j away)
+            ]
+        | inr other ↦ ap is_frozen (e.others j d other)
+      ]
+
+-- ---- what the code plans
+
+-- what a client's leases serve for
+abbrev pub served : StateValue → ℕ → Leased
+served s c = λ i mode. serves (client_lease (leases_of s) c i) mode
+
+-- nobody who is granted a lease at once has one that is frozen
+own_unfrozen : (t : TwoLevels) (c n i : ℕ) (mode : Mode) → is_free_for t c n i mode ≡ true → is_frozen (lease_of (t.clients i) c) ≡ false
+own_unfrozen t c n i mode free =
+    let rest = (and_parts (not (list_any (in_way t.home (t.nodes i) c n mode) (t.clients i))) (not (is_frozen (lease_of (t.clients i) c)) && not (is_frozen (lease_of (t.nodes i) n))) free).1 in
+    not-true (is_frozen (lease_of (t.clients i) c)) (and_parts (not (is_frozen (lease_of (t.clients i) c))) (not (is_frozen (lease_of (t.nodes i) n))) rest).0
+
+pub same_levels : (old new : TwoLevels) → SameLevels old new → new ≡ old
+same_levels old new e = λ k. record { home = λ c. e.home c k; clients = λ i. e.clients i k; nodes = λ i. e.nodes i k }
+
+-- ---- a client that may call
+
+module _ (s : StateValue) (c : ℕ) (op : Op) (shape : IsShaped s) (holds : ∥ Holds (observed s) ∥₁) (fine : call_fault (observed s) c op ≡ None) where
+  abbrev w : World
+  w = world_of s
+
+  abbrev next : Step
+  next = next_step w c op
+
+  there : IsNumber s.clients c
+  there = call_number s c op fine
+
+  runs : (w.lives c ≡ true) × (w.crashed c ≡ false)
+  unfolding observed
+  runs = client_runs (observed s) c (call_client s c op fine)
+
+  -- it reads at its home
+  reads_at_home : (i : ℕ) → map.get (inodes_read s c) i ≡ view w (w.home c) c i
+  unfolding observed
+  reads_at_home i = ∥∥₁_elim holds (Coded-set (coded_option coded_content) _ _) (λ h. read_at_home s c i shape h.sound runs.0)
+
+  fresh_is : inode_number c (client_in s.clients c).made ≡ inode_number c (w.made c)
+  unfolding world_of
+  fresh_is = ap (λ x. inode_number c x.made) (sym (client_is s.clients c there))
+
+  step_is : (fresh : ℕ) → fresh ≡ inode_number c (client_in s.clients c).made → step (values (inodes_read s c)) op fresh ≡ next
+  step_is fresh is = λ k. step (λ i. reads_at_home i k) op ((is ∙ fresh_is) k)
+
+  -- what the code plans over a view of this client, with these leases and inodes
+  pub planned_now : (fresh : ℕ) → fresh ≡ inode_number c (client_in s.clients c).made → (p : Plan) (d : ℕ) (ls : ℕ → List Lease) (m : InodeMap) →
+      p ≡ plan_of (λ i mode. serves (lease_of (ls i) d) mode) (step (values m) op fresh) → d ≡ c → ls ≡ s.levels.clients → m ≡ inodes_read s c → p ≡ plan_of (served s c) next
+  unfolding leases_of
+  planned_now fresh is p d ls m exact client held read =
+      exact
+      ∙ (λ k. plan_of (λ i mode. serves (lease_of (held k i) (client k)) mode) (step (values (read k)) op fresh))
+      ∙ ap (plan_of (served s c)) (step_is fresh is)
+
+  -- a plan that is ready
+  pub ready_now : (u : Step) → plan_of (served s c) next ≡ ready u → IsReady (observed s) c op u
+  unfolding observed
+  ready_now u plan =
+      let all = ready_has_all (served s c) next u plan in
+      record {
+        step = all.0;
+        served = record {
+          visited = serves_reading (served s c) next.visits (touched next.effects) all.1;
+          changed = serves_writing (served s c) (touched next.effects) (serves_later (served s c) next.visits (touched next.effects) all.1);
+        };
+      }
+
+  -- a plan that misses a lease
+  module _ (i : ℕ) (mode : Mode) (plan : plan_of (served s c) next ≡ missing i mode) where
+    pub first : first_missing (served s c) (wants next) ≡ Some (i, mode)
+    first = first_lacks next (first_missing (served s c) (wants next)) i mode plan
+
+    unserved_now : served s c i mode ≡ false
+    unserved_now = first_unserved (served s c) (wants next) (i, mode) first
+
+    pub lacks : IsMissing w (leases_of s) (next_call w c op) i mode
+    lacks =
+        let found = wanted (served s c) next.visits (touched next.effects) i mode first in
+        record {
+          needed =
+              elim found [
+                | inl visited ↦ subst (λ m. IsNeeded w (next_call w c op) i m) (sym visited.0) visited.1
+                | inr changed ↦ subst (λ m. IsNeeded w (next_call w c op) i m) (sym changed.0) changed.1
+              ];
+          unserved = unserved_now;
+        }
+
+  -- ---- a lease is granted
+
+  module _ (i : ℕ) (mode : Mode) (levels : TwoLevels) (plan : plan_of (served s c) next ≡ missing i mode) (free : is_free_for s.levels c (client_in s.clients c).home i mode ≡ true)
+      (granted : IsGranted s.levels levels c (client_in s.clients c).home i mode) where
+    abbrev s' : StateValue
+    s' = after_leases s levels
+
+    home_is : w.home c ≡ (client_in s.clients c).home
+    unfolding world_of
+    home_is = ap (λ x. x.home) (client_is s.clients c there)
+
+    grants : Grants w (leases_of s) c i mode (world_of s') (leases_of s')
+    unfolding leases_of
+    grants = record {
+      lives_on = runs.0;
+      running = runs.1;
+      free = subst (λ n. is_free_for s.levels c n i mode ≡ true) (sym home_is) free;
+      granted = subst (λ n. IsGranted s.levels levels c n i mode) (sym home_is) granted;
+      cuts = λ d j. refl;
+      holds = leases_held s levels;
+    }
+
+    pub goes_on : (a : Answer) (m' : Machine) → Calling (observed s') c op a m' → Calling (observed s) c op a m'
+    unfolding observed
+    goes_on a m' e = granted_first (observed s) (world_of s') (leases_of s') c op i mode (lacks i mode plan) grants (areas_stay s s' refl) fine a m' e
+
+    pub fine_then : call_fault (observed s') c op ≡ None
+    unfolding observed world_of
+    fine_then = fine
+
+    pub holds_then : is_fsync op ≡ false → ∥ Holds (observed s') ∥₁
+    holds_then other = ∥∥₁_map holds (λ h. calling_keeps (observed s) (observed s') c op (refused OutOfMemory) h other (goes_on (refused OutOfMemory) (observed s') (lacking (observed s') c op fine_then)))
+
+    pub shape_then : IsShaped s'
+    shape_then = record { nodes = shape.nodes; few_nodes = shape.few_nodes; logs = shape.logs; no_logs = shape.no_logs; at_home = shape.at_home; limits = shape.limits; least_limit = shape.least_limit; most_limit = shape.most_limit }
+
+    frozen_same : SameFrozen s levels
+    frozen_same = same_frozen s.levels levels c (client_in s.clients c).home i mode granted (own_unfrozen s.levels c (client_in s.clients c).home i mode free)
+
+    pub noted_then : AreNoted s → AreNoted s'
+    noted_then noted = leases_noted s levels noted frozen_same
+
+    same_step : next_step (world_of s') c op ≡ next
+    unfolding view world_of own_seen ahead
+    same_step = refl
+
+    pub fewer_then : unserved (served s' c) (wants (next_step (world_of s') c op)) < unserved (served s c) (wants next)
+    unfolding leases_of
+    fewer_then = subst (λ u. unserved (served s' c) (wants u) < unserved (served s c) (wants next)) (sym same_step) (fewer (served s c) (served s' c) (wants next) (i, mode) (still_serves s.levels levels c (client_in s.clients c).home i mode granted) (first i mode plan) granted.held)
+
+-- ---- any call but an fsync
+
+pub no_fsync : (op : Op) → (op ≡ Fsync → ⊥) → is_fsync op ≡ false
+no_fsync Fsync other = absurd (other refl)
+no_fsync (Create p) other = refl
+no_fsync (Mkdir p) other = refl
+no_fsync (ReadCall p offset most) other = refl
+no_fsync (WriteCall p offset new) other = refl
+no_fsync (Truncate p size) other = refl
+no_fsync (Rename p q) other = refl
+no_fsync (Unlink p) other = refl
+no_fsync (Rmdir p) other = refl
+no_fsync (ListCall p) other = refl
+no_fsync (Stat p) other = refl
+
+pub is_tried : (m m' : Machine) (c : ℕ) (op : Op) (a : Answer) → is_fsync op ≡ false → Calling m c op a m' → Trying m c op a m'
+is_tried m m' c Fsync a other e = absurd (let t : true ≡ false = other in cc)
+is_tried m m' c (Create p) a other e = e
+is_tried m m' c (Mkdir p) a other e = e
+is_tried m m' c (ReadCall p offset most) a other e = e
+is_tried m m' c (WriteCall p offset new) a other e = e
+is_tried m m' c (Truncate p size) a other e = e
+is_tried m m' c (Rename p q) a other e = e
+is_tried m m' c (Unlink p) a other e = e
+is_tried m m' c (Rmdir p) a other e = e
+is_tried m m' c (ListCall p) a other e = e
+is_tried m m' c (Stat p) a other e = e

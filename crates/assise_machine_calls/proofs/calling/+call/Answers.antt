@@ -1,0 +1,134 @@
+use Rattle.std.proofs.Common.{◌≡◌, ◌<◌, true, refl, Some, ap, arith, sym, subst, ◌∙◌}
+use Rattle.std.proofs.lemmas.Result.{err_from_is_err_and}
+use Rattle.assise_inode_plan.specs.Leased.{wants}
+use Rattle.assise_inode_plan.specs.Planning.{shown}
+use Rattle.assise_inode_table.specs.Numbers.{inode_number}
+use Rattle.assise_lease_tree.specs.Trees.{levels_of}
+use Rattle.assise_lease_tree.specs.TwoLevels.{IsGranted, is_free_for}
+use Rattle.assise_machine_state.specs.Changes.{after_leases}
+use Rattle.assise_machine_state.specs.Observed.{observed, world_of}
+use Rattle.assise_machine_state.specs.Shape.{AreNoted}
+use Rattle.assise_machine_state.specs.Whole.{machine_of, value_of}
+use Rattle.assise_machine_calls.specs.Answers.{turn_answer}
+use Rattle.assise_machine_calls.specs.Leasing.{next_step, step_in}
+use Rattle.assise_machine_calls.proofs.Committing.{call_made, call_number, call_unfailed}
+use Rattle.assise_machine_calls.proofs.Leasing.{home_known}
+use Rattle.assise_machine_calls.proofs.Trying.{awaited, fewer_then, fine_then, goes_on, holds_then, lacking_as, lacks, noted_then, planned_now, ready_now, same_levels, served, shape_then}
+use Rattle.assise_machine_calls.proofs.Wanting.{unserved}
+use Rattle.assise_machine_calls.proofs.calling.+call.Goals as goal
+
+pub get-known-requires : goal.get-known-requires
+get-known-requires g t c = record { client = call_number (value_of c.args.state.now) c.args.client c.args.op.now c.requires.fine }
+
+pub inode_number-fresh-requires : goal.inode_number-fresh-requires
+inode_number-fresh-requires g t c =
+    let low = call_made (value_of c.args.state.now) c.args.client c.args.op.now c.requires.shape c.requires.fine c.requires.holds in
+    record { few = omega (arith, low, c.made.ensures, ap (λ x. x.made) c.get-known.ensures) }
+
+pub view-view-requires-clause-client : goal.view-view-requires-clause-client
+view-view-requires-clause-client g t c = call_number (value_of c.args.state.now) c.args.client c.args.op.now c.requires.fine
+
+pub view-view-requires-clause-lives : goal.view-view-requires-clause-lives
+view-view-requires-clause-lives g t c = call_unfailed (value_of c.args.state.now) c.args.client c.args.op.now c.requires.shape c.requires.fine
+
+pub returns-in_err-reply-clause-happens : goal.returns-in_err-reply-clause-happens
+returns-in_err-reply-clause-happens g t c =
+    let error = err_from_is_err_and c.from_residual.result c.from_residual.ensures.1 in
+    let m = observed (value_of c.args.state.now) in
+    lacking_as m m c.args.client c.args.op.now (turn_answer c.from_residual.result) error.0 c.requires.fine (ap turn_answer error.1) (error.2 ∙ c.in_err-reply.ensures.only_memory) refl
+
+pub commit-requires-clause-ready : goal.commit-requires-clause-ready
+commit-requires-clause-ready g t c =
+    let s = value_of c.args.state.now in
+    let planned =
+    planned_now s c.args.client c.args.op.now c.requires.shape c.requires.holds c.requires.fine c.inode_number-fresh.result
+    (c.inode_number-fresh.ensures ∙ ap (inode_number c.args.client) (c.made.ensures ∙ ap (λ x. x.made) c.get-known.ensures))
+    (shown c.in_ok-reply.field-0) c.view-view.result.client (levels_of c.view-view.result.leases.now).clients c.view-view.result.inodes
+    c.in_ok-reply.ensures.exact c.view-view.ensures.client (ap (λ l. (levels_of l).clients) c.view-view.ensures.leases) c.view-view.ensures.inodes in
+    ready_now s c.args.client c.args.op.now c.requires.shape c.requires.holds c.requires.fine (step_in record { reply = c.in-Ready.reply; reads = c.in-Ready.reads; effects = c.in-Ready.effects })
+    (sym planned ∙ ap shown c.in-Ready.is)
+
+pub returns-in_err-ask-in-Missing-clause-happens : goal.returns-in_err-ask-in-Missing-clause-happens
+returns-in_err-ask-in-Missing-clause-happens g t c =
+    let error = err_from_is_err_and c.from_residual-in_err-ask-in-Missing.result c.from_residual-in_err-ask-in-Missing.ensures.1 in
+    lacking_as (machine_of c.args.state.now) (machine_of c.ask.new.state) c.args.client c.args.op.now (turn_answer c.from_residual-in_err-ask-in-Missing.result) error.0 c.requires.fine
+    (ap turn_answer error.1) (error.2 ∙ c.in_err-ask-in-Missing.ensures.only_memory) c.in_err-ask-in-Missing.ensures.err
+
+pub returns-then-not-is_free-clause-happens : goal.returns-then-not-is_free-clause-happens
+unfolding observed world_of
+returns-then-not-is_free-clause-happens g t c =
+    let s = value_of c.args.state.now in
+    let planned =
+    planned_now s c.args.client c.args.op.now c.requires.shape c.requires.holds c.requires.fine c.inode_number-fresh.result
+    (c.inode_number-fresh.ensures ∙ ap (inode_number c.args.client) (c.made.ensures ∙ ap (λ x. x.made) c.get-known.ensures))
+    (shown c.in_ok-reply.field-0) c.view-view.result.client (levels_of c.view-view.result.leases.now).clients c.view-view.result.inodes
+    c.in_ok-reply.ensures.exact c.view-view.ensures.client (ap (λ l. (levels_of l).clients) c.view-view.ensures.leases) c.view-view.ensures.inodes in
+    let plan = sym planned ∙ ap shown c.in-Missing.is in
+    awaited (observed s) (machine_of c.ask.new.state) c.args.client c.args.op.now c.in-Missing.inode c.in-Missing.mode c.home-home.result c.requires.fine
+    (lacks s c.args.client c.args.op.now c.requires.shape c.requires.holds c.requires.fine c.in-Missing.inode c.in-Missing.mode plan) c.in_ok-ask-in-Missing.ensures.ok
+
+pub grant-requires-clause-at_home : goal.grant-requires-clause-at_home
+grant-requires-clause-at_home g t c =
+    home_known (value_of c.args.state.now) c.requires.holds c.args.client (call_number (value_of c.args.state.now) c.args.client c.args.op.now c.requires.fine)
+    ∙ ap Some (sym (c.home-home.ensures ∙ ap (λ x. x.home) c.get-known.ensures))
+
+pub returns-in_err-grant-in-Missing-clause-happens : goal.returns-in_err-grant-in-Missing-clause-happens
+returns-in_err-grant-in-Missing-clause-happens g t c =
+    let error = err_from_is_err_and c.from_residual-in_err-grant-in-Missing.result c.from_residual-in_err-grant-in-Missing.ensures.1 in
+    let s = value_of c.args.state.now in
+    let same : levels_of c.grant.new.self ≡ s.levels = same_levels s.levels (levels_of c.grant.new.self) c.in_err-grant-in-Missing.ensures.err in
+    lacking_as (observed s) (observed (after_leases s (levels_of c.grant.new.self))) c.args.client c.args.op.now (turn_answer c.from_residual-in_err-grant-in-Missing.result) error.0 c.requires.fine
+    (ap turn_answer error.1) (error.2 ∙ c.in_err-grant-in-Missing.ensures.only_memory) (ap (λ l. observed (after_leases s l)) same)
+
+pub call-requires : goal.call-requires
+call-requires g t c =
+    let s = value_of c.args.state.now in
+    let home = c.home-home.ensures ∙ ap (λ x. x.home) c.get-known.ensures in
+    let planned =
+    planned_now s c.args.client c.args.op.now c.requires.shape c.requires.holds c.requires.fine c.inode_number-fresh.result
+    (c.inode_number-fresh.ensures ∙ ap (inode_number c.args.client) (c.made.ensures ∙ ap (λ x. x.made) c.get-known.ensures))
+    (shown c.in_ok-reply.field-0) c.view-view.result.client (levels_of c.view-view.result.leases.now).clients c.view-view.result.inodes
+    c.in_ok-reply.ensures.exact c.view-view.ensures.client (ap (λ l. (levels_of l).clients) c.view-view.ensures.leases) c.view-view.ensures.inodes in
+    let plan = sym planned ∙ ap shown c.in-Missing.is in
+    let free = subst (λ n. is_free_for s.levels c.args.client n c.in-Missing.inode c.in-Missing.mode ≡ true) home (sym c.is_free.ensures ∙ c.if-not-is_free.false) in
+    let granted = subst (λ n. IsGranted s.levels (levels_of c.grant.new.self) c.args.client n c.in-Missing.inode c.in-Missing.mode) home c.in_ok-grant-in-Missing.ensures.granted in
+    λ κs sub. (
+      subst (λ k. unserved (served (after_leases s (levels_of c.grant.new.self)) c.args.client) (wants (next_step (world_of (after_leases s (levels_of c.grant.new.self))) c.args.client c.args.op.now)) < k) c.decreases
+          (fewer_then s c.args.client c.args.op.now c.requires.shape c.requires.holds c.requires.fine c.in-Missing.inode c.in-Missing.mode (levels_of c.grant.new.self) plan free granted),
+      (
+        sub,
+        (
+          fine_then s c.args.client c.args.op.now c.requires.shape c.requires.holds c.requires.fine c.in-Missing.inode c.in-Missing.mode (levels_of c.grant.new.self) plan free granted,
+          (
+            c.requires.call,
+            (
+              holds_then s c.args.client c.args.op.now c.requires.shape c.requires.holds c.requires.fine c.in-Missing.inode c.in-Missing.mode (levels_of c.grant.new.self) plan free granted c.requires.call,
+              (
+                shape_then s c.args.client c.args.op.now c.requires.shape c.requires.holds c.requires.fine c.in-Missing.inode c.in-Missing.mode (levels_of c.grant.new.self) plan free granted,
+                noted_then s c.args.client c.args.op.now c.requires.shape c.requires.holds c.requires.fine c.in-Missing.inode c.in-Missing.mode (levels_of c.grant.new.self) plan free granted c.requires.noted,
+              ),
+            ),
+          ),
+        ),
+      ),
+    )
+
+pub returns-in_ok-grant-in-Missing-clause-happens : goal.returns-in_ok-grant-in-Missing-clause-happens
+returns-in_ok-grant-in-Missing-clause-happens g t c =
+    let s = value_of c.args.state.now in
+    let home = c.home-home.ensures ∙ ap (λ x. x.home) c.get-known.ensures in
+    let planned =
+    planned_now s c.args.client c.args.op.now c.requires.shape c.requires.holds c.requires.fine c.inode_number-fresh.result
+    (c.inode_number-fresh.ensures ∙ ap (inode_number c.args.client) (c.made.ensures ∙ ap (λ x. x.made) c.get-known.ensures))
+    (shown c.in_ok-reply.field-0) c.view-view.result.client (levels_of c.view-view.result.leases.now).clients c.view-view.result.inodes
+    c.in_ok-reply.ensures.exact c.view-view.ensures.client (ap (λ l. (levels_of l).clients) c.view-view.ensures.leases) c.view-view.ensures.inodes in
+    let plan = sym planned ∙ ap shown c.in-Missing.is in
+    let free = subst (λ n. is_free_for s.levels c.args.client n c.in-Missing.inode c.in-Missing.mode ≡ true) home (sym c.is_free.ensures ∙ c.if-not-is_free.false) in
+    let granted = subst (λ n. IsGranted s.levels (levels_of c.grant.new.self) c.args.client n c.in-Missing.inode c.in-Missing.mode) home c.in_ok-grant-in-Missing.ensures.granted in
+    goes_on s c.args.client c.args.op.now c.requires.shape c.requires.holds c.requires.fine c.in-Missing.inode c.in-Missing.mode (levels_of c.grant.new.self) plan free granted
+    (turn_answer c.call.result) (machine_of c.call.new.state) c.call.ensures.happens
+
+pub returns-in_err-grant-in-Missing-clause-noted : goal.returns-in_err-grant-in-Missing-clause-noted
+returns-in_err-grant-in-Missing-clause-noted g t c =
+    let s = value_of c.args.state.now in
+    subst (λ l. AreNoted (after_leases s l)) (sym (same_levels s.levels (levels_of c.grant.new.self) c.in_err-grant-in-Missing.ensures.err)) c.requires.noted

@@ -1,0 +1,35 @@
+use Rattle.std.proofs.Common.{Err, refl, sym, subst, ◌∙◌}
+use Rattle.std.proofs.Math.Logic.{∥∥₁_map}
+use Rattle.assise_machine_events.specs.ClientEvents.{is_refused}
+use Rattle.assise_machine_events.specs.Happenings.{Trying}
+use Rattle.assise_machine_events.proofs.Calling.{calling_keeps}
+use Rattle.assise_machine_state.specs.Whole.{machine_of}
+use Rattle.assise_machine_calls.specs.Answers.{turn_answer}
+use Rattle.assise_machine_calls.proofs.Trying.{is_tried, no_fsync}
+use Rattle.assise_machine_calls.proofs.calling.try_call.Goals as goal
+
+pub returns-in-Fsync-clause-happens : goal.returns-in-Fsync-clause-happens
+returns-in-Fsync-clause-happens g c =
+    subst (λ op. Trying (machine_of c.args.sound.now.state) c.args.client op (turn_answer c.try_fsync.result) (machine_of c.try_fsync.new.sound.state)) (sym c.in-Fsync.is) c.try_fsync.ensures.happens
+
+pub returns-in-Some : goal.returns-in-Some
+returns-in-Some g c =
+    let m = machine_of c.args.sound.now.state in
+    record {
+      happens = is_tried m m c.args.client c.args.op.now (turn_answer (Err c.in-Some.refusal)) (no_fsync c.args.op.now c.in_default.not-Fsync) (is_refused c.in-Some.refusal (sym c.call_refusal.ensures ∙ c.in-Some.is) refl refl);
+      revokers = λ d. refl;
+    }
+
+pub invariant_of-sound-2 : goal.invariant_of-sound-2
+invariant_of-sound-2 g c = record {
+  holds = ∥∥₁_map c.args.sound.now.holds
+      (λ h. calling_keeps (machine_of c.args.sound.now.state) (machine_of c.call.new.state) c.args.client c.args.op.now (turn_answer c.call.result) h (no_fsync c.args.op.now c.in_default.not-Fsync) c.call.ensures.happens);
+  shape = c.call.ensures.shape;
+  noted = c.call.ensures.noted;
+}
+
+pub returns : goal.returns
+returns g c = record {
+  happens = is_tried (machine_of c.args.sound.now.state) (machine_of c.call.new.state) c.args.client c.args.op.now (turn_answer c.call.result) (no_fsync c.args.op.now c.in_default.not-Fsync) c.call.ensures.happens;
+  revokers = c.call.ensures.revokers;
+}

@@ -1,0 +1,43 @@
+-- What a client's next call does over what the client reads, and that all its leases are there.
+-- Assise (OSDI 2020), section 3 (CC-NVM: update logs, leases).
+use Rattle.std.specs.Prelude.{◌≡◌, ◌==◌, ◌&&◌, ℕ, List, Option, length}
+use Rattle.std.specs.List.{list_any}
+use Rattle.assise_names.specs.declared.call.Op.{Op}
+use Rattle.assise_names.specs.declared.refusal.Refusal.{Refusal}
+use Rattle.assise_names.specs.declared.refusal.Refusal.TheVariants.{InodesSpent, LogFull}
+use Rattle.assise_names.specs.declared.reply.Reply.TheVariants.{Done}
+use Rattle.assise_record.specs.declared.effect.Effect.{Effect}
+use Rattle.assise_inode_table.specs.Effects.{makes}
+use Rattle.assise_inode_table.specs.Interaction.{Step}
+use Rattle.assise_inode_table.specs.Numbers.{inode_number}
+use Rattle.assise_inode_table.specs.Traces.{NumberedCall}
+use Rattle.assise_digest.specs.Region.{ReceivedLog}
+use Rattle.assise_machine_laws.specs.Records.{has_some}
+use Rattle.assise_machine_laws.specs.World.{World, step_at_home}
+use Rattle.assise_machine_events.specs.ClientEvents.{IsServed, call_of_client}
+use Rattle.assise_machine_events.specs.Faults.{fault_if, or_else}
+use Rattle.assise_machine_events.specs.Machine.{Machine}
+use Rattle.assise_machine_state.specs.ClientValues.{ClientValue}
+use Rattle.assise_machine_calls.specs.declared.outcome.Outcome.{Outcome}
+
+-- the client's next call: what it does doesn't depend on what it answers
+abbrev pub next_call : World → ℕ → Op → NumberedCall
+next_call w c op = call_of_client w c op Done
+
+abbrev pub next_step : World → ℕ → Op → Step
+next_step w c op = step_at_home w (next_call w c op)
+
+-- what is planned
+abbrev pub step_in : Outcome → Step
+step_in o = record { visits = o.reads.items; reply = o.reply; effects = o.effects.items }
+
+-- this is what the call does, and all leases serve that it needs
+pub record IsReady (m : Machine) (c : ℕ) (op : Op) (s : Step) : Type 0 where
+  pub step : s ≡ next_step m.world c op
+  pub served : IsServed m.world m.leases (next_call m.world c op)
+
+-- the client would make an inode and has made as many as it may, or its log has no room for the effects
+abbrev pub room_fault : ClientValue → ℕ → ReceivedLog → List Effect → Option Refusal
+room_fault x c l es =
+    or_else (fault_if (list_any (makes (inode_number c x.made)) es && (x.made == 1048576)) InodesSpent)
+    (fault_if (has_some es && (length l.log.records == l.log.limit)) LogFull)

@@ -1,0 +1,107 @@
+// A client's call.
+ghost use Rattle.std.specs.Prelude.{◌≡◌, None, false};
+ghost use Rattle.assise_history.specs.Legal.{is_fsync};
+ghost use Rattle.assise_lease_table.specs.Tables.{SameRevokers};
+ghost use Rattle.assise_lease_tree.specs.Trees.{stored_by};
+ghost use Rattle.assise_machine_events.specs.ClientEvents.{Calling};
+ghost use Rattle.assise_machine_events.specs.Faults.{call_fault};
+ghost use Rattle.assise_machine_events.specs.Happenings.{Trying};
+ghost use Rattle.assise_machine_events.specs.Machine.{Holds};
+ghost use Rattle.assise_machine_state.specs.Shape.{AreNoted, IsShaped};
+ghost use Rattle.assise_machine_state.specs.Whole.{machine_of, value_of};
+ghost use Rattle.assise_machine_calls.specs.Answers.{turn_answer};
+
+use crate::asking::ask;
+use crate::commit::commit;
+use crate::faults::call_refusal;
+use crate::fsync::try_fsync;
+use crate::outcome::Outcome;
+use crate::turn::Turn;
+use assise_inode_plan::plan::{Planned, plan};
+use assise_inode_table::numbers::inode_number;
+use assise_lease_table::revoker::Revokes;
+use assise_lease_tree::request::Request;
+use assise_machine_state::sound::SoundOf;
+use assise_machine_state::state::StateOf;
+use assise_names::call::Op;
+use assise_names::refusal::Refusal;
+use std::alloc::Global;
+
+/// Tries a client's call. It reads at its home: the node's inodes after those of its own records that aren't digested there.
+///
+/// It gets the leases that the call needs, one after another: of what it visits for reading, in the order of the visits, and
+/// then of what it changes for writing. Where others stand in the way of one, they are asked, and it is [`Turn::NotYet`]: the call
+/// may be tried again. Where it has all, it is [`Turn::Answered`], with one entry of the history, and one record of the client's log
+/// if it has effects. [`Op::Fsync`] is tried as [`try_fsync`] says.
+///
+/// Refused as [`call_refusal`] says, with all as it was; and once it has its leases with [`Refusal::InodesSpent`] where it would make
+/// an inode and the client has made 1,048,576, and with [`Refusal::LogFull`] where it has effects and the client's log has no room.
+/// [`Refusal::OutOfMemory`] may come at any point. Of what is refused no more stays than leases that were got.
+pub fn try_call<C: Revokes + Drop>(
+    alloc: Global,
+    sound: &mut SoundOf<C>,
+    client: u32,
+    op: &Op,
+) -> Result<Turn, Refusal>
+    ensures happens { Trying (machine_of sound.old.state) client op.now (turn_answer result) (machine_of sound.new.state) }
+    ensures revokers { SameRevokers (stored_by sound.old.state.leases) (stored_by sound.new.state.leases) }
+{
+    if let Op::Fsync = op {
+        return try_fsync(sound, client);
+    }
+    let state = &mut sound.state;
+    if let Some(refusal) = call_refusal(state, client, op) {
+        return Err(refusal);
+    }
+    call(alloc, state, client, op)
+}
+
+/// Answers a call, or gets a lease for it and begins again, or asks those who stand in the way of one.
+fn call<C: Revokes + Drop>(
+    alloc: Global,
+    state: &mut StateOf<C>,
+    client: u32,
+    op: &Op,
+) -> Result<Turn, Refusal>
+    requires fine { call_fault (machine_of state.old) client op.now ≡ None }
+    requires call { is_fsync op.now ≡ false }
+    requires holds { ∥ Holds (machine_of state.old) ∥₁ }
+    requires shape { IsShaped (value_of state.old) }
+    requires noted { AreNoted (value_of state.old) }
+    ensures happens { Calling (machine_of state.old) client op.now (turn_answer result) (machine_of state.new) }
+    ensures shape { IsShaped (value_of state.new) }
+    ensures noted { AreNoted (value_of state.new) }
+    ensures revokers { SameRevokers (stored_by state.old.leases) (stored_by state.new.leases) }
+{
+    let known = state.clients.get(client);
+    let (home, fresh) = (known.home(), inode_number(client, known.made()));
+    let view = state.view(client);
+    match plan(alloc, &view, op, fresh)? {
+        Planned::Ready {
+            reply,
+            reads,
+            effects,
+        } => {
+            let outcome = Outcome {
+                reply,
+                reads,
+                effects,
+            };
+            commit(alloc, state, client, op, outcome)
+        }
+        Planned::Missing(inode, mode) => {
+            let request = Request {
+                client,
+                node: home,
+                inode,
+                mode,
+            };
+            if !state.leases.is_free(request) {
+                ask(state, request)?;
+                return Ok(Turn::NotYet);
+            }
+            state.leases.grant(request)?;
+            call(alloc, state, client, op)
+        }
+    }
+}

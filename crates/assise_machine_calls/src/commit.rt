@@ -1,0 +1,165 @@
+// A call that has its leases is answered.
+ghost use Rattle.std.specs.Prelude.{◌≡◌, ◌==◌, ◌+◌, ◌<◌, ◌≤◌, ◌^◌, IsOkUnless, None, OnErr, OnOk, length, true};
+ghost use Rattle.std.specs.List.{list_any};
+ghost use Rattle.assise_names.specs.declared.refusal.Refusal.TheVariants.{OutOfMemory};
+ghost use Rattle.assise_history.specs.Entries.{calls};
+ghost use Rattle.assise_inode_table.specs.Effects.{makes};
+ghost use Rattle.assise_inode_table.specs.Whole.{CanBeMadeWhole};
+ghost use Rattle.assise_private_log.specs.NumberedLog.{end};
+ghost use Rattle.assise_digest.specs.Region.{HasRoom};
+ghost use Rattle.assise_machine_events.specs.ClientEvents.{Calling};
+ghost use Rattle.assise_machine_events.specs.Faults.{call_fault};
+ghost use Rattle.assise_machine_events.specs.Machine.{Holds};
+ghost use Rattle.assise_machine_laws.specs.Records.{has_some};
+ghost use Rattle.assise_machine_state.specs.ClientValues.{client_in};
+ghost use Rattle.assise_machine_state.specs.NodeValues.{HasLog, log_in, with_call_in};
+ghost use Rattle.assise_machine_state.specs.Places.{IsNumber};
+ghost use Rattle.assise_machine_state.specs.Shape.{AreNoted, IsShaped};
+ghost use Rattle.assise_machine_state.specs.Whole.{machine_of, value_of};
+ghost use Rattle.assise_machine_calls.specs.Answers.{turn_answer};
+ghost use Rattle.assise_machine_calls.specs.Leasing.{IsReady, room_fault, step_in};
+
+use crate::outcome::Outcome;
+use crate::turn::Turn;
+use assise_history::call::Call;
+use assise_history::entry::Entry;
+use assise_inode_table::numbers::inode_number;
+use assise_lease_table::revoker::Revokes;
+use assise_machine_state::nodes::Nodes;
+use assise_machine_state::state::StateOf;
+use assise_names::call::Op;
+use assise_names::refusal::Refusal;
+use assise_names::reply::Reply;
+use assise_record::effect::Effect;
+use assise_record::record::Record;
+use std::alloc::Global;
+
+/// The most inodes that one client makes.
+pub const MOST_INODES: u64 = 1_048_576;
+
+/// Answers a client's call that has its leases: its effects, if it has some, are a record more of the client's log, and the
+/// history has an entry more. Refused with [`Refusal::InodesSpent`] where it would make an inode and its client has made
+/// 1,048,576, with [`Refusal::LogFull`] where it has effects and the log has no room, and with [`Refusal::OutOfMemory`]: what is
+/// refused leaves all as it was.
+pub(crate) fn commit<C: Revokes + Drop>(
+    alloc: Global,
+    state: &mut StateOf<C>,
+    client: u32,
+    op: &Op,
+    outcome: Outcome,
+) -> Result<Turn, Refusal>
+    requires fine { call_fault (machine_of state.old) client op.now ≡ None }
+    requires holds { ∥ Holds (machine_of state.old) ∥₁ }
+    requires shape { IsShaped (value_of state.old) }
+    requires noted { AreNoted (value_of state.old) }
+    requires ready { IsReady (machine_of state.old) client op.now (step_in outcome) }
+    requires few { length outcome.effects.items ≤ 4 }
+    requires whole { CanBeMadeWhole outcome.effects.items }
+    ensures happens { Calling (machine_of state.old) client op.now (turn_answer result) (machine_of state.new) }
+    ensures shape { IsShaped (value_of state.new) }
+    ensures noted { AreNoted (value_of state.new) }
+    ensures leases { state.new.leases ≡ state.old.leases }
+{
+    if let Some(refusal) = room_refusal(state, client, &outcome.effects) {
+        return Err(refusal);
+    }
+    let Outcome {
+        reply,
+        reads,
+        effects,
+    } = outcome;
+    let known = state.clients.get(client);
+    let (home, number) = (known.home(), known.next());
+    let makes = makes_inode(&effects, inode_number(client, known.made()));
+    let entry = Entry::call(Call {
+        client,
+        number,
+        op: op.copy(alloc)?,
+        reply: reply.copy(alloc)?,
+    });
+    state.history.reserve()?;
+    // There are never 2^63 entries, and no more records: the record's number fits.
+    let _entries = state.history.entries();
+    add_record(&mut state.nodes, home, client, number, effects)?;
+    state.history.push(entry);
+    state.clients.note_call(client, makes);
+    touch_all(&mut state.nodes, home, &reads);
+    Ok(Turn::Answered(reply))
+}
+
+/// Why a call that has its leases is refused whatever memory there is.
+fn room_refusal<C: Revokes + Drop>(
+    state: &StateOf<C>,
+    client: u32,
+    effects: &[Effect],
+) -> Option<Refusal>
+    requires client { IsNumber state.now.clients client }
+    requires few { (client_in state.now.clients client).made ≤ 1048576 }
+    requires log { HasLog state.now.nodes (client_in state.now.clients client).home client }
+    ensures { result ≡ room_fault (client_in state.now.clients client) client (log_in state.now.nodes (client_in state.now.clients client).home client) effects.now }
+{
+    let known = state.clients.get(client);
+    if known.made() == MOST_INODES && makes_inode(effects, inode_number(client, known.made())) {
+        return Some(Refusal::InodesSpent);
+    }
+    let log = state.nodes.region(known.home()).log(client as usize);
+    if log.spare() == 0 && !effects.is_empty() {
+        return Some(Refusal::LogFull);
+    }
+    None
+}
+
+/// Whether effects make an inode of this number.
+fn makes_inode(effects: &[Effect], inode: u64) -> bool
+    ensures { result ≡ list_any (makes inode) effects.now }
+{
+    effects.iter().any(|effect| makes(effect, inode))
+}
+
+/// Whether an effect makes an inode of this number.
+fn makes(effect: &Effect, number: u64) -> bool
+    ensures { result ≡ makes number effect.now }
+{
+    match effect {
+        Effect::NewFile { inode } | Effect::NewDir { inode } => *inode == number,
+        _ => false,
+    }
+}
+
+/// A call's effects, if it has some, are a record more of its client's log, which has room for it. The one refusal is
+/// [`Refusal::OutOfMemory`], and it leaves all as it was.
+fn add_record(
+    nodes: &mut Nodes,
+    home: u32,
+    client: u32,
+    call: u64,
+    effects: Vec<Effect>,
+) -> Result<(), Refusal>
+    requires there { HasLog nodes.old home client }
+    requires number_fits { end (log_in nodes.old home client).log + 1 < 2 ^ 64 }
+    requires room { has_some effects.items ≡ true → HasRoom (log_in nodes.old home client) }
+    requires few { length effects.items ≤ 4 }
+    requires whole { CanBeMadeWhole effects.items }
+    ensures ok { OnOk result (nodes.new ≡ with_call_in nodes.old home client call effects.items) }
+    ensures err { OnErr result (nodes.new ≡ nodes.old) }
+    ensures only_memory { IsOkUnless result OutOfMemory }
+    ensures nodes { length nodes.new ≡ length nodes.old }
+{
+    if effects.is_empty() {
+        return Ok(());
+    }
+    match nodes.append(home, client, Record::new(call, effects)) {
+        Ok(()) => Ok(()),
+        Err((_, _)) => Err(Refusal::OutOfMemory),
+    }
+}
+
+/// A node uses inodes, which are hot there then.
+fn touch_all(nodes: &mut Nodes, node: u32, inodes: &[u64])
+    requires node { IsNumber nodes.old node }
+    ensures { nodes.new ≡ nodes.old }
+{
+    for inode in inodes {
+        nodes.touch(node, *inode);
+    }
+}

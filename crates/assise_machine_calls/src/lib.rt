@@ -1,0 +1,14 @@
+//! Calls of clients on the machine's state: each is shown to be the event that the laws mean, and so keeps what holds between
+//! events.
+#![tactic(auto)]
+
+mod asking;
+pub mod calling;
+mod commit;
+pub mod faults;
+pub mod fsync;
+pub mod opening;
+mod outcome;
+mod own_logs;
+pub mod release;
+pub mod turn;

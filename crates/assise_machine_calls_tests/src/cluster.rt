@@ -1,0 +1,46 @@
+// Clusters and their clients.
+ghost use Rattle.std.specs.Prelude.{◌<◌, ◌≤◌};
+
+use assise_lease_table::revoker::Revoker;
+use assise_machine_calls::fsync::try_fsync;
+use assise_machine_calls::opening::open;
+use assise_machine_calls::turn::Turn;
+use assise_machine_state::sound::Sound;
+use assise_names::refusal::Refusal;
+use assise_private_log::log_view::LogView;
+use assise_revokers::kinds::least;
+use std::alloc::{AllocError, Global};
+
+type Cut = Box<dyn Fn(&LogView, u64) -> u64 + Send>;
+
+/// A cluster of so many nodes, whose clients' logs have 8 records at most.
+pub(crate) fn cluster(alloc: Global, nodes: u32) -> Result<Sound, Refusal>
+    requires some { 0 < nodes }
+    requires few { nodes ≤ 8 }
+{
+    Sound::new(alloc, nodes, 8, 1)
+}
+
+/// Opens a client on a node, with a revoker that answers the least cut.
+pub(crate) fn open_on(alloc: Global, sound: &mut Sound, node: u32) -> Result<u32, Refusal> {
+    let cut: Cut = Box::new(alloc, least)?;
+    open(alloc, sound, node, Revoker::new(cut)).map_err(|refused| refused.0)
+}
+
+/// What an fsync of a client came to, as text.
+pub(crate) fn fsync_of(
+    alloc: Global,
+    sound: &mut Sound,
+    client: u32,
+) -> Result<String, AllocError> {
+    match try_fsync(sound, client) {
+        Ok(Turn::Answered(reply)) => format!(in alloc; "{reply}"),
+        Ok(Turn::NotYet) => format!(in alloc; "not yet"),
+        Err(refusal) => format!(in alloc; "{refusal}"),
+    }
+}
+
+/// The history, as text.
+pub(crate) fn history_of(alloc: Global, sound: &Sound) -> Result<String, AllocError> {
+    format!(in alloc; "{}", sound.history())
+}
