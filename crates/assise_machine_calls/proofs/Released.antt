@@ -33,7 +33,7 @@ module _ (s t u : StateValue) (many last : ℕ) (e : LetsSomeGo s many t) (f : F
     frees = frees_in (world_of t) (world_of s) _ f.freed same_full (subst (λ l. Frees (world_of t) l f.freed) e.leases f.frees);
     all_freed = λ n node away idle i.
         f.all n node.0 (subst (λ k. n ≤ k) (sym all) node.1) (λ full. away (subst (λ ns. contains ns n ≡ true) (sym same_full) full))
-            (subst (λ l. IsIdle l.levels n) (sym e.leases) idle) i;
+        (subst (λ l. IsIdle l.levels n) (sym e.leases) idle) i;
     world = f.world ∙ e.world;
     leases = f.leases ∙ ap (λ l. leases_freed l f.freed) e.leases;
     adds = record { history = ap (λ v. v.history) f.rest ∙ ap (λ v. v.history) e.rest ∙ sym (append-nil s.history); limit = ap (λ v. v.limit) f.rest ∙ ap (λ v. v.limit) e.rest };

@@ -70,10 +70,10 @@ first_apart : (x : Asked) (xs ys : List Asked) (a : Asked) → are_once (x ∷ (
 first_apart x xs ys a once =
     let parts = and_parts (not (is_asked (xs ++ a ∷ ys) x.client x.inode)) (are_once (xs ++ a ∷ ys)) once in
     false_from_ne_true (is_of a.client a.inode x) (λ is.
-        let same = answer_parts x a.client a.inode is in
-        true≢false
-        (sym (subst (λ e. is_asked (xs ++ a ∷ ys) e x.inode ≡ true) (sym same.0) (subst (λ k. is_asked (xs ++ a ∷ ys) a.client k ≡ true) (sym same.1) (asked_there xs ys a)))
-        ∙ not-true (is_asked (xs ++ a ∷ ys) x.client x.inode) parts.0))
+    let same = answer_parts x a.client a.inode is in
+    true≢false
+    (sym (subst (λ e. is_asked (xs ++ a ∷ ys) e x.inode ≡ true) (sym same.0) (subst (λ k. is_asked (xs ++ a ∷ ys) a.client k ≡ true) (sym same.1) (asked_there xs ys a)))
+    ∙ not-true (is_asked (xs ++ a ∷ ys) x.client x.inode) parts.0))
 
 gone_unasked : (xs ys : List Asked) (a : Asked) → are_once (xs ++ a ∷ ys) ≡ true → is_asked (xs ++ ys) a.client a.inode ≡ false
 gone_unasked [] ys a once = not-true (is_asked ys a.client a.inode) (and_parts (not (is_asked ys a.client a.inode)) (are_once ys) once).0
@@ -126,10 +126,10 @@ module _ (s : StateValue) (levels : TwoLevels) (a : Asked) (xs ys : List Asked) 
   still_else : (d j : ℕ) → is_frozen (lease_of (levels.clients j) d) ≡ true → is_of d j a ≡ false
   still_else d j frozen =
       false_from_ne_true (is_of d j a) (λ same.
-          let which = answer_parts a d j same in
-          let none : lease_of (levels.clients j) d ≡ None =
-          subst (λ e. lease_of (levels.clients j) e ≡ None) which.0 (subst (λ k. lease_of (levels.clients k) a.client ≡ None) which.1 lease_gone) in
-          true≢false (sym frozen ∙ ap is_frozen none))
+      let which = answer_parts a d j same in
+      let none : lease_of (levels.clients j) d ≡ None =
+      subst (λ e. lease_of (levels.clients j) e ≡ None) which.0 (subst (λ k. lease_of (levels.clients k) a.client ≡ None) which.1 lease_gone) in
+      true≢false (sym frozen ∙ ap is_frozen none))
 
   cuts_kept : (d j : ℕ) → IsFrozenLease (leases_of t) d j → (leases_of t).cut d j ≡ (leases_of s).cut d j
   unfolding leases_of
@@ -176,10 +176,10 @@ module _ (s : StateValue) (levels : TwoLevels) (a : Asked) (xs ys : List Asked) 
   asked_else : (d j : ℕ) → is_asked (xs ++ ys) d j ≡ true → is_of d j a ≡ false
   asked_else d j asked =
       false_from_ne_true (is_of d j a) (λ same.
-          let which = answer_parts a d j same in
-          let none : is_asked (xs ++ ys) d j ≡ false =
-          subst (λ e. is_asked (xs ++ ys) e j ≡ false) which.0 (subst (λ k. is_asked (xs ++ ys) a.client k ≡ false) which.1 (gone_unasked xs ys a once)) in
-          true≢false (sym asked ∙ none))
+      let which = answer_parts a d j same in
+      let none : is_asked (xs ++ ys) d j ≡ false =
+      subst (λ e. is_asked (xs ++ ys) e j ≡ false) which.0 (subst (λ k. is_asked (xs ++ ys) a.client k ≡ false) which.1 (gone_unasked xs ys a once)) in
+      true≢false (sym asked ∙ none))
 
   pub noted_then : AreNoted t
   unfolding leases_of

@@ -49,9 +49,7 @@ fn is_ripe<C: Revokes + Drop>(state: &StateOf<C>, answer: Asked) -> bool
     ensures { result ≡ is_ripe (value_of state.now) answer }
 {
     let known = state.clients.get(answer.client);
-    !known.has_crashed()
-        && !known.has_failed()
-        && answer.cut <= state.digested(answer.client)
+    !known.has_crashed() && !known.has_failed() && answer.cut <= state.digested(answer.client)
 }
 
 /// Of nodes 1 to a last one, those that aren't full and whose clients hold nothing give up their leases. For each it walks over
