@@ -11,3 +11,4 @@ pub mod Trying
 pub mod Releasing
 pub mod Freeing
 pub mod Released
+pub mod Ready

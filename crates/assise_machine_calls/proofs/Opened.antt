@@ -1,7 +1,7 @@
 -- A client that is opened, and one that isn't after all.
 use Rattle.std.proofs.Common.{◌≡◌, ◌≢◌, ℕ, suc, ◌+◌, ◌-◌, ◌<◌, ◌==◌, Bool, true, false, List, [], ◌∷◌, ◌++◌, None, length, take, get_or, inl, inr, refl, ap, sym, ◌∙◌, arith, eq-eqb}
 use Rattle.std.specs.Coded.{Coded-set, coded_option, coded_ℕ}
-use Rattle.std.proofs.Math.Logic.{∥∥₁_elim, ∥∥₁_map}
+use Rattle.std.proofs.Math.Logic.{∥∥₁_elim}
 use Rattle.std.proofs.lemmas.Bool.{cases_Bool, ne_eqb}
 use Rattle.std.proofs.lemmas.List.{length-append}
 use Rattle.assise_history.specs.Entries.{Event, opens}
@@ -19,7 +19,6 @@ use Rattle.assise_machine_state.specs.Places.{at}
 use Rattle.assise_machine_state.specs.Shape.{AreNoted, IsShaped}
 use Rattle.assise_machine_state.specs.StateValues.{StateValue, leases_of, standings}
 use Rattle.assise_machine_state.proofs.Fullness.{seen_full}
-use Rattle.assise_machine_state.proofs.Noted.{noted_known, open_noted}
 use Rattle.assise_machine_state.proofs.Opening.{open_areas, open_seen, open_shaped}
 use Rattle.assise_machine_calls.specs.Answers.{begun_at}
 use Rattle.assise_machine_calls.proofs.OpenFaults.{fine_full}
@@ -95,10 +94,6 @@ same_levels old new same = λ i. record { home = λ c. same.home c i; clients = 
 pub stranger : (s : StateValue) → ∥ Holds (observed s) ∥₁ → s.levels.home (suc (length s.clients)) ≡ None
 unfolding observed leases_of world_of
 stranger s holds = ∥∥₁_elim holds (Coded-set (coded_option coded_ℕ) (s.levels.home (suc (length s.clients))) None) (λ h. h.leases.strangers (suc (length s.clients)) (λ is. absurd (omega (arith, is.1))))
-
-pub keeps_noted : (s : StateValue) (n : ℕ) (levels : TwoLevels) → AreNoted s → ∥ Holds (observed s) ∥₁ → EnrolsAt s.levels levels (suc (length s.clients)) n → AreNoted (after_open s n levels)
-unfolding observed
-keeps_noted s n levels noted holds enrols = noted_known (after_open s n levels) (∥∥₁_map holds (λ h. open_noted s n levels noted h.leases enrols))
 
 -- ---- what is left of the state
 

@@ -1,5 +1,5 @@
 -- A lease whose answer is ripe goes, and the answer with it.
-use Rattle.std.proofs.Common.{◌≡◌, ◌≢◌, inl, inr, ℕ, zero, suc, ◌+◌, ◌-◌, ◌<◌, ◌≤◌, nat_le, Bool, true, false, not, ◌&&◌, ◌||◌, ◌==◌, if◌then◌else◌, List, [], ◌∷◌, ◌++◌, length, filter, slice_index_or, take, drop, Some, None, is_some, refl, ap, sym, subst, ◌∙◌, arith, eq-eqb, true≢false}
+use Rattle.std.proofs.Common.{◌≡◌, ◌≢◌, inl, inr, ℕ, zero, suc, ◌+◌, ◌-◌, ◌<◌, ◌≤◌, nat_le, Bool, true, false, not, ◌||◌, ◌==◌, if◌then◌else◌, List, [], ◌∷◌, ◌++◌, length, filter, slice_index_or, take, drop, Some, None, is_some, refl, ap, sym, subst, ◌∙◌, arith, eq-eqb, true≢false}
 use Rattle.std.proofs.lemmas.Bool.{and_from, and_parts, cases_Bool, cases_eq, eqb-true, false_from_ne_true, leb-true, not-true, or_left, or_right}
 use Rattle.std.proofs.lemmas.List.{length-append, length-take}
 use Rattle.assise_lease_table.specs.declared.lease.Asked.{Asked}
@@ -13,7 +13,7 @@ use Rattle.assise_machine_leases.specs.Leases.{AreLeases, IsFrozenLease}
 use Rattle.assise_machine_leases.proofs.Going.{release_keeps}
 use Rattle.assise_machine_returns.specs.Returns.{OtherAreasStay}
 use Rattle.assise_machine_state.specs.Changes.{after_letting_go}
-use Rattle.assise_machine_state.specs.ClientValues.{ClientValue, client_in, client_seen, is_over}
+use Rattle.assise_machine_state.specs.ClientValues.{ClientValue, client_in, client_seen, cut_once_asked}
 use Rattle.assise_machine_state.specs.Cuts.{are_once, cut_in, is_asked, is_of}
 use Rattle.assise_machine_state.specs.Observed.{observed, own_seen, world_of}
 use Rattle.assise_machine_state.specs.Places.{IsNumber}
@@ -29,7 +29,7 @@ use Rattle.assise_machine_calls.specs.Releasing.{LetsSomeGo, is_early, is_ripe}
 is_own_answer : (a : Asked) (d j : ℕ) → a.client ≡ d → a.inode ≡ j → is_of d j a ≡ true
 is_own_answer a d j client inode = and_from (a.client == d) (a.inode == j) (eq-eqb a.client d client) (eq-eqb a.inode j inode)
 
-answer_parts : (a : Asked) (d j : ℕ) → is_of d j a ≡ true → (a.client ≡ d) × (a.inode ≡ j)
+pub answer_parts : (a : Asked) (d j : ℕ) → is_of d j a ≡ true → (a.client ≡ d) × (a.inode ≡ j)
 answer_parts a d j is =
     let parts = and_parts (a.client == d) (a.inode == j) is in
     (eqb-true a.client d parts.0, eqb-true a.inode j parts.1)
@@ -97,17 +97,13 @@ module _ (s : StateValue) (levels : TwoLevels) (a : Asked) (xs ys : List Asked) 
   once : are_once (xs ++ a ∷ ys) ≡ true
   once = ap are_once (sym is) ∙ noted.once
 
-  parts : (is_over (client_seen s.clients a.client) ≡ false) × (nat_le a.cut (digested_by_all (world_of s) a.client) ≡ true)
-  parts =
-      let both = and_parts (not (is_over (client_seen s.clients a.client))) (nat_le a.cut (digested_by_all (world_of s) a.client)) ripe in
-      (not-true (is_over (client_seen s.clients a.client)) both.0, both.1)
-
   frozen_here : IsFrozenLease (leases_of s) a.client a.inode
-  frozen_here = noted.frozen a.client a.inode (ap (λ l. is_asked l a.client a.inode) is ∙ asked_there xs ys a) parts.0
-
-  cut_here : (leases_of s).cut a.client a.inode ≡ a.cut
   unfolding leases_of
-  cut_here = rw (parts.0) (ap (λ l. cut_in l a.client a.inode) is ∙ cut_there xs ys a once)
+  frozen_here = sym (noted.noted a.client a.inode) ∙ ap (λ l. is_asked l a.client a.inode) is ∙ asked_there xs ys a
+
+  cut_here : (leases_of s).cut a.client a.inode ≡ cut_once_asked (client_seen s.clients a.client) a.cut
+  unfolding leases_of
+  cut_here = ap (cut_once_asked (client_seen s.clients a.client)) (ap (λ l. cut_in l a.client a.inode) is ∙ cut_there xs ys a once)
 
   lease_gone : lease_of (levels.clients a.inode) a.client ≡ None
   lease_gone = ap (λ ls. lease_of ls a.client) released.clients.here ∙ without_own (s.levels.clients a.inode) a.client
@@ -134,8 +130,7 @@ module _ (s : StateValue) (levels : TwoLevels) (a : Asked) (xs ys : List Asked) 
   cuts_kept : (d j : ℕ) → IsFrozenLease (leases_of t) d j → (leases_of t).cut d j ≡ (leases_of s).cut d j
   unfolding leases_of
   cuts_kept d j frozen =
-      ap (λ k. if is_over (client_seen s.clients d) then (client_seen s.clients d).last_cut else k)
-      (cut_without xs ys a d j (still_else d j frozen) ∙ ap (λ l. cut_in l d j) (sym is))
+      ap (cut_once_asked (client_seen s.clients d)) (cut_without xs ys a d j (still_else d j frozen) ∙ ap (λ l. cut_in l d j) (sym is))
 
   held : Holds (world_of s) (world_of t) (leases_of t)
   unfolding world_of own_seen leases_of
@@ -145,7 +140,7 @@ module _ (s : StateValue) (levels : TwoLevels) (a : Asked) (xs ys : List Asked) 
   unfolding leases_of
   goes_now = record {
     frozen = frozen_here;
-    ready = subst (λ k. k ≤ digested_by_all (world_of s) a.client) (sym cut_here) (leb-true a.cut (digested_by_all (world_of s) a.client) parts.1);
+    ready = subst (λ k. k ≤ digested_by_all (world_of s) a.client) (sym cut_here) (leb-true (cut_once_asked (client_seen s.clients a.client) a.cut) (digested_by_all (world_of s) a.client) ripe);
     released = released;
     cuts = cuts_kept;
     holds = held;
@@ -173,24 +168,18 @@ module _ (s : StateValue) (levels : TwoLevels) (a : Asked) (xs ys : List Asked) 
   was_asked : (d j : ℕ) → is_asked (xs ++ ys) d j ≡ true → is_asked s.cuts d j ≡ true
   was_asked d j asked = ap (λ l. is_asked l d j) is ∙ asked_more xs ys a d j asked
 
-  asked_else : (d j : ℕ) → is_asked (xs ++ ys) d j ≡ true → is_of d j a ≡ false
-  asked_else d j asked =
-      false_from_ne_true (is_of d j a) (λ same.
-      let which = answer_parts a d j same in
-      let none : is_asked (xs ++ ys) d j ≡ false =
-      subst (λ e. is_asked (xs ++ ys) e j ≡ false) which.0 (subst (λ k. is_asked (xs ++ ys) a.client k ≡ false) which.1 (gone_unasked xs ys a once)) in
-      true≢false (sym asked ∙ none))
+  noted_else : (d j : ℕ) → is_asked (xs ++ ys) d j ≡ is_frozen (lease_of (levels.clients j) d)
+  noted_else d j =
+      elim (cases_Bool (is_of d j a)) [
+        | inl same ↦
+            let which = answer_parts a d j same in
+            subst (λ e. is_asked (xs ++ ys) e j ≡ is_frozen (lease_of (levels.clients j) e)) which.0
+            (subst (λ k. is_asked (xs ++ ys) a.client k ≡ is_frozen (lease_of (levels.clients k) a.client)) which.1 (gone_unasked xs ys a once ∙ sym (ap is_frozen lease_gone)))
+        | inr other ↦ asked_without xs ys a d j other ∙ ap (λ l. is_asked l d j) (sym is) ∙ noted.noted d j ∙ ap is_frozen (sym (lease_else d j other))
+      ]
 
   pub noted_then : AreNoted t
-  unfolding leases_of
-  noted_then = record {
-    once = once_without xs ys a once;
-    known = λ d j asked. noted.known d j (was_asked d j asked);
-    frozen = λ d j asked runs. ap is_frozen (lease_else d j (asked_else d j asked)) ∙ noted.frozen d j (was_asked d j asked) runs;
-    noted = λ d j runs frozen.
-        (let other : is_of d j a ≡ false = still_else d j frozen in
-        asked_without xs ys a d j other ∙ ap (λ l. is_asked l d j) (sym is) ∙ noted.noted d j runs (ap is_frozen (sym (lease_else d j other)) ∙ frozen));
-  }
+  noted_then = record { once = once_without xs ys a once; known = λ d j asked. noted.known d j (was_asked d j asked); noted = noted_else }
 
   same_ripe : (b : Asked) → is_ripe t b ≡ is_ripe s b
   unfolding world_of own_seen digested_by_all end
@@ -237,20 +226,10 @@ ripe_left e (x ∷ xs) ys a ripe =
 
 -- ---- what the code tests
 
-neither : (p q : Bool) → not (p || q) ≡ (not p && not q)
-neither true q = refl
-neither false q = refl
-
-module _ (s : StateValue) (a : Asked) (x : ClientValue) (v : Bool) (there : IsNumber s.clients a.client) (known : x ≡ client_in s.clients a.client)
-    (is : v ≡ (not x.crashed && not x.failed)) where
-  runs_as : not (is_over (client_seen s.clients a.client)) ≡ v
-  runs_as = ap (λ y. not (is_over y)) (client_is s.clients a.client there ∙ sym known) ∙ neither x.crashed x.failed ∙ sym is
-
-  pub ripe_as : (d : ℕ) → v ≡ true → d ≡ digested_by_all (world_of s) a.client → nat_le a.cut d ≡ is_ripe s a
-  ripe_as d runs digested = ap (nat_le a.cut) digested ∙ sym (ap (λ b. b && nat_le a.cut (digested_by_all (world_of s) a.client)) (runs_as ∙ runs))
-
-  pub unripe_as : v ≡ false → v ≡ is_ripe s a
-  unripe_as over = over ∙ sym (ap (λ b. b && nat_le a.cut (digested_by_all (world_of s) a.client)) (runs_as ∙ over))
+pub ripe_as : (s : StateValue) (a : Asked) (x : ClientValue) (cut digested : ℕ) → IsNumber s.clients a.client → x ≡ client_in s.clients a.client → cut ≡ cut_once_asked x a.cut →
+    digested ≡ digested_by_all (world_of s) a.client → nat_le cut digested ≡ is_ripe s a
+ripe_as s a x cut digested there known is all =
+    (λ i. nat_le (is i) (all i)) ∙ ap (λ y. nat_le (cut_once_asked y a.cut) (digested_by_all (world_of s) a.client)) (known ∙ sym (client_is s.clients a.client there))
 
 -- ---- the whole step, as the code has it
 

@@ -3,18 +3,36 @@ ghost use Rattle.std.specs.Prelude.{◌≡◌, ◌++◌, ◌≤◌, drop, filter
 ghost use Rattle.assise_lease_table.specs.Tables.{SameRevokers};
 ghost use Rattle.assise_lease_tree.specs.Trees.{stored_by};
 ghost use Rattle.assise_machine_leases.specs.Leases.{AreLeases};
+ghost use Rattle.assise_machine_events.specs.Events.{released};
+ghost use Rattle.assise_machine_events.specs.NodeEvents.{Releasing};
 ghost use Rattle.assise_manager.specs.Whole.{membership};
 ghost use Rattle.assise_machine_state.specs.Observed.{is_full_in, world_of};
 ghost use Rattle.assise_machine_state.specs.Places.{IsNumber};
 ghost use Rattle.assise_machine_state.specs.Shape.{AreNoted, IsShaped};
 ghost use Rattle.assise_machine_state.specs.StateValues.{leases_of};
-ghost use Rattle.assise_machine_state.specs.Whole.{value_of};
+ghost use Rattle.assise_machine_state.specs.Whole.{machine_of, value_of};
 ghost use Rattle.assise_machine_calls.specs.Releasing.{FreesAmong, LetsSomeGo, is_early, is_ripe};
 
 use assise_lease_table::lease::Asked;
 use assise_lease_table::revoker::Revokes;
+use assise_machine_state::sound::SoundOf;
 use assise_machine_state::state::StateOf;
 use assise_manager::members::Members;
+
+/// Releases each lease of a client that was asked for and whose cut all full nodes have digested, and then takes all leases of
+/// nodes away that aren't full and whose clients hold nothing. It answers how many leases of clients went. It is never refused
+/// and takes no memory; it costs the leases that are asked for, and for each node that isn't full a walk over all leases.
+pub fn release_ready<C: Revokes + Drop>(sound: &mut SoundOf<C>) -> usize
+    ensures happens { Releasing (machine_of sound.old.state) (released result) (machine_of sound.new.state) }
+    ensures revokers { SameRevokers (stored_by sound.old.state.leases) (stored_by sound.new.state.leases) }
+{
+    let state = &mut sound.state;
+    let place = state.cuts.len();
+    let count = release_before(state, place);
+    let last = state.nodes.len() as u32;
+    free_to(state, last);
+    count
+}
 
 /// Of the answers before a place, releases the lease of each that is ripe, and drops the answer. It answers how many.
 pub(crate) fn release_before<C: Revokes + Drop>(state: &mut StateOf<C>, place: usize) -> usize
@@ -42,14 +60,14 @@ pub(crate) fn release_before<C: Revokes + Drop>(state: &mut StateOf<C>, place: u
     release_before(state, place - 1) + 1
 }
 
-/// Whether a client that answered isn't over, and all full nodes have digested what lies before its cut.
+/// Whether all full nodes have digested what lies before the cut of a client that answered.
 fn is_ripe<C: Revokes + Drop>(state: &StateOf<C>, answer: Asked) -> bool
     requires client { IsNumber state.now.clients answer.client }
     requires shape { IsShaped (value_of state.now) }
     ensures { result ≡ is_ripe (value_of state.now) answer }
 {
-    let known = state.clients.get(answer.client);
-    !known.has_crashed() && !known.has_failed() && answer.cut <= state.digested(answer.client)
+    let cut = state.clients.get(answer.client).cut(answer.cut);
+    cut <= state.digested(answer.client)
 }
 
 /// Of nodes 1 to a last one, those that aren't full and whose clients hold nothing give up their leases. For each it walks over

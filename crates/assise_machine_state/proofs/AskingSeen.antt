@@ -1,8 +1,8 @@
 -- What the laws observe where those who stand in a call's way are asked for their leases.
-use Rattle.std.proofs.Common.{◌≡◌, ◌≢◌, ◌⊎◌, inl, inr, ℕ, zero, suc, ◌+◌, ◌-◌, ◌≤◌, max, nat_lt, ◌==◌, Bool, true, false, cond, not, ◌&&◌, ◌||◌, if◌then◌else◌, List, [], ◌∷◌, ◌++◌, length, filter, drop, slice_get, Option, Some, None, refl, ap, sym, subst, ◌∙◌, arith, eq-eqb}
+use Rattle.std.proofs.Common.{◌≡◌, ◌≢◌, inl, inr, ℕ, zero, suc, ◌+◌, ◌-◌, ◌≤◌, max, nat_lt, ◌==◌, Bool, true, false, cond, not, ◌&&◌, ◌||◌, if◌then◌else◌, List, [], ◌∷◌, ◌++◌, length, filter, drop, slice_get, Option, Some, None, refl, ap, sym, subst, ◌∙◌, arith, eq-eqb}
 use Rattle.std.specs.List.{list_all, list_any}
-use Rattle.std.proofs.Math.Bool.{and-true}
-use Rattle.std.proofs.lemmas.Bool.{and_from, and_parts, and_right, cases_Bool, cases_eq, eqb-true, false_from_ne_true, ne_eqb, not-true, or_cases, or_left, or_parts, or_right}
+use Rattle.std.proofs.Math.Bool.{and-true, or-false}
+use Rattle.std.proofs.lemmas.Bool.{and_from, and_parts, and_right, cases_Bool, cases_eq, eqb-true, false_from_ne_true, ne_eqb, not-true, or_parts}
 use Rattle.std.proofs.lemmas.List.{length-set}
 use Rattle.std.proofs.lemmas.List.Folds.{list_any-append}
 use Rattle.assise_names.specs.declared.mode.Mode.{Mode}
@@ -36,7 +36,7 @@ use Rattle.assise_machine_state.specs.Places.{IsNumber}
 use Rattle.assise_machine_state.specs.Shape.{AreAnswers, AreNoted, IsShaped}
 use Rattle.assise_machine_state.specs.StateValues.{StateValue, leases_of}
 use Rattle.assise_machine_state.proofs.Fullness.{lives_number}
-use Rattle.assise_machine_state.proofs.Noted.{none_cut}
+use Rattle.assise_machine_state.proofs.Noted.{asked_either, cut_before, none_cut, once_both}
 use Rattle.assise_machine_state.proofs.Seeing.{client_else, client_here, client_is, client_same}
 use Rattle.assise_machine_state.proofs.Shaping.{shaped_as}
 use Rattle.assise_machine_state.proofs.Staying.{node_as}
@@ -132,17 +132,6 @@ once_of (a ∷ xs) i all distinct =
     (ap not (ap (is_asked xs a.client) (all a (inl refl)) ∙ asked_is xs i a.client rest ∙ distinct.0))
     (once_of xs i rest distinct.1)
 
-once_both : (xs ys : List Asked) → are_once xs ≡ true → are_once ys ≡ true → ((d j : ℕ) → is_asked xs d j ≡ true → is_asked ys d j ≡ false) → are_once (xs ++ ys) ≡ true
-once_both [] ys once more other = more
-once_both (x ∷ xs) ys once more other =
-    let parts = and_parts (not (is_asked xs x.client x.inode)) (are_once xs) once in
-    let own : is_of x.client x.inode x ≡ true = and_from (x.client == x.client) (x.inode == x.inode) (eq-eqb x.client x.client refl) (eq-eqb x.inode x.inode refl) in
-    let none : is_asked (xs ++ ys) x.client x.inode ≡ false =
-    list_any-append (is_of x.client x.inode) xs ys
-    ∙ rw (not-true (is_asked xs x.client x.inode) parts.0) (other x.client x.inode (or_left (is_of x.client x.inode x) (is_asked xs x.client x.inode) own)) in
-    and_from (not (is_asked (xs ++ ys) x.client x.inode)) (are_once (xs ++ ys)) (ap not none)
-    (once_both xs ys parts.1 more (λ d j asked. other d j (or_right (is_of d j x) (is_asked xs d j) asked)))
-
 -- ---- cuts that were answered
 
 -- that of who was is one of the answers
@@ -156,11 +145,7 @@ answer_of (a ∷ xs) d j asked =
           (rest.0, inr rest.1, rest.2, ap (λ b. if b then a.cut else cut_in xs d j) other ∙ rest.3)
     ]
 
--- of two lists, the one in which the client was asked counts
-
-cut_before : (xs ys : List Asked) (d j : ℕ) → is_asked ys d j ≡ false → cut_in (xs ++ ys) d j ≡ cut_in xs d j
-cut_before [] ys d j none = none_cut ys d j none
-cut_before (x ∷ xs) ys d j none = ap (λ k. if is_of d j x then x.cut else k) (cut_before xs ys d j none)
+-- of two lists, the second counts where the client was not asked in the first
 
 cut_behind : (xs ys : List Asked) (d j : ℕ) → is_asked xs d j ≡ false → cut_in (xs ++ ys) d j ≡ cut_in ys d j
 cut_behind [] ys d j none = refl
@@ -391,8 +376,8 @@ module _ (s : StateValue) (c i : ℕ) (mode : Mode) (levels : TwoLevels) (asked 
 
   -- nobody gave an answer before
   first_answer : (d : ℕ) → is_asked asked d i ≡ true → is_asked s.cuts d i ≡ false
-  first_answer d h =
-      false_from_ne_true (is_asked s.cuts d i) (λ before. not_both (is_frozen (client_lease l d i)) (noted.frozen d i before (runs d h)) (unfrozen d h))
+  unfolding leases_of
+  first_answer d h = noted.noted d i ∙ unfrozen d h
 
   -- ---- cuts
 
@@ -461,39 +446,34 @@ module _ (s : StateValue) (c i : ℕ) (mode : Mode) (levels : TwoLevels) (asked 
   -- ---- what is noted
 
   -- what is frozen was so before, or was asked for
-  was_or_asked : (d j : ℕ) → IsFrozenLease l' d j → IsFrozenLease l d j ⊎ (is_asked asked d j ≡ true)
-  was_or_asked d j frozen =
-      elim (cases_Bool (is_frozen (client_lease l d j))) [
-        | inl was ↦ inl was
-        | inr fresh ↦ elim (cases_eq j i) [
-          | inl is ↦
-              let new : is_newly_frozen l l' d j ≡ true = and_from (not (is_frozen (client_lease l d j))) (is_frozen (client_lease l' d j)) (ap not fresh) frozen in
-              inr (subst (λ k. is_asked asked d k ≡ true) (sym is) (sym (newly d) ∙ subst (λ k. is_newly_frozen l l' d k ≡ true) is new))
-          | inr other ↦ inl (ap is_frozen (sym (elsewhere d j other)) ∙ frozen)
-        ]
+  frozen_or_asked : (d j : ℕ) → is_frozen (client_lease l' d j) ≡ (is_frozen (client_lease l d j) || is_asked asked d j)
+  frozen_or_asked d j =
+      elim (cases_eq j i) [
+        | inl is ↦
+            subst (λ k. is_frozen (client_lease l' d k) ≡ (is_frozen (client_lease l d k) || is_asked asked d k)) (sym is)
+            (was_or_new (is_frozen (client_lease l d i)) (is_frozen (client_lease l' d i)) (frozen_stays d i) ∙ ap (λ b. is_frozen (client_lease l d i) || b) (newly d))
+        | inr other ↦ ap is_frozen (elsewhere d j other) ∙ sym (ap (λ b. is_frozen (client_lease l d j) || b) (unasked_elsewhere asked i d j answers.inodes other) ∙ or-false (is_frozen (client_lease l d j)))
       ]
-
-  either : (d j : ℕ) → is_asked (s.cuts ++ asked) d j ≡ true → (is_asked s.cuts d j ≡ true) ⊎ (is_asked asked d j ≡ true)
-  either d j h = or_cases (is_asked s.cuts d j) (is_asked asked d j) (sym (list_any-append (is_of d j) s.cuts asked) ∙ h)
+    where
+      was_or_new : (was now : Bool) → (was ≡ true → now ≡ true) → now ≡ (was || (not was && now))
+      was_or_new true now stays = stays refl
+      was_or_new false now stays = refl
 
   not_twice : (d j : ℕ) → is_asked s.cuts d j ≡ true → is_asked asked d j ≡ false
   not_twice d j before =
       false_from_ne_true (is_asked asked d j)
       (λ h. not_both (is_asked s.cuts d i) (subst (λ k. is_asked s.cuts d k ≡ true) (at_inode d j h) before) (first_answer d (asked_here d j h)))
 
+  now_noted : (d j : ℕ) → is_asked (s.cuts ++ asked) d j ≡ is_frozen (lease_of (levels.clients j) d)
+  unfolding leases_of
+  now_noted d j = list_any-append (is_of d j) s.cuts asked ∙ (λ k. noted.noted d j k || is_asked asked d j) ∙ sym (frozen_or_asked d j)
+
   pub asking_noted : AreNoted (after_asking s levels asked)
   asking_noted = record {
     once = once_both s.cuts asked noted.once (once_of asked i answers.inodes distinct) not_twice;
-    known = λ d j h. same_number s.clients (with_goals asked s.clients) d (count_kept asked s.clients) (elim (either d j h) [
+    known = λ d j h. same_number s.clients (with_goals asked s.clients) d (count_kept asked s.clients) (elim (asked_either s.cuts asked d j h) [
       | inl before ↦ noted.known d j before
       | inr now ↦ number d (asked_here d j now)
     ]);
-    frozen = λ d j h ran. elim (either d j h) [
-      | inl before ↦ frozen_stays d j (noted.frozen d j before (sym (same_over d) ∙ ran))
-      | inr now ↦ subst (λ k. IsFrozenLease l' d k) (sym (at_inode d j now)) (frozen_now d (asked_here d j now))
-    ];
-    noted = λ d j ran frozen. list_any-append (is_of d j) s.cuts asked ∙ elim (was_or_asked d j frozen) [
-      | inl was ↦ or_left (is_asked s.cuts d j) (is_asked asked d j) (noted.noted d j (sym (same_over d) ∙ ran) was)
-      | inr now ↦ or_right (is_asked s.cuts d j) (is_asked asked d j) now
-    ];
+    noted = now_noted;
   }

@@ -24,6 +24,7 @@ use Rattle.assise_machine_laws.specs.Staying.{SameLeases}
 use Rattle.assise_machine_laws.specs.World.{Full, World, call_at, end}
 use Rattle.assise_machine_laws.proofs.Failing.{kept_high}
 use Rattle.assise_machine_leases.specs.Handing.{FailsWith}
+use Rattle.assise_machine_leases.specs.Leases.{AreLeases}
 use Rattle.assise_machine_history.specs.Lost.{losses_of}
 use Rattle.assise_machine_history.proofs.Failing.{failure_takes}
 use Rattle.assise_machine_history.proofs.Numbering.{kept_fail}
@@ -32,12 +33,12 @@ use Rattle.assise_machine_state.specs.ClientValues.{ClientValue, client_seen, cu
 use Rattle.assise_machine_state.specs.NodeValues.{log_seen, region_seen}
 use Rattle.assise_machine_state.specs.Observed.{is_full_in, own_seen, world_of}
 use Rattle.assise_machine_state.specs.Places.{IsNumber}
-use Rattle.assise_machine_state.specs.Shape.{IsShaped}
+use Rattle.assise_machine_state.specs.Shape.{AreLeft, IsShaped}
 use Rattle.assise_machine_state.specs.StateValues.{StateValue, leases_of, standings}
 use Rattle.assise_machine_state.proofs.CutSeen.{client_fails, client_stays, count_over, home_number, inodes_left, log_cut_left, log_left, count_left, logs_gone, logs_left}
 use Rattle.assise_machine_state.proofs.Fullness.{full_seen, node_number, same_first, seen_full, no_log_in}
 use Rattle.assise_machine_state.proofs.Kept.{kept_elsewhere, kept_from_first, kept_received, part_first, front_kept, front_whole, all_kept, end_cut}
-use Rattle.assise_machine_state.proofs.Noted.{failed_over}
+use Rattle.assise_machine_state.proofs.Noted.{failed_over, left_else, lives_elsewhere, unasked_cut}
 use Rattle.assise_machine_state.proofs.Shaping.{KnowsHome, limit_seen, limits_all}
 use Rattle.assise_machine_state.proofs.Standings.{else_then, full_as, gone_then, lowest_is_full, survivor_left, count_then}
 use Rattle.assise_machine_state.proofs.Staying.{leases_frozen}
@@ -48,16 +49,16 @@ cut_once_failed asked c k x i = rw (failed_over k x) refl
 
 -- ---- what is seen of nodes and clients
 
-pub failure_areas : (s : StateValue) (n k i : ℕ) (inodes : set.FinSet nat_cmp) (levels : TwoLevels) → (world_of (after_failure s n inodes levels)).area k i ≡ (world_of s).area k i
+pub failure_areas : (s : StateValue) (n k i : ℕ) (inodes : set.FinSet nat_cmp) (levels : TwoLevels) (asked : List Asked) → (world_of (after_failure s n inodes levels asked)).area k i ≡ (world_of s).area k i
 unfolding world_of
-failure_areas s n k i inodes levels = ap (λ m. values m i) (inodes_left s.nodes n s.clients (kept_at_failure (world_of s) n) k)
+failure_areas s n k i inodes levels asked = ap (λ m. values m i) (inodes_left s.nodes n s.clients (kept_at_failure (world_of s) n) k)
 
-module _ (s : StateValue) (n : ℕ) (inodes : set.FinSet nat_cmp) (levels : TwoLevels) (shape : IsShaped s) (stands : standing_of (standings s) n ≡ Some full) where
+module _ (s : StateValue) (n : ℕ) (inodes : set.FinSet nat_cmp) (levels : TwoLevels) (asked : List Asked) (shape : IsShaped s) (stands : standing_of (standings s) n ≡ Some full) where
   abbrev w : World
   w = world_of s
 
   abbrev t : StateValue
-  t = after_failure s n inodes levels
+  t = after_failure s n inodes levels asked
 
   abbrev w' : World
   w' = world_of t
@@ -328,7 +329,7 @@ module _ (s : StateValue) (n : ℕ) (inodes : set.FinSet nat_cmp) (levels : TwoL
           log = λ m c f. cut_records m c (full_seen t m f);
           received = λ m c f. cut_received m c (full_seen t m f);
           digested = λ m c f. cut_digested m c (full_seen t m f);
-          area = λ m i f. failure_areas s n m i inodes levels;
+          area = λ m i f. failure_areas s n m i inodes levels asked;
         }
 
         -- and they are: a failure in the history takes those that are listed
@@ -341,13 +342,16 @@ module _ (s : StateValue) (n : ℕ) (inodes : set.FinSet nat_cmp) (levels : TwoL
         node_fails : Fails w n w'
         node_fails = with_calls w'.calls calls_kept
 
-        pub failure_seen : ((c : ℕ) → levels.home c ≡ s.levels.home c) → SameLeasesOf s.levels.nodes levels.nodes → FailsWith w (leases_of s) n w' (leases_of t)
+        pub failure_seen : ((c : ℕ) → levels.home c ≡ s.levels.home c) → SameLeasesOf s.levels.nodes levels.nodes → AreLeft s (λ c. lives s.levels.home c n) asked → AreLeases w (leases_of s) →
+            FailsWith w (leases_of s) n w' (leases_of t)
         unfolding world_of leases_of
-        failure_seen homes nodes = record {
+        failure_seen homes nodes left leases = record {
           fails = node_fails;
           home = homes;
           clients = frozen;
           nodes = nodes;
-          cut_here = λ c i here. ap (λ x. cut_of s.cuts c x i) (client_over c here) ∙ cut_once_failed s.cuts c (kept c) (client_seen s.clients c) i ∙ sym (own_end c);
-          cut_else = λ c i other. ap (λ x. cut_of s.cuts c x i) (client_same c other);
+          cut_here = λ c i here. ap (λ x. cut_of t.cuts c x i) (client_over c here) ∙ cut_once_failed t.cuts c (kept c) (client_seen s.clients c) i ∙ sym (own_end c);
+          cut_else = λ c i other.
+              ap (λ x. cut_of t.cuts c x i) (client_same c other)
+              ∙ unasked_cut s.cuts asked c (client_seen s.clients c) i (left_else s (λ d. lives s.levels.home d n) asked left c i (lives_elsewhere s n c leases other));
         }

@@ -50,12 +50,12 @@ module _ (s : StateValue) (c to : ℕ) (there : IsNumber s.clients c) where
   unfolding world_of
   goal_raised known = record {
     there = low known;
-    logs = logs_stay s c now s.levels s.history remains refl;
-    clients = clients_stay s c now s.levels s.history remains refl;
-    nodes = nodes_stay s c now s.levels s.history;
+    logs = logs_stay s c now s.levels s.cuts s.history remains refl;
+    clients = clients_stay s c now s.levels s.cuts s.history remains refl;
+    nodes = nodes_stay s c now s.levels s.cuts s.history;
     leases = leases_as s (after_goal s c to) (λ i. refl);
     goals = goals;
   }
 
   pub goal_shaped : IsShaped s → IsShaped (after_goal s c to)
-  goal_shaped shape = still_shaped s c now s.levels s.history remains shape
+  goal_shaped shape = still_shaped s c now s.levels s.cuts s.history remains shape

@@ -2,6 +2,7 @@
 use Rattle.std.proofs.Common.{◌≡◌, ℕ, ◌-◌, not, List, length, refl, ap}
 use Rattle.std.proofs.lemmas.List.{length-set}
 use Rattle.assise_history.specs.Entries.{Event}
+use Rattle.assise_lease_table.specs.declared.lease.Asked.{Asked}
 use Rattle.assise_lease_tree.specs.TwoLevels.{TwoLevels}
 use Rattle.assise_machine_laws.specs.Staying.{SameClients, SameLogs, SameNodes}
 use Rattle.assise_machine_leases.specs.Handing.{Holds}
@@ -16,9 +17,9 @@ use Rattle.assise_machine_state.proofs.Seeing.{client_same}
 use Rattle.assise_machine_state.proofs.Shaping.{shaped_as}
 use Rattle.assise_machine_state.proofs.Staying.{clients_as, goals_as, logs_as, node_as}
 
--- another value of one client, and maybe other leases and another history
-abbrev pub changed : StateValue → ℕ → ClientValue → TwoLevels → List Event → StateValue
-changed s c x levels h = record s { clients = with_client s.clients c x; levels = levels; history = h }
+-- another value of one client, and maybe other leases, other answers and another history
+abbrev pub changed : StateValue → ℕ → ClientValue → TwoLevels → List Asked → List Event → StateValue
+changed s c x levels cuts h = record s { clients = with_client s.clients c x; levels = levels; cuts = cuts; history = h }
 
 -- the client's own log is where it was, and its counts are what they were
 pub record Remains (old new : ClientValue) : Type 0 where
@@ -43,12 +44,12 @@ leases_held s levels = record {
   held = record { holds = λ c i. refl; writes = λ c i. refl };
 }
 
-module _ (s : StateValue) (c : ℕ) (x : ClientValue) (levels : TwoLevels) (h : List Event) where
-  pub nodes_stay : SameNodes (world_of s) (world_of (changed s c x levels h))
+module _ (s : StateValue) (c : ℕ) (x : ClientValue) (levels : TwoLevels) (cuts : List Asked) (h : List Event) where
+  pub nodes_stay : SameNodes (world_of s) (world_of (changed s c x levels cuts h))
   unfolding world_of
-  nodes_stay = record { full = refl; same = λ n f. node_as s (changed s c x levels h) n (λ i. refl) (λ d. refl) }
+  nodes_stay = record { full = refl; same = λ n f. node_as s (changed s c x levels cuts h) n (λ i. refl) (λ d. refl) }
 
-  pub same_count : length (changed s c x levels h).clients ≡ length s.clients
+  pub same_count : length (changed s c x levels cuts h).clients ≡ length s.clients
   same_count = length-set s.clients (c - 1) x
 
   module _ (remains : Remains (client_in s.clients c) x) where
@@ -58,15 +59,15 @@ module _ (s : StateValue) (c : ℕ) (x : ClientValue) (levels : TwoLevels) (h : 
     failed_stays : (d : ℕ) → (client_seen (with_client s.clients c x) d).failed ≡ (client_seen s.clients d).failed
     failed_stays = client_same (λ y. y.failed) s.clients c x remains.failed
 
-    pub lives_stays : (d : ℕ) → (world_of (changed s c x levels h)).lives d ≡ (world_of s).lives d
+    pub lives_stays : (d : ℕ) → (world_of (changed s c x levels cuts h)).lives d ≡ (world_of s).lives d
     unfolding world_of
     lives_stays d = ap not (failed_stays d)
 
-    pub own_stays : (d : ℕ) → own_seen (changed s c x levels h) d ≡ own_seen s d
+    pub own_stays : (d : ℕ) → own_seen (changed s c x levels cuts h) d ≡ own_seen s d
     unfolding own_seen
     own_stays d = rw (home_stays d, failed_stays d) refl
 
-    pub logs_stay : kept_numbered h ≡ kept_numbered s.history → SameLogs (world_of s) (world_of (changed s c x levels h))
+    pub logs_stay : kept_numbered h ≡ kept_numbered s.history → SameLogs (world_of s) (world_of (changed s c x levels cuts h))
     unfolding world_of
     logs_stay calls = record {
       calls = calls;
@@ -77,7 +78,7 @@ module _ (s : StateValue) (c : ℕ) (x : ClientValue) (levels : TwoLevels) (h : 
       made = client_same (λ y. y.made) s.clients c x remains.made;
     }
 
-    pub clients_stay : x.crashed ≡ (client_in s.clients c).crashed → SameClients (world_of s) (world_of (changed s c x levels h))
+    pub clients_stay : x.crashed ≡ (client_in s.clients c).crashed → SameClients (world_of s) (world_of (changed s c x levels cuts h))
     unfolding world_of
     clients_stay same = record {
       clients = same_count;
@@ -86,8 +87,8 @@ module _ (s : StateValue) (c : ℕ) (x : ClientValue) (levels : TwoLevels) (h : 
       crashed = client_same (λ y. y.crashed) s.clients c x same;
     }
 
-    pub still_shaped : IsShaped s → IsShaped (changed s c x levels h)
-    still_shaped shape = shaped_as s (changed s c x levels h) shape record {
+    pub still_shaped : IsShaped s → IsShaped (changed s c x levels cuts h)
+    still_shaped shape = shaped_as s (changed s c x levels cuts h) shape record {
       nodes = refl;
       members = refl;
       full = λ n. refl;

@@ -63,11 +63,12 @@ after_letting_go s levels cuts = record s { levels = levels; cuts = cuts }
 abbrev pub after_leases : StateValue → TwoLevels → StateValue
 after_leases s levels = record s { levels = levels }
 
--- a client crashes, with these leases
-abbrev pub after_crash : StateValue → ℕ → TwoLevels → StateValue
-after_crash s c levels = record s {
+-- a client crashes: these are the leases then, and its answers for those that it was not asked for
+abbrev pub after_crash : StateValue → ℕ → TwoLevels → List Asked → StateValue
+after_crash s c levels asked = record s {
   clients = with_client s.clients c (crashed_at (end (world_of s) c) (client_in s.clients c));
   levels = levels;
+  cuts = s.cuts ++ asked;
   history = s.history ++ crashes c ∷ [];
 }
 
@@ -106,13 +107,15 @@ with_clients_failed home kept zero cs = cs
 with_clients_failed home kept (suc c) cs =
     if (client_seen cs (suc c)).home == home then with_client (with_clients_failed home kept c cs) (suc c) (failed_at (kept (suc c)) (client_in cs (suc c))) else with_clients_failed home kept c cs
 
--- node n fails: its logs are gone, those of its clients are cut elsewhere, and the manager lists these inodes
-abbrev pub after_failure : StateValue → ℕ → set.FinSet nat_cmp → TwoLevels → StateValue
-after_failure s n inodes levels = record s {
+-- node n fails: its logs are gone, those of its clients are cut elsewhere, the manager lists these inodes, and these are the
+-- leases then, with its clients' answers for those that they were not asked for
+abbrev pub after_failure : StateValue → ℕ → set.FinSet nat_cmp → TwoLevels → List Asked → StateValue
+after_failure s n inodes levels asked = record s {
   nodes = with_clients_cut n s.clients (kept_at_failure (world_of s) n) (length s.clients) (without_logs s.nodes n);
   members = failed s.members n inodes;
   clients = with_clients_failed n (kept_at_failure (world_of s) n) (length s.clients) s.clients;
   levels = levels;
+  cuts = s.cuts ++ asked;
   history = s.history ++ fails n (losses_of (world_of s) n) ∷ [];
 }
 

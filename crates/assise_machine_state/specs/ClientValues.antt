@@ -37,9 +37,12 @@ coded_client =
 abbrev pub is_over : ClientValue → Bool
 is_over c = c.crashed || c.failed
 
--- the cut of its frozen lease of an inode: what it answered, and one serves all its leases once it is over
+-- the cut of a frozen lease of it: what it answered, and one serves all its leases once it is over
+abbrev pub cut_once_asked : ClientValue → (answered : ℕ) → ℕ
+cut_once_asked x k = if is_over x then x.last_cut else k
+
 abbrev pub cut_of : List Asked → (client : ℕ) → ClientValue → (inode : ℕ) → ℕ
-cut_of asked c x i = if is_over x then x.last_cut else cut_in asked c i
+cut_of asked c x i = cut_once_asked x (cut_in asked c i)
 
 -- ---- changes of one
 

@@ -1,8 +1,9 @@
 -- What clients answered when they were asked for their leases: up to where their logs have to be digested before the lease goes.
 -- Assise (OSDI 2020), section 3 (CC-NVM: a holder whose lease is revoked says what has to be replicated before).
-use Rattle.std.specs.Prelude.{ℕ, Bool, true, not, ◌==◌, ◌&&◌, if◌then◌else◌, List, [], ◌∷◌}
+use Rattle.std.specs.Prelude.{ℕ, Bool, true, false, not, ◌==◌, ◌&&◌, if◌then◌else◌, List, [], ◌∷◌, Option, Some, None}
 use Rattle.std.specs.List.{list_any}
 use Rattle.assise_lease_table.specs.declared.lease.Asked.{Asked}
+use Rattle.assise_lease_table.specs.declared.lease.Lease.{Lease}
 
 -- it is the client's answer for the inode
 abbrev pub is_of : ℕ → ℕ → Asked → Bool
@@ -21,3 +22,8 @@ cut_in (a ∷ asked) c i = if is_of c i a then a.cut else cut_in asked c i
 abbrev pub are_once : List Asked → Bool
 are_once [] = true
 are_once (a ∷ asked) = not (is_asked asked a.client a.inode) && are_once asked
+
+-- there is a lease, and it was not asked for
+abbrev pub is_unasked : Option Lease → Bool
+is_unasked None = false
+is_unasked (Some l) = not l.frozen

@@ -1,6 +1,6 @@
 -- What holds of the parts of the state, beside what the laws say of it.
 -- Assise (OSDI 2020), section 3 (CC-NVM: a replica has the logs of all clients).
-use Rattle.std.specs.Prelude.{◌≡◌, ℕ, ◌≤◌, true, false, not, ◌&&◌, ◌==◌, List, [], filter, length}
+use Rattle.std.specs.Prelude.{◌≡◌, ℕ, ◌≤◌, Bool, true, false, not, ◌&&◌, ◌==◌, List, [], filter, length}
 use Rattle.assise_names.specs.declared.mode.Mode.{Mode}
 use Rattle.assise_private_log.specs.Touches.{Covers}
 use Rattle.assise_lease_table.specs.declared.lease.Asked.{Asked}
@@ -8,13 +8,12 @@ use Rattle.assise_lease_table.specs.Answers.{clients_of}
 use Rattle.assise_lease_table.specs.Leases.{Among, holders, is_to_ask, lease_of}
 use Rattle.assise_lease_tree.specs.Levels.{in_way, is_frozen}
 use Rattle.assise_lease_tree.specs.TwoLevels.{TwoLevels}
-use Rattle.assise_machine_leases.specs.Leases.{IsFrozenLease}
-use Rattle.assise_machine_state.specs.ClientValues.{client_seen, is_over}
-use Rattle.assise_machine_state.specs.Cuts.{are_once, is_asked}
+use Rattle.assise_machine_state.specs.ClientValues.{client_seen}
+use Rattle.assise_machine_state.specs.Cuts.{are_once, is_asked, is_unasked}
 use Rattle.assise_machine_state.specs.NodeValues.{HasLog, log_in, log_seen, region_seen}
 use Rattle.assise_machine_state.specs.Observed.{is_full_in, own_seen}
 use Rattle.assise_machine_state.specs.Places.{IsNumber}
-use Rattle.assise_machine_state.specs.StateValues.{StateValue, leases_of, standings}
+use Rattle.assise_machine_state.specs.StateValues.{StateValue, standings}
 
 pub record IsShaped (s : StateValue) : Type 0 where
   -- each node stands somehow
@@ -30,12 +29,16 @@ pub record IsShaped (s : StateValue) : Type 0 where
   pub least_limit : 8 ≤ s.limit
   pub most_limit : s.limit ≤ 4096
 
--- the answers are those of the leases that are frozen, one of each, but for clients that are over
+-- the answers are those of the leases that are frozen, one of each
 pub record AreNoted (s : StateValue) : Type 0 where
   pub once : are_once s.cuts ≡ true
   pub known : (c i : ℕ) → is_asked s.cuts c i ≡ true → IsNumber s.clients c
-  pub frozen : (c i : ℕ) → is_asked s.cuts c i ≡ true → is_over (client_seen s.clients c) ≡ false → IsFrozenLease (leases_of s) c i
-  pub noted : (c i : ℕ) → is_over (client_seen s.clients c) ≡ false → IsFrozenLease (leases_of s) c i → is_asked s.cuts c i ≡ true
+  pub noted : (c i : ℕ) → is_asked s.cuts c i ≡ is_frozen (lease_of (s.levels.clients i) c)
+
+-- some clients answer for each lease that they hold and were not asked for, once
+pub record AreLeft (s : StateValue) (who : ℕ → Bool) (asked : List Asked) : Type 0 where
+  pub once : are_once asked ≡ true
+  pub all : (c i : ℕ) → is_asked asked c i ≡ (who c && is_unasked (lease_of (s.levels.clients i) c))
 
 -- those who stand in the way of client c were asked, each once, and answered cuts that cover in their own logs
 pub record AreAnswers (s : StateValue) (c i : ℕ) (mode : Mode) (asked : List Asked) : Type 0 where

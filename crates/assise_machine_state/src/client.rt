@@ -33,6 +33,8 @@ impl Model for Client {
 }
 
 impl Client {
+    ghost use Rattle.assise_machine_state.specs.ClientValues.{cut_once_asked};
+
     /// The node on which it was opened.
     pub fn home(&self) -> u32
         ensures { result ≡ self.now.home }
@@ -81,5 +83,16 @@ impl Client {
         ensures { result ≡ self.now.last_cut }
     {
         self.last_cut
+    }
+
+    /// The cut of a frozen lease of it for which it gave an answer: the answer, or its last cut once it is over.
+    pub fn cut(&self, answered: u64) -> u64
+        ensures { result ≡ cut_once_asked self.now answered }
+    {
+        if self.crashed || self.failed {
+            self.last_cut
+        } else {
+            answered
+        }
     }
 }

@@ -1,5 +1,5 @@
 // What the laws observe of a change of clients.
-ghost use Rattle.std.specs.Prelude.{◌≡◌, ◌≤◌, List, false, true, suc, length, ℕ};
+ghost use Rattle.std.specs.Prelude.{◌≡◌, ◌≤◌, ◌==◌, List, false, true, suc, length, ℕ};
 ghost use Rattle.assise_inode_table.specs.Traces.{NumberedCall};
 ghost use Rattle.assise_lease_table.specs.declared.lease.Asked.{Asked};
 ghost use Rattle.assise_lease_tree.specs.TwoLevels.{EnrolsAt, IsAskedFor, IsFrozen, TwoLevels, is_free_for};
@@ -16,7 +16,7 @@ ghost use Rattle.assise_machine_events.specs.Machine.{state_of};
 ghost use Rattle.assise_machine_state.specs.Changes.{after_asking, after_call, after_crash, after_goal, after_leases, after_open, goal_of};
 ghost use Rattle.assise_machine_state.specs.Observed.{observed, world_of};
 ghost use Rattle.assise_machine_state.specs.Places.{IsNumber};
-ghost use Rattle.assise_machine_state.specs.Shape.{AreAnswers, AreNoted, IsShaped, SameFrozen};
+ghost use Rattle.assise_machine_state.specs.Shape.{AreAnswers, AreLeft, AreNoted, IsShaped, SameFrozen};
 ghost use Rattle.assise_machine_state.specs.StateValues.{StateValue, leases_of};
 
 /// A client that is opened on a full node.
@@ -25,7 +25,7 @@ pub fn an_open_is_observed()
         OpensAt (world_of s) (leases_of s) n (world_of (after_open s n levels)) (leases_of (after_open s n levels)) }
     ensures others { (s : StateValue) (n : ℕ) (levels : TwoLevels) → OtherAreasStay (world_of s) (world_of (after_open s n levels)) }
     ensures shape { (s : StateValue) (n : ℕ) (levels : TwoLevels) → IsShaped s → Full (world_of s) n → IsShaped (after_open s n levels) }
-    ensures noted { (s : StateValue) (n : ℕ) (levels : TwoLevels) → AreNoted s → AreLeases (world_of s) (leases_of s) → EnrolsAt s.levels levels (suc (length s.clients)) n → AreNoted (after_open s n levels) }
+    ensures noted { (s : StateValue) (n : ℕ) (levels : TwoLevels) → AreNoted s → EnrolsAt s.levels levels (suc (length s.clients)) n → AreNoted (after_open s n levels) }
 {}
 
 /// A call that is answered.
@@ -65,9 +65,10 @@ pub fn leases_are_observed()
 
 /// A client that crashes.
 pub fn a_crash_is_observed()
-    ensures crashes { (s : StateValue) (c : ℕ) (levels : TwoLevels) → (world_of s).lives c ≡ true → (world_of s).crashed c ≡ false → IsFrozen s.levels levels c →
-        CrashesWith (world_of s) (leases_of s) c (world_of (after_crash s c levels)) (leases_of (after_crash s c levels)) }
-    ensures others { (s : StateValue) (c : ℕ) (levels : TwoLevels) → OtherAreasStay (world_of s) (world_of (after_crash s c levels)) }
-    ensures shape { (s : StateValue) (c : ℕ) (levels : TwoLevels) → IsShaped s → IsNumber s.clients c → IsShaped (after_crash s c levels) }
-    ensures noted { (s : StateValue) (c : ℕ) (levels : TwoLevels) → AreNoted s → IsFrozen s.levels levels c → AreNoted (after_crash s c levels) }
+    ensures crashes { (s : StateValue) (c : ℕ) (levels : TwoLevels) (asked : List Asked) → (world_of s).lives c ≡ true → (world_of s).crashed c ≡ false → IsFrozen s.levels levels c → AreLeft s (λ d. d == c) asked →
+        CrashesWith (world_of s) (leases_of s) c (world_of (after_crash s c levels asked)) (leases_of (after_crash s c levels asked)) }
+    ensures others { (s : StateValue) (c : ℕ) (levels : TwoLevels) (asked : List Asked) → OtherAreasStay (world_of s) (world_of (after_crash s c levels asked)) }
+    ensures shape { (s : StateValue) (c : ℕ) (levels : TwoLevels) (asked : List Asked) → IsShaped s → IsNumber s.clients c → IsShaped (after_crash s c levels asked) }
+    ensures noted { (s : StateValue) (c : ℕ) (levels : TwoLevels) (asked : List Asked) → AreNoted s → AreLeases (world_of s) (leases_of s) → IsFrozen s.levels levels c → AreLeft s (λ d. d == c) asked →
+        AreNoted (after_crash s c levels asked) }
 {}

@@ -1,8 +1,9 @@
 // What the laws observe of a node that fails, and of one that comes back.
-ghost use Rattle.std.specs.Prelude.{◌≡◌, length, None, Option, Some, ℕ};
+ghost use Rattle.std.specs.Prelude.{◌≡◌, List, length, None, Option, Some, ℕ};
 ghost use Rattle.std.specs.Ordering.{nat_cmp};
 ghost use Rattle.std.specs.FinSet as set;
 ghost use Rattle.assise_inode_table.specs.Contents.{Content};
+ghost use Rattle.assise_lease_table.specs.declared.lease.Asked.{Asked};
 ghost use Rattle.assise_lease_table.specs.LeaseMaps.{SameLeases as SameLeasesOf};
 ghost use Rattle.assise_lease_table.specs.Leases.{freeze};
 ghost use Rattle.assise_lease_tree.specs.Levels.{lives};
@@ -21,19 +22,19 @@ ghost use Rattle.assise_machine_events.specs.Machine.{state_of};
 ghost use Rattle.assise_machine_state.specs.Changes.{after_failure, after_inode, after_join, after_members};
 ghost use Rattle.assise_machine_state.specs.Observed.{is_full_in, observed, world_of};
 ghost use Rattle.assise_machine_state.specs.Places.{IsNumber};
-ghost use Rattle.assise_machine_state.specs.Shape.{AreNoted, IsShaped};
+ghost use Rattle.assise_machine_state.specs.Shape.{AreLeft, AreNoted, IsShaped};
 ghost use Rattle.assise_machine_state.specs.StateValues.{StateValue, leases_of, standings};
 
 /// A full node that fails, where another is left.
 pub fn a_failure_is_observed()
-    ensures fails { (s : StateValue) (n : ℕ) (inodes : set.FinSet nat_cmp) (levels : TwoLevels) → IsShaped s → IsSound (world_of s) → IsRecorded (state_of (observed s)) →
+    ensures fails { (s : StateValue) (n : ℕ) (inodes : set.FinSet nat_cmp) (levels : TwoLevels) (asked : List Asked) → IsShaped s → IsSound (world_of s) → IsRecorded (state_of (observed s)) →
         standing_of (standings s) n ≡ Some full → failure_fault s.members n ≡ None →
-        ((c : ℕ) → levels.home c ≡ s.levels.home c) → ((i : ℕ) → levels.clients i ≡ freeze (λ a. lives s.levels.home a.holder n) (s.levels.clients i)) → SameLeasesOf s.levels.nodes levels.nodes →
-        LeasesFail (world_of s) (leases_of s) n (world_of (after_failure s n inodes levels)) (leases_of (after_failure s n inodes levels)) }
-    ensures areas { (s : StateValue) (n k i : ℕ) (inodes : set.FinSet nat_cmp) (levels : TwoLevels) → (world_of (after_failure s n inodes levels)).area k i ≡ (world_of s).area k i }
-    ensures shape { (s : StateValue) (n : ℕ) (inodes : set.FinSet nat_cmp) (levels : TwoLevels) → IsShaped s → standing_of (standings s) n ≡ Some full → failure_fault s.members n ≡ None → IsShaped (after_failure s n inodes levels) }
-    ensures noted { (s : StateValue) (n : ℕ) (inodes : set.FinSet nat_cmp) (levels : TwoLevels) → AreNoted s → AreLeases (world_of s) (leases_of s) →
-        ((i : ℕ) → levels.clients i ≡ freeze (λ a. lives s.levels.home a.holder n) (s.levels.clients i)) → AreNoted (after_failure s n inodes levels) }
+        ((c : ℕ) → levels.home c ≡ s.levels.home c) → ((i : ℕ) → levels.clients i ≡ freeze (λ a. lives s.levels.home a.holder n) (s.levels.clients i)) → SameLeasesOf s.levels.nodes levels.nodes → AreLeft s (λ c. lives s.levels.home c n) asked → AreLeases (world_of s) (leases_of s) →
+        LeasesFail (world_of s) (leases_of s) n (world_of (after_failure s n inodes levels asked)) (leases_of (after_failure s n inodes levels asked)) }
+    ensures areas { (s : StateValue) (n k i : ℕ) (inodes : set.FinSet nat_cmp) (levels : TwoLevels) (asked : List Asked) → (world_of (after_failure s n inodes levels asked)).area k i ≡ (world_of s).area k i }
+    ensures shape { (s : StateValue) (n : ℕ) (inodes : set.FinSet nat_cmp) (levels : TwoLevels) (asked : List Asked) → IsShaped s → standing_of (standings s) n ≡ Some full → failure_fault s.members n ≡ None → IsShaped (after_failure s n inodes levels asked) }
+    ensures noted { (s : StateValue) (n : ℕ) (inodes : set.FinSet nat_cmp) (levels : TwoLevels) (asked : List Asked) → AreNoted s → AreLeases (world_of s) (leases_of s) →
+        ((i : ℕ) → levels.clients i ≡ freeze (λ a. lives s.levels.home a.holder n) (s.levels.clients i)) → AreLeft s (λ c. lives s.levels.home c n) asked → AreNoted (after_failure s n inodes levels asked) }
 {}
 
 /// An inode of a node that isn't full.

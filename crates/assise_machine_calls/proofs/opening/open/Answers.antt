@@ -13,8 +13,9 @@ use Rattle.assise_machine_state.specs.NodeValues.{with_logs_ended}
 use Rattle.assise_machine_state.specs.Observed.{observed}
 use Rattle.assise_machine_state.specs.Shape.{AreNoted, IsShaped}
 use Rattle.assise_machine_state.specs.Whole.{value_of}
+use Rattle.assise_machine_state.proofs.Noted.{open_noted}
 use Rattle.assise_machine_calls.proofs.OpenFaults.{fine_few}
-use Rattle.assise_machine_calls.proofs.Opened.{done, is_event, keeps_noted, keeps_shape, stranger, undone}
+use Rattle.assise_machine_calls.proofs.Opened.{done, is_event, keeps_shape, stranger, undone}
 use Rattle.assise_machine_calls.proofs.opening.open.Goals as goal
 
 pub returns-in-Some-clause-happens : goal.returns-in-Some-clause-happens
@@ -81,7 +82,7 @@ invariant_of-sound-2 g c =
       holds = subst (λ u. ∥ Holds (observed u) ∥₁) (sym same)
           (∥∥₁_map c.args.sound.now.holds (λ h. event_keeps (observed s) (observed (after_open s c.args.node levels)) (open_client c.args.node) (opened (suc (length s.clients))) h (is_event s c.args.node levels c.args.sound.now.shape fine c.args.sound.now.noted enrols)));
       shape = subst IsShaped (sym same) (keeps_shape s c.args.node levels c.args.sound.now.shape fine);
-      noted = subst AreNoted (sym same) (keeps_noted s c.args.node levels c.args.sound.now.noted c.args.sound.now.holds enrols);
+      noted = subst AreNoted (sym same) (open_noted s c.args.node levels c.args.sound.now.noted enrols);
     }
 
 pub returns-clause-happens : goal.returns-clause-happens

@@ -12,4 +12,4 @@ pub returns-clause-shape : goal.returns-clause-shape
 returns-clause-shape r = λ s n levels shape full_node. open_shaped s n levels shape full_node
 
 pub returns-clause-noted : goal.returns-clause-noted
-returns-clause-noted r = λ s n levels noted leases enrols. open_noted s n levels noted leases enrols
+returns-clause-noted r = λ s n levels noted enrols. open_noted s n levels noted enrols

@@ -34,5 +34,5 @@ pub returns-clause-noted : goal.returns-clause-noted
 returns-clause-noted g c =
     none_noted
     (value_of (record { nodes = c.in_ok-new.field-0; members = c.in_ok-new-2.field-0; clients = c.in_ok-new-3.field-0; leases = c.new-4.result; cuts = c.new-5.result; history = c.new-6.result; limit = c.args.limit }))
-    c.in_ok-new-3.ensures.none
     c.new-5.ensures.items
+    c.new-4.ensures.levels.clients
