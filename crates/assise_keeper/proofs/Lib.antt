@@ -1,0 +1,4 @@
+pub mod Adding
+pub mod Owning
+pub mod Stepping
+pub mod Stages

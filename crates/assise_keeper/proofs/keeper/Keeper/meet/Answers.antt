@@ -1,0 +1,9 @@
+use Rattle.std.proofs.Common.{rules}
+use Rattle.assise_keeper.proofs.Stepping.{meets_for, parts_for}
+use Rattle.assise_keeper.proofs.keeper.Keeper.meet.Goals as goal
+
+pub join_seat-requires : goal.join_seat-requires
+join_seat-requires g c = (search rules, search rules, search rules, search rules, meets_for g.S.Growing.history _ _ _ _ c.requires.0.2 c.requires.1.2)
+
+pub split_seat-requires : goal.split_seat-requires
+split_seat-requires g c = (search rules, search rules, parts_for g.S.Growing.history _ _ c.look.ensures.free.2)

@@ -1,0 +1,5 @@
+use Rattle.assise_keeper.proofs.Stepping.{starts}
+use Rattle.assise_keeper.proofs.keeper.Keeper.new.Goals as goal
+
+pub vacant-requires : goal.vacant-requires
+vacant-requires g c = starts g.S.Growing.history

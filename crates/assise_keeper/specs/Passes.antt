@@ -1,0 +1,58 @@
+-- What a clause says of a pass.
+use Rattle.std.specs.Prelude.{◌≡◌, ℕ, List, [], ◌∷◌, Option, None}
+use Rattle.assise_history.specs.Entries.{Event}
+use Rattle.assise_keeper.specs.declared.view.View.{View}
+use Rattle.assise_keeper.specs.declared.view.Stage.{Stage}
+use Rattle.assise_keeper.specs.declared.view.Stage.TheVariants.{Fresh, Idle, Holding}
+use Rattle.assise_keeper.specs.declared.pass.Pass.{Pass}
+use Rattle.assise_keeper.specs.declared.keeper.Keeper.{Keeper}
+use Rattle.assise_keeper.specs.Clients.{calls_of}
+
+abbrev pub taken_at : Stage → List Event
+taken_at Fresh = []
+taken_at Idle = []
+taken_at (Holding h) = h
+
+module _ {S : Type 0} where
+  abbrev pub view : Pass S → View
+  view p = p.seat.me.0
+
+  -- what the pass has seen of the history
+  abbrev pub seen : Pass S → List Event
+  seen p = p.seat.me.0.own.seen
+
+  -- its client, if it has one
+  abbrev pub client : Pass S → Option ℕ
+  client p = p.seat.me.0.own.client
+
+  -- the answered calls of its client, in order: exactly the client's calls in what the pass has seen
+  abbrev pub mine : Pass S → List Event
+  mine p = calls_of (client p) (seen p)
+
+  -- the history that it took, while it holds
+  abbrev pub taken : Pass S → List Event
+  taken p = taken_at p.seat.me.0.stage
+
+  -- both are passes of one keeper
+  abbrev pub AreOfOneKeeper : Pass S → Pass S → Type 0
+  AreOfOneKeeper p q = q.seat.table_id ≡ p.seat.table_id
+
+  -- it holds nothing
+  abbrev pub IsIdle : Pass S → Type 0
+  IsIdle p = (p.seat.me.1 ≡ []) × (p.seat.me.0.stage ≡ Idle)
+
+  -- it is a pass of this keeper and holds nothing
+  abbrev pub IsPassOf : Keeper S → Pass S → Type 0
+  IsPassOf k p = (p.seat.table_id ≡ k.table.shared.table_id) × (p.seat.me.1 ≡ []) × (p.seat.me.0.stage ≡ Idle)
+
+  -- it is a pass of this keeper and holds a state that was taken with the history h
+  abbrev pub IsHoldingThis : Keeper S → Pass S → List Event → Type 0
+  IsHoldingThis k p h = (p.seat.table_id ≡ k.table.shared.table_id) × (p.seat.me.1 ≡ (0, None) ∷ []) × (p.seat.me.0.stage ≡ Holding h)
+
+  -- it is a pass of this keeper and holds the state
+  abbrev pub IsHolding : Keeper S → Pass S → Type 0
+  IsHolding k p = IsHoldingThis k p (taken p)
+
+  -- it is the first pass of this keeper, before the state is in
+  abbrev pub IsFirst : Keeper S → Pass S → Type 0
+  IsFirst k p = (p.seat.table_id ≡ k.table.shared.table_id) × (p.seat.me.1 ≡ []) × (p.seat.me.0.stage ≡ Fresh)

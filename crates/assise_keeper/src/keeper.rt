@@ -1,0 +1,196 @@
+// The keeper of a state.
+ghost use Rattle.std.specs.Prelude.{◌≡◌};
+
+use crate::held::Held;
+use crate::pass::Pass;
+use crate::steps::{Cut, Meet, OneHistory, Part, Release, SetUp, Take};
+use crate::view::View;
+use assise_history::growing::Growing;
+use assise_names::refusal::Refusal;
+use atomic_table::Table;
+use std::alloc::Global;
+use std::sync::Wait;
+use std::thread;
+use std::time::Duration;
+
+/// How often a thread that waits only lets others run, before it sleeps between its tries.
+const BRIEF_TRIES: u32 = 32;
+
+/// How long it sleeps then, in microseconds. It is the same for every try, so that who waits longer tries no less often.
+const NAP_MICROS: u64 = 100;
+
+/// Keeps a state that threads take in turn. It has one word, which is 0 where the state is there, 1 where it is out
+/// and 2 until it was put in, and one slot for the state.
+pub struct Keeper<S: Growing> {
+    table: Table<Option<S>, View, (), OneHistory, Global>,
+    ghost one_word: { (table.shared.table_id.words ≡ 1) × (table.shared.table_id.slots ≡ 1) },
+}
+
+impl<S: Growing> Keeper<S> {
+    ghost use Rattle.std.specs.Prelude.{◌≡◌, ℕ, Some, None, IsNone, IfSome, IfNone, IfOk, IfErr};
+    ghost use Rattle.assise_names.specs.declared.refusal.Refusal.TheVariants.{OutOfMemory};
+    ghost use Rattle.assise_keeper.specs.Clients.{Extends, calls_of, MayGive, client_after, added};
+    ghost use Rattle.assise_keeper.specs.Views.{holding, given};
+    ghost use Rattle.assise_keeper.specs.Rule.{Covers};
+    ghost use Rattle.assise_keeper.specs.Passes.{seen, client, mine, view, taken, IsPassOf, IsHolding, IsHoldingThis, IsFirst};
+
+    /// Keeps the state, and gives the first pass, which has seen the state's whole history and has no client. Where
+    /// there is no memory the state comes back with [`Refusal::OutOfMemory`].
+    pub fn new(alloc: Global, state: S) -> Result<(Keeper<S>, Pass<S>), (Refusal, S)>
+        ensures pass { IfOk result (λ made. IsPassOf made.0 made.1) }
+        ensures seen { IfOk result (λ made. (seen made.1 ≡ S.history state) × (client made.1 ≡ None)) }
+        ensures refused { IfErr result (λ refused. refused ≡ (OutOfMemory, state)) }
+    {
+        let Ok((table, seat)) = Table::vacant(alloc, &[2], 1, &()) else {
+            return Err((Refusal::OutOfMemory, state));
+        };
+        let mut pass = Pass { seat };
+        let keeper = Keeper { table };
+        keeper.set_up(&mut pass, state);
+        Ok((keeper, pass))
+    }
+
+    // The state goes in for the first time.
+    fn set_up(&self, pass: &mut Pass<S>, state: S)
+        requires { IsFirst self.now pass.old × (client pass.old ≡ None) }
+        ensures { IsPassOf self.now pass.new × (seen pass.new ≡ S.history state) × (client pass.new ≡ None) }
+    {
+        let full = Some(state);
+        self.table
+            .shared
+            .compare_exchange_with::<SetUp>(&mut pass.seat, 0, 2, 1, &full);
+        let Some(state) = full else { unreachable!() };
+        self.put(pass, state);
+    }
+
+    // The state goes back.
+    fn put(&self, pass: &mut Pass<S>, state: S)
+        requires holds { IsHolding self.now pass.old }
+        requires grows { MayGive (client pass.old) (taken pass.old) (S.history state) }
+        ensures free { IsPassOf self.now pass.new }
+        ensures view { view pass.new ≡ given (view pass.old) (taken pass.old) (S.history state) }
+    {
+        let shared = &self.table.shared;
+        let before = shared.exchange(&mut pass.seat, 0, Some(state));
+        let None = before else { unreachable!() };
+        shared.store::<Release>(&mut pass.seat, 0, 0);
+    }
+
+    fn try_take(&self, pass: &mut Pass<S>) -> Option<S>
+        requires { IsPassOf self.now pass.old }
+        ensures took { IfSome result (λ t. IsHoldingThis self.now pass.new (S.history t) × (view pass.new ≡ holding (view pass.old) (S.history t)) × Covers (S.history t) (view pass.old).own × Covers (S.history t) (view pass.old).guest) }
+        ensures none { IfNone result (IsPassOf self.now pass.new × (view pass.new ≡ view pass.old)) }
+    {
+        let shared = &self.table.shared;
+        if shared.compare_exchange::<Take>(&mut pass.seat, 0, 0, 1) != 0 {
+            return None;
+        }
+        let Some(state) = shared.exchange(&mut pass.seat, 0, None) else {
+            unreachable!()
+        };
+        Some(state)
+    }
+
+    // Waits until the state is there, and takes it.
+    fn get<R: Wait>(&self, rt: &R, pass: &mut Pass<S>) -> S
+        requires { IsPassOf self.now pass.old }
+        ensures took { IsHoldingThis self.now pass.new (S.history result) }
+        ensures view { view pass.new ≡ holding (view pass.old) (S.history result) }
+        ensures own { Covers (S.history result) (view pass.old).own }
+        ensures guest { Covers (S.history result) (view pass.old).guest }
+    {
+        let nap = Duration::from_micros(NAP_MICROS);
+        let mut tries = 0;
+        for _ in rt.forever() {
+            if let Some(state) = self.try_take(pass) {
+                return state;
+            }
+            if tries < BRIEF_TRIES {
+                tries += 1;
+                thread::yield_now();
+            } else {
+                self.table.shared.park_timeout(rt, 0, 1, nap);
+            }
+        }
+        unreachable!()
+    }
+
+    /// Waits until the state is there, and takes it. Its history extends what the pass has seen, and has no call of
+    /// the pass's client that the pass hadn't seen.
+    pub fn take<R: Wait>(&self, rt: &R, pass: &mut Pass<S>) -> Held<S>
+        requires { IsPassOf self.now pass.old }
+        ensures holds { IsHolding self.now pass.new }
+        ensures taken { taken pass.new ≡ S.history result }
+        ensures same { (seen pass.new ≡ seen pass.old) × (client pass.new ≡ client pass.old) }
+        ensures extends { Extends (S.history result) (seen pass.old) }
+        ensures mine { calls_of (client pass.old) (S.history result) ≡ mine pass.old }
+    {
+        Held::of(self.get(rt, pass))
+    }
+
+    /// Gives the state back, and the pass has seen it. It waits for nobody and takes no memory. What was added to the
+    /// history is what the pass may add: calls of its own client, and the opening of one client where it has none.
+    pub fn give(&self, pass: &mut Pass<S>, held: Held<S>)
+        requires holds { IsHolding self.now pass.old }
+        requires grows { MayGive (client pass.old) (taken pass.old) (S.history held) }
+        ensures free { IsPassOf self.now pass.new }
+        ensures seen { seen pass.new ≡ S.history held }
+        ensures client { client pass.new ≡ client_after (client pass.old) (added (taken pass.old) (S.history held)) }
+    {
+        self.put(pass, held.into_state());
+    }
+
+    /// A pass that has seen the same and has no client.
+    pub fn split(&self, pass: &mut Pass<S>) -> Pass<S>
+        requires { IsPassOf self.now pass.old }
+        ensures pass { IsPassOf self.now pass.new }
+        ensures same { (seen pass.new ≡ seen pass.old) × (client pass.new ≡ client pass.old) }
+        ensures new { IsPassOf self.now result }
+        ensures as_seen { (seen result ≡ seen pass.old) × (client result ≡ None) }
+    {
+        Pass {
+            seat: self.table.shared.split_seat::<Cut>(&mut pass.seat),
+        }
+    }
+
+    /// Lets two passes see the same: one history, which extends what each had seen. It waits until the state is there.
+    pub fn meet<R: Wait>(&self, rt: &R, first: Pass<S>, second: Pass<S>) -> (Pass<S>, Pass<S>)
+        requires { IsPassOf self.now first × IsPassOf self.now second }
+        ensures free { IsPassOf self.now result.0 × IsPassOf self.now result.1 }
+        ensures one { seen result.0 ≡ seen result.1 }
+        ensures first { Extends (seen result.0) (seen first) × (client result.0 ≡ client first) }
+        ensures second { Extends (seen result.1) (seen second) × (client result.1 ≡ client second) }
+        ensures calls_of_first { mine result.0 ≡ mine first }
+        ensures calls_of_second { mine result.1 ≡ mine second }
+    {
+        let mut both = first;
+        let Pass { seat } = second;
+        self.table.shared.join_seat::<Meet>(&mut both.seat, seat);
+        self.look(rt, &mut both);
+        let other = Pass {
+            seat: self.table.shared.split_seat::<Part>(&mut both.seat),
+        };
+        (both, other)
+    }
+
+    // Takes the state and gives it back as it is.
+    fn look<R: Wait>(&self, rt: &R, pass: &mut Pass<S>)
+        requires { IsPassOf self.now pass.old }
+        ensures free { IsPassOf self.now pass.new }
+        ensures own { ((view pass.new).own.client ≡ (view pass.old).own.client) × Covers (view pass.new).own.seen (view pass.old).own }
+        ensures guest { ((view pass.new).guest.client ≡ (view pass.old).guest.client) × Covers (view pass.new).guest.seen (view pass.old).guest }
+        ensures one { (view pass.new).own.seen ≡ (view pass.new).guest.seen }
+    {
+        let state = self.get(rt, pass);
+        self.put(pass, state);
+    }
+
+    /// Ends the keeper and answers its state; `None` where the state was taken and isn't back.
+    pub fn close(self) -> Option<S> {
+        let Keeper { table } = self;
+        let mut closed = table.close();
+        let state = closed.take(0);
+        closed.free();
+        state
+    }
+}

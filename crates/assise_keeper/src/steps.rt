@@ -1,0 +1,61 @@
+// The rule of a keeper, and what each step tells the thread that makes it.
+ghost use Rattle.assise_keeper.specs.Rule.{IsKept};
+ghost use Rattle.assise_keeper.specs.Views.{newcomer, spent, together, with_no_client, own_of, guest_of};
+ghost use Rattle.assise_keeper.specs.Steps.{taking, releasing, setting_up};
+
+use crate::view::View;
+use assise_history::growing::Growing;
+use atomic_table::{Join, Play, Split, TableRule};
+
+pub(crate) struct OneHistory;
+
+impl<S: Growing> TableRule<Option<S>, View, ()> for OneHistory {
+    ghost holds = { λ _. IsKept S.history };
+
+    ghost first = { λ _. newcomer };
+}
+
+pub(crate) struct Take;
+
+impl<S: Growing> Play<Option<S>, View> for Take {
+    ghost then = { taking S.history };
+}
+
+pub(crate) struct Release;
+
+impl<S: Growing> Play<Option<S>, View> for Release {
+    ghost then = { releasing S.history };
+}
+
+pub(crate) struct SetUp;
+
+impl<S: Growing> Play<Option<S>, View> for SetUp {
+    ghost then = { setting_up S.history };
+}
+
+// A pass is cut in two.
+pub(crate) struct Cut;
+
+impl Split<View> for Cut {
+    ghost left = { λ v. v };
+
+    ghost right = { with_no_client };
+}
+
+// One pass taking another in.
+pub(crate) struct Meet;
+
+impl Join<View> for Meet {
+    ghost both = { together };
+
+    ghost spent = { spent };
+}
+
+// Two passes that met part again.
+pub(crate) struct Part;
+
+impl Split<View> for Part {
+    ghost left = { own_of };
+
+    ghost right = { guest_of };
+}

@@ -1,0 +1,6 @@
+use Rattle.assise_keeper.specs.Passes.{IsPassOf}
+use Rattle.assise_keeper.specs.Working.{pass_of}
+use Rattle.assise_keeper_tests.proofs.client.look_often.Given as goal
+
+abbrev pub invariant-loop : goal.invariant-loop
+invariant-loop g l = IsPassOf l.keeper (pass_of l.worker)

@@ -1,0 +1,13 @@
+-- The calls that a book makes.
+use Rattle.std.specs.Prelude.{◌≡◌, ℕ, List, ◌++◌}
+use Rattle.assise_names.specs.declared.call.Op.TheVariants.{Fsync}
+use Rattle.assise_names.specs.declared.reply.Reply.TheVariants.{Done}
+use Rattle.assise_history.specs.Entries.{Event, calls}
+
+-- the client's call with this number
+abbrev pub made : ℕ → ℕ → Event
+made c k = calls (record { client = c; number = k; op = Fsync; reply = Done })
+
+-- the last entries are these
+abbrev pub EndsWith : List Event → List Event → Type 0
+EndsWith h last = (before : List Event) × (h ≡ before ++ last)
