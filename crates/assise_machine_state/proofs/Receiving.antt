@@ -9,7 +9,7 @@ use Rattle.assise_digest.specs.Region.{ReceivedLog, with_log}
 use Rattle.assise_machine_laws.specs.Chances.{MayDeliver}
 use Rattle.assise_machine_laws.specs.NodeSteps.{Delivers}
 use Rattle.assise_machine_laws.specs.Sound.{IsSound}
-use Rattle.assise_machine_laws.specs.World.{World, end, records_between}
+use Rattle.assise_machine_laws.specs.World.{Full, World, end, records_between}
 use Rattle.assise_machine_returns.specs.Returns.{OtherAreasStay}
 use Rattle.assise_machine_state.specs.Changes.{after_delivery}
 use Rattle.assise_machine_state.specs.ClientValues.{client_seen}
@@ -38,7 +38,24 @@ other_areas s n c k m i else = same_area s n c k m i
 pub delivery_shaped : (s : StateValue) (n c k : ℕ) → IsShaped s → IsShaped (after_delivery s n c k)
 delivery_shaped s n c k shape = shaped_log s s.members n c (region_in s.nodes n).inodes (delivered_log s n c k) shape refl refl refl (λ m. refl)
 
-module _ (s : StateValue) (n c k : ℕ) (shape : IsShaped s) (sound : IsSound (world_of s)) (client : IsNumber s.clients c) (may : MayDeliver (world_of s) n c k) where
+-- what a node has of a log that is a client's own is all of it, and its log of the client begins where the own one does
+pub record HasFront (s : StateValue) (n c : ℕ) : Type 0 where
+  pub all_there : own_node (standings s) (client_seen s.clients c) ≡ n → (world_of s).received n c ≡ end (world_of s) c
+  pub first : (log_seen s.nodes n c).log.first ≡ (world_of s).first c
+
+pub has_front : (s : StateValue) (n c : ℕ) → IsSound (world_of s) → Full (world_of s) n → HasFront s n c
+unfolding world_of
+has_front s n c sound full_node = record {
+  all_there = λ own. elim (cases_Bool (client_seen s.clients c).failed) [
+    | inl failed ↦ sound.left n c (ap not failed) full_node
+    | inr unfailed ↦
+        let home : (client_seen s.clients c).home ≡ n = rw unfailed at own in
+        subst (λ m. (world_of s).received m c ≡ end (world_of s) c) home (sound.whole c (ap not unfailed))
+  ];
+  first = same_first s n c sound full_node;
+}
+
+module _ (s : StateValue) (n c k : ℕ) (shape : IsShaped s) (front : HasFront s n c) (client : IsNumber s.clients c) (may : MayDeliver (world_of s) n c k) where
   abbrev w : World
   w = world_of s
 
@@ -62,14 +79,6 @@ module _ (s : StateValue) (n c k : ℕ) (shape : IsShaped s) (sound : IsSound (w
 
   -- ---- the client's own log stays: where it is this node's, nothing is missing there
 
-  all_there : own_node (standings s) (client_seen s.clients c) ≡ n → w.received n c ≡ end w c
-  unfolding world_of
-  all_there own =
-      elim (cases_Bool (client_seen s.clients c).failed) [
-        | inl failed ↦ sound.left n c (ap not failed) may.full_node
-        | inr unfailed ↦ (let home : (client_seen s.clients c).home ≡ n = rw unfailed at own in subst (λ m. w.received m c ≡ end w c) home (sound.whole c (ap not unfailed)))
-      ]
-
   no_more : w.received n c ≡ end w c → longer ≡ log_in s.nodes n c
   unfolding records_between
   no_more all =
@@ -78,7 +87,7 @@ module _ (s : StateValue) (n c k : ℕ) (shape : IsShaped s) (sound : IsSound (w
       ap (with_records (log_in s.nodes n c)) nothing ∙ none_more (log_in s.nodes n c)
 
   same_here : own_node (standings s) (client_seen s.clients c) ≡ n → (m d : ℕ) → log_seen t.nodes m d ≡ log_seen s.nodes m d
-  same_here own m d = log_same s.nodes n c (region_in s.nodes n).inodes longer (λ x. x) m d (no_more (all_there own))
+  same_here own m d = log_same s.nodes n c (region_in s.nodes n).inodes longer (λ x. x) m d (no_more (front.all_there own))
 
   same_else : (m d : ℕ) → (m ≡ n → d ≡ c → ⊥) → log_seen t.nodes m d ≡ log_seen s.nodes m d
   same_else m d other = log_else s.nodes n c (region_in s.nodes n).inodes longer has m d other
@@ -105,12 +114,11 @@ module _ (s : StateValue) (n c k : ℕ) (shape : IsShaped s) (sound : IsSound (w
   counted : (log_seen s.nodes n c).log.first + length ((log_seen s.nodes n c).log.records ++ more) ≡ k
   unfolding world_of end records_between
   counted =
-      let first : (log_seen s.nodes n c).log.first ≡ w.first c = same_first s n c sound may.full_node in
       let both : length ((log_seen s.nodes n c).log.records ++ more) ≡ length (log_seen s.nodes n c).log.records + length more = length-append (log_seen s.nodes n c).log.records more in
       let part : length more ≡ min (k - w.received n c) (length (drop (w.received n c - w.first c) (w.records c))) =
       length-take (k - w.received n c) (drop (w.received n c - w.first c) (w.records c)) in
       let rest : length (drop (w.received n c - w.first c) (w.records c)) ≡ length (w.records c) - (w.received n c - w.first c) = length-drop (w.received n c - w.first c) (w.records c) in
-      omega (arith, first, both, part, rest, may.from, may.to)
+      omega (arith, front.first, both, part, rest, may.from, may.to)
 
   received_now : w'.received n c ≡ k
   unfolding world_of
@@ -119,9 +127,9 @@ module _ (s : StateValue) (n c k : ℕ) (shape : IsShaped s) (sound : IsSound (w
       ∙ ap (λ x. x.log.first + length (x.log.records ++ more)) (sym was)
       ∙ counted
 
-  pub delivered : Delivers w n c k w'
+  pub delivered_front : Delivers w n c k w'
   unfolding world_of
-  delivered = record {
+  delivered_front = record {
     full_node = may.full_node;
     from = may.from;
     to = may.to;
@@ -138,3 +146,6 @@ module _ (s : StateValue) (n c k : ℕ) (shape : IsShaped s) (sound : IsSound (w
     digested = λ m d f. log_same s.nodes n c (region_in s.nodes n).inodes longer (λ x. x.digested) m d refl;
     area = λ m i f. same_area s n c k m i;
   }
+
+pub delivered : (s : StateValue) (n c k : ℕ) → IsShaped s → IsSound (world_of s) → IsNumber s.clients c → MayDeliver (world_of s) n c k → Delivers (world_of s) n c k (world_of (after_delivery s n c k))
+delivered s n c k shape sound client may = delivered_front s n c k shape (has_front s n c sound may.full_node) client may

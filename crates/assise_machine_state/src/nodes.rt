@@ -103,8 +103,8 @@ impl Nodes {
         requires there { HasLog self.old node client }
         requires elsewhere { (log_in self.old node client).at_home ≡ false }
         requires room { length (log_in self.old node client).log.records + length (drop skipped records.items) ≤ (log_in self.old node client).log.limit }
-        requires numbers_fit { end (log_in self.old node client).log + length records.items < 2 ^ 64 }
-        requires whole { AreWhole records.items }
+        requires numbers_fit { end (log_in self.old node client).log + length (drop skipped records.items) < 2 ^ 64 }
+        requires whole { AreWhole (drop skipped records.items) }
         ensures { self.new ≡ with_log_in self.old node client (with_records (log_in self.old node client) (drop skipped records.items)) }
     {
         take_in(
@@ -304,8 +304,8 @@ fn take_in(region: &mut Region, client: u32, mut records: IntoIter<Record>, skip
     requires there { HasClient region.old client }
     requires elsewhere { (log_of region.old client).at_home ≡ false }
     requires room { length (log_of region.old client).log.records + length (drop skipped records.rest.items) ≤ (log_of region.old client).log.limit }
-    requires numbers_fit { end (log_of region.old client).log + length records.rest.items < 2 ^ 64 }
-    requires whole { AreWhole records.rest.items }
+    requires numbers_fit { end (log_of region.old client).log + length (drop skipped records.rest.items) < 2 ^ 64 }
+    requires whole { AreWhole (drop skipped records.rest.items) }
     ensures { region.new ≡ with_log region.old client (with_records (log_of region.old client) (drop skipped records.rest.items)) }
 {
     let Some(added) = records.next() else {

@@ -1,0 +1,74 @@
+-- Why nothing can be delivered to a node, and where it can.
+use Rattle.std.proofs.Common.{◌≡◌, ◌≢◌, ℕ, ◌<◌, ◌≤◌, nat_le, Bool, true, false, not, ◌&&◌, Option, Some, None, Ok, Err, length, inl, inr, refl, sym, ◌∙◌, arith}
+use Rattle.std.proofs.lemmas.Bool.{and_from, and_parts, and_right, cases_Bool, le-leb, leb-true}
+use Rattle.assise_names.specs.declared.refusal.Refusal.{Refusal}
+use Rattle.assise_names.specs.declared.refusal.Refusal.TheVariants.{BadClient, WrongPhase}
+use Rattle.assise_record.specs.LogFrame.{LogFrame}
+use Rattle.assise_manager.specs.Standings.{Standing, down, full, phase_of, returning, standing_of}
+use Rattle.assise_manager.specs.declared.phase.Phase.{Phase}
+use Rattle.assise_manager.specs.declared.phase.Phase.TheVariants.{Full}
+use Rattle.assise_machine_events.specs.Faults.{delivery_fault, fault_if, or_else, unless_full}
+use Rattle.assise_machine_state.specs.Observed.{is_full_in, observed, stands_full, world_of}
+use Rattle.assise_machine_state.specs.Places.{IsNumber}
+use Rattle.assise_machine_state.specs.StateValues.{StateValue, standings}
+use Rattle.assise_machine_state.proofs.Asking.{away_refused, full_served, none_refused}
+
+-- whether there is a client of this number, of so many
+abbrev is_known : ℕ → ℕ → Bool
+is_known c k = nat_le 1 c && nat_le c k
+
+-- the fault, by what is known of the node and of how many clients there are
+fault_is : (s : StateValue) (f : LogFrame) (n : ℕ) →
+    delivery_fault (observed s) f n ≡ or_else (unless_full WrongPhase (standing_of (standings s) n)) (fault_if (not (is_known f.client (length s.clients))) BadClient)
+unfolding observed world_of
+fault_is s f n = refl
+
+pub no_node : (s : StateValue) (f : LogFrame) (n : ℕ) (r : Refusal) → phase_of (standing_of (standings s) n) ≡ Err r → delivery_fault (observed s) f n ≡ Some r
+no_node s f n r same = fault_is s f n ∙ rw (none_refused WrongPhase (standing_of (standings s) n) r same) refl
+
+pub node_away : (s : StateValue) (f : LogFrame) (n : ℕ) (p : Phase) → phase_of (standing_of (standings s) n) ≡ Ok p → p ≢ Full → delivery_fault (observed s) f n ≡ Some WrongPhase
+node_away s f n p same other = fault_is s f n ∙ rw (away_refused WrongPhase (standing_of (standings s) n) p same other) refl
+
+past_last : (c k : ℕ) → k < c → nat_le c k ≡ false
+past_last c k past =
+    elim (cases_Bool (nat_le c k)) [
+      | inl low ↦ (let there : c ≤ k = leb-true c k low in absurd (omega (arith, past, there)))
+      | inr high ↦ high
+    ]
+
+pub no_client : (s : StateValue) (f : LogFrame) (n : ℕ) → phase_of (standing_of (standings s) n) ≡ Ok Full → length s.clients < f.client → delivery_fault (observed s) f n ≡ Some BadClient
+no_client s f n same past =
+    let unknown : is_known f.client (length s.clients) ≡ false = and_right (nat_le 1 f.client) (nat_le f.client (length s.clients)) (past_last f.client (length s.clients) past) in
+    fault_is s f n ∙ rw (full_served WrongPhase (standing_of (standings s) n) same, unknown) refl
+
+pub may_deliver : (s : StateValue) (f : LogFrame) (n : ℕ) → phase_of (standing_of (standings s) n) ≡ Ok Full → 0 < f.client → f.client ≤ length s.clients → delivery_fault (observed s) f n ≡ None
+may_deliver s f n same some low =
+    let known : is_known f.client (length s.clients) ≡ true =
+    and_from (nat_le 1 f.client) (nat_le f.client (length s.clients)) (le-leb 1 f.client some) (le-leb f.client (length s.clients) low) in
+    fault_is s f n ∙ rw (full_served WrongPhase (standing_of (standings s) n) same, known) refl
+
+-- ---- what holds where there is none
+
+some_none : (r : Refusal) (o : Option Refusal) → or_else (Some r) o ≡ None → ⊥
+some_none r o same = cc
+
+full_then : (o : Option Standing) (later : Option Refusal) → or_else (unless_full WrongPhase o) later ≡ None → stands_full o ≡ true
+full_then None later fine = cc
+full_then (Some full) later fine = refl
+full_then (Some (down since)) later fine = cc
+full_then (Some (returning since donor stale)) later fine = cc
+
+known_then : (o : Option Refusal) (b : Bool) → or_else o (fault_if (not b) BadClient) ≡ None → b ≡ true
+known_then None true fine = refl
+known_then None false fine = cc
+known_then (Some r) b fine = absurd (some_none r (fault_if (not b) BadClient) fine)
+
+pub fine_full : (s : StateValue) (f : LogFrame) (n : ℕ) → delivery_fault (observed s) f n ≡ None → is_full_in (standings s) n ≡ true
+unfolding is_full_in
+fine_full s f n fine = full_then (standing_of (standings s) n) (fault_if (not (is_known f.client (length s.clients))) BadClient) (sym (fault_is s f n) ∙ fine)
+
+pub fine_client : (s : StateValue) (f : LogFrame) (n : ℕ) → delivery_fault (observed s) f n ≡ None → IsNumber s.clients f.client
+fine_client s f n fine =
+    let known : is_known f.client (length s.clients) ≡ true = known_then (unless_full WrongPhase (standing_of (standings s) n)) (is_known f.client (length s.clients)) (sym (fault_is s f n) ∙ fine) in
+    let parts = and_parts (nat_le 1 f.client) (nat_le f.client (length s.clients)) known in
+    record { some = leb-true 1 f.client parts.0; there = leb-true f.client (length s.clients) parts.1 }

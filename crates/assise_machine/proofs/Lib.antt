@@ -1,0 +1,3 @@
+pub mod DeliveryFaults
+pub mod Agreeing
+pub mod Delivering

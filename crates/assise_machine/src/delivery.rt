@@ -1,0 +1,117 @@
+// Records that come to a node.
+ghost use Rattle.std.specs.Prelude.{◌≡◌, ◌<◌, ◌≤◌, false, length, take, true};
+ghost use Rattle.assise_lease_table.specs.Tables.{SameRevokers};
+ghost use Rattle.assise_lease_tree.specs.Trees.{stored_by};
+ghost use Rattle.assise_private_log.specs.NumberedLog.{records_from};
+ghost use Rattle.assise_digest.specs.Region.{AreWhole};
+ghost use Rattle.assise_machine_events.specs.Faults.{delivery_fault};
+ghost use Rattle.assise_machine_events.specs.NodeEvents.{Delivering};
+ghost use Rattle.assise_machine_state.specs.Places.{IsNumber};
+ghost use Rattle.assise_machine_state.specs.Shape.{IsShaped};
+ghost use Rattle.assise_machine_state.specs.Whole.{machine_of, value_of};
+ghost use Rattle.assise_machine.specs.Answers.{delivery_answer};
+ghost use Rattle.assise_machine.specs.Taking.{HasRoomFor, IsNextOf, lacking, own_log};
+
+use assise_lease_table::revoker::Revokes;
+use assise_machine_state::sound::SoundOf;
+use assise_machine_state::state::StateOf;
+use assise_manager::phase::Phase;
+use assise_names::refusal::Refusal;
+use assise_private_log::log::Log;
+use assise_record::frame::Frame;
+use assise_record::record::Record;
+
+/// A node takes in what it lacks of a frame's records, and answers the number behind the last record of the client that it has
+/// then. Nothing of the sender is trusted: a frame may come in any order, and again and again, and what the node has of it is
+/// passed over.
+///
+/// Refused as [`delivery_refusal`] says, and with [`Refusal::StaleMessage`] where the frame is of another epoch, leaves a gap, or
+/// has a record that the node lacks and that isn't next in the client's own log. What is refused leaves all as it was. It takes
+/// no memory.
+pub fn deliver<C: Revokes + Drop>(
+    sound: &mut SoundOf<C>,
+    frame: Frame,
+    node: u32,
+) -> Result<u64, Refusal>
+    ensures happens { Delivering (machine_of sound.old.state) frame node (delivery_answer result) (machine_of sound.new.state) }
+    ensures revokers { SameRevokers (stored_by sound.old.state.leases) (stored_by sound.new.state.leases) }
+{
+    let state = &mut sound.state;
+    if let Some(refusal) = delivery_refusal(state, &frame, node) {
+        return Err(refusal);
+    }
+    let client = frame.client();
+    let received = state.nodes.region(node).log(client as usize).end();
+    if !is_timely(state, &frame, received) {
+        return Err(Refusal::StaleMessage);
+    }
+    let place = frame.first() + frame.records().len() as u64;
+    if place <= received {
+        return Ok(received);
+    }
+    let had = (received - frame.first()) as usize;
+    state.nodes.extend(node, client, frame.into_records(), had);
+    Ok(place)
+}
+
+/// Why nothing can be delivered to a node, whatever the records are: [`Refusal::BadNode`] where there is no such node,
+/// [`Refusal::WrongPhase`] where it isn't full, and [`Refusal::BadClient`] where there is no such client.
+pub fn delivery_refusal<C: Revokes + Drop>(
+    state: &StateOf<C>,
+    frame: &Frame,
+    node: u32,
+) -> Option<Refusal>
+    ensures { result ≡ delivery_fault (machine_of state.now) frame.now node }
+{
+    let phase = match state.members.phase(node) {
+        Ok(phase) => phase,
+        Err(refusal) => return Some(refusal),
+    };
+    match phase {
+        Phase::Down | Phase::Returning => Some(Refusal::WrongPhase),
+        Phase::Full if frame.client() as usize > state.clients.len() => Some(Refusal::BadClient),
+        Phase::Full => None,
+    }
+}
+
+/// Whether a frame is of this epoch, leaves no gap behind what was received, and goes on as the client's own log does.
+fn is_timely<C: Revokes + Drop>(state: &StateOf<C>, frame: &Frame, received: u64) -> bool
+    requires client { IsNumber state.now.clients frame.now.client }
+    requires shape { IsShaped (value_of state.now) }
+    requires begun { (own_log (value_of state.now) frame.now.client).first ≤ received }
+    ensures timely { result ≡ true → IsNextOf (value_of state.now) frame.now received }
+    ensures stale { result ≡ false → IsNextOf (value_of state.now) frame.now received → ⊥ }
+    ensures room { result ≡ true → 0 < length (lacking frame.now received) → HasRoomFor (own_log (value_of state.now) frame.now.client) received (length (lacking frame.now received)) }
+    ensures whole { result ≡ true → AreWhole (lacking frame.now received) }
+{
+    if frame.epoch() != state.members.epoch() || received < frame.first() {
+        return false;
+    }
+    let had = received - frame.first();
+    if frame.records().len() as u64 <= had {
+        return true;
+    }
+    let client = frame.client();
+    let own = state.own_region(client).log(client as usize);
+    let new = &frame.records()[had as usize..];
+    let passed = (received - own.first()) as usize;
+    new.len() <= own.len().saturating_sub(passed) && goes_on_with(own, received, new)
+}
+
+/// Whether a log's records from a number on begin with these.
+fn goes_on_with(log: &Log, from: u64, records: &[Record]) -> bool
+    requires begun { log.now.first ≤ from }
+    ensures same { result ≡ true → take (length records.now) (records_from log.now from) ≡ records.now }
+    ensures other { result ≡ false → take (length records.now) (records_from log.now from) ≡ records.now → ⊥ }
+{
+    let Some((first, rest)) = records.split_first() else {
+        return true;
+    };
+    if log.end() <= from {
+        return false;
+    }
+    match log.get(from) {
+        Some(own) => own == first && goes_on_with(log, from + 1, rest),
+        None => false,
+    }
+}
