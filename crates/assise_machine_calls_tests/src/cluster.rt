@@ -1,6 +1,7 @@
 // Clusters and their clients.
 ghost use Rattle.std.specs.Prelude.{◌<◌, ◌≤◌};
 
+use assise_fault_script::command::RevokerKind;
 use assise_lease_table::revoker::Revoker;
 use assise_machine_calls::fsync::try_fsync;
 use assise_machine_calls::opening::open;
@@ -8,7 +9,7 @@ use assise_machine_calls::turn::Turn;
 use assise_machine_state::sound::Sound;
 use assise_names::refusal::Refusal;
 use assise_private_log::log_view::LogView;
-use assise_revokers::kinds::least;
+use assise_revokers::kinds::{eights, least, whole};
 use std::alloc::{AllocError, Global};
 
 type Cut = Box<dyn Fn(&LogView, u64) -> u64 + Send>;
@@ -24,7 +25,36 @@ pub(crate) fn cluster(alloc: Global, nodes: u32) -> Result<Sound, Refusal>
 /// Opens a client on a node, with a revoker that answers the least cut.
 pub(crate) fn open_on(alloc: Global, sound: &mut Sound, node: u32) -> Result<u32, Refusal> {
     let cut: Cut = Box::new(alloc, least)?;
-    open(alloc, sound, node, Revoker::new(cut)).map_err(|refused| refused.0)
+    open_with(alloc, sound, node, Revoker::new(cut))
+}
+
+/// Opens a client on a node, with a revoker of a kind.
+pub(crate) fn open_as(
+    alloc: Global,
+    sound: &mut Sound,
+    node: u32,
+    kind: RevokerKind,
+) -> Result<u32, Refusal> {
+    match kind {
+        RevokerKind::Least => open_on(alloc, sound, node),
+        RevokerKind::Whole => {
+            let cut: Cut = Box::new(alloc, whole)?;
+            open_with(alloc, sound, node, Revoker::new(cut))
+        }
+        RevokerKind::Eights => {
+            let cut: Cut = Box::new(alloc, eights)?;
+            open_with(alloc, sound, node, Revoker::new(cut))
+        }
+    }
+}
+
+fn open_with(
+    alloc: Global,
+    sound: &mut Sound,
+    node: u32,
+    revoker: Revoker,
+) -> Result<u32, Refusal> {
+    open(alloc, sound, node, revoker).map_err(|refused| refused.0)
 }
 
 /// What an fsync of a client came to, as text.
