@@ -3,8 +3,9 @@ use Rattle.assise_digest.specs.Region.{HasClient}
 use Rattle.assise_machine_events.specs.NodeEvents.{is_refused, is_stale}
 use Rattle.assise_machine_state.specs.NodeValues.{region_in}
 use Rattle.assise_machine_state.specs.Whole.{value_of}
-use Rattle.assise_machine.proofs.Delivering.{begun, elsewhere_as, given_as, has, not_timely, nothing_new, received_as, room_as, some_new, there_as, whole_as}
+use Rattle.assise_machine.proofs.Delivering.{Gives, begun, elsewhere_as, given_as, has, not_timely, nothing_new, received_as, room_as, some_new, there_as, whole_as}
 use Rattle.assise_machine.proofs.DeliveryFaults.{fine_client}
+use Rattle.assise_machine.proofs.delivery.deliver.Given as given
 use Rattle.assise_machine.proofs.delivery.deliver.Goals as goal
 
 pub returns-in-Some-clause-happens : goal.returns-in-Some-clause-happens
@@ -87,30 +88,20 @@ extend-requires-clause-whole g c =
     let next = c.is_timely.ensures.timely c.if-not-is_timely.false in
     whole_as (value_of c.args.sound.now.state) c.args.frame c.args.node c.args.sound.now.shape c.args.sound.now.holds c.args.sound.now.state.members.lawful.some_full fine c.end-received.result is next past c.client-client.result c.first-2.result c.into_records.result.items c.client-client.ensures.client c.first-2.ensures.first c.into_records.ensures.records (c.is_timely.ensures.whole c.if-not-is_timely.false)
 
-pub invariant_of-sound-2 : goal.invariant_of-sound-2
-invariant_of-sound-2 g c =
+given_now : (g : given.Over) (c : goal.After-extend g) →
+    Gives (value_of c.args.sound.now.state) c.args.frame c.args.node (c.first.result + length c.records.result.now) (record (value_of c.args.sound.now.state) { nodes = c.extend.new.self })
+given_now g c =
     let fine = sym c.delivery_refusal.ensures ∙ c.in_default.is in
     let is = received_as (value_of c.args.sound.now.state) c.args.frame c.args.node c.args.sound.now.shape c.args.sound.now.holds c.args.sound.now.state.members.lawful.some_full fine
     c.region.result.now c.log.result.now c.client-client.result c.end-received.result c.end-received.ensures.end c.log.ensures.log c.region.ensures c.client-client.ensures.client in
     let past : c.end-received.result < c.args.frame.first + length c.args.frame.records = omega (arith, c.if-place-received.false, c.first.ensures.first, ap length c.records.ensures.records) in
     let place : c.first.result + length c.records.result.now ≡ c.args.frame.first + length c.args.frame.records = omega (arith, c.first.ensures.first, ap length c.records.ensures.records) in
-    let given =
     given_as (value_of c.args.sound.now.state) c.args.frame c.args.node c.args.sound.now.shape c.args.sound.now.holds c.args.sound.now.state.members.lawful.some_full fine c.end-received.result is (c.is_timely.ensures.timely c.if-not-is_timely.false) past
     c.client-client.result c.first-2.result c.into_records.result.items c.client-client.ensures.client c.first-2.ensures.first c.into_records.ensures.records
     c.args.sound.now.noted c.extend.new.self c.extend.ensures (c.first.result + length c.records.result.now) place
-    in
-    record { holds = given.holds; shape = given.shape; noted = given.noted }
+
+pub invariant_of-sound-2 : goal.invariant_of-sound-2
+invariant_of-sound-2 g c = (let given = given_now g c in record { holds = given.holds; shape = given.shape; noted = given.noted })
 
 pub returns-clause-happens : goal.returns-clause-happens
-returns-clause-happens g c =
-    let fine = sym c.delivery_refusal.ensures ∙ c.in_default.is in
-    let is = received_as (value_of c.args.sound.now.state) c.args.frame c.args.node c.args.sound.now.shape c.args.sound.now.holds c.args.sound.now.state.members.lawful.some_full fine
-    c.region.result.now c.log.result.now c.client-client.result c.end-received.result c.end-received.ensures.end c.log.ensures.log c.region.ensures c.client-client.ensures.client in
-    let past : c.end-received.result < c.args.frame.first + length c.args.frame.records = omega (arith, c.if-place-received.false, c.first.ensures.first, ap length c.records.ensures.records) in
-    let place : c.first.result + length c.records.result.now ≡ c.args.frame.first + length c.args.frame.records = omega (arith, c.first.ensures.first, ap length c.records.ensures.records) in
-    let given =
-    given_as (value_of c.args.sound.now.state) c.args.frame c.args.node c.args.sound.now.shape c.args.sound.now.holds c.args.sound.now.state.members.lawful.some_full fine c.end-received.result is (c.is_timely.ensures.timely c.if-not-is_timely.false) past
-    c.client-client.result c.first-2.result c.into_records.result.items c.client-client.ensures.client c.first-2.ensures.first c.into_records.ensures.records
-    c.args.sound.now.noted c.extend.new.self c.extend.ensures (c.first.result + length c.records.result.now) place
-    in
-    given.happens
+returns-clause-happens g c = (given_now g c.before).happens
