@@ -29,7 +29,7 @@ record SameRecords (w v : World) : Type 0 where
   received : (c : ℕ) → received_by_all v c ≡ received_by_all w c
   border : (c k : ℕ) → v.border c k ≡ w.border c k
 
-same_received : (w v : World) (n c k : ℕ) → Digests w n c k v → (d : ℕ) → received_by_all v d ≡ received_by_all w d
+pub same_received : (w v : World) (n c k : ℕ) → Digests w n c k v → (d : ℕ) → received_by_all v d ≡ received_by_all w d
 unfolding received_by_all end
 same_received w v n c k e d = rw (e.full, e.logs.first d, e.logs.records d) (least_of-same w.full (λ j. v.received j d) (λ j. w.received j d) (end w d) (λ j f. e.received j d f))
 

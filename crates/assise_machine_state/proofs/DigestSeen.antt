@@ -23,9 +23,9 @@ use Rattle.assise_machine_state.specs.Observed.{is_full_in, own_node, own_seen, 
 use Rattle.assise_machine_state.specs.Places.{IsNumber}
 use Rattle.assise_machine_state.specs.Shape.{IsShaped}
 use Rattle.assise_machine_state.specs.StateValues.{StateValue, standings}
-use Rattle.assise_machine_state.proofs.Fullness.{full_seen, has_log, log_is, region_is}
+use Rattle.assise_machine_state.proofs.Fullness.{full_seen, has_log, log_is, region_is, same_first}
 use Rattle.assise_machine_state.proofs.Logging.{log_else, log_here, log_same, region_else, region_here, region_with}
-use Rattle.assise_machine_state.proofs.Reading.{ahead_is}
+use Rattle.assise_machine_state.proofs.Reading.{ahead_first}
 use Rattle.assise_machine_state.proofs.Shaping.{shaped_log}
 use Rattle.assise_machine_state.proofs.Standings.{mapped_full, same_full, same_own}
 use Rattle.assise_machine_state.proofs.Staying.{clients_as, goals_as, leases_as, logs_as}
@@ -56,7 +56,7 @@ pub digest_shaped : (s : StateValue) (n c k : ℕ) (inodes : set.FinSet nat_cmp)
 digest_shaped s n c k inodes shape =
     shaped_log s (noted s.members n inodes) n c (inodes_now s n c k) (further s n c k) shape refl refl (same_count (standings s) n inodes) (still_full (standings s) n inodes)
 
-module _ (s : StateValue) (n c k : ℕ) (inodes : set.FinSet nat_cmp) (shape : IsShaped s) (sound : IsSound (world_of s)) (client : IsNumber s.clients c) (may : MayDigest (world_of s) n c k) where
+module _ (s : StateValue) (n c k : ℕ) (inodes : set.FinSet nat_cmp) (shape : IsShaped s) (first : (log_seen s.nodes n c).log.first ≡ (world_of s).first c) (client : IsNumber s.clients c) (may : MayDigest (world_of s) n c k) where
   abbrev w : World
   w = world_of s
 
@@ -97,7 +97,7 @@ module _ (s : StateValue) (n c k : ℕ) (inodes : set.FinSet nat_cmp) (shape : I
   -- the area has what the observed records make of it
   below_is : ahead_below w n c k ≡ take (k - (log_in s.nodes n c).digested) (ahead (log_in s.nodes n c))
   unfolding ahead_below world_of
-  below_is = ap (take (k - (log_seen s.nodes n c).digested)) (ahead_is s n c sound may.full_node) ∙ ap (λ x. take (k - x.digested) (ahead x)) was
+  below_is = ap (take (k - (log_seen s.nodes n c).digested)) (ahead_first s n c first) ∙ ap (λ x. take (k - x.digested) (ahead x)) was
 
   area_now : (i : ℕ) → w'.area n i ≡ value_after i (w.area n i) (all_effects (ahead_below w n c k))
   unfolding world_of
@@ -134,5 +134,10 @@ module _ (s : StateValue) (n c k : ℕ) (inodes : set.FinSet nat_cmp) (shape : I
   other_areas : OtherAreasStay w w'
   other_areas m i away = area_beside m i (λ is. away (subst (λ j. Full w j) (sym is) may.full_node))
 
-  pub digest_noted : ((i : ℕ) → set.contains inodes i ≡ contains (touched (all_effects (ahead_below w n c k))) i) → DigestsNoted w s.members n c k inodes w' t.members
-  digest_noted touches = record { digests = digested; touches = touches; members = refl; others = other_areas }
+  pub noted_front : ((i : ℕ) → set.contains inodes i ≡ contains (touched (all_effects (ahead_below w n c k))) i) → DigestsNoted w s.members n c k inodes w' t.members
+  noted_front touches = record { digests = digested; touches = touches; members = refl; others = other_areas }
+
+pub digest_noted : (s : StateValue) (n c k : ℕ) (inodes : set.FinSet nat_cmp) → IsShaped s → IsSound (world_of s) → IsNumber s.clients c → MayDigest (world_of s) n c k →
+    ((i : ℕ) → set.contains inodes i ≡ contains (touched (all_effects (ahead_below (world_of s) n c k))) i) →
+    DigestsNoted (world_of s) s.members n c k inodes (world_of (after_digest s n c k inodes)) (after_digest s n c k inodes).members
+digest_noted s n c k inodes shape sound client may touches = noted_front s n c k inodes shape (same_first s n c sound may.full_node) client may touches

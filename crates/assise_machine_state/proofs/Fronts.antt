@@ -37,7 +37,21 @@ digested_by_all-end : (w : World) (c : ℕ) → digested_by_all w c ≤ end w c
 unfolding digested_by_all
 digested_by_all-end w c = least_of-end w.full (λ m. w.digested m c) (end w c)
 
-module _ (s : StateValue) (c to : ℕ) (shape : IsShaped s) (sound : IsSound (world_of s)) (client : IsNumber s.clients c)
+-- full nodes' logs of a client begin where its own does, they digested only what they received, and each log begins where all
+-- digested what went
+pub record HasFronts (s : StateValue) (c : ℕ) : Type 0 where
+  pub first : (n : ℕ) → Full (world_of s) n → (log_seen s.nodes n c).log.first ≡ (world_of s).first c
+  pub known : (n : ℕ) → Full (world_of s) n → (world_of s).digested n c ≤ (world_of s).received n c
+  pub begun : (d : ℕ) → (world_of s).first d ≤ digested_by_all (world_of s) d
+
+pub has_fronts : (s : StateValue) (c : ℕ) → IsSound (world_of s) → HasFronts s c
+has_fronts s c sound = record {
+  first = λ n full. same_first s n c sound full;
+  known = λ n full. omega (arith, (sound.coherent.order n c full).acknowledged, received_by_all-below (world_of s) n c full);
+  begun = λ d. digested_by_all-first (world_of s) sound.coherent d;
+}
+
+module _ (s : StateValue) (c to : ℕ) (shape : IsShaped s) (fronts : HasFronts s c) (client : IsNumber s.clients c)
     (from_first : (world_of s).first c ≤ to) (all_digested : to ≤ digested_by_all (world_of s) c) where
   abbrev w : World
   w = world_of s
@@ -113,7 +127,7 @@ module _ (s : StateValue) (c to : ℕ) (shape : IsShaped s) (sound : IsSound (wo
   log_now : (n d : ℕ) → Full w n → w'.log n d ≡ drop (f d - w.first d) (w.log n d)
   unfolding world_of
   log_now n d full = each (λ d k. w'.log n d ≡ drop (k - w.first d) (w.log n d))
-      (ap (λ x. x.log.records) (begins n (full_seen s n full)) ∙ ap (λ k. drop (to - k) (w.log n c)) (same_first s n c sound full))
+      (ap (λ x. x.log.records) (begins n (full_seen s n full)) ∙ ap (λ k. drop (to - k) (w.log n c)) (fronts.first n full))
       (λ d other. ap (λ x. x.log.records) (beside n d other) ∙ none_dropped (w.first d) (w.log n d))
       d
 
@@ -126,19 +140,19 @@ module _ (s : StateValue) (c to : ℕ) (shape : IsShaped s) (sound : IsSound (wo
   received_now n d full =
       elim (cases_eq d c) [
         | inl is ↦ subst (λ e. w'.received n e ≡ w.received n e) (sym is) (
-            let first : w.first c ≡ (log_seen s.nodes n c).log.first = sym (same_first s n c sound full) in
+            let first : w.first c ≡ (log_seen s.nodes n c).log.first = sym (fronts.first n full) in
             let low : (log_seen s.nodes n c).log.first ≤ to = subst (λ k. k ≤ to) first from_first in
             let high : to ≤ log_end (log_seen s.nodes n c).log =
-            omega (arith, all_digested, digested_by_all-below w n c full, (sound.coherent.order n c full).acknowledged, received_by_all-below w n c full) in
+            omega (arith, all_digested, digested_by_all-below w n c full, fronts.known n full) in
             ap (λ x. log_end x.log) (begins n (full_seen s n full)) ∙ ends (log_seen s.nodes n c).log.first to (log_seen s.nodes n c).log.records low high)
         | inr other ↦ ap (λ x. log_end x.log) (beside n d other)
       ]
 
-  pub dropped : Drops w f w'
+  pub dropped_fronts : Drops w f w'
   unfolding world_of
-  dropped = record {
+  dropped_fronts = record {
     low = each (λ d k. w.first d ≤ k) from_first (λ d other. omega arith);
-    high = each (λ d k. k ≤ digested_by_all w d) all_digested (λ d other. digested_by_all-first w sound.coherent d);
+    high = each (λ d k. k ≤ digested_by_all w d) all_digested (λ d other. fronts.begun d);
     border_at = λ d. refl;
     calls = refl;
     records = records_now;
@@ -156,15 +170,15 @@ module _ (s : StateValue) (c to : ℕ) (shape : IsShaped s) (sound : IsSound (wo
     area = λ n i full. drop_areas s c to n i;
   }
 
+pub dropped : (s : StateValue) (c to : ℕ) → IsShaped s → IsSound (world_of s) → IsNumber s.clients c → (world_of s).first c ≤ to → to ≤ digested_by_all (world_of s) c →
+    Drops (world_of s) (first_but (world_of s) c to) (world_of (after_drop s c to))
+dropped s c to shape sound client low high = dropped_fronts s c to shape (has_fronts s c sound) client low high
+
 -- ---- one after another
 
-module _ (w v u : World) (f g : ℕ → ℕ) (front : Drops w f v) (next : Drops v g u) where
-  still_full : (n : ℕ) → Full w n → Full v n
-  still_full n full = full_after w v n front.full full
+-- where the places end, and what all full nodes have digested, stays
 
-  low_both : (c : ℕ) → f c ≤ g c
-  low_both c = subst (λ k. k ≤ g c) (front.first c) (next.low c)
-
+module _ (w v : World) (f : ℕ → ℕ) (front : Drops w f v) where
   same_end : (c : ℕ) → end v c ≡ end w c
   unfolding end
   same_end c =
@@ -172,9 +186,16 @@ module _ (w v u : World) (f g : ℕ → ℕ) (front : Drops w f v) (next : Drops
       let left : length (drop (f c - w.first c) (w.records c)) ≡ length (w.records c) - (f c - w.first c) = length-drop (f c - w.first c) (w.records c) in
       rw (front.first c, front.records c) (omega (arith, left, high, front.low c, front.high c))
 
-  same_digested : (c : ℕ) → digested_by_all v c ≡ digested_by_all w c
+  pub same_digested : (c : ℕ) → digested_by_all v c ≡ digested_by_all w c
   unfolding digested_by_all
   same_digested c = rw (same_end c, front.full) (least_of-same w.full (λ m. v.digested m c) (λ m. w.digested m c) (end w c) (λ m full. front.digested m c full))
+
+module _ (w v u : World) (f g : ℕ → ℕ) (front : Drops w f v) (next : Drops v g u) where
+  still_full : (n : ℕ) → Full w n → Full v n
+  still_full n full = full_after w v n front.full full
+
+  low_both : (c : ℕ) → f c ≤ g c
+  low_both c = subst (λ k. k ≤ g c) (front.first c) (next.low c)
 
   both_dropped : (c : ℕ) (rs : List LogRecord) → drop (g c - v.first c) (drop (f c - w.first c) rs) ≡ drop (g c - w.first c) rs
   both_dropped c rs =
@@ -184,7 +205,7 @@ module _ (w v u : World) (f g : ℕ → ℕ) (front : Drops w f v) (next : Drops
   pub dropped_twice : Drops w g u
   dropped_twice = record {
     low = λ c. omega (arith, front.low c, low_both c);
-    high = λ c. subst (λ k. g c ≤ k) (same_digested c) (next.high c);
+    high = λ c. subst (λ k. g c ≤ k) (same_digested w v f front c) (next.high c);
     border_at = λ c. sym (front.border c (g c)) ∙ next.border_at c;
     calls = next.calls ∙ front.calls;
     records = λ c. next.records c ∙ ap (drop (g c - v.first c)) (front.records c) ∙ both_dropped c (w.records c);

@@ -20,9 +20,12 @@ use Rattle.assise_machine_state.proofs.Seeing.{client_is}
 
 -- ---- what a full node has ahead of a client
 
-pub ahead_is : (s : StateValue) (n c : ℕ) → IsSound (world_of s) → Full (world_of s) n → ahead_observed (world_of s) n c ≡ ahead (log_seen s.nodes n c)
+pub ahead_first : (s : StateValue) (n c : ℕ) → (log_seen s.nodes n c).log.first ≡ (world_of s).first c → ahead_observed (world_of s) n c ≡ ahead (log_seen s.nodes n c)
 unfolding ahead_observed world_of
-ahead_is s n c sound f = ap (λ k. drop ((log_seen s.nodes n c).digested - k) (log_seen s.nodes n c).log.records) (sym (same_first s n c sound f))
+ahead_first s n c first = ap (λ k. drop ((log_seen s.nodes n c).digested - k) (log_seen s.nodes n c).log.records) (sym first)
+
+ahead_is : (s : StateValue) (n c : ℕ) → IsSound (world_of s) → Full (world_of s) n → ahead_observed (world_of s) n c ≡ ahead (log_seen s.nodes n c)
+ahead_is s n c sound f = ahead_first s n c (same_first s n c sound f)
 
 -- ---- by a client at its home
 
