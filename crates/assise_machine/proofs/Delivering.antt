@@ -121,6 +121,9 @@ module _ (s : StateValue) (f : LogFrame) (n : ℕ) (shape : IsShaped s) (holds :
     pub not_timely : (r : ℕ) → r ≡ w.received n c → (IsNextOf s f r → ⊥) → IsTimely (observed s) f n → ⊥
     not_timely r is stale timely = stale (subst (λ k. IsNextOf s f k) (sym is) (from_timely timely))
 
+    pub is_next : (r : ℕ) → r ≡ w.received n c → IsNextOf s f r → IsTimely (observed s) f n
+    is_next r is next = to_timely (subst (λ k. IsNextOf s f k) is next)
+
     -- ---- where the frame is timely
 
     module _ (r : ℕ) (is : r ≡ w.received n c) (next : IsNextOf s f r) where

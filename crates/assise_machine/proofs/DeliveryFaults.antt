@@ -1,17 +1,14 @@
 -- Why nothing can be delivered to a node, and where it can.
-use Rattle.std.proofs.Common.{◌≡◌, ◌≢◌, ℕ, ◌<◌, ◌≤◌, nat_le, Bool, true, false, not, ◌&&◌, Option, Some, None, Ok, Err, length, inl, inr, refl, sym, ◌∙◌, arith}
+use Rattle.std.proofs.Common.{◌≡◌, ℕ, ◌<◌, ◌≤◌, nat_le, Bool, true, false, not, ◌&&◌, Option, Some, None, length, inl, inr, refl, sym, ◌∙◌, arith}
 use Rattle.std.proofs.lemmas.Bool.{and_from, and_parts, and_right, cases_Bool, le-leb, leb-true}
 use Rattle.assise_names.specs.declared.refusal.Refusal.{Refusal}
 use Rattle.assise_names.specs.declared.refusal.Refusal.TheVariants.{BadClient, WrongPhase}
 use Rattle.assise_record.specs.LogFrame.{LogFrame}
-use Rattle.assise_manager.specs.Standings.{Standing, down, full, phase_of, returning, standing_of}
-use Rattle.assise_manager.specs.declared.phase.Phase.{Phase}
-use Rattle.assise_manager.specs.declared.phase.Phase.TheVariants.{Full}
-use Rattle.assise_machine_events.specs.Faults.{delivery_fault, fault_if, or_else, unless_full}
+use Rattle.assise_manager.specs.Standings.{Standing, down, full, returning, standing_of}
+use Rattle.assise_machine_events.specs.Faults.{delivery_fault, fault_if, node_fault, or_else, unless_full}
 use Rattle.assise_machine_state.specs.Observed.{is_full_in, observed, stands_full, world_of}
 use Rattle.assise_machine_state.specs.Places.{IsNumber}
 use Rattle.assise_machine_state.specs.StateValues.{StateValue, standings}
-use Rattle.assise_machine_state.proofs.Asking.{away_refused, full_served, none_refused}
 
 -- whether there is a client of this number, of so many
 abbrev is_known : ℕ → ℕ → Bool
@@ -23,11 +20,12 @@ fault_is : (s : StateValue) (f : LogFrame) (n : ℕ) →
 unfolding observed world_of
 fault_is s f n = refl
 
-pub no_node : (s : StateValue) (f : LogFrame) (n : ℕ) (r : Refusal) → phase_of (standing_of (standings s) n) ≡ Err r → delivery_fault (observed s) f n ≡ Some r
-no_node s f n r same = fault_is s f n ∙ rw (none_refused WrongPhase (standing_of (standings s) n) r same) refl
+node_is : (s : StateValue) (n : ℕ) → node_fault (observed s) n ≡ unless_full WrongPhase (standing_of (standings s) n)
+unfolding observed
+node_is s n = refl
 
-pub node_away : (s : StateValue) (f : LogFrame) (n : ℕ) (p : Phase) → phase_of (standing_of (standings s) n) ≡ Ok p → p ≢ Full → delivery_fault (observed s) f n ≡ Some WrongPhase
-node_away s f n p same other = fault_is s f n ∙ rw (away_refused WrongPhase (standing_of (standings s) n) p same other) refl
+pub node_refused : (s : StateValue) (f : LogFrame) (n : ℕ) (r : Refusal) → node_fault (observed s) n ≡ Some r → delivery_fault (observed s) f n ≡ Some r
+node_refused s f n r same = fault_is s f n ∙ rw (sym (node_is s n) ∙ same) refl
 
 past_last : (c k : ℕ) → k < c → nat_le c k ≡ false
 past_last c k past =
@@ -36,16 +34,16 @@ past_last c k past =
       | inr high ↦ high
     ]
 
-pub no_client : (s : StateValue) (f : LogFrame) (n : ℕ) → phase_of (standing_of (standings s) n) ≡ Ok Full → length s.clients < f.client → delivery_fault (observed s) f n ≡ Some BadClient
+pub no_client : (s : StateValue) (f : LogFrame) (n : ℕ) → node_fault (observed s) n ≡ None → length s.clients < f.client → delivery_fault (observed s) f n ≡ Some BadClient
 no_client s f n same past =
     let unknown : is_known f.client (length s.clients) ≡ false = and_right (nat_le 1 f.client) (nat_le f.client (length s.clients)) (past_last f.client (length s.clients) past) in
-    fault_is s f n ∙ rw (full_served WrongPhase (standing_of (standings s) n) same, unknown) refl
+    fault_is s f n ∙ rw (sym (node_is s n) ∙ same, unknown) refl
 
-pub may_deliver : (s : StateValue) (f : LogFrame) (n : ℕ) → phase_of (standing_of (standings s) n) ≡ Ok Full → 0 < f.client → f.client ≤ length s.clients → delivery_fault (observed s) f n ≡ None
+pub may_deliver : (s : StateValue) (f : LogFrame) (n : ℕ) → node_fault (observed s) n ≡ None → 0 < f.client → f.client ≤ length s.clients → delivery_fault (observed s) f n ≡ None
 may_deliver s f n same some low =
     let known : is_known f.client (length s.clients) ≡ true =
     and_from (nat_le 1 f.client) (nat_le f.client (length s.clients)) (le-leb 1 f.client some) (le-leb f.client (length s.clients) low) in
-    fault_is s f n ∙ rw (full_served WrongPhase (standing_of (standings s) n) same, known) refl
+    fault_is s f n ∙ rw (sym (node_is s n) ∙ same, known) refl
 
 -- ---- what holds where there is none
 

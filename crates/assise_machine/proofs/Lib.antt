@@ -1,3 +1,14 @@
 pub mod DeliveryFaults
 pub mod Agreeing
+pub mod Alone
+pub mod Copying
 pub mod Delivering
+pub mod Running
+pub mod Others
+pub mod Frames
+pub mod Touching
+pub mod Fewer
+pub mod Digested
+pub mod DigestedTo
+pub mod Dropped
+pub mod WholeDigest

@@ -1,10 +1,12 @@
 // Records that come to a node.
-ghost use Rattle.std.specs.Prelude.{◌≡◌, ◌<◌, ◌≤◌, false, length, take, true};
+ghost use Rattle.std.specs.Prelude.{◌≡◌, ◌<◌, ◌≤◌, IfNone, IfOk, IfSome, IsOkUnless, None, Some, false, length, take, true};
+ghost use Rattle.assise_names.specs.declared.refusal.Refusal.{Refusal as Refused};
+ghost use Rattle.assise_names.specs.declared.refusal.Refusal.TheVariants.{OutOfMemory, StaleMessage};
 ghost use Rattle.assise_lease_table.specs.Tables.{SameRevokers};
 ghost use Rattle.assise_lease_tree.specs.Trees.{stored_by};
 ghost use Rattle.assise_private_log.specs.NumberedLog.{records_from};
 ghost use Rattle.assise_digest.specs.Region.{AreWhole};
-ghost use Rattle.assise_machine_events.specs.Faults.{delivery_fault};
+ghost use Rattle.assise_machine_events.specs.Faults.{IsTimely, delivery_fault};
 ghost use Rattle.assise_machine_events.specs.NodeEvents.{Delivering};
 ghost use Rattle.assise_machine_state.specs.Places.{IsNumber};
 ghost use Rattle.assise_machine_state.specs.Shape.{IsShaped};
@@ -12,14 +14,15 @@ ghost use Rattle.assise_machine_state.specs.Whole.{machine_of, value_of};
 ghost use Rattle.assise_machine.specs.Answers.{delivery_answer};
 ghost use Rattle.assise_machine.specs.Taking.{HasRoomFor, IsNextOf, lacking, own_log};
 
+use crate::faults::node_refusal;
 use assise_lease_table::revoker::Revokes;
 use assise_machine_state::sound::SoundOf;
 use assise_machine_state::state::StateOf;
-use assise_manager::phase::Phase;
 use assise_names::refusal::Refusal;
 use assise_private_log::log::Log;
 use assise_record::frame::Frame;
 use assise_record::record::Record;
+use std::alloc::Global;
 
 /// A node takes in what it lacks of a frame's records, and answers the number behind the last record of the client that it has
 /// then. Nothing of the sender is trusted: a frame may come in any order, and again and again, and what the node has of it is
@@ -28,7 +31,7 @@ use assise_record::record::Record;
 /// Refused as [`delivery_refusal`] says, and with [`Refusal::StaleMessage`] where the frame is of another epoch, leaves a gap, or
 /// has a record that the node lacks and that isn't next in the client's own log. What is refused leaves all as it was. It takes
 /// no memory.
-pub fn deliver<C: Revokes + Drop>(
+pub(crate) fn deliver<C: Revokes + Drop>(
     sound: &mut SoundOf<C>,
     frame: Frame,
     node: u32,
@@ -54,24 +57,72 @@ pub fn deliver<C: Revokes + Drop>(
     Ok(place)
 }
 
+/// As [`deliver`], with a copy of a frame, whose payloads are shared. It is refused with [`Refusal::OutOfMemory`] only where nothing
+/// else stands against it, and then all stays as it was.
+pub(crate) fn deliver_copy<C: Revokes + Drop>(
+    alloc: Global,
+    sound: &mut SoundOf<C>,
+    frame: &Frame,
+    node: u32,
+) -> Result<u64, Refusal>
+    ensures happens { Delivering (machine_of sound.old.state) frame.now node (delivery_answer result) (machine_of sound.new.state) }
+    ensures revokers { SameRevokers (stored_by sound.old.state.leases) (stored_by sound.new.state.leases) }
+{
+    match copied(alloc, frame) {
+        Ok(copy) => deliver(sound, copy, node),
+        Err(lack) => Err(frame_refusal(sound, frame, node).unwrap_or(lack)),
+    }
+}
+
+/// An equal frame, or [`Refusal::OutOfMemory`]. The bytes of writes are shared.
+fn copied(alloc: Global, frame: &Frame) -> Result<Frame, Refusal>
+    ensures equal { IfOk result (λ copied. copied ≡ frame.now) }
+    ensures only_memory { IsOkUnless result OutOfMemory }
+{
+    let mut records = Vec::with_capacity(alloc, frame.records().len())?;
+    for record in frame.records() {
+        records.push(record.copy(alloc)?)?;
+    }
+    Ok(Frame::new(frame.epoch(), frame.client(), frame.first(), records))
+}
+
+/// Why a frame isn't taken in at a node: as [`delivery_refusal`] says, and [`Refusal::StaleMessage`] as [`deliver`] says.
+fn frame_refusal<C: Revokes + Drop>(sound: &SoundOf<C>, frame: &Frame, node: u32) -> Option<Refusal>
+    ensures fault { (r : Refused) → delivery_fault (machine_of sound.now.state) frame.now node ≡ Some r → result ≡ Some r }
+    ensures stale { delivery_fault (machine_of sound.now.state) frame.now node ≡ None → IfSome result (λ r. r ≡ StaleMessage) }
+    ensures taken { delivery_fault (machine_of sound.now.state) frame.now node ≡ None → IsTimely (machine_of sound.now.state) frame.now node → result ≡ None }
+    ensures fine { IfNone result (delivery_fault (machine_of sound.now.state) frame.now node ≡ None) }
+    ensures timely { IfNone result (IsTimely (machine_of sound.now.state) frame.now node) }
+{
+    let state = &sound.state;
+    if let Some(refusal) = delivery_refusal(state, frame, node) {
+        return Some(refusal);
+    }
+    let client = frame.client();
+    let received = state.nodes.region(node).log(client as usize).end();
+    if is_timely(state, frame, received) {
+        None
+    } else {
+        Some(Refusal::StaleMessage)
+    }
+}
+
 /// Why nothing can be delivered to a node, whatever the records are: [`Refusal::BadNode`] where there is no such node,
 /// [`Refusal::WrongPhase`] where it isn't full, and [`Refusal::BadClient`] where there is no such client.
-pub fn delivery_refusal<C: Revokes + Drop>(
+pub(crate) fn delivery_refusal<C: Revokes + Drop>(
     state: &StateOf<C>,
     frame: &Frame,
     node: u32,
 ) -> Option<Refusal>
     ensures { result ≡ delivery_fault (machine_of state.now) frame.now node }
 {
-    let phase = match state.members.phase(node) {
-        Ok(phase) => phase,
-        Err(refusal) => return Some(refusal),
-    };
-    match phase {
-        Phase::Down | Phase::Returning => Some(Refusal::WrongPhase),
-        Phase::Full if frame.client() as usize > state.clients.len() => Some(Refusal::BadClient),
-        Phase::Full => None,
+    if let Some(refusal) = node_refusal(state, node) {
+        return Some(refusal);
     }
+    if frame.client() as usize > state.clients.len() {
+        return Some(Refusal::BadClient);
+    }
+    None
 }
 
 /// Whether a frame is of this epoch, leaves no gap behind what was received, and goes on as the client's own log does.

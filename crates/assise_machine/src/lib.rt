@@ -1,4 +1,13 @@
-//! A cluster of full, failed and returning nodes: what its nodes send and take in.
+//! A cluster of full, failed and returning nodes: each of its calls is one event, and a run takes any list of events.
 #![tactic(auto)]
 
-pub mod delivery;
+pub mod answer;
+pub mod cluster;
+mod delivery;
+mod digesting;
+pub mod event;
+mod faults;
+pub mod laws;
+mod progress;
+pub mod run;
+mod sending;

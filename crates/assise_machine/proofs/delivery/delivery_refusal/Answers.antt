@@ -1,20 +1,16 @@
-use Rattle.std.proofs.Common.{◌∙◌, Ok, ap, sym, arith}
+use Rattle.std.proofs.Common.{◌∙◌, sym, arith}
 use Rattle.assise_machine_state.specs.Whole.{value_of}
-use Rattle.assise_machine_state.proofs.Asking.{away_apart}
-use Rattle.assise_machine.proofs.DeliveryFaults.{may_deliver, no_client, no_node, node_away}
+use Rattle.assise_machine.proofs.DeliveryFaults.{may_deliver, no_client, node_refused}
 use Rattle.assise_machine.proofs.delivery.delivery_refusal.Goals as goal
 
-pub returns-in-Err : goal.returns-in-Err
-returns-in-Err g c = sym (no_node (value_of c.args.state.now) c.args.frame.now c.args.node c.in-Err.refusal (sym c.phase.ensures ∙ c.in-Err.is))
+pub returns-in-Some : goal.returns-in-Some
+returns-in-Some g c = sym (node_refused (value_of c.args.state.now) c.args.frame.now c.args.node c.in-Some.refusal (sym c.node_refusal.ensures ∙ c.in-Some.is))
 
-pub returns-in-Down : goal.returns-in-Down
-returns-in-Down g c = sym (node_away (value_of c.args.state.now) c.args.frame.now c.args.node c.in-Ok.phase (sym c.phase.ensures ∙ c.in-Ok.is) (away_apart c.in-Ok.phase c.in-Down.is))
+pub returns-then-client-len : goal.returns-then-client-len
+returns-then-client-len g c =
+    sym (no_client (value_of c.args.state.now) c.args.frame.now c.args.node (sym c.node_refusal.ensures ∙ c.in_default.is) (omega (arith, c.len.ensures, c.client.ensures.client, c.if-client-len.true)))
 
-pub returns-in-Full : goal.returns-in-Full
-returns-in-Full g c =
-    sym (no_client (value_of c.args.state.now) c.args.frame.now c.args.node (sym c.phase.ensures ∙ c.in-Ok.is ∙ ap Ok c.in-Full.is) (omega (arith, c.len.ensures, c.client.ensures.client, c.if-client-len.true)))
-
-pub returns-in-Full-2 : goal.returns-in-Full-2
-returns-in-Full-2 g c =
-    sym (may_deliver (value_of c.args.state.now) c.args.frame.now c.args.node (sym c.phase.ensures ∙ c.in-Ok.is ∙ ap Ok c.in-Full-2.is) c.client.ensures.ranges.client
+pub returns : goal.returns
+returns g c =
+    sym (may_deliver (value_of c.args.state.now) c.args.frame.now c.args.node (sym c.node_refusal.ensures ∙ c.in_default.is) c.client.ensures.ranges.client
     (omega (arith, c.len.ensures, c.client.ensures.client, c.if-client-len.false)))

@@ -1,0 +1,215 @@
+-- A node's digest, as the laws have it.
+use Rattle.std.proofs.Common.{◌≡◌, ◌≢◌, ℕ, suc, ◌+◌, ◌-◌, ◌≤◌, min, true, false, ◌||◌, ◌==◌, List, [], ◌∷◌, length, map, take, slice_set, inl, inr, refl, ap, sym, subst, ◌∙◌, arith}
+use Rattle.std.proofs.Math.Bool.{or-false}
+use Rattle.std.proofs.Math.Logic.{∥∥₁_elim, ∥∥₁_map}
+use Rattle.std.proofs.Props.{props}
+use Rattle.std.proofs.lemmas.Bool.{cases_Bool, false_from_ne_true}
+use Rattle.std.proofs.lemmas.List.{get_or-set_same, length-drop, length-set, set-get_or}
+use Rattle.std.specs.Cmp.{nat_cmp_total}
+use Rattle.std.specs.FinSet as set
+use Rattle.std.specs.FinSet.{contains-empty, contains-from_list_nat, contains-union, nat_cmp-IsAntisymmetric, same_set}
+use Rattle.std.specs.Ordering.{nat_cmp}
+use Rattle.assise_inode_table.specs.Effects.{contains, touched}
+use Rattle.assise_private_log.specs.NumberedLog.{end as log_end}
+use Rattle.assise_digest.specs.Ahead.{all_effects}
+use Rattle.assise_digest.specs.Region.{HasClient, ReceivedLog, RegionValue, TouchApart, ahead, digested_by, digested_further, log_at, log_of, no_log}
+use Rattle.assise_manager.specs.Changes.{noted, stale_again, with_written}
+use Rattle.assise_manager.specs.Membership.{Membership}
+use Rattle.assise_manager.specs.Standings.{Standing, down, full, returning}
+use Rattle.assise_machine_laws.specs.Chances.{MayDigest}
+use Rattle.assise_machine_laws.specs.Sound.{Compatible, Guarded, IsSound, WritesAreHeld}
+use Rattle.assise_machine_laws.specs.World.{Full, World, ahead_below, received_by_all}
+use Rattle.assise_machine_laws.proofs.Digesting.{digest_sound}
+use Rattle.assise_machine_laws.proofs.Logs.{contains-drop, contains-take}
+use Rattle.assise_machine_laws.proofs.Observing.{received_by_all-below}
+use Rattle.assise_machine_returns.specs.Returns.{DigestsNoted}
+use Rattle.assise_machine_events.specs.NodeEvents.{undigested}
+use Rattle.assise_machine_state.specs.NodeValues.{HasLog, log_in, log_seen, new_region, region_in, with_region}
+use Rattle.assise_machine_state.specs.Observed.{is_full_in, world_of}
+use Rattle.assise_machine_state.specs.Places.{IsNumber, at}
+use Rattle.assise_machine_state.specs.Shape.{IsShaped}
+use Rattle.assise_machine_state.specs.StateValues.{StateValue, standings}
+use Rattle.assise_machine_state.proofs.DigestSeen.{digest_shaped, noted_front}
+use Rattle.assise_machine_state.proofs.Fullness.{has_log, log_is, region_is, same_first, seen_full}
+use Rattle.assise_machine_state.proofs.Reading.{ahead_first}
+use Rattle.assise_machine.specs.Digesting.{digests_some}
+
+-- ---- nothing is changed where nothing is digested
+
+union_none : (s : set.FinSet nat_cmp) → set.union s set.empty ≡ s
+union_none s =
+    same_set nat_cmp_total nat_cmp-IsAntisymmetric (set.union s set.empty) s
+    (λ q. contains-union nat_cmp_total s set.empty q ∙ ap (λ b. set.contains s q || b) (contains-empty nat_cmp q) ∙ or-false (set.contains s q))
+
+none_written : (lists : List (set.FinSet nat_cmp)) → with_written lists set.empty ≡ lists
+none_written [] = refl
+none_written (list ∷ []) = ap (λ s. s ∷ []) (union_none list)
+none_written (list ∷ next ∷ lists) = ap (λ ls. list ∷ ls) (none_written (next ∷ lists))
+
+none_stale : (n : ℕ) (x : Standing) → stale_again n set.empty x ≡ x
+none_stale n full = refl
+none_stale n (down since) = refl
+none_stale n (returning since donor stale) =
+    elim (cases_Bool (donor == n)) [
+      | inl here ↦ rw here (ap (returning since donor) (union_none stale))
+      | inr else ↦ rw else refl
+    ]
+
+none_again : (n : ℕ) (nodes : List Standing) → map (stale_again n set.empty) nodes ≡ nodes
+none_again n [] = refl
+none_again n (x ∷ xs) = λ i. none_stale n x i ∷ none_again n xs i
+
+none_noted : (m : Membership) (n : ℕ) → noted m n set.empty ≡ m
+none_noted m n = λ i. record { epoch = m.epoch; nodes = none_again n m.nodes i; written = none_written m.written i }
+
+none_further : (l : ReceivedLog) → digested_further l 0 ≡ l
+none_further l = (let same : l.digested + 0 ≡ l.digested = omega arith in (λ i. record { log = l.log; digested = same i; at_home = l.at_home }))
+
+none_made : (r : RegionValue) (c : ℕ) → digested_by r c 0 ≡ r
+none_made r c = (let same : slice_set r.logs (c - 1) (digested_further (log_of r c) 0) ≡ r.logs = ap (slice_set r.logs (c - 1)) (none_further (log_of r c)) ∙ set-get_or r.logs (c - 1) no_log in
+    (λ i. record { inodes = r.inodes; logs = same i }))
+
+pub none_digested : (s : StateValue) (n c : ℕ) → HasLog s.nodes n c → digests_some s n c 0 ≡ s
+unfolding world_of
+none_digested s n c has =
+    let same : (log_seen s.nodes n c).digested ≡ (log_in s.nodes n c).digested = ap (λ l. l.digested) (log_is s n c has) in
+    let none : (log_seen s.nodes n c).digested + 0 - (log_in s.nodes n c).digested ≡ 0 = omega (arith, same) in
+    let nodes : with_region s.nodes n (digested_by (region_in s.nodes n) c ((log_seen s.nodes n c).digested + 0 - (log_in s.nodes n c).digested)) ≡ s.nodes =
+    ap (λ k. with_region s.nodes n (digested_by (region_in s.nodes n) c k)) none
+    ∙ ap (with_region s.nodes n) (none_made (region_in s.nodes n) c)
+    ∙ set-get_or s.nodes (n - 1) new_region in
+    (λ i. record s { nodes = nodes i; members = none_noted s.members n i })
+
+-- ---- one client's records
+
+-- as the code finds it
+
+pub digests_as : (s : StateValue) (n c count : ℕ) → HasLog s.nodes n c → (rs : List RegionValue) (m : Membership) (is : List ℕ) → rs ≡ with_region s.nodes n (digested_by (region_in s.nodes n) c count) →
+    m ≡ noted s.members n (set.from_list is) → is ≡ touched (all_effects (take count (ahead (log_in s.nodes n c)))) → record s { nodes = rs; members = m } ≡ digests_some s n c count
+unfolding world_of
+digests_as s n c count has rs m is nodes members inodes =
+    let same : (log_seen s.nodes n c).digested ≡ (log_in s.nodes n c).digested = ap (λ l. l.digested) (log_is s n c has) in
+    let so_many : count ≡ (log_seen s.nodes n c).digested + count - (log_in s.nodes n c).digested = omega (arith, same) in
+    let there = nodes ∙ ap (λ k. with_region s.nodes n (digested_by (region_in s.nodes n) c k)) so_many in
+    let listed = members ∙ ap (λ l. noted s.members n (set.from_list l)) inodes in
+    (λ i. record s { nodes = there i; members = listed i })
+
+-- what the node has then
+
+pub has_after : (rs : List RegionValue) (n c count : ℕ) → HasLog rs n c → HasLog (with_region rs n (digested_by (region_in rs n) c count)) n c
+has_after rs n c count has =
+    let nodes : length (with_region rs n (digested_by (region_in rs n) c count)) ≡ length rs = length-set rs (n - 1) (digested_by (region_in rs n) c count) in
+    let logs : length (slice_set (region_in rs n).logs (c - 1) (digested_further (log_in rs n c) count)) ≡ length (region_in rs n).logs =
+    length-set (region_in rs n).logs (c - 1) (digested_further (log_in rs n c) count) in
+    let there = has.client.there in
+    let region : region_in (with_region rs n (digested_by (region_in rs n) c count)) n ≡ digested_by (region_in rs n) c count =
+    get_or-set_same rs (n - 1) (digested_by (region_in rs n) c count) new_region (omega (arith, has.node.some, has.node.there)) in
+    record {
+      node = record { some = has.node.some; there = omega (arith, nodes, has.node.there) };
+      client = subst (λ r. HasClient r c) (sym region) (record { some = has.client.some; there = omega (arith, logs, there) });
+    }
+
+pub log_after : (rs : List RegionValue) (n c count : ℕ) → HasLog rs n c → log_in (with_region rs n (digested_by (region_in rs n) c count)) n c ≡ digested_further (log_in rs n c) count
+log_after rs n c count has =
+    let there = has.client.there in
+    ap (λ r. log_of r c) (get_or-set_same rs (n - 1) (digested_by (region_in rs n) c count) new_region (omega (arith, has.node.some, has.node.there)))
+    ∙ get_or-set_same (region_in rs n).logs (c - 1) (digested_further (log_in rs n c) count) no_log (omega (arith, has.client.some, there))
+
+module _ (s : StateValue) (n c : ℕ) (shape : IsShaped s) (sound : ∥ IsSound (world_of s) ∥₁) (here : is_full_in (standings s) n ≡ true) (client : IsNumber s.clients c) where
+  abbrev w : World
+  w = world_of s
+
+  pub has_here : HasLog s.nodes n c
+  has_here = has_log s n c shape here client
+
+  full_here : Full w n
+  full_here = seen_full s n here
+
+  was : log_seen s.nodes n c ≡ log_in s.nodes n c
+  was = log_is s n c has_here
+
+  first_is : (log_seen s.nodes n c).log.first ≡ w.first c
+  first_is = ∥∥₁_elim sound (search props) (λ h. same_first s n c h full_here)
+
+  from_first : w.first c ≤ w.digested n c
+  from_first = ∥∥₁_elim sound (search props) (λ h. (h.coherent.order n c full_here).begun)
+
+  pub acknowledged : w.digested n c ≤ received_by_all w c
+  acknowledged = ∥∥₁_elim sound (search props) (λ h. (h.coherent.order n c full_here).acknowledged)
+
+  pub digested_is : w.digested n c ≡ (log_in s.nodes n c).digested
+  unfolding world_of
+  digested_is = ap (λ l. l.digested) was
+
+  -- as the code finds it: so many records may be digested
+  pub wanted_as : (r : RegionValue) (from acked at_most wanted : ℕ) → from ≡ (log_of r c).digested → r ≡ region_in s.nodes n → acked ≡ received_by_all w c →
+      wanted ≡ min at_most (acked - from) → wanted ≡ min at_most (undigested w n c)
+  wanted_as r from acked at_most wanted log region all is =
+      let there : from ≡ w.digested n c = log ∙ ap (λ x. (log_of x c).digested) region ∙ sym digested_is in
+      is ∙ (λ i. min at_most (all i - there i))
+
+  -- what all full nodes have, this one has
+  pub some_ahead : undigested w n c ≤ length (ahead (log_in s.nodes n c))
+  unfolding world_of
+  some_ahead =
+      let l = log_in s.nodes n c in
+      let all : received_by_all w c ≤ w.received n c = received_by_all-below w n c full_here in
+      let ends : w.received n c ≡ l.log.first + length l.log.records = ap (λ x. log_end x.log) was in
+      let first : l.log.first ≡ w.first c = ap (λ x. x.log.first) (sym was) ∙ first_is in
+      let left : length (ahead l) ≡ length l.log.records - (l.digested - l.log.first) = length-drop (l.digested - l.log.first) l.log.records in
+      omega (arith, all, ends, first, left, from_first, digested_is)
+
+  -- no other client's records touch what these touch
+
+  written : IsSound w → (j i : ℕ) → contains (touched (all_effects (ahead (log_at (region_in s.nodes n) j)))) i ≡ true → w.writes (suc j) i ≡ true
+  unfolding world_of log_seen at Guarded
+  written h j i touches =
+      let l = log_at (region_in s.nodes n) j in
+      let log : contains (touched (all_effects l.log.records)) i ≡ true = contains-drop l.log.records (l.digested - l.log.first) i touches in
+      let seen : l.log.records ≡ w.log n (suc j) = ap (λ r. (log_at r j).log.records) (sym (region_is s n has_here.node)) in
+      let front : l.log.records ≡ take (w.received n (suc j) - w.first (suc j)) (w.records (suc j)) = seen ∙ h.fronts n (suc j) full_here in
+      h.coherent.guarded (suc j) i
+      (contains-take (w.records (suc j)) (w.received n (suc j) - w.first (suc j)) i (ap (λ rs. contains (touched (all_effects rs)) i) (sym front) ∙ log))
+
+  apart_of : IsSound w → (j k : ℕ) → j ≢ k → (i : ℕ) → contains (touched (all_effects (ahead (log_at (region_in s.nodes n) j)))) i ≡ true →
+      contains (touched (all_effects (ahead (log_at (region_in s.nodes n) k)))) i ≡ false
+  unfolding Compatible WritesAreHeld
+  apart_of h j k other i touches =
+      false_from_ne_true (contains (touched (all_effects (ahead (log_at (region_in s.nodes n) k)))) i)
+      (λ there. h.coherent.compatible (suc j) (suc k) i (λ is. other (omega (arith, is))) (written h j i touches) (h.held (suc k) i (written h k i there)))
+
+  pub touch_apart : TouchApart (region_in s.nodes n)
+  touch_apart j k other i touches = ∥∥₁_elim sound (search props) (λ h. apart_of h j k other i touches)
+
+  -- ---- so many of them
+
+  module _ (count : ℕ) (few : count ≤ undigested w n c) where
+    abbrev t : StateValue
+    t = digests_some s n c count
+
+    abbrev place : ℕ
+    place = w.digested n c + count
+
+    abbrev inodes : set.FinSet nat_cmp
+    inodes = set.from_list (touched (all_effects (take count (ahead (log_in s.nodes n c)))))
+
+    may : MayDigest w n c place
+    unfolding world_of
+    may = record { full_node = full_here; from = omega arith; to = omega (arith, few, acknowledged); border_to = refl }
+
+    below_is : ahead_below w n c place ≡ take count (ahead (log_in s.nodes n c))
+    unfolding ahead_below
+    below_is =
+        let so_many : place - w.digested n c ≡ count = omega arith in
+        (λ i. take (so_many i) (ahead_first s n c first_is i)) ∙ ap (λ l. take count (ahead l)) was
+
+    pub noted_so : DigestsNoted w s.members n c place inodes (world_of t) t.members
+    noted_so =
+        noted_front s n c place inodes shape first_is client may
+        (λ i. contains-from_list_nat (touched (all_effects (take count (ahead (log_in s.nodes n c))))) i ∙ ap (λ rs. contains (touched (all_effects rs)) i) (sym below_is))
+
+    pub next_shape : IsShaped t
+    next_shape = digest_shaped s n c place inodes shape
+
+    pub next_sound : ∥ IsSound (world_of t) ∥₁
+    next_sound = ∥∥₁_map sound (λ h. digest_sound w (world_of t) n c place h noted_so.digests)

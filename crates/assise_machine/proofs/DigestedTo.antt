@@ -1,0 +1,209 @@
+-- A node's digest of one client's records after another's, as the laws have it.
+use Rattle.std.proofs.Common.{◌≡◌, ℕ, zero, suc, ◌+◌, ◌-◌, ◌<◌, ◌≤◌, min, true, take, length, inl, inr, refl, ap, sym, subst, ◌∙◌, arith}
+use Rattle.std.proofs.lemmas.Bool.{cases_lt}
+use Rattle.std.specs.FinSet as set
+use Rattle.assise_inode_table.specs.Effects.{contains, touched}
+use Rattle.assise_digest.specs.Ahead.{all_effects}
+use Rattle.assise_digest.specs.Region.{ahead}
+use Rattle.assise_machine_laws.specs.Sound.{IsSound}
+use Rattle.assise_machine_laws.specs.World.{World, received_by_all}
+use Rattle.assise_machine_returns.specs.Returns.{DigestsNoted}
+use Rattle.assise_machine_events.specs.NodeEvents.{DigestsTo, most_digested, part_of, undigested, undigested_to}
+use Rattle.assise_machine_events.proofs.Digestible.{same_received}
+use Rattle.assise_machine_state.specs.NodeValues.{log_in}
+use Rattle.assise_machine_state.specs.Observed.{is_full_in, world_of}
+use Rattle.assise_machine_state.specs.Places.{IsNumber}
+use Rattle.assise_machine_state.specs.Shape.{IsShaped}
+use Rattle.assise_machine_state.specs.StateValues.{StateValue, standings}
+use Rattle.assise_machine_state.proofs.Fullness.{full_seen, seen_full}
+use Rattle.assise_machine.specs.Digesting.{digests_some, digests_to}
+use Rattle.assise_machine.proofs.Digested.{has_here, next_shape, next_sound, none_digested, noted_so}
+
+-- ---- what stays
+
+-- the rest of the state, and what the next client's digest needs
+pub record StillSame (s t : StateValue) (n m : ℕ) : Type 0 where
+  pub clients : t.clients ≡ s.clients
+  pub levels : t.levels ≡ s.levels
+  pub cuts : t.cuts ≡ s.cuts
+  pub history : t.history ≡ s.history
+  pub limit : t.limit ≡ s.limit
+  pub full : (world_of t).full ≡ (world_of s).full
+  pub received : (c : ℕ) → received_by_all (world_of t) c ≡ received_by_all (world_of s) c
+  pub later : (c : ℕ) → m < c → (world_of t).digested n c ≡ (world_of s).digested n c
+  pub shape : IsShaped t
+  pub sound : ∥ IsSound (world_of t) ∥₁
+
+-- ---- one client after another
+
+module _ (s : StateValue) (n : ℕ) (shape : IsShaped s) (sound : ∥ IsSound (world_of s) ∥₁) (here : is_full_in (standings s) n ≡ true) where
+  abbrev w : World
+  w = world_of s
+
+  -- with a client more
+
+  module _ (t : StateValue) (m : ℕ) (same : StillSame s t n m) (last : m < length s.clients) where
+    next_here : is_full_in (standings t) n ≡ true
+    next_here = full_seen t n (ap (λ ns. contains ns n) same.full ∙ seen_full s n here)
+
+    next_client : IsNumber t.clients (suc m)
+    next_client = (let counted = ap length same.clients in record { some = omega arith; there = omega (arith, counted, last) })
+
+    next_undigested : undigested (world_of t) n (suc m) ≡ undigested w n (suc m)
+    next_undigested = (let now = same.later (suc m) (omega arith) in let all = same.received (suc m) in omega (arith, now, all))
+
+    module _ (count : ℕ) (few : count ≤ undigested w n (suc m)) where
+      few_next : count ≤ undigested (world_of t) n (suc m)
+      few_next = omega (arith, few, next_undigested)
+
+      abbrev u : StateValue
+      u = digests_some t n (suc m) count
+
+      abbrev place : ℕ
+      place = (world_of t).digested n (suc m) + count
+
+      next_noted : DigestsNoted (world_of t) t.members n (suc m) place (set.from_list (touched (all_effects (take count (ahead (log_in t.nodes n (suc m))))))) (world_of u) u.members
+      next_noted = noted_so t n (suc m) same.shape same.sound next_here next_client count few_next
+
+      next_same : StillSame s u n (suc m)
+      next_same = record {
+        clients = same.clients;
+        levels = same.levels;
+        cuts = same.cuts;
+        history = same.history;
+        limit = same.limit;
+        full = next_noted.digests.full ∙ same.full;
+        received = λ c. same_received (world_of t) (world_of u) n (suc m) place next_noted.digests c ∙ same.received c;
+        later = λ c above. next_noted.digests.digested_else n c next_noted.digests.full_node (λ is own. omega (arith, above, own)) ∙ same.later c (omega (arith, above));
+        shape = next_shape t n (suc m) same.shape same.sound next_here next_client count few_next;
+        sound = next_sound t n (suc m) same.shape same.sound next_here next_client count few_next;
+      }
+
+  part_low : (count m : ℕ) → part_of w n count (suc m) ≤ undigested w n (suc m)
+  part_low count m = omega arith
+
+  pub same_to : (count m : ℕ) → m ≤ length s.clients → StillSame s (digests_to s n count m) n m
+  same_to count zero last = record {
+    clients = refl;
+    levels = refl;
+    cuts = refl;
+    history = refl;
+    limit = refl;
+    full = refl;
+    received = λ c. refl;
+    later = λ c above. refl;
+    shape = shape;
+    sound = sound;
+  }
+  same_to count (suc m) last = next_same (digests_to s n count m) m (same_to count m (omega (arith, last))) (omega (arith, last)) (part_of w n count (suc m)) (part_low count m)
+
+  pub course_to : (count m : ℕ) → m ≤ length s.clients → DigestsTo n count w w s.members m (world_of (digests_to s n count m)) (digests_to s n count m).members
+  course_to count zero last = (refl, refl)
+  course_to count (suc m) last =
+      let t : StateValue = digests_to s n count m in
+      let same : StillSame s t n m = same_to count m (omega (arith, last)) in (
+        world_of t,
+        (
+          t.members,
+          (
+            course_to count m (omega (arith, last)),
+            record {
+              inodes = set.from_list (touched (all_effects (take (part_of w n count (suc m)) (ahead (log_in t.nodes n (suc m))))));
+              digests = next_noted t m same (omega (arith, last)) (part_of w n count (suc m)) (part_low count m);
+            },
+          ),
+        ),
+      )
+
+  -- ---- other counts give the same
+
+  -- where each has enough for all
+  enough_same : (a b m : ℕ) → undigested_to w n m ≤ a → undigested_to w n m ≤ b → digests_to s n a m ≡ digests_to s n b m
+  enough_same a b zero first second = refl
+  enough_same a b (suc m) first second =
+      let parts : part_of w n a (suc m) ≡ part_of w n b (suc m) = omega (arith, first, second) in
+      let before = enough_same a b m (omega (arith, first)) (omega (arith, second)) in
+      (λ i. digests_some (before i) n (suc m) (parts i))
+
+  none_more : (count m : ℕ) → m < length s.clients → part_of w n count (suc m) ≡ 0 → digests_to s n count (suc m) ≡ digests_to s n count m
+  none_more count m last none =
+      let t : StateValue = digests_to s n count m in
+      let same : StillSame s t n m = same_to count m (omega (arith, last)) in
+      ap (digests_some t n (suc m)) none ∙ none_digested t n (suc m) (has_here t n (suc m) same.shape same.sound (next_here t m same last) (next_client t m same last))
+
+  -- memory ran out before
+  pub stopped_before : (count m : ℕ) → m < length s.clients → count ≤ undigested_to w n m → digests_to s n count (suc m) ≡ digests_to s n count m
+  stopped_before count m last few = none_more count m last (omega (arith, few))
+
+  pub none_to : (m : ℕ) → m ≤ length s.clients → digests_to s n 0 m ≡ s
+  none_to zero last = refl
+  none_to (suc m) last = none_more 0 m (omega (arith, last)) (omega arith) ∙ none_to m (omega (arith, last))
+
+  -- a client's part behind those of the clients before
+  pub part_behind : (a b m : ℕ) → a ≡ min most_digested (undigested_to w n m) → b ≤ min (most_digested - a) (undigested w n (suc m)) →
+      digests_some (digests_to s n a m) n (suc m) b ≡ digests_to s n (a + b) (suc m)
+  part_behind a b m all few =
+      let part : b ≡ part_of w n (a + b) (suc m) = omega (arith, all, few) in
+      elim (cases_lt a (undigested_to w n m)) [
+        | inl most ↦ (let none : a ≡ a + b = omega (arith, all, few, most) in (λ i. digests_some (digests_to s n (none i) m) n (suc m) (part i)))
+        | inr enough ↦
+            let before = enough_same a (a + b) m (omega (arith, enough)) (omega (arith, enough)) in
+            (λ i. digests_some (before i) n (suc m) (part i))
+      ]
+
+  pub undigested_next : (count m : ℕ) → m < length s.clients → undigested (world_of (digests_to s n count m)) n (suc m) ≡ undigested w n (suc m)
+  undigested_next count m last = next_undigested (digests_to s n count m) m (same_to count m (omega (arith, last))) last
+
+  -- ---- as the code finds it, which counts clients down from the last
+
+  module _ (last m : ℕ) (next : suc m ≡ last) (there : last ≤ length s.clients) where
+    low : m < length s.clients
+    low = omega (arith, next, there)
+
+    module _ (t : StateValue) (a : ℕ) (is : t ≡ digests_to s n a m) where
+      same_as : StillSame s t n m
+      same_as = subst (λ u. StillSame s u n m) (sym is) (same_to a m (omega (arith, low)))
+
+      pub here_as : is_full_in (standings t) n ≡ true
+      here_as = next_here t m same_as low
+
+      pub client_as : IsNumber t.clients last
+      client_as = subst (IsNumber t.clients) next (next_client t m same_as low)
+
+      pub shape_as : IsShaped t
+      shape_as = same_as.shape
+
+      pub sound_as : ∥ IsSound (world_of t) ∥₁
+      sound_as = same_as.sound
+
+      undigested_as : undigested (world_of t) n last ≡ undigested w n last
+      undigested_as = subst (λ c. undigested (world_of t) n c ≡ undigested w n c) next (next_undigested t m same_as low)
+
+      -- memory ran out before
+      pub stopped_as : a ≤ undigested_to w n m → t ≡ digests_to s n a last
+      stopped_as few = is ∙ sym (subst (λ c. digests_to s n a c ≡ digests_to s n a m) next (stopped_before a m low few))
+
+      sum_as : undigested_to w n last ≡ undigested_to w n m + undigested w n last
+      sum_as = subst (λ c. undigested_to w n c ≡ undigested_to w n m + undigested w n c) next refl
+
+      pub still_few : a ≤ min most_digested (undigested_to w n m) → a ≤ min most_digested (undigested_to w n last)
+      still_few few = omega (arith, few, sum_as)
+
+      pub still_refused : a < undigested_to w n m → a < undigested_to w n last
+      still_refused few = omega (arith, few, sum_as)
+
+      -- a part more
+      module _ (b : ℕ) (all : a ≡ min most_digested (undigested_to w n m)) (few : b ≤ min (most_digested - a) (undigested (world_of t) n last)) where
+        pub both_as : (u : StateValue) → u ≡ digests_some t n last b → u ≡ digests_to s n (a + b) last
+        both_as u then_is =
+            let low_part : b ≤ min (most_digested - a) (undigested w n (suc m)) = subst (λ c. b ≤ min (most_digested - a) (undigested w n c)) (sym next) (omega (arith, few, undigested_as)) in
+            then_is ∙ ap (λ v. digests_some v n last b) is ∙ subst (λ c. digests_some (digests_to s n a m) n c b ≡ digests_to s n (a + b) c) next (part_behind a b m all low_part)
+
+        pub few_as : a + b ≤ min most_digested (undigested_to w n last)
+        few_as = omega (arith, all, few, sum_as, undigested_as)
+
+        pub all_as : b ≡ min (most_digested - a) (undigested (world_of t) n last) → a + b ≡ min most_digested (undigested_to w n last)
+        all_as rest = omega (arith, all, rest, sum_as, undigested_as)
+
+        pub refused_as : b < min (most_digested - a) (undigested (world_of t) n last) → a + b < undigested_to w n last
+        refused_as short = omega (arith, all, short, sum_as, undigested_as)

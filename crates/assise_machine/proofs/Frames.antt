@@ -1,0 +1,157 @@
+-- What a node sends of a client's log, as the laws have it.
+use Rattle.std.proofs.Common.{append-nil, ◌≡◌, ℕ, zero, suc, ◌-◌, ◌<◌, ◌≤◌, ◌==◌, min, Bool, true, List, [], ◌∷◌, ◌++◌, filter, length, nat_le, nat_lt, Option, Some, None, inl, inr, refl, ap, sym, ◌∙◌, arith, eq-eqb}
+use Rattle.std.specs.Option.{option_to_list}
+use Rattle.std.proofs.Math.Logic.{∥∥₁_elim}
+use Rattle.std.proofs.Props.{props}
+use Rattle.std.proofs.lemmas.Bool.{and_parts, cases_Bool, eqb-true, or_cases, or_left, or_right}
+use Rattle.std.proofs.lemmas.Map.Views.{any-filter_same}
+use Rattle.assise_names.specs.declared.refusal.Refusal.TheVariants.{WrongPhase}
+use Rattle.assise_record.specs.LogFrame.{LogFrame}
+use Rattle.assise_private_log.specs.NumberedLog.{end as log_end}
+use Rattle.assise_chain.specs.Chains.{behind, chain, first_of_all}
+use Rattle.assise_chain.specs.Messages.{message_of}
+use Rattle.assise_inode_table.specs.Effects.{contains}
+use Rattle.assise_inode_table.proofs.Making.{contains-append}
+use Rattle.assise_manager.specs.Standings.{Standing, down, full, full_nodes, returning, standing_of}
+use Rattle.assise_machine_events.specs.Faults.{node_fault, unless_full}
+use Rattle.assise_machine_events.specs.Machine.{Holds, Machine}
+use Rattle.assise_machine_events.specs.NodeEvents.{for_node, frame_for, frames_to, next_node, node_log}
+use Rattle.assise_machine_state.specs.ClientValues.{ClientValue, client_in}
+use Rattle.assise_machine_state.specs.NodeValues.{HasLog, log_in}
+use Rattle.assise_machine_state.specs.Observed.{is_full_in, observed, stands_full, world_of}
+use Rattle.assise_machine_state.specs.Places.{IsNumber}
+use Rattle.assise_machine_state.specs.Shape.{IsShaped}
+use Rattle.assise_machine_state.specs.StateValues.{StateValue, standings}
+use Rattle.assise_machine_state.proofs.Fullness.{has_log, log_is, same_first, seen_full}
+use Rattle.assise_machine_state.proofs.Seeing.{client_is}
+use Rattle.assise_machine_state.proofs.Standings.{listed_is_full}
+
+-- ---- a node at which nothing is wrong is full
+
+stands_fine : (o : Option Standing) → unless_full WrongPhase o ≡ None → stands_full o ≡ true
+stands_fine None fine = cc
+stands_fine (Some full) fine = refl
+stands_fine (Some (down since)) fine = cc
+stands_fine (Some (returning since donor stale)) fine = cc
+
+pub fine_node : (s : StateValue) (n : ℕ) → node_fault (observed s) n ≡ None → is_full_in (standings s) n ≡ true
+unfolding observed is_full_in
+fine_node s n fine = stands_fine (standing_of (standings s) n) fine
+
+-- ---- who stands behind another in a chain is one of its nodes
+
+first_there : (ns : List ℕ) (k : ℕ) → first_of_all ns ≡ Some k → contains ns k ≡ true
+first_there [] k is = cc
+first_there (n ∷ ns) k is = (let same : n ≡ k = cc is in or_left (n == k) (contains ns k) (eq-eqb n k same))
+
+behind_there : (ns : List ℕ) (n k : ℕ) → behind n ns ≡ Some k → contains ns k ≡ true
+behind_there [] n k is = cc
+behind_there (m ∷ ns) n k is =
+    elim (cases_Bool (m == n)) [
+      | inl here ↦ (let next : first_of_all ns ≡ Some k = rw here at is in or_right (m == k) (contains ns k) (first_there ns k next))
+      | inr other ↦ (let later : behind n ns ≡ Some k = rw other at is in or_right (m == k) (contains ns k) (behind_there ns n k later))
+    ]
+
+kept_there : (p : ℕ → Bool) (ns : List ℕ) (k : ℕ) → contains (filter p ns) k ≡ true → contains ns k ≡ true
+kept_there p ns k there = (and_parts (p k) (contains ns k) (sym (any-filter_same (λ j. j == k) p (p k) (λ j is. ap p (eqb-true j k is)) ns) ∙ there)).1
+
+chain_there : (ns : List ℕ) (head k : ℕ) → contains (chain ns head) k ≡ true → contains ns k ≡ true
+chain_there ns head k there =
+    elim (or_cases (contains (filter (nat_le head) ns) k) (contains (filter (λ n. nat_lt n head) ns) k) (sym (contains-append (filter (nat_le head) ns) (filter (λ n. nat_lt n head) ns) k) ∙ there)) [
+      | inl above ↦ kept_there (nat_le head) ns k above
+      | inr below ↦ kept_there (λ n. nat_lt n head) ns k below
+    ]
+
+next_full : (nodes : List Standing) (head n k : ℕ) → behind n (chain (full_nodes nodes) head) ≡ Some k → is_full_in nodes k ≡ true
+next_full nodes head n k is = listed_is_full nodes k (chain_there (full_nodes nodes) head k (behind_there (chain (full_nodes nodes) head) n k is))
+
+-- ---- what there is to send of a client
+
+pub few_clients : (s : StateValue) → ∥ Holds (observed s) ∥₁ → length s.clients ≤ 16
+unfolding observed world_of
+few_clients s holds = ∥∥₁_elim holds (search props) (λ h. h.clients)
+
+module _ (s : StateValue) (n c : ℕ) (shape : IsShaped s) (holds : ∥ Holds (observed s) ∥₁) (client : IsNumber s.clients c)
+  where
+    -- the node behind this one in the chain
+    abbrev next : Option ℕ
+    next = behind n (chain (full_nodes (standings s)) (client_in s.clients c).home)
+
+    pub next_log : (k : ℕ) → next ≡ Some k → HasLog s.nodes k c
+    next_log k is = has_log s k c shape (next_full (standings s) (client_in s.clients c).home n k is) client
+
+    next_is : next_node (observed s) n c ≡ next
+    unfolding observed world_of
+    next_is = ap (λ x. behind n (chain (full_nodes (standings s)) x.home)) (client_is s.clients c client)
+
+    pub none_sent : None ≡ next → [] ≡ frame_for (observed s) n c (next_node (observed s) n c)
+    none_sent is = sym (ap (frame_for (observed s) n c) (next_is ∙ sym is))
+
+    goal_is : (observed s).world.goal c ≡ (client_in s.clients c).goal
+    unfolding observed world_of
+    goal_is = ap (λ x. x.goal) (client_is s.clients c client)
+
+    received_is : (k : ℕ) → HasLog s.nodes k c → (observed s).world.received k c ≡ log_end (log_in s.nodes k c).log
+    unfolding observed world_of
+    received_is k has = ap (λ l. log_end l.log) (log_is s k c has)
+
+    module _ (full_node : is_full_in (standings s) n ≡ true)
+      where
+        has : HasLog s.nodes n c
+        has = has_log s n c shape full_node client
+
+        first_is : (observed s).world.first c ≡ (log_in s.nodes n c).log.first
+        unfolding observed
+        first_is =
+            sym (∥∥₁_elim holds (search props) (λ h. same_first s n c h.sound (seen_full s n full_node)))
+            ∙ ap (λ l. l.log.first) (log_is s n c has)
+
+        records_is : (observed s).world.log n c ≡ (log_in s.nodes n c).log.records
+        unfolding observed world_of
+        records_is = ap (λ l. l.log.records) (log_is s n c has)
+
+        limit_is : (observed s).limit ≡ (log_in s.nodes n c).log.limit
+        unfolding observed
+        limit_is = sym (shape.limits n c has)
+
+        log_as : node_log (observed s) n c ≡ (log_in s.nodes n c).log
+        log_as = λ i. record { first = first_is i; limit = limit_is i; records = records_is i }
+
+        epoch_is : (observed s).members.epoch ≡ s.members.epoch
+        unfolding observed
+        epoch_is = refl
+
+        pub some_sent : (k : ℕ) → next ≡ Some k →
+            frame_for (observed s) n c (next_node (observed s) n c)
+            ≡ for_node k (message_of (log_in s.nodes n c).log s.members.epoch c (log_end (log_in s.nodes k c).log) (min (client_in s.clients c).goal (log_end (log_in s.nodes n c).log)))
+        some_sent k is =
+            ap (frame_for (observed s) n c) (next_is ∙ is)
+            ∙ (λ i. for_node k (message_of (log_as i) (epoch_is i) c (received_is k (next_log k is) i) (min (goal_is i) (received_is n has i))))
+
+    -- as the code finds it
+    pub next_as : (found : Option ℕ) (listed : List ℕ) (home : ℕ) (x : ClientValue) → found ≡ behind n (chain listed home) → listed ≡ full_nodes (standings s) → home ≡ x.home → x ≡ client_in s.clients c → found ≡ next
+    next_as found listed home x is all of_client known = is ∙ (λ i. behind n (chain (all i) (of_client i))) ∙ ap (λ y. behind n (chain (full_nodes (standings s)) y.home)) known
+
+-- ---- the frames of all clients
+
+pub all_clients : (s : StateValue) → (observed s).world.clients ≡ length s.clients
+unfolding observed world_of
+all_clients s = refl
+
+last_number : (k : ℕ) → suc k - 1 ≡ k
+last_number k = omega arith
+
+module _ (m : Machine) (n c : ℕ) (frames more : List (LogFrame × ℕ)) (one : Option (LogFrame × ℕ)) (some : 0 < c) (first : frames ≡ frames_to m n (c - 1)) (is : option_to_list one ≡ frame_for m n c (next_node m n c))
+  where
+    one_more : more ≡ frames ++ option_to_list one → more ≡ frames_to m n c
+    one_more all = all ∙ (λ i. first i ++ is i) ∙ next c some
+      where
+        next : (k : ℕ) → 0 < k → frames_to m n (k - 1) ++ frame_for m n k (next_node m n k) ≡ frames_to m n k
+        next zero none = absurd (omega (arith, none))
+        next (suc k) here = rw (last_number k) refl
+
+    pub with_frame : (f : LogFrame × ℕ) → one ≡ Some f → more ≡ frames ++ f ∷ [] → more ≡ frames_to m n c
+    with_frame f found added = one_more (added ∙ ap (λ o. frames ++ option_to_list o) (sym found))
+
+    pub without_frame : one ≡ None → more ≡ frames → more ≡ frames_to m n c
+    without_frame none same = one_more (same ∙ sym (append-nil frames) ∙ ap (λ o. frames ++ option_to_list o) (sym none))

@@ -1,0 +1,44 @@
+-- The inodes that the first records of a list touch.
+use Rattle.std.proofs.Common.{◌≡◌, ℕ, zero, suc, ◌+◌, ◌≤◌, List, [], ◌∷◌, ◌++◌, length, take, ap, ◌∙◌, refl, arith}
+use Rattle.std.proofs.lemmas.List.{length-append, take-map}
+use Rattle.assise_record.specs.LogRecord.{LogRecord}
+use Rattle.assise_record.specs.Touched.{touched_by}
+use Rattle.assise_inode_table.specs.Effects.{touched}
+use Rattle.assise_digest.specs.Ahead.{all_effects}
+
+-- the first item of a front
+pub taken_first : {X : Type 0} (n m : ℕ) (xs ys : List X) (x : X) → m + 1 ≡ n → xs ≡ x ∷ ys → take n xs ≡ x ∷ take m ys
+taken_first n m xs ys x next is =
+    let same : n ≡ suc m = omega (arith, next) in
+    ap (λ k. take k xs) same ∙ ap (take (suc m)) is
+
+-- of a front of a front
+
+front_effects : (rs : List LogRecord) (k n : ℕ) → k ≤ n → take (length (all_effects (take k rs))) (all_effects (take n rs)) ≡ all_effects (take k rs)
+front_effects rs zero n low = refl
+front_effects [] (suc k) n low = none n
+  where
+    none : (n : ℕ) → take 0 (all_effects (take n [])) ≡ []
+    none n = refl
+front_effects (r ∷ rs) (suc k) zero low = absurd (omega (arith, low))
+front_effects (r ∷ rs) (suc k) (suc n) low =
+    behind r.effects (all_effects (take k rs)) (all_effects (take n rs)) (front_effects rs k n (omega (arith, low)))
+  where
+    behind : {X : Type 0} (es fs gs : List X) → take (length fs) gs ≡ fs → take (length (es ++ fs)) (es ++ gs) ≡ es ++ fs
+    behind [] fs gs is = is
+    behind (e ∷ es) fs gs is = ap (λ l. e ∷ l) (behind es fs gs is)
+
+-- the inodes of the first records are the first of the inodes
+pub front_touched : (rs : List LogRecord) (k n : ℕ) → k ≤ n → take (length (all_effects (take k rs))) (touched (all_effects (take n rs))) ≡ touched (all_effects (take k rs))
+front_touched rs k n low = take-map touched_by (length (all_effects (take k rs))) (all_effects (take n rs)) ∙ ap touched (front_effects rs k n low)
+
+-- and they are no more than all
+pub fewer_effects : (rs : List LogRecord) (k n : ℕ) → k ≤ n → length (all_effects (take k rs)) ≤ length (all_effects (take n rs))
+fewer_effects rs zero n low = omega arith
+fewer_effects [] (suc k) n low = omega arith
+fewer_effects (r ∷ rs) (suc k) zero low = absurd (omega (arith, low))
+fewer_effects (r ∷ rs) (suc k) (suc n) low =
+    let own : length (r.effects ++ all_effects (take k rs)) ≡ length r.effects + length (all_effects (take k rs)) = length-append r.effects (all_effects (take k rs)) in
+    let all : length (r.effects ++ all_effects (take n rs)) ≡ length r.effects + length (all_effects (take n rs)) = length-append r.effects (all_effects (take n rs)) in
+    let behind = fewer_effects rs k n (omega (arith, low)) in
+    omega (arith, own, all, behind)

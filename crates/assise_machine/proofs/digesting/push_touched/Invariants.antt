@@ -1,0 +1,7 @@
+use Rattle.std.proofs.Common.{◌≡◌, ◌++◌, take}
+use Rattle.assise_inode_table.specs.Effects.{touched}
+use Rattle.assise_machine.proofs.digesting.push_touched.Given as goal
+
+-- the inodes of the first effects were added
+abbrev pub invariant-loop-effect : goal.invariant-loop-effect
+invariant-loop-effect l = l.inodes.items ≡ l.fn.inodes.items ++ touched (take l.effect-index l.effects)

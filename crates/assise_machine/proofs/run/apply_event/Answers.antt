@@ -1,0 +1,28 @@
+use Rattle.std.proofs.Common.{◌≡◌, ℕ, sym, subst}
+use Rattle.assise_machine_events.specs.Events.{Answer}
+use Rattle.assise_machine_events.specs.Machine.{Machine}
+use Rattle.assise_machine.specs.declared.event.Event.{Event}
+use Rattle.assise_machine.specs.Running.{IsServed, event_seen, happens}
+use Rattle.assise_machine.proofs.run.apply_event.Goals as goal
+
+-- the event by its case
+seen_so : {k : ℕ} {m m' : Machine} {e f : Event} {a : Answer} → e ≡ f → IsServed k m (event_seen f) a m' → IsServed k m (event_seen e) a m'
+seen_so {k} {m} {m'} {e} {f} {a} is h = subst (λ x. IsServed k m (event_seen x) a m') (sym is) h
+
+pub returns-in-Open-clause-served : goal.returns-in-Open-clause-served
+returns-in-Open-clause-served g c = seen_so c.in-Open.is c.open_next.ensures.served
+
+pub returns-in-Fsync-clause-served : goal.returns-in-Fsync-clause-served
+returns-in-Fsync-clause-served g c = seen_so c.in-Fsync.is (happens c.try_fsync.ensures.happens)
+
+pub returns-in-Outgoing-clause-served : goal.returns-in-Outgoing-clause-served
+returns-in-Outgoing-clause-served g c = seen_so c.in-Outgoing.is (happens c.outgoing.ensures)
+
+pub returns-in-Deliver-clause-served : goal.returns-in-Deliver-clause-served
+returns-in-Deliver-clause-served g c = seen_so c.in-Deliver.is (happens c.deliver_copy.ensures.happens)
+
+pub returns-in-Digest-clause-served : goal.returns-in-Digest-clause-served
+returns-in-Digest-clause-served g c = seen_so c.in-Digest.is (happens c.digest.ensures.happens)
+
+pub returns-in-ReleaseReady-clause-served : goal.returns-in-ReleaseReady-clause-served
+returns-in-ReleaseReady-clause-served g c = seen_so c.in-ReleaseReady.is (happens c.release_ready.ensures.happens)

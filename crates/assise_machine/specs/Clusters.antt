@@ -1,0 +1,28 @@
+-- What is seen of a cluster.
+use Rattle.std.specs.Prelude.{ℕ, Option}
+use Rattle.std.proofs.Math.Bridge.{le_prop}
+use Rattle.std.proofs.Math.Logic.{∥∥₁_elim}
+use Rattle.assise_history.specs.Opened.{OpensOnce}
+use Rattle.assise_history.proofs.Counting.{opens_once}
+use Rattle.assise_digest.specs.Region.{RegionValue}
+use Rattle.assise_lease_tree.specs.Trees.{stored_by}
+use Rattle.assise_machine_events.specs.Machine.{Machine}
+use Rattle.assise_machine_state.specs.NodeValues.{region_seen}
+use Rattle.assise_machine_state.specs.Whole.{machine_of}
+use Rattle.assise_machine.specs.declared.cluster.ClusterOf.{ClusterOf}
+
+-- what the laws observe
+abbrev pub machine : {C : Type 0} → ClusterOf C → Machine
+machine cluster = machine_of cluster.sound.state
+
+-- what a node has
+abbrev pub region_of : {C : Type 0} → ClusterOf C → ℕ → RegionValue
+region_of cluster n = region_seen cluster.sound.state.nodes n
+
+-- the revoker of a client
+abbrev pub revokers : {C : Type 0} → ClusterOf C → ℕ → Option C
+revokers cluster = stored_by cluster.sound.state.leases
+
+-- in its history each client is opened once
+pub opened_once : {C : Type 0} (cluster : ClusterOf C) → OpensOnce (machine cluster).history
+opened_once cluster = λ c. ∥∥₁_elim cluster.sound.holds le_prop (λ h. opens_once (machine cluster).history h.recorded.legal c)

@@ -1,0 +1,28 @@
+-- What a node's digest changes of the state, client by client.
+-- Assise (OSDI 2020), section 3 (digests); Strata (SOSP 2017), section 3.
+use Rattle.std.specs.Prelude.{ℕ, zero, suc, ◌+◌, take}
+use Rattle.std.specs.FinSet as set
+use Rattle.assise_inode_table.specs.Effects.{touched}
+use Rattle.assise_digest.specs.Ahead.{all_effects}
+use Rattle.assise_digest.specs.Region.{ahead}
+use Rattle.assise_machine_events.specs.NodeEvents.{part_of}
+use Rattle.assise_machine_laws.specs.World.{digested_by_all}
+use Rattle.assise_machine_state.specs.Changes.{after_digest, after_drop}
+use Rattle.assise_machine_state.specs.NodeValues.{log_in}
+use Rattle.assise_machine_state.specs.Observed.{world_of}
+use Rattle.assise_machine_state.specs.StateValues.{StateValue}
+
+-- node n digests so many more records of client c, and the manager notes the inodes that they touch
+abbrev pub digests_some : StateValue → (n c count : ℕ) → StateValue
+digests_some s n c count =
+    after_digest s n c ((world_of s).digested n c + count) (set.from_list (touched (all_effects (take count (ahead (log_in s.nodes n c))))))
+
+-- node n digests so many records in all, of clients 1 to m one after another
+abbrev pub digests_to : StateValue → (n count m : ℕ) → StateValue
+digests_to s n count zero = s
+digests_to s n count (suc c) = digests_some (digests_to s n count c) n (suc c) (part_of (world_of s) n count (suc c))
+
+-- of clients 1 to m, all nodes let the records go that all full nodes have digested
+abbrev pub drops_to : StateValue → ℕ → StateValue
+drops_to s zero = s
+drops_to s (suc c) = after_drop (drops_to s c) (suc c) (digested_by_all (world_of (drops_to s c)) (suc c))

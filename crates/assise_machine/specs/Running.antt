@@ -1,0 +1,63 @@
+-- Events with a stock of revokers, and their answers.
+use Rattle.std.specs.Prelude.{◌≡◌, ℕ, ◌-◌, List, [], ◌∷◌, None, Result, Ok, Err}
+use Rattle.assise_names.specs.declared.refusal.Refusal.{Refusal}
+use Rattle.assise_names.specs.declared.refusal.Refusal.TheVariants.{BadClient}
+use Rattle.assise_machine_calls.specs.Answers.{turn_answer}
+use Rattle.assise_machine_events.specs.Events.{Answer, ClusterEvent, deliver, digest, open_client, opened, outgoing, refused, release_ready, released, try_call, try_fsync}
+use Rattle.assise_machine_events.specs.Faults.{open_fault}
+use Rattle.assise_machine_events.specs.Happenings.{Happens}
+use Rattle.assise_machine_events.specs.Machine.{Machine}
+use Rattle.assise_machine.specs.declared.answer.Answer.{Answer as Answered}
+use Rattle.assise_machine.specs.declared.answer.Answer.TheVariants.{Opened, Called, Sent, Received, Digested, Released}
+use Rattle.assise_machine.specs.declared.event.Event.{Event}
+use Rattle.assise_machine.specs.declared.event.Event.TheVariants.{Open, Call, Fsync, Outgoing, Deliver, Digest, ReleaseReady}
+use Rattle.assise_machine.specs.Answers.{delivery_answer, digesting_answer, sending_answer}
+
+abbrev pub event_seen : Event → ClusterEvent
+event_seen (Open n) = open_client n
+event_seen (Call c op) = try_call c op
+event_seen (Fsync c) = try_fsync c
+event_seen (Outgoing n) = outgoing n
+event_seen (Deliver f n) = deliver f n
+event_seen (Digest n) = digest n
+event_seen ReleaseReady = release_ready
+
+abbrev pub opened_answer : Result ℕ Refusal → Answer
+opened_answer (Ok client) = opened client
+opened_answer (Err refusal) = refused refusal
+
+abbrev pub answer_seen : Answered → Answer
+answer_seen (Opened result) = opened_answer result
+answer_seen (Called result) = turn_answer result
+answer_seen (Sent result) = sending_answer result
+answer_seen (Received result) = delivery_answer result
+answer_seen (Digested result) = digesting_answer result
+answer_seen (Released count) = released count
+
+-- each event with its answer
+abbrev pub told : List Event → List Answered → List (ClusterEvent × Answer)
+told [] answers = []
+told (e ∷ es) [] = []
+told (e ∷ es) (a ∷ answers) = (event_seen e, answer_seen a) ∷ told es answers
+
+-- ---- the stock
+
+-- an open that is answered takes a revoker of the stock
+abbrev pub stock_after : ℕ → Answer → ℕ
+stock_after stock (opened c) = stock - 1
+stock_after stock a = stock
+
+-- how many are left after all of these
+abbrev pub stock_left : ℕ → List (ClusterEvent × Answer) → ℕ
+stock_left stock [] = stock
+stock_left stock ((e, a) ∷ es) = stock_left (stock_after stock a) es
+
+-- the event happens; or it is an open that nothing but the lack of a revoker stands against, which is refused as one client too many
+pub data IsServed (stock : ℕ) (m : Machine) (e : ClusterEvent) (a : Answer) (m' : Machine) : Type 0 where
+  happens : Happens m e a m' → IsServed stock m e a m'
+  lacks_revoker : (n : ℕ) → e ≡ open_client n → stock ≡ 0 → open_fault m n ≡ None → a ≡ refused BadClient → m' ≡ m → IsServed stock m e a m'
+
+-- one after another
+abbrev pub AllServed : ℕ → Machine → List (ClusterEvent × Answer) → Machine → Type 0
+AllServed stock m [] m' = m' ≡ m
+AllServed stock m ((e, a) ∷ es) m' = (v : Machine) × (IsServed stock m e a v × AllServed (stock_after stock a) v es m')

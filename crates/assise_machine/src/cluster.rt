@@ -1,0 +1,193 @@
+// A cluster.
+use crate::delivery::{deliver, deliver_copy};
+use crate::digesting::digest;
+use crate::sending::outgoing;
+use assise_digest::region::Region;
+use assise_history::growing::Growing;
+use assise_history::history::History;
+use assise_lease_table::revoker::{Revoker, Revokes};
+use assise_machine_calls::calling::try_call;
+use assise_machine_calls::faults::open_refusal;
+use assise_machine_calls::fsync::try_fsync;
+use assise_machine_calls::opening::open;
+use assise_machine_calls::release::release_ready;
+use assise_machine_calls::turn::Turn;
+use assise_machine_state::sound::SoundOf;
+use assise_names::call::Op;
+use assise_names::refusal::Refusal;
+use assise_record::frame::Frame;
+use std::alloc::Global;
+
+/// Nodes with their clients: each call of it is one event, and the history tells of each client that was opened and each call that
+/// was answered (Assise, OSDI 2020, section 3). Nodes and clients are numbered from 1.
+#[derive(Drop)]
+pub struct ClusterOf<C> {
+    sound: SoundOf<C>,
+}
+
+/// A cluster whose clients store a [`Revoker`].
+pub type Cluster = ClusterOf<Revoker>;
+
+impl<C: Revokes + Drop> ClusterOf<C> {
+    ghost use Rattle.std.specs.Prelude.{◌≡◌, ◌↔◌, ◌+◌, ◌<◌, ◌≤◌, Err, IfErr, IfOk, IsOk, IsOkUnless, None, OnErr, OnOk};
+    ghost use Rattle.assise_names.specs.declared.refusal.Refusal.{Refusal as Refused};
+    ghost use Rattle.assise_names.specs.declared.refusal.Refusal.TheVariants.{BadClient, OutOfMemory};
+    ghost use Rattle.assise_seq_tree.specs.Runs.{tree_after_calls};
+    ghost use Rattle.assise_seq_tree.specs.Tree.{opening};
+    ghost use Rattle.assise_history.specs.Legal.{IsLegal};
+    ghost use Rattle.assise_inode_table.specs.Spelled.{Spells};
+    ghost use Rattle.assise_inode_table.specs.Traces.{ops};
+    ghost use Rattle.assise_lease_table.specs.Tables.{Enrols, SameRevokers};
+    ghost use Rattle.assise_machine_laws.specs.World.{IsClient, alone, received_by_all};
+    ghost use Rattle.assise_machine_history.specs.Courses.{firm_calls};
+    ghost use Rattle.assise_machine_events.specs.ClientEvents.{Opening, Syncing};
+    ghost use Rattle.assise_machine_events.specs.Events.{released};
+    ghost use Rattle.assise_machine_events.specs.Faults.{node_fault, open_fault};
+    ghost use Rattle.assise_machine_events.specs.Happenings.{Trying};
+    ghost use Rattle.assise_machine_events.specs.Machine.{begun_as, state_of};
+    ghost use Rattle.assise_machine_events.specs.NodeEvents.{Delivering, Digesting, Releasing, Sending};
+    ghost use Rattle.assise_machine_calls.specs.Answers.{opening_answer, turn_answer};
+    ghost use Rattle.assise_machine.specs.Answers.{delivery_answer, digesting_answer, sending_answer};
+    ghost use Rattle.assise_machine.specs.Clusters.{machine, region_of, revokers};
+
+    /// A cluster in which nothing happened: 1 to 8 full nodes, whose clients' logs have 8 to 4,096 records at most, and 1 to
+    /// 4,096 inodes that may be hot. The one refusal is [`Refusal::OutOfMemory`].
+    pub fn new(alloc: Global, nodes: u32, log: usize, hot: usize) -> Result<ClusterOf<C>, Refusal>
+        requires some_nodes { 0 < nodes }
+        requires few_nodes { nodes ≤ 8 }
+        requires least_log { 8 ≤ log }
+        requires most_log { log ≤ 4096 }
+        requires least_hot { 1 ≤ hot }
+        requires most_hot { hot ≤ 4096 }
+        ensures begun { IfOk result (λ cluster. machine cluster ≡ begun_as nodes log) }
+        ensures only_memory { IsOkUnless result OutOfMemory }
+    {
+        Ok(ClusterOf {
+            sound: SoundOf::new(alloc, nodes, log, hot)?,
+        })
+    }
+
+    /// Opens a client on a node, and answers its number. The client is asked for its leases by the revoker. Refused with
+    /// [`Refusal::BadNode`] where there is no such node, [`Refusal::NodeDown`] where it isn't full, [`Refusal::BadClient`] where all
+    /// 16 clients were opened, and [`Refusal::OutOfMemory`]: what is refused leaves all as it was, and gives the revoker back.
+    pub fn open(&mut self, alloc: Global, node: u32, revoker: C) -> Result<u32, (Refusal, C)>
+        ensures happens { Opening (machine self.old) node (opening_answer result) (machine self.new) }
+        ensures given_back { IfErr result (λ back. back.1 ≡ revoker) }
+        ensures revokers { OnErr result (SameRevokers (revokers self.old) (revokers self.new)) }
+        ensures stored { OnOk result (Enrols (revokers self.old) (revokers self.new) ((machine self.old).world.clients + 1) revoker) }
+    {
+        open(alloc, &mut self.sound, node, revoker)
+    }
+
+    /// Tries a client's call, as [`try_call`](fn@try_call) says.
+    pub fn try_call(&mut self, alloc: Global, client: u32, op: &Op) -> Result<Turn, Refusal>
+        ensures happens { Trying (machine self.old) client op.now (turn_answer result) (machine self.new) }
+        ensures revokers { SameRevokers (revokers self.old) (revokers self.new) }
+    {
+        try_call(alloc, &mut self.sound, client, op)
+    }
+
+    /// Tries a client's fsync: all of its log is to be replicated, and it is answered once all full nodes have all of it.
+    pub fn try_fsync(&mut self, client: u32) -> Result<Turn, Refusal>
+        ensures happens { Syncing (machine self.old) client (turn_answer result) (machine self.new) }
+        ensures revokers { SameRevokers (revokers self.old) (revokers self.new) }
+    {
+        try_fsync(&mut self.sound, client)
+    }
+
+    /// What a node sends: for each client by rising number at most one frame, for the node behind it in the client's chain. Refused
+    /// with [`Refusal::BadNode`], [`Refusal::WrongPhase`] where the node isn't full, and [`Refusal::OutOfMemory`].
+    pub fn outgoing(&self, alloc: Global, node: u32) -> Result<Vec<(Frame, u32)>, Refusal>
+        ensures { Sending (machine self.now) node (sending_answer result) (machine self.now) }
+    {
+        outgoing(alloc, &self.sound, node)
+    }
+
+    /// A node takes in what it lacks of a frame's records, and answers the number behind the last record of the client that it has
+    /// then. Refused with [`Refusal::BadNode`], [`Refusal::WrongPhase`] where the node isn't full, [`Refusal::BadClient`], and
+    /// [`Refusal::StaleMessage`] where the frame is of another epoch, leaves a gap, or has a record that isn't the client's own.
+    /// What is refused leaves all as it was. It takes no memory.
+    pub fn deliver(&mut self, frame: Frame, node: u32) -> Result<u64, Refusal>
+        ensures happens { Delivering (machine self.old) frame node (delivery_answer result) (machine self.new) }
+        ensures revokers { SameRevokers (revokers self.old) (revokers self.new) }
+    {
+        deliver(&mut self.sound, frame, node)
+    }
+
+    /// As [`ClusterOf::deliver`], with a copy of a frame, for which [`Refusal::OutOfMemory`] may come where nothing else stands
+    /// against it.
+    pub(crate) fn deliver_copy(
+        &mut self,
+        alloc: Global,
+        frame: &Frame,
+        node: u32,
+    ) -> Result<u64, Refusal>
+        ensures happens { Delivering (machine self.old) frame.now node (delivery_answer result) (machine self.new) }
+        ensures revokers { SameRevokers (revokers self.old) (revokers self.new) }
+    {
+        deliver_copy(alloc, &mut self.sound, frame, node)
+    }
+
+    /// Why a client can't be opened on a node, whatever memory there is.
+    pub(crate) fn open_refusal(&self, node: u32) -> Option<Refusal>
+        ensures { result ≡ open_fault (machine self.now) node }
+    {
+        open_refusal(&self.sound.state, node)
+    }
+
+    /// A node digests records that all full nodes have, and answers how many: 64 at most, of clients by rising number. Then all
+    /// nodes let go what all full nodes have digested. Refused with [`Refusal::BadNode`], [`Refusal::WrongPhase`] where the node
+    /// isn't full, and with [`Refusal::OutOfMemory`] where memory runs out before the first record: then all stays as it was.
+    pub fn digest(&mut self, alloc: Global, node: u32) -> Result<usize, Refusal>
+        ensures happens { Digesting (machine self.old) node (digesting_answer result) (machine self.new) }
+        ensures revokers { SameRevokers (revokers self.old) (revokers self.new) }
+    {
+        digest(alloc, &mut self.sound, node)
+    }
+
+    /// Leases that were asked for go, where all full nodes have digested what their clients wrote under them, and answers how many.
+    /// It takes no memory.
+    pub fn release_ready(&mut self) -> usize
+        ensures happens { Releasing (machine self.old) (released result) (machine self.new) }
+        ensures revokers { SameRevokers (revokers self.old) (revokers self.new) }
+    {
+        release_ready(&mut self.sound)
+    }
+
+    /// What was answered and what happened, in order. It is legal.
+    pub fn history(&self) -> &History
+        ensures history { result.now.events ≡ (machine self.now).history }
+        ensures legal { ∥ IsLegal result.now.events ∥₁ }
+    {
+        self.sound.history()
+    }
+
+    /// What a full node has: it alone gives the tree of all calls that are replicated. Refused with [`Refusal::BadNode`] where there is
+    /// no such node, and [`Refusal::WrongPhase`] where it isn't full.
+    pub fn region(&self, node: u32) -> Result<&Region, Refusal>
+        ensures fault { (e : Refused) → node_fault (machine self.now) node ≡ Some e → result ≡ Err e }
+        ensures ok { IsOk result ↔ (node_fault (machine self.now) node ≡ None) }
+        ensures region { IfOk result (λ r. r.now ≡ region_of self.now node) }
+        ensures alone { OnOk result (∥ Spells (alone (machine self.now).world node) (tree_after_calls opening (ops (firm_calls (state_of (machine self.now))))) ∥₁) }
+    {
+        self.sound.region(node)
+    }
+
+    /// The place up to which all full nodes have a client's log: its records below are acknowledged. The one refusal is
+    /// [`Refusal::BadClient`]. It costs the nodes.
+    pub fn acked(&self, client: u32) -> Result<u64, Refusal>
+        ensures acked { IfOk result (λ place. place ≡ received_by_all (machine self.now).world client) }
+        ensures ok { IsOk result ↔ IsClient (machine self.now).world client }
+        ensures only_bad { IsOkUnless result BadClient }
+    {
+        self.sound.acked(client)
+    }
+}
+
+impl<C: Revokes + Drop> Growing for ClusterOf<C> {
+    ghost use Rattle.assise_machine.specs.Clusters.{machine, opened_once};
+
+    ghost history = { λ cluster. (machine cluster).history };
+
+    ghost opens_once = { λ cluster. opened_once cluster };
+}

@@ -1,0 +1,214 @@
+// A node digests what all full nodes have.
+ghost use Rattle.std.specs.Prelude.{◌≡◌, ◌++◌, ◌<◌, ◌≤◌, IfOk, IsOkUnless, OnErr, OnOk, false, length, min, take, true};
+ghost use Rattle.assise_names.specs.declared.refusal.Refusal.TheVariants.{OutOfMemory};
+ghost use Rattle.assise_inode_table.specs.Effects.{touched};
+ghost use Rattle.assise_lease_table.specs.Tables.{SameRevokers};
+ghost use Rattle.assise_lease_tree.specs.Trees.{stored_by};
+ghost use Rattle.assise_private_log.specs.NumberedLog.{records_from};
+ghost use Rattle.assise_digest.specs.Ahead.{all_effects};
+ghost use Rattle.assise_manager.specs.Whole.{membership};
+ghost use Rattle.assise_machine_laws.specs.Sound.{IsSound};
+ghost use Rattle.assise_machine_events.specs.NodeEvents.{Digesting, most_digested, undigested, undigested_to};
+ghost use Rattle.assise_machine_state.specs.Observed.{is_full_in, world_of};
+ghost use Rattle.assise_machine_state.specs.Places.{IsNumber};
+ghost use Rattle.assise_machine_state.specs.Shape.{IsShaped};
+ghost use Rattle.assise_machine_state.specs.StateValues.{standings};
+ghost use Rattle.assise_machine_state.specs.Whole.{machine_of, value_of};
+ghost use Rattle.assise_machine.specs.Answers.{digesting_answer};
+ghost use Rattle.assise_machine.specs.Digesting.{digests_some, digests_to, drops_to};
+
+use crate::faults::node_refusal;
+use crate::progress::Progress;
+use assise_lease_table::revoker::Revokes;
+use assise_machine_state::sound::SoundOf;
+use assise_machine_state::state::StateOf;
+use assise_names::refusal::Refusal;
+use assise_private_log::log::Log;
+use assise_record::effect::Effect;
+use std::alloc::Global;
+
+/// The most records of one digest.
+const MOST_DIGESTED: usize = 64;
+
+/// A node digests records that all full nodes have, of clients by rising number, and 64 in all at most. Then all nodes let go what
+/// all full nodes have digested. It answers how many records it digested: fewer than there are to digest where there are more than
+/// 64, or where memory runs out after the first. Refused as [`node_refusal`] says, and with [`Refusal::OutOfMemory`] where memory
+/// runs out before the first: then all stays as it was.
+pub fn digest<C: Revokes + Drop>(
+    alloc: Global,
+    sound: &mut SoundOf<C>,
+    node: u32,
+) -> Result<usize, Refusal>
+    ensures happens { Digesting (machine_of sound.old.state) node (digesting_answer result) (machine_of sound.new.state) }
+    ensures revokers { SameRevokers (stored_by sound.old.state.leases) (stored_by sound.new.state.leases) }
+{
+    let state = &mut sound.state;
+    if let Some(refusal) = node_refusal(state, node) {
+        return Err(refusal);
+    }
+    let last = state.clients.len() as u32;
+    let progress = digest_to(alloc, state, node, last);
+    if progress.refused && progress.count == 0 {
+        return Err(Refusal::OutOfMemory);
+    }
+    drop_to(state, last);
+    Ok(progress.count)
+}
+
+/// A node digests records of clients 1 to a last one, one client after another, until it has 64, or memory runs out.
+fn digest_to<C: Revokes + Drop>(
+    alloc: Global,
+    state: &mut StateOf<C>,
+    node: u32,
+    last: u32,
+) -> Progress
+    requires full { is_full_in (standings (value_of state.old)) node ≡ true }
+    requires last { last ≤ length state.old.clients }
+    requires sound { ∥ IsSound (world_of (value_of state.old)) ∥₁ }
+    requires shape { IsShaped (value_of state.old) }
+    ensures digests { value_of state.new ≡ digests_to (value_of state.old) node result.count last }
+    ensures few { result.count ≤ min most_digested (undigested_to (world_of (value_of state.old)) node last) }
+    ensures all { result.refused ≡ false → result.count ≡ min most_digested (undigested_to (world_of (value_of state.old)) node last) }
+    ensures refused { result.refused ≡ true → result.count < undigested_to (world_of (value_of state.old)) node last }
+    ensures revokers { state.new.leases ≡ state.old.leases }
+{
+    if last == 0 {
+        return Progress {
+            count: 0,
+            refused: false,
+        };
+    }
+    let before = digest_to(alloc, state, node, last - 1);
+    if before.refused {
+        return before;
+    }
+    let own = digest_of(alloc, state, node, last, MOST_DIGESTED - before.count);
+    Progress {
+        count: before.count + own.count,
+        refused: own.refused,
+    }
+}
+
+/// A node digests records of a client, so many at most, until memory runs out.
+fn digest_of<C: Revokes + Drop>(
+    alloc: Global,
+    state: &mut StateOf<C>,
+    node: u32,
+    client: u32,
+    at_most: usize,
+) -> Progress
+    requires full { is_full_in (standings (value_of state.old)) node ≡ true }
+    requires client { IsNumber state.old.clients client }
+    requires few_most { at_most ≤ 64 }
+    requires sound { ∥ IsSound (world_of (value_of state.old)) ∥₁ }
+    requires shape { IsShaped (value_of state.old) }
+    ensures digests { value_of state.new ≡ digests_some (value_of state.old) node client result.count }
+    ensures few { result.count ≤ min at_most (undigested (world_of (value_of state.old)) node client) }
+    ensures all { result.refused ≡ false → result.count ≡ min at_most (undigested (world_of (value_of state.old)) node client) }
+    ensures refused { result.refused ≡ true → result.count < min at_most (undigested (world_of (value_of state.old)) node client) }
+    ensures revokers { state.new.leases ≡ state.old.leases }
+{
+    let acked = state.acked(client);
+    let from = state.nodes.region(node).digested(client as usize);
+    let wanted = at_most.min((acked - from) as usize);
+    if wanted == 0 {
+        return Progress {
+            count: 0,
+            refused: false,
+        };
+    }
+    match digest_noted(alloc, state, node, client, acked, wanted) {
+        Ok(count) => Progress {
+            count,
+            refused: count < wanted,
+        },
+        Err(_) => Progress {
+            count: 0,
+            refused: true,
+        },
+    }
+}
+
+/// A node digests so many records of a client, of those that all full nodes have, or fewer where memory runs out, and the manager
+/// notes the inodes. It answers how many there were. The one refusal is [`Refusal::OutOfMemory`], where there was none, and it
+/// changes nothing.
+fn digest_noted<C: Revokes + Drop>(
+    alloc: Global,
+    state: &mut StateOf<C>,
+    node: u32,
+    client: u32,
+    acked: u64,
+    wanted: usize,
+) -> Result<usize, Refusal>
+    requires full { is_full_in (standings (value_of state.old)) node ≡ true }
+    requires client { IsNumber state.old.clients client }
+    requires wanted { wanted ≤ undigested (world_of (value_of state.old)) node client }
+    requires few_wanted { wanted ≤ 64 }
+    requires sound { ∥ IsSound (world_of (value_of state.old)) ∥₁ }
+    requires shape { IsShaped (value_of state.old) }
+    ensures ok { IfOk result (λ count. value_of state.new ≡ digests_some (value_of state.old) node client count) }
+    ensures few { IfOk result (λ count. count ≤ wanted) }
+    ensures err { OnErr result (value_of state.new ≡ value_of state.old) }
+    ensures revokers { state.new.leases ≡ state.old.leases }
+    ensures only_memory { IsOkUnless result OutOfMemory }
+{
+    let region = state.nodes.region(node);
+    let from = region.digested(client as usize);
+    let inodes = touched_from(alloc, region.log(client as usize), from, wanted)?;
+    state.members.reserve_written(node, inodes.len())?;
+    let count = state.nodes.digest_some(node, client, acked, wanted)?;
+    let written = effects_from(state.nodes.region(node).log(client as usize), from, count);
+    state.members.note_reserved(node, &inodes[..written]);
+    Ok(count)
+}
+
+/// The inodes that so many records of a log touch, from a number on.
+fn touched_from(alloc: Global, log: &Log, from: u64, count: usize) -> Result<Vec<u64>, Refusal>
+    ensures touched { IfOk result (λ inodes. inodes.items ≡ touched (all_effects (take count (records_from log.now from)))) }
+    ensures only_memory { IsOkUnless result OutOfMemory }
+{
+    let mut inodes = Vec::new(alloc);
+    for record in log.since(from).take(count) {
+        push_touched(&mut inodes, record.effects())?;
+    }
+    Ok(inodes)
+}
+
+/// Adds the inodes that effects touch.
+fn push_touched(inodes: &mut Vec<u64>, effects: &[Effect]) -> Result<(), Refusal>
+    ensures added { OnOk result (inodes.new.items ≡ inodes.old.items ++ touched effects.now) }
+    ensures only_memory { IsOkUnless result OutOfMemory }
+{
+    for effect in effects {
+        inodes.push(effect.touches())?;
+    }
+    Ok(())
+}
+
+/// How many effects so many records of a log have, from a number on.
+fn effects_from(log: &Log, from: u64, count: usize) -> usize
+    requires few { count ≤ 64 }
+    ensures { result ≡ length (all_effects (take count (records_from log.now from))) }
+{
+    let mut effects = 0;
+    for record in log.since(from).take(count) {
+        effects += record.effects().len();
+    }
+    effects
+}
+
+/// Of clients 1 to a last one, all nodes let the records go that all full nodes have digested. It takes no memory.
+fn drop_to<C: Revokes + Drop>(state: &mut StateOf<C>, last: u32)
+    requires last { last ≤ length state.old.clients }
+    requires sound { ∥ IsSound (world_of (value_of state.old)) ∥₁ }
+    requires shape { IsShaped (value_of state.old) }
+    ensures drops { value_of state.new ≡ drops_to (value_of state.old) last }
+    ensures revokers { state.new.leases ≡ state.old.leases }
+{
+    if last == 0 {
+        return;
+    }
+    drop_to(state, last - 1);
+    let digested = state.digested(last);
+    state.nodes.drop_fronts(last, digested);
+}

@@ -1,0 +1,22 @@
+// What may happen to a cluster.
+use assise_names::call::Op;
+use assise_record::frame::Frame;
+
+/// One call of a [`ClusterOf`](crate::cluster::ClusterOf).
+#[derive(Debug, Drop)]
+pub enum Event {
+    /// A client is opened on a node, with a revoker of the stock.
+    Open(u32),
+    /// A client tries a call.
+    Call(u32, Op),
+    /// A client tries an fsync.
+    Fsync(u32),
+    /// A node sends what it has for others.
+    Outgoing(u32),
+    /// A frame comes to a node.
+    Deliver(Frame, u32),
+    /// A node digests what all full nodes have.
+    Digest(u32),
+    /// Leases that were asked for go, where they may.
+    ReleaseReady,
+}

@@ -1,0 +1,91 @@
+// Lists of events.
+ghost use Rattle.std.specs.Option.{option_to_list};
+ghost use Rattle.std.specs.Prelude.{◌≡◌, ◌-◌, ◌++◌, ℕ, IfOk, IsOkUnless, OnErr, OnOk, length, take};
+ghost use Rattle.assise_names.specs.declared.refusal.Refusal.TheVariants.{OutOfMemory};
+ghost use Rattle.assise_machine_events.specs.Events.{all_entries, open_client, opened};
+ghost use Rattle.assise_machine.specs.Clusters.{machine, revokers};
+ghost use Rattle.assise_machine.specs.Running.{AllServed, IsServed, answer_seen, event_seen, opened_answer, stock_after, stock_left, told};
+
+use crate::answer::Answer;
+use crate::cluster::ClusterOf;
+use crate::event::Event;
+use assise_lease_table::revoker::Revokes;
+use assise_names::refusal::Refusal;
+use std::alloc::Global;
+
+/// One event after another, each with its answer. [`Event::Open`] takes the last revoker of the stock, and one that is refused goes
+/// back there; where the stock is empty it is refused with [`Refusal::BadClient`], unless the node is at fault. The history gets
+/// exactly the entries of the answers, in order. The one refusal, [`Refusal::OutOfMemory`], comes before the first event, and then
+/// nothing happened.
+pub fn run<C: Revokes + Drop>(
+    alloc: Global,
+    cluster: &mut ClusterOf<C>,
+    events: &[Event],
+    stock: &mut Vec<C>,
+) -> Result<Vec<Answer>, Refusal>
+    ensures served { IfOk result (λ answers. AllServed (length stock.old.items) (machine cluster.old) (told events.now answers.items) (machine cluster.new)) }
+    ensures answered { IfOk result (λ answers. length answers.items ≡ length events.now) }
+    ensures extends { IfOk result (λ answers. (machine cluster.new).history ≡ (machine cluster.old).history ++ all_entries (machine cluster.old).history (told events.now answers.items)) }
+    ensures stock { IfOk result (λ answers. length stock.new.items ≡ stock_left (length stock.old.items) (told events.now answers.items)) }
+    ensures front { stock.new.items ≡ take (length stock.new.items) stock.old.items }
+    ensures err { OnErr result (machine cluster.new ≡ machine cluster.old) }
+    ensures unused { OnErr result (stock.new.items ≡ stock.old.items) }
+    ensures only_memory { IsOkUnless result OutOfMemory }
+{
+    let mut answers = Vec::with_capacity(alloc, events.len())?;
+    for event in events {
+        let answer = apply_event(alloc, cluster, event, stock);
+        answers.push_reserved(answer);
+    }
+    Ok(answers)
+}
+
+/// One event with its answer. A client that is opened is asked by the last revoker of the stock, and all others as before.
+pub fn apply_event<C: Revokes + Drop>(
+    alloc: Global,
+    cluster: &mut ClusterOf<C>,
+    event: &Event,
+    stock: &mut Vec<C>,
+) -> Answer
+    ensures served { IsServed (length stock.old.items) (machine cluster.old) (event_seen event.now) (answer_seen result) (machine cluster.new) }
+    ensures stock { length stock.new.items ≡ stock_after (length stock.old.items) (answer_seen result) }
+    ensures front { stock.new.items ≡ take (length stock.new.items) stock.old.items }
+    ensures gets { (c : ℕ) → answer_seen result ≡ opened c → stock.old.items ≡ stock.new.items ++ option_to_list (revokers cluster.new c) }
+    ensures others { (c : ℕ) → (answer_seen result ≡ opened c → ⊥) → revokers cluster.new c ≡ revokers cluster.old c }
+{
+    match event {
+        Event::Open(node) => Answer::Opened(open_next(alloc, cluster, *node, stock)),
+        Event::Call(client, op) => Answer::Called(cluster.try_call(alloc, *client, op)),
+        Event::Fsync(client) => Answer::Called(cluster.try_fsync(*client)),
+        Event::Outgoing(node) => Answer::Sent(cluster.outgoing(alloc, *node)),
+        Event::Deliver(frame, node) => Answer::Received(cluster.deliver_copy(alloc, frame, *node)),
+        Event::Digest(node) => Answer::Digested(cluster.digest(alloc, *node)),
+        Event::ReleaseReady => Answer::Released(cluster.release_ready()),
+    }
+}
+
+/// Opens a client with the last revoker of the stock. One that is refused leaves the stock as it was.
+fn open_next<C: Revokes + Drop>(
+    alloc: Global,
+    cluster: &mut ClusterOf<C>,
+    node: u32,
+    stock: &mut Vec<C>,
+) -> Result<u32, Refusal>
+    ensures served { IsServed (length stock.old.items) (machine cluster.old) (open_client node) (opened_answer result) (machine cluster.new) }
+    ensures stock { length stock.new.items ≡ stock_after (length stock.old.items) (opened_answer result) }
+    ensures refused { OnErr result (stock.new.items ≡ stock.old.items) }
+    ensures opened { OnOk result (stock.new.items ≡ take (length stock.old.items - 1) stock.old.items) }
+    ensures gets { (c : ℕ) → opened_answer result ≡ opened c → stock.old.items ≡ stock.new.items ++ option_to_list (revokers cluster.new c) }
+    ensures others { (c : ℕ) → (opened_answer result ≡ opened c → ⊥) → revokers cluster.new c ≡ revokers cluster.old c }
+{
+    let Some(revoker) = stock.pop() else {
+        return Err(cluster.open_refusal(node).unwrap_or(Refusal::BadClient));
+    };
+    match cluster.open(alloc, node, revoker) {
+        Ok(client) => Ok(client),
+        Err((refusal, revoker)) => {
+            stock.push_reserved(revoker);
+            Err(refusal)
+        }
+    }
+}
