@@ -1,21 +1,29 @@
 -- What a full node has alone.
-use Rattle.std.proofs.Common.{◌≡◌, ℕ, true, Option, Some, None, Result, Ok, Err, IsOk, OnOk, refl}
-use Rattle.std.proofs.Math.Logic.{∥∥₁_map}
+use Rattle.std.proofs.Common.{◌≡◌, ℕ, true, List, Option, Some, None, Result, Ok, Err, IfOk, refl, sym, subst}
+use Rattle.std.proofs.Math.Logic.{∥∥₁_elim, ∥∥₁_map}
+use Rattle.std.specs.Coded.{Coded-set, coded_option}
 use Rattle.assise_names.specs.declared.refusal.Refusal.{Refusal}
 use Rattle.assise_names.specs.declared.refusal.Refusal.TheVariants.{WrongPhase}
 use Rattle.assise_seq_tree.specs.Runs.{tree_after_calls}
 use Rattle.assise_seq_tree.specs.Tree.{opening}
+use Rattle.assise_inode_table.specs.Contents.{coded_content}
 use Rattle.assise_inode_table.specs.Spelled.{Spells}
 use Rattle.assise_inode_table.specs.Traces.{ops}
+use Rattle.assise_digest.specs.Region.{alone}
 use Rattle.assise_manager.specs.Standings.{Standing, down, full, returning, standing_of}
-use Rattle.assise_machine_laws.specs.World.{Full, alone}
+use Rattle.assise_machine_laws.specs.World.{Full, alone as alone_observed}
 use Rattle.assise_machine_history.specs.Courses.{firm_calls}
 use Rattle.assise_machine_events.specs.Faults.{node_fault, unless_full}
 use Rattle.assise_machine_events.specs.Machine.{Holds, state_of}
 use Rattle.assise_machine_events.proofs.Whatever.{safe}
-use Rattle.assise_machine_state.specs.Observed.{is_full_in, observed, stands_full}
+use Rattle.assise_machine_state.specs.Observed.{is_full_in, observed, stands_full, world_of}
+use Rattle.assise_machine_state.specs.NodeValues.{region_seen}
+use Rattle.assise_machine_state.specs.Shape.{IsShaped}
 use Rattle.assise_machine_state.specs.StateValues.{StateValue, standings}
 use Rattle.assise_machine_state.proofs.Fullness.{seen_full}
+use Rattle.assise_machine_state.proofs.Reading.{alone_same}
+use Rattle.assise_machine.specs.Clusters.{AreAcked}
+use Rattle.assise_machine.proofs.Spelling.{spells_known}
 
 stands : (o : Option Standing) → unless_full WrongPhase o ≡ None → stands_full o ≡ true
 stands None fine = cc
@@ -27,10 +35,20 @@ pub fine_full : (s : StateValue) (n : ℕ) → node_fault (observed s) n ≡ Non
 unfolding observed is_full_in
 fine_full s n fine = seen_full s n (stands (standing_of (standings s) n) fine)
 
-pub gives_alone : (s : StateValue) (n : ℕ) → ∥ Holds (observed s) ∥₁ → node_fault (observed s) n ≡ None →
-    ∥ Spells (alone (observed s).world n) (tree_after_calls opening (ops (firm_calls (state_of (observed s))))) ∥₁
-gives_alone s n holds fine = ∥∥₁_map holds (λ h. (safe (observed s) h).rebuilt n (fine_full s n fine))
+-- the region alone gives what is observed
+module _ (s : StateValue) (n : ℕ) (shape : IsShaped s) (holds : ∥ Holds (observed s) ∥₁) (fine : node_fault (observed s) n ≡ None) (acked : List ℕ) (all : AreAcked (observed s).world acked) where
+  same_alone : (i : ℕ) → alone (region_seen s.nodes n) acked i ≡ alone_observed (observed s).world n i
+  unfolding observed world_of
+  same_alone i =
+      ∥∥₁_elim holds (Coded-set (coded_option coded_content) (alone (region_seen s.nodes n) acked i) (alone_observed (world_of s) n i))
+      (λ h. alone_same s n acked shape h.sound (fine_full s n fine) all.count all.each i)
 
-pub on_ok_from : {X : Type 0} (r : Result X Refusal) (P : Type 0) → (IsOk r → P) → OnOk r P
-on_ok_from (Ok x) P f = f refl
-on_ok_from (Err e) P f = tt
+  pub gives_alone : Spells (alone (region_seen s.nodes n) acked) (tree_after_calls opening (ops (firm_calls (state_of (observed s)))))
+  gives_alone =
+      subst (λ v. Spells v (tree_after_calls opening (ops (firm_calls (state_of (observed s)))))) (λ i j. sym (same_alone j) i)
+      (spells_known (alone_observed (observed s).world n) (tree_after_calls opening (ops (firm_calls (state_of (observed s)))))
+      (∥∥₁_map holds (λ h. (safe (observed s) h).rebuilt n (fine_full s n fine))))
+
+pub if_ok_from : {X : Type 0} (r : Result X Refusal) (P : X → Type 0) → ((x : X) → r ≡ Ok x → P x) → IfOk r P
+if_ok_from (Ok x) P f = f x refl
+if_ok_from (Err e) P f = tt

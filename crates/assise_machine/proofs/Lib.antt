@@ -1,5 +1,6 @@
 pub mod DeliveryFaults
 pub mod Agreeing
+pub mod Spelling
 pub mod Alone
 pub mod Copying
 pub mod Delivering

@@ -29,16 +29,17 @@ pub struct ClusterOf<C> {
 pub type Cluster = ClusterOf<Revoker>;
 
 impl<C: Revokes + Drop> ClusterOf<C> {
-    ghost use Rattle.std.specs.Prelude.{◌≡◌, ◌↔◌, ◌+◌, ◌<◌, ◌≤◌, Err, IfErr, IfOk, IsOk, IsOkUnless, None, OnErr, OnOk};
+    ghost use Rattle.std.specs.Prelude.{◌≡◌, ◌↔◌, ◌+◌, ◌<◌, ◌≤◌, ℕ, Err, IfErr, IfOk, IsOk, IsOkUnless, List, None, OnErr, OnOk};
     ghost use Rattle.assise_names.specs.declared.refusal.Refusal.{Refusal as Refused};
     ghost use Rattle.assise_names.specs.declared.refusal.Refusal.TheVariants.{BadClient, OutOfMemory};
     ghost use Rattle.assise_seq_tree.specs.Runs.{tree_after_calls};
     ghost use Rattle.assise_seq_tree.specs.Tree.{opening};
     ghost use Rattle.assise_history.specs.Legal.{IsLegal};
     ghost use Rattle.assise_inode_table.specs.Spelled.{Spells};
+    ghost use Rattle.assise_digest.specs.Region.{alone};
     ghost use Rattle.assise_inode_table.specs.Traces.{ops};
     ghost use Rattle.assise_lease_table.specs.Tables.{Enrols, SameRevokers};
-    ghost use Rattle.assise_machine_laws.specs.World.{IsClient, alone, received_by_all};
+    ghost use Rattle.assise_machine_laws.specs.World.{IsClient, received_by_all};
     ghost use Rattle.assise_machine_history.specs.Courses.{firm_calls};
     ghost use Rattle.assise_machine_events.specs.ClientEvents.{Opening, Syncing};
     ghost use Rattle.assise_machine_events.specs.Events.{released};
@@ -48,7 +49,7 @@ impl<C: Revokes + Drop> ClusterOf<C> {
     ghost use Rattle.assise_machine_events.specs.NodeEvents.{Delivering, Digesting, Releasing, Sending};
     ghost use Rattle.assise_machine_calls.specs.Answers.{opening_answer, turn_answer};
     ghost use Rattle.assise_machine.specs.Answers.{delivery_answer, digesting_answer, sending_answer};
-    ghost use Rattle.assise_machine.specs.Clusters.{machine, region_of, revokers};
+    ghost use Rattle.assise_machine.specs.Clusters.{AreAcked, machine, region_of, revokers};
 
     /// A cluster in which nothing happened: 1 to 8 full nodes, whose clients' logs have 8 to 4,096 records at most, and 1 to
     /// 4,096 inodes that may be hot. The one refusal is [`Refusal::OutOfMemory`].
@@ -168,7 +169,7 @@ impl<C: Revokes + Drop> ClusterOf<C> {
         ensures fault { (e : Refused) → node_fault (machine self.now) node ≡ Some e → result ≡ Err e }
         ensures ok { IsOk result ↔ (node_fault (machine self.now) node ≡ None) }
         ensures region { IfOk result (λ r. r.now ≡ region_of self.now node) }
-        ensures alone { OnOk result (∥ Spells (alone (machine self.now).world node) (tree_after_calls opening (ops (firm_calls (state_of (machine self.now))))) ∥₁) }
+        ensures alone { IfOk result (λ r. (acked : List ℕ) → AreAcked (machine self.now).world acked → Spells (alone r.now acked) (tree_after_calls opening (ops (firm_calls (state_of (machine self.now)))))) }
     {
         self.sound.region(node)
     }
