@@ -1,39 +1,32 @@
 -- What a full node has alone.
-use Rattle.std.proofs.Common.{◌≡◌, ℕ, true, List, Option, Some, None, Result, Ok, Err, IfOk, refl, sym, subst}
+use Rattle.std.proofs.Common.{◌≡◌, ℕ, List, None, Result, Ok, Err, IfOk, refl, sym, subst}
 use Rattle.std.proofs.Math.Logic.{∥∥₁_elim, ∥∥₁_map}
 use Rattle.std.specs.Coded.{Coded-set, coded_option}
 use Rattle.assise_names.specs.declared.refusal.Refusal.{Refusal}
-use Rattle.assise_names.specs.declared.refusal.Refusal.TheVariants.{WrongPhase}
 use Rattle.assise_seq_tree.specs.Runs.{tree_after_calls}
 use Rattle.assise_seq_tree.specs.Tree.{opening}
 use Rattle.assise_inode_table.specs.Contents.{coded_content}
 use Rattle.assise_inode_table.specs.Spelled.{Spells}
 use Rattle.assise_inode_table.specs.Traces.{ops}
 use Rattle.assise_digest.specs.Region.{alone}
-use Rattle.assise_manager.specs.Standings.{Standing, down, full, returning, standing_of}
 use Rattle.assise_machine_laws.specs.World.{Full, alone as alone_observed}
 use Rattle.assise_machine_history.specs.Courses.{firm_calls}
-use Rattle.assise_machine_events.specs.Faults.{node_fault, unless_full}
+use Rattle.assise_machine_events.specs.Faults.{node_fault}
 use Rattle.assise_machine_events.specs.Machine.{Holds, state_of}
 use Rattle.assise_machine_events.proofs.Whatever.{safe}
-use Rattle.assise_machine_state.specs.Observed.{is_full_in, observed, stands_full, world_of}
+use Rattle.assise_machine_state.specs.Observed.{observed, world_of}
 use Rattle.assise_machine_state.specs.NodeValues.{region_seen}
 use Rattle.assise_machine_state.specs.Shape.{IsShaped}
-use Rattle.assise_machine_state.specs.StateValues.{StateValue, standings}
+use Rattle.assise_machine_state.specs.StateValues.{StateValue}
 use Rattle.assise_machine_state.proofs.Fullness.{seen_full}
 use Rattle.assise_machine_state.proofs.Reading.{alone_same}
 use Rattle.assise_machine.specs.Clusters.{AreAcked}
+use Rattle.assise_machine.proofs.Frames.{fine_node}
 use Rattle.assise_machine.proofs.Spelling.{spells_known}
 
-stands : (o : Option Standing) → unless_full WrongPhase o ≡ None → stands_full o ≡ true
-stands None fine = cc
-stands (Some full) fine = refl
-stands (Some (down since)) fine = cc
-stands (Some (returning since donor stale)) fine = cc
-
 pub fine_full : (s : StateValue) (n : ℕ) → node_fault (observed s) n ≡ None → Full (observed s).world n
-unfolding observed is_full_in
-fine_full s n fine = seen_full s n (stands (standing_of (standings s) n) fine)
+unfolding observed
+fine_full s n fine = seen_full s n (fine_node s n fine)
 
 -- the region alone gives what is observed
 module _ (s : StateValue) (n : ℕ) (shape : IsShaped s) (holds : ∥ Holds (observed s) ∥₁) (fine : node_fault (observed s) n ≡ None) (acked : List ℕ) (all : AreAcked (observed s).world acked) where
