@@ -1,13 +1,15 @@
 -- One line more of what is printed.
-use Rattle.std.proofs.Common.{ℕ, List, [], ◌∷◌, ◌++◌, Option, Some, None, Result, Ok, Err, OnOk, refl, ap, sym, ◌∙◌, append_assoc, append-nil}
+use Rattle.std.proofs.Common.{ℕ, List, [], ◌∷◌, ◌++◌, Option, Some, None, Result, Ok, Err, OnOk, refl, ap, sym, subst, ◌∙◌, append_assoc, append-nil}
 use Rattle.std.specs.Io.KnownBytes.{Appends, Keeps}
 use Rattle.assise_fault_script.specs.declared.parse.NumberedCommand.{NumberedCommand}
 use Rattle.assise_console.specs.declared.answer.Answer.{Answer}
 use Rattle.assise_console.specs.declared.fault.EngineFault.{EngineFault}
 use Rattle.assise_console.specs.declared.fault.EngineFault.TheVariants.{Read, Script, Memory, Write}
 use Rattle.assise_console.specs.Engines.{FaultFrom, FaultOf, IsInput, IsReadFault}
+use Rattle.assise_console.specs.Courses.{Told}
 use Rattle.assise_console.specs.Lines.{Prints, line_text}
-use Rattle.assise_console.specs.Steps.{Answers, State}
+use Rattle.assise_console.specs.State.{State}
+use Rattle.assise_console.specs.Steps.{Serves}
 
 pub appends-none : (u : Option (List ℕ)) → Appends u u []
 appends-none None = tt
@@ -25,13 +27,29 @@ appends-keeps (Some xs) None w a x y = absurd x
 appends-keeps (Some xs) (Some ys) None a x y = y
 appends-keeps (Some xs) (Some ys) (Some zs) a x y = y ∙ x
 
-pub prints-push : (s : State) (ls : List NumberedCommand) (text : List ℕ) (t : State) (l : NumberedCommand) (a : Answer) (u : State) → Prints s ls text t → Answers t l.command a u → Prints s (ls ++ l ∷ []) (text ++ line_text l.line u a) u
-prints-push s [] text t l a u p q =
-    (a, (u, ([], (rw p.1 at q, (ap (λ xs. xs ++ line_text l.line u a) p.0 ∙ sym (append-nil (line_text l.line u a)), (refl, refl))))))
-prints-push s (k ∷ ls) text t l a u p q =
-    let rest = p.1.1.0 in
-    let more = prints-push p.1.0 ls rest t l a u p.1.1.1.1.1 q in
-    (p.0, (p.1.0, (rest ++ line_text l.line u a, (p.1.1.1.0, (ap (λ xs. xs ++ line_text l.line u a) p.1.1.1.1.0 ∙ append_assoc (line_text k.line p.1.0 p.0) rest (line_text l.line u a), more)))))
+pub prints-push : (s : State) (ls : List NumberedCommand) (es : Told) (text : List ℕ) (t : State) (l : NumberedCommand) (fs : Told) (a : Answer) (u : State) → Prints s ls es text t → Serves t l.command fs a u → Prints s (ls ++ l ∷ []) (es ++ fs) (text ++ line_text l.line u.machine.history a) u
+prints-push s [] es text t l fs a u p q = record {
+  answer = a;
+  next = u;
+  now = fs;
+  later = [];
+  rest = [];
+  serves = subst (λ v. Serves v l.command fs a u) p.1.1 q;
+  told = ap (λ xs. xs ++ fs) p.0 ∙ sym (append-nil fs);
+  line = ap (λ xs. xs ++ line_text l.line u.machine.history a) p.1.0 ∙ sym (append-nil (line_text l.line u.machine.history a));
+  others = (refl, (refl, refl));
+}
+prints-push s (k ∷ ls) es text t l fs a u p q = record {
+  answer = p.answer;
+  next = p.next;
+  now = p.now;
+  later = p.later ++ fs;
+  rest = p.rest ++ line_text l.line u.machine.history a;
+  serves = p.serves;
+  told = ap (λ xs. xs ++ fs) p.told ∙ append_assoc p.now p.later fs;
+  line = ap (λ xs. xs ++ line_text l.line u.machine.history a) p.line ∙ append_assoc (line_text k.line p.next.machine.history p.answer) p.rest (line_text l.line u.machine.history a);
+  others = prints-push p.next ls p.later p.rest t l fs a u p.others q;
+}
 
 pub on_ok : {X E : Type 0} (r : Result X E) (P Q : Type 0) → OnOk r P → (P → Q) → OnOk r Q
 on_ok (Ok x) P Q p f = f p

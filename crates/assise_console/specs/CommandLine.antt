@@ -1,24 +1,45 @@
--- The command line: `assise SCRIPT`.
-use Rattle.std.specs.Prelude.{Bool, true, List, Option, Some, codes}
-use Rattle.clap.specs.Words.{App, Kinds, Rule, Text, fault_of, first_of, matches_of, new_app, new_rule, takes, with_rule}
+-- The command line: `assise SCRIPT [--turns N]`.
+use Rattle.std.specs.Prelude.{ℕ, Bool, true, List, [], ◌∷◌, Option, Some, codes, option_map, pos}
+use Rattle.std.specs.Str.Parse.{digits_value, without_leading_plus}
+use Rattle.clap.specs.Words.{App, Kinds, Rule, Text, fault_of, first_of, matches_of, new_app, new_rule, one_of, takes, with_rule}
 use Rattle.clap.specs.declared.builder.ArgAction.TheVariants.{Set}
+use Rattle.clap.specs.declared.builder.value_parser.ValueParser.TheVariants.{Signed}
 
--- the one argument
+-- the argument that has to be there
 abbrev pub script_rule : Rule
 script_rule = record (new_rule (codes "SCRIPT")) { action = Some Set; required = true }
+
+-- the option `--turns N`: a number from 1 to 1,000,000, and 100,000 where none is named
+abbrev pub turns_rule : Rule
+turns_rule = record (new_rule (codes "turns")) {
+  long = Some (codes "turns");
+  action = Some Set;
+  value_names = 1;
+  defaults = codes "100000" ∷ [];
+  parser = Some (Signed (pos 1) (pos 1000000));
+}
 
 -- a program that tells its version
 abbrev pub named : App
 named = let plain = new_app (codes "assise") in record plain { top = record (plain.top) { has_version = true } }
 
 abbrev pub program : App
-program = with_rule named script_rule
+program = with_rule (with_rule named script_rule) turns_rule
 
 -- what the words of a command line name as the script, where they are taken; the first word is the program's own
 abbrev pub script_of : List Text → Option Text
 script_of words = first_of (codes "SCRIPT") (matches_of program words)
 
--- the words are a command line of the program: they name one script, and nothing else
+-- the number that decimal digits write; a plus may stand before them
+abbrev pub number_written : Text → ℕ
+number_written digits = digits_value 10 (without_leading_plus digits)
+
+-- how often a call is tried at most: the number that the words name, or the default
+abbrev pub turns_of : List Text → Option ℕ
+turns_of words = option_map number_written (one_of (codes "turns") (matches_of program words))
+
+-- the words are a command line of the program: they name one script, at most one number of turns, which is in its
+-- range, and nothing else
 unfoldable pub is_taken : List Text → Bool
 is_taken words = takes program words
 

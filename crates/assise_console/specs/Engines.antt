@@ -1,17 +1,21 @@
 -- What the engine writes for an input, and what each of its faults says.
-use Rattle.std.specs.Prelude.{◌≡◌, ◌⊎◌, ℕ, List, IfSome, Option, Ok, Err}
+use Rattle.std.specs.Prelude.{◌≡◌, ◌⊎◌, ℕ, List, [], ◌∷◌, IfSome, Option, Ok, Err}
 use Rattle.std.specs.Io.KnownBytes.{Appends}
 use Rattle.std.specs.declared.io.ErrorKind.{ErrorKind}
 use Rattle.std.specs.declared.io.ErrorKind.TheVariants.{OutOfMemory}
+use Rattle.assise_history.specs.Legal.{IsLegal}
+use Rattle.assise_machine_events.specs.Events.{all_entries}
 use Rattle.assise_fault_script.specs.Script.{IsCommandAt, commands_of}
+use Rattle.assise_fault_script.specs.declared.command.Command.{Command}
+use Rattle.assise_fault_script.specs.declared.command.Command.TheVariants.{Cluster}
 use Rattle.assise_fault_script.specs.declared.fault.ScriptFault.{ScriptFault}
 use Rattle.assise_fault_script.specs.declared.fault.ScriptFault.TheVariants.{Memory as no_memory}
 use Rattle.assise_fault_script.specs.declared.parse.NumberedCommand.{NumberedCommand}
 use Rattle.assise_console.specs.declared.fault.EngineFault.{EngineFault}
 use Rattle.assise_console.specs.declared.fault.EngineFault.TheVariants.{Read, Script, Memory, Write}
-use Rattle.assise_console.specs.Lines.{Prints}
-use Rattle.assise_console.specs.Sound.{IsSound}
-use Rattle.assise_console.specs.Steps.{State, start}
+use Rattle.assise_console.specs.Courses.{IsCourse, Told}
+use Rattle.assise_console.specs.Lines.{Prints, PrintsAll}
+use Rattle.assise_console.specs.State.{State, Stocks, begun}
 
 -- ---- a script's bytes
 
@@ -19,13 +23,47 @@ use Rattle.assise_console.specs.Steps.{State, start}
 abbrev pub IsScript : List ℕ → List NumberedCommand → Type 0
 IsScript input commands = commands_of input ≡ Ok commands
 
--- the lines of the answers of these commands were written, and nothing else; the run ends on a legal history
-abbrev pub Ran : List NumberedCommand → Option (List ℕ) → Option (List ℕ) → Type 0
-Ran commands old new = (text : List ℕ) × ((end : State) × (Prints start commands text end × (IsSound end × Appends old new text)))
+-- the command makes a cluster, and this is its console then
+pub record IsBegun (c : Command) (stock : Stocks) (turns : ℕ) (s : State) : Type 0 where
+  pub nodes : ℕ
+  pub log : ℕ
+  pub hot : ℕ
+  pub cluster : c ≡ Cluster nodes log hot
+  pub console : s ≡ begun nodes log stock turns
+
+-- these commands were run from this state on, and the lines of their answers were written, and nothing else
+abbrev pub RunsFrom : State → List NumberedCommand → Option (List ℕ) → Option (List ℕ) → Type 0
+RunsFrom s commands old new = (end : State) × PrintsAll s commands end old new
+
+-- the first command makes a cluster, on which all were run; their answers come from events on it, and its history has exactly the
+-- entries of these events and is legal
+pub record Runs (stock : Stocks) (turns : ℕ) (first : NumberedCommand) (others : List NumberedCommand) (old new : Option (List ℕ)) : Type 0 where
+  pub start : State
+  pub begins : IsBegun first.command stock turns start
+  pub told : Told
+  pub text : List ℕ
+  pub end : State
+  pub prints : Prints start (first ∷ others) told text end
+  pub appends : Appends old new text
+  pub course : IsCourse start.machine told end.machine
+  pub history : end.machine.history ≡ all_entries [] told
+  pub legal : IsLegal end.machine.history
+
+-- no command writes nothing
+abbrev pub Ran : Stocks → ℕ → List NumberedCommand → Option (List ℕ) → Option (List ℕ) → Type 0
+Ran stock turns [] old new = Appends old new []
+Ran stock turns (first ∷ others) old new = Runs stock turns first others old new
+
+-- there was no memory for the cluster, and nothing was written; or the writer failed
+abbrev pub IsRunFault : EngineFault → Option (List ℕ) → Option (List ℕ) → Type 0
+IsRunFault Memory old new = new ≡ old
+IsRunFault Write old new = Unit {0}
+IsRunFault Read old new = ⊥
+IsRunFault (Script line fault) old new = ⊥
 
 -- the bytes are a script, and it was run
-abbrev pub Printed : List ℕ → Option (List ℕ) → Option (List ℕ) → Type 0
-Printed input old new = (commands : List NumberedCommand) × (IsScript input commands × Ran commands old new)
+abbrev pub Printed : Stocks → ℕ → List ℕ → Option (List ℕ) → Option (List ℕ) → Type 0
+Printed stock turns input old new = (commands : List NumberedCommand) × (IsScript input commands × Ran stock turns commands old new)
 
 -- the first fault of the bytes; or a line says a command, no line up to it is faulty, and there was no memory for the command
 abbrev pub IsScriptFault : List ℕ → ℕ → ScriptFault → Type 0
@@ -45,8 +83,8 @@ abbrev pub IsInput : Option (List ℕ) → List ℕ → Type 0
 IsInput known input = IfSome known (λ bytes. input ≡ bytes)
 
 -- the reader gave a script, and it was run
-abbrev pub PrintedFrom : Option (List ℕ) → Option (List ℕ) → Option (List ℕ) → Type 0
-PrintedFrom known old new = (input : List ℕ) × (IsInput known input × Printed input old new)
+abbrev pub PrintedFrom : Stocks → ℕ → Option (List ℕ) → Option (List ℕ) → Option (List ℕ) → Type 0
+PrintedFrom stock turns known old new = (input : List ℕ) × (IsInput known input × Printed stock turns input old new)
 
 -- nothing was written where the reader failed, or there was no memory for what it gave; every other fault is one of what it gave
 abbrev pub FaultFrom : EngineFault → Option (List ℕ) → Option (List ℕ) → Option (List ℕ) → Type 0

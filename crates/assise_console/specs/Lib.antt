@@ -1,6 +1,10 @@
 pub mod CommandLine
+pub mod State
+pub mod Courses
+pub mod Rounds
+pub mod Trying
 pub mod Steps
-pub mod Sound
+pub mod Consoles
 pub mod Lines
 pub mod Engines
 pub mod Faults

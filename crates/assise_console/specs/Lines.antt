@@ -3,38 +3,62 @@ use Rattle.std.specs.Prelude.{◌≡◌, ℕ, List, [], ◌∷◌, ◌++◌, cod
 use Rattle.std.specs.Io.KnownBytes.{Appends}
 use Rattle.std.specs.Fmt.{decimal}
 use Rattle.assise_names.specs.Text.{refusal_text, reply_text}
+use Rattle.assise_seq_tree.specs.Lines.{tree_text}
+use Rattle.assise_history.specs.Entries.{Event as Entry}
 use Rattle.assise_history.specs.Text.{history_text}
 use Rattle.assise_fault_script.specs.declared.parse.NumberedCommand.{NumberedCommand}
 use Rattle.assise_console.specs.declared.answer.Answer.{Answer}
-use Rattle.assise_console.specs.declared.answer.Answer.TheVariants.{Quiet, Client, Replied, Refused, History}
-use Rattle.assise_console.specs.Steps.{State, Answers}
+use Rattle.assise_console.specs.declared.answer.Answer.TheVariants.{Quiet, Client, Replied, Waits, Refused, Carried, Digested, Released, Tree, History}
+use Rattle.assise_console.specs.Courses.{Told}
+use Rattle.assise_console.specs.State.{State}
+use Rattle.assise_console.specs.Steps.{Serves}
 
--- the text of an answer, in the state that it leaves
-abbrev pub answer_text : State → Answer → List ℕ
-answer_text s Quiet = []
-answer_text s (Client c) = codes "client " ++ decimal c
-answer_text s (Replied reply) = reply_text reply
-answer_text s (Refused refusal) = refusal_text refusal
-answer_text s History = history_text s.events
+-- the text of an answer, where the history so far is this
+abbrev pub answer_text : List Entry → Answer → List ℕ
+answer_text h Quiet = []
+answer_text h (Client c) = codes "client " ++ decimal c
+answer_text h (Replied reply) = reply_text reply
+answer_text h Waits = codes "wait"
+answer_text h (Refused refusal) = refusal_text refusal
+answer_text h (Carried count) = codes "carried " ++ decimal count
+answer_text h (Digested count) = codes "digested " ++ decimal count
+answer_text h (Released count) = codes "released " ++ decimal count
+answer_text h (Tree tree) = tree_text tree
+answer_text h History = history_text h
 
 -- the number of its line, a colon and a space before it, and a line feed after it
 abbrev pub numbered : ℕ → List ℕ → List ℕ
 numbered n text = decimal n ++ codes ": " ++ text ++ 10 ∷ []
 
 -- the line of an answer, if it prints one
-abbrev pub line_text : ℕ → State → Answer → List ℕ
-line_text n s Quiet = []
-line_text n s (Client c) = numbered n (answer_text s (Client c))
-line_text n s (Replied reply) = numbered n (answer_text s (Replied reply))
-line_text n s (Refused refusal) = numbered n (answer_text s (Refused refusal))
-line_text n s History = numbered n (answer_text s History)
+abbrev pub line_text : ℕ → List Entry → Answer → List ℕ
+line_text n h Quiet = []
+line_text n h a = numbered n (answer_text h a)
 
--- a command's answer was written, and nothing else
-abbrev pub PrintsOne : State → NumberedCommand → State → Option (List ℕ) → Option (List ℕ) → Type 0
-PrintsOne s l t old new = (a : Answer) × (Answers s l.command a t × Appends old new (line_text l.line t a))
+-- a command was run by these events, and its answer was written and nothing else
+pub record PrintsOne (s : State) (l : NumberedCommand) (t : State) (old new : Option (List ℕ)) : Type 0 where
+  pub answer : Answer
+  pub told : Told
+  pub serves : Serves s l.command told answer t
+  pub appends : Appends old new (line_text l.line t.machine.history answer)
 
--- the lines of the commands' answers, one after another
-abbrev pub Prints : State → List NumberedCommand → List ℕ → State → Type 0
-Prints s [] text t = (text ≡ []) × (t ≡ s)
-Prints s (l ∷ more) text t =
-    (a : Answer) × ((u : State) × ((rest : List ℕ) × (Answers s l.command a u × ((text ≡ line_text l.line u a ++ rest) × Prints u more rest t))))
+-- the first command's answer and events, and those of the others behind them
+pub record PrintsFirst (Others : State → Told → List ℕ → Type 0) (s : State) (l : NumberedCommand) (es : Told) (text : List ℕ) : Type 0 where
+  pub answer : Answer
+  pub next : State
+  pub now : Told
+  pub later : Told
+  pub rest : List ℕ
+  pub serves : Serves s l.command now answer next
+  pub told : es ≡ now ++ later
+  pub line : text ≡ line_text l.line next.machine.history answer ++ rest
+  pub others : Others next later rest
+
+-- the lines of the commands' answers, one after another, with the events by which they were run
+abbrev pub Prints : State → List NumberedCommand → Told → List ℕ → State → Type 0
+Prints s [] es text t = (es ≡ []) × ((text ≡ []) × (t ≡ s))
+Prints s (l ∷ more) es text t = PrintsFirst (λ u later rest. Prints u more later rest t) s l es text
+
+-- these commands were run by some events, and the lines of their answers were written and nothing else
+abbrev pub PrintsAll : State → List NumberedCommand → State → Option (List ℕ) → Option (List ℕ) → Type 0
+PrintsAll s commands t old new = (told : Told) × ((text : List ℕ) × (Prints s commands told text t × Appends old new text))

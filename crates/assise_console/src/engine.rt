@@ -1,50 +1,61 @@
 // Runs a script's commands and prints their answers.
 ghost use Rattle.std.specs.Prelude.{◌≡◌, IfErr, IfOk, IsOkUnless, OnOk};
 ghost use Rattle.std.specs.Io.KnownBytes.{Appends, Keeps};
-ghost use Rattle.assise_console.specs.Engines.{FaultFrom, FaultOf, IsInput, IsReadFault, Printed, PrintedFrom, Ran, read_fault};
-ghost use Rattle.assise_console.specs.Lines.{answer_text, line_text, numbered, PrintsOne};
-ghost use Rattle.assise_console.specs.Steps.{start};
+ghost use Rattle.assise_console.specs.Consoles.{seen, stocks};
+ghost use Rattle.assise_console.specs.Engines.{FaultFrom, FaultOf, IsBegun, IsInput, IsReadFault, IsRunFault, Printed, PrintedFrom, Ran, RunsFrom, read_fault};
+ghost use Rattle.assise_console.specs.Lines.{PrintsAll, PrintsOne, answer_text, line_text, numbered};
+ghost use Rattle.assise_fault_script.specs.Script.{ClusterFirst, IsCluster};
 
 use crate::answer::Answer;
+use crate::console::ConsoleOf;
 use crate::fault::EngineFault;
 use crate::options::CommandLine;
-use crate::state::{AnswerText, Console};
+use crate::stock::Stock;
+use crate::text::AnswerText;
+use assise_fault_script::command::Command;
 use assise_fault_script::parse::{NumberedCommand, parse};
+use assise_history::history::History;
+use assise_lease_table::revoker::Revokes;
 use std::alloc::Global;
 use std::io::{ErrorKind, Read, Write};
 
-/// Reads a script, runs it, and writes its answers and nothing else. It waits for nobody.
+/// Reads a script, runs it on a cluster, and writes its answers and nothing else. Clients are opened with revokers of the stock. It
+/// waits for nobody.
 ///
 /// [`EngineFault::Read`] is the reader's failure, [`EngineFault::Script`] the first fault of the script, and
-/// [`EngineFault::Memory`] want of memory for the script's bytes or for the root; nothing is written then.
+/// [`EngineFault::Memory`] want of memory for the script's bytes or for the cluster; nothing is written then.
 /// [`EngineFault::Write`] is the writer's failure, and nothing more is written after it. What is said of the bytes that
 /// were read holds of the reader's own where those are known, and else of some.
-pub fn engine<R: Read, W: Write>(
+pub fn engine<R: Read, W: Write, C: Revokes + Drop>(
     alloc: Global,
     reader: &mut R,
     writer: &mut W,
-    _command_line: &CommandLine<'_>,
+    stock: Stock<C>,
+    command_line: &CommandLine<'_>,
 ) -> Result<(), EngineFault>
-    ensures done { OnOk result (PrintedFrom (R.remaining reader.old) (W.contents writer.old) (W.contents writer.new)) }
+    ensures done { OnOk result (PrintedFrom (stocks stock) command_line.now.turns (R.remaining reader.old) (W.contents writer.old) (W.contents writer.new)) }
     ensures faulty { IfErr result (λ e. FaultFrom e (R.remaining reader.old) (W.contents writer.old) (W.contents writer.new)) }
 {
     let input = read_all(alloc, reader)?;
-    run_script(alloc, input.as_slice(), writer)
+    run_script(alloc, input.as_slice(), writer, stock, command_line.turns)
 }
 
-/// Runs the script that these bytes are, and writes its answers and nothing else.
+/// Runs the script that these bytes are, and writes its answers and nothing else. A call is tried so many times at most.
 ///
-/// [`EngineFault::Script`] is the first fault of the script, and [`EngineFault::Memory`] want of memory for the root of
+/// [`EngineFault::Script`] is the first fault of the script, and [`EngineFault::Memory`] want of memory for the cluster of
 /// a script that has no fault; nothing is written then. [`EngineFault::Write`] is the writer's failure.
-pub fn run_script<W: Write>(alloc: Global, script: &[u8], writer: &mut W) -> Result<(), EngineFault>
-    ensures done { OnOk result (Printed script.now (W.contents writer.old) (W.contents writer.new)) }
+pub fn run_script<W: Write, C: Revokes + Drop>(
+    alloc: Global,
+    script: &[u8],
+    writer: &mut W,
+    stock: Stock<C>,
+    turns: u32,
+) -> Result<(), EngineFault>
+    ensures done { OnOk result (Printed (stocks stock) turns script.now (W.contents writer.old) (W.contents writer.new)) }
     ensures faulty { IfErr result (λ e. FaultOf e script.now (W.contents writer.old) (W.contents writer.new)) }
 {
     match parse(alloc, script) {
-        Ok(commands) => {
-            let console = new_console(alloc)?;
-            run(alloc, console, commands, writer)
-        }
+        Ok(commands) => run_commands(alloc, commands, writer, stock, turns),
         Err(found) => Err(EngineFault::Script(found.line, found.fault)),
     }
 }
@@ -72,78 +83,125 @@ fn read_fault(kind: ErrorKind) -> EngineFault
     }
 }
 
-/// A cluster in which nothing happened.
-fn new_console(alloc: Global) -> Result<Console, EngineFault>
-    ensures start { IfOk result (λ console. console ≡ start) }
+/// Runs the commands of a script, the first of which makes its cluster.
+fn run_commands<W: Write, C: Revokes + Drop>(
+    alloc: Global,
+    commands: Vec<NumberedCommand>,
+    writer: &mut W,
+    stock: Stock<C>,
+    turns: u32,
+) -> Result<(), EngineFault>
+    requires cluster_first { ClusterFirst commands.items }
+    ensures done { OnOk result (Ran (stocks stock) turns commands.items (W.contents writer.old) (W.contents writer.new)) }
+    ensures faulty { IfErr result (λ e. IsRunFault e (W.contents writer.old) (W.contents writer.new)) }
+{
+    match commands.first() {
+        Some(first) => {
+            let console = console_of(alloc, &first.command, stock, turns)?;
+            run(alloc, console, commands, writer)
+        }
+        None => flush(writer),
+    }
+}
+
+/// The console of the cluster that a command makes.
+fn console_of<C: Revokes + Drop>(
+    alloc: Global,
+    command: &Command,
+    stock: Stock<C>,
+    turns: u32,
+) -> Result<ConsoleOf<C>, EngineFault>
+    requires cluster { IsCluster command.now }
+    ensures begun { IfOk result (λ console. IsBegun command.now (stocks stock) turns (seen console)) }
     ensures only_memory { IsOkUnless result EngineFault.Memory }
 {
-    match Console::new(alloc) {
+    let Command::Cluster { nodes, log, hot } = command else {
+        unreachable!();
+    };
+    match ConsoleOf::new(
+        alloc,
+        *nodes as u32,
+        *log as usize,
+        *hot as usize,
+        stock,
+        turns,
+    ) {
         Ok(console) => Ok(console),
         Err(_) => Err(EngineFault::Memory),
     }
 }
 
 /// Runs the commands in order, and writes the line of each answer and nothing else.
-fn run<W: Write>(
+fn run<W: Write, C: Revokes + Drop>(
     alloc: Global,
-    mut console: Console,
+    mut console: ConsoleOf<C>,
     commands: Vec<NumberedCommand>,
     writer: &mut W,
 ) -> Result<(), EngineFault>
-    requires { console ≡ start }
-    ensures done { OnOk result (Ran commands.items (W.contents writer.old) (W.contents writer.new)) }
+    ensures done { OnOk result (RunsFrom (seen console) commands.items (W.contents writer.old) (W.contents writer.new)) }
     ensures only_write { IsOkUnless result EngineFault.Write }
 {
-    for command in commands {
-        run_line(alloc, &mut console, command, writer)?;
-    }
+    run_lines(alloc, &mut console, commands, writer)?;
     flush(writer)
 }
 
-/// Runs one command and writes its line.
-fn run_line<W: Write>(
+/// Runs the commands in order on a console, and writes the line of each answer.
+fn run_lines<W: Write, C: Revokes + Drop>(
     alloc: Global,
-    console: &mut Console,
+    console: &mut ConsoleOf<C>,
+    commands: Vec<NumberedCommand>,
+    writer: &mut W,
+) -> Result<(), EngineFault>
+    ensures done { OnOk result (PrintsAll (seen console.old) commands.items (seen console.new) (W.contents writer.old) (W.contents writer.new)) }
+    ensures only_write { IsOkUnless result EngineFault.Write }
+{
+    for command in commands {
+        run_line(alloc, console, command, writer)?;
+    }
+    Ok(())
+}
+
+/// Runs one command and writes its line.
+fn run_line<W: Write, C: Revokes + Drop>(
+    alloc: Global,
+    console: &mut ConsoleOf<C>,
     command: NumberedCommand,
     writer: &mut W,
 ) -> Result<(), EngineFault>
-    ensures done { OnOk result (PrintsOne console.old command console.new (W.contents writer.old) (W.contents writer.new)) }
+    ensures done { OnOk result (PrintsOne (seen console.old) command (seen console.new) (W.contents writer.old) (W.contents writer.new)) }
     ensures only_write { IsOkUnless result EngineFault.Write }
 {
     let number = command.line;
     let answer = console.step(alloc, command.command);
-    print(writer, number, console, &answer)
+    print(writer, number, console.history(), &answer)
 }
 
-/// Writes the line of an answer, if it prints one.
+/// Writes the line of an answer, if it prints one, where the history so far is this.
 fn print<W: Write>(
     writer: &mut W,
     number: u64,
-    console: &Console,
+    history: &History,
     answer: &Answer,
 ) -> Result<(), EngineFault>
-    ensures done { OnOk result (Appends (W.contents writer.old) (W.contents writer.new) (line_text number console.now answer.now)) }
+    ensures done { OnOk result (Appends (W.contents writer.old) (W.contents writer.new) (line_text number history.now.events answer.now)) }
     ensures only_write { IsOkUnless result EngineFault.Write }
 {
     match answer {
         Answer::Quiet => Ok(()),
-        Answer::Client(_) => print_line(writer, number, console, answer),
-        Answer::Replied(_) => print_line(writer, number, console, answer),
-        Answer::Refused(_) => print_line(writer, number, console, answer),
-        Answer::History => print_line(writer, number, console, answer),
+        _ => print_line(writer, number, history, answer),
     }
 }
 
 fn print_line<W: Write>(
     writer: &mut W,
     number: u64,
-    console: &Console,
+    history: &History,
     answer: &Answer,
 ) -> Result<(), EngineFault>
-    ensures done { OnOk result (Appends (W.contents writer.old) (W.contents writer.new) (numbered number (answer_text console.now answer.now))) }
+    ensures done { OnOk result (Appends (W.contents writer.old) (W.contents writer.new) (numbered number (answer_text history.now.events answer.now))) }
     ensures only_write { IsOkUnless result EngineFault.Write }
 {
-    let text = AnswerText { console, answer };
+    let text = AnswerText { history, answer };
     match writeln!(writer, "{number}: {text}") {
         Ok(()) => Ok(()),
         Err(_) => Err(EngineFault::Write),

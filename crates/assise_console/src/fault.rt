@@ -5,7 +5,7 @@ ghost use Rattle.assise_names.specs.declared.refusal.Refusal.TheVariants.{OutOfM
 
 use assise_fault_script::fault::ScriptFault;
 use assise_names::refusal::Refusal;
-use std::alloc::Global;
+use std::alloc::{AllocError, Global};
 use std::fmt;
 use std::fmt::{Display, Formatter};
 
@@ -20,6 +20,15 @@ pub enum EngineFault {
     Memory,
     /// The writer failed.
     Write,
+}
+
+impl From<AllocError> for EngineFault {
+    /// There is no memory.
+    fn from(_: AllocError) -> EngineFault
+        ensures { result ≡ EngineFault.Memory }
+    {
+        EngineFault::Memory
+    }
 }
 
 /// The line that standard error gets, without its end, or [`Refusal::OutOfMemory`]. `script` is the word of the

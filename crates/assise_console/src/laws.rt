@@ -1,31 +1,26 @@
 // Laws of the commands. Each function does nothing: its contract is the law.
-ghost use Rattle.std.specs.Prelude.{◌≡◌, ◌++◌, ◌∷◌, List, [], ℕ};
-ghost use Rattle.assise_names.specs.declared.call.Op.{Op};
-ghost use Rattle.assise_names.specs.declared.refusal.Refusal.{Refusal};
-ghost use Rattle.assise_names.specs.declared.reply.Reply.{Reply};
-ghost use Rattle.assise_seq_tree.specs.Answer.{answer};
-ghost use Rattle.assise_history.specs.Entries.{calls};
+ghost use Rattle.std.specs.Prelude.{◌≡◌, ◌++◌, ◌<◌, List, [], ℕ};
+ghost use Rattle.assise_history.specs.Legal.{IsLegal};
 ghost use Rattle.assise_fault_script.specs.declared.command.Command as commands;
-ghost use Rattle.assise_fault_script.specs.declared.command.Command.TheVariants.{Call};
 ghost use Rattle.assise_fault_script.specs.declared.parse.NumberedCommand.{NumberedCommand};
-ghost use Rattle.assise_console.specs.declared.answer.Answer.TheVariants.{Refused, Replied};
+ghost use Rattle.assise_machine_events.specs.Events.{all_entries};
+ghost use Rattle.assise_console.specs.declared.answer.Answer.{Answer};
+ghost use Rattle.assise_console.specs.Courses.{IsCourse, Told};
 ghost use Rattle.assise_console.specs.Lines.{Prints};
-ghost use Rattle.assise_console.specs.Sound.{IsSound};
-ghost use Rattle.assise_console.specs.Steps.{Answers, State, start};
+ghost use Rattle.assise_console.specs.State.{State, Stocks, begun};
+ghost use Rattle.assise_console.specs.Steps.{Serves};
 
-/// A refused command makes no entry and changes no file: the state stays.
-pub fn a_refused_command_changes_nothing()
-    ensures { (s t : State) (command : commands.Command) (refusal : Refusal) → Answers s command (Refused refusal) t → t ≡ s }
+/// What a command does to the cluster are the events by which it is run, and so of a whole run; the history gets exactly their
+/// entries.
+pub fn a_run_is_a_course_of_events()
+    ensures command { (s t : State) (command : commands.Command) (es : Told) (a : Answer) → Serves s command es a t → IsCourse s.machine es t.machine }
+    ensures run { (s t : State) (all : List NumberedCommand) (es : Told) (text : List ℕ) → Prints s all es text t → IsCourse s.machine es t.machine }
+    ensures entries { (s t : State) (all : List NumberedCommand) (es : Told) (text : List ℕ) → Prints s all es text t →
+        t.machine.history ≡ s.machine.history ++ all_entries s.machine.history es }
 {}
 
-/// An answered call is the answer on the tree, and one entry with its reply.
-pub fn an_answered_call_is_one_entry()
-    ensures tree { (s t : State) (client : ℕ) (op : Op) (reply : Reply) → Answers s (Call client op) (Replied reply) t → (reply, t.tree) ≡ answer s.tree op }
-    ensures entry { (s t : State) (client : ℕ) (op : Op) (reply : Reply) → Answers s (Call client op) (Replied reply) t →
-        t.events ≡ s.events ++ calls record { client = 1; number = s.calls; op = op; reply = reply } ∷ [] }
-{}
-
-/// Wherever a run stands, its history is legal, and its tree is that of the kept calls.
+/// Wherever a run stands that began with a new cluster, its history is legal.
 pub fn a_run_stands_on_a_legal_history()
-    ensures { (commands : List NumberedCommand) (text : List ℕ) (t : State) → Prints start commands text t → IsSound t }
+    ensures { (nodes log turns : ℕ) (stock : Stocks) (all : List NumberedCommand) (es : Told) (text : List ℕ) (t : State) → 0 < nodes →
+        Prints (begun nodes log stock turns) all es text t → IsLegal t.machine.history }
 {}

@@ -1,10 +1,15 @@
-//! The console: a script is read, run, and its answers are printed.
+//! The console: a script is read, run on a cluster, and its answers are printed.
 #![tactic(auto)]
 
 pub mod answer;
+pub mod console;
 pub mod engine;
 pub mod fault;
 pub mod laws;
+mod link;
 pub mod options;
-mod outcome;
-pub mod state;
+mod rounds;
+pub mod stock;
+mod text;
+mod trees;
+mod trying;

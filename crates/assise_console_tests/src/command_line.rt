@@ -3,13 +3,13 @@ use assise_console::options::{CommandLine, options};
 use clap::Error;
 use std::test::Fail;
 
-/// The script that the words name, or the kind of their fault, whether its text goes to standard error, the exit
-/// status, and whether the text begins as a fault's.
+/// The script and the turns that the words name, or the kind of their fault, where its text goes, and the exit status.
 fn described(rt: &HostRuntime, found: &Result<CommandLine<'_>, Error>) -> Result<String, Fail> {
     match found {
         Ok(line) => {
             let script = line.script;
-            Ok(format!(in rt.alloc(); "script {script}\n")?)
+            let turns = line.turns;
+            Ok(format!(in rt.alloc(); "script {script}, {turns} turns\n")?)
         }
         Err(error) => {
             let kind = error.kind();
@@ -48,14 +48,44 @@ fn the_command_line_is_one_script(rt: HostRuntime) -> Result<(), Fail> {
     for words in lines {
         add_line(&rt, &mut text, words)?;
     }
-    let wanted = "script a.script\n\
-        script -\n\
+    let wanted = "script a.script, 100000 turns\n\
+        script -, 100000 turns\n\
         MissingRequiredArgument, standard error, status 2\n\
         UnknownArgument, standard error, status 2\n\
         UnknownArgument, standard error, status 2\n\
         UnknownArgument, standard error, status 2\n\
         DisplayHelp, standard output, status 0\n\
         DisplayVersion, standard output, status 0\n";
+    assert_eq!(rt; text.as_str(), wanted);
+    Ok(())
+}
+
+#[test]
+fn turns_are_from_one_to_a_million(rt: HostRuntime) -> Result<(), Fail> {
+    let mut text = String::new(rt.alloc());
+    let lines: [&[&str]; 9] = [
+        &["assise", "a", "--turns", "3"],
+        &["assise", "--turns=1000000", "a"],
+        &["assise", "a", "--turns", "1"],
+        &["assise", "a", "--turns", "0"],
+        &["assise", "a", "--turns", "1000001"],
+        &["assise", "a", "--turns", "x"],
+        &["assise", "a", "--turns"],
+        &["assise", "a", "--turns", "3", "--turns", "3"],
+        &["assise", "--turns", "3"],
+    ];
+    for words in lines {
+        add_line(&rt, &mut text, words)?;
+    }
+    let wanted = "script a, 3 turns\n\
+        script a, 1000000 turns\n\
+        script a, 1 turns\n\
+        ValueValidation, standard error, status 2\n\
+        ValueValidation, standard error, status 2\n\
+        ValueValidation, standard error, status 2\n\
+        InvalidValue, standard error, status 2\n\
+        ArgumentConflict, standard error, status 2\n\
+        MissingRequiredArgument, standard error, status 2\n";
     assert_eq!(rt; text.as_str(), wanted);
     Ok(())
 }
@@ -79,7 +109,9 @@ fn the_version_is_printed(rt: HostRuntime) -> Result<(), Fail> {
 fn the_help_says_what_a_script_looks_like(rt: HostRuntime) -> Result<(), Fail> {
     let text = printed(&rt, &["assise", "--help"])?;
     for line in [
-        "Usage: assise <SCRIPT>\n",
+        "Usage: assise [OPTIONS] <SCRIPT>\n",
+        "--turns <N>",
+        "[default: 100000]",
         "'cluster 1 8 4', 'open 1 least', '1 create /f', '1 write /f 0 thello', 'history'.\n",
         "docs/SCRIPT.md",
         "Exit status: 0 ",
@@ -91,10 +123,11 @@ fn the_help_says_what_a_script_looks_like(rt: HostRuntime) -> Result<(), Fail> {
 
 #[test]
 fn a_fault_of_the_words_is_said_to_be_one(rt: HostRuntime) -> Result<(), Fail> {
-    let lines: [&[&str]; 3] = [
+    let lines: [&[&str]; 4] = [
         &["assise"],
         &["assise", "a", "b"],
         &["assise", "--none", "a"],
+        &["assise", "a", "--turns", "0"],
     ];
     for words in lines {
         let text = printed(&rt, words)?;

@@ -1,9 +1,12 @@
 // Readers and writers that fail.
 use crate::scripts::{ANSWERS, NOWHERE, PRINTED};
+use crate::stock::stock_of;
 use assise_console::engine::engine;
 use assise_console::fault::EngineFault;
+use std::alloc::Global;
 use std::io;
 use std::io::{ErrorKind, Read, Write};
+use std::process::Abort;
 
 /// A reader that gives at most seven bytes at a time, and fails after so many reads.
 #[derive(Drop)]
@@ -28,11 +31,17 @@ impl Read for BrokenReader {
 }
 
 /// Reads a script with a reader that fails after so many reads, and says how the run ended and what it printed.
-fn read_in_part(rt: &HostRuntime, left: usize, kind: ErrorKind) -> (Option<EngineFault>, Vec<u8>) {
+fn read_in_part(
+    alloc: Global,
+    rt: &impl Abort,
+    left: usize,
+    kind: ErrorKind,
+) -> (Option<EngineFault>, Vec<u8>) {
     let bytes = ANSWERS.as_bytes();
     let mut reader = BrokenReader { bytes, left, kind };
-    let mut output = Vec::new(rt.alloc());
-    let ended = engine(rt.alloc(), &mut reader, &mut output, &NOWHERE);
+    let mut output = Vec::new(alloc);
+    let stock = stock_of(alloc).expect(rt, "no memory");
+    let ended = engine(alloc, &mut reader, &mut output, stock, &NOWHERE);
     (ended.err(), output)
 }
 
@@ -40,7 +49,7 @@ fn read_in_part(rt: &HostRuntime, left: usize, kind: ErrorKind) -> (Option<Engin
 fn a_reader_that_fails_at_any_call_prints_nothing(rt: HostRuntime) {
     let mut failed = 0;
     for left in 0..100 {
-        let (fault, output) = read_in_part(&rt, left, ErrorKind::PermissionDenied);
+        let (fault, output) = read_in_part(rt.alloc(), &rt, left, ErrorKind::PermissionDenied);
         if fault.is_some() {
             assert_eq!(rt; fault, Some(EngineFault::Read));
             assert!(rt; output.is_empty());
@@ -54,7 +63,7 @@ fn a_reader_that_fails_at_any_call_prints_nothing(rt: HostRuntime) {
 
 #[test]
 fn want_of_memory_is_told_from_a_failing_reader(rt: HostRuntime) {
-    let (fault, output) = read_in_part(&rt, 3, ErrorKind::OutOfMemory);
+    let (fault, output) = read_in_part(rt.alloc(), &rt, 3, ErrorKind::OutOfMemory);
     assert_eq!(rt; fault, Some(EngineFault::Memory));
     assert!(rt; output.is_empty());
 }
@@ -107,7 +116,8 @@ fn a_writer_that_fails_at_any_call_ends_the_run(rt: HostRuntime) {
     for left in 0..1000 {
         let mut reader = ANSWERS.as_bytes();
         let mut writer = BrokenWriter::new(left);
-        if let Err(fault) = engine(rt.alloc(), &mut reader, &mut writer, &NOWHERE) {
+        let stock = stock_of(rt.alloc()).expect(&rt, "no memory");
+        if let Err(fault) = engine(rt.alloc(), &mut reader, &mut writer, stock, &NOWHERE) {
             assert_eq!(rt; fault, EngineFault::Write);
             assert_eq!(rt; writer.later, 0, "a call after the one that failed");
             assert_eq!(rt; failed, left, "a run ended well with fewer writes");
@@ -138,7 +148,8 @@ impl Write for Unflushed {
 fn a_writer_that_fails_at_the_end_alone_is_no_success(rt: HostRuntime) {
     let mut reader = ANSWERS.as_bytes();
     let mut writer = Unflushed { written: 0 };
-    let ended = engine(rt.alloc(), &mut reader, &mut writer, &NOWHERE);
+    let stock = stock_of(rt.alloc()).expect(&rt, "no memory");
+    let ended = engine(rt.alloc(), &mut reader, &mut writer, stock, &NOWHERE);
     assert_eq!(rt; ended.err(), Some(EngineFault::Write));
     assert_eq!(rt; writer.written, PRINTED.len());
 }

@@ -1,5 +1,6 @@
 // What ends a run early.
 use crate::scripts::NOWHERE;
+use crate::stock::stock_of;
 use assise_console::engine::engine;
 use assise_console::fault::{EngineFault, fault_line, status};
 use assise_fault_script::fault::ScriptFault;
@@ -12,7 +13,8 @@ use std::test::Fail;
 fn fault_of(alloc: Global, rt: &impl Abort, script: &str) -> Option<EngineFault> {
     let mut reader = script.as_bytes();
     let mut output = Vec::new(alloc);
-    let ended = engine(alloc, &mut reader, &mut output, &NOWHERE);
+    let stock = stock_of(alloc).expect(rt, "no memory");
+    let ended = engine(alloc, &mut reader, &mut output, stock, &NOWHERE);
     assert!(rt; output.is_empty(), "{script}");
     ended.err()
 }

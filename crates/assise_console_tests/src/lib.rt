@@ -8,4 +8,8 @@ mod failing;
 #[cfg(test)]
 mod faults;
 #[cfg(test)]
+mod rows;
+#[cfg(test)]
 mod scripts;
+#[cfg(test)]
+mod stock;

@@ -1,7 +1,8 @@
 // What scripts print.
 ghost use Rattle.std.specs.Prelude.{◌+◌, ◌<◌, ◌^◌};
 
-use assise_console::engine::engine;
+use crate::stock::stock_of;
+use assise_console::engine::run_script;
 use assise_console::options::CommandLine;
 use std::alloc::Global;
 use std::process::Abort;
@@ -10,13 +11,35 @@ use std::test::Fail;
 /// The command line of the tests. What ends a run early names its script.
 pub(crate) const NOWHERE: CommandLine = CommandLine {
     script: "some.script",
+    turns: 1000,
 };
 
 /// Runs a script, which has to print this.
-fn prints(alloc: Global, rt: &impl Abort, script: &str, wanted: &str) -> Result<(), Fail> {
-    let mut reader = script.as_bytes();
+pub(crate) fn prints(
+    alloc: Global,
+    rt: &impl Abort,
+    script: &str,
+    wanted: &str,
+) -> Result<(), Fail> {
+    prints_in(alloc, rt, script, NOWHERE.turns, wanted)
+}
+
+/// Runs a script whose calls are tried so many times at most. It has to print this.
+pub(crate) fn prints_in(
+    alloc: Global,
+    rt: &impl Abort,
+    script: &str,
+    turns: u32,
+    wanted: &str,
+) -> Result<(), Fail> {
     let mut output = Vec::new(alloc);
-    engine(alloc, &mut reader, &mut output, &NOWHERE)?;
+    run_script(
+        alloc,
+        script.as_bytes(),
+        &mut output,
+        stock_of(alloc)?,
+        turns,
+    )?;
     assert!(rt; output.as_slice() == wanted.as_bytes(), "{script}");
     Ok(())
 }
@@ -226,7 +249,7 @@ fn entries_are_moved(rt: HostRuntime) -> Result<(), Fail> {
 }
 
 /// What is moved keeps its bytes, its subtree and its place in the history.
-const MOVED: &str = "cluster 1 8 4\n\
+const MOVED: &str = "cluster 1 16 4\n\
     open 1 least\n\
     1 mkdir /d\n\
     1 create /d/f\n\
@@ -372,7 +395,7 @@ const SHORT: [(&str, &str); 9] = [
     ),
     (
         "open 1 least\nopen 1 eights\n",
-        "2: client 1\n3: F9 BadClient\n",
+        "2: client 1\n3: client 2\n",
     ),
     (
         "open 1 least\n4294967297 stat /\n",
@@ -440,7 +463,11 @@ fn a_directory_is_full_with_4096_entries(rt: HostRuntime) -> Result<(), Fail> {
     let mut script = String::from_str(rt.alloc(), "cluster 1 4096 16\nopen 1 least\n")?;
     let mut wanted = String::from_str(rt.alloc(), "2: client 1\n")?;
     add_4096_creates(&rt, &mut script, &mut wanted)?;
-    script.push_str("1 create /x\n1 mkdir /x\n1 unlink /f0007\n1 mkdir /x\n1 create /x/y\n")?;
-    wanted.push_str("4099: E8 DirFull\n4100: E8 DirFull\n4101: done\n4102: done\n4103: done\n")?;
+    script.push_str(
+        "1 create /x\n1 mkdir /x\n1 unlink /f0007\ndigest 1\n1 unlink /f0007\n1 mkdir /x\n1 create /x/y\n",
+    )?;
+    wanted.push_str(
+        "4099: E8 DirFull\n4100: E8 DirFull\n4101: F12 LogFull\n4102: digested 64\n4103: done\n4104: done\n4105: done\n",
+    )?;
     prints(rt.alloc(), &rt, script.as_str(), wanted.as_str())
 }

@@ -7,12 +7,12 @@ use Rattle.std.specs.Prelude.{is_some}
 use Rattle.std.specs.Str.{is_utf8}
 use Rattle.assise_names.specs.declared.call.Op.{Op}
 use Rattle.assise_fault_script.specs.declared.command.Command.{Command}
-use Rattle.assise_fault_script.specs.declared.command.Command.TheVariants.{Cluster, Open, Call, History}
+use Rattle.assise_fault_script.specs.declared.command.Command.TheVariants.{Cluster, Manual, Open, Call, Carry, Digest, Release, Tree, History}
 use Rattle.assise_fault_script.specs.declared.command.Keyword as first
-use Rattle.assise_fault_script.specs.declared.command.Keyword.TheVariants.{Cluster as for_cluster, Open as for_open, History as for_history}
+use Rattle.assise_fault_script.specs.declared.command.Keyword.TheVariants.{Cluster as for_cluster, Manual as for_manual, Open as for_open, Carry as for_carry, Digest as for_digest, Release as for_release, Tree as for_tree, History as for_history}
 use Rattle.assise_fault_script.specs.declared.fault.LineFault.{LineFault}
 use Rattle.assise_fault_script.specs.declared.fault.ScriptFault.{ScriptFault}
-use Rattle.assise_fault_script.specs.declared.fault.ScriptFault.TheVariants.{BadLimit, UnknownCommand}
+use Rattle.assise_fault_script.specs.declared.fault.ScriptFault.TheVariants.{BadLimit, UnknownCommand, WrongCount}
 use Rattle.assise_fault_script.specs.declared.parse.NumberedCommand.{NumberedCommand}
 use Rattle.assise_fault_script.specs.Calls.{call_of, call_word}
 use Rattle.assise_fault_script.specs.Fault.{◌>>=◌}
@@ -46,15 +46,14 @@ limits low high m word h = let n = came_from (number_of word) (in_limits low hig
 -- what a cluster's words make
 made : (nodes log hot : List ℕ) (c : Command) → cluster_of nodes log hot ≡ Ok c → IsCluster c
 made nodes log hot c h =
-    let n = came_from (limited 1 1 nodes) (λ n. limited 8 4096 log >>= λ l. limited 1 4096 hot >>= λ h. Ok (Cluster n l h)) c h in
+    let n = came_from (limited 1 8 nodes) (λ n. limited 8 4096 log >>= λ l. limited 1 4096 hot >>= λ h. Ok (Cluster n l h)) c h in
     let l = came_from (limited 8 4096 log) (λ l. limited 1 4096 hot >>= λ h. Ok (Cluster n.0 l h)) c n.1.1 in
     let t = came_from (limited 1 4096 hot) (λ h. Ok (Cluster n.0 l.0 h)) c l.1.1 in
     let is : Cluster n.0 l.0 t.0 ≡ c = let e = t.1.1 in cc in
-    let ns = limits 1 1 n.0 nodes n.1.0 in
+    let ns = limits 1 8 n.0 nodes n.1.0 in
     let ls = limits 8 4096 l.0 log l.1.0 in
     let ts = limits 1 4096 t.0 hot t.1.0 in
-    let one : n.0 ≡ 1 = omega (arith, ns) in
-    subst IsCluster is (one, ls.0, ls.1, ts.0, ts.1)
+    subst IsCluster is (ns.0, ns.1, ls.0, ls.1, ts.0, ts.1)
 
 cluster_row : (rest : List (List ℕ)) (c : Command) → keyword_command for_cluster rest ≡ Ok c → IsCluster c
 cluster_row (nodes ∷ log ∷ hot ∷ []) c h = made nodes log hot c h
@@ -73,29 +72,56 @@ open_row [] c h = cc
 open_row (a ∷ []) c h = cc
 open_row (a ∷ b ∷ d ∷ rest) c h = cc
 
-history_row : (rest : List (List ℕ)) (c : Command) → keyword_command for_history rest ≡ Ok c → IsOther c
-history_row [] c h = let is : History ≡ c = cc in subst IsOther is tt
-history_row (a ∷ rest) c h = cc
+-- a command without words behind its keyword
+bare_row : (k : first.Keyword) (made : Command) → IsOther made → keyword_command k [] ≡ Ok made → ((a : List ℕ) (rest : List (List ℕ)) → keyword_command k (a ∷ rest) ≡ Err WrongCount) → (rest : List (List ℕ)) (c : Command) → keyword_command k rest ≡ Ok c → IsOther c
+bare_row k made other none some [] c h = let is : made ≡ c = cc in subst IsOther is other
+bare_row k made other none some (a ∷ rest) c h = let bad = some a rest in cc
+
+-- a command with one number behind its keyword
+number_row : (k : first.Keyword) (made : ℕ → Command) → ((n : ℕ) → IsOther (made n)) → keyword_command k [] ≡ Err WrongCount → ((a : List ℕ) → keyword_command k (a ∷ []) ≡ (number_of a >>= λ n. Ok (made n))) → ((a b : List ℕ) (rest : List (List ℕ)) → keyword_command k (a ∷ b ∷ rest) ≡ Err WrongCount) → (rest : List (List ℕ)) (c : Command) → keyword_command k rest ≡ Ok c → IsOther c
+number_row k made other none one more [] c h = cc
+number_row k made other none one more (a ∷ []) c h =
+    let n = came_from (number_of a) (λ n. Ok (made n)) c (rw (one a) at h) in
+    let is : made n.0 ≡ c = let e = n.1.1 in cc in
+    subst IsOther is (other n.0)
+number_row k made other none one more (a ∷ b ∷ rest) c h = let bad = more a b rest in cc
+
+-- what stands behind each keyword but `cluster` makes no cluster
+row : (k : first.Keyword) (u : Unit {0}) (rest : List (List ℕ)) (c : Command) → in_turn true k ≡ Ok u → keyword_command k rest ≡ Ok c → IsOther c
+row for_cluster u rest c later h = cc
+row for_manual u rest c later h = bare_row for_manual Manual tt refl (λ a more. refl) rest c h
+row for_open u rest c later h = open_row rest c h
+row for_carry u rest c later h = number_row for_carry Carry (λ n. tt) refl (λ a. refl) (λ a b more. refl) rest c h
+row for_digest u rest c later h = number_row for_digest Digest (λ n. tt) refl (λ a. refl) (λ a b more. refl) rest c h
+row for_release u rest c later h = bare_row for_release Release tt refl (λ a more. refl) rest c h
+row for_tree u rest c later h = number_row for_tree Tree (λ n. tt) refl (λ a. refl) (λ a b more. refl) rest c h
+row for_history u rest c later h = bare_row for_history History tt refl (λ a more. refl) rest c h
+
+-- `cluster` is the one keyword in front of which no cluster stands
+before_cluster : (k : first.Keyword) (u : Unit {0}) → in_turn false k ≡ Ok u → k ≡ for_cluster
+before_cluster for_cluster u h = refl
+before_cluster for_manual u h = cc
+before_cluster for_open u h = cc
+before_cluster for_carry u h = cc
+before_cluster for_digest u h = cc
+before_cluster for_release u h = cc
+before_cluster for_tree u h = cc
+before_cluster for_history u h = cc
 
 -- what a command that a keyword begins makes, by whether the cluster was there
 first_row : (k : first.Keyword) (rest : List (List ℕ)) (c : Command) → (in_turn false k >>= λ _. keyword_command k rest >>= λ c. Ok (Some c)) ≡ Ok (Some c) → IsCluster c
-first_row for_cluster rest c h =
-    let d = came_from (keyword_command for_cluster rest) (λ c. Ok (Some c)) (Some c) h in
+first_row k rest c h =
+    let u = came_from (in_turn false k) (λ _. keyword_command k rest >>= λ c. Ok (Some c)) (Some c) h in
+    let d = came_from (keyword_command k rest) (λ c. Ok (Some c)) (Some c) u.1.1 in
     let is : d.0 ≡ c = let e = d.1.1 in cc in
-    subst IsCluster is (cluster_row rest d.0 d.1.0)
-first_row for_open rest c h = cc
-first_row for_history rest c h = cc
+    subst IsCluster is (cluster_row rest d.0 (subst (λ k. keyword_command k rest ≡ Ok d.0) (before_cluster k u.0 u.1.0) d.1.0))
 
 later_row : (k : first.Keyword) (rest : List (List ℕ)) (c : Command) → (in_turn true k >>= λ _. keyword_command k rest >>= λ c. Ok (Some c)) ≡ Ok (Some c) → IsOther c
-later_row for_cluster rest c h = cc
-later_row for_open rest c h =
-    let d = came_from (keyword_command for_open rest) (λ c. Ok (Some c)) (Some c) h in
+later_row k rest c h =
+    let u = came_from (in_turn true k) (λ _. keyword_command k rest >>= λ c. Ok (Some c)) (Some c) h in
+    let d = came_from (keyword_command k rest) (λ c. Ok (Some c)) (Some c) u.1.1 in
     let is : d.0 ≡ c = let e = d.1.1 in cc in
-    subst IsOther is (open_row rest d.0 d.1.0)
-later_row for_history rest c h =
-    let d = came_from (keyword_command for_history rest) (λ c. Ok (Some c)) (Some c) h in
-    let is : d.0 ≡ c = let e = d.1.1 in cc in
-    subst IsOther is (history_row rest d.0 d.1.0)
+    subst IsOther is (row k u.0 rest d.0 u.1.0 d.1.0)
 
 no_call : {P : Type 0} (client : List ℕ) (c : Command) → nameless_call client ≡ Ok (Some c) → P
 no_call client c h = let n = came_from (number_of client) (λ _. Err UnknownCommand) (Some c) h in let bad : Err UnknownCommand ≡ Ok (Some c) = n.1.1 in cc

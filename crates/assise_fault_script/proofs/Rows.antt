@@ -6,7 +6,7 @@ use Rattle.assise_names.specs.declared.path.PathFault.{PathFault}
 use Rattle.assise_fault_script.specs.declared.command.CallWord.{CallWord}
 use Rattle.assise_fault_script.specs.declared.command.CallWord.TheVariants.{Create as for_create, Mkdir as for_mkdir, Read as for_read, Write as for_write, Truncate as for_truncate, Rename as for_rename, Unlink as for_unlink, Rmdir as for_rmdir, List as for_list, Stat as for_stat, Fsync as for_fsync}
 use Rattle.assise_fault_script.specs.declared.command.Keyword as first
-use Rattle.assise_fault_script.specs.declared.command.Keyword.TheVariants.{Cluster as for_cluster, Open as for_open, History as for_history}
+use Rattle.assise_fault_script.specs.declared.command.Keyword.TheVariants.{Cluster as for_cluster, Manual as for_manual, Open as for_open, Carry as for_carry, Digest as for_digest, Release as for_release, Tree as for_tree, History as for_history}
 use Rattle.assise_fault_script.specs.declared.command.Command.TheVariants.{Call}
 use Rattle.std.proofs.Common.{IsOk, Some, Ok}
 use Rattle.assise_fault_script.specs.declared.fault.ScriptFault.{ScriptFault}
@@ -35,7 +35,12 @@ many_for_call for_fsync a b c d rest = refl
 
 many_for_keyword : (k : first.Keyword) (a b c d : Word) (rest : List Word) → keyword_command k (a ∷ b ∷ c ∷ d ∷ rest) ≡ Err WrongCount
 many_for_keyword for_cluster a b c d rest = refl
+many_for_keyword for_manual a b c d rest = refl
 many_for_keyword for_open a b c d rest = refl
+many_for_keyword for_carry a b c d rest = refl
+many_for_keyword for_digest a b c d rest = refl
+many_for_keyword for_release a b c d rest = refl
+many_for_keyword for_tree a b c d rest = refl
 many_for_keyword for_history a b c d rest = refl
 
 same_after : {A B : Type 0} (r : Result A ScriptFault) (f g : A → Result B ScriptFault) → ((x : A) → f x ≡ g x) → (r >>= f) ≡ (r >>= g)

@@ -3,9 +3,9 @@ use Rattle.std.specs.Prelude.{ℕ, if◌then◌else◌, List, [], ◌∷◌, Res
 use Rattle.std.specs.Bool.{nat_eq}
 use Rattle.std.specs.Cmp.Lexicographic.{pointwise}
 use Rattle.assise_fault_script.specs.declared.command.Command.{Command}
-use Rattle.assise_fault_script.specs.declared.command.Command.TheVariants.{Cluster, Open, History}
+use Rattle.assise_fault_script.specs.declared.command.Command.TheVariants.{Cluster, Manual, Open, Carry, Digest, Release, Tree, History}
 use Rattle.assise_fault_script.specs.declared.command.Keyword as first
-use Rattle.assise_fault_script.specs.declared.command.Keyword.TheVariants.{Cluster as for_cluster, Open as for_open, History as for_history}
+use Rattle.assise_fault_script.specs.declared.command.Keyword.TheVariants.{Cluster as for_cluster, Manual as for_manual, Open as for_open, Carry as for_carry, Digest as for_digest, Release as for_release, Tree as for_tree, History as for_history}
 use Rattle.assise_fault_script.specs.declared.command.RevokerKind.{RevokerKind}
 use Rattle.assise_fault_script.specs.declared.command.RevokerKind.TheVariants.{Least, Whole, Eights}
 use Rattle.assise_fault_script.specs.declared.fault.ScriptFault.{ScriptFault}
@@ -17,9 +17,14 @@ use Rattle.assise_fault_script.specs.Number.{limited, number_of}
 abbrev pub keyword_of : List ℕ → Result first.Keyword ScriptFault
 keyword_of word =
     if pointwise nat_eq word (codes "cluster") then Ok for_cluster
+    else (if pointwise nat_eq word (codes "manual") then Ok for_manual
     else (if pointwise nat_eq word (codes "open") then Ok for_open
+    else (if pointwise nat_eq word (codes "carry") then Ok for_carry
+    else (if pointwise nat_eq word (codes "digest") then Ok for_digest
+    else (if pointwise nat_eq word (codes "release") then Ok for_release
+    else (if pointwise nat_eq word (codes "tree") then Ok for_tree
     else (if pointwise nat_eq word (codes "history") then Ok for_history
-    else Err UnknownCommand))
+    else Err UnknownCommand)))))))
 
 -- the revoker that a word names
 abbrev pub kind_of : List ℕ → Result RevokerKind ScriptFault
@@ -29,16 +34,30 @@ kind_of word =
     else (if pointwise nat_eq word (codes "eights") then Ok Eights
     else Err BadKind))
 
--- one node, a log of 8 to 4,096 and 1 to 4,096 hot
+-- 1 to 8 nodes, a log of 8 to 4,096 and 1 to 4,096 hot
 abbrev pub cluster_of : List ℕ → List ℕ → List ℕ → Result Command ScriptFault
-cluster_of nodes log hot = limited 1 1 nodes >>= λ n. limited 8 4096 log >>= λ l. limited 1 4096 hot >>= λ h. Ok (Cluster n l h)
+cluster_of nodes log hot = limited 1 8 nodes >>= λ n. limited 8 4096 log >>= λ l. limited 1 4096 hot >>= λ h. Ok (Cluster n l h)
 
 abbrev pub open_of : List ℕ → List ℕ → Result Command ScriptFault
 open_of node kind = number_of node >>= λ n. kind_of kind >>= λ k. Ok (Open n k)
 
+abbrev pub carry_of : List ℕ → Result Command ScriptFault
+carry_of node = number_of node >>= λ n. Ok (Carry n)
+
+abbrev pub digest_of : List ℕ → Result Command ScriptFault
+digest_of node = number_of node >>= λ n. Ok (Digest n)
+
+abbrev pub tree_of : List ℕ → Result Command ScriptFault
+tree_of node = number_of node >>= λ n. Ok (Tree n)
+
 -- a row for each keyword: the count of its words, and what they mean
 abbrev pub keyword_command : first.Keyword → List (List ℕ) → Result Command ScriptFault
 keyword_command for_cluster (nodes ∷ log ∷ hot ∷ []) = cluster_of nodes log hot
+keyword_command for_manual [] = Ok Manual
 keyword_command for_open (node ∷ kind ∷ []) = open_of node kind
+keyword_command for_carry (node ∷ []) = carry_of node
+keyword_command for_digest (node ∷ []) = digest_of node
+keyword_command for_release [] = Ok Release
+keyword_command for_tree (node ∷ []) = tree_of node
 keyword_command for_history [] = Ok History
 keyword_command _ _ = Err WrongCount

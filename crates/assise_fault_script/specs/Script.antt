@@ -54,7 +54,7 @@ pub record IsCommandAt (bytes : List ℕ) (line : ℕ) : Type 0 where
 
 -- makes a cluster, with numbers in the limits
 abbrev pub IsCluster : Command → Type 0
-IsCluster (Cluster nodes log hot) = (nodes ≡ 1) × (8 ≤ log) × (log ≤ 4096) × (1 ≤ hot) × (hot ≤ 4096)
+IsCluster (Cluster nodes log hot) = (1 ≤ nodes) × (nodes ≤ 8) × (8 ≤ log) × (log ≤ 4096) × (1 ≤ hot) × (hot ≤ 4096)
 IsCluster _ = ⊥
 
 -- makes no cluster

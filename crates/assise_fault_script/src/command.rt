@@ -19,13 +19,15 @@ pub enum RevokerKind {
 pub enum Command {
     /// Makes the cluster. It comes once, before every other command.
     Cluster {
-        /// How many nodes: 1.
+        /// How many nodes: 1 to 8.
         nodes: u64,
         /// The most records of a client's log: 8 to 4,096.
         log: u64,
         /// The most inodes that a node keeps hot: 1 to 4,096.
         hot: u64,
     },
+    /// From here on a call gets one try, and no round of the workers comes before or after it.
+    Manual,
     /// Opens a client.
     Open {
         /// The node that it is opened on.
@@ -40,6 +42,23 @@ pub enum Command {
         /// Its call.
         op: Op,
     },
+    /// One replicate turn of a node: what it sends is brought to the nodes that it is for.
+    Carry {
+        /// The node.
+        node: u64,
+    },
+    /// One digest of a node.
+    Digest {
+        /// The node.
+        node: u64,
+    },
+    /// The leases go that may.
+    Release,
+    /// The tree, rebuilt from a node's region alone.
+    Tree {
+        /// The node.
+        node: u64,
+    },
     /// The history so far.
     History,
 }
@@ -49,8 +68,18 @@ pub enum Command {
 pub(crate) enum Keyword {
     /// `cluster NODES LOG HOT`.
     Cluster,
+    /// `manual`.
+    Manual,
     /// `open NODE KIND`.
     Open,
+    /// `carry NODE`.
+    Carry,
+    /// `digest NODE`.
+    Digest,
+    /// `release`.
+    Release,
+    /// `tree NODE`.
+    Tree,
     /// `history`.
     History,
 }

@@ -1,6 +1,6 @@
 // A row for each command that begins with a keyword.
 ghost use Rattle.std.specs.Prelude.{◌≡◌, map};
-ghost use Rattle.assise_fault_script.specs.Keywords.{cluster_of, keyword_command, keyword_of, kind_of, open_of};
+ghost use Rattle.assise_fault_script.specs.Keywords.{carry_of, cluster_of, digest_of, keyword_command, keyword_of, kind_of, open_of, tree_of};
 
 use crate::command::{Command, Keyword, RevokerKind};
 use crate::fault::ScriptFault;
@@ -12,7 +12,12 @@ pub fn keyword(word: &str) -> Result<Keyword, ScriptFault>
 {
     match word {
         "cluster" => Ok(Keyword::Cluster),
+        "manual" => Ok(Keyword::Manual),
         "open" => Ok(Keyword::Open),
+        "carry" => Ok(Keyword::Carry),
+        "digest" => Ok(Keyword::Digest),
+        "release" => Ok(Keyword::Release),
+        "tree" => Ok(Keyword::Tree),
         "history" => Ok(Keyword::History),
         _ => Err(ScriptFault::UnknownCommand),
     }
@@ -24,7 +29,12 @@ pub fn keyword_command(keyword: Keyword, words: &[&str]) -> Result<Command, Scri
 {
     match (keyword, words) {
         (Keyword::Cluster, [nodes, log, hot]) => cluster(nodes, log, hot),
+        (Keyword::Manual, []) => Ok(Command::Manual),
         (Keyword::Open, [node, kind]) => open(node, kind),
+        (Keyword::Carry, [node]) => carry(node),
+        (Keyword::Digest, [node]) => digest(node),
+        (Keyword::Release, []) => Ok(Command::Release),
+        (Keyword::Tree, [node]) => tree(node),
         (Keyword::History, []) => Ok(Command::History),
         _ => Err(ScriptFault::WrongCount),
     }
@@ -33,7 +43,7 @@ pub fn keyword_command(keyword: Keyword, words: &[&str]) -> Result<Command, Scri
 fn cluster(nodes: &str, log: &str, hot: &str) -> Result<Command, ScriptFault>
     ensures { result ≡ cluster_of nodes.now log.now hot.now }
 {
-    let nodes = within(1, 1, nodes)?;
+    let nodes = within(1, 8, nodes)?;
     let log = within(8, 4096, log)?;
     let hot = within(1, 4096, hot)?;
     Ok(Command::Cluster { nodes, log, hot })
@@ -45,6 +55,27 @@ fn open(node: &str, name: &str) -> Result<Command, ScriptFault>
     let node = number(node)?;
     let kind = kind(name)?;
     Ok(Command::Open { node, kind })
+}
+
+fn carry(node: &str) -> Result<Command, ScriptFault>
+    ensures { result ≡ carry_of node.now }
+{
+    let node = number(node)?;
+    Ok(Command::Carry { node })
+}
+
+fn digest(node: &str) -> Result<Command, ScriptFault>
+    ensures { result ≡ digest_of node.now }
+{
+    let node = number(node)?;
+    Ok(Command::Digest { node })
+}
+
+fn tree(node: &str) -> Result<Command, ScriptFault>
+    ensures { result ≡ tree_of node.now }
+{
+    let node = number(node)?;
+    Ok(Command::Tree { node })
 }
 
 fn kind(word: &str) -> Result<RevokerKind, ScriptFault>

@@ -21,11 +21,16 @@ fn revoker(kind: RevokerKind) -> &'static str {
 fn line_of(alloc: Global, rt: &impl Abort, command: &Command) -> String {
     let text = match command {
         Command::Cluster { nodes, log, hot } => format!(in alloc; "cluster {nodes} {log} {hot}"),
+        Command::Manual => format!(in alloc; "manual"),
         Command::Open { node, kind } => {
             let kind = revoker(*kind);
             format!(in alloc; "open {node} {kind}")
         }
         Command::Call { client, op } => format!(in alloc; "{client} {op}"),
+        Command::Carry { node } => format!(in alloc; "carry {node}"),
+        Command::Digest { node } => format!(in alloc; "digest {node}"),
+        Command::Release => format!(in alloc; "release"),
+        Command::Tree { node } => format!(in alloc; "tree {node}"),
         Command::History => format!(in alloc; "history"),
     };
     text.expect(rt, "no memory")
@@ -109,6 +114,11 @@ const EACH: &str = "# a file\r\n\
     1 rmdir /d\n\
     1 list /\n\
     1 fsync\n\
+    manual\n\
+    carry 001\r\n\
+    \x20 digest  0\n\
+    release \n\
+    tree 18446744073709551615\n\
     history";
 
 /// What it says.
@@ -127,7 +137,12 @@ const EACH_SAID: &str = "2: cluster 1 4096 1\n\
     17: 1 rmdir /d\n\
     18: 1 list /\n\
     19: 1 fsync\n\
-    20: history\n";
+    20: manual\n\
+    21: carry 1\n\
+    22: digest 0\n\
+    23: release\n\
+    24: tree 18446744073709551615\n\
+    25: history\n";
 
 #[test]
 fn each_command_is_read(rt: HostRuntime) {
@@ -135,8 +150,9 @@ fn each_command_is_read(rt: HostRuntime) {
 }
 
 /// Scripts of one command at its limits, and scripts that say nothing.
-static SHORT: [(&str, &str); 11] = [
+static SHORT: [(&str, &str); 12] = [
     ("cluster 1 8 1", "1: cluster 1 8 1\n"),
+    ("cluster 8 8 4", "1: cluster 8 8 4\n"),
     ("cluster 01 4096 4096", "1: cluster 1 4096 4096\n"),
     ("cluster 1 4096 1", "1: cluster 1 4096 1\n"),
     ("", ""),
@@ -155,7 +171,7 @@ fn short_scripts_are_read(rt: HostRuntime) {
 }
 
 /// Faults of a line: the words, one by one, then of two faults the first.
-static FAULTS: [(&str, &str); 74] = [
+static FAULTS: [(&str, &str); 87] = [
     // the words, one by one
     ("fly", "2: unknown command"),
     ("Open 1 least", "2: unknown command"),
@@ -184,6 +200,19 @@ static FAULTS: [(&str, &str); 74] = [
     ("1 write /f 0 ta b", "2: wrong number of words"),
     ("1 write /f 0 ta b c d e", "2: wrong number of words"),
     ("open 1 least 2 3 4 5 6", "2: wrong number of words"),
+    ("manual 1", "2: wrong number of words"),
+    ("carry", "2: wrong number of words"),
+    ("carry 1 2", "2: wrong number of words"),
+    ("digest", "2: wrong number of words"),
+    ("digest 1 2", "2: wrong number of words"),
+    ("release 1", "2: wrong number of words"),
+    ("tree", "2: wrong number of words"),
+    ("tree 1 /", "2: wrong number of words"),
+    ("carry x", "2: bad number"),
+    ("digest -1", "2: bad number"),
+    ("tree 18446744073709551616", "2: bad number"),
+    ("1 carry", "2: unknown command"),
+    ("Manual", "2: unknown command"),
     ("open 18446744073709551616 least", "2: bad number"),
     ("open +1 least", "2: bad number"),
     ("open -1 least", "2: bad number"),
@@ -240,17 +269,22 @@ fn the_first_fault_of_a_line_is_named(rt: HostRuntime) {
 }
 
 /// Scripts whose cluster is missing, or faulty, or not the only one.
-static CLUSTERS: [(&str, &str); 18] = [
+static CLUSTERS: [(&str, &str); 23] = [
     ("history", "1: no cluster yet"),
     ("history 1", "1: no cluster yet"),
     ("\nopen x", "2: no cluster yet"),
+    ("manual", "1: no cluster yet"),
+    ("carry", "1: no cluster yet"),
+    ("digest x", "1: no cluster yet"),
+    ("release\ncluster 1 8 1", "1: no cluster yet"),
+    ("tree 1", "1: no cluster yet"),
     ("1 stat", "1: no cluster yet"),
     ("1 fly", "1: unknown command"),
     ("1x stat", "1: bad number"),
     ("fly", "1: unknown command"),
     ("cluster 1 8", "1: wrong number of words"),
-    ("cluster 0 8 1", "1: out of limits"),
-    ("cluster 2 8 1", "1: out of limits"),
+    ("cluster 0 8 4", "1: out of limits"),
+    ("cluster 9 8 4", "1: out of limits"),
     ("cluster 1 7 1", "1: out of limits"),
     ("cluster 1 4097 1", "1: out of limits"),
     ("cluster 1 8 0", "1: out of limits"),

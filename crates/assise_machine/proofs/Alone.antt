@@ -30,7 +30,7 @@ fine_full s n fine = seen_full s n (fine_node s n fine)
 
 -- the region alone gives what is observed
 module _ (s : StateValue) (n : ℕ) (shape : IsShaped s) (holds : ∥ Holds (observed s) ∥₁) (fine : node_fault (observed s) n ≡ None) (acked : List ℕ) (all : AreAcked (observed s).world acked) where
-  same_alone : (i : ℕ) → alone (region_seen s.nodes n) acked i ≡ alone_observed (observed s).world n i
+  pub same_alone : (i : ℕ) → alone (region_seen s.nodes n) acked i ≡ alone_observed (observed s).world n i
   unfolding observed world_of
   same_alone i =
       ∥∥₁_elim holds (Coded-set (coded_option coded_content) (alone (region_seen s.nodes n) acked i) (alone_observed (world_of s) n i))

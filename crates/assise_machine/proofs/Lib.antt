@@ -8,6 +8,7 @@ pub mod Running
 pub mod Others
 pub mod Frames
 pub mod Touching
+pub mod Few
 pub mod Fewer
 pub mod Digested
 pub mod DigestedTo

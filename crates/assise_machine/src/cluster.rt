@@ -39,7 +39,7 @@ impl<C: Revokes + Drop> ClusterOf<C> {
     ghost use Rattle.assise_digest.specs.Region.{alone};
     ghost use Rattle.assise_inode_table.specs.Traces.{ops};
     ghost use Rattle.assise_lease_table.specs.Tables.{Enrols, SameRevokers};
-    ghost use Rattle.assise_machine_laws.specs.World.{IsClient, received_by_all};
+    ghost use Rattle.assise_machine_laws.specs.World.{IsClient, alone as alone_observed, received_by_all};
     ghost use Rattle.assise_machine_history.specs.Courses.{firm_calls};
     ghost use Rattle.assise_machine_events.specs.ClientEvents.{Opening, Syncing};
     ghost use Rattle.assise_machine_events.specs.Events.{released};
@@ -169,6 +169,7 @@ impl<C: Revokes + Drop> ClusterOf<C> {
         ensures fault { (e : Refused) → node_fault (machine self.now) node ≡ Some e → result ≡ Err e }
         ensures ok { IsOk result ↔ (node_fault (machine self.now) node ≡ None) }
         ensures region { IfOk result (λ r. r.now ≡ region_of self.now node) }
+        ensures observed { IfOk result (λ r. (acked : List ℕ) → AreAcked (machine self.now).world acked → (i : ℕ) → alone r.now acked i ≡ alone_observed (machine self.now).world node i) }
         ensures alone { IfOk result (λ r. (acked : List ℕ) → AreAcked (machine self.now).world acked → Spells (alone r.now acked) (tree_after_calls opening (ops (firm_calls (state_of (machine self.now)))))) }
     {
         self.sound.region(node)

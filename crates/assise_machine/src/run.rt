@@ -64,8 +64,10 @@ pub fn apply_event<C: Revokes + Drop>(
     }
 }
 
-/// Opens a client with the last revoker of the stock. One that is refused leaves the stock as it was.
-fn open_next<C: Revokes + Drop>(
+/// Opens a client on a node with the last revoker of the stock, and answers its number. Refused as
+/// [`ClusterOf::open`](crate::cluster::ClusterOf::open), and with [`Refusal::BadClient`] where the stock is empty and nothing else
+/// stands against it. One that is refused leaves the stock as it was.
+pub fn open_next<C: Revokes + Drop>(
     alloc: Global,
     cluster: &mut ClusterOf<C>,
     node: u32,

@@ -20,3 +20,5 @@ pub mod Renamed
 pub mod CallLimits
 pub mod CallOrder
 pub mod Entering
+pub mod Printing
+pub mod Placed

@@ -64,7 +64,7 @@ find-set q n x es = go (is_some (find n es)) refl
     go true e = find-replace_any q n x es e
     go false e = find-insert q n x es
 
-find_below : (q : List ℕ) (es : Entries) → IsBelow q es → find q es ≡ None
+pub find_below : (q : List ℕ) (es : Entries) → IsBelow q es → find q es ≡ None
 find_below q no_entries below = refl
 find_below q (entry k t es) below = ap (λ o. cond (is_eq o) (Some t) (find q es)) below.0 ∙ find_below q es below.1
 

@@ -6,3 +6,5 @@ pub mod Contents
 pub mod Answer
 pub mod Memory
 pub mod Runs
+pub mod Lines
+pub mod Ways

@@ -1,8 +1,8 @@
 // Laws of the tree and of its calls. Each function does nothing: its contract is the law.
-ghost use Rattle.std.specs.Prelude.{◌≡◌, ◌+◌, ◌-◌, ◌<◌, ◌≤◌, Err, List, Ok, false, length, max, replicate, ℕ};
+ghost use Rattle.std.specs.Prelude.{◌≡◌, ◌+◌, ◌-◌, ◌<◌, ◌≤◌, [], Contains, Err, List, Ok, false, length, max, replicate, ℕ};
 ghost use Rattle.std.specs.Cmp.Lexicographic.{slice_cmp};
 ghost use Rattle.std.specs.List.Sorted.{IsStrictlySortedBy};
-ghost use Rattle.std.specs.Ordering.{nat_cmp};
+ghost use Rattle.std.specs.Ordering.{nat_cmp, on};
 ghost use Rattle.assise_names.specs.Path.{same_path};
 ghost use Rattle.assise_names.specs.declared.call.Op.{Op};
 ghost use Rattle.assise_names.specs.declared.call.Op.TheVariants.{List as ListCall, Read, Rename, Rmdir, Stat, Truncate, Unlink, Write};
@@ -11,6 +11,7 @@ ghost use Rattle.assise_names.specs.declared.reply.Reply.TheVariants.{Bytes, Don
 ghost use Rattle.assise_names.specs.declared.reply.TreeError.{TreeError};
 ghost use Rattle.assise_names.specs.declared.reply.TreeError.TheVariants.{NoEnt};
 ghost use Rattle.assise_seq_tree.specs.Answer.{IsApartFrom, answer, parent_of};
+ghost use Rattle.assise_seq_tree.specs.Lines.{places_below};
 ghost use Rattle.assise_seq_tree.specs.Runs.{tree_after_calls};
 ghost use Rattle.assise_seq_tree.specs.Tree.{Entries, IsOrdered, IsWithinLimits, LieApart, Tree, at, dir, opening, put, without};
 
@@ -112,4 +113,12 @@ pub fn names_rise_in_each_directory()
     ensures first { IsOrdered opening }
     ensures kept { (t : Tree) (op : Op) → IsOrdered t → IsOrdered (answer t op).1 }
     ensures after_calls { (ops : List Op) → IsOrdered (tree_after_calls opening ops) }
+{}
+
+/// A tree prints the paths below its root with what stands there, each once. The paths rise by their names, so those of a
+/// directory stand together, behind its own.
+pub fn each_path_is_printed()
+    ensures stands { (t u : Tree) (p : List (List ℕ)) → IsOrdered t → Contains (places_below [] t) (p, u) → (at t p ≡ Ok u) × (0 < length p) }
+    ensures printed { (t u : Tree) (p : List (List ℕ)) → at t p ≡ Ok u → 0 < length p → Contains (places_below [] t) (p, u) }
+    ensures rises { (t : Tree) → IsOrdered t → IsStrictlySortedBy (on (λ place. place.0) (slice_cmp (slice_cmp nat_cmp))) (places_below [] t) }
 {}

@@ -4,5 +4,6 @@
 pub mod answer;
 pub mod contents;
 pub mod laws;
+mod lines;
 mod renaming;
 pub mod tree;

@@ -49,12 +49,18 @@ fn show_line(alloc: Global, rt: &impl Abort, tree: &mut Tree, line: &str) {
     assert!(rt; reply.as_str() == wanted, "{line}, and not {reply}");
 }
 
-/// Makes the calls of such lines in their order on a new tree, and compares each reply.
-fn show(alloc: Global, rt: &impl Abort, lines: &str) {
+/// The tree that the calls of such lines make of a new one in their order. Each reply is compared.
+fn made(alloc: Global, rt: &impl Abort, lines: &str) -> Tree {
     let mut tree = Tree::new(alloc);
     for line in lines.lines() {
         show_line(alloc, rt, &mut tree, line);
     }
+    tree
+}
+
+/// Makes the calls of such lines, and compares each reply.
+fn show(alloc: Global, rt: &impl Abort, lines: &str) {
+    made(alloc, rt, lines);
 }
 
 /// Shows each of some tables of such lines on its own tree.
@@ -542,4 +548,34 @@ stat / = dir 7
 fn names_are_told_apart_by_each_byte(rt: HostRuntime) {
     let lines = repeated(rt.alloc(), &rt, NAMES, "LONG", "a", 254);
     show(rt.alloc(), &rt, lines.as_str());
+}
+
+/// Lines of calls, and what the tree prints that they make: entries by their names within each directory, and a directory
+/// before what it holds.
+static PRINTED: [(&str, &str); 4] = [
+    ("", "tree 0"),
+    (
+        "create /f = done\nwrite /f 0 tabc = done\nmkdir /d = done\n",
+        "tree 2\n/d dir\n/f file 3",
+    ),
+    (
+        "create /a.b = done\nmkdir /a = done\ncreate /a/b = done\n",
+        "tree 3\n/a dir\n/a/b file 0\n/a.b file 0",
+    ),
+    (
+        "mkdir /c = done\nmkdir /c/e = done\nmkdir /c/e/b = done\ncreate /c/e/b/z = done\n\
+        create /c/e/c = done\nmkdir /c/d = done\ncreate /b = done\nmkdir /D = done\ncreate /c/\u{e4} = done\n\
+        truncate /c/e/b/z 1048576 = done\ncreate /c/f = done\nunlink /c/f = done\n",
+        "tree 9\n/D dir\n/b file 0\n/c dir\n/c/d dir\n/c/e dir\n/c/e/b dir\n/c/e/b/z file 1048576\n\
+        /c/e/c file 0\n/c/\u{e4} file 0",
+    ),
+];
+
+#[test]
+fn trees_are_printed(rt: HostRuntime) {
+    for (lines, wanted) in PRINTED {
+        let tree = made(rt.alloc(), &rt, lines);
+        let text = tree.to_string(rt.alloc()).expect(&rt, "no memory");
+        assert_eq!(rt; text.as_str(), wanted);
+    }
 }

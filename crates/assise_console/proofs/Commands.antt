@@ -1,0 +1,151 @@
+-- What commands make happen: one event, or some, which their answers tell.
+use Rattle.std.proofs.Common.{◌≡◌, ◌<◌, ℕ, Bool, true, false, [], ◌∷◌, Option, Some, None, Result, Ok, Err, length, refl, ap, sym, subst, ◌∙◌, arith}
+use Rattle.assise_names.specs.declared.call.Op.{Op}
+use Rattle.assise_names.specs.declared.refusal.Refusal.{Refusal}
+use Rattle.assise_names.specs.declared.refusal.Refusal.TheVariants.{BadClient, BadNode, OutOfMemory}
+use Rattle.assise_seq_tree.specs.Tree.{Tree as PlainTree}
+use Rattle.assise_inode_table.specs.Spelled.{Spells}
+use Rattle.assise_machine_laws.specs.World.{alone}
+use Rattle.assise_machine_events.specs.Faults.{node_fault}
+use Rattle.assise_fault_script.specs.declared.command.RevokerKind.{RevokerKind}
+use Rattle.assise_fault_script.specs.declared.command.RevokerKind.TheVariants.{Least, Whole, Eights}
+use Rattle.assise_machine_events.specs.Events.{Answer as EventAnswer, digest, open_client, refused, release_ready, try_call}
+use Rattle.assise_machine_events.specs.Machine.{Machine}
+use Rattle.assise_machine_events.specs.NodeEvents.{Digesting, Releasing, Sending}
+use Rattle.assise_machine.specs.Running.{IsServed, happens, stock_after}
+use Rattle.assise_console.specs.declared.answer.Answer.{Answer}
+use Rattle.assise_console.specs.declared.answer.Answer.TheVariants.{Carried, Refused, Tree as Shown}
+use Rattle.assise_console.specs.Courses.{Told}
+use Rattle.assise_console.specs.Rounds.{Replicates}
+use Rattle.assise_console.specs.State.{State, stock_of, with_machine, with_stock}
+use Rattle.assise_console.specs.Steps.{Calls, Carries, Changes, Opens, Shows, is_carried, is_refused, is_shown, lacks_memory}
+use Rattle.assise_console.specs.Trying.{IsOne, Tells, TriesOften, is_settled}
+use Rattle.assise_console.proofs.Numbers.{digests_nowhere, no_node, opens_nowhere, sends_nowhere, tries_nobody}
+
+-- ---- an open
+
+pub opens_by : (s : State) (n k : ℕ) (kind : RevokerKind) (a : Answer) (e : EventAnswer) (m' : Machine) (left : ℕ) → k ≡ n → Tells a e → IsServed (stock_of kind s.stock) s.machine (open_client k) e m'
+    → left ≡ stock_after (stock_of kind s.stock) e → (es : Told) × Opens s n kind es a (record { machine = m'; stock = with_stock kind left s.stock; turns = s.turns; manual = s.manual })
+opens_by s n k kind a e m' left same tells served stock = (
+  _,
+  record {
+    answer = e;
+    tells = tells;
+    told = refl;
+    served = subst (λ j. IsServed (stock_of kind s.stock) s.machine (open_client j) e m') same served;
+    stock = ap (λ l. with_stock kind l s.stock) stock;
+    turns = refl;
+    manual = refl;
+  },
+)
+
+same_stock : (s : State) (kind : RevokerKind) → s.stock ≡ with_stock kind (stock_of kind s.stock) s.stock
+same_stock s Least = refl
+same_stock s Whole = refl
+same_stock s Eights = refl
+
+pub opens_none : (s : State) (n : ℕ) (kind : RevokerKind) → length s.machine.members.nodes < n → (es : Told) × Opens s n kind es (Refused BadNode) s
+opens_none s n kind far = (
+  _,
+  record {
+    answer = refused BadNode;
+    tells = refl;
+    told = refl;
+    served = happens (opens_nowhere s.machine n far);
+    stock = same_stock s kind;
+    turns = refl;
+    manual = refl;
+  },
+)
+
+-- ---- a call
+
+pub calls_once : (s : State) (n k : ℕ) (op : Op) (a : Answer) (m' : Machine) → k ≡ n → s.manual ≡ true → (es : Told) × IsOne (try_call k op) a s.machine es m' → (es : Told) × Changes (Calls s.manual s.turns n op a) s es (with_machine s m')
+calls_once s n k op a m' same manual (es, h) = (
+  es,
+  record {
+    events = rw manual (subst (λ j. IsOne (try_call j op) a s.machine es m') same h);
+    stays = refl;
+  },
+)
+
+pub calls_often : (s : State) (n k : ℕ) (op : Op) (a : Answer) (m' : Machine) → k ≡ n → s.manual ≡ false → (es : Told) × TriesOften s.turns k op a s.machine es m' → (es : Told) × Changes (Calls s.manual s.turns n op a) s es (with_machine s m')
+calls_often s n k op a m' same manual (es, h) = (
+  es,
+  record {
+    events = rw manual (subst (λ j. TriesOften s.turns j op a s.machine es m') same h);
+    stays = refl;
+  },
+)
+
+pub calls_none : (s : State) (n : ℕ) (op : Op) → s.machine.world.clients < n → (es : Told) × Changes (Calls s.manual s.turns n op (Refused BadClient)) s es s
+calls_none s n op far = either s.manual refl
+  where
+    once : IsOne (try_call n op) (Refused BadClient) s.machine ((try_call n op, refused BadClient) ∷ []) s.machine
+    once = record { answer = refused BadClient; tells = refl; event = record { told = refl; happens = tries_nobody s.machine n op far } }
+
+    either : (manual : Bool) → s.manual ≡ manual → (es : Told) × Changes (Calls s.manual s.turns n op (Refused BadClient)) s es s
+    either true is = ((try_call n op, refused BadClient) ∷ [], record { events = rw is once; stays = refl })
+    either false is = (
+      (try_call n op, refused BadClient) ∷ [],
+      record {
+        events = rw is (is_settled 0 (omega arith) (λ waits. cc) record { between = s.machine; before = []; after = (try_call n op, refused BadClient) ∷ []; told = refl; first = record { told = refl; stays = refl }; second = once });
+        stays = refl;
+      },
+    )
+
+-- ---- a replicate turn, and a digest
+
+pub carries_some : (s : State) (n k count : ℕ) (m' : Machine) → k ≡ n → (es : Told) × Replicates k count s.machine es m' → (es : Told) × Changes (Carries n (Carried count)) s es (with_machine s m')
+carries_some s n k count m' same (es, h) = (es, record { events = is_carried count refl (subst (λ j. Replicates j count s.machine es m') same h); stays = refl })
+
+pub carries_refused : (s : State) (n k : ℕ) (r : Refusal) (m' : Machine) → k ≡ n → Sending s.machine k (refused r) m' → (es : Told) × Changes (Carries n (Refused r)) s es (with_machine s m')
+carries_refused s n k r m' same h = (_, record { events = is_refused r refl record { told = refl; happens = subst (λ j. Sending s.machine j (refused r) m') same h }; stays = refl })
+
+pub carries_none : (s : State) (n : ℕ) → length s.machine.members.nodes < n → (es : Told) × Changes (Carries n (Refused BadNode)) s es s
+carries_none s n far = (_, record { events = is_refused BadNode refl record { told = refl; happens = sends_nowhere s.machine n far }; stays = refl })
+
+pub digests_by : (s : State) (n k : ℕ) (a : Answer) (e : EventAnswer) (m' : Machine) → k ≡ n → Tells a e → Digesting s.machine k e m' → (es : Told) × Changes (IsOne (digest n) a) s es (with_machine s m')
+digests_by s n k a e m' same tells h = (
+  _,
+  record {
+    events = record { answer = e; tells = tells; event = record { told = refl; happens = subst (λ j. Digesting s.machine j e m') same h } };
+    stays = refl;
+  },
+)
+
+pub digests_none : (s : State) (n : ℕ) → length s.machine.members.nodes < n → (es : Told) × Changes (IsOne (digest n) (Refused BadNode)) s es s
+digests_none s n far = (
+  _,
+  record {
+    events = record { answer = refused BadNode; tells = refl; event = record { told = refl; happens = digests_nowhere s.machine n far } };
+    stays = refl;
+  },
+)
+
+-- ---- leases
+
+pub releases_by : (s : State) (a : Answer) (e : EventAnswer) (m' : Machine) → Tells a e → Releasing s.machine e m' → (es : Told) × Changes (IsOne release_ready a) s es (with_machine s m')
+releases_by s a e m' tells h = (_, record { events = record { answer = e; tells = tells; event = record { told = refl; happens = h } }; stays = refl })
+
+-- ---- a tree
+
+pub shows_tree : (m : Machine) (n k : ℕ) (tree : PlainTree) → k ≡ n → node_fault m k ≡ None → Spells (alone m.world k) tree → Shows n (Shown tree) m
+shows_tree m n k tree same fine spelled = rw (sym same) (is_shown tree fine refl spelled)
+
+abbrev refusal_in : Refusal → Result PlainTree Refusal → Refusal
+refusal_in r (Ok t) = r
+refusal_in r (Err x) = x
+
+same_refusal : (r e : Refusal) (res : Result PlainTree Refusal) → res ≡ Err r → res ≡ Err e → r ≡ e
+same_refusal r e res is other = ap (refusal_in r) (sym is ∙ other)
+
+pub shows_refusal : (m : Machine) (n k : ℕ) (r : Refusal) (res : Result PlainTree Refusal) → k ≡ n → res ≡ Err r → ((e : Refusal) → node_fault m k ≡ Some e → res ≡ Err e) → (node_fault m k ≡ None → r ≡ OutOfMemory) → Shows n (Refused r) m
+shows_refusal m n k r res same is faulty memory = rw (sym same) (by_case (node_fault m k) refl)
+  where
+    by_case : (fault : Option Refusal) → node_fault m k ≡ fault → Shows k (Refused r) m
+    by_case None e = lacks_memory e (ap Refused (memory e))
+    by_case (Some f) e = is_refused f e (ap Refused (same_refusal r f res is (faulty f e)))
+
+pub shows_nothing : (m : Machine) (n : ℕ) → length m.members.nodes < n → Shows n (Refused BadNode) m
+shows_nothing m n far = is_refused BadNode (no_node m n far) refl

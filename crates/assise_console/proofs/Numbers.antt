@@ -1,0 +1,66 @@
+-- Numbers that name no node and no client: what is asked of them is refused.
+use Rattle.std.proofs.Common.{◌≡◌, ◌≤◌, ◌<◌, ℕ, zero, suc, false, List, [], ◌∷◌, length, Some, None, nat_le, slice_get, refl, ap, arith, inl, inr}
+use Rattle.std.proofs.lemmas.Bool.{cases_Bool, leb-true}
+use Rattle.std.proofs.Math.Bool.{and-false}
+use Rattle.assise_names.specs.declared.call.Op.{Op}
+use Rattle.assise_names.specs.declared.call.Op.TheVariants.{Create, Mkdir, Read, Write, Truncate, Rename, Unlink, Rmdir, List as ListCall, Stat, Fsync}
+use Rattle.assise_names.specs.declared.refusal.Refusal.TheVariants.{BadClient, BadNode, NodeDown, WrongPhase}
+use Rattle.assise_machine_laws.specs.World.{World}
+use Rattle.assise_machine_events.specs.ClientEvents.{Opening, is_refused}
+use Rattle.assise_machine_events.specs.Events.{refused}
+use Rattle.assise_machine_events.specs.Faults.{client_fault, fault_if, is_client, node_fault, open_fault, or_else, unless_full}
+use Rattle.assise_machine_events.specs.Happenings.{Trying}
+use Rattle.assise_machine_events.specs.Machine.{Machine, most_clients}
+use Rattle.assise_machine_events.specs.NodeEvents.{Digesting, Sending, is_refused as node_refused}
+use Rattle.assise_manager.specs.Standings.{Standing, standing_of}
+
+-- ---- nodes
+
+no_place : {X : Type 0} (xs : List X) (n : ℕ) → length xs ≤ n → slice_get xs n ≡ None
+no_place [] zero few = refl
+no_place [] (suc n) few = refl
+no_place (x ∷ xs) zero few = absurd (omega (arith, few))
+no_place (x ∷ xs) (suc n) few = no_place xs n (omega (arith, few))
+
+no_standing : (nodes : List Standing) (n : ℕ) → length nodes < n → standing_of nodes n ≡ None
+no_standing nodes zero far = absurd (omega (arith, far))
+no_standing nodes (suc n) far = no_place nodes n (omega (arith, far))
+
+pub no_node : (m : Machine) (n : ℕ) → length m.members.nodes < n → node_fault m n ≡ Some BadNode
+no_node m n far = ap (unless_full WrongPhase) (no_standing m.members.nodes n far)
+
+no_open : (m : Machine) (n : ℕ) → length m.members.nodes < n → open_fault m n ≡ Some BadNode
+no_open m n far = ap (λ s. or_else (unless_full NodeDown s) (fault_if (nat_le most_clients m.world.clients) BadClient)) (no_standing m.members.nodes n far)
+
+pub opens_nowhere : (m : Machine) (n : ℕ) → length m.members.nodes < n → Opening m n (refused BadNode) m
+opens_nowhere m n far = is_refused BadNode (no_open m n far) refl refl
+
+pub sends_nowhere : (m : Machine) (n : ℕ) → length m.members.nodes < n → Sending m n (refused BadNode) m
+sends_nowhere m n far = node_refused BadNode (no_node m n far) refl refl
+
+pub digests_nowhere : (m : Machine) (n : ℕ) → length m.members.nodes < n → Digesting m n (refused BadNode) m
+digests_nowhere m n far = node_refused BadNode (no_node m n far) refl refl
+
+-- ---- clients
+
+no_client : (w : World) (c : ℕ) → w.clients < c → is_client w c ≡ false
+no_client w c far = elim (cases_Bool (nat_le c w.clients)) [
+  | inl is ↦ absurd (let few = leb-true c w.clients is in omega (arith, few, far))
+  | inr other ↦ rw other (and-false (nat_le 1 c))
+]
+
+client_missing : (m : Machine) (c : ℕ) → m.world.clients < c → client_fault m c ≡ Some BadClient
+client_missing m c far = rw (no_client m.world c far) refl
+
+pub tries_nobody : (m : Machine) (c : ℕ) (op : Op) → m.world.clients < c → Trying m c op (refused BadClient) m
+tries_nobody m c (Create p) far = is_refused BadClient (rw (client_missing m c far) refl) refl refl
+tries_nobody m c (Mkdir p) far = is_refused BadClient (rw (client_missing m c far) refl) refl refl
+tries_nobody m c (Read p offset n) far = is_refused BadClient (rw (client_missing m c far) refl) refl refl
+tries_nobody m c (Write p offset bytes) far = is_refused BadClient (rw (client_missing m c far) refl) refl refl
+tries_nobody m c (Truncate p size) far = is_refused BadClient (rw (client_missing m c far) refl) refl refl
+tries_nobody m c (Rename p q) far = is_refused BadClient (rw (client_missing m c far) refl) refl refl
+tries_nobody m c (Unlink p) far = is_refused BadClient (rw (client_missing m c far) refl) refl refl
+tries_nobody m c (Rmdir p) far = is_refused BadClient (rw (client_missing m c far) refl) refl refl
+tries_nobody m c (ListCall p) far = is_refused BadClient (rw (client_missing m c far) refl) refl refl
+tries_nobody m c (Stat p) far = is_refused BadClient (rw (client_missing m c far) refl) refl refl
+tries_nobody m c Fsync far = is_refused BadClient (client_missing m c far) refl refl

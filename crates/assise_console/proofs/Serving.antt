@@ -1,0 +1,66 @@
+-- What a command makes happen, and what a whole run does, is a course of events.
+use Rattle.std.proofs.Common.{◌≡◌, ℕ, ◌<◌, Bool, true, false, List, [], ◌∷◌, ◌++◌, refl, ap, sym, subst}
+use Rattle.assise_names.specs.declared.call.Op.{Op}
+use Rattle.assise_history.specs.Legal.{IsLegal}
+use Rattle.assise_fault_script.specs.declared.command.Command as commands
+use Rattle.assise_fault_script.specs.declared.command.Command.TheVariants.{Cluster, Manual, Open, Call, Carry, Digest, Release, Tree, History}
+use Rattle.assise_fault_script.specs.declared.parse.NumberedCommand.{NumberedCommand}
+use Rattle.assise_machine_events.specs.Events.{ClusterEvent, all_entries, try_call}
+use Rattle.assise_machine_events.specs.Machine.{Holds, Machine}
+use Rattle.assise_machine_events.proofs.Beginning.{begun_holds}
+use Rattle.assise_console.specs.declared.answer.Answer.{Answer}
+use Rattle.assise_console.specs.Courses.{IsCourse, IsEvent, Told}
+use Rattle.assise_console.specs.Lines.{Prints}
+use Rattle.assise_console.specs.State.{State, Stocks, begun}
+use Rattle.assise_console.specs.Steps.{Calls, Carries, Serves, is_carried, is_refused}
+use Rattle.assise_console.specs.Trying.{Awaits, IsOne, TriesOften, is_busy, is_settled}
+use Rattle.assise_console.proofs.Courses.{awaits_course, course_keeps, course_of, course_then, course_told, event_course, then_course}
+
+-- ---- one command
+
+one_course : (e : ClusterEvent) (a : Answer) (m : Machine) (es : Told) (m' : Machine) → IsOne e a m es m' → IsCourse m es m'
+one_course e a m es m' h = event_course e h.answer m es m' h.event
+
+tries_course : (turns c : ℕ) (op : Op) (a : Answer) (m : Machine) (es : Told) (m' : Machine) → TriesOften turns c op a m es m' → IsCourse m es m'
+tries_course turns c op a m es m' (is_settled k few settled h) =
+    then_course (Awaits c op k) (IsOne (try_call c op) a) (awaits_course c op k) (one_course (try_call c op) a) m es m' h
+tries_course turns c op a m es m' (is_busy busy h) =
+    then_course (Awaits c op _) (IsEvent (try_call c op) _) (awaits_course c op _) (event_course (try_call c op) _) m es m' h
+
+calls_course : (manual : Bool) (turns c : ℕ) (op : Op) (a : Answer) (m : Machine) (es : Told) (m' : Machine) → Calls manual turns c op a m es m' → IsCourse m es m'
+calls_course true turns c op a m es m' h = one_course (try_call c op) a m es m' h
+calls_course false turns c op a m es m' h = tries_course turns c op a m es m' h
+
+carries_course : (n : ℕ) (a : Answer) (m : Machine) (es : Told) (m' : Machine) → Carries n a m es m' → IsCourse m es m'
+carries_course n a m es m' (is_carried count is h) = course_of m m' es h.happen
+carries_course n a m es m' (is_refused r is h) = event_course _ _ m es m' h
+
+quiet_course : (m m' : Machine) (es : Told) → es ≡ [] → m' ≡ m → IsCourse m es m'
+quiet_course m m' es none same = subst (λ x. IsCourse m x m') (sym none) same
+
+pub command_course : (s t : State) (c : commands.Command) (es : Told) (a : Answer) → Serves s c es a t → IsCourse s.machine es t.machine
+command_course s t (Cluster n l hot) es a h = quiet_course s.machine t.machine es h.told (ap (λ x. x.machine) h.stays)
+command_course s t Manual es a h = quiet_course s.machine t.machine es h.told (ap (λ x. x.machine) h.stays)
+command_course s t (Open n kind) es a h = subst (λ x. IsCourse s.machine x t.machine) (sym h.told) (t.machine, ((_, h.served), refl))
+command_course s t (Call c op) es a h = calls_course s.manual s.turns c op a s.machine es t.machine h.events
+command_course s t (Carry n) es a h = carries_course n a s.machine es t.machine h.events
+command_course s t (Digest n) es a h = one_course _ a s.machine es t.machine h.events
+command_course s t Release es a h = one_course _ a s.machine es t.machine h.events
+command_course s t (Tree n) es a h = quiet_course s.machine t.machine es h.1.0 (ap (λ x. x.machine) h.1.1)
+command_course s t History es a h = quiet_course s.machine t.machine es h.1.0 (ap (λ x. x.machine) h.1.1)
+
+-- ---- all commands
+
+pub run_course : (s t : State) (cs : List NumberedCommand) (es : Told) (text : List ℕ) → Prints s cs es text t → IsCourse s.machine es t.machine
+run_course s t [] es text h = quiet_course s.machine t.machine es h.0 (ap (λ x. x.machine) h.1.1)
+run_course s t (c ∷ cs) es text h =
+    subst (λ x. IsCourse s.machine x t.machine) (sym h.told)
+    (course_then s.machine h.next.machine t.machine h.now h.later (command_course s h.next c.command h.now h.answer h.serves) (run_course h.next t cs h.later h.rest h.others))
+
+pub run_told : (s t : State) (cs : List NumberedCommand) (es : Told) (text : List ℕ) → Prints s cs es text t → t.machine.history ≡ s.machine.history ++ all_entries s.machine.history es
+run_told s t cs es text h = course_told s.machine t.machine es (run_course s t cs es text h)
+
+pub run_legal : (nodes log turns : ℕ) (stock : Stocks) (t : State) (es : Told) → 0 < nodes → IsCourse (begun nodes log stock turns).machine es t.machine → IsLegal t.machine.history
+run_legal nodes log turns stock t es some h =
+    let holds : Holds t.machine = course_keeps _ t.machine es (begun_holds nodes log some) h in
+    holds.recorded.legal

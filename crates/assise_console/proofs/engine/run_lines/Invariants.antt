@@ -1,0 +1,10 @@
+use Rattle.std.proofs.Common.{ℕ, List}
+use Rattle.std.specs.Io.KnownBytes.{Appends}
+use Rattle.assise_console.specs.Consoles.{seen}
+use Rattle.assise_console.specs.Courses.{Told}
+use Rattle.assise_console.specs.Lines.{Prints}
+use Rattle.assise_console.proofs.engine.run_lines.Given as goal
+
+abbrev pub invariant-loop-command : goal.invariant-loop-command
+invariant-loop-command g l =
+    (told : Told) × ((text : List ℕ) × (Prints (seen l.fn.console) l.yielded told text (seen l.console) × Appends (g.W.Write.contents l.fn.writer) (g.W.Write.contents l.writer) text))

@@ -1,0 +1,12 @@
+use Rattle.std.proofs.Common.{◌≡◌, ◌∙◌, ap₂, rules}
+use Rattle.std.proofs.lemmas.Result.{IfOk-weaker}
+use Rattle.clap.specs.Words.{app_of, with_rule}
+use Rattle.assise_console.specs.CommandLine.{named, script_rule}
+use Rattle.assise_console.proofs.options.command.Goals as goal
+
+pub returns : goal.returns
+returns c =
+    let about : app_of c.after_help.result ≡ named = search rules in
+    let script : app_of c.in_ok-arg.field-0 ≡ with_rule named script_rule =
+    c.in_ok-arg.ensures.shape c.script_argument.ensures.local ∙ ap₂ with_rule about c.script_argument.ensures.rule in
+    IfOk-weaker c.arg-2.result _ _ (λ command added. added.shape c.turns_option.ensures.local ∙ ap₂ with_rule script c.turns_option.ensures.rule) c.arg-2.ensures

@@ -1,0 +1,177 @@
+// A cluster on which a script's commands are run.
+ghost use Rattle.std.specs.Prelude.{◌≡◌, ◌<◌, ◌^◌, ◌≤◌, IfOk, IfSome, IsOkUnless, None};
+ghost use Rattle.assise_names.specs.declared.refusal.Refusal.TheVariants.{OutOfMemory};
+ghost use Rattle.assise_machine_events.specs.Events.{digest};
+ghost use Rattle.assise_machine.specs.Running.{opened_answer};
+ghost use Rattle.assise_console.specs.Consoles.{seen, stocks};
+ghost use Rattle.assise_console.specs.Courses.{Told};
+ghost use Rattle.assise_console.specs.State.{begun};
+ghost use Rattle.assise_console.specs.Steps.{Calls, Carries, Changes, Does, Opens, Shows};
+ghost use Rattle.assise_console.specs.Trying.{IsOne, Tells};
+
+use crate::answer::Answer;
+use crate::rounds::replicate;
+use crate::stock::Stock;
+use crate::trees::tree_at;
+use crate::trying::{try_often, try_once};
+use assise_fault_script::command::{Command, RevokerKind};
+use assise_history::history::History;
+use assise_lease_table::revoker::Revokes;
+use assise_machine::cluster::ClusterOf;
+use assise_machine::run::open_next;
+use assise_names::call::Op;
+use assise_names::refusal::Refusal;
+use std::alloc::Global;
+
+/// A cluster that is run on one thread: a call that is awaited is tried again, with a round of all nodes behind each try.
+#[derive(Drop)]
+pub struct ConsoleOf<C> {
+    cluster: ClusterOf<C>,
+    stock: Stock<C>,
+    turns: u32,
+    manual: bool,
+}
+
+impl<C: Revokes + Drop> ConsoleOf<C> {
+    /// A cluster in which nothing happened: 1 to 8 nodes, logs of 8 to 4,096 records, and 1 to 4,096 inodes that a node keeps hot.
+    /// Clients are opened with revokers of the stock, and a call is tried so many times at most. The one refusal is
+    /// [`Refusal::OutOfMemory`].
+    pub fn new(
+        alloc: Global,
+        nodes: u32,
+        log: usize,
+        hot: usize,
+        stock: Stock<C>,
+        turns: u32,
+    ) -> Result<ConsoleOf<C>, Refusal>
+        requires some_nodes { 0 < nodes }
+        requires few_nodes { nodes ≤ 8 }
+        requires least_log { 8 ≤ log }
+        requires most_log { log ≤ 4096 }
+        requires least_hot { 1 ≤ hot }
+        requires most_hot { hot ≤ 4096 }
+        ensures begun { IfOk result (λ console. seen console ≡ begun nodes log (stocks stock) turns) }
+        ensures only_memory { IsOkUnless result OutOfMemory }
+    {
+        Ok(ConsoleOf {
+            cluster: ClusterOf::new(alloc, nodes, log, hot)?,
+            stock,
+            turns,
+            manual: false,
+        })
+    }
+
+    /// What happened so far.
+    pub fn history(&self) -> &History
+        ensures { result.now.events ≡ (seen self.now).machine.history }
+    {
+        self.cluster.history()
+    }
+
+    /// Runs a command, by events on the cluster.
+    pub fn step(&mut self, alloc: Global, command: Command) -> Answer
+        ensures { Does (seen self.old) command result (seen self.new) }
+    {
+        match command {
+            Command::Cluster { .. } => Answer::Quiet,
+            Command::Manual => {
+                self.manual = true;
+                Answer::Quiet
+            }
+            Command::Open { node, kind } => self.open(alloc, node, kind),
+            Command::Call { client, op } => self.call(alloc, client, &op),
+            Command::Carry { node } => self.carry(alloc, node),
+            Command::Digest { node } => self.digest(alloc, node),
+            Command::Release => Answer::Released(self.cluster.release_ready()),
+            Command::Tree { node } => self.tree(alloc, node),
+            Command::History => Answer::History,
+        }
+    }
+
+    /// Opens a client on a node, with a revoker of a kind.
+    fn open(&mut self, alloc: Global, node: u64, kind: RevokerKind) -> Answer
+        ensures { (es : Told) × Opens (seen self.old) node kind es result (seen self.new) }
+    {
+        let Some(node) = number_of(node) else {
+            return Answer::Refused(Refusal::BadNode);
+        };
+        let cluster = &mut self.cluster;
+        match kind {
+            RevokerKind::Least => opened(open_next(alloc, cluster, node, &mut self.stock.least)),
+            RevokerKind::Whole => opened(open_next(alloc, cluster, node, &mut self.stock.whole)),
+            RevokerKind::Eights => opened(open_next(alloc, cluster, node, &mut self.stock.eights)),
+        }
+    }
+
+    /// A call of a client: it is tried until it isn't awaited any more, with a round behind each try. After `manual` it is tried
+    /// once.
+    fn call(&mut self, alloc: Global, client: u64, op: &Op) -> Answer
+        ensures { (es : Told) × Changes (Calls (seen self.old).manual (seen self.old).turns client op.now result) (seen self.old) es (seen self.new) }
+    {
+        let Some(client) = number_of(client) else {
+            return Answer::Refused(Refusal::BadClient);
+        };
+        if self.manual {
+            try_once(alloc, &mut self.cluster, client, op)
+        } else {
+            try_often(alloc, &mut self.cluster, client, op, self.turns)
+        }
+    }
+
+    /// One replicate turn of a node.
+    fn carry(&mut self, alloc: Global, node: u64) -> Answer
+        ensures { (es : Told) × Changes (Carries node result) (seen self.old) es (seen self.new) }
+    {
+        let Some(node) = number_of(node) else {
+            return Answer::Refused(Refusal::BadNode);
+        };
+        match replicate(alloc, &mut self.cluster, node) {
+            Ok(taken) => Answer::Carried(taken),
+            Err(refusal) => Answer::Refused(refusal),
+        }
+    }
+
+    /// One digest of a node.
+    fn digest(&mut self, alloc: Global, node: u64) -> Answer
+        ensures { (es : Told) × Changes (IsOne (digest node) result) (seen self.old) es (seen self.new) }
+    {
+        let Some(node) = number_of(node) else {
+            return Answer::Refused(Refusal::BadNode);
+        };
+        match self.cluster.digest(alloc, node) {
+            Ok(count) => Answer::Digested(count),
+            Err(refusal) => Answer::Refused(refusal),
+        }
+    }
+
+    /// The tree that a node's region alone gives.
+    fn tree(&self, alloc: Global, node: u64) -> Answer
+        ensures { Shows node result (seen self.now).machine }
+    {
+        let Some(node) = number_of(node) else {
+            return Answer::Refused(Refusal::BadNode);
+        };
+        match tree_at(alloc, &self.cluster, node) {
+            Ok(tree) => Answer::Tree(tree),
+            Err(refusal) => Answer::Refused(refusal),
+        }
+    }
+}
+
+/// What an open is answered with.
+fn opened(client: Result<u32, Refusal>) -> Answer
+    ensures { Tells result (opened_answer client) }
+{
+    match client {
+        Ok(client) => Answer::Client(client),
+        Err(refusal) => Answer::Refused(refusal),
+    }
+}
+
+/// The number of a node or of a client. What doesn't fit 32 bits names none.
+fn number_of(word: u64) -> Option<u32>
+    ensures some { IfSome result (λ number. number ≡ word) }
+    ensures none { result ≡ None → 2 ^ 32 ≤ word }
+{
+    u32::try_from(word).ok()
+}

@@ -1,0 +1,37 @@
+// What answers look like.
+ghost use Rattle.std.specs.Prelude.{Some};
+ghost use Rattle.assise_console.specs.Lines.{answer_text};
+
+use crate::answer::Answer;
+use assise_history::history::History;
+use std::fmt;
+use std::fmt::{Display, Formatter};
+
+/// The text of an answer, where the history so far is this.
+#[derive(Drop)]
+pub(crate) struct AnswerText<'a> {
+    pub(crate) history: &'a History,
+    pub(crate) answer: &'a Answer,
+}
+
+impl Display for AnswerText<'_> {
+    ghost output = { λ a. Some (answer_text a.history.now.events a.answer.now) };
+
+    fn fmt<W: fmt::Write>(&self, f: &mut Formatter<W>) -> fmt::Result {
+        match self.answer {
+            Answer::Quiet => Ok(()),
+            Answer::Client(client) => write!(f, "client {client}"),
+            Answer::Replied(reply) => write!(f, "{reply}"),
+            Answer::Waits => write!(f, "wait"),
+            Answer::Refused(refusal) => write!(f, "{refusal}"),
+            Answer::Carried(frames) => write!(f, "carried {frames}"),
+            Answer::Digested(records) => write!(f, "digested {records}"),
+            Answer::Released(leases) => write!(f, "released {leases}"),
+            Answer::Tree(tree) => write!(f, "{tree}"),
+            Answer::History => {
+                let history = self.history;
+                write!(f, "{history}")
+            }
+        }
+    }
+}

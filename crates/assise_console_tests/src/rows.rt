@@ -1,0 +1,250 @@
+// Scripts on a cluster: replication, leases, digests and what each node has.
+use crate::scripts::{prints, prints_in};
+use std::test::Fail;
+
+/// Records are digested, and the tree is the same before and after; there is one node.
+const DIGESTED: &str = "cluster 1 8 4\n\
+    open 1 least\n\
+    1 create /f\n\
+    1 mkdir /d\n\
+    tree 1\n\
+    digest 1\n\
+    digest 1\n\
+    tree 1\n\
+    tree 2\n";
+
+#[test]
+fn a_digest_leaves_the_tree(rt: HostRuntime) -> Result<(), Fail> {
+    let wanted = "2: client 1\n\
+    3: done\n\
+    4: done\n\
+    5: tree 2\n\
+    /d dir\n\
+    /f file 0\n\
+    6: digested 2\n\
+    7: digested 0\n\
+    8: tree 2\n\
+    /d dir\n\
+    /f file 0\n\
+    9: F8 BadNode\n";
+    prints(rt.alloc(), &rt, DIGESTED, wanted)
+}
+
+/// A log of eight records gets full; what needs no record is answered still.
+const FULL_LOG: &str = "cluster 1 8 4\n\
+    manual\n\
+    open 1 least\n\
+    1 create /a\n\
+    1 create /b\n\
+    1 create /c\n\
+    1 create /d\n\
+    1 create /e\n\
+    1 create /f\n\
+    1 create /g\n\
+    1 create /h\n\
+    1 create /i\n\
+    1 create /a\n\
+    digest 1\n\
+    1 create /i\n";
+
+#[test]
+fn a_full_log_is_digested(rt: HostRuntime) -> Result<(), Fail> {
+    let wanted = "3: client 1\n\
+    4: done\n\
+    5: done\n\
+    6: done\n\
+    7: done\n\
+    8: done\n\
+    9: done\n\
+    10: done\n\
+    11: done\n\
+    12: F12 LogFull\n\
+    13: E2 Exists\n\
+    14: digested 8\n\
+    15: done\n";
+    prints(rt.alloc(), &rt, FULL_LOG, wanted)
+}
+
+/// Two clients on two nodes write and read one file.
+pub(crate) const SHARED_FILE: &str = "cluster 2 8 4\n\
+    open 1 least\n\
+    open 2 least\n\
+    1 create /f\n\
+    1 write /f 0 thi\n\
+    2 read /f 0 2\n\
+    2 write /f 2 t!\n\
+    1 read /f 0 9\n\
+    history\n";
+
+/// What that prints.
+pub(crate) const SHARED: &str = "2: client 1\n\
+    3: client 2\n\
+    4: done\n\
+    5: done\n\
+    6: bytes 2 x6869\n\
+    7: done\n\
+    8: bytes 3 x686921\n\
+    9: history 7\n\
+    open 1 1\n\
+    open 2 2\n\
+    call 1 0 create /f = done\n\
+    call 1 1 write /f 0 2 = done\n\
+    call 2 0 read /f 0 2 = bytes 2 x6869\n\
+    call 2 1 write /f 2 1 = done\n\
+    call 1 2 read /f 0 9 = bytes 3 x686921\n";
+
+#[test]
+fn two_clients_share_a_file(rt: HostRuntime) -> Result<(), Fail> {
+    prints(rt.alloc(), &rt, SHARED_FILE, SHARED)
+}
+
+/// Two clients move each other's directories into their own.
+const CROSSING: &str = "cluster 2 16 4\n\
+    open 1 least\n\
+    open 2 eights\n\
+    1 mkdir /p\n\
+    1 mkdir /q\n\
+    1 mkdir /p/x\n\
+    1 mkdir /q/y\n\
+    2 rename /q/y /p/x/y\n\
+    1 rename /p/x /q/y/x\n\
+    1 rename /p/x /p/x/y/x\n\
+    1 rename /p /p/r\n\
+    2 list /p/x\n\
+    1 stat /q\n";
+
+#[test]
+fn renames_that_cross_make_no_ring(rt: HostRuntime) -> Result<(), Fail> {
+    let wanted = "2: client 1\n\
+    3: client 2\n\
+    4: done\n\
+    5: done\n\
+    6: done\n\
+    7: done\n\
+    8: done\n\
+    9: E1 NoEnt\n\
+    10: E6 Invalid\n\
+    11: E6 Invalid\n\
+    12: names 1 y\n\
+    13: dir 0\n";
+    prints(rt.alloc(), &rt, CROSSING, wanted)
+}
+
+/// What rounds do, by hand: two leases are handed over, one after another.
+const BY_HAND: &str = "cluster 2 8 4\n\
+    manual\n\
+    open 1 least\n\
+    open 2 least\n\
+    1 create /f\n\
+    2 stat /f\n\
+    carry 1\n\
+    digest 1\n\
+    release\n\
+    digest 2\n\
+    release\n\
+    2 stat /f\n\
+    release\n\
+    1 stat /f\n";
+
+#[test]
+fn a_lease_is_handed_over_by_hand(rt: HostRuntime) -> Result<(), Fail> {
+    let wanted = "3: client 1\n\
+    4: client 2\n\
+    5: done\n\
+    6: wait\n\
+    7: carried 1\n\
+    8: digested 1\n\
+    9: released 0\n\
+    10: digested 1\n\
+    11: released 1\n\
+    12: wait\n\
+    13: released 1\n\
+    14: file 0\n";
+    prints(rt.alloc(), &rt, BY_HAND, wanted)
+}
+
+/// Nodes and clients that aren't there, and more clients than may be.
+const REFUSED: &str = "cluster 2 8 4\n\
+    carry 3\n\
+    digest 0\n\
+    tree 4294967297\n\
+    open 3 whole\n\
+    carry 2\n\
+    digest 2\n\
+    release\n\
+    tree 2\n";
+
+#[test]
+fn what_names_no_node_is_refused(rt: HostRuntime) -> Result<(), Fail> {
+    let wanted = "2: F8 BadNode\n\
+    3: F8 BadNode\n\
+    4: F8 BadNode\n\
+    5: F8 BadNode\n\
+    6: carried 0\n\
+    7: digested 0\n\
+    8: released 0\n\
+    9: tree 0\n";
+    prints(rt.alloc(), &rt, REFUSED, wanted)
+}
+
+/// A log that gets full once more: an fsync is tried twice, and the round between digests eight records at both nodes.
+const SYNCED: &str = "cluster 2 8 4\n\
+    open 1 least\n\
+    1 create /a\n\
+    1 create /b\n\
+    1 create /c\n\
+    1 create /d\n\
+    1 create /e\n\
+    1 create /f\n\
+    1 create /g\n\
+    1 create /h\n\
+    1 create /i\n\
+    1 fsync\n\
+    1 create /i\n\
+    tree 2\n";
+
+#[test]
+fn an_fsync_makes_room_in_a_log(rt: HostRuntime) -> Result<(), Fail> {
+    let wanted = "2: client 1\n\
+    3: done\n\
+    4: done\n\
+    5: done\n\
+    6: done\n\
+    7: done\n\
+    8: done\n\
+    9: done\n\
+    10: done\n\
+    11: F12 LogFull\n\
+    12: done\n\
+    13: done\n\
+    14: tree 8\n\
+    /a file 0\n\
+    /b file 0\n\
+    /c file 0\n\
+    /d file 0\n\
+    /e file 0\n\
+    /f file 0\n\
+    /g file 0\n\
+    /h file 0\n";
+    prints(rt.alloc(), &rt, SYNCED, wanted)
+}
+
+/// A call that awaits a lease is refused once all tries are spent: with one try, no round is made for it.
+const ONE_TRY: &str = "cluster 2 8 4\n\
+    open 1 least\n\
+    open 2 least\n\
+    1 create /f\n\
+    1 fsync\n\
+    2 stat /f\n\
+    1 stat /f\n";
+
+#[test]
+fn a_call_is_busy_once_its_tries_are_spent(rt: HostRuntime) -> Result<(), Fail> {
+    let wanted = "2: client 1\n\
+    3: client 2\n\
+    4: done\n\
+    5: F2 Busy\n\
+    6: F2 Busy\n\
+    7: F2 Busy\n";
+    prints_in(rt.alloc(), &rt, ONE_TRY, 1, wanted)
+}

@@ -1,0 +1,18 @@
+// What clients answer when a lease is asked for.
+use assise_lease_table::revoker::Revokes;
+use assise_private_log::log_view::LogView;
+use assise_revokers::kinds::least;
+
+/// It answers the least cut.
+#[derive(Clone, Copy, Debug)]
+pub(crate) struct Least;
+
+impl Revokes for Least {
+    ghost use Rattle.assise_private_log.specs.Touches.{Covers};
+
+    ghost answers = { λ _ view inode cut. Covers view inode cut };
+
+    fn cut(&self, view: &LogView, inode: u64) -> u64 {
+        least(view, inode)
+    }
+}

@@ -1,0 +1,147 @@
+// Steps that are refused for want of memory, where each allocation of a run is refused in turn. What is refused leaves all as it
+// was, and the same step answers then.
+ghost use Rattle.std.specs.Prelude.{◌<◌, ◌≤◌};
+
+use crate::desk::Desk;
+use crate::script::put_step;
+use crate::seen::seen;
+use assise_names::refusal::Refusal;
+use std::alloc::Global;
+use std::process::Abort;
+
+/// Makes the steps of rows, each once more where it is refused for want of memory. False where a refused step changed what is
+/// seen, or where a step comes to something else than its row says.
+fn ends_alike(alloc: Global, nodes: u32, rows: &str) -> Result<bool, Refusal>
+    requires some { 0 < nodes }
+    requires few { nodes ≤ 8 }
+{
+    let mut desk = Desk::new(alloc, nodes, 8)?;
+    for row in rows.lines() {
+        let Some((step, wanted)) = row.split_once(" => ") else {
+            return Ok(false);
+        };
+        if !is_right(alloc, &mut desk, step, wanted)? {
+            return Ok(false);
+        }
+    }
+    Ok(true)
+}
+
+/// Makes a step, once more where it is refused for want of memory, which no delivery is.
+fn is_right(alloc: Global, desk: &mut Desk, step: &str, wanted: &str) -> Result<bool, Refusal> {
+    if let Some(node) = step.strip_prefix("digest ") {
+        return digests(alloc, desk, node, wanted);
+    }
+    let before = seen(alloc, desk)?;
+    let first = outcome(alloc, desk, step)?;
+    if first.as_str() == wanted {
+        return Ok(true);
+    }
+    let after = seen(alloc, desk)?;
+    if first.as_str() != "F1 OutOfMemory" || after.as_str() != before.as_str() {
+        return Ok(false);
+    }
+    let again = outcome(alloc, desk, step)?;
+    Ok(again.as_str() == wanted && !step.starts_with("deliver"))
+}
+
+/// A node digests, and what is left of it where memory runs out on the way. What is refused digests nothing.
+fn digests(alloc: Global, desk: &mut Desk, node: &str, wanted: &str) -> Result<bool, Refusal> {
+    let (Ok(node), Some(wanted)) = (node.parse::<u32>(), count_in(wanted)) else {
+        return Ok(false);
+    };
+    let before = seen(alloc, desk)?;
+    let left = match desk.cluster.digest(alloc, node) {
+        Ok(count) if count == wanted => return Ok(true),
+        Ok(count) if 0 < count && count < wanted => wanted - count,
+        Err(Refusal::OutOfMemory) => {
+            let after = seen(alloc, desk)?;
+            if after.as_str() != before.as_str() {
+                return Ok(false);
+            }
+            wanted
+        }
+        _ => return Ok(false),
+    };
+    let again = desk.cluster.digest(alloc, node)?;
+    Ok(again == left)
+}
+
+/// The count of `digested COUNT`.
+fn count_in(wanted: &str) -> Option<usize> {
+    wanted.strip_prefix("digested ")?.parse::<usize>().ok()
+}
+
+/// What a step comes to. Out of memory where it can't be read or told.
+fn outcome(alloc: Global, desk: &mut Desk, step: &str) -> Result<String, Refusal> {
+    let mut text = String::with_capacity(alloc, 256)?;
+    put_step(alloc, desk, step, &mut text).ok_or(Refusal::OutOfMemory)?;
+    Ok(text)
+}
+
+/// Sees that the steps of rows come to what the rows say, whatever was refused.
+fn end(alloc: Global, rt: &impl Abort, nodes: u32, rows: &str)
+    requires some { 0 < nodes }
+    requires few { nodes ≤ 8 }
+{
+    let ended = ends_alike(alloc, nodes, rows);
+    assert!(rt;
+        matches!(ended, Ok(true) | Err(Refusal::OutOfMemory)),
+        "{ended:?}"
+    );
+}
+
+/// Frames are sent, delivered twice, and digested.
+const CARRIED: &str = "\
+open 1 least => client 1
+1 create /f => done
+1 write /f 0 thi => done
+fsync 1 => not yet
+send 1 => 1 for 2: client 1, 0..2
+deliver 1 at 2 => received 2
+send 2 => nothing
+deliver 1 at 2 => received 2
+fsync 1 => done
+digest 1 => digested 2
+digest 2 => digested 2
+digest 2 => digested 0
+tree at 2 => / names 1 f; /f bytes 2 x6869
+";
+
+/// Frames of two clients are sent at once, and records of two clients digested.
+const BOTH: &str = "\
+open 1 least => client 1
+open 1 least => client 2
+1 create /f => done
+1 create /g => done
+fsync 1 => not yet
+send 1 => 1 for 2: client 1, 0..2
+deliver 1 at 2 => received 2
+digest 1 => digested 2
+digest 2 => digested 2
+2 write /g 0 ta => not yet
+release => released 1
+2 write /g 0 ta => not yet
+release => released 1
+2 write /g 0 ta => done
+1 write /f 0 tb => done
+fsync 2 => not yet
+fsync 1 => not yet
+send 1 => 2 for 2: client 1, 2..3; 3 for 2: client 2, 0..1
+deliver 3 at 2 => received 1
+deliver 2 at 2 => received 3
+digest 1 => digested 2
+digest 2 => digested 2
+fsync 1 => done
+fsync 2 => done
+";
+
+#[test]
+fn frames_and_digests_are_made_again(rt: HostRuntime) {
+    end(rt.alloc(), &rt, 2, CARRIED);
+}
+
+#[test]
+fn two_clients_frames_and_digests_are_made_again(rt: HostRuntime) {
+    end(rt.alloc(), &rt, 2, BOTH);
+}
