@@ -72,7 +72,7 @@ fn put_outcome(
             let client = u32::try_from(client).ok()?;
             put_turn(text, try_call(alloc, sound, client, &op)).ok()
         }
-        Command::Cluster { .. } | Command::History => None,
+        _ => None,
     }
 }
 
