@@ -1,4 +1,5 @@
 pub mod Answers
+pub mod Cuts
 pub mod LeaseMaps
 pub mod Leases
 pub mod Lists

@@ -12,5 +12,4 @@ pub mod Few
 pub mod Fewer
 pub mod Digested
 pub mod DigestedTo
-pub mod Dropped
 pub mod WholeDigest

@@ -6,12 +6,6 @@ use Rattle.assise_record.specs.Touched.{touched_by}
 use Rattle.assise_inode_table.specs.Effects.{touched}
 use Rattle.assise_digest.specs.Ahead.{all_effects}
 
--- the first item of a front
-pub taken_first : {X : Type 0} (n m : ℕ) (xs ys : List X) (x : X) → m + 1 ≡ n → xs ≡ x ∷ ys → take n xs ≡ x ∷ take m ys
-taken_first n m xs ys x next is =
-    let same : n ≡ suc m = omega (arith, next) in
-    ap (λ k. take k xs) same ∙ ap (take (suc m)) is
-
 -- of a front of a front
 
 front_effects : (rs : List LogRecord) (k n : ℕ) → k ≤ n → take (length (all_effects (take k rs))) (all_effects (take n rs)) ≡ all_effects (take k rs)

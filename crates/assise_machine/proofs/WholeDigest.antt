@@ -17,9 +17,9 @@ use Rattle.assise_machine_state.specs.Observed.{is_full_in, observed, world_of}
 use Rattle.assise_machine_state.specs.Shape.{AreNoted, IsShaped}
 use Rattle.assise_machine_state.specs.StateValues.{StateValue, leases_of, standings}
 use Rattle.assise_machine_state.proofs.Noted.{still_noted}
-use Rattle.assise_machine.specs.Digesting.{digests_to, drops_to}
+use Rattle.assise_machine.specs.Digesting.{digests_to}
 use Rattle.assise_machine.proofs.DigestedTo.{StillSame, course_to, none_to, same_to}
-use Rattle.assise_machine.proofs.Dropped.{StillDropping, all_dropped, same_dropping}
+use Rattle.assise_machine_state.proofs.Dropped.{StillDropping, all_dropped, same_dropping}
 use Rattle.assise_machine.proofs.Frames.{fine_node}
 
 pub sound_of : (s : StateValue) → ∥ Holds (observed s) ∥₁ → ∥ IsSound (world_of s) ∥₁

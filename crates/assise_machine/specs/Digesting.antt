@@ -6,8 +6,7 @@ use Rattle.assise_inode_table.specs.Effects.{touched}
 use Rattle.assise_digest.specs.Ahead.{all_effects}
 use Rattle.assise_digest.specs.Region.{ahead}
 use Rattle.assise_machine_events.specs.NodeEvents.{part_of}
-use Rattle.assise_machine_laws.specs.World.{digested_by_all}
-use Rattle.assise_machine_state.specs.Changes.{after_digest, after_drop}
+use Rattle.assise_machine_state.specs.Changes.{after_digest}
 use Rattle.assise_machine_state.specs.NodeValues.{log_in}
 use Rattle.assise_machine_state.specs.Observed.{world_of}
 use Rattle.assise_machine_state.specs.StateValues.{StateValue}
@@ -21,8 +20,3 @@ digests_some s n c count =
 abbrev pub digests_to : StateValue → (n count m : ℕ) → StateValue
 digests_to s n count zero = s
 digests_to s n count (suc c) = digests_some (digests_to s n count c) n (suc c) (part_of (world_of s) n count (suc c))
-
--- of clients 1 to m, all nodes let the records go that all full nodes have digested
-abbrev pub drops_to : StateValue → ℕ → StateValue
-drops_to s zero = s
-drops_to s (suc c) = after_drop (drops_to s c) (suc c) (digested_by_all (world_of (drops_to s c)) (suc c))

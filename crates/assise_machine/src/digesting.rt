@@ -1,7 +1,6 @@
 // A node digests what all full nodes have.
-ghost use Rattle.std.specs.Prelude.{◌≡◌, ◌++◌, ◌<◌, ◌≤◌, IfOk, IsOkUnless, OnErr, OnOk, false, length, min, take, true};
+ghost use Rattle.std.specs.Prelude.{◌≡◌, ◌<◌, ◌≤◌, IfOk, IsOkUnless, OnErr, false, length, min, take, true};
 ghost use Rattle.assise_names.specs.declared.refusal.Refusal.TheVariants.{OutOfMemory};
-ghost use Rattle.assise_inode_table.specs.Effects.{touched};
 ghost use Rattle.assise_lease_table.specs.Tables.{SameRevokers};
 ghost use Rattle.assise_lease_tree.specs.Trees.{stored_by};
 ghost use Rattle.assise_private_log.specs.NumberedLog.{records_from};
@@ -15,16 +14,17 @@ ghost use Rattle.assise_machine_state.specs.Shape.{IsShaped};
 ghost use Rattle.assise_machine_state.specs.StateValues.{standings};
 ghost use Rattle.assise_machine_state.specs.Whole.{machine_of, value_of};
 ghost use Rattle.assise_machine.specs.Answers.{digesting_answer};
-ghost use Rattle.assise_machine.specs.Digesting.{digests_some, digests_to, drops_to};
+ghost use Rattle.assise_machine.specs.Digesting.{digests_some, digests_to};
 
 use crate::faults::node_refusal;
 use crate::progress::Progress;
 use assise_lease_table::revoker::Revokes;
+use assise_machine_state::dropping::drop_digested;
 use assise_machine_state::sound::SoundOf;
 use assise_machine_state::state::StateOf;
+use assise_machine_state::touching::push_touched_from;
 use assise_names::refusal::Refusal;
 use assise_private_log::log::Log;
-use assise_record::effect::Effect;
 use std::alloc::Global;
 
 /// The most records of one digest.
@@ -51,7 +51,7 @@ pub fn digest<C: Revokes + Drop>(
     if progress.refused && progress.count == 0 {
         return Err(Refusal::OutOfMemory);
     }
-    drop_to(state, last);
+    drop_digested(state, last);
     Ok(progress.count)
 }
 
@@ -154,35 +154,13 @@ fn digest_noted<C: Revokes + Drop>(
 {
     let region = state.nodes.region(node);
     let from = region.digested(client as usize);
-    let inodes = touched_from(alloc, region.log(client as usize), from, wanted)?;
+    let mut inodes = Vec::new(alloc);
+    push_touched_from(&mut inodes, region.log(client as usize), from, wanted)?;
     state.members.reserve_written(node, inodes.len())?;
     let count = state.nodes.digest_some(node, client, acked, wanted)?;
     let written = effects_from(state.nodes.region(node).log(client as usize), from, count);
     state.members.note_reserved(node, &inodes[..written]);
     Ok(count)
-}
-
-/// The inodes that so many records of a log touch, from a number on.
-fn touched_from(alloc: Global, log: &Log, from: u64, count: usize) -> Result<Vec<u64>, Refusal>
-    ensures touched { IfOk result (λ inodes. inodes.items ≡ touched (all_effects (take count (records_from log.now from)))) }
-    ensures only_memory { IsOkUnless result OutOfMemory }
-{
-    let mut inodes = Vec::new(alloc);
-    for record in log.since(from).take(count) {
-        push_touched(&mut inodes, record.effects())?;
-    }
-    Ok(inodes)
-}
-
-/// Adds the inodes that effects touch.
-fn push_touched(inodes: &mut Vec<u64>, effects: &[Effect]) -> Result<(), Refusal>
-    ensures added { OnOk result (inodes.new.items ≡ inodes.old.items ++ touched effects.now) }
-    ensures only_memory { IsOkUnless result OutOfMemory }
-{
-    for effect in effects {
-        inodes.push(effect.touches())?;
-    }
-    Ok(())
 }
 
 /// How many effects so many records of a log have, from a number on.
@@ -195,20 +173,4 @@ fn effects_from(log: &Log, from: u64, count: usize) -> usize
         effects += record.effects().len();
     }
     effects
-}
-
-/// Of clients 1 to a last one, all nodes let the records go that all full nodes have digested. It takes no memory.
-fn drop_to<C: Revokes + Drop>(state: &mut StateOf<C>, last: u32)
-    requires last { last ≤ length state.old.clients }
-    requires sound { ∥ IsSound (world_of (value_of state.old)) ∥₁ }
-    requires shape { IsShaped (value_of state.old) }
-    ensures drops { value_of state.new ≡ drops_to (value_of state.old) last }
-    ensures revokers { state.new.leases ≡ state.old.leases }
-{
-    if last == 0 {
-        return;
-    }
-    drop_to(state, last - 1);
-    let digested = state.digested(last);
-    state.nodes.drop_fronts(last, digested);
 }

@@ -10,7 +10,7 @@ use Rattle.assise_machine_leases.specs.Handing.{ReleasesReady}
 use Rattle.assise_machine_leases.specs.Leases.{Leases, client_lease}
 use Rattle.assise_machine_events.specs.NodeEvents.{Gone, LetsGo, is_ready, leases_after}
 use Rattle.assise_machine_state.specs.ClientValues.{client_seen, cut_once_asked}
-use Rattle.assise_machine_state.specs.Cuts.{are_once, cut_in, is_asked, is_of}
+use Rattle.assise_lease_table.specs.Cuts.{are_once, cut_in, is_asked, is_of}
 use Rattle.assise_machine_state.specs.Observed.{world_of}
 use Rattle.assise_machine_state.specs.Shape.{AreNoted}
 use Rattle.assise_machine_state.specs.StateValues.{StateValue, leases_of}

@@ -14,7 +14,7 @@ use Rattle.assise_machine_leases.proofs.Going.{release_keeps}
 use Rattle.assise_machine_returns.specs.Returns.{OtherAreasStay}
 use Rattle.assise_machine_state.specs.Changes.{after_letting_go}
 use Rattle.assise_machine_state.specs.ClientValues.{ClientValue, client_in, client_seen, cut_once_asked}
-use Rattle.assise_machine_state.specs.Cuts.{are_once, cut_in, is_asked, is_of}
+use Rattle.assise_lease_table.specs.Cuts.{are_once, cut_in, is_asked, is_of}
 use Rattle.assise_machine_state.specs.Observed.{observed, own_seen, world_of}
 use Rattle.assise_machine_state.specs.Places.{IsNumber}
 use Rattle.assise_machine_state.specs.Shape.{AreNoted, IsShaped}

@@ -30,7 +30,7 @@ use Rattle.assise_machine_leases.specs.Leases.{AreLeases, Covers, IsFrozenLease,
 use Rattle.assise_machine_leases.proofs.Finding.{freeze_of, frozen_held, frozen_one, held_one, still_frozen, written_one}
 use Rattle.assise_machine_state.specs.Changes.{after_asking, with_goals}
 use Rattle.assise_machine_state.specs.ClientValues.{ClientValue, client_in, client_seen, is_over, with_client, with_goal}
-use Rattle.assise_machine_state.specs.Cuts.{are_once, cut_in, is_asked, is_of}
+use Rattle.assise_lease_table.specs.Cuts.{are_once, cut_in, is_asked, is_of}
 use Rattle.assise_machine_state.specs.Observed.{own_seen, world_of}
 use Rattle.assise_machine_state.specs.Places.{IsNumber}
 use Rattle.assise_machine_state.specs.Shape.{AreAnswers, AreNoted, IsShaped}

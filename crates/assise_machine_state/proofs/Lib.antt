@@ -21,6 +21,8 @@ pub mod Reading
 pub mod Receiving
 pub mod DigestSeen
 pub mod Fronts
+pub mod Dropped
+pub mod Touching
 pub mod Resting
 pub mod Returning
 pub mod Kept

@@ -21,7 +21,7 @@ use Rattle.assise_machine_leases.proofs.Finding.{freeze_of, frozen_one}
 use Rattle.assise_machine_leases.proofs.Keeping.{holder_home}
 use Rattle.assise_machine_state.specs.Changes.{after_call, after_crash, after_failure, after_goal, after_leases, after_open}
 use Rattle.assise_machine_state.specs.ClientValues.{ClientValue, client_in, client_seen, crashed_at, cut_of, failed_at, is_over, no_client, opened_on, with_call, with_goal}
-use Rattle.assise_machine_state.specs.Cuts.{are_once, cut_in, is_asked, is_of, is_unasked}
+use Rattle.assise_lease_table.specs.Cuts.{are_once, cut_in, is_asked, is_of, is_unasked}
 use Rattle.assise_machine_state.specs.Observed.{world_of}
 use Rattle.assise_machine_state.specs.Places.{IsNumber}
 use Rattle.assise_machine_state.specs.Shape.{AreLeft, AreNoted, SameFrozen}

@@ -12,7 +12,7 @@ use Rattle.assise_lease_tree.specs.TwoLevels.{TwoLevels}
 use Rattle.assise_manager.specs.Changes.{failed, joined, noted}
 use Rattle.assise_manager.specs.Membership.{Membership}
 use Rattle.assise_machine_laws.specs.NodeSteps.{kept_at_failure}
-use Rattle.assise_machine_laws.specs.World.{World, call_makes_inode, end, records_between, step_at_home}
+use Rattle.assise_machine_laws.specs.World.{World, call_makes_inode, digested_by_all, end, records_between, step_at_home}
 use Rattle.assise_machine_history.specs.Lost.{losses_of}
 use Rattle.assise_machine_history.specs.Numbered.{plain_call}
 use Rattle.assise_machine_state.specs.ClientValues.{ClientValue, client_in, client_seen, crashed_at, failed_at, opened_on, with_call, with_client, with_goal}
@@ -88,6 +88,11 @@ after_digest s n c k inodes = record s {
 -- the logs of client c begin at a place
 abbrev pub after_drop : StateValue → (c to : ℕ) → StateValue
 after_drop s c to = record s { nodes = with_fronts_dropped s.nodes c to }
+
+-- of clients 1 to m, all nodes let the records go that all full nodes have digested
+abbrev pub drops_to : StateValue → ℕ → StateValue
+drops_to s zero = s
+drops_to s (suc c) = after_drop (drops_to s c) (suc c) (digested_by_all (world_of (drops_to s c)) (suc c))
 
 -- each log's first place where one client's is another
 abbrev pub first_but : World → (c to : ℕ) → ℕ → ℕ

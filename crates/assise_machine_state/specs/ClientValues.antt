@@ -3,7 +3,7 @@
 use Rattle.std.specs.Prelude.{ℕ, ◌+◌, max, min, Bool, true, false, ◌||◌, if◌then◌else◌, List, refl}
 use Rattle.std.specs.Coded.{Coded, code_by, coded×, coded_bool, coded_ℕ}
 use Rattle.assise_lease_table.specs.declared.lease.Asked.{Asked}
-use Rattle.assise_machine_state.specs.Cuts.{cut_in}
+use Rattle.assise_lease_table.specs.Cuts.{cut_in}
 use Rattle.assise_machine_state.specs.Places.{at, item, put}
 
 -- ---- one client

@@ -1,5 +1,4 @@
 pub mod Places
-pub mod Cuts
 pub mod ClientValues
 pub mod NodeValues
 pub mod StateValues

@@ -9,7 +9,7 @@ use Rattle.assise_lease_table.specs.Leases.{Among, holders, is_to_ask, lease_of}
 use Rattle.assise_lease_tree.specs.Levels.{in_way, is_frozen}
 use Rattle.assise_lease_tree.specs.TwoLevels.{TwoLevels}
 use Rattle.assise_machine_state.specs.ClientValues.{client_seen}
-use Rattle.assise_machine_state.specs.Cuts.{are_once, is_asked, is_unasked}
+use Rattle.assise_lease_table.specs.Cuts.{are_once, is_asked, is_unasked}
 use Rattle.assise_machine_state.specs.NodeValues.{HasLog, log_in, log_seen, region_seen}
 use Rattle.assise_machine_state.specs.Observed.{is_full_in, own_seen}
 use Rattle.assise_machine_state.specs.Places.{IsNumber}

@@ -5,9 +5,11 @@
 pub mod client;
 pub mod client_view;
 pub mod clients;
+pub mod dropping;
 pub mod nodes;
 pub mod seen_clients;
 pub mod seen_failures;
 pub mod seen_nodes;
 pub mod sound;
 pub mod state;
+pub mod touching;

@@ -5,7 +5,7 @@ use Rattle.assise_machine_state.specs.Observed.{observed, world_of}
 use Rattle.assise_machine_state.specs.Whole.{value_of}
 use Rattle.assise_machine_events.specs.Machine.{Holds}
 use Rattle.assise_machine_state.specs.Shape.{AreNoted, IsShaped}
-use Rattle.assise_machine.specs.Digesting.{digests_to, drops_to}
+use Rattle.assise_machine.specs.Digesting.{digests_to}
 use Rattle.assise_machine.proofs.Frames.{few_clients, fine_node}
 use Rattle.assise_machine.proofs.WholeDigest.{Gives, clients_between, gives_as, lacks, nothing_digested, shape_between, sound_between, sound_of}
 use Rattle.assise_machine.proofs.digesting.digest.Given as given
@@ -47,26 +47,26 @@ returns-then-progress-eq0-clause-happens g c =
 
 -- between the digests and the fronts that go
 
-pub drop_to-requires-clause-last : goal.drop_to-requires-clause-last
-drop_to-requires-clause-last g c =
+pub drop_digested-requires-clause-last : goal.drop_digested-requires-clause-last
+drop_digested-requires-clause-last g c =
     let same =
     clients_between (value_of c.args.sound.now.state) c.args.node c.args.sound.now.shape c.args.sound.now.holds c.args.sound.now.noted (sym c.node_refusal.ensures ∙ c.in_default.is)
     c.digest_to-progress.result.count (value_of c.digest_to-progress.new.state) (c.digest_to-progress.ensures.digests ∙ ap (digests_to (value_of c.args.sound.now.state) c.args.node c.digest_to-progress.result.count) c.len-last.ensures) in
     omega (arith, same, c.len-last.ensures)
 
-pub drop_to-requires-clause-sound : goal.drop_to-requires-clause-sound
-drop_to-requires-clause-sound g c =
+pub drop_digested-requires-clause-sound : goal.drop_digested-requires-clause-sound
+drop_digested-requires-clause-sound g c =
     sound_between (value_of c.args.sound.now.state) c.args.node c.args.sound.now.shape c.args.sound.now.holds c.args.sound.now.noted (sym c.node_refusal.ensures ∙ c.in_default.is)
     c.digest_to-progress.result.count (value_of c.digest_to-progress.new.state) (c.digest_to-progress.ensures.digests ∙ ap (digests_to (value_of c.args.sound.now.state) c.args.node c.digest_to-progress.result.count) c.len-last.ensures)
 
-pub drop_to-requires-clause-shape : goal.drop_to-requires-clause-shape
-drop_to-requires-clause-shape g c =
+pub drop_digested-requires-clause-shape : goal.drop_digested-requires-clause-shape
+drop_digested-requires-clause-shape g c =
     shape_between (value_of c.args.sound.now.state) c.args.node c.args.sound.now.shape c.args.sound.now.holds c.args.sound.now.noted (sym c.node_refusal.ensures ∙ c.in_default.is)
     c.digest_to-progress.result.count (value_of c.digest_to-progress.new.state) (c.digest_to-progress.ensures.digests ∙ ap (digests_to (value_of c.args.sound.now.state) c.args.node c.digest_to-progress.result.count) c.len-last.ensures)
 
 -- what is given then
 
-given_now : (g : given.Over) (c : goal.After-drop_to g) → Gives (value_of c.args.sound.now.state) c.args.node c.digest_to-progress.result.count (value_of c.drop_to.new.state)
+given_now : (g : given.Over) (c : goal.After-drop_digested g) → Gives (value_of c.args.sound.now.state) c.args.node c.digest_to-progress.result.count (value_of c.drop_digested.new.state)
 given_now g c =
     let all = ap (undigested_to (world_of (value_of c.args.sound.now.state)) c.args.node) c.len-last.ensures in
     let some : 0 < undigested_to (world_of (value_of c.args.sound.now.state)) c.args.node (length (value_of c.args.sound.now.state).clients) → 0 < c.digest_to-progress.result.count =
@@ -76,9 +76,9 @@ given_now g c =
     ] in
     gives_as (value_of c.args.sound.now.state) c.args.node c.args.sound.now.shape c.args.sound.now.holds c.args.sound.now.noted (sym c.node_refusal.ensures ∙ c.in_default.is)
     c.digest_to-progress.result.count (omega (arith, c.digest_to-progress.ensures.few, all)) some
-    (value_of c.digest_to-progress.new.state) (value_of c.drop_to.new.state)
+    (value_of c.digest_to-progress.new.state) (value_of c.drop_digested.new.state)
     (c.digest_to-progress.ensures.digests ∙ ap (digests_to (value_of c.args.sound.now.state) c.args.node c.digest_to-progress.result.count) c.len-last.ensures)
-    (c.drop_to.ensures.drops ∙ ap (drops_to (value_of c.digest_to-progress.new.state)) c.len-last.ensures)
+    (c.drop_digested.ensures.drops ∙ ap (drops_to (value_of c.digest_to-progress.new.state)) c.len-last.ensures)
 
 pub invariant_of-sound-2 : goal.invariant_of-sound-2
 invariant_of-sound-2 g c = (let gives = given_now g c in record { holds = gives.holds; shape = gives.shape; noted = gives.noted })

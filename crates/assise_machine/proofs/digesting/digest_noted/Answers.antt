@@ -60,7 +60,7 @@ all_touched : (g : given.Over) (c : goal.After-deref g) →
 all_touched g c =
     let log = c.log.ensures.log ∙ ap (λ r. (log_of r c.args.client).log) c.region-region.ensures in
     let from = c.digested-from.ensures.value ∙ ap (λ r. (log_of r c.args.client).digested) c.region-region.ensures in
-    c.deref.ensures.value ∙ c.in_ok-inodes.ensures.touched ∙ (λ i. touched (all_effects (take c.args.wanted (records_from (log i) (from i)))))
+    c.deref.ensures.value ∙ c.in_ok-push_touched_from.ensures.added ∙ (λ i. touched (all_effects (take c.args.wanted (records_from (log i) (from i)))))
 
 counted_now : (g : given.Over) (c : goal.After-deref g) →
     c.effects_from-written.result ≡ length (all_effects (take c.in_ok-count.count (ahead (log_in (value_of c.args.state.now).nodes c.args.node c.args.client))))

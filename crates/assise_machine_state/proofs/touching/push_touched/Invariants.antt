@@ -1,6 +1,6 @@
 use Rattle.std.proofs.Common.{◌≡◌, ◌++◌, take}
 use Rattle.assise_inode_table.specs.Effects.{touched}
-use Rattle.assise_machine.proofs.digesting.push_touched.Given as goal
+use Rattle.assise_machine_state.proofs.touching.push_touched.Given as goal
 
 -- the inodes of the first effects were added
 abbrev pub invariant-loop-effect : goal.invariant-loop-effect

@@ -11,7 +11,7 @@ use Rattle.assise_machine_laws.specs.Sound.{IsSound}
 use Rattle.assise_machine_laws.specs.World.{World, digested_by_all, end}
 use Rattle.assise_machine_laws.proofs.Dropping.{drop_sound}
 use Rattle.assise_machine_laws.proofs.Observing.{digested_by_all-below, least_of-end}
-use Rattle.assise_machine_state.specs.Changes.{after_drop, first_but}
+use Rattle.assise_machine_state.specs.Changes.{after_drop, drops_to, first_but}
 use Rattle.assise_machine_state.specs.ClientValues.{client_seen}
 use Rattle.assise_machine_state.specs.NodeValues.{AreDigested, IsDigestedTo, log_in, log_seen, new_region, region_in, region_seen}
 use Rattle.assise_machine_state.specs.Observed.{is_full_in, own_node, own_seen, world_of}
@@ -22,7 +22,6 @@ use Rattle.assise_machine_state.proofs.Fronts.{HasFronts, drop_areas, drop_shape
 use Rattle.assise_machine_state.proofs.Fullness.{has_log, log_is, no_log_there, region_is, seen_full}
 use Rattle.assise_machine_state.proofs.Seeing.{less_one, seen_past}
 use Rattle.assise_machine_state.proofs.Staying.{clients_as, goals_as, leases_as}
-use Rattle.assise_machine.specs.Digesting.{drops_to}
 
 -- ---- who is no client has no log
 

@@ -1,0 +1,27 @@
+// Copies of inodes that a node loses.
+ghost use Rattle.std.specs.Prelude.{◌≡◌, Some, true};
+ghost use Rattle.std.specs.FinSet as set;
+ghost use Rattle.assise_manager.specs.Changes.{is_returning, stale_of};
+ghost use Rattle.assise_manager.specs.Standings.{standing_of};
+ghost use Rattle.assise_machine_state.specs.Shape.{IsShaped};
+ghost use Rattle.assise_machine_state.specs.StateValues.{standings};
+ghost use Rattle.assise_machine_state.specs.Whole.{value_of};
+ghost use Rattle.assise_machine_failures.specs.Copies.{LosesStale};
+
+use assise_lease_table::revoker::Revokes;
+use assise_machine_state::state::StateOf;
+
+/// A node that comes back loses its copies of the inodes that it may lack. It takes no memory.
+pub(crate) fn drop_copies<C: Revokes + Drop>(state: &mut StateOf<C>, node: u32)
+    requires returning { is_returning (standing_of (standings (value_of state.old)) node) ≡ true }
+    requires shape { IsShaped (value_of state.old) }
+    ensures copies { LosesStale (value_of state.old) node (value_of state.new) }
+    ensures leases { state.new.leases ≡ state.old.leases }
+{
+    let Ok(stale) = state.members.stale(node) else {
+        return;
+    };
+    for inode in stale {
+        state.nodes.stale(node, *inode);
+    }
+}

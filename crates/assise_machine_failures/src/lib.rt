@@ -1,0 +1,11 @@
+//! Crashes of clients, failures of nodes, and nodes that come back: each leads from one state in which all holds to the next.
+#![tactic(auto)]
+
+pub mod back;
+mod copies;
+pub mod crash;
+pub mod fail;
+mod failure;
+pub mod join;
+mod listing;
+pub mod refill;
