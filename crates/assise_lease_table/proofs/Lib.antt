@@ -4,4 +4,5 @@ pub mod Answering
 pub mod Becoming
 mod Lists
 mod Retained
+mod Unasked
 pub mod Room

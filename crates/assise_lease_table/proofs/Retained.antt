@@ -50,7 +50,7 @@ module _ {F : Type 0} (T : F → ℕ → Vec Lease → Bool → Vec Lease → F 
 absent_at : (m : Bool) (i k j : ℕ) (v : Vec Lease) (rest : Option (Vec Lease)) → nat_eq i k ≡ true → nat_eq k j ≡ false → rest ≡ None → cond (nat_eq i j) (Some v) rest ≡ None
 absent_at m i k j v rest same other none = ap (λ z. cond (nat_eq z j) (Some v) rest) (same_number i k same) ∙ ap (λ b. cond b (Some v) rest) other ∙ none
 
-absent : (i k : ℕ) (es : List (ℕ × Vec Lease)) → nat_eq i k ≡ true → AllByRecursion (λ y. nat_eq k y ≡ false) (keys_of es) → lookup (nat_eq i) es ≡ None
+pub absent : (i k : ℕ) (es : List (ℕ × Vec Lease)) → nat_eq i k ≡ true → AllByRecursion (λ y. nat_eq k y ≡ false) (keys_of es) → lookup (nat_eq i) es ≡ None
 absent i k [] same all = refl
 absent i k (e ∷ es) same all = absent_at true i k e.0 e.1 (lookup (nat_eq i) es) same all.0 (absent i k es same all.1)
 

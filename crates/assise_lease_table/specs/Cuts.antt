@@ -4,6 +4,7 @@ use Rattle.std.specs.Prelude.{ℕ, Bool, true, false, not, ◌==◌, ◌&&◌, i
 use Rattle.std.specs.List.{list_any}
 use Rattle.assise_lease_table.specs.declared.lease.Asked.{Asked}
 use Rattle.assise_lease_table.specs.declared.lease.Lease.{Lease}
+use Rattle.assise_lease_table.specs.Leases.{is_to_ask}
 
 -- it is the client's answer for the inode
 abbrev pub is_of : ℕ → ℕ → Asked → Bool
@@ -22,6 +23,11 @@ cut_in (a ∷ asked) c i = if is_of c i a then a.cut else cut_in asked c i
 abbrev pub are_once : List Asked → Bool
 are_once [] = true
 are_once (a ∷ asked) = not (is_asked asked a.client a.inode) && are_once asked
+
+-- the chosen leases of the inode that aren't frozen, in their order: nobody was asked yet, so the cuts are 0
+abbrev pub asked_at : (Lease → Bool) → ℕ → List Lease → List Asked
+asked_at choice i [] = []
+asked_at choice i (l ∷ ls) = if is_to_ask choice l then record { client = l.holder; inode = i; cut = 0 } ∷ asked_at choice i ls else asked_at choice i ls
 
 -- there is a lease, and it was not asked for
 abbrev pub is_unasked : Option Lease → Bool

@@ -32,6 +32,7 @@ impl<C: Revokes + Drop> ClientTableOf<C> {
     ghost use Rattle.std.specs.Prelude.{◌≡◌, ◌≢◌, ◌&&◌, ℕ, [], true, false, Some, None, is_some, IsOk, IsOkUnless, OnOk, OnErr, IfErr, IfOk};
     ghost use Rattle.assise_names.specs.declared.refusal.Refusal.TheVariants.{OutOfMemory};
     ghost use Rattle.std.specs.List.{list_any};
+    ghost use Rattle.assise_lease_table.specs.Cuts.{is_asked, are_once};
     ghost use Rattle.assise_lease_table.specs.LeaseMaps.{Becomes, SameLeases};
     ghost use Rattle.assise_lease_table.specs.Leases.{Among, with_lease, new_lease, without, freeze, is_own, is_rival, is_to_ask, lease_of, may_be_held, may_raise, serves, IsFree, compatible};
     ghost use Rattle.assise_lease_table.specs.Answers.{AnswerAll, IsAnswer};
@@ -85,6 +86,17 @@ impl<C: Revokes + Drop> ClientTableOf<C> {
         ensures some { result ≡ true → (i : ℕ) × (list_any (T.choice test.now) (client_leases self.now i) ≡ true) }
     {
         self.leases.is_any_chosen(test)
+    }
+
+    /// Each chosen lease that is not frozen, once, with 0 as its cut: no revoker is called. It walks over all leases. The
+    /// one refusal is [`Refusal::OutOfMemory`].
+    pub fn unasked<T: Chooses>(&self, test: &T) -> Result<Vec<Asked>, Refusal>
+        ensures once { IfOk result (λ asked. are_once asked.items ≡ true) }
+        ensures which { IfOk result (λ asked. (c i : ℕ) → is_asked asked.items c i ≡ list_any (λ l. is_own c l && is_to_ask (T.choice test.now) l) (client_leases self.now i)) }
+        ensures only_memory { IsOkUnless result OutOfMemory }
+    {
+        let asked = self.leases.unasked(test)?;
+        Ok(asked)
     }
 
     /// A client's lease of an inode.
@@ -176,6 +188,14 @@ impl<C: Revokes + Drop> ClientTableOf<C> {
         ensures revokers { SameRevokers (revoker_of self.old) (revoker_of self.new) }
     {
         self.leases.freeze_all(client);
+    }
+
+    /// Freezes the chosen leases of all inodes. No revoker is called, and it takes no memory.
+    pub fn freeze_everywhere<T: Chooses>(&mut self, test: &T)
+        ensures leases { (i : ℕ) → client_leases self.new i ≡ freeze (T.choice test.now) (client_leases self.old i) }
+        ensures revokers { SameRevokers (revoker_of self.old) (revoker_of self.new) }
+    {
+        self.leases.freeze_everywhere(test);
     }
 
     /// Freezes the chosen leases of an inode. No revoker is called, and it takes no memory.

@@ -1,10 +1,12 @@
 // The leases of one inode.
-ghost use Rattle.std.specs.Prelude.{◌≡◌, ◌≤◌, true, vec_len, vec_capacity};
+ghost use Rattle.std.specs.Prelude.{◌≡◌, ◌≤◌, ◌++◌, true, OnOk, vec_len, vec_capacity};
+ghost use Rattle.assise_lease_table.specs.Cuts.{asked_at};
 ghost use Rattle.assise_lease_table.specs.Lists.{HasPlaceIn, is_any};
 ghost use Rattle.assise_lease_table.specs.Leases.{with_lease, leave_out, freeze, frozen_if, lease_of, is_own, may_be_held, may_raise, IsFree};
 
-use crate::lease::{Chooses, Lease, Own, Rivals, is_any_chosen, is_strong};
+use crate::lease::{Asked, Chooses, Lease, Own, Rivals, is_any_chosen, is_strong, is_to_ask};
 use assise_names::mode::Mode;
+use std::alloc::AllocError;
 
 /// The holder's lease.
 pub(crate) fn lease_of_holder(leases: &[Lease], holder: u32) -> Option<Lease>
@@ -86,9 +88,30 @@ pub(crate) fn freeze_chosen<T: Chooses>(leases: &mut [Lease], test: &T)
     }
 }
 
-/// Freezes the holder's lease.
-pub(crate) fn freeze_own(leases: &mut Vec<Lease>, holder: u32)
-    ensures { leases.new.items ≡ freeze (is_own holder) leases.old.items }
+/// Freezes the chosen leases of a list.
+pub(crate) fn freeze_all<T: Chooses>(leases: &mut Vec<Lease>, test: &T)
+    ensures { leases.new.items ≡ freeze (T.choice test.now) leases.old.items }
 {
-    freeze_chosen(leases, &Own { holder });
+    freeze_chosen(leases, test);
+}
+
+/// Lists the chosen leases of an inode that are not frozen, with 0 as their cuts.
+pub(crate) fn push_unasked<T: Chooses>(
+    asked: &mut Vec<Asked>,
+    inode: u64,
+    test: &T,
+    leases: &[Lease],
+) -> Result<(), AllocError>
+    ensures { OnOk result (asked.new.items ≡ asked.old.items ++ asked_at (T.choice test.now) inode leases.now) }
+{
+    for lease in leases {
+        if is_to_ask(test, lease) {
+            asked.push(Asked {
+                client: lease.holder,
+                inode,
+                cut: 0,
+            })?;
+        }
+    }
+    Ok(())
 }

@@ -4,9 +4,10 @@ ghost use Rattle.indexmap.specs.IndexMap.{get};
 ghost use Rattle.assise_lease_table.specs.Lists.{is_held};
 
 use crate::holders::{
-    freeze_chosen, freeze_own, lease_of_holder, leaves_others, put_over, take_out, take_own_out,
+    freeze_all, freeze_chosen, lease_of_holder, leaves_others, push_unasked, put_over, take_out,
+    take_own_out,
 };
-use crate::lease::{Chooses, Lease, is_any_chosen};
+use crate::lease::{Asked, Chooses, Lease, Own, is_any_chosen};
 use indexmap::IndexMap;
 use std::alloc::{AllocError, Global};
 use std::mem;
@@ -23,11 +24,12 @@ pub struct LeaseMap {
 }
 
 impl LeaseMap {
-    ghost use Rattle.std.specs.Prelude.{◌≡◌, ℕ, OnOk, [], ◌∷◌, true, false, is_some, IsOk};
+    ghost use Rattle.std.specs.Prelude.{◌≡◌, ◌&&◌, ℕ, OnOk, IfOk, [], ◌∷◌, true, false, is_some, IsOk};
     ghost use Rattle.std.specs.List.{list_any};
     ghost use Rattle.indexmap.specs.IndexMap.{values};
+    ghost use Rattle.assise_lease_table.specs.Cuts.{is_asked, are_once};
     ghost use Rattle.assise_lease_table.specs.LeaseMaps.{leases_at, HasRoom, Becomes, SameLeases};
-    ghost use Rattle.assise_lease_table.specs.Leases.{with_lease, without, leave_out, freeze, is_own, lease_of};
+    ghost use Rattle.assise_lease_table.specs.Leases.{with_lease, without, leave_out, freeze, is_own, is_to_ask, lease_of, compatible};
 
     /// No leases. It takes no memory.
     pub fn new(alloc: Global) -> LeaseMap
@@ -66,6 +68,19 @@ impl LeaseMap {
         self.inodes
             .values()
             .any(|leases| is_any_chosen(test, leases))
+    }
+
+    /// Each chosen lease that is not frozen, once, with 0 as its cut: nobody is asked. It walks over all leases.
+    pub fn unasked<T: Chooses>(&self, test: &T) -> Result<Vec<Asked>, AllocError>
+        requires compatible { (i : ℕ) → compatible (leases_at self.now i) ≡ true }
+        ensures once { IfOk result (λ asked. are_once asked.items ≡ true) }
+        ensures which { IfOk result (λ asked. (c i : ℕ) → is_asked asked.items c i ≡ list_any (λ l. is_own c l && is_to_ask (T.choice test.now) l) (leases_at self.now i)) }
+    {
+        let mut asked = Vec::new(self.alloc);
+        for (inode, leases) in self.inodes.iter() {
+            push_unasked(&mut asked, *inode, test, leases)?;
+        }
+        Ok(asked)
     }
 
     /// Makes room for a holder's lease of an inode. None is asked for where the holder has a lease of it.
@@ -145,14 +160,21 @@ impl LeaseMap {
         freeze_chosen(leases, test);
     }
 
+    /// Freezes the chosen leases of all inodes.
+    pub fn freeze_everywhere<T: Chooses>(&mut self, test: &T)
+        ensures { (i : ℕ) → leases_at self.new i ≡ freeze (T.choice test.now) (leases_at self.old i) }
+    {
+        self.inodes.retain(|_, leases| {
+            freeze_all(leases, test);
+            true
+        });
+    }
+
     /// Freezes all leases of a holder.
     pub fn freeze_all(&mut self, holder: u32)
         ensures { (i : ℕ) → leases_at self.new i ≡ freeze (is_own holder) (leases_at self.old i) }
     {
-        self.inodes.retain(|_, leases| {
-            freeze_own(leases, holder);
-            true
-        });
+        self.freeze_everywhere(&Own { holder });
     }
 
     /// Takes all leases of a holder away.

@@ -1,0 +1,152 @@
+-- The chosen leases that aren't frozen, of one inode and of all.
+use Rattle.std.proofs.Common.{◌≡◌, ℕ, ◌==◌, ◌+◌, ◌<◌, Bool, true, false, cond, not, ◌&&◌, ◌||◌, List, [], ◌∷◌, ◌++◌, length, drop, get_or, Option, Some, None, nat_eq, inl, inr, sym, refl, ap, ◌∙◌, eq-eqb}
+use Rattle.std.proofs.lemmas.List.{drop_more, append_assoc}
+use Rattle.std.proofs.lemmas.List.Folds.{list_any-append}
+use Rattle.std.specs.Global.{Vec}
+use Rattle.std.specs.List.{IsDistinct, list_any, list_all}
+use Rattle.std.specs.Map.{lookup, keys_of}
+use Rattle.assise_lease_table.specs.Cuts.{is_of, is_asked, are_once, asked_at}
+use Rattle.assise_lease_table.specs.Leases.{apart, compatible, is_own, is_to_ask}
+use Rattle.assise_lease_table.specs.Lists.{items_or_none}
+use Rattle.assise_lease_table.specs.declared.lease.Asked.{Asked}
+use Rattle.assise_lease_table.specs.declared.lease.Lease.{Lease}
+use Rattle.assise_lease_table.proofs.Compatibles.{same_number}
+use Rattle.assise_lease_table.proofs.Elements.{cases_of, both_true, and_true, not_true, true_not}
+use Rattle.assise_lease_table.proofs.Retained.{absent}
+
+module _ (choice : Lease → Bool) where
+  -- it is the client's, chosen and not frozen
+  abbrev pub wanted : ℕ → Lease → Bool
+  wanted c l = is_own c l && is_to_ask choice l
+
+  abbrev pub answer_at : ℕ → Lease → Asked
+  answer_at i l = record { client = l.holder; inode = i; cut = 0 }
+
+  -- all of them, inode by inode
+  abbrev pub unasked_in : List (ℕ × Vec Lease) → List Asked
+  unasked_in [] = []
+  unasked_in (e ∷ es) = asked_at choice e.0 e.1.items ++ unasked_in es
+
+  -- ---- a loop that lists one inode's
+
+  pub listed_more : (asked : List Asked) (all : List Asked) (i : ℕ) (ls : List Lease) (k : ℕ) (d : Lease) → k < length ls → asked ++ asked_at choice i (drop k ls) ≡ all
+      → is_to_ask choice (get_or ls k d) ≡ true → (asked ++ answer_at i (get_or ls k d) ∷ []) ++ asked_at choice i (drop (k + 1) ls) ≡ all
+  listed_more asked all i ls k d h so_far chosen =
+      append_assoc asked (answer_at i (get_or ls k d) ∷ []) (asked_at choice i (drop (k + 1) ls))
+      ∙ ap (λ b. asked ++ cond b (answer_at i (get_or ls k d) ∷ asked_at choice i (drop (k + 1) ls)) (asked_at choice i (drop (k + 1) ls))) (sym chosen)
+      ∙ ap (λ xs. asked ++ asked_at choice i xs) (sym (drop_more ls k d h)) ∙ so_far
+
+  pub listed_same : (asked : List Asked) (all : List Asked) (i : ℕ) (ls : List Lease) (k : ℕ) (d : Lease) → k < length ls → asked ++ asked_at choice i (drop k ls) ≡ all
+      → is_to_ask choice (get_or ls k d) ≡ false → asked ++ asked_at choice i (drop (k + 1) ls) ≡ all
+  listed_same asked all i ls k d h so_far passed =
+      ap (λ b. asked ++ cond b (answer_at i (get_or ls k d) ∷ asked_at choice i (drop (k + 1) ls)) (asked_at choice i (drop (k + 1) ls))) (sym passed)
+      ∙ ap (λ xs. asked ++ asked_at choice i xs) (sym (drop_more ls k d h)) ∙ so_far
+
+  -- ---- which they are
+
+  same_step : (t o : Bool) (a : Asked) (more_of : List Asked) (c i : ℕ) (rest : Bool) → is_of c i a ≡ o → is_asked more_of c i ≡ rest → is_asked (cond t (a ∷ more_of) more_of) c i ≡ ((o && t) || rest)
+  same_step true true a more_of c i rest e f = λ k. e k || f k
+  same_step true false a more_of c i rest e f = λ k. e k || f k
+  same_step false true a more_of c i rest e f = f
+  same_step false false a more_of c i rest e f = f
+
+  and_right : (a b : Bool) → b ≡ true → (a && b) ≡ a
+  and_right true b e = e
+  and_right false b e = refl
+
+  none_right : (a b : Bool) → b ≡ false → (a && b) ≡ false
+  none_right true b e = e
+  none_right false b e = refl
+
+  or_none : (a b : Bool) → b ≡ false → (a || b) ≡ a
+  or_none true b e = refl
+  or_none false b e = e
+
+  asked_here : (j i c : ℕ) → (j == i) ≡ true → (ls : List Lease) → is_asked (asked_at choice j ls) c i ≡ list_any (wanted c) ls
+  asked_here j i c same [] = refl
+  asked_here j i c same (l ∷ ls) = same_step (is_to_ask choice l) (is_own c l) (answer_at j l) (asked_at choice j ls) c i (list_any (wanted c) ls) (and_right (l.holder == c) (j == i) same) (asked_here j i c same ls)
+
+  asked_elsewhere : (j i c : ℕ) → (j == i) ≡ false → (ls : List Lease) → is_asked (asked_at choice j ls) c i ≡ false
+  asked_elsewhere j i c other [] = refl
+  asked_elsewhere j i c other (l ∷ ls) = same_step (is_to_ask choice l) false (answer_at j l) (asked_at choice j ls) c i false (none_right (l.holder == c) (j == i) other) (asked_elsewhere j i c other ls)
+
+  turned : (a b : ℕ) (m : Bool) → nat_eq a b ≡ m → (b == a) ≡ m
+  turned a b true e = eq-eqb b a (sym (same_number a b e))
+  turned a b false e = elim (cases_of (b == a)) [ inl same ↦ ap (λ z. z) (same ∙ sym (eq-eqb a b (sym (same_number b a same))) ∙ e) | inr other ↦ other ]
+
+  which_step : (m : Bool) (i c : ℕ) (j : ℕ) (v : Vec Lease) (rest : Option (Vec Lease)) (more_of : List Asked) → nat_eq i j ≡ m → (m ≡ true → rest ≡ None) → is_asked more_of c i ≡ list_any (wanted c) (items_or_none rest)
+      → is_asked (asked_at choice j v.items ++ more_of) c i ≡ list_any (wanted c) (items_or_none (cond m (Some v) rest))
+  which_step true i c j v rest more_of at gone more =
+      list_any-append (is_of c i) (asked_at choice j v.items) more_of
+      ∙ or_none (is_asked (asked_at choice j v.items) c i) (is_asked more_of c i) (more ∙ ap (λ o. list_any (wanted c) (items_or_none o)) (gone refl))
+      ∙ asked_here j i c (turned i j true at) v.items
+  which_step false i c j v rest more_of at gone more =
+      list_any-append (is_of c i) (asked_at choice j v.items) more_of
+      ∙ ap (λ b. b || is_asked more_of c i) (asked_elsewhere j i c (turned i j false at) v.items)
+      ∙ more
+
+  pub which_in : (es : List (ℕ × Vec Lease)) → IsDistinct nat_eq (keys_of es) → (c i : ℕ) → is_asked (unasked_in es) c i ≡ list_any (wanted c) (items_or_none (lookup (nat_eq i) es))
+  unfolding IsDistinct
+  which_in [] distinct c i = refl
+  which_in (e ∷ es) distinct c i =
+      which_step (nat_eq i e.0) i c e.0 e.1 (lookup (nat_eq i) es) (unasked_in es) refl (λ same. absent i e.0 es same distinct.0) (which_in es distinct.1 c i)
+
+  -- ---- each is listed once
+
+  not_wanted : (b t rest : Bool) → b ≡ false → rest ≡ false → ((b && t) || rest) ≡ false
+  not_wanted true t rest e f = cc
+  not_wanted false t rest e f = f
+
+  others : (l k : Lease) → apart l k ≡ true → is_own l.holder k ≡ false
+  others l k e = turned l.holder k.holder false (not_true (l.holder == k.holder) (both_true (not (l.holder == k.holder)) _ e).0)
+
+  none_of : (l : Lease) (ls : List Lease) → list_all (apart l) ls ≡ true → list_any (wanted l.holder) ls ≡ false
+  none_of l [] e = refl
+  none_of l (k ∷ ks) e = let parts = both_true (apart l k) (list_all (apart l) ks) e in
+      not_wanted (is_own l.holder k) (is_to_ask choice k) (list_any (wanted l.holder) ks) (others l k parts.0) (none_of l ks parts.1)
+
+  once_step : (t : Bool) (a : Asked) (more_of : List Asked) → is_asked more_of a.client a.inode ≡ false → are_once more_of ≡ true → are_once (cond t (a ∷ more_of) more_of) ≡ true
+  once_step true a more_of new once = and_true (not (is_asked more_of a.client a.inode)) (are_once more_of) (true_not (is_asked more_of a.client a.inode) new) once
+  once_step false a more_of new once = once
+
+  once_at : (j : ℕ) (ls : List Lease) → compatible ls ≡ true → are_once (asked_at choice j ls) ≡ true
+  once_at j [] fits = refl
+  once_at j (l ∷ ls) fits = let parts = both_true (list_all (apart l) ls) (compatible ls) fits in
+      once_step (is_to_ask choice l) (answer_at j l) (asked_at choice j ls) (asked_here j j l.holder (eq-eqb j j refl) ls ∙ none_of l ls parts.0) (once_at j ls parts.1)
+
+  both_step : (t : Bool) (a : Asked) (more_of bs : List Asked) → is_asked bs a.client a.inode ≡ false → (are_once more_of ≡ true → are_once (more_of ++ bs) ≡ true) → are_once (cond t (a ∷ more_of) more_of) ≡ true → are_once (cond t (a ∷ more_of) more_of ++ bs) ≡ true
+  both_step true a more_of bs new more once =
+      let parts = both_true (not (is_asked more_of a.client a.inode)) (are_once more_of) once in
+      and_true (not (is_asked (more_of ++ bs) a.client a.inode)) (are_once (more_of ++ bs))
+      (true_not (is_asked (more_of ++ bs) a.client a.inode) (list_any-append (is_of a.client a.inode) more_of bs ∙ or_none (is_asked more_of a.client a.inode) (is_asked bs a.client a.inode) new ∙ not_true (is_asked more_of a.client a.inode) parts.0))
+      (more parts.1)
+  both_step false a more_of bs new more once = more once
+
+  -- where the others are of other inodes
+  once_both : (j : ℕ) (bs : List Asked) → ((c : ℕ) → is_asked bs c j ≡ false) → are_once bs ≡ true → (ls : List Lease) → are_once (asked_at choice j ls) ≡ true → are_once (asked_at choice j ls ++ bs) ≡ true
+  once_both j bs new rest [] once = rest
+  once_both j bs new rest (l ∷ ls) once = both_step (is_to_ask choice l) (answer_at j l) (asked_at choice j ls) bs (new l.holder) (once_both j bs new rest ls) once
+
+  abbrev pub FitEach : List (ℕ × Vec Lease) → Type 0
+  FitEach es = (i : ℕ) → compatible (items_or_none (lookup (nat_eq i) es)) ≡ true
+
+  fits_rest : (m : Bool) (v : Vec Lease) (rest : Option (Vec Lease)) → (m ≡ true → rest ≡ None) → compatible (items_or_none (cond m (Some v) rest)) ≡ true → compatible (items_or_none rest) ≡ true
+  fits_rest true v rest gone fits = ap (λ o. compatible (items_or_none o)) (gone refl)
+  fits_rest false v rest gone fits = fits
+
+  pub once_in : (es : List (ℕ × Vec Lease)) → IsDistinct nat_eq (keys_of es) → FitEach es → are_once (unasked_in es) ≡ true
+  unfolding IsDistinct
+  once_in [] distinct fits = refl
+  once_in (e ∷ es) distinct fits =
+      once_both e.0 (unasked_in es) (λ c. which_in es distinct.1 c e.0 ∙ ap (λ o. list_any (wanted c) (items_or_none o)) (absent e.0 e.0 es (eq-eqb e.0 e.0 refl) distinct.0))
+      (once_in es distinct.1 (λ i. fits_rest (nat_eq i e.0) e.1 (lookup (nat_eq i) es) (λ same. absent i e.0 es same distinct.0) (fits i)))
+      e.1.items (once_at e.0 e.1.items (ap (λ b. compatible (items_or_none (cond b (Some e.1) (lookup (nat_eq e.0) es)))) (sym (eq-eqb e.0 e.0 refl)) ∙ fits e.0))
+
+  nothing_more : (asked : List Asked) → asked ++ [] ≡ asked
+  nothing_more [] = refl
+  nothing_more (a ∷ asked) = ap (λ z. a ∷ z) (nothing_more asked)
+
+  -- ---- the end of a loop over all
+
+  pub all_listed : (asked : List Asked) (es left : List (ℕ × Vec Lease)) → left ≡ [] → asked ++ unasked_in left ≡ unasked_in es → asked ≡ unasked_in es
+  all_listed asked es left done so_far = sym (nothing_more asked) ∙ ap (λ xs. asked ++ unasked_in xs) (sym done) ∙ so_far
