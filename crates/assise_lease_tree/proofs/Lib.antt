@@ -4,5 +4,6 @@ mod Asking
 mod Releasing
 mod Doing
 mod Lawful
+mod Listing
 pub mod Lookups
 pub mod Steps

@@ -5,7 +5,7 @@ use native.Mathlib.Decide.{ℕ_discrete}
 use Rattle.std.specs.List.{list_any}
 use Rattle.assise_lease_table.specs.declared.lease.Lease.{Lease}
 use Rattle.assise_lease_table.specs.Modes.{strong}
-use Rattle.assise_lease_table.specs.Leases.{Among, lease_of, compatible, frozen_if, without, freeze, is_own}
+use Rattle.assise_lease_table.specs.Leases.{Among, lease_of, compatible, frozen_if, without, freeze}
 use Rattle.assise_lease_table.proofs.Elements.{both_true, not_true, true_not, not_both, any_among, among_any, filter_among, among_filter, map_among, among_map}
 use Rattle.assise_lease_table.proofs.Compatibles.{other_number, differ}
 use Rattle.assise_lease_tree.specs.Levels.{Homes, is_node, lives, is_busy, carries, Under, AskedBelow, is_frozen, nodes_released}
@@ -71,24 +71,24 @@ module _ (home : Homes) (cs ns : List Lease) (fits_n : compatible ns ≡ true) (
     pub released_asked : AskedBelow home left (nodes_released home left n ns)
     released_asked = (released_at (is_frozen (lease_of ns n) && not (is_busy home left n)) refl).1
 
-  -- all leases of a client are frozen
-  module _ (c : ℕ) where
+  -- the chosen leases of clients are frozen
+  module _ (choice : Lease → Bool) where
     abbrev frozen_now : Lease → Lease
-    frozen_now l = frozen_if (is_own c l) l
+    frozen_now l = frozen_if (choice l) l
 
-    pub frozen_under : Under home (freeze (is_own c) cs) ns
+    pub frozen_under : Under home (freeze choice cs) ns
     frozen_under l a =
         let was = among_map frozen_now cs l a in
         subst (λ (z : Lease). list_any (carries home z) ns ≡ true) (sym was.2) (under was.0 was.1)
 
-    pub frozen_asked : AskedBelow home (freeze (is_own c) cs) ns
+    pub frozen_asked : AskedBelow home (freeze choice cs) ns
     frozen_asked k a frozen =
         let old = asked k a frozen in
         let l = busy_some home cs k.holder old.0 in (
-          busy_from home (freeze (is_own c) cs) k.holder (frozen_now l.0) (map_among frozen_now cs l.0 l.1) l.2,
+          busy_from home (freeze choice cs) k.holder (frozen_now l.0) (map_among frozen_now cs l.0 l.1) l.2,
           λ x in_x there.
               let was = among_map frozen_now cs x in_x in
-              ap (λ (z : Lease). z.frozen) was.2 ∙ cond_right (was.0.holder == c) was.0.frozen (old.1 was.0 was.1 (sym (ap (λ (z : Lease). lives home z.holder k.holder) was.2) ∙ there)),
+              ap (λ (z : Lease). z.frozen) was.2 ∙ cond_right (choice was.0) was.0.frozen (old.1 was.0 was.1 (sym (ap (λ (z : Lease). lives home z.holder k.holder) was.2) ∙ there)),
         )
 
   -- all leases of a node go, below which nobody holds

@@ -3,6 +3,7 @@ use Rattle.std.proofs.Common.{◌≡◌, ℕ, ◌&&◌, Bool, true, false, cond,
 use Rattle.std.specs.List.{list_any}
 use Rattle.assise_names.specs.declared.mode.Mode.{Mode}
 use Rattle.assise_lease_table.specs.declared.lease.Lease.{Lease}
+use Rattle.assise_lease_table.specs.LeaseMaps.{SameLeases}
 use Rattle.assise_lease_table.specs.Leases.{compatible, lease_of, without, freeze, is_own}
 use Rattle.assise_lease_table.proofs.Elements.{both_true, not_true}
 use Rattle.assise_lease_table.proofs.Becoming.{leave_out_fits, freeze_fits}
@@ -62,15 +63,18 @@ module _ (old : TwoLevels) (lawful : IsLawful old) where
         asked = released_asked old.home cs ns l.fits_n l.under l.asked c n at_home;
       }) lawful
 
-  pub frozen_lawful : (new : TwoLevels) (c : ℕ) → IsFrozen old new c → IsLawful new
-  frozen_lawful new c f = each_lawful new (λ i. freeze (is_own c) (old.clients i)) old.nodes f.home f.clients f.nodes (λ i.
+  pub all_frozen_lawful : (new : TwoLevels) (choice : Lease → Bool) → ((c : ℕ) → new.home c ≡ old.home c) → ((i : ℕ) → new.clients i ≡ freeze choice (old.clients i)) → SameLeases old.nodes new.nodes → IsLawful new
+  all_frozen_lawful new choice homes clients nodes = each_lawful new (λ i. freeze choice (old.clients i)) old.nodes homes clients nodes (λ i.
       let l = lawful_at lawful i in
       record {
-        fits_c = freeze_fits (is_own c) (old.clients i) l.fits_c;
+        fits_c = freeze_fits choice (old.clients i) l.fits_c;
         fits_n = l.fits_n;
-        under = frozen_under old.home (old.clients i) (old.nodes i) l.fits_n l.under l.asked c;
-        asked = frozen_asked old.home (old.clients i) (old.nodes i) l.fits_n l.under l.asked c;
+        under = frozen_under old.home (old.clients i) (old.nodes i) l.fits_n l.under l.asked choice;
+        asked = frozen_asked old.home (old.clients i) (old.nodes i) l.fits_n l.under l.asked choice;
       })
+
+  pub frozen_lawful : (new : TwoLevels) (c : ℕ) → IsFrozen old new c → IsLawful new
+  frozen_lawful new c f = all_frozen_lawful new (is_own c) f.home f.clients f.nodes
 
   pub freed_lawful : (new : TwoLevels) (n : ℕ) → IsIdle old n → IsFreed old new n → IsLawful new
   freed_lawful new n idle f = each_lawful new old.clients (λ i. without n (old.nodes i)) f.home f.clients f.nodes (λ i.

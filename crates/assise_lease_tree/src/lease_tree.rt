@@ -8,7 +8,7 @@ use crate::acquired::Acquired;
 use crate::levels::{GivenUp, InTheWay, OfNode, is_busy, is_frozen, raised};
 use crate::request::Request;
 use assise_lease_table::client_table::ClientTableOf;
-use assise_lease_table::lease::{Asked, Lease, is_any_chosen};
+use assise_lease_table::lease::{Asked, Lease, Own, is_any_chosen};
 use assise_lease_table::node_table::NodeTable;
 use assise_lease_table::revoker::{Revoker, Revokes};
 use assise_lease_table::views::Views;
@@ -35,13 +35,15 @@ pub struct LeaseTreeOf<C> {
 pub type LeaseTree = LeaseTreeOf<Revoker>;
 
 impl<C: Revokes + Drop> LeaseTreeOf<C> {
-    ghost use Rattle.std.specs.Prelude.{◌≡◌, ℕ, ⊤, true, false, Some, None, is_some, OnOk, OnErr, IfOk, IfErr, IsOk, IsOkUnless};
+    ghost use Rattle.std.specs.Prelude.{◌≡◌, ◌==◌, ◌&&◌, ℕ, ⊤, true, false, Some, None, is_some, OnOk, OnErr, IfOk, IfErr, IsOk, IsOkUnless};
     ghost use Rattle.assise_names.specs.declared.refusal.Refusal.TheVariants.{OutOfMemory};
     ghost use Rattle.std.specs.List.{list_any};
     ghost use Rattle.assise_lease_table.specs.Answers.{AnswerAll};
-    ghost use Rattle.assise_lease_table.specs.Leases.{Among, lease_of, serves, is_to_ask};
+    ghost use Rattle.assise_lease_table.specs.Cuts.{is_asked, is_unasked, are_once};
+    ghost use Rattle.assise_lease_table.specs.LeaseMaps.{SameLeases};
+    ghost use Rattle.assise_lease_table.specs.Leases.{Among, lease_of, serves, is_to_ask, freeze};
     ghost use Rattle.assise_lease_table.specs.Tables.{Enrols, SameRevokers};
-    ghost use Rattle.assise_lease_tree.specs.Levels.{in_way, is_busy};
+    ghost use Rattle.assise_lease_tree.specs.Levels.{in_way, is_busy, lives};
     ghost use Rattle.assise_lease_tree.specs.Trees.{levels_of, stored_by};
     ghost use Rattle.assise_lease_tree.specs.Turns.{is_granted, MatchAcquired};
     ghost use Rattle.assise_lease_tree.specs.TwoLevels.{nobody, IsLawful, SameLevels, EnrolsAt, is_free_for, IsGranted, IsAskedFor, IsReleased, IsFrozen, IsIdle, IsFreed};
@@ -253,6 +255,43 @@ impl<C: Revokes + Drop> LeaseTreeOf<C> {
         ensures revokers { SameRevokers (stored_by self.old) (stored_by self.new) }
     {
         self.clients.freeze(client);
+    }
+
+    /// Freezes all leases of a node's clients. No revoker is called, and it takes no memory.
+    pub fn freeze_below(&mut self, node: u32)
+        ensures home { (c : ℕ) → (levels_of self.new).home c ≡ (levels_of self.old).home c }
+        ensures clients { (i : ℕ) → (levels_of self.new).clients i ≡ freeze (λ a. lives (levels_of self.old).home a.holder node) ((levels_of self.old).clients i) }
+        ensures nodes { SameLeases (levels_of self.old).nodes (levels_of self.new).nodes }
+        ensures revokers { SameRevokers (stored_by self.old) (stored_by self.new) }
+    {
+        let of_node = OfNode {
+            homes: &self.homes,
+            node,
+        };
+        self.clients.freeze_everywhere(&of_node);
+    }
+
+    /// Each lease of a client that is not frozen, once, with 0 as its cut: no revoker is called. It walks over all leases of
+    /// clients. The one refusal is [`Refusal::OutOfMemory`].
+    pub fn unasked_of(&self, client: u32) -> Result<Vec<Asked>, Refusal>
+        ensures once { IfOk result (λ asked. are_once asked.items ≡ true) }
+        ensures all { IfOk result (λ asked. (c i : ℕ) → is_asked asked.items c i ≡ ((c == client) && is_unasked (lease_of ((levels_of self.now).clients i) c))) }
+        ensures only_memory { IsOkUnless result OutOfMemory }
+    {
+        self.clients.unasked(&Own { holder: client })
+    }
+
+    /// Each lease of a node's clients that is not frozen, as [`LeaseTreeOf::unasked_of`] lists those of one client.
+    pub fn unasked_below(&self, node: u32) -> Result<Vec<Asked>, Refusal>
+        ensures once { IfOk result (λ asked. are_once asked.items ≡ true) }
+        ensures all { IfOk result (λ asked. (c i : ℕ) → is_asked asked.items c i ≡ (lives (levels_of self.now).home c node && is_unasked (lease_of ((levels_of self.now).clients i) c))) }
+        ensures only_memory { IsOkUnless result OutOfMemory }
+    {
+        let of_node = OfNode {
+            homes: &self.homes,
+            node,
+        };
+        self.clients.unasked(&of_node)
     }
 
     /// Whether no client of a node holds an inode, frozen or not. It walks over all leases of clients.
