@@ -5,6 +5,7 @@ use assise_lease_table::revoker::Revoker;
 use assise_lease_tree::acquired::Acquired;
 use assise_lease_tree::lease_tree::{LeaseTree, LeaseTreeOf};
 use assise_names::mode::Mode;
+use assise_names::refusal::Refusal;
 use assise_private_log::log_view::LogView;
 use assise_revokers::kinds::{eights, least, whole};
 use assise_rows::{Steps, split_word, wrong_rows};
@@ -61,6 +62,12 @@ fn put_step(
             Some(())
         }
         "free" => free(tree, number, text),
+        "below" => {
+            tree.freeze_below(number);
+            Some(())
+        }
+        "list" => put_listed(tree.unasked_of(number), text),
+        "list-below" => put_listed(tree.unasked_below(number), text),
         "home" => write!(text, " {:?}", tree.node_of(number)).ok(),
         _ => put_lease_step(tree, logs, word, number, rest.parse::<u64>().ok()?, text),
     }
@@ -135,6 +142,15 @@ fn put_asked(text: &mut String, asked: &[Asked]) -> Result<(), AllocError> {
         write!(text, " {client}:{inode}:{cut}")?;
     }
     Ok(())
+}
+
+/// Appends the leases that are listed.
+fn put_listed(listed: Result<Vec<Asked>, Refusal>, text: &mut String) -> Option<()> {
+    write!(text, " left").ok()?;
+    for Asked { client, inode, cut } in listed.ok()? {
+        write!(text, " {client}:{inode}:{cut}").ok()?;
+    }
+    Some(())
 }
 
 /// Appends what a client's lease serves for.
