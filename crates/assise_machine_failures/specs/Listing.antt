@@ -1,6 +1,6 @@
 -- What a failure lists before anything changes.
 -- Assise (OSDI 2020), section 3 (prefix crash consistency, fail-over; recovery: the inodes that were written).
-use Rattle.std.specs.Prelude.{ℕ, zero, suc, ◌==◌, Bool, false, if◌then◌else◌, List, [], ◌∷◌, ◌++◌, Option, Some, None}
+use Rattle.std.specs.Prelude.{ℕ, zero, suc, ◌-◌, ◌==◌, Bool, false, if◌then◌else◌, List, [], ◌∷◌, ◌++◌, slice_index_or, Option, Some, None}
 use Rattle.assise_inode_table.specs.Effects.{touched}
 use Rattle.assise_digest.specs.Ahead.{all_effects}
 use Rattle.assise_manager.specs.Changes.{donor_of}
@@ -12,6 +12,10 @@ use Rattle.assise_machine_laws.specs.World.{World, records_between}
 abbrev pub kept_to : World → (n m : ℕ) → List ℕ
 kept_to w n zero = []
 kept_to w n (suc m) = kept_to w n m ++ kept_at_failure w n (suc m) ∷ []
+
+-- the place of a client in such a list
+abbrev pub kept_in : List ℕ → ℕ → ℕ
+kept_in kept c = slice_index_or kept (c - 1) 0
 
 -- the inodes that their records touch which are kept
 abbrev pub kept_inodes : World → (n m : ℕ) → List ℕ

@@ -1,20 +1,35 @@
 // A node fails.
+ghost use Rattle.std.specs.Prelude.{◌≡◌, IfOk, IsOkUnless, None, OnErr, OnOk, Some, true};
+ghost use Rattle.std.specs.FinSet as set;
+ghost use Rattle.assise_names.specs.declared.refusal.Refusal.TheVariants.{OutOfMemory};
 ghost use Rattle.assise_lease_table.specs.Tables.{SameRevokers};
-ghost use Rattle.assise_lease_tree.specs.Trees.{stored_by};
+ghost use Rattle.assise_lease_tree.specs.Trees.{levels_of, stored_by};
+ghost use Rattle.assise_manager.specs.Changes.{failure_fault, is_returning};
+ghost use Rattle.assise_manager.specs.Standings.{full, standing_of};
+ghost use Rattle.assise_manager.specs.Whole.{membership};
+ghost use Rattle.assise_machine_events.specs.Machine.{Holds};
 ghost use Rattle.assise_machine_events.specs.MemberEvents.{Failing};
-ghost use Rattle.assise_machine_state.specs.Whole.{machine_of};
+ghost use Rattle.assise_machine_state.specs.Changes.{after_failure};
+ghost use Rattle.assise_machine_state.specs.Shape.{IsShaped};
+ghost use Rattle.assise_machine_state.specs.StateValues.{standings};
+ghost use Rattle.assise_machine_state.specs.Whole.{machine_of, value_of};
 ghost use Rattle.assise_machine_failures.specs.Answers.{failing_answer};
+ghost use Rattle.assise_machine_failures.specs.Copies.{AllLose, AreReturning};
+ghost use Rattle.assise_machine_failures.specs.Failures.{FreezesBelow, IsListed};
 
 use crate::copies::drop_copies;
+use crate::cutting::cut_to;
 use crate::failure::Failure;
 use crate::listing::note_all;
 use assise_history::entry::Entry;
 use assise_lease_table::revoker::Revokes;
 use assise_machine_state::dropping::drop_digested;
 use assise_machine_state::sound::SoundOf;
+use assise_machine_state::state::StateOf;
 use assise_manager::phase::Phase;
 use assise_names::refusal::Refusal;
 use std::alloc::Global;
+use std::vec::IntoIter;
 
 /// A node fails. Of a full one the logs are gone, and its inodes stay. Each of its clients that lives keeps the records that all
 /// other full nodes have, and these cut the rest; its leases are frozen until all that was kept is digested. It answers each client that
@@ -36,4 +51,96 @@ pub fn fail<C: Revokes + Drop>(
         Phase::Down => Err(Refusal::WrongPhase),
         Phase::Returning => fail_again(alloc, sound, node),
     }
+}
+
+/// A full node fails: see [`fail`]. What it comes to is listed first, and from the failure in the manager on nothing asks for memory.
+fn fail_full<C: Revokes + Drop>(
+    alloc: Global,
+    sound: &mut SoundOf<C>,
+    node: u32,
+) -> Result<Vec<(u32, u64)>, Refusal>
+    requires full { standing_of (standings (value_of sound.old.state)) node ≡ Some full }
+    ensures happens { Failing (machine_of sound.old.state) node (failing_answer result) (machine_of sound.new.state) }
+    ensures revokers { SameRevokers (stored_by sound.old.state.leases) (stored_by sound.new.state.leases) }
+{
+    let state = &mut sound.state;
+    if state.members.full_nodes().len() == 1 {
+        return Err(Refusal::LastNode);
+    }
+    let failure = Failure::list(alloc, state, node)?;
+    let (losses, filled) = take_down(state, node, failure)?;
+    drop_filled(state, filled.into_iter());
+    let last = state.clients.len() as u32;
+    drop_digested(state, last);
+    Ok(losses)
+}
+
+/// A full node is down, and all that its failure comes to is done but for copies and fronts that go. It answers what was lost, and the
+/// nodes that start over from another. The one refusal is [`Refusal::OutOfMemory`], and it leaves all as it was.
+fn take_down<C: Revokes + Drop>(
+    state: &mut StateOf<C>,
+    node: u32,
+    failure: Failure,
+) -> Result<(Vec<(u32, u64)>, Vec<u32>), Refusal>
+    requires full { standing_of (standings (value_of state.old)) node ≡ Some full }
+    requires fine { failure_fault (membership state.old.members) node ≡ None }
+    requires listed { IsListed (value_of state.old) node failure }
+    requires holds { ∥ Holds (machine_of state.old) ∥₁ }
+    requires shape { IsShaped (value_of state.old) }
+    ensures down { OnOk result (value_of state.new ≡ after_failure (value_of state.old) node (set.from_list failure.inodes.items) (levels_of state.new.leases) failure.asked.items) }
+    ensures frozen { OnOk result (FreezesBelow (levels_of state.old.leases) (levels_of state.new.leases) node) }
+    ensures answer { IfOk result (λ answer. answer ≡ (failure.losses, failure.filled)) }
+    ensures err { OnErr result (value_of state.new ≡ value_of state.old) }
+    ensures only_memory { IsOkUnless result OutOfMemory }
+    ensures revokers { SameRevokers (stored_by state.old.leases) (stored_by state.new.leases) }
+{
+    let Failure {
+        kept,
+        losses,
+        entry,
+        inodes,
+        asked,
+        filled,
+    } = failure;
+    state.history.reserve()?;
+    state.cuts.reserve(asked.len())?;
+    state.members.fail(node, &inodes)?;
+    state.nodes.remove_logs(node);
+    let last = state.clients.len() as u32;
+    cut_to(&mut state.nodes, &mut state.clients, node, &kept, last);
+    state.leases.freeze_below(node);
+    note_all(&mut state.cuts, asked.into_iter());
+    state.history.push(Entry::fail(node, entry));
+    Ok((losses, filled))
+}
+
+/// Nodes that come back and start over from another lose their copies of the inodes that they may lack. It takes no memory.
+fn drop_filled<C: Revokes + Drop>(state: &mut StateOf<C>, mut filled: IntoIter<u32>)
+    requires returning { AreReturning (value_of state.old) filled.rest.items }
+    requires shape { IsShaped (value_of state.old) }
+    ensures copies { AllLose (value_of state.old) filled.rest.items (value_of state.new) }
+    ensures leases { state.new.leases ≡ state.old.leases }
+{
+    let Some(node) = filled.next() else {
+        return;
+    };
+    drop_copies(state, node);
+    drop_filled(state, filled);
+}
+
+/// A node that was coming back is down again: see [`fail`].
+fn fail_again<C: Revokes + Drop>(
+    alloc: Global,
+    sound: &mut SoundOf<C>,
+    node: u32,
+) -> Result<Vec<(u32, u64)>, Refusal>
+    requires returning { is_returning (standing_of (standings (value_of sound.old.state)) node) ≡ true }
+    ensures happens { Failing (machine_of sound.old.state) node (failing_answer result) (machine_of sound.new.state) }
+    ensures revokers { SameRevokers (stored_by sound.old.state.leases) (stored_by sound.new.state.leases) }
+{
+    let state = &mut sound.state;
+    state.history.reserve()?;
+    state.members.fail(node, &[])?;
+    state.history.push(Entry::fail(node, Vec::new(alloc)));
+    Ok(Vec::new(alloc))
 }

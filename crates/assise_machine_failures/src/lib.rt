@@ -4,6 +4,7 @@
 pub mod back;
 mod copies;
 pub mod crash;
+mod cutting;
 pub mod fail;
 mod failure;
 pub mod join;

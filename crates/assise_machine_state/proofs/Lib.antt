@@ -22,7 +22,7 @@ pub mod Receiving
 pub mod DigestSeen
 pub mod Fronts
 pub mod Dropped
-pub mod Touching
+pub mod TouchedFrom
 pub mod Resting
 pub mod Returning
 pub mod Kept

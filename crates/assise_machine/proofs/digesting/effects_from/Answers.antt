@@ -2,7 +2,7 @@ use Rattle.std.proofs.Common.{◌≡◌, ◌+◌, ◌≤◌, length, take, ap, �
 use Rattle.std.proofs.lemmas.List.{length-append}
 use Rattle.assise_record.specs.LogRecord.{LogRecord}
 use Rattle.assise_digest.specs.Ahead.{all_effects}
-use Rattle.assise_machine_state.proofs.Touching.{taken_first}
+use Rattle.assise_machine_state.proofs.TouchedFrom.{taken_first}
 use Rattle.assise_machine.proofs.digesting.effects_from.Goals as goal
 
 pub loop-record-preserved : goal.loop-record-preserved

@@ -1,0 +1,151 @@
+-- A full node that failed, as the laws have it.
+use Rattle.std.proofs.Common.{◌≡◌, ◌≢◌, ◌⊎◌, ℕ, true, List, if◌then◌else◌, [], ◌∷◌, ◌++◌, Some, None, length, refl, ap, sym, subst, ◌∙◌, arith}
+use Rattle.std.proofs.Math.Logic.{∥∥₁_map}
+use Rattle.std.specs.Ordering.{nat_cmp}
+use Rattle.std.specs.FinSet as set
+use Rattle.assise_history.specs.Entries.{fails}
+use Rattle.assise_inode_table.specs.Effects.{contains, touched}
+use Rattle.assise_digest.specs.Ahead.{all_effects}
+use Rattle.assise_lease_table.specs.declared.lease.Asked.{Asked}
+use Rattle.assise_lease_table.specs.LeaseMaps.{SameLeases as SameLeasesOf}
+use Rattle.assise_lease_table.specs.Leases.{Among, freeze, lease_of}
+use Rattle.assise_lease_tree.specs.Levels.{is_frozen, lives}
+use Rattle.assise_lease_tree.specs.TwoLevels.{TwoLevels}
+use Rattle.assise_manager.specs.Changes.{donor_of, failed, failure_fault, stale_of}
+use Rattle.assise_manager.specs.Standings.{full, standing_of}
+use Rattle.assise_machine_laws.specs.NodeSteps.{Drops, Fails}
+use Rattle.assise_machine_laws.specs.Sound.{IsSound}
+use Rattle.assise_machine_laws.specs.World.{World, digested_by_all}
+use Rattle.assise_machine_laws.proofs.ClientsStaying.{rest_sound}
+use Rattle.assise_machine_laws.proofs.Failing.{fail_sound}
+use Rattle.assise_machine_leases.specs.Handing.{FailsWith as LeasesFail}
+use Rattle.assise_machine_leases.specs.Leases.{AreLeases, Leases}
+use Rattle.assise_machine_returns.specs.Returns.{FailsWith}
+use Rattle.assise_machine_history.specs.Lost.{losses_of}
+use Rattle.assise_machine_events.specs.Events.{fail as fail_event, failed as failed_answer}
+use Rattle.assise_machine_events.specs.Machine.{Holds}
+use Rattle.assise_machine_events.specs.MemberEvents.{Failing, IsFailed, is_failed}
+use Rattle.assise_machine_events.proofs.EachEvent.{event_keeps}
+use Rattle.assise_machine_state.specs.Changes.{after_failure, drops_to}
+use Rattle.assise_machine_state.specs.Observed.{observed, world_of}
+use Rattle.assise_machine_state.specs.Shape.{AreLeft, AreNoted, IsShaped}
+use Rattle.assise_machine_state.specs.StateValues.{StateValue, leases_of, standings}
+use Rattle.assise_machine_state.proofs.Dropped.{StillDropping, all_dropped, same_dropping}
+use Rattle.assise_machine_state.proofs.FailureSeen.{failure_areas, failure_seen, failure_shaped}
+use Rattle.assise_machine_state.proofs.Noted.{failure_noted, still_noted}
+use Rattle.assise_machine_failures.proofs.Losing.{AllLoseAt, StillLosing, all_still, one_loses, others_stay}
+
+-- who holds what is the same where all is that it is made of
+same_leases : (t v : StateValue) → v.levels ≡ t.levels → v.cuts ≡ t.cuts → v.clients ≡ t.clients → leases_of v ≡ leases_of t
+unfolding leases_of
+same_leases t v levels cuts clients = (λ i. leases_of (record t { levels = levels i; cuts = cuts i; clients = clients i }))
+
+-- ---- what is frozen
+
+pub record FreezesBelow (s : StateValue) (n : ℕ) (levels : TwoLevels) (asked : List Asked) : Type 0 where
+  pub home : (c : ℕ) → levels.home c ≡ s.levels.home c
+  pub clients : (i : ℕ) → levels.clients i ≡ freeze (λ a. lives s.levels.home a.holder n) (s.levels.clients i)
+  pub nodes : SameLeasesOf s.levels.nodes levels.nodes
+  pub left : AreLeft s (λ c. lives s.levels.home c n) asked
+
+-- the inodes are those that records touch which still stand in a log
+pub record AreTouched (w : World) (inodes : set.FinSet nat_cmp) : Type 0 where
+  pub only : (i : ℕ) → set.contains inodes i ≡ true → (c : ℕ) × (contains (touched (all_effects (w.records c))) i ≡ true)
+  pub all : (c i : ℕ) → contains (touched (all_effects (w.records c))) i ≡ true → set.contains inodes i ≡ true
+
+-- the nodes are those that are filled from the node
+pub record AreFilled (s : StateValue) (n : ℕ) (ks : List ℕ) : Type 0 where
+  pub only : (k : ℕ) → Among ks k → donor_of (standing_of (standings s) k) ≡ Some n
+  pub all : (k : ℕ) → donor_of (standing_of (standings s) k) ≡ Some n → Among ks k
+
+module _ (s : StateValue) (n : ℕ) (inodes : set.FinSet nat_cmp) (levels : TwoLevels) (asked : List Asked) (holds : Holds (observed s)) (shape : IsShaped s) (noted : AreNoted s)
+    (stands : standing_of (standings s) n ≡ Some full) (fine : failure_fault s.members n ≡ None) (freezes : FreezesBelow s n levels asked) where
+  abbrev w : World
+  w = world_of s
+
+  abbrev t : StateValue
+  t = after_failure s n inodes levels asked
+
+  sound : IsSound w
+  unfolding observed
+  sound = holds.sound
+
+  leases_hold : AreLeases w (leases_of s)
+  unfolding observed
+  leases_hold = holds.leases
+
+  pub seen : LeasesFail w (leases_of s) n (world_of t) (leases_of t)
+  seen = failure_seen s n inodes levels asked shape stands sound fine freezes.clients freezes.home freezes.nodes freezes.left leases_hold
+
+  pub cut_shaped : IsShaped t
+  cut_shaped = failure_shaped s n inodes levels asked shape stands
+
+  cut_sound : IsSound (world_of t)
+  cut_sound = fail_sound w (world_of t) n sound seen.fails
+
+  cut_noted : AreNoted t
+  cut_noted = failure_noted s n inodes levels asked noted leases_hold freezes.clients freezes.left
+
+  module _ (ks : List ℕ) (u : StateValue) (filled : AreFilled s n ks) (lose : AllLoseAt t ks u) where
+    pub losing : StillLosing t u
+    losing = all_still t ks u cut_shaped lose
+
+    pub lost_sound : IsSound (world_of u)
+    lost_sound = rest_sound (world_of t) (world_of u) cut_sound losing.rests
+
+    pub dropping : StillDropping u (drops_to u (length u.clients))
+    dropping = same_dropping u losing.shape ∥ lost_sound ∥₁ (length u.clients) (omega arith)
+
+    abbrev v : StateValue
+    v = drops_to u (length u.clients)
+
+    drops : Drops (world_of u) (digested_by_all (world_of u)) (world_of v)
+    drops = all_dropped u losing.shape ∥ lost_sound ∥₁
+
+    leases_end : leases_of v ≡ leases_of t
+    leases_end = same_leases t v (dropping.levels ∙ losing.levels) (dropping.cuts ∙ losing.cuts) (dropping.clients ∙ losing.clients)
+
+    members_end : v.members ≡ failed s.members n inodes
+    members_end = dropping.members ∙ losing.members
+
+    fails_with : AreTouched (world_of t) inodes → FailsWith w s.members n inodes (world_of t) (world_of u) v.members
+    fails_with touches = record {
+      fails = seen.fails;
+      rests = losing.rests;
+      members = members_end;
+      touched_only = touches.only;
+      touched_all = touches.all;
+      over = λ k stale from lacks i.
+          one_loses t ks u k i stale lose (filled.all k from) (ap (λ m. stale_of (standing_of m.nodes k)) (sym members_end) ∙ lacks)
+          ∙ ap (λ x. if set.contains stale i then None else x) (failure_areas s n k i inodes levels asked);
+      area_else = λ k i other. others_stay t ks u k i lose (λ there. other (filled.only k there)) ∙ failure_areas s n k i inodes levels asked;
+    }
+
+    pub is_so : AreTouched (world_of t) inodes → IsFailed (observed s) n (observed v)
+    unfolding observed
+    is_so touches = record {
+      was_full = stands;
+      cut = world_of t;
+      refreshed = world_of u;
+      inodes = inodes;
+      failure = fails_with touches;
+      leases = subst (LeasesFail w (leases_of s) n (world_of t)) (sym leases_end) seen;
+      drops = drops;
+      others = λ k i away. dropping.area k i;
+      adds = record { history = dropping.history ∙ losing.history; limit = dropping.limit ∙ losing.limit };
+    }
+
+    pub happens_so : AreTouched (world_of t) inodes → Failing (observed s) n (failed_answer (losses_of w n)) (observed v)
+    unfolding observed
+    happens_so touches = is_failed fine refl (is_so touches)
+
+    pub holds_so : AreTouched (world_of t) inodes → Holds (observed v)
+    holds_so touches = event_keeps (observed s) (observed v) (fail_event n) (failed_answer (losses_of w n)) holds (happens_so touches)
+
+    pub noted_so : AreNoted v
+    noted_so =
+        still_noted t v (dropping.cuts ∙ losing.cuts) (let same = ap length (dropping.clients ∙ losing.clients) in omega (arith, same))
+        (λ c i. ap (λ l. is_frozen (lease_of (l.clients i) c)) (dropping.levels ∙ losing.levels)) cut_noted
+
+    pub shape_so : IsShaped v
+    shape_so = dropping.shape
