@@ -1,2 +1,3 @@
+pub mod Dropping
 pub mod Losing
 pub mod Failed
