@@ -1,3 +1,5 @@
 pub mod Dropping
+pub mod Refusing
+pub mod ComingBack
 pub mod Losing
 pub mod Failed
