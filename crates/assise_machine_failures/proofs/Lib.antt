@@ -1,2 +1,6 @@
+pub mod Dropping
+pub mod Refusing
+pub mod ComingBack
+pub mod Filling
 pub mod Losing
 pub mod Failed

@@ -1,15 +1,19 @@
 // Copies of inodes that a node loses.
-ghost use Rattle.std.specs.Prelude.{◌≡◌, Some, true};
+ghost use Rattle.std.specs.Prelude.{◌≡◌, [], Some, true};
 ghost use Rattle.std.specs.FinSet as set;
 ghost use Rattle.assise_manager.specs.Changes.{is_returning, stale_of};
 ghost use Rattle.assise_manager.specs.Standings.{standing_of};
+ghost use Rattle.assise_machine_state.specs.NodeValues.{region_in};
+ghost use Rattle.assise_machine_state.specs.Places.{IsNumber};
 ghost use Rattle.assise_machine_state.specs.Shape.{IsShaped};
 ghost use Rattle.assise_machine_state.specs.StateValues.{standings};
 ghost use Rattle.assise_machine_state.specs.Whole.{value_of};
-ghost use Rattle.assise_machine_failures.specs.Copies.{LosesStale};
+ghost use Rattle.assise_machine_failures.specs.Copies.{LosesStale, nodes_without};
 
 use assise_lease_table::revoker::Revokes;
+use assise_machine_state::nodes::Nodes;
 use assise_machine_state::state::StateOf;
+use std::collections::VecDeque;
 
 /// A node that comes back loses its copies of the inodes that it may lack. It takes no memory.
 pub(crate) fn drop_copies<C: Revokes + Drop>(state: &mut StateOf<C>, node: u32)
@@ -21,7 +25,16 @@ pub(crate) fn drop_copies<C: Revokes + Drop>(state: &mut StateOf<C>, node: u32)
     let Ok(stale) = state.members.stale(node) else {
         return;
     };
-    for inode in stale {
-        state.nodes.stale(node, *inode);
+    drop_all(&mut state.nodes, node, stale);
+}
+
+/// A node that has no logs loses its copies of inodes.
+fn drop_all(nodes: &mut Nodes, node: u32, inodes: &VecDeque<u64>)
+    requires node { IsNumber nodes.old node }
+    requires no_logs { (region_in nodes.old node).logs ≡ [] }
+    ensures { nodes.new ≡ nodes_without nodes.old node inodes.now.items }
+{
+    for inode in inodes {
+        nodes.stale(node, *inode);
     }
 }

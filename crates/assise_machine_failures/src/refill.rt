@@ -1,11 +1,18 @@
 // A node that comes back is filled.
+ghost use Rattle.std.specs.Prelude.{◌≡◌, IfOk, IsOkUnless};
+ghost use Rattle.std.specs.FinMap as map;
+ghost use Rattle.assise_names.specs.declared.refusal.Refusal.TheVariants.{OutOfMemory};
 ghost use Rattle.assise_lease_table.specs.Tables.{SameRevokers};
 ghost use Rattle.assise_lease_tree.specs.Trees.{stored_by};
 ghost use Rattle.assise_machine_events.specs.MemberEvents.{Refilling};
+ghost use Rattle.assise_machine_state.specs.NodeValues.{region_in};
+ghost use Rattle.assise_machine_state.specs.Places.{IsNumber};
 ghost use Rattle.assise_machine_state.specs.Whole.{machine_of};
 ghost use Rattle.assise_machine_failures.specs.Answers.{refilling_answer};
 
+use assise_inode_table::inode::Inode;
 use assise_lease_table::revoker::Revokes;
+use assise_machine_state::nodes::Nodes;
 use assise_machine_state::sound::SoundOf;
 use assise_names::refusal::Refusal;
 use std::alloc::Global;
@@ -26,10 +33,19 @@ pub fn refill<C: Revokes + Drop>(
     let Some(inode) = state.members.lowest_stale(node)? else {
         return Ok(0);
     };
-    let value = match state.nodes.region(donor).peek(inode) {
-        Some(value) => Some(value.copy(alloc)?),
-        None => None,
-    };
+    let value = copy_of(alloc, &state.nodes, donor, inode)?;
     state.nodes.refill_one(node, inode, value)?;
     state.members.note_copied(node)
+}
+
+/// A copy of a node's inode, if it has one of that number. The one refusal is [`Refusal::OutOfMemory`].
+fn copy_of(alloc: Global, nodes: &Nodes, node: u32, inode: u64) -> Result<Option<Inode>, Refusal>
+    requires node { IsNumber nodes.now node }
+    ensures copied { IfOk result (λ copied. copied ≡ map.get (region_in nodes.now node).inodes inode) }
+    ensures only_memory { IsOkUnless result OutOfMemory }
+{
+    match nodes.region(node).peek(inode) {
+        Some(value) => Ok(Some(value.copy(alloc)?)),
+        None => Ok(None),
+    }
 }

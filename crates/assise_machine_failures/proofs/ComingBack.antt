@@ -1,0 +1,122 @@
+-- A node that was down begins to come back, as the laws have it.
+use Rattle.std.proofs.Common.{◌≡◌, ◌≢◌, ℕ, true, if◌then◌else◌, List, [], length, Option, Some, None, inl, inr, refl, ap, sym, subst, ◌∙◌, append-nil}
+use Rattle.std.specs.Option.{option_map}
+use Rattle.std.specs.Ordering.{nat_cmp}
+use Rattle.std.specs.FinSet as set
+use Rattle.std.proofs.lemmas.Bool.{cases_eq}
+use Rattle.std.proofs.lemmas.Option.{none-some, same_Some}
+use Rattle.assise_names.specs.declared.refusal.Refusal.{Refusal}
+use Rattle.assise_manager.specs.Changes.{back, back_as, is_returning, return_fault, return_fault_of, stale_of}
+use Rattle.assise_manager.specs.Membership.{Membership, lowest_full, written_since}
+use Rattle.assise_manager.specs.Standings.{Standing, down, full, returning, standing_of}
+use Rattle.assise_machine_returns.specs.Returns.{ComesBack}
+use Rattle.assise_machine_returns.proofs.Standing.{set_here}
+use Rattle.assise_machine_events.specs.Events.{Answer, began, refused}
+use Rattle.assise_machine_events.specs.MemberEvents.{IsBack, Returning, count_of, stale_at}
+use Rattle.assise_machine_events.specs.MemberEvents.Returning.{is_back, is_refused, lacks_memory}
+use Rattle.assise_machine_state.specs.Changes.{after_members}
+use Rattle.assise_machine_state.specs.Observed.{is_full_in, observed, world_of}
+use Rattle.assise_machine_state.specs.Shape.{AreNoted, IsShaped}
+use Rattle.assise_machine_state.specs.StateValues.{StateValue, leases_of, standings}
+use Rattle.assise_machine_state.proofs.Resting.{members_areas, members_rest, members_shaped}
+use Rattle.assise_machine_state.proofs.Standings.{full_as, full_else, same_count}
+use Rattle.assise_machine_failures.specs.Copies.{LosesStale}
+use Rattle.assise_machine_failures.proofs.Dropping.{lost_else, lost_here, lost_is, lost_rests, lost_shaped, rests_more}
+use Rattle.assise_machine_failures.proofs.Refusing.{IsFaultOr, same_after}
+
+-- ---- it is refused
+
+pub back_refused : (s : StateValue) (n : ℕ) (m : Membership) (e : Refusal) (a : Answer) → m ≡ s.members → a ≡ refused e → IsFaultOr (return_fault s.members n) e →
+    Returning (observed s) n a (observed (after_members s m))
+unfolding observed
+back_refused s n m e a same is (inl (fine, memory)) = lacks_memory fine (is ∙ ap refused memory) (ap observed (same_after s m same))
+back_refused s n m e a same is (inr fault) = is_refused e fault is (ap observed (same_after s m same))
+
+-- ---- a node stands down
+
+down_stands : (o : Option Standing) → return_fault_of o ≡ None → (since : ℕ) × (o ≡ Some (down since))
+down_stands (Some (down since)) fine = (since, refl)
+down_stands None fine = absurd (none-some _ (sym fine))
+down_stands (Some full) fine = absurd (none-some _ (sym fine))
+down_stands (Some (returning since donor stale)) fine = absurd (none-some _ (sym fine))
+
+-- how many inodes it may lack
+pub counted : (o : Option (set.FinSet nat_cmp)) (n : ℕ) → option_map set.len o ≡ Some n → n ≡ count_of o
+counted None n is = absurd (none-some n is)
+counted (Some stale) n is = same_Some n (set.len stale) (sym is)
+
+module _ (s : StateValue) (n : ℕ) (m : Membership) (shape : IsShaped s) (fine : return_fault s.members n ≡ None) (comes : m ≡ back s.members n) where
+  abbrev since : ℕ
+  since = (down_stands (standing_of (standings s) n) fine).0
+
+  stands : standing_of (standings s) n ≡ Some (down since)
+  stands = (down_stands (standing_of (standings s) n) fine).1
+
+  abbrev now : Standing
+  now = returning since (lowest_full (standings s)) (written_since s.members since)
+
+  nodes_are : m.nodes ≡ (back_as s.members n (Some (down since))).nodes
+  nodes_are = ap (λ o. o.nodes) comes ∙ ap (λ o. (back_as s.members n o).nodes) stands
+
+  as_many : length m.nodes ≡ length (standings s)
+  as_many = ap length nodes_are ∙ same_count (standings s) n now
+
+  stands_now : standing_of m.nodes n ≡ Some now
+  stands_now = ap (λ nodes. standing_of nodes n) nodes_are ∙ set_here (standings s) n (down since) now stands
+
+  as_full : (k : ℕ) → is_full_in m.nodes k ≡ is_full_in (standings s) k
+  as_full k = elim (cases_eq k n) [
+    | inl is ↦ subst (λ j. is_full_in m.nodes j ≡ is_full_in (standings s) j) (sym is) (full_as m.nodes n now stands_now ∙ sym (full_as (standings s) n (down since) stands))
+    | inr other ↦ ap (λ nodes. is_full_in nodes k) nodes_are ∙ full_else (standings s) n k (down since) now stands other
+  ]
+
+  abbrev t : StateValue
+  t = after_members s m
+
+  pub back_returning : is_returning (standing_of m.nodes n) ≡ true
+  back_returning = ap is_returning stands_now
+
+  pub back_shaped : IsShaped t
+  back_shaped = members_shaped s m shape as_many as_full
+
+  module _ (u : StateValue) (lost : LosesStale t n u) where
+    rest_is : u ≡ record t { nodes = u.nodes }
+    rest_is = lost_is t n u back_shaped back_returning lost
+
+    members_are : u.members ≡ back s.members n
+    members_are = ap (λ v. v.members) rest_is ∙ comes
+
+    node_back : ComesBack (world_of s) s.members n (world_of u) u.members
+    node_back = record {
+      fine = fine;
+      members = members_are;
+      rests = rests_more (world_of s) (world_of t) (world_of u) (members_rest s m as_many as_full) (lost_rests t n u back_shaped back_returning lost);
+      area_here = λ stale known i.
+          lost_here t n u back_shaped back_returning lost stale (ap (λ o. stale_of (standing_of o.nodes n)) (sym (ap (λ v. v.members) rest_is)) ∙ known) i
+          ∙ ap (λ x. if set.contains stale i then None else x) (members_areas s m n i);
+      area_else = λ k i other. lost_else t n u back_shaped back_returning lost k i other ∙ members_areas s m k i;
+    }
+
+    same_leases : leases_of u ≡ leases_of s
+    unfolding leases_of
+    same_leases = ap leases_of rest_is
+
+    is_so : IsBack (observed s) n (observed u)
+    unfolding observed
+    is_so = record {
+      comes = node_back;
+      leases = same_leases;
+      adds = record { history = ap (λ v. v.history) rest_is ∙ sym (append-nil s.history); limit = ap (λ v. v.limit) rest_is };
+    }
+
+    pub back_happens : (count : ℕ) → option_map set.len (stale_of (standing_of m.nodes n)) ≡ Some count → Returning (observed s) n (began count) (observed u)
+    unfolding observed
+    back_happens count some =
+        let same : count ≡ stale_at u.members n = counted (stale_of (standing_of m.nodes n)) count some ∙ ap (λ o. stale_at o n) (sym (ap (λ v. v.members) rest_is)) in
+        is_back fine (ap began same) is_so
+
+    pub back_left : IsShaped u
+    back_left = lost_shaped t n u back_shaped back_returning lost
+
+    pub back_noted : AreNoted s → AreNoted u
+    back_noted noted = subst AreNoted (sym rest_is) (record { once = noted.once; known = noted.known; noted = noted.noted })

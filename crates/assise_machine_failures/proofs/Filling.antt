@@ -1,0 +1,166 @@
+-- A node that comes back gets an inode from the node that it is filled from, as the laws have it.
+use Rattle.std.proofs.Common.{◌≡◌, ◌≢◌, ◌⊎◌, ℕ, false, List, [], length, Option, Some, None, Result, Ok, Err, IfOk, IsOk, inl, inr, refl, ap, sym, subst, ◌∙◌, append-nil, true≢false}
+use Rattle.std.specs.Option.{option_map}
+use Rattle.std.specs.Ordering.{nat_cmp}
+use Rattle.std.specs.FinMap as map
+use Rattle.std.specs.FinSet as set
+use Rattle.std.specs.FinSet.{len-empty}
+use Rattle.std.proofs.lemmas.Bool.{cases_eq}
+use Rattle.std.proofs.lemmas.List.{length-set}
+use Rattle.std.proofs.lemmas.Option.{none-some, same_Some}
+use Rattle.assise_names.specs.declared.refusal.Refusal.{Refusal}
+use Rattle.assise_names.specs.declared.refusal.Refusal.TheVariants.{OutOfMemory}
+use Rattle.assise_inode_table.specs.Contents.{Content, values}
+use Rattle.assise_digest.specs.Region.{RegionValue, with_inode}
+use Rattle.assise_manager.specs.Changes.{IsLowest, IsLowestOf, copied, copied_as, donor_of, filling_fault, filling_fault_of, is_returning, stale_of}
+use Rattle.assise_manager.specs.Membership.{IsMembership, Membership}
+use Rattle.assise_manager.specs.Standings.{Standing, down, full, returning, standing_of}
+use Rattle.assise_manager.proofs.Lawful.{donor_full}
+use Rattle.assise_machine_laws.specs.World.{Full}
+use Rattle.assise_machine_returns.specs.Returns.{Refills}
+use Rattle.assise_machine_returns.proofs.Standing.{set_here}
+use Rattle.assise_machine_events.specs.Events.{Answer, left, refused}
+use Rattle.assise_machine_events.specs.MemberEvents.{IsRefilled, Refilling, count_of, stale_at}
+use Rattle.assise_machine_events.specs.MemberEvents.Refilling.{is_refilled, is_refused, is_whole, lacks_memory}
+use Rattle.assise_machine_state.specs.Changes.{after_inode, after_members}
+use Rattle.assise_machine_state.specs.NodeValues.{region_in, region_seen, with_region}
+use Rattle.assise_machine_state.specs.Observed.{is_full_in, observed, world_of}
+use Rattle.assise_machine_state.specs.Places.{IsNumber}
+use Rattle.assise_machine_state.specs.Shape.{AreNoted, IsShaped}
+use Rattle.assise_machine_state.specs.StateValues.{StateValue, leases_of, standings}
+use Rattle.assise_machine_state.proofs.Fullness.{node_number, region_is}
+use Rattle.assise_machine_state.proofs.Resting.{inode_else, inode_here, inode_rests, inode_shaped, members_areas, members_rest, members_shaped}
+use Rattle.assise_machine_state.proofs.Standings.{full_as, full_else, same_count}
+use Rattle.assise_machine_failures.specs.Answers.{refilling_answer}
+use Rattle.assise_machine_failures.proofs.Dropping.{not_full, rests_more}
+use Rattle.assise_machine_failures.proofs.ComingBack.{counted}
+use Rattle.assise_machine_failures.proofs.Refusing.{IsFaultOr}
+
+-- ---- it is refused
+
+pub refill_refused : (s : StateValue) (n : ℕ) (e : Refusal) (a : Answer) → a ≡ refused e → IsFaultOr (filling_fault s.members n) e → Refilling (observed s) n a (observed s)
+unfolding observed
+refill_refused s n e a is (inl (fine, memory)) = lacks_memory fine (is ∙ ap refused memory) refl
+refill_refused s n e a is (inr fault) = is_refused e fault is refl
+
+-- ---- a node stands coming back
+
+pub filled_stands : (o : Option Standing) (d : ℕ) → donor_of o ≡ Some d → (since : ℕ) × ((stale : set.FinSet nat_cmp) × (o ≡ Some (returning since d stale)))
+filled_stands None d from = absurd (none-some d from)
+filled_stands (Some full) d from = absurd (none-some d from)
+filled_stands (Some (down since)) d from = absurd (none-some d from)
+filled_stands (Some (returning since donor stale)) d from = (since, (stale, ap (λ k. Some (returning since k stale)) (same_Some donor d from)))
+
+lowest_of : (o : Option (set.FinSet nat_cmp)) (stale : set.FinSet nat_cmp) (i : ℕ) → o ≡ Some stale → IsLowestOf o (Some i) → IsLowest stale i
+lowest_of o stale i is low = subst (λ p. IsLowestOf p (Some i)) is low
+
+module _ (s : StateValue) (n d : ℕ) (shape : IsShaped s) (lawful : IsMembership s.members) (from : donor_of (standing_of (standings s) n) ≡ Some d) where
+  abbrev since : ℕ
+  since = (filled_stands (standing_of (standings s) n) d from).0
+
+  abbrev stale : set.FinSet nat_cmp
+  stale = (filled_stands (standing_of (standings s) n) d from).1.0
+
+  pub filled_from : standing_of (standings s) n ≡ Some (returning since d stale)
+  filled_from = (filled_stands (standing_of (standings s) n) d from).1.1
+
+  pub filled_number : IsNumber s.nodes n
+  filled_number = node_number s n (returning since d stale) shape filled_from
+
+  pub donor_number : IsNumber s.nodes d
+  donor_number = node_number s d full shape (donor_full s.members n since d stale lawful filled_from)
+
+  filled_away : is_full_in (standings s) n ≡ false
+  filled_away = full_as (standings s) n (returning since d stale) filled_from
+
+  pub filled_logless : (region_in s.nodes n).logs ≡ []
+  filled_logless = ap (λ r. r.logs) (sym (region_is s n filled_number)) ∙ shape.no_logs n filled_away
+
+  pub filled_fine : filling_fault s.members n ≡ None
+  filled_fine = ap filling_fault_of filled_from
+
+  pub lacks_memory_so : (e : Refusal) (a : Answer) → a ≡ refused e → e ≡ OutOfMemory → Refilling (observed s) n a (observed s)
+  lacks_memory_so e a is memory = refill_refused s n e a is (inl (filled_fine, memory))
+
+  -- it lacks nothing
+  pub whole_so : IsLowestOf (stale_of (standing_of (standings s) n)) None → Refilling (observed s) n (left 0) (observed s)
+  unfolding observed
+  whole_so none =
+      let empty : stale ≡ set.empty = subst (λ o. IsLowestOf o None) (ap stale_of filled_from) none in
+      is_whole filled_fine (ap (λ o. count_of (stale_of o)) filled_from ∙ ap set.len empty ∙ len-empty nat_cmp) refl refl
+
+  -- ---- it gets the lowest inode
+
+  module _ (i : ℕ) (v : Option Content) (rs : List RegionValue) (m : Membership) (value : v ≡ map.get (region_in s.nodes d).inodes i)
+      (refilled : rs ≡ with_region s.nodes n (with_inode (region_in s.nodes n) i v)) (low : IsLowestOf (stale_of (standing_of (standings s) n)) (Some i)) (less : m ≡ copied s.members n i) where
+    abbrev now : Standing
+    now = returning since d (set.remove stale i)
+
+    nodes_are : m.nodes ≡ (copied_as (standings s) n i (Some (returning since d stale)))
+    nodes_are = ap (λ o. o.nodes) less ∙ ap (copied_as (standings s) n i) filled_from
+
+    as_many : length m.nodes ≡ length (standings s)
+    as_many = ap length nodes_are ∙ same_count (standings s) n now
+
+    stands_now : standing_of m.nodes n ≡ Some now
+    stands_now = ap (λ nodes. standing_of nodes n) nodes_are ∙ set_here (standings s) n (returning since d stale) now filled_from
+
+    as_full : (k : ℕ) → is_full_in m.nodes k ≡ is_full_in (standings s) k
+    as_full k = elim (cases_eq k n) [
+      | inl is ↦ subst (λ j. is_full_in m.nodes j ≡ is_full_in (standings s) j) (sym is) (full_as m.nodes n now stands_now ∙ sym filled_away)
+      | inr other ↦ ap (λ nodes. is_full_in nodes k) nodes_are ∙ full_else (standings s) n k (returning since d stale) now filled_from other
+    ]
+
+    abbrev t : StateValue
+    t = after_inode s n i v
+
+    abbrev u : StateValue
+    u = after_members t m
+
+    abbrev w : StateValue
+    w = record s { nodes = rs; members = m }
+
+    same : w ≡ u
+    same = (λ k. record s { nodes = refilled k; members = m })
+
+    value_seen : v ≡ (world_of s).area d i
+    unfolding world_of
+    value_seen = value ∙ ap (λ r. values r.inodes i) (sym (region_is s d donor_number))
+
+    node_refills : Refills (world_of s) s.members n i (world_of u) m
+    node_refills = record {
+      since = since;
+      donor = d;
+      stale = stale;
+      stands = filled_from;
+      lowest = lowest_of (stale_of (standing_of (standings s) n)) stale i (ap stale_of filled_from) low;
+      members = less;
+      rests = rests_more (world_of s) (world_of t) (world_of u) (inode_rests s n i v filled_number (not_full s n filled_away)) (members_rest t m as_many as_full);
+      area_here = members_areas t m n i ∙ inode_here s n i v filled_number ∙ value_seen;
+      area_else = λ k j other. members_areas t m k j ∙ inode_else s n i v filled_number k j other;
+    }
+
+    same_leases : leases_of u ≡ leases_of s
+    unfolding leases_of
+    same_leases = refl
+
+    refilled_so : IsRefilled (observed s) n (observed u)
+    unfolding observed
+    refilled_so = record { inode = i; refills = node_refills; leases = same_leases; adds = record { history = sym (append-nil s.history); limit = refl } }
+
+    happens_so : (count : ℕ) → option_map set.len (stale_of (standing_of m.nodes n)) ≡ Some count → Refilling (observed s) n (left count) (observed u)
+    unfolding observed
+    happens_so count some = is_refilled filled_fine (ap left (counted (stale_of (standing_of m.nodes n)) count some)) refilled_so
+
+    refill_happens : (count : ℕ) → option_map set.len (stale_of (standing_of m.nodes n)) ≡ Some count → Refilling (observed s) n (left count) (observed w)
+    refill_happens count some = subst (λ x. Refilling (observed s) n (left count) (observed x)) (sym same) (happens_so count some)
+
+    pub refill_answers : (r : Result ℕ Refusal) → IsOk r → IfOk r (λ count. option_map set.len (stale_of (standing_of m.nodes n)) ≡ Some count) → Refilling (observed s) n (refilling_answer r) (observed w)
+    refill_answers (Ok count) ok some = refill_happens count some
+    refill_answers (Err e) ok some = absurd (true≢false (sym ok))
+
+    pub refill_shaped : IsShaped w
+    refill_shaped = subst IsShaped (sym same) (members_shaped t m (inode_shaped s n i v shape filled_number) as_many as_full)
+
+    pub refill_noted : AreNoted s → AreNoted w
+    refill_noted noted = record { once = noted.once; known = noted.known; noted = noted.noted }

@@ -1,0 +1,27 @@
+-- What is refused leaves all as it was.
+use Rattle.std.proofs.Common.{◌≡◌, ◌⊎◌, ℕ, Option, Some, None, Result, Ok, Err, inl, inr, refl, ap, sym, ◌∙◌}
+use Rattle.assise_names.specs.declared.refusal.Refusal.{Refusal}
+use Rattle.assise_names.specs.declared.refusal.Refusal.TheVariants.{OutOfMemory}
+use Rattle.assise_manager.specs.Membership.{Membership}
+use Rattle.assise_machine_state.specs.Changes.{after_members}
+use Rattle.assise_machine_state.specs.StateValues.{StateValue}
+
+-- the members are the same after all
+pub same_after : (s : StateValue) (m : Membership) → m ≡ s.members → after_members s m ≡ s
+same_after s m is = (λ i. record s { members = is i })
+
+-- a refusal is the fault that stands, or where none does there was no memory
+abbrev pub IsFaultOr : Option Refusal → Refusal → Type 0
+IsFaultOr fault e = ((fault ≡ None) × (e ≡ OutOfMemory)) ⊎ (fault ≡ Some e)
+
+error_of : {X : Type 0} → Refusal → Result X Refusal → Refusal
+error_of other (Ok x) = other
+error_of other (Err e) = e
+
+pub same_error : {X : Type 0} (d e : Refusal) → ◌≡◌ {A = Result X Refusal} (Err d) (Err e) → d ≡ e
+unfolding error_of
+same_error {X} d e is = ap (error_of {X = X} d) is
+
+pub fault_or : {X : Type 0} (fault : Option Refusal) (e : Refusal) → ((r : Refusal) → fault ≡ Some r → ◌≡◌ {A = Result X Refusal} (Err e) (Err r)) → (fault ≡ None → e ≡ OutOfMemory) → IsFaultOr fault e
+fault_or None e faults memory = inl (refl, memory refl)
+fault_or {X} (Some r) e faults memory = inr (ap Some (sym (same_error {X = X} e r (faults r refl))))

@@ -1,0 +1,45 @@
+use Rattle.std.proofs.Common.{◌≡◌, ap, ◌∙◌}
+use Rattle.std.proofs.Math.Logic.{∥∥₁_map}
+use Rattle.std.proofs.lemmas.Result.{err_from_is_err_and}
+use Rattle.assise_manager.specs.Changes.{return_fault}
+use Rattle.assise_manager.specs.Whole.{membership}
+use Rattle.assise_machine_events.specs.Events.{back as back_event, began, refused}
+use Rattle.assise_machine_events.specs.MemberEvents.{Returning}
+use Rattle.assise_machine_events.proofs.EachEvent.{event_keeps}
+use Rattle.assise_machine_state.specs.Observed.{observed}
+use Rattle.assise_machine_state.specs.Whole.{value_of}
+use Rattle.assise_machine_failures.specs.Answers.{returning_answer}
+use Rattle.assise_machine_failures.proofs.ComingBack.{back_happens, back_left, back_noted, back_refused, back_shaped}
+use Rattle.assise_machine_failures.proofs.Refusing.{fault_or}
+use Rattle.assise_machine_failures.proofs.back.back.Given as given
+use Rattle.assise_machine_failures.proofs.back.back.Goals as goal
+
+pub returns-in_err-stale-clause-happens : goal.returns-in_err-stale-clause-happens
+returns-in_err-stale-clause-happens g c =
+    let error = err_from_is_err_and c.from_residual.result c.from_residual.ensures.1 in
+    let m = membership c.args.sound.now.state.members in
+    back_refused (value_of c.args.sound.now.state) c.args.node (membership c.back.new.self) c.in_err-stale.field-0.0 (returning_answer c.from_residual.result) c.in_err-stale.ensures.err
+    (ap returning_answer error.1 ∙ ap refused error.2) (fault_or (return_fault m c.args.node) c.in_err-stale.field-0.0 c.in_err-stale.ensures.fault c.in_err-stale.ensures.only_memory)
+
+pub drop_copies-requires-clause-shape : goal.drop_copies-requires-clause-shape
+drop_copies-requires-clause-shape g c =
+    back_shaped (value_of c.args.sound.now.state) c.args.node (membership c.back.new.self) c.args.sound.now.shape c.in_ok-stale.ensures.faultless c.in_ok-stale.ensures.ok
+
+happens_now : (g : given.Over) (c : goal.After-drop_copies g) → Returning (observed (value_of c.args.sound.now.state)) c.args.node (began c.in_ok-stale.stale) (observed (value_of c.drop_copies.new.state))
+happens_now g c =
+    back_happens (value_of c.args.sound.now.state) c.args.node (membership c.back.new.self) c.args.sound.now.shape c.in_ok-stale.ensures.faultless c.in_ok-stale.ensures.ok
+    (value_of c.drop_copies.new.state) c.drop_copies.ensures.copies c.in_ok-stale.stale c.in_ok-stale.ensures.count
+
+pub invariant_of-sound-2 : goal.invariant_of-sound-2
+invariant_of-sound-2 g c =
+    let s = value_of c.args.sound.now.state in
+    let m = membership c.back.new.self in
+    let u = value_of c.drop_copies.new.state in
+    record {
+      holds = ∥∥₁_map c.args.sound.now.holds (λ h. event_keeps (observed s) (observed u) (back_event c.args.node) (began c.in_ok-stale.stale) h (happens_now g c));
+      shape = back_left s c.args.node m c.args.sound.now.shape c.in_ok-stale.ensures.faultless c.in_ok-stale.ensures.ok u c.drop_copies.ensures.copies;
+      noted = back_noted s c.args.node m c.args.sound.now.shape c.in_ok-stale.ensures.faultless c.in_ok-stale.ensures.ok u c.drop_copies.ensures.copies c.args.sound.now.noted;
+    }
+
+pub returns-clause-happens : goal.returns-clause-happens
+returns-clause-happens g c = happens_now g c.before
