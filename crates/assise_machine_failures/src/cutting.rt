@@ -1,8 +1,8 @@
 // The logs of a failed node's clients end where they are kept.
-ghost use Rattle.std.specs.Prelude.{◌≡◌, ◌≤◌, length};
+ghost use Rattle.std.specs.Prelude.{◌≡◌, ◌≤◌, length, ℕ};
 ghost use Rattle.assise_machine_state.specs.Changes.{with_clients_cut, with_clients_failed};
 ghost use Rattle.assise_machine_state.specs.ClientValues.{client_seen};
-ghost use Rattle.assise_machine_state.specs.NodeValues.{AreUndigested};
+ghost use Rattle.assise_machine_state.specs.NodeValues.{HasLog, IsUndigestedFrom, log_in};
 ghost use Rattle.assise_machine_failures.specs.Listing.{kept_in};
 
 use assise_machine_state::clients::Clients;
@@ -19,7 +19,7 @@ pub(crate) fn cut_to(
 )
     requires kept { length kept.now ≡ length clients.old }
     requires last { last ≤ length clients.old }
-    requires undigested { (c : _) → (client_seen clients.old c).home ≡ node → AreUndigested nodes.old c (kept_in kept.now c) }
+    requires undigested { (n c : ℕ) → (client_seen clients.old c).home ≡ node → HasLog nodes.old n c → IsUndigestedFrom (log_in nodes.old n c) (kept_in kept.now c) }
     ensures nodes { nodes.new ≡ with_clients_cut node clients.old (kept_in kept.now) last nodes.old }
     ensures clients { clients.new ≡ with_clients_failed node (kept_in kept.now) last clients.old }
 {
