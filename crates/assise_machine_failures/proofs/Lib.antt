@@ -1,2 +1,4 @@
 pub mod Losing
 pub mod Failed
+mod Cuts
+mod Keeping
