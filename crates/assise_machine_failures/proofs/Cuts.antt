@@ -1,5 +1,5 @@
 -- What is cut where a node fails, and what is kept, as the state has it.
-use Rattle.std.proofs.Common.{◌≡◌, ◌⊎◌, ℕ, zero, suc, ◌+◌, ◌-◌, ◌<◌, ◌≤◌, true, false, nat_lt, List, [], ◌∷◌, ◌++◌, if◌then◌else◌, map, take, drop, get_or, slice_get, length, Option, Some, None, inl, inr, refl, ap, sym, subst, ◌∙◌, arith, append-nil}
+use Rattle.std.proofs.Common.{◌≡◌, ℕ, zero, suc, ◌+◌, ◌-◌, ◌<◌, ◌≤◌, true, false, nat_lt, List, [], ◌∷◌, ◌++◌, if◌then◌else◌, map, take, drop, get_or, slice_get, length, Some, None, inl, inr, refl, ap, sym, subst, ◌∙◌, arith, append-nil}
 use Rattle.std.proofs.Math.Logic.{∥∥₁_elim}
 use Rattle.std.proofs.Props.{props}
 use Rattle.std.proofs.lemmas.Bool.{cases_Bool, cases_lt, le-ltb, lt-ltb, ltb-false}
@@ -16,7 +16,7 @@ use Rattle.assise_machine_laws.specs.NodeSteps.{kept_at_failure}
 use Rattle.assise_machine_laws.specs.Records.{call_of}
 use Rattle.assise_machine_laws.specs.Sound.{IsSound}
 use Rattle.assise_machine_laws.specs.World.{World, call_at, end, records_between}
-use Rattle.assise_machine_history.specs.Lost.{is_cut, losses_of, losses_to}
+use Rattle.assise_machine_history.specs.Lost.{is_cut, losses_to}
 use Rattle.assise_machine_state.specs.ClientValues.{client_in}
 use Rattle.assise_machine_state.specs.NodeValues.{log_in, log_seen}
 use Rattle.assise_machine_state.specs.Observed.{own_node, own_seen, world_of}
@@ -64,7 +64,7 @@ none_lost w n m ls ks before same whole =
     ∙ sym (loss_step w n m (m + 1) (omega arith))
 
 -- what one client's records touch which are kept
-abbrev touched_kept : World → ℕ → ℕ → List ℕ
+abbrev pub touched_kept : World → ℕ → ℕ → List ℕ
 touched_kept w n c = touched (all_effects (records_between w c (w.first c) (kept_at_failure w n c)))
 
 pub one_touched : (w : World) (n m : ℕ) (is js : List ℕ) → is ≡ kept_inodes w n m → js ≡ is ++ touched_kept w n (m + 1) → js ≡ kept_inodes w n (m + 1)

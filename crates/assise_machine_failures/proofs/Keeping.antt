@@ -1,5 +1,5 @@
 -- The places up to which logs are kept where a node fails, as the state has them.
-use Rattle.std.proofs.Common.{◌≡◌, ◌≢◌, ◌⊎◌, ℕ, zero, suc, ◌+◌, ◌-◌, ◌<◌, ◌≤◌, ◌==◌, ◌&&◌, min, Bool, take, take-suc, true, false, not, List, [], ◌∷◌, ◌++◌, filter, length, get_or, inl, inr, refl, ap, sym, subst, ◌∙◌, arith, eqb-true, eq-eqb, append-nil}
+use Rattle.std.proofs.Common.{◌≡◌, ◌≢◌, ℕ, zero, suc, ◌+◌, ◌<◌, ◌≤◌, ◌==◌, ◌&&◌, min, Bool, take, take-suc, true, false, not, List, [], ◌∷◌, ◌++◌, filter, length, get_or, inl, inr, refl, ap, sym, subst, ◌∙◌, arith, eqb-true, eq-eqb, append-nil}
 use Rattle.std.proofs.lemmas.Bool.{cases_lt, ne_eqb}
 use Rattle.std.proofs.lemmas.List.{get_or_append_left, get_or_push, length_push}
 use Rattle.std.proofs.lemmas.List.Elements.{filter-append}
@@ -11,7 +11,7 @@ use Rattle.assise_machine_laws.specs.NodeSteps.{kept_at_failure}
 use Rattle.assise_machine_laws.specs.World.{World, end, least_of}
 use Rattle.assise_machine_laws.proofs.Observing.{least_of-above, least_of-below, least_of-end, least_of-same}
 use Rattle.assise_machine_history.proofs.Listing.{cut_there}
-use Rattle.assise_machine_state.specs.ClientValues.{ClientValue, client_in}
+use Rattle.assise_machine_state.specs.ClientValues.{client_in}
 use Rattle.assise_machine_state.specs.NodeValues.{log_in, log_seen}
 use Rattle.assise_machine_state.specs.Observed.{full_in, is_full_in, own_node, world_of}
 use Rattle.assise_machine_state.specs.Places.{IsNumber}

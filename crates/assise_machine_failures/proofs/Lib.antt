@@ -1,4 +1,6 @@
 pub mod Losing
 pub mod Failed
 mod Cuts
+mod Filling
 mod Keeping
+pub mod Listed

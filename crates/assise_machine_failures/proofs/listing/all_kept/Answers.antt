@@ -1,4 +1,4 @@
-use Rattle.std.proofs.Common.{◌≡◌, ◌+◌, ◌-◌, ap, sym, ◌∙◌, length, arith}
+use Rattle.std.proofs.Common.{◌≡◌, ◌+◌, ◌-◌, ap, ◌∙◌, length, arith}
 use Rattle.assise_machine_state.specs.Observed.{world_of}
 use Rattle.assise_machine_state.specs.Whole.{value_of}
 use Rattle.assise_machine_failures.specs.Listing.{kept_to}

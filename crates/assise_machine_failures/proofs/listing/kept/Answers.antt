@@ -1,7 +1,6 @@
-use Rattle.std.proofs.Common.{◌≡◌, ◌≢◌, ℕ, ◌+◌, ◌∙◌, min, take, get_or, ap, sym, subst}
+use Rattle.std.proofs.Common.{◌≡◌, ℕ, ◌+◌, ◌∙◌, min, take, get_or, ap, sym, subst}
 use Rattle.assise_private_log.specs.NumberedLog.{end}
 use Rattle.assise_digest.specs.Region.{HasClient, log_of}
-use Rattle.assise_manager.specs.Standings.{full_nodes}
 use Rattle.assise_manager.specs.Whole.{membership}
 use Rattle.assise_machine_laws.specs.World.{least_of}
 use Rattle.assise_machine_state.specs.ClientValues.{client_in}
@@ -10,7 +9,6 @@ use Rattle.assise_machine_state.specs.Observed.{own_node}
 use Rattle.assise_machine_state.specs.Whole.{value_of}
 use Rattle.assise_machine_state.proofs.Owning.{all_taken, next_log}
 use Rattle.assise_machine_failures.proofs.Keeping.{kept_apart, kept_least, kept_over, next_itself, next_other, others}
-use Rattle.assise_machine_failures.proofs.listing.kept.Given as given
 use Rattle.assise_machine_failures.proofs.listing.kept.Goals as goal
 use Rattle.assise_machine_failures.proofs.listing.kept.Goals.{then-has_failed-via-then-has_failed, then-has_failed-via-else-has_failed+then-home-node, then-other-node, else-other-node}
 

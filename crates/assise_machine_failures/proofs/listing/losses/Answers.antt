@@ -1,4 +1,4 @@
-use Rattle.std.proofs.Common.{◌≡◌, ◌+◌, Option, Some, None, option_copied, ap, sym, ◌∙◌, arith}
+use Rattle.std.proofs.Common.{◌≡◌, ◌+◌, option_copied, ap, sym, ◌∙◌, arith}
 use Rattle.assise_private_log.specs.NumberedLog.{record_at}
 use Rattle.assise_digest.specs.Region.{log_of}
 use Rattle.assise_machine_laws.specs.NodeSteps.{kept_at_failure}

@@ -1,4 +1,4 @@
-use Rattle.std.proofs.Common.{◌≡◌, ◌+◌, ◌-◌, ◌++◌, ℕ, take, ap, sym, subst, ◌∙◌, arith}
+use Rattle.std.proofs.Common.{◌+◌, ◌-◌, ◌++◌, take, ap, ◌∙◌, arith}
 use Rattle.assise_inode_table.specs.Effects.{touched}
 use Rattle.assise_private_log.specs.NumberedLog.{records_from}
 use Rattle.assise_digest.specs.Ahead.{all_effects}
