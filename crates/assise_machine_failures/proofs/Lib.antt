@@ -3,5 +3,9 @@ pub mod Refusing
 pub mod ComingBack
 pub mod Filling
 pub mod CutOff
+pub mod Cuts
+pub mod FilledFrom
+pub mod Keeping
+pub mod Listed
 pub mod Losing
 pub mod Failed

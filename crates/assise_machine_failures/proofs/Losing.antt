@@ -70,11 +70,11 @@ rest_twice w v u a b = record {
   leases = record { holds = λ c i. b.leases.holds c i ∙ a.leases.holds c i; writes = λ c i. b.leases.writes c i ∙ a.leases.writes c i };
   nodes = record {
     full = b.nodes.full ∙ a.nodes.full;
-    same = λ n full. (let then : Full v n = still_full n full in record {
-        area = λ i. (b.nodes.same n then).area i ∙ (a.nodes.same n full).area i;
-        log = λ c. (b.nodes.same n then).log c ∙ (a.nodes.same n full).log c;
-        received = λ c. (b.nodes.same n then).received c ∙ (a.nodes.same n full).received c;
-        digested = λ c. (b.nodes.same n then).digested c ∙ (a.nodes.same n full).digested c;
+    same = λ n full. (let now : Full v n = still_full n full in record {
+        area = λ i. (b.nodes.same n now).area i ∙ (a.nodes.same n full).area i;
+        log = λ c. (b.nodes.same n now).log c ∙ (a.nodes.same n full).log c;
+        received = λ c. (b.nodes.same n now).received c ∙ (a.nodes.same n full).received c;
+        digested = λ c. (b.nodes.same n now).digested c ∙ (a.nodes.same n full).digested c;
       });
   };
 }
@@ -106,7 +106,7 @@ all_still t (k ∷ ks) u shape (v, (first, rest)) = still_twice t v u first.stil
 
 -- ---- and what each has then
 
-lost : Bool → Option Content → Option Content
+abbrev lost : Bool → Option Content → Option Content
 lost gone had = if gone then None else had
 
 lost_twice : (gone : Bool) (had : Option Content) → lost gone (lost gone had) ≡ lost gone had
@@ -132,6 +132,7 @@ keeps_lost t (j ∷ ks) u k i stale had (v, (first, rest)) is before =
 
 pub one_loses : (t : StateValue) (ks : List ℕ) (u : StateValue) (k i : ℕ) (stale : set.FinSet nat_cmp) → AllLoseAt t ks u → Among ks k → stale_of (standing_of (standings t) k) ≡ Some stale →
     (world_of u).area k i ≡ (if set.contains stale i then None else (world_of t).area k i)
+one_loses t [] u k i stale lose there is = elim there []
 one_loses t (j ∷ ks) u k i stale (v, (first, rest)) (inl same) is =
     keeps_lost v ks u k i stale ((world_of t).area k i) rest (same_stale t v k stale first.still is)
     (subst (λ n. (world_of v).area n i ≡ lost (set.contains stale i) ((world_of t).area n i)) (sym same) (first.here stale (subst (λ n. stale_of (standing_of (standings t) n) ≡ Some stale) same is) i))

@@ -1,5 +1,5 @@
 -- What crashes, failures and returns answer, in the words of the laws.
-use Rattle.std.specs.Prelude.{ℕ, List, map, Result, Ok, Err, ⊤}
+use Rattle.std.specs.Prelude.{ℕ, map, Result, Ok, Err, ⊤}
 use Rattle.std.specs.Global.{Vec}
 use Rattle.assise_names.specs.declared.refusal.Refusal.{Refusal}
 use Rattle.assise_history.specs.declared.call.Loss.{Loss}

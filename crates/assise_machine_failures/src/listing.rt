@@ -1,5 +1,5 @@
 // What a crash or a failure lists before anything changes.
-ghost use Rattle.std.specs.Prelude.{◌≡◌, ◌+◌, ◌≤◌, ◌++◌, IfOk, IsOkUnless, length, map as mapped, vec_capacity};
+ghost use Rattle.std.specs.Prelude.{◌≡◌, ◌+◌, ◌^◌, ◌<◌, ◌≤◌, ◌++◌, IfOk, IsOkUnless, length, map as mapped, vec_capacity};
 ghost use Rattle.assise_names.specs.declared.refusal.Refusal.TheVariants.{OutOfMemory};
 ghost use Rattle.assise_machine_laws.specs.NodeSteps.{kept_at_failure};
 ghost use Rattle.assise_machine_laws.specs.Sound.{IsSound};
@@ -60,6 +60,7 @@ pub(crate) fn all_kept<C: Revokes + Drop>(
     state: &StateOf<C>,
     node: u32,
 ) -> Result<Vec<u64>, Refusal>
+    requires few { length state.now.clients < 2 ^ 32 }
     requires shape { IsShaped (value_of state.now) }
     ensures kept { IfOk result (λ kept. kept.items ≡ kept_to (world_of (value_of state.now)) node (length state.now.clients)) }
     ensures only_memory { IsOkUnless result OutOfMemory }
@@ -80,6 +81,7 @@ pub(crate) fn losses<C: Revokes + Drop>(
     kept: &[u64],
 ) -> Result<Vec<(u32, u64)>, Refusal>
     requires kept { kept.now ≡ kept_to (world_of (value_of state.now)) node (length state.now.clients) }
+    requires few { length state.now.clients < 2 ^ 32 }
     requires sound { ∥ IsSound (world_of (value_of state.now)) ∥₁ }
     requires shape { IsShaped (value_of state.now) }
     ensures losses { IfOk result (λ losses. mapped loss_of losses.items ≡ losses_of (world_of (value_of state.now)) node) }
@@ -119,6 +121,7 @@ pub(crate) fn touched_inodes<C: Revokes + Drop>(
     kept: &[u64],
 ) -> Result<Vec<u64>, Refusal>
     requires kept { kept.now ≡ kept_to (world_of (value_of state.now)) node (length state.now.clients) }
+    requires few { length state.now.clients < 2 ^ 32 }
     requires sound { ∥ IsSound (world_of (value_of state.now)) ∥₁ }
     requires shape { IsShaped (value_of state.now) }
     ensures inodes { IfOk result (λ inodes. inodes.items ≡ kept_inodes (world_of (value_of state.now)) node (length state.now.clients)) }

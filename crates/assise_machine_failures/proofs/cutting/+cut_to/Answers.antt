@@ -3,48 +3,33 @@ use Rattle.assise_machine_state.specs.ClientValues.{client_in, client_seen, fail
 use Rattle.assise_machine_state.specs.NodeValues.{AreUndigested, with_tails_cut}
 use Rattle.assise_machine_state.specs.Places.{IsNumber}
 use Rattle.assise_machine_failures.specs.Listing.{kept_in}
-use Rattle.assise_machine_failures.proofs.CutOff.{all_undigested, next_cut, next_fails, next_lives, next_stays, number_over, seen_known, undigested_then}
-use Rattle.assise_machine_failures.proofs.cutting.+cut_to.Given as given
+use Rattle.assise_machine_failures.proofs.CutOff.{all_undigested, home_found, next_cut, next_fails, next_lives, next_stays, number_found, undigested_then}
 use Rattle.assise_machine_failures.proofs.cutting.+cut_to.Goals as goal
 
-last_number : (t : given.Over) (c : goal.After-cut_to t) → IsNumber c.args.clients.now c.args.last
-last_number t c = record { some = omega (arith, c.if-last-eq0.false); there = c.requires.last }
-
-number_now : (t : given.Over) (c : goal.After-cut_to t) → IsNumber c.cut_to.new.clients c.args.last
-number_now t c = subst (λ cs. IsNumber cs c.args.last) (sym c.cut_to.ensures.clients) (number_over c.args.node (kept_in c.args.kept.now) c.args.clients.now (c.args.last - 1) c.args.last (last_number t c))
-
--- the home that the code finds is the client's
-home_found : (t : given.Over) (c : goal.After-home t) → c.home.result ≡ (client_seen c.args.clients.now c.args.last).home
-home_found t c =
-    c.home.ensures
-    ∙ ap (λ x. x.home) c.get.ensures
-    ∙ ap (λ cs. (client_in cs c.args.last).home) c.cut_to.ensures.clients
-    ∙ seen_known c.args.node (kept_in c.args.kept.now) c.args.clients.now (c.args.last - 1) c.args.last (omega (arith, c.if-last-eq0.false)) (last_number t c.before.before)
-
 pub get-requires : goal.get-requires
-get-requires t c = record { client = number_now t c }
+get-requires t c = record { client = number_found c.args.node (kept_in c.args.kept.now) c.args.clients.now c.args.last c.cut_to.new.clients (record { some = omega (arith, c.if-last-eq0.false); there = c.requires.last }) c.cut_to.ensures.clients }
 
 pub cut_tails-requires-clause-elsewhere : goal.cut_tails-requires-clause-elsewhere
 cut_tails-requires-clause-elsewhere t c =
-    let home : (client_seen c.args.clients.now c.args.last).home ≡ c.args.node = omega (arith, c.if-home-node.true, home_found t c.before) in
+    let home : (client_seen c.args.clients.now c.args.last).home ≡ c.args.node = omega (arith, c.if-home-node.true, home_found c.args.node (kept_in c.args.kept.now) c.args.clients.now c.args.last c.home.result c.get.result.now c.cut_to.new.clients (record { some = omega (arith, c.if-last-eq0.false); there = c.requires.last }) c.cut_to.ensures.clients c.get.ensures c.home.ensures) in
     subst (λ rs. AreUndigested rs c.args.last (kept_in c.args.kept.now c.args.last)) (sym c.cut_to.ensures.nodes)
     (all_undigested _ c.args.last (kept_in c.args.kept.now c.args.last)
     (undigested_then c.args.node c.args.clients.now (kept_in c.args.kept.now) c.args.nodes.now (c.args.last - 1) c.args.last (kept_in c.args.kept.now c.args.last) (omega (arith, c.if-last-eq0.false))
     (λ k has. c.requires.undigested k c.args.last home has)))
 
 pub fail-requires : goal.fail-requires
-fail-requires t c = record { client = number_now t c.before.before.before.before }
+fail-requires t c = record { client = number_found c.args.node (kept_in c.args.kept.now) c.args.clients.now c.args.last c.cut_to.new.clients (record { some = omega (arith, c.if-last-eq0.false); there = c.requires.last }) c.cut_to.ensures.clients }
 
 pub returns-then-home-node-clause-nodes : goal.returns-then-home-node-clause-nodes
 returns-then-home-node-clause-nodes t c =
-    let home : (client_seen c.args.clients.now c.args.last).home ≡ c.args.node = omega (arith, c.if-home-node.true, home_found t c.before.before.before) in
+    let home : (client_seen c.args.clients.now c.args.last).home ≡ c.args.node = omega (arith, c.if-home-node.true, home_found c.args.node (kept_in c.args.kept.now) c.args.clients.now c.args.last c.home.result c.get.result.now c.cut_to.new.clients (record { some = omega (arith, c.if-last-eq0.false); there = c.requires.last }) c.cut_to.ensures.clients c.get.ensures c.home.ensures) in
     c.cut_tails.ensures
     ∙ ap (λ rs. with_tails_cut rs c.args.last (kept_in c.args.kept.now c.args.last)) c.cut_to.ensures.nodes
     ∙ next_cut c.args.node c.args.clients.now (kept_in c.args.kept.now) c.args.nodes.now c.args.last (λ none. absurd (omega (arith, c.if-last-eq0.false, none))) home
 
 pub returns-then-home-node-clause-clients : goal.returns-then-home-node-clause-clients
 returns-then-home-node-clause-clients t c =
-    let home : (client_seen c.args.clients.now c.args.last).home ≡ c.args.node = omega (arith, c.if-home-node.true, home_found t c.before.before.before) in
+    let home : (client_seen c.args.clients.now c.args.last).home ≡ c.args.node = omega (arith, c.if-home-node.true, home_found c.args.node (kept_in c.args.kept.now) c.args.clients.now c.args.last c.home.result c.get.result.now c.cut_to.new.clients (record { some = omega (arith, c.if-last-eq0.false); there = c.requires.last }) c.cut_to.ensures.clients c.get.ensures c.home.ensures) in
     c.fail.ensures
     ∙ ap (λ cs. with_client cs c.args.last (failed_at (kept_in c.args.kept.now c.args.last) (client_in cs c.args.last))) c.cut_to.ensures.clients
     ∙ next_fails c.args.node (kept_in c.args.kept.now) c.args.clients.now c.args.last (record { some = omega (arith, c.if-last-eq0.false); there = c.requires.last }) home
@@ -53,10 +38,10 @@ pub returns-else-home-node-clause-nodes : goal.returns-else-home-node-clause-nod
 returns-else-home-node-clause-nodes t c =
     c.cut_to.ensures.nodes
     ∙ next_stays c.args.node c.args.clients.now (kept_in c.args.kept.now) c.args.nodes.now c.args.last (λ none. absurd (omega (arith, c.if-last-eq0.false, none)))
-    (λ is. let found = home_found t c.before in absurd (omega (arith, c.if-home-node.false, found, is)))
+    (λ is. let found = home_found c.args.node (kept_in c.args.kept.now) c.args.clients.now c.args.last c.home.result c.get.result.now c.cut_to.new.clients (record { some = omega (arith, c.if-last-eq0.false); there = c.requires.last }) c.cut_to.ensures.clients c.get.ensures c.home.ensures in absurd (omega (arith, c.if-home-node.false, found, is)))
 
 pub returns-else-home-node-clause-clients : goal.returns-else-home-node-clause-clients
 returns-else-home-node-clause-clients t c =
     c.cut_to.ensures.clients
     ∙ next_lives c.args.node (kept_in c.args.kept.now) c.args.clients.now c.args.last (λ none. absurd (omega (arith, c.if-last-eq0.false, none)))
-    (λ is. let found = home_found t c.before in absurd (omega (arith, c.if-home-node.false, found, is)))
+    (λ is. let found = home_found c.args.node (kept_in c.args.kept.now) c.args.clients.now c.args.last c.home.result c.get.result.now c.cut_to.new.clients (record { some = omega (arith, c.if-last-eq0.false); there = c.requires.last }) c.cut_to.ensures.clients c.get.ensures c.home.ensures in absurd (omega (arith, c.if-home-node.false, found, is)))

@@ -1,0 +1,168 @@
+-- What is cut where a node fails, and what is kept, as the state has it.
+use Rattle.std.proofs.Common.{◌≡◌, ℕ, zero, suc, ◌+◌, ◌-◌, ◌<◌, ◌≤◌, true, false, nat_lt, List, [], ◌∷◌, ◌++◌, if◌then◌else◌, map, take, drop, get_or, slice_get, length, Some, None, inl, inr, refl, ap, sym, subst, ◌∙◌, arith, append-nil}
+use Rattle.std.proofs.Math.Logic.{∥∥₁_elim}
+use Rattle.std.proofs.Props.{props}
+use Rattle.std.proofs.lemmas.Bool.{cases_Bool, cases_lt, le-ltb, lt-ltb, ltb-false}
+use Rattle.std.proofs.lemmas.List.{map-append}
+use Rattle.std.proofs.lemmas.Option.{none-some, slice_get_within}
+use Rattle.assise_history.specs.declared.call.Loss.{Loss}
+use Rattle.assise_record.specs.LogRecord.{LogRecord}
+use Rattle.assise_private_log.specs.NumberedLog.{NumberedLog, end as log_end, record_at, records_from}
+use Rattle.assise_inode_table.specs.Effects.{touched}
+use Rattle.assise_digest.specs.Ahead.{all_effects}
+use Rattle.assise_digest.specs.Region.{ReceivedLog}
+use Rattle.assise_manager.specs.Standings.{full_nodes}
+use Rattle.assise_machine_laws.specs.NodeSteps.{kept_at_failure}
+use Rattle.assise_machine_laws.specs.Records.{call_of}
+use Rattle.assise_machine_laws.specs.Sound.{IsSound}
+use Rattle.assise_machine_laws.specs.World.{World, call_at, end, records_between}
+use Rattle.assise_machine_history.specs.Lost.{is_cut, losses_to}
+use Rattle.assise_machine_state.specs.ClientValues.{client_in}
+use Rattle.assise_machine_state.specs.NodeValues.{log_in, log_seen}
+use Rattle.assise_machine_state.specs.Observed.{own_node, own_seen, world_of}
+use Rattle.assise_machine_state.specs.Places.{IsNumber}
+use Rattle.assise_machine_state.specs.Shape.{IsShaped}
+use Rattle.assise_machine_state.specs.StateValues.{StateValue, standings}
+use Rattle.assise_machine_state.proofs.Fullness.{log_is}
+use Rattle.assise_machine_state.proofs.Kept.{kept_from_first}
+use Rattle.assise_machine_state.proofs.Owning.{own_end, own_log}
+use Rattle.assise_machine_state.proofs.Seeing.{client_is, less_one}
+use Rattle.assise_machine_failures.specs.Answers.{loss_of}
+use Rattle.assise_machine_failures.specs.Listing.{kept_inodes, kept_to}
+use Rattle.assise_machine_failures.proofs.Keeping.{kept_count, kept_place}
+
+-- ---- one client more
+
+pub one_kept : (w : World) (n c k : ℕ) (ks js : List ℕ) → 1 ≤ c → ks ≡ kept_to w n (c - 1) → js ≡ ks ++ k ∷ [] → k ≡ kept_at_failure w n c → js ≡ kept_to w n c
+one_kept w n zero k ks js low before push is = absurd (omega (arith, low))
+one_kept w n (suc m) k ks js low before push is =
+    let first : ks ≡ kept_to w n m = before ∙ ap (kept_to w n) (less_one m) in
+    push ∙ (λ i. first i ++ is i ∷ [])
+
+loss_step : (w : World) (n m k : ℕ) → suc m ≡ k → losses_to w n k ≡ losses_to w n m ++ (if is_cut w n k then record { client = k; first = call_at w k (kept_at_failure w n k) } ∷ [] else [])
+loss_step w n m k next = subst (λ j. losses_to w n j ≡ losses_to w n m ++ (if is_cut w n j then record { client = j; first = call_at w j (kept_at_failure w n j) } ∷ [] else [])) next refl
+
+pub one_lost : (w : World) (n m call : ℕ) (ls ks : List (ℕ × ℕ)) → map loss_of ls ≡ losses_to w n m → ks ≡ ls ++ (m + 1, call) ∷ [] → is_cut w n (m + 1) ≡ true → call_at w (m + 1) (kept_at_failure w n (m + 1)) ≡ call →
+    map loss_of ks ≡ losses_to w n (m + 1)
+one_lost w n m call ls ks before push cut is =
+    let one : Loss = record { client = m + 1; first = call_at w (m + 1) (kept_at_failure w n (m + 1)) } in
+    let here : (if is_cut w n (m + 1) then one ∷ [] else []) ≡ one ∷ [] = rw cut refl in
+    ap (map loss_of) push
+    ∙ map-append loss_of ls ((m + 1, call) ∷ [])
+    ∙ (λ i. before i ++ record { client = m + 1; first = sym is i } ∷ [])
+    ∙ ap (λ more. losses_to w n m ++ more) (sym here)
+    ∙ sym (loss_step w n m (m + 1) (omega arith))
+
+pub none_lost : (w : World) (n m : ℕ) (ls ks : List (ℕ × ℕ)) → map loss_of ls ≡ losses_to w n m → ks ≡ ls → is_cut w n (m + 1) ≡ false → map loss_of ks ≡ losses_to w n (m + 1)
+none_lost w n m ls ks before same whole =
+    let one : Loss = record { client = m + 1; first = call_at w (m + 1) (kept_at_failure w n (m + 1)) } in
+    let none : (if is_cut w n (m + 1) then one ∷ [] else []) ≡ [] = rw whole refl in
+    ap (map loss_of) same
+    ∙ before
+    ∙ sym (append-nil (losses_to w n m))
+    ∙ ap (λ more. losses_to w n m ++ more) (sym none)
+    ∙ sym (loss_step w n m (m + 1) (omega arith))
+
+-- what one client's records touch which are kept
+abbrev pub touched_kept : World → ℕ → ℕ → List ℕ
+touched_kept w n c = touched (all_effects (records_between w c (w.first c) (kept_at_failure w n c)))
+
+pub one_touched : (w : World) (n m : ℕ) (is js : List ℕ) → is ≡ kept_inodes w n m → js ≡ is ++ touched_kept w n (m + 1) → js ≡ kept_inodes w n (m + 1)
+one_touched w n m is js before more =
+    let next : suc m ≡ m + 1 = omega arith in
+    subst (λ k. js ≡ is ++ touched_kept w n k → js ≡ kept_inodes w n k) next (λ added. added ∙ ap (λ ks. ks ++ touched_kept w n (suc m)) before) more
+
+-- ---- the list of places
+
+module _ (s : StateValue) (n : ℕ) (ks : List ℕ) (all : ks ≡ kept_to (world_of s) n (length s.clients)) (k : ℕ) (low : k < length ks) where
+  pub place_within : k < length s.clients
+  place_within = (let count : length ks ≡ length s.clients = ap length all ∙ kept_count (world_of s) n (length s.clients) in omega (arith, low, count))
+
+  pub place_client : IsNumber s.clients (k + 1)
+  place_client = record { some = omega arith; there = omega (arith, place_within) }
+
+  pub place_kept : get_or ks k 0 ≡ kept_at_failure (world_of s) n (k + 1)
+  place_kept =
+      let next : suc k ≡ k + 1 = omega arith in
+      ap (λ xs. get_or xs k 0) all ∙ kept_place (world_of s) n (length s.clients) k place_within ∙ ap (kept_at_failure (world_of s) n) next
+
+pub all_places : (s : StateValue) (n : ℕ) (ks : List ℕ) (k : ℕ) → ks ≡ kept_to (world_of s) n (length s.clients) → k ≤ length ks → length ks ≤ k → k ≡ length s.clients
+all_places s n ks k all most least = (let count : length ks ≡ length s.clients = ap length all ∙ kept_count (world_of s) n (length s.clients) in omega (arith, most, least, count))
+
+-- ---- the first record that is lost
+
+call_there : (rs : List LogRecord) (k next : ℕ) (r : LogRecord) → slice_get rs k ≡ Some r → call_of rs k next ≡ r.call
+call_there [] k next r is = absurd (none-some r is)
+call_there (q ∷ rs) zero next r is = cc
+call_there (q ∷ rs) (suc k) next r is = call_there rs k next r is
+
+-- a record that is there lies before the end
+there_lost : (l : NumberedLog) (k next : ℕ) (r : LogRecord) → record_at l k ≡ Some r → (k < log_end l) × (call_of l.records (k - l.first) next ≡ r.call)
+there_lost l k next r is =
+    elim (cases_Bool (nat_lt k l.first)) [
+      | inl before ↦ absurd (none-some r (rw before at is))
+      | inr behind ↦
+          let here : slice_get l.records (k - l.first) ≡ Some r = rw behind at is in
+          let low : k - l.first < length l.records = slice_get_within l.records (k - l.first) r here in
+          (omega (arith, low, ltb-false k l.first behind), call_there l.records (k - l.first) next r here)
+    ]
+
+nothing_lost : (l : NumberedLog) (k : ℕ) → l.first ≤ k → record_at l k ≡ None → log_end l ≤ k
+nothing_lost l k first none =
+    elim (cases_lt (k - l.first) (length l.records)) [
+      | inl low ↦
+          let past : nat_lt k l.first ≡ false = le-ltb k l.first first in
+          let gone : slice_get l.records (k - l.first) ≡ None = rw past at none in
+          absurd (some_none l.records (k - l.first) low gone)
+      | inr high ↦ omega (arith, high, first)
+    ]
+  where
+    some_none : (rs : List LogRecord) (j : ℕ) → j < length rs → slice_get rs j ≡ None → ⊥
+    some_none [] j low gone = omega (arith, low)
+    some_none (r ∷ rs) zero low gone = absurd (none-some r (sym gone))
+    some_none (r ∷ rs) (suc j) low gone = some_none rs j (omega (arith, low)) gone
+
+-- ---- a client's own log
+
+module _ (s : StateValue) (n c : ℕ) (shape : IsShaped s) (client : IsNumber s.clients c) (some : 0 < length (full_nodes (standings s))) where
+  abbrev own : ReceivedLog
+  own = log_in s.nodes (own_node (standings s) (client_in s.clients c)) c
+
+  abbrev cut : ℕ
+  cut = kept_at_failure (world_of s) n c
+
+  own_is : own_seen s c ≡ own
+  unfolding own_seen
+  own_is =
+      ap (λ x. log_seen s.nodes (own_node (standings s) x) c) (client_is s.clients c client)
+      ∙ log_is s (own_node (standings s) (client_in s.clients c)) c (own_log s c shape client some)
+
+  records_is : (world_of s).records c ≡ own.log.records
+  unfolding world_of
+  records_is = ap (λ l. l.log.records) own_is
+
+  pub first_is : (world_of s).first c ≡ own.log.first
+  unfolding world_of
+  first_is = ap (λ l. l.log.first) own_is
+
+  -- it is kept from its first place on
+  pub first_kept : ∥ IsSound (world_of s) ∥₁ → own.log.first ≤ cut
+  first_kept sound = (let low : (world_of s).first c ≤ cut = ∥∥₁_elim sound (search props) (kept_from_first (world_of s) n c) in omega (arith, low, first_is))
+
+  pub lost_here : (l : NumberedLog) (r : LogRecord) → l ≡ own.log → record_at l cut ≡ Some r → (is_cut (world_of s) n c ≡ true) × (call_at (world_of s) c cut ≡ r.call)
+  unfolding call_at
+  lost_here l r same is =
+      let there = there_lost own.log cut ((world_of s).next c) r (ap (λ k. record_at k cut) (sym same) ∙ is) in
+      let low : cut < end (world_of s) c = subst (λ e. cut < e) (sym (own_end s c shape client some)) there.0 in
+      (lt-ltb cut (end (world_of s) c) low, (λ i. call_of (records_is i) (cut - first_is i) ((world_of s).next c)) ∙ there.1)
+
+  pub whole_here : (l : NumberedLog) → ∥ IsSound (world_of s) ∥₁ → l ≡ own.log → record_at l cut ≡ None → is_cut (world_of s) n c ≡ false
+  whole_here l sound same none =
+      let past : log_end own.log ≤ cut = nothing_lost own.log cut (first_kept sound) (ap (λ k. record_at k cut) (sym same) ∙ none) in
+      le-ltb cut (end (world_of s) c) (subst (λ e. e ≤ cut) (sym (own_end s c shape client some)) past)
+
+  pub touched_here : (l : NumberedLog) → l ≡ own.log → touched (all_effects (take (cut - l.first) (records_from l l.first))) ≡ touched_kept (world_of s) n c
+  unfolding records_between
+  touched_here l same =
+      ap (λ k. touched (all_effects (take (cut - k.first) (drop (k.first - k.first) k.records)))) same
+      ∙ (λ i. touched (all_effects (take (cut - sym first_is i) (drop (sym first_is i - sym first_is i) (sym records_is i)))))

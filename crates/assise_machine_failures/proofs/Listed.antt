@@ -1,0 +1,164 @@
+-- What a failure lists, as the laws have it.
+use Rattle.std.proofs.Common.{◌≡◌, ℕ, zero, suc, ◌-◌, ◌≤◌, true, false, List, [], ◌∷◌, ◌++◌, take, drop, length, Option, Some, None, inl, inr, refl, ap, sym, subst, ◌∙◌, arith, append-nil, eqb-true, eq-eqb, true≢false}
+use Rattle.std.proofs.lemmas.Bool.{cases_Bool, cases_eq, cases_lt, or_cases, or_left, or_right}
+use Rattle.std.proofs.lemmas.List.{get_or_past}
+use Rattle.std.proofs.lemmas.Option.{none-some}
+use Rattle.std.specs.Ordering.{nat_cmp}
+use Rattle.std.specs.FinSet as set
+use Rattle.std.specs.FinSet.{contains-from_list_nat}
+use Rattle.assise_record.specs.LogRecord.{LogRecord}
+use Rattle.assise_inode_table.specs.Effects.{contains, touched}
+use Rattle.assise_inode_table.proofs.Making.{contains-append}
+use Rattle.assise_lease_table.specs.Leases.{Among}
+use Rattle.assise_lease_table.proofs.Elements.{among_front, among_last, among_push}
+use Rattle.assise_digest.specs.Ahead.{all_effects}
+use Rattle.assise_digest.specs.Region.{no_log}
+use Rattle.assise_manager.specs.Changes.{donor_of}
+use Rattle.assise_manager.specs.Standings.{Standing, standing_of}
+use Rattle.assise_machine_laws.specs.NodeSteps.{kept_at_failure}
+use Rattle.assise_machine_laws.specs.World.{World, records_between}
+use Rattle.assise_machine_state.specs.ClientValues.{client_seen}
+use Rattle.assise_machine_state.specs.NodeValues.{log_seen, region_seen}
+use Rattle.assise_machine_state.specs.Observed.{is_full_in, own_node, own_seen, world_of}
+use Rattle.assise_machine_state.specs.Places.{IsNumber, at}
+use Rattle.assise_machine_state.specs.Shape.{IsShaped}
+use Rattle.assise_machine_state.specs.StateValues.{StateValue, standings}
+use Rattle.assise_machine_state.proofs.Fullness.{no_log_there}
+use Rattle.assise_machine_state.proofs.Standings.{numbers}
+use Rattle.assise_machine_failures.specs.Listing.{filled_from, is_number, kept_inodes}
+use Rattle.assise_machine_failures.proofs.Cuts.{touched_kept}
+
+-- ---- the inodes of kept records
+
+touched_to : (w : World) (n m i : ℕ) → contains (kept_inodes w n m) i ≡ true → (c : ℕ) × (contains (touched_kept w n c) i ≡ true)
+touched_to w n zero i there = cc
+touched_to w n (suc m) i there =
+    elim (or_cases (contains (kept_inodes w n m) i) (contains (touched_kept w n (suc m)) i) (sym (contains-append (kept_inodes w n m) (touched_kept w n (suc m)) i) ∙ there)) [
+      | inl before ↦ touched_to w n m i before
+      | inr here ↦ (suc m, here)
+    ]
+
+to_touched : (w : World) (n m c i : ℕ) → 1 ≤ c → c ≤ m → contains (touched_kept w n c) i ≡ true → contains (kept_inodes w n m) i ≡ true
+to_touched w n zero c i low high there = absurd (omega (arith, low, high))
+to_touched w n (suc m) c i low high there =
+    contains-append (kept_inodes w n m) (touched_kept w n (suc m)) i
+    ∙ elim (cases_eq c (suc m)) [
+      | inl last ↦ or_right (contains (kept_inodes w n m) i) (contains (touched_kept w n (suc m)) i) (subst (λ d. contains (touched_kept w n d) i ≡ true) last there)
+      | inr other ↦ or_left (contains (kept_inodes w n m) i) (contains (touched_kept w n (suc m)) i) (to_touched w n m c i low (omega (arith, high, other)) there)
+    ]
+
+-- ---- who is no client has no records
+
+not_seen : {X : Type 0} (none : X) (xs : List X) (d : ℕ) → (IsNumber xs d → ⊥) → at none xs d ≡ none
+unfolding at
+not_seen none xs zero other = refl
+not_seen none xs (suc k) other =
+    elim (cases_lt k (length xs)) [
+      | inl low ↦ absurd (other record { some = omega arith; there = omega (arith, low) })
+      | inr past ↦ get_or_past xs k none past
+    ]
+
+no_log_seen : (s : StateValue) (m c : ℕ) → IsShaped s → (IsNumber s.clients c → ⊥) → log_seen s.nodes m c ≡ no_log
+unfolding log_seen
+no_log_seen s m c shape other =
+    elim (cases_Bool (is_full_in (standings s) m)) [
+      | inl f ↦
+          let all : length (region_seen s.nodes m).logs ≡ length s.clients = shape.logs m f in
+          not_seen no_log (region_seen s.nodes m).logs c (λ is. other record { some = is.some; there = subst (λ k. c ≤ k) all is.there })
+      | inr away ↦ no_log_there s m c shape away
+    ]
+
+no_records : (s : StateValue) (c : ℕ) → IsShaped s → (IsNumber s.clients c → ⊥) → (world_of s).records c ≡ []
+unfolding world_of own_seen
+no_records s c shape other = ap (λ l. l.log.records) (no_log_seen s (own_node (standings s) (client_seen s.clients c)) c shape other)
+
+abbrev no_record : List LogRecord
+no_record = []
+
+none_between : (j k : ℕ) → take k (drop j no_record) ≡ []
+none_between zero zero = refl
+none_between zero (suc k) = refl
+none_between (suc j) zero = refl
+none_between (suc j) (suc k) = refl
+
+none_kept : (s : StateValue) (n c i : ℕ) → IsShaped s → (IsNumber s.clients c → ⊥) → contains (touched_kept (world_of s) n c) i ≡ false
+unfolding records_between
+none_kept s n c i shape other =
+    let w : World = world_of s in
+    let j : ℕ = w.first c - w.first c in
+    let k : ℕ = kept_at_failure w n c - w.first c in
+    let none : take k (drop j (w.records c)) ≡ [] = ap (λ rs. take k (drop j rs)) (no_records s c shape other) ∙ none_between j k in
+    ap (λ rs. contains (touched (all_effects rs)) i) none
+
+-- ---- the inodes that are listed are those that the records touch which are left
+
+module _ (s : StateValue) (n : ℕ) (v : World) (inodes : List ℕ) (listed : inodes ≡ kept_inodes (world_of s) n (length s.clients))
+    (records : (c : ℕ) → v.records c ≡ records_between (world_of s) c ((world_of s).first c) (kept_at_failure (world_of s) n c))
+  where
+    has_listed : (i : ℕ) → set.contains (set.from_list {R = nat_cmp} inodes) i ≡ contains (kept_inodes (world_of s) n (length s.clients)) i
+    has_listed i = contains-from_list_nat inodes i ∙ ap (λ is. contains is i) listed
+
+    as_kept : (c i : ℕ) → contains (touched (all_effects (v.records c))) i ≡ contains (touched_kept (world_of s) n c) i
+    as_kept c i = ap (λ rs. contains (touched (all_effects rs)) i) (records c)
+
+    pub touched_only : (i : ℕ) → set.contains (set.from_list {R = nat_cmp} inodes) i ≡ true → (c : ℕ) × (contains (touched (all_effects (v.records c))) i ≡ true)
+    touched_only i there = (let t = touched_to (world_of s) n (length s.clients) i (sym (has_listed i) ∙ there) in (t.0, as_kept t.0 i ∙ t.1))
+
+    no_client : (c i : ℕ) → IsShaped s → contains (touched (all_effects (v.records c))) i ≡ true → (IsNumber s.clients c → ⊥) → ⊥
+    no_client c i shape there other = true≢false (sym there ∙ as_kept c i ∙ none_kept s n c i shape other)
+
+    pub touched_all : IsShaped s → (c i : ℕ) → contains (touched (all_effects (v.records c))) i ≡ true → set.contains (set.from_list {R = nat_cmp} inodes) i ≡ true
+    touched_all shape zero i there = absurd (no_client zero i shape there (λ is. omega (arith, is.some)))
+    touched_all shape (suc k) i there =
+        elim (cases_lt k (length s.clients)) [
+          | inl low ↦ has_listed i ∙ to_touched (world_of s) n (length s.clients) (suc k) i (omega arith) (omega (arith, low)) (sym (as_kept (suc k) i) ∙ there)
+          | inr past ↦ absurd (no_client (suc k) i shape there (λ is. omega (arith, is.there, past)))
+        ]
+
+-- ---- the nodes that are listed are those that are filled from the node
+
+number_is : (n : ℕ) (o : Option ℕ) → is_number n o ≡ true → o ≡ Some n
+number_is n None is = cc
+number_is n (Some m) is = ap Some (eqb-true m n is)
+
+filled_of : (nodes : List Standing) (n m k : ℕ) → Among (filled_from nodes n m) k → donor_of (standing_of nodes k) ≡ Some n
+filled_of nodes n zero k there = absurd there
+filled_of nodes n (suc m) k there =
+    elim (cases_Bool (is_number n (donor_of (standing_of nodes (suc m))))) [
+      | inl from ↦ elim (among_push (filled_from nodes n m) (suc m) k (rw from at there)) [
+        | inl before ↦ filled_of nodes n m k before
+        | inr last ↦ subst (λ j. donor_of (standing_of nodes j) ≡ Some n) (sym last) (number_is n (donor_of (standing_of nodes (suc m))) from)
+      ]
+      | inr other ↦ filled_of nodes n m k (subst (λ ks. Among ks k) (append-nil (filled_from nodes n m)) (rw other at there))
+    ]
+
+of_filled : (nodes : List Standing) (n m k : ℕ) → 1 ≤ k → k ≤ m → donor_of (standing_of nodes k) ≡ Some n → Among (filled_from nodes n m) k
+of_filled nodes n zero k low high from = absurd (omega (arith, low, high))
+of_filled nodes n (suc m) k low high from =
+    elim (cases_eq k (suc m)) [
+      | inl last ↦
+          let here : is_number n (donor_of (standing_of nodes (suc m))) ≡ true = ap (λ j. is_number n (donor_of (standing_of nodes j))) (sym last) ∙ ap (is_number n) from ∙ eq-eqb n n refl in
+          rw here (subst (Among (filled_from nodes n m ++ suc m ∷ [])) (sym last) (among_last (filled_from nodes n m) (suc m)))
+      | inr other ↦
+          let before : Among (filled_from nodes n m) k = of_filled nodes n m k low (omega (arith, high, other)) from in
+          elim (cases_Bool (is_number n (donor_of (standing_of nodes (suc m))))) [
+            | inl here ↦ rw here (among_front (filled_from nodes n m) (suc m) k before)
+            | inr none ↦ rw none (subst (λ ks. Among ks k) (sym (append-nil (filled_from nodes n m))) before)
+          ]
+    ]
+
+stands_somehow : (nodes : List Standing) (k n : ℕ) → donor_of (standing_of nodes k) ≡ Some n → (1 ≤ k) × (k ≤ length nodes)
+stands_somehow nodes k n from = somehow (standing_of nodes k) refl from
+  where
+    somehow : (o : Option Standing) → standing_of nodes k ≡ o → donor_of o ≡ Some n → (1 ≤ k) × (k ≤ length nodes)
+    somehow None is from = absurd (none-some n from)
+    somehow (Some x) is from = numbers nodes k x is
+
+module _ (s : StateValue) (n : ℕ) (nodes : List ℕ) (listed : nodes ≡ filled_from (standings s) n (length s.nodes)) where
+  pub filled_only : (k : ℕ) → Among nodes k → donor_of (standing_of (standings s) k) ≡ Some n
+  filled_only k there = filled_of (standings s) n (length s.nodes) k (subst (λ ks. Among ks k) listed there)
+
+  pub filled_all : IsShaped s → (k : ℕ) → donor_of (standing_of (standings s) k) ≡ Some n → Among nodes k
+  filled_all shape k from =
+      let there : (1 ≤ k) × (k ≤ length (standings s)) = stands_somehow (standings s) k n from in
+      subst (λ ks. Among ks k) (sym listed) (of_filled (standings s) n (length s.nodes) k there.0 (subst (λ m. k ≤ m) (sym shape.nodes) there.1) from)

@@ -1,0 +1,7 @@
+use Rattle.std.proofs.Common.{◌≡◌, map, take}
+use Rattle.assise_machine_failures.specs.Answers.{loss_of}
+use Rattle.assise_machine_failures.proofs.listing.entry_losses.Given as goal
+
+-- the first of them
+abbrev pub invariant-loop-client : goal.invariant-loop-client
+invariant-loop-client l = l.noted.items ≡ map loss_of (take l.client-index l.losses)

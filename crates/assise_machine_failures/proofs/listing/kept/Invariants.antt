@@ -1,0 +1,16 @@
+use Rattle.std.proofs.Common.{◌≡◌, take}
+use Rattle.assise_private_log.specs.NumberedLog.{end}
+use Rattle.assise_manager.specs.Standings.{full_nodes}
+use Rattle.assise_manager.specs.Whole.{membership}
+use Rattle.assise_machine_laws.specs.World.{least_of}
+use Rattle.assise_machine_state.specs.ClientValues.{client_in}
+use Rattle.assise_machine_state.specs.NodeValues.{log_in}
+use Rattle.assise_machine_state.specs.Observed.{own_node}
+use Rattle.assise_machine_failures.proofs.Keeping.{others}
+use Rattle.assise_machine_failures.proofs.listing.kept.Given as goal
+
+-- the least place of the others of the first full nodes
+abbrev pub invariant-loop-other : goal.invariant-loop-other
+invariant-loop-other g l =
+    l.least ≡ least_of (others l.node (take l.other-index (full_nodes (membership l.state.members).nodes))) (λ n. end (log_in l.state.nodes n l.client).log)
+    (end (log_in l.state.nodes (own_node (membership l.state.members).nodes (client_in l.state.clients l.client)) l.client).log)

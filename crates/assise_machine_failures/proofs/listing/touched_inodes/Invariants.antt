@@ -1,0 +1,9 @@
+use Rattle.std.proofs.Common.{◌≡◌}
+use Rattle.assise_machine_state.specs.Observed.{world_of}
+use Rattle.assise_machine_state.specs.Whole.{value_of}
+use Rattle.assise_machine_failures.specs.Listing.{kept_inodes}
+use Rattle.assise_machine_failures.proofs.listing.touched_inodes.Given as goal
+
+-- the inodes of the first clients' records
+abbrev pub invariant-loop-place : goal.invariant-loop-place
+invariant-loop-place g l = l.inodes.items ≡ kept_inodes (world_of (value_of l.state)) l.node l.place
