@@ -9,3 +9,4 @@ pub mod Keeping
 pub mod Listed
 pub mod Losing
 pub mod Failed
+pub mod Crashed
