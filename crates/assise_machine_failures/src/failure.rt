@@ -1,11 +1,9 @@
 // What the failure of a full node comes to.
-ghost use Rattle.std.specs.Prelude.{◌≡◌, IfOk, IsOkUnless, Some};
+ghost use Rattle.std.specs.Prelude.{◌<◌, ◌^◌, IfOk, IsOkUnless, length};
 ghost use Rattle.assise_names.specs.declared.refusal.Refusal.TheVariants.{OutOfMemory};
-ghost use Rattle.assise_manager.specs.Standings.{full, standing_of};
 ghost use Rattle.assise_machine_laws.specs.Sound.{IsSound};
 ghost use Rattle.assise_machine_state.specs.Observed.{world_of};
 ghost use Rattle.assise_machine_state.specs.Shape.{IsShaped};
-ghost use Rattle.assise_machine_state.specs.StateValues.{standings};
 ghost use Rattle.assise_machine_state.specs.Whole.{value_of};
 ghost use Rattle.assise_machine_failures.specs.Failures.{IsListed};
 
@@ -41,6 +39,7 @@ impl Failure {
         state: &StateOf<C>,
         node: u32,
     ) -> Result<Failure, Refusal>
+        requires few { length state.now.clients < 2 ^ 32 }
         requires sound { ∥ IsSound (world_of (value_of state.now)) ∥₁ }
         requires shape { IsShaped (value_of state.now) }
         ensures listed { IfOk result (λ failure. IsListed (value_of state.now) node failure) }
