@@ -13,11 +13,11 @@ use Rattle.assise_machine_state.proofs.Seeing.{client_else, client_is, is_seen, 
 
 -- ---- a log that a node has
 
-seen_in : (rs : List RegionValue) (k c : ℕ) → HasLog rs k c → log_seen rs k c ≡ log_in rs k c
+pub seen_in : (rs : List RegionValue) (k c : ℕ) → HasLog rs k c → log_seen rs k c ≡ log_in rs k c
 unfolding log_seen region_seen
 seen_in rs k c has = ap (λ r. at no_log r.logs c) (is_seen new_region rs k has.node) ∙ is_seen no_log (region_in rs k).logs c (log_number rs k c has)
 
-count_in : (rs : List RegionValue) (k : ℕ) → IsNumber rs k → length (region_seen rs k).logs ≡ length (region_in rs k).logs
+pub count_in : (rs : List RegionValue) (k : ℕ) → IsNumber rs k → length (region_seen rs k).logs ≡ length (region_in rs k).logs
 unfolding region_seen
 count_in rs k there = ap (λ r. length r.logs) (is_seen new_region rs k there)
 

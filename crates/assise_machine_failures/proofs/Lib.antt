@@ -2,6 +2,9 @@ pub mod Dropping
 pub mod Refusing
 pub mod ComingBack
 pub mod Filling
+pub mod Settled
+pub mod TakenIn
+pub mod Crashed
 pub mod CutOff
 pub mod Cuts
 pub mod FilledFrom
@@ -9,4 +12,4 @@ pub mod Keeping
 pub mod Listed
 pub mod Losing
 pub mod Failed
-pub mod Crashed
+pub mod TakenDown

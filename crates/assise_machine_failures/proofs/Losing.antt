@@ -5,16 +5,16 @@ use Rattle.std.specs.Ordering.{nat_cmp}
 use Rattle.std.specs.FinSet as set
 use Rattle.assise_lease_table.specs.Leases.{Among}
 use Rattle.assise_inode_table.specs.Contents.{Content}
-use Rattle.assise_inode_table.specs.Effects.{contains}
-use Rattle.assise_manager.specs.Changes.{stale_of}
+use Rattle.assise_manager.specs.Changes.{is_returning, stale_of}
 use Rattle.assise_manager.specs.Standings.{standing_of}
 use Rattle.assise_machine_laws.specs.NodeSteps.{Rests}
-use Rattle.assise_machine_laws.specs.World.{Full, World}
 use Rattle.assise_machine_returns.specs.Returns.{LosesCopies}
 use Rattle.assise_machine_state.specs.Observed.{world_of}
 use Rattle.assise_machine_state.specs.Places.{IsNumber}
 use Rattle.assise_machine_state.specs.Shape.{IsShaped}
 use Rattle.assise_machine_state.specs.StateValues.{StateValue, standings}
+use Rattle.assise_machine_failures.specs.Copies.{AllLose, AreReturning, LosesStale}
+use Rattle.assise_machine_failures.proofs.Dropping.{lost_count, lost_else, lost_here, lost_is, lost_rests, lost_shaped, rests_more, rests_still}
 
 -- all of the state is as it was but what nodes have that aren't full
 pub record StillLosing (t u : StateValue) : Type 0 where
@@ -39,53 +39,10 @@ abbrev pub AllLoseAt : StateValue → List ℕ → StateValue → Type 0
 AllLoseAt t [] u = u ≡ t
 AllLoseAt t (k ∷ ks) u = (v : StateValue) × (LosesAt t k v × AllLoseAt v ks u)
 
--- ---- the rest rests
-
-pub rest_same : (w : World) → Rests w w
-rest_same w = record {
-  logs = record { calls = refl; records = λ c. refl; first = λ c. refl; next = λ c. refl; border = λ c k. refl; made = λ c. refl };
-  clients = record { clients = refl; home = λ c. refl; lives = λ c. refl; crashed = λ c. refl };
-  goals = λ c. refl;
-  leases = record { holds = λ c i. refl; writes = λ c i. refl };
-  nodes = record { full = refl; same = λ n full. record { area = λ i. refl; log = λ c. refl; received = λ c. refl; digested = λ c. refl } };
-}
-
-pub rest_twice : (w v u : World) → Rests w v → Rests v u → Rests w u
-rest_twice w v u a b = record {
-  logs = record {
-    calls = b.logs.calls ∙ a.logs.calls;
-    records = λ c. b.logs.records c ∙ a.logs.records c;
-    first = λ c. b.logs.first c ∙ a.logs.first c;
-    next = λ c. b.logs.next c ∙ a.logs.next c;
-    border = λ c k. b.logs.border c k ∙ a.logs.border c k;
-    made = λ c. b.logs.made c ∙ a.logs.made c;
-  };
-  clients = record {
-    clients = b.clients.clients ∙ a.clients.clients;
-    home = λ c. b.clients.home c ∙ a.clients.home c;
-    lives = λ c. b.clients.lives c ∙ a.clients.lives c;
-    crashed = λ c. b.clients.crashed c ∙ a.clients.crashed c;
-  };
-  goals = λ c. b.goals c ∙ a.goals c;
-  leases = record { holds = λ c i. b.leases.holds c i ∙ a.leases.holds c i; writes = λ c i. b.leases.writes c i ∙ a.leases.writes c i };
-  nodes = record {
-    full = b.nodes.full ∙ a.nodes.full;
-    same = λ n full. (let now : Full v n = still_full n full in record {
-        area = λ i. (b.nodes.same n now).area i ∙ (a.nodes.same n full).area i;
-        log = λ c. (b.nodes.same n now).log c ∙ (a.nodes.same n full).log c;
-        received = λ c. (b.nodes.same n now).received c ∙ (a.nodes.same n full).received c;
-        digested = λ c. (b.nodes.same n now).digested c ∙ (a.nodes.same n full).digested c;
-      });
-  };
-}
-  where
-    still_full : (n : ℕ) → Full w n → Full v n
-    still_full n full = subst (λ ns. contains ns n ≡ true) (sym a.nodes.full) full
-
 -- ---- what stays where nodes lose copies
 
 pub still_same : (t : StateValue) → IsShaped t → StillLosing t t
-still_same t shape = record { members = refl; clients = refl; levels = refl; cuts = refl; history = refl; limit = refl; count = refl; rests = rest_same (world_of t); shape = shape }
+still_same t shape = record { members = refl; clients = refl; levels = refl; cuts = refl; history = refl; limit = refl; count = refl; rests = rests_still (world_of t); shape = shape }
 
 pub still_twice : (t v u : StateValue) → StillLosing t v → StillLosing v u → StillLosing t u
 still_twice t v u a b = record {
@@ -96,7 +53,7 @@ still_twice t v u a b = record {
   history = b.history ∙ a.history;
   limit = b.limit ∙ a.limit;
   count = b.count ∙ a.count;
-  rests = rest_twice (world_of t) (world_of v) (world_of u) a.rests b.rests;
+  rests = rests_more (world_of t) (world_of v) (world_of u) a.rests b.rests;
   shape = b.shape;
 }
 
@@ -147,3 +104,44 @@ one_loses t (j ∷ ks) u k i stale (v, (first, rest)) (inr later) is =
 pub others_stay : (t : StateValue) (ks : List ℕ) (u : StateValue) (k i : ℕ) → AllLoseAt t ks u → (Among ks k → ⊥) → (world_of u).area k i ≡ (world_of t).area k i
 others_stay t [] u k i lose none = ap (λ s. (world_of s).area k i) lose
 others_stay t (j ∷ ks) u k i (v, (first, rest)) none = others_stay v ks u k i rest (λ later. none (inr later)) ∙ first.elsewhere k i (λ same. none (inl same))
+
+-- ---- as the code has it
+
+-- what is returning stays so
+still_returning : (t v : StateValue) (ks : List ℕ) → v.members ≡ t.members → AreReturning t ks → AreReturning v ks
+still_returning t v [] same are = tt
+still_returning t v (k ∷ ks) same (first, rest) = (ap (λ m. is_returning (standing_of m.nodes k)) same ∙ first, still_returning t v ks same rest)
+
+module _ (t : StateValue) (k : ℕ) (v : StateValue) (shape : IsShaped t) (is : is_returning (standing_of (standings t) k) ≡ true) (loses : LosesStale t k v) where
+  same_but_nodes : v ≡ record t { nodes = v.nodes }
+  same_but_nodes = lost_is t k v shape is loses
+
+  pub loses_at : LosesAt t k v
+  loses_at = record {
+    still = record {
+      members = ap (λ s. s.members) same_but_nodes;
+      clients = ap (λ s. s.clients) same_but_nodes;
+      levels = ap (λ s. s.levels) same_but_nodes;
+      cuts = ap (λ s. s.cuts) same_but_nodes;
+      history = ap (λ s. s.history) same_but_nodes;
+      limit = ap (λ s. s.limit) same_but_nodes;
+      count = lost_count t k v shape is loses;
+      rests = lost_rests t k v shape is loses;
+      shape = lost_shaped t k v shape is loses;
+    };
+    here = lost_here t k v shape is loses;
+    elsewhere = lost_else t k v shape is loses;
+  }
+
+pub all_at : (t : StateValue) (ks : List ℕ) (u : StateValue) → IsShaped t → AreReturning t ks → AllLose t ks u → AllLoseAt t ks u
+all_at t [] u shape are lose = lose
+all_at t (k ∷ ks) u shape (first, rest) (v, (loses, more)) =
+    let at : LosesAt t k v = loses_at t k v shape first loses in
+    (v, (at, all_at v ks u at.still.shape (still_returning t v ks at.still.members rest) more))
+
+-- the first of several, and the rest of them
+pub then_returning : (t v : StateValue) (k : ℕ) (ks : List ℕ) → IsShaped t → AreReturning t (k ∷ ks) → LosesStale t k v → AreReturning v ks
+then_returning t v k ks shape (first, rest) loses = still_returning t v ks (loses_at t k v shape first loses).still.members rest
+
+pub then_shaped : (t v : StateValue) (k : ℕ) (ks : List ℕ) → IsShaped t → AreReturning t (k ∷ ks) → LosesStale t k v → IsShaped v
+then_shaped t v k ks shape (first, rest) loses = (loses_at t k v shape first loses).still.shape

@@ -24,10 +24,12 @@ pub fn join<C: Revokes + Drop>(
 {
     let state = &mut sound.state;
     let donor = state.members.donor(node)?;
-    if !state.members.stale(node)?.is_empty() {
+    if state.members.lowest_stale(node)?.is_some() {
         return Err(Refusal::Busy);
     }
     state.history.reserve()?;
+    // There are never 2^63 entries, and no more epochs: the next epoch's number fits.
+    let _entries = state.history.entries();
     state.nodes.copy_logs(alloc, node, donor)?;
     if let Err(refusal) = state.members.join(node) {
         state.nodes.remove_logs(node);

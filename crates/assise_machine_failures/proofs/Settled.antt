@@ -1,0 +1,76 @@
+-- That a node is full again has one proof at most, where it is known how it stood.
+use Rattle.std.proofs.Common.{◌≡◌, ℕ, List, Option, Some, None, inl, inr, ap, sym, ◌∙◌}
+use Rattle.std.specs.Coded.{Coded, Coded-set, coded_bool, coded_list, coded_option, coded_ℕ, codes}
+use Rattle.std.specs.Ordering.{nat_cmp}
+use Rattle.std.specs.FinSet as set
+use Rattle.std.proofs.Math.Logic.{∥∥₁_elim}
+use Rattle.std.proofs.Props.{props}
+use Rattle.std.proofs.lemmas.Bool.{cases_eq}
+use Rattle.std.proofs.lemmas.Option.{same_Some}
+use Rattle.assise_inode_table.specs.Contents.{coded_content}
+use Rattle.assise_inode_table.specs.Traces.{NumberedCall}
+use Rattle.assise_record.specs.LogRecord.{LogRecord}
+use Rattle.assise_manager.specs.Changes.{donor_of, join_fault, joined}
+use Rattle.assise_manager.specs.Membership.{Membership}
+use Rattle.assise_manager.specs.Standings.{returning, standing_of}
+use Rattle.assise_machine_laws.specs.World.{World}
+use Rattle.assise_machine_returns.specs.Returns.{Rejoins}
+
+coded_records : Coded (List LogRecord)
+coded_records = hlevel codes
+
+coded_calls : Coded (List NumberedCall)
+coded_calls = hlevel codes
+
+module _ (w w' : World) (m m' : Membership) (n since donor : ℕ) (stale : set.FinSet nat_cmp) (some : ∥ Rejoins w m n w' m' ∥₁)
+    (stands : standing_of m.nodes n ≡ Some (returning since donor stale)) (fine : join_fault m n ≡ None) (members : m' ≡ joined m n) where
+  same_donor : (r : Rejoins w m n w' m') → r.donor ≡ donor
+  same_donor r = same_Some r.donor donor (ap donor_of (sym r.stands ∙ stands))
+
+  number : (k l : ℕ) → (Rejoins w m n w' m' → k ≡ l) → k ≡ l
+  number k l shows = ∥∥₁_elim some (Coded-set coded_ℕ k l) shows
+
+  pub settled : Rejoins w m n w' m'
+  settled = record {
+    since = since;
+    donor = donor;
+    stale = stale;
+    stands = stands;
+    fine = fine;
+    members = members;
+    joined = ∥∥₁_elim some (search props) (λ r. r.joined);
+    stay = λ k f. ∥∥₁_elim some (search props) (λ r. r.stay k f);
+    only = λ k f. elim (cases_eq k n) [
+      | inl is ↦ inl is
+      | inr other ↦ inr (∥∥₁_elim some (search props) (λ r. elim (r.only k f) [ | inl is ↦ absurd (other is) | inr was ↦ was ]))
+    ];
+    logs = record {
+      calls = ∥∥₁_elim some (Coded-set coded_calls w'.calls w.calls) (λ r. r.logs.calls);
+      records = λ c. ∥∥₁_elim some (Coded-set coded_records (w'.records c) (w.records c)) (λ r. r.logs.records c);
+      first = λ c. number (w'.first c) (w.first c) (λ r. r.logs.first c);
+      next = λ c. number (w'.next c) (w.next c) (λ r. r.logs.next c);
+      border = λ c k. ∥∥₁_elim some (Coded-set coded_bool (w'.border c k) (w.border c k)) (λ r. r.logs.border c k);
+      made = λ c. number (w'.made c) (w.made c) (λ r. r.logs.made c);
+    };
+    clients = record {
+      clients = number w'.clients w.clients (λ r. r.clients.clients);
+      home = λ c. number (w'.home c) (w.home c) (λ r. r.clients.home c);
+      lives = λ c. ∥∥₁_elim some (Coded-set coded_bool (w'.lives c) (w.lives c)) (λ r. r.clients.lives c);
+      crashed = λ c. ∥∥₁_elim some (Coded-set coded_bool (w'.crashed c) (w.crashed c)) (λ r. r.clients.crashed c);
+    };
+    goals = λ c. number (w'.goal c) (w.goal c) (λ r. r.goals c);
+    leases = record {
+      holds = λ c i. ∥∥₁_elim some (Coded-set coded_bool (w'.holds c i) (w.holds c i)) (λ r. r.leases.holds c i);
+      writes = λ c i. ∥∥₁_elim some (Coded-set coded_bool (w'.writes c i) (w.writes c i)) (λ r. r.leases.writes c i);
+    };
+    area = λ k i. ∥∥₁_elim some (Coded-set (coded_option coded_content) (w'.area k i) (w.area k i)) (λ r. r.area k i);
+    log_here = λ c. ∥∥₁_elim some (Coded-set coded_records (w'.log n c) (w.log donor c)) (λ r. r.log_here c ∙ ap (λ d. w.log d c) (same_donor r));
+    received_here = λ c. number (w'.received n c) (w.received donor c) (λ r. r.received_here c ∙ ap (λ d. w.received d c) (same_donor r));
+    digested_here = λ c. number (w'.digested n c) (w.digested donor c) (λ r. r.digested_here c ∙ ap (λ d. w.digested d c) (same_donor r));
+    else_same = λ k f. record {
+      area = λ i. ∥∥₁_elim some (Coded-set (coded_option coded_content) (w'.area k i) (w.area k i)) (λ r. r.area k i);
+      log = λ c. ∥∥₁_elim some (Coded-set coded_records (w'.log k c) (w.log k c)) (λ r. (r.else_same k f).log c);
+      received = λ c. number (w'.received k c) (w.received k c) (λ r. (r.else_same k f).received c);
+      digested = λ c. number (w'.digested k c) (w.digested k c) (λ r. (r.else_same k f).digested c);
+    };
+  }

@@ -1,0 +1,133 @@
+-- A full node that is taken down: its logs are gone, and those of its clients are cut where they are kept.
+use Rattle.std.proofs.Common.{◌≡◌, ◌≢◌, ℕ, zero, suc, ◌+◌, ◌-◌, ◌<◌, ◌≤◌, ◌^◌, ◌==◌, true, false, not, ◌&&◌, List, [], ◌∷◌, ◌++◌, length, Some, inl, inr, refl, ap, sym, subst, ◌∙◌, arith, get_or, slice_index_or, true≢false}
+use Rattle.std.proofs.Math.Bridge.{le_prop}
+use Rattle.std.proofs.Math.Logic.{∥∥₁_elim}
+use Rattle.std.proofs.lemmas.Bool.{cases_Bool, cases_eq, ne_eqb}
+use Rattle.std.specs.Ordering.{nat_cmp}
+use Rattle.std.specs.FinSet as set
+use Rattle.assise_history.specs.Entries.{Event, fails}
+use Rattle.assise_digest.specs.Region.{RegionValue}
+use Rattle.assise_lease_table.specs.declared.lease.Asked.{Asked}
+use Rattle.assise_lease_tree.specs.TwoLevels.{TwoLevels}
+use Rattle.assise_manager.specs.Changes.{failed}
+use Rattle.assise_manager.specs.Membership.{Membership}
+use Rattle.assise_manager.specs.Standings.{full, standing_of}
+use Rattle.assise_machine_laws.specs.NodeSteps.{kept_at_failure}
+use Rattle.assise_machine_laws.specs.Sound.{IsSound}
+use Rattle.assise_machine_laws.specs.World.{World, received_by_all}
+use Rattle.assise_machine_laws.proofs.Failing.{kept_low}
+use Rattle.assise_machine_history.specs.Lost.{losses_of}
+use Rattle.assise_machine_events.specs.Machine.{Holds}
+use Rattle.assise_machine_state.specs.Changes.{after_failure, with_clients_cut, with_clients_failed}
+use Rattle.assise_machine_state.specs.ClientValues.{ClientValue, client_in, client_seen, failed_at, with_client}
+use Rattle.assise_machine_state.specs.NodeValues.{HasLog, IsUndigestedFrom, log_in, log_seen, region_in, region_seen, with_tails_cut, without_logs}
+use Rattle.assise_machine_state.specs.Observed.{is_full_in, observed, world_of}
+use Rattle.assise_machine_state.specs.Places.{IsNumber}
+use Rattle.assise_machine_state.specs.Shape.{IsShaped}
+use Rattle.assise_machine_state.specs.StateValues.{StateValue, standings}
+use Rattle.assise_machine_state.proofs.Fullness.{node_number, seen_full}
+use Rattle.assise_machine_state.proofs.Logging.{log_away, region_else, region_here}
+use Rattle.assise_machine_state.proofs.Seeing.{less_one}
+use Rattle.assise_machine_failures.specs.Listing.{kept_in, kept_to}
+use Rattle.assise_machine_failures.proofs.CutOff.{count_in, seen_in}
+use Rattle.assise_machine_failures.proofs.Keeping.{kept_place}
+
+-- ---- numbers
+
+pub few_clients : (s : StateValue) → ∥ Holds (observed s) ∥₁ → length s.clients < 4294967296
+unfolding observed world_of
+few_clients s holds =
+    let few : length s.clients ≤ 16 = ∥∥₁_elim holds le_prop (λ h. h.clients) in
+    omega (arith, few)
+
+-- ---- where logs are kept
+
+pub place_in : (w : World) (n m c : ℕ) (ks : List ℕ) → ks ≡ kept_to w n m → 0 < c → c ≤ m → kept_in ks c ≡ kept_at_failure w n c
+place_in w n m zero ks is some low = absurd (omega (arith, some))
+place_in w n m (suc c) ks is some low =
+    ap (λ js. kept_in js (suc c)) is ∙ ap (λ k. slice_index_or (kept_to w n m) k 0) (less_one c) ∙ kept_place w n m c (omega (arith, low))
+
+-- what is cut depends on the places of clients 1 to m alone
+pub same_cuts : (n : ℕ) (cs : List ClientValue) (f g : ℕ → ℕ) (m : ℕ) (rs : List RegionValue) → ((c : ℕ) → 0 < c → c ≤ m → f c ≡ g c) → with_clients_cut n cs f m rs ≡ with_clients_cut n cs g m rs
+same_cuts n cs f g zero rs same = refl
+same_cuts n cs f g (suc m) rs same =
+    let rest : with_clients_cut n cs f m rs ≡ with_clients_cut n cs g m rs = same_cuts n cs f g m rs (λ c some low. same c some (omega (arith, low))) in
+    let last : f (suc m) ≡ g (suc m) = same (suc m) (omega arith) (omega arith) in
+    elim (cases_Bool ((client_seen cs (suc m)).home == n)) [
+      | inl here ↦ rw here (λ i. with_tails_cut (rest i) (suc m) (last i))
+      | inr other ↦ rw other rest
+    ]
+
+pub same_ends : (n : ℕ) (f g : ℕ → ℕ) (m : ℕ) (cs : List ClientValue) → ((c : ℕ) → 0 < c → c ≤ m → f c ≡ g c) → with_clients_failed n f m cs ≡ with_clients_failed n g m cs
+same_ends n f g zero cs same = refl
+same_ends n f g (suc m) cs same =
+    let rest : with_clients_failed n f m cs ≡ with_clients_failed n g m cs = same_ends n f g m cs (λ c some low. same c some (omega (arith, low))) in
+    let last : f (suc m) ≡ g (suc m) = same (suc m) (omega arith) (omega arith) in
+    elim (cases_Bool ((client_seen cs (suc m)).home == n)) [
+      | inl here ↦ rw here (λ i. with_client (rest i) (suc m) (failed_at (last i) (client_in cs (suc m))))
+      | inr other ↦ rw other rest
+    ]
+
+-- ---- nothing is digested from there on, and no client of the node lives where it has a log
+
+module _ (s : StateValue) (n : ℕ) (shape : IsShaped s) (stands : standing_of (standings s) n ≡ Some full) (sound : ∥ IsSound (world_of s) ∥₁) where
+  pub number : IsNumber s.nodes n
+  number = node_number s n full shape stands
+
+  emptied : RegionValue
+  emptied = record { inodes = (region_in s.nodes n).inodes; logs = [] }
+
+  -- the failed node has no log
+  other_node : (k c : ℕ) → HasLog (without_logs s.nodes n) k c → k ≢ n
+  other_node k c has same =
+      let none : length (region_seen (without_logs s.nodes n) n).logs ≡ 0 = ap (λ r. length r.logs) (region_here s.nodes n (record { inodes = (region_in s.nodes n).inodes; logs = [] }) number) in
+      let had : c ≤ length (region_seen (without_logs s.nodes n) n).logs =
+      subst (λ j. c ≤ length (region_seen (without_logs s.nodes n) j).logs) same (subst (λ j. c ≤ j) (sym (count_in (without_logs s.nodes n) k has.node)) has.client.there) in
+      absurd (omega (arith, none, had, has.client.some))
+
+  is_full_there : (k c : ℕ) → HasLog (without_logs s.nodes n) k c → is_full_in (standings s) k ≡ true
+  is_full_there k c has =
+      elim (cases_Bool (is_full_in (standings s) k)) [
+        | inl f ↦ f
+        | inr away ↦
+            let apart : k ≢ n = other_node k c has in
+            let same : length (region_seen (without_logs s.nodes n) k).logs ≡ length (region_seen s.nodes k).logs = ap (λ r. length r.logs) (region_else s.nodes n (record { inodes = (region_in s.nodes n).inodes; logs = [] }) number k apart) in
+            let none : length (region_seen s.nodes k).logs ≡ 0 = ap length (shape.no_logs k away) in
+            let count = count_in (without_logs s.nodes n) k has.node in
+            absurd (omega (arith, same, none, count, has.client.some, has.client.there))
+      ]
+
+  digested_low : (k c : ℕ) → is_full_in (standings s) k ≡ true → (world_of s).digested k c ≤ kept_at_failure (world_of s) n c
+  digested_low k c f =
+      let acked : (world_of s).digested k c ≤ received_by_all (world_of s) c = ∥∥₁_elim sound le_prop (λ h. (h.coherent.order k c (seen_full s k f)).acknowledged) in
+      let low : received_by_all (world_of s) c ≤ kept_at_failure (world_of s) n c = kept_low (world_of s) n c in
+      omega (arith, acked, low)
+
+  pub undigested : (ks : List ℕ) → ks ≡ kept_to (world_of s) n (length s.clients) → (k c : ℕ) → IsNumber s.clients c → (client_seen s.clients c).home ≡ n → HasLog (without_logs s.nodes n) k c →
+      IsUndigestedFrom (log_in (without_logs s.nodes n) k c) (kept_in ks c)
+  unfolding world_of
+  undigested ks is k c client home has =
+      let apart : k ≢ n = other_node k c has in
+      let same : log_in (without_logs s.nodes n) k c ≡ log_seen s.nodes k c =
+      sym (seen_in (without_logs s.nodes n) k c has) ∙ log_away s.nodes n (record { inodes = (region_in s.nodes n).inodes; logs = [] }) number k c apart in
+      let elsewhere : (k == (client_seen s.clients c).home) ≡ false = ne_eqb k (client_seen s.clients c).home (λ e. apart (e ∙ home)) in
+      let low : (log_seen s.nodes k c).digested ≤ kept_at_failure (world_of s) n c = digested_low k c (is_full_there k c has) in
+      let place : kept_in ks c ≡ kept_at_failure (world_of s) n c = place_in (world_of s) n (length s.clients) c ks is client.some client.there in
+      record {
+        elsewhere = ap (λ l. l.at_home) same ∙ shape.at_home k c ∙ ap (λ b. b && not (client_seen s.clients c).failed) elsewhere;
+        digested = (let digest : (log_in (without_logs s.nodes n) k c).digested ≡ (log_seen s.nodes k c).digested = ap (λ l. l.digested) same in omega (arith, digest, low, place));
+      }
+
+-- ---- it is the state after the failure
+
+pub is_after : (s : StateValue) (n : ℕ) (inodes : set.FinSet nat_cmp) (levels : TwoLevels) (asked : List Asked) (ks : List ℕ) (last : ℕ) (rs : List RegionValue) (m : Membership) (cs : List ClientValue) (cuts : List Asked) (h : List Event) →
+    ks ≡ kept_to (world_of s) n (length s.clients) → last ≡ length s.clients → rs ≡ with_clients_cut n s.clients (kept_in ks) last (without_logs s.nodes n) → m ≡ failed s.members n inodes →
+    cs ≡ with_clients_failed n (kept_in ks) last s.clients → cuts ≡ s.cuts ++ asked → h ≡ s.history ++ fails n (losses_of (world_of s) n) ∷ [] →
+    ◌≡◌ {A = StateValue} (record { nodes = rs; members = m; clients = cs; levels = levels; cuts = cuts; history = h; limit = s.limit }) (after_failure s n inodes levels asked)
+is_after s n inodes levels asked ks last rs m cs cuts h kept all nodes members clients noted told =
+    let places : (c : ℕ) → 0 < c → c ≤ length s.clients → kept_in ks c ≡ kept_at_failure (world_of s) n c = λ c some low. place_in (world_of s) n (length s.clients) c ks kept some low in
+    let cut : rs ≡ with_clients_cut n s.clients (kept_at_failure (world_of s) n) (length s.clients) (without_logs s.nodes n) =
+    nodes ∙ ap (λ j. with_clients_cut n s.clients (kept_in ks) j (without_logs s.nodes n)) all ∙ same_cuts n s.clients (kept_in ks) (kept_at_failure (world_of s) n) (length s.clients) (without_logs s.nodes n) places in
+    let over : cs ≡ with_clients_failed n (kept_at_failure (world_of s) n) (length s.clients) s.clients =
+    clients ∙ ap (λ j. with_clients_failed n (kept_in ks) j s.clients) all ∙ same_ends n (kept_in ks) (kept_at_failure (world_of s) n) (length s.clients) s.clients places in
+    λ i. record { nodes = cut i; members = members i; clients = over i; levels = levels; cuts = noted i; history = told i; limit = s.limit }

@@ -1,0 +1,153 @@
+-- A node that came back is full again, as the laws have it.
+use Rattle.std.proofs.Common.{◌≡◌, ◌≢◌, ◌⊎◌, ℕ, suc, ◌+◌, ◌-◌, ◌<◌, ◌≤◌, ◌==◌, false, not, true, if◌then◌else◌, List, [], ◌∷◌, ◌++◌, get_or, length, set as put_at, Option, Some, None, inl, inr, refl, ap, sym, subst, ◌∙◌, arith, eq-eqb, is_some, true≢false}
+use Rattle.std.specs.Ordering.{nat_cmp}
+use Rattle.std.specs.FinSet as set
+use Rattle.std.specs.FinSet.{contains-empty, empty_of_len, len-empty}
+use Rattle.std.proofs.Math.Bridge.{le_prop}
+use Rattle.std.proofs.Math.Logic.{∥∥₁_elim, ∥∥₁_map}
+use Rattle.std.proofs.lemmas.Bool.{ne_eqb}
+use Rattle.std.proofs.lemmas.List.{get_or-set_same, length-set, set-get_or, set-set}
+use Rattle.std.proofs.lemmas.Option.{none-some}
+use Rattle.assise_names.specs.declared.refusal.Refusal.{Refusal}
+use Rattle.assise_names.specs.declared.refusal.Refusal.TheVariants.{Busy, OutOfMemory}
+use Rattle.assise_history.specs.Entries.{Event, returns}
+use Rattle.assise_digest.specs.Region.{RegionValue}
+use Rattle.assise_manager.specs.Changes.{IsLowestOf, donor_of, filling_fault, filling_fault_of, join_fault, join_fault_of, joined as joined_members, stale_of}
+use Rattle.assise_manager.specs.Membership.{IsMembership, Membership}
+use Rattle.assise_manager.specs.Standings.{Standing, down, full, returning, standing_of}
+use Rattle.assise_machine_events.specs.Events.{Answer, joined, refused}
+use Rattle.assise_machine_events.specs.Machine.{Holds}
+use Rattle.assise_machine_events.specs.MemberEvents.{IsJoined, Joining}
+use Rattle.assise_machine_events.specs.MemberEvents.Joining.{is_joined, is_refused, lacks_memory}
+use Rattle.assise_machine_returns.specs.Returns.{Rejoins}
+use Rattle.assise_machine_state.specs.Changes.{after_join}
+use Rattle.assise_machine_state.specs.NodeValues.{new_region, region_in, with_logs_of, without_logs}
+use Rattle.assise_machine_state.specs.Observed.{observed, world_of}
+use Rattle.assise_machine_state.specs.Places.{IsNumber}
+use Rattle.assise_machine_state.specs.Shape.{AreNoted, IsShaped}
+use Rattle.assise_machine_state.specs.StateValues.{StateValue, leases_of, standings}
+use Rattle.assise_machine_state.proofs.Returning.{join_shaped, node_rejoins}
+use Rattle.assise_machine_failures.proofs.Filling.{filled_from, filled_stands}
+use Rattle.assise_machine_failures.proofs.Refusing.{IsFaultOr}
+use Rattle.assise_machine_failures.proofs.Settled.{settled}
+
+-- ---- the state is as it was
+
+pub same_all : (s : StateValue) (rs : List RegionValue) (m : Membership) (h : List Event) → rs ≡ s.nodes → m ≡ s.members → h ≡ s.history → record s { nodes = rs; members = m; history = h } ≡ s
+same_all s rs m h nodes members history = (λ i. record s { nodes = nodes i; members = members i; history = history i })
+
+-- logs that a node got go again
+logs_gone : (rs : List RegionValue) (n d : ℕ) → IsNumber rs n → (region_in rs n).logs ≡ [] → without_logs (with_logs_of rs n d) n ≡ rs
+logs_gone rs n d there none =
+    let low : n - 1 < length rs = omega (arith, there.some, there.there) in
+    let filled : RegionValue = region_in (with_logs_of rs n d) n in
+    let same : (region_in (with_logs_of rs n d) n).inodes ≡ (region_in rs n).inodes = ap (λ r. r.inodes) (get_or-set_same rs (n - 1) _ new_region low) in
+    let back : record { inodes = (region_in (with_logs_of rs n d) n).inodes; logs = [] } ≡ region_in rs n = (λ i. record { inodes = same i; logs = sym none i }) in
+    set-set rs (n - 1) _ _ ∙ ap (put_at rs (n - 1)) back ∙ set-get_or rs (n - 1) new_region
+
+pub logs_back : (rs ls ms : List RegionValue) (n d : ℕ) → IsNumber rs n → (region_in rs n).logs ≡ [] → ls ≡ with_logs_of rs n d → ms ≡ without_logs ls n → ms ≡ rs
+logs_back rs ls ms n d there none got gone = gone ∙ ap (λ xs. without_logs xs n) got ∙ logs_gone rs n d there none
+
+pub got_number : (rs ls : List RegionValue) (n d : ℕ) → IsNumber rs n → ls ≡ with_logs_of rs n d → IsNumber ls n
+got_number rs ls n d there got = record { some = there.some; there = subst (λ k. n ≤ k) (sym (ap length got ∙ length-set rs (n - 1) _)) there.there }
+
+-- ---- the epoch fits
+
+pub epoch_fits : (s : StateValue) → ∥ Holds (observed s) ∥₁ → length s.history < 9223372036854775808 → s.members.epoch + 1 < 18446744073709551616
+unfolding observed
+epoch_fits s holds few =
+    let low : s.members.epoch ≤ suc (length s.history) = ∥∥₁_elim holds le_prop (λ h. h.epochs) in
+    omega (arith, low, few)
+
+-- ---- it is refused
+
+fault_stays : (o : Option Standing) (e : Refusal) → filling_fault_of o ≡ Some e → join_fault_of o ≡ Some e
+fault_stays None e fault = fault
+fault_stays (Some full) e fault = fault
+fault_stays (Some (down since)) e fault = fault
+fault_stays (Some (returning since donor stale)) e fault = absurd (none-some e fault)
+
+pub join_refused : (s : StateValue) (n : ℕ) (e : Refusal) (a : Answer) → a ≡ refused e → IsFaultOr (filling_fault s.members n) e → (filling_fault s.members n ≡ None → ⊥) → Joining (observed s) n a (observed s)
+unfolding observed
+join_refused s n e a is (inl (fine, memory)) never = absurd (never fine)
+join_refused s n e a is (inr fault) never = is_refused e (fault_stays (standing_of (standings s) n) e fault) is refl
+
+-- whether it may lack an inode is whether there is a lowest one
+nonempty : (inodes : set.FinSet nat_cmp) (i : ℕ) → set.contains inodes i ≡ true → set.len inodes ≢ 0
+nonempty inodes i there none = true≢false (sym there ∙ ap (λ s. set.contains s i) (empty_of_len inodes none) ∙ contains-empty nat_cmp i)
+
+busy_fault : (o : Option Standing) (i : ℕ) → IsLowestOf (stale_of o) (Some i) → join_fault_of o ≡ Some Busy
+busy_fault None i low = absurd low
+busy_fault (Some full) i low = absurd low
+busy_fault (Some (down since)) i low = absurd low
+busy_fault (Some (returning since donor stale)) i low = rw (ne_eqb (set.len stale) 0 (nonempty stale i low.there)) refl
+
+no_fault : (o : Option Standing) → IsLowestOf (stale_of o) None → join_fault_of o ≡ None
+no_fault None none = absurd none
+no_fault (Some full) none = absurd none
+no_fault (Some (down since)) none = absurd none
+no_fault (Some (returning since donor stale)) none = rw (eq-eqb (set.len stale) 0 (ap set.len none ∙ len-empty nat_cmp)) refl
+
+module _ (s : StateValue) (n : ℕ) where
+  pub join_busy : (lowest : Option ℕ) → IsLowestOf (stale_of (standing_of (standings s) n)) lowest → is_some lowest ≡ true → Joining (observed s) n (refused Busy) (observed s)
+  unfolding observed
+  join_busy None low some = absurd (true≢false (sym some))
+  join_busy (Some i) low some = is_refused Busy (busy_fault (standing_of (standings s) n) i low) refl refl
+
+  pub join_fine : (lowest : Option ℕ) → IsLowestOf (stale_of (standing_of (standings s) n)) lowest → is_some lowest ≡ false → join_fault s.members n ≡ None
+  join_fine None low none = no_fault (standing_of (standings s) n) low
+  join_fine (Some i) low none = absurd (true≢false none)
+
+  pub join_lacks : (rs : List RegionValue) (m : Membership) (h : List Event) (e : Refusal) (a : Answer) → join_fault s.members n ≡ None → rs ≡ s.nodes → m ≡ s.members → h ≡ s.history → a ≡ refused e → e ≡ OutOfMemory →
+      Joining (observed s) n a (observed (record s { nodes = rs; members = m; history = h }))
+  unfolding observed
+  join_lacks rs m h e a fine nodes members history is memory = lacks_memory fine (is ∙ ap refused memory) (ap observed (same_all s rs m h nodes members history))
+
+-- ---- it is full again
+
+module _ (s : StateValue) (n d : ℕ) (holds : ∥ Holds (observed s) ∥₁) (shape : IsShaped s) (lawful : IsMembership s.members) (from : donor_of (standing_of (standings s) n) ≡ Some d)
+    (fine : join_fault s.members n ≡ None) (rs : List RegionValue) (m : Membership) (h : List Event) (nodes : rs ≡ with_logs_of s.nodes n d) (members : m ≡ joined_members s.members n)
+    (history : h ≡ s.history ++ returns n ∷ []) where
+  abbrev since : ℕ
+  since = (filled_stands (standing_of (standings s) n) d from).0
+
+  abbrev stale : set.FinSet nat_cmp
+  stale = (filled_stands (standing_of (standings s) n) d from).1.0
+
+  stands : standing_of (standings s) n ≡ Some (returning since d stale)
+  stands = filled_from s n d shape lawful from
+
+  abbrev t : StateValue
+  t = after_join s n d
+
+  abbrev w : StateValue
+  w = record s { nodes = rs; members = m; history = h }
+
+  same : w ≡ t
+  same = (λ i. record s { nodes = nodes i; members = members i; history = history i })
+
+  rejoins : Rejoins (world_of s) s.members n (world_of t) t.members
+  unfolding observed
+  rejoins =
+      settled (world_of s) (world_of t) s.members t.members n since d stale (∥∥₁_map holds (λ h. node_rejoins s n since d stale shape lawful stands h.sound fine)) stands fine refl
+
+  same_leases : leases_of t ≡ leases_of s
+  unfolding leases_of
+  same_leases = refl
+
+  joined_so : IsJoined (observed s) n (observed t)
+  unfolding observed
+  joined_so = record { rejoins = rejoins; leases = same_leases; adds = record { history = refl; limit = refl } }
+
+  happens_so : Joining (observed s) n joined (observed t)
+  unfolding observed
+  happens_so = is_joined fine refl joined_so
+
+  pub join_happens : Joining (observed s) n joined (observed w)
+  join_happens = subst (λ x. Joining (observed s) n joined (observed x)) (sym same) happens_so
+
+  pub join_left : IsShaped w
+  join_left = subst IsShaped (sym same) (join_shaped s n since d stale shape lawful stands)
+
+  pub join_noted : AreNoted s → AreNoted w
+  join_noted noted = record { once = noted.once; known = noted.known; noted = noted.noted }
