@@ -89,7 +89,7 @@ keeps_lost t (j ∷ ks) u k i stale had (v, (first, rest)) is before =
 
 pub one_loses : (t : StateValue) (ks : List ℕ) (u : StateValue) (k i : ℕ) (stale : set.FinSet nat_cmp) → AllLoseAt t ks u → Among ks k → stale_of (standing_of (standings t) k) ≡ Some stale →
     (world_of u).area k i ≡ (if set.contains stale i then None else (world_of t).area k i)
-one_loses t [] u k i stale lose there is = elim there []
+one_loses t [] u k i stale lose there is = elim there [ ]
 one_loses t (j ∷ ks) u k i stale (v, (first, rest)) (inl same) is =
     keeps_lost v ks u k i stale ((world_of t).area k i) rest (same_stale t v k stale first.still is)
     (subst (λ n. (world_of v).area n i ≡ lost (set.contains stale i) ((world_of t).area n i)) (sym same) (first.here stale (subst (λ n. stale_of (standing_of (standings t) n) ≡ Some stale) same is) i))

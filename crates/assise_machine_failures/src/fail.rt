@@ -103,6 +103,8 @@ fn take_down<C: Revokes + Drop>(
         filled,
     } = failure;
     state.history.reserve()?;
+    // There are never 2^63 entries, and no more epochs: the next epoch's number fits.
+    let _entries = state.history.entries();
     state.cuts.reserve(asked.len())?;
     state.members.fail(node, &inodes)?;
     state.nodes.remove_logs(node);
@@ -140,6 +142,8 @@ fn fail_again<C: Revokes + Drop>(
 {
     let state = &mut sound.state;
     state.history.reserve()?;
+    // There are never 2^63 entries, and no more epochs: the next epoch's number fits.
+    let _entries = state.history.entries();
     state.members.fail(node, &[])?;
     state.history.push(Entry::fail(node, Vec::new(alloc)));
     Ok(Vec::new(alloc))
