@@ -117,6 +117,7 @@ fn take_down<C: Revokes + Drop>(
 }
 
 /// Nodes that come back and start over from another lose their copies of the inodes that they may lack. It takes no memory.
+#[tactic(auto, using(crate::proofs::Losing::then_returning, crate::proofs::Losing::then_shaped))]
 fn drop_filled<C: Revokes + Drop>(state: &mut StateOf<C>, mut filled: IntoIter<u32>)
     requires returning { AreReturning (value_of state.old) filled.rest.items }
     requires shape { IsShaped (value_of state.old) }
