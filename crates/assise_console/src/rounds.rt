@@ -1,8 +1,8 @@
 // What the workers of a cluster do: replicate turns, and rounds.
 ghost use Rattle.std.specs.Prelude.{◌≡◌, IfErr, IfOk, is_none};
-ghost use Rattle.assise_machine_events.specs.Events.{refused};
+ghost use Rattle.assise_machine_events.specs.Events.{refused, released};
 ghost use Rattle.assise_machine_events.specs.Faults.{node_fault};
-ghost use Rattle.assise_machine_events.specs.NodeEvents.{Sending};
+ghost use Rattle.assise_machine_events.specs.NodeEvents.{Releasing, Sending};
 ghost use Rattle.assise_machine.specs.Clusters.{machine};
 ghost use Rattle.assise_console.specs.Courses.{Told};
 ghost use Rattle.assise_console.specs.Rounds.{AreCarried, Delivers, DigestsOnce, EachFull, IsRound, Replicates, TakesTurn};
@@ -72,7 +72,7 @@ pub(crate) fn round<C: Revokes + Drop>(alloc: Global, cluster: &mut ClusterOf<C>
 {
     replicate_to(alloc, cluster, MOST_NODES);
     digest_to(alloc, cluster, MOST_NODES);
-    cluster.release_ready();
+    release(cluster);
 }
 
 /// Of nodes 1 to a last one, each that is full makes a replicate turn.
@@ -99,6 +99,13 @@ fn digest_to<C: Revokes + Drop>(alloc: Global, cluster: &mut ClusterOf<C>, last:
     if is_full(cluster, last) {
         let _ = cluster.digest(alloc, last);
     }
+}
+
+/// Leases go that may. It answers how many.
+fn release<C: Revokes + Drop>(cluster: &mut ClusterOf<C>) -> usize
+    ensures { Releasing (machine cluster.old) (released result) (machine cluster.new) }
+{
+    cluster.release_ready()
 }
 
 fn is_full<C: Revokes + Drop>(cluster: &ClusterOf<C>, node: u32) -> bool

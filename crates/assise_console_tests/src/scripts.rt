@@ -4,7 +4,7 @@ ghost use Rattle.std.specs.Prelude.{◌+◌, ◌<◌, ◌^◌};
 use crate::stock::stock_of;
 use assise_console::engine::run_script;
 use assise_console::options::CommandLine;
-use std::alloc::Global;
+use std::alloc::{AllocError, Global};
 use std::process::Abort;
 use std::test::Fail;
 
@@ -24,8 +24,31 @@ pub(crate) fn prints(
     prints_in(alloc, rt, script, NOWHERE.turns, wanted)
 }
 
-/// Runs a script whose calls are tried so many times at most. It has to print this.
+/// Runs a script whose calls are tried so many times at most. It has to print this, and the same where one inode alone is kept
+/// hot.
 pub(crate) fn prints_in(
+    alloc: Global,
+    rt: &impl Abort,
+    script: &str,
+    turns: u32,
+    wanted: &str,
+) -> Result<(), Fail> {
+    prints_as_is(alloc, rt, script, turns, wanted)?;
+    let one_hot = with_one_hot(alloc, script)?;
+    prints_as_is(alloc, rt, one_hot.as_str(), turns, wanted)
+}
+
+/// A script whose first line makes a cluster that keeps one inode hot; a script without a cluster stays as it is.
+fn with_one_hot(alloc: Global, script: &str) -> Result<String, AllocError> {
+    if let Some((first, rest)) = script.split_once('\n') {
+        if let Some((cluster, _)) = first.rsplit_once(' ') {
+            return format!(in alloc; "{cluster} 1\n{rest}");
+        }
+    }
+    String::from_str(alloc, script)
+}
+
+fn prints_as_is(
     alloc: Global,
     rt: &impl Abort,
     script: &str,

@@ -5,5 +5,5 @@ use Rattle.assise_console.proofs.rounds.round.Goals as goal
 
 pub returns : goal.returns
 returns g c =
-    whole_round (machine c.args.cluster.now) (machine c.replicate_to.new.cluster) (machine c.digest_to.new.cluster) (machine c.release_ready.new.self)
-    c.replicate_to.ensures.0 c.digest_to.ensures.0 (released c.release_ready.result) c.replicate_to.ensures.1 c.digest_to.ensures.1 c.release_ready.ensures.happens
+    whole_round (machine c.args.cluster.now) (machine c.replicate_to.new.cluster) (machine c.digest_to.new.cluster) (machine c.release.new.cluster)
+    c.replicate_to.ensures.0 c.digest_to.ensures.0 (released c.release.result) c.replicate_to.ensures.1 c.digest_to.ensures.1 c.release.ensures
