@@ -1,5 +1,5 @@
 -- A node that was down begins to come back, as the laws have it.
-use Rattle.std.proofs.Common.{◌≡◌, ◌≢◌, ℕ, true, if◌then◌else◌, List, [], length, Option, Some, None, inl, inr, refl, ap, sym, subst, ◌∙◌, append-nil}
+use Rattle.std.proofs.Common.{◌≡◌, List, false, ℕ, true, if◌then◌else◌, length, Option, Some, None, inl, inr, refl, ap, sym, subst, ◌∙◌, append-nil}
 use Rattle.std.specs.Option.{option_map}
 use Rattle.std.specs.Ordering.{nat_cmp}
 use Rattle.std.specs.FinSet as set
@@ -8,7 +8,7 @@ use Rattle.std.proofs.lemmas.Option.{none-some, same_Some}
 use Rattle.assise_names.specs.declared.refusal.Refusal.{Refusal}
 use Rattle.assise_manager.specs.Changes.{back, back_as, is_returning, return_fault, return_fault_of, stale_of}
 use Rattle.assise_manager.specs.Membership.{Membership, lowest_full, written_since}
-use Rattle.assise_manager.specs.Standings.{Standing, down, full, returning, standing_of}
+use Rattle.assise_manager.specs.Standings.{Standing, down, full, is_full, returning, standing_of, with_standing}
 use Rattle.assise_machine_returns.specs.Returns.{ComesBack}
 use Rattle.assise_machine_returns.proofs.Standing.{set_here}
 use Rattle.assise_machine_events.specs.Events.{Answer, began, refused}
@@ -19,7 +19,7 @@ use Rattle.assise_machine_state.specs.Observed.{is_full_in, observed, world_of}
 use Rattle.assise_machine_state.specs.Shape.{AreNoted, IsShaped}
 use Rattle.assise_machine_state.specs.StateValues.{StateValue, leases_of, standings}
 use Rattle.assise_machine_state.proofs.Resting.{members_areas, members_rest, members_shaped}
-use Rattle.assise_machine_state.proofs.Standings.{full_as, full_else, same_count}
+use Rattle.assise_machine_state.proofs.Standings.{full_as, full_else, full_here, same_count}
 use Rattle.assise_machine_failures.specs.Copies.{LosesStale}
 use Rattle.assise_machine_failures.proofs.Dropping.{lost_else, lost_here, lost_is, lost_rests, lost_shaped, rests_more}
 use Rattle.assise_machine_failures.proofs.Refusing.{IsFaultOr, same_after}
@@ -31,6 +31,15 @@ pub back_refused : (s : StateValue) (n : ℕ) (m : Membership) (e : Refusal) (a 
 unfolding observed
 back_refused s n m e a same is (inl (fine, memory)) = lacks_memory fine (is ∙ ap refused memory) (ap observed (same_after s m same))
 back_refused s n m e a same is (inr fault) = is_refused e fault is (ap observed (same_after s m same))
+
+-- ---- a node that isn't full stands otherwise, not full
+
+pub still_full : (nodes : List Standing) (n : ℕ) (old now : Standing) → standing_of nodes n ≡ Some old → is_full old ≡ false → is_full now ≡ false →
+    (k : ℕ) → is_full_in (with_standing nodes n now) k ≡ is_full_in nodes k
+still_full nodes n old now stands was is k = elim (cases_eq k n) [
+  | inl same ↦ subst (λ j. is_full_in (with_standing nodes n now) j ≡ is_full_in nodes j) (sym same) (full_here nodes n old now stands ∙ is ∙ sym (full_as nodes n old stands ∙ was))
+  | inr other ↦ full_else nodes n k old now stands other
+]
 
 -- ---- a node stands down
 
@@ -65,10 +74,7 @@ module _ (s : StateValue) (n : ℕ) (m : Membership) (shape : IsShaped s) (fine 
   stands_now = ap (λ nodes. standing_of nodes n) nodes_are ∙ set_here (standings s) n (down since) now stands
 
   as_full : (k : ℕ) → is_full_in m.nodes k ≡ is_full_in (standings s) k
-  as_full k = elim (cases_eq k n) [
-    | inl is ↦ subst (λ j. is_full_in m.nodes j ≡ is_full_in (standings s) j) (sym is) (full_as m.nodes n now stands_now ∙ sym (full_as (standings s) n (down since) stands))
-    | inr other ↦ ap (λ nodes. is_full_in nodes k) nodes_are ∙ full_else (standings s) n k (down since) now stands other
-  ]
+  as_full k = ap (λ nodes. is_full_in nodes k) nodes_are ∙ still_full (standings s) n (down since) now stands refl refl k
 
   abbrev t : StateValue
   t = after_members s m

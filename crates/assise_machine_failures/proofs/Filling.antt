@@ -1,39 +1,36 @@
 -- A node that comes back gets an inode from the node that it is filled from, as the laws have it.
-use Rattle.std.proofs.Common.{◌≡◌, ◌≢◌, ◌⊎◌, ℕ, false, List, [], length, Option, Some, None, Result, Ok, Err, IfOk, IsOk, inl, inr, refl, ap, sym, subst, ◌∙◌, append-nil, true≢false}
+use Rattle.std.proofs.Common.{◌≡◌, ℕ, false, List, [], length, Option, Some, None, Result, Ok, Err, IfOk, IsOk, inl, inr, refl, ap, sym, subst, ◌∙◌, append-nil, true≢false}
 use Rattle.std.specs.Option.{option_map}
 use Rattle.std.specs.Ordering.{nat_cmp}
 use Rattle.std.specs.FinMap as map
 use Rattle.std.specs.FinSet as set
 use Rattle.std.specs.FinSet.{len-empty}
-use Rattle.std.proofs.lemmas.Bool.{cases_eq}
-use Rattle.std.proofs.lemmas.List.{length-set}
 use Rattle.std.proofs.lemmas.Option.{none-some, same_Some}
 use Rattle.assise_names.specs.declared.refusal.Refusal.{Refusal}
 use Rattle.assise_names.specs.declared.refusal.Refusal.TheVariants.{OutOfMemory}
 use Rattle.assise_inode_table.specs.Contents.{Content, values}
 use Rattle.assise_digest.specs.Region.{RegionValue, with_inode}
-use Rattle.assise_manager.specs.Changes.{IsLowest, IsLowestOf, copied, copied_as, donor_of, filling_fault, filling_fault_of, is_returning, stale_of}
+use Rattle.assise_manager.specs.Changes.{IsLowest, IsLowestOf, copied, copied_as, donor_of, filling_fault, filling_fault_of, stale_of}
 use Rattle.assise_manager.specs.Membership.{IsMembership, Membership}
 use Rattle.assise_manager.specs.Standings.{Standing, down, full, returning, standing_of}
 use Rattle.assise_manager.proofs.Lawful.{donor_full}
-use Rattle.assise_machine_laws.specs.World.{Full}
 use Rattle.assise_machine_returns.specs.Returns.{Refills}
 use Rattle.assise_machine_returns.proofs.Standing.{set_here}
 use Rattle.assise_machine_events.specs.Events.{Answer, left, refused}
-use Rattle.assise_machine_events.specs.MemberEvents.{IsRefilled, Refilling, count_of, stale_at}
+use Rattle.assise_machine_events.specs.MemberEvents.{IsRefilled, Refilling, count_of}
 use Rattle.assise_machine_events.specs.MemberEvents.Refilling.{is_refilled, is_refused, is_whole, lacks_memory}
 use Rattle.assise_machine_state.specs.Changes.{after_inode, after_members}
-use Rattle.assise_machine_state.specs.NodeValues.{region_in, region_seen, with_region}
+use Rattle.assise_machine_state.specs.NodeValues.{region_in, with_region}
 use Rattle.assise_machine_state.specs.Observed.{is_full_in, observed, world_of}
 use Rattle.assise_machine_state.specs.Places.{IsNumber}
 use Rattle.assise_machine_state.specs.Shape.{AreNoted, IsShaped}
 use Rattle.assise_machine_state.specs.StateValues.{StateValue, leases_of, standings}
 use Rattle.assise_machine_state.proofs.Fullness.{node_number, region_is}
 use Rattle.assise_machine_state.proofs.Resting.{inode_else, inode_here, inode_rests, inode_shaped, members_areas, members_rest, members_shaped}
-use Rattle.assise_machine_state.proofs.Standings.{full_as, full_else, same_count}
+use Rattle.assise_machine_state.proofs.Standings.{full_as, same_count}
 use Rattle.assise_machine_failures.specs.Answers.{refilling_answer}
 use Rattle.assise_machine_failures.proofs.Dropping.{not_full, rests_more}
-use Rattle.assise_machine_failures.proofs.ComingBack.{counted}
+use Rattle.assise_machine_failures.proofs.ComingBack.{counted, still_full}
 use Rattle.assise_machine_failures.proofs.Refusing.{IsFaultOr}
 
 -- ---- it is refused
@@ -106,10 +103,7 @@ module _ (s : StateValue) (n d : ℕ) (shape : IsShaped s) (lawful : IsMembershi
     stands_now = ap (λ nodes. standing_of nodes n) nodes_are ∙ set_here (standings s) n (returning since d stale) now filled_from
 
     as_full : (k : ℕ) → is_full_in m.nodes k ≡ is_full_in (standings s) k
-    as_full k = elim (cases_eq k n) [
-      | inl is ↦ subst (λ j. is_full_in m.nodes j ≡ is_full_in (standings s) j) (sym is) (full_as m.nodes n now stands_now ∙ sym filled_away)
-      | inr other ↦ ap (λ nodes. is_full_in nodes k) nodes_are ∙ full_else (standings s) n k (returning since d stale) now filled_from other
-    ]
+    as_full k = ap (λ nodes. is_full_in nodes k) nodes_are ∙ still_full (standings s) n (returning since d stale) now filled_from refl refl k
 
     abbrev t : StateValue
     t = after_inode s n i v

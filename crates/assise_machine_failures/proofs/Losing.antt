@@ -89,7 +89,7 @@ keeps_lost t (j ∷ ks) u k i stale had (v, (first, rest)) is before =
 
 pub one_loses : (t : StateValue) (ks : List ℕ) (u : StateValue) (k i : ℕ) (stale : set.FinSet nat_cmp) → AllLoseAt t ks u → Among ks k → stale_of (standing_of (standings t) k) ≡ Some stale →
     (world_of u).area k i ≡ (if set.contains stale i then None else (world_of t).area k i)
-one_loses t [] u k i stale lose there is = elim there []
+one_loses t [] u k i stale lose there is = elim there [ ]
 one_loses t (j ∷ ks) u k i stale (v, (first, rest)) (inl same) is =
     keeps_lost v ks u k i stale ((world_of t).area k i) rest (same_stale t v k stale first.still is)
     (subst (λ n. (world_of v).area n i ≡ lost (set.contains stale i) ((world_of t).area n i)) (sym same) (first.here stale (subst (λ n. stale_of (standing_of (standings t) n) ≡ Some stale) same is) i))
@@ -140,8 +140,10 @@ all_at t (k ∷ ks) u shape (first, rest) (v, (loses, more)) =
     (v, (at, all_at v ks u at.still.shape (still_returning t v ks at.still.members rest) more))
 
 -- the first of several, and the rest of them
-pub then_returning : (t v : StateValue) (k : ℕ) (ks : List ℕ) → IsShaped t → AreReturning t (k ∷ ks) → LosesStale t k v → AreReturning v ks
-then_returning t v k ks shape (first, rest) loses = still_returning t v ks (loses_at t k v shape first loses).still.members rest
+pub then_returning : (t v : StateValue) (k : ℕ) (all ks : List ℕ) → all ≡ k ∷ ks → IsShaped t → AreReturning t all → LosesStale t k v → AreReturning v ks
+then_returning t v k all ks is shape are loses =
+    let both : AreReturning t (k ∷ ks) = subst (AreReturning t) is are in
+    still_returning t v ks (loses_at t k v shape both.0 loses).still.members both.1
 
-pub then_shaped : (t v : StateValue) (k : ℕ) (ks : List ℕ) → IsShaped t → AreReturning t (k ∷ ks) → LosesStale t k v → IsShaped v
-then_shaped t v k ks shape (first, rest) loses = (loses_at t k v shape first loses).still.shape
+pub then_shaped : (t v : StateValue) (k : ℕ) (all ks : List ℕ) → all ≡ k ∷ ks → IsShaped t → AreReturning t all → LosesStale t k v → IsShaped v
+then_shaped t v k all ks is shape are loses = (let both : AreReturning t (k ∷ ks) = subst (AreReturning t) is are in (loses_at t k v shape both.0 loses).still.shape)

@@ -1,5 +1,5 @@
 -- What is refused leaves all as it was.
-use Rattle.std.proofs.Common.{◌≡◌, ◌⊎◌, ℕ, Option, Some, None, Result, Ok, Err, inl, inr, refl, ap, sym, ◌∙◌}
+use Rattle.std.proofs.Common.{◌≡◌, ◌⊎◌, Option, Some, None, Result, Ok, Err, inl, inr, refl, ap, sym, true, false, true≢false}
 use Rattle.assise_names.specs.declared.refusal.Refusal.{Refusal}
 use Rattle.assise_names.specs.declared.refusal.Refusal.TheVariants.{OutOfMemory}
 use Rattle.assise_manager.specs.Membership.{Membership}
@@ -25,3 +25,7 @@ same_error {X} d e is = ap (error_of {X = X} d) is
 pub fault_or : {X : Type 0} (fault : Option Refusal) (e : Refusal) → ((r : Refusal) → fault ≡ Some r → ◌≡◌ {A = Result X Refusal} (Err e) (Err r)) → (fault ≡ None → e ≡ OutOfMemory) → IsFaultOr fault e
 fault_or None e faults memory = inl (refl, memory refl)
 fault_or {X} (Some r) e faults memory = inr (ap Some (sym (same_error {X = X} e r (faults r refl))))
+
+-- where no fault stands, it isn't refused
+pub never : {P : Type 0} → (P → false ≡ true) → P → ⊥
+never shows p = true≢false (sym (shows p))

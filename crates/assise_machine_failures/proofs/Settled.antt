@@ -1,6 +1,6 @@
 -- That a node is full again has one proof at most, where it is known how it stood.
-use Rattle.std.proofs.Common.{◌≡◌, ℕ, List, Option, Some, None, inl, inr, ap, sym, ◌∙◌}
-use Rattle.std.specs.Coded.{Coded, Coded-set, coded_bool, coded_list, coded_option, coded_ℕ, codes}
+use Rattle.std.proofs.Common.{◌≡◌, ℕ, List, Some, None, inl, inr, ap, sym, ◌∙◌}
+use Rattle.std.specs.Coded.{Coded, Coded-set, coded_bool, coded_option, coded_ℕ, codes}
 use Rattle.std.specs.Ordering.{nat_cmp}
 use Rattle.std.specs.FinSet as set
 use Rattle.std.proofs.Math.Logic.{∥∥₁_elim}
@@ -42,7 +42,7 @@ module _ (w w' : World) (m m' : Membership) (n since donor : ℕ) (stale : set.F
     stay = λ k f. ∥∥₁_elim some (search props) (λ r. r.stay k f);
     only = λ k f. elim (cases_eq k n) [
       | inl is ↦ inl is
-      | inr other ↦ inr (∥∥₁_elim some (search props) (λ r. elim (r.only k f) [ | inl is ↦ absurd (other is) | inr was ↦ was ]))
+      | inr other ↦ inr (∥∥₁_elim some (search props) (λ r. elim (r.only k f) [ inl is ↦ absurd (other is) | inr was ↦ was ]))
     ];
     logs = record {
       calls = ∥∥₁_elim some (Coded-set coded_calls w'.calls w.calls) (λ r. r.logs.calls);

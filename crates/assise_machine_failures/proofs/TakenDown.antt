@@ -1,7 +1,7 @@
 -- A full node that is taken down: its logs are gone, and those of its clients are cut where they are kept.
 use Rattle.std.proofs.Common.{◌≡◌, ◌≢◌, ℕ, zero, suc, ◌+◌, ◌-◌, ◌<◌, ◌≤◌, ◌^◌, ◌==◌, true, false, not, ◌&&◌, List, [], ◌∷◌, ◌++◌, length, Some, inl, inr, refl, ap, sym, subst, ◌∙◌, arith, get_or, slice_index_or, true≢false}
 use Rattle.std.proofs.Math.Bridge.{le_prop}
-use Rattle.std.proofs.Math.Logic.{∥∥₁_elim}
+use Rattle.std.proofs.Math.Logic.{∥∥₁_elim, ∥∥₁_map}
 use Rattle.std.proofs.lemmas.Bool.{cases_Bool, cases_eq, ne_eqb}
 use Rattle.std.specs.Ordering.{nat_cmp}
 use Rattle.std.specs.FinSet as set
@@ -39,6 +39,10 @@ unfolding observed world_of
 few_clients s holds =
     let few : length s.clients ≤ 16 = ∥∥₁_elim holds le_prop (λ h. h.clients) in
     omega (arith, few)
+
+pub sound_so : (s : StateValue) → ∥ Holds (observed s) ∥₁ → ∥ IsSound (world_of s) ∥₁
+unfolding observed
+sound_so s holds = ∥∥₁_map holds (λ h. h.sound)
 
 -- ---- where logs are kept
 

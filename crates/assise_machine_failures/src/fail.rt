@@ -103,6 +103,8 @@ fn take_down<C: Revokes + Drop>(
         filled,
     } = failure;
     state.history.reserve()?;
+    // There are never 2^63 entries, and no more epochs: the next epoch's number fits.
+    let _entries = state.history.entries();
     state.cuts.reserve(asked.len())?;
     state.members.fail(node, &inodes)?;
     state.nodes.remove_logs(node);
@@ -115,6 +117,7 @@ fn take_down<C: Revokes + Drop>(
 }
 
 /// Nodes that come back and start over from another lose their copies of the inodes that they may lack. It takes no memory.
+#[tactic(auto, using(crate::proofs::Losing::then_returning, crate::proofs::Losing::then_shaped))]
 fn drop_filled<C: Revokes + Drop>(state: &mut StateOf<C>, mut filled: IntoIter<u32>)
     requires returning { AreReturning (value_of state.old) filled.rest.items }
     requires shape { IsShaped (value_of state.old) }
@@ -140,6 +143,8 @@ fn fail_again<C: Revokes + Drop>(
 {
     let state = &mut sound.state;
     state.history.reserve()?;
+    // There are never 2^63 entries, and no more epochs: the next epoch's number fits.
+    let _entries = state.history.entries();
     state.members.fail(node, &[])?;
     state.history.push(Entry::fail(node, Vec::new(alloc)));
     Ok(Vec::new(alloc))

@@ -1,9 +1,8 @@
-use Rattle.std.proofs.Common.{◌≡◌, ℕ, ◌<◌, ◌++◌, ◌∷◌, [], length, None, ap, refl, subst, sym, ◌∙◌, arith, true≢false}
+use Rattle.std.proofs.Common.{◌≡◌, ℕ, ◌<◌, ◌++◌, ◌∷◌, [], length, ap, refl, subst, sym, ◌∙◌, arith}
 use Rattle.std.proofs.Math.Logic.{∥∥₁_map}
 use Rattle.std.proofs.lemmas.Result.{err_from_is_err_and}
-use Rattle.assise_names.specs.declared.refusal.Refusal.TheVariants.{OutOfMemory}
 use Rattle.assise_history.specs.Entries.{returns}
-use Rattle.assise_manager.specs.Changes.{filling_fault, join_fault}
+use Rattle.assise_manager.specs.Changes.{filling_fault}
 use Rattle.assise_manager.specs.Whole.{membership}
 use Rattle.assise_machine_events.specs.Events.{join as join_event, joined, refused}
 use Rattle.assise_machine_events.specs.Machine.{Holds}
@@ -15,7 +14,7 @@ use Rattle.assise_machine_state.specs.StateValues.{StateValue}
 use Rattle.assise_machine_state.specs.Whole.{value_of}
 use Rattle.assise_machine_failures.specs.Answers.{joining_answer}
 use Rattle.assise_machine_failures.proofs.Filling.{donor_number, filled_logless, filled_number}
-use Rattle.assise_machine_failures.proofs.Refusing.{fault_or}
+use Rattle.assise_machine_failures.proofs.Refusing.{fault_or, never}
 use Rattle.assise_machine_failures.proofs.TakenIn.{epoch_fits, got_number, join_busy, join_fine, join_happens, join_lacks, join_left, join_noted, join_refused, logs_back, same_all}
 use Rattle.assise_machine_failures.proofs.join.join.Given as given
 use Rattle.assise_machine_failures.proofs.join.join.Goals as goal
@@ -24,9 +23,8 @@ pub returns-in_err-donor-clause-happens : goal.returns-in_err-donor-clause-happe
 returns-in_err-donor-clause-happens g c =
     let s = value_of c.args.sound.now.state in
     let error = err_from_is_err_and c.from_residual.result c.from_residual.ensures.1 in
-    let never : filling_fault s.members c.args.node ≡ None → ⊥ = λ fine. true≢false (sym (c.in_err-donor.ensures.ok.1 fine)) in
     join_refused s c.args.node c.in_err-donor.field-0.0 (joining_answer c.from_residual.result) (ap joining_answer error.1 ∙ ap refused error.2)
-    (fault_or {X = ℕ} (filling_fault s.members c.args.node) c.in_err-donor.field-0.0 c.in_err-donor.ensures.fault (λ fine. absurd (never fine))) never
+    (fault_or {X = ℕ} (filling_fault s.members c.args.node) c.in_err-donor.field-0.0 c.in_err-donor.ensures.fault (λ fine. absurd (never c.in_err-donor.ensures.ok.1 fine))) (never c.in_err-donor.ensures.ok.1)
 
 pub returns-then-is_some-clause-happens : goal.returns-then-is_some-clause-happens
 returns-then-is_some-clause-happens g c =

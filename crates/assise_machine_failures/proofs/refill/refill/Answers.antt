@@ -1,10 +1,10 @@
-use Rattle.std.proofs.Common.{◌≡◌, ◌⊎◌, ℕ, Some, None, inl, inr, ap, refl, subst, sym, ◌∙◌, true≢false}
+use Rattle.std.proofs.Common.{ℕ, Some, ap, subst, sym, ◌∙◌}
 use Rattle.std.proofs.Math.Logic.{∥∥₁_map}
 use Rattle.std.proofs.lemmas.Result.{err_from_is_err_and}
 use Rattle.assise_manager.specs.Changes.{IsLowestOf, filling_fault, stale_of}
 use Rattle.assise_manager.specs.Standings.{standing_of}
 use Rattle.assise_manager.specs.Whole.{membership}
-use Rattle.assise_machine_events.specs.Events.{left, refill as refill_event, refused}
+use Rattle.assise_machine_events.specs.Events.{refill as refill_event, refused}
 use Rattle.assise_machine_events.specs.MemberEvents.{Refilling}
 use Rattle.assise_machine_events.proofs.EachEvent.{event_keeps}
 use Rattle.assise_machine_state.specs.NodeValues.{region_in}
@@ -14,7 +14,7 @@ use Rattle.assise_machine_state.specs.Whole.{value_of}
 use Rattle.assise_machine_failures.specs.Answers.{refilling_answer}
 use Rattle.assise_machine_failures.proofs.Dropping.{logless_quiet}
 use Rattle.assise_machine_failures.proofs.Filling.{donor_number, filled_fine, filled_logless, filled_number, lacks_memory_so, refill_answers, refill_noted, refill_refused, refill_shaped, whole_so}
-use Rattle.assise_machine_failures.proofs.Refusing.{fault_or}
+use Rattle.assise_machine_failures.proofs.Refusing.{fault_or, never}
 use Rattle.assise_machine_failures.proofs.refill.refill.Given as given
 use Rattle.assise_machine_failures.proofs.refill.refill.Goals as goal
 
@@ -23,7 +23,7 @@ returns-in_err-donor-clause-happens g c =
     let s = value_of c.args.sound.now.state in
     let error = err_from_is_err_and c.from_residual.result c.from_residual.ensures.1 in
     refill_refused s c.args.node c.in_err-donor.field-0.0 (refilling_answer c.from_residual.result) (ap refilling_answer error.1 ∙ ap refused error.2)
-    (fault_or {X = ℕ} (filling_fault s.members c.args.node) c.in_err-donor.field-0.0 c.in_err-donor.ensures.fault (λ fine. absurd (true≢false (sym (c.in_err-donor.ensures.ok.1 fine)))))
+    (fault_or {X = ℕ} (filling_fault s.members c.args.node) c.in_err-donor.field-0.0 c.in_err-donor.ensures.fault (λ fine. absurd (never c.in_err-donor.ensures.ok.1 fine)))
 
 pub returns-in_default-clause-happens : goal.returns-in_default-clause-happens
 returns-in_default-clause-happens g c =
