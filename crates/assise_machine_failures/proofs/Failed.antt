@@ -1,6 +1,7 @@
 -- A full node that failed, as the laws have it.
 use Rattle.std.proofs.Common.{◌≡◌, ◌≢◌, ◌⊎◌, ℕ, true, List, if◌then◌else◌, [], ◌∷◌, ◌++◌, Some, None, length, refl, ap, sym, subst, ◌∙◌, arith}
-use Rattle.std.proofs.Math.Logic.{∥∥₁_map}
+use Rattle.std.proofs.Math.Logic.{∥∥₁_elim, ∥∥₁_map}
+use Rattle.std.specs.Coded.{Coded-set, coded_ℕ}
 use Rattle.std.specs.Ordering.{nat_cmp}
 use Rattle.std.specs.FinSet as set
 use Rattle.assise_history.specs.Entries.{fails}
@@ -15,11 +16,11 @@ use Rattle.assise_manager.specs.Changes.{donor_of, failed, failure_fault, stale_
 use Rattle.assise_manager.specs.Standings.{full, standing_of}
 use Rattle.assise_machine_laws.specs.NodeSteps.{Drops, Fails}
 use Rattle.assise_machine_laws.specs.Sound.{IsSound}
-use Rattle.assise_machine_laws.specs.World.{World, digested_by_all}
+use Rattle.assise_machine_laws.specs.World.{Full, World, digested_by_all}
 use Rattle.assise_machine_laws.proofs.ClientsStaying.{rest_sound}
 use Rattle.assise_machine_laws.proofs.Failing.{fail_sound}
 use Rattle.assise_machine_leases.specs.Handing.{FailsWith as LeasesFail}
-use Rattle.assise_machine_leases.specs.Leases.{AreLeases, Leases}
+use Rattle.assise_machine_leases.specs.Leases.{Leases}
 use Rattle.assise_machine_returns.specs.Returns.{FailsWith}
 use Rattle.assise_machine_history.specs.Lost.{losses_of}
 use Rattle.assise_machine_events.specs.Events.{fail as fail_event, failed as failed_answer}
@@ -27,12 +28,15 @@ use Rattle.assise_machine_events.specs.Machine.{Holds}
 use Rattle.assise_machine_events.specs.MemberEvents.{Failing, IsFailed, is_failed}
 use Rattle.assise_machine_events.proofs.EachEvent.{event_keeps}
 use Rattle.assise_machine_state.specs.Changes.{after_failure, drops_to}
-use Rattle.assise_machine_state.specs.Observed.{observed, world_of}
+use Rattle.assise_machine_state.specs.Observed.{is_full_in, observed, world_of}
 use Rattle.assise_machine_state.specs.Shape.{AreLeft, AreNoted, IsShaped}
 use Rattle.assise_machine_state.specs.StateValues.{StateValue, leases_of, standings}
 use Rattle.assise_machine_state.proofs.Dropped.{StillDropping, all_dropped, same_dropping}
 use Rattle.assise_machine_state.proofs.FailureSeen.{failure_areas, failure_seen, failure_shaped}
-use Rattle.assise_machine_state.proofs.Noted.{failure_noted, still_noted}
+use Rattle.assise_machine_state.proofs.Noted.{failure_noted, noted_known, still_noted}
+use Rattle.assise_machine_state.proofs.Fullness.{seen_full}
+use Rattle.assise_machine_state.proofs.Standings.{survivor_left}
+use Rattle.assise_machine_failures.proofs.FailSettled.{fails_settled}
 use Rattle.assise_machine_failures.proofs.Losing.{AllLoseAt, StillLosing, all_still, one_loses, others_stay}
 
 -- who holds what is the same where all is that it is made of
@@ -58,7 +62,7 @@ pub record AreFilled (s : StateValue) (n : ℕ) (ks : List ℕ) : Type 0 where
   pub only : (k : ℕ) → Among ks k → donor_of (standing_of (standings s) k) ≡ Some n
   pub all : (k : ℕ) → donor_of (standing_of (standings s) k) ≡ Some n → Among ks k
 
-module _ (s : StateValue) (n : ℕ) (inodes : set.FinSet nat_cmp) (levels : TwoLevels) (asked : List Asked) (holds : Holds (observed s)) (shape : IsShaped s) (noted : AreNoted s)
+module _ (s : StateValue) (n : ℕ) (inodes : set.FinSet nat_cmp) (levels : TwoLevels) (asked : List Asked) (holds : ∥ Holds (observed s) ∥₁) (shape : IsShaped s) (noted : AreNoted s)
     (stands : standing_of (standings s) n ≡ Some full) (fine : failure_fault s.members n ≡ None) (freezes : FreezesBelow s n levels asked) where
   abbrev w : World
   w = world_of s
@@ -66,41 +70,53 @@ module _ (s : StateValue) (n : ℕ) (inodes : set.FinSet nat_cmp) (levels : TwoL
   abbrev t : StateValue
   t = after_failure s n inodes levels asked
 
-  sound : IsSound w
+  seen_some : ∥ LeasesFail w (leases_of s) n (world_of t) (leases_of t) ∥₁
   unfolding observed
-  sound = holds.sound
+  seen_some = ∥∥₁_map holds (λ h. failure_seen s n inodes levels asked shape stands h.sound fine freezes.clients freezes.home freezes.nodes freezes.left h.leases)
 
-  leases_hold : AreLeases w (leases_of s)
-  unfolding observed
-  leases_hold = holds.leases
+  survivor : (m : ℕ) × ((m ≢ n) × Full w m)
+  survivor = (let k : (m : ℕ) × ((m ≢ n) × (is_full_in (standings s) m ≡ true)) = survivor_left s.members n stands fine in (k.0, (k.1.0, seen_full s k.0 k.1.1)))
+
+  pub node_fails : Fails w n (world_of t)
+  node_fails = fails_settled w n (world_of t) (∥∥₁_map seen_some (λ f. f.fails)) survivor
 
   pub seen : LeasesFail w (leases_of s) n (world_of t) (leases_of t)
-  seen = failure_seen s n inodes levels asked shape stands sound fine freezes.clients freezes.home freezes.nodes freezes.left leases_hold
+  unfolding leases_of
+  seen = record {
+    fails = node_fails;
+    home = freezes.home;
+    clients = freezes.clients;
+    nodes = freezes.nodes;
+    cut_here = λ c i here. ∥∥₁_elim seen_some (Coded-set coded_ℕ ((leases_of t).cut c i) _) (λ f. f.cut_here c i here);
+    cut_else = λ c i other. ∥∥₁_elim seen_some (Coded-set coded_ℕ ((leases_of t).cut c i) _) (λ f. f.cut_else c i other);
+  }
 
   pub cut_shaped : IsShaped t
   cut_shaped = failure_shaped s n inodes levels asked shape stands
 
-  cut_sound : IsSound (world_of t)
-  cut_sound = fail_sound w (world_of t) n sound seen.fails
+  pub cut_sound : ∥ IsSound (world_of t) ∥₁
+  unfolding observed
+  cut_sound = ∥∥₁_map holds (λ h. fail_sound w (world_of t) n h.sound node_fails)
 
   cut_noted : AreNoted t
-  cut_noted = failure_noted s n inodes levels asked noted leases_hold freezes.clients freezes.left
+  unfolding observed
+  cut_noted = noted_known t (∥∥₁_map holds (λ h. failure_noted s n inodes levels asked noted h.leases freezes.clients freezes.left))
 
   module _ (ks : List ℕ) (u : StateValue) (filled : AreFilled s n ks) (lose : AllLoseAt t ks u) where
     pub losing : StillLosing t u
     losing = all_still t ks u cut_shaped lose
 
-    pub lost_sound : IsSound (world_of u)
-    lost_sound = rest_sound (world_of t) (world_of u) cut_sound losing.rests
+    pub lost_sound : ∥ IsSound (world_of u) ∥₁
+    lost_sound = ∥∥₁_map cut_sound (λ h. rest_sound (world_of t) (world_of u) h losing.rests)
 
     pub dropping : StillDropping u (drops_to u (length u.clients))
-    dropping = same_dropping u losing.shape ∥ lost_sound ∥₁ (length u.clients) (omega arith)
+    dropping = same_dropping u losing.shape lost_sound (length u.clients) (omega arith)
 
     abbrev v : StateValue
     v = drops_to u (length u.clients)
 
     drops : Drops (world_of u) (digested_by_all (world_of u)) (world_of v)
-    drops = all_dropped u losing.shape ∥ lost_sound ∥₁
+    drops = all_dropped u losing.shape lost_sound
 
     leases_end : leases_of v ≡ leases_of t
     leases_end = same_leases t v (dropping.levels ∙ losing.levels) (dropping.cuts ∙ losing.cuts) (dropping.clients ∙ losing.clients)
@@ -110,7 +126,7 @@ module _ (s : StateValue) (n : ℕ) (inodes : set.FinSet nat_cmp) (levels : TwoL
 
     fails_with : AreTouched (world_of t) inodes → FailsWith w s.members n inodes (world_of t) (world_of u) v.members
     fails_with touches = record {
-      fails = seen.fails;
+      fails = node_fails;
       rests = losing.rests;
       members = members_end;
       touched_only = touches.only;
@@ -139,8 +155,8 @@ module _ (s : StateValue) (n : ℕ) (inodes : set.FinSet nat_cmp) (levels : TwoL
     unfolding observed
     happens_so touches = is_failed fine refl (is_so touches)
 
-    pub holds_so : AreTouched (world_of t) inodes → Holds (observed v)
-    holds_so touches = event_keeps (observed s) (observed v) (fail_event n) (failed_answer (losses_of w n)) holds (happens_so touches)
+    pub holds_so : AreTouched (world_of t) inodes → ∥ Holds (observed v) ∥₁
+    holds_so touches = ∥∥₁_map holds (λ h. event_keeps (observed s) (observed v) (fail_event n) (failed_answer (losses_of w n)) h (happens_so touches))
 
     pub noted_so : AreNoted v
     noted_so =

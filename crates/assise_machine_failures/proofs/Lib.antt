@@ -11,5 +11,7 @@ pub mod FilledFrom
 pub mod Keeping
 pub mod Listed
 pub mod Losing
+pub mod FailSettled
 pub mod Failed
 pub mod TakenDown
+pub mod FailedFull

@@ -1,6 +1,7 @@
 -- Nodes that lose their copies of what they may lack, one after another.
-use Rattle.std.proofs.Common.{◌≡◌, ◌≢◌, ◌⊎◌, ℕ, Bool, true, false, if◌then◌else◌, List, [], ◌∷◌, Option, Some, None, inl, inr, length, refl, ap, sym, subst, ◌∙◌}
-use Rattle.std.proofs.lemmas.Bool.{cases_Bool, cases_eq}
+use Rattle.std.proofs.Common.{◌≡◌, ◌≢◌, ◌⊎◌, ℕ, zero, suc, ◌<◌, Bool, true, false, if◌then◌else◌, List, [], ◌∷◌, ◌++◌, take, drop, slice_index_or, arith, Option, Some, None, inl, inr, length, refl, ap, sym, subst, ◌∙◌}
+use Rattle.std.proofs.lemmas.Bool.{cases_eq}
+use Rattle.std.proofs.lemmas.List.{take-append-drop}
 use Rattle.std.specs.Ordering.{nat_cmp}
 use Rattle.std.specs.FinSet as set
 use Rattle.assise_lease_table.specs.Leases.{Among}
@@ -139,11 +140,30 @@ all_at t (k ∷ ks) u shape (first, rest) (v, (loses, more)) =
     let at : LosesAt t k v = loses_at t k v shape first loses in
     (v, (at, all_at v ks u at.still.shape (still_returning t v ks at.still.members rest) more))
 
--- the first of several, and the rest of them
-pub then_returning : (t v : StateValue) (k : ℕ) (all ks : List ℕ) → all ≡ k ∷ ks → IsShaped t → AreReturning t all → LosesStale t k v → AreReturning v ks
-then_returning t v k all ks is shape are loses =
-    let both : AreReturning t (k ∷ ks) = subst (AreReturning t) is are in
-    still_returning t v ks (loses_at t k v shape both.0 loses).still.members both.1
+-- one more, behind the others
+pub lose_more : (t v u : StateValue) (ks : List ℕ) (k : ℕ) → AllLose t ks v → LosesStale v k u → AllLose t (ks ++ k ∷ []) u
+lose_more t v u [] k all one = (u, (subst (λ s. LosesStale s k u) all one, refl))
+lose_more t v u (j ∷ ks) k (s, (first, rest)) one = (s, (first, lose_more s v u ks k rest one))
 
-pub then_shaped : (t v : StateValue) (k : ℕ) (all ks : List ℕ) → all ≡ k ∷ ks → IsShaped t → AreReturning t all → LosesStale t k v → IsShaped v
-then_shaped t v k all ks is shape are loses = (let both : AreReturning t (k ∷ ks) = subst (AreReturning t) is are in (loses_at t k v shape both.0 loses).still.shape)
+-- what some that come back have lost leaves all of them so
+some_at : (t v : StateValue) (ks js : List ℕ) → IsShaped t → AreReturning t (ks ++ js) → AllLose t ks v → AllLoseAt t ks v
+some_at t v ks js shape are lose = all_at t ks v shape (front_returning t ks js are) lose
+  where
+    front_returning : (t : StateValue) (ks js : List ℕ) → AreReturning t (ks ++ js) → AreReturning t ks
+    front_returning t [] js are = tt
+    front_returning t (k ∷ ks) js (first, rest) = (first, front_returning t ks js rest)
+
+module _ (t v : StateValue) (ks : List ℕ) (count : ℕ) (shape : IsShaped t) (are : AreReturning t ks) (lose : AllLose t (take count ks) v) where
+  losing_some : StillLosing t v
+  losing_some = all_still t (take count ks) v shape (some_at t v (take count ks) (drop count ks) shape (subst (AreReturning t) (sym (take-append-drop count ks)) are) lose)
+
+  pub some_shaped : IsShaped v
+  some_shaped = losing_some.shape
+
+  one_returning : (ks : List ℕ) (i : ℕ) → AreReturning v ks → i < length ks → is_returning (standing_of (standings v) (slice_index_or ks i 0)) ≡ true
+  one_returning [] i are low = absurd (omega (arith, low))
+  one_returning (k ∷ ks) zero (first, rest) low = first
+  one_returning (k ∷ ks) (suc i) (first, rest) low = one_returning ks i rest (omega (arith, low))
+
+  pub next_returning : (i : ℕ) → i < length ks → is_returning (standing_of (standings v) (slice_index_or ks i 0)) ≡ true
+  next_returning i low = one_returning ks i (still_returning t v ks losing_some.members are) low

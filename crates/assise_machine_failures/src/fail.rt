@@ -1,5 +1,5 @@
 // A node fails.
-ghost use Rattle.std.specs.Prelude.{◌≡◌, IfOk, IsOkUnless, None, OnErr, OnOk, Some, true};
+ghost use Rattle.std.specs.Prelude.{◌≡◌, ◌≤◌, IfOk, IsOkUnless, None, OnErr, OnOk, Some, length, take, true};
 ghost use Rattle.std.specs.FinSet as set;
 ghost use Rattle.assise_names.specs.declared.refusal.Refusal.TheVariants.{OutOfMemory};
 ghost use Rattle.assise_lease_table.specs.Tables.{SameRevokers};
@@ -29,7 +29,6 @@ use assise_machine_state::state::StateOf;
 use assise_manager::phase::Phase;
 use assise_names::refusal::Refusal;
 use std::alloc::Global;
-use std::vec::IntoIter;
 
 /// A node fails. Of a full one the logs are gone, and its inodes stay. Each of its clients that lives keeps the records that all
 /// other full nodes have, and these cut the rest; its leases are frozen until all that was kept is digested. It answers each client that
@@ -69,7 +68,7 @@ fn fail_full<C: Revokes + Drop>(
     }
     let failure = Failure::list(alloc, state, node)?;
     let (losses, filled) = take_down(state, node, failure)?;
-    drop_filled(state, filled.into_iter());
+    drop_filled(state, &filled, filled.len());
     let last = state.clients.len() as u32;
     drop_digested(state, last);
     Ok(losses)
@@ -116,19 +115,20 @@ fn take_down<C: Revokes + Drop>(
     Ok((losses, filled))
 }
 
-/// Nodes that come back and start over from another lose their copies of the inodes that they may lack. It takes no memory.
-#[tactic(auto, using(crate::proofs::Losing::then_returning, crate::proofs::Losing::then_shaped))]
-fn drop_filled<C: Revokes + Drop>(state: &mut StateOf<C>, mut filled: IntoIter<u32>)
-    requires returning { AreReturning (value_of state.old) filled.rest.items }
+/// The first so many of some nodes that come back, and start over from another, lose their copies of the inodes that they may lack. It
+/// takes no memory.
+fn drop_filled<C: Revokes + Drop>(state: &mut StateOf<C>, filled: &[u32], count: usize)
+    requires count { count ≤ length filled.now }
+    requires returning { AreReturning (value_of state.old) filled.now }
     requires shape { IsShaped (value_of state.old) }
-    ensures copies { AllLose (value_of state.old) filled.rest.items (value_of state.new) }
+    ensures copies { AllLose (value_of state.old) (take count filled.now) (value_of state.new) }
     ensures leases { state.new.leases ≡ state.old.leases }
 {
-    let Some(node) = filled.next() else {
+    if count == 0 {
         return;
-    };
-    drop_copies(state, node);
-    drop_filled(state, filled);
+    }
+    drop_filled(state, filled, count - 1);
+    drop_copies(state, filled[count - 1]);
 }
 
 /// A node that was coming back is down again: see [`fail`].

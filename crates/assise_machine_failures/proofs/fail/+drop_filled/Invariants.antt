@@ -1,5 +1,4 @@
-use Rattle.std.proofs.Common.{length}
 use Rattle.assise_machine_failures.proofs.fail.+drop_filled.Given as goal
 
 abbrev pub decreases-drop_filled : goal.decreases-drop_filled
-decreases-drop_filled g l = length l.filled.rest.items
+decreases-drop_filled g l = l.count
