@@ -11,6 +11,7 @@ use Rattle.assise_machine_events.specs.Machine.{Holds}
 use Rattle.assise_machine_events.specs.NodeEvents.{DigestsTo, Digesting, most_digested, undigested_to}
 use Rattle.assise_machine_events.specs.NodeEvents.Digesting.{is_digested, lacks_memory}
 use Rattle.assise_machine_events.proofs.EachEvent.{event_keeps}
+use Rattle.assise_machine_state.specs.Changes.{drops_to}
 use Rattle.assise_machine_state.specs.ClientValues.{client_seen}
 use Rattle.assise_machine_state.specs.ClientValues.{cut_of}
 use Rattle.assise_machine_state.specs.Observed.{is_full_in, observed, world_of}

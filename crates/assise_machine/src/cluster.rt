@@ -12,6 +12,11 @@ use assise_machine_calls::fsync::try_fsync;
 use assise_machine_calls::opening::open;
 use assise_machine_calls::release::release_ready;
 use assise_machine_calls::turn::Turn;
+use assise_machine_failures::back::back;
+use assise_machine_failures::crash::crash;
+use assise_machine_failures::fail::fail;
+use assise_machine_failures::join::join;
+use assise_machine_failures::refill::refill;
 use assise_machine_state::sound::SoundOf;
 use assise_names::call::Op;
 use assise_names::refusal::Refusal;
@@ -41,13 +46,15 @@ impl<C: Revokes + Drop> ClusterOf<C> {
     ghost use Rattle.assise_lease_table.specs.Tables.{Enrols, SameRevokers};
     ghost use Rattle.assise_machine_laws.specs.World.{IsClient, alone as alone_observed, received_by_all};
     ghost use Rattle.assise_machine_history.specs.Courses.{firm_calls};
-    ghost use Rattle.assise_machine_events.specs.ClientEvents.{Opening, Syncing};
+    ghost use Rattle.assise_machine_events.specs.ClientEvents.{Crashing, Opening, Syncing};
     ghost use Rattle.assise_machine_events.specs.Events.{released};
     ghost use Rattle.assise_machine_events.specs.Faults.{node_fault, open_fault};
     ghost use Rattle.assise_machine_events.specs.Happenings.{Trying};
     ghost use Rattle.assise_machine_events.specs.Machine.{begun_as, state_of};
+    ghost use Rattle.assise_machine_events.specs.MemberEvents.{Failing, Joining, Refilling, Returning};
     ghost use Rattle.assise_machine_events.specs.NodeEvents.{Delivering, Digesting, Releasing, Sending};
     ghost use Rattle.assise_machine_calls.specs.Answers.{opening_answer, turn_answer};
+    ghost use Rattle.assise_machine_failures.specs.Answers.{crashing_answer, failing_answer, joining_answer, refilling_answer, returning_answer};
     ghost use Rattle.assise_machine.specs.Answers.{delivery_answer, digesting_answer, sending_answer};
     ghost use Rattle.assise_machine.specs.Clusters.{AreAcked, machine, region_of, revokers};
 
@@ -153,6 +160,59 @@ impl<C: Revokes + Drop> ClusterOf<C> {
         ensures revokers { SameRevokers (revokers self.old) (revokers self.new) }
     {
         release_ready(&mut self.sound)
+    }
+
+    /// A client crashes: nothing of its log is lost, all of it is to be replicated, and its leases go once all of it is digested.
+    /// Refused with [`Refusal::BadClient`] where there is no such client, [`Refusal::ClientGone`] where it has crashed,
+    /// [`Refusal::NodeDown`] where its node has failed since it was opened, and [`Refusal::OutOfMemory`]; what is refused leaves all as
+    /// it was.
+    pub fn crash(&mut self, client: u32) -> Result<(), Refusal>
+        ensures happens { Crashing (machine self.old) client (crashing_answer result) (machine self.new) }
+        ensures revokers { SameRevokers (revokers self.old) (revokers self.new) }
+    {
+        crash(&mut self.sound, client)
+    }
+
+    /// A node fails. Of a full one the logs are gone, and its inodes stay; of each of its clients that lives the records are kept that
+    /// all other full nodes have, and the others cut the rest; an epoch begins. It answers each client that lost a record, by rising
+    /// number, with its first lost call: after the client's last answered fsync. A node that comes back is down again, and nothing is
+    /// lost. Refused with [`Refusal::BadNode`] where there is no such node, [`Refusal::WrongPhase`] where it is down,
+    /// [`Refusal::LastNode`] where it is the only full one, and [`Refusal::OutOfMemory`]; what is refused leaves all as it was.
+    pub fn fail(&mut self, alloc: Global, node: u32) -> Result<Vec<(u32, u64)>, Refusal>
+        ensures happens { Failing (machine self.old) node (failing_answer result) (machine self.new) }
+        ensures revokers { SameRevokers (revokers self.old) (revokers self.new) }
+    {
+        fail(alloc, &mut self.sound, node)
+    }
+
+    /// A node that was down begins to come back: its copies go of all inodes that were written since its first failure, and it is to
+    /// be filled with the lowest full node's. It answers how many inodes it may lack. Refused with [`Refusal::BadNode`] where there is no
+    /// such node, [`Refusal::WrongPhase`] where it isn't down, and [`Refusal::OutOfMemory`]; what is refused leaves all as it was.
+    pub fn back(&mut self, node: u32) -> Result<usize, Refusal>
+        ensures happens { Returning (machine self.old) node (returning_answer result) (machine self.new) }
+        ensures revokers { SameRevokers (revokers self.old) (revokers self.new) }
+    {
+        back(&mut self.sound, node)
+    }
+
+    /// A node that comes back gets the lowest inode that it may lack from the full node that it is filled from, or loses it where that
+    /// one has none. It answers how many inodes it may lack then. Refused with [`Refusal::BadNode`] where there is no such node,
+    /// [`Refusal::WrongPhase`] where it doesn't come back, and [`Refusal::OutOfMemory`]; what is refused leaves all as it was.
+    pub fn refill(&mut self, alloc: Global, node: u32) -> Result<usize, Refusal>
+        ensures happens { Refilling (machine self.old) node (refilling_answer result) (machine self.new) }
+        ensures revokers { SameRevokers (revokers self.old) (revokers self.new) }
+    {
+        refill(alloc, &mut self.sound, node)
+    }
+
+    /// A node that comes back and lacks no inode is full: it gets the logs of the full node that it was filled from, and an epoch
+    /// begins. Refused with [`Refusal::BadNode`] where there is no such node, [`Refusal::WrongPhase`] where it doesn't come back,
+    /// [`Refusal::Busy`] where it may lack an inode, and [`Refusal::OutOfMemory`]; what is refused leaves all as it was.
+    pub fn join(&mut self, alloc: Global, node: u32) -> Result<(), Refusal>
+        ensures happens { Joining (machine self.old) node (joining_answer result) (machine self.new) }
+        ensures revokers { SameRevokers (revokers self.old) (revokers self.new) }
+    {
+        join(alloc, &mut self.sound, node)
     }
 
     /// What was answered and what happened, in order. It is legal.

@@ -19,4 +19,14 @@ pub enum Event {
     Digest(u32),
     /// Leases that were asked for go, where they may.
     ReleaseReady,
+    /// A client crashes.
+    Crash(u32),
+    /// A node fails.
+    Fail(u32),
+    /// A node that was down begins to come back.
+    Back(u32),
+    /// A node that comes back gets an inode that it may lack.
+    Refill(u32),
+    /// A node that came back is full again.
+    Join(u32),
 }

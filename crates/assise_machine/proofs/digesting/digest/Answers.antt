@@ -1,6 +1,7 @@
 use Rattle.std.proofs.Common.{◌<◌, length, refl, ap, sym, subst, ◌∙◌, arith}
 use Rattle.assise_machine_events.specs.NodeEvents.{undigested_to}
 use Rattle.assise_machine_events.specs.NodeEvents.Digesting.{is_refused}
+use Rattle.assise_machine_state.specs.Changes.{drops_to}
 use Rattle.assise_machine_state.specs.Observed.{observed, world_of}
 use Rattle.assise_machine_state.specs.Whole.{value_of}
 use Rattle.assise_machine_events.specs.Machine.{Holds}

@@ -1,4 +1,4 @@
-use Rattle.std.proofs.Common.{◌≡◌, ◌≤◌, length, take, ap, sym, subst, ◌∙◌, arith}
+use Rattle.std.proofs.Common.{◌≡◌, ◌≤◌, ◌++◌, length, take, ap, sym, subst, ◌∙◌, arith}
 use Rattle.std.proofs.lemmas.List.{length-map, length-take}
 use Rattle.std.specs.FinSet as set
 use Rattle.assise_inode_table.specs.Effects.{touched}
@@ -30,7 +30,7 @@ pub digested-from-requires : goal.digested-from-requires
 digested-from-requires g c = record { client = subst (λ r. HasClient r c.args.client) (sym c.region-region.ensures) (has_now g c).client }
 
 pub log-requires : goal.log-requires
-log-requires g c = digested-from-requires g c.before
+log-requires g c = digested-from-requires g c.before.before.before
 
 pub digest_some-requires-clause-there : goal.digest_some-requires-clause-there
 digest_some-requires-clause-there g c = has_here (value_of c.args.state.now) c.args.node c.args.client c.requires.shape c.requires.sound c.requires.full c.requires.client
@@ -60,7 +60,8 @@ all_touched : (g : given.Over) (c : goal.After-deref g) →
 all_touched g c =
     let log = c.log.ensures.log ∙ ap (λ r. (log_of r c.args.client).log) c.region-region.ensures in
     let from = c.digested-from.ensures.value ∙ ap (λ r. (log_of r c.args.client).digested) c.region-region.ensures in
-    c.deref.ensures.value ∙ c.in_ok-push_touched_from.ensures.added ∙ (λ i. touched (all_effects (take c.args.wanted (records_from (log i) (from i)))))
+    let added = c.in_ok-push_touched_from.ensures.added ∙ ap (λ xs. xs ++ touched (all_effects (take c.args.wanted (records_from c.log.result.now c.digested-from.result)))) c.new-inodes.ensures.items in
+    c.deref.ensures.value ∙ added ∙ (λ i. touched (all_effects (take c.args.wanted (records_from (log i) (from i)))))
 
 counted_now : (g : given.Over) (c : goal.After-deref g) →
     c.effects_from-written.result ≡ length (all_effects (take c.in_ok-count.count (ahead (log_in (value_of c.args.state.now).nodes c.args.node c.args.client))))

@@ -26,3 +26,18 @@ returns-in-Digest-clause-served g c = seen_so c.in-Digest.is (happens c.digest.e
 
 pub returns-in-ReleaseReady-clause-served : goal.returns-in-ReleaseReady-clause-served
 returns-in-ReleaseReady-clause-served g c = seen_so c.in-ReleaseReady.is (happens c.release_ready.ensures.happens)
+
+pub returns-in-Crash-clause-served : goal.returns-in-Crash-clause-served
+returns-in-Crash-clause-served g c = seen_so c.in-Crash.is (happens c.crash.ensures.happens)
+
+pub returns-in-Fail-clause-served : goal.returns-in-Fail-clause-served
+returns-in-Fail-clause-served g c = seen_so c.in-Fail.is (happens c.fail.ensures.happens)
+
+pub returns-in-Back-clause-served : goal.returns-in-Back-clause-served
+returns-in-Back-clause-served g c = seen_so c.in-Back.is (happens c.back.ensures.happens)
+
+pub returns-in-Refill-clause-served : goal.returns-in-Refill-clause-served
+returns-in-Refill-clause-served g c = seen_so c.in-Refill.is (happens c.refill.ensures.happens)
+
+pub returns-in-Join-clause-served : goal.returns-in-Join-clause-served
+returns-in-Join-clause-served g c = seen_so c.in-Join.is (happens c.join.ensures.happens)
