@@ -3,15 +3,15 @@ use Rattle.std.specs.Prelude.{◌≡◌, ℕ, ◌-◌, List, [], ◌∷◌, None
 use Rattle.assise_names.specs.declared.refusal.Refusal.{Refusal}
 use Rattle.assise_names.specs.declared.refusal.Refusal.TheVariants.{BadClient}
 use Rattle.assise_machine_calls.specs.Answers.{turn_answer}
-use Rattle.assise_machine_events.specs.Events.{Answer, ClusterEvent, back, crash, deliver, digest, join, open_client, opened, outgoing, refill, refused, release_ready, released, try_call, try_fsync}
+use Rattle.assise_machine_events.specs.Events.{Answer, ClusterEvent, back, crash, deliver, digest, fail, join, open_client, opened, outgoing, refill, refused, release_ready, released, try_call, try_fsync}
 use Rattle.assise_machine_events.specs.Faults.{open_fault}
 use Rattle.assise_machine_events.specs.Happenings.{Happens}
 use Rattle.assise_machine_events.specs.Machine.{Machine}
-use Rattle.assise_machine_failures.specs.Answers.{crashing_answer, joining_answer, refilling_answer, returning_answer}
+use Rattle.assise_machine_failures.specs.Answers.{crashing_answer, failing_answer, joining_answer, refilling_answer, returning_answer}
 use Rattle.assise_machine.specs.declared.answer.Answer.{Answer as Answered}
-use Rattle.assise_machine.specs.declared.answer.Answer.TheVariants.{Opened, Called, Sent, Received, Digested, Released, Crashed, Began, Left, Joined}
+use Rattle.assise_machine.specs.declared.answer.Answer.TheVariants.{Opened, Called, Sent, Received, Digested, Released, Crashed, Failed, Began, Left, Joined}
 use Rattle.assise_machine.specs.declared.event.Event.{Event}
-use Rattle.assise_machine.specs.declared.event.Event.TheVariants.{Open, Call, Fsync, Outgoing, Deliver, Digest, ReleaseReady, Crash, Back, Refill, Join}
+use Rattle.assise_machine.specs.declared.event.Event.TheVariants.{Open, Call, Fsync, Outgoing, Deliver, Digest, ReleaseReady, Crash, Fail, Back, Refill, Join}
 use Rattle.assise_machine.specs.Answers.{delivery_answer, digesting_answer, sending_answer}
 
 abbrev pub event_seen : Event → ClusterEvent
@@ -23,6 +23,7 @@ event_seen (Deliver f n) = deliver f n
 event_seen (Digest n) = digest n
 event_seen ReleaseReady = release_ready
 event_seen (Crash c) = crash c
+event_seen (Fail n) = fail n
 event_seen (Back n) = back n
 event_seen (Refill n) = refill n
 event_seen (Join n) = join n
@@ -39,6 +40,7 @@ answer_seen (Received result) = delivery_answer result
 answer_seen (Digested result) = digesting_answer result
 answer_seen (Released count) = released count
 answer_seen (Crashed result) = crashing_answer result
+answer_seen (Failed result) = failing_answer result
 answer_seen (Began result) = returning_answer result
 answer_seen (Left result) = refilling_answer result
 answer_seen (Joined result) = joining_answer result

@@ -20,6 +20,8 @@ pub enum Answer {
     Released(usize),
     /// Whether a client crashed.
     Crashed(Result<(), Refusal>),
+    /// Each client that lost a record, with its first lost call.
+    Failed(Result<Vec<(u32, u64)>, Refusal>),
     /// How many inodes a node may lack that begins to come back.
     Began(Result<usize, Refusal>),
     /// How many inodes it may lack then.

@@ -14,6 +14,7 @@ use assise_machine_calls::release::release_ready;
 use assise_machine_calls::turn::Turn;
 use assise_machine_failures::back::back;
 use assise_machine_failures::crash::crash;
+use assise_machine_failures::fail::fail;
 use assise_machine_failures::join::join;
 use assise_machine_failures::refill::refill;
 use assise_machine_state::sound::SoundOf;
@@ -50,10 +51,10 @@ impl<C: Revokes + Drop> ClusterOf<C> {
     ghost use Rattle.assise_machine_events.specs.Faults.{node_fault, open_fault};
     ghost use Rattle.assise_machine_events.specs.Happenings.{Trying};
     ghost use Rattle.assise_machine_events.specs.Machine.{begun_as, state_of};
-    ghost use Rattle.assise_machine_events.specs.MemberEvents.{Joining, Refilling, Returning};
+    ghost use Rattle.assise_machine_events.specs.MemberEvents.{Failing, Joining, Refilling, Returning};
     ghost use Rattle.assise_machine_events.specs.NodeEvents.{Delivering, Digesting, Releasing, Sending};
     ghost use Rattle.assise_machine_calls.specs.Answers.{opening_answer, turn_answer};
-    ghost use Rattle.assise_machine_failures.specs.Answers.{crashing_answer, joining_answer, refilling_answer, returning_answer};
+    ghost use Rattle.assise_machine_failures.specs.Answers.{crashing_answer, failing_answer, joining_answer, refilling_answer, returning_answer};
     ghost use Rattle.assise_machine.specs.Answers.{delivery_answer, digesting_answer, sending_answer};
     ghost use Rattle.assise_machine.specs.Clusters.{AreAcked, machine, region_of, revokers};
 
@@ -170,6 +171,18 @@ impl<C: Revokes + Drop> ClusterOf<C> {
         ensures revokers { SameRevokers (revokers self.old) (revokers self.new) }
     {
         crash(&mut self.sound, client)
+    }
+
+    /// A node fails. Of a full one the logs are gone, and its inodes stay; of each of its clients that lives the records are kept that
+    /// all other full nodes have, and the others cut the rest; an epoch begins. It answers each client that lost a record, by rising
+    /// number, with its first lost call: after the client's last answered fsync. A node that comes back is down again, and nothing is
+    /// lost. Refused with [`Refusal::BadNode`] where there is no such node, [`Refusal::WrongPhase`] where it is down,
+    /// [`Refusal::LastNode`] where it is the only full one, and [`Refusal::OutOfMemory`]; what is refused leaves all as it was.
+    pub fn fail(&mut self, alloc: Global, node: u32) -> Result<Vec<(u32, u64)>, Refusal>
+        ensures happens { Failing (machine self.old) node (failing_answer result) (machine self.new) }
+        ensures revokers { SameRevokers (revokers self.old) (revokers self.new) }
+    {
+        fail(alloc, &mut self.sound, node)
     }
 
     /// A node that was down begins to come back: its copies go of all inodes that were written since its first failure, and it is to

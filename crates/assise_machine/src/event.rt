@@ -21,6 +21,8 @@ pub enum Event {
     ReleaseReady,
     /// A client crashes.
     Crash(u32),
+    /// A node fails.
+    Fail(u32),
     /// A node that was down begins to come back.
     Back(u32),
     /// A node that comes back gets an inode that it may lack.

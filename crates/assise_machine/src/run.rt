@@ -62,6 +62,7 @@ pub fn apply_event<C: Revokes + Drop>(
         Event::Digest(node) => Answer::Digested(cluster.digest(alloc, *node)),
         Event::ReleaseReady => Answer::Released(cluster.release_ready()),
         Event::Crash(client) => Answer::Crashed(cluster.crash(*client)),
+        Event::Fail(node) => Answer::Failed(cluster.fail(alloc, *node)),
         Event::Back(node) => Answer::Began(cluster.back(*node)),
         Event::Refill(node) => Answer::Left(cluster.refill(alloc, *node)),
         Event::Join(node) => Answer::Joined(cluster.join(alloc, *node)),

@@ -1,15 +1,15 @@
 -- Logs of a failed node's clients that are cut, one client after another.
-use Rattle.std.proofs.Common.{◌≡◌, ◌≢◌, ℕ, zero, suc, ◌-◌, ◌<◌, ◌≤◌, ◌==◌, true, false, List, [], ◌∷◌, length, slice_index_or, inl, inr, refl, ap, sym, subst, ◌∙◌, arith, eq-eqb}
+use Rattle.std.proofs.Common.{◌≡◌, ◌≢◌, ℕ, zero, suc, ◌-◌, ◌<◌, ◌≤◌, ◌==◌, List, [], ◌∷◌, length, slice_index_or, inl, inr, refl, ap, sym, subst, ◌∙◌, arith, eq-eqb}
 use Rattle.std.proofs.lemmas.Bool.{cases_Bool, ne_eqb}
 use Rattle.std.proofs.lemmas.List.{length-map}
-use Rattle.assise_digest.specs.Region.{HasClient, ReceivedLog, RegionValue, log_of, no_log, up_to_number}
+use Rattle.assise_digest.specs.Region.{HasClient, RegionValue, log_of, no_log, up_to_number}
 use Rattle.assise_machine_state.specs.Changes.{with_clients_cut, with_clients_failed}
-use Rattle.assise_machine_state.specs.ClientValues.{ClientValue, client_in, client_seen, failed_at, no_client, with_client}
+use Rattle.assise_machine_state.specs.ClientValues.{ClientValue, client_in, client_seen, failed_at, with_client}
 use Rattle.assise_machine_state.specs.NodeValues.{AreUndigested, HasLog, IsUndigestedFrom, changed_in, log_in, log_seen, new_region, region_in, region_seen, with_tails_cut}
 use Rattle.assise_machine_state.specs.Places.{IsNumber, at}
 use Rattle.assise_machine_state.proofs.CutSeen.{count_over}
 use Rattle.assise_machine_state.proofs.Logging.{beside_seen, count_seen, log_number}
-use Rattle.assise_machine_state.proofs.Seeing.{client_else, client_is, is_seen, less_one, seen_number}
+use Rattle.assise_machine_state.proofs.Seeing.{client_else, client_is, is_seen, less_one}
 
 -- ---- a log that a node has
 

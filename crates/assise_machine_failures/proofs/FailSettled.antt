@@ -1,5 +1,5 @@
 -- That a node failed has one proof at most, where another full node is known.
-use Rattle.std.proofs.Common.{◌≡◌, ◌≢◌, ℕ, List, ap, sym, ◌∙◌}
+use Rattle.std.proofs.Common.{◌≡◌, ◌≢◌, ℕ, List}
 use Rattle.std.specs.Coded.{Coded, Coded-set, coded_bool, coded_option, coded_ℕ, codes}
 use Rattle.std.proofs.Math.Logic.{∥∥₁_elim}
 use Rattle.std.proofs.Props.{props}

@@ -1,10 +1,9 @@
 -- A full node that failed, as the laws have it.
-use Rattle.std.proofs.Common.{◌≡◌, ◌≢◌, ◌⊎◌, ℕ, true, List, if◌then◌else◌, [], ◌∷◌, ◌++◌, Some, None, length, refl, ap, sym, subst, ◌∙◌, arith}
+use Rattle.std.proofs.Common.{◌≡◌, ◌≢◌, ℕ, true, List, if◌then◌else◌, Some, None, length, refl, ap, sym, subst, ◌∙◌, arith}
 use Rattle.std.proofs.Math.Logic.{∥∥₁_elim, ∥∥₁_map}
 use Rattle.std.specs.Coded.{Coded-set, coded_ℕ}
 use Rattle.std.specs.Ordering.{nat_cmp}
 use Rattle.std.specs.FinSet as set
-use Rattle.assise_history.specs.Entries.{fails}
 use Rattle.assise_inode_table.specs.Effects.{contains, touched}
 use Rattle.assise_digest.specs.Ahead.{all_effects}
 use Rattle.assise_lease_table.specs.declared.lease.Asked.{Asked}
@@ -20,7 +19,6 @@ use Rattle.assise_machine_laws.specs.World.{Full, World, digested_by_all}
 use Rattle.assise_machine_laws.proofs.ClientsStaying.{rest_sound}
 use Rattle.assise_machine_laws.proofs.Failing.{fail_sound}
 use Rattle.assise_machine_leases.specs.Handing.{FailsWith as LeasesFail}
-use Rattle.assise_machine_leases.specs.Leases.{Leases}
 use Rattle.assise_machine_returns.specs.Returns.{FailsWith}
 use Rattle.assise_machine_history.specs.Lost.{losses_of}
 use Rattle.assise_machine_events.specs.Events.{fail as fail_event, failed as failed_answer}

@@ -1,5 +1,5 @@
 -- A full node that failed, as the code lists and does it.
-use Rattle.std.proofs.Common.{◌≡◌, ◌≢◌, ◌⊎◌, ℕ, suc, ◌+◌, ◌-◌, ◌<◌, ◌≤◌, ◌==◌, Bool, true, false, if◌then◌else◌, List, [], ◌∷◌, ◌++◌, Option, Some, None, inl, inr, length, map, take, slice_index_or, refl, ap, sym, subst, ◌∙◌, arith, eq-eqb, true≢false}
+use Rattle.std.proofs.Common.{◌≡◌, ◌≢◌, ℕ, suc, ◌+◌, ◌-◌, ◌<◌, ◌≤◌, ◌==◌, true, List, [], ◌∷◌, Option, Some, None, inl, inr, length, map, take, slice_index_or, refl, ap, sym, subst, ◌∙◌, arith, eq-eqb}
 use Rattle.std.specs.Option.{option_map}
 use Rattle.std.proofs.Math.Seq.{take-suc}
 use Rattle.std.proofs.lemmas.Bool.{cases_Bool, ne_eqb}
@@ -14,9 +14,7 @@ use Rattle.assise_manager.specs.Changes.{donor_of, failed, failure_fault, failur
 use Rattle.assise_manager.specs.Membership.{Membership, lowest_full, written_since}
 use Rattle.assise_manager.specs.Standings.{Standing, full, full_nodes, down, returning, standing_of}
 use Rattle.assise_machine_laws.specs.Sound.{IsSound}
-use Rattle.assise_machine_laws.specs.World.{World}
 use Rattle.assise_machine_returns.proofs.Standing.{mapped_at, set_else}
-use Rattle.assise_machine_history.specs.Lost.{losses_of}
 use Rattle.assise_machine_events.specs.Events.{Answer, failed as failed_answer, refused}
 use Rattle.assise_machine_events.specs.Machine.{Holds}
 use Rattle.assise_machine_events.specs.MemberEvents.{Failing, is_refused, lacks_memory}
@@ -44,6 +42,10 @@ no_fault m n stands more = ap (failure_fault_of m) stands ∙ rw (ne_eqb (length
 pub refused_so : (s : StateValue) (n : ℕ) (r : Refusal) → failure_fault s.members n ≡ Some r → Failing (observed s) n (refused r) (observed s)
 unfolding observed
 refused_so s n r fault = is_refused r fault refl refl
+
+pub refused_as : (s : StateValue) (n : ℕ) (r : Refusal) (a : Answer) → failure_fault s.members n ≡ Some r → a ≡ refused r → Failing (observed s) n a (observed s)
+unfolding observed
+refused_as s n r a fault is = is_refused r fault is refl
 
 pub lacks_so : (s t : StateValue) (n : ℕ) (a : Answer) → failure_fault s.members n ≡ None → a ≡ refused OutOfMemory → t ≡ s → Failing (observed s) n a (observed t)
 unfolding observed

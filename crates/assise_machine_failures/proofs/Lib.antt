@@ -15,3 +15,4 @@ pub mod FailSettled
 pub mod Failed
 pub mod TakenDown
 pub mod FailedFull
+pub mod FailedAgain

@@ -10,13 +10,7 @@ use assise_machine_state::nodes::Nodes;
 
 /// Those of clients 1 to a last one that were opened on a failed node are over: their logs end at these places, at all nodes. It
 /// takes no memory.
-pub(crate) fn cut_to(
-    nodes: &mut Nodes,
-    clients: &mut Clients,
-    node: u32,
-    kept: &[u64],
-    last: u32,
-)
+pub(crate) fn cut_to(nodes: &mut Nodes, clients: &mut Clients, node: u32, kept: &[u64], last: u32)
     requires kept { length kept.now ≡ length clients.old }
     requires last { last ≤ length clients.old }
     requires undigested { (n c : ℕ) → (client_seen clients.old c).home ≡ node → HasLog nodes.old n c → IsUndigestedFrom (log_in nodes.old n c) (kept_in kept.now c) }

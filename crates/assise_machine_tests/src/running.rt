@@ -2,7 +2,7 @@
 use crate::desk::{Asked, Desk};
 use crate::frames::changed;
 use crate::script::{command, put_digested, put_opened, put_received, put_turn};
-use crate::told::put_sent;
+use crate::told::{put_failed, put_sent, put_stale, put_told_of};
 use crate::words::{number_in, small_in};
 use assise_fault_script::command::{Command, RevokerKind};
 use assise_machine::answer::Answer;
@@ -50,6 +50,7 @@ fn event_of(alloc: Global, desk: &Desk, step: &str) -> Option<Event> {
     let (word, rest) = split_word(step);
     match word {
         "open" | "fsync" | "send" | "digest" => Some(numbered(word, small_in(rest)?)),
+        "crash" | "fail" | "back" | "refill" | "join" => Some(failing(word, small_in(rest)?)),
         "release" => Some(Event::ReleaseReady),
         "deliver" => delivery_of(alloc, desk, rest),
         _ => call_of(alloc, step),
@@ -63,6 +64,17 @@ fn numbered(word: &str, number: u32) -> Event {
         "fsync" => Event::Fsync(number),
         "send" => Event::Outgoing(number),
         _ => Event::Digest(number),
+    }
+}
+
+/// The event of a word with the number of a client that crashes, or of a node that fails or comes back.
+fn failing(word: &str, number: u32) -> Event {
+    match word {
+        "crash" => Event::Crash(number),
+        "fail" => Event::Fail(number),
+        "back" => Event::Back(number),
+        "refill" => Event::Refill(number),
+        _ => Event::Join(number),
     }
 }
 
@@ -97,6 +109,11 @@ fn put_told(desk: &mut Desk, answer: Answer, text: &mut String) -> Option<()> {
         Answer::Received(received) => put_received(text, received).ok(),
         Answer::Digested(digested) => put_digested(text, digested).ok(),
         Answer::Released(count) => write!(text, "released {count}").ok(),
+        Answer::Crashed(crashed) => put_told_of(text, "crashed", crashed).ok(),
+        Answer::Failed(failed) => put_failed(text, failed).ok(),
+        Answer::Began(stale) => put_stale(text, "stale", stale).ok(),
+        Answer::Left(stale) => put_stale(text, "left", stale).ok(),
+        Answer::Joined(joined) => put_told_of(text, "returned", joined).ok(),
     }
 }
 
@@ -209,6 +226,55 @@ open 1 => F9 BadClient
 open 3 => F8 BadNode
 ";
 
+/// A client's fsync waits for the other node.
+const SYNCS: &str = "\
+open 1 => client 1
+open 1 => client 2
+open 2 => client 3
+1 create /f => done
+fsync 1 => not yet
+send 1 => 1 for 2: client 1, 0..1
+";
+
+/// A client crashes, and its node fails: what was not synced is lost.
+const FAILS: &str = "\
+deliver 1 at 2 => received 1
+fsync 1 => done
+1 write /f 0 tlost => done
+back 1 => F10 WrongPhase
+crash 2 => crashed
+crash 2 => F4 ClientGone
+crash 4 => F9 BadClient
+fail 3 => F8 BadNode
+fail 1 => failed 1:2
+crash 1 => F3 NodeDown
+fail 1 => F10 WrongPhase
+fail 2 => F7 LastNode
+3 read /f 0 9 => not yet
+digest 2 => digested 1
+release => released 2
+3 read /f 0 9 => bytes 0 x
+";
+
+/// The node comes back, fails again, and comes back.
+const RETURNS: &str = "\
+join 1 => F10 WrongPhase
+back 1 => stale 2
+back 1 => F10 WrongPhase
+fail 1 => failed
+back 3 => F8 BadNode
+back 1 => stale 2
+join 1 => F2 Busy
+refill 1 => left 1
+refill 1 => left 0
+refill 1 => left 0
+join 1 => returned
+refill 1 => F10 WrongPhase
+3 write /f 0 tnew => done
+fsync 3 => not yet
+send 2 => 2 for 1: client 3, 0..1
+";
+
 #[test]
 fn events_are_answered_in_order(rt: HostRuntime) {
     let kinds = [RevokerKind::Least, RevokerKind::Least];
@@ -226,6 +292,12 @@ fn a_refused_revoker_is_taken_next(rt: HostRuntime) {
     show(rt.alloc(), &rt, &kinds, 0, &[WHOLE_GOES_BACK]);
     let kinds = [RevokerKind::Whole, RevokerKind::Least];
     show(rt.alloc(), &rt, &kinds, 0, &[LEAST_GOES_BACK]);
+}
+
+#[test]
+fn clients_crash_and_nodes_fail_and_come_back(rt: HostRuntime) {
+    let kinds = [RevokerKind::Least; 3];
+    show(rt.alloc(), &rt, &kinds, 0, &[SYNCS, FAILS, RETURNS]);
 }
 
 #[test]

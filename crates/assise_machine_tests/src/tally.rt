@@ -32,6 +32,11 @@ impl Tally {
                 !matches!(digested, Ok(0) | Err(_)),
             ),
             Answer::Released(count) => add_if(&mut self.released, *count > 0),
+            Answer::Crashed(_)
+            | Answer::Failed(_)
+            | Answer::Began(_)
+            | Answer::Left(_)
+            | Answer::Joined(_) => (),
         }
     }
 

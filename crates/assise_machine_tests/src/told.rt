@@ -3,6 +3,7 @@ use crate::desk::{Cluster, Letter};
 use crate::frames::put_digits;
 use crate::reading::tree_at;
 use crate::words::{number_in, small_in};
+use assise_names::refusal::Refusal;
 use assise_record::frame::Frame;
 use assise_rows::split_word;
 use std::alloc::{AllocError, Global};
@@ -32,6 +33,47 @@ fn put_range(frame: &Frame, text: &mut String) -> Result<(), AllocError> {
     let (client, first) = (frame.client(), frame.first());
     let end = first.saturating_add(frame.records().len() as u64);
     write!(text, "client {client}, {first}..{end}")
+}
+
+/// Appends a word, where nothing was refused.
+pub(crate) fn put_told_of(
+    text: &mut String,
+    word: &str,
+    told: Result<(), Refusal>,
+) -> Result<(), AllocError> {
+    match told {
+        Ok(()) => text.push_str(word),
+        Err(refusal) => write!(text, "{refusal}"),
+    }
+}
+
+/// Appends a word and how many inodes a node may lack.
+pub(crate) fn put_stale(
+    text: &mut String,
+    word: &str,
+    stale: Result<usize, Refusal>,
+) -> Result<(), AllocError> {
+    match stale {
+        Ok(count) => write!(text, "{word} {count}"),
+        Err(refusal) => write!(text, "{refusal}"),
+    }
+}
+
+/// Appends what was lost by a failure: each client that lost a call, with the first.
+pub(crate) fn put_failed(
+    text: &mut String,
+    failed: Result<Vec<(u32, u64)>, Refusal>,
+) -> Result<(), AllocError> {
+    match failed {
+        Ok(losses) => {
+            text.push_str("failed")?;
+            for (client, first) in losses {
+                write!(text, " {client}:{first}")?;
+            }
+            Ok(())
+        }
+        Err(refusal) => write!(text, "{refusal}"),
+    }
 }
 
 /// Appends a frame's bytes.

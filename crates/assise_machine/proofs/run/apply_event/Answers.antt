@@ -30,6 +30,9 @@ returns-in-ReleaseReady-clause-served g c = seen_so c.in-ReleaseReady.is (happen
 pub returns-in-Crash-clause-served : goal.returns-in-Crash-clause-served
 returns-in-Crash-clause-served g c = seen_so c.in-Crash.is (happens c.crash.ensures.happens)
 
+pub returns-in-Fail-clause-served : goal.returns-in-Fail-clause-served
+returns-in-Fail-clause-served g c = seen_so c.in-Fail.is (happens c.fail.ensures.happens)
+
 pub returns-in-Back-clause-served : goal.returns-in-Back-clause-served
 returns-in-Back-clause-served g c = seen_so c.in-Back.is (happens c.back.ensures.happens)
 

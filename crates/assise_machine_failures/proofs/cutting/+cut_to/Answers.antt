@@ -1,7 +1,6 @@
-use Rattle.std.proofs.Common.{◌≡◌, ◌≢◌, ◌-◌, ◌<◌, ◌≤◌, length, ap, sym, subst, ◌∙◌, arith}
+use Rattle.std.proofs.Common.{◌≡◌, ◌-◌, ap, sym, subst, ◌∙◌, arith}
 use Rattle.assise_machine_state.specs.ClientValues.{client_in, client_seen, failed_at, with_client}
 use Rattle.assise_machine_state.specs.NodeValues.{AreUndigested, with_tails_cut}
-use Rattle.assise_machine_state.specs.Places.{IsNumber}
 use Rattle.assise_machine_failures.specs.Listing.{kept_in}
 use Rattle.assise_machine_failures.proofs.CutOff.{all_undigested, home_found, next_cut, next_fails, next_lives, next_stays, number_found, undigested_then}
 use Rattle.assise_machine_failures.proofs.cutting.+cut_to.Goals as goal

@@ -1,4 +1,4 @@
-use Rattle.std.proofs.Common.{◌-◌, ◌<◌, arith}
+use Rattle.std.proofs.Common.{◌-◌, arith}
 use Rattle.assise_machine_state.specs.Whole.{value_of}
 use Rattle.assise_machine_failures.proofs.FailedFull.{lose_next}
 use Rattle.assise_machine_failures.proofs.Losing.{next_returning, some_shaped}

@@ -1,7 +1,6 @@
-use Rattle.std.proofs.Common.{◌≡◌, ◌≢◌, None, length, ap, refl, sym, subst, ◌∙◌, arith}
+use Rattle.std.proofs.Common.{length, ap, refl, ◌∙◌, arith}
 use Rattle.std.proofs.lemmas.Result.{err_from_is_err_and}
 use Rattle.assise_lease_tree.specs.Trees.{levels_of}
-use Rattle.assise_manager.specs.Changes.{failure_fault}
 use Rattle.assise_machine_events.specs.Events.{refused}
 use Rattle.assise_machine_state.specs.Whole.{value_of}
 use Rattle.assise_machine_failures.specs.Answers.{failing_answer}

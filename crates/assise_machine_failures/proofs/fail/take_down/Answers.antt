@@ -1,13 +1,11 @@
-use Rattle.std.proofs.Common.{◌≡◌, ◌<◌, ◌≤◌, ◌++◌, ◌∷◌, [], length, ap, sym, subst, ◌∙◌, arith, refl}
-use Rattle.std.proofs.Math.Logic.{∥∥₁_map}
+use Rattle.std.proofs.Common.{◌≡◌, ◌<◌, ◌++◌, ◌∷◌, [], length, ap, sym, subst, ◌∙◌, arith}
 use Rattle.std.specs.FinSet as set
 use Rattle.assise_history.specs.Entries.{fails}
 use Rattle.assise_lease_tree.specs.Trees.{levels_of}
 use Rattle.assise_manager.specs.Changes.{failed}
 use Rattle.assise_manager.specs.Whole.{membership}
 use Rattle.assise_machine_state.specs.Changes.{with_clients_cut}
-use Rattle.assise_machine_state.specs.ClientValues.{client_seen}
-use Rattle.assise_machine_state.specs.NodeValues.{HasLog, IsUndigestedFrom, log_in, without_logs}
+use Rattle.assise_machine_state.specs.NodeValues.{HasLog, IsUndigestedFrom, log_in}
 use Rattle.assise_machine_state.specs.Places.{IsNumber}
 use Rattle.assise_machine_state.specs.Whole.{value_of}
 use Rattle.assise_machine_state.proofs.CutSeen.{home_number}

@@ -1,0 +1,156 @@
+-- A node that was coming back and is down again, as the laws have it.
+use Rattle.std.proofs.Common.{◌≡◌, ℕ, true, List, [], ◌∷◌, ◌++◌, Option, Some, None, Result, Ok, Err, inl, inr, length, refl, ap, sym, subst, ◌∙◌, arith, true≢false}
+use Rattle.std.proofs.Math.Logic.{∥∥₁_map}
+use Rattle.std.proofs.lemmas.Bool.{cases_eq}
+use Rattle.std.specs.FinSet as set
+use Rattle.assise_names.specs.declared.refusal.Refusal.{Refusal}
+use Rattle.assise_names.specs.declared.refusal.Refusal.TheVariants.{BadNode, WrongPhase}
+use Rattle.assise_history.specs.declared.call.Loss.{Loss}
+use Rattle.assise_history.specs.Entries.{Event, fails}
+use Rattle.assise_manager.specs.declared.phase.Phase.{Phase}
+use Rattle.assise_manager.specs.declared.phase.Phase.TheVariants.{Full, Down, Returning}
+use Rattle.assise_manager.specs.Changes.{failed, failed_as, failure_fault_of, is_returning}
+use Rattle.assise_manager.specs.Membership.{Membership}
+use Rattle.assise_manager.specs.Standings.{Standing, down, full, phase_of, returning, standing_of, with_standing}
+use Rattle.assise_machine_laws.specs.NodeSteps.{Rests}
+use Rattle.assise_machine_history.proofs.Numbering.{kept_fail_none}
+use Rattle.assise_machine_events.specs.Events.{fail as fail_event, failed as failed_answer}
+use Rattle.assise_machine_events.specs.Machine.{Holds}
+use Rattle.assise_machine_events.specs.MemberEvents.{Failing, IsFailedAgain, is_failed_again}
+use Rattle.assise_machine_events.proofs.EachEvent.{event_keeps}
+use Rattle.assise_machine_state.specs.Changes.{after_members}
+use Rattle.assise_machine_state.specs.Observed.{is_full_in, observed, own_seen, world_of}
+use Rattle.assise_machine_state.specs.Shape.{AreNoted, IsShaped}
+use Rattle.assise_machine_state.specs.StateValues.{StateValue, leases_of, standings}
+use Rattle.assise_machine_state.proofs.Noted.{still_noted}
+use Rattle.assise_machine_state.proofs.Resting.{members_rest, members_shaped}
+use Rattle.assise_machine_state.proofs.Standings.{full_as, full_else, full_here, same_count}
+
+-- ---- how it stood
+
+pub bad_node : (m : Membership) (o : Option Standing) (e : Refusal) → phase_of o ≡ Err e → failure_fault_of m o ≡ Some e
+bad_node m None e is = (let same : ◌≡◌ {A = Result Phase Refusal} (Err BadNode) (Err e) = is in ap Some (same_err same))
+  where
+    same_err : {d e : Refusal} → ◌≡◌ {A = Result Phase Refusal} (Err d) (Err e) → d ≡ e
+    same_err {d} {e} is = ap (λ r. error_in d r) is
+      where
+        error_in : Refusal → Result Phase Refusal → Refusal
+        error_in none (Ok p) = none
+        error_in none (Err e) = e
+bad_node m (Some full) e is = absurd (let bad : ◌≡◌ {A = Result Phase Refusal} (Ok Full) (Err e) = is in cc)
+bad_node m (Some (down since)) e is = absurd (let bad : ◌≡◌ {A = Result Phase Refusal} (Ok Down) (Err e) = is in cc)
+bad_node m (Some (returning since donor stale)) e is = absurd (let bad : ◌≡◌ {A = Result Phase Refusal} (Ok Returning) (Err e) = is in cc)
+
+pub down_fault : (m : Membership) (o : Option Standing) → phase_of o ≡ Ok Down → failure_fault_of m o ≡ Some WrongPhase
+down_fault m None is = absurd (let bad : ◌≡◌ {A = Result Phase Refusal} (Err BadNode) (Ok Down) = is in cc)
+down_fault m (Some full) is = absurd (let bad : ◌≡◌ {A = Result Phase Refusal} (Ok Full) (Ok Down) = is in cc)
+down_fault m (Some (down since)) is = refl
+down_fault m (Some (returning since donor stale)) is = absurd (let bad : ◌≡◌ {A = Result Phase Refusal} (Ok Returning) (Ok Down) = is in cc)
+
+pub back_fine : (m : Membership) (o : Option Standing) → is_returning o ≡ true → failure_fault_of m o ≡ None
+back_fine m None is = absurd (true≢false (sym is))
+back_fine m (Some full) is = absurd (true≢false (sym is))
+back_fine m (Some (down since)) is = absurd (true≢false (sym is))
+back_fine m (Some (returning since donor stale)) is = refl
+
+-- ---- the same are full
+
+module _ (m : Membership) (n : ℕ) where
+  abbrev left : Option Standing → List Standing
+  left o = (failed_as m n set.empty o).nodes
+
+  as_many : (o : Option Standing) → is_returning o ≡ true → length (left o) ≡ length m.nodes
+  as_many None is = absurd (true≢false (sym is))
+  as_many (Some full) is = absurd (true≢false (sym is))
+  as_many (Some (down since)) is = absurd (true≢false (sym is))
+  as_many (Some (returning since donor stale)) is = same_count m.nodes n (down since)
+
+  full_still : (o : Option Standing) → standing_of m.nodes n ≡ o → is_returning o ≡ true → (k : ℕ) → is_full_in (left o) k ≡ is_full_in m.nodes k
+  full_still None at is k = absurd (true≢false (sym is))
+  full_still (Some full) at is k = absurd (true≢false (sym is))
+  full_still (Some (down since)) at is k = absurd (true≢false (sym is))
+  full_still (Some (returning since donor stale)) at is k =
+      elim (cases_eq k n) [
+        | inl here ↦
+            subst (λ j. is_full_in (with_standing m.nodes n (down since)) j ≡ is_full_in m.nodes j) (sym here)
+            (full_here m.nodes n (returning since donor stale) (down since) at ∙ sym (full_as m.nodes n (returning since donor stale) at))
+        | inr other ↦ full_else m.nodes n k (returning since donor stale) (down since) at other
+      ]
+
+-- ---- it fails
+
+module _ (s : StateValue) (n : ℕ) (holds : ∥ Holds (observed s) ∥₁) (shape : IsShaped s) (noted : AreNoted s) (is : is_returning (standing_of (standings s) n) ≡ true) where
+  abbrev m : Membership
+  m = failed s.members n set.empty
+
+  abbrev u : StateValue
+  u = after_members s m
+
+  abbrev t : StateValue
+  t = record u { history = s.history ++ fails n [] ∷ [] }
+
+  long : length m.nodes ≡ length (standings s)
+  long = as_many s.members n (standing_of (standings s) n) is
+
+  same : (k : ℕ) → is_full_in m.nodes k ≡ is_full_in (standings s) k
+  same = full_still s.members n (standing_of (standings s) n) refl is
+
+  -- the entry takes no call
+  same_world : world_of t ≡ world_of u
+  unfolding world_of own_seen leases_of
+  same_world = (λ i. record (world_of u) { calls = kept_fail_none s.history n i })
+
+  rests : Rests (world_of s) (world_of t)
+  rests = subst (Rests (world_of s)) (sym same_world) (members_rest s m long same)
+
+  areas : (k i : ℕ) → (world_of t).area k i ≡ (world_of s).area k i
+  unfolding world_of
+  areas k i = refl
+
+  same_holders : leases_of t ≡ leases_of s
+  unfolding leases_of
+  same_holders = refl
+
+  fails_again : IsFailedAgain (observed s) n (observed t)
+  unfolding observed
+  fails_again = record {
+    failure = record { was_returning = is; members = refl; rests = rests; area = areas };
+    leases = same_holders;
+    adds = record { history = refl; limit = refl };
+  }
+
+  again_happens : Failing (observed s) n (failed_answer []) (observed t)
+  unfolding observed
+  again_happens = is_failed_again (back_fine s.members (standing_of (standings s) n) is) refl fails_again
+
+  again_holds : ∥ Holds (observed t) ∥₁
+  again_holds = ∥∥₁_map holds (λ h. event_keeps (observed s) (observed t) (fail_event n) (failed_answer []) h again_happens)
+
+  again_shaped : IsShaped t
+  again_shaped = of_members (members_shaped s m shape long same)
+    where
+      of_members : IsShaped u → IsShaped t
+      of_members h = record { nodes = h.nodes; few_nodes = h.few_nodes; logs = h.logs; no_logs = h.no_logs; at_home = h.at_home; limits = h.limits; least_limit = h.least_limit; most_limit = h.most_limit }
+
+  again_noted : AreNoted t
+  again_noted = still_noted s t refl (omega arith) (λ c i. refl) noted
+
+  -- as the code has it
+  module _ (now : Membership) (h : List Event) (is_now : now ≡ failed s.members n (set.from_list [])) (told : h ≡ s.history ++ fails n [] ∷ []) where
+    abbrev x : StateValue
+    x = record s { members = now; history = h }
+
+    so : x ≡ t
+    so = (λ i. record s { members = is_now i; history = told i })
+
+    pub happens_again : (answer : List Loss) → answer ≡ [] → Failing (observed s) n (failed_answer answer) (observed x)
+    happens_again answer none = subst (λ a. Failing (observed s) n (failed_answer a) (observed x)) (sym none) (subst (λ y. Failing (observed s) n (failed_answer []) (observed y)) (sym so) again_happens)
+
+    pub holds_again : ∥ Holds (observed x) ∥₁
+    holds_again = subst (λ y. ∥ Holds (observed y) ∥₁) (sym so) again_holds
+
+    pub shaped_again : IsShaped x
+    shaped_again = subst IsShaped (sym so) again_shaped
+
+    pub noted_again : AreNoted x
+    noted_again = subst AreNoted (sym so) again_noted

@@ -1,0 +1,42 @@
+use Rattle.std.proofs.Common.{◌≡◌, ◌<◌, ◌++◌, ◌∷◌, [], length, map, ap, ◌∙◌, arith}
+use Rattle.std.proofs.lemmas.Result.{err_from_is_err_and}
+use Rattle.assise_history.specs.Entries.{fails}
+use Rattle.assise_manager.specs.Whole.{membership}
+use Rattle.assise_machine_events.specs.Events.{refused}
+use Rattle.assise_machine_state.specs.Whole.{value_of}
+use Rattle.assise_machine_failures.specs.Answers.{failing_answer, loss_of}
+use Rattle.assise_machine_failures.proofs.FailedAgain.{back_fine, happens_again, holds_again, noted_again, shaped_again}
+use Rattle.assise_machine_failures.proofs.FailedFull.{lacks_so}
+use Rattle.assise_machine_failures.proofs.TakenIn.{epoch_fits}
+use Rattle.assise_machine_failures.proofs.fail.fail_again.Goals as goal
+
+pub returns-in_err-reserve-clause-happens : goal.returns-in_err-reserve-clause-happens
+returns-in_err-reserve-clause-happens g c =
+    let s = value_of c.args.sound.now.state in
+    let error = err_from_is_err_and c.from_residual.result c.from_residual.ensures.1 in
+    lacks_so s (record s { history = c.reserve.new.self.events }) c.args.node (failing_answer c.from_residual.result) (back_fine s.members _ c.requires.returning)
+    (ap failing_answer error.1 ∙ ap refused (error.2 ∙ c.in_err-reserve.ensures.only_memory)) (λ i. record s { history = c.reserve.ensures.same i })
+
+pub fail-requires : goal.fail-requires
+fail-requires g c =
+    let s = value_of c.args.sound.now.state in
+    let so_many : length c.entries-entries.result.now ≡ length s.history = ap length (c.entries-entries.ensures ∙ c.reserve.ensures.same) in
+    let few : length s.history < 9223372036854775808 = omega (arith, so_many, c.entries-entries.type_inv.1) in
+    record { epoch_fits = epoch_fits s c.args.sound.now.holds few }
+
+pub invariant_of-sound-2 : goal.invariant_of-sound-2
+invariant_of-sound-2 g c =
+    let s = value_of c.args.sound.now.state in
+    let told = c.push.ensures.grown ∙ (λ i. c.reserve.ensures.same i ++ (c.fail-2.ensures ∙ ap (fails c.args.node) c.new.ensures.items) i ∷ []) in
+    record {
+      holds = holds_again s c.args.node c.args.sound.now.holds c.args.sound.now.shape c.args.sound.now.noted c.requires.returning (membership c.fail.new.self) c.push.new.self.events c.in_ok-fail.ensures.ok told;
+      shape = shaped_again s c.args.node c.args.sound.now.holds c.args.sound.now.shape c.args.sound.now.noted c.requires.returning (membership c.fail.new.self) c.push.new.self.events c.in_ok-fail.ensures.ok told;
+      noted = noted_again s c.args.node c.args.sound.now.holds c.args.sound.now.shape c.args.sound.now.noted c.requires.returning (membership c.fail.new.self) c.push.new.self.events c.in_ok-fail.ensures.ok told;
+    }
+
+pub returns-clause-happens : goal.returns-clause-happens
+returns-clause-happens g c =
+    let s = value_of c.args.sound.now.state in
+    let told = c.push.ensures.grown ∙ (λ i. c.reserve.ensures.same i ++ (c.fail-2.ensures ∙ ap (fails c.args.node) c.new.ensures.items) i ∷ []) in
+    happens_again s c.args.node c.args.sound.now.holds c.args.sound.now.shape c.args.sound.now.noted c.requires.returning (membership c.fail.new.self) c.push.new.self.events c.in_ok-fail.ensures.ok told
+    (map loss_of c.new-2.result.items) (ap (map loss_of) c.new-2.ensures.items)
