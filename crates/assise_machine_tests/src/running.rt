@@ -244,10 +244,13 @@ fsync 1 => done
 back 1 => F10 WrongPhase
 crash 2 => crashed
 crash 2 => F4 ClientGone
+2 stat / => F4 ClientGone
 crash 4 => F9 BadClient
 fail 3 => F8 BadNode
 fail 1 => failed 1:2
 crash 1 => F3 NodeDown
+1 stat / => F3 NodeDown
+open 1 => F3 NodeDown
 fail 1 => F10 WrongPhase
 fail 2 => F7 LastNode
 3 read /f 0 9 => not yet
@@ -275,6 +278,19 @@ fsync 3 => not yet
 send 2 => 2 for 1: client 3, 0..1
 ";
 
+/// The other node fails, and its client's file is read where it was synced.
+const READS: &str = "\
+deliver 2 at 1 => received 1
+fsync 3 => done
+fail 2 => failed
+3 stat / => F3 NodeDown
+open 1 => client 4
+4 read /f 0 9 => not yet
+digest 1 => digested 1
+release => released 2
+4 read /f 0 9 => bytes 3 x6e6577
+";
+
 #[test]
 fn events_are_answered_in_order(rt: HostRuntime) {
     let kinds = [RevokerKind::Least, RevokerKind::Least];
@@ -296,8 +312,8 @@ fn a_refused_revoker_is_taken_next(rt: HostRuntime) {
 
 #[test]
 fn clients_crash_and_nodes_fail_and_come_back(rt: HostRuntime) {
-    let kinds = [RevokerKind::Least; 3];
-    show(rt.alloc(), &rt, &kinds, 0, &[SYNCS, FAILS, RETURNS]);
+    let kinds = [RevokerKind::Least; 4];
+    show(rt.alloc(), &rt, &kinds, 0, &[SYNCS, FAILS, RETURNS, READS]);
 }
 
 #[test]
