@@ -1,5 +1,5 @@
 -- Crashes, failures and returns: one event, or a course of them.
-use Rattle.std.proofs.Common.{◌≡◌, ◌<◌, ℕ, zero, suc, [], ◌∷◌, refl, subst}
+use Rattle.std.proofs.Common.{◌≡◌, ◌<◌, ℕ, zero, suc, refl, subst}
 use Rattle.assise_names.specs.declared.refusal.Refusal.{Refusal}
 use Rattle.assise_machine_events.specs.Events.{Answer as EventAnswer, ClusterEvent, began, join, left, refused}
 use Rattle.assise_machine_events.specs.Happenings.{Happens}

@@ -1,6 +1,6 @@
-use Rattle.std.proofs.Common.{◌+◌, refl, arith}
+use Rattle.std.proofs.Common.{◌+◌, arith}
 use Rattle.assise_machine.specs.Clusters.{machine}
-use Rattle.assise_console.proofs.Coming.{all_inodes, last_inode, next_inode, no_inode}
+use Rattle.assise_console.proofs.Coming.{last_inode, next_inode, no_inode}
 use Rattle.assise_console.proofs.returning.fill.Goals as goal
 
 pub returns-in-Ok-eq0-clause-ok : goal.returns-in-Ok-eq0-clause-ok

@@ -11,10 +11,9 @@ returns-in_default g c =
     let large = c.number_of.ensures.none c.in_default.is in
     returns_none (seen c.args.self.now) c.args.node (omega (arith, few, large))
 
-pub returns-then-self : goal.returns-then-self
-returns-then-self g c =
-    begins_return (seen c.args.self.now) c.args.node c.in-Some.node c.begin_return.result (machine c.begin_return.new.cluster) c.in-Some.ensures.some c.if-self.true c.begin_return.ensures
+pub returns-then-not-self : goal.returns-then-not-self
+returns-then-not-self g c =
+    returns_whole (seen c.args.self.now) c.args.node c.in-Some.node c.return_node.result (machine c.return_node.new.cluster) c.in-Some.ensures.some c.if-not-self.true c.return_node.ensures
 
-pub returns-else-self : goal.returns-else-self
-returns-else-self g c =
-    returns_whole (seen c.args.self.now) c.args.node c.in-Some.node c.return_node.result (machine c.return_node.new.cluster) c.in-Some.ensures.some c.if-self.false c.return_node.ensures
+pub returns : goal.returns
+returns g c = begins_return (seen c.args.self.now) c.args.node c.in-Some.node c.begin_return.result (machine c.begin_return.new.cluster) c.in-Some.ensures.some c.if-not-self.false c.begin_return.ensures
