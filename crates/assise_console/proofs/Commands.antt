@@ -9,18 +9,21 @@ use Rattle.assise_machine_laws.specs.World.{alone}
 use Rattle.assise_machine_events.specs.Faults.{node_fault}
 use Rattle.assise_fault_script.specs.declared.command.RevokerKind.{RevokerKind}
 use Rattle.assise_fault_script.specs.declared.command.RevokerKind.TheVariants.{Least, Whole, Eights}
-use Rattle.assise_machine_events.specs.Events.{Answer as EventAnswer, digest, open_client, refused, release_ready, try_call}
+use Rattle.assise_machine_events.specs.Events.{Answer as EventAnswer, ClusterEvent, back, crash, digest, fail, join, open_client, refill, refused, release_ready, try_call}
+use Rattle.assise_machine_events.specs.Happenings.{Happens}
 use Rattle.assise_machine_events.specs.Machine.{Machine}
 use Rattle.assise_machine_events.specs.NodeEvents.{Digesting, Releasing, Sending}
 use Rattle.assise_machine.specs.Running.{IsServed, happens, stock_after}
 use Rattle.assise_console.specs.declared.answer.Answer.{Answer}
 use Rattle.assise_console.specs.declared.answer.Answer.TheVariants.{Carried, Refused, Tree as Shown}
 use Rattle.assise_console.specs.Courses.{Told}
+use Rattle.assise_console.specs.Returning.{ComesBack, IsOneAt}
 use Rattle.assise_console.specs.Rounds.{Replicates}
 use Rattle.assise_console.specs.State.{State, stock_of, with_machine, with_stock}
-use Rattle.assise_console.specs.Steps.{Calls, Carries, Changes, Opens, Shows, is_carried, is_refused, is_shown, lacks_memory}
+use Rattle.assise_console.specs.Steps.{Calls, Carries, Changes, Opens, Returns, Shows, is_carried, is_refused, is_shown, lacks_memory}
 use Rattle.assise_console.specs.Trying.{IsOne, Tells, TriesOften, is_settled}
-use Rattle.assise_console.proofs.Numbers.{digests_nowhere, no_node, opens_nowhere, sends_nowhere, tries_nobody}
+use Rattle.assise_console.proofs.Numbers.{comes_nowhere, crashes_nobody, digests_nowhere, fails_nowhere, fills_nowhere, joins_nowhere, no_node, opens_nowhere, sends_nowhere, tries_nobody}
+use Rattle.assise_console.proofs.Coming.{comes_not, is_told}
 
 -- ---- an open
 
@@ -127,6 +130,39 @@ digests_none s n far = (
 
 pub releases_by : (s : State) (a : Answer) (e : EventAnswer) (m' : Machine) → Tells a e → Releasing s.machine e m' → (es : Told) × Changes (IsOne release_ready a) s es (with_machine s m')
 releases_by s a e m' tells h = (_, record { events = record { answer = e; tells = tells; event = record { told = refl; happens = h } }; stays = refl })
+
+-- ---- crashes, failures and returns
+
+pub does_at : (what : ℕ → ClusterEvent) (s : State) (n k : ℕ) (a : Answer) (m' : Machine) → k ≡ n → (es : Told) × IsOneAt what k a s.machine es m' → (es : Told) × Changes (IsOneAt what n a) s es (with_machine s m')
+does_at what s n k a m' same (es, h) = (es, record { events = subst (λ j. IsOneAt what j a s.machine es m') same h; stays = refl })
+
+refuses_at : (what : ℕ → ClusterEvent) (s : State) (n : ℕ) (r : Refusal) → Happens s.machine (what n) (refused r) s.machine → (es : Told) × Changes (IsOneAt what n (Refused r)) s es s
+refuses_at what s n r h = does_at what s n n (Refused r) s.machine refl (is_told what n (Refused r) (refused r) s.machine s.machine refl h)
+
+pub crashes_none : (s : State) (c : ℕ) → s.machine.world.clients < c → (es : Told) × Changes (IsOneAt crash c (Refused BadClient)) s es s
+crashes_none s c far = refuses_at crash s c BadClient (crashes_nobody s.machine c far)
+
+pub fails_none : (s : State) (n : ℕ) → length s.machine.members.nodes < n → (es : Told) × Changes (IsOneAt fail n (Refused BadNode)) s es s
+fails_none s n far = refuses_at fail s n BadNode (fails_nowhere s.machine n far)
+
+pub refills_none : (s : State) (n : ℕ) → length s.machine.members.nodes < n → (es : Told) × Changes (IsOneAt refill n (Refused BadNode)) s es s
+refills_none s n far = refuses_at refill s n BadNode (fills_nowhere s.machine n far)
+
+pub joins_none : (s : State) (n : ℕ) → length s.machine.members.nodes < n → (es : Told) × Changes (IsOneAt join n (Refused BadNode)) s es s
+joins_none s n far = refuses_at join s n BadNode (joins_nowhere s.machine n far)
+
+pub begins_return : (s : State) (n k : ℕ) (a : Answer) (m' : Machine) → k ≡ n → s.manual ≡ true → (es : Told) × IsOneAt back k a s.machine es m' → (es : Told) × Changes (Returns s.manual n a) s es (with_machine s m')
+begins_return s n k a m' same manual (es, h) = (es, record { events = rw manual (subst (λ j. IsOneAt back j a s.machine es m') same h); stays = refl })
+
+pub returns_whole : (s : State) (n k : ℕ) (a : Answer) (m' : Machine) → k ≡ n → s.manual ≡ false → (es : Told) × ComesBack k a s.machine es m' → (es : Told) × Changes (Returns s.manual n a) s es (with_machine s m')
+returns_whole s n k a m' same manual (es, h) = (es, record { events = rw manual (subst (λ j. ComesBack j a s.machine es m') same h); stays = refl })
+
+pub returns_none : (s : State) (n : ℕ) → length s.machine.members.nodes < n → (es : Told) × Changes (Returns s.manual n (Refused BadNode)) s es s
+returns_none s n far = either s.manual refl
+  where
+    either : (manual : Bool) → s.manual ≡ manual → (es : Told) × Changes (Returns s.manual n (Refused BadNode)) s es s
+    either true is = begins_return s n n (Refused BadNode) s.machine refl is (is_told back n (Refused BadNode) (refused BadNode) s.machine s.machine refl (comes_nowhere s.machine n far))
+    either false is = returns_whole s n n (Refused BadNode) s.machine refl is (comes_not n BadNode s.machine s.machine (comes_nowhere s.machine n far))
 
 -- ---- a tree
 

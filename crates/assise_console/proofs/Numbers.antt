@@ -6,12 +6,14 @@ use Rattle.assise_names.specs.declared.call.Op.{Op}
 use Rattle.assise_names.specs.declared.call.Op.TheVariants.{Create, Mkdir, Read, Write, Truncate, Rename, Unlink, Rmdir, List as ListCall, Stat, Fsync}
 use Rattle.assise_names.specs.declared.refusal.Refusal.TheVariants.{BadClient, BadNode, NodeDown, WrongPhase}
 use Rattle.assise_machine_laws.specs.World.{World}
-use Rattle.assise_machine_events.specs.ClientEvents.{Opening, is_refused}
+use Rattle.assise_machine_events.specs.ClientEvents.{Crashing, Opening, is_refused}
 use Rattle.assise_machine_events.specs.Events.{refused}
 use Rattle.assise_machine_events.specs.Faults.{client_fault, fault_if, is_client, node_fault, open_fault, or_else, unless_full}
 use Rattle.assise_machine_events.specs.Happenings.{Trying}
 use Rattle.assise_machine_events.specs.Machine.{Machine, most_clients}
+use Rattle.assise_machine_events.specs.MemberEvents.{Failing, Joining, Refilling, Returning, is_refused as member_refused}
 use Rattle.assise_machine_events.specs.NodeEvents.{Digesting, Sending, is_refused as node_refused}
+use Rattle.assise_manager.specs.Changes.{failure_fault_of, filling_fault_of, join_fault_of, return_fault_of}
 use Rattle.assise_manager.specs.Standings.{Standing, standing_of}
 
 -- ---- nodes
@@ -41,6 +43,18 @@ sends_nowhere m n far = node_refused BadNode (no_node m n far) refl refl
 pub digests_nowhere : (m : Machine) (n : ℕ) → length m.members.nodes < n → Digesting m n (refused BadNode) m
 digests_nowhere m n far = node_refused BadNode (no_node m n far) refl refl
 
+pub fails_nowhere : (m : Machine) (n : ℕ) → length m.members.nodes < n → Failing m n (refused BadNode) m
+fails_nowhere m n far = member_refused BadNode (ap (failure_fault_of m.members) (no_standing m.members.nodes n far)) refl refl
+
+pub comes_nowhere : (m : Machine) (n : ℕ) → length m.members.nodes < n → Returning m n (refused BadNode) m
+comes_nowhere m n far = member_refused BadNode (ap return_fault_of (no_standing m.members.nodes n far)) refl refl
+
+pub fills_nowhere : (m : Machine) (n : ℕ) → length m.members.nodes < n → Refilling m n (refused BadNode) m
+fills_nowhere m n far = member_refused BadNode (ap filling_fault_of (no_standing m.members.nodes n far)) refl refl
+
+pub joins_nowhere : (m : Machine) (n : ℕ) → length m.members.nodes < n → Joining m n (refused BadNode) m
+joins_nowhere m n far = member_refused BadNode (ap join_fault_of (no_standing m.members.nodes n far)) refl refl
+
 -- ---- clients
 
 no_client : (w : World) (c : ℕ) → w.clients < c → is_client w c ≡ false
@@ -51,6 +65,9 @@ no_client w c far = elim (cases_Bool (nat_le c w.clients)) [
 
 client_missing : (m : Machine) (c : ℕ) → m.world.clients < c → client_fault m c ≡ Some BadClient
 client_missing m c far = rw (no_client m.world c far) refl
+
+pub crashes_nobody : (m : Machine) (c : ℕ) → m.world.clients < c → Crashing m c (refused BadClient) m
+crashes_nobody m c far = is_refused BadClient (client_missing m c far) refl refl
 
 pub tries_nobody : (m : Machine) (c : ℕ) (op : Op) → m.world.clients < c → Trying m c op (refused BadClient) m
 tries_nobody m c (Create p) far = is_refused BadClient (rw (client_missing m c far) refl) refl refl

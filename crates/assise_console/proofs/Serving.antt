@@ -3,18 +3,19 @@ use Rattle.std.proofs.Common.{◌≡◌, ℕ, ◌<◌, Bool, true, false, List, 
 use Rattle.assise_names.specs.declared.call.Op.{Op}
 use Rattle.assise_history.specs.Legal.{IsLegal}
 use Rattle.assise_fault_script.specs.declared.command.Command as commands
-use Rattle.assise_fault_script.specs.declared.command.Command.TheVariants.{Cluster, Manual, Open, Call, Carry, Digest, Release, Tree, History}
+use Rattle.assise_fault_script.specs.declared.command.Command.TheVariants.{Cluster, Manual, Open, Call, Carry, Digest, Release, Crash, Fail, Back, Refill, Join, Tree, History}
 use Rattle.assise_fault_script.specs.declared.parse.NumberedCommand.{NumberedCommand}
-use Rattle.assise_machine_events.specs.Events.{ClusterEvent, all_entries, try_call}
+use Rattle.assise_machine_events.specs.Events.{ClusterEvent, all_entries, back, crash, fail, join, refill, try_call}
 use Rattle.assise_machine_events.specs.Machine.{Holds, Machine}
 use Rattle.assise_machine_events.proofs.Beginning.{begun_holds}
 use Rattle.assise_console.specs.declared.answer.Answer.{Answer}
 use Rattle.assise_console.specs.Courses.{IsCourse, IsEvent, Told}
 use Rattle.assise_console.specs.Lines.{Prints}
 use Rattle.assise_console.specs.State.{State, Stocks, begun}
-use Rattle.assise_console.specs.Steps.{Calls, Carries, Serves, is_carried, is_refused}
+use Rattle.assise_console.specs.Steps.{Calls, Carries, Returns, Serves, is_carried, is_refused}
 use Rattle.assise_console.specs.Trying.{Awaits, IsOne, TriesOften, is_busy, is_settled}
 use Rattle.assise_console.proofs.Courses.{awaits_course, course_keeps, course_of, course_then, course_told, event_course, then_course}
+use Rattle.assise_console.proofs.Coming.{return_course, told_course}
 
 -- ---- one command
 
@@ -35,6 +36,10 @@ carries_course : (n : ℕ) (a : Answer) (m : Machine) (es : Told) (m' : Machine)
 carries_course n a m es m' (is_carried count is h) = course_of m m' es h.happen
 carries_course n a m es m' (is_refused r is h) = event_course _ _ m es m' h
 
+returns_course : (manual : Bool) (n : ℕ) (a : Answer) (m : Machine) (es : Told) (m' : Machine) → Returns manual n a m es m' → IsCourse m es m'
+returns_course true n a m es m' h = told_course back n a m es m' h
+returns_course false n a m es m' h = return_course n a m es m' h
+
 quiet_course : (m m' : Machine) (es : Told) → es ≡ [] → m' ≡ m → IsCourse m es m'
 quiet_course m m' es none same = subst (λ x. IsCourse m x m') (sym none) same
 
@@ -46,6 +51,11 @@ command_course s t (Call c op) es a h = calls_course s.manual s.turns c op a s.m
 command_course s t (Carry n) es a h = carries_course n a s.machine es t.machine h.events
 command_course s t (Digest n) es a h = one_course _ a s.machine es t.machine h.events
 command_course s t Release es a h = one_course _ a s.machine es t.machine h.events
+command_course s t (Crash c) es a h = told_course crash c a s.machine es t.machine h.events
+command_course s t (Fail n) es a h = told_course fail n a s.machine es t.machine h.events
+command_course s t (Back n) es a h = returns_course s.manual n a s.machine es t.machine h.events
+command_course s t (Refill n) es a h = told_course refill n a s.machine es t.machine h.events
+command_course s t (Join n) es a h = told_course join n a s.machine es t.machine h.events
 command_course s t (Tree n) es a h = quiet_course s.machine t.machine es h.1.0 (ap (λ x. x.machine) h.1.1)
 command_course s t History es a h = quiet_course s.machine t.machine es h.1.0 (ap (λ x. x.machine) h.1.1)
 

@@ -3,6 +3,7 @@ pub mod State
 pub mod Courses
 pub mod Rounds
 pub mod Trying
+pub mod Returning
 pub mod Steps
 pub mod Consoles
 pub mod Lines

@@ -1,6 +1,7 @@
 -- What a whole run prints.
 use Rattle.std.specs.Prelude.{◌≡◌, ℕ, List, [], ◌∷◌, ◌++◌, codes, Option}
 use Rattle.std.specs.Io.KnownBytes.{Appends}
+use Rattle.std.specs.List.{flat_map}
 use Rattle.std.specs.Fmt.{decimal}
 use Rattle.assise_names.specs.Text.{refusal_text, reply_text}
 use Rattle.assise_seq_tree.specs.Lines.{tree_text}
@@ -8,10 +9,17 @@ use Rattle.assise_history.specs.Entries.{Event as Entry}
 use Rattle.assise_history.specs.Text.{history_text}
 use Rattle.assise_fault_script.specs.declared.parse.NumberedCommand.{NumberedCommand}
 use Rattle.assise_console.specs.declared.answer.Answer.{Answer}
-use Rattle.assise_console.specs.declared.answer.Answer.TheVariants.{Quiet, Client, Replied, Waits, Refused, Carried, Digested, Released, Tree, History}
+use Rattle.assise_console.specs.declared.answer.Answer.TheVariants.{Quiet, Client, Replied, Waits, Refused, Carried, Digested, Released, Crashed, Failed, Began, Left, Returned, Tree, History}
 use Rattle.assise_console.specs.Courses.{Told}
 use Rattle.assise_console.specs.State.{State}
 use Rattle.assise_console.specs.Steps.{Serves}
+
+-- a space before a client with the number of its first lost call
+abbrev pub loss_text : ℕ × ℕ → List ℕ
+loss_text loss = codes " " ++ decimal loss.0 ++ codes ":" ++ decimal loss.1
+
+abbrev pub lost_text : List (ℕ × ℕ) → List ℕ
+lost_text losses = flat_map loss_text losses
 
 -- the text of an answer, where the history so far is this
 abbrev pub answer_text : List Entry → Answer → List ℕ
@@ -23,6 +31,11 @@ answer_text h (Refused refusal) = refusal_text refusal
 answer_text h (Carried count) = codes "carried " ++ decimal count
 answer_text h (Digested count) = codes "digested " ++ decimal count
 answer_text h (Released count) = codes "released " ++ decimal count
+answer_text h (Crashed client) = codes "crashed " ++ decimal client
+answer_text h (Failed node losses) = codes "failed " ++ decimal node ++ lost_text losses.items
+answer_text h (Began node stale) = codes "back " ++ decimal node ++ codes " stale " ++ decimal stale
+answer_text h (Left stale) = codes "left " ++ decimal stale
+answer_text h (Returned node) = codes "returned " ++ decimal node
 answer_text h (Tree tree) = tree_text tree
 answer_text h History = history_text h
 

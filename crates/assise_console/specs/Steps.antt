@@ -6,16 +6,17 @@ use Rattle.assise_names.specs.declared.refusal.Refusal.TheVariants.{OutOfMemory}
 use Rattle.assise_seq_tree.specs.Tree.{Tree as PlainTree}
 use Rattle.assise_inode_table.specs.Spelled.{Spells}
 use Rattle.assise_fault_script.specs.declared.command.Command as commands
-use Rattle.assise_fault_script.specs.declared.command.Command.TheVariants.{Cluster, Manual, Open, Call, Carry, Digest, Release, Tree as TreeOf, History}
+use Rattle.assise_fault_script.specs.declared.command.Command.TheVariants.{Cluster, Manual, Open, Call, Carry, Digest, Release, Crash, Fail, Back, Refill, Join, Tree as TreeOf, History}
 use Rattle.assise_fault_script.specs.declared.command.RevokerKind.{RevokerKind}
 use Rattle.assise_machine_laws.specs.World.{alone}
-use Rattle.assise_machine_events.specs.Events.{Answer as EventAnswer, digest, open_client, outgoing, refused, release_ready, try_call}
+use Rattle.assise_machine_events.specs.Events.{Answer as EventAnswer, back, crash, digest, fail, join, open_client, outgoing, refill, refused, release_ready, try_call}
 use Rattle.assise_machine_events.specs.Faults.{node_fault}
 use Rattle.assise_machine_events.specs.Machine.{Machine}
 use Rattle.assise_machine.specs.Running.{IsServed, stock_after}
 use Rattle.assise_console.specs.declared.answer.Answer as answers
 use Rattle.assise_console.specs.declared.answer.Answer.TheVariants.{Quiet, Refused, Carried, Tree as Shown, History as Whole}
 use Rattle.assise_console.specs.Courses.{IsEvent, Told}
+use Rattle.assise_console.specs.Returning.{ComesBack, IsOneAt}
 use Rattle.assise_console.specs.Rounds.{Replicates}
 use Rattle.assise_console.specs.State.{State, stock_of, with_machine, with_stock}
 use Rattle.assise_console.specs.Trying.{IsOne, Tells, TriesOften}
@@ -46,6 +47,11 @@ pub data Carries (n : ℕ) (a : answers.Answer) (m : Machine) (es : Told) (m' : 
   is_carried : (count : ℕ) → a ≡ Carried count → Replicates n count m es m' → Carries n a m es m'
   is_refused : (r : Refusal) → a ≡ Refused r → IsEvent (outgoing n) (refused r) m es m' → Carries n a m es m'
 
+-- node n begins to come back after `manual`, and else is filled and joins too
+abbrev pub Returns : Bool → ℕ → answers.Answer → Machine → Told → Machine → Type 0
+Returns true n a m es m' = IsOneAt back n a m es m'
+Returns false n a m es m' = ComesBack n a m es m'
+
 -- the tree that node n's region alone spells, with the records that are acknowledged
 pub data Shows (n : ℕ) (a : answers.Answer) (m : Machine) : Type 0 where
   is_shown : (tree : PlainTree) → node_fault m n ≡ None → a ≡ Shown tree → Spells (alone m.world n) tree → Shows n a m
@@ -65,6 +71,11 @@ Serves s (Call c op) es a t = Changes (Calls s.manual s.turns c op a) s es t
 Serves s (Carry n) es a t = Changes (Carries n a) s es t
 Serves s (Digest n) es a t = Changes (IsOne (digest n) a) s es t
 Serves s Release es a t = Changes (IsOne release_ready a) s es t
+Serves s (Crash c) es a t = Changes (IsOneAt crash c a) s es t
+Serves s (Fail n) es a t = Changes (IsOneAt fail n a) s es t
+Serves s (Back n) es a t = Changes (Returns s.manual n a) s es t
+Serves s (Refill n) es a t = Changes (IsOneAt refill n a) s es t
+Serves s (Join n) es a t = Changes (IsOneAt join n a) s es t
 Serves s (TreeOf n) es a t = Shows n a s.machine × ((es ≡ []) × (t ≡ s))
 Serves s History es a t = (a ≡ Whole) × ((es ≡ []) × (t ≡ s))
 

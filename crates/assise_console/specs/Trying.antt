@@ -5,7 +5,7 @@ use Rattle.assise_names.specs.declared.refusal.Refusal.TheVariants.{Busy}
 use Rattle.assise_machine_events.specs.Events.{Answer as EventAnswer, ClusterEvent, digested, not_yet, opened, refused, released, replied, try_call}
 use Rattle.assise_machine_events.specs.Machine.{Machine}
 use Rattle.assise_console.specs.declared.answer.Answer.{Answer}
-use Rattle.assise_console.specs.declared.answer.Answer.TheVariants.{Quiet, Client, Replied, Waits, Refused, Carried, Digested, Released, Tree, History}
+use Rattle.assise_console.specs.declared.answer.Answer.TheVariants.{Quiet, Client, Replied, Waits, Refused, Carried, Digested, Released, Crashed, Failed, Began, Left, Returned, Tree, History}
 use Rattle.assise_console.specs.Courses.{IsEvent, Nothing, Then, Told}
 use Rattle.assise_console.specs.Rounds.{IsRound}
 
@@ -19,6 +19,11 @@ Tells (Digested count) e = e ≡ digested count
 Tells (Released count) e = e ≡ released count
 Tells Quiet e = ⊥
 Tells (Carried count) e = ⊥
+Tells (Crashed client) e = ⊥
+Tells (Failed node losses) e = ⊥
+Tells (Began node stale) e = ⊥
+Tells (Left stale) e = ⊥
+Tells (Returned node) e = ⊥
 Tells (Tree tree) e = ⊥
 Tells History e = ⊥
 

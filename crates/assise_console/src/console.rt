@@ -1,15 +1,19 @@
 // A cluster on which a script's commands are run.
 ghost use Rattle.std.specs.Prelude.{◌≡◌, ◌<◌, ◌^◌, ◌≤◌, IfOk, IfSome, IsOkUnless, None};
 ghost use Rattle.assise_names.specs.declared.refusal.Refusal.TheVariants.{OutOfMemory};
-ghost use Rattle.assise_machine_events.specs.Events.{digest};
+ghost use Rattle.assise_machine_events.specs.Events.{crash, digest, fail, join, refill};
 ghost use Rattle.assise_machine.specs.Running.{opened_answer};
 ghost use Rattle.assise_console.specs.Consoles.{seen, stocks};
 ghost use Rattle.assise_console.specs.Courses.{Told};
+ghost use Rattle.assise_console.specs.Returning.{IsOneAt};
 ghost use Rattle.assise_console.specs.State.{begun};
-ghost use Rattle.assise_console.specs.Steps.{Calls, Carries, Changes, Does, Opens, Shows};
+ghost use Rattle.assise_console.specs.Steps.{Calls, Carries, Changes, Does, Opens, Returns, Shows};
 ghost use Rattle.assise_console.specs.Trying.{IsOne, Tells};
 
 use crate::answer::Answer;
+use crate::returning::{
+    begin_return, crash_client, fail_node, join_node, refill_once, return_node,
+};
 use crate::rounds::replicate;
 use crate::stock::Stock;
 use crate::trees::tree_at;
@@ -83,6 +87,11 @@ impl<C: Revokes + Drop> ConsoleOf<C> {
             Command::Carry { node } => self.carry(alloc, node),
             Command::Digest { node } => self.digest(alloc, node),
             Command::Release => Answer::Released(self.cluster.release_ready()),
+            Command::Crash { client } => self.crash(client),
+            Command::Fail { node } => self.fail(alloc, node),
+            Command::Back { node } => self.back(alloc, node),
+            Command::Refill { node } => self.refill(alloc, node),
+            Command::Join { node } => self.join(alloc, node),
             Command::Tree { node } => self.tree(alloc, node),
             Command::History => Answer::History,
         }
@@ -142,6 +151,59 @@ impl<C: Revokes + Drop> ConsoleOf<C> {
             Ok(count) => Answer::Digested(count),
             Err(refusal) => Answer::Refused(refusal),
         }
+    }
+
+    /// A client crashes.
+    fn crash(&mut self, client: u64) -> Answer
+        ensures { (es : Told) × Changes (IsOneAt crash client result) (seen self.old) es (seen self.new) }
+    {
+        let Some(client) = number_of(client) else {
+            return Answer::Refused(Refusal::BadClient);
+        };
+        crash_client(&mut self.cluster, client)
+    }
+
+    /// A node fails.
+    fn fail(&mut self, alloc: Global, node: u64) -> Answer
+        ensures { (es : Told) × Changes (IsOneAt fail node result) (seen self.old) es (seen self.new) }
+    {
+        let Some(node) = number_of(node) else {
+            return Answer::Refused(Refusal::BadNode);
+        };
+        fail_node(alloc, &mut self.cluster, node)
+    }
+
+    /// A node comes back: it begins to, is filled and joins. After `manual` it begins to.
+    fn back(&mut self, alloc: Global, node: u64) -> Answer
+        ensures { (es : Told) × Changes (Returns (seen self.old).manual node result) (seen self.old) es (seen self.new) }
+    {
+        let Some(node) = number_of(node) else {
+            return Answer::Refused(Refusal::BadNode);
+        };
+        if !self.manual {
+            return return_node(alloc, &mut self.cluster, node);
+        }
+        begin_return(&mut self.cluster, node)
+    }
+
+    /// A node that comes back gets one inode that it may lack.
+    fn refill(&mut self, alloc: Global, node: u64) -> Answer
+        ensures { (es : Told) × Changes (IsOneAt refill node result) (seen self.old) es (seen self.new) }
+    {
+        let Some(node) = number_of(node) else {
+            return Answer::Refused(Refusal::BadNode);
+        };
+        refill_once(alloc, &mut self.cluster, node)
+    }
+
+    /// A node that comes back and lacks no inode is full again.
+    fn join(&mut self, alloc: Global, node: u64) -> Answer
+        ensures { (es : Told) × Changes (IsOneAt join node result) (seen self.old) es (seen self.new) }
+    {
+        let Some(node) = number_of(node) else {
+            return Answer::Refused(Refusal::BadNode);
+        };
+        join_node(alloc, &mut self.cluster, node)
     }
 
     /// The tree that a node's region alone gives.

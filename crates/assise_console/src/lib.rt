@@ -8,6 +8,7 @@ pub mod fault;
 pub mod laws;
 mod link;
 pub mod options;
+mod returning;
 mod rounds;
 pub mod stock;
 mod text;

@@ -6,6 +6,8 @@ mod command_line;
 #[cfg(test)]
 mod failing;
 #[cfg(test)]
+mod failures;
+#[cfg(test)]
 mod faults;
 #[cfg(test)]
 mod rows;

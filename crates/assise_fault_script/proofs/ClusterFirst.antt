@@ -7,9 +7,9 @@ use Rattle.std.specs.Prelude.{is_some}
 use Rattle.std.specs.Str.{is_utf8}
 use Rattle.assise_names.specs.declared.call.Op.{Op}
 use Rattle.assise_fault_script.specs.declared.command.Command.{Command}
-use Rattle.assise_fault_script.specs.declared.command.Command.TheVariants.{Cluster, Manual, Open, Call, Carry, Digest, Release, Tree, History}
+use Rattle.assise_fault_script.specs.declared.command.Command.TheVariants.{Cluster, Manual, Open, Call, Carry, Digest, Release, Crash, Fail, Back, Refill, Join, Tree, History}
 use Rattle.assise_fault_script.specs.declared.command.Keyword as first
-use Rattle.assise_fault_script.specs.declared.command.Keyword.TheVariants.{Cluster as for_cluster, Manual as for_manual, Open as for_open, Carry as for_carry, Digest as for_digest, Release as for_release, Tree as for_tree, History as for_history}
+use Rattle.assise_fault_script.specs.declared.command.Keyword.TheVariants.{Cluster as for_cluster, Manual as for_manual, Open as for_open, Carry as for_carry, Digest as for_digest, Release as for_release, Crash as for_crash, Fail as for_fail, Back as for_back, Refill as for_refill, Join as for_join, Tree as for_tree, History as for_history}
 use Rattle.assise_fault_script.specs.declared.fault.LineFault.{LineFault}
 use Rattle.assise_fault_script.specs.declared.fault.ScriptFault.{ScriptFault}
 use Rattle.assise_fault_script.specs.declared.fault.ScriptFault.TheVariants.{BadLimit, UnknownCommand, WrongCount}
@@ -94,6 +94,11 @@ row for_open u rest c later h = open_row rest c h
 row for_carry u rest c later h = number_row for_carry Carry (λ n. tt) refl (λ a. refl) (λ a b more. refl) rest c h
 row for_digest u rest c later h = number_row for_digest Digest (λ n. tt) refl (λ a. refl) (λ a b more. refl) rest c h
 row for_release u rest c later h = bare_row for_release Release tt refl (λ a more. refl) rest c h
+row for_crash u rest c later h = number_row for_crash Crash (λ n. tt) refl (λ a. refl) (λ a b more. refl) rest c h
+row for_fail u rest c later h = number_row for_fail Fail (λ n. tt) refl (λ a. refl) (λ a b more. refl) rest c h
+row for_back u rest c later h = number_row for_back Back (λ n. tt) refl (λ a. refl) (λ a b more. refl) rest c h
+row for_refill u rest c later h = number_row for_refill Refill (λ n. tt) refl (λ a. refl) (λ a b more. refl) rest c h
+row for_join u rest c later h = number_row for_join Join (λ n. tt) refl (λ a. refl) (λ a b more. refl) rest c h
 row for_tree u rest c later h = number_row for_tree Tree (λ n. tt) refl (λ a. refl) (λ a b more. refl) rest c h
 row for_history u rest c later h = bare_row for_history History tt refl (λ a more. refl) rest c h
 
@@ -105,6 +110,11 @@ before_cluster for_open u h = cc
 before_cluster for_carry u h = cc
 before_cluster for_digest u h = cc
 before_cluster for_release u h = cc
+before_cluster for_crash u h = cc
+before_cluster for_fail u h = cc
+before_cluster for_back u h = cc
+before_cluster for_refill u h = cc
+before_cluster for_join u h = cc
 before_cluster for_tree u h = cc
 before_cluster for_history u h = cc
 

@@ -3,9 +3,9 @@ use Rattle.std.specs.Prelude.{ℕ, if◌then◌else◌, List, [], ◌∷◌, Res
 use Rattle.std.specs.Bool.{nat_eq}
 use Rattle.std.specs.Cmp.Lexicographic.{pointwise}
 use Rattle.assise_fault_script.specs.declared.command.Command.{Command}
-use Rattle.assise_fault_script.specs.declared.command.Command.TheVariants.{Cluster, Manual, Open, Carry, Digest, Release, Tree, History}
+use Rattle.assise_fault_script.specs.declared.command.Command.TheVariants.{Cluster, Manual, Open, Carry, Digest, Release, Crash, Fail, Back, Refill, Join, Tree, History}
 use Rattle.assise_fault_script.specs.declared.command.Keyword as first
-use Rattle.assise_fault_script.specs.declared.command.Keyword.TheVariants.{Cluster as for_cluster, Manual as for_manual, Open as for_open, Carry as for_carry, Digest as for_digest, Release as for_release, Tree as for_tree, History as for_history}
+use Rattle.assise_fault_script.specs.declared.command.Keyword.TheVariants.{Cluster as for_cluster, Manual as for_manual, Open as for_open, Carry as for_carry, Digest as for_digest, Release as for_release, Crash as for_crash, Fail as for_fail, Back as for_back, Refill as for_refill, Join as for_join, Tree as for_tree, History as for_history}
 use Rattle.assise_fault_script.specs.declared.command.RevokerKind.{RevokerKind}
 use Rattle.assise_fault_script.specs.declared.command.RevokerKind.TheVariants.{Least, Whole, Eights}
 use Rattle.assise_fault_script.specs.declared.fault.ScriptFault.{ScriptFault}
@@ -22,9 +22,14 @@ keyword_of word =
     else (if pointwise nat_eq word (codes "carry") then Ok for_carry
     else (if pointwise nat_eq word (codes "digest") then Ok for_digest
     else (if pointwise nat_eq word (codes "release") then Ok for_release
+    else (if pointwise nat_eq word (codes "crash") then Ok for_crash
+    else (if pointwise nat_eq word (codes "fail") then Ok for_fail
+    else (if pointwise nat_eq word (codes "back") then Ok for_back
+    else (if pointwise nat_eq word (codes "refill") then Ok for_refill
+    else (if pointwise nat_eq word (codes "join") then Ok for_join
     else (if pointwise nat_eq word (codes "tree") then Ok for_tree
     else (if pointwise nat_eq word (codes "history") then Ok for_history
-    else Err UnknownCommand)))))))
+    else Err UnknownCommand))))))))))))
 
 -- the revoker that a word names
 abbrev pub kind_of : List ℕ → Result RevokerKind ScriptFault
@@ -47,6 +52,21 @@ carry_of node = number_of node >>= λ n. Ok (Carry n)
 abbrev pub digest_of : List ℕ → Result Command ScriptFault
 digest_of node = number_of node >>= λ n. Ok (Digest n)
 
+abbrev pub crash_of : List ℕ → Result Command ScriptFault
+crash_of client = number_of client >>= λ n. Ok (Crash n)
+
+abbrev pub fail_of : List ℕ → Result Command ScriptFault
+fail_of node = number_of node >>= λ n. Ok (Fail n)
+
+abbrev pub back_of : List ℕ → Result Command ScriptFault
+back_of node = number_of node >>= λ n. Ok (Back n)
+
+abbrev pub refill_of : List ℕ → Result Command ScriptFault
+refill_of node = number_of node >>= λ n. Ok (Refill n)
+
+abbrev pub join_of : List ℕ → Result Command ScriptFault
+join_of node = number_of node >>= λ n. Ok (Join n)
+
 abbrev pub tree_of : List ℕ → Result Command ScriptFault
 tree_of node = number_of node >>= λ n. Ok (Tree n)
 
@@ -58,6 +78,11 @@ keyword_command for_open (node ∷ kind ∷ []) = open_of node kind
 keyword_command for_carry (node ∷ []) = carry_of node
 keyword_command for_digest (node ∷ []) = digest_of node
 keyword_command for_release [] = Ok Release
+keyword_command for_crash (client ∷ []) = crash_of client
+keyword_command for_fail (node ∷ []) = fail_of node
+keyword_command for_back (node ∷ []) = back_of node
+keyword_command for_refill (node ∷ []) = refill_of node
+keyword_command for_join (node ∷ []) = join_of node
 keyword_command for_tree (node ∷ []) = tree_of node
 keyword_command for_history [] = Ok History
 keyword_command _ _ = Err WrongCount

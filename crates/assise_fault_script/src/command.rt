@@ -54,6 +54,31 @@ pub enum Command {
     },
     /// The leases go that may.
     Release,
+    /// A client's process stops: what it had in memory is lost.
+    Crash {
+        /// The client.
+        client: u64,
+    },
+    /// A full node stops, with the clients on it.
+    Fail {
+        /// The node.
+        node: u64,
+    },
+    /// A failed node starts again, over what its region keeps.
+    Back {
+        /// The node.
+        node: u64,
+    },
+    /// A returning node takes a record of what it missed from a full node.
+    Refill {
+        /// The node.
+        node: u64,
+    },
+    /// A returning node that missed nothing more is full again.
+    Join {
+        /// The node.
+        node: u64,
+    },
     /// The tree, rebuilt from a node's region alone.
     Tree {
         /// The node.
@@ -78,6 +103,16 @@ pub(crate) enum Keyword {
     Digest,
     /// `release`.
     Release,
+    /// `crash CLIENT`.
+    Crash,
+    /// `fail NODE`.
+    Fail,
+    /// `back NODE`.
+    Back,
+    /// `refill NODE`.
+    Refill,
+    /// `join NODE`.
+    Join,
     /// `tree NODE`.
     Tree,
     /// `history`.

@@ -1,6 +1,6 @@
 // A row for each command that begins with a keyword.
 ghost use Rattle.std.specs.Prelude.{◌≡◌, map};
-ghost use Rattle.assise_fault_script.specs.Keywords.{carry_of, cluster_of, digest_of, keyword_command, keyword_of, kind_of, open_of, tree_of};
+ghost use Rattle.assise_fault_script.specs.Keywords.{back_of, carry_of, cluster_of, crash_of, digest_of, fail_of, join_of, keyword_command, keyword_of, kind_of, open_of, refill_of, tree_of};
 
 use crate::command::{Command, Keyword, RevokerKind};
 use crate::fault::ScriptFault;
@@ -17,6 +17,11 @@ pub fn keyword(word: &str) -> Result<Keyword, ScriptFault>
         "carry" => Ok(Keyword::Carry),
         "digest" => Ok(Keyword::Digest),
         "release" => Ok(Keyword::Release),
+        "crash" => Ok(Keyword::Crash),
+        "fail" => Ok(Keyword::Fail),
+        "back" => Ok(Keyword::Back),
+        "refill" => Ok(Keyword::Refill),
+        "join" => Ok(Keyword::Join),
         "tree" => Ok(Keyword::Tree),
         "history" => Ok(Keyword::History),
         _ => Err(ScriptFault::UnknownCommand),
@@ -34,6 +39,11 @@ pub fn keyword_command(keyword: Keyword, words: &[&str]) -> Result<Command, Scri
         (Keyword::Carry, [node]) => carry(node),
         (Keyword::Digest, [node]) => digest(node),
         (Keyword::Release, []) => Ok(Command::Release),
+        (Keyword::Crash, [client]) => crash(client),
+        (Keyword::Fail, [node]) => fail(node),
+        (Keyword::Back, [node]) => back(node),
+        (Keyword::Refill, [node]) => refill(node),
+        (Keyword::Join, [node]) => join(node),
         (Keyword::Tree, [node]) => tree(node),
         (Keyword::History, []) => Ok(Command::History),
         _ => Err(ScriptFault::WrongCount),
@@ -69,6 +79,41 @@ fn digest(node: &str) -> Result<Command, ScriptFault>
 {
     let node = number(node)?;
     Ok(Command::Digest { node })
+}
+
+fn crash(client: &str) -> Result<Command, ScriptFault>
+    ensures { result ≡ crash_of client.now }
+{
+    let client = number(client)?;
+    Ok(Command::Crash { client })
+}
+
+fn fail(node: &str) -> Result<Command, ScriptFault>
+    ensures { result ≡ fail_of node.now }
+{
+    let node = number(node)?;
+    Ok(Command::Fail { node })
+}
+
+fn back(node: &str) -> Result<Command, ScriptFault>
+    ensures { result ≡ back_of node.now }
+{
+    let node = number(node)?;
+    Ok(Command::Back { node })
+}
+
+fn refill(node: &str) -> Result<Command, ScriptFault>
+    ensures { result ≡ refill_of node.now }
+{
+    let node = number(node)?;
+    Ok(Command::Refill { node })
+}
+
+fn join(node: &str) -> Result<Command, ScriptFault>
+    ensures { result ≡ join_of node.now }
+{
+    let node = number(node)?;
+    Ok(Command::Join { node })
 }
 
 fn tree(node: &str) -> Result<Command, ScriptFault>

@@ -30,6 +30,11 @@ fn line_of(alloc: Global, rt: &impl Abort, command: &Command) -> String {
         Command::Carry { node } => format!(in alloc; "carry {node}"),
         Command::Digest { node } => format!(in alloc; "digest {node}"),
         Command::Release => format!(in alloc; "release"),
+        Command::Crash { client } => format!(in alloc; "crash {client}"),
+        Command::Fail { node } => format!(in alloc; "fail {node}"),
+        Command::Back { node } => format!(in alloc; "back {node}"),
+        Command::Refill { node } => format!(in alloc; "refill {node}"),
+        Command::Join { node } => format!(in alloc; "join {node}"),
         Command::Tree { node } => format!(in alloc; "tree {node}"),
         Command::History => format!(in alloc; "history"),
     };
@@ -119,7 +124,12 @@ const EACH: &str = "# a file\r\n\
     \x20 digest  0\n\
     release \n\
     tree 18446744073709551615\n\
-    history";
+    history\n\
+    crash 1\n\
+    fail 02\n\
+    back 18446744073709551615\n\
+    refill 2\r\n\
+    join  0";
 
 /// What it says.
 const EACH_SAID: &str = "2: cluster 1 4096 1\n\
@@ -142,7 +152,12 @@ const EACH_SAID: &str = "2: cluster 1 4096 1\n\
     22: digest 0\n\
     23: release\n\
     24: tree 18446744073709551615\n\
-    25: history\n";
+    25: history\n\
+    26: crash 1\n\
+    27: fail 2\n\
+    28: back 18446744073709551615\n\
+    29: refill 2\n\
+    30: join 0\n";
 
 #[test]
 fn each_command_is_read(rt: HostRuntime) {
@@ -171,7 +186,7 @@ fn short_scripts_are_read(rt: HostRuntime) {
 }
 
 /// Faults of a line: the words, one by one, then of two faults the first.
-static FAULTS: [(&str, &str); 87] = [
+static FAULTS: [(&str, &str); 103] = [
     // the words, one by one
     ("fly", "2: unknown command"),
     ("Open 1 least", "2: unknown command"),
@@ -206,12 +221,28 @@ static FAULTS: [(&str, &str); 87] = [
     ("digest", "2: wrong number of words"),
     ("digest 1 2", "2: wrong number of words"),
     ("release 1", "2: wrong number of words"),
+    ("crash", "2: wrong number of words"),
+    ("crash 1 2", "2: wrong number of words"),
+    ("fail", "2: wrong number of words"),
+    ("fail 1 2", "2: wrong number of words"),
+    ("back", "2: wrong number of words"),
+    ("back 1 2", "2: wrong number of words"),
+    ("refill", "2: wrong number of words"),
+    ("refill 1 2", "2: wrong number of words"),
+    ("join", "2: wrong number of words"),
+    ("join 1 2", "2: wrong number of words"),
     ("tree", "2: wrong number of words"),
     ("tree 1 /", "2: wrong number of words"),
     ("carry x", "2: bad number"),
     ("digest -1", "2: bad number"),
     ("tree 18446744073709551616", "2: bad number"),
+    ("crash x", "2: bad number"),
+    ("fail +1", "2: bad number"),
+    ("back 18446744073709551616", "2: bad number"),
+    ("refill -1", "2: bad number"),
+    ("join 1x", "2: bad number"),
     ("1 carry", "2: unknown command"),
+    ("1 crash", "2: unknown command"),
     ("Manual", "2: unknown command"),
     ("open 18446744073709551616 least", "2: bad number"),
     ("open +1 least", "2: bad number"),
@@ -269,7 +300,7 @@ fn the_first_fault_of_a_line_is_named(rt: HostRuntime) {
 }
 
 /// Scripts whose cluster is missing, or faulty, or not the only one.
-static CLUSTERS: [(&str, &str); 23] = [
+static CLUSTERS: [(&str, &str); 28] = [
     ("history", "1: no cluster yet"),
     ("history 1", "1: no cluster yet"),
     ("\nopen x", "2: no cluster yet"),
@@ -278,6 +309,11 @@ static CLUSTERS: [(&str, &str); 23] = [
     ("digest x", "1: no cluster yet"),
     ("release\ncluster 1 8 1", "1: no cluster yet"),
     ("tree 1", "1: no cluster yet"),
+    ("crash", "1: no cluster yet"),
+    ("fail 1", "1: no cluster yet"),
+    ("back 1", "1: no cluster yet"),
+    ("refill x", "1: no cluster yet"),
+    ("join 1", "1: no cluster yet"),
     ("1 stat", "1: no cluster yet"),
     ("1 fly", "1: unknown command"),
     ("1x stat", "1: bad number"),
