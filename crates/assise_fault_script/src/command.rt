@@ -54,27 +54,27 @@ pub enum Command {
     },
     /// The leases go that may.
     Release,
-    /// A client's process stops: what it had in memory is lost.
+    /// A client crashes.
     Crash {
         /// The client.
         client: u64,
     },
-    /// A full node stops, with the clients on it.
+    /// A node fails, with the clients on it.
     Fail {
         /// The node.
         node: u64,
     },
-    /// A failed node starts again, over what its region keeps.
+    /// A node that is down comes back: it is filled and joins. After `manual` it only begins to.
     Back {
         /// The node.
         node: u64,
     },
-    /// A returning node takes a record of what it missed from a full node.
+    /// A node that comes back gets one inode that it may lack.
     Refill {
         /// The node.
         node: u64,
     },
-    /// A returning node that missed nothing more is full again.
+    /// A node that comes back and lacks no inode is full again.
     Join {
         /// The node.
         node: u64,
