@@ -187,7 +187,8 @@ fn what_names_no_node_is_refused(rt: HostRuntime) -> Result<(), Fail> {
     prints(rt.alloc(), &rt, REFUSED, wanted)
 }
 
-/// A log that gets full once more: an fsync is tried twice, and the round between digests eight records at both nodes.
+/// A log that gets full once more: an fsync is tried twice, and the round between digests eight records at both nodes. Then the
+/// client's node fails, and what it made behind its fsync is lost.
 const SYNCED: &str = "cluster 2 8 4\n\
     open 1 least\n\
     1 create /a\n\
@@ -201,6 +202,7 @@ const SYNCED: &str = "cluster 2 8 4\n\
     1 create /i\n\
     1 fsync\n\
     1 create /i\n\
+    fail 1\n\
     tree 2\n";
 
 #[test]
@@ -217,7 +219,8 @@ fn an_fsync_makes_room_in_a_log(rt: HostRuntime) -> Result<(), Fail> {
     11: F12 LogFull\n\
     12: done\n\
     13: done\n\
-    14: tree 8\n\
+    14: failed 1 1:9\n\
+    15: tree 8\n\
     /a file 0\n\
     /b file 0\n\
     /c file 0\n\
