@@ -1,6 +1,4 @@
 // Nodes that fail and come back, and clients that crash.
-ghost use Rattle.std.specs.Prelude.{◌<◌, ◌≤◌};
-
 use crate::desk::Desk;
 use crate::lists::carry;
 use crate::rows::{show, step_in};
