@@ -8,6 +8,10 @@ mod dice;
 #[cfg(test)]
 mod digesting;
 #[cfg(test)]
+mod failing;
+#[cfg(test)]
+mod failing_anywhere;
+#[cfg(test)]
 mod frames;
 #[cfg(test)]
 mod lists;

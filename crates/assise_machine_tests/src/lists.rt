@@ -110,7 +110,7 @@ fn keep(sent: &mut Vec<Letter>, letters: Vec<Letter>) -> Option<()> {
 }
 
 /// Whether the history is legal.
-fn is_legal(alloc: Global, cluster: &Cluster) -> Option<bool> {
+pub(crate) fn is_legal(alloc: Global, cluster: &Cluster) -> Option<bool> {
     check(alloc, cluster.history()).ok()
 }
 
@@ -140,7 +140,7 @@ fn tree_of_calls(alloc: Global, cluster: &Cluster) -> Option<String> {
 }
 
 /// All clients sync, all frames are sent and come, and all nodes digest.
-fn settle(alloc: Global, cluster: &mut Cluster, clients: u32) -> Option<()> {
+pub(crate) fn settle(alloc: Global, cluster: &mut Cluster, clients: u32) -> Option<()> {
     for client in 1..5 {
         if client <= clients {
             let _ = cluster.try_fsync(client);
@@ -160,7 +160,7 @@ fn settle(alloc: Global, cluster: &mut Cluster, clients: u32) -> Option<()> {
 }
 
 /// What a node sends comes where it is for.
-fn carry(alloc: Global, cluster: &mut Cluster, node: u32) -> Option<()> {
+pub(crate) fn carry(alloc: Global, cluster: &mut Cluster, node: u32) -> Option<()> {
     let Ok(sent) = cluster.outgoing(alloc, node) else {
         return Some(());
     };
@@ -272,7 +272,11 @@ fn fault_between(alloc: Global, cluster: &Cluster, nodes: u32) -> Option<&'stati
 }
 
 /// What is wrong once all is digested.
-fn fault_at_the_end(alloc: Global, cluster: &Cluster, nodes: u32) -> Option<&'static str> {
+pub(crate) fn fault_at_the_end(
+    alloc: Global,
+    cluster: &Cluster,
+    nodes: u32,
+) -> Option<&'static str> {
     let tree = tree_of_calls(alloc, cluster)?;
     if is_legal(alloc, cluster)? && all_have(alloc, cluster, nodes, tree.as_str())? {
         Some("")

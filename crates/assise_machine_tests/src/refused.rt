@@ -136,6 +136,31 @@ fsync 1 => done
 fsync 2 => done
 ";
 
+/// A node fails, and what wasn't synced is lost. It comes back, and the other one fails.
+const FAILED: &str = "\
+open 1 least => client 1
+1 create /f => done
+1 write /f 0 taa => done
+fsync 1 => not yet
+send 1 => 1 for 2: client 1, 0..2
+deliver 1 at 2 => received 2
+fsync 1 => done
+1 write /f 0 tbb => done
+fail 1 => failed 1:3
+digest 2 => digested 2
+open 2 least => client 2
+back 1 => stale 2
+refill 1 => left 1
+refill 1 => left 0
+join 1 => returned
+tree at 1 => / names 1 f; /f bytes 2 x6161
+fail 2 => failed
+tree at 1 => / names 1 f; /f bytes 2 x6161
+crash 2 => F3 NodeDown
+open 1 least => client 3
+crash 3 => crashed
+";
+
 #[test]
 fn frames_and_digests_are_made_again(rt: HostRuntime) {
     end(rt.alloc(), &rt, 2, CARRIED);
@@ -144,4 +169,9 @@ fn frames_and_digests_are_made_again(rt: HostRuntime) {
 #[test]
 fn two_clients_frames_and_digests_are_made_again(rt: HostRuntime) {
     end(rt.alloc(), &rt, 2, BOTH);
+}
+
+#[test]
+fn failures_and_returns_are_made_again(rt: HostRuntime) {
+    end(rt.alloc(), &rt, 2, FAILED);
 }

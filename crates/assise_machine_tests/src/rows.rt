@@ -76,7 +76,8 @@ fn right_row(alloc: Global, desk: &mut Desk, step: &str) -> Result<String, Alloc
     Ok(text)
 }
 
-fn step_in(row: &str) -> &str {
+/// The step of a row, or all of it where it says nothing more.
+pub(crate) fn step_in(row: &str) -> &str {
     match row.split_once(" => ") {
         Some((step, _)) => step,
         None => row,

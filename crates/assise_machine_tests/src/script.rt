@@ -1,7 +1,7 @@
 // Steps on a cluster, as text.
-use crate::desk::{Desk, open_as};
+use crate::desk::{Cluster, Desk, open_as};
 use crate::frames::{changed, frame_in};
-use crate::told::{put_answer, put_letter, put_sent};
+use crate::told::{put_answer, put_failed, put_letter, put_sent, put_stale, put_told_of};
 use crate::words::{number_in, small_in};
 use assise_fault_script::command::Command;
 use assise_fault_script::parse::{NumberedCommand, parse};
@@ -26,6 +26,9 @@ pub(crate) fn put_step(
     if is_turn(word) {
         return put_turns(alloc, desk, word, rest, text);
     }
+    if is_failing(word) {
+        return put_failing(alloc, &mut desk.cluster, word, small_in(rest)?, text).ok();
+    }
     match word {
         "times" => put_repeated(alloc, desk, rest, text),
         "frame" => put_frame(alloc, desk, rest, text),
@@ -40,6 +43,27 @@ fn is_question(word: &str) -> bool {
 
 fn is_turn(word: &str) -> bool {
     matches!(word, "fsync" | "send" | "digest" | "release")
+}
+
+fn is_failing(word: &str) -> bool {
+    matches!(word, "crash" | "fail" | "back" | "refill" | "join")
+}
+
+/// The client of a number crashes, or the node of it fails or comes back.
+fn put_failing(
+    alloc: Global,
+    cluster: &mut Cluster,
+    word: &str,
+    number: u32,
+    text: &mut String,
+) -> Result<(), AllocError> {
+    match word {
+        "crash" => put_told_of(text, "crashed", cluster.crash(number)),
+        "fail" => put_failed(text, cluster.fail(alloc, number)),
+        "back" => put_stale(text, "stale", cluster.back(number)),
+        "refill" => put_stale(text, "left", cluster.refill(alloc, number)),
+        _ => put_told_of(text, "returned", cluster.join(alloc, number)),
+    }
 }
 
 /// A client syncs, a node sends or digests, or leases are released.
