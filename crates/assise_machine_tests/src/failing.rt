@@ -1,63 +1,17 @@
 // Nodes that fail and come back, and clients that crash.
-use crate::desk::Desk;
-use crate::lists::carry;
 use crate::rows::{show, step_in};
-use crate::script::put_step;
-use crate::told::put_told_of;
-use crate::words::small_in;
+use crate::serving::Served;
 use std::alloc::Global;
 use std::process::Abort;
 
-/// More rounds than any call here waits for.
-const ROUNDS: u32 = 8;
-
-/// In a round what the nodes send comes where it is for, all digest, and leases are released.
-fn make_round(alloc: Global, desk: &mut Desk) -> Option<()> {
-    for node in 1..5 {
-        carry(alloc, &mut desk.cluster, node)?;
-    }
-    for node in 1..5 {
-        let _ = desk.cluster.digest(alloc, node);
-    }
-    let _ = desk.cluster.release_ready();
-    Some(())
-}
-
-/// What a step comes to. Where it waits, a round is made, and then it is made again. `return NODE` is all of a node's return.
-fn outcome_after_rounds(alloc: Global, desk: &mut Desk, step: &str) -> Option<String> {
-    let mut text = String::new(alloc);
-    if let Some(node) = step.strip_prefix("return ") {
-        put_return(alloc, desk, small_in(node)?, &mut text)?;
-        return Some(text);
-    }
-    for _ in 0..ROUNDS {
-        text.clear();
-        put_step(alloc, desk, step, &mut text)?;
-        if text.as_str() != "not yet" {
-            return Some(text);
-        }
-        make_round(alloc, desk)?;
-    }
-    Some(text)
-}
-
-/// A node begins to come back, gets all inodes that it lacks, and is full then, if nothing is refused.
-fn put_return(alloc: Global, desk: &mut Desk, node: u32, text: &mut String) -> Option<()> {
-    let lacked = desk.cluster.back(node).ok()?;
-    for _ in 0..lacked {
-        desk.cluster.refill(alloc, node).ok()?;
-    }
-    put_told_of(text, "returned", desk.cluster.join(alloc, node)).ok()
-}
-
-/// What comes out of rows whose steps are made until they don't wait, as rows.
+/// What comes out of rows that are served with rounds, as rows.
 fn after_rounds(alloc: Global, rows: &str) -> Option<String> {
-    let mut desk = Desk::new(alloc, 2, 16).ok()?;
+    let mut served = Served::new(alloc, 2, 16).ok()?;
     let mut text = String::new(alloc);
     for row in rows.lines() {
         let step = step_in(row);
-        let outcome = outcome_after_rounds(alloc, &mut desk, step)?;
-        writeln!(text, "{step} => {outcome}").ok()?;
+        served.serve(alloc, step)?;
+        writeln!(text, "{step} => {}", served.outcome.as_str()).ok()?;
     }
     Some(text)
 }
@@ -101,7 +55,7 @@ open 2 least => client 2
 fail 1 => failed
 2 write /f 0 tnew => done
 digest 2 => digested 1
-return 1 => returned
+back 1 => returned
 2 write /f 3 t! => done
 2 fsync => done
 fail 2 => failed

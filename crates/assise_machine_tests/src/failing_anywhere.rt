@@ -4,7 +4,6 @@ ghost use Rattle.std.specs.Prelude.{◌<◌, ◌≤◌};
 use crate::desk::{Cluster, Desk};
 use crate::lists::{fault_at_the_end, is_legal, settle};
 use crate::reading::tree_at;
-use crate::rows::step_in;
 use crate::script::put_step;
 use assise_names::refusal::Refusal;
 use std::alloc::{AllocError, Global};
@@ -90,7 +89,7 @@ digest 1
 3 unlink /h
 ";
 
-/// One failure of a list: the node, before which row it fails, and how many rows further it comes back.
+/// One failure of a list: the node, before which step it fails, and how many steps further it comes back.
 #[derive(Clone, Copy, Debug)]
 struct Failure {
     node: u32,
@@ -98,62 +97,78 @@ struct Failure {
     away: usize,
 }
 
-/// The rows of a list with those of a failure. What hasn't come back comes back at the end.
-fn with_failure(alloc: Global, rows: &str, failure: Failure) -> Result<String, AllocError> {
+/// The steps of a list with those of a failure. What hasn't come back of so many nodes comes back at the end.
+fn with_failure(
+    alloc: Global,
+    nodes: u32,
+    steps: &str,
+    failure: Failure,
+) -> Result<String, AllocError> {
     let Failure { node, place, away } = failure;
     let mut text = String::new(alloc);
     let mut number = 0_usize;
-    for row in rows.lines() {
+    for step in steps.lines() {
         if number == place {
             writeln!(text, "fail {node}")?;
         }
         if number == place.saturating_add(away) {
             put_return(node, &mut text)?;
         }
-        writeln!(text, "{row}")?;
+        writeln!(text, "{step}")?;
         number = number.saturating_add(1);
     }
     if number == place {
         writeln!(text, "fail {node}")?;
     }
-    put_return(node, &mut text)?;
+    for other in 1..=nodes {
+        put_return(other, &mut text)?;
+    }
     Ok(text)
 }
 
-/// Appends the rows of a node's return, in which it gets as many inodes as there are at most.
+/// Appends the steps of a node's return, in which it gets as many inodes as there are at most.
 fn put_return(node: u32, text: &mut String) -> Result<(), AllocError> {
     writeln!(text, "back {node}")?;
-    for _ in 0..4 {
+    for _ in 0..6 {
         writeln!(text, "refill {node}")?;
     }
     writeln!(text, "join {node}")
 }
 
-/// What is wrong behind a row of a new cluster, or once all is digested. None where memory runs out, or a node isn't full at the
-/// end.
-fn fault_of(alloc: Global, nodes: u32, rows: &str) -> Option<&'static str>
+/// What is wrong behind a step of a new cluster from a place on, or once all is digested. None where memory runs out, or a node
+/// isn't full at the end.
+fn fault_of(alloc: Global, nodes: u32, steps: &str, place: usize) -> Option<&'static str>
     requires some { 0 < nodes }
     requires few { nodes ≤ 8 }
 {
     let mut desk = Desk::new(alloc, nodes, 16).ok()?;
-    for row in rows.lines() {
-        let fault = fault_behind(alloc, &mut desk, step_in(row))?;
-        if !fault.is_empty() {
-            return Some(fault);
+    let mut number = 0_usize;
+    for step in steps.lines() {
+        make(alloc, &mut desk, step);
+        if number >= place {
+            let fault = fault_between(alloc, &desk.cluster)?;
+            if !fault.is_empty() {
+                return Some(fault);
+            }
         }
+        number = number.saturating_add(1);
     }
     settle(alloc, &mut desk.cluster, 4)?;
     fault_at_the_end(alloc, &desk.cluster, nodes)
 }
 
-/// What is wrong behind a step. It may be refused, and a frame that it delivers may not be there.
-fn fault_behind(alloc: Global, desk: &mut Desk, step: &str) -> Option<&'static str> {
+/// Makes a step, which may be refused, or deliver a frame that isn't there.
+fn make(alloc: Global, desk: &mut Desk, step: &str) {
     let mut outcome = String::new(alloc);
     let _ = put_step(alloc, desk, step, &mut outcome);
-    if !is_legal(alloc, &desk.cluster)? {
+}
+
+/// What is wrong between steps.
+fn fault_between(alloc: Global, cluster: &Cluster) -> Option<&'static str> {
+    if !is_legal(alloc, cluster)? {
         return Some("the history isn't legal");
     }
-    if have_one_tree(alloc, &desk.cluster)? {
+    if have_one_tree(alloc, cluster)? {
         Some("")
     } else {
         Some("nodes have different trees")
@@ -162,54 +177,70 @@ fn fault_behind(alloc: Global, desk: &mut Desk, step: &str) -> Option<&'static s
 
 /// Whether all full nodes have one tree.
 fn have_one_tree(alloc: Global, cluster: &Cluster) -> Option<bool> {
-    let tree = first_tree(alloc, cluster)?;
+    let mut known = None;
     for node in 1..5 {
-        if !is_at(alloc, cluster, node, tree.as_str())? {
-            return Some(false);
+        if let Some(tree) = tree_if_full(alloc, cluster, node)? {
+            if is_another(&known, tree.as_str()) {
+                return Some(false);
+            }
+            known = Some(tree);
         }
     }
     Some(true)
 }
 
-/// The tree of the first full node.
-fn first_tree(alloc: Global, cluster: &Cluster) -> Option<String> {
-    for node in 1..5 {
-        if cluster.region(node).is_ok() {
-            return tree_at(alloc, cluster, node).ok();
-        }
+/// Whether a tree is known, and it is another one.
+fn is_another(known: &Option<String>, tree: &str) -> bool {
+    match known {
+        Some(known) => known.as_str() != tree,
+        None => false,
     }
-    None
 }
 
-/// Whether a node has a tree, unless it isn't full.
-fn is_at(alloc: Global, cluster: &Cluster, node: u32, tree: &str) -> Option<bool> {
+/// The tree of a node, if it is full. None where memory runs out.
+fn tree_if_full(alloc: Global, cluster: &Cluster, node: u32) -> Option<Option<String>> {
     match tree_at(alloc, cluster, node) {
-        Ok(read) => Some(read.as_str() == tree),
+        Ok(tree) => Some(Some(tree)),
         Err(Refusal::OutOfMemory) => None,
-        Err(_) => Some(true),
+        Err(_) => Some(None),
     }
 }
 
-/// Sees that nothing is wrong, whichever node fails before whichever row, and comes back so many rows further.
-fn see_failures(alloc: Global, rt: &impl Abort, nodes: u32, rows: &str, away: usize)
+/// Sees that nothing is wrong, whichever node fails before whichever step, and comes back so many steps further.
+pub(crate) fn see_failures(alloc: Global, rt: &impl Abort, nodes: u32, steps: &str, away: usize)
     requires some { 0 < nodes }
     requires few { nodes ≤ 8 }
 {
     for node in 1..=nodes {
-        for place in 0..=rows.lines().count() {
-            let failure = Failure { node, place, away };
-            see_failure(alloc, rt, nodes, rows, failure);
-        }
+        see_failures_of(alloc, rt, nodes, steps, node, away);
     }
 }
 
-/// Sees that nothing is wrong where a node fails.
-fn see_failure(alloc: Global, rt: &impl Abort, nodes: u32, rows: &str, failure: Failure)
+/// Sees that nothing is wrong, before whichever step a node fails.
+pub(crate) fn see_failures_of(
+    alloc: Global,
+    rt: &impl Abort,
+    nodes: u32,
+    steps: &str,
+    node: u32,
+    away: usize,
+)
     requires some { 0 < nodes }
     requires few { nodes ≤ 8 }
 {
-    let failing = with_failure(alloc, rows, failure).expect(rt, "no memory");
-    let fault = fault_of(alloc, nodes, failing.as_str()).expect(
+    for place in 0..=steps.lines().count() {
+        let failure = Failure { node, place, away };
+        see_failure(alloc, rt, nodes, steps, failure);
+    }
+}
+
+/// Sees that nothing is wrong from where a node fails.
+fn see_failure(alloc: Global, rt: &impl Abort, nodes: u32, steps: &str, failure: Failure)
+    requires some { 0 < nodes }
+    requires few { nodes ≤ 8 }
+{
+    let failing = with_failure(alloc, nodes, steps, failure).expect(rt, "no memory");
+    let fault = fault_of(alloc, nodes, failing.as_str(), failure.place).expect(
         rt,
         "no memory, or a node isn't full",
     );

@@ -12,6 +12,8 @@ mod failing;
 #[cfg(test)]
 mod failing_anywhere;
 #[cfg(test)]
+mod failing_in_scripts;
+#[cfg(test)]
 mod frames;
 #[cfg(test)]
 mod lists;
@@ -31,6 +33,8 @@ mod script;
 mod seen;
 #[cfg(test)]
 mod sending;
+#[cfg(test)]
+mod serving;
 #[cfg(test)]
 mod stored;
 #[cfg(test)]
