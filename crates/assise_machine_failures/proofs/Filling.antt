@@ -169,7 +169,9 @@ module _ {s : StateValue} {n d : ℕ} {rs : List RegionValue} {m : Membership} (
     stands = stands;
     lowest = lowest_of (stale_of (standing_of (standings s) n)) lacked i (ap stale_of stands) c.lowest;
     members = c.less;
-    rests = rests_more (world_of s) (world_of t) (world_of u) (inode_rests s n i v number (not_full s n (filled_away c.fills))) (members_rest t m as_many as_full);
+    rests =
+        rests_more (world_of s) (world_of t) (world_of u)
+        (inode_rests s n i v number (not_full s n (filled_away c.fills))) (members_rest t m as_many as_full);
     area_here = members_areas t m n i ∙ inode_here s n i v number ∙ value_seen;
     area_else = λ k j other. members_areas t m k j ∙ inode_else s n i v number k j other;
   }
@@ -189,7 +191,8 @@ module _ {s : StateValue} {n d : ℕ} {rs : List RegionValue} {m : Membership} (
   refill_happens : (count : ℕ) → option_map set.len (stale_of (standing_of m.nodes n)) ≡ Some count → Refilling (observed s) n (left count) (observed w)
   refill_happens count some = subst (λ x. Refilling (observed s) n (left count) (observed x)) (sym same) (happens_so count some)
 
-  pub refill_answers : (r : Result ℕ Refusal) → IsOk r → IfOk r (λ count. option_map set.len (stale_of (standing_of m.nodes n)) ≡ Some count) → Refilling (observed s) n (refilling_answer r) (observed w)
+  pub refill_answers : (r : Result ℕ Refusal) → IsOk r → IfOk r (λ count. option_map set.len (stale_of (standing_of m.nodes n)) ≡ Some count) →
+      Refilling (observed s) n (refilling_answer r) (observed w)
   refill_answers (Ok count) ok some = refill_happens count some
   refill_answers (Err e) ok some = absurd (true≢false (sym ok))
 

@@ -33,7 +33,8 @@ use Rattle.assise_machine_failures.proofs.Settled.{settled}
 
 -- ---- the state is as it was
 
-pub same_all : (s : StateValue) {rs : List RegionValue} {m : Membership} {h : List Event} → rs ≡ s.nodes → m ≡ s.members → h ≡ s.history → record s { nodes = rs; members = m; history = h } ≡ s
+pub same_all : (s : StateValue) {rs : List RegionValue} {m : Membership} {h : List Event} → rs ≡ s.nodes → m ≡ s.members → h ≡ s.history →
+    record s { nodes = rs; members = m; history = h } ≡ s
 same_all s nodes members history = (λ i. record s { nodes = nodes i; members = members i; history = history i })
 
 -- logs that a node got go again

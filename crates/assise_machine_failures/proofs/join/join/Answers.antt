@@ -23,7 +23,8 @@ returns-in_err-donor-clause-happens g c =
     let s = value_of c.args.sound.now.state in
     let error = err_from_is_err_and c.from_residual.result c.from_residual.ensures.1 in
     join_refused s c.args.node c.in_err-donor.field-0.0 (joining_answer c.from_residual.result) (ap joining_answer error.1 ∙ ap refused error.2)
-    (fault_or {X = ℕ} (filling_fault s.members c.args.node) c.in_err-donor.field-0.0 c.in_err-donor.ensures.fault (λ fine. absurd (never c.in_err-donor.ensures.ok.1 fine))) (never c.in_err-donor.ensures.ok.1)
+    (fault_or {X = ℕ} (filling_fault s.members c.args.node) c.in_err-donor.field-0.0 c.in_err-donor.ensures.fault
+    (λ fine. absurd (never c.in_err-donor.ensures.ok.1 fine))) (never c.in_err-donor.ensures.ok.1)
 
 pub returns-then-is_some-clause-happens : goal.returns-then-is_some-clause-happens
 returns-then-is_some-clause-happens g c =
@@ -52,7 +53,8 @@ returns-in_err-copy_logs-clause-happens g c =
     let error = err_from_is_err_and c.from_residual-in_err-copy_logs.result c.from_residual-in_err-copy_logs.ensures.1 in
     let fine = join_fine s c.args.node _ c.in_ok-lowest_stale.ensures.lowest (sym c.is_some.ensures ∙ c.if-is_some.false) in
     join_lacks s c.args.node _ (joining_answer c.from_residual-in_err-copy_logs.result) fine
-    (same_all s c.in_err-copy_logs.ensures.err refl c.reserve.ensures.same) (ap joining_answer error.1 ∙ ap refused (error.2 ∙ c.in_err-copy_logs.ensures.only_memory))
+    (same_all s c.in_err-copy_logs.ensures.err refl c.reserve.ensures.same)
+    (ap joining_answer error.1 ∙ ap refused (error.2 ∙ c.in_err-copy_logs.ensures.only_memory))
 
 pub join-requires : goal.join-requires
 join-requires g c =

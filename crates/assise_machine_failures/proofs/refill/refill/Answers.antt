@@ -24,7 +24,8 @@ returns-in_err-donor-clause-happens g c =
     let s = value_of c.args.sound.now.state in
     let error = err_from_is_err_and c.from_residual.result c.from_residual.ensures.1 in
     refill_refused s c.args.node c.in_err-donor.field-0.0 (refilling_answer c.from_residual.result) (ap refilling_answer error.1 ∙ ap refused error.2)
-    (fault_or {X = ℕ} (filling_fault s.members c.args.node) c.in_err-donor.field-0.0 c.in_err-donor.ensures.fault (λ fine. absurd (never c.in_err-donor.ensures.ok.1 fine)))
+    (fault_or {X = ℕ} (filling_fault s.members c.args.node) c.in_err-donor.field-0.0 c.in_err-donor.ensures.fault
+    (λ fine. absurd (never c.in_err-donor.ensures.ok.1 fine)))
 
 pub returns-in_default-clause-happens : goal.returns-in_default-clause-happens
 returns-in_default-clause-happens g c =
@@ -39,7 +40,8 @@ pub returns-in_err-value-clause-happens : goal.returns-in_err-value-clause-happe
 returns-in_err-value-clause-happens g c =
     let error = err_from_is_err_and c.from_residual-in_err-value.result c.from_residual-in_err-value.ensures.1 in
     lacks_memory_so (filling c.args.sound.now c.args.node c.in_ok-donor.donor c.in_ok-donor.ensures.donor)
-    c.in_err-value.field-0.0 (refilling_answer c.from_residual-in_err-value.result) (ap refilling_answer error.1 ∙ ap refused error.2) c.in_err-value.ensures.only_memory
+    c.in_err-value.field-0.0 (refilling_answer c.from_residual-in_err-value.result)
+    (ap refilling_answer error.1 ∙ ap refused error.2) c.in_err-value.ensures.only_memory
 
 pub refill_one-requires-clause-node : goal.refill_one-requires-clause-node
 refill_one-requires-clause-node g c = filled_number (filling c.args.sound.now c.args.node c.in_ok-donor.donor c.in_ok-donor.ensures.donor)
