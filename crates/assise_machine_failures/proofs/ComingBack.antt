@@ -54,18 +54,24 @@ pub counted : (o : Option (set.FinSet nat_cmp)) (n : ℕ) → option_map set.len
 counted None n is = absurd (none-some n is)
 counted (Some stale) n is = same_Some n (set.len stale) (sym is)
 
-module _ (s : StateValue) (n : ℕ) (m : Membership) (shape : IsShaped s) (fine : return_fault s.members n ≡ None) (comes : m ≡ back s.members n) where
+-- node n was down, and begins to come back: m is the membership then
+pub record IsComing (s : StateValue) (n : ℕ) (m : Membership) : Type 0 where
+  pub shape : IsShaped s
+  pub fine : return_fault s.members n ≡ None
+  pub members : m ≡ back s.members n
+
+module _ {s : StateValue} {n : ℕ} {m : Membership} (comes : IsComing s n m) where
   abbrev since : ℕ
-  since = (down_stands (standing_of (standings s) n) fine).0
+  since = (down_stands (standing_of (standings s) n) comes.fine).0
 
   stands : standing_of (standings s) n ≡ Some (down since)
-  stands = (down_stands (standing_of (standings s) n) fine).1
+  stands = (down_stands (standing_of (standings s) n) comes.fine).1
 
   abbrev now : Standing
   now = returning since (lowest_full (standings s)) (written_since s.members since)
 
   nodes_are : m.nodes ≡ (back_as s.members n (Some (down since))).nodes
-  nodes_are = ap (λ o. o.nodes) comes ∙ ap (λ o. (back_as s.members n o).nodes) stands
+  nodes_are = ap (λ o. o.nodes) comes.members ∙ ap (λ o. (back_as s.members n o).nodes) stands
 
   as_many : length m.nodes ≡ length (standings s)
   as_many = ap length nodes_are ∙ same_count (standings s) n now
@@ -83,18 +89,18 @@ module _ (s : StateValue) (n : ℕ) (m : Membership) (shape : IsShaped s) (fine 
   back_returning = ap is_returning stands_now
 
   pub back_shaped : IsShaped t
-  back_shaped = members_shaped s m shape as_many as_full
+  back_shaped = members_shaped s m comes.shape as_many as_full
 
-  module _ (u : StateValue) (lost : LosesStale t n u) where
+  module _ {u : StateValue} (lost : LosesStale t n u) where
     rest_is : u ≡ record t { nodes = u.nodes }
     rest_is = lost_is t n u back_shaped back_returning lost
 
     members_are : u.members ≡ back s.members n
-    members_are = ap (λ v. v.members) rest_is ∙ comes
+    members_are = ap (λ v. v.members) rest_is ∙ comes.members
 
     node_back : ComesBack (world_of s) s.members n (world_of u) u.members
     node_back = record {
-      fine = fine;
+      fine = comes.fine;
       members = members_are;
       rests = rests_more (world_of s) (world_of t) (world_of u) (members_rest s m as_many as_full) (lost_rests t n u back_shaped back_returning lost);
       area_here = λ stale known i.
@@ -119,7 +125,7 @@ module _ (s : StateValue) (n : ℕ) (m : Membership) (shape : IsShaped s) (fine 
     unfolding observed
     back_happens count some =
         let same : count ≡ stale_at u.members n = counted (stale_of (standing_of m.nodes n)) count some ∙ ap (λ o. stale_at o n) (sym (ap (λ v. v.members) rest_is)) in
-        is_back fine (ap began same) is_so
+        is_back comes.fine (ap began same) is_so
 
     pub back_left : IsShaped u
     back_left = lost_shaped t n u back_shaped back_returning lost

@@ -1,5 +1,5 @@
 -- A client that crashed, as the laws have it.
-use Rattle.std.proofs.Common.{◌≡◌, ℕ, ◌==◌, List, [], ◌∷◌, ◌++◌, None, refl, ap, sym, subst, ◌∙◌}
+use Rattle.std.proofs.Common.{◌≡◌, ℕ, ◌==◌, List, [], ◌∷◌, ◌++◌, None, refl, sym, subst}
 use Rattle.std.proofs.Math.Logic.{∥∥₁_map}
 use Rattle.assise_history.specs.Entries.{Event, crashes}
 use Rattle.assise_lease_table.specs.declared.lease.Asked.{Asked}
@@ -27,36 +27,47 @@ pub record Gives (s : StateValue) (c : ℕ) (s' : StateValue) : Type 0 where
   pub shape : IsShaped s'
   pub noted : AreNoted s'
 
-module _ (s : StateValue) (c : ℕ) (levels : TwoLevels) (asked : List Asked) (fine : client_fault (observed s) c ≡ None) (frozen : IsFrozen s.levels levels c) (left : AreLeft s (λ d. d == c) asked) where
-  is_event : Crashing (observed s) c crashed (observed (after_crash s c levels asked))
+-- the clients, the leases, the cuts and the history once client c crashed, in a state where all invariants held
+pub record HasCrashed (s : StateValue) (c : ℕ) (cs : List ClientValue) (levels : TwoLevels) (cut : List Asked) (told : List Event) : Type 0 where
+  pub holds : ∥ Holds (observed s) ∥₁
+  pub shape : IsShaped s
+  pub noted : AreNoted s
+  pub fine : client_fault (observed s) c ≡ None
+  pub asked : List Asked
+  pub frozen : IsFrozen s.levels levels c
+  pub left : AreLeft s (λ d. d == c) asked
+  pub clients : cs ≡ with_client s.clients c (crashed_at (end (world_of s) c) (client_in s.clients c))
+  pub cuts : cut ≡ s.cuts ++ asked
+  pub history : told ≡ s.history ++ crashes c ∷ []
+
+module _ {s : StateValue} {c : ℕ} {cs : List ClientValue} {levels : TwoLevels} {cut : List Asked} {told : List Event}
+    (after : HasCrashed s c cs levels cut told) where
+  abbrev t : StateValue
+  t = after_crash s c levels after.asked
+
+  is_event : Crashing (observed s) c crashed (observed t)
   unfolding observed
   is_event =
-      let runs = client_runs (observed s) c fine in
-      is_crashed fine refl (record {
-        crash = crash_seen s c levels asked runs.0 runs.1 frozen left;
+      let runs = client_runs (observed s) c after.fine in
+      is_crashed after.fine refl (record {
+        crash = crash_seen s c levels after.asked runs.0 runs.1 after.frozen after.left;
         adds = record { history = refl; limit = refl };
-        keeps = record { members = refl; others = areas_stay s (after_crash s c levels asked) refl };
+        keeps = record { members = refl; others = areas_stay s t refl };
       })
 
-  noted_after : AreNoted s → Holds (observed s) → AreNoted (after_crash s c levels asked)
+  noted_after : Holds (observed s) → AreNoted t
   unfolding observed
-  noted_after noted h = crash_noted s c levels asked noted h.leases frozen left
+  noted_after h = crash_noted s c levels after.asked after.noted h.leases after.frozen after.left
 
-  all_given : ∥ Holds (observed s) ∥₁ → IsShaped s → AreNoted s → Gives s c (after_crash s c levels asked)
-  all_given holds shape noted = record {
+  all_given : Gives s c t
+  all_given = record {
     happens = is_event;
-    holds = ∥∥₁_map holds (λ h. event_keeps (observed s) (observed (after_crash s c levels asked)) (crash_event c) crashed h is_event);
-    shape = crash_shaped s c levels asked shape;
-    noted = noted_known (after_crash s c levels asked) (∥∥₁_map holds (noted_after noted));
+    holds = ∥∥₁_map after.holds (λ h. event_keeps (observed s) (observed t) (crash_event c) crashed h is_event);
+    shape = crash_shaped s c levels after.asked after.shape;
+    noted = noted_known t (∥∥₁_map after.holds noted_after);
   }
 
   -- what the code makes of the state
-  pub given : ∥ Holds (observed s) ∥₁ → IsShaped s → AreNoted s → (place : ℕ) → place ≡ end (world_of s) c → (cs : List ClientValue) → cs ≡ with_client s.clients c (crashed_at place (client_in s.clients c)) →
-      (before cuts rest : List Asked) → before ≡ s.cuts → rest ≡ asked → cuts ≡ before ++ rest → (told history : List Event) (e : Event) → told ≡ s.history → e ≡ crashes c → history ≡ told ++ e ∷ [] →
-      Gives s c (record s { clients = cs; levels = levels; cuts = cuts; history = history })
-  given holds shape noted place is cs clients before cuts rest same all noted_now told history e was entry grown =
-      let clients_are : cs ≡ (after_crash s c levels asked).clients = clients ∙ ap (λ k. with_client s.clients c (crashed_at k (client_in s.clients c))) is in
-      let cuts_are : cuts ≡ s.cuts ++ asked = noted_now ∙ (λ i. same i ++ all i) in
-      let history_is : history ≡ s.history ++ crashes c ∷ [] = grown ∙ (λ i. was i ++ entry i ∷ []) in
-      subst (λ v. Gives s c v) (λ i. record s { clients = sym clients_are i; levels = levels; cuts = sym cuts_are i; history = sym history_is i })
-      (all_given holds shape noted)
+  pub given : Gives s c (record s { clients = cs; levels = levels; cuts = cut; history = told })
+  given =
+      subst (Gives s c) (λ i. record s { clients = sym after.clients i; levels = levels; cuts = sym after.cuts i; history = sym after.history i }) all_given

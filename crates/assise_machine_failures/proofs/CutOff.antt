@@ -125,9 +125,10 @@ module _ (n : ℕ) (kept : ℕ → ℕ) (cs : List ClientValue) where
   next_lives (suc m) some other = rw (ne_eqb (client_seen cs (suc m)).home n other) (ap over (less_one m))
 
   -- the home that is found of it
-  pub home_found : (last home : ℕ) (known : ClientValue) (now : List ClientValue) → IsNumber cs last → now ≡ over (last - 1) → known ≡ client_in now last → home ≡ known.home → home ≡ (client_seen cs last).home
-  home_found last home known now there is got found =
+  pub home_found : (last : ℕ) {home : ℕ} {known : ClientValue} {now : List ClientValue} → IsNumber cs last → now ≡ over (last - 1) →
+      known ≡ client_in now last → home ≡ known.home → home ≡ (client_seen cs last).home
+  home_found last there is got found =
       found ∙ ap (λ x. x.home) got ∙ ap (λ xs. (client_in xs last).home) is ∙ seen_known (last - 1) last (omega (arith, there.some)) there
 
-  pub number_found : (last : ℕ) (now : List ClientValue) → IsNumber cs last → now ≡ over (last - 1) → IsNumber now last
-  number_found last now there is = subst (λ xs. IsNumber xs last) (sym is) (number_over (last - 1) last there)
+  pub number_found : (last : ℕ) {now : List ClientValue} → IsNumber cs last → now ≡ over (last - 1) → IsNumber now last
+  number_found last there is = subst (λ xs. IsNumber xs last) (sym is) (number_over (last - 1) last there)

@@ -1,19 +1,12 @@
 -- That a node failed has one proof at most, where another full node is known.
-use Rattle.std.proofs.Common.{◌≡◌, ◌≢◌, ℕ, List}
-use Rattle.std.specs.Coded.{Coded, Coded-set, coded_bool, coded_option, coded_ℕ, codes}
+use Rattle.std.proofs.Common.{◌≡◌, ◌≢◌, ℕ}
+use Rattle.std.specs.Coded.{Coded-set, coded_bool, coded_option, coded_ℕ}
 use Rattle.std.proofs.Math.Logic.{∥∥₁_elim}
 use Rattle.std.proofs.Props.{props}
 use Rattle.assise_inode_table.specs.Contents.{coded_content}
-use Rattle.assise_inode_table.specs.Traces.{NumberedCall}
-use Rattle.assise_record.specs.LogRecord.{LogRecord}
 use Rattle.assise_machine_laws.specs.NodeSteps.{Fails}
 use Rattle.assise_machine_laws.specs.World.{Full, World}
-
-coded_records : Coded (List LogRecord)
-coded_records = hlevel codes
-
-coded_calls : Coded (List NumberedCall)
-coded_calls = hlevel codes
+use Rattle.assise_machine_failures.proofs.Codes.{coded_calls, coded_records}
 
 module _ (w : World) (n : ℕ) (w' : World) (some : ∥ Fails w n w' ∥₁) (survivor : (m : ℕ) × ((m ≢ n) × Full w m)) where
   number : (k l : ℕ) → (Fails w n w' → k ≡ l) → k ≡ l

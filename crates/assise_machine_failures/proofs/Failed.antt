@@ -1,5 +1,5 @@
 -- A full node that failed, as the laws have it.
-use Rattle.std.proofs.Common.{◌≡◌, ◌≢◌, ℕ, true, List, if◌then◌else◌, Some, None, length, refl, ap, sym, subst, ◌∙◌, arith}
+use Rattle.std.proofs.Common.{◌≡◌, ◌≢◌, ℕ, ◌<◌, true, List, if◌then◌else◌, Some, None, length, refl, ap, sym, subst, ◌∙◌, arith}
 use Rattle.std.proofs.Math.Logic.{∥∥₁_elim, ∥∥₁_map}
 use Rattle.std.specs.Coded.{Coded-set, coded_ℕ}
 use Rattle.std.specs.Ordering.{nat_cmp}
@@ -36,11 +36,41 @@ use Rattle.assise_machine_state.proofs.Fullness.{seen_full}
 use Rattle.assise_machine_state.proofs.Standings.{survivor_left}
 use Rattle.assise_machine_failures.proofs.FailSettled.{fails_settled}
 use Rattle.assise_machine_failures.proofs.Losing.{AllLoseAt, StillLosing, all_still, one_loses, others_stay}
+use Rattle.assise_machine_failures.proofs.TakenDown.{few_clients}
 
 -- who holds what is the same where all is that it is made of
 same_leases : (t v : StateValue) → v.levels ≡ t.levels → v.cuts ≡ t.cuts → v.clients ≡ t.clients → leases_of v ≡ leases_of t
 unfolding leases_of
 same_leases t v levels cuts clients = (λ i. leases_of (record t { levels = levels i; cuts = cuts i; clients = clients i }))
+
+-- ---- what is known before and after
+
+-- a full node that may fail, in a state where all invariants hold
+pub record MayFail (s : StateValue) (n : ℕ) : Type 0 where
+  pub holds : ∥ Holds (observed s) ∥₁
+  pub shape : IsShaped s
+  pub noted : AreNoted s
+  pub stands : standing_of (standings s) n ≡ Some full
+  pub fine : failure_fault s.members n ≡ None
+
+-- the node is down, and the records of its clients are cut
+pub record IsCut (s : StateValue) (n : ℕ) (t : StateValue) : Type 0 where
+  pub fails : Fails (world_of s) n (world_of t)
+  pub shape : IsShaped t
+
+-- the event, with what holds after it
+pub record Gives (s : StateValue) (n : ℕ) (v : StateValue) : Type 0 where
+  pub happens : Failing (observed s) n (failed_answer (losses_of (world_of s) n)) (observed v)
+  pub holds : ∥ Holds (observed v) ∥₁
+  pub shape : IsShaped v
+  pub noted : AreNoted v
+
+-- the nodes that were filled from it have lost their copies, and the event has happened as soon as fronts are dropped
+pub record IsRefreshed (s : StateValue) (n : ℕ) (u : StateValue) : Type 0 where
+  pub shape : IsShaped u
+  pub sound : ∥ IsSound (world_of u) ∥₁
+  pub few : length u.clients < 4294967296
+  pub gives : Gives s n (drops_to u (length u.clients))
 
 -- ---- what is frozen
 
@@ -60,8 +90,8 @@ pub record AreFilled (s : StateValue) (n : ℕ) (ks : List ℕ) : Type 0 where
   pub only : (k : ℕ) → Among ks k → donor_of (standing_of (standings s) k) ≡ Some n
   pub all : (k : ℕ) → donor_of (standing_of (standings s) k) ≡ Some n → Among ks k
 
-module _ (s : StateValue) (n : ℕ) (inodes : set.FinSet nat_cmp) (levels : TwoLevels) (asked : List Asked) (holds : ∥ Holds (observed s) ∥₁) (shape : IsShaped s) (noted : AreNoted s)
-    (stands : standing_of (standings s) n ≡ Some full) (fine : failure_fault s.members n ≡ None) (freezes : FreezesBelow s n levels asked) where
+module _ (s : StateValue) (n : ℕ) (inodes : set.FinSet nat_cmp) (levels : TwoLevels) (asked : List Asked) (may : MayFail s n)
+    (freezes : FreezesBelow s n levels asked) where
   abbrev w : World
   w = world_of s
 
@@ -70,15 +100,19 @@ module _ (s : StateValue) (n : ℕ) (inodes : set.FinSet nat_cmp) (levels : TwoL
 
   seen_some : ∥ LeasesFail w (leases_of s) n (world_of t) (leases_of t) ∥₁
   unfolding observed
-  seen_some = ∥∥₁_map holds (λ h. failure_seen s n inodes levels asked shape stands h.sound fine freezes.clients freezes.home freezes.nodes freezes.left h.leases)
+  seen_some =
+      ∥∥₁_map may.holds
+      (λ h. failure_seen s n inodes levels asked may.shape may.stands h.sound may.fine freezes.clients freezes.home freezes.nodes freezes.left h.leases)
 
   survivor : (m : ℕ) × ((m ≢ n) × Full w m)
-  survivor = (let k : (m : ℕ) × ((m ≢ n) × (is_full_in (standings s) m ≡ true)) = survivor_left s.members n stands fine in (k.0, (k.1.0, seen_full s k.0 k.1.1)))
+  survivor =
+      let k : (m : ℕ) × ((m ≢ n) × (is_full_in (standings s) m ≡ true)) = survivor_left s.members n may.stands may.fine in
+      (k.0, (k.1.0, seen_full s k.0 k.1.1))
 
-  pub node_fails : Fails w n (world_of t)
+  node_fails : Fails w n (world_of t)
   node_fails = fails_settled w n (world_of t) (∥∥₁_map seen_some (λ f. f.fails)) survivor
 
-  pub seen : LeasesFail w (leases_of s) n (world_of t) (leases_of t)
+  seen : LeasesFail w (leases_of s) n (world_of t) (leases_of t)
   unfolding leases_of
   seen = record {
     fails = node_fails;
@@ -89,25 +123,28 @@ module _ (s : StateValue) (n : ℕ) (inodes : set.FinSet nat_cmp) (levels : TwoL
     cut_else = λ c i other. ∥∥₁_elim seen_some (Coded-set coded_ℕ ((leases_of t).cut c i) _) (λ f. f.cut_else c i other);
   }
 
-  pub cut_shaped : IsShaped t
-  cut_shaped = failure_shaped s n inodes levels asked shape stands
+  cut_shaped : IsShaped t
+  cut_shaped = failure_shaped s n inodes levels asked may.shape may.stands
 
-  pub cut_sound : ∥ IsSound (world_of t) ∥₁
+  cut_sound : ∥ IsSound (world_of t) ∥₁
   unfolding observed
-  cut_sound = ∥∥₁_map holds (λ h. fail_sound w (world_of t) n h.sound node_fails)
+  cut_sound = ∥∥₁_map may.holds (λ h. fail_sound w (world_of t) n h.sound node_fails)
 
   cut_noted : AreNoted t
   unfolding observed
-  cut_noted = noted_known t (∥∥₁_map holds (λ h. failure_noted s n inodes levels asked noted h.leases freezes.clients freezes.left))
+  cut_noted = noted_known t (∥∥₁_map may.holds (λ h. failure_noted s n inodes levels asked may.noted h.leases freezes.clients freezes.left))
+
+  pub is_cut : IsCut s n t
+  is_cut = record { fails = node_fails; shape = cut_shaped }
 
   module _ (ks : List ℕ) (u : StateValue) (filled : AreFilled s n ks) (lose : AllLoseAt t ks u) where
-    pub losing : StillLosing t u
+    losing : StillLosing t u
     losing = all_still t ks u cut_shaped lose
 
-    pub lost_sound : ∥ IsSound (world_of u) ∥₁
+    lost_sound : ∥ IsSound (world_of u) ∥₁
     lost_sound = ∥∥₁_map cut_sound (λ h. rest_sound (world_of t) (world_of u) h losing.rests)
 
-    pub dropping : StillDropping u (drops_to u (length u.clients))
+    dropping : StillDropping u (drops_to u (length u.clients))
     dropping = same_dropping u losing.shape lost_sound (length u.clients) (omega arith)
 
     abbrev v : StateValue
@@ -135,10 +172,10 @@ module _ (s : StateValue) (n : ℕ) (inodes : set.FinSet nat_cmp) (levels : TwoL
       area_else = λ k i other. others_stay t ks u k i lose (λ there. other (filled.only k there)) ∙ failure_areas s n k i inodes levels asked;
     }
 
-    pub is_so : AreTouched (world_of t) inodes → IsFailed (observed s) n (observed v)
+    is_so : AreTouched (world_of t) inodes → IsFailed (observed s) n (observed v)
     unfolding observed
     is_so touches = record {
-      was_full = stands;
+      was_full = may.stands;
       cut = world_of t;
       refreshed = world_of u;
       inodes = inodes;
@@ -149,17 +186,24 @@ module _ (s : StateValue) (n : ℕ) (inodes : set.FinSet nat_cmp) (levels : TwoL
       adds = record { history = dropping.history ∙ losing.history; limit = dropping.limit ∙ losing.limit };
     }
 
-    pub happens_so : AreTouched (world_of t) inodes → Failing (observed s) n (failed_answer (losses_of w n)) (observed v)
+    happens_so : AreTouched (world_of t) inodes → Failing (observed s) n (failed_answer (losses_of w n)) (observed v)
     unfolding observed
-    happens_so touches = is_failed fine refl (is_so touches)
+    happens_so touches = is_failed may.fine refl (is_so touches)
 
-    pub holds_so : AreTouched (world_of t) inodes → ∥ Holds (observed v) ∥₁
-    holds_so touches = ∥∥₁_map holds (λ h. event_keeps (observed s) (observed v) (fail_event n) (failed_answer (losses_of w n)) h (happens_so touches))
+    gives : AreTouched (world_of t) inodes → Gives s n v
+    gives touches = record {
+      happens = happens_so touches;
+      holds = ∥∥₁_map may.holds (λ h. event_keeps (observed s) (observed v) (fail_event n) (failed_answer (losses_of w n)) h (happens_so touches));
+      shape = dropping.shape;
+      noted =
+          still_noted t v (dropping.cuts ∙ losing.cuts) (let same = ap length (dropping.clients ∙ losing.clients) in omega (arith, same))
+          (λ c i. ap (λ l. is_frozen (lease_of (l.clients i) c)) (dropping.levels ∙ losing.levels)) cut_noted;
+    }
 
-    pub noted_so : AreNoted v
-    noted_so =
-        still_noted t v (dropping.cuts ∙ losing.cuts) (let same = ap length (dropping.clients ∙ losing.clients) in omega (arith, same))
-        (λ c i. ap (λ l. is_frozen (lease_of (l.clients i) c)) (dropping.levels ∙ losing.levels)) cut_noted
-
-    pub shape_so : IsShaped v
-    shape_so = dropping.shape
+    pub is_refreshed : AreTouched (world_of t) inodes → IsRefreshed s n u
+    is_refreshed touches = record {
+      shape = losing.shape;
+      sound = lost_sound;
+      few = (let few = few_clients v (gives touches).holds in let same = ap length dropping.clients in omega (arith, same, few));
+      gives = gives touches;
+    }

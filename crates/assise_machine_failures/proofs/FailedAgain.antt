@@ -79,7 +79,14 @@ module _ (m : Membership) (n : ℕ) where
 
 -- ---- it fails
 
-module _ (s : StateValue) (n : ℕ) (holds : ∥ Holds (observed s) ∥₁) (shape : IsShaped s) (noted : AreNoted s) (is : is_returning (standing_of (standings s) n) ≡ true) where
+-- node n comes back, in a state where all invariants hold
+pub record WasReturning (s : StateValue) (n : ℕ) : Type 0 where
+  pub holds : ∥ Holds (observed s) ∥₁
+  pub shape : IsShaped s
+  pub noted : AreNoted s
+  pub returning : is_returning (standing_of (standings s) n) ≡ true
+
+module _ {s : StateValue} {n : ℕ} (was : WasReturning s n) where
   abbrev m : Membership
   m = failed s.members n set.empty
 
@@ -90,10 +97,10 @@ module _ (s : StateValue) (n : ℕ) (holds : ∥ Holds (observed s) ∥₁) (sha
   t = record u { history = s.history ++ fails n [] ∷ [] }
 
   long : length m.nodes ≡ length (standings s)
-  long = as_many s.members n (standing_of (standings s) n) is
+  long = as_many s.members n (standing_of (standings s) n) was.returning
 
   same : (k : ℕ) → is_full_in m.nodes k ≡ is_full_in (standings s) k
-  same = full_still s.members n (standing_of (standings s) n) refl is
+  same = full_still s.members n (standing_of (standings s) n) refl was.returning
 
   -- the entry takes no call
   same_world : world_of t ≡ world_of u
@@ -114,43 +121,52 @@ module _ (s : StateValue) (n : ℕ) (holds : ∥ Holds (observed s) ∥₁) (sha
   fails_again : IsFailedAgain (observed s) n (observed t)
   unfolding observed
   fails_again = record {
-    failure = record { was_returning = is; members = refl; rests = rests; area = areas };
+    failure = record { was_returning = was.returning; members = refl; rests = rests; area = areas };
     leases = same_holders;
     adds = record { history = refl; limit = refl };
   }
 
   again_happens : Failing (observed s) n (failed_answer []) (observed t)
   unfolding observed
-  again_happens = is_failed_again (back_fine s.members (standing_of (standings s) n) is) refl fails_again
+  again_happens = is_failed_again (back_fine s.members (standing_of (standings s) n) was.returning) refl fails_again
 
   again_holds : ∥ Holds (observed t) ∥₁
-  again_holds = ∥∥₁_map holds (λ h. event_keeps (observed s) (observed t) (fail_event n) (failed_answer []) h again_happens)
+  again_holds = ∥∥₁_map was.holds (λ h. event_keeps (observed s) (observed t) (fail_event n) (failed_answer []) h again_happens)
 
   again_shaped : IsShaped t
-  again_shaped = of_members (members_shaped s m shape long same)
+  again_shaped = of_members (members_shaped s m was.shape long same)
     where
       of_members : IsShaped u → IsShaped t
       of_members h = record { nodes = h.nodes; few_nodes = h.few_nodes; logs = h.logs; no_logs = h.no_logs; at_home = h.at_home; limits = h.limits; least_limit = h.least_limit; most_limit = h.most_limit }
 
   again_noted : AreNoted t
-  again_noted = still_noted s t refl (omega arith) (λ c i. refl) noted
+  again_noted = still_noted s t refl (omega arith) (λ c i. refl) was.noted
 
-  -- as the code has it
-  module _ (now : Membership) (h : List Event) (is_now : now ≡ failed s.members n (set.from_list [])) (told : h ≡ s.history ++ fails n [] ∷ []) where
-    abbrev x : StateValue
-    x = record s { members = now; history = h }
+-- ---- as the code has it
 
-    so : x ≡ t
-    so = (λ i. record s { members = is_now i; history = told i })
+-- the membership and the history once node n is down again
+pub record IsDownAgain (s : StateValue) (n : ℕ) (now : Membership) (h : List Event) : Type 0 where
+  pub was : WasReturning s n
+  pub members : now ≡ failed s.members n (set.from_list [])
+  pub told : h ≡ s.history ++ fails n [] ∷ []
 
-    pub happens_again : (answer : List Loss) → answer ≡ [] → Failing (observed s) n (failed_answer answer) (observed x)
-    happens_again answer none = subst (λ a. Failing (observed s) n (failed_answer a) (observed x)) (sym none) (subst (λ y. Failing (observed s) n (failed_answer []) (observed y)) (sym so) again_happens)
+module _ {s : StateValue} {n : ℕ} {now : Membership} {h : List Event} (down_again : IsDownAgain s n now h) where
+  abbrev x : StateValue
+  x = record s { members = now; history = h }
 
-    pub holds_again : ∥ Holds (observed x) ∥₁
-    holds_again = subst (λ y. ∥ Holds (observed y) ∥₁) (sym so) again_holds
+  so : x ≡ t down_again.was
+  so = (λ i. record s { members = down_again.members i; history = down_again.told i })
 
-    pub shaped_again : IsShaped x
-    shaped_again = subst IsShaped (sym so) again_shaped
+  pub happens_again : (answer : List Loss) → answer ≡ [] → Failing (observed s) n (failed_answer answer) (observed x)
+  happens_again answer none =
+      subst (λ a. Failing (observed s) n (failed_answer a) (observed x)) (sym none)
+      (subst (λ y. Failing (observed s) n (failed_answer []) (observed y)) (sym so) (again_happens down_again.was))
 
-    pub noted_again : AreNoted x
-    noted_again = subst AreNoted (sym so) again_noted
+  pub holds_again : ∥ Holds (observed x) ∥₁
+  holds_again = subst (λ y. ∥ Holds (observed y) ∥₁) (sym so) (again_holds down_again.was)
+
+  pub shaped_again : IsShaped x
+  shaped_again = subst IsShaped (sym so) (again_shaped down_again.was)
+
+  pub noted_again : AreNoted x
+  noted_again = subst AreNoted (sym so) (again_noted down_again.was)

@@ -13,47 +13,50 @@ use Rattle.assise_lease_tree.specs.TwoLevels.{TwoLevels}
 use Rattle.assise_manager.specs.Changes.{donor_of, failed, failure_fault, failure_fault_of, is_returning, refilled_from, with_epoch, failed_as}
 use Rattle.assise_manager.specs.Membership.{Membership, lowest_full, written_since}
 use Rattle.assise_manager.specs.Standings.{Standing, full, full_nodes, down, returning, standing_of}
-use Rattle.assise_machine_laws.specs.Sound.{IsSound}
 use Rattle.assise_machine_returns.proofs.Standing.{mapped_at, set_else}
 use Rattle.assise_machine_events.specs.Events.{Answer, failed as failed_answer, refused}
-use Rattle.assise_machine_events.specs.Machine.{Holds}
 use Rattle.assise_machine_events.specs.MemberEvents.{Failing, is_refused, lacks_memory}
 use Rattle.assise_machine_state.specs.Changes.{after_failure, drops_to}
 use Rattle.assise_machine_state.specs.Observed.{observed, world_of}
-use Rattle.assise_machine_state.specs.Shape.{AreNoted, IsShaped}
+use Rattle.assise_machine_state.specs.Shape.{IsShaped}
 use Rattle.assise_machine_state.specs.StateValues.{StateValue, standings}
 use Rattle.assise_machine_failures.specs.declared.failure.Failure.{Failure}
 use Rattle.assise_machine_failures.specs.Answers.{loss_of}
 use Rattle.assise_machine_failures.specs.Copies.{AllLose, AreReturning, LosesStale}
 use Rattle.assise_machine_failures.specs.Failures.{FreezesBelow, IsListed}
-use Rattle.assise_machine_failures.proofs.Failed.{AreFilled, AreTouched, FreezesBelow as Freezes, cut_shaped, dropping, happens_so, holds_so, losing, lost_sound, node_fails, noted_so, shape_so}
+use Rattle.assise_machine_failures.proofs.Failed.{AreFilled, AreTouched, FreezesBelow as Freezes, Gives, IsCut, IsRefreshed, MayFail, is_cut, is_refreshed}
 use Rattle.assise_machine_failures.proofs.Listed.{filled_all, filled_only, touched_all, touched_only}
-use Rattle.assise_machine_failures.proofs.Losing.{AllLoseAt, all_at, lose_more}
-use Rattle.assise_machine_failures.proofs.TakenDown.{few_clients}
+use Rattle.assise_machine_failures.proofs.Losing.{all_at, lose_more}
 
 -- ---- what is wrong about it
 
-pub last_fault : (m : Membership) (n : ℕ) → standing_of m.nodes n ≡ Some full → length (full_nodes m.nodes) ≡ 1 → failure_fault m n ≡ Some LastNode
-last_fault m n stands one = ap (failure_fault_of m) stands ∙ rw (eq-eqb (length (full_nodes m.nodes)) 1 one) refl
+module _ (m : Membership) (n : ℕ) (counted : List ℕ) (stands : standing_of m.nodes n ≡ Some full) (is : counted ≡ full_nodes m.nodes) where
+  -- the one full node that was counted can't fail
+  pub last_fault : length counted ≡ 1 → failure_fault m n ≡ Some LastNode
+  last_fault one = ap (failure_fault_of m) stands ∙ rw (eq-eqb (length (full_nodes m.nodes)) 1 (sym (ap length is) ∙ one)) refl
 
-pub no_fault : (m : Membership) (n : ℕ) → standing_of m.nodes n ≡ Some full → length (full_nodes m.nodes) ≢ 1 → failure_fault m n ≡ None
-no_fault m n stands more = ap (failure_fault_of m) stands ∙ rw (ne_eqb (length (full_nodes m.nodes)) 1 more) refl
+  -- where others were counted too, it may
+  pub no_fault : length counted ≢ 1 → failure_fault m n ≡ None
+  no_fault more = ap (failure_fault_of m) stands ∙ rw (ne_eqb (length (full_nodes m.nodes)) 1 (λ one. more (ap length is ∙ one))) refl
 
 pub refused_so : (s : StateValue) (n : ℕ) (r : Refusal) → failure_fault s.members n ≡ Some r → Failing (observed s) n (refused r) (observed s)
 unfolding observed
 refused_so s n r fault = is_refused r fault refl refl
 
-pub refused_as : (s : StateValue) (n : ℕ) (r : Refusal) (a : Answer) → failure_fault s.members n ≡ Some r → a ≡ refused r → Failing (observed s) n a (observed s)
+pub refused_as : (s : StateValue) (n : ℕ) (r : Refusal) (a : Answer) → failure_fault s.members n ≡ Some r → a ≡ refused r →
+    Failing (observed s) n a (observed s)
 unfolding observed
 refused_as s n r a fault is = is_refused r fault is refl
 
-pub lacks_so : (s t : StateValue) (n : ℕ) (a : Answer) → failure_fault s.members n ≡ None → a ≡ refused OutOfMemory → t ≡ s → Failing (observed s) n a (observed t)
+pub lacks_so : (s t : StateValue) (n : ℕ) (a : Answer) → failure_fault s.members n ≡ None → a ≡ refused OutOfMemory → t ≡ s →
+    Failing (observed s) n a (observed t)
 unfolding observed
 lacks_so s t n a fine is same = lacks_memory fine is (ap observed same)
 
 -- ---- who is filled from the node comes back still
 
-back_still : (written : ℕ → set.FinSet nat_cmp) (low n : ℕ) (o : Option Standing) → donor_of o ≡ Some n → is_returning (option_map (refilled_from written low n) o) ≡ true
+back_still : (written : ℕ → set.FinSet nat_cmp) (low n : ℕ) (o : Option Standing) → donor_of o ≡ Some n →
+    is_returning (option_map (refilled_from written low n) o) ≡ true
 back_still written low n None is = absurd (let bad : ◌≡◌ {A = Option ℕ} None (Some n) = is in cc)
 back_still written low n (Some full) is = absurd (let bad : ◌≡◌ {A = Option ℕ} None (Some n) = is in cc)
 back_still written low n (Some (down since)) is = absurd (let bad : ◌≡◌ {A = Option ℕ} None (Some n) = is in cc)
@@ -73,15 +76,16 @@ module _ (m : Membership) (n : ℕ) (inodes : set.FinSet nat_cmp) (stands : stan
       let low : ℕ = lowest_full begun.nodes in
       ap (λ ns. is_returning (standing_of ns k)) (ap (λ o. (failed_by o).nodes) stands)
       ∙ ap is_returning (mapped_at (refilled_from (written_since begun) low n) begun.nodes k)
-      ∙ ap (λ o. is_returning (option_map (refilled_from (written_since begun) low n) o)) (set_else m.nodes n k full (down (m.epoch + 1)) stands (apart k from))
+      ∙ ap (λ o. is_returning (option_map (refilled_from (written_since begun) low n) o))
+      (set_else m.nodes n k full (down (m.epoch + 1)) stands (apart k from))
       ∙ back_still (written_since begun) low n (standing_of m.nodes k) from
     where
       failed_by : Option Standing → Membership
       failed_by o = failed_as m n inodes o
 
-all_back : (nodes : List Standing) (t : StateValue) (ks : List ℕ) → ((k : ℕ) → Among ks k → is_returning (standing_of (standings t) k) ≡ true) → AreReturning t ks
-all_back nodes t [] each = tt
-all_back nodes t (k ∷ ks) each = (each k (inl refl), all_back nodes t ks (λ j there. each j (inr there)))
+all_back : (t : StateValue) (ks : List ℕ) → ((k : ℕ) → Among ks k → is_returning (standing_of (standings t) k) ≡ true) → AreReturning t ks
+all_back t [] each = tt
+all_back t (k ∷ ks) each = (each k (inl refl), all_back t ks (λ j there. each j (inr there)))
 
 -- ---- copies that go, node by node
 
@@ -90,16 +94,45 @@ pub lose_all : (t u : StateValue) (ks js : List ℕ) (count : ℕ) → js ≡ ks
 lose_all t u ks js count is all lose = subst (λ l. AllLose t l u) ((λ i. take (all i) (is i)) ∙ take_all (length ks) ks (omega arith)) lose
 
 -- one node more
-pub lose_next : (t v u : StateValue) (ks : List ℕ) (count : ℕ) → 0 < count → count ≤ length ks → AllLose t (take (count - 1) ks) v → LosesStale v (slice_index_or ks (count - 1) 0) u → AllLose t (take count ks) u
+pub lose_next : (t v u : StateValue) (ks : List ℕ) (count : ℕ) → 0 < count → count ≤ length ks → AllLose t (take (count - 1) ks) v →
+    LosesStale v (slice_index_or ks (count - 1) 0) u → AllLose t (take count ks) u
 lose_next t v u ks count some few all one =
     let next : suc (count - 1) ≡ count = omega (arith, some) in
     subst (λ l. AllLose t l u) (sym (take-suc ks (count - 1) 0 (omega (arith, some, few))) ∙ ap (λ k. take k ks) next)
     (lose_more t v u (take (count - 1) ks) (slice_index_or ks (count - 1) 0) all one)
 
--- ---- all of it
+-- ---- what is known, step by step
 
-module _ (s : StateValue) (n : ℕ) (f : Failure) (levels : TwoLevels) (holds : ∥ Holds (observed s) ∥₁) (shape : IsShaped s) (noted : AreNoted s) (stands : standing_of (standings s) n ≡ Some full)
-    (fine : failure_fault s.members n ≡ None) (listed : IsListed s n f) (frozen : FreezesBelow s.levels levels n) where
+-- the node is taken down as listed: t is the state then, and ks are the nodes that were filled from it
+pub record IsTakenDown (s : StateValue) (n : ℕ) (f : Failure) (t : StateValue) (ks : List ℕ) : Type 0 where
+  pub may : MayFail s n
+  pub listed : IsListed s n f
+  pub levels : TwoLevels
+  pub frozen : FreezesBelow s.levels levels n
+  pub down : t ≡ after_failure s n (set.from_list f.inodes.items) levels f.asked.items
+  pub filled : ks ≡ f.filled.items
+
+-- then all nodes that were filled from it have lost their copies, and u is the state
+pub record AreCopiesDropped (s : StateValue) (n : ℕ) (f : Failure) (u : StateValue) : Type 0 where
+  pub taken : StateValue
+  pub nodes : List ℕ
+  pub is_down : IsTakenDown s n f taken nodes
+  pub count : ℕ
+  pub all : count ≡ length nodes
+  pub lose : AllLose taken (take count nodes) u
+
+-- then the fronts of all clients are dropped, and x is the state
+pub record AreFrontsDropped (s : StateValue) (n : ℕ) (f : Failure) (x : StateValue) : Type 0 where
+  pub refreshed : StateValue
+  pub copies : AreCopiesDropped s n f refreshed
+  pub last : ℕ
+  pub all : last ≡ length refreshed.clients
+  pub drops : x ≡ drops_to refreshed last
+
+-- ---- what follows from the failure as it was listed
+
+module _ (s : StateValue) (n : ℕ) (f : Failure) (levels : TwoLevels) (may : MayFail s n) (listed : IsListed s n f)
+    (frozen : FreezesBelow s.levels levels n) where
   abbrev inodes : set.FinSet nat_cmp
   inodes = set.from_list f.inodes.items
 
@@ -109,88 +142,49 @@ module _ (s : StateValue) (n : ℕ) (f : Failure) (levels : TwoLevels) (holds : 
   freezes : Freezes s n levels f.asked.items
   freezes = record { home = frozen.home; clients = frozen.clients; nodes = frozen.nodes; left = listed.asked }
 
+  cut : IsCut s n t
+  cut = is_cut s n inodes levels f.asked.items may freezes
+
   touches : AreTouched (world_of t) inodes
   touches = record {
-    only = touched_only s n (world_of t) f.inodes.items listed.inodes (node_fails s n inodes levels f.asked.items holds shape noted stands fine freezes).records;
-    all = touched_all s n (world_of t) f.inodes.items listed.inodes (node_fails s n inodes levels f.asked.items holds shape noted stands fine freezes).records shape;
+    only = touched_only s n (world_of t) f.inodes.items listed.inodes cut.fails.records;
+    all = touched_all s n (world_of t) f.inodes.items listed.inodes cut.fails.records may.shape;
   }
 
   filled : AreFilled s n f.filled.items
-  filled = record { only = filled_only s n f.filled.items listed.filled; all = filled_all s n f.filled.items listed.filled shape }
+  filled = record { only = filled_only s n f.filled.items listed.filled; all = filled_all s n f.filled.items listed.filled may.shape }
 
-  pub down_shaped : IsShaped t
-  down_shaped = cut_shaped s n inodes levels f.asked.items holds shape noted stands fine freezes
+  down_shaped : IsShaped t
+  down_shaped = cut.shape
 
-  pub filled_returning : AreReturning t f.filled.items
-  filled_returning = all_back (standings t) t f.filled.items (λ k there. filled_back s.members n inodes stands k (filled.only k there))
+  filled_returning : AreReturning t f.filled.items
+  filled_returning = all_back t f.filled.items (λ k there. filled_back s.members n inodes may.stands k (filled.only k there))
 
-  module _ (u : StateValue) (lose : AllLose t f.filled.items u) where
-    at : AllLoseAt t f.filled.items u
-    at = all_at t f.filled.items u down_shaped filled_returning lose
+  all_refreshed : (u : StateValue) → AllLose t f.filled.items u → IsRefreshed s n u
+  all_refreshed u lose =
+      is_refreshed s n inodes levels f.asked.items may freezes f.filled.items u filled (all_at t f.filled.items u cut.shape filled_returning lose) touches
 
-    pub refreshed_shaped : IsShaped u
-    refreshed_shaped = (losing s n inodes levels f.asked.items holds shape noted stands fine freezes f.filled.items u filled at).shape
+-- ---- the same, by the states that the code comes to
 
-    pub refreshed_sound : ∥ IsSound (world_of u) ∥₁
-    refreshed_sound = lost_sound s n inodes levels f.asked.items holds shape noted stands fine freezes f.filled.items u filled at
+module _ {s : StateValue} {n : ℕ} {f : Failure} where
+  pub returning_now : {t : StateValue} {ks : List ℕ} → IsTakenDown s n f t ks → AreReturning t ks
+  returning_now {t} {ks} d =
+      subst (AreReturning t) (sym d.filled) (subst (λ x. AreReturning x f.filled.items) (sym d.down) (filled_returning s n f d.levels d.may d.listed d.frozen))
 
-    abbrev v : StateValue
-    v = drops_to u (length u.clients)
+  pub shaped_now : {t : StateValue} {ks : List ℕ} → IsTakenDown s n f t ks → IsShaped t
+  shaped_now d = subst IsShaped (sym d.down) (down_shaped s n f d.levels d.may d.listed d.frozen)
 
-    pub full_happens : (losses : List (ℕ × ℕ)) → losses ≡ f.losses.items → Failing (observed s) n (failed_answer (map loss_of losses)) (observed v)
-    full_happens losses is =
-        subst (λ ls. Failing (observed s) n (failed_answer ls) (observed v)) (sym (ap (map loss_of) is ∙ listed.losses))
-        (happens_so s n inodes levels f.asked.items holds shape noted stands fine freezes f.filled.items u filled at touches)
+  pub refreshed_now : {u : StateValue} → AreCopiesDropped s n f u → IsRefreshed s n u
+  refreshed_now {u} c =
+      let d = c.is_down in
+      all_refreshed s n f d.levels d.may d.listed d.frozen u
+      (lose_all _ u f.filled.items c.nodes c.count d.filled (c.all ∙ ap length d.filled) (subst (λ x. AllLose x (take c.count c.nodes) u) d.down c.lose))
 
-    pub full_holds : ∥ Holds (observed v) ∥₁
-    full_holds = holds_so s n inodes levels f.asked.items holds shape noted stands fine freezes f.filled.items u filled at touches
+  pub given_now : {x : StateValue} → AreFrontsDropped s n f x → Gives s n x
+  given_now d = subst (Gives s n) (sym (d.drops ∙ ap (drops_to d.refreshed) d.all)) (refreshed_now d.copies).gives
 
-    pub full_noted : AreNoted v
-    full_noted = noted_so s n inodes levels f.asked.items holds shape noted stands fine freezes f.filled.items u filled at
-
-    pub full_shaped : IsShaped v
-    full_shaped = shape_so s n inodes levels f.asked.items holds shape noted stands fine freezes f.filled.items u filled at
-
-    pub few_then : length u.clients < 4294967296
-    few_then =
-        let same = ap length (dropping s n inodes levels f.asked.items holds shape noted stands fine freezes f.filled.items u filled at).clients in
-        let few = few_clients v full_holds in
-        omega (arith, same, few)
-
-  -- ---- by the states that the code comes to
-
-  module _ (td : StateValue) (js : List ℕ) (down : td ≡ t) (is : js ≡ f.filled.items) where
-    pub returning_now : AreReturning td js
-    returning_now = subst (AreReturning td) (sym is) (subst (λ x. AreReturning x f.filled.items) (sym down) filled_returning)
-
-    pub shaped_now : IsShaped td
-    shaped_now = subst IsShaped (sym down) down_shaped
-
-    module _ (u : StateValue) (count : ℕ) (all : count ≡ length js) (lose : AllLose td (take count js) u) where
-      all_lost : AllLose t f.filled.items u
-      all_lost = lose_all t u f.filled.items js count is (all ∙ ap length is) (subst (λ x. AllLose x (take count js) u) down lose)
-
-      pub sound_now : ∥ IsSound (world_of u) ∥₁
-      sound_now = refreshed_sound u all_lost
-
-      pub shaped_then : IsShaped u
-      shaped_then = refreshed_shaped u all_lost
-
-      pub few_now : length u.clients < 4294967296
-      few_now = few_then u all_lost
-
-      module _ (x : StateValue) (last : ℕ) (counted : last ≡ length u.clients) (dropped : x ≡ drops_to u last) where
-        same : x ≡ drops_to u (length u.clients)
-        same = dropped ∙ ap (drops_to u) counted
-
-        pub happens_now : (losses : List (ℕ × ℕ)) → losses ≡ f.losses.items → Failing (observed s) n (failed_answer (map loss_of losses)) (observed x)
-        happens_now losses answered = subst (λ y. Failing (observed s) n (failed_answer (map loss_of losses)) (observed y)) (sym same) (full_happens u all_lost losses answered)
-
-        pub holds_now : ∥ Holds (observed x) ∥₁
-        holds_now = subst (λ y. ∥ Holds (observed y) ∥₁) (sym same) (full_holds u all_lost)
-
-        pub noted_now : AreNoted x
-        noted_now = subst AreNoted (sym same) (full_noted u all_lost)
-
-        pub shape_now : IsShaped x
-        shape_now = subst IsShaped (sym same) (full_shaped u all_lost)
+  -- the answer tells what was listed as lost
+  pub happens_now : {x : StateValue} (losses : List (ℕ × ℕ)) → AreFrontsDropped s n f x → losses ≡ f.losses.items →
+      Failing (observed s) n (failed_answer (map loss_of losses)) (observed x)
+  happens_now {x} losses d is =
+      subst (λ ls. Failing (observed s) n (failed_answer ls) (observed x)) (sym (ap (map loss_of) is ∙ d.copies.is_down.listed.losses)) (given_now d).happens

@@ -10,7 +10,7 @@ use Rattle.assise_names.specs.declared.refusal.Refusal.{Refusal}
 use Rattle.assise_names.specs.declared.refusal.Refusal.TheVariants.{OutOfMemory}
 use Rattle.assise_inode_table.specs.Contents.{Content, values}
 use Rattle.assise_digest.specs.Region.{RegionValue, with_inode}
-use Rattle.assise_manager.specs.Changes.{IsLowest, IsLowestOf, copied, copied_as, donor_of, filling_fault, filling_fault_of, stale_of}
+use Rattle.assise_manager.specs.Changes.{IsLowest, IsLowestOf, copied as copied_by, copied_as, donor_of, filling_fault, filling_fault_of, stale_of}
 use Rattle.assise_manager.specs.Membership.{IsMembership, Membership}
 use Rattle.assise_manager.specs.Standings.{Standing, down, full, returning, standing_of}
 use Rattle.assise_manager.proofs.Lawful.{donor_full}
@@ -25,6 +25,8 @@ use Rattle.assise_machine_state.specs.Observed.{is_full_in, observed, world_of}
 use Rattle.assise_machine_state.specs.Places.{IsNumber}
 use Rattle.assise_machine_state.specs.Shape.{AreNoted, IsShaped}
 use Rattle.assise_machine_state.specs.StateValues.{StateValue, leases_of, standings}
+use Rattle.assise_machine_state.specs.Whole.{value_of}
+use Rattle.assise_machine_state.specs.declared.sound.SoundOf.{SoundOf}
 use Rattle.assise_machine_state.proofs.Fullness.{node_number, region_is}
 use Rattle.assise_machine_state.proofs.Resting.{inode_else, inode_here, inode_rests, inode_shaped, members_areas, members_rest, members_shaped}
 use Rattle.assise_machine_state.proofs.Standings.{full_as, same_count}
@@ -51,27 +53,38 @@ filled_stands (Some (returning since donor stale)) d from = (since, (stale, ap (
 lowest_of : (o : Option (set.FinSet nat_cmp)) (stale : set.FinSet nat_cmp) (i : ℕ) → o ≡ Some stale → IsLowestOf o (Some i) → IsLowest stale i
 lowest_of o stale i is low = subst (λ p. IsLowestOf p (Some i)) is low
 
-module _ (s : StateValue) (n d : ℕ) (shape : IsShaped s) (lawful : IsMembership s.members) (from : donor_of (standing_of (standings s) n) ≡ Some d) where
+-- node n comes back, and is filled from node d
+pub record IsFilledFrom (s : StateValue) (n d : ℕ) : Type 0 where
+  pub shape : IsShaped s
+  pub lawful : IsMembership s.members
+  pub from : donor_of (standing_of (standings s) n) ≡ Some d
+
+-- so it is where the state is sound
+pub filling : {C : Type 0} (sound : SoundOf C) (n d : ℕ) → donor_of (standing_of (standings (value_of sound.state)) n) ≡ Some d →
+    IsFilledFrom (value_of sound.state) n d
+filling sound n d from = record { shape = sound.shape; lawful = sound.state.members.lawful; from = from }
+
+module _ {s : StateValue} {n d : ℕ} (fills : IsFilledFrom s n d) where
   abbrev since : ℕ
-  since = (filled_stands (standing_of (standings s) n) d from).0
+  since = (filled_stands (standing_of (standings s) n) d fills.from).0
 
   abbrev stale : set.FinSet nat_cmp
-  stale = (filled_stands (standing_of (standings s) n) d from).1.0
+  stale = (filled_stands (standing_of (standings s) n) d fills.from).1.0
 
   pub filled_from : standing_of (standings s) n ≡ Some (returning since d stale)
-  filled_from = (filled_stands (standing_of (standings s) n) d from).1.1
+  filled_from = (filled_stands (standing_of (standings s) n) d fills.from).1.1
 
   pub filled_number : IsNumber s.nodes n
-  filled_number = node_number s n (returning since d stale) shape filled_from
+  filled_number = node_number s n (returning since d stale) fills.shape filled_from
 
   pub donor_number : IsNumber s.nodes d
-  donor_number = node_number s d full shape (donor_full s.members n since d stale lawful filled_from)
+  donor_number = node_number s d full fills.shape (donor_full s.members n since d stale fills.lawful filled_from)
 
   filled_away : is_full_in (standings s) n ≡ false
   filled_away = full_as (standings s) n (returning since d stale) filled_from
 
   pub filled_logless : (region_in s.nodes n).logs ≡ []
-  filled_logless = ap (λ r. r.logs) (sym (region_is s n filled_number)) ∙ shape.no_logs n filled_away
+  filled_logless = ap (λ r. r.logs) (sym (region_is s n filled_number)) ∙ fills.shape.no_logs n filled_away
 
   pub filled_fine : filling_fault s.members n ≡ None
   filled_fine = ap filling_fault_of filled_from
@@ -86,75 +99,105 @@ module _ (s : StateValue) (n d : ℕ) (shape : IsShaped s) (lawful : IsMembershi
       let empty : stale ≡ set.empty = subst (λ o. IsLowestOf o None) (ap stale_of filled_from) none in
       is_whole filled_fine (ap (λ o. count_of (stale_of o)) filled_from ∙ ap set.len empty ∙ len-empty nat_cmp) refl refl
 
-  -- ---- it gets the lowest inode
+-- ---- it gets the lowest inode
 
-  module _ (i : ℕ) (v : Option Content) (rs : List RegionValue) (m : Membership) (value : v ≡ map.get (region_in s.nodes d).inodes i)
-      (refilled : rs ≡ with_region s.nodes n (with_inode (region_in s.nodes n) i v)) (low : IsLowestOf (stale_of (standing_of (standings s) n)) (Some i)) (less : m ≡ copied s.members n i) where
-    abbrev now : Standing
-    now = returning since d (set.remove stale i)
+-- the nodes and the membership once node n has the lowest inode that it may lack, as node d has it
+pub record IsCopied (s : StateValue) (n d : ℕ) (rs : List RegionValue) (m : Membership) : Type 0 where
+  pub fills : IsFilledFrom s n d
+  pub inode : ℕ
+  pub value : Option Content
+  pub copied : value ≡ map.get (region_in s.nodes d).inodes inode
+  pub refilled : rs ≡ with_region s.nodes n (with_inode (region_in s.nodes n) inode value)
+  pub lowest : IsLowestOf (stale_of (standing_of (standings s) n)) (Some inode)
+  pub less : m ≡ copied_by s.members n inode
 
-    nodes_are : m.nodes ≡ (copied_as (standings s) n i (Some (returning since d stale)))
-    nodes_are = ap (λ o. o.nodes) less ∙ ap (copied_as (standings s) n i) filled_from
+module _ {s : StateValue} {n d : ℕ} {rs : List RegionValue} {m : Membership} (c : IsCopied s n d rs m) where
+  abbrev i : ℕ
+  i = c.inode
 
-    as_many : length m.nodes ≡ length (standings s)
-    as_many = ap length nodes_are ∙ same_count (standings s) n now
+  abbrev v : Option Content
+  v = c.value
 
-    stands_now : standing_of m.nodes n ≡ Some now
-    stands_now = ap (λ nodes. standing_of nodes n) nodes_are ∙ set_here (standings s) n (returning since d stale) now filled_from
+  abbrev began : ℕ
+  began = since c.fills
 
-    as_full : (k : ℕ) → is_full_in m.nodes k ≡ is_full_in (standings s) k
-    as_full k = ap (λ nodes. is_full_in nodes k) nodes_are ∙ still_full (standings s) n (returning since d stale) now filled_from refl refl k
+  abbrev lacked : set.FinSet nat_cmp
+  lacked = stale c.fills
 
-    abbrev t : StateValue
-    t = after_inode s n i v
+  stands : standing_of (standings s) n ≡ Some (returning began d lacked)
+  stands = filled_from c.fills
 
-    abbrev u : StateValue
-    u = after_members t m
+  number : IsNumber s.nodes n
+  number = filled_number c.fills
 
-    abbrev w : StateValue
-    w = record s { nodes = rs; members = m }
+  abbrev now : Standing
+  now = returning began d (set.remove lacked i)
 
-    same : w ≡ u
-    same = (λ k. record s { nodes = refilled k; members = m })
+  nodes_are : m.nodes ≡ (copied_as (standings s) n i (Some (returning began d lacked)))
+  nodes_are = ap (λ o. o.nodes) c.less ∙ ap (copied_as (standings s) n i) stands
 
-    value_seen : v ≡ (world_of s).area d i
-    unfolding world_of
-    value_seen = value ∙ ap (λ r. values r.inodes i) (sym (region_is s d donor_number))
+  as_many : length m.nodes ≡ length (standings s)
+  as_many = ap length nodes_are ∙ same_count (standings s) n now
 
-    node_refills : Refills (world_of s) s.members n i (world_of u) m
-    node_refills = record {
-      since = since;
-      donor = d;
-      stale = stale;
-      stands = filled_from;
-      lowest = lowest_of (stale_of (standing_of (standings s) n)) stale i (ap stale_of filled_from) low;
-      members = less;
-      rests = rests_more (world_of s) (world_of t) (world_of u) (inode_rests s n i v filled_number (not_full s n filled_away)) (members_rest t m as_many as_full);
-      area_here = members_areas t m n i ∙ inode_here s n i v filled_number ∙ value_seen;
-      area_else = λ k j other. members_areas t m k j ∙ inode_else s n i v filled_number k j other;
-    }
+  stands_now : standing_of m.nodes n ≡ Some now
+  stands_now = ap (λ nodes. standing_of nodes n) nodes_are ∙ set_here (standings s) n (returning began d lacked) now stands
 
-    same_leases : leases_of u ≡ leases_of s
-    unfolding leases_of
-    same_leases = refl
+  as_full : (k : ℕ) → is_full_in m.nodes k ≡ is_full_in (standings s) k
+  as_full k = ap (λ nodes. is_full_in nodes k) nodes_are ∙ still_full (standings s) n (returning began d lacked) now stands refl refl k
 
-    refilled_so : IsRefilled (observed s) n (observed u)
-    unfolding observed
-    refilled_so = record { inode = i; refills = node_refills; leases = same_leases; adds = record { history = sym (append-nil s.history); limit = refl } }
+  abbrev t : StateValue
+  t = after_inode s n i v
 
-    happens_so : (count : ℕ) → option_map set.len (stale_of (standing_of m.nodes n)) ≡ Some count → Refilling (observed s) n (left count) (observed u)
-    unfolding observed
-    happens_so count some = is_refilled filled_fine (ap left (counted (stale_of (standing_of m.nodes n)) count some)) refilled_so
+  abbrev u : StateValue
+  u = after_members t m
 
-    refill_happens : (count : ℕ) → option_map set.len (stale_of (standing_of m.nodes n)) ≡ Some count → Refilling (observed s) n (left count) (observed w)
-    refill_happens count some = subst (λ x. Refilling (observed s) n (left count) (observed x)) (sym same) (happens_so count some)
+  abbrev w : StateValue
+  w = record s { nodes = rs; members = m }
 
-    pub refill_answers : (r : Result ℕ Refusal) → IsOk r → IfOk r (λ count. option_map set.len (stale_of (standing_of m.nodes n)) ≡ Some count) → Refilling (observed s) n (refilling_answer r) (observed w)
-    refill_answers (Ok count) ok some = refill_happens count some
-    refill_answers (Err e) ok some = absurd (true≢false (sym ok))
+  same : w ≡ u
+  same = (λ k. record s { nodes = c.refilled k; members = m })
 
-    pub refill_shaped : IsShaped w
-    refill_shaped = subst IsShaped (sym same) (members_shaped t m (inode_shaped s n i v shape filled_number) as_many as_full)
+  value_seen : v ≡ (world_of s).area d i
+  unfolding world_of
+  value_seen = c.copied ∙ ap (λ r. values r.inodes i) (sym (region_is s d (donor_number c.fills)))
 
-    pub refill_noted : AreNoted s → AreNoted w
-    refill_noted noted = record { once = noted.once; known = noted.known; noted = noted.noted }
+  node_refills : Refills (world_of s) s.members n i (world_of u) m
+  node_refills = record {
+    since = began;
+    donor = d;
+    stale = lacked;
+    stands = stands;
+    lowest = lowest_of (stale_of (standing_of (standings s) n)) lacked i (ap stale_of stands) c.lowest;
+    members = c.less;
+    rests =
+        rests_more (world_of s) (world_of t) (world_of u)
+        (inode_rests s n i v number (not_full s n (filled_away c.fills))) (members_rest t m as_many as_full);
+    area_here = members_areas t m n i ∙ inode_here s n i v number ∙ value_seen;
+    area_else = λ k j other. members_areas t m k j ∙ inode_else s n i v number k j other;
+  }
+
+  same_leases : leases_of u ≡ leases_of s
+  unfolding leases_of
+  same_leases = refl
+
+  refilled_so : IsRefilled (observed s) n (observed u)
+  unfolding observed
+  refilled_so = record { inode = i; refills = node_refills; leases = same_leases; adds = record { history = sym (append-nil s.history); limit = refl } }
+
+  happens_so : (count : ℕ) → option_map set.len (stale_of (standing_of m.nodes n)) ≡ Some count → Refilling (observed s) n (left count) (observed u)
+  unfolding observed
+  happens_so count some = is_refilled (filled_fine c.fills) (ap left (counted (stale_of (standing_of m.nodes n)) count some)) refilled_so
+
+  refill_happens : (count : ℕ) → option_map set.len (stale_of (standing_of m.nodes n)) ≡ Some count → Refilling (observed s) n (left count) (observed w)
+  refill_happens count some = subst (λ x. Refilling (observed s) n (left count) (observed x)) (sym same) (happens_so count some)
+
+  pub refill_answers : (r : Result ℕ Refusal) → IsOk r → IfOk r (λ count. option_map set.len (stale_of (standing_of m.nodes n)) ≡ Some count) →
+      Refilling (observed s) n (refilling_answer r) (observed w)
+  refill_answers (Ok count) ok some = refill_happens count some
+  refill_answers (Err e) ok some = absurd (true≢false (sym ok))
+
+  pub refill_shaped : IsShaped w
+  refill_shaped = subst IsShaped (sym same) (members_shaped t m (inode_shaped s n i v c.fills.shape number) as_many as_full)
+
+  pub refill_noted : AreNoted s → AreNoted w
+  refill_noted noted = record { once = noted.once; known = noted.known; noted = noted.noted }

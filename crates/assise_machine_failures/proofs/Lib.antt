@@ -2,6 +2,7 @@ pub mod Dropping
 pub mod Refusing
 pub mod ComingBack
 pub mod Filling
+pub mod Codes
 pub mod Settled
 pub mod TakenIn
 pub mod Crashed

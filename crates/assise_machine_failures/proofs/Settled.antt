@@ -1,6 +1,6 @@
 -- That a node is full again has one proof at most, where it is known how it stood.
-use Rattle.std.proofs.Common.{◌≡◌, ℕ, List, Some, None, inl, inr, ap, sym, ◌∙◌}
-use Rattle.std.specs.Coded.{Coded, Coded-set, coded_bool, coded_option, coded_ℕ, codes}
+use Rattle.std.proofs.Common.{◌≡◌, ℕ, Some, None, inl, inr, ap, sym, ◌∙◌}
+use Rattle.std.specs.Coded.{Coded-set, coded_bool, coded_option, coded_ℕ}
 use Rattle.std.specs.Ordering.{nat_cmp}
 use Rattle.std.specs.FinSet as set
 use Rattle.std.proofs.Math.Logic.{∥∥₁_elim}
@@ -8,19 +8,12 @@ use Rattle.std.proofs.Props.{props}
 use Rattle.std.proofs.lemmas.Bool.{cases_eq}
 use Rattle.std.proofs.lemmas.Option.{same_Some}
 use Rattle.assise_inode_table.specs.Contents.{coded_content}
-use Rattle.assise_inode_table.specs.Traces.{NumberedCall}
-use Rattle.assise_record.specs.LogRecord.{LogRecord}
 use Rattle.assise_manager.specs.Changes.{donor_of, join_fault, joined}
 use Rattle.assise_manager.specs.Membership.{Membership}
 use Rattle.assise_manager.specs.Standings.{returning, standing_of}
 use Rattle.assise_machine_laws.specs.World.{World}
 use Rattle.assise_machine_returns.specs.Returns.{Rejoins}
-
-coded_records : Coded (List LogRecord)
-coded_records = hlevel codes
-
-coded_calls : Coded (List NumberedCall)
-coded_calls = hlevel codes
+use Rattle.assise_machine_failures.proofs.Codes.{coded_calls, coded_records}
 
 module _ (w w' : World) (m m' : Membership) (n since donor : ℕ) (stale : set.FinSet nat_cmp) (some : ∥ Rejoins w m n w' m' ∥₁)
     (stands : standing_of m.nodes n ≡ Some (returning since donor stale)) (fine : join_fault m n ≡ None) (members : m' ≡ joined m n) where

@@ -12,8 +12,8 @@ use Rattle.assise_names.specs.declared.refusal.Refusal.{Refusal}
 use Rattle.assise_names.specs.declared.refusal.Refusal.TheVariants.{Busy, OutOfMemory}
 use Rattle.assise_history.specs.Entries.{Event, returns}
 use Rattle.assise_digest.specs.Region.{RegionValue}
-use Rattle.assise_manager.specs.Changes.{IsLowestOf, donor_of, filling_fault, filling_fault_of, join_fault, join_fault_of, joined as joined_members, stale_of}
-use Rattle.assise_manager.specs.Membership.{IsMembership, Membership}
+use Rattle.assise_manager.specs.Changes.{IsLowestOf, filling_fault, filling_fault_of, join_fault, join_fault_of, joined as joined_members, stale_of}
+use Rattle.assise_manager.specs.Membership.{Membership}
 use Rattle.assise_manager.specs.Standings.{Standing, down, full, returning, standing_of}
 use Rattle.assise_machine_events.specs.Events.{Answer, joined, refused}
 use Rattle.assise_machine_events.specs.Machine.{Holds}
@@ -27,14 +27,15 @@ use Rattle.assise_machine_state.specs.Places.{IsNumber}
 use Rattle.assise_machine_state.specs.Shape.{AreNoted, IsShaped}
 use Rattle.assise_machine_state.specs.StateValues.{StateValue, leases_of, standings}
 use Rattle.assise_machine_state.proofs.Returning.{join_shaped, node_rejoins}
-use Rattle.assise_machine_failures.proofs.Filling.{filled_from, filled_stands}
+use Rattle.assise_machine_failures.proofs.Filling.{IsFilledFrom, filled_from, filled_stands}
 use Rattle.assise_machine_failures.proofs.Refusing.{IsFaultOr}
 use Rattle.assise_machine_failures.proofs.Settled.{settled}
 
 -- ---- the state is as it was
 
-pub same_all : (s : StateValue) (rs : List RegionValue) (m : Membership) (h : List Event) → rs ≡ s.nodes → m ≡ s.members → h ≡ s.history → record s { nodes = rs; members = m; history = h } ≡ s
-same_all s rs m h nodes members history = (λ i. record s { nodes = nodes i; members = members i; history = history i })
+pub same_all : (s : StateValue) {rs : List RegionValue} {m : Membership} {h : List Event} → rs ≡ s.nodes → m ≡ s.members → h ≡ s.history →
+    record s { nodes = rs; members = m; history = h } ≡ s
+same_all s nodes members history = (λ i. record s { nodes = nodes i; members = members i; history = history i })
 
 -- logs that a node got go again
 logs_gone : (rs : List RegionValue) (n d : ℕ) → IsNumber rs n → (region_in rs n).logs ≡ [] → without_logs (with_logs_of rs n d) n ≡ rs
@@ -98,24 +99,30 @@ module _ (s : StateValue) (n : ℕ) where
   join_fine None low none = no_fault (standing_of (standings s) n) low
   join_fine (Some i) low none = absurd (true≢false none)
 
-  pub join_lacks : (rs : List RegionValue) (m : Membership) (h : List Event) (e : Refusal) (a : Answer) → join_fault s.members n ≡ None → rs ≡ s.nodes → m ≡ s.members → h ≡ s.history → a ≡ refused e → e ≡ OutOfMemory →
-      Joining (observed s) n a (observed (record s { nodes = rs; members = m; history = h }))
+  pub join_lacks : (t : StateValue) (a : Answer) → join_fault s.members n ≡ None → t ≡ s → a ≡ refused OutOfMemory → Joining (observed s) n a (observed t)
   unfolding observed
-  join_lacks rs m h e a fine nodes members history is memory = lacks_memory fine (is ∙ ap refused memory) (ap observed (same_all s rs m h nodes members history))
+  join_lacks t a fine same is = lacks_memory fine is (ap observed same)
 
 -- ---- it is full again
 
-module _ (s : StateValue) (n d : ℕ) (holds : ∥ Holds (observed s) ∥₁) (shape : IsShaped s) (lawful : IsMembership s.members) (from : donor_of (standing_of (standings s) n) ≡ Some d)
-    (fine : join_fault s.members n ≡ None) (rs : List RegionValue) (m : Membership) (h : List Event) (nodes : rs ≡ with_logs_of s.nodes n d) (members : m ≡ joined_members s.members n)
-    (history : h ≡ s.history ++ returns n ∷ []) where
+-- the nodes, the membership and the history once node n is full again, with the logs of node d
+pub record IsTakenIn (s : StateValue) (n d : ℕ) (rs : List RegionValue) (m : Membership) (h : List Event) : Type 0 where
+  pub holds : ∥ Holds (observed s) ∥₁
+  pub fills : IsFilledFrom s n d
+  pub fine : join_fault s.members n ≡ None
+  pub nodes : rs ≡ with_logs_of s.nodes n d
+  pub members : m ≡ joined_members s.members n
+  pub history : h ≡ s.history ++ returns n ∷ []
+
+module _ {s : StateValue} {n d : ℕ} {rs : List RegionValue} {m : Membership} {h : List Event} (taken : IsTakenIn s n d rs m h) where
   abbrev since : ℕ
-  since = (filled_stands (standing_of (standings s) n) d from).0
+  since = (filled_stands (standing_of (standings s) n) d taken.fills.from).0
 
   abbrev stale : set.FinSet nat_cmp
-  stale = (filled_stands (standing_of (standings s) n) d from).1.0
+  stale = (filled_stands (standing_of (standings s) n) d taken.fills.from).1.0
 
   stands : standing_of (standings s) n ≡ Some (returning since d stale)
-  stands = filled_from s n d shape lawful from
+  stands = filled_from taken.fills
 
   abbrev t : StateValue
   t = after_join s n d
@@ -124,12 +131,13 @@ module _ (s : StateValue) (n d : ℕ) (holds : ∥ Holds (observed s) ∥₁) (s
   w = record s { nodes = rs; members = m; history = h }
 
   same : w ≡ t
-  same = (λ i. record s { nodes = nodes i; members = members i; history = history i })
+  same = (λ i. record s { nodes = taken.nodes i; members = taken.members i; history = taken.history i })
 
   rejoins : Rejoins (world_of s) s.members n (world_of t) t.members
   unfolding observed
   rejoins =
-      settled (world_of s) (world_of t) s.members t.members n since d stale (∥∥₁_map holds (λ h. node_rejoins s n since d stale shape lawful stands h.sound fine)) stands fine refl
+      settled (world_of s) (world_of t) s.members t.members n since d stale
+      (∥∥₁_map taken.holds (λ h. node_rejoins s n since d stale taken.fills.shape taken.fills.lawful stands h.sound taken.fine)) stands taken.fine refl
 
   same_leases : leases_of t ≡ leases_of s
   unfolding leases_of
@@ -141,13 +149,13 @@ module _ (s : StateValue) (n d : ℕ) (holds : ∥ Holds (observed s) ∥₁) (s
 
   happens_so : Joining (observed s) n joined (observed t)
   unfolding observed
-  happens_so = is_joined fine refl joined_so
+  happens_so = is_joined taken.fine refl joined_so
 
   pub join_happens : Joining (observed s) n joined (observed w)
   join_happens = subst (λ x. Joining (observed s) n joined (observed x)) (sym same) happens_so
 
   pub join_left : IsShaped w
-  join_left = subst IsShaped (sym same) (join_shaped s n since d stale shape lawful stands)
+  join_left = subst IsShaped (sym same) (join_shaped s n since d stale taken.fills.shape taken.fills.lawful stands)
 
   pub join_noted : AreNoted s → AreNoted w
   join_noted noted = record { once = noted.once; known = noted.known; noted = noted.noted }

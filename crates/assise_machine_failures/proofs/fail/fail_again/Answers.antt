@@ -5,9 +5,10 @@ use Rattle.assise_manager.specs.Whole.{membership}
 use Rattle.assise_machine_events.specs.Events.{refused}
 use Rattle.assise_machine_state.specs.Whole.{value_of}
 use Rattle.assise_machine_failures.specs.Answers.{failing_answer, loss_of}
-use Rattle.assise_machine_failures.proofs.FailedAgain.{back_fine, happens_again, holds_again, noted_again, shaped_again}
+use Rattle.assise_machine_failures.proofs.FailedAgain.{IsDownAgain, back_fine, happens_again, holds_again, noted_again, shaped_again}
 use Rattle.assise_machine_failures.proofs.FailedFull.{lacks_so}
 use Rattle.assise_machine_failures.proofs.TakenIn.{epoch_fits}
+use Rattle.assise_machine_failures.proofs.fail.fail_again.Given as given
 use Rattle.assise_machine_failures.proofs.fail.fail_again.Goals as goal
 
 pub returns-in_err-reserve-clause-happens : goal.returns-in_err-reserve-clause-happens
@@ -24,19 +25,24 @@ fail-requires g c =
     let few : length s.history < 9223372036854775808 = omega (arith, so_many, c.entries-entries.type_inv.1) in
     record { epoch_fits = epoch_fits s c.args.sound.now.holds few }
 
+-- the node is down again
+down_again : (g : given.Over) (c : goal.After-push g) →
+    IsDownAgain (value_of c.args.sound.now.state) c.args.node (membership c.fail.new.self) c.push.new.self.events
+down_again g c = record {
+  was = record {
+    holds = c.args.sound.now.holds;
+    shape = c.args.sound.now.shape;
+    noted = c.args.sound.now.noted;
+    returning = c.requires.returning;
+  };
+  members = c.in_ok-fail.ensures.ok;
+  told = c.push.ensures.grown ∙ (λ i. c.reserve.ensures.same i ++ (c.fail-2.ensures ∙ ap (fails c.args.node) c.new.ensures.items) i ∷ []);
+}
+
 pub invariant_of-sound-2 : goal.invariant_of-sound-2
 invariant_of-sound-2 g c =
-    let s = value_of c.args.sound.now.state in
-    let told = c.push.ensures.grown ∙ (λ i. c.reserve.ensures.same i ++ (c.fail-2.ensures ∙ ap (fails c.args.node) c.new.ensures.items) i ∷ []) in
-    record {
-      holds = holds_again s c.args.node c.args.sound.now.holds c.args.sound.now.shape c.args.sound.now.noted c.requires.returning (membership c.fail.new.self) c.push.new.self.events c.in_ok-fail.ensures.ok told;
-      shape = shaped_again s c.args.node c.args.sound.now.holds c.args.sound.now.shape c.args.sound.now.noted c.requires.returning (membership c.fail.new.self) c.push.new.self.events c.in_ok-fail.ensures.ok told;
-      noted = noted_again s c.args.node c.args.sound.now.holds c.args.sound.now.shape c.args.sound.now.noted c.requires.returning (membership c.fail.new.self) c.push.new.self.events c.in_ok-fail.ensures.ok told;
-    }
+    let down = down_again g c in
+    record { holds = holds_again down; shape = shaped_again down; noted = noted_again down }
 
 pub returns-clause-happens : goal.returns-clause-happens
-returns-clause-happens g c =
-    let s = value_of c.args.sound.now.state in
-    let told = c.push.ensures.grown ∙ (λ i. c.reserve.ensures.same i ++ (c.fail-2.ensures ∙ ap (fails c.args.node) c.new.ensures.items) i ∷ []) in
-    happens_again s c.args.node c.args.sound.now.holds c.args.sound.now.shape c.args.sound.now.noted c.requires.returning (membership c.fail.new.self) c.push.new.self.events c.in_ok-fail.ensures.ok told
-    (map loss_of c.new-2.result.items) (ap (map loss_of) c.new-2.ensures.items)
+returns-clause-happens g c = happens_again (down_again g c.before.before) (map loss_of c.new-2.result.items) (ap (map loss_of) c.new-2.ensures.items)

@@ -1,21 +1,20 @@
 use Rattle.std.proofs.Common.{◌≡◌, ℕ, ◌<◌, ◌++◌, ◌∷◌, [], length, ap, refl, subst, sym, ◌∙◌, arith}
 use Rattle.std.proofs.Math.Logic.{∥∥₁_map}
 use Rattle.std.proofs.lemmas.Result.{err_from_is_err_and}
-use Rattle.assise_history.specs.Entries.{returns}
 use Rattle.assise_manager.specs.Changes.{filling_fault}
 use Rattle.assise_manager.specs.Whole.{membership}
 use Rattle.assise_machine_events.specs.Events.{join as join_event, joined, refused}
 use Rattle.assise_machine_events.specs.Machine.{Holds}
-use Rattle.assise_machine_events.specs.MemberEvents.{Joining}
 use Rattle.assise_machine_events.proofs.EachEvent.{event_keeps}
 use Rattle.assise_machine_state.specs.Observed.{observed}
 use Rattle.assise_machine_state.specs.Shape.{AreNoted, IsShaped}
 use Rattle.assise_machine_state.specs.StateValues.{StateValue}
 use Rattle.assise_machine_state.specs.Whole.{value_of}
 use Rattle.assise_machine_failures.specs.Answers.{joining_answer}
-use Rattle.assise_machine_failures.proofs.Filling.{donor_number, filled_logless, filled_number}
+use Rattle.assise_machine_failures.proofs.Filling.{donor_number, filled_logless, filled_number, filling}
 use Rattle.assise_machine_failures.proofs.Refusing.{fault_or, never}
-use Rattle.assise_machine_failures.proofs.TakenIn.{epoch_fits, got_number, join_busy, join_fine, join_happens, join_lacks, join_left, join_noted, join_refused, logs_back, same_all}
+use Rattle.assise_machine_failures.proofs.TakenIn.{IsTakenIn, epoch_fits, got_number, join_busy, join_fine, join_happens}
+use Rattle.assise_machine_failures.proofs.TakenIn.{join_lacks, join_left, join_noted, join_refused, logs_back, same_all}
 use Rattle.assise_machine_failures.proofs.join.join.Given as given
 use Rattle.assise_machine_failures.proofs.join.join.Goals as goal
 
@@ -24,7 +23,8 @@ returns-in_err-donor-clause-happens g c =
     let s = value_of c.args.sound.now.state in
     let error = err_from_is_err_and c.from_residual.result c.from_residual.ensures.1 in
     join_refused s c.args.node c.in_err-donor.field-0.0 (joining_answer c.from_residual.result) (ap joining_answer error.1 ∙ ap refused error.2)
-    (fault_or {X = ℕ} (filling_fault s.members c.args.node) c.in_err-donor.field-0.0 c.in_err-donor.ensures.fault (λ fine. absurd (never c.in_err-donor.ensures.ok.1 fine))) (never c.in_err-donor.ensures.ok.1)
+    (fault_or {X = ℕ} (filling_fault s.members c.args.node) c.in_err-donor.field-0.0 c.in_err-donor.ensures.fault
+    (λ fine. absurd (never c.in_err-donor.ensures.ok.1 fine))) (never c.in_err-donor.ensures.ok.1)
 
 pub returns-then-is_some-clause-happens : goal.returns-then-is_some-clause-happens
 returns-then-is_some-clause-happens g c =
@@ -35,25 +35,26 @@ returns-in_err-reserve-clause-happens g c =
     let s = value_of c.args.sound.now.state in
     let error = err_from_is_err_and c.from_residual-in_err-reserve.result c.from_residual-in_err-reserve.ensures.1 in
     let fine = join_fine s c.args.node _ c.in_ok-lowest_stale.ensures.lowest (sym c.is_some.ensures ∙ c.if-is_some.false) in
-    join_lacks s c.args.node s.nodes s.members c.reserve.new.self.events c.in_err-reserve.field-0.0 (joining_answer c.from_residual-in_err-reserve.result) fine refl refl c.reserve.ensures.same
-    (ap joining_answer error.1 ∙ ap refused error.2) c.in_err-reserve.ensures.only_memory
+    join_lacks s c.args.node _ (joining_answer c.from_residual-in_err-reserve.result) fine (λ i. record s { history = c.reserve.ensures.same i })
+    (ap joining_answer error.1 ∙ ap refused (error.2 ∙ c.in_err-reserve.ensures.only_memory))
 
 pub copy_logs-requires-clause-node : goal.copy_logs-requires-clause-node
-copy_logs-requires-clause-node g c = filled_number (value_of c.args.sound.now.state) c.args.node c.in_ok-donor.donor c.args.sound.now.shape c.args.sound.now.state.members.lawful c.in_ok-donor.ensures.donor
+copy_logs-requires-clause-node g c = filled_number (filling c.args.sound.now c.args.node c.in_ok-donor.donor c.in_ok-donor.ensures.donor)
 
 pub copy_logs-requires-clause-donor : goal.copy_logs-requires-clause-donor
-copy_logs-requires-clause-donor g c = donor_number (value_of c.args.sound.now.state) c.args.node c.in_ok-donor.donor c.args.sound.now.shape c.args.sound.now.state.members.lawful c.in_ok-donor.ensures.donor
+copy_logs-requires-clause-donor g c = donor_number (filling c.args.sound.now c.args.node c.in_ok-donor.donor c.in_ok-donor.ensures.donor)
 
 pub copy_logs-requires-clause-none : goal.copy_logs-requires-clause-none
-copy_logs-requires-clause-none g c = filled_logless (value_of c.args.sound.now.state) c.args.node c.in_ok-donor.donor c.args.sound.now.shape c.args.sound.now.state.members.lawful c.in_ok-donor.ensures.donor
+copy_logs-requires-clause-none g c = filled_logless (filling c.args.sound.now c.args.node c.in_ok-donor.donor c.in_ok-donor.ensures.donor)
 
 pub returns-in_err-copy_logs-clause-happens : goal.returns-in_err-copy_logs-clause-happens
 returns-in_err-copy_logs-clause-happens g c =
     let s = value_of c.args.sound.now.state in
     let error = err_from_is_err_and c.from_residual-in_err-copy_logs.result c.from_residual-in_err-copy_logs.ensures.1 in
     let fine = join_fine s c.args.node _ c.in_ok-lowest_stale.ensures.lowest (sym c.is_some.ensures ∙ c.if-is_some.false) in
-    join_lacks s c.args.node c.copy_logs.new.self s.members c.reserve.new.self.events c.in_err-copy_logs.field-0.0 (joining_answer c.from_residual-in_err-copy_logs.result) fine
-    c.in_err-copy_logs.ensures.err refl c.reserve.ensures.same (ap joining_answer error.1 ∙ ap refused error.2) c.in_err-copy_logs.ensures.only_memory
+    join_lacks s c.args.node _ (joining_answer c.from_residual-in_err-copy_logs.result) fine
+    (same_all s c.in_err-copy_logs.ensures.err refl c.reserve.ensures.same)
+    (ap joining_answer error.1 ∙ ap refused (error.2 ∙ c.in_err-copy_logs.ensures.only_memory))
 
 pub join-requires : goal.join-requires
 join-requires g c =
@@ -64,20 +65,19 @@ join-requires g c =
 
 pub remove_logs-requires : goal.remove_logs-requires
 remove_logs-requires g c =
-    let there = filled_number (value_of c.args.sound.now.state) c.args.node c.in_ok-donor.donor c.args.sound.now.shape c.args.sound.now.state.members.lawful c.in_ok-donor.ensures.donor in
+    let there = filled_number (filling c.args.sound.now c.args.node c.in_ok-donor.donor c.in_ok-donor.ensures.donor) in
     record { node = got_number c.args.sound.now.state.nodes c.copy_logs.new.self c.args.node c.in_ok-donor.donor there c.in_ok-copy_logs.ensures.ok }
 
 back_again : (g : given.Over) (c : goal.After-remove_logs g) → c.remove_logs.new.self ≡ c.args.sound.now.state.nodes
 back_again g c =
-    let s = value_of c.args.sound.now.state in
-    let lawful = c.args.sound.now.state.members.lawful in
-    logs_back s.nodes c.copy_logs.new.self c.remove_logs.new.self c.args.node c.in_ok-donor.donor (filled_number s c.args.node c.in_ok-donor.donor c.args.sound.now.shape lawful c.in_ok-donor.ensures.donor)
-    (filled_logless s c.args.node c.in_ok-donor.donor c.args.sound.now.shape lawful c.in_ok-donor.ensures.donor) c.in_ok-copy_logs.ensures.ok c.remove_logs.ensures
+    let fills = filling c.args.sound.now c.args.node c.in_ok-donor.donor c.in_ok-donor.ensures.donor in
+    logs_back c.args.sound.now.state.nodes c.copy_logs.new.self c.remove_logs.new.self c.args.node c.in_ok-donor.donor
+    (filled_number fills) (filled_logless fills) c.in_ok-copy_logs.ensures.ok c.remove_logs.ensures
 
 pub invariant_of-sound-in-Err : goal.invariant_of-sound-in-Err
 invariant_of-sound-in-Err g c =
     let s = value_of c.args.sound.now.state in
-    let same = same_all s c.remove_logs.new.self (membership c.join.new.self) c.reserve.new.self.events (back_again g c) c.in-Err.ensures.err c.reserve.ensures.same in
+    let same = same_all s (back_again g c) c.in-Err.ensures.err c.reserve.ensures.same in
     record {
       holds = subst (λ u. ∥ Holds (observed u) ∥₁) (sym same) c.args.sound.now.holds;
       shape = subst IsShaped (sym same) c.args.sound.now.shape;
@@ -88,33 +88,31 @@ pub returns-in-Err-clause-happens : goal.returns-in-Err-clause-happens
 returns-in-Err-clause-happens g c =
     let s = value_of c.args.sound.now.state in
     let fine = join_fine s c.args.node _ c.in_ok-lowest_stale.ensures.lowest (sym c.is_some.ensures ∙ c.if-is_some.false) in
-    join_lacks s c.args.node c.remove_logs.new.self (membership c.join.new.self) c.reserve.new.self.events c.in-Err.refusal (refused c.in-Err.refusal) fine
-    (back_again g c.before) c.in-Err.ensures.err c.reserve.ensures.same refl (c.in-Err.ensures.only_memory fine)
+    join_lacks s c.args.node _ (refused c.in-Err.refusal) fine (same_all s (back_again g c.before) c.in-Err.ensures.err c.reserve.ensures.same)
+    (ap refused (c.in-Err.ensures.only_memory fine))
 
-told_now : (g : given.Over) (c : goal.After-push g) → c.push.new.self.events ≡ (value_of c.args.sound.now.state).history ++ returns c.args.node ∷ []
-told_now g c = c.push.ensures.grown ∙ (λ i. c.reserve.ensures.same i ++ c.node_return.ensures i ∷ [])
-
-happens_now : (g : given.Over) (c : goal.After-push g) → Joining (observed (value_of c.args.sound.now.state)) c.args.node joined
-    (observed (record (value_of c.args.sound.now.state) { nodes = c.copy_logs.new.self; members = membership c.join.new.self; history = c.push.new.self.events }))
-happens_now g c =
-    let s = value_of c.args.sound.now.state in
-    let fine = join_fine s c.args.node _ c.in_ok-lowest_stale.ensures.lowest (sym c.is_some.ensures ∙ c.if-is_some.false) in
-    join_happens s c.args.node c.in_ok-donor.donor c.args.sound.now.holds c.args.sound.now.shape c.args.sound.now.state.members.lawful c.in_ok-donor.ensures.donor fine
-    c.copy_logs.new.self (membership c.join.new.self) c.push.new.self.events c.in_ok-copy_logs.ensures.ok c.in_default.ensures.ok (told_now g c)
+-- the node is full again
+taken_in : (g : given.Over) (c : goal.After-push g) →
+    IsTakenIn (value_of c.args.sound.now.state) c.args.node c.in_ok-donor.donor c.copy_logs.new.self (membership c.join.new.self) c.push.new.self.events
+taken_in g c = record {
+  holds = c.args.sound.now.holds;
+  fills = filling c.args.sound.now c.args.node c.in_ok-donor.donor c.in_ok-donor.ensures.donor;
+  fine = join_fine (value_of c.args.sound.now.state) c.args.node _ c.in_ok-lowest_stale.ensures.lowest (sym c.is_some.ensures ∙ c.if-is_some.false);
+  nodes = c.in_ok-copy_logs.ensures.ok;
+  members = c.in_default.ensures.ok;
+  history = c.push.ensures.grown ∙ (λ i. c.reserve.ensures.same i ++ c.node_return.ensures i ∷ []);
+}
 
 pub invariant_of-sound-2 : goal.invariant_of-sound-2
 invariant_of-sound-2 g c =
     let s = value_of c.args.sound.now.state in
-    let m = membership c.join.new.self in
-    let u : StateValue = record s { nodes = c.copy_logs.new.self; members = m; history = c.push.new.self.events } in
-    let fine = join_fine s c.args.node _ c.in_ok-lowest_stale.ensures.lowest (sym c.is_some.ensures ∙ c.if-is_some.false) in
+    let u : StateValue = record s { nodes = c.copy_logs.new.self; members = membership c.join.new.self; history = c.push.new.self.events } in
+    let taken = taken_in g c in
     record {
-      holds = ∥∥₁_map c.args.sound.now.holds (λ h. event_keeps (observed s) (observed u) (join_event c.args.node) joined h (happens_now g c));
-      shape = join_left s c.args.node c.in_ok-donor.donor c.args.sound.now.holds c.args.sound.now.shape c.args.sound.now.state.members.lawful c.in_ok-donor.ensures.donor fine
-          c.copy_logs.new.self m c.push.new.self.events c.in_ok-copy_logs.ensures.ok c.in_default.ensures.ok (told_now g c);
-      noted = join_noted s c.args.node c.in_ok-donor.donor c.args.sound.now.holds c.args.sound.now.shape c.args.sound.now.state.members.lawful c.in_ok-donor.ensures.donor fine
-          c.copy_logs.new.self m c.push.new.self.events c.in_ok-copy_logs.ensures.ok c.in_default.ensures.ok (told_now g c) c.args.sound.now.noted;
+      holds = ∥∥₁_map c.args.sound.now.holds (λ h. event_keeps (observed s) (observed u) (join_event c.args.node) joined h (join_happens taken));
+      shape = join_left taken;
+      noted = join_noted taken c.args.sound.now.noted;
     }
 
 pub returns-clause-happens : goal.returns-clause-happens
-returns-clause-happens g c = happens_now g c.before
+returns-clause-happens g c = join_happens (taken_in g c.before)
