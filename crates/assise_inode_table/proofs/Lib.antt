@@ -31,7 +31,6 @@ pub mod Unlinking
 pub mod Freeing
 pub mod Moving
 pub mod Displacing
-pub mod Inserting
 pub mod RenamingCalls
 pub mod CallEnds
 pub mod AtOpening

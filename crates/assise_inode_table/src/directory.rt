@@ -118,14 +118,12 @@ impl Directory {
     }
 
     /// An equal value, or [`Refusal::OutOfMemory`].
-    pub fn copy(&self, alloc: Global) -> Result<Directory, Refusal>
+    pub fn copy(&self) -> Result<Directory, Refusal>
         ensures equal { IfOk result (λ copied. copied ≡ self.now) }
         ensures only_memory { IsOkUnless result OutOfMemory }
     {
-        let mut copied = Directory::new(alloc);
-        for (name, inode) in &self.links {
-            copied.insert(name.copy(alloc)?, *inode)?;
-        }
-        Ok(copied)
+        Ok(Directory {
+            links: self.links.clone()?,
+        })
     }
 }

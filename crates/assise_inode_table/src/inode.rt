@@ -125,7 +125,7 @@ impl Inode {
     {
         let kind = match &self.kind {
             Kind::File(bytes) => Kind::File(bytes.copy(alloc)?),
-            Kind::Directory(links) => Kind::Directory(links.copy(alloc)?),
+            Kind::Directory(links) => Kind::Directory(links.copy()?),
         };
         Ok(Inode { kind })
     }
