@@ -13,7 +13,7 @@ ghost use Rattle.assise_names.specs.declared.refusal.Refusal.TheVariants.{OutOfM
 
 use crate::path::PathFault;
 use crate::refusal::Refusal;
-use std::alloc::Global;
+use std::alloc::{AllocError, Global};
 use std::cmp::Ordering;
 use std::fmt;
 use std::fmt::{Display, Formatter};
@@ -80,6 +80,16 @@ impl Name {
     {
         Ok(Name {
             text: String::from_str(alloc, self.text.as_str())?,
+        })
+    }
+}
+
+impl Clone for Name {
+    ghost is_clone = { λ name cloned. cloned ≡ name };
+
+    fn clone(&self) -> Result<Name, AllocError> {
+        Ok(Name {
+            text: self.text.clone()?,
         })
     }
 }
