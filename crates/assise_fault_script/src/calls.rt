@@ -68,7 +68,7 @@ fn checked_path(alloc: Global, word: &str) -> Result<Path, ScriptFault>
     ensures spelled { IfOk result (λ path. path_word word.now ≡ Ok path) }
     ensures only_memory { IsOkUnless result ScriptFault.Memory }
 {
-    match Path::parse(alloc, word) {
+    match Path::of_text(alloc, word) {
         Ok(path) => Ok(path),
         Err(_) => Err(ScriptFault::Memory),
     }

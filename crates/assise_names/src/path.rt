@@ -109,6 +109,21 @@ impl Path {
         path_of(alloc, text)
     }
 
+    /// The path that a text spells which spells one: [`Path::parse`] without another look for faults. The one refusal
+    /// is [`Refusal::OutOfMemory`], and the root takes no memory.
+    pub fn of_text(alloc: Global, text: &str) -> Result<Path, Refusal>
+        requires { IsOk (path_of text.now) }
+        ensures path { IfOk result (λ path. path_of text.now ≡ Ok path) }
+        ensures root { text.now ≡ spelling [] → IsOk result }
+        ensures only_memory { IsOkUnless result OutOfMemory }
+    {
+        let rest = text.strip_prefix('/').unwrap_or("");
+        match names_of(alloc, rest) {
+            Ok(names) => Ok(Path { names }),
+            Err(_) => Err(Refusal::OutOfMemory),
+        }
+    }
+
     /// Whether a text spells a path, or its first fault. It takes no memory.
     pub fn check(text: &str) -> Result<(), PathFault>
         ensures spells { IsOk result ↔ IsOk (path_of text.now) }
