@@ -3,14 +3,12 @@ ghost use Rattle.std.specs.Prelude.{◌<◌, ◌≤◌};
 
 use assise_fault_script::command::RevokerKind;
 use assise_lease_table::revoker::Revoker;
-use assise_machine_calls::fsync::try_fsync;
 use assise_machine_calls::opening::open;
-use assise_machine_calls::turn::Turn;
 use assise_machine_state::sound::Sound;
 use assise_names::refusal::Refusal;
 use assise_private_log::log_view::LogView;
 use assise_revokers::kinds::{eights, least, whole};
-use std::alloc::{AllocError, Global};
+use std::alloc::Global;
 
 type Cut = Box<dyn Fn(&LogView, u64) -> u64 + Send>;
 
@@ -55,22 +53,4 @@ fn open_with(
     revoker: Revoker,
 ) -> Result<u32, Refusal> {
     open(alloc, sound, node, revoker).map_err(|refused| refused.0)
-}
-
-/// What an fsync of a client came to, as text.
-pub(crate) fn fsync_of(
-    alloc: Global,
-    sound: &mut Sound,
-    client: u32,
-) -> Result<String, AllocError> {
-    match try_fsync(sound, client) {
-        Ok(Turn::Answered(reply)) => format!(in alloc; "{reply}"),
-        Ok(Turn::NotYet) => format!(in alloc; "not yet"),
-        Err(refusal) => format!(in alloc; "{refusal}"),
-    }
-}
-
-/// The history, as text.
-pub(crate) fn history_of(alloc: Global, sound: &Sound) -> Result<String, AllocError> {
-    format!(in alloc; "{}", sound.history())
 }

@@ -16,11 +16,7 @@ mod leases_elsewhere;
 #[cfg(test)]
 mod opening;
 #[cfg(test)]
-mod reading;
-#[cfg(test)]
 mod refusals;
-#[cfg(test)]
-mod refused;
 #[cfg(test)]
 mod refused_calls;
 #[cfg(test)]

@@ -1,52 +1,74 @@
-// Clients that are opened.
-use crate::cluster::{cluster, history_of, open_on};
-use assise_machine_calls::faults::open_refusal;
-use assise_names::refusal::Refusal;
+// Clients that are opened, and what is asked of a state in which they were.
+use crate::rows::show;
+
+/// Clients have rising numbers, on whichever node.
+const NUMBERS: &str = "\
+open 2 least => client 1
+open 1 least => client 2
+open 2 least => client 3
+history => open 1 2; open 2 1; open 3 2
+";
+
+/// A client has a log without records at each node.
+const LOGS: &str = "\
+clients at 1 => 0
+open 2 least => client 1
+clients at 1 => 1
+clients at 2 => 1
+clients at 3 => 1
+clients at 4 => F8 BadNode
+acked 1 => 0
+acked 2 => F9 BadClient
+client 1 => at 2, calls 0, made 0, goal 0, end 0, acked 0, digested 0
+";
+
+/// A client finds what its node has, and has no lease of it.
+const FOUND: &str = "\
+open 2 least => client 1
+inode 0 for 1 => dir 0
+inode 7 for 1 => none
+leases 0 => nobody
+";
+
+/// Sixteen clients are as many as there may be. The node is looked at first.
+const SEVENTEEN: &str = "\
+open 1 least => client 1
+open 1 least => client 2
+open 1 least => client 3
+open 1 least => client 4
+open 1 least => client 5
+open 1 least => client 6
+open 1 least => client 7
+open 1 least => client 8
+open 1 least => client 9
+open 1 least => client 10
+open 1 least => client 11
+open 1 least => client 12
+open 1 least => client 13
+open 1 least => client 14
+open 1 least => client 15
+open 1 least => client 16
+open 1 least => F9 BadClient
+open 2 least => F8 BadNode
+clients at 1 => 16
+";
 
 #[test]
 fn clients_have_rising_numbers(rt: HostRuntime) {
-    let mut sound = cluster(rt.alloc(), 2).expect(&rt, "no memory");
-    for (client, node) in [(1, 2), (2, 1), (3, 2)] {
-        let opened = open_on(rt.alloc(), &mut sound, node);
-        assert_eq!(rt; opened, Ok(client));
-    }
-    let history = history_of(rt.alloc(), &sound).expect(&rt, "no memory");
-    assert_eq!(rt; history.as_str(), "history 3\nopen 1 2\nopen 2 1\nopen 3 2");
+    show(rt.alloc(), &rt, 2, &[NUMBERS]);
 }
 
 #[test]
 fn a_client_has_a_log_at_each_node(rt: HostRuntime) {
-    let mut sound = cluster(rt.alloc(), 3).expect(&rt, "no memory");
-    let opened = open_on(rt.alloc(), &mut sound, 2);
-    assert_eq!(rt; opened, Ok(1));
-    for node in [1, 2, 3] {
-        let region = sound.region(node).expect(&rt, "a full node");
-        assert_eq!(rt; region.clients(), 1);
-    }
-    assert_eq!(rt; sound.acked(1), Ok(0));
-    assert_eq!(rt; sound.acked(2), Err(Refusal::BadClient));
+    show(rt.alloc(), &rt, 3, &[LOGS]);
 }
 
 #[test]
-fn a_node_that_is_not_there_has_no_clients(rt: HostRuntime) {
-    let mut sound = cluster(rt.alloc(), 2).expect(&rt, "no memory");
-    for node in [0, 3] {
-        let opened = open_on(rt.alloc(), &mut sound, node);
-        assert_eq!(rt; opened, Err(Refusal::BadNode));
-    }
-    let history = history_of(rt.alloc(), &sound).expect(&rt, "no memory");
-    assert_eq!(rt; history.as_str(), "history 0");
+fn a_client_finds_the_root(rt: HostRuntime) {
+    show(rt.alloc(), &rt, 2, &[FOUND]);
 }
 
 #[test]
 fn the_seventeenth_client_is_refused(rt: HostRuntime) {
-    let mut sound = cluster(rt.alloc(), 1).expect(&rt, "no memory");
-    for client in 1..17 {
-        let opened = open_on(rt.alloc(), &mut sound, 1);
-        assert_eq!(rt; opened, Ok(client));
-    }
-    assert_eq!(rt; open_refusal(&sound.state, 1), Some(Refusal::BadClient));
-    assert_eq!(rt; open_refusal(&sound.state, 2), Some(Refusal::BadNode));
-    let opened = open_on(rt.alloc(), &mut sound, 1);
-    assert_eq!(rt; opened, Err(Refusal::BadClient));
+    show(rt.alloc(), &rt, 1, &[SEVENTEEN]);
 }

@@ -20,8 +20,12 @@ fn ends_alike(alloc: Global, nodes: u32, rows: &str) -> Result<bool, Refusal>
     requires few { nodes ≤ 8 }
 {
     let mut sound = cluster(alloc, nodes)?;
+    are_right(alloc, &mut sound, rows)
+}
+
+fn are_right(alloc: Global, sound: &mut Sound, rows: &str) -> Result<bool, Refusal> {
     for row in rows.lines() {
-        if !is_right(alloc, &mut sound, row)? {
+        if !is_right(alloc, sound, row)? {
             return Ok(false);
         }
     }

@@ -1,6 +1,8 @@
 // Steps on a cluster, as text.
 use crate::cluster::open_as;
-use crate::told::{put_client, put_history, put_inode, put_leases};
+use crate::told::{
+    put_acked, put_client, put_clients, put_history, put_inode, put_leases, put_view,
+};
 use assise_fault_script::command::Command;
 use assise_fault_script::parse::{NumberedCommand, parse};
 use assise_machine_calls::calling::try_call;
@@ -27,25 +29,37 @@ pub(crate) fn put_step(
             let count = release_ready(sound);
             write!(text, "released {count}").ok()
         }
-        "client" | "leases" | "inode" | "history" => put_answer(sound, word, rest, text),
+        "client" | "clients" | "acked" | "leases" | "inode" | "history" => {
+            put_answer(sound, word, rest, text)
+        }
         _ => put_outcome(alloc, sound, command(alloc, step)?, text),
     }
 }
 
-/// Appends what is told of a client, of an inode's leases, of an inode at a node, or of the history.
+/// Appends what is told of a client, of a node's clients, of an inode's leases, of an inode, or of the history.
 fn put_answer(sound: &Sound, word: &str, rest: &str, text: &mut String) -> Option<()> {
-    let (first, second) = split_word(rest);
     match word {
-        "client" => put_client(sound, first.parse::<u32>().ok()?, text),
-        "leases" => put_leases(sound, first.parse::<u64>().ok()?, text).ok(),
-        "inode" => put_inode(
-            sound,
-            first.parse::<u64>().ok()?,
-            second.strip_prefix("at ")?.parse::<u32>().ok()?,
-            text,
-        ),
+        "client" => put_client(sound, rest.parse::<u32>().ok()?, text),
+        "clients" => put_clients(sound, number_behind(rest, "at ")?, text).ok(),
+        "acked" => put_acked(sound, rest.parse::<u32>().ok()?, text).ok(),
+        "leases" => put_leases(sound, rest.parse::<u64>().ok()?, text).ok(),
+        "inode" => put_place(sound, rest, text),
         _ => put_history(sound, text).ok(),
     }
+}
+
+/// Appends what an inode is at a node, or for a client.
+fn put_place(sound: &Sound, rest: &str, text: &mut String) -> Option<()> {
+    let (inode, place) = split_word(rest);
+    let inode = inode.parse::<u64>().ok()?;
+    match number_behind(place, "at ") {
+        Some(node) => put_inode(sound, inode, node, text),
+        None => put_view(sound, number_behind(place, "for ")?, inode, text),
+    }
+}
+
+fn number_behind(text: &str, word: &str) -> Option<u32> {
+    text.strip_prefix(word)?.parse::<u32>().ok()
 }
 
 /// The command of a line of a script behind a cluster.

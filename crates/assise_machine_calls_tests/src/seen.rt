@@ -1,5 +1,5 @@
 // What a refused call leaves as it was.
-use crate::told::{put_client, put_history, put_inode, put_view};
+use crate::told::{put_client, put_clients, put_history, put_inode, put_view};
 use assise_machine_state::sound::Sound;
 use std::alloc::{AllocError, Global};
 
@@ -12,23 +12,25 @@ const INODES: &[u64] = &[
     8_589_934_592,
 ];
 
-/// The history, the numbers of each client, what clients read and nodes have, and which leases are frozen. It takes memory once. Of
-/// the other leases nothing is told: a refused call may have got some.
+/// The history, the numbers of each client and node, what clients read and nodes have, and which leases are frozen. It takes memory
+/// once. Of the other leases nothing is told: a refused call may have got some.
 pub(crate) fn seen(alloc: Global, sound: &Sound) -> Result<String, AllocError> {
     let mut text = String::with_capacity(alloc, 4096)?;
     put_history(sound, &mut text)?;
-    put_clients(sound, &mut text)?;
+    put_numbers(sound, &mut text)?;
     for inode in INODES {
         put_seen(sound, *inode, &mut text)?;
     }
     Ok(text)
 }
 
-/// Appends the numbers of three clients.
-fn put_clients(sound: &Sound, text: &mut String) -> Result<(), AllocError> {
-    for client in 1..4 {
+/// Appends the numbers of three clients, and how many clients have a log at each of three nodes.
+fn put_numbers(sound: &Sound, text: &mut String) -> Result<(), AllocError> {
+    for place in 1..4 {
         text.push_str("\n")?;
-        let _ = put_client(sound, client, text);
+        let _ = put_client(sound, place, text);
+        text.push_str(" ")?;
+        put_clients(sound, place, text)?;
     }
     Ok(())
 }

@@ -25,6 +25,25 @@ pub(crate) fn put_client(sound: &Sound, client: u32, text: &mut String) -> Optio
     .ok()
 }
 
+/// Appends how many clients have a log at a node.
+pub(crate) fn put_clients(sound: &Sound, node: u32, text: &mut String) -> Result<(), AllocError> {
+    match sound.region(node) {
+        Ok(region) => {
+            let clients = region.clients();
+            write!(text, "{clients}")
+        }
+        Err(refusal) => write!(text, "{refusal}"),
+    }
+}
+
+/// Appends the place up to which a client's log is acknowledged.
+pub(crate) fn put_acked(sound: &Sound, client: u32, text: &mut String) -> Result<(), AllocError> {
+    match sound.acked(client) {
+        Ok(acked) => write!(text, "{acked}"),
+        Err(refusal) => write!(text, "{refusal}"),
+    }
+}
+
 /// Appends who holds an inode, by rising numbers, and in which mode.
 pub(crate) fn put_leases(sound: &Sound, inode: u64, text: &mut String) -> Result<(), AllocError> {
     let leases = sound.state.leases.leases(inode);
