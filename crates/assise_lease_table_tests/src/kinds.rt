@@ -1,9 +1,10 @@
 // What the kinds of revokers answer for four logs.
-use crate::logs::log_of;
+use crate::logs::{OneLog, log_of};
 use crate::steps::{ask, enrol, hold, show};
 use crate::stored::stored_cut;
 use assise_lease_table::client_table::{ClientTable, ClientTableOf};
 use assise_names::mode::Mode;
+use assise_private_log::log_view::LogView;
 use assise_revokers::kinds::{eights, least, whole};
 use assise_rows::Steps;
 use std::alloc::Global;
@@ -15,30 +16,43 @@ struct Kinds {}
 
 impl Steps for Kinds {
     fn put_outcome(alloc: Global, steps: &str, text: &mut String) -> Option<()> {
-        let mut words = steps.split(' ');
-        let first = words.next()?.parse::<u64>().ok()?;
-        let end = words.next()?.parse::<u64>().ok()?;
-        let last = words.next()?.parse::<u64>().ok();
-        let logs = log_of(alloc, first, end, last)?;
-        let view = logs.log.view();
-        write!(
-            text,
-            " {} {} {}",
-            least(view, 7),
-            whole(view, 7),
-            eights(view, 7)
-        )
-        .ok()?;
-        write!(text, " {}", stored_cut(alloc, view, 7).ok()?).ok()?;
+        let logs = logs_of(alloc, steps)?;
+        put_cuts(alloc, logs.log.view(), text)?;
         let mut table: ClientTable = ClientTableOf::new(alloc);
-        enrol(alloc, &mut table, 1, "least")?;
-        enrol(alloc, &mut table, 2, "whole")?;
-        enrol(alloc, &mut table, 3, "eights")?;
-        for client in 1..4 {
-            hold(&mut table, client, 7, Mode::Read)?;
-        }
-        ask(&mut table, &logs, 4, 7, Mode::Write, text)
+        put_asked(alloc, &mut table, &logs, text)
     }
+}
+
+/// The log of a row.
+fn logs_of(alloc: Global, steps: &str) -> Option<OneLog> {
+    let mut words = steps.split(' ');
+    let first = words.next()?.parse::<u64>().ok()?;
+    let end = words.next()?.parse::<u64>().ok()?;
+    let last = words.next()?.parse::<u64>().ok();
+    log_of(alloc, first, end, last)
+}
+
+/// Appends what the three kinds answer, and what a stored one does.
+fn put_cuts(alloc: Global, view: &LogView, text: &mut String) -> Option<()> {
+    let (least, whole, eights) = (least(view, 7), whole(view, 7), eights(view, 7));
+    let stored = stored_cut(alloc, view, 7).ok()?;
+    write!(text, " {least} {whole} {eights} {stored}").ok()
+}
+
+/// Appends what three clients answer, each with a revoker of another kind, when a fourth asks.
+fn put_asked(
+    alloc: Global,
+    table: &mut ClientTable,
+    logs: &OneLog,
+    text: &mut String,
+) -> Option<()> {
+    enrol(alloc, table, 1, "least")?;
+    enrol(alloc, table, 2, "whole")?;
+    enrol(alloc, table, 3, "eights")?;
+    for client in 1..4 {
+        hold(table, client, 7, Mode::Read)?;
+    }
+    ask(table, logs, 4, 7, Mode::Write, text)
 }
 
 /// The cuts of four logs.

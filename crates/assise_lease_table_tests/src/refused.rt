@@ -23,10 +23,15 @@ fn ask_two(alloc: Global, logs: &OneLog) -> Option<Result<(), Refusal>> {
             return Some(Err(Refusal::OutOfMemory));
         }
     }
+    ask_for_two(&mut table, logs)
+}
+
+/// As [`ask_two`], of a table with the three clients.
+fn ask_for_two(table: &mut ClientTable, logs: &OneLog) -> Option<Result<(), Refusal>> {
     for client in 1..3 {
-        let before = held(&table, 7);
-        if hold(&mut table, client, 7, Mode::Read).is_none() {
-            return if held(&table, 7) == before {
+        let before = held(table, 7);
+        if hold(table, client, 7, Mode::Read).is_none() {
+            return if held(table, 7) == before {
                 Some(Err(Refusal::OutOfMemory))
             } else {
                 None
@@ -34,8 +39,8 @@ fn ask_two(alloc: Global, logs: &OneLog) -> Option<Result<(), Refusal>> {
         }
     }
     match table.ask(7, Mode::Write, 3, logs) {
-        Ok(_) if held(&table, 7) == (2, 2) => Some(Ok(())),
-        Err(refusal) if held(&table, 7) == (2, 0) => Some(Err(refusal)),
+        Ok(_) if held(table, 7) == (2, 2) => Some(Ok(())),
+        Err(refusal) if held(table, 7) == (2, 0) => Some(Err(refusal)),
         _ => None,
     }
 }

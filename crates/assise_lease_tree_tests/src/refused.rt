@@ -50,21 +50,24 @@ const WANTED: &[(u32, u64, Mode)] = &[
     (2, 8, Mode::Read),
 ];
 
-/// Three clients on two nodes, and their logs.
-fn three_clients(alloc: Global) -> Option<(LeaseTree, Logs)> {
-    let logs = Logs::new(alloc)?;
-    let mut tree = LeaseTreeOf::new(alloc);
-    enrol(alloc, &mut tree, 1, "1 least")?;
-    enrol(alloc, &mut tree, 2, "1 whole")?;
-    enrol(alloc, &mut tree, 3, "2 eights")?;
-    Some((tree, logs))
+/// Three clients on two nodes.
+fn enrol_three(alloc: Global, tree: &mut LeaseTree) -> Option<()> {
+    enrol(alloc, tree, 1, "1 least")?;
+    enrol(alloc, tree, 2, "1 whole")?;
+    enrol(alloc, tree, 3, "2 eights")
 }
 
 /// Acquires all, and says whether each refused call left the leases as they were.
 fn is_left_alone(alloc: Global) -> Result<bool, Refusal> {
-    let (mut tree, logs) = three_clients(alloc).ok_or(Refusal::OutOfMemory)?;
+    let logs = Logs::new(alloc).ok_or(Refusal::OutOfMemory)?;
+    let mut tree = LeaseTreeOf::new(alloc);
+    acquire_all(alloc, &mut tree, &logs)
+}
+
+fn acquire_all(alloc: Global, tree: &mut LeaseTree, logs: &Logs) -> Result<bool, Refusal> {
+    enrol_three(alloc, tree).ok_or(Refusal::OutOfMemory)?;
     for (client, inode, mode) in WANTED {
-        match acquire(&mut tree, &logs, *client, *inode, *mode) {
+        match acquire(tree, logs, *client, *inode, *mode) {
             Some(answer) => answer?,
             None => return Ok(false),
         }

@@ -28,11 +28,21 @@ impl Steps for NewTree {
     fn put_outcome(alloc: Global, steps: &str, text: &mut String) -> Option<()> {
         let mut logs = Logs::new(alloc)?;
         let mut tree = LeaseTreeOf::new(alloc);
-        for step in steps.split_terminator(", ") {
-            put_step(alloc, &mut tree, &mut logs, step, text)?;
-        }
-        Some(())
+        put_steps(alloc, &mut tree, &mut logs, steps, text)
     }
+}
+
+fn put_steps(
+    alloc: Global,
+    tree: &mut LeaseTree,
+    logs: &mut Logs,
+    steps: &str,
+    text: &mut String,
+) -> Option<()> {
+    for step in steps.split_terminator(", ") {
+        put_step(alloc, tree, logs, step, text)?;
+    }
+    Some(())
 }
 
 fn put_step(

@@ -142,9 +142,20 @@ fn fault_of(alloc: Global, nodes: u32, steps: &str, place: usize) -> Option<&'st
     requires few { nodes ≤ 8 }
 {
     let mut desk = Desk::new(alloc, nodes, 16).ok()?;
+    fault_on(alloc, &mut desk, nodes, steps, place)
+}
+
+/// As [`fault_of`], of steps on a cluster that is there.
+fn fault_on(
+    alloc: Global,
+    desk: &mut Desk,
+    nodes: u32,
+    steps: &str,
+    place: usize,
+) -> Option<&'static str> {
     let mut number = 0_usize;
     for step in steps.lines() {
-        make(alloc, &mut desk, step);
+        make(alloc, desk, step);
         if number >= place {
             let fault = fault_between(alloc, &desk.cluster)?;
             if !fault.is_empty() {

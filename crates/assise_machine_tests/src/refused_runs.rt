@@ -20,10 +20,9 @@ const STEPS: &[&str] = &[
 
 /// Makes the steps by lists of one event, and sees that the revoker was taken once.
 fn ends_well(alloc: Global) -> Result<bool, Refusal> {
-    let mut desk = Desk::new(alloc, 2, 8)?;
     let mut stock = stock_of(alloc, &[RevokerKind::Least])?;
-    let made = all_made(alloc, &mut desk, &mut stock)?;
-    Ok(made && stock.is_empty())
+    let mut desk = Desk::new(alloc, 2, 8)?;
+    all_made(alloc, &mut desk, &mut stock)
 }
 
 fn all_made(alloc: Global, desk: &mut Desk, stock: &mut Vec<Asked>) -> Result<bool, Refusal> {
@@ -32,7 +31,7 @@ fn all_made(alloc: Global, desk: &mut Desk, stock: &mut Vec<Asked>) -> Result<bo
             return Ok(false);
         }
     }
-    Ok(true)
+    Ok(stock.is_empty())
 }
 
 fn step_made(

@@ -1,6 +1,7 @@
 // Lists of events, with their answers.
 use crate::desk::{Asked, Desk};
 use crate::frames::changed;
+use crate::rows::step_in;
 use crate::script::{command, put_digested, put_opened, put_received, put_turn};
 use crate::told::{put_failed, put_sent, put_stale, put_told_of};
 use crate::words::{number_in, small_in};
@@ -24,16 +25,29 @@ pub(crate) fn stock_of(alloc: Global, kinds: &[RevokerKind]) -> Result<Vec<Asked
 /// Runs the steps of rows as one list. What comes out, as rows, and the frames that are sent get the next numbers. None where there
 /// is no such step, or no memory.
 fn ran(alloc: Global, desk: &mut Desk, stock: &mut Vec<Asked>, rows: &str) -> Option<String> {
-    let events = events_of(alloc, desk, rows)?;
-    let answers = run(alloc, &mut desk.cluster, events.as_slice(), stock).ok()?;
+    let answers = answers_of(alloc, desk, stock, rows)?;
     let mut text = String::new(alloc);
     for (answer, row) in answers.into_iter().zip(rows.lines()) {
-        let (step, _) = row.split_once(" => ")?;
-        write!(text, "{step} => ").ok()?;
-        put_told(desk, answer, &mut text)?;
-        text.push('\n').ok()?;
+        put_row(desk, answer, step_in(row), &mut text)?;
     }
     Some(text)
+}
+
+fn answers_of(
+    alloc: Global,
+    desk: &mut Desk,
+    stock: &mut Vec<Asked>,
+    rows: &str,
+) -> Option<Vec<Answer>> {
+    let events = events_of(alloc, desk, rows)?;
+    run(alloc, &mut desk.cluster, events.as_slice(), stock).ok()
+}
+
+/// Appends the row of a step.
+fn put_row(desk: &mut Desk, answer: Answer, step: &str, text: &mut String) -> Option<()> {
+    write!(text, "{step} => ").ok()?;
+    put_told(desk, answer, text)?;
+    text.push('\n').ok()
 }
 
 /// The events of rows' steps.
@@ -123,13 +137,14 @@ fn show(alloc: Global, rt: &impl Abort, kinds: &[RevokerKind], left: usize, text
     let mut desk = Desk::new(alloc, 2, 8).ok().expect(rt, "no memory");
     let mut stock = stock_of(alloc, kinds).expect(rt, "no memory");
     for rows in texts {
-        let right = ran(alloc, &mut desk, &mut stock, rows).expect(
-            rt,
-            "no such step, or no memory",
-        );
-        assert!(rt; right.as_str() == *rows, "what comes out:\n{right}");
+        show_rows(alloc, rt, &mut desk, &mut stock, rows);
     }
     assert_eq!(rt; stock.len(), left);
+}
+
+fn show_rows(alloc: Global, rt: &impl Abort, desk: &mut Desk, stock: &mut Vec<Asked>, rows: &str) {
+    let right = ran(alloc, desk, stock, rows).expect(rt, "no such step, or no memory");
+    assert!(rt; right.as_str() == rows, "what comes out:\n{right}");
 }
 
 /// One event of each kind.

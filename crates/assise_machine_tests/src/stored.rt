@@ -12,36 +12,57 @@ type Cut = Box<dyn Fn(&LogView, u64) -> u64 + Send>;
 /// Client 1 makes `/a`, `/b` and `/b/c`, and client 2 asks for the root. How many records the first node sends then.
 fn sent(alloc: Global, cluster: &mut Cluster) -> Option<usize> {
     for text in ["/a", "/b", "/b/c"] {
-        let path = Path::parse(alloc, text).ok()?;
-        cluster.try_call(alloc, 1, &Op::Mkdir(path)).ok()?;
+        call(
+            alloc,
+            cluster,
+            1,
+            &Op::Mkdir(Path::parse(alloc, text).ok()?),
+        )?;
     }
-    let root = Path::parse(alloc, "/").ok()?;
-    cluster.try_call(alloc, 2, &Op::Stat(root)).ok()?;
+    call(alloc, cluster, 2, &Op::Stat(Path::parse(alloc, "/").ok()?))?;
     let frames = cluster.outgoing(alloc, 1).ok()?;
     let (frame, _) = frames.first()?;
     Some(frame.records().len())
+}
+
+/// Tries a call. None where it is refused.
+fn call(alloc: Global, cluster: &mut Cluster, client: u32, op: &Op) -> Option<()> {
+    cluster.try_call(alloc, client, op).ok()?;
+    Some(())
+}
+
+/// As [`sent`], of clients that answer the least cut.
+fn sent_by_least(alloc: Global, cluster: &mut Cluster) -> Option<usize> {
+    for node in 1..3 {
+        let cut: Cut = Box::new(alloc, least).ok()?;
+        open(alloc, cluster, node, Revoker::new(cut))?;
+    }
+    sent(alloc, cluster)
+}
+
+/// As [`sent`], of clients that answer their logs' ends.
+fn sent_by_whole(alloc: Global, cluster: &mut Cluster) -> Option<usize> {
+    for node in 1..3 {
+        let cut: Cut = Box::new(alloc, whole).ok()?;
+        open(alloc, cluster, node, Revoker::new(cut))?;
+    }
+    sent(alloc, cluster)
+}
+
+fn open(alloc: Global, cluster: &mut Cluster, node: u32, revoker: Revoker) -> Option<u32> {
+    cluster.open(alloc, node, revoker).ok()
 }
 
 #[test]
 fn the_least_cut_is_sent(rt: HostRuntime) {
     let alloc = rt.alloc();
     let mut cluster = Cluster::new(alloc, 2, 8, 2).ok().expect(&rt, "no memory");
-    for node in 1..3 {
-        let cut: Cut = Box::new(alloc, least).expect(&rt, "no memory");
-        let opened = cluster.open(alloc, node, Revoker::new(cut));
-        assert!(rt; opened.is_ok());
-    }
-    assert_eq!(rt; sent(alloc, &mut cluster), Some(2));
+    assert_eq!(rt; sent_by_least(alloc, &mut cluster), Some(2));
 }
 
 #[test]
 fn the_whole_log_is_sent(rt: HostRuntime) {
     let alloc = rt.alloc();
     let mut cluster = Cluster::new(alloc, 2, 8, 2).ok().expect(&rt, "no memory");
-    for node in 1..3 {
-        let cut: Cut = Box::new(alloc, whole).expect(&rt, "no memory");
-        let opened = cluster.open(alloc, node, Revoker::new(cut));
-        assert!(rt; opened.is_ok());
-    }
-    assert_eq!(rt; sent(alloc, &mut cluster), Some(3));
+    assert_eq!(rt; sent_by_whole(alloc, &mut cluster), Some(3));
 }

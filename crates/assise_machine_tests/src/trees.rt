@@ -1,5 +1,6 @@
 // Trees, as text.
 use assise_names::call::Op;
+use assise_names::name::Name;
 use assise_names::path::Path;
 use assise_names::reply::Reply;
 use assise_seq_tree::answer::answer;
@@ -33,14 +34,31 @@ fn put_place(
     text: &mut String,
 ) -> Option<()> {
     let shown = if place.is_empty() { "/" } else { place };
+    let listed = listed(alloc, tree, shown)?;
+    match &listed {
+        Reply::Names(names) => {
+            add_entries(alloc, place, names.as_slice(), paths)?;
+            write!(text, "{shown} {listed}").ok()
+        }
+        _ => put_read(alloc, tree, shown, text),
+    }
+}
+
+fn listed(alloc: Global, tree: &mut Tree, path: &str) -> Option<Reply> {
+    let path = Path::parse(alloc, path).ok()?;
+    answer(alloc, tree, &Op::List(path)).ok()
+}
+
+fn put_read(alloc: Global, tree: &mut Tree, shown: &str, text: &mut String) -> Option<()> {
     let path = Path::parse(alloc, shown).ok()?;
-    let listed = answer(alloc, tree, &Op::List(path.copy(alloc).ok()?)).ok()?;
-    let Reply::Names(names) = &listed else {
-        let read = answer(alloc, tree, &Op::Read(path, 0, 1_048_576)).ok()?;
-        return write!(text, "{shown} {read}").ok();
-    };
-    for name in names.as_slice() {
+    let read = answer(alloc, tree, &Op::Read(path, 0, 1_048_576)).ok()?;
+    write!(text, "{shown} {read}").ok()
+}
+
+/// Adds the paths of a directory's entries.
+fn add_entries(alloc: Global, place: &str, names: &[Name], paths: &mut Vec<String>) -> Option<()> {
+    for name in names {
         paths.push(format!(in alloc; "{place}/{name}").ok()?).ok()?;
     }
-    write!(text, "{shown} {listed}").ok()
+    Some(())
 }
