@@ -223,9 +223,9 @@ impl Area {
         ensures only_memory { IsOkUnless result OutOfMemory }
     {
         let Some(held) = self.hot.peek_mut(&effect.touches()) else {
-            return change_cold(self.alloc, &mut self.cold, effect);
+            return change_cold(&mut self.cold, effect);
         };
-        held.change(self.alloc, effect)?;
+        held.change(effect)?;
         Ok(())
     }
 }

@@ -33,7 +33,7 @@ pub(crate) fn change_cold(
     let Some(inode) = cold.get_mut(&effect.touches()) else {
         return Ok(());
     };
-    inode.change(alloc, effect)?;
+    inode.change(effect)?;
     Ok(())
 }
 

@@ -148,7 +148,7 @@ fn directory_of(alloc: Global, names: &NameList, trees: &mut Vec<Tree>) -> Resul
         let Some(subtree) = trees.pop() else {
             unreachable!()
         };
-        tree.insert(name.copy(alloc)?, subtree)?;
+        tree.insert(name.copy()?, subtree)?;
         rest = before;
     }
     Ok(tree)

@@ -58,7 +58,7 @@ fn put_files(alloc: Global, region: &mut Region) -> Option<()> {
 fn file(alloc: Global) -> Option<Inode> {
     let mut file = Inode::new_file(alloc);
     let size = FileSize::new(MOST_FILE_BYTES);
-    file.change(alloc, &Effect::SetLen { inode: 0, size }).ok()?;
+    file.change(&Effect::SetLen { inode: 0, size }).ok()?;
     Some(file)
 }
 
@@ -66,7 +66,7 @@ fn directory(alloc: Global) -> Option<Inode> {
     let mut directory = Inode::new_directory(alloc);
     for number in 0..ENTRIES {
         let link = link(alloc, "old", number)?;
-        directory.change(alloc, &link).ok()?;
+        directory.change(&link).ok()?;
     }
     Some(directory)
 }

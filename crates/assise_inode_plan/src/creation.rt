@@ -95,7 +95,7 @@ fn new_inode_effects(
     effects.push(new)?;
     effects.push(Effect::Link {
         directory,
-        name: name.copy(alloc)?,
+        name: name.copy()?,
         inode: fresh,
     })?;
     Ok(effects)

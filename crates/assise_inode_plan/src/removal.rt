@@ -86,7 +86,7 @@ pub(crate) fn removal_effects(
     let mut effects = Vec::with_capacity(alloc, 2)?;
     effects.push(Effect::Unlink {
         directory,
-        name: name.copy(alloc)?,
+        name: name.copy()?,
     })?;
     effects.push(Effect::Free { inode })?;
     Ok(effects)

@@ -121,7 +121,7 @@ fn plan_receiving<V: View>(
         return Ok(answered(alloc, Reply::Error(TreeError::DirFull), reads));
     }
     let mut effects = Vec::with_capacity(alloc, 2)?;
-    push_move(alloc, &mut effects, moving)?;
+    push_move(&mut effects, moving)?;
     Ok(finished(view, Reply::Done, reads, effects))
 }
 
@@ -145,7 +145,7 @@ fn plan_replacing<V: View>(
         return Ok(answered(alloc, Reply::Error(error), reads));
     }
     let mut effects = removal_effects(alloc, moving.directory, moving.new_name, target)?;
-    push_move(alloc, &mut effects, moving)?;
+    push_move(&mut effects, moving)?;
     Ok(finished(view, Reply::Done, reads, effects))
 }
 
@@ -166,17 +166,17 @@ fn may_replace(moved: &Inode, target: &Inode) -> Result<(), TreeError>
 }
 
 /// Appends what moves an entry: it is taken out of its directory, and then it is an entry of the other.
-fn push_move(alloc: Global, effects: &mut Vec<Effect>, moving: &Move) -> Result<(), Refusal>
+fn push_move(effects: &mut Vec<Effect>, moving: &Move) -> Result<(), Refusal>
     ensures moved { OnOk result (effects.new.items ≡ effects.old.items ++ effects_of_move moving.now) }
     ensures only_memory { IsOkUnless result OutOfMemory }
 {
     effects.push(Effect::Unlink {
         directory: moving.from.directory,
-        name: moving.name.copy(alloc)?,
+        name: moving.name.copy()?,
     })?;
     effects.push(Effect::Link {
         directory: moving.directory,
-        name: moving.new_name.copy(alloc)?,
+        name: moving.new_name.copy()?,
         inode: moving.from.inode,
     })?;
     Ok(())

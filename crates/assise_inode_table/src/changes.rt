@@ -47,7 +47,7 @@ fn change_value(alloc: Global, value: &mut Option<Inode>, effect: &Effect) -> Re
         Effect::Free { .. } => *value = None,
         change => {
             if let Some(inode) = value {
-                inode.change(alloc, change)?;
+                inode.change(change)?;
             }
         }
     }

@@ -97,7 +97,7 @@ impl Directory {
     }
 
     /// As [`Directory::insert`], by a copy of the name where it is new.
-    pub fn link(&mut self, alloc: Global, name: &Name, inode: u64) -> Result<(), Refusal>
+    pub fn link(&mut self, name: &Name, inode: u64) -> Result<(), Refusal>
         ensures ok { OnOk result (self.new ≡ map.insert self.old name.now inode) }
         ensures err { OnErr result (self.new ≡ self.old) }
         ensures asked { OnErr result (map.get self.old name.now ≡ None) }
@@ -107,7 +107,7 @@ impl Directory {
             *target = inode;
             return Ok(());
         }
-        self.insert(name.copy(alloc)?, inode)
+        self.insert(name.copy()?, inode)
     }
 
     /// Takes the entry of a name out, if it is there.

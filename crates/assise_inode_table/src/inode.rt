@@ -105,7 +105,7 @@ impl Inode {
     /// Makes of the inode what an effect makes of its content. An effect for the other kind leaves it, and so do
     /// those that make or free an inode. The one refusal is [`Refusal::OutOfMemory`], where a file gets bytes or an
     /// entry gets a new name, and it leaves the inode as it was. What only takes away takes no memory.
-    pub fn change(&mut self, alloc: Global, effect: &Effect) -> Result<(), Refusal>
+    pub fn change(&mut self, effect: &Effect) -> Result<(), Refusal>
         ensures taken_away { TakesAway effect.now → IsOk result }
         ensures ok { OnOk result (self.new ≡ changed self.old effect.now) }
         ensures err { OnErr result (self.new ≡ self.old) }
@@ -114,7 +114,7 @@ impl Inode {
     {
         match &mut self.kind {
             Kind::File(bytes) => change_file(bytes, effect),
-            Kind::Directory(links) => change_directory(alloc, links, effect),
+            Kind::Directory(links) => change_directory(links, effect),
         }
     }
 
@@ -147,7 +147,7 @@ fn change_file(bytes: &mut FileBytes, effect: &Effect) -> Result<(), Refusal>
 }
 
 /// Makes of a directory what an effect makes of it.
-fn change_directory(alloc: Global, links: &mut Directory, effect: &Effect) -> Result<(), Refusal>
+fn change_directory(links: &mut Directory, effect: &Effect) -> Result<(), Refusal>
     ensures taken_away { TakesAway effect.now → IsOk result }
     ensures ok { OnOk result (directory links.new ≡ changed (directory links.old) effect.now) }
     ensures err { OnErr result (links.new ≡ links.old) }
@@ -155,7 +155,7 @@ fn change_directory(alloc: Global, links: &mut Directory, effect: &Effect) -> Re
     ensures only_memory { IsOkUnless result OutOfMemory }
 {
     match effect {
-        Effect::Link { name, inode, .. } => links.link(alloc, name, *inode),
+        Effect::Link { name, inode, .. } => links.link(name, *inode),
         Effect::Unlink { name, .. } => {
             links.remove(name);
             Ok(())

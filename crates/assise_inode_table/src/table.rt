@@ -138,7 +138,7 @@ impl InodeTable {
         let Some(inode) = self.inodes.get_mut(&effect.touches()) else {
             return Ok(());
         };
-        inode.change(self.alloc, effect)?;
+        inode.change(effect)?;
         Ok(())
     }
 }

@@ -56,7 +56,7 @@ fn run(alloc: Global, words: &[String]) -> Option<&'static str> {
 /// A file of so many zeros.
 fn file(alloc: Global, size: FileSize) -> Result<Inode, Refusal> {
     let mut inode = Inode::new_file(alloc);
-    inode.change(alloc, &Effect::SetLen { inode: 0, size })?;
+    inode.change(&Effect::SetLen { inode: 0, size })?;
     Ok(inode)
 }
 
@@ -106,7 +106,7 @@ fn writes(alloc: Global, inode: &mut Inode, size: u32, count: u32) -> Result<(),
     for k in 0..count {
         let offset = k % blocks * 4096 + 2048;
         let extent = Extent::new(offset, Bytes::copy_from_slice(alloc, b"a")?);
-        inode.change(alloc, &Effect::Write { inode: 0, extent })?;
+        inode.change(&Effect::Write { inode: 0, extent })?;
     }
     Ok(())
 }

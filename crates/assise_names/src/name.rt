@@ -18,27 +18,29 @@ use std::cmp::Ordering;
 use std::fmt;
 use std::fmt::{Display, Formatter};
 use std::marker::Model;
+use std::sync::ArcStr;
 
 /// The most bytes of a name.
 pub const MOST_NAME_BYTES: usize = 255;
 
 /// The name of an entry of a directory: 1 to 255 bytes of UTF-8 without a slash or a NUL, and neither `.` nor
-/// `..` (POSIX.1-2017, base definitions, chapter 3: Filename). Names are ordered by their bytes.
+/// `..` (POSIX.1-2017, base definitions, chapter 3: Filename). Names are ordered by their bytes. Copies share them.
 #[derive(Debug, Drop)]
 pub struct Name {
-    text: String,
+    text: ArcStr,
 }
 
 impl Model for Name {
-    ghost use Rattle.std.specs.Prelude.{List, ℕ, string_bytes, IsTrue};
+    ghost use Rattle.std.specs.Prelude.{List, ℕ, IsTrue};
+    ghost use Rattle.std.specs.Arc.{arc_str_bytes};
 
     ghost Value = { List ℕ };
 
     ghost use Rattle.assise_names.specs.Name.{is_name};
 
-    ghost view = { λ n. string_bytes n.text };
+    ghost view = { λ n. arc_str_bytes n.text };
 
-    ghost invariant = { λ n. IsTrue (is_name (string_bytes n.text)) };
+    ghost invariant = { λ n. IsTrue (is_name (arc_str_bytes n.text)) };
 }
 
 impl Name {
@@ -50,7 +52,7 @@ impl Name {
         ensures lawful { IfOk result (λ name. IsTrue (is_name name)) }
     {
         check(text)?;
-        let text = String::from_str(alloc, text)?;
+        let text = ArcStr::from_str(alloc, text)?;
         Ok(Name { text })
     }
 
@@ -61,7 +63,7 @@ impl Name {
         ensures only_memory { IsOkUnless result OutOfMemory }
     {
         Ok(Name {
-            text: String::from_str(alloc, text)?,
+            text: ArcStr::from_str(alloc, text)?,
         })
     }
 
@@ -73,14 +75,13 @@ impl Name {
         self.text.as_str()
     }
 
-    /// An equal value, or [`Refusal::OutOfMemory`].
-    pub fn copy(&self, alloc: Global) -> Result<Name, Refusal>
+    /// An equal value, which shares the bytes. It takes no memory: the one refusal, [`Refusal::OutOfMemory`], comes where
+    /// the count of those that share them is full.
+    pub fn copy(&self) -> Result<Name, Refusal>
         ensures equal { IfOk result (λ copied. copied ≡ self.now) }
         ensures only_memory { IsOkUnless result OutOfMemory }
     {
-        Ok(Name {
-            text: String::from_str(alloc, self.text.as_str())?,
-        })
+        Ok(self.clone()?)
     }
 }
 
@@ -109,7 +110,7 @@ pub(crate) fn copy_names(alloc: Global, names: &[Name]) -> Result<Vec<Name>, Ref
 {
     let mut copied = Vec::with_capacity(alloc, names.len())?;
     for name in names {
-        copied.push(name.copy(alloc)?)?;
+        copied.push(name.copy()?)?;
     }
     Ok(copied)
 }

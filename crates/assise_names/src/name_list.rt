@@ -64,7 +64,7 @@ impl NameList {
     {
         let mut names = Vec::with_capacity(alloc, map.len())?;
         for name in map.keys() {
-            names.push(name.copy(alloc)?)?;
+            names.push(name.copy()?)?;
         }
         Ok(NameList { names })
     }

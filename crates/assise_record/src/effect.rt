@@ -196,9 +196,9 @@ impl Effect {
         }
     }
 
-    /// An equal value, or [`Refusal::OutOfMemory`]. The bytes of a write are shared, and a name is copied. Only these
-    /// take memory.
-    pub fn copy(&self, alloc: Global) -> Result<Effect, Refusal>
+    /// An equal value, which shares a name or the bytes of a write. The one refusal is [`Refusal::OutOfMemory`], and it comes
+    /// only where these are shared.
+    pub fn copy(&self) -> Result<Effect, Refusal>
         ensures equal { IfOk result (λ copied. copied ≡ self.now) }
         ensures only_memory { IsOkUnless result OutOfMemory }
         ensures only_name_or_bytes { OnErr result (HoldsNameOrBytes self.now) }
@@ -222,7 +222,7 @@ impl Effect {
                 name,
                 inode,
             } => {
-                let name = name.copy(alloc)?;
+                let name = name.copy()?;
                 Ok(Effect::Link {
                     directory: *directory,
                     name,
@@ -230,7 +230,7 @@ impl Effect {
                 })
             }
             Effect::Unlink { directory, name } => {
-                let name = name.copy(alloc)?;
+                let name = name.copy()?;
                 Ok(Effect::Unlink {
                     directory: *directory,
                     name,

@@ -96,7 +96,7 @@ fn copies(alloc: Global, effects: &[Effect]) -> Result<Vec<Effect>, Refusal>
 {
     let mut copied = Vec::with_capacity(alloc, effects.len())?;
     for effect in effects {
-        copied.push(effect.copy(alloc)?)?;
+        copied.push(effect.copy()?)?;
     }
     Ok(copied)
 }
