@@ -5,16 +5,16 @@ use crate::stored::stored_cut;
 use assise_lease_table::client_table::{ClientTable, ClientTableOf};
 use assise_names::mode::Mode;
 use assise_revokers::kinds::{eights, least, whole};
-use assise_rows::Steps;
+use assise_rows::Subject;
 use std::alloc::Global;
 
 /// `FIRST END LAST`: a log, with the last touch of inode 7. What the three kinds answer is told twice: as the functions
 /// answer, and as three clients that stored them answer when they are asked for inode 7.
-#[derive(Drop)]
-struct Kinds {}
+#[derive(Clone, Copy)]
+struct Kinds;
 
-impl Steps for Kinds {
-    fn put_outcome(alloc: Global, steps: &str, text: &mut String) -> Option<()> {
+impl Subject for Kinds {
+    fn put(&mut self, alloc: Global, steps: &str, text: &mut String) -> Option<()> {
         let mut words = steps.split(' ');
         let first = words.next()?.parse::<u64>().ok()?;
         let end = words.next()?.parse::<u64>().ok()?;
@@ -51,5 +51,5 @@ const CUTS: &str = "\
 
 #[test]
 fn the_kinds_answer_cuts(rt: HostRuntime) {
-    show::<Kinds>(rt.alloc(), &rt, CUTS);
+    show(rt.alloc(), &rt, &mut Kinds, CUTS);
 }
