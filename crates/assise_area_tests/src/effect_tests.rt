@@ -1,74 +1,16 @@
 // Effects case by case, on hot inodes and on cold ones.
-use crate::rows::show;
-use crate::subjects::Effects;
+use crate::subjects::{Effects, show};
+use assise_effect_texts::cases::CASES;
 use std::alloc::Global;
 use std::process::Abort;
-
-/// Effects on what is not there, beside another file.
-const ON_NOTHING: &str = "\
-new_file 7 => 7 file 0; 8 file 6 beside;
-new_dir 7 => 7 dir 0; 8 file 6 beside;
-write 7 0 xy => 8 file 6 beside;
-set_len 7 3 => 8 file 6 beside;
-link 7 a 9 => 8 file 6 beside;
-unlink 7 a => 8 file 6 beside;
-free 7 => 8 file 6 beside;
-";
-
-/// Effects on the file `abcd`.
-const ON_A_FILE: &str = "\
-new_file 7 => 7 file 0; 8 file 6 beside;
-new_dir 7 => 7 dir 0; 8 file 6 beside;
-write 7 0 xy => 7 file 4 xycd; 8 file 6 beside;
-write 7 1 xy => 7 file 4 axyd; 8 file 6 beside;
-write 7 2 xy => 7 file 4 abxy; 8 file 6 beside;
-write 7 3 xy => 7 file 5 abcxy; 8 file 6 beside;
-write 7 4 xy => 7 file 6 abcdxy; 8 file 6 beside;
-write 7 6 xy => 7 file 8 abcd\0\0xy; 8 file 6 beside;
-write 7 0 vwxyz => 7 file 5 vwxyz; 8 file 6 beside;
-set_len 7 0 => 7 file 0; 8 file 6 beside;
-set_len 7 2 => 7 file 2 ab; 8 file 6 beside;
-set_len 7 4 => 7 file 4 abcd; 8 file 6 beside;
-set_len 7 6 => 7 file 6 abcd\0\0; 8 file 6 beside;
-link 7 a 9 => 7 file 4 abcd; 8 file 6 beside;
-unlink 7 a => 7 file 4 abcd; 8 file 6 beside;
-free 7 => 8 file 6 beside;
-";
-
-/// Effects on a directory of the entries `a` and `b`.
-const ON_A_DIRECTORY: &str = "\
-new_file 7 => 7 file 0; 8 file 6 beside;
-new_dir 7 => 7 dir 0; 8 file 6 beside;
-write 7 0 xy => 7 dir 2 a:1 b:2; 8 file 6 beside;
-set_len 7 3 => 7 dir 2 a:1 b:2; 8 file 6 beside;
-link 7 c 3 => 7 dir 3 a:1 b:2 c:3; 8 file 6 beside;
-link 7 ab 3 => 7 dir 3 a:1 ab:3 b:2; 8 file 6 beside;
-link 7 a 3 => 7 dir 2 a:3 b:2; 8 file 6 beside;
-unlink 7 a => 7 dir 1 b:2; 8 file 6 beside;
-unlink 7 c => 7 dir 2 a:1 b:2; 8 file 6 beside;
-free 7 => 8 file 6 beside;
-";
-
-/// Names rise by their bytes.
-const ENTRIES: &str = "\
-new_dir 7 => 7 dir 0;
-link 7 b 0, link 7 B 1, link 7 a 2 => 7 dir 3 B:1 a:2 b:0;
-link 7 b 0, link 7 ab 1, link 7 a 2 => 7 dir 3 a:2 ab:1 b:0;
-link 7 é 0, link 7 z 1, link 7 ~ 2 => 7 dir 3 z:1 ~:2 é:0;
-link 7 b 0, link 7 a 1, link 7 b 2 => 7 dir 2 a:1 b:2;
-";
 
 /// Sees what effects make of an area of which so many inodes may be hot. With a place for one, inode 7 is cold where 8 is
 /// there.
 fn show_effects(alloc: Global, rt: &impl Abort, capacity: usize) {
-    let before = "new_file 8, write 8 0 beside";
-    show(alloc, rt, &mut Effects { capacity, before }, ON_NOTHING);
-    let before = "new_file 7, write 7 0 abcd, new_file 8, write 8 0 beside";
-    show(alloc, rt, &mut Effects { capacity, before }, ON_A_FILE);
-    let before = "new_dir 7, link 7 a 1, link 7 b 2, new_file 8, write 8 0 beside";
-    show(alloc, rt, &mut Effects { capacity, before }, ON_A_DIRECTORY);
-    let before = "new_dir 7";
-    show(alloc, rt, &mut Effects { capacity, before }, ENTRIES);
+    for case in CASES {
+        let before = case.before;
+        show(alloc, rt, &mut Effects { capacity, before }, case.rows);
+    }
 }
 
 #[test]

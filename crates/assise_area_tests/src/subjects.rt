@@ -1,11 +1,18 @@
-// What the tests ask.
-use crate::effects::{make, make_and_use};
-use crate::inode_text::put_inodes;
-use crate::rows::Subject;
+// What the rows of the tests ask.
 use crate::steps::area_of;
 use assise_area::area::Area;
+use assise_effect_texts::effects::{effect_of, make};
+use assise_effect_texts::inodes::put_inodes;
 use assise_inode_table::table::InodeTable;
+use assise_rows::{Subject, wrong_rows};
 use std::alloc::Global;
+use std::process::Abort;
+
+/// Sees that each row `ASKED => OUTCOME` says what comes out.
+pub(crate) fn show<S: Subject>(alloc: Global, rt: &impl Abort, subject: &mut S, rows: &str) {
+    let wrong = wrong_rows(alloc, subject, rows).expect(rt, "out of memory");
+    assert!(rt; wrong.is_empty(), "what comes out:\n{wrong}");
+}
 
 /// Effects on an area of which so many inodes may be hot, with what the effects `before` make and use. All inodes come
 /// out, where they are those of a table.
@@ -28,6 +35,21 @@ fn area_after(alloc: Global, capacity: usize, before: &str, asked: &str) -> Opti
     make_and_use(alloc, &mut area, before)?;
     make(alloc, &mut area, asked)?;
     Some(area)
+}
+
+/// Makes effects, which have commas between them, and uses the inode of each one after it.
+fn make_and_use(alloc: Global, area: &mut Area, effects: &str) -> Option<()> {
+    for effect in effects.split_terminator(", ") {
+        make_and_use_one(alloc, area, effect)?;
+    }
+    Some(())
+}
+
+fn make_and_use_one(alloc: Global, area: &mut Area, effect: &str) -> Option<()> {
+    let effect = effect_of(alloc, effect)?;
+    area.apply(&effect).ok()?;
+    area.touch(effect.touches());
+    Some(())
 }
 
 fn table_after(alloc: Global, before: &str, asked: &str) -> Option<InodeTable> {

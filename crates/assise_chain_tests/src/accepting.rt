@@ -6,7 +6,7 @@ use assise_chain::acceptance::accept;
 use assise_chain::messages::message;
 use assise_private_log::log::Log;
 use assise_record::frame::Frame;
-use assise_rows::{Steps, split_word};
+use assise_rows::{Subject, split_word};
 use std::alloc::Global;
 
 /// Whether a log has room up to a frame's last record.
@@ -19,11 +19,11 @@ pub(crate) fn has_room(log: &Log, frame: &Frame) -> bool
 
 /// `FIRST END, EPOCH FROM TO`: in epoch 5, a log takes in what a head with the records 0 to 99 sends in an epoch. What is
 /// answered is told, and the log after it.
-#[derive(Drop)]
-struct Accepted {}
+#[derive(Clone, Copy)]
+struct Accepted;
 
-impl Steps for Accepted {
-    fn put_outcome(alloc: Global, steps: &str, text: &mut String) -> Option<()> {
+impl Subject for Accepted {
+    fn put(&mut self, alloc: Global, steps: &str, text: &mut String) -> Option<()> {
         let (numbers, sent) = steps.split_once(", ")?;
         let (first, end) = split_word(numbers);
         let mut log = log_of(alloc, first.parse::<u64>().ok()?, end.parse::<u64>().ok()?)?;
@@ -75,10 +75,10 @@ const REFUSED: &str = "\
 
 #[test]
 fn what_lies_past_the_end_is_taken_in(rt: HostRuntime) {
-    show::<Accepted>(rt.alloc(), &rt, TAKEN);
+    show(rt.alloc(), &rt, &mut Accepted, TAKEN);
 }
 
 #[test]
 fn a_gap_and_another_epoch_are_refused(rt: HostRuntime) {
-    show::<Accepted>(rt.alloc(), &rt, REFUSED);
+    show(rt.alloc(), &rt, &mut Accepted, REFUSED);
 }

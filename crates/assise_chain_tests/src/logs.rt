@@ -3,13 +3,13 @@ use assise_private_log::log::Log;
 use assise_record::effect::Effect;
 use assise_record::frame::Frame;
 use assise_record::record::Record;
-use assise_rows::{Steps, wrong_rows};
+use assise_rows::{Subject, wrong_rows};
 use std::alloc::{AllocError, Global};
 use std::process::Abort;
 
 /// Sees that each row says what comes out.
-pub(crate) fn show<S: Steps>(alloc: Global, rt: &impl Abort, rows: &str) {
-    let wrong = wrong_rows::<S>(alloc, rows).expect(rt, "out of memory");
+pub(crate) fn show<S: Subject>(alloc: Global, rt: &impl Abort, subject: &mut S, rows: &str) {
+    let wrong = wrong_rows(alloc, subject, rows).expect(rt, "out of memory");
     assert!(rt; wrong.is_empty(), "what comes out:\n{wrong}");
 }
 

@@ -5,16 +5,16 @@ use assise_chain::acceptance::accept;
 use assise_chain::acknowledged::acked;
 use assise_chain::messages::message;
 use assise_private_log::log::Log;
-use assise_rows::{Steps, split_word};
+use assise_rows::{Subject, split_word};
 use std::alloc::Global;
 
 /// `NODES END`: a head's log up to an end goes along so many nodes, one message from node to node and then one more. The
 /// nodes' logs are told, and up to which number all have it.
-#[derive(Drop)]
-struct Passed {}
+#[derive(Clone, Copy)]
+struct Passed;
 
-impl Steps for Passed {
-    fn put_outcome(alloc: Global, steps: &str, text: &mut String) -> Option<()> {
+impl Subject for Passed {
+    fn put(&mut self, alloc: Global, steps: &str, text: &mut String) -> Option<()> {
         let (nodes, end) = split_word(steps);
         let mut before = log_of(alloc, 0, end.parse::<u64>().ok()?)?;
         let mut received = Vec::new(alloc);
@@ -54,5 +54,5 @@ const PASSED: &str = "\
 
 #[test]
 fn a_log_goes_along_a_chain(rt: HostRuntime) {
-    show::<Passed>(rt.alloc(), &rt, PASSED);
+    show(rt.alloc(), &rt, &mut Passed, PASSED);
 }

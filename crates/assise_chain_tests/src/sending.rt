@@ -1,15 +1,15 @@
 // What a node sends of its log.
 use crate::logs::{log_of, put_frame, show};
 use assise_chain::messages::message;
-use assise_rows::{Steps, split_word};
+use assise_rows::{Subject, split_word};
 use std::alloc::Global;
 
 /// `FIRST END, FROM TO`: a log, and what is sent of it.
-#[derive(Drop)]
-struct Sent {}
+#[derive(Clone, Copy)]
+struct Sent;
 
-impl Steps for Sent {
-    fn put_outcome(alloc: Global, steps: &str, text: &mut String) -> Option<()> {
+impl Subject for Sent {
+    fn put(&mut self, alloc: Global, steps: &str, text: &mut String) -> Option<()> {
         let (numbers, between) = steps.split_once(", ")?;
         let (first, end) = split_word(numbers);
         let log = log_of(alloc, first.parse::<u64>().ok()?, end.parse::<u64>().ok()?)?;
@@ -53,10 +53,10 @@ const LONG: &str = "\
 
 #[test]
 fn records_between_two_numbers_are_sent(rt: HostRuntime) {
-    show::<Sent>(rt.alloc(), &rt, MESSAGES);
+    show(rt.alloc(), &rt, &mut Sent, MESSAGES);
 }
 
 #[test]
 fn at_most_64_are_sent(rt: HostRuntime) {
-    show::<Sent>(rt.alloc(), &rt, LONG);
+    show(rt.alloc(), &rt, &mut Sent, LONG);
 }

@@ -2,15 +2,15 @@
 use crate::logs::show;
 use assise_chain::acknowledged::acked;
 use assise_chain::order::successor;
-use assise_rows::Steps;
+use assise_rows::Subject;
 use std::alloc::Global;
 
 /// `HEAD of NODE NODE ..`: a chain of full nodes. What stands behind each of the nodes 1 to 8 is told.
-#[derive(Drop)]
-struct Chain {}
+#[derive(Clone, Copy)]
+struct Chain;
 
-impl Steps for Chain {
-    fn put_outcome(alloc: Global, steps: &str, text: &mut String) -> Option<()> {
+impl Subject for Chain {
+    fn put(&mut self, alloc: Global, steps: &str, text: &mut String) -> Option<()> {
         let (head, nodes) = steps.split_once(" of ")?;
         let head = head.parse::<u32>().ok()?;
         let mut full = Vec::new(alloc);
@@ -61,20 +61,20 @@ const DOWN: &str = "\
 
 #[test]
 fn each_node_passes_to_the_next(rt: HostRuntime) {
-    show::<Chain>(rt.alloc(), &rt, CHAINS);
+    show(rt.alloc(), &rt, &mut Chain, CHAINS);
 }
 
 #[test]
 fn who_is_down_is_passed_over(rt: HostRuntime) {
-    show::<Chain>(rt.alloc(), &rt, DOWN);
+    show(rt.alloc(), &rt, &mut Chain, DOWN);
 }
 
 /// `NUMBER NUMBER ..`: what the nodes received.
-#[derive(Drop)]
-struct Received {}
+#[derive(Clone, Copy)]
+struct Received;
 
-impl Steps for Received {
-    fn put_outcome(alloc: Global, steps: &str, text: &mut String) -> Option<()> {
+impl Subject for Received {
+    fn put(&mut self, alloc: Global, steps: &str, text: &mut String) -> Option<()> {
         let mut received = Vec::new(alloc);
         for number in steps.split(' ') {
             received.push(number.parse::<u64>().ok()?).ok()?;
@@ -97,5 +97,5 @@ const RECEIVED: &str = "\
 
 #[test]
 fn the_least_is_acknowledged(rt: HostRuntime) {
-    show::<Received>(rt.alloc(), &rt, RECEIVED);
+    show(rt.alloc(), &rt, &mut Received, RECEIVED);
 }

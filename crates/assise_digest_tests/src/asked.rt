@@ -3,8 +3,9 @@ ghost use Rattle.std.specs.Prelude.{◌≡◌, true};
 ghost use Rattle.assise_digest.specs.Region.{HasClient, log_of};
 
 use crate::apart::has_client;
-use crate::inode_text::put_found;
 use assise_digest::region::Region;
+use assise_effect_texts::inodes::put_inode;
+use assise_inode_table::inode::Inode;
 use assise_inode_table::inodes::Inodes;
 use std::alloc::{AllocError, Global};
 
@@ -50,6 +51,14 @@ fn put_numbers(text: &mut String, region: &Region, client: usize) -> Result<(), 
         "away"
     };
     write!(text, " {first}..{digested}..{end} {place};")
+}
+
+/// Appends what a stat says of an inode, and its bytes, which are text, or its links; or that there is none.
+fn put_found(alloc: Global, text: &mut String, found: Option<&Inode>) -> Option<()> {
+    match found {
+        Some(inode) => put_inode(alloc, text, inode),
+        None => text.push_str(" none;").ok(),
+    }
 }
 
 /// Appends an inode as a client that lives here reads it.

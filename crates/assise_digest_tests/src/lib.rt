@@ -8,8 +8,6 @@ mod asked;
 #[cfg(test)]
 mod changes;
 #[cfg(test)]
-mod inode_text;
-#[cfg(test)]
 mod rebuilt;
 #[cfg(test)]
 mod records;

@@ -2,11 +2,10 @@
 ghost use Rattle.std.specs.Prelude.{◌≡◌, ◌∷◌, [], IfSome};
 ghost use Rattle.assise_inode_table.specs.Whole.{CanBeMadeWhole};
 
+use assise_effect_texts::effects::{extent_of, size_of, split_name, split_number};
 use assise_inode_table::inode::Inode;
-use assise_names::name::Name;
-use assise_record::effect::{Effect, Extent, FileSize, MOST_FILE_BYTES};
+use assise_record::effect::Effect;
 use assise_record::record::Record;
-use bytes::Bytes;
 use std::alloc::Global;
 
 /// The record of a call, if the text says one.
@@ -96,28 +95,10 @@ fn change_of(alloc: Global, name: &str, text: &str) -> Option<Effect> {
             Some(Effect::Write { inode, extent })
         }
         "truncate" => {
-            let size = size_of(rest.parse::<u32>().ok()?)?;
+            let size = size_of(rest)?;
             Some(Effect::SetLen { inode, size })
         }
         _ => None,
-    }
-}
-
-/// A few bytes near the beginning of a file.
-fn extent_of(alloc: Global, offset: u64, text: &str) -> Option<Extent> {
-    let bytes = Bytes::copy_from_slice(alloc, text.as_bytes()).ok()?;
-    if offset <= 9 && !bytes.is_empty() && bytes.len() <= 9 {
-        Some(Extent::new(offset as u32, bytes))
-    } else {
-        None
-    }
-}
-
-fn size_of(bytes: u32) -> Option<FileSize> {
-    if bytes <= MOST_FILE_BYTES {
-        Some(FileSize::new(bytes))
-    } else {
-        None
     }
 }
 
@@ -128,16 +109,4 @@ pub(crate) fn file_of(alloc: Global, text: &str) -> Option<Inode> {
     file.change(alloc, &Effect::Write { inode: 0, extent })
         .ok()?;
     Some(file)
-}
-
-/// The number in front, and what stands behind it.
-fn split_number(text: &str) -> Option<(u64, &str)> {
-    let (number, rest) = text.split_once(' ')?;
-    Some((number.parse::<u64>().ok()?, rest))
-}
-
-/// The name in front, and what stands behind it.
-fn split_name(alloc: Global, text: &str) -> Option<(Name, &str)> {
-    let (name, rest) = text.split_once(' ')?;
-    Some((Name::parse(alloc, name).ok()?, rest))
 }

@@ -4,6 +4,7 @@ use crate::changes::{
     append, cut_tail, digest, drop_front, fill, lose, refill, set_hot_capacity, stale,
 };
 use assise_digest::region::Region;
+use assise_rows::split_word;
 use std::alloc::Global;
 
 /// Makes steps, which have commas between them, and appends what they answer.
@@ -48,13 +49,5 @@ fn put_step_of_inode(
         "hot" => set_hot_capacity(region, rest.parse::<usize>().ok()?),
         "lose" => lose(region, rest),
         _ => put_answer(alloc, region, word, rest, text),
-    }
-}
-
-/// The word in front, and what stands behind it.
-fn split_word(text: &str) -> (&str, &str) {
-    match text.split_once(' ') {
-        Some(parts) => parts,
-        None => (text, ""),
     }
 }

@@ -22,7 +22,7 @@ pub(crate) fn put_plan(text: &mut String, planned: &Planned) -> Result<(), Alloc
 }
 
 fn put_answer(text: &mut String, reply: &Reply, visits: &[u64]) -> Result<(), AllocError> {
-    write!(text, "{reply} {visits:?}")
+    write!(text, " {reply} {visits:?}")
 }
 
 fn put_lease(text: &mut String, inode: u64, mode: Mode) -> Result<(), AllocError> {
@@ -30,7 +30,7 @@ fn put_lease(text: &mut String, inode: u64, mode: Mode) -> Result<(), AllocError
         Mode::Read => "read",
         Mode::Write => "write",
     };
-    write!(text, "missing {inode} {word}")
+    write!(text, " missing {inode} {word}")
 }
 
 fn put_effects(text: &mut String, effects: &[Effect]) -> Result<(), AllocError> {

@@ -12,6 +12,7 @@ use assise_inode_table::table::InodeTable;
 use assise_names::call::Op;
 use assise_names::refusal::Refusal;
 use assise_record::effect::MOST_EXTENT_BYTES;
+use assise_rows::{Subject, wrong_rows};
 use std::alloc::{AllocError, Global};
 use std::process::Abort;
 
@@ -27,39 +28,27 @@ pub(crate) fn show(alloc: Global, rt: &impl Abort, texts: &[&str]) {
 }
 
 fn show_rows(alloc: Global, rt: &impl Abort, rows: &str) {
-    let wrong = wrong_rows(alloc, rows).expect(rt, "out of memory");
+    let inodes = InodeTable::opening(alloc).expect(rt, "out of memory");
+    let mut planning = Planning {
+        inodes,
+        fresh: FIRST,
+    };
+    let wrong = wrong_rows(alloc, &mut planning, rows).expect(rt, "out of memory");
     assert!(rt; wrong.is_empty(), "what is planned:\n{wrong}");
 }
 
-/// The rows that say something else than what is planned, with what is planned in its place.
-fn wrong_rows(alloc: Global, rows: &str) -> Result<String, Refusal> {
-    let mut inodes = InodeTable::opening(alloc)?;
-    let mut wrong = String::new(alloc);
-    put_wrong_rows(alloc, &mut inodes, rows, &mut wrong)?;
-    Ok(wrong)
+/// The inodes for which calls are planned, and the number of the next one.
+#[derive(Drop)]
+struct Planning {
+    inodes: InodeTable,
+    fresh: u64,
 }
 
-fn put_wrong_rows(
-    alloc: Global,
-    inodes: &mut InodeTable,
-    rows: &str,
-    wrong: &mut String,
-) -> Result<(), AllocError> {
-    let mut fresh = FIRST;
-    for row in rows.lines() {
-        let right = right_row(alloc, inodes, call_of(row), fresh)?;
-        put_if_wrong(wrong, row, right)?;
-        fresh = next(inodes, fresh);
-    }
-    Ok(())
-}
-
-/// Appends the right row, if the row is another one.
-fn put_if_wrong(wrong: &mut String, row: &str, right: String) -> Result<(), AllocError> {
-    if row == right.as_str() {
-        Ok(())
-    } else {
-        writeln!(wrong, "{right}")
+impl Subject for Planning {
+    fn put(&mut self, alloc: Global, steps: &str, text: &mut String) -> Option<()> {
+        let planned = planned_row(alloc, &mut self.inodes, steps, self.fresh)?;
+        self.fresh = next(&self.inodes, self.fresh);
+        put_plan(text, &planned).ok()
     }
 }
 
@@ -69,27 +58,6 @@ fn next(inodes: &InodeTable, fresh: u64) -> u64 {
         fresh.wrapping_add(1)
     } else {
         fresh
-    }
-}
-
-/// The row `CALL => PLAN` of a call. Where there is no such call the plan is empty.
-fn right_row(
-    alloc: Global,
-    inodes: &mut InodeTable,
-    call: &str,
-    fresh: u64,
-) -> Result<String, AllocError> {
-    let mut text = format!(in alloc; "{call} => ")?;
-    if let Some(planned) = planned_row(alloc, inodes, call, fresh) {
-        put_plan(&mut text, &planned)?;
-    }
-    Ok(text)
-}
-
-fn call_of(row: &str) -> &str {
-    match row.split_once(" => ") {
-        Some((call, _)) => call,
-        None => row,
     }
 }
 

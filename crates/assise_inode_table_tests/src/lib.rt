@@ -8,10 +8,6 @@ mod calls;
 #[cfg(test)]
 mod effects;
 #[cfg(test)]
-mod inode_text;
-#[cfg(test)]
-mod rows;
-#[cfg(test)]
 mod subjects;
 #[cfg(test)]
 mod tests;

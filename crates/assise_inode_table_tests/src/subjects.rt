@@ -1,15 +1,23 @@
-// What the tests ask.
+// What the rows of the tests ask.
 use crate::calls::{reply_on, reply_over};
-use crate::effects::{make, make_on_copies};
-use crate::inode_text::put_inodes;
-use crate::rows::Subject;
+use crate::effects::make_on_copies;
+use assise_effect_texts::effects::make;
+use assise_effect_texts::inodes::put_inodes;
 use assise_inode_table::directory::Directory;
 use assise_inode_table::numbers::inode_number;
 use assise_inode_table::table::InodeTable;
 use assise_names::name::Name;
 use assise_names::reply::Reply;
+use assise_rows::{Subject, wrong_rows};
 use assise_seq_tree::tree::Tree;
 use std::alloc::{AllocError, Global};
+use std::process::Abort;
+
+/// Sees that each row `ASKED => OUTCOME` says what comes out.
+pub(crate) fn show<S: Subject>(alloc: Global, rt: &impl Abort, subject: &mut S, rows: &str) {
+    let wrong = wrong_rows(alloc, subject, rows).expect(rt, "out of memory");
+    assert!(rt; wrong.is_empty(), "what comes out:\n{wrong}");
+}
 
 /// Effects on a table with only what the effects `before` make, all or none. All inodes come out.
 #[derive(Clone, Copy)]
@@ -59,22 +67,32 @@ fn copy(alloc: Global, table: &mut InodeTable) -> Option<()> {
     }
 }
 
-/// Effects and calls, one after another. Calls are known by their paths.
-impl Subject for InodeTable {
+/// Effects on a table and calls over it, one after another. Calls are known by their paths.
+#[derive(Drop)]
+pub(crate) struct OverInodes {
+    pub(crate) table: InodeTable,
+}
+
+impl Subject for OverInodes {
     fn put(&mut self, alloc: Global, asked: &str, text: &mut String) -> Option<()> {
         if asked.contains('/') {
-            let reply = reply_over(alloc, self, asked)?;
+            let reply = reply_over(alloc, &self.table, asked)?;
             put_reply(text, &reply).ok()
         } else {
-            put_effects(alloc, self, asked, text)
+            put_effects(alloc, &mut self.table, asked, text)
         }
     }
 }
 
-/// Calls, one after another.
-impl Subject for Tree {
+/// Calls on the sequential tree, one after another.
+#[derive(Drop)]
+pub(crate) struct OnTree {
+    pub(crate) tree: Tree,
+}
+
+impl Subject for OnTree {
     fn put(&mut self, alloc: Global, asked: &str, text: &mut String) -> Option<()> {
-        let reply = reply_on(alloc, self, asked)?;
+        let reply = reply_on(alloc, &mut self.tree, asked)?;
         put_reply(text, &reply).ok()
     }
 }
@@ -83,11 +101,16 @@ fn put_reply(text: &mut String, reply: &Reply) -> Result<(), AllocError> {
     write!(text, " {reply}")
 }
 
-/// Names of new entries.
-impl Subject for Directory {
+/// Names of new entries of a directory.
+#[derive(Drop)]
+pub(crate) struct NewEntries {
+    pub(crate) directory: Directory,
+}
+
+impl Subject for NewEntries {
     fn put(&mut self, alloc: Global, asked: &str, text: &mut String) -> Option<()> {
         let name = Name::parse(alloc, asked).ok()?;
-        match self.room_for(&name) {
+        match self.directory.room_for(&name) {
             Ok(()) => text.push_str(" room").ok(),
             Err(error) => put_reply(text, &Reply::Error(error)).ok(),
         }

@@ -1,76 +1,18 @@
 // Effects case by case, copies, and walks beside the sequential tree.
-use crate::rows::show;
-use crate::subjects::{Copies, Effects, Numbers};
+use crate::subjects::{Copies, Effects, NewEntries, Numbers, OnTree, OverInodes, show};
+use assise_effect_texts::cases::CASES;
 use assise_inode_table::directory::Directory;
 use assise_inode_table::table::InodeTable;
 use assise_names::name::Name;
 use assise_seq_tree::tree::Tree;
 use std::alloc::Global;
 
-/// Effects on what is not there, beside another file.
-const ON_NOTHING: &str = "\
-new_file 7 => 7 file 0; 8 file 6 beside;
-new_dir 7 => 7 dir 0; 8 file 6 beside;
-write 7 0 xy => 8 file 6 beside;
-set_len 7 3 => 8 file 6 beside;
-link 7 a 9 => 8 file 6 beside;
-unlink 7 a => 8 file 6 beside;
-free 7 => 8 file 6 beside;
-";
-
-/// Effects on the file `abcd`.
-const ON_A_FILE: &str = "\
-new_file 7 => 7 file 0; 8 file 6 beside;
-new_dir 7 => 7 dir 0; 8 file 6 beside;
-write 7 0 xy => 7 file 4 xycd; 8 file 6 beside;
-write 7 1 xy => 7 file 4 axyd; 8 file 6 beside;
-write 7 2 xy => 7 file 4 abxy; 8 file 6 beside;
-write 7 3 xy => 7 file 5 abcxy; 8 file 6 beside;
-write 7 4 xy => 7 file 6 abcdxy; 8 file 6 beside;
-write 7 6 xy => 7 file 8 abcd\0\0xy; 8 file 6 beside;
-write 7 0 vwxyz => 7 file 5 vwxyz; 8 file 6 beside;
-set_len 7 0 => 7 file 0; 8 file 6 beside;
-set_len 7 2 => 7 file 2 ab; 8 file 6 beside;
-set_len 7 4 => 7 file 4 abcd; 8 file 6 beside;
-set_len 7 6 => 7 file 6 abcd\0\0; 8 file 6 beside;
-link 7 a 9 => 7 file 4 abcd; 8 file 6 beside;
-unlink 7 a => 7 file 4 abcd; 8 file 6 beside;
-free 7 => 8 file 6 beside;
-";
-
-/// Effects on a directory of the entries `a` and `b`.
-const ON_A_DIRECTORY: &str = "\
-new_file 7 => 7 file 0; 8 file 6 beside;
-new_dir 7 => 7 dir 0; 8 file 6 beside;
-write 7 0 xy => 7 dir 2 a:1 b:2; 8 file 6 beside;
-set_len 7 3 => 7 dir 2 a:1 b:2; 8 file 6 beside;
-link 7 c 3 => 7 dir 3 a:1 b:2 c:3; 8 file 6 beside;
-link 7 ab 3 => 7 dir 3 a:1 ab:3 b:2; 8 file 6 beside;
-link 7 a 3 => 7 dir 2 a:3 b:2; 8 file 6 beside;
-unlink 7 a => 7 dir 1 b:2; 8 file 6 beside;
-unlink 7 c => 7 dir 2 a:1 b:2; 8 file 6 beside;
-free 7 => 8 file 6 beside;
-";
-
-/// Names rise by their bytes.
-const ENTRIES: &str = "\
-new_dir 7 => 7 dir 0;
-link 7 b 0, link 7 B 1, link 7 a 2 => 7 dir 3 B:1 a:2 b:0;
-link 7 b 0, link 7 ab 1, link 7 a 2 => 7 dir 3 a:2 ab:1 b:0;
-link 7 é 0, link 7 z 1, link 7 ~ 2 => 7 dir 3 z:1 ~:2 é:0;
-link 7 b 0, link 7 a 1, link 7 b 2 => 7 dir 2 a:1 b:2;
-";
-
 #[test]
 fn effects_change_one_inode(rt: HostRuntime) {
-    let before = "new_file 8, write 8 0 beside";
-    show(rt.alloc(), &rt, &mut Effects { before }, ON_NOTHING);
-    let before = "new_file 7, write 7 0 abcd, new_file 8, write 8 0 beside";
-    show(rt.alloc(), &rt, &mut Effects { before }, ON_A_FILE);
-    let before = "new_dir 7, link 7 a 1, link 7 b 2, new_file 8, write 8 0 beside";
-    show(rt.alloc(), &rt, &mut Effects { before }, ON_A_DIRECTORY);
-    let before = "new_dir 7";
-    show(rt.alloc(), &rt, &mut Effects { before }, ENTRIES);
+    for case in CASES {
+        let before = case.before;
+        show(rt.alloc(), &rt, &mut Effects { before }, case.rows);
+    }
 }
 
 const COPIED: &str = "\
@@ -145,13 +87,15 @@ read /h/x 18446744073709551615 4 => E1 NoEnt
 
 #[test]
 fn walks_agree_with_the_tree(rt: HostRuntime) {
-    let mut table = InodeTable::opening(rt.alloc()).expect(&rt, "out of memory");
-    show(rt.alloc(), &rt, &mut table, READS);
-    show(rt.alloc(), &rt, &mut table, BY_EFFECTS);
-    show(rt.alloc(), &rt, &mut table, WALKS);
-    let mut tree = Tree::new(rt.alloc());
-    show(rt.alloc(), &rt, &mut tree, BY_CALLS);
-    show(rt.alloc(), &rt, &mut tree, WALKS);
+    let table = InodeTable::opening(rt.alloc()).expect(&rt, "out of memory");
+    let mut over = OverInodes { table };
+    show(rt.alloc(), &rt, &mut over, READS);
+    show(rt.alloc(), &rt, &mut over, BY_EFFECTS);
+    show(rt.alloc(), &rt, &mut over, WALKS);
+    let tree = Tree::new(rt.alloc());
+    let mut on = OnTree { tree };
+    show(rt.alloc(), &rt, &mut on, BY_CALLS);
+    show(rt.alloc(), &rt, &mut on, WALKS);
 }
 
 /// A file in a directory is reached, and what is taken out is not.
@@ -180,8 +124,8 @@ stat /d => E1 NoEnt
 
 #[test]
 fn entries_are_reached(rt: HostRuntime) {
-    let mut table = InodeTable::opening(rt.alloc()).expect(&rt, "out of memory");
-    show(rt.alloc(), &rt, &mut table, REACHED);
+    let table = InodeTable::opening(rt.alloc()).expect(&rt, "out of memory");
+    show(rt.alloc(), &rt, &mut OverInodes { table }, REACHED);
 }
 
 const FULL: &str = "\
@@ -220,9 +164,10 @@ fn name_of(alloc: Global, number: u64) -> Option<Name> {
 fn a_directory_has_room_for_4096_entries(rt: HostRuntime) {
     let mut directory = Directory::new(rt.alloc());
     fill(rt.alloc(), &mut directory).expect(&rt, "no room");
-    show(rt.alloc(), &rt, &mut directory, FULL);
-    assert!(rt; remove(rt.alloc(), &mut directory, 7) == Some(4095));
-    show(rt.alloc(), &rt, &mut directory, NOT_FULL);
+    let mut entries = NewEntries { directory };
+    show(rt.alloc(), &rt, &mut entries, FULL);
+    assert!(rt; remove(rt.alloc(), &mut entries.directory, 7) == Some(4095));
+    show(rt.alloc(), &rt, &mut entries, NOT_FULL);
 }
 
 /// Each client has its own numbers.

@@ -6,16 +6,16 @@ use assise_lease_table::client_table::{ClientTable, ClientTableOf};
 use assise_names::mode::Mode;
 use assise_private_log::log_view::LogView;
 use assise_revokers::kinds::{eights, least, whole};
-use assise_rows::Steps;
+use assise_rows::Subject;
 use std::alloc::Global;
 
 /// `FIRST END LAST`: a log, with the last touch of inode 7. What the three kinds answer is told twice: as the functions
 /// answer, and as three clients that stored them answer when they are asked for inode 7.
-#[derive(Drop)]
-struct Kinds {}
+#[derive(Clone, Copy)]
+struct Kinds;
 
-impl Steps for Kinds {
-    fn put_outcome(alloc: Global, steps: &str, text: &mut String) -> Option<()> {
+impl Subject for Kinds {
+    fn put(&mut self, alloc: Global, steps: &str, text: &mut String) -> Option<()> {
         let logs = logs_of(alloc, steps)?;
         put_cuts(alloc, logs.log.view(), text)?;
         let mut table: ClientTable = ClientTableOf::new(alloc);
@@ -65,5 +65,5 @@ const CUTS: &str = "\
 
 #[test]
 fn the_kinds_answer_cuts(rt: HostRuntime) {
-    show::<Kinds>(rt.alloc(), &rt, CUTS);
+    show(rt.alloc(), &rt, &mut Kinds, CUTS);
 }

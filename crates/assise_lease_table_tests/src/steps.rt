@@ -7,24 +7,24 @@ use assise_lease_table::revoker::Revoker;
 use assise_names::mode::Mode;
 use assise_private_log::log_view::LogView;
 use assise_revokers::kinds::{eights, least, whole};
-use assise_rows::{Steps, split_word, wrong_rows};
+use assise_rows::{Subject, split_word, wrong_rows};
 use std::alloc::{AllocError, Global};
 use std::process::Abort;
 
 type Cut = Box<dyn Fn(&LogView, u64) -> u64 + Send>;
 
 /// Sees that each row says what comes out.
-pub(crate) fn show<S: Steps>(alloc: Global, rt: &impl Abort, rows: &str) {
-    let wrong = wrong_rows::<S>(alloc, rows).expect(rt, "out of memory");
+pub(crate) fn show<S: Subject>(alloc: Global, rt: &impl Abort, subject: &mut S, rows: &str) {
+    let wrong = wrong_rows(alloc, subject, rows).expect(rt, "out of memory");
     assert!(rt; wrong.is_empty(), "what comes out:\n{wrong}");
 }
 
 /// A new table of clients, which all have a log without records.
-#[derive(Drop)]
-pub(crate) struct NewClients {}
+#[derive(Clone, Copy)]
+pub(crate) struct NewClients;
 
-impl Steps for NewClients {
-    fn put_outcome(alloc: Global, steps: &str, text: &mut String) -> Option<()> {
+impl Subject for NewClients {
+    fn put(&mut self, alloc: Global, steps: &str, text: &mut String) -> Option<()> {
         let logs = log_of(alloc, 0, 0, None)?;
         let mut table = ClientTableOf::new(alloc);
         for step in steps.split_terminator(", ") {
@@ -157,11 +157,11 @@ fn put_leases(leases: &[Lease], text: &mut String) -> Result<(), AllocError> {
 }
 
 /// A new table of nodes.
-#[derive(Drop)]
-pub(crate) struct NewNodes {}
+#[derive(Clone, Copy)]
+pub(crate) struct NewNodes;
 
-impl Steps for NewNodes {
-    fn put_outcome(alloc: Global, steps: &str, text: &mut String) -> Option<()> {
+impl Subject for NewNodes {
+    fn put(&mut self, alloc: Global, steps: &str, text: &mut String) -> Option<()> {
         let mut table = NodeTable::new(alloc);
         for step in steps.split_terminator(", ") {
             put_node_step(&mut table, step, text)?;

@@ -22,10 +22,10 @@ write 1 7, read 2 8, freeze 1, leases 0 7, leases 0 8 => held held [1w*;] [2r;]
 
 #[test]
 fn clients_hold_and_are_asked(rt: HostRuntime) {
-    show::<NewClients>(rt.alloc(), &rt, CLIENTS);
+    show(rt.alloc(), &rt, &mut NewClients, CLIENTS);
 }
 
 #[test]
 fn nodes_hold_and_are_asked(rt: HostRuntime) {
-    show::<NewNodes>(rt.alloc(), &rt, NODES);
+    show(rt.alloc(), &rt, &mut NewNodes, NODES);
 }

@@ -8,24 +8,24 @@ use assise_names::mode::Mode;
 use assise_names::refusal::Refusal;
 use assise_private_log::log_view::LogView;
 use assise_revokers::kinds::{eights, least, whole};
-use assise_rows::{Steps, split_word, wrong_rows};
+use assise_rows::{Subject, split_word, wrong_rows};
 use std::alloc::{AllocError, Global};
 use std::process::Abort;
 
 type Cut = Box<dyn Fn(&LogView, u64) -> u64 + Send>;
 
 /// Sees that each row says what comes out.
-pub(crate) fn show<S: Steps>(alloc: Global, rt: &impl Abort, rows: &str) {
-    let wrong = wrong_rows::<S>(alloc, rows).expect(rt, "out of memory");
+pub(crate) fn show<S: Subject>(alloc: Global, rt: &impl Abort, subject: &mut S, rows: &str) {
+    let wrong = wrong_rows(alloc, subject, rows).expect(rt, "out of memory");
     assert!(rt; wrong.is_empty(), "what comes out:\n{wrong}");
 }
 
 /// A new tree of leases, with three logs without records.
-#[derive(Drop)]
-pub(crate) struct NewTree {}
+#[derive(Clone, Copy)]
+pub(crate) struct NewTree;
 
-impl Steps for NewTree {
-    fn put_outcome(alloc: Global, steps: &str, text: &mut String) -> Option<()> {
+impl Subject for NewTree {
+    fn put(&mut self, alloc: Global, steps: &str, text: &mut String) -> Option<()> {
         let mut logs = Logs::new(alloc)?;
         let mut tree = LeaseTreeOf::new(alloc);
         put_steps(alloc, &mut tree, &mut logs, steps, text)

@@ -52,14 +52,14 @@ enrol 1 1 least, enrol 2 2 least, write 1 7, below 1, write 2 7, release 1 7, wr
 
 #[test]
 fn leases_are_acquired_step_by_step(rt: HostRuntime) {
-    show::<NewTree>(rt.alloc(), &rt, MODES);
-    show::<NewTree>(rt.alloc(), &rt, ASKED);
-    show::<NewTree>(rt.alloc(), &rt, CROSSING);
+    show(rt.alloc(), &rt, &mut NewTree, MODES);
+    show(rt.alloc(), &rt, &mut NewTree, ASKED);
+    show(rt.alloc(), &rt, &mut NewTree, CROSSING);
 }
 
 #[test]
 fn nodes_give_their_leases_up_and_clients_are_frozen(rt: HostRuntime) {
-    show::<NewTree>(rt.alloc(), &rt, NODES);
-    show::<NewTree>(rt.alloc(), &rt, FROZEN);
-    show::<NewTree>(rt.alloc(), &rt, BELOW);
+    show(rt.alloc(), &rt, &mut NewTree, NODES);
+    show(rt.alloc(), &rt, &mut NewTree, FROZEN);
+    show(rt.alloc(), &rt, &mut NewTree, BELOW);
 }

@@ -1,23 +1,23 @@
 // What is done to members and asked of them, as text.
 use assise_manager::members::Members;
 use assise_names::refusal::Refusal;
-use assise_rows::{Steps, split_word, wrong_rows};
+use assise_rows::{Subject, split_word, wrong_rows};
 use std::alloc::{AllocError, Global};
 use std::collections::VecDeque;
 use std::process::Abort;
 
 /// Sees that each row says what comes out.
-pub(crate) fn show<S: Steps>(alloc: Global, rt: &impl Abort, rows: &str) {
-    let wrong = wrong_rows::<S>(alloc, rows).expect(rt, "out of memory");
+pub(crate) fn show<S: Subject>(alloc: Global, rt: &impl Abort, subject: &mut S, rows: &str) {
+    let wrong = wrong_rows(alloc, subject, rows).expect(rt, "out of memory");
     assert!(rt; wrong.is_empty(), "what comes out:\n{wrong}");
 }
 
 /// `COUNT, STEPS`: so many nodes, all full, and what is done to them.
-#[derive(Drop)]
-pub(crate) struct NewMembers {}
+#[derive(Clone, Copy)]
+pub(crate) struct NewMembers;
 
-impl Steps for NewMembers {
-    fn put_outcome(alloc: Global, steps: &str, text: &mut String) -> Option<()> {
+impl Subject for NewMembers {
+    fn put(&mut self, alloc: Global, steps: &str, text: &mut String) -> Option<()> {
         let (count, steps) = steps.split_once(", ")?;
         let mut members = members_of(alloc, count.parse::<u32>().ok()?)?;
         for step in steps.split_terminator(", ") {

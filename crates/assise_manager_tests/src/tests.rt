@@ -65,19 +65,19 @@ const REFUSED: &str = "\
 
 #[test]
 fn nodes_fail_and_come_back(rt: HostRuntime) {
-    show::<NewMembers>(rt.alloc(), &rt, RETURNS);
-    show::<NewMembers>(rt.alloc(), &rt, AGAIN);
-    show::<NewMembers>(rt.alloc(), &rt, EIGHT);
+    show(rt.alloc(), &rt, &mut NewMembers, RETURNS);
+    show(rt.alloc(), &rt, &mut NewMembers, AGAIN);
+    show(rt.alloc(), &rt, &mut NewMembers, EIGHT);
 }
 
 #[test]
 fn lists_and_donors_are_kept(rt: HostRuntime) {
-    show::<NewMembers>(rt.alloc(), &rt, LISTS);
-    show::<NewMembers>(rt.alloc(), &rt, DONORS);
-    show::<NewMembers>(rt.alloc(), &rt, WRITTEN);
+    show(rt.alloc(), &rt, &mut NewMembers, LISTS);
+    show(rt.alloc(), &rt, &mut NewMembers, DONORS);
+    show(rt.alloc(), &rt, &mut NewMembers, WRITTEN);
 }
 
 #[test]
 fn calls_are_refused(rt: HostRuntime) {
-    show::<NewMembers>(rt.alloc(), &rt, REFUSED);
+    show(rt.alloc(), &rt, &mut NewMembers, REFUSED);
 }

@@ -3,6 +3,7 @@ use assise_names::refusal::Refusal;
 use assise_private_log::log::Log;
 use assise_record::effect::Effect;
 use assise_record::record::Record;
+use assise_rows::split_word;
 use std::alloc::{AllocError, Global};
 
 /// Makes steps, which have commas between them, and appends what they answer.
@@ -29,14 +30,6 @@ fn put_step(alloc: Global, log: &mut Log, step: &str, text: &mut String) -> Opti
             Some(())
         }
         _ => put_answer(log, word, rest, text).ok(),
-    }
-}
-
-/// The word in front, and what stands behind it.
-fn split_word(text: &str) -> (&str, &str) {
-    match text.split_once(' ') {
-        Some(parts) => parts,
-        None => (text, ""),
     }
 }
 

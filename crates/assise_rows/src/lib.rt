@@ -3,17 +3,21 @@
 
 use std::alloc::{AllocError, Global};
 
-/// What the steps of a row are made on.
-pub trait Steps {
-    /// Makes the steps, and appends what comes out behind a space each. None ends a row that can't be made.
-    fn put_outcome(alloc: Global, steps: &str, text: &mut String) -> Option<()>;
+/// What the steps of rows are made on, one row after another.
+pub trait Subject {
+    /// Makes the steps of a row, and appends what comes out behind a space each. None ends a row that can't be made.
+    fn put(&mut self, alloc: Global, steps: &str, text: &mut String) -> Option<()>;
 }
 
 /// The rows that say something else than what comes out, with what comes out in its place. A test shows that there are none.
-pub fn wrong_rows<S: Steps>(alloc: Global, rows: &str) -> Result<String, AllocError> {
+pub fn wrong_rows<S: Subject>(
+    alloc: Global,
+    subject: &mut S,
+    rows: &str,
+) -> Result<String, AllocError> {
     let mut wrong = String::new(alloc);
     for row in rows.lines() {
-        let right = right_row::<S>(alloc, steps_in(row))?;
+        let right = right_row(alloc, subject, steps_in(row))?;
         put_if_wrong(&mut wrong, row, right)?;
     }
     Ok(wrong)
@@ -28,13 +32,18 @@ fn put_if_wrong(wrong: &mut String, row: &str, right: String) -> Result<(), Allo
     }
 }
 
-fn right_row<S: Steps>(alloc: Global, steps: &str) -> Result<String, AllocError> {
+fn right_row<S: Subject>(
+    alloc: Global,
+    subject: &mut S,
+    steps: &str,
+) -> Result<String, AllocError> {
     let mut text = format!(in alloc; "{steps} =>")?;
-    let _ = S::put_outcome(alloc, steps, &mut text);
+    let _ = subject.put(alloc, steps, &mut text);
     Ok(text)
 }
 
-fn steps_in(row: &str) -> &str {
+/// The steps of a row, or all of it where it says nothing more.
+pub fn steps_in(row: &str) -> &str {
     match row.split_once(" =>") {
         Some((steps, _)) => steps,
         None => row,

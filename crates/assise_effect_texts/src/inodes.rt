@@ -7,25 +7,32 @@ use assise_names::name::Name;
 use assise_names::reply::TreeError;
 use std::alloc::{AllocError, Global};
 
-/// Appends each inode with a number up to 11: what a stat says, and the bytes, which are text, or the links.
-pub(crate) fn put_inodes<I: Inodes>(alloc: Global, text: &mut String, inodes: &I) -> Option<()> {
+/// Appends each inode with a number up to 11: the number, and what [`put_inode`] says. None where there is no memory, or an
+/// inode that can't be told.
+pub fn put_inodes<I: Inodes>(alloc: Global, text: &mut String, inodes: &I) -> Option<()> {
     for number in 0..12 {
         if let Some(inode) = inodes.get(number) {
-            put_inode(alloc, text, number, inode)?;
+            put_number(text, number).ok()?;
+            put_inode(alloc, text, inode)?;
         }
     }
     Some(())
 }
 
-fn put_inode(alloc: Global, text: &mut String, number: u64, inode: &Inode) -> Option<()> {
-    put_description(text, number, inode).ok()?;
+fn put_number(text: &mut String, number: u64) -> Result<(), AllocError> {
+    write!(text, " {number}")
+}
+
+/// Appends what a stat says of an inode, and its bytes, which are text, or its links.
+pub fn put_inode(alloc: Global, text: &mut String, inode: &Inode) -> Option<()> {
+    put_description(text, inode).ok()?;
     put_content(alloc, text, inode)?;
     text.push(';').ok()
 }
 
-fn put_description(text: &mut String, number: u64, inode: &Inode) -> Result<(), AllocError> {
+fn put_description(text: &mut String, inode: &Inode) -> Result<(), AllocError> {
     let description = inode.describe();
-    write!(text, " {number} {description}")
+    write!(text, " {description}")
 }
 
 fn put_content(alloc: Global, text: &mut String, inode: &Inode) -> Option<()> {

@@ -1,13 +1,12 @@
 // Effects written as text: a name, the inode that is changed, and what else there is.
-use assise_area::area::Area;
 use assise_inode_table::store::InodeStore;
 use assise_names::name::Name;
 use assise_record::effect::{Effect, Extent, FileSize, MOST_FILE_BYTES};
 use bytes::Bytes;
 use std::alloc::Global;
 
-/// Makes effects, which have commas between them, one after another.
-pub(crate) fn make<S: InodeStore>(alloc: Global, store: &mut S, effects: &str) -> Option<()> {
+/// Makes effects, which have commas between them, one after another. None where a text says none, or there is no memory.
+pub fn make<S: InodeStore>(alloc: Global, store: &mut S, effects: &str) -> Option<()> {
     for effect in effects.split_terminator(", ") {
         make_one(alloc, store, effect)?;
     }
@@ -19,22 +18,9 @@ fn make_one<S: InodeStore>(alloc: Global, store: &mut S, effect: &str) -> Option
     store.apply(&effect).ok()
 }
 
-/// Makes effects, which have commas between them, and uses the inode of each one after it.
-pub(crate) fn make_and_use(alloc: Global, area: &mut Area, effects: &str) -> Option<()> {
-    for effect in effects.split_terminator(", ") {
-        make_and_use_one(alloc, area, effect)?;
-    }
-    Some(())
-}
-
-fn make_and_use_one(alloc: Global, area: &mut Area, effect: &str) -> Option<()> {
-    let effect = effect_of(alloc, effect)?;
-    area.apply(&effect).ok()?;
-    area.touch(effect.touches());
-    Some(())
-}
-
-fn effect_of(alloc: Global, text: &str) -> Option<Effect> {
+/// The effect that a text says: `new_file INODE`, `new_dir INODE`, `free INODE`, `write INODE OFFSET TEXT`,
+/// `set_len INODE SIZE`, `link DIRECTORY NAME INODE` or `unlink DIRECTORY NAME`.
+pub fn effect_of(alloc: Global, text: &str) -> Option<Effect> {
     let (name, rest) = text.split_once(' ')?;
     match name {
         "write" => write_of(alloc, rest),
@@ -57,21 +43,16 @@ fn whole_of(name: &str, inode: u64) -> Option<Effect> {
 
 fn write_of(alloc: Global, text: &str) -> Option<Effect> {
     let (inode, rest) = split_number(text)?;
-    let extent = extent_of(alloc, rest)?;
+    let (offset, text) = split_number(rest)?;
+    let extent = extent_of(alloc, offset, text)?;
     Some(Effect::Write { inode, extent })
 }
 
-/// A few bytes near the beginning of a file.
-fn extent_of(alloc: Global, text: &str) -> Option<Extent> {
-    let (offset, text) = text.split_once(' ')?;
-    let offset = offset.parse::<u32>().ok()?;
+/// A few bytes near the beginning of a file: 1 to 9 of them, at an offset of at most 9.
+pub fn extent_of(alloc: Global, offset: u64, text: &str) -> Option<Extent> {
     let bytes = Bytes::copy_from_slice(alloc, text.as_bytes()).ok()?;
-    short_extent(offset, bytes)
-}
-
-fn short_extent(offset: u32, bytes: Bytes) -> Option<Extent> {
     if offset <= 9 && !bytes.is_empty() && bytes.len() <= 9 {
-        Some(Extent::new(offset, bytes))
+        Some(Extent::new(offset as u32, bytes))
     } else {
         None
     }
@@ -79,11 +60,13 @@ fn short_extent(offset: u32, bytes: Bytes) -> Option<Extent> {
 
 fn set_len_of(text: &str) -> Option<Effect> {
     let (inode, rest) = split_number(text)?;
-    let size = size_of(rest.parse::<u32>().ok()?)?;
+    let size = size_of(rest)?;
     Some(Effect::SetLen { inode, size })
 }
 
-fn size_of(bytes: u32) -> Option<FileSize> {
+/// The length that a text says, if a file may have it.
+pub fn size_of(text: &str) -> Option<FileSize> {
+    let bytes = text.parse::<u32>().ok()?;
     if bytes <= MOST_FILE_BYTES {
         Some(FileSize::new(bytes))
     } else {
@@ -93,9 +76,8 @@ fn size_of(bytes: u32) -> Option<FileSize> {
 
 fn link_of(alloc: Global, text: &str) -> Option<Effect> {
     let (directory, rest) = split_number(text)?;
-    let (name, inode) = rest.split_once(' ')?;
+    let (name, inode) = split_name(alloc, rest)?;
     let inode = inode.parse::<u64>().ok()?;
-    let name = Name::parse(alloc, name).ok()?;
     Some(Effect::Link {
         directory,
         name,
@@ -110,7 +92,13 @@ fn unlink_of(alloc: Global, text: &str) -> Option<Effect> {
 }
 
 /// The number in front, and what stands behind it.
-fn split_number(text: &str) -> Option<(u64, &str)> {
+pub fn split_number(text: &str) -> Option<(u64, &str)> {
     let (number, rest) = text.split_once(' ')?;
     Some((number.parse::<u64>().ok()?, rest))
+}
+
+/// The name in front, and what stands behind it.
+pub fn split_name(alloc: Global, text: &str) -> Option<(Name, &str)> {
+    let (name, rest) = text.split_once(' ')?;
+    Some((Name::parse(alloc, name).ok()?, rest))
 }
