@@ -22,7 +22,7 @@ use std::alloc::Global;
 /// record isn't acknowledged, and where it is.
 pub(crate) fn stats(alloc: Global) -> Option<String> {
     let name = Name::parse(alloc, "f").ok()?;
-    let region = region_of(alloc, name.copy(alloc).ok()?)?;
+    let region = region_of(alloc, name.copy().ok()?)?;
     let mut lost = tree_where_lost(alloc, &region, &name)?;
     let mut kept = tree_where_kept(alloc, &region, &name)?;
     let lost = stat(alloc, &mut lost)?;

@@ -106,7 +106,6 @@ fn change_of(alloc: Global, name: &str, text: &str) -> Option<Effect> {
 pub(crate) fn file_of(alloc: Global, text: &str) -> Option<Inode> {
     let extent = extent_of(alloc, 0, text)?;
     let mut file = Inode::new_file(alloc);
-    file.change(alloc, &Effect::Write { inode: 0, extent })
-        .ok()?;
+    file.change(&Effect::Write { inode: 0, extent }).ok()?;
     Some(file)
 }

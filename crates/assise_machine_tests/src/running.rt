@@ -134,12 +134,22 @@ fn put_told(desk: &mut Desk, answer: Answer, text: &mut String) -> Option<()> {
 /// Runs the rows of each text as one list, one text after another, on two nodes. Sees that each row says what its step comes to, and
 /// that so many revokers are left.
 fn show(alloc: Global, rt: &impl Abort, kinds: &[RevokerKind], left: usize, texts: &[&str]) {
-    let mut desk = Desk::new(alloc, 2, 8).ok().expect(rt, "no memory");
     let mut stock = stock_of(alloc, kinds).expect(rt, "no memory");
-    for rows in texts {
-        show_rows(alloc, rt, &mut desk, &mut stock, rows);
-    }
+    let mut desk = Desk::new(alloc, 2, 8).ok().expect(rt, "no memory");
+    show_texts(alloc, rt, &mut desk, &mut stock, texts);
     assert_eq!(rt; stock.len(), left);
+}
+
+fn show_texts(
+    alloc: Global,
+    rt: &impl Abort,
+    desk: &mut Desk,
+    stock: &mut Vec<Asked>,
+    texts: &[&str],
+) {
+    for rows in texts {
+        show_rows(alloc, rt, desk, stock, rows);
+    }
 }
 
 fn show_rows(alloc: Global, rt: &impl Abort, desk: &mut Desk, stock: &mut Vec<Asked>, rows: &str) {
