@@ -13,16 +13,11 @@ use assise_inode_table::inode::Inode;
 use assise_names::refusal::Refusal;
 use assise_record::effect::Effect;
 use lru::LruCache;
-use std::alloc::Global;
 use std::collections::BTreeMap;
 use std::num::NonZeroUsize;
 
 /// Changes the cold inode that an effect touches, where there is one.
-pub(crate) fn change_cold(
-    alloc: Global,
-    cold: &mut BTreeMap<u64, Inode>,
-    effect: &Effect,
-) -> Result<(), Refusal>
+pub(crate) fn change_cold(cold: &mut BTreeMap<u64, Inode>, effect: &Effect) -> Result<(), Refusal>
     ensures taken_away { TakesAway effect.now → IsOk result }
     ensures ok { let inode = touched_by effect.now in let had = cold_at cold.old.entries inode in
         OnOk result ((q : ℕ) → cold_at cold.new.entries q ≡ cond (is_at (nat_cmp inode) q) (option_map (λ content. changed content effect.now) had) (cold_at cold.old.entries q)) }

@@ -167,7 +167,7 @@ impl Tree {
                 None => {
                     let mut child = Tree::new(alloc);
                     child.put(alloc, rest, tree)?;
-                    let key = name.copy(alloc)?;
+                    let key = name.copy()?;
                     entries.insert(key, child)?;
                     Ok(())
                 }
