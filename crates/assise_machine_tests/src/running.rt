@@ -8,7 +8,7 @@ use assise_fault_script::command::{Command, RevokerKind};
 use assise_machine::answer::Answer;
 use assise_machine::event::Event;
 use assise_machine::run::run;
-use assise_rows::split_word;
+use assise_rows::{split_word, steps_in};
 use std::alloc::{AllocError, Global};
 use std::process::Abort;
 
@@ -28,8 +28,7 @@ fn ran(alloc: Global, desk: &mut Desk, stock: &mut Vec<Asked>, rows: &str) -> Op
     let answers = run(alloc, &mut desk.cluster, events.as_slice(), stock).ok()?;
     let mut text = String::new(alloc);
     for (answer, row) in answers.into_iter().zip(rows.lines()) {
-        let (step, _) = row.split_once(" => ")?;
-        write!(text, "{step} => ").ok()?;
+        write!(text, "{} => ", steps_in(row)).ok()?;
         put_told(desk, answer, &mut text)?;
         text.push('\n').ok()?;
     }
@@ -40,8 +39,7 @@ fn ran(alloc: Global, desk: &mut Desk, stock: &mut Vec<Asked>, rows: &str) -> Op
 pub(crate) fn events_of(alloc: Global, desk: &Desk, rows: &str) -> Option<Vec<Event>> {
     let mut events = Vec::new(alloc);
     for row in rows.lines() {
-        let (step, _) = row.split_once(" => ")?;
-        events.push(event_of(alloc, desk, step)?).ok()?;
+        events.push(event_of(alloc, desk, steps_in(row))?).ok()?;
     }
     Some(events)
 }
