@@ -1,25 +1,13 @@
 // Nodes that fail and come back, and clients that crash.
-use crate::rows::{show, step_in};
+use crate::rows::{show, show_on};
 use crate::serving::Served;
 use std::alloc::Global;
 use std::process::Abort;
 
-/// What comes out of rows that are served with rounds, as rows.
-fn after_rounds(alloc: Global, rows: &str) -> Option<String> {
-    let mut served = Served::new(alloc, 2, 16).ok()?;
-    let mut text = String::new(alloc);
-    for row in rows.lines() {
-        let step = step_in(row);
-        served.serve(alloc, step)?;
-        writeln!(text, "{step} => {}", served.outcome.as_str()).ok()?;
-    }
-    Some(text)
-}
-
 /// Sees that each row says what its step comes to on two nodes, where rounds are made as long as it waits.
 fn show_rounds(alloc: Global, rt: &impl Abort, rows: &str) {
-    let right = after_rounds(alloc, rows).expect(rt, "no such step, or no memory");
-    assert!(rt; right.as_str() == rows, "what comes out:\n{right}");
+    let mut served = Served::new(alloc, 2, 16).expect(rt, "out of memory");
+    show_on(alloc, rt, &mut served, rows);
 }
 
 /// What wasn't synced is lost with its node.

@@ -3,8 +3,8 @@ ghost use Rattle.std.specs.Prelude.{◌<◌, ◌≤◌};
 
 use crate::desk::Desk;
 use crate::script::put_step;
-use assise_names::refusal::Refusal;
-use std::alloc::{AllocError, Global};
+use assise_rows::{Subject, wrong_rows};
+use std::alloc::Global;
 use std::process::Abort;
 
 /// Sees that each row says what its step comes to. The rows of all texts come one after another, from a new cluster of so many
@@ -23,63 +23,23 @@ pub(crate) fn show_long(alloc: Global, rt: &impl Abort, nodes: u32, log: usize, 
     requires least { 8 ≤ log }
     requires most { log ≤ 4096 }
 {
-    let wrong = wrong_rows(alloc, nodes, log, texts).expect(rt, "out of memory");
+    let mut desk = Desk::new(alloc, nodes, log).expect(rt, "out of memory");
+    for rows in texts {
+        show_on(alloc, rt, &mut desk, rows);
+    }
+}
+
+/// Sees that each row says what comes out.
+pub(crate) fn show_on<S: Subject>(alloc: Global, rt: &impl Abort, subject: &mut S, rows: &str) {
+    let wrong = wrong_rows(alloc, subject, rows).expect(rt, "out of memory");
     assert!(rt; wrong.is_empty(), "what comes out:\n{wrong}");
 }
 
-/// The rows that say something else than what comes out, with what comes out in its place.
-fn wrong_rows(alloc: Global, nodes: u32, log: usize, texts: &[&str]) -> Result<String, Refusal>
-    requires some { 0 < nodes }
-    requires few { nodes ≤ 8 }
-    requires least { 8 ≤ log }
-    requires most { log ≤ 4096 }
-{
-    let mut desk = Desk::new(alloc, nodes, log)?;
-    let mut wrong = String::new(alloc);
-    for rows in texts {
-        put_wrong_rows(alloc, &mut desk, rows, &mut wrong)?;
-    }
-    Ok(wrong)
-}
-
-fn put_wrong_rows(
-    alloc: Global,
-    desk: &mut Desk,
-    rows: &str,
-    wrong: &mut String,
-) -> Result<(), AllocError> {
-    for row in rows.lines() {
-        put_if_wrong(alloc, desk, row, wrong)?;
-    }
-    Ok(())
-}
-
-/// Makes the step of a row, and appends the right row, if the row is another one.
-fn put_if_wrong(
-    alloc: Global,
-    desk: &mut Desk,
-    row: &str,
-    wrong: &mut String,
-) -> Result<(), AllocError> {
-    let right = right_row(alloc, desk, step_in(row))?;
-    if row == right.as_str() {
-        Ok(())
-    } else {
-        writeln!(wrong, "{right}")
-    }
-}
-
-/// The row of a step. Where there is no such step, nothing comes out.
-fn right_row(alloc: Global, desk: &mut Desk, step: &str) -> Result<String, AllocError> {
-    let mut text = format!(in alloc; "{step} => ")?;
-    let _ = put_step(alloc, desk, step, &mut text);
-    Ok(text)
-}
-
-/// The step of a row, or all of it where it says nothing more.
-pub(crate) fn step_in(row: &str) -> &str {
-    match row.split_once(" => ") {
-        Some((step, _)) => step,
-        None => row,
+/// Steps on a cluster, one after another.
+impl Subject for Desk {
+    fn put(&mut self, alloc: Global, steps: &str, text: &mut String) -> Option<()> {
+        let mut outcome = String::new(alloc);
+        put_step(alloc, self, steps, &mut outcome)?;
+        write!(text, " {outcome}").ok()
     }
 }

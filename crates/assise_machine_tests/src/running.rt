@@ -1,7 +1,6 @@
 // Lists of events, with their answers.
 use crate::desk::{Asked, Desk};
 use crate::frames::changed;
-use crate::rows::step_in;
 use crate::script::{command, put_digested, put_opened, put_received, put_turn};
 use crate::told::{put_failed, put_sent, put_stale, put_told_of};
 use crate::words::{number_in, small_in};
@@ -9,7 +8,7 @@ use assise_fault_script::command::{Command, RevokerKind};
 use assise_machine::answer::Answer;
 use assise_machine::event::Event;
 use assise_machine::run::run;
-use assise_rows::split_word;
+use assise_rows::{split_word, steps_in};
 use std::alloc::{AllocError, Global};
 use std::process::Abort;
 
@@ -28,7 +27,7 @@ fn ran(alloc: Global, desk: &mut Desk, stock: &mut Vec<Asked>, rows: &str) -> Op
     let answers = answers_of(alloc, desk, stock, rows)?;
     let mut text = String::new(alloc);
     for (answer, row) in answers.into_iter().zip(rows.lines()) {
-        put_row(desk, answer, step_in(row), &mut text)?;
+        put_row(desk, answer, steps_in(row), &mut text)?;
     }
     Some(text)
 }
@@ -54,8 +53,7 @@ fn put_row(desk: &mut Desk, answer: Answer, step: &str, text: &mut String) -> Op
 pub(crate) fn events_of(alloc: Global, desk: &Desk, rows: &str) -> Option<Vec<Event>> {
     let mut events = Vec::new(alloc);
     for row in rows.lines() {
-        let (step, _) = row.split_once(" => ")?;
-        events.push(event_of(alloc, desk, step)?).ok()?;
+        events.push(event_of(alloc, desk, steps_in(row))?).ok()?;
     }
     Some(events)
 }

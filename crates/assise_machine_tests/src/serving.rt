@@ -5,7 +5,7 @@ use crate::desk::Desk;
 use crate::script::put_step;
 use crate::words::small_in;
 use assise_names::refusal::Refusal;
-use assise_rows::split_word;
+use assise_rows::{Subject, split_word};
 use std::alloc::Global;
 
 /// More rounds than any call of the tests waits for.
@@ -18,7 +18,7 @@ pub(crate) struct Served {
     nodes: u32,
     rounds: u32,
     pub(crate) steps: String,
-    pub(crate) outcome: String,
+    outcome: String,
 }
 
 impl Served {
@@ -112,5 +112,13 @@ impl Served {
         writeln!(self.steps, "{step}").ok()?;
         self.outcome.clear();
         put_step(alloc, &mut self.desk, step, &mut self.outcome)
+    }
+}
+
+/// Lines, one after another.
+impl Subject for Served {
+    fn put(&mut self, alloc: Global, steps: &str, text: &mut String) -> Option<()> {
+        self.serve(alloc, steps)?;
+        write!(text, " {}", self.outcome.as_str()).ok()
     }
 }
