@@ -192,9 +192,7 @@ fn steps_of(alloc: Global, nodes: u32, lines: &str) -> Option<String>
     requires few { nodes ≤ 8 }
 {
     let mut served = Served::new(alloc, nodes, 16).ok()?;
-    for line in lines.lines() {
-        served.serve(alloc, line)?;
-    }
+    served.serve_all(alloc, lines)?;
     Some(served.steps)
 }
 

@@ -16,11 +16,15 @@ fn ends_alike(alloc: Global, nodes: u32, rows: &str) -> Result<bool, Refusal>
     requires few { nodes ≤ 8 }
 {
     let mut desk = Desk::new(alloc, nodes, 8)?;
+    are_right(alloc, &mut desk, rows)
+}
+
+fn are_right(alloc: Global, desk: &mut Desk, rows: &str) -> Result<bool, Refusal> {
     for row in rows.lines() {
         let Some((step, wanted)) = row.split_once(" => ") else {
             return Ok(false);
         };
-        if !is_right(alloc, &mut desk, step, wanted)? {
+        if !is_right(alloc, desk, step, wanted)? {
             return Ok(false);
         }
     }

@@ -53,6 +53,14 @@ impl Served {
         }
     }
 
+    /// Serves lines, one after another. None where there is no such line, or no memory.
+    pub(crate) fn serve_all(&mut self, alloc: Global, lines: &str) -> Option<()> {
+        for line in lines.lines() {
+            self.serve(alloc, line)?;
+        }
+        Some(())
+    }
+
     /// Makes a step until it doesn't wait, with a round in between.
     fn try_again(&mut self, alloc: Global, step: &str) -> Option<()> {
         self.make(alloc, step)?;
