@@ -1,5 +1,6 @@
 // Scripts on a cluster: replication, leases, digests and what each node has.
 use crate::scripts::{prints, prints_in};
+use assise_rows::scripts::{CROSSING, HANDED_BY_HAND, SHARED_FILE};
 use std::test::Fail;
 
 /// Records are digested, and the tree is the same before and after; there is one node.
@@ -65,17 +66,6 @@ fn a_full_log_is_digested(rt: HostRuntime) -> Result<(), Fail> {
     prints(rt.alloc(), &rt, FULL_LOG, wanted)
 }
 
-/// Two clients on two nodes write and read one file.
-pub(crate) const SHARED_FILE: &str = "cluster 2 8 4\n\
-    open 1 least\n\
-    open 2 least\n\
-    1 create /f\n\
-    1 write /f 0 thi\n\
-    2 read /f 0 2\n\
-    2 write /f 2 t!\n\
-    1 read /f 0 9\n\
-    history\n";
-
 /// What that prints.
 pub(crate) const SHARED: &str = "2: client 1\n\
     3: client 2\n\
@@ -98,21 +88,6 @@ fn two_clients_share_a_file(rt: HostRuntime) -> Result<(), Fail> {
     prints(rt.alloc(), &rt, SHARED_FILE, SHARED)
 }
 
-/// Two clients move each other's directories into their own.
-const CROSSING: &str = "cluster 2 16 4\n\
-    open 1 least\n\
-    open 2 eights\n\
-    1 mkdir /p\n\
-    1 mkdir /q\n\
-    1 mkdir /p/x\n\
-    1 mkdir /q/y\n\
-    2 rename /q/y /p/x/y\n\
-    1 rename /p/x /q/y/x\n\
-    1 rename /p/x /p/x/y/x\n\
-    1 rename /p /p/r\n\
-    2 list /p/x\n\
-    1 stat /q\n";
-
 #[test]
 fn renames_that_cross_make_no_ring(rt: HostRuntime) -> Result<(), Fail> {
     let wanted = "2: client 1\n\
@@ -130,22 +105,6 @@ fn renames_that_cross_make_no_ring(rt: HostRuntime) -> Result<(), Fail> {
     prints(rt.alloc(), &rt, CROSSING, wanted)
 }
 
-/// What rounds do, by hand: two leases are handed over, one after another.
-const BY_HAND: &str = "cluster 2 8 4\n\
-    manual\n\
-    open 1 least\n\
-    open 2 least\n\
-    1 create /f\n\
-    2 stat /f\n\
-    carry 1\n\
-    digest 1\n\
-    release\n\
-    digest 2\n\
-    release\n\
-    2 stat /f\n\
-    release\n\
-    1 stat /f\n";
-
 #[test]
 fn a_lease_is_handed_over_by_hand(rt: HostRuntime) -> Result<(), Fail> {
     let wanted = "3: client 1\n\
@@ -160,7 +119,7 @@ fn a_lease_is_handed_over_by_hand(rt: HostRuntime) -> Result<(), Fail> {
     12: wait\n\
     13: released 1\n\
     14: file 0\n";
-    prints(rt.alloc(), &rt, BY_HAND, wanted)
+    prints(rt.alloc(), &rt, HANDED_BY_HAND, wanted)
 }
 
 /// Nodes and clients that aren't there, and more clients than may be.

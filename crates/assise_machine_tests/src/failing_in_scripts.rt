@@ -3,188 +3,15 @@ ghost use Rattle.std.specs.Prelude.{◌<◌, ◌≤◌};
 
 use crate::failing_anywhere::{see_failures, see_failures_of};
 use crate::serving::Served;
+use assise_rows::scripts::{
+    BACK_AND_ALONE, BACK_BY_HAND, CARRIED_IN_PART, CRASHED, CROSSING, CUT_AT_AN_FSYNC, FAILS_AGAIN,
+    HANDED_BY_HAND, HANDED_LEAST, HANDED_WHOLE, LOST_FILE, OUT_OF_ORDER, SHARED_FILE,
+};
 use std::alloc::Global;
 use std::process::Abort;
 
 /// More steps than any list has: who fails comes back at the end.
 const AT_THE_END: usize = 512;
-
-/// Two clients share a file.
-const SHARED_FILE: &str = "\
-open 1 least
-open 2 least
-1 create /f
-1 write /f 0 thi
-2 read /f 0 2
-2 write /f 2 t!
-1 read /f 0 9
-";
-
-/// Renames that would make a ring of directories.
-const CROSSING: &str = "\
-open 1 least
-open 2 eights
-1 mkdir /p
-1 mkdir /q
-1 mkdir /p/x
-1 mkdir /q/y
-2 rename /q/y /p/x/y
-1 rename /p/x /q/y/x
-1 rename /p/x /p/x/y/x
-1 rename /p /p/r
-2 list /p/x
-1 stat /q
-";
-
-/// A lease is handed over by hand.
-const BY_HAND: &str = "\
-manual
-open 1 least
-open 2 least
-1 create /f
-2 stat /f
-carry 1
-digest 1
-release
-digest 2
-release
-2 stat /f
-release
-1 stat /f
-";
-
-/// What wasn't synced is lost.
-const LOST_FILE: &str = "\
-open 1 least
-open 2 least
-1 create /f
-1 write /f 0 tx
-fail 1
-2 read /f 0 1
-1 stat /f
-";
-
-/// What was synced is kept.
-const CUT_AT_AN_FSYNC: &str = "\
-open 1 least
-open 2 least
-1 create /f
-1 write /f 0 taa
-1 fsync
-1 write /f 0 tbb
-fail 1
-2 read /f 0 9
-";
-
-/// A create that two of three nodes have.
-const CARRIED_IN_PART: &str = "\
-manual
-open 1 least
-open 2 least
-1 create /f
-1 fsync
-carry 1
-fail 1
-2 stat /f
-release
-2 stat /f
-";
-
-/// A lease is handed over up to the last touch of its inode.
-const HANDED_LEAST: &str = "\
-open 1 least
-open 2 least
-1 create /a
-1 create /b
-1 write /a 0 t1
-1 write /b 0 t2
-2 read /a 0 1
-fail 1
-2 read /b 0 1
-";
-
-/// A lease is handed over with the whole log.
-const HANDED_WHOLE: &str = "\
-open 1 whole
-open 2 least
-1 create /a
-1 create /b
-1 write /a 0 t1
-1 write /b 0 t2
-2 read /a 0 1
-fail 1
-2 read /b 0 1
-";
-
-/// A node comes back, and then the other one fails.
-const BACK_AND_ALONE: &str = "\
-open 1 least
-open 2 least
-1 create /f
-1 fsync
-fail 1
-2 write /f 0 tnew
-digest 2
-back 1
-2 write /f 3 t!
-2 fsync
-fail 2
-open 1 least
-3 read /f 0 9
-";
-
-/// A node comes back by hand.
-const BACK_BY_HAND: &str = "\
-manual
-open 1 least
-1 create /f
-1 fsync
-carry 1
-carry 2
-1 fsync
-digest 1
-digest 3
-fail 3
-fail 2
-back 2
-join 2
-refill 2
-refill 2
-join 2
-";
-
-/// Both nodes fail one after the other.
-const OUT_OF_ORDER: &str = "\
-back 1
-fail 1
-fail 1
-fail 2
-open 1 least
-back 1
-1 list /
-";
-
-/// A client crashes, and one of its node reads what it left.
-const CRASHED: &str = "\
-open 1 least
-open 1 whole
-1 create /f
-1 write /f 0 tz
-crash 1
-1 read /f 0 1
-2 read /f 0 1
-crash 1
-";
-
-/// A node fails while it comes back.
-const FAILS_AGAIN: &str = "\
-manual
-fail 2
-back 2
-fail 2
-back 2
-join 2
-";
 
 /// The steps by which the lines are served on so many nodes. None where there is no such line, or no memory.
 fn steps_of(alloc: Global, nodes: u32, lines: &str) -> Option<String>
@@ -269,7 +96,7 @@ fn the_other_node_fails_while_renames_cross(rt: HostRuntime) {
 
 #[test]
 fn a_node_fails_while_a_lease_is_handed_over_by_hand(rt: HostRuntime) {
-    see_short_script(rt.alloc(), &rt, 2, BY_HAND);
+    see_short_script(rt.alloc(), &rt, 2, HANDED_BY_HAND);
 }
 
 #[test]

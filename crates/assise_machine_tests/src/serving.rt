@@ -53,10 +53,14 @@ impl Served {
         }
     }
 
-    /// Serves lines, one after another. None where there is no such line, or no memory.
+    /// Serves the lines of a script, one after another: on this cluster, and what asks for trees or the history isn't asked. None
+    /// where there is no such line, or no memory.
     pub(crate) fn serve_all(&mut self, alloc: Global, lines: &str) -> Option<()> {
         for line in lines.lines() {
-            self.serve(alloc, line)?;
+            let (word, _) = split_word(line);
+            if !matches!(word, "cluster" | "history" | "tree") {
+                self.serve(alloc, line)?;
+            }
         }
         Some(())
     }

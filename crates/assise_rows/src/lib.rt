@@ -1,6 +1,8 @@
 //! Rows of tests: `STEPS => OUTCOME`, and whether each row says what comes out.
 #![tactic(auto)]
 
+pub mod scripts;
+
 use std::alloc::{AllocError, Global};
 
 /// What the steps of rows are made on, one row after another.
