@@ -43,10 +43,6 @@ returns-in_default-clause-asked c =
     let was = value_of_cold c.args.self.now hot cold (touched_by effect) c.self.view_is none in
     err_map c.change_cold.result c.change_cold.ensures.asked (λ asks. subst (AsksForMemory effect) (sym was) asks)
 
-pub invariant_of-self-in_err-change : goal.invariant_of-self-in_err-change
-invariant_of-self-in_err-change c =
-    sound_set c.self.inside.hot c.self.inside.cold.entries c.touches.result c.change.new.self (is_there c.in-Some.held.now _ c.in-Some.ensures.value) c.self.invariant
-
 pub returns-in_err-change-clause-err : goal.returns-in_err-change-clause-err
 returns-in_err-change-clause-err c =
     let hot = c.self.inside.hot in
