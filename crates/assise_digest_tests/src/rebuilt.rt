@@ -23,23 +23,11 @@ use std::alloc::Global;
 pub(crate) fn stats(alloc: Global) -> Option<String> {
     let name = Name::parse(alloc, "f").ok()?;
     let region = region_of(alloc, name.copy().ok()?)?;
-    let lost = stat_where_lost(alloc, &region, &name)?;
-    let kept = stat_where_kept(alloc, &region, &name)?;
+    let mut lost = tree_where_lost(alloc, &region, &name)?;
+    let mut kept = tree_where_kept(alloc, &region, &name)?;
+    let lost = stat(alloc, &mut lost)?;
+    let kept = stat(alloc, &mut kept)?;
     format!(in alloc; "{lost}, {kept}").ok()
-}
-
-fn stat_where_lost(alloc: Global, region: &Region, name: &Name) -> Option<String>
-    requires made { region.now ≡ with_file name.now }
-{
-    let mut tree = tree_where_lost(alloc, region, name)?;
-    stat(alloc, &mut tree)
-}
-
-fn stat_where_kept(alloc: Global, region: &Region, name: &Name) -> Option<String>
-    requires made { region.now ≡ with_file name.now }
-{
-    let mut tree = tree_where_kept(alloc, region, name)?;
-    stat(alloc, &mut tree)
 }
 
 fn stat(alloc: Global, tree: &mut Tree) -> Option<String> {
