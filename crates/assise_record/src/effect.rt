@@ -12,7 +12,6 @@ ghost use Rattle.assise_names.specs.declared.refusal.Refusal.TheVariants.{OutOfM
 use assise_names::name::Name;
 use assise_names::refusal::Refusal;
 use bytes::Bytes;
-use std::alloc::Global;
 use std::marker::Model;
 
 /// The most bytes of one write.
