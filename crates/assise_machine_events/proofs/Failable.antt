@@ -106,7 +106,7 @@ drops_them w s = record {
   calls = refl;
   records = λ c. refl;
   first = λ c. refl;
-  border = λ c k. refl;
+  border = λ c k low. refl;
   next = λ c. refl;
   made = λ c. refl;
   clients = record { clients = refl; home = λ c. refl; lives = λ c. refl; crashed = λ c. refl };

@@ -22,7 +22,7 @@ module _ (w : World) (n : ℕ) (w' : World) (some : ∥ Fails w n w' ∥₁) (su
     calls = ∥∥₁_elim some (Coded-set coded_calls w'.calls _) (λ f. f.calls);
     records = λ c. ∥∥₁_elim some (Coded-set coded_records (w'.records c) _) (λ f. f.records c);
     first = λ c. number (w'.first c) (w.first c) (λ f. f.first c);
-    border = λ c k. ∥∥₁_elim some (Coded-set coded_bool (w'.border c k) (w.border c k)) (λ f. f.border c k);
+    border = λ c k low. ∥∥₁_elim some (Coded-set coded_bool (w'.border c k) (w.border c k)) (λ f. f.border c k low);
     next = λ c. number (w'.next c) (w.next c) (λ f. f.next c);
     made = λ c. number (w'.made c) (w.made c) (λ f. f.made c);
     goals = λ c. number (w'.goal c) _ (λ f. f.goals c);

@@ -285,7 +285,7 @@ untold_leaves w w' (entered.releases c i e) = leaves w w' e.logs e.clients e.nod
 untold_leaves w w' (entered.delivers n c k e) = leaves w w' e.logs e.clients e.full
 untold_leaves w w' (entered.digests n c k e) = leaves w w' e.logs e.clients e.full
 untold_leaves w w' (entered.drops f e) = record { calls = e.calls; next = e.next; made = e.made; clients = e.clients; full = e.full }
-untold_leaves w w' (entered.coalesces c s new e) = record { calls = e.calls; next = e.next; made = e.made; clients = e.clients; full = e.full }
+untold_leaves w w' (entered.coalesces c s new was e) = record { calls = e.calls; next = e.next; made = e.made; clients = e.clients; full = e.full }
 untold_leaves w w' (entered.rests e) = leaves w w' e.logs e.clients e.nodes.full
 
 pub untold_moves : (w w' : World) → NeedsNoEntry w w' → Moves w w'
@@ -295,7 +295,7 @@ untold_moves w w' (entered.releases c i e) = releases c i e
 untold_moves w w' (entered.delivers n c k e) = delivers n c k e
 untold_moves w w' (entered.digests n c k e) = digests n c k e
 untold_moves w w' (entered.drops f e) = drops f e
-untold_moves w w' (entered.coalesces c s new e) = coalesces c s new e
+untold_moves w w' (entered.coalesces c s new was e) = coalesces c s new was e
 untold_moves w w' (entered.rests e) = rests e
 
 pub quiet_recorded : (s s' : State) → IsSound s.world → IsRecorded s → IsUntold s s' → IsRecorded s'

@@ -65,7 +65,7 @@ pub data NeedsNoEntry (w w' : World) : Type 0 where
   delivers : (n c k : ℕ) → Delivers w n c k w' → NeedsNoEntry w w'
   digests : (n c k : ℕ) → Digests w n c k w' → NeedsNoEntry w w'
   drops : (f : ℕ → ℕ) → Drops w f w' → NeedsNoEntry w w'
-  coalesces : (c s : ℕ) (new : List LogRecord) → Coalesces w c s new w' → NeedsNoEntry w w'
+  coalesces : (c s : ℕ) (new : List LogRecord) (was : ℕ → ℕ) → Coalesces w c s new was w' → NeedsNoEntry w w'
   rests : Rests w w' → NeedsNoEntry w w'
 
 -- nothing but such a step happened

@@ -34,6 +34,15 @@ open_sound w w' n s e = record {
     | inl is ↦ subst (λ d. w'.goal d ≤ end w d) (sym is) (rw e.goal_new (omega arith))
     | inr other ↦ rw (e.goal_else c other) (s.goals c)
   ]);
+  apart = λ c k t low from to. (let top : k ≤ end w c = rw (end-same w w' e.logs c) at to in
+      e.logs.border c k ∙ elim (cases_eq c (suc w.clients)) [
+        | inl is ↦
+            let none : w.next c ≡ 0 = ap w.next is ∙ s.unused (suc w.clients) (omega arith) in
+            let last : k ≡ end w c = omega (arith, s.few_records c, none, top) in
+            ap (w.border c) last ∙ s.coherent.end_border c
+        | inr other ↦ s.apart c k (sym (e.lives_else c other) ∙ t) (rw (e.logs.first c) at low) (rw (e.goal_else c other) at from) top
+      ]);
+  unused = λ c h. e.logs.next c ∙ s.unused c (omega (arith, e.clients, h));
   held = held-same w w' s e.leases;
   fronts = λ m c h. (let f : Full w m = subst (λ ns. contains ns m ≡ true) e.nodes.full h in
       let q : SameNode w w' m = e.nodes.same m f in
@@ -73,6 +82,7 @@ raise_sound w w' k s e =
     (still_coherent w w' s.coherent e.logs e.nodes (rw e.clients.clients (omega arith)) (guarded-same w w' s.coherent e.logs.records e.leases) (compatible-same w w' s.coherent e.leases))
     e.logs e.nodes (rw e.clients.clients (omega arith)) e.clients.home e.clients.lives
     (λ d. omega (arith, e.goals d, s.goals d, e.there d))
+    (λ d. omega (arith, e.goals d))
     (held-same w w' s e.leases)
 
 pub raise_falls : (w w' : World) (k : ℕ → ℕ) → IsSound w → RaisesGoals w k w' → NoneFalls w w'
@@ -88,6 +98,10 @@ crash_sound w w' c s e =
     (λ d. elim (cases_eq d c) [
       | inl is ↦ subst (λ d. w'.goal d ≤ end w d) (sym is) (rw e.goal_here (omega arith))
       | inr other ↦ rw (e.goal_else d other) (s.goals d)
+    ])
+    (λ d. elim (cases_eq d c) [
+      | inl is ↦ subst (λ d. w.goal d ≤ w'.goal d) (sym is) (rw e.goal_here (s.goals c))
+      | inr other ↦ rw (e.goal_else d other) (omega arith)
     ])
     (held-same w w' s e.leases)
 
@@ -179,7 +193,7 @@ pub acquire_sound : (w w' : World) (c i : ℕ) (mode : Mode) → IsSound w → A
 acquire_sound w w' c i mode s e =
     still_sound w w' s
     (still_coherent w w' s.coherent e.logs e.nodes (rw e.clients.clients (omega arith)) (guarded-acquire w w' c i mode s e) (compatible-acquire w w' c i mode s e))
-    e.logs e.nodes (rw e.clients.clients (omega arith)) e.clients.home e.clients.lives (λ d. rw (e.goals d) (s.goals d)) (held-acquire w w' c i mode s e)
+    e.logs e.nodes (rw e.clients.clients (omega arith)) e.clients.home e.clients.lives (λ d. rw (e.goals d) (s.goals d)) (λ d. rw (e.goals d) (omega arith)) (held-acquire w w' c i mode s e)
 
 pub acquire_falls : (w w' : World) (c i : ℕ) (mode : Mode) → IsSound w → Acquires w c i mode w' → NoneFalls w w'
 acquire_falls w w' c i mode s e = still_falls w w' s.coherent e.logs e.nodes
@@ -227,7 +241,7 @@ pub release_sound : (w w' : World) (c i : ℕ) → IsSound w → Releases w c i 
 release_sound w w' c i s e =
     still_sound w w' s
     (still_coherent w w' s.coherent e.logs e.nodes (rw e.clients.clients (omega arith)) (guarded-release w w' c i s e) (compatible-release w w' c i s e))
-    e.logs e.nodes (rw e.clients.clients (omega arith)) e.clients.home e.clients.lives (λ d. rw (e.goals d) (s.goals d)) (held-release w w' c i s e)
+    e.logs e.nodes (rw e.clients.clients (omega arith)) e.clients.home e.clients.lives (λ d. rw (e.goals d) (s.goals d)) (λ d. rw (e.goals d) (omega arith)) (held-release w w' c i s e)
 
 pub release_falls : (w w' : World) (c i : ℕ) → IsSound w → Releases w c i w' → NoneFalls w w'
 release_falls w w' c i s e = still_falls w w' s.coherent e.logs e.nodes
@@ -238,7 +252,7 @@ pub rest_sound : (w w' : World) → IsSound w → Rests w w' → IsSound w'
 rest_sound w w' s e =
     still_sound w w' s
     (still_coherent w w' s.coherent e.logs e.nodes (rw e.clients.clients (omega arith)) (guarded-same w w' s.coherent e.logs.records e.leases) (compatible-same w w' s.coherent e.leases))
-    e.logs e.nodes (rw e.clients.clients (omega arith)) e.clients.home e.clients.lives (λ d. rw (e.goals d) (s.goals d)) (held-same w w' s e.leases)
+    e.logs e.nodes (rw e.clients.clients (omega arith)) e.clients.home e.clients.lives (λ d. rw (e.goals d) (s.goals d)) (λ d. rw (e.goals d) (omega arith)) (held-same w w' s e.leases)
 
 pub rest_falls : (w w' : World) → IsSound w → Rests w w' → NoneFalls w w'
 rest_falls w w' s e = still_falls w w' s.coherent e.logs e.nodes

@@ -611,11 +611,30 @@ module _ (w w' : World) (y : NumberedCall) (sound : IsSound w) (e : MakesCall w 
         ]
       ]
 
+  one_more : end w' y.client ≤ suc (end w y.client)
+  unfolding end
+  one_more = rw (e.first y.client, records_own) (omega (arith, few_more (w.records y.client) planned.effects))
+    where
+      few_more : (rs : List LogRecord) (es : List Effect) → length (rs ++ record_of y.number es) ≤ suc (length rs)
+      few_more [] [] = omega arith
+      few_more [] (x ∷ es) = omega arith
+      few_more (r ∷ rs) es = (let l : length (rs ++ record_of y.number es) ≤ suc (length rs) = few_more rs es in omega (arith, l))
+
   pub call_sound : IsSound w'
   call_sound = record {
     coherent = call_coherent;
     few_records = few-commit;
     goals = λ d. omega (arith, e.goals d, sound.goals d, end-commit d);
+    apart = λ d k t low from to. elim (cases_lt (end w d) k) [
+      | inr old ↦ e.border_old d k old ∙ sound.apart d k (sym (e.clients.lives d) ∙ t) (rw (e.first d) at low) (rw (e.goals d) at from) old
+      | inl new ↦ elim (cases_eq d y.client) [
+          | inl own ↦ subst (λ d. end w d < k → k ≤ end w' d → w'.border d k ≡ true) (sym own)
+              (λ past top. (let last : k ≡ end w' y.client = omega (arith, past, top, one_more) in ap (w'.border y.client) last ∙ e.border_new)) new to
+          | inr other ↦ (let still : end w' d ≡ end w d = end-else w w' d (e.first d) (e.records_else d other) in absurd (omega (arith, new, to, still)))
+        ]
+    ];
+    unused = λ d h. (let other : d ≢ y.client = λ is. omega (arith, is, e.clients.clients, (sound.opened y.client e.lives).1, h) in
+        e.next_else d other ∙ sound.unused d (omega (arith, e.clients.clients, h)));
     held = held-same w w' sound e.leases;
     fronts = λ n d h. front_now n d (full-commit n h);
     opened = λ d t. rw e.clients.clients (sound.opened d (sym (e.clients.lives d) ∙ t));

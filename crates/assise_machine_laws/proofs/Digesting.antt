@@ -110,6 +110,8 @@ digest_sound w w' n c k s e = record {
   coherent = digest_coherent w w' n c k s e;
   few_records = λ d. rw (end-same w w' e.logs d, e.logs.next d) (s.few_records d);
   goals = λ d. rw (end-same w w' e.logs d, e.goals d) (s.goals d);
+  apart = λ d k t low from to. e.logs.border d k ∙ s.apart d k (sym (e.clients.lives d) ∙ t) (rw (e.logs.first d) at low) (rw (e.goals d) at from) (rw (end-same w w' e.logs d) at to);
+  unused = λ d h. e.logs.next d ∙ s.unused d (omega (arith, e.clients.clients, h));
   held = held-same w w' s e.leases;
   fronts = λ m d h. (let f : Full w m = subst (λ ns. contains ns m ≡ true) e.full h in
       rw (e.log m d f, e.received m d f, e.logs.first d, e.logs.records d) (s.fronts m d f));

@@ -14,7 +14,7 @@ use Rattle.assise_machine_laws.specs.Sound.{Stands, Guarded, IsOrdered, Areas, I
 use Rattle.assise_machine_laws.specs.World.{World, Full, opening_values, end, digested_by_all, received_by_all, records_between, call_at, first_undigested_at, first_undigested, first_unreplicated, steps, value_below, firm}
 use Rattle.assise_machine_laws.proofs.Lists.{unseen-raise, below-same}
 use Rattle.assise_machine_laws.proofs.Logs.{at-drop, rising-drop, drop-of_drop, contains-drop}
-use Rattle.assise_machine_laws.proofs.Observing.{least_of-end, least_of-same, part_of, digested_by_all-below, received_by_all-below, part_moves, steps-same, area_at}
+use Rattle.assise_machine_laws.proofs.Observing.{least_of-end, least_of-same, part_of, digested_by_all-below, received_by_all-below, received_by_all-end, part_moves, steps-same, area_at}
 use Rattle.assise_machine_laws.proofs.Between.{digested_by_all-received_by_all}
 use Rattle.assise_machine_laws.proofs.Staying.{spelled-same, are_made-same, numbered-same, counted-same, compatible-same, held-same}
 
@@ -52,7 +52,7 @@ unfolding Stands
 stands-drop w w' f s e c j k bj bk low le high =
     let low_f : f c ≤ j = rw (e.first c) at low in
     part_moves w w' c j k (part-drop w w' f e c j k low_f) (call_at-drop w w' f e c j low_f) (call_at-drop w w' f e c k (omega arith)) (steps-same w w' e.calls)
-    (part_of w c j k s (sym (e.border c j) ∙ bj) (sym (e.border c k) ∙ bk) (omega (arith, e.low c)) le (rw (end-drop w w' f e c) at high))
+    (part_of w c j k s (sym (e.border c j low_f) ∙ bj) (sym (e.border c k (omega arith)) ∙ bk) (omega (arith, e.low c)) le (rw (end-drop w w' f e c) at high))
 
 -- ---- what all full nodes have stays
 
@@ -103,8 +103,8 @@ order-drop w w' f s e m c h =
       begun = rw (e.first c, e.digested m c full) (past_front w w' f m c e full);
       acknowledged = rw (e.digested m c full, received_by_all-drop w w' f e c) o.acknowledged;
       known = rw (end-drop w w' f e c, e.received m c full) o.known;
-      digested_border = e.border c (w'.digested m c) ∙ ap (λ k. w.border c k) (e.digested m c full) ∙ o.digested_border;
-      received_border = e.border c (w'.received m c) ∙ ap (λ k. w.border c k) (e.received m c full) ∙ o.received_border;
+      digested_border = e.border c (w'.digested m c) (rw (e.digested m c full) (past_front w w' f m c e full)) ∙ ap (λ k. w.border c k) (e.digested m c full) ∙ o.digested_border;
+      received_border = e.border c (w'.received m c) (rw (e.received m c full) (omega (arith, past_front w w' f m c e full, o.acknowledged, received_by_all-below w m c full))) ∙ ap (λ k. w.border c k) (e.received m c full) ∙ o.received_border;
     }
 
 pub drop_coherent : (w w' : World) (f : ℕ → ℕ) → IsCoherent w → Drops w f w' → IsCoherent w'
@@ -119,8 +119,8 @@ drop_coherent w w' f s e = record {
   rises = subst (λ xs. Rises xs) (sym e.calls) s.rises;
   stands = stands-drop w w' f s e;
   ascending = λ c. rw (e.records c, e.next c) (rising-drop (w.records c) (f c - w.first c) (w.next c) (s.ascending c));
-  first_border = λ c. e.border c (w'.first c) ∙ ap (λ k. w.border c k) (e.first c) ∙ e.border_at c;
-  end_border = λ c. e.border c (end w' c) ∙ ap (λ k. w.border c k) (end-drop w w' f e c) ∙ s.end_border c;
+  first_border = λ c. e.border c (w'.first c) (rw (e.first c) (omega arith)) ∙ ap (λ k. w.border c k) (e.first c) ∙ e.border_at c;
+  end_border = λ c. e.border c (end w' c) (rw (end-drop w w' f e c) (omega (arith, e.high c, digested_by_all-received_by_all w s c, received_by_all-end w c))) ∙ ap (λ k. w.border c k) (end-drop w w' f e c) ∙ s.end_border c;
   order = order-drop w w' f s e;
   areas = areas-drop w w' f s e;
   guarded = guarded-drop w w' f s e;
@@ -144,6 +144,10 @@ drop_sound w w' f s e = record {
   coherent = drop_coherent w w' f s.coherent e;
   few_records = λ c. rw (end-drop w w' f e c, e.next c) (s.few_records c);
   goals = λ c. rw (end-drop w w' f e c, e.goals c) (s.goals c);
+  apart = λ c k t low from to.
+      (let past : f c ≤ k = rw (e.first c) at low in
+      e.border c k past ∙ s.apart c k (sym (e.clients.lives c) ∙ t) (omega (arith, past, e.low c)) (rw (e.goals c) at from) (rw (end-drop w w' f e c) at to));
+  unused = λ c h. e.next c ∙ s.unused c (omega (arith, e.clients.clients, h));
   held = held-same w w' s e.leases;
   fronts = λ m c h. fronts-drop w w' f m c s e (full_before w w' f m e h);
   opened = λ c t. rw e.clients.clients (s.opened c (sym (e.clients.lives c) ∙ t));

@@ -209,7 +209,7 @@ module _ (w w' : World) (n : ℕ) (s : IsCoherent w) (f : Fails w n w') where
   stands-fail c j k bj bk low le high =
       let low_w : w.first c ≤ j = rw (f.first c) at low in
       let high_w : k ≤ cut c = rw (end-cut c) at high in
-      let t : StandFor w c j k = part_of w c j k s (sym (f.border c j) ∙ bj) (sym (f.border c k) ∙ bk) low_w le (omega (arith, high_w, kept_high w n c)) in
+      let t : StandFor w c j k = part_of w c j k s (sym (f.border c j (omega (arith, le, high_w))) ∙ bj) (sym (f.border c k high_w) ∙ bk) low_w le (omega (arith, high_w, kept_high w n c)) in
       let part : records_between w' c j k ≡ records_between w c j k = part-cut c j k low_w le high_w in
       record {
         value = λ i v.
@@ -278,8 +278,8 @@ module _ (w w' : World) (n : ℕ) (s : IsCoherent w) (f : Fails w n w') where
         begun = rw (f.first c, f.digested m c h) o.begun;
         acknowledged = rw (f.digested m c h) (omega (arith, o.acknowledged, received_by_all-fail c));
         known = (let l : min (w.received m c) (cut c) ≤ cut c = omega arith in rw (f.received m c h, end-cut c) l);
-        digested_border = f.border c (w'.digested m c) ∙ ap (λ k. w.border c k) (f.digested m c h) ∙ o.digested_border;
-        received_border = f.border c (w'.received m c) ∙ ap (λ k. w.border c k) (f.received m c h) ∙ lesser w c (w.received m c) (cut c) o.received_border (kept_border w n c s);
+        digested_border = f.border c (w'.digested m c) (rw (f.digested m c h) (omega (arith, o.acknowledged, kept_low w n c))) ∙ ap (λ k. w.border c k) (f.digested m c h) ∙ o.digested_border;
+        received_border = f.border c (w'.received m c) (let l : min (w.received m c) (cut c) ≤ cut c = omega arith in rw (f.received m c h) l) ∙ ap (λ k. w.border c k) (f.received m c h) ∙ lesser w c (w.received m c) (cut c) o.received_border (kept_border w n c s);
       }
 
   -- of the kept calls a node that stays has digested those that it had
@@ -320,8 +320,8 @@ module _ (w w' : World) (n : ℕ) (s : IsCoherent w) (f : Fails w n w') where
     rises = subst Rises (sym f.calls) (pairs-filter (λ x y. y.client ≡ x.client → x.number < y.number) (below lost) w.calls s.rises);
     stands = stands-fail;
     ascending = λ c. rw (cut-records c, f.next c) (rising-take (w.records c) (cut c - w.first c) (w.next c) (s.ascending c));
-    first_border = λ c. f.border c (w'.first c) ∙ ap (λ k. w.border c k) (f.first c) ∙ s.first_border c;
-    end_border = λ c. f.border c (end w' c) ∙ ap (λ k. w.border c k) (end-cut c) ∙ kept_border w n c s;
+    first_border = λ c. f.border c (w'.first c) (rw (f.first c) (above-first c)) ∙ ap (λ k. w.border c k) (f.first c) ∙ s.first_border c;
+    end_border = λ c. f.border c (end w' c) (rw (end-cut c) (omega arith)) ∙ ap (λ k. w.border c k) (end-cut c) ∙ kept_border w n c s;
     order = order-fail;
     areas = areas-fail;
     guarded = guarded-fail;
@@ -389,6 +389,12 @@ module _ (w w' : World) (n : ℕ) (s : IsSound w) (f : Fails w n w') where
     coherent = fail_coherent w w' n s.coherent f;
     few_records = λ c. rw (end-fail c, f.next c) (omega (arith, kept_high w n c, s.few_records c));
     goals = λ c. rw (end-fail c, f.goals c) (omega arith);
+    apart = λ c k t low from to.
+        (let all : kept_at_failure w n c ≡ end w c = kept_elsewhere w n c (lived c t).0 in
+        let top : k ≤ kept_at_failure w n c = rw (end-fail c) at to in
+        let past : min (w.goal c) (kept_at_failure w n c) ≤ k = rw (f.goals c) at from in
+        f.border c k top ∙ s.apart c k (lived c t).1 (rw (f.first c) at low) (omega (arith, past, s.goals c, all)) (omega (arith, top, all)));
+    unused = λ c h. f.next c ∙ s.unused c (omega (arith, f.clients, h));
     held = held-same w w' s f.leases;
     fronts = fronts-fail;
     opened = λ c t. rw f.clients (s.opened c (lived c t).1);

@@ -170,11 +170,13 @@ still_falls w w' s l e = calm_falls w w' s l (digested_by_all-still w w' l e) (r
 
 -- with clients that live where they did all holds
 pub still_sound : (w w' : World) → IsSound w → IsCoherent w' → SameLogs w w' → SameNodes w w' → w.clients ≤ w'.clients →
-    ((c : ℕ) → w'.home c ≡ w.home c) → ((c : ℕ) → w'.lives c ≡ w.lives c) → ((c : ℕ) → w'.goal c ≤ end w c) → WritesAreHeld w' → IsSound w'
-still_sound w w' s coherent l e more home lives goals held = record {
+    ((c : ℕ) → w'.home c ≡ w.home c) → ((c : ℕ) → w'.lives c ≡ w.lives c) → ((c : ℕ) → w'.goal c ≤ end w c) → ((c : ℕ) → w.goal c ≤ w'.goal c) → WritesAreHeld w' → IsSound w'
+still_sound w w' s coherent l e more home lives goals rise held = record {
   coherent = coherent;
   few_records = λ c. rw (end-same w w' l c, l.next c) (s.few_records c);
   goals = λ c. rw (end-same w w' l c) (goals c);
+  apart = λ c k t low from to. l.border c k ∙ s.apart c k (sym (lives c) ∙ t) (rw (l.first c) at low) (omega (arith, from, rise c)) (rw (end-same w w' l c) at to);
+  unused = λ c h. l.next c ∙ s.unused c (omega (arith, more, h));
   held = held;
   fronts = λ n c h. let q : SameNode w w' n = e.same n (subst (λ ns. contains ns n ≡ true) e.full h) in
       rw (q.log c, q.received c, l.first c, l.records c) (s.fronts n c (subst (λ ns. contains ns n ≡ true) e.full h));

@@ -53,7 +53,7 @@ pub record Drops (w : World) (f : ℕ → ℕ) (w' : World) : Type 0 where
   pub calls : w'.calls ≡ w.calls
   pub records : (c : ℕ) → w'.records c ≡ drop (f c - w.first c) (w.records c)
   pub first : (c : ℕ) → w'.first c ≡ f c
-  pub border : (c k : ℕ) → w'.border c k ≡ w.border c k
+  pub border : (c k : ℕ) → f c ≤ k → w'.border c k ≡ w.border c k
   pub next : (c : ℕ) → w'.next c ≡ w.next c
   pub made : (c : ℕ) → w'.made c ≡ w.made c
   pub clients : SameClients w w'
@@ -82,7 +82,7 @@ pub record Fails (w : World) (n : ℕ) (w' : World) : Type 0 where
   pub calls : w'.calls ≡ filter (below (λ c. call_at w c (kept_at_failure w n c))) w.calls
   pub records : (c : ℕ) → w'.records c ≡ records_between w c (w.first c) (kept_at_failure w n c)
   pub first : (c : ℕ) → w'.first c ≡ w.first c
-  pub border : (c k : ℕ) → w'.border c k ≡ w.border c k
+  pub border : (c k : ℕ) → k ≤ kept_at_failure w n c → w'.border c k ≡ w.border c k
   pub next : (c : ℕ) → w'.next c ≡ w.next c
   pub made : (c : ℕ) → w'.made c ≡ w.made c
   pub goals : (c : ℕ) → w'.goal c ≡ min (w.goal c) (kept_at_failure w n c)

@@ -20,7 +20,7 @@ pub data Moves (w w' : World) : Type 0 where
   delivers : (n c k : ℕ) → Delivers w n c k w' → Moves w w'
   digests : (n c k : ℕ) → Digests w n c k w' → Moves w w'
   drops : (f : ℕ → ℕ) → Drops w f w' → Moves w w'
-  coalesces : (c s : ℕ) (new : List LogRecord) → Coalesces w c s new w' → Moves w w'
+  coalesces : (c s : ℕ) (new : List LogRecord) (was : ℕ → ℕ) → Coalesces w c s new was w' → Moves w w'
   fails : (n : ℕ) → Fails w n w' → Moves w w'
   joins : (n donor : ℕ) → Joins w n donor w' → Moves w w'
   rests : Rests w w' → Moves w w'

@@ -109,6 +109,10 @@ pub record IsSound (w : World) : Type 0 where
   -- a client has no more records than it made calls, and is to replicate only what is there
   pub few_records : (c : ℕ) → end w c ≤ w.next c
   pub goals : (c : ℕ) → w.goal c ≤ end w c
+  -- what isn't to be replicated yet is not in groups: each record of it is one by itself
+  pub apart : (c k : ℕ) → w.lives c ≡ true → w.first c ≤ k → w.goal c ≤ k → k ≤ end w c → w.border c k ≡ true
+  -- who wasn't opened made no call
+  pub unused : (c : ℕ) → w.clients < c → w.next c ≡ 0
   -- what it holds for writing it holds
   pub held : WritesAreHeld w
   -- a full node's log of a client is the front of the client's own log, as far as the node received it

@@ -84,6 +84,6 @@ pub fn what_other_nodes_have_is_free()
 /// A client's last records may give way to others with the same net effect on the same inodes, where each full node has none of
 /// the old ones, or gets all of the new ones.
 pub fn an_equal_net_effect_keeps_what_holds()
-    ensures keeps { (w u : World) (c s : ℕ) (new : List LogRecord) → IsSound w → Coalesces w c s new u → IsSound u }
-    ensures dropped { (w u : World) (c s : ℕ) (new : List LogRecord) → IsSound w → AreDropped w → Coalesces w c s new u → AreDropped u }
+    ensures keeps { (w u : World) (c s : ℕ) (new : List LogRecord) (was : ℕ → ℕ) → IsSound w → Coalesces w c s new was u → IsSound u }
+    ensures dropped { (w u : World) (c s : ℕ) (new : List LogRecord) (was : ℕ → ℕ) → IsSound w → AreDropped w → Coalesces w c s new was u → AreDropped u }
 {}

@@ -7,6 +7,8 @@ use Rattle.assise_record.specs.LogRecord.{LogRecord}
 use Rattle.assise_inode_table.specs.Effects.{touched, contains}
 use Rattle.assise_digest.specs.Ahead.{all_effects}
 use Rattle.assise_machine_laws.specs.Coalescing.{Coalesces}
+use Rattle.assise_machine_laws.specs.Sound.{IsSound}
+use Rattle.assise_machine_laws.proofs.Coalescing.{touch_all}
 use Rattle.assise_machine_laws.specs.NodeSteps.{Drops}
 use Rattle.assise_machine_laws.specs.World.{World, end, digested_by_all, records_between}
 use Rattle.assise_machine_laws.proofs.Logs.{drop-of_drop, contains-drop, contains-take, contains-both, all_effects-append, length-both}
@@ -87,9 +89,9 @@ covers_drop w u f c i k e v =
 
 -- ---- records that give way to others
 
-pub covers_coalesced : (w u : World) (c s : ℕ) (new : List LogRecord) (i k : ℕ) → Coalesces w c s new u → k ≤ s → Covers w c i k → Covers u c i k
+pub covers_coalesced : (w u : World) (c s : ℕ) (new : List LogRecord) (was : ℕ → ℕ) → IsSound w → (i k : ℕ) → Coalesces w c s new was u → k ≤ s → Covers w c i k → Covers u c i k
 unfolding records_from end records_between
-covers_coalesced w u c s new i k e below v =
+covers_coalesced w u c s new was so i k e below v =
     let rs : List LogRecord = w.records c in
     let high : s ≤ w.first c + length (w.records c) = e.high in
     let n : length (take (s - w.first c) (w.records c)) ≡ s - w.first c = length-take-le (s - w.first c) (w.records c) (omega (arith, high)) in
@@ -99,5 +101,5 @@ covers_coalesced w u c s new i k e below v =
       to_end = rw (e.first c, e.records_own) (omega (arith, below, n, b));
       untouched = rw (e.first c, e.records_own, drop_append (take (s - w.first c) (w.records c)) new (k - w.first c) (omega (arith, below, n)), drop_taken (w.records c) (k - w.first c) (s - w.first c) (omega (arith, below)))
           (spare_both (take (s - w.first c - (k - w.first c)) (drop (k - w.first c) (w.records c))) new i
-          (spare_take (drop (k - w.first c) (w.records c)) (s - w.first c - (k - w.first c)) i v.untouched) (e.touch i ∙ old));
+          (spare_take (drop (k - w.first c) (w.records c)) (s - w.first c - (k - w.first c)) i v.untouched) (touch_all w u c s new was so.coherent e i ∙ old));
     }

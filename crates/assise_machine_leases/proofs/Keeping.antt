@@ -13,6 +13,7 @@ use Rattle.assise_lease_tree.proofs.Steps.{enrolled_lawful}
 use Rattle.assise_lease_table.specs.Modes.{strong}
 use Rattle.assise_machine_laws.specs.NodeSteps.{Drops}
 use Rattle.assise_machine_laws.specs.Records.{record_of}
+use Rattle.assise_machine_laws.specs.Sound.{IsSound}
 use Rattle.assise_machine_laws.specs.Staying.{SameLogs, SameClients, SameLeases}
 use Rattle.assise_machine_laws.specs.World.{World, IsClient, step_at_home}
 use Rattle.assise_machine_laws.proofs.Logs.{of_fresh}
@@ -105,8 +106,8 @@ call_keeps w u l x a e =
         (λ t. both_ways (serves (client_lease l x.client i) Write) (frozen_serves (client_lease l x.client i) Write h) (e.changed i (of_fresh x.number (step_at_home w x).effects i t))))
         (a.covered x.client i h)
 
-pub coalesced_keeps : (w u : World) (l : Leases) (c s : ℕ) (new : List LogRecord) → AreLeases w l → CoalescesUnder w l c s new u → AreLeases u l
-coalesced_keeps w u l c s new a e =
+pub coalesced_keeps : (w u : World) (l : Leases) (c s : ℕ) (new : List LogRecord) (was : ℕ → ℕ) → IsSound w → AreLeases w l → CoalescesUnder w l c s new was u → AreLeases u l
+coalesced_keeps w u l c s new was so a e =
     still_leases w u l a e.coalesces.clients e.coalesces.leases
     (λ d i h. elim (cases_eq d c) [
       | inl own ↦ subst (λ d. Covers u d i (l.cut d i)) (sym own) (covered i (subst (λ d. IsFrozenLease l d i) own h))
@@ -121,7 +122,7 @@ coalesced_keeps w u l c s new a e =
     ])
   where
     covered : (i : ℕ) → IsFrozenLease l c i → Covers u c i (l.cut c i)
-    covered i h = covers_coalesced w u c s new i (l.cut c i) e.coalesces (e.cuts i h) (a.covered c i h)
+    covered i h = covers_coalesced w u c s new was so i (l.cut c i) e.coalesces (e.cuts i h) (a.covered c i h)
 
 -- ---- a client more
 

@@ -113,6 +113,6 @@ pub record FailsWith (w : World) (l : Leases) (n : ℕ) (w' : World) (l' : Lease
   pub cut_else : (c i : ℕ) → w.home c ≢ n → l'.cut c i ≡ l.cut c i
 
 -- a client's last records give way to others, from a place on behind which none of its cuts lies
-pub record CoalescesUnder (w : World) (l : Leases) (c s : ℕ) (new : List LogRecord) (w' : World) : Type 0 where
-  pub coalesces : Coalesces w c s new w'
+pub record CoalescesUnder (w : World) (l : Leases) (c s : ℕ) (new : List LogRecord) (was : ℕ → ℕ) (w' : World) : Type 0 where
+  pub coalesces : Coalesces w c s new was w'
   pub cuts : (i : ℕ) → IsFrozenLease l c i → l.cut c i ≤ s

@@ -62,5 +62,5 @@ pub fn what_leaves_logs_keeps_leases()
 
 /// Records of which no cut lies among them may give way to others that touch the same inodes.
 pub fn an_equal_net_effect_keeps_leases()
-    ensures { (w u : World) (l : Leases) (c s : ℕ) (new : List LogRecord) → AreLeases w l → CoalescesUnder w l c s new u → AreLeases u l }
+    ensures { (w u : World) (l : Leases) (c s : ℕ) (new : List LogRecord) (was : ℕ → ℕ) → IsSound w → AreLeases w l → CoalescesUnder w l c s new was u → AreLeases u l }
 {}

@@ -165,7 +165,7 @@ module _ (s : StateValue) (shape : IsShaped s) (sound : ∥ IsSound (world_of s)
     calls = refl;
     records = λ c. none_dropped (w.first c) (w.records c);
     first = λ c. refl;
-    border = λ c k. refl;
+    border = λ c k low. refl;
     next = λ c. refl;
     made = λ c. refl;
     clients = clients_as s s refl;

@@ -316,7 +316,7 @@ module _ (s : StateValue) (n : ℕ) (inodes : set.FinSet nat_cmp) (levels : TwoL
           calls = same;
           records = λ c. own_records c ∙ sym (part_first w c (kept c));
           first = own_first;
-          border = λ c k. refl;
+          border = λ c k low. refl;
           next = client_keeps (λ x. x.next) (λ k x. refl);
           made = client_keeps (λ x. x.made) (λ k x. refl);
           goals = goals;

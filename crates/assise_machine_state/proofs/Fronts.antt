@@ -157,7 +157,7 @@ module _ (s : StateValue) (c to : ℕ) (shape : IsShaped s) (fronts : HasFronts 
     calls = refl;
     records = records_now;
     first = first_now;
-    border = λ d k. refl;
+    border = λ d k low. refl;
     next = λ d. refl;
     made = λ d. refl;
     clients = clients_as s (after_drop s c to) refl;
@@ -206,11 +206,11 @@ module _ (w v u : World) (f g : ℕ → ℕ) (front : Drops w f v) (next : Drops
   dropped_twice = record {
     low = λ c. omega (arith, front.low c, low_both c);
     high = λ c. subst (λ k. g c ≤ k) (same_digested w v f front c) (next.high c);
-    border_at = λ c. sym (front.border c (g c)) ∙ next.border_at c;
+    border_at = λ c. sym (front.border c (g c) (low_both c)) ∙ next.border_at c;
     calls = next.calls ∙ front.calls;
     records = λ c. next.records c ∙ ap (drop (g c - v.first c)) (front.records c) ∙ both_dropped c (w.records c);
     first = next.first;
-    border = λ c k. next.border c k ∙ front.border c k;
+    border = λ c k low. next.border c k low ∙ front.border c k (omega (arith, low_both c, low));
     next = λ c. next.next c ∙ front.next c;
     made = λ c. next.made c ∙ front.made c;
     clients = clients_after w v u front.clients next.clients;
