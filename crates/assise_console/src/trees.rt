@@ -4,10 +4,12 @@ ghost use Rattle.assise_names.specs.declared.refusal.Refusal.{Refusal as Refused
 ghost use Rattle.assise_names.specs.declared.refusal.Refusal.TheVariants.{OutOfMemory};
 ghost use Rattle.assise_inode_table.specs.Spelled.{Spells};
 ghost use Rattle.assise_digest.specs.Region.{alone as alone_there};
-ghost use Rattle.assise_seq_tree.specs.Tree.{Tree as PlainTree};
+ghost use Rattle.assise_seq_tree.specs.Tree.{Tree as PlainTree, opening};
+ghost use Rattle.assise_history.specs.Kept.{tree_after};
 ghost use Rattle.assise_machine_events.specs.Faults.{node_fault};
 ghost use Rattle.assise_machine_laws.specs.World.{alone};
 ghost use Rattle.assise_machine.specs.Clusters.{AreAcked, machine};
+ghost use Rattle.assise_machine.specs.Headline.{replicated_calls};
 
 use assise_digest::region::Region;
 use assise_lease_table::revoker::Revokes;
@@ -19,7 +21,7 @@ use std::alloc::Global;
 /// The most clients of a cluster.
 const MOST_CLIENTS: u32 = 16;
 
-/// The tree that a full node's region alone gives. Refused with [`Refusal::BadNode`], [`Refusal::WrongPhase`] where the node isn't
+/// The tree that a full node's region alone gives: that of all replicated calls. Refused with [`Refusal::BadNode`], [`Refusal::WrongPhase`] where the node isn't
 /// full, and [`Refusal::OutOfMemory`].
 pub(crate) fn tree_at<C: Revokes + Drop>(
     alloc: Global,
@@ -28,6 +30,7 @@ pub(crate) fn tree_at<C: Revokes + Drop>(
 ) -> Result<Tree, Refusal>
     ensures fault { (e : Refused) → node_fault (machine cluster.now) node ≡ Some e → result ≡ Err e }
     ensures tree { IfOk result (λ tree. Spells (alone (machine cluster.now).world node) tree) }
+    ensures replicated { IfOk result (λ tree. tree ≡ tree_after opening (replicated_calls cluster.now)) }
     ensures fine { IfOk result (λ tree. node_fault (machine cluster.now) node ≡ None) }
     ensures only_memory { node_fault (machine cluster.now) node ≡ None → IsOkUnless result OutOfMemory }
 {

@@ -13,3 +13,7 @@ pub mod Fewer
 pub mod Digested
 pub mod DigestedTo
 pub mod WholeDigest
+pub mod Acknowledged
+pub mod Telling
+pub mod Replicated
+pub mod Decided

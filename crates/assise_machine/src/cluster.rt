@@ -34,7 +34,7 @@ pub struct ClusterOf<C> {
 pub type Cluster = ClusterOf<Revoker>;
 
 impl<C: Revokes + Drop> ClusterOf<C> {
-    ghost use Rattle.std.specs.Prelude.{◌≡◌, ◌↔◌, ◌+◌, ◌<◌, ◌≤◌, ℕ, Err, IfErr, IfOk, IsOk, IsOkUnless, List, None, OnErr, OnOk};
+    ghost use Rattle.std.specs.Prelude.{◌≡◌, ◌↔◌, ◌+◌, ◌<◌, ◌≤◌, ℕ, [], Err, IfErr, IfOk, IsOk, IsOkUnless, List, None, OnErr, OnOk, length};
     ghost use Rattle.assise_names.specs.declared.refusal.Refusal.{Refusal as Refused};
     ghost use Rattle.assise_names.specs.declared.refusal.Refusal.TheVariants.{BadClient, OutOfMemory};
     ghost use Rattle.assise_seq_tree.specs.Runs.{tree_after_calls};
@@ -57,6 +57,7 @@ impl<C: Revokes + Drop> ClusterOf<C> {
     ghost use Rattle.assise_machine_failures.specs.Answers.{crashing_answer, failing_answer, joining_answer, refilling_answer, returning_answer};
     ghost use Rattle.assise_machine.specs.Answers.{delivery_answer, digesting_answer, sending_answer};
     ghost use Rattle.assise_machine.specs.Clusters.{AreAcked, machine, region_of, revokers};
+    ghost use Rattle.assise_machine.specs.Headline.{IsUp, acked_to, history_of, regions_of};
 
     /// A cluster in which nothing happened: 1 to 8 full nodes, whose clients' logs have 8 to 4,096 records at most, and 1 to
     /// 4,096 inodes that may be hot. The one refusal is [`Refusal::OutOfMemory`].
@@ -67,6 +68,8 @@ impl<C: Revokes + Drop> ClusterOf<C> {
         requires most_log { log ≤ 4096 }
         requires least_hot { 1 ≤ hot }
         requires most_hot { hot ≤ 4096 }
+        ensures history { IfOk result (λ cluster. history_of cluster ≡ []) }
+        ensures nodes { IfOk result (λ cluster. length (regions_of cluster) ≡ nodes) }
         ensures begun { IfOk result (λ cluster. machine cluster ≡ begun_as nodes log) }
         ensures only_memory { IsOkUnless result OutOfMemory }
     {
@@ -217,6 +220,7 @@ impl<C: Revokes + Drop> ClusterOf<C> {
 
     /// What was answered and what happened, in order. It is legal.
     pub fn history(&self) -> &History
+        ensures seen { result.now.events ≡ history_of self.now }
         ensures history { result.now.events ≡ (machine self.now).history }
         ensures legal { ∥ IsLegal result.now.events ∥₁ }
     {
@@ -228,6 +232,7 @@ impl<C: Revokes + Drop> ClusterOf<C> {
     pub fn region(&self, node: u32) -> Result<&Region, Refusal>
         ensures fault { (e : Refused) → node_fault (machine self.now) node ≡ Some e → result ≡ Err e }
         ensures ok { IsOk result ↔ (node_fault (machine self.now) node ≡ None) }
+        ensures up { IsOk result ↔ IsUp self.now node }
         ensures region { IfOk result (λ r. r.now ≡ region_of self.now node) }
         ensures observed { IfOk result (λ r. (acked : List ℕ) → AreAcked (machine self.now).world acked → (i : ℕ) → alone r.now acked i ≡ alone_observed (machine self.now).world node i) }
         ensures alone { IfOk result (λ r. (acked : List ℕ) → AreAcked (machine self.now).world acked → Spells (alone r.now acked) (tree_after_calls opening (ops (firm_calls (state_of (machine self.now)))))) }
@@ -238,6 +243,7 @@ impl<C: Revokes + Drop> ClusterOf<C> {
     /// The place up to which all full nodes have a client's log: its records below are acknowledged. The one refusal is
     /// [`Refusal::BadClient`]. It costs the nodes.
     pub fn acked(&self, client: u32) -> Result<u64, Refusal>
+        ensures seen { IfOk result (λ place. place ≡ acked_to self.now client) }
         ensures acked { IfOk result (λ place. place ≡ received_by_all (machine self.now).world client) }
         ensures ok { IsOk result ↔ IsClient (machine self.now).world client }
         ensures only_bad { IsOkUnless result BadClient }

@@ -7,6 +7,7 @@ mod delivery;
 mod digesting;
 pub mod event;
 mod faults;
+pub mod headline;
 pub mod laws;
 mod progress;
 pub mod run;

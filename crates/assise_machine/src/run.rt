@@ -1,9 +1,10 @@
 // Lists of events.
 ghost use Rattle.std.specs.Option.{option_to_list};
-ghost use Rattle.std.specs.Prelude.{◌≡◌, ◌-◌, ◌++◌, ℕ, IfOk, IsOkUnless, OnErr, OnOk, length, take};
+ghost use Rattle.std.specs.Prelude.{◌≡◌, ◌-◌, ◌≤◌, ◌++◌, ℕ, IfOk, IsOkUnless, OnErr, OnOk, length, take};
 ghost use Rattle.assise_names.specs.declared.refusal.Refusal.TheVariants.{OutOfMemory};
 ghost use Rattle.assise_machine_events.specs.Events.{all_entries, open_client, opened};
 ghost use Rattle.assise_machine.specs.Clusters.{machine, revokers};
+ghost use Rattle.assise_machine.specs.Headline.{history_after, history_of, kept_below, regions_of, replicated_calls, replicated_to};
 ghost use Rattle.assise_machine.specs.Running.{AllServed, IsServed, answer_seen, event_seen, opened_answer, stock_after, stock_left, told};
 
 use crate::answer::Answer;
@@ -26,6 +27,15 @@ pub fn run<C: Revokes + Drop>(
     ensures served { IfOk result (λ answers. AllServed (length stock.old.items) (machine cluster.old) (told events.now answers.items) (machine cluster.new)) }
     ensures answered { IfOk result (λ answers. length answers.items ≡ length events.now) }
     ensures extends { IfOk result (λ answers. (machine cluster.new).history ≡ (machine cluster.old).history ++ all_entries (machine cluster.old).history (told events.now answers.items)) }
+
+    // The history gets exactly the entries of the answers, and no node goes or comes.
+    ensures grows { IfOk result (λ answers. history_of cluster.new ≡ history_after (history_of cluster.old) events.now answers.items) }
+    ensures nodes { length (regions_of cluster.new) ≡ length (regions_of cluster.old) }
+
+    // No replicated call is lost again: no client's bound falls, and below the old bounds the kept calls are those of before.
+    ensures never_falls { (c : ℕ) → replicated_to cluster.old c ≤ replicated_to cluster.new c }
+    ensures lasting { kept_below (replicated_to cluster.old) (history_of cluster.new) ≡ replicated_calls cluster.old }
+
     ensures stock { IfOk result (λ answers. length stock.new.items ≡ stock_left (length stock.old.items) (told events.now answers.items)) }
     ensures front { stock.new.items ≡ take (length stock.new.items) stock.old.items }
     ensures err { OnErr result (machine cluster.new ≡ machine cluster.old) }

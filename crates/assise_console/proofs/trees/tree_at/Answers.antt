@@ -1,4 +1,4 @@
-use Rattle.std.proofs.Common.{sym, subst}
+use Rattle.std.proofs.Common.{◌∙◌, sym, subst}
 use Rattle.assise_seq_tree.specs.Runs.{tree_after_calls}
 use Rattle.assise_seq_tree.specs.Tree.{opening}
 use Rattle.assise_inode_table.specs.Spelled.{Spells}
@@ -7,6 +7,7 @@ use Rattle.assise_machine_laws.specs.World.{alone}
 use Rattle.assise_machine_history.specs.Courses.{firm_calls}
 use Rattle.assise_machine_events.specs.Machine.{state_of}
 use Rattle.assise_machine.specs.Clusters.{machine}
+use Rattle.assise_machine.proofs.Replicated.{replicated_tree}
 use Rattle.assise_console.proofs.Acked.{if_ok_as, some_acked}
 use Rattle.assise_console.proofs.trees.tree_at.Goals as goal
 
@@ -18,3 +19,6 @@ returns-in-Ok-clause-tree g c =
     let observed = c.in-Ok.ensures.observed acked.0 acked.1 in
     let spelled : Spells (alone m.world c.args.node) t = subst (λ v. Spells v t) (λ i j. observed j i) (c.in-Ok.ensures.alone acked.0 acked.1) in
     if_ok_as c.tree_of.result _ _ c.tree_of.ensures.tree (λ found is. subst (Spells (alone m.world c.args.node)) (sym is) spelled)
+
+pub returns-in-Ok-clause-replicated : goal.returns-in-Ok-clause-replicated
+returns-in-Ok-clause-replicated g c = if_ok_as c.tree_of.result _ _ c.tree_of.ensures.tree (λ found is. is ∙ sym (replicated_tree c.args.cluster.now))

@@ -1,6 +1,12 @@
-use Rattle.std.proofs.Common.{◌≤◌, ◌∙◌, length, arith}
+use Rattle.std.proofs.Common.{◌≤◌, ◌∙◌, length, sym, take, arith}
+use Rattle.assise_machine_state.specs.Observed.{observed}
+use Rattle.assise_machine_state.specs.Whole.{value_of}
 use Rattle.assise_machine.specs.Clusters.{machine}
-use Rattle.assise_machine.proofs.Running.{count_on, front_on, left_on, served_on, told_all}
+use Rattle.assise_machine.specs.Headline.{history_of}
+use Rattle.assise_machine.specs.Running.{told}
+use Rattle.assise_machine.proofs.Replicated.{bounds_stay, calls_stay, nodes_stay}
+use Rattle.assise_machine.proofs.Running.{all_last, count_on, front_on, left_on, served_on, told_all}
+use Rattle.assise_machine.proofs.Telling.{history_told}
 use Rattle.assise_machine.proofs.run.run.Goals as goal
 
 pub loop-event-preserved : goal.loop-event-preserved
@@ -31,3 +37,34 @@ pub returns-clause-extends : goal.returns-clause-extends
 returns-clause-extends g c =
     let past : length c.args.events.now ≤ c.loop-event.event-index = omega (arith, c.loop-event-test.false) in
     told_all (length c.args.stock.now.items) (machine c.args.cluster.now) (machine c.loop-event.cluster) c.args.events.now c.loop-event.answers.items c.loop-event.event-index past c.loop-event.invariant.served
+
+pub returns-clause-grows : goal.returns-clause-grows
+unfolding observed
+returns-clause-grows g c =
+    let past : length c.args.events.now ≤ c.loop-event.event-index = omega (arith, c.loop-event-test.false) in
+    told_all (length c.args.stock.now.items) (machine c.args.cluster.now) (machine c.loop-event.cluster) c.args.events.now c.loop-event.answers.items c.loop-event.event-index past c.loop-event.invariant.served
+    ∙ sym (history_told (history_of c.args.cluster.now) c.args.events.now c.loop-event.answers.items)
+
+pub returns-clause-never_falls : goal.returns-clause-never_falls
+returns-clause-never_falls g c =
+    let old = c.args.cluster.now.sound in
+    let new = c.loop-event.cluster.sound in
+    let es = told (take c.loop-event.event-index c.args.events.now) c.loop-event.answers.items in
+    λ d. bounds_stay (value_of old.state) (value_of new.state) old.shape new.shape old.state.members.lawful.some_full new.state.members.lawful.some_full old.holds new.holds
+    (λ h. all_last (length c.args.stock.now.items) (machine c.args.cluster.now) (machine c.loop-event.cluster) es h c.loop-event.invariant.served) d
+
+pub returns-clause-lasting : goal.returns-clause-lasting
+returns-clause-lasting g c =
+    let old = c.args.cluster.now.sound in
+    let new = c.loop-event.cluster.sound in
+    let es = told (take c.loop-event.event-index c.args.events.now) c.loop-event.answers.items in
+    calls_stay (value_of old.state) (value_of new.state) old.shape new.shape old.state.members.lawful.some_full new.state.members.lawful.some_full old.holds new.holds
+    (λ h. all_last (length c.args.stock.now.items) (machine c.args.cluster.now) (machine c.loop-event.cluster) es h c.loop-event.invariant.served)
+
+pub returns-clause-nodes : goal.returns-clause-nodes
+returns-clause-nodes g c =
+    let old = c.args.cluster.now.sound in
+    let new = c.loop-event.cluster.sound in
+    let es = told (take c.loop-event.event-index c.args.events.now) c.loop-event.answers.items in
+    nodes_stay (value_of old.state) (value_of new.state) old.shape new.shape old.state.members.lawful.some_full new.state.members.lawful.some_full old.holds new.holds
+    (λ h. all_last (length c.args.stock.now.items) (machine c.args.cluster.now) (machine c.loop-event.cluster) es h c.loop-event.invariant.served)

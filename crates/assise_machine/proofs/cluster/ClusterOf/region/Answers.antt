@@ -10,6 +10,7 @@ use Rattle.assise_machine_events.specs.Machine.{state_of}
 use Rattle.assise_machine_state.specs.NodeValues.{region_seen}
 use Rattle.assise_machine_state.specs.Whole.{machine_of, value_of}
 use Rattle.assise_machine.proofs.Alone.{gives_alone, if_ok_from, same_alone}
+use Rattle.assise_machine.proofs.Replicated.{fine_is_up, up_is_fine}
 use Rattle.assise_machine.proofs.cluster.ClusterOf.region.Goals as goal
 
 pub returns-clause-alone : goal.returns-clause-alone
@@ -31,3 +32,9 @@ returns-clause-observed g c =
     let fine = c.region.ensures.ok.0 (subst IsOk (sym is) refl) in
     subst (λ q. (i : ℕ) → alone q acked i ≡ alone_observed (machine_of c.args.self.now.sound.state).world c.args.node i) (sym region)
     (same_alone s c.args.node c.args.self.now.sound.shape c.args.self.now.sound.holds fine acked all)))
+
+pub returns-clause-up : goal.returns-clause-up
+returns-clause-up g c = (
+  λ ok. fine_is_up c.args.self.now c.args.node (c.region.ensures.ok.0 ok),
+  λ up. c.region.ensures.ok.1 (up_is_fine c.args.self.now c.args.node up),
+)
