@@ -1,5 +1,5 @@
 -- The first fault of a text, and what is printed of a fault.
-use Rattle.std.specs.Prelude.{◌≡◌, ◌⊎◌, ℕ, List, ◌++◌, Result, Ok, Err, codes}
+use Rattle.std.specs.Prelude.{◌≡◌, ◌⊎◌, ℕ, List, ◌++◌, Option, Some, None, Result, Ok, Err, codes}
 use Rattle.assise_names.specs.Text.{path_fault_text}
 use Rattle.assise_fault_script.specs.declared.fault.ScriptFault.{ScriptFault}
 use Rattle.assise_fault_script.specs.declared.fault.ScriptFault.TheVariants.{NotUtf8, UnknownCommand, WrongCount, BadNumber, BadPath, BadData, BadKind, NoCluster, SecondCluster, BadLimit, Memory}
@@ -19,6 +19,12 @@ Gives (Err e) wanted = (e ≡ Memory) ⊎ (wanted ≡ Err e)
 abbrev pub Answers : {X : Type 0} → Result X ScriptFault → Result X ScriptFault → Type 0
 Answers (Ok x) wanted = wanted ≡ Ok x
 Answers {X} (Err e) wanted = ((e ≡ Memory) × ((x : X) × (wanted ≡ Ok x))) ⊎ (wanted ≡ Err e)
+
+-- what is wanted was given, or nothing where memory ran out and nothing is wrong
+abbrev pub Makes : {X : Type 0} → Result (Option X) ScriptFault → Result X ScriptFault → Type 0
+Makes (Ok (Some x)) wanted = wanted ≡ Ok x
+Makes {X} (Ok None) wanted = (x : X) × (wanted ≡ Ok x)
+Makes (Err e) wanted = wanted ≡ Err e
 
 -- nothing is wrong, or the first fault
 abbrev pub Checks : {X : Type 0} → Result (Unit {0}) ScriptFault → Result X ScriptFault → Type 0

@@ -1,15 +1,15 @@
 // A row for each call of a client.
-ghost use Rattle.std.specs.Prelude.{◌≡◌, IfOk, IsOk, IsOkUnless, Ok, map};
+ghost use Rattle.std.specs.Prelude.{◌≡◌, map};
 ghost use Rattle.assise_fault_script.specs.Calls.{call_of, call_word, create_of, list_of, mkdir_of, path_word, read_of, rename_of, rmdir_of, stat_of, truncate_of, unlink_of, write_of};
 ghost use Rattle.assise_fault_script.specs.declared.fault.ScriptFault.{ScriptFault};
-ghost use Rattle.assise_fault_script.specs.Fault.{Answers, Checks};
+ghost use Rattle.assise_fault_script.specs.Fault.{Answers, Makes};
 
 use crate::command::CallWord;
 use crate::data::{check_data, checked_data};
 use crate::fault::ScriptFault;
 use crate::number::number;
 use assise_names::call::Op;
-use assise_names::path::Path;
+use assise_names::path::{Path, PathFault};
 use std::alloc::Global;
 
 /// The call that a word names.
@@ -52,33 +52,24 @@ pub fn call(alloc: Global, name: CallWord, words: &[&str]) -> Result<Op, ScriptF
     }
 }
 
-/// Whether a word spells a path.
-fn check_path(word: &str) -> Result<(), ScriptFault>
-    ensures { Checks result (path_word word.now) }
+/// The path that a word spells, or none where memory ran out.
+fn made(alloc: Global, word: &str) -> Result<Option<Path>, ScriptFault>
+    ensures { Makes result (path_word word.now) }
 {
-    match Path::check(word) {
-        Ok(()) => Ok(()),
+    match Path::parse(alloc, word) {
+        Ok(path) => Ok(Some(path)),
+        Err(PathFault::Memory) => Ok(None),
         Err(fault) => Err(ScriptFault::BadPath(fault)),
-    }
-}
-
-/// The path that a checked word spells.
-fn checked_path(alloc: Global, word: &str) -> Result<Path, ScriptFault>
-    requires { IsOk (path_word word.now) }
-    ensures spelled { IfOk result (λ path. path_word word.now ≡ Ok path) }
-    ensures only_memory { IsOkUnless result ScriptFault.Memory }
-{
-    match Path::of_text(alloc, word) {
-        Ok(path) => Ok(path),
-        Err(_) => Err(ScriptFault::Memory),
     }
 }
 
 fn path(alloc: Global, word: &str) -> Result<Path, ScriptFault>
     ensures { Answers result (path_word word.now) }
 {
-    check_path(word)?;
-    checked_path(alloc, word)
+    match made(alloc, word)? {
+        Some(path) => Ok(path),
+        None => Err(ScriptFault::Memory),
+    }
 }
 
 fn create(alloc: Global, word: &str) -> Result<Op, ScriptFault>
@@ -98,20 +89,20 @@ fn mkdir(alloc: Global, word: &str) -> Result<Op, ScriptFault>
 fn read(alloc: Global, word: &str, offset: &str, count: &str) -> Result<Op, ScriptFault>
     ensures { Answers result (read_of word.now offset.now count.now) }
 {
-    check_path(word)?;
+    let path = made(alloc, word)?;
     let offset = number(offset)?;
     let count = number(count)?;
-    let path = checked_path(alloc, word)?;
+    let path = path.ok_or(ScriptFault::Memory)?;
     Ok(Op::Read(path, offset, count))
 }
 
 fn write(alloc: Global, word: &str, offset: &str, bytes: &str) -> Result<Op, ScriptFault>
     ensures { Answers result (write_of word.now offset.now bytes.now) }
 {
-    check_path(word)?;
+    let path = made(alloc, word)?;
     let offset = number(offset)?;
     check_data(bytes)?;
-    let path = checked_path(alloc, word)?;
+    let path = path.ok_or(ScriptFault::Memory)?;
     let bytes = checked_data(alloc, bytes)?;
     Ok(Op::Write(path, offset, bytes))
 }
@@ -119,19 +110,19 @@ fn write(alloc: Global, word: &str, offset: &str, bytes: &str) -> Result<Op, Scr
 fn truncate(alloc: Global, word: &str, size: &str) -> Result<Op, ScriptFault>
     ensures { Answers result (truncate_of word.now size.now) }
 {
-    check_path(word)?;
+    let path = made(alloc, word)?;
     let size = number(size)?;
-    let path = checked_path(alloc, word)?;
+    let path = path.ok_or(ScriptFault::Memory)?;
     Ok(Op::Truncate(path, size))
 }
 
 fn rename(alloc: Global, from: &str, to: &str) -> Result<Op, ScriptFault>
     ensures { Answers result (rename_of from.now to.now) }
 {
-    check_path(from)?;
-    check_path(to)?;
-    let from = checked_path(alloc, from)?;
-    let to = checked_path(alloc, to)?;
+    let from = made(alloc, from)?;
+    let to = made(alloc, to)?;
+    let from = from.ok_or(ScriptFault::Memory)?;
+    let to = to.ok_or(ScriptFault::Memory)?;
     Ok(Op::Rename(from, to))
 }
 

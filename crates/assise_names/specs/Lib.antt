@@ -2,3 +2,4 @@ pub mod Name
 pub mod Path
 pub mod Reply
 pub mod Text
+pub mod Texts

@@ -9,3 +9,4 @@ pub mod name_list;
 pub mod path;
 pub mod refusal;
 pub mod reply;
+mod text;

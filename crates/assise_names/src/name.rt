@@ -13,12 +13,12 @@ ghost use Rattle.assise_names.specs.declared.refusal.Refusal.TheVariants.{OutOfM
 
 use crate::path::PathFault;
 use crate::refusal::Refusal;
+use crate::text::Text;
 use std::alloc::{AllocError, Global};
 use std::cmp::Ordering;
 use std::fmt;
 use std::fmt::{Display, Formatter};
 use std::marker::Model;
-use std::sync::ArcStr;
 
 /// The most bytes of a name.
 pub const MOST_NAME_BYTES: usize = 255;
@@ -27,20 +27,20 @@ pub const MOST_NAME_BYTES: usize = 255;
 /// `..` (POSIX.1-2017, base definitions, chapter 3: Filename). Names are ordered by their bytes. Copies share them.
 #[derive(Debug, Drop)]
 pub struct Name {
-    text: ArcStr,
+    text: Text,
 }
 
 impl Model for Name {
     ghost use Rattle.std.specs.Prelude.{List, ℕ, IsTrue};
-    ghost use Rattle.std.specs.Arc.{arc_str_bytes};
+    ghost use Rattle.assise_names.specs.Texts.{text_bytes};
 
     ghost Value = { List ℕ };
 
     ghost use Rattle.assise_names.specs.Name.{is_name};
 
-    ghost view = { λ n. arc_str_bytes n.text };
+    ghost view = { λ n. text_bytes n.text };
 
-    ghost invariant = { λ n. IsTrue (is_name (arc_str_bytes n.text)) };
+    ghost invariant = { λ n. IsTrue (is_name (text_bytes n.text)) };
 }
 
 impl Name {
@@ -52,7 +52,7 @@ impl Name {
         ensures lawful { IfOk result (λ name. IsTrue (is_name name)) }
     {
         check(text)?;
-        let text = ArcStr::from_str(alloc, text)?;
+        let text = Text::new(alloc, text)?;
         Ok(Name { text })
     }
 
@@ -63,7 +63,7 @@ impl Name {
         ensures only_memory { IsOkUnless result OutOfMemory }
     {
         Ok(Name {
-            text: ArcStr::from_str(alloc, text)?,
+            text: Text::new(alloc, text)?,
         })
     }
 
@@ -90,7 +90,7 @@ impl Clone for Name {
 
     fn clone(&self) -> Result<Name, AllocError> {
         Ok(Name {
-            text: self.text.clone()?,
+            text: self.text.copy()?,
         })
     }
 }

@@ -1,11 +1,11 @@
 // A path from the root.
-ghost use Rattle.std.specs.Prelude.{All, ◌≡◌, ◌==◌, ◌≤◌, ◌↔◌, [], ◌∷◌, IfErr, IfOk, IsOk, IsOkUnless, IsTrue, List, Some, length, ℕ};
+ghost use Rattle.std.specs.Prelude.{All, ◌≡◌, ◌==◌, ◌+◌, ◌≤◌, ◌↔◌, [], ◌∷◌, IfErr, IfOk, IsOk, IsOkUnless, IsTrue, List, MatchResult, Some, length, ℕ};
 ghost use Rattle.std.proofs.Common.{rules};
 ghost use Rattle.std.specs.Cmp.Rules.{comparing};
 ghost use Rattle.std.specs.Cmp.Lexicographic.{pointwise};
 ghost use Rattle.std.specs.Ordering.{on};
 ghost use Rattle.assise_names.specs.Name.{is_name};
-ghost use Rattle.assise_names.specs.Path.{Gives, GivesNames, IsProperFront, Spells, count_of, is_proper_front, path_of, names_behind, spelling};
+ghost use Rattle.assise_names.specs.Path.{Gives, GivesNames, IsProperFront, Spells, count_of, is_proper_front, no_deeper, path_of, names_behind, spelling};
 ghost use Rattle.assise_names.specs.Text.{path_fault_text};
 ghost use Rattle.assise_names.specs.declared.path.PathFault.{PathFault};
 ghost use Rattle.assise_names.specs.declared.refusal.Refusal.TheVariants.{OutOfMemory};
@@ -102,6 +102,7 @@ impl Path {
     pub fn parse(alloc: Global, text: &str) -> Result<Path, PathFault>
         ensures first_fault { Gives result (path_of text.now) }
         ensures faults { (fault : PathFault) → path_of text.now ≡ Err fault → result ≡ Err fault }
+        ensures memory { result ≡ Err PathFault.Memory → IsOk (path_of text.now) }
         ensures root { text.now ≡ spelling [] → IsOk result }
         ensures spelled { IfOk result (Spells text.now) }
         ensures complete { (path : List (List ℕ)) → Spells text.now path → IsOkUnless result PathFault.Memory }
@@ -175,15 +176,34 @@ impl Eq for Path {
     ghost laws = { Prim.search (comparing, rules) };
 }
 
-/// The path that a text spells, or its first fault. The text is looked through before memory is asked for.
+/// The path that a text spells, or its first fault. Where memory is refused the text is looked through for one.
 fn path_of(alloc: Global, text: &str) -> Result<Path, PathFault>
     ensures first_fault { Gives result (path_of text.now) }
     ensures faults { (fault : PathFault) → path_of text.now ≡ Err fault → result ≡ Err fault }
+    ensures memory { result ≡ Err PathFault.Memory → IsOk (path_of text.now) }
     ensures root { text.now ≡ spelling [] → IsOk result }
     ensures spelled { IfOk result (Spells text.now) }
 {
-    let rest = behind_slash(text)?;
-    let names = names_of(alloc, rest)?;
+    let Some(rest) = text.strip_prefix('/') else {
+        return Err(PathFault::NotAbsolute);
+    };
+    match names_of(alloc, rest) {
+        Ok(names) => path_of_names(names),
+        Err(PathFault::Memory) => {
+            behind_slash(text)?;
+            Err(PathFault::Memory)
+        }
+        Err(fault) => Err(fault),
+    }
+}
+
+/// The path of these names, unless they are too many.
+fn path_of_names(names: Vec<Name>) -> Result<Path, PathFault>
+    ensures { MatchResult result (λ path. (path ≡ names.items) × (no_deeper names.items ≡ Ok names.items)) (λ fault. no_deeper names.items ≡ Err fault) }
+{
+    if names.len() > MOST_NAMES {
+        return Err(PathFault::TooDeep);
+    }
     Ok(Path { names })
 }
 
@@ -227,10 +247,10 @@ fn names_of(alloc: Global, text: &str) -> Result<Vec<Name>, PathFault>
     ensures none { length text.now ≡ 0 → IsOk result }
     ensures lawful { IfOk result (λ names. All (λ name. IsTrue (is_name name)) names.items) }
 {
-    let mut names = Vec::new(alloc);
     if text.is_empty() {
-        return Ok(names);
+        return Ok(Vec::new(alloc));
     }
+    let mut names = Vec::with_capacity(alloc, pieces(text))?;
     let mut rest = text;
     while let Some((piece, more)) = rest.split_once('/') {
         names.push(Name::parse(alloc, piece)?)?;
@@ -238,6 +258,19 @@ fn names_of(alloc: Global, text: &str) -> Result<Vec<Name>, PathFault>
     }
     names.push(Name::parse(alloc, rest)?)?;
     Ok(names)
+}
+
+/// How many pieces stand between the slashes of a text.
+fn pieces(text: &str) -> usize
+    ensures few { result ≤ length text.now + 1 }
+{
+    let mut count = 1;
+    for byte in text.as_bytes() {
+        if *byte == b'/' {
+            count += 1;
+        }
+    }
+    count
 }
 
 impl Display for Path {

@@ -21,7 +21,7 @@ pub returns-in_err-parse-clause-first_fault : goal.returns-in_err-parse-clause-f
 returns-in_err-parse-clause-first_fault c =
     let parts = cut c.loop-piece.rest.now c.split_once.result _ c.split_once.ensures.cases c.in-Some.is in
     let front = c.loop-piece.names.items in
-    let y = err_from_is_err_and c.from_residual.result c.from_residual.ensures.1 in
+    let y = err_from_is_err_and c.from_residual-in_err-parse.result c.from_residual-in_err-parse.ensures.1 in
     rw y.1 (faulty _ c.in-Some.piece.now _ _ y.2 c.in_err-parse.ensures.first_fault (λ h.
     behind _ _ c.is_empty.ensures c.if-is_empty.false ∙ sym c.loop-piece.invariant.same ∙ ap (λ ps. with_front front (names_of ps)) parts ∙ one_fault front c.in-Some.piece.now _ (slice_split (λ b. b == 47) c.in-Some.more.now) h))
 

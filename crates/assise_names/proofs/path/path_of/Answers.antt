@@ -1,13 +1,39 @@
-use Rattle.std.proofs.Common.{◌∙◌, sym, ap, subst}
-use Rattle.assise_names.specs.Path.{Spells, path_of}
-use Rattle.assise_names.proofs.PathLemmas.{not_deep}
+use Rattle.std.proofs.Common.{◌≡◌, ◌∙◌, [], ◌∷◌, ℕ, lit<, sym, ap, subst, List, Result, Ok, Err, IfOk, MatchResult, inr}
+use Rattle.std.proofs.lemmas.Str.Pattern.{strip_prefix_char}
+use Rattle.std.proofs.lemmas.Result.{err_from_is_err_and}
+use Rattle.assise_names.specs.Path.{Spells, no_deeper, path_of}
+use Rattle.assise_names.specs.declared.path.PathFault.{PathFault}
+use Rattle.assise_names.specs.declared.path.PathFault.TheVariants.{Memory, NotAbsolute}
+use Rattle.assise_names.proofs.PathLemmas.{behind_a_slash, few_names, no_slash, path_kind}
 use Rattle.assise_names.proofs.Spellings.{spelled}
 use Rattle.assise_names.proofs.path.path_of.Goals as goal
 
-pub returns-clause-spelled : goal.returns-clause-spelled
-returns-clause-spelled c =
-    let text = c.in_ok-rest.ensures.rest in
-    let rest = c.in_ok-rest.rest.now in
-    let names = c.in_ok-names.names.items in
-    let found = c.in_ok-names.ensures.first_fault in
-    subst (λ t. Spells t names) (sym text) (spelled rest names found c.in_ok-names.ensures.lawful (not_deep rest names (ap path_of (sym text) ∙ c.in_ok-rest.ensures.names ∙ found)))
+pub returns-in_default-clause-first_fault : goal.returns-in_default-clause-first_fault
+returns-in_default-clause-first_fault c = inr (no_slash _ c.strip_prefix.result (strip_prefix_char 47 _ _ c.strip_prefix.ensures.cases (lit< tt)) c.in_default.is)
+
+pub returns-in_default-clause-faults : goal.returns-in_default-clause-faults
+returns-in_default-clause-faults c =
+    let none = no_slash _ c.strip_prefix.result (strip_prefix_char 47 _ _ c.strip_prefix.ensures.cases (lit< tt)) c.in_default.is in
+    λ fault h. (let both : Err NotAbsolute ≡ Err fault = sym none ∙ h in let same : NotAbsolute ≡ fault = cc in ap Err same)
+
+pub returns-in_default-clause-root : goal.returns-in_default-clause-root
+returns-in_default-clause-root c =
+    let none = no_slash _ c.strip_prefix.result (strip_prefix_char 47 _ _ c.strip_prefix.ensures.cases (lit< tt)) c.in_default.is in
+    λ root. absurd (let bad : Ok [] ≡ Err NotAbsolute = ap path_of (sym root) ∙ none in cc)
+
+pub returns-in_err-behind_slash-in-Err-Memory-clause-memory : goal.returns-in_err-behind_slash-in-Err-Memory-clause-memory
+returns-in_err-behind_slash-in-Err-Memory-clause-memory c =
+    let y = err_from_is_err_and c.from_residual.result c.from_residual.ensures.1 in
+    λ is. absurd (path_kind c.args.text.now (c.in_err-behind_slash-in-Err-Memory.ensures.first_fault ∙ ap Err (sym y.2 ∙ (let both : Err y.0 ≡ Err Memory = sym y.1 ∙ is in cc))))
+
+spelled_if : (r : Result (List (List ℕ)) PathFault) (names : List (List ℕ)) (text : List ℕ) → MatchResult r (λ path. (path ≡ names) × (no_deeper names ≡ Ok names)) (λ fault. no_deeper names ≡ Err fault) →
+    (no_deeper names ≡ Ok names → Spells text names) → IfOk r (Spells text)
+spelled_if (Ok path) names text h f = subst (Spells text) (sym h.0) (f h.1)
+spelled_if (Err e) names text h f = tt
+
+pub returns-in-Ok-clause-spelled : goal.returns-in-Ok-clause-spelled
+returns-in-Ok-clause-spelled c =
+    let text = behind_a_slash c.args.text.now c.strip_prefix.result c.in-Some.rest (strip_prefix_char 47 _ _ c.strip_prefix.ensures.cases (lit< tt)) c.in-Some.is in
+    let names = c.in-Ok.names.items in
+    spelled_if c.path_of_names.result names c.args.text.now c.path_of_names.ensures
+    (λ few. subst (λ t. Spells t names) (sym text) (spelled c.in-Some.rest.now names c.in-Ok.ensures.first_fault c.in-Ok.ensures.lawful (few_names names few)))

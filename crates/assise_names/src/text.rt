@@ -1,0 +1,53 @@
+// A text that lies in the value itself where it is short.
+ghost use Rattle.std.specs.Prelude.{◌≡◌, IfOk, IsTrue, length};
+
+use arrayvec::ArrayString;
+use std::alloc::{AllocError, Global};
+use std::marker::Model;
+use std::sync::ArcStr;
+
+/// The most bytes of a text that lies in the value itself.
+const SHORT: usize = 16;
+
+/// A text: short, in the value itself, or shared by its copies.
+#[derive(Debug, Drop)]
+pub(crate) enum Text {
+    /// At most 16 bytes.
+    Short(ArrayString<16>),
+    /// Any text.
+    Shared(ArcStr),
+}
+
+impl Text {
+    ghost use Rattle.assise_names.specs.Texts.{text_bytes};
+
+    /// A copy of a text. A short one takes no memory.
+    pub(crate) fn new(alloc: Global, text: &str) -> Result<Text, AllocError>
+        ensures ok { IfOk result (λ t. text_bytes t ≡ text.now) }
+    {
+        if let Ok(short) = ArrayString::from(text) {
+            return Ok(Text::Short(short));
+        }
+        Ok(Text::Shared(ArcStr::from_str(alloc, text)?))
+    }
+
+    /// The text.
+    pub(crate) fn as_str(&self) -> &str
+        ensures text { result.now ≡ text_bytes self.now }
+    {
+        match self {
+            Text::Short(short) => short.as_str(),
+            Text::Shared(shared) => shared.as_str(),
+        }
+    }
+
+    /// An equal text. It takes no memory.
+    pub(crate) fn copy(&self) -> Result<Text, AllocError>
+        ensures equal { IfOk result (λ t. text_bytes t ≡ text_bytes self.now) }
+    {
+        match self {
+            Text::Short(short) => Ok(Text::Short(*short)),
+            Text::Shared(shared) => Ok(Text::Shared(shared.clone()?)),
+        }
+    }
+}
