@@ -9,15 +9,14 @@ use Rattle.assise_seq_tree.specs.Answer.{answer}
 use Rattle.assise_seq_tree.specs.Tree.{Tree}
 use Rattle.assise_inode_table.specs.Calls.{interaction, step}
 use Rattle.assise_inode_table.specs.Contents.{Values}
-use Rattle.assise_inode_table.specs.Effects.{touched}
 use Rattle.assise_inode_table.specs.Interaction.{Interaction, visit, finish, visits_of, reply_of, effects_of, Step, step_by}
 use Rattle.assise_inode_table.specs.Spelled.{Spells}
 use Rattle.assise_inode_table.proofs.CallEnds.{few_effects}
 use Rattle.assise_inode_table.specs.Whole.{CanBeMadeWhole}
 use Rattle.assise_inode_table.proofs.CallSteps.{step_replies, step_spells}
 use Rattle.assise_inode_table.proofs.Wholeness.{effects_whole}
-use Rattle.assise_inode_plan.specs.Leased.{Leases, wants, for_writing, first_missing}
-use Rattle.assise_inode_plan.specs.Planning.{Answers, effects_planned, plan_lacking, plan_of, shown}
+use Rattle.assise_inode_plan.specs.Leased.{Leases, for_reading, first_missing}
+use Rattle.assise_inode_plan.specs.Planning.{Answers, effects_planned, plan_lacking, plan_of, ready, shown}
 use Rattle.assise_inode_plan.specs.Walking.{plan_from}
 use Rattle.assise_inode_plan.specs.declared.plan.Planned.{Planned}
 
@@ -29,12 +28,12 @@ one_more_visit : (before : List ℕ) (i : ℕ) (v : Values) (next : Interaction)
 unfolding after_visits
 one_more_visit before i v next = ap (λ is. record { visits = is; reply = reply_of v next; effects = effects_of v next }) (append_assoc before (i ∷ []) (visits_of v next))
 
-step_by_step : (leased : Leases) (v : Values) (before : List ℕ) (x : Interaction) → plan_from leased v before x ≡ plan_lacking (after_visits before v x) (first_missing leased (wants (step_by v x)))
+step_by_step : (leased : Leases) (v : Values) (before : List ℕ) (x : Interaction) → plan_from leased v before x ≡ plan_lacking (after_visits before v x) (first_missing leased (for_reading (visits_of v x)))
 unfolding after_visits
-step_by_step leased v before (finish reply es) = ap (λ is. plan_lacking (record { visits = is; reply = reply; effects = es }) (first_missing leased (for_writing (touched es)))) (sym (append-nil before))
+step_by_step leased v before (finish reply es) = ap (λ is. ready (record { visits = is; reply = reply; effects = es })) (sym (append-nil before))
 step_by_step leased v before (visit i next) =
     elim (cases_Bool (leased i Read)) [
-      | inl held ↦ rw held (step_by_step leased v (before ++ i ∷ []) (next (v i)) ∙ ap (λ s. plan_lacking s (first_missing leased (wants (step_by v (next (v i)))))) (one_more_visit before i v (next (v i))))
+      | inl held ↦ rw held (step_by_step leased v (before ++ i ∷ []) (next (v i)) ∙ ap (λ s. plan_lacking s (first_missing leased (for_reading (visits_of v (next (v i)))))) (one_more_visit before i v (next (v i))))
       | inr bare ↦ rw bare refl
     ]
 
@@ -55,7 +54,7 @@ plan_answers v t op fresh (Some w) s new = tt
 pub plan_answers_call : {E : Type 0} (r : Result Planned E) (leased : Leases) (v : Values) (op : Op) (fresh : ℕ) → IfOk r (λ p. shown p ≡ plan_from leased v [] (interaction op fresh)) → (t : Tree) → Spells v t → v fresh ≡ None →
     IfOk r (λ p. Answers v (answer t op) (shown p))
 plan_answers_call (Ok p) leased v op fresh h t s new =
-    subst (Answers v (answer t op)) (sym (h ∙ whole_plan leased v (interaction op fresh))) (plan_answers v t op fresh (first_missing leased (wants (step v op fresh))) s new)
+    subst (Answers v (answer t op)) (sym (h ∙ whole_plan leased v (interaction op fresh))) (plan_answers v t op fresh (first_missing leased (for_reading (step v op fresh).visits)) s new)
 plan_answers_call (Err e) leased v op fresh h t s new = tt
 
 -- ---- how many effects
@@ -67,7 +66,7 @@ few_planned leased v op fresh (Some w) = omega arith
 pub few_effects_planned : {E : Type 0} (r : Result Planned E) (leased : Leases) (v : Values) (op : Op) (fresh : ℕ) → IfOk r (λ p. shown p ≡ plan_from leased v [] (interaction op fresh)) →
     IfOk r (λ p. length (effects_planned (shown p)) ≤ 4)
 few_effects_planned (Ok p) leased v op fresh h =
-    subst (λ plan. length (effects_planned plan) ≤ 4) (sym (h ∙ whole_plan leased v (interaction op fresh))) (few_planned leased v op fresh (first_missing leased (wants (step v op fresh))))
+    subst (λ plan. length (effects_planned plan) ≤ 4) (sym (h ∙ whole_plan leased v (interaction op fresh))) (few_planned leased v op fresh (first_missing leased (for_reading (step v op fresh).visits)))
 few_effects_planned (Err e) leased v op fresh h = tt
 
 -- ---- they can be made all or none
@@ -79,5 +78,5 @@ whole_planned v op fresh (Some w) = inr (inl tt)
 pub whole_effects_planned : {E : Type 0} (r : Result Planned E) (leased : Leases) (v : Values) (op : Op) (fresh : ℕ) → IfOk r (λ p. shown p ≡ plan_from leased v [] (interaction op fresh)) →
     IfOk r (λ p. CanBeMadeWhole (effects_planned (shown p)))
 whole_effects_planned (Ok p) leased v op fresh h =
-    subst (λ plan. CanBeMadeWhole (effects_planned plan)) (sym (h ∙ whole_plan leased v (interaction op fresh))) (whole_planned v op fresh (first_missing leased (wants (step v op fresh))))
+    subst (λ plan. CanBeMadeWhole (effects_planned plan)) (sym (h ∙ whole_plan leased v (interaction op fresh))) (whole_planned v op fresh (first_missing leased (for_reading (step v op fresh).visits)))
 whole_effects_planned (Err e) leased v op fresh h = tt

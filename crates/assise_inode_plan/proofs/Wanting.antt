@@ -8,7 +8,7 @@ use Rattle.assise_inode_table.specs.Calls.{interaction, step}
 use Rattle.assise_inode_table.specs.Contents.{Values}
 use Rattle.assise_inode_table.specs.Interaction.{Interaction, visit, finish, Step, AgreeOn}
 use Rattle.assise_inode_table.proofs.Local.{step_local}
-use Rattle.assise_inode_plan.specs.Leased.{AreLeased, Leases, wants, first_missing}
+use Rattle.assise_inode_plan.specs.Leased.{AreLeased, Leases, for_reading, first_missing}
 use Rattle.assise_inode_plan.specs.Planning.{ready, missing, plan_lacking, plan_of}
 use Rattle.assise_inode_plan.specs.Walking.{plan_from}
 use Rattle.assise_inode_plan.proofs.Exact.{whole_plan}
@@ -52,19 +52,19 @@ missing_from s (Some w) i mode e =
     ap (λ j. Some (j, w.1)) number ∙ ap (λ m. Some (i, m)) kind
 
 pub missing_is_first : (leased : Leases) (s : Step) (i : ℕ) (mode : Mode) → plan_of leased s ≡ missing i mode →
-    (before : List (ℕ × Mode)) × (after : List (ℕ × Mode)) × (wants s ≡ before ++ (i, mode) ∷ after) × AreLeased leased before × (leased i mode ≡ false)
+    (before : List (ℕ × Mode)) × (after : List (ℕ × Mode)) × (for_reading s.visits ≡ before ++ (i, mode) ∷ after) × AreLeased leased before × (leased i mode ≡ false)
 missing_is_first leased s i mode e =
-    let l : Lacks leased (wants s) (i, mode) = lacks leased (wants s) (i, mode) (missing_from s (first_missing leased (wants s)) i mode e) in
+    let l : Lacks leased (for_reading s.visits) (i, mode) = lacks leased (for_reading s.visits) (i, mode) (missing_from s (first_missing leased (for_reading s.visits)) i mode e) in
     (l.before, l.after, l.split, l.held, l.bare)
 
 ready_from : (s u : Step) (o : Option (ℕ × Mode)) → plan_lacking s o ≡ ready u → (o ≡ None) × (u ≡ s)
 ready_from s u None e = (refl, cc)
 ready_from s u (Some w) e = cc
 
-pub ready_has_all : (leased : Leases) (s u : Step) → plan_of leased s ≡ ready u → (u ≡ s) × AreLeased leased (wants s)
+pub ready_has_all : (leased : Leases) (s u : Step) → plan_of leased s ≡ ready u → (u ≡ s) × AreLeased leased (for_reading s.visits)
 ready_has_all leased s u e =
-    let r = ready_from s u (first_missing leased (wants s)) e in
-    (r.1, all_leased leased (wants s) r.0)
+    let r = ready_from s u (first_missing leased (for_reading s.visits)) e in
+    (r.1, all_leased leased (for_reading s.visits) r.0)
 
 -- ---- inodes that agree
 

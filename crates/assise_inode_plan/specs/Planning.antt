@@ -10,11 +10,11 @@ use Rattle.assise_inode_table.specs.Contents.{Values}
 use Rattle.assise_inode_table.specs.Effects.{after}
 use Rattle.assise_inode_table.specs.Interaction.{Step}
 use Rattle.assise_inode_table.specs.Spelled.{Spells}
-use Rattle.assise_inode_plan.specs.Leased.{Leases, wants, first_missing}
+use Rattle.assise_inode_plan.specs.Leased.{Leases, for_reading, first_missing}
 use Rattle.assise_inode_plan.specs.declared.plan.Planned.{Planned}
 use Rattle.assise_inode_plan.specs.declared.plan.Planned.TheVariants.{Ready, Missing}
 
--- the whole step, or the first lease that it lacks
+-- the whole step, or the first lease that it lacks for its visits
 pub data Plan : Type 0 where
   ready : Step → Plan
   missing : ℕ → Mode → Plan
@@ -24,7 +24,7 @@ plan_lacking s None = ready s
 plan_lacking s (Some w) = missing w.0 w.1
 
 abbrev pub plan_of : Leases → Step → Plan
-plan_of leased s = plan_lacking s (first_missing leased (wants s))
+plan_of leased s = plan_lacking s (first_missing leased (for_reading s.visits))
 
 -- what a plan changes; where a lease is missing, nothing
 abbrev pub effects_planned : Plan → List Effect

@@ -3,17 +3,16 @@ use Rattle.std.specs.Prelude.{ℕ, if◌then◌else◌, List, [], ◌∷◌, ◌
 use Rattle.assise_names.specs.declared.mode.Mode.TheVariants.{Read}
 use Rattle.assise_names.specs.declared.reply.Reply.TheVariants.{Error}
 use Rattle.assise_inode_table.specs.Contents.{Values}
-use Rattle.assise_inode_table.specs.Effects.{touched}
 use Rattle.assise_inode_table.specs.Interaction.{Interaction, visit, finish}
-use Rattle.assise_inode_plan.specs.Leased.{Leases, for_writing, first_missing}
-use Rattle.assise_inode_plan.specs.Planning.{Plan, ready, missing, plan_lacking}
+use Rattle.assise_inode_plan.specs.Leased.{Leases}
+use Rattle.assise_inode_plan.specs.Planning.{Plan, ready, missing}
 use Rattle.assise_inode_plan.specs.declared.walk.Stop.{Stop}
 use Rattle.assise_inode_plan.specs.declared.walk.Stop.TheVariants.{Fault, Unleased}
 
 -- each inode is looked at only where it is leased
 abbrev pub plan_from : Leases → Values → List ℕ → Interaction → Plan
 plan_from leased v before (visit i next) = if leased i Read then plan_from leased v (before ++ i ∷ []) (next (v i)) else missing i Read
-plan_from leased v before (finish reply es) = plan_lacking (record { visits = before; reply = reply; effects = es }) (first_missing leased (for_writing (touched es)))
+plan_from leased v before (finish reply es) = ready (record { visits = before; reply = reply; effects = es })
 
 -- where a walk stopped
 abbrev pub plan_stopped : List ℕ → Stop → Plan

@@ -37,18 +37,15 @@ pub(crate) fn stopped(alloc: Global, stop: Stop, reads: Vec<u64>) -> Planned
     }
 }
 
-/// The plan of a call that has made its visits: what it changes has to be leased for writing.
+/// The plan of a call that has made its visits.
 pub(crate) fn finished<V: View>(
-    view: &V,
+    _view: &V,
     reply: Reply,
     reads: Vec<u64>,
     effects: Vec<Effect>,
 ) -> Planned
-    ensures { shown result ≡ plan_from (V.leased view.now) (values (V.contents view.now)) reads.items (finish reply effects.items) }
+    ensures { shown result ≡ plan_from (V.leased _view.now) (values (V.contents _view.now)) reads.items (finish reply effects.items) }
 {
-    if let Some(inode) = first_unleased(view, effects.as_slice()) {
-        return Planned::Missing(inode, Mode::Write);
-    }
     Planned::Ready {
         reply,
         reads,
@@ -56,8 +53,8 @@ pub(crate) fn finished<V: View>(
     }
 }
 
-/// The first changed inode that isn't leased for writing.
-fn first_unleased<V: View>(view: &V, effects: &[Effect]) -> Option<u64>
+/// The first inode that effects change and that isn't leased for writing.
+pub fn first_unleased<V: View>(view: &V, effects: &[Effect]) -> Option<u64>
     ensures { MatchOption result
         (first_missing (V.leased view.now) (for_writing (touched effects.now)) ≡ None)
         (λ inode. first_missing (V.leased view.now) (for_writing (touched effects.now)) ≡ Some (inode, Write)) }

@@ -1,6 +1,6 @@
 // Laws of plans. Each function does nothing: its contract is the law.
 ghost use Rattle.std.specs.Prelude.{◌≡◌, ◌++◌, ◌∷◌, List, false, true, ℕ};
-ghost use Rattle.assise_inode_plan.specs.Leased.{AreLeased, Leases, wants};
+ghost use Rattle.assise_inode_plan.specs.Leased.{AreLeased, Leases, for_reading};
 ghost use Rattle.assise_inode_plan.specs.Planning.{missing, plan_of, ready};
 ghost use Rattle.assise_inode_table.specs.Calls.{step};
 ghost use Rattle.assise_inode_table.specs.Contents.{Values};
@@ -9,12 +9,12 @@ ghost use Rattle.assise_names.specs.declared.call.Op.{Op};
 ghost use Rattle.assise_names.specs.declared.mode.Mode.{Mode};
 ghost use Rattle.assise_names.specs.declared.mode.Mode.TheVariants.{Read};
 
-/// A plan that misses a lease misses the first one that the call wants and that isn't there. A plan that is ready
-/// has all that it wants, and is the whole step.
+/// A plan that misses a lease misses the first one that the call wants for a visit and that isn't there. A plan that is ready
+/// has all that it wants for its visits, and is the whole step.
 pub fn a_missing_lease_is_the_first_that_is_wanted()
     ensures missing { (leased : Leases) (s : Step) (i : ℕ) (mode : Mode) → plan_of leased s ≡ missing i mode →
-        (before : List (ℕ × Mode)) × (after : List (ℕ × Mode)) × (wants s ≡ before ++ (i, mode) ∷ after) × AreLeased leased before × (leased i mode ≡ false) }
-    ensures ready { (leased : Leases) (s u : Step) → plan_of leased s ≡ ready u → (u ≡ s) × AreLeased leased (wants s) }
+        (before : List (ℕ × Mode)) × (after : List (ℕ × Mode)) × (for_reading s.visits ≡ before ++ (i, mode) ∷ after) × AreLeased leased before × (leased i mode ≡ false) }
+    ensures ready { (leased : Leases) (s u : Step) → plan_of leased s ≡ ready u → (u ≡ s) × AreLeased leased (for_reading s.visits) }
 {}
 
 /// What isn't leased for reading isn't looked at: the plan is the same over all inodes that agree on what is.

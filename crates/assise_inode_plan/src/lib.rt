@@ -2,7 +2,7 @@
 #![tactic(auto)]
 
 mod creation;
-mod ending;
+pub mod ending;
 mod file_changes;
 pub mod laws;
 pub mod plan;

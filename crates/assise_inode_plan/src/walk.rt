@@ -142,6 +142,9 @@ fn visit<'a, V: View>(
     if !view.leases(inode, Mode::Read) {
         return Ok(Err(Stop::Unleased(inode)));
     }
+    if reads.is_empty() {
+        reads.reserve(16)?;
+    }
     reads.push(inode)?;
     Ok(Ok(look_at(view, inode)))
 }

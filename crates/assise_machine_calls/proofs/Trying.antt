@@ -13,6 +13,7 @@ use Rattle.assise_names.specs.declared.refusal.Refusal.{Refusal}
 use Rattle.assise_names.specs.declared.refusal.Refusal.TheVariants.{OutOfMemory}
 use Rattle.assise_names.specs.declared.reply.Reply.TheVariants.{Done}
 use Rattle.assise_history.specs.Legal.{is_fsync}
+use Rattle.assise_record.specs.declared.effect.Effect.{Effect}
 use Rattle.assise_inode_plan.specs.Leased.{AreLeased, Leases as Leased, first_missing, for_reading, for_writing, wants}
 use Rattle.assise_inode_plan.specs.Planning.{Plan, missing, plan_lacking, plan_of, ready}
 use Rattle.assise_inode_plan.proofs.Wanting.{ready_has_all}
@@ -48,7 +49,7 @@ use Rattle.assise_machine_state.proofs.Reading.{read_at_home}
 use Rattle.assise_machine_state.proofs.Seeing.{client_is}
 use Rattle.assise_machine_state.proofs.ShapedClients.{areas_stay, leases_held}
 use Rattle.assise_machine_calls.specs.Asked.{AsksThem}
-use Rattle.assise_machine_calls.specs.Leasing.{IsReady, next_call, next_step}
+use Rattle.assise_machine_calls.specs.Leasing.{IsReady, IsVisited, next_call, next_step}
 use Rattle.assise_machine_calls.proofs.Committing.{call_client, call_number}
 use Rattle.assise_machine_calls.proofs.Granted.{granted_first}
 use Rattle.assise_machine_calls.proofs.Wanting.{fewer, first_unserved, unserved}
@@ -137,17 +138,35 @@ serves_writing leased (j ∷ js) all i found =
       | inr other ↦ serves_writing leased js all.1 i (subst (λ b. (b || contains js i) ≡ true) (ne_eqb j i other) found)
     ]
 
-serves_later : (leased : Leased) (is js : List ℕ) → AreLeased leased (for_reading is ++ for_writing js) → AreLeased leased (for_writing js)
-serves_later leased [] js all = all
-serves_later leased (j ∷ is) js all = serves_later leased is js all.1
-
-serves_reading : (leased : Leased) (is js : List ℕ) → AreLeased leased (for_reading is ++ for_writing js) → (i : ℕ) → contains is i ≡ true → leased i Read ≡ true
-serves_reading leased [] js all i found = cc
-serves_reading leased (j ∷ is) js all i found =
+serves_reading : (leased : Leased) (is : List ℕ) → AreLeased leased (for_reading is) → (i : ℕ) → contains is i ≡ true → leased i Read ≡ true
+serves_reading leased [] all i found = cc
+serves_reading leased (j ∷ is) all i found =
     elim (cases_eq j i) [
       | inl same ↦ subst (λ k. leased k Read ≡ true) same all.0
-      | inr other ↦ serves_reading leased is js all.1 i (subst (λ b. (b || contains is i) ≡ true) (ne_eqb j i other) found)
+      | inr other ↦ serves_reading leased is all.1 i (subst (λ b. (b || contains is i) ≡ true) (ne_eqb j i other) found)
     ]
+
+all_leased : (leased : Leased) (ws : List (ℕ × Mode)) → first_missing leased ws ≡ None → AreLeased leased ws
+all_leased leased [] none = tt
+all_leased leased (w ∷ ws) none =
+    elim (cases_Bool (leased w.0 w.1)) [
+      | inl had ↦ (had, all_leased leased ws (rw had at none))
+      | inr lacked ↦ let no_more = rw lacked at none in cc
+    ]
+
+-- what is missing first is so whatever is wanted after it
+missing_later : (leased : Leased) (vs ws : List (ℕ × Mode)) (w : ℕ × Mode) → first_missing leased vs ≡ Some w → first_missing leased (vs ++ ws) ≡ Some w
+missing_later leased [] ws w lacked = absurd (let none : None ≡ Some w = lacked in cc)
+missing_later leased (v ∷ vs) ws w lacked =
+    elim (cases_Bool (leased v.0 v.1)) [
+      | inl had ↦ rw had (missing_later leased vs ws w (rw had at lacked))
+      | inr bare ↦ rw bare (rw bare at lacked)
+    ]
+
+-- where all that is visited is leased, the first that is missing is of what is wanted after it
+past_visits : (leased : Leased) (is : List ℕ) (ws : List (ℕ × Mode)) → ((i : ℕ) → contains is i ≡ true → leased i Read ≡ true) → first_missing leased (for_reading is ++ ws) ≡ first_missing leased ws
+past_visits leased [] ws all = refl
+past_visits leased (i ∷ is) ws all = rw (all i (in_front i is i refl)) (past_visits leased is ws (λ j found. all j (in_rest i is j found)))
 
 -- ---- a lease that is granted
 
@@ -240,24 +259,44 @@ module _ (s : StateValue) (c : ℕ) (op : Op) (shape : IsShaped s) (holds : ∥ 
       ∙ (λ k. plan_of (λ i mode. serves (lease_of (held k i) (client k)) mode) (step (values (read k)) op fresh))
       ∙ ap (plan_of (served s c)) (step_is fresh is)
 
+  -- what the code finds missing of what is changed
+  pub lacked_now : (o : Option (ℕ × Mode)) (d : ℕ) (ls : ℕ → List Lease) (es fs : List Effect) → first_missing (λ i mode. serves (lease_of (ls i) d) mode) (for_writing (touched es)) ≡ o →
+      d ≡ c → ls ≡ s.levels.clients → es ≡ fs → first_missing (served s c) (for_writing (touched fs)) ≡ o
+  unfolding leases_of
+  lacked_now o d ls es fs found client held same = sym (λ k. first_missing (λ i mode. serves (lease_of (held k i) (client k)) mode) (for_writing (touched (same k)))) ∙ found
+
   -- a plan that is ready
-  pub ready_now : (u : Step) → plan_of (served s c) next ≡ ready u → IsReady (observed s) c op u
+  pub visited_now : (u : Step) → plan_of (served s c) next ≡ ready u → IsVisited (observed s) c op u
   unfolding observed
-  ready_now u plan =
+  visited_now u plan =
       let all = ready_has_all (served s c) next u plan in
+      record { step = all.0; visited = serves_reading (served s c) next.visits all.1 }
+
+  -- and what it changes is leased, too
+  pub ready_now : (u : Step) → IsVisited (observed s) c op u → first_missing (served s c) (for_writing (touched u.effects)) ≡ None → IsReady (observed s) c op u
+  unfolding observed
+  ready_now u visited none =
       record {
-        step = all.0;
+        step = visited.step;
         served = record {
-          visited = serves_reading (served s c) next.visits (touched next.effects) all.1;
-          changed = serves_writing (served s c) (touched next.effects) (serves_later (served s c) next.visits (touched next.effects) all.1);
+          visited = visited.visited;
+          changed = serves_writing (served s c) (touched next.effects) (all_leased (served s c) (for_writing (touched next.effects)) (subst (λ t. first_missing (served s c) (for_writing (touched t.effects)) ≡ None) visited.step none));
         };
       }
 
-  -- a plan that misses a lease
-  module _ (i : ℕ) (mode : Mode) (plan : plan_of (served s c) next ≡ missing i mode) where
-    pub first : first_missing (served s c) (wants next) ≡ Some (i, mode)
-    first = first_lacks next (first_missing (served s c) (wants next)) i mode plan
+  -- the first lease that a call lacks for its visits
+  pub lacks_visit : (i : ℕ) (mode : Mode) → plan_of (served s c) next ≡ missing i mode → first_missing (served s c) (wants next) ≡ Some (i, mode)
+  lacks_visit i mode plan = missing_later (served s c) (for_reading next.visits) (for_writing (touched next.effects)) (i, mode) (first_lacks next (first_missing (served s c) (for_reading next.visits)) i mode plan)
 
+  -- the first that it lacks for what it changes
+  pub lacks_change : (u : Step) (i : ℕ) → IsVisited (observed s) c op u → first_missing (served s c) (for_writing (touched u.effects)) ≡ Some (i, Write) → first_missing (served s c) (wants next) ≡ Some (i, Write)
+  unfolding observed
+  lacks_change u i visited lacked =
+      past_visits (served s c) next.visits (for_writing (touched next.effects)) visited.visited
+      ∙ subst (λ t. first_missing (served s c) (for_writing (touched t.effects)) ≡ Some (i, Write)) visited.step lacked
+
+  -- a lease that is missing
+  module _ (i : ℕ) (mode : Mode) (first : first_missing (served s c) (wants next) ≡ Some (i, mode)) where
     unserved_now : served s c i mode ≡ false
     unserved_now = first_unserved (served s c) (wants next) (i, mode) first
 
@@ -275,7 +314,7 @@ module _ (s : StateValue) (c : ℕ) (op : Op) (shape : IsShaped s) (holds : ∥ 
 
   -- ---- a lease is granted
 
-  module _ (i : ℕ) (mode : Mode) (levels : TwoLevels) (plan : plan_of (served s c) next ≡ missing i mode) (free : is_free_for s.levels c (client_in s.clients c).home i mode ≡ true)
+  module _ (i : ℕ) (mode : Mode) (levels : TwoLevels) (first : first_missing (served s c) (wants next) ≡ Some (i, mode)) (free : is_free_for s.levels c (client_in s.clients c).home i mode ≡ true)
       (granted : IsGranted s.levels levels c (client_in s.clients c).home i mode) where
     abbrev s' : StateValue
     s' = after_leases s levels
@@ -297,7 +336,7 @@ module _ (s : StateValue) (c : ℕ) (op : Op) (shape : IsShaped s) (holds : ∥ 
 
     pub goes_on : (a : Answer) (m' : Machine) → Calling (observed s') c op a m' → Calling (observed s) c op a m'
     unfolding observed
-    goes_on a m' e = granted_first (observed s) (world_of s') (leases_of s') c op i mode (lacks i mode plan) grants (areas_stay s s' refl) fine a m' e
+    goes_on a m' e = granted_first (observed s) (world_of s') (leases_of s') c op i mode (lacks i mode first) grants (areas_stay s s' refl) fine a m' e
 
     pub fine_then : call_fault (observed s') c op ≡ None
     unfolding observed world_of
@@ -319,9 +358,16 @@ module _ (s : StateValue) (c : ℕ) (op : Op) (shape : IsShaped s) (holds : ∥ 
     unfolding view world_of own_seen ahead
     same_step = refl
 
+    pub visited_then : (u : Step) → IsVisited (observed s) c op u → IsVisited (observed s') c op u
+    unfolding observed leases_of
+    visited_then u visited = record {
+      step = visited.step ∙ sym same_step;
+      visited = λ j found. still_serves s.levels levels c (client_in s.clients c).home i mode granted j Read (visited.visited j (subst (λ t. contains t.visits j ≡ true) same_step found));
+    }
+
     pub fewer_then : unserved (served s' c) (wants (next_step (world_of s') c op)) < unserved (served s c) (wants next)
     unfolding leases_of
-    fewer_then = subst (λ u. unserved (served s' c) (wants u) < unserved (served s c) (wants next)) (sym same_step) (fewer (served s c) (served s' c) (wants next) (i, mode) (still_serves s.levels levels c (client_in s.clients c).home i mode granted) (first i mode plan) granted.held)
+    fewer_then = subst (λ u. unserved (served s' c) (wants u) < unserved (served s c) (wants next)) (sym same_step) (fewer (served s c) (served s' c) (wants next) (i, mode) (still_serves s.levels levels c (client_in s.clients c).home i mode granted) first granted.held)
 
 -- ---- any call but an fsync
 

@@ -1,19 +1,22 @@
 -- What a client's next call does over what the client reads, and that all its leases are there.
 -- Assise (OSDI 2020), section 3 (CC-NVM: update logs, leases).
-use Rattle.std.specs.Prelude.{◌≡◌, ◌==◌, ◌&&◌, ℕ, List, Option, length}
+use Rattle.std.specs.Prelude.{◌≡◌, ◌==◌, ◌&&◌, ℕ, List, Option, length, true}
 use Rattle.std.specs.List.{list_any}
 use Rattle.assise_names.specs.declared.call.Op.{Op}
+use Rattle.assise_names.specs.declared.mode.Mode.TheVariants.{Read}
 use Rattle.assise_names.specs.declared.refusal.Refusal.{Refusal}
 use Rattle.assise_names.specs.declared.refusal.Refusal.TheVariants.{InodesSpent, LogFull}
 use Rattle.assise_names.specs.declared.reply.Reply.TheVariants.{Done}
 use Rattle.assise_record.specs.declared.effect.Effect.{Effect}
-use Rattle.assise_inode_table.specs.Effects.{makes}
+use Rattle.assise_inode_table.specs.Effects.{contains, makes}
 use Rattle.assise_inode_table.specs.Interaction.{Step}
 use Rattle.assise_inode_table.specs.Numbers.{inode_number}
 use Rattle.assise_inode_table.specs.Traces.{NumberedCall}
 use Rattle.assise_digest.specs.Region.{ReceivedLog}
+use Rattle.assise_lease_table.specs.Leases.{serves}
 use Rattle.assise_machine_laws.specs.Records.{has_some}
 use Rattle.assise_machine_laws.specs.World.{World, step_at_home}
+use Rattle.assise_machine_leases.specs.Leases.{client_lease}
 use Rattle.assise_machine_events.specs.ClientEvents.{IsServed, call_of_client}
 use Rattle.assise_machine_events.specs.Faults.{fault_if, or_else}
 use Rattle.assise_machine_events.specs.Machine.{Machine}
@@ -30,6 +33,11 @@ next_step w c op = step_at_home w (next_call w c op)
 -- what is planned
 abbrev pub step_in : Outcome → Step
 step_in o = record { visits = o.reads.items; reply = o.reply; effects = o.effects.items }
+
+-- this is what the call does, and its leases serve for what it visits
+pub record IsVisited (m : Machine) (c : ℕ) (op : Op) (s : Step) : Type 0 where
+  pub step : s ≡ next_step m.world c op
+  pub visited : (i : ℕ) → contains (next_step m.world c op).visits i ≡ true → serves (client_lease m.leases c i) Read ≡ true
 
 -- this is what the call does, and all leases serve that it needs
 pub record IsReady (m : Machine) (c : ℕ) (op : Op) (s : Step) : Type 0 where

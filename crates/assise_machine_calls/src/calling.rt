@@ -1,5 +1,5 @@
 // A client's call.
-ghost use Rattle.std.specs.Prelude.{◌≡◌, None, false};
+ghost use Rattle.std.specs.Prelude.{◌≡◌, ◌≤◌, None, false, length};
 ghost use Rattle.assise_history.specs.Legal.{is_fsync};
 ghost use Rattle.assise_lease_table.specs.Tables.{SameRevokers};
 ghost use Rattle.assise_lease_tree.specs.Trees.{stored_by};
@@ -10,6 +10,8 @@ ghost use Rattle.assise_machine_events.specs.Machine.{Holds};
 ghost use Rattle.assise_machine_state.specs.Shape.{AreNoted, IsShaped};
 ghost use Rattle.assise_machine_state.specs.Whole.{machine_of, value_of};
 ghost use Rattle.assise_machine_calls.specs.Answers.{turn_answer};
+ghost use Rattle.assise_machine_calls.specs.Leasing.{IsVisited, step_in};
+ghost use Rattle.assise_inode_table.specs.Whole.{CanBeMadeWhole};
 
 use crate::asking::ask;
 use crate::commit::commit;
@@ -17,6 +19,7 @@ use crate::faults::call_refusal;
 use crate::fsync::try_fsync;
 use crate::outcome::Outcome;
 use crate::turn::Turn;
+use assise_inode_plan::ending::first_unleased;
 use assise_inode_plan::plan::{Planned, plan};
 use assise_inode_table::numbers::inode_number;
 use assise_lease_table::revoker::Revokes;
@@ -24,6 +27,7 @@ use assise_lease_tree::request::Request;
 use assise_machine_state::sound::SoundOf;
 use assise_machine_state::state::StateOf;
 use assise_names::call::Op;
+use assise_names::mode::Mode;
 use assise_names::refusal::Refusal;
 use std::alloc::Global;
 
@@ -87,7 +91,7 @@ fn call<C: Revokes + Drop>(
                 reads,
                 effects,
             };
-            commit(alloc, state, client, op, outcome)
+            finish(alloc, state, client, op, outcome)
         }
         Planned::Missing(inode, mode) => {
             let request = Request {
@@ -104,4 +108,43 @@ fn call<C: Revokes + Drop>(
             call(alloc, state, client, op)
         }
     }
+}
+
+/// Answers a call whose visits are leased, or gets a lease of what it changes and goes on, or asks those who stand in the way of one.
+fn finish<C: Revokes + Drop>(
+    alloc: Global,
+    state: &mut StateOf<C>,
+    client: u32,
+    op: &Op,
+    outcome: Outcome,
+) -> Result<Turn, Refusal>
+    requires fine { call_fault (machine_of state.old) client op.now ≡ None }
+    requires call { is_fsync op.now ≡ false }
+    requires holds { ∥ Holds (machine_of state.old) ∥₁ }
+    requires shape { IsShaped (value_of state.old) }
+    requires noted { AreNoted (value_of state.old) }
+    requires visited { IsVisited (machine_of state.old) client op.now (step_in outcome) }
+    requires few { length outcome.effects.items ≤ 4 }
+    requires whole { CanBeMadeWhole outcome.effects.items }
+    ensures happens { Calling (machine_of state.old) client op.now (turn_answer result) (machine_of state.new) }
+    ensures shape { IsShaped (value_of state.new) }
+    ensures noted { AreNoted (value_of state.new) }
+    ensures revokers { SameRevokers (stored_by state.old.leases) (stored_by state.new.leases) }
+{
+    let view = state.view(client);
+    let Some(inode) = first_unleased(&view, &outcome.effects) else {
+        return commit(alloc, state, client, op, outcome);
+    };
+    let request = Request {
+        client,
+        node: state.clients.get(client).home(),
+        inode,
+        mode: Mode::Write,
+    };
+    if !state.leases.is_free(request) {
+        ask(state, request)?;
+        return Ok(Turn::NotYet);
+    }
+    state.leases.grant(request)?;
+    finish(alloc, state, client, op, outcome)
 }

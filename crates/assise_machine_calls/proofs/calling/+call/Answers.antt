@@ -13,7 +13,7 @@ use Rattle.assise_machine_calls.specs.Answers.{turn_answer}
 use Rattle.assise_machine_calls.specs.Leasing.{next_step, step_in}
 use Rattle.assise_machine_calls.proofs.Committing.{call_made, call_number, call_unfailed}
 use Rattle.assise_machine_calls.proofs.Leasing.{home_known}
-use Rattle.assise_machine_calls.proofs.Trying.{awaited, fewer_then, fine_then, goes_on, holds_then, lacking_as, lacks, noted_then, planned_now, ready_now, same_levels, served, shape_then}
+use Rattle.assise_machine_calls.proofs.Trying.{awaited, fewer_then, fine_then, goes_on, holds_then, lacking_as, lacks, lacks_visit, noted_then, planned_now, visited_now, same_levels, served, shape_then}
 use Rattle.assise_machine_calls.proofs.Wanting.{unserved}
 use Rattle.assise_machine_calls.proofs.calling.+call.Goals as goal
 
@@ -37,15 +37,15 @@ returns-in_err-reply-clause-happens g t c =
     let m = observed (value_of c.args.state.now) in
     lacking_as m m c.args.client c.args.op.now (turn_answer c.from_residual.result) error.0 c.requires.fine (ap turn_answer error.1) (error.2 ∙ c.in_err-reply.ensures.only_memory) refl
 
-pub commit-requires-clause-ready : goal.commit-requires-clause-ready
-commit-requires-clause-ready g t c =
+pub finish-requires-clause-visited : goal.finish-requires-clause-visited
+finish-requires-clause-visited g t c =
     let s = value_of c.args.state.now in
     let planned =
     planned_now s c.args.client c.args.op.now c.requires.shape c.requires.holds c.requires.fine c.inode_number-fresh.result
     (c.inode_number-fresh.ensures ∙ ap (inode_number c.args.client) (c.made.ensures ∙ ap (λ x. x.made) c.get-known.ensures))
     (shown c.in_ok-reply.field-0) c.view-view.result.client (levels_of c.view-view.result.leases.now).clients c.view-view.result.inodes
     c.in_ok-reply.ensures.exact c.view-view.ensures.client (ap (λ l. (levels_of l).clients) c.view-view.ensures.leases) c.view-view.ensures.inodes in
-    ready_now s c.args.client c.args.op.now c.requires.shape c.requires.holds c.requires.fine (step_in record { reply = c.in-Ready.reply; reads = c.in-Ready.reads; effects = c.in-Ready.effects })
+    visited_now s c.args.client c.args.op.now c.requires.shape c.requires.holds c.requires.fine (step_in record { reply = c.in-Ready.reply; reads = c.in-Ready.reads; effects = c.in-Ready.effects })
     (sym planned ∙ ap shown c.in-Ready.is)
 
 pub returns-in_err-ask-in-Missing-clause-happens : goal.returns-in_err-ask-in-Missing-clause-happens
@@ -63,7 +63,7 @@ returns-then-not-is_free-clause-happens g t c =
     (c.inode_number-fresh.ensures ∙ ap (inode_number c.args.client) (c.made.ensures ∙ ap (λ x. x.made) c.get-known.ensures))
     (shown c.in_ok-reply.field-0) c.view-view.result.client (levels_of c.view-view.result.leases.now).clients c.view-view.result.inodes
     c.in_ok-reply.ensures.exact c.view-view.ensures.client (ap (λ l. (levels_of l).clients) c.view-view.ensures.leases) c.view-view.ensures.inodes in
-    let plan = sym planned ∙ ap shown c.in-Missing.is in
+    let plan = lacks_visit s c.args.client c.args.op.now c.requires.shape c.requires.holds c.requires.fine c.in-Missing.inode c.in-Missing.mode (sym planned ∙ ap shown c.in-Missing.is) in
     awaited (observed s) (machine_of c.ask.new.state) c.args.client c.args.op.now c.in-Missing.inode c.in-Missing.mode c.home-home.result c.requires.fine
     (lacks s c.args.client c.args.op.now c.requires.shape c.requires.holds c.requires.fine c.in-Missing.inode c.in-Missing.mode plan) c.in_ok-ask-in-Missing.ensures.ok
 
@@ -89,7 +89,7 @@ call-requires g t c =
     (c.inode_number-fresh.ensures ∙ ap (inode_number c.args.client) (c.made.ensures ∙ ap (λ x. x.made) c.get-known.ensures))
     (shown c.in_ok-reply.field-0) c.view-view.result.client (levels_of c.view-view.result.leases.now).clients c.view-view.result.inodes
     c.in_ok-reply.ensures.exact c.view-view.ensures.client (ap (λ l. (levels_of l).clients) c.view-view.ensures.leases) c.view-view.ensures.inodes in
-    let plan = sym planned ∙ ap shown c.in-Missing.is in
+    let plan = lacks_visit s c.args.client c.args.op.now c.requires.shape c.requires.holds c.requires.fine c.in-Missing.inode c.in-Missing.mode (sym planned ∙ ap shown c.in-Missing.is) in
     let free = subst (λ n. is_free_for s.levels c.args.client n c.in-Missing.inode c.in-Missing.mode ≡ true) home (sym c.is_free.ensures ∙ c.if-not-is_free.false) in
     let granted = subst (λ n. IsGranted s.levels (levels_of c.grant.new.self) c.args.client n c.in-Missing.inode c.in-Missing.mode) home c.in_ok-grant-in-Missing.ensures.granted in
     λ κs sub. (
@@ -122,7 +122,7 @@ returns-in_ok-grant-in-Missing-clause-happens g t c =
     (c.inode_number-fresh.ensures ∙ ap (inode_number c.args.client) (c.made.ensures ∙ ap (λ x. x.made) c.get-known.ensures))
     (shown c.in_ok-reply.field-0) c.view-view.result.client (levels_of c.view-view.result.leases.now).clients c.view-view.result.inodes
     c.in_ok-reply.ensures.exact c.view-view.ensures.client (ap (λ l. (levels_of l).clients) c.view-view.ensures.leases) c.view-view.ensures.inodes in
-    let plan = sym planned ∙ ap shown c.in-Missing.is in
+    let plan = lacks_visit s c.args.client c.args.op.now c.requires.shape c.requires.holds c.requires.fine c.in-Missing.inode c.in-Missing.mode (sym planned ∙ ap shown c.in-Missing.is) in
     let free = subst (λ n. is_free_for s.levels c.args.client n c.in-Missing.inode c.in-Missing.mode ≡ true) home (sym c.is_free.ensures ∙ c.if-not-is_free.false) in
     let granted = subst (λ n. IsGranted s.levels (levels_of c.grant.new.self) c.args.client n c.in-Missing.inode c.in-Missing.mode) home c.in_ok-grant-in-Missing.ensures.granted in
     goes_on s c.args.client c.args.op.now c.requires.shape c.requires.holds c.requires.fine c.in-Missing.inode c.in-Missing.mode (levels_of c.grant.new.self) plan free granted
