@@ -1,5 +1,5 @@
 // The links of a directory.
-ghost use Rattle.std.specs.Prelude.{◌≡◌, ◌==◌, IfOk, IsOkUnless, None, OnErr, OnOk, length};
+ghost use Rattle.std.specs.Prelude.{◌≡◌, IfErr, ◌==◌, IfOk, IsOkUnless, None, OnErr, OnOk, length};
 ghost use Rattle.std.specs.FinMap as map;
 ghost use Rattle.assise_names.specs.declared.refusal.Refusal.TheVariants.{OutOfMemory};
 ghost use Rattle.assise_inode_table.specs.Calls.{room_among};
@@ -103,11 +103,24 @@ impl Directory {
         ensures asked { OnErr result (map.get self.old name.now ≡ None) }
         ensures only_memory { IsOkUnless result OutOfMemory }
     {
-        if let Some(target) = self.links.get_mut(name) {
-            *target = inode;
-            return Ok(());
+        match name.copy() {
+            Ok(copied) => self.insert(copied, inode),
+            Err(refusal) => self.relink(name, inode, refusal),
         }
-        self.insert(name.copy()?, inode)
+    }
+
+    /// Links a name that has an entry to an inode, or is refused so.
+    fn relink(&mut self, name: &Name, inode: u64, refusal: Refusal) -> Result<(), Refusal>
+        ensures ok { OnOk result (self.new ≡ map.insert self.old name.now inode) }
+        ensures err { OnErr result (self.new ≡ self.old) }
+        ensures asked { OnErr result (map.get self.old name.now ≡ None) }
+        ensures refused { IfErr result (λ r. r ≡ refusal) }
+    {
+        let Some(target) = self.links.get_mut(name) else {
+            return Err(refusal);
+        };
+        *target = inode;
+        Ok(())
     }
 
     /// Takes the entry of a name out, if it is there.
