@@ -228,6 +228,14 @@ put_and_removed m i v none = map.same_map nat_cmp_total map.nat_cmp-IsAntisymmet
     go q (inl same) = ap (λ b. if b then None else (if b then v else map.get m q)) (eq-eqb i q same) ∙ sym none ∙ ap (map.get m) same
     go q (inr other) = ap (λ b. if b then None else (if b then v else map.get m q)) (ne_eqb i q other)
 
+-- where a number has no inode, taking it out changes nothing
+pub nothing_removed : (m : InodeMap) (i : ℕ) → map.get m i ≡ None → m ≡ with_value m i None
+nothing_removed m i none = sym (map.same_map nat_cmp_total map.nat_cmp-IsAntisymmetric _ _ (λ q. get-with_value m i None q ∙ go q (cases_eq i q)))
+  where
+    go : (q : ℕ) → (i ≡ q) ⊎ (i ≢ q) → (if i == q then None else map.get m q) ≡ map.get m q
+    go q (inl same) = ap (λ b. if b then None else map.get m q) (eq-eqb i q same) ∙ sym none ∙ ap (map.get m) same
+    go q (inr other) = ap (λ b. if b then None else map.get m q) (ne_eqb i q other)
+
 pub none_of : {X : Type 0} (o : Option X) → is_some o ≡ false → o ≡ None
 none_of None e = refl
 none_of (Some x) e = absurd (true≢false e)

@@ -61,9 +61,10 @@ impl Numbers {
         requires there { IsSome (map.get self.old inode) }
         ensures { self.new ≡ map.insert self.old inode number }
     {
-        if self.insert(inode, number).is_err() {
+        let Some(known) = self.numbers.get_mut(&inode) else {
             unreachable!();
-        }
+        };
+        *known = number;
     }
 
     /// Takes the number of an inode out, if it has one.

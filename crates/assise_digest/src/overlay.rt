@@ -60,6 +60,9 @@ impl Inodes for Overlay<'_> {
     ghost contents = { λ overlay. overlay };
 
     fn get(&self, inode: u64) -> Option<&Inode> {
-        self.pending.value(inode, self.area.peek(inode))
+        if self.pending.has(inode) {
+            return self.pending.inodes.get(inode);
+        }
+        self.area.peek(inode)
     }
 }

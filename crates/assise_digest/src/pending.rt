@@ -1,5 +1,5 @@
 // What a client's own records make, before they are digested.
-ghost use Rattle.std.specs.Prelude.{◌≡◌, IfOk, IsOkUnless, OnErr, OnOk, None, option_copied, ℕ};
+ghost use Rattle.std.specs.Prelude.{◌≡◌, IfOk, IsOkUnless, OnErr, OnOk, None, is_some, option_copied, ℕ};
 ghost use Rattle.std.specs.FinMap as map;
 ghost use Rattle.assise_inode_table.specs.Effects.{all_applied, with_value};
 ghost use Rattle.assise_inode_table.specs.Whole.{CanBeMadeWhole};
@@ -49,10 +49,18 @@ impl Pending {
     pub(crate) fn value<'a>(&'a self, inode: u64, base: Option<&'a Inode>) -> Option<&'a Inode>
         ensures { option_copied result ≡ seen self.now inode (option_copied base.entry) }
     {
-        match self.last.get(inode) {
-            Some(_) => self.inodes.get(inode),
-            None => base,
+        if self.last.get(inode).is_some() {
+            self.inodes.get(inode)
+        } else {
+            base
         }
+    }
+
+    /// Whether the records touch an inode.
+    pub(crate) fn has(&self, inode: u64) -> bool
+        ensures { result ≡ is_some (map.get self.now.last inode) }
+    {
+        self.last.get(inode).is_some()
     }
 
     /// Whether the record of a number is the last that touches an inode.
@@ -161,18 +169,16 @@ fn note(last: &mut Numbers, number: u64, effects: &[Effect])
     }
 }
 
-/// Gives a number an inode, or takes the one that it has out.
+/// Gives a number that has no inode one, or none.
 fn set_value(inodes: &mut InodeTable, inode: u64, value: Option<Inode>) -> Result<(), Refusal>
+    requires none { map.get inodes.old inode ≡ None }
     ensures ok { OnOk result (inodes.new ≡ with_value inodes.old inode value) }
     ensures err { OnErr result (inodes.new ≡ inodes.old) }
     ensures only_memory { IsOkUnless result OutOfMemory }
 {
     match value {
         Some(content) => replace(inodes, inode, content),
-        None => {
-            discard(inodes, inode);
-            Ok(())
-        }
+        None => Ok(()),
     }
 }
 
