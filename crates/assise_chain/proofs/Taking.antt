@@ -29,7 +29,7 @@ sent_first l from to count is =
     ∙ ap (λ k. take k (records_from l from)) same
 
 -- there is a frame of some records
-pub frame_of_some : (epoch client first : ℕ) (rs : List LogRecord) → 0 < length rs → Some (record { epoch = epoch; client = client; first = first; records = rs }) ≡ frame_of epoch client first rs
+pub frame_of_some : (epoch client first : ℕ) (rs : List LogRecord) → 0 < length rs → Some (record { version = 1; epoch = epoch; client = client; first = first; records = rs; last = [] }) ≡ frame_of epoch client first rs
 frame_of_some epoch client first [] some = absurd (omega arith)
 frame_of_some epoch client first (r ∷ rs) some = refl
 
@@ -37,7 +37,7 @@ frame_of_some epoch client first (r ∷ rs) some = refl
 pub parts_of_frame : (epoch client first : ℕ) (rs : List LogRecord) (f : LogFrame) → frame_of epoch client first rs ≡ Some f → (f.epoch ≡ epoch) × (f.first ≡ first) × (f.records ≡ rs)
 parts_of_frame epoch client first [] f is = cc
 parts_of_frame epoch client first (r ∷ rs) f is =
-    let same : record { epoch = epoch; client = client; first = first; records = r ∷ rs } ≡ f = cc in (
+    let same : record { version = 1; epoch = epoch; client = client; first = first; records = r ∷ rs; last = [] } ≡ f = cc in (
       ap (λ (g : LogFrame). g.epoch) (sym same),
       ap (λ (g : LogFrame). g.first) (sym same),
       ap (λ (g : LogFrame). g.records) (sym same),

@@ -17,10 +17,10 @@ records_between l from to = take (to - first_sent l from) (records_from l from)
 abbrev pub sent : NumberedLog → ℕ → ℕ → List LogRecord
 sent l from to = take 64 (records_between l from to)
 
--- records from a number on in a frame, which has at least one
+-- records from a number on in a frame of version 1, which has at least one
 abbrev pub frame_of : ℕ → ℕ → ℕ → List LogRecord → Option LogFrame
 frame_of epoch client first [] = None
-frame_of epoch client first (r ∷ rs) = Some (record { epoch = epoch; client = client; first = first; records = r ∷ rs })
+frame_of epoch client first (r ∷ rs) = Some (record { version = 1; epoch = epoch; client = client; first = first; records = r ∷ rs; last = [] })
 
 -- the frame that is sent, where there are such records
 abbrev pub message_of : NumberedLog → ℕ → ℕ → ℕ → ℕ → Option LogFrame

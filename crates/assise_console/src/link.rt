@@ -5,9 +5,9 @@ ghost use Rattle.assise_record.specs.LogFrame.{LogFrame};
 ghost use Rattle.assise_record.specs.Spelling.{Spells};
 
 use assise_names::refusal::Refusal;
-use assise_record::decode::decode;
+use assise_record::decode::decode_up_to;
 use assise_record::encode::encode;
-use assise_record::frame::Frame;
+use assise_record::frame::{Frame, MARKED_VERSION};
 use std::alloc::Global;
 
 /// What comes of a frame at the link's other end: it goes over it as its bytes. The one refusal is [`Refusal::OutOfMemory`].
@@ -22,11 +22,11 @@ pub(crate) fn carry(alloc: Global, frame: &Frame) -> Result<Frame, Refusal>
 
 /// The frame that bytes spell.
 fn read(alloc: Global, bytes: &[u8]) -> Result<Frame, Refusal>
-    requires spelled { (frame : LogFrame) × Spells bytes.now frame }
-    ensures read { (frame : LogFrame) → Spells bytes.now frame → IfOk result (λ read. read ≡ frame) }
+    requires spelled { (frame : LogFrame) × Spells 2 bytes.now frame }
+    ensures read { (frame : LogFrame) → Spells 2 bytes.now frame → IfOk result (λ read. read ≡ frame) }
     ensures only_memory { IsOkUnless result OutOfMemory }
 {
-    match decode(alloc, bytes) {
+    match decode_up_to(alloc, bytes, MARKED_VERSION) {
         Ok((frame, _)) => Ok(frame),
         Err(_) => Err(Refusal::OutOfMemory),
     }

@@ -68,22 +68,10 @@ pub(crate) fn deliver_copy<C: Revokes + Drop>(
     ensures happens { Delivering (machine_of sound.old.state) frame.now node (delivery_answer result) (machine_of sound.new.state) }
     ensures revokers { SameRevokers (stored_by sound.old.state.leases) (stored_by sound.new.state.leases) }
 {
-    match copied(alloc, frame) {
+    match frame.copy(alloc) {
         Ok(copy) => deliver(sound, copy, node),
         Err(lack) => Err(frame_refusal(sound, frame, node).unwrap_or(lack)),
     }
-}
-
-/// An equal frame, or [`Refusal::OutOfMemory`]. The bytes of writes are shared.
-fn copied(alloc: Global, frame: &Frame) -> Result<Frame, Refusal>
-    ensures equal { IfOk result (λ copied. copied ≡ frame.now) }
-    ensures only_memory { IsOkUnless result OutOfMemory }
-{
-    let mut records = Vec::with_capacity(alloc, frame.records().len())?;
-    for record in frame.records() {
-        records.push(record.copy(alloc)?)?;
-    }
-    Ok(Frame::new(frame.epoch(), frame.client(), frame.first(), records))
 }
 
 /// Why a frame isn't taken in at a node: as [`delivery_refusal`] says, and [`Refusal::StaleMessage`] as [`deliver`] says.

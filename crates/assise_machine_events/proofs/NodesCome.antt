@@ -40,7 +40,7 @@ not_digested =
 
 -- the frame of the file's record, in some epoch
 abbrev pub file_frame : ℕ → LogFrame
-file_frame epoch = record { epoch = epoch; client = 1; first = 0; records = file_record ∷ [] }
+file_frame epoch = record { version = 1; epoch = epoch; client = 1; first = 0; records = file_record ∷ []; last = [] }
 
 pub not_delivered : (f : LogFrame) × Comes (λ m m'. Delivering m f 2 (refused WrongPhase) m')
 not_delivered =

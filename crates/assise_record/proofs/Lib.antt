@@ -4,6 +4,7 @@ pub mod FieldLaws
 pub mod FrameLaws
 pub mod Headers
 pub mod Loop
+pub mod Marks
 pub mod Names
 pub mod Never
 pub mod Outcomes
@@ -13,3 +14,4 @@ pub mod Shortness
 pub mod SizeBounds
 pub mod Stays
 pub mod Unique
+pub mod Versions

@@ -1,26 +1,24 @@
 -- Readings one behind the other, as a loop makes them.
-use Rattle.std.proofs.Common.{◌≡◌, ℕ, zero, suc, ◌-◌, ◌+◌, ◌≤◌, ◌<◌, List, [], ◌∷◌, ◌++◌, length, Result, Ok, Err, refl, sym, ap, ◌∙◌, append_assoc, arith}
-use Rattle.std.proofs.lemmas.List.{append-nil}
-use Rattle.assise_record.specs.Reading.{◌>>=◌, Read, Fails, many_at, rest_of}
+use Rattle.std.proofs.Common.{◌≡◌, ℕ, zero, suc, ◌-◌, ◌+◌, ◌≤◌, ◌<◌, Bool, List, [], ◌∷◌, ◌++◌, length, Option, Result, Ok, Err, refl, sym, ap, ◌∙◌, arith}
+use Rattle.std.specs.Option.{option_to_list}
+use Rattle.assise_record.specs.LogRecord.{LogRecord}
+use Rattle.assise_record.specs.Reading.{◌>>=◌, Read, Fails, many_at, effect_at, record_at, records_at, rest_of}
 use Rattle.assise_record.specs.declared.fault.FrameFault.{FrameFault}
 use Rattle.assise_record.specs.declared.fault.FrameFault.TheVariants.{Short, BadMagic, BadVersion, BadTag, BadLength, BadValue, Memory}
 
--- what was read before, and what is still read
-abbrev pub with_front : {A : Type 0} → List A → Read (List A) → Read (List A)
-with_front front read = read >>= λ x. Ok (front ++ x.0, x.1)
+-- many readings, each told how many follow it, and what is put together of what they give
+pub record IsMany {A C : Type 0} (read : ℕ → List ℕ → Read A) (add : A → C → C) (none : C) (many : ℕ → List ℕ → Read C) : Type 0 where
+  pub start : (bytes : List ℕ) → many 0 bytes ≡ Ok (none, bytes)
+  pub step : (left : ℕ) (bytes : List ℕ) → many (suc left) bytes ≡ (read left bytes >>= λ x. many left x.1 >>= λ y. Ok (add x.0 y.0, y.1))
 
-regroup : {A : Type 0} (front : List A) (x : A) (read : Read (List A)) → with_front front (read >>= λ y. Ok (x ∷ y.0, y.1)) ≡ with_front (front ++ x ∷ []) read
-regroup {A} front x (Ok y) = ap (λ (xs : List A). Ok (xs, y.1)) (simp append_assoc)
-regroup front x (Err f) = refl
+-- what is still read, put behind what was read before
+abbrev pub through : {C : Type 0} → (C → C) → Read C → Read C
+through front read = read >>= λ x. Ok (front x.0, x.1)
 
-pub goes_on : {A : Type 0} (read : List ℕ → Read A) (front : List A) (count i : ℕ) (bytes : List ℕ) (x : A) (after : List ℕ) (total : Read (List A)) → i < count → read bytes ≡ Ok (x, after)
-    → with_front front (many_at read (count - i) bytes) ≡ total → with_front (front ++ x ∷ []) (many_at read (count - (i + 1)) after) ≡ total
-unfolding many_at
-goes_on read front count i bytes x after total lt h so_far =
-    let k : count - i ≡ suc (count - (i + 1)) = omega arith in
-    let one : with_front front (many_at read (count - i) bytes) ≡ with_front (front ++ x ∷ []) (many_at read (count - (i + 1)) after) =
-    rw (k, h) (regroup front x (many_at read (count - (i + 1)) after)) in
-    sym one ∙ so_far
+-- nothing was read before
+pub through_none : {C : Type 0} (front : C → C) (r : Read C) → ((y : C) → front y ≡ y) → through front r ≡ r
+through_none {C} front (Ok y) same = ap (λ (c : C). Ok (c, y.1)) (same y.0)
+through_none front (Err fault) same = refl
 
 -- a fault other than want of memory
 fails_as : {A B : Type 0} (fault : FrameFault) (one : Result A FrameFault) (total : Result B FrameFault) → Fails fault one → (one ≡ Err fault → total ≡ Err fault) → Fails fault total
@@ -31,26 +29,6 @@ fails_as BadVersion one total h f = f h
 fails_as BadTag one total h f = f h
 fails_as BadLength one total h f = f h
 fails_as BadValue one total h f = f h
-
-stops : {A : Type 0} (read : List ℕ → Read A) (fault : FrameFault) (front : List A) (count i : ℕ) (bytes : List ℕ) (total : Read (List A)) → i < count
-    → with_front front (many_at read (count - i) bytes) ≡ total → read bytes ≡ Err fault → total ≡ Err fault
-unfolding many_at
-stops read fault front count i bytes total lt so_far h =
-    let k : count - i ≡ suc (count - (i + 1)) = omega arith in
-    let one : with_front front (many_at read (count - i) bytes) ≡ Err fault = rw (k, h) refl in
-    sym so_far ∙ one
-
-pub ends : {A : Type 0} (read : List ℕ → Read A) (fault : FrameFault) (front : List A) (count i : ℕ) (bytes : List ℕ) (total : Read (List A)) → i < count → Fails fault (read bytes)
-    → with_front front (many_at read (count - i) bytes) ≡ total → Fails fault total
-ends read fault front count i bytes total lt h so_far = fails_as fault (read bytes) total h (stops read fault front count i bytes total lt so_far)
-
-pub is_done : {A : Type 0} (read : List ℕ → Read A) (front : List A) (count i : ℕ) (bytes : List ℕ) (total : Read (List A))
-    → count ≤ i → with_front front (many_at read (count - i) bytes) ≡ total → total ≡ Ok (front, bytes)
-unfolding many_at
-is_done {A} read front count i bytes total le so_far =
-    let k : count - i ≡ 0 = omega arith in
-    let one : with_front front (many_at read (count - i) bytes) ≡ Ok (front, bytes) = rw k (ap (λ (xs : List A). Ok (xs, bytes)) (append-nil front)) in
-    sym so_far ∙ one
 
 -- the value of a step that did not fail
 pub bind_ok : {A B : Type 0} (r : Result A FrameFault) (f : A → Result B FrameFault) (y : B) → (r >>= f) ≡ Ok y → (x : A) × (r ≡ Ok x) × (f x ≡ Ok y)
@@ -63,6 +41,81 @@ done x = Ok x
 pub ok_is : {A : Type 0} (x y : A) → done x ≡ done y → x ≡ y
 ok_is x y e = cc
 
+module _ {A C : Type 0} (read : ℕ → List ℕ → Read A) (add : A → C → C) (none : C) (many : ℕ → List ℕ → Read C) (m : IsMany read add none many) where
+  regroup : (front next : C → C) (x : A) → ((y : C) → front (add x y) ≡ next y) → (others : Read C) → through front (others >>= λ y. Ok (add x y.0, y.1)) ≡ through next others
+  regroup front next x same (Ok y) = ap (λ (c : C). Ok (c, y.1)) (same y.0)
+  regroup front next x same (Err f) = refl
+
+  pub goes_on : (front next : C → C) (count i : ℕ) (bytes : List ℕ) (x : A) (after : List ℕ) (total : Read C) → ((y : C) → front (add x y) ≡ next y) → i < count
+      → read (count - (i + 1)) bytes ≡ Ok (x, after) → through front (many (count - i) bytes) ≡ total → through next (many (count - (i + 1)) after) ≡ total
+  goes_on front next count i bytes x after total same lt h so_far =
+      let k : count - i ≡ suc (count - (i + 1)) = omega arith in
+      let one : through front (many (count - i) bytes) ≡ through next (many (count - (i + 1)) after) =
+      rw (k, m.step (count - (i + 1)) bytes, h) (regroup front next x same (many (count - (i + 1)) after)) in
+      sym one ∙ so_far
+
+  stops : (fault : FrameFault) (front : C → C) (count i : ℕ) (bytes : List ℕ) (total : Read C) → i < count
+      → through front (many (count - i) bytes) ≡ total → read (count - (i + 1)) bytes ≡ Err fault → total ≡ Err fault
+  stops fault front count i bytes total lt so_far h =
+      let k : count - i ≡ suc (count - (i + 1)) = omega arith in
+      let one : through front (many (count - i) bytes) ≡ Err fault = rw (k, m.step (count - (i + 1)) bytes, h) refl in
+      sym so_far ∙ one
+
+  pub ends : (fault : FrameFault) (front : C → C) (count i : ℕ) (bytes : List ℕ) (total : Read C) → i < count → Fails fault (read (count - (i + 1)) bytes)
+      → through front (many (count - i) bytes) ≡ total → Fails fault total
+  ends fault front count i bytes total lt h so_far = fails_as fault (read (count - (i + 1)) bytes) total h (stops fault front count i bytes total lt so_far)
+
+  pub is_done : (front : C → C) (count i : ℕ) (bytes : List ℕ) (whole : C) (total : Read C) → front none ≡ whole → count ≤ i → through front (many (count - i) bytes) ≡ total → total ≡ Ok (whole, bytes)
+  is_done front count i bytes whole total same le so_far =
+      let k : count - i ≡ 0 = omega arith in
+      let one : through front (many (count - i) bytes) ≡ Ok (whole, bytes) = rw (k, m.start bytes) (ap (λ (c : C). Ok (c, bytes)) same) in
+      sym so_far ∙ one
+
+  -- ---- the same where what is read is passed over
+
+  one_passed : (x : A) (others : Read C) → rest_of (others >>= λ y. Ok (add x y.0, y.1)) ≡ rest_of others
+  one_passed x (Ok y) = refl
+  one_passed x (Err fault) = refl
+
+  passed : (n : ℕ) (first : Read A) (after : List ℕ) → rest_of first ≡ Ok after
+      → rest_of (first >>= λ x. many n x.1 >>= λ y. Ok (add x.0 y.0, y.1)) ≡ rest_of (many n after)
+  passed n (Ok x) after e = one_passed x.0 (many n x.1) ∙ ap (λ bytes. rest_of (many n bytes)) (ok_is x.1 after e)
+  passed n (Err fault) after e = absurd cc
+
+  failed : (n : ℕ) (first : Read A) (fault : FrameFault) → rest_of first ≡ Err fault → rest_of (first >>= λ x. many n x.1 >>= λ y. Ok (add x.0 y.0, y.1)) ≡ Err fault
+  failed n (Ok x) fault e = absurd cc
+  failed n (Err other) fault e = e
+
+  pub skip_goes_on : (count i : ℕ) (bytes after : List ℕ) (total : Result (List ℕ) FrameFault) → i < count → rest_of (read (count - (i + 1)) bytes) ≡ Ok after
+      → rest_of (many (count - i) bytes) ≡ total → rest_of (many (count - (i + 1)) after) ≡ total
+  skip_goes_on count i bytes after total lt h so_far =
+      let k : count - i ≡ suc (count - (i + 1)) = omega arith in
+      sym (passed (count - (i + 1)) (read (count - (i + 1)) bytes) after h) ∙ sym (ap (λ n. rest_of (many n bytes)) k ∙ ap rest_of (m.step (count - (i + 1)) bytes)) ∙ so_far
+
+  pub skip_stops : (fault : FrameFault) (count i : ℕ) (bytes : List ℕ) (total : Result (List ℕ) FrameFault) → i < count → rest_of (read (count - (i + 1)) bytes) ≡ Err fault
+      → rest_of (many (count - i) bytes) ≡ total → total ≡ Err fault
+  skip_stops fault count i bytes total lt h so_far =
+      let k : count - i ≡ suc (count - (i + 1)) = omega arith in
+      sym so_far ∙ ap (λ n. rest_of (many n bytes)) k ∙ ap rest_of (m.step (count - (i + 1)) bytes) ∙ failed (count - (i + 1)) (read (count - (i + 1)) bytes) fault h
+
+  pub skip_is_done : (count i : ℕ) (bytes : List ℕ) (total : Result (List ℕ) FrameFault) → count ≤ i → rest_of (many (count - i) bytes) ≡ total → total ≡ Ok bytes
+  skip_is_done count i bytes total le so_far =
+      let k : count - i ≡ 0 = omega arith in
+      sym so_far ∙ ap (λ n. rest_of (many n bytes)) k ∙ ap rest_of (m.start bytes)
+
+-- ---- effects and records
+
+pub effects_are_many : IsMany (λ _. effect_at) ◌∷◌ [] (many_at effect_at)
+unfolding many_at
+effects_are_many = record { start = λ bytes. refl; step = λ left bytes. refl }
+
+abbrev pub add_record : LogRecord × Option Bool → List LogRecord × List Bool → List LogRecord × List Bool
+add_record x others = (x.0 ∷ others.0, option_to_list x.1 ++ others.1)
+
+pub records_are_many : (marked : Bool) → IsMany (record_at marked) add_record ([], []) (records_at marked)
+unfolding records_at
+records_are_many marked = record { start = λ bytes. refl; step = λ left bytes. refl }
+
 -- there are as many values as readings
 pub many_counted : {A : Type 0} (read : List ℕ → Read A) (n : ℕ) (bytes : List ℕ) (xs : List A) (rest : List ℕ) → many_at read n bytes ≡ Ok (xs, rest) → length xs ≡ n
 unfolding many_at
@@ -72,40 +125,3 @@ many_counted {A} read (suc n) bytes xs rest e =
     let b = bind_ok (many_at read n a.0.1) (λ others. Ok (a.0.0 ∷ others.0, others.1)) (xs, rest) a.2 in
     let made : List A × List ℕ = (a.0.0 ∷ b.0.0, b.0.1) in
     ap (λ (y : List A × List ℕ). length y.0) (sym (ok_is made (xs, rest) b.2)) ∙ ap suc (many_counted read n a.0.1 b.0.0 b.0.1 b.1)
-
--- ---- the same where what is read is passed over
-
-one_passed : {A : Type 0} (x : A) (others : Read (List A)) → rest_of (others >>= λ y. Ok (x ∷ y.0, y.1)) ≡ rest_of others
-one_passed x (Ok y) = refl
-one_passed x (Err fault) = refl
-
-passed : {A : Type 0} (read : List ℕ → Read A) (n : ℕ) (first : Read A) (after : List ℕ) → rest_of first ≡ Ok after
-    → rest_of (first >>= λ x. many_at read n x.1 >>= λ y. Ok (x.0 ∷ y.0, y.1)) ≡ rest_of (many_at read n after)
-passed {A} read n (Ok x) after e = one_passed x.0 (many_at read n x.1) ∙ ap (λ bytes. rest_of (many_at read n bytes)) (ok_is x.1 after e)
-passed {A} read n (Err fault) after e = absurd cc
-
-failed : {A : Type 0} (read : List ℕ → Read A) (n : ℕ) (first : Read A) (fault : FrameFault) → rest_of first ≡ Err fault
-    → rest_of (first >>= λ x. many_at read n x.1 >>= λ y. Ok (x.0 ∷ y.0, y.1)) ≡ Err fault
-failed {A} read n (Ok x) fault e = absurd cc
-failed {A} read n (Err other) fault e = e
-
-pub skip_goes_on : {A : Type 0} (read : List ℕ → Read A) (count i : ℕ) (bytes after : List ℕ) (total : Result (List ℕ) FrameFault) → i < count → rest_of (read bytes) ≡ Ok after
-    → rest_of (many_at read (count - i) bytes) ≡ total → rest_of (many_at read (count - (i + 1)) after) ≡ total
-unfolding many_at
-skip_goes_on read count i bytes after total lt h so_far =
-    let k : count - i ≡ suc (count - (i + 1)) = omega arith in
-    sym (passed read (count - (i + 1)) (read bytes) after h) ∙ sym (ap (λ n. rest_of (many_at read n bytes)) k) ∙ so_far
-
-pub skip_stops : {A : Type 0} (read : List ℕ → Read A) (fault : FrameFault) (count i : ℕ) (bytes : List ℕ) (total : Result (List ℕ) FrameFault) → i < count → rest_of (read bytes) ≡ Err fault
-    → rest_of (many_at read (count - i) bytes) ≡ total → total ≡ Err fault
-unfolding many_at
-skip_stops read fault count i bytes total lt h so_far =
-    let k : count - i ≡ suc (count - (i + 1)) = omega arith in
-    sym so_far ∙ ap (λ n. rest_of (many_at read n bytes)) k ∙ failed read (count - (i + 1)) (read bytes) fault h
-
-pub skip_is_done : {A : Type 0} (read : List ℕ → Read A) (count i : ℕ) (bytes : List ℕ) (total : Result (List ℕ) FrameFault) → count ≤ i
-    → rest_of (many_at read (count - i) bytes) ≡ total → total ≡ Ok bytes
-unfolding many_at
-skip_is_done read count i bytes total le so_far =
-    let k : count - i ≡ 0 = omega arith in
-    sym so_far ∙ ap (λ n. rest_of (many_at read n bytes)) k

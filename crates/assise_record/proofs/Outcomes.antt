@@ -1,5 +1,5 @@
 -- What the outcome of a reading says of the bytes.
-use Rattle.std.proofs.Common.{◌≡◌, ℕ, List, Result, Ok, Err, refl, sym, ap, ◌∙◌, inl, inr}
+use Rattle.std.proofs.Common.{◌≡◌, ℕ, ◌≤◌, List, Result, Ok, Err, refl, sym, ap, ◌∙◌, inl, inr}
 use Rattle.std.specs.Prelude.{◌⊎◌, IfOk, IfErr}
 use Rattle.assise_record.specs.declared.fault.FrameFault.{FrameFault}
 use Rattle.assise_record.specs.declared.fault.FrameFault.TheVariants.{Short, BadMagic, BadVersion, BadTag, BadLength, BadValue, Memory}
@@ -26,33 +26,33 @@ memory_or BadTag read h = inr h
 memory_or BadLength read h = inr h
 memory_or BadValue read h = inr h
 
-pub is_found : (bytes : List ℕ) (r : Outcome) → IsBytes bytes → Gives (λ x. x) r (frame_at bytes) → IfOk r (λ x. BeginsWith bytes x.0 x.1)
-is_found bytes (Ok x) fits given = frame_takes bytes x fits given
-is_found bytes (Err fault) fits given = tt
+pub is_found : (newest : ℕ) (bytes : List ℕ) (r : Outcome) → newest ≤ 2 → IsBytes bytes → Gives (λ x. x) r (frame_at newest bytes) → IfOk r (λ x. BeginsWith newest bytes x.0 x.1)
+is_found newest bytes (Ok x) known fits given = frame_takes newest bytes x known fits given
+is_found newest bytes (Err fault) known fits given = tt
 
-pub is_only : (bytes : List ℕ) (r : Outcome) → Gives (λ x. x) r (frame_at bytes) → (f : LogFrame) (n : ℕ) → BeginsWith bytes f n → (r ≡ Ok (f, n)) ⊎ (r ≡ Err Memory)
-is_only bytes (Ok x) given f n h = inl (sym given ∙ begins_again bytes f n h)
-is_only bytes (Err fault) given f n h =
-    elim (memory_or fault (frame_at bytes) given) [
+pub is_only : (newest : ℕ) (bytes : List ℕ) (r : Outcome) → Gives (λ x. x) r (frame_at newest bytes) → (f : LogFrame) (n : ℕ) → BeginsWith newest bytes f n → (r ≡ Ok (f, n)) ⊎ (r ≡ Err Memory)
+is_only newest bytes (Ok x) given f n h = inl (sym given ∙ begins_again newest bytes f n h)
+is_only newest bytes (Err fault) given f n h =
+    elim (memory_or fault (frame_at newest bytes) given) [
       | inl memory ↦ inr (ap fails_with memory)
-      | inr failed ↦ absurd (let both : fails_with fault ≡ Ok (f, n) = sym failed ∙ begins_again bytes f n h in cc)
+      | inr failed ↦ absurd (let both : fails_with fault ≡ Ok (f, n) = sym failed ∙ begins_again newest bytes f n h in cc)
     ]
 
-pub is_no_frame : (bytes : List ℕ) (r : Outcome) → Gives (λ x. x) r (frame_at bytes) → IfErr r (λ fault. (fault ≡ Memory) ⊎ ((f : LogFrame) (n : ℕ) → ¬ (BeginsWith bytes f n)))
-is_no_frame bytes (Ok x) given = tt
-is_no_frame bytes (Err fault) given =
-    elim (memory_or fault (frame_at bytes) given) [
+pub is_no_frame : (newest : ℕ) (bytes : List ℕ) (r : Outcome) → Gives (λ x. x) r (frame_at newest bytes) → IfErr r (λ fault. (fault ≡ Memory) ⊎ ((f : LogFrame) (n : ℕ) → ¬ (BeginsWith newest bytes f n)))
+is_no_frame newest bytes (Ok x) given = tt
+is_no_frame newest bytes (Err fault) given =
+    elim (memory_or fault (frame_at newest bytes) given) [
       | inl memory ↦ inl memory
-      | inr failed ↦ inr (λ f n h. let both : fails_with fault ≡ Ok (f, n) = sym failed ∙ begins_again bytes f n h in absurd cc)
+      | inr failed ↦ inr (λ f n h. let both : fails_with fault ≡ Ok (f, n) = sym failed ∙ begins_again newest bytes f n h in absurd cc)
     ]
 
 -- memory runs out only where there is a frame
-pub is_there : (bytes : List ℕ) (r : Outcome) → IsBytes bytes → ((fault : FrameFault) → frame_at bytes ≡ Err fault → r ≡ Err fault)
-    → IfErr r (λ fault. fault ≡ Memory → (f : LogFrame) × ((n : ℕ) × BeginsWith bytes f n))
-is_there bytes (Ok x) fits faults = tt
-is_there bytes (Err fault) fits faults = λ memory. by_read (frame_at bytes) refl memory where
-  by_read : (read : Outcome) → frame_at bytes ≡ read → fault ≡ Memory → (f : LogFrame) × ((n : ℕ) × BeginsWith bytes f n)
-  by_read (Ok x) is memory = (x.0, (x.1, frame_takes bytes x fits is))
+pub is_there : (newest : ℕ) (bytes : List ℕ) (r : Outcome) → newest ≤ 2 → IsBytes bytes → ((fault : FrameFault) → frame_at newest bytes ≡ Err fault → r ≡ Err fault)
+    → IfErr r (λ fault. fault ≡ Memory → (f : LogFrame) × ((n : ℕ) × BeginsWith newest bytes f n))
+is_there newest bytes (Ok x) known fits faults = tt
+is_there newest bytes (Err fault) known fits faults = λ memory. by_read (frame_at newest bytes) refl memory where
+  by_read : (read : Outcome) → frame_at newest bytes ≡ read → fault ≡ Memory → (f : LogFrame) × ((n : ℕ) × BeginsWith newest bytes f n)
+  by_read (Ok x) is memory = (x.0, (x.1, frame_takes newest bytes x known fits is))
   by_read (Err other) is memory =
       let same : fails_with fault ≡ fails_with other = faults other is in
-      absurd (frame_always bytes (is ∙ sym same ∙ ap fails_with memory))
+      absurd (frame_always newest bytes (is ∙ sym same ∙ ap fails_with memory))

@@ -1,12 +1,17 @@
 -- Vectors that grow within the room that they have.
-use Rattle.std.proofs.Common.{◌≡◌, ℕ, ◌+◌, ◌≤◌, ◌<◌, List, ◌++◌, length, get_or, take, sym, ap, subst, ◌∙◌, append_assoc, arith, length-append}
+use Rattle.std.proofs.Common.{◌≡◌, ℕ, zero, suc, ◌+◌, ◌≤◌, ◌<◌, Bool, List, [], ◌∷◌, ◌++◌, length, get_or, take, Option, Some, None, ltb, refl, sym, ap, subst, ◌∙◌, append_assoc, append-nil, arith, length-append, Bor}
+use Rattle.std.specs.Prelude.{IfSome, is_some, slice_get, slice_index_or}
+use Rattle.std.specs.Option.{option_copied}
+use Rattle.std.proofs.lemmas.Bool.{ltb-false, ltb-true}
+use Rattle.std.proofs.lemmas.Option.{slice_get_past, slice_get_read}
 use Rattle.std.specs.Global.{Vec}
-use Rattle.std.specs.List.{flat_map}
+use Rattle.std.specs.List.{flat_map, AllByRecursion}
 use Rattle.std.proofs.lemmas.List.Folds.{length-flat_map-take}
 use Rattle.byteorder.specs.Endian.{big_bytes}
+use Rattle.assise_record.specs.LogRecord.{LogRecord}
 use Rattle.assise_record.specs.LogFrame.{LogFrame}
 use Rattle.assise_record.specs.Room.{Appends}
-use Rattle.assise_record.specs.Spelling.{header_of}
+use Rattle.assise_record.specs.Spelling.{IsLogRecord, record_spelling, body_of, header_of}
 
 pub Appends-then : (a b c : Vec ℕ) (x y : List ℕ) → Appends a b x → Appends b c y → Appends a c (x ++ y)
 Appends-then a b c x y p q = record {
@@ -29,3 +34,68 @@ header_is f epoch client first count size a b c d =
     ∙ ap (λ (n : ℕ). big_bytes 8 f.epoch ++ (big_bytes 4 n ++ (big_bytes 8 first ++ (big_bytes 2 count ++ big_bytes 4 size)))) b
     ∙ ap (λ (n : ℕ). big_bytes 8 f.epoch ++ (big_bytes 4 f.client ++ (big_bytes 8 n ++ (big_bytes 2 count ++ big_bytes 4 size)))) c
     ∙ ap (λ (n : ℕ). big_bytes 8 f.epoch ++ (big_bytes 4 f.client ++ (big_bytes 8 f.first ++ (big_bytes 2 n ++ big_bytes 4 size)))) d
+
+-- ---- records with their marks
+
+take_none : (n : ℕ) → take {A = Bool} n [] ≡ []
+take_none zero = refl
+take_none (suc n) = refl
+
+-- one more record
+pub body_then : (records : List LogRecord) (last : List Bool) (i : ℕ) (r : LogRecord) → i < length records → r ≡ get_or records i r
+    → body_of (take (suc i) records) (take (suc i) last) ≡ body_of (take i records) (take i last) ++ record_spelling (slice_get last i) r
+body_then [] last i r lt is = absurd (omega (arith, lt))
+body_then (s ∷ rs) [] zero r lt is = rw (sym is) (append-nil (record_spelling None r))
+body_then (s ∷ rs) (m ∷ last) zero r lt is = rw (sym is) (append-nil (record_spelling (Some m) r))
+body_then (s ∷ rs) [] (suc i) r lt is =
+    let others : body_of (take (suc i) rs) [] ≡ body_of (take i rs) [] ++ record_spelling None r =
+    subst (λ (t : List Bool). body_of (take (suc i) rs) [] ≡ body_of (take i rs) t ++ record_spelling None r) (take_none i) (body_then rs [] i r (omega (arith, lt)) is) in
+    ap (λ (t : List ℕ). record_spelling None s ++ t) others ∙ sym (append_assoc (record_spelling None s) (body_of (take i rs) []) (record_spelling None r))
+body_then (s ∷ rs) (m ∷ last) (suc i) r lt is =
+    let others = body_then rs last i r (omega (arith, lt)) is in
+    ap (λ (t : List ℕ). record_spelling (Some m) s ++ t) others
+    ∙ sym (append_assoc (record_spelling (Some m) s) (body_of (take i rs) (take i last)) (record_spelling (slice_get last i) r))
+
+-- no more bytes than the whole
+pub front_fits : (records : List LogRecord) (last : List Bool) (i : ℕ) → length (body_of (take i records) (take i last)) ≤ length (body_of records last)
+front_fits [] last zero = omega arith
+front_fits [] last (suc i) = omega arith
+front_fits (s ∷ rs) [] zero = omega arith
+front_fits (s ∷ rs) (m ∷ last) zero = omega arith
+front_fits (s ∷ rs) [] (suc i) =
+    let others : length (body_of (take i rs) []) ≤ length (body_of rs []) =
+    subst (λ (t : List Bool). length (body_of (take i rs) t) ≤ length (body_of rs [])) (take_none i) (front_fits rs [] i) in
+    omega (arith, others, length-append (record_spelling None s) (body_of (take i rs) []), length-append (record_spelling None s) (body_of rs []))
+front_fits (s ∷ rs) (m ∷ last) (suc i) =
+    let others = front_fits rs last i in
+    omega (arith, others, length-append (record_spelling (Some m) s) (body_of (take i rs) (take i last)), length-append (record_spelling (Some m) s) (body_of rs last))
+
+-- a record has no more bytes than what is left
+pub record_fits : (records : List LogRecord) (last : List Bool) (i : ℕ) (r : LogRecord) → i < length records → r ≡ get_or records i r
+    → length (body_of (take i records) (take i last)) + length (record_spelling (slice_get last i) r) ≤ length (body_of records last)
+record_fits records last i r lt is =
+    let whole = front_fits records last (suc i) in
+    let more = ap length (body_then records last i r lt is) in
+    omega (arith, whole, more, length-append (body_of (take i records) (take i last)) (record_spelling (slice_get last i) r))
+
+-- all records
+pub body_all : (records : List LogRecord) (last : List Bool) (i : ℕ) → length records ≤ i → body_of (take i records) (take i last) ≡ body_of records last
+body_all [] last zero le = refl
+body_all [] last (suc i) le = refl
+body_all (r ∷ rs) last zero le = absurd (omega (arith, le))
+body_all (r ∷ rs) [] (suc i) le =
+    let others : body_of (take i rs) [] ≡ body_of rs [] = subst (λ (t : List Bool). body_of (take i rs) t ≡ body_of rs []) (take_none i) (body_all rs [] i (omega (arith, le))) in
+    ap (λ (t : List ℕ). record_spelling None r ++ t) others
+body_all (r ∷ rs) (m ∷ last) (suc i) le = ap (λ (t : List ℕ). record_spelling (Some m) r ++ t) (body_all rs last i (omega (arith, le)))
+
+pub lawful_then : (records : List LogRecord) (i : ℕ) (r : LogRecord) → i < length records → r ≡ get_or records i r
+    → AllByRecursion IsLogRecord (take i records) → IsLogRecord r → AllByRecursion IsLogRecord (take (suc i) records)
+lawful_then [] i r lt is before one = absurd (omega (arith, lt))
+lawful_then (s ∷ rs) zero r lt is before one = (subst IsLogRecord is one, tt)
+lawful_then (s ∷ rs) (suc i) r lt is before one = (before.0, lawful_then rs i r (omega (arith, lt)) is before.1 one)
+
+-- the mark that is looked up
+pub mark_is : (last : List Bool) (i : ℕ) (found : Option (Bor Bool)) → is_some found ≡ ltb i (length last) → IfSome found (λ x. x.now ≡ slice_index_or last i x.now)
+    → option_copied found ≡ slice_get last i
+mark_is last i None there at = sym (slice_get_past last i (ltb-false i (length last) (sym there)))
+mark_is last i (Some x) there at = sym (slice_get_read last (length last) i x.now refl (ltb-true i (length last) (sym there)) at)

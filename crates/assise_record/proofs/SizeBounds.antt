@@ -1,5 +1,5 @@
 -- How many bytes spellings have at most.
-use Rattle.std.proofs.Common.{ℕ, ◌*◌, ◌≤◌, not, ◌==◌, nat_le, List, [], ◌∷◌, ◌++◌, length, arith, length-append}
+use Rattle.std.proofs.Common.{◌≡◌, ℕ, suc, ◌+◌, ◌*◌, ◌≤◌, Bool, true, false, not, ◌==◌, nat_le, List, [], ◌∷◌, ◌++◌, length, Option, Some, None, refl, ap, arith, length-append}
 use Rattle.std.specs.Prelude.{IsTrue}
 use Rattle.std.specs.List.{flat_map, AllByRecursion}
 use Rattle.std.specs.Str.{is_utf8}
@@ -10,7 +10,8 @@ use Rattle.byteorder.specs.Endian.{big_bytes}
 use Rattle.assise_record.specs.declared.effect.Effect.{Effect}
 use Rattle.assise_record.specs.declared.effect.Effect.TheVariants.{NewFile, NewDir, Write, SetLen, Link, Unlink, Free}
 use Rattle.assise_record.specs.LogRecord.{LogRecord}
-use Rattle.assise_record.specs.Spelling.{IsEffect, IsLogRecord, effect_spelling, patch_spelling, name_spelling, record_spelling}
+use Rattle.assise_record.specs.LogFrame.{HasMarks}
+use Rattle.assise_record.specs.Spelling.{IsEffect, IsLogRecord, effect_spelling, patch_spelling, name_spelling, mark_spelling, record_spelling, body_of}
 
 -- a name has at most 255 bytes
 pub few_bytes : (name : List ℕ) → IsTrue (is_name name) → length name ≤ 255
@@ -42,6 +43,15 @@ effect_bytes (Unlink directory name) h =
     omega (arith, few, length-append (big_bytes 8 directory) (name_spelling name))
 effect_bytes (Free inode) h = omega arith
 
+-- a mark has one byte
+a_mark : (m : Bool) → length (mark_spelling (Some m)) ≡ 1
+a_mark true = refl
+a_mark false = refl
+
+one_mark : (mark : Option Bool) → length (mark_spelling mark) ≤ 1
+one_mark None = omega arith
+one_mark (Some m) = omega (arith, a_mark m)
+
 all_bytes : {A : Type 0} (spell : A → List ℕ) (Fits : A → Type 0) (most : ℕ) → ((x : A) → Fits x → length (spell x) ≤ most)
     → (xs : List A) → AllByRecursion Fits xs → length (flat_map spell xs) ≤ length xs * most
 all_bytes spell Fits most each [] h = omega arith
@@ -50,14 +60,63 @@ all_bytes spell Fits most each (x ∷ xs) h =
     let others = all_bytes spell Fits most each xs h.1 in
     rw (flat_map-cons spell x xs) (grind (arith, first, others, length-append (spell x) (flat_map spell xs)))
 
-pub record_bytes : (r : LogRecord) → IsLogRecord r → length (record_spelling r) ≤ 262221
-record_bytes r h =
+record_bytes : (mark : Option Bool) (r : LogRecord) → IsLogRecord r → length (record_spelling mark r) ≤ 262222
+record_bytes mark r h =
     let effects = all_bytes effect_spelling IsEffect 65553 effect_bytes r.effects h.effects in
     let few = h.few in
-    omega (arith, effects, few, length-append (big_bytes 8 r.call) (length r.effects ∷ flat_map effect_spelling r.effects))
+    let counted : List ℕ = length r.effects ∷ flat_map effect_spelling r.effects in
+    omega (arith, effects, few, one_mark mark, length-append (big_bytes 8 r.call) (mark_spelling mark ++ counted), length-append (mark_spelling mark) counted)
 
 -- the length of a body fits 32 bits
-pub body_bytes : (records : List LogRecord) → length records ≤ 64 → AllByRecursion IsLogRecord records → length (flat_map record_spelling records) ≤ 16782144
-body_bytes records few h =
-    let all = all_bytes record_spelling IsLogRecord 262221 record_bytes records h in
+body_bytes_many : (records : List LogRecord) (last : List Bool) → AllByRecursion IsLogRecord records → length (body_of records last) ≤ length records * 262222
+body_bytes_many [] last h = omega arith
+body_bytes_many (r ∷ rs) [] h =
+    let first = record_bytes None r h.0 in
+    let others = body_bytes_many rs [] h.1 in
+    grind (arith, first, others, length-append (record_spelling None r) (body_of rs []))
+body_bytes_many (r ∷ rs) (m ∷ last) h =
+    let first = record_bytes (Some m) r h.0 in
+    let others = body_bytes_many rs last h.1 in
+    grind (arith, first, others, length-append (record_spelling (Some m) r) (body_of rs last))
+
+pub body_bytes : (records : List LogRecord) (last : List Bool) → length records ≤ 64 → AllByRecursion IsLogRecord records → length (body_of records last) ≤ 16782208
+body_bytes records last few h =
+    let all = body_bytes_many records last h in
     omega (arith, all, few)
+
+-- ---- with a byte for each mark
+
+marked_length : (m : Bool) (r : LogRecord) → length (record_spelling (Some m) r) ≡ suc (length (record_spelling None r))
+marked_length m r =
+    let counted : List ℕ = length r.effects ∷ flat_map effect_spelling r.effects in
+    omega (
+      arith,
+      a_mark m,
+      length-append (big_bytes 8 r.call) (mark_spelling (Some m) ++ counted),
+      length-append (mark_spelling (Some m)) counted,
+      length-append (big_bytes 8 r.call) counted,
+    )
+
+pub body_length : (records : List LogRecord) (last : List Bool) → length last ≤ length records
+    → length (body_of records last) ≡ length (flat_map (record_spelling None) records) + length last
+body_length [] [] few = refl
+body_length [] (m ∷ last) few = absurd (omega (arith, few))
+body_length (r ∷ rs) [] few =
+    let others = body_length rs [] (omega arith) in
+    let whole = ap length (flat_map-cons (record_spelling None) r rs) in
+    omega (arith, others, whole, length-append (record_spelling None r) (body_of rs []), length-append (record_spelling None r) (flat_map (record_spelling None) rs))
+body_length (r ∷ rs) (m ∷ last) few =
+    let others = body_length rs last (omega (arith, few)) in
+    let whole = ap length (flat_map-cons (record_spelling None) r rs) in
+    omega (
+      arith,
+      others,
+      whole,
+      marked_length m r,
+      length-append (record_spelling (Some m) r) (body_of rs last),
+      length-append (record_spelling None r) (flat_map (record_spelling None) rs),
+    )
+
+pub marks_few : (marked : Bool) (records : List LogRecord) (last : List Bool) → HasMarks marked records last → length last ≤ length records
+marks_few false records last h = rw h (omega arith)
+marks_few true records last h = omega (arith, h.0)

@@ -5,8 +5,8 @@ use Rattle.std.proofs.lemmas.List.{length-append, take-append-le, drop-append-le
 use Rattle.assise_record.specs.Header.{Header}
 use Rattle.assise_record.specs.declared.fault.FrameFault.{FrameFault}
 use Rattle.assise_record.specs.declared.fault.FrameFault.TheVariants.{Short, BadMagic, BadVersion, BadValue}
-use Rattle.assise_record.specs.LogFrame.{LogFrame}
-use Rattle.assise_record.specs.Reading.{◌>>=◌, guard, Read, has_count, byte_at, bytes_at, number_at, body_at, magic_at, numbers_at, header_at, frame_at}
+use Rattle.assise_record.specs.LogFrame.{LogFrame, is_marked}
+use Rattle.assise_record.specs.Reading.{◌>>=◌, guard, Read, has_count, is_version, byte_at, bytes_at, number_at, body_at, version_at, numbers_at, header_at, frame_of, frame_at}
 
 abbrev short : (A : Type 0) → Result A FrameFault
 short A = Err Short
@@ -67,10 +67,10 @@ guard_stays false fault next h = λ bytes more _. refl
 value_stays : {A : Type 0} (x : A) → Stays (λ bytes. done (x, bytes))
 value_stays x bytes more h = refl
 
-magic_stays : Stays magic_at
-unfolding magic_at
-magic_stays =
-    let version = λ (v : ℕ). guard_stays (v == 1) BadVersion (λ bytes. done (tt, bytes)) (value_stays tt) in
+version_stays : (newest : ℕ) → Stays (version_at newest)
+unfolding version_at
+version_stays newest =
+    let version = λ (v : ℕ). guard_stays (is_version newest v) BadVersion (λ bytes. done (v, bytes)) (value_stays v) in
     let second = λ (s : ℕ). guard_stays (s == 83) BadMagic _ (then_stays (byte_at Short) _ byte_stays version) in
     let first = λ (a : ℕ). guard_stays (a == 65) BadMagic _ (then_stays (byte_at Short) _ byte_stays second) in
     then_stays (byte_at Short) _ byte_stays first
@@ -81,28 +81,29 @@ numbers_stay =
     let count = λ (first n : ℕ). guard_stays (has_count first n) BadValue (λ bytes. done ((first, n), bytes)) (value_stays (first, n)) in
     then_stays (number_at 8 Short) _ (number_stays 8) (λ first. then_stays (number_at 2 Short) _ (number_stays 2) (count first))
 
-header_stays : Stays header_at
+header_stays : (newest : ℕ) → Stays (header_at newest)
 unfolding header_at
-header_stays =
-    let size = λ (epoch client : ℕ) (numbers : ℕ × ℕ) (n : ℕ). let made : Header = record { epoch = epoch; client = client; first = numbers.0; count = numbers.1; size = n } in value_stays made in
-    let numbers = λ (epoch client : ℕ). then_stays numbers_at _ numbers_stay (λ n. then_stays (number_at 4 Short) _ (number_stays 4) (size epoch client n)) in
-    let client = λ (epoch n : ℕ). guard_stays (nat_lt 0 n) BadValue _ (numbers epoch n) in
-    let epoch = λ (n : ℕ). then_stays (number_at 4 Short) _ (number_stays 4) (client n) in
-    then_stays magic_at _ magic_stays (λ _. then_stays (number_at 8 Short) _ (number_stays 8) epoch)
+header_stays newest =
+    let size = λ (version epoch client : ℕ) (numbers : ℕ × ℕ) (n : ℕ).
+    let made : Header = record { version = version; epoch = epoch; client = client; first = numbers.0; count = numbers.1; size = n } in value_stays made in
+    let numbers = λ (version epoch client : ℕ). then_stays numbers_at _ numbers_stay (λ n. then_stays (number_at 4 Short) _ (number_stays 4) (size version epoch client n)) in
+    let client = λ (version epoch n : ℕ). guard_stays (nat_lt 0 n) BadValue _ (numbers version epoch n) in
+    let epoch = λ (version n : ℕ). then_stays (number_at 4 Short) _ (number_stays 4) (client version n) in
+    then_stays (version_at newest) _ (version_stays newest) (λ version. then_stays (number_at 8 Short) _ (number_stays 8) (epoch version))
 
 -- a value in front of the one that is read
 abbrev both : {A B : Type 0} → A → Read B → Read (A × B)
 both x read = read >>= λ y. Ok ((x, y.0), y.1)
 
 -- the header and the body
-abbrev parts_at : List ℕ → Read (Header × List ℕ)
-parts_at bytes = header_at bytes >>= λ head. both head.0 (bytes_at head.0.size Short head.1)
+abbrev parts_at : ℕ → List ℕ → Read (Header × List ℕ)
+parts_at newest bytes = header_at newest bytes >>= λ head. both head.0 (bytes_at head.0.size Short head.1)
 
-parts_stay : Stays parts_at
-parts_stay = then_stays header_at _ header_stays (λ h. then_stays (bytes_at h.size Short) _ (bytes_stay h.size) (λ body. value_stays (h, body)))
+parts_stay : (newest : ℕ) → Stays (parts_at newest)
+parts_stay newest = then_stays (header_at newest) _ (header_stays newest) (λ h. then_stays (bytes_at h.size Short) _ (bytes_stay h.size) (λ body. value_stays (h, body)))
 
 abbrev finish : Header → List ℕ → Result (LogFrame × ℕ) FrameFault
-finish h body = body_at h.count body >>= λ records. Ok (record { epoch = h.epoch; client = h.client; first = h.first; records = records }, 29 + h.size)
+finish h body = body_at (is_marked h.version) h.count body >>= λ records. Ok (frame_of h records, 29 + h.size)
 
 one_step : {A B C : Type 0} (x : A) (s : Read B) (f : A → B → Result C FrameFault) → (both x s >>= λ z. f z.0.0 z.0.1) ≡ (s >>= λ y. f x y.0)
 one_step x (Ok y) f = refl
@@ -112,19 +113,19 @@ two_steps : {A B C : Type 0} (r : Read A) (s : A × List ℕ → Read B) (f : A 
 two_steps (Ok x) s f = one_step x.0 (s x) f
 two_steps (Err fault) s f = refl
 
-frame_is : (bytes : List ℕ) → (parts_at bytes >>= λ z. finish z.0.0 z.0.1) ≡ frame_at bytes
+frame_is : (newest : ℕ) (bytes : List ℕ) → (parts_at newest bytes >>= λ z. finish z.0.0 z.0.1) ≡ frame_at newest bytes
 unfolding frame_at
-frame_is bytes = two_steps (header_at bytes) (λ head. bytes_at head.0.size Short head.1) finish
+frame_is newest bytes = two_steps (header_at newest bytes) (λ head. bytes_at head.0.size Short head.1) finish
 
 -- more bytes behind a frame, or behind a fault other than Short, change nothing
-pub frame_stays : (bytes more : List ℕ) → ¬ (frame_at bytes ≡ short (LogFrame × ℕ)) → frame_at (bytes ++ more) ≡ frame_at bytes
-frame_stays bytes more h = sym (frame_is (bytes ++ more)) ∙ by_outcome (parts_at bytes) refl ∙ frame_is bytes where
-  by_outcome : (r : Read (Header × List ℕ)) → parts_at bytes ≡ r → (parts_at (bytes ++ more) >>= λ z. finish z.0.0 z.0.1) ≡ (parts_at bytes >>= λ z. finish z.0.0 z.0.1)
+pub frame_stays : (newest : ℕ) (bytes more : List ℕ) → ¬ (frame_at newest bytes ≡ short (LogFrame × ℕ)) → frame_at newest (bytes ++ more) ≡ frame_at newest bytes
+frame_stays newest bytes more h = sym (frame_is newest (bytes ++ more)) ∙ by_outcome (parts_at newest bytes) refl ∙ frame_is newest bytes where
+  by_outcome : (r : Read (Header × List ℕ)) → parts_at newest bytes ≡ r → (parts_at newest (bytes ++ more) >>= λ z. finish z.0.0 z.0.1) ≡ (parts_at newest bytes >>= λ z. finish z.0.0 z.0.1)
   by_outcome (Ok x) e =
-      let shorter : ¬ (parts_at bytes ≡ short ((Header × List ℕ) × List ℕ)) = λ s. let bad : done x ≡ short ((Header × List ℕ) × List ℕ) = sym e ∙ s in absurd cc in
-      let longer : parts_at (bytes ++ more) ≡ Ok (x.0, x.1 ++ more) = parts_stay bytes more shorter ∙ ap (λ r. and_more r more) e in
+      let shorter : ¬ (parts_at newest bytes ≡ short ((Header × List ℕ) × List ℕ)) = λ s. let bad : done x ≡ short ((Header × List ℕ) × List ℕ) = sym e ∙ s in absurd cc in
+      let longer : parts_at newest (bytes ++ more) ≡ Ok (x.0, x.1 ++ more) = parts_stay newest bytes more shorter ∙ ap (λ r. and_more r more) e in
       ap (λ r. r >>= λ z. finish z.0.0 z.0.1) longer ∙ ap (λ r. r >>= λ z. finish z.0.0 z.0.1) (sym e)
   by_outcome (Err fault) e =
-      let shorter : ¬ (parts_at bytes ≡ short ((Header × List ℕ) × List ℕ)) = λ s. h (sym (frame_is bytes) ∙ ap (λ r. r >>= λ z. finish z.0.0 z.0.1) s) in
-      let longer : parts_at (bytes ++ more) ≡ Err fault = parts_stay bytes more shorter ∙ ap (λ r. and_more r more) e in
+      let shorter : ¬ (parts_at newest bytes ≡ short ((Header × List ℕ) × List ℕ)) = λ s. h (sym (frame_is newest bytes) ∙ ap (λ r. r >>= λ z. finish z.0.0 z.0.1) s) in
+      let longer : parts_at newest (bytes ++ more) ≡ Err fault = parts_stay newest bytes more shorter ∙ ap (λ r. and_more r more) e in
       ap (λ r. r >>= λ z. finish z.0.0 z.0.1) longer ∙ ap (λ r. r >>= λ z. finish z.0.0 z.0.1) (sym e)

@@ -1,5 +1,5 @@
 -- Frames and their spellings are one to one, and a cut frame is Short.
-use Rattle.std.proofs.Common.{◌≡◌, ℕ, ◌<◌, List, [], ◌++◌, length, Result, Ok, Err, refl, sym, ap, ◌∙◌, arith, inl, inr}
+use Rattle.std.proofs.Common.{◌≡◌, ℕ, ◌<◌, ◌≤◌, List, [], ◌++◌, length, Result, Ok, Err, refl, sym, ap, ◌∙◌, arith, inl, inr}
 use Rattle.std.specs.Prelude.{◌⊎◌, All}
 use Rattle.std.proofs.lemmas.Bool.{cases_lt}
 use Rattle.std.proofs.lemmas.List.{append-nil, get_or_past, length-append, nil_from_length}
@@ -22,26 +22,26 @@ frame_of_size f n = Ok (f, n)
 abbrev short : Outcome
 short = Err Short
 
-pub again : (f : LogFrame) (text rest : List ℕ) → Spells text f → frame_at (text ++ rest) ≡ Ok (f, length text)
-again f text rest h = ap (λ (t : List ℕ). frame_at (t ++ rest)) h.spelled ∙ frame_again f rest h.lawful ∙ ap (λ (t : List ℕ). frame_of_size f (length t)) (sym h.spelled)
+pub again : (newest : ℕ) (f : LogFrame) (text rest : List ℕ) → Spells newest text f → frame_at newest (text ++ rest) ≡ Ok (f, length text)
+again newest f text rest h = ap (λ (t : List ℕ). frame_at newest (t ++ rest)) h.spelled ∙ frame_again newest f rest h.version h.lawful ∙ ap (λ (t : List ℕ). frame_of_size f (length t)) (sym h.spelled)
 
-alone : (f : LogFrame) (text : List ℕ) → Spells text f → frame_at text ≡ frame_of_size f (length text)
-alone f text h = ap frame_at (sym (append-nil text)) ∙ again f text [] h
+alone : (newest : ℕ) (f : LogFrame) (text : List ℕ) → Spells newest text f → frame_at newest text ≡ frame_of_size f (length text)
+alone newest f text h = ap (frame_at newest) (sym (append-nil text)) ∙ again newest f text [] h
 
 same : (f g : LogFrame) (n m : ℕ) → frame_of_size f n ≡ frame_of_size g m → (f ≡ g) × (n ≡ m)
 same f g n m e =
     let pair : (f, n) ≡ (g, m) = ok_is (f, n) (g, m) e in
     (ap (λ (x : LogFrame × ℕ). x.0) pair, ap (λ (x : LogFrame × ℕ). x.1) pair)
 
-pub one_text : (f : LogFrame) (s t : List ℕ) → Spells s f → Spells t f → s ≡ t
-one_text f s t p q = p.spelled ∙ sym q.spelled
+pub one_text : (newest : ℕ) (f : LogFrame) (s t : List ℕ) → Spells newest s f → Spells newest t f → s ≡ t
+one_text newest f s t p q = p.spelled ∙ sym q.spelled
 
-pub one_frame : (f g : LogFrame) (text : List ℕ) → Spells text f → Spells text g → f ≡ g
-one_frame f g text p q = (same f g (length text) (length text) (sym (alone f text p) ∙ alone g text q)).0
+pub one_frame : (newest : ℕ) (f g : LogFrame) (text : List ℕ) → Spells newest text f → Spells newest text g → f ≡ g
+one_frame newest f g text p q = (same f g (length text) (length text) (sym (alone newest f text p) ∙ alone newest g text q)).0
 
-pub no_more : (f g : LogFrame) (text rest : List ℕ) → Spells text f → Spells (text ++ rest) g → rest ≡ []
-no_more f g text rest p q =
-    let sizes = (same f g (length text) (length (text ++ rest)) (sym (again f text rest p) ∙ alone g (text ++ rest) q)).1 in
+pub no_more : (newest : ℕ) (f g : LogFrame) (text rest : List ℕ) → Spells newest text f → Spells newest (text ++ rest) g → rest ≡ []
+no_more newest f g text rest p q =
+    let sizes = (same f g (length text) (length (text ++ rest)) (sym (again newest f text rest p) ∙ alone newest g (text ++ rest) q)).1 in
     nil_from_length rest (omega (arith, sizes, length-append text rest))
 
 pub all_bytes : (bytes : List ℕ) → All (λ b. b < 256) bytes → IsBytes bytes
@@ -51,8 +51,8 @@ all_bytes bytes h i =
       | inr le ↦ rw (get_or_past bytes i 0 le) (omega arith)
     ]
 
-pub spelled : (bytes : List ℕ) (f : LogFrame) (n : ℕ) → All (λ b. b < 256) bytes → frame_at bytes ≡ Ok (f, n) → BeginsWith bytes f n
-spelled bytes f n fits e = frame_takes bytes (f, n) (all_bytes bytes fits) e
+pub spelled : (newest : ℕ) (bytes : List ℕ) (f : LogFrame) (n : ℕ) → newest ≤ 2 → All (λ b. b < 256) bytes → frame_at newest bytes ≡ Ok (f, n) → BeginsWith newest bytes f n
+spelled newest bytes f n known fits e = frame_takes newest bytes (f, n) known (all_bytes bytes fits) e
 
 is_short : (r : Outcome) → (r ≡ short) ⊎ ¬ (r ≡ short)
 is_short (Ok x) = inr (λ e. absurd cc)
@@ -64,13 +64,13 @@ is_short (Err BadLength) = inr (λ e. absurd cc)
 is_short (Err BadValue) = inr (λ e. absurd cc)
 is_short (Err Memory) = inr (λ e. absurd cc)
 
-pub cut : (f : LogFrame) (front rest : List ℕ) → All (λ b. b < 256) front → 0 < length rest → Spells (front ++ rest) f → frame_at front ≡ Err Short
-cut f front rest fits some h =
-    elim (is_short (frame_at front)) [
+pub cut : (newest : ℕ) (f : LogFrame) (front rest : List ℕ) → newest ≤ 2 → All (λ b. b < 256) front → 0 < length rest → Spells newest (front ++ rest) f → frame_at newest front ≡ Err Short
+cut newest f front rest known fits some h =
+    elim (is_short (frame_at newest front)) [
       | inl is ↦ is
       | inr other ↦
-          let whole : frame_at front ≡ frame_of_size f (length (front ++ rest)) = sym (frame_stays front rest other) ∙ alone f (front ++ rest) h in
-          let begins = frame_takes front (f, length (front ++ rest)) (all_bytes front fits) whole in
+          let whole : frame_at newest front ≡ frame_of_size f (length (front ++ rest)) = sym (frame_stays newest front rest other) ∙ alone newest f (front ++ rest) h in
+          let begins = frame_takes newest front (f, length (front ++ rest)) known (all_bytes front fits) whole in
           let inside = begins.inside in
           absurd (omega (arith, inside, some, length-append front rest))
     ]

@@ -2,6 +2,7 @@
 use Rattle.std.specs.Prelude.{ℕ}
 
 pub record Header : Type 0 where
+  pub version : ℕ
   pub epoch : ℕ
   pub client : ℕ
   pub first : ℕ

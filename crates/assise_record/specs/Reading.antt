@@ -1,12 +1,14 @@
 -- The first fault of bytes. Fields are read from left to right, each behind the one before it: a reading is a value
 -- and the bytes behind it, or the fault that was found first. Which bytes are frames is said apart from this, in
 -- `Spelling`; that both agree are laws of the crate.
-use Rattle.std.specs.Prelude.{◌≡◌, ◌<◌, ◌≤◌, ℕ, ◌+◌, zero, suc, Bool, nat_lt, nat_le, ◌==◌, ◌&&◌, if◌then◌else◌, List, [], ◌∷◌, length, take, drop, Result, Ok, Err}
+use Rattle.std.specs.Prelude.{◌≡◌, ◌<◌, ◌≤◌, ℕ, ◌+◌, zero, suc, Bool, true, false, nat_lt, nat_le, ◌==◌, ◌&&◌, ◌||◌, if◌then◌else◌, List, [], ◌∷◌, ◌++◌, length, take, drop}
+use Rattle.std.specs.Prelude.{Option, Some, None, Result, Ok, Err}
+use Rattle.std.specs.Option.{option_to_list}
 use Rattle.byteorder.specs.Endian.{big_number}
 use Rattle.assise_names.specs.Name.{is_name}
 use Rattle.assise_record.specs.Patch.{Patch}
 use Rattle.assise_record.specs.LogRecord.{LogRecord}
-use Rattle.assise_record.specs.LogFrame.{LogFrame}
+use Rattle.assise_record.specs.LogFrame.{LogFrame, is_marked}
 use Rattle.assise_record.specs.Header.{Header}
 use Rattle.assise_record.specs.declared.effect.Effect.{Effect}
 use Rattle.assise_record.specs.declared.effect.Effect.TheVariants.{NewFile, NewDir, Write, SetLen, Link, Unlink, Free}
@@ -135,33 +137,62 @@ effect_at bytes = do
 
 -- ---- records
 
-unfoldable pub record_at : List ℕ → Read LogRecord
-record_at bytes = do
+-- 1 ends a group and 0 doesn't; the last record of a frame, behind which none is left, ends one
+abbrev pub is_mark : ℕ → ℕ → Bool
+is_mark left mark = mark == 1 || (mark == 0 && nat_lt 0 left)
+
+-- the mark of a record with so many records behind it, in versions that have marks
+unfoldable pub mark_at : Bool → ℕ → List ℕ → Read (Option Bool)
+mark_at false left bytes = Ok (None, bytes)
+mark_at true left bytes = do
+  mark ← byte_at BadLength bytes
+  _ ← guard (is_mark left mark.0) BadValue
+  Ok (Some (mark.0 == 1), mark.1)
+
+unfoldable pub record_at : Bool → ℕ → List ℕ → Read (LogRecord × Option Bool)
+record_at marked left bytes = do
   call ← number_at 8 BadLength bytes
-  count ← byte_at BadLength call.1
+  mark ← mark_at marked left call.1
+  count ← byte_at BadLength mark.1
   _ ← guard (nat_lt 0 count.0 && nat_le count.0 4) BadValue
   effects ← many_at effect_at count.0 count.1
-  Ok (record { call = call.0; effects = effects.0 }, effects.1)
+  Ok ((record { call = call.0; effects = effects.0 }, mark.0), effects.1)
+
+-- so many records, and their marks
+unfoldable pub records_at : Bool → ℕ → List ℕ → Read (List LogRecord × List Bool)
+records_at marked zero bytes = Ok (([], []), bytes)
+records_at marked (suc left) bytes = do
+  first ← record_at marked left bytes
+  others ← records_at marked left first.1
+  Ok ((first.0.0 ∷ others.0.0, option_to_list first.0.1 ++ others.0.1), others.1)
 
 -- so many records, and nothing behind them
-unfoldable pub body_at : ℕ → List ℕ → Result (List LogRecord) FrameFault
-body_at count body = do
-  records ← many_at record_at count body
+unfoldable pub body_at : Bool → ℕ → List ℕ → Result (List LogRecord × List Bool) FrameFault
+body_at marked count body = do
+  records ← records_at marked count body
   _ ← guard (length records.1 == 0) BadLength
   Ok records.0
 
 -- ---- the header
 
+-- a version from 1 up to the newest
+abbrev pub is_version : ℕ → ℕ → Bool
+is_version newest version = nat_le 1 version && nat_le version newest
+
+pub record IsVersion (newest version : ℕ) : Type 0 where
+  pub some : 1 ≤ version
+  pub known : version ≤ newest
+
 -- the bytes `AS`, and the version
-unfoldable pub magic_at : List ℕ → Read (Unit {0})
-magic_at bytes = do
+unfoldable pub version_at : ℕ → List ℕ → Read ℕ
+version_at newest bytes = do
   a ← byte_at Short bytes
   _ ← guard (a.0 == 65) BadMagic
   s ← byte_at Short a.1
   _ ← guard (s.0 == 83) BadMagic
   version ← byte_at Short s.1
-  _ ← guard (version.0 == 1) BadVersion
-  Ok (tt, version.1)
+  _ ← guard (is_version newest version.0) BadVersion
+  Ok version
 
 -- 1 to 64 records, and the number behind the last fits 64 bits
 abbrev pub has_count : ℕ → ℕ → Bool
@@ -180,24 +211,27 @@ numbers_at bytes = do
   _ ← guard (has_count first.0 count.0) BadValue
   Ok ((first.0, count.0), count.1)
 
-unfoldable pub header_at : List ℕ → Read Header
-header_at bytes = do
-  magic ← magic_at bytes
-  epoch ← number_at 8 Short magic.1
+unfoldable pub header_at : ℕ → List ℕ → Read Header
+header_at newest bytes = do
+  version ← version_at newest bytes
+  epoch ← number_at 8 Short version.1
   client ← number_at 4 Short epoch.1
   _ ← guard (nat_lt 0 client.0) BadValue
   numbers ← numbers_at client.1
   size ← number_at 4 Short numbers.1
-  Ok (record { epoch = epoch.0; client = client.0; first = numbers.0.0; count = numbers.0.1; size = size.0 }, size.1)
+  Ok (record { version = version.0; epoch = epoch.0; client = client.0; first = numbers.0.0; count = numbers.0.1; size = size.0 }, size.1)
 
--- ---- frames: the frame that the bytes begin with, and of how many bytes it is
+-- ---- frames: the frame of a version up to the newest that the bytes begin with, and of how many bytes it is
 
-unfoldable pub frame_at : List ℕ → Result (LogFrame × ℕ) FrameFault
-frame_at bytes = do
-  head ← header_at bytes
+abbrev pub frame_of : Header → List LogRecord × List Bool → LogFrame
+frame_of h records = record { version = h.version; epoch = h.epoch; client = h.client; first = h.first; records = records.0; last = records.1 }
+
+unfoldable pub frame_at : ℕ → List ℕ → Result (LogFrame × ℕ) FrameFault
+frame_at newest bytes = do
+  head ← header_at newest bytes
   body ← bytes_at head.0.size Short head.1
-  records ← body_at head.0.count body.0
-  Ok (record { epoch = head.0.epoch; client = head.0.client; first = head.0.first; records = records }, 29 + head.0.size)
+  records ← body_at (is_marked head.0.version) head.0.count body.0
+  Ok (frame_of head.0 records, 29 + head.0.size)
 
 -- ---- what is left of a reading
 

@@ -1,6 +1,6 @@
 -- Which bytes spell a frame. All numbers stand with their highest byte first (RFC 791, appendix B: Data Transmission
 -- Order); a list of bytes is a list of numbers below 256. The layout is this crate's own.
-use Rattle.std.specs.Prelude.{◌≡◌, ℕ, ◌^◌, ◌<◌, ◌≤◌, IsTrue, List, ◌∷◌, ◌++◌, length, take}
+use Rattle.std.specs.Prelude.{◌≡◌, ℕ, ◌^◌, ◌<◌, ◌≤◌, Bool, true, false, IsTrue, List, [], ◌∷◌, ◌++◌, length, take, Option, Some, None}
 use Rattle.std.specs.List.{flat_map, AllByRecursion}
 use Rattle.byteorder.specs.Endian.{big_bytes}
 use Rattle.assise_names.specs.Name.{is_name}
@@ -28,7 +28,7 @@ pub record IsLogRecord (r : LogRecord) : Type 0 where
   pub few : length r.effects ≤ 4
   pub effects : AllByRecursion IsEffect r.effects
 
--- lawful numbers and records
+-- lawful numbers, marks and records
 pub record IsLogFrame (f : LogFrame) : Type 0 where
   pub ranges : HasRanges f
   pub records : AllByRecursion IsLogRecord f.records
@@ -64,38 +64,37 @@ fields_of (Free inode) = big_bytes 8 inode
 abbrev pub effect_spelling : Effect → List ℕ
 effect_spelling effect = tag_of effect ∷ fields_of effect
 
--- ---- records: the call, the count of its effects, and the effects
+-- ---- records: the call, the mark in versions that have marks, the count of the effects, and the effects
 
-abbrev pub record_spelling : LogRecord → List ℕ
-record_spelling r = big_bytes 8 r.call ++ (length r.effects ∷ flat_map effect_spelling r.effects)
+abbrev pub mark_spelling : Option Bool → List ℕ
+mark_spelling None = []
+mark_spelling (Some false) = 0 ∷ []
+mark_spelling (Some true) = 1 ∷ []
+
+abbrev pub record_spelling : Option Bool → LogRecord → List ℕ
+record_spelling mark r = big_bytes 8 r.call ++ (mark_spelling mark ++ (length r.effects ∷ flat_map effect_spelling r.effects))
 
 -- ---- frames: the bytes `AS`, the version, the header's numbers, how many bytes the records have, and the records
 
--- how frames are spelled: a version to come is one more case
-pub data Version : Type 0 where
-  one : Version
-
-abbrev pub version_byte : Version → ℕ
-version_byte one = 1
-
-abbrev pub body_of : Version → List LogRecord → List ℕ
-body_of one records = flat_map record_spelling records
+-- records with their marks, as far as there are marks
+abbrev pub body_of : List LogRecord → List Bool → List ℕ
+body_of [] last = []
+body_of (r ∷ rs) [] = record_spelling None r ++ body_of rs []
+body_of (r ∷ rs) (mark ∷ last) = record_spelling (Some mark) r ++ body_of rs last
 
 abbrev pub header_of : LogFrame → ℕ → List ℕ
 header_of f size = big_bytes 8 f.epoch ++ (big_bytes 4 f.client ++ (big_bytes 8 f.first ++ (big_bytes 2 (length f.records) ++ big_bytes 4 size)))
 
-abbrev pub spelling_of : Version → LogFrame → List ℕ
-spelling_of version f = 65 ∷ 83 ∷ version_byte version ∷ (header_of f (length (body_of version f.records)) ++ body_of version f.records)
-
 abbrev pub spelling : LogFrame → List ℕ
-spelling f = spelling_of one f
+spelling f = 65 ∷ 83 ∷ f.version ∷ (header_of f (length (body_of f.records f.last)) ++ body_of f.records f.last)
 
--- the bytes are the spelling of this frame
-pub record Spells (text : List ℕ) (f : LogFrame) : Type 0 where
+-- the bytes are the spelling of this frame, whose version is no newer than the newest
+pub record Spells (newest : ℕ) (text : List ℕ) (f : LogFrame) : Type 0 where
   pub lawful : IsLogFrame f
+  pub version : f.version ≤ newest
   pub spelled : text ≡ spelling f
 
 -- the first n bytes spell this frame
-pub record BeginsWith (bytes : List ℕ) (f : LogFrame) (n : ℕ) : Type 0 where
+pub record BeginsWith (newest : ℕ) (bytes : List ℕ) (f : LogFrame) (n : ℕ) : Type 0 where
   pub inside : n ≤ length bytes
-  pub front : Spells (take n bytes) f
+  pub front : Spells newest (take n bytes) f

@@ -1,15 +1,16 @@
 // Frames of bytes.
-ghost use Rattle.std.specs.Prelude.{◌≡◌, ◌<◌, ◌⊎◌, ℕ, IfOk, IfErr, Ok, Err, length};
-ghost use Rattle.assise_record.specs.LogFrame.{LogFrame};
+ghost use Rattle.std.specs.Prelude.{◌≡◌, ◌<◌, ◌≤◌, ◌⊎◌, ◌++◌, ℕ, IfOk, IfErr, IsOkUnless, OnOk, Ok, Err, length};
+ghost use Rattle.std.specs.Option.{option_to_list};
+ghost use Rattle.assise_record.specs.LogFrame.{HasMarks, LogFrame, is_marked};
 ghost use Rattle.assise_record.specs.Spelling.{BeginsWith};
 ghost use Rattle.assise_record.specs.declared.fault.FrameFault.{FrameFault};
 ghost use Rattle.assise_record.specs.declared.fault.FrameFault.TheVariants.{Memory};
-ghost use Rattle.assise_record.specs.Reading.{Exactly, Gives, HasCount, checked, many_at, record_at, body_at, magic_at, numbers_at, header_at, frame_at, rest_of};
+ghost use Rattle.assise_record.specs.Reading.{Exactly, Gives, HasCount, IsVersion, checked, mark_at, record_at, records_at, body_at, version_at, numbers_at, header_at, frame_of, frame_at, rest_of};
 
 use crate::effects::{effects_at, skip_effects};
 use crate::fault::FrameFault;
 use crate::fields::{slice_at, u8_at, u16_at, u32_at, u64_at};
-use crate::frame::{Frame, MOST_RECORDS};
+use crate::frame::{Frame, MARKED_VERSION, MOST_RECORDS, PLAIN_VERSION};
 use crate::record::{MOST_EFFECTS, Record};
 use std::alloc::Global;
 use std::marker::Model;
@@ -20,12 +21,16 @@ pub(crate) const HEADER_BYTES: usize = 29;
 /// The first two bytes of every frame.
 pub(crate) const MAGIC: [u8; 2] = *b"AS";
 
-/// The version of frames.
-pub(crate) const VERSION: u8 = 1;
+/// The mark of a record that is the last of its group.
+pub(crate) const LAST: u8 = 1;
+
+/// The mark of a record behind which others of its group stand.
+pub(crate) const NOT_LAST: u8 = 0;
 
 /// What stands before the records: the count of them, and how many bytes they have.
 #[derive(Drop)]
 struct Header {
+    version: u8,
     epoch: u64,
     client: u32,
     first: u64,
@@ -38,29 +43,51 @@ impl Model for Header {
 
     ghost Value = { Header };
 
-    ghost view = { λ h. record { epoch = h.epoch; client = h.client; first = h.first; count = h.count; size = h.size } };
+    ghost view = { λ h. record { version = h.version; epoch = h.epoch; client = h.client; first = h.first; count = h.count; size = h.size } };
 }
 
-/// A record.
+/// The mark of a record with so many records behind it, where records have marks.
+#[tactic(auto, unfolding(crate::specs::Reading::mark_at))]
+fn mark_at(marked: bool, left: u16, bytes: &[u8]) -> Result<(Option<bool>, &[u8]), FrameFault>
+    ensures { Exactly (λ x. (x.0, x.1.now)) result (mark_at marked left bytes.now) }
+{
+    if !marked {
+        return Ok((None, bytes));
+    }
+    let (mark, rest) = u8_at(bytes, FrameFault::BadLength)?;
+    if mark != LAST && (mark != NOT_LAST || left == 0) {
+        return Err(FrameFault::BadValue);
+    }
+    Ok((Some(mark == LAST), rest))
+}
+
+/// A record with so many records behind it, and its mark.
 #[tactic(auto, unfolding(crate::specs::Reading::record_at))]
-fn record_at(alloc: Global, bytes: &[u8]) -> Result<(Record, &[u8]), FrameFault>
-    ensures { Gives (λ x. (x.0, x.1.now)) result (record_at bytes.now) }
+fn record_at(
+    alloc: Global,
+    marked: bool,
+    left: u16,
+    bytes: &[u8],
+) -> Result<((Record, Option<bool>), &[u8]), FrameFault>
+    ensures { Gives (λ x. ((x.0.0, x.0.1), x.1.now)) result (record_at marked left bytes.now) }
 {
     let (call, rest) = u64_at(bytes, FrameFault::BadLength)?;
+    let (mark, rest) = mark_at(marked, left, rest)?;
     let (count, rest) = u8_at(rest, FrameFault::BadLength)?;
     if count == 0 || usize::from(count) > MOST_EFFECTS {
         return Err(FrameFault::BadValue);
     }
     let (effects, rest) = effects_at(alloc, count, rest)?;
-    Ok((Record::new(call, effects), rest))
+    Ok(((Record::new(call, effects), mark), rest))
 }
 
-/// What stands behind a record, of which nothing is copied.
+/// What stands behind a record with so many records behind it, of which nothing is copied.
 #[tactic(auto, unfolding(crate::specs::Reading::record_at))]
-fn skip_record(bytes: &[u8]) -> Result<&[u8], FrameFault>
-    ensures { Exactly (λ rest. rest.now) result (rest_of (record_at bytes.now)) }
+fn skip_record(marked: bool, left: u16, bytes: &[u8]) -> Result<&[u8], FrameFault>
+    ensures { Exactly (λ rest. rest.now) result (rest_of (record_at marked left bytes.now)) }
 {
     let (_, rest) = u64_at(bytes, FrameFault::BadLength)?;
+    let (_, rest) = mark_at(marked, left, rest)?;
     let (count, rest) = u8_at(rest, FrameFault::BadLength)?;
     if count == 0 || usize::from(count) > MOST_EFFECTS {
         return Err(FrameFault::BadValue);
@@ -69,60 +96,84 @@ fn skip_record(bytes: &[u8]) -> Result<&[u8], FrameFault>
 }
 
 /// What stands behind so many records, of which nothing is copied.
-fn skip_records(count: u16, bytes: &[u8]) -> Result<&[u8], FrameFault>
-    ensures { Exactly (λ rest. rest.now) result (rest_of (many_at record_at count bytes.now)) }
+fn skip_records(marked: bool, count: u16, bytes: &[u8]) -> Result<&[u8], FrameFault>
+    ensures { Exactly (λ rest. rest.now) result (rest_of (records_at marked count bytes.now)) }
 {
     let mut rest = bytes;
-    for _ in 0..count {
-        rest = skip_record(rest)?;
+    for read in 0..count {
+        rest = skip_record(marked, count - (read + 1), rest)?;
     }
     Ok(rest)
 }
 
 /// Looks for the first fault of a body, without a copy of anything in it.
 #[tactic(auto, unfolding(crate::specs::Reading::body_at))]
-fn check_body(count: u16, body: &[u8]) -> Result<(), FrameFault>
-    ensures { Exactly (λ _. tt) result (checked (body_at count body.now)) }
+fn check_body(marked: bool, count: u16, body: &[u8]) -> Result<(), FrameFault>
+    ensures { Exactly (λ _. tt) result (checked (body_at marked count body.now)) }
 {
-    let rest = skip_records(count, body)?;
+    let rest = skip_records(marked, count, body)?;
     if !rest.is_empty() {
         return Err(FrameFault::BadLength);
     }
     Ok(())
 }
 
-/// So many records.
-fn records_at(alloc: Global, count: u16, bytes: &[u8]) -> Result<(Vec<Record>, &[u8]), FrameFault>
-    ensures read { Gives (λ x. (x.0.items, x.1.now)) result (many_at record_at count bytes.now) }
-    ensures counted { IfOk result (λ x. length x.0.items ≡ count) }
+/// Adds a mark, where there is one.
+fn push_mark(last: &mut Vec<bool>, mark: Option<bool>) -> Result<(), FrameFault>
+    ensures ok { OnOk result (last.new.items ≡ last.old.items ++ option_to_list mark) }
+    ensures only_memory { IsOkUnless result Memory }
 {
-    let mut records = Vec::new(alloc);
-    let mut rest = bytes;
-    for _ in 0..count {
-        let (record, after) = record_at(alloc, rest)?;
-        records.push(record)?;
-        rest = after;
+    if let Some(mark) = mark {
+        last.push(mark)?;
     }
-    Ok((records, rest))
+    Ok(())
 }
 
-/// The records of a body, all of it.
-#[tactic(auto, unfolding(crate::specs::Reading::body_at))]
-fn body_at(alloc: Global, count: u16, body: &[u8]) -> Result<Vec<Record>, FrameFault>
-    ensures read { Gives (λ records. records.items) result (body_at count body.now) }
-    ensures counted { IfOk result (λ records. length records.items ≡ count) }
+/// So many records, and their marks.
+fn records_at(
+    alloc: Global,
+    marked: bool,
+    count: u16,
+    bytes: &[u8],
+) -> Result<((Vec<Record>, Vec<bool>), &[u8]), FrameFault>
+    ensures { Gives (λ x. ((x.0.0.items, x.0.1.items), x.1.now)) result (records_at marked count bytes.now) }
 {
-    let (records, rest) = records_at(alloc, count, body)?;
+    let mut records = Vec::new(alloc);
+    let mut last = Vec::new(alloc);
+    let mut rest = bytes;
+    for read in 0..count {
+        let ((record, mark), after) = record_at(alloc, marked, count - (read + 1), rest)?;
+        records.push(record)?;
+        push_mark(&mut last, mark)?;
+        rest = after;
+    }
+    Ok(((records, last), rest))
+}
+
+/// The records of a body, all of it, and their marks.
+#[tactic(auto, unfolding(crate::specs::Reading::body_at))]
+fn body_at(
+    alloc: Global,
+    marked: bool,
+    count: u16,
+    body: &[u8],
+) -> Result<(Vec<Record>, Vec<bool>), FrameFault>
+    ensures read { Gives (λ x. (x.0.items, x.1.items)) result (body_at marked count body.now) }
+    ensures counted { IfOk result (λ x. length x.0.items ≡ count) }
+    ensures marks { IfOk result (λ x. HasMarks marked x.0.items x.1.items) }
+{
+    let ((records, last), rest) = records_at(alloc, marked, count, body)?;
     if !rest.is_empty() {
         return Err(FrameFault::BadLength);
     }
-    Ok(records)
+    Ok((records, last))
 }
 
-/// The magic bytes and the version.
-#[tactic(auto, unfolding(crate::specs::Reading::magic_at))]
-fn magic_at(bytes: &[u8]) -> Result<((), &[u8]), FrameFault>
-    ensures { Exactly (λ x. (tt, x.1.now)) result (magic_at bytes.now) }
+/// The magic bytes and the version, which is at most the newest.
+#[tactic(auto, unfolding(crate::specs::Reading::version_at))]
+fn version_at(newest: u8, bytes: &[u8]) -> Result<(u8, &[u8]), FrameFault>
+    ensures read { Exactly (λ x. (x.0, x.1.now)) result (version_at newest bytes.now) }
+    ensures known { IfOk result (λ x. IsVersion newest x.0) }
 {
     let (first, rest) = u8_at(bytes, FrameFault::Short)?;
     if first != MAGIC[0] {
@@ -133,10 +184,10 @@ fn magic_at(bytes: &[u8]) -> Result<((), &[u8]), FrameFault>
         return Err(FrameFault::BadMagic);
     }
     let (version, rest) = u8_at(rest, FrameFault::Short)?;
-    if version != VERSION {
+    if version < PLAIN_VERSION || newest < version {
         return Err(FrameFault::BadVersion);
     }
-    Ok(((), rest))
+    Ok((version, rest))
 }
 
 /// The first number and the count of records.
@@ -154,12 +205,13 @@ fn numbers_at(bytes: &[u8]) -> Result<((u64, u16), &[u8]), FrameFault>
 }
 
 #[tactic(auto, unfolding(crate::specs::Reading::header_at))]
-fn header_at(bytes: &[u8]) -> Result<(Header, &[u8]), FrameFault>
-    ensures read { Exactly (λ x. (x.0, x.1.now)) result (header_at bytes.now) }
+fn header_at(newest: u8, bytes: &[u8]) -> Result<(Header, &[u8]), FrameFault>
+    ensures read { Exactly (λ x. (x.0, x.1.now)) result (header_at newest bytes.now) }
+    ensures known { IfOk result (λ x. IsVersion newest x.0.version) }
     ensures a_client { IfOk result (λ x. 0 < x.0.client) }
     ensures fits { IfOk result (λ x. HasCount x.0.first x.0.count) }
 {
-    let ((), rest) = magic_at(bytes)?;
+    let (version, rest) = version_at(newest, bytes)?;
     let (epoch, rest) = u64_at(rest, FrameFault::Short)?;
     let (client, rest) = u32_at(rest, FrameFault::Short)?;
     if client == 0 {
@@ -168,6 +220,7 @@ fn header_at(bytes: &[u8]) -> Result<(Header, &[u8]), FrameFault>
     let ((first, count), rest) = numbers_at(rest)?;
     let (size, rest) = u32_at(rest, FrameFault::Short)?;
     let header = Header {
+        version,
         epoch,
         client,
         first,
@@ -177,37 +230,82 @@ fn header_at(bytes: &[u8]) -> Result<(Header, &[u8]), FrameFault>
     Ok((header, rest))
 }
 
+/// As [`decode_up_to`], of version 1 alone.
+pub fn decode(alloc: Global, bytes: &[u8]) -> Result<(Frame, usize), FrameFault>
+    // What is read is spelled so.
+    ensures found { IfOk result (λ x. BeginsWith 1 bytes.now x.0 x.1) }
+    // What is spelled so is read, unless memory runs out.
+    ensures only { (f : LogFrame) (n : ℕ) → BeginsWith 1 bytes.now f n → (result ≡ Ok (f, n)) ⊎ (result ≡ Err Memory) }
+    // Which fault it is.
+    ensures first_fault { IfErr result (λ fault. (fault ≡ Memory) ⊎ (frame_at 1 bytes.now ≡ Err fault)) }
+    // A fault is answered, and not want of memory.
+    ensures faults { (fault : FrameFault) → frame_at 1 bytes.now ≡ Err fault → result ≡ Err fault }
+    // Memory is asked for only where the bytes begin with a frame.
+    ensures memory { IfErr result (λ fault. fault ≡ Memory → (f : LogFrame) × ((n : ℕ) × BeginsWith 1 bytes.now f n)) }
+    // With a fault the bytes begin with no frame.
+    ensures no_frame { IfErr result (λ fault. (fault ≡ Memory) ⊎ ((f : LogFrame) (n : ℕ) → ¬ (BeginsWith 1 bytes.now f n))) }
+{
+    decode_up_to(alloc, bytes, PLAIN_VERSION)
+}
+
 /// The frame that bytes begin with, and of how many bytes it is: of the bytes behind it none is looked at. Where they
 /// begin with no frame, the fault is the first from left to right, where memory is wanting too: nothing is copied before
 /// the whole body was looked at. Only in place of a frame [`FrameFault::Memory`] may stand. The bytes of a write are
-/// copied once.
-pub fn decode(alloc: Global, bytes: &[u8]) -> Result<(Frame, usize), FrameFault>
+/// copied once. A version above the newest is [`FrameFault::BadVersion`].
+pub fn decode_up_to(alloc: Global, bytes: &[u8], newest: u8) -> Result<(Frame, usize), FrameFault>
+    requires some_version { 1 ≤ newest }
+    requires known_version { newest ≤ 2 }
     // What is read is spelled so.
-    ensures found { IfOk result (λ x. BeginsWith bytes.now x.0 x.1) }
+    ensures found { IfOk result (λ x. BeginsWith newest bytes.now x.0 x.1) }
     // What is spelled so is read, unless memory runs out.
-    ensures only { (f : LogFrame) (n : ℕ) → BeginsWith bytes.now f n → (result ≡ Ok (f, n)) ⊎ (result ≡ Err Memory) }
+    ensures only { (f : LogFrame) (n : ℕ) → BeginsWith newest bytes.now f n → (result ≡ Ok (f, n)) ⊎ (result ≡ Err Memory) }
     // Which fault it is.
-    ensures first_fault { IfErr result (λ fault. (fault ≡ Memory) ⊎ (frame_at bytes.now ≡ Err fault)) }
+    ensures first_fault { IfErr result (λ fault. (fault ≡ Memory) ⊎ (frame_at newest bytes.now ≡ Err fault)) }
     // A fault is answered, and not want of memory.
-    ensures faults { (fault : FrameFault) → frame_at bytes.now ≡ Err fault → result ≡ Err fault }
+    ensures faults { (fault : FrameFault) → frame_at newest bytes.now ≡ Err fault → result ≡ Err fault }
     // Memory is asked for only where the bytes begin with a frame.
-    ensures memory { IfErr result (λ fault. fault ≡ Memory → (f : LogFrame) × ((n : ℕ) × BeginsWith bytes.now f n)) }
+    ensures memory { IfErr result (λ fault. fault ≡ Memory → (f : LogFrame) × ((n : ℕ) × BeginsWith newest bytes.now f n)) }
     // With a fault the bytes begin with no frame.
-    ensures no_frame { IfErr result (λ fault. (fault ≡ Memory) ⊎ ((f : LogFrame) (n : ℕ) → ¬ (BeginsWith bytes.now f n))) }
+    ensures no_frame { IfErr result (λ fault. (fault ≡ Memory) ⊎ ((f : LogFrame) (n : ℕ) → ¬ (BeginsWith newest bytes.now f n))) }
 {
-    frame_at(alloc, bytes)
+    frame_at(alloc, newest, bytes)
 }
 
 #[tactic(auto, unfolding(crate::specs::Reading::frame_at))]
-fn frame_at(alloc: Global, bytes: &[u8]) -> Result<(Frame, usize), FrameFault>
-    ensures read { Gives (λ x. x) result (frame_at bytes.now) }
-    ensures faults { (fault : FrameFault) → frame_at bytes.now ≡ Err fault → result ≡ Err fault }
+fn frame_at(alloc: Global, newest: u8, bytes: &[u8]) -> Result<(Frame, usize), FrameFault>
+    requires known_version { newest ≤ 2 }
+    ensures read { Gives (λ x. x) result (frame_at newest bytes.now) }
+    ensures faults { (fault : FrameFault) → frame_at newest bytes.now ≡ Err fault → result ≡ Err fault }
 {
-    let (header, rest) = header_at(bytes)?;
+    let (header, rest) = header_at(newest, bytes)?;
     let size = header.size as usize;
     let (body, _) = slice_at(rest, size, FrameFault::Short)?;
-    check_body(header.count, body)?;
-    let records = body_at(alloc, header.count, body)?;
-    let frame = Frame::new(header.epoch, header.client, header.first, records);
+    let marked = header.version == MARKED_VERSION;
+    check_body(marked, header.count, body)?;
+    let (records, last) = body_at(alloc, marked, header.count, body)?;
+    let frame = frame_of(header, records, last);
     Ok((frame, HEADER_BYTES + size))
+}
+
+/// The frame of the records that stand behind a header, and of their marks.
+fn frame_of(header: Header, records: Vec<Record>, last: Vec<bool>) -> Frame
+    requires version { IsVersion 2 header.version }
+    requires a_client { 0 < header.client }
+    requires fits { HasCount header.first header.count }
+    requires counted { length records.items ≡ header.count }
+    requires marks { HasMarks (is_marked header.version) records.items last.items }
+    ensures { result ≡ frame_of header (records.items, last.items) }
+{
+    let Header {
+        version,
+        epoch,
+        client,
+        first,
+        ..
+    } = header;
+    if version == MARKED_VERSION {
+        Frame::with_marks(epoch, client, first, records, last)
+    } else {
+        Frame::new(epoch, client, first, records)
+    }
 }

@@ -1,5 +1,5 @@
 // The bytes of frames.
-ghost use Rattle.std.specs.Prelude.{◌≡◌, ◌+◌, ◌≤◌, ◌++◌, ◌∷◌, [], IsOk, IsOkUnless, IsTrue, OnErr, OnOk, flat_map, vec_capacity};
+ghost use Rattle.std.specs.Prelude.{◌≡◌, ℕ, ◌+◌, ◌≤◌, ◌++◌, ◌∷◌, [], IsOk, IsOkUnless, IsTrue, OnErr, OnOk, flat_map, vec_capacity};
 ghost use Rattle.std.specs.List.{AllByRecursion};
 ghost use Rattle.byteorder.specs.Endian.{big_bytes};
 ghost use Rattle.assise_names.specs.declared.refusal.Refusal.TheVariants.{OutOfMemory};
@@ -7,9 +7,9 @@ ghost use Rattle.assise_record.specs.declared.effect.Effect.TheVariants.{Link, S
 ghost use Rattle.assise_record.specs.Room.{HasRoom, Appends};
 ghost use Rattle.assise_names.specs.Name.{is_name};
 ghost use Rattle.assise_record.specs.Patch.{IsPatch};
-ghost use Rattle.assise_record.specs.Spelling.{IsEffect, IsLogRecord, spelling, tag_of, name_spelling, patch_spelling, fields_of, effect_spelling, record_spelling, header_of, Spells};
+ghost use Rattle.assise_record.specs.Spelling.{IsEffect, IsLogRecord, spelling, tag_of, name_spelling, patch_spelling, fields_of, effect_spelling, mark_spelling, record_spelling, body_of, header_of, Spells};
 
-use crate::decode::{HEADER_BYTES, MAGIC, VERSION};
+use crate::decode::{HEADER_BYTES, LAST, MAGIC, NOT_LAST};
 use crate::effect::{Effect, Extent, FileSize};
 use crate::effects::{FREE, LINK, NEW_DIR, NEW_FILE, SET_LEN, UNLINK, WRITE};
 use crate::frame::Frame;
@@ -19,21 +19,21 @@ use assise_names::name::Name;
 use assise_names::refusal::Refusal;
 use byteorder::{BigEndian, ByteOrder};
 
-/// Appends the bytes of a frame, or answers [`Refusal::OutOfMemory`] and leaves the vector as it was: there is one
+/// Appends the bytes of a frame of its version, or answers [`Refusal::OutOfMemory`] and leaves the vector as it was: there is one
 /// growth, by as many bytes as the frame has, and none where they fit.
 pub fn encode(frame: &Frame, out: &mut Vec<u8>) -> Result<(), Refusal>
     ensures ok { OnOk result (out.new.items ≡ out.old.items ++ spelling frame.now) }
-    ensures spelled { OnOk result (Spells (spelling frame.now) frame.now) }
+    ensures spelled { (newest : ℕ) → frame.now.version ≤ newest → OnOk result (Spells newest (spelling frame.now) frame.now) }
+    ensures known_version { frame.now.version ≤ 2 }
     ensures err { OnErr result (out.new.items ≡ out.old.items) }
     ensures room { OnErr result (vec_capacity out.new ≡ vec_capacity out.old) }
     ensures fits { HasRoom out.old (spelling frame.now) → IsOk result }
     ensures only_memory { IsOkUnless result OutOfMemory }
 {
-    let records = frame.records();
-    let size = body_size(records);
+    let size = body_size(frame);
     out.reserve(HEADER_BYTES + size)?;
     put_header(out, frame, size as u32);
-    put_records(out, records);
+    put_records(out, frame.records(), frame.last());
     Ok(())
 }
 
@@ -185,32 +185,44 @@ fn put_effects(out: &mut Vec<u8>, effects: &[Effect])
     }
 }
 
-fn put_record(out: &mut Vec<u8>, logged: &Record)
-    requires { HasRoom out.old (record_spelling logged.now) }
-    ensures appended { Appends out.old out.new (record_spelling logged.now) }
+fn put_mark(out: &mut Vec<u8>, mark: Option<bool>)
+    requires { HasRoom out.old (mark_spelling mark) }
+    ensures { Appends out.old out.new (mark_spelling mark) }
+{
+    match mark {
+        Some(true) => put(out, &[LAST]),
+        Some(false) => put(out, &[NOT_LAST]),
+        None => (),
+    }
+}
+
+fn put_record(out: &mut Vec<u8>, mark: Option<bool>, logged: &Record)
+    requires { HasRoom out.old (record_spelling mark logged.now) }
+    ensures appended { Appends out.old out.new (record_spelling mark logged.now) }
     ensures lawful { IsLogRecord logged.now }
 {
     let effects = logged.effects();
     put_u64(out, logged.call());
+    put_mark(out, mark);
     put(out, &[effects.len() as u8]);
     put_effects(out, effects);
 }
 
-fn put_records(out: &mut Vec<u8>, records: &[Record])
-    requires { HasRoom out.old (flat_map record_spelling records.now) }
-    ensures appended { Appends out.old out.new (flat_map record_spelling records.now) }
+fn put_records(out: &mut Vec<u8>, records: &[Record], last: &[bool])
+    requires { HasRoom out.old (body_of records.now last.now) }
+    ensures appended { Appends out.old out.new (body_of records.now last.now) }
     ensures lawful { AllByRecursion IsLogRecord records.now }
 {
-    for record in records {
-        put_record(out, record);
+    for (place, record) in records.iter().enumerate() {
+        put_record(out, last.get(place).copied(), record);
     }
 }
 
 fn put_header(out: &mut Vec<u8>, frame: &Frame, size: u32)
-    requires { HasRoom out.old (65 ∷ 83 ∷ 1 ∷ header_of frame.now size) }
-    ensures { Appends out.old out.new (65 ∷ 83 ∷ 1 ∷ header_of frame.now size) }
+    requires { HasRoom out.old (65 ∷ 83 ∷ frame.now.version ∷ header_of frame.now size) }
+    ensures { Appends out.old out.new (65 ∷ 83 ∷ frame.now.version ∷ header_of frame.now size) }
 {
-    put(out, &[MAGIC[0], MAGIC[1], VERSION]);
+    put(out, &[MAGIC[0], MAGIC[1], frame.version()]);
     put_u64(out, frame.epoch());
     put_u32(out, frame.client());
     put_u64(out, frame.first());

@@ -1,9 +1,11 @@
 // How many bytes records have in a frame.
-ghost use Rattle.std.specs.Prelude.{◌≡◌, ◌≤◌, length};
+ghost use Rattle.std.specs.Prelude.{◌≡◌, ◌≤◌, None, length};
 ghost use Rattle.std.specs.List.{flat_map};
-ghost use Rattle.assise_record.specs.Spelling.{effect_spelling, record_spelling};
+ghost use Rattle.assise_record.specs.LogFrame.{HasRanges};
+ghost use Rattle.assise_record.specs.Spelling.{body_of, effect_spelling, record_spelling};
 
 use crate::effect::Effect;
+use crate::frame::Frame;
 use crate::record::Record;
 
 /// A tag, and an inode behind it.
@@ -23,9 +25,9 @@ fn effect_size(effect: &Effect) -> usize
     }
 }
 
-/// The bytes of a record: its call, the count of its effects, and the effects.
+/// The bytes of a record without a mark: its call, the count of its effects, and the effects.
 fn record_size(logged: &Record) -> usize
-    ensures size { result ≡ length (record_spelling logged.now) }
+    ensures size { result ≡ length (record_spelling None logged.now) }
     ensures few { result ≤ 262221 }
 {
     9 + effects_size(logged.effects())
@@ -43,10 +45,10 @@ fn effects_size(effects: &[Effect]) -> usize
     size
 }
 
-/// The bytes of records.
-pub(crate) fn body_size(records: &[Record]) -> usize
+/// The bytes of records without marks.
+fn records_size(records: &[Record]) -> usize
     requires { length records.now ≤ 64 }
-    ensures size { result ≡ length (flat_map record_spelling records.now) }
+    ensures size { result ≡ length (flat_map (record_spelling None) records.now) }
     ensures few { result ≤ 16782144 }
 {
     let mut size = 0;
@@ -54,4 +56,13 @@ pub(crate) fn body_size(records: &[Record]) -> usize
         size += record_size(record);
     }
     size
+}
+
+/// The bytes of a frame's records, of which each mark has one.
+pub(crate) fn body_size(frame: &Frame) -> usize
+    ensures size { result ≡ length (body_of frame.now.records frame.now.last) }
+    ensures few { result ≤ 16782208 }
+    ensures ranges { HasRanges frame.now }
+{
+    records_size(frame.records()) + frame.last().len()
 }

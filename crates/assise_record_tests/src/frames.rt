@@ -10,7 +10,7 @@ macro_rules! of_effects {
             $first,
             ", records: [Record { call: 0, effects: [",
             $effects,
-            "] }] } in ",
+            "] }], marks: None } in ",
             $count,
             ", ",
             $count,
@@ -51,7 +51,7 @@ const SEVEN_WORDS: &str =
     Record { call: 4, effects: [\
     Link { directory: 8, name: Name { text: \"a\" }, inode: 9 }, \
     NewFile { inode: 6 }, \
-    Free { inode: 7 }] }] } in 136, 136 fronts, room 136 136";
+    Free { inode: 7 }] }], marks: None } in 136, 136 fronts, room 136 136";
 
 #[test]
 fn frames_are_read(rt: HostRuntime) -> Result<(), Fail> {

@@ -6,6 +6,8 @@ mod copies;
 #[cfg(test)]
 mod frames;
 #[cfg(test)]
+mod marks;
+#[cfg(test)]
 mod outcome;
 #[cfg(test)]
 mod rows;

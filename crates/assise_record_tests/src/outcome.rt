@@ -1,8 +1,8 @@
 // What bytes are read as, in words.
-use assise_record::decode::decode;
+use assise_record::decode::{decode, decode_up_to};
 use assise_record::encode::encode;
 use assise_record::fault::FrameFault;
-use assise_record::frame::Frame;
+use assise_record::frame::{Frame, MARKED_VERSION};
 use std::alloc::{AllocError, Global};
 
 /// The capacity of a vector that was made for so many bytes, once a frame stands in it: 0 where the frame isn't spelled
@@ -24,10 +24,13 @@ fn room_taken(
     })
 }
 
-/// How many fronts of bytes are [`FrameFault::Short`], up to the first that isn't.
-fn short_fronts(alloc: Global, bytes: &[u8]) -> usize {
+/// How many fronts of the bytes of a frame are [`FrameFault::Short`], up to the first that isn't.
+fn short_fronts(alloc: Global, frame: &Frame, bytes: &[u8]) -> usize {
     for count in 0..bytes.len() {
-        if !matches!(decode(alloc, &bytes[..count]), Err(FrameFault::Short)) {
+        if !matches!(
+            decode_up_to(alloc, &bytes[..count], frame.version()),
+            Err(FrameFault::Short)
+        ) {
             return count;
         }
     }
@@ -58,16 +61,30 @@ fn content(alloc: Global, frame: &Frame, count: usize) -> Result<String, AllocEr
 fn frame_words(alloc: Global, frame: &Frame, bytes: &[u8]) -> Result<String, AllocError> {
     let count = bytes.len();
     let says = content(alloc, frame, count)?;
-    let fronts = short_fronts(alloc, bytes);
+    let fronts = short_fronts(alloc, frame, bytes);
     let grown = room_taken(alloc, frame, bytes, 0)?;
     let kept = room_taken(alloc, frame, bytes, count)?;
     format!(in alloc; "{says} in {count}, {fronts} fronts, room {grown} {kept}")
 }
 
-/// The words of the frame that bytes begin with, or their fault.
-pub fn outcome(alloc: Global, bytes: &[u8]) -> Result<String, AllocError> {
-    match decode(alloc, bytes) {
+/// The words of the frame that was read of the front of bytes, or of the fault.
+fn words(
+    alloc: Global,
+    bytes: &[u8],
+    read: Result<(Frame, usize), FrameFault>,
+) -> Result<String, AllocError> {
+    match read {
         Ok((frame, count)) => frame_words(alloc, &frame, bytes.get(..count).unwrap_or_default()),
         Err(fault) => format!(in alloc; "{fault:?}"),
     }
+}
+
+/// The words of the frame of version 1 that bytes begin with, or their fault.
+pub fn outcome(alloc: Global, bytes: &[u8]) -> Result<String, AllocError> {
+    words(alloc, bytes, decode(alloc, bytes))
+}
+
+/// The same of a frame of either version.
+pub fn outcome_of_either(alloc: Global, bytes: &[u8]) -> Result<String, AllocError> {
+    words(alloc, bytes, decode_up_to(alloc, bytes, MARKED_VERSION))
 }

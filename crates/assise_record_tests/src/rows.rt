@@ -1,5 +1,8 @@
 // Rows of bytes, and of what they are read as.
 use crate::outcome::outcome;
+use assise_names::refusal::Refusal;
+use assise_record::decode::decode_up_to;
+use assise_record::frame::MARKED_VERSION;
 use std::alloc::{AllocError, Global};
 use std::process::Abort;
 use std::test::Fail;
@@ -82,4 +85,16 @@ pub fn shows(alloc: Global, rows: &[Row<'_>]) -> Result<(), Fail> {
 /// Compares a text with what is wanted.
 pub fn is_text(rt: &impl Abort, found: &str, wanted: &str) {
     assert_eq!(rt; found, wanted);
+}
+
+/// The version, the marks and the count of records of a copy of the frame that bytes begin with.
+pub fn copied_frame(alloc: Global, bytes: &[u8]) -> Result<String, Refusal> {
+    match decode_up_to(alloc, bytes, MARKED_VERSION) {
+        Ok((frame, _)) => {
+            let copied = frame.copy(alloc)?;
+            let count = copied.records().len();
+            Ok(format!(in alloc; "{} {:?} {count} records", copied.version(), copied.last())?)
+        }
+        Err(fault) => Ok(format!(in alloc; "{fault:?}")?),
+    }
 }

@@ -1,31 +1,35 @@
+use Rattle.std.proofs.Common.{Bool, List, [], ◌∷◌, ◌++◌, append_assoc, append-nil, ap₂, sym}
+use Rattle.std.specs.Option.{option_to_list}
 use Rattle.std.proofs.lemmas.Result.{err_from_is_err_and}
-use Rattle.assise_record.specs.Reading.{many_at, record_at}
-use Rattle.assise_record.proofs.Loop.{goes_on, ends, is_done, many_counted}
+use Rattle.assise_record.specs.LogRecord.{LogRecord}
+use Rattle.assise_record.specs.Reading.{records_at}
+use Rattle.assise_record.proofs.Loop.{records_are_many, goes_on, ends, is_done}
 use Rattle.assise_record.proofs.decode.records_at.Goals as goal
 
-pub returns-in_err-record-clause-read : goal.returns-in_err-record-clause-read
-returns-in_err-record-clause-read c =
+pub returns-in_err-record : goal.returns-in_err-record
+returns-in_err-record c =
     let p = err_from_is_err_and c.from_residual.result c.from_residual.ensures.1 in
-    let total = many_at record_at c.args.count c.args.bytes.now in
-    let failed = c.in_err-record.ensures in
-    rw (p.1, p.2) (ends record_at c.in_err-record.field-0.0 c.loop.records.items c.args.count c.loop.counter c.loop.rest.now total c.loop-test.true failed c.loop.invariant)
+    let total = records_at c.args.marked c.args.count c.args.bytes.now in
+    rw (p.1, p.2) (ends _ _ _ _ (records_are_many c.args.marked) c.in_err-record.field-0.0 (λ x. (c.loop-read.records.items ++ x.0, c.loop-read.last.items ++ x.1))
+    c.args.count c.loop-read.read c.loop-read.rest.now total c.loop-read-test.true c.in_err-record.ensures c.loop-read.invariant)
 
-pub loop-preserved : goal.loop-preserved
-loop-preserved c =
-    let total = many_at record_at c.args.count c.args.bytes.now in
+pub loop-read-preserved : goal.loop-read-preserved
+loop-read-preserved c =
+    let total = records_at c.args.marked c.args.count c.args.bytes.now in
     let item = c.in_ok-record.record in
-    let after = c.in_ok-record.after.now in
-    let read = c.in_ok-record.ensures in
-    let on = goes_on record_at c.loop.records.items c.args.count c.loop.counter c.loop.rest.now item after total c.loop-test.true read c.loop.invariant in
-    rw c.in_ok-push.ensures.items on
+    let mark = c.in_ok-record.mark in
+    let records = c.loop-read.records.items in
+    let last = c.loop-read.last.items in
+    let on = goes_on _ _ _ _ (records_are_many c.args.marked) (λ x. (records ++ x.0, last ++ x.1)) (λ x. ((records ++ item ∷ []) ++ x.0, (last ++ option_to_list mark) ++ x.1))
+    c.args.count c.loop-read.read c.loop-read.rest.now (item, mark) c.in_ok-record.after.now total
+    (λ x. ap₂ (λ (rs : List LogRecord) (ms : List Bool). (rs, ms)) (sym (append_assoc records (item ∷ []) x.0)) (sym (append_assoc last (option_to_list mark) x.1)))
+    c.loop-read-test.true c.in_ok-record.ensures c.loop-read.invariant in
+    rw (c.in_ok-push.ensures.items, c.in_ok-push_mark.ensures.ok) on
 
-pub returns-clause-read : goal.returns-clause-read
-returns-clause-read c =
-    let total = many_at record_at c.args.count c.args.bytes.now in
-    is_done record_at c.loop.records.items c.args.count c.loop.counter c.loop.rest.now total c.loop-test.false c.loop.invariant
-
-pub returns-clause-counted : goal.returns-clause-counted
-returns-clause-counted c =
-    let total = many_at record_at c.args.count c.args.bytes.now in
-    let whole = is_done record_at c.loop.records.items c.args.count c.loop.counter c.loop.rest.now total c.loop-test.false c.loop.invariant in
-    many_counted record_at c.args.count c.args.bytes.now c.loop.records.items c.loop.rest.now whole
+pub returns : goal.returns
+returns c =
+    let total = records_at c.args.marked c.args.count c.args.bytes.now in
+    let records = c.loop-read.records.items in
+    let last = c.loop-read.last.items in
+    is_done _ _ _ _ (records_are_many c.args.marked) (λ x. (records ++ x.0, last ++ x.1)) c.args.count c.loop-read.read c.loop-read.rest.now (records, last) total
+    (ap₂ (λ (rs : List LogRecord) (ms : List Bool). (rs, ms)) (append-nil records) (append-nil last)) c.loop-read-test.false c.loop-read.invariant

@@ -1,7 +1,7 @@
-use Rattle.std.proofs.Common.{◌≡◌, ◌-◌}
-use Rattle.assise_record.specs.Reading.{many_at, record_at}
-use Rattle.assise_record.proofs.Loop.{with_front}
+use Rattle.std.proofs.Common.{◌≡◌, ◌-◌, ◌++◌}
+use Rattle.assise_record.specs.Reading.{records_at}
+use Rattle.assise_record.proofs.Loop.{through}
 use Rattle.assise_record.proofs.decode.records_at.Given as goal
 
-abbrev pub invariant-loop : goal.invariant-loop
-invariant-loop l = with_front l.records.items (many_at record_at (l.count - l.counter) l.rest) ≡ many_at record_at l.count l.bytes
+abbrev pub invariant-loop-read : goal.invariant-loop-read
+invariant-loop-read l = through (λ x. (l.records.items ++ x.0, l.last.items ++ x.1)) (records_at l.marked (l.count - l.read) l.rest) ≡ records_at l.marked l.count l.bytes

@@ -1,11 +1,11 @@
 use Rattle.std.proofs.Common.{take}
-use Rattle.std.specs.List.{flat_map, AllByRecursion}
+use Rattle.std.specs.List.{AllByRecursion}
 use Rattle.assise_record.specs.Room.{Appends}
-use Rattle.assise_record.specs.Spelling.{IsLogRecord, record_spelling}
+use Rattle.assise_record.specs.Spelling.{IsLogRecord, body_of}
 use Rattle.assise_record.proofs.encode.put_records.Given as goal
 
-abbrev pub invariant-loop-record : goal.invariant-loop-record
-invariant-loop-record l = record {
-  appended : Appends l.fn.out l.out (flat_map record_spelling (take l.record-index l.records));
-  lawful : AllByRecursion IsLogRecord (take l.record-index l.records);
+abbrev pub invariant-loop-place : goal.invariant-loop-place
+invariant-loop-place l = record {
+  appended : Appends l.fn.out l.out (body_of (take l.place l.records) (take l.place l.last));
+  lawful : AllByRecursion IsLogRecord (take l.place l.records);
 }
