@@ -1,10 +1,13 @@
+pub mod Coalesced
 pub mod Copied
 pub mod FaultText
+pub mod Groups
 pub mod Header
 pub mod LogFrame
 pub mod LogRecord
 pub mod Patch
 pub mod Reading
+pub mod Records
 pub mod Room
 pub mod Spelling
 pub mod Touched

@@ -4,6 +4,7 @@ ghost use Rattle.std.proofs.Common.{rules};
 ghost use Rattle.std.specs.Cmp.Rules.{comparing};
 ghost use Rattle.std.specs.Cmp.Lexicographic.{pointwise};
 ghost use Rattle.std.specs.Ordering.{eq_of_both, on};
+ghost use Rattle.assise_record.specs.Coalesced.{covers, overrides};
 ghost use Rattle.assise_record.specs.Copied.{HoldsNameOrBytes};
 ghost use Rattle.assise_record.specs.Patch.{IsPatch};
 ghost use Rattle.assise_record.specs.Touched.{touched_by};
@@ -61,6 +62,14 @@ impl Extent {
         ensures lawful { IsPatch self.now }
     {
         self.bytes.as_slice()
+    }
+
+    /// Whether all bytes of the other are written by this one too.
+    fn covers(&self, other: &Extent) -> bool
+        ensures { result ≡ covers self.now other.now }
+    {
+        let end = self.offset as usize + self.bytes().len();
+        self.offset <= other.offset && other.offset as usize + other.bytes().len() <= end
     }
 
     /// An equal value that shares the bytes, or [`Refusal::OutOfMemory`].
@@ -192,6 +201,45 @@ impl Effect {
             Effect::Link { directory, .. } => *directory,
             Effect::Unlink { directory, .. } => *directory,
             Effect::Free { inode } => *inode,
+        }
+    }
+
+    /// Whether this effect, which comes later, makes an earlier one of no account. An inode that is new or gone does so for each
+    /// effect on it, a write for writes of bytes among its own, and a link or an unlink for those of the same entry. A new
+    /// length does so for none.
+    #[tactic(auto, using(crate::proofs::Overrides::same_entry))]
+    pub fn overrides(&self, earlier: &Effect) -> bool
+        ensures { result ≡ overrides self.now earlier.now }
+    {
+        match (self, earlier) {
+            (Effect::NewFile { inode } | Effect::NewDir { inode } | Effect::Free { inode }, _) => {
+                earlier.touches() == *inode
+            }
+            (
+                Effect::Write { inode, extent },
+                Effect::Write {
+                    inode: written,
+                    extent: bytes,
+                },
+            ) => written == inode && extent.covers(bytes),
+            (
+                Effect::Link {
+                    directory,
+                    name,
+                    ..
+                }
+                | Effect::Unlink { directory, name },
+                Effect::Link {
+                    directory: parent,
+                    name: entry,
+                    ..
+                }
+                | Effect::Unlink {
+                    directory: parent,
+                    name: entry,
+                },
+            ) => parent == directory && name == entry,
+            _ => false,
         }
     }
 

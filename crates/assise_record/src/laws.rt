@@ -1,5 +1,6 @@
-// Laws of frames. Each function does nothing: its contract is the law.
+// Laws of frames and of groups of records. Each function does nothing: its contract is the law.
 ghost use Rattle.std.specs.Prelude.{◌≡◌, ◌↔◌, ◌<◌, ◌≤◌, ◌++◌, ◌∷◌, [], All, Err, IsTrue, List, None, Ok, flat_map, length, ℕ};
+ghost use Rattle.assise_record.specs.Groups.{AllHaveEffects, AreGroups, all_coalesced, all_marks, all_records, are_whole, ends_at, groups_of};
 ghost use Rattle.assise_record.specs.LogFrame.{LogFrame};
 ghost use Rattle.assise_record.specs.Reading.{frame_at};
 ghost use Rattle.assise_record.specs.Spelling.{BeginsWith, Spells, header_of, record_spelling};
@@ -68,4 +69,12 @@ pub fn a_cut_frame_is_short()
 pub fn equal_is_the_same()
     ensures effects { (a b : Effect) → IsTrue (effects_equal.it a b) ↔ (a ≡ b) }
     ensures records { (r s : LogRecord) → IsTrue (records_equal.it r s) ↔ (r ≡ s) }
+{}
+
+/// Records in groups of at most 64 are all of them, in groups; and the marks of what is left say where whole groups end.
+pub fn records_are_cut_into_groups()
+    ensures all { (n : ℕ) (rs : List LogRecord) → length rs ≤ n → all_records (groups_of n rs) ≡ rs }
+    ensures groups { (n : ℕ) (rs : List LogRecord) → AllHaveEffects rs → AreGroups (groups_of n rs) }
+    ensures marks { (gs : List (List LogRecord)) (k : ℕ) → AreGroups gs → k ≤ length (all_coalesced gs)
+        → ends_at (all_marks gs) k ≡ are_whole gs k }
 {}
