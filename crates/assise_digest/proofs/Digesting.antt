@@ -4,15 +4,15 @@ use Rattle.std.proofs.lemmas.Bool.{cases_eq}
 use Rattle.std.proofs.lemmas.List.{get_or-set_same, get_or-set_other, length-drop, length-set, length-take, set-get_or, take-append-drop}
 use Rattle.std.specs.FinMap as map
 use Rattle.assise_record.specs.LogRecord.{LogRecord}
+use Rattle.assise_record.specs.Records.{all_effects}
+use Rattle.assise_record.proofs.Records.{all_effects-append}
 use Rattle.assise_inode_table.specs.Contents.{Content}
 use Rattle.assise_inode_table.specs.Effects.{all_applied, contains, touched, value_after}
 use Rattle.assise_inode_table.proofs.Applying.{append_applied, get-all_applied}
-use Rattle.assise_inode_table.proofs.Making.{or_left, or_right, untouched, value_after-append}
+use Rattle.assise_inode_table.proofs.Making.{or_left, or_right, untouched, value_after-append, contains-both}
 use Rattle.assise_private_log.specs.NumberedLog.{end}
-use Rattle.assise_digest.specs.Ahead.{all_effects}
 use Rattle.assise_digest.specs.Region.{AreNotBelow, HasClient, IsBegun, ReceivedLog, RegionValue, TouchApart, ahead, ahead_below, all_ahead, alone, digested_by, digested_further, log_at, log_of, no_log, read_by}
 use Rattle.assise_digest.proofs.Receiving.{count_ahead}
-use Rattle.assise_digest.proofs.Standing.{all_effects-append, touched_both}
 
 -- ---- records of one log
 
@@ -35,7 +35,7 @@ ahead_below_parts l n a b h =
 touched_parts : (n : ℕ) (rs : List LogRecord) (i : ℕ) → contains (touched (all_effects rs)) i ≡ (contains (touched (all_effects (take n rs))) i || contains (touched (all_effects (drop n rs))) i)
 touched_parts n rs i =
     ap (λ xs. contains (touched (all_effects xs)) i) (sym (take-append-drop n rs)) ∙ ap (λ es. contains (touched es) i) (all_effects-append (take n rs) (drop n rs))
-    ∙ touched_both (all_effects (take n rs)) (all_effects (drop n rs)) i
+    ∙ contains-both (all_effects (take n rs)) (all_effects (drop n rs)) i
 
 quiet_front : (n : ℕ) (rs : List LogRecord) (i : ℕ) → contains (touched (all_effects rs)) i ≡ false → contains (touched (all_effects (take n rs))) i ≡ false
 quiet_front n rs i h = or_left (contains (touched (all_effects (take n rs))) i) _ (sym (touched_parts n rs i) ∙ h)

@@ -14,11 +14,10 @@ use Rattle.assise_digest.proofs.Receiving.{drop_item}
 use Rattle.assise_inode_table.specs.Contents.{Content, InodeMap}
 use Rattle.assise_inode_table.specs.Effects.{all_applied, contains, touched, value_after}
 use Rattle.assise_inode_table.proofs.Applying.{get-all_applied, same_inodes}
-use Rattle.assise_inode_table.proofs.Making.{get-with_value, same_number, untouched, value_after-append}
+use Rattle.assise_inode_table.proofs.Making.{get-with_value, same_number, untouched, value_after-append, contains-both}
 use Rattle.assise_digest.specs.Pending.{KeepsNoMore, Lays, all_held, overlaid, overlaid_with, seen}
 use Rattle.assise_digest.specs.declared.pending.Pending.{Pending}
 use Rattle.assise_digest.proofs.Keeping.{all_held_point, kept_at, point}
-use Rattle.assise_digest.proofs.Standing.{touched_both}
 
 or_true : (a : Bool) → (a || true) ≡ true
 or_true true = refl
@@ -79,7 +78,7 @@ lays_more p q m n es fs l inodes last = record { kept = kept; values = values }
     kept : (i : ℕ) → is_some (map.get q.last i) ≡ contains (touched (es ++ fs)) i
     kept i =
         ap (λ x. is_some (map.get x i)) last ∙ ap (λ x. is_some x.0) (held i) ∙ is_kept (map.get p.last i) (contains (touched fs) i) (map.get p.inodes i) i
-        ∙ ap (λ b. b || contains (touched fs) i) (l.kept i) ∙ sym (touched_both es fs i)
+        ∙ ap (λ b. b || contains (touched fs) i) (l.kept i) ∙ sym (contains-both es fs i)
 
     -- what stood there before the new effects
     stood : (i : ℕ) (o : Option ℕ) → is_some o ≡ contains (touched es) i → (kept_at m n i (o, if contains (touched es) i then value_after i (map.get m i) es else None)).1 ≡ value_after i (map.get m i) es
@@ -91,7 +90,7 @@ lays_more p q m n es fs l inodes last = record { kept = kept; values = values }
         ap (λ x. map.get x i) inodes ∙ get-all_applied (all_held p m n fs).inodes fs i ∙ ap (λ x. value_after i x.1 fs) (held i)
         ∙ ap (λ v. value_after i (if contains (touched fs) i then kept_at m n i (map.get p.last i, v) else (map.get p.last i, v)).1 fs) (l.values i)
         ∙ go (contains (touched fs) i) refl (contains (touched es) i) refl
-        ∙ ap (λ b. if b then value_after i (map.get m i) (es ++ fs) else None) (sym (touched_both es fs i))
+        ∙ ap (λ b. if b then value_after i (map.get m i) (es ++ fs) else None) (sym (contains-both es fs i))
       where
         go : (b : Bool) → contains (touched fs) i ≡ b → (a : Bool) → contains (touched es) i ≡ a
             → value_after i (if b then kept_at m n i (map.get p.last i, if contains (touched es) i then value_after i (map.get m i) es else None) else (map.get p.last i, if contains (touched es) i then value_after i (map.get m i) es else None)).1 fs

@@ -1,6 +1,7 @@
 pub mod Keeping
 pub mod Standing
 pub mod Receiving
+pub mod Renoting
 pub mod Placing
 pub mod Digesting
 pub mod Laying

@@ -3,21 +3,21 @@ use Rattle.std.proofs.Common.{◌≡◌, ◌≢◌, ◌<◌, ◌-◌, ℕ, zero,
 use Rattle.std.proofs.lemmas.Bool.{cases_eq, ne_eqb}
 use Rattle.std.proofs.lemmas.List.{get_or-map, get_or-set_same, get_or-set_other, length-map, length-set, map-set}
 use Rattle.std.specs.FinMap as map
+use Rattle.assise_record.specs.Records.{all_effects}
 use Rattle.assise_inode_table.specs.Contents.{Content, InodeMap}
 use Rattle.assise_record.specs.LogRecord.{LogRecord}
 use Rattle.assise_inode_table.specs.Effects.{all_applied, contains, touched, value_after, with_value}
 use Rattle.assise_inode_table.specs.Whole.{CanBeMadeWhole}
 use Rattle.assise_inode_table.proofs.Applying.{append_applied, get-all_applied}
-use Rattle.assise_inode_table.proofs.Making.{get-with_value, or_left, untouched}
+use Rattle.assise_inode_table.proofs.Making.{get-with_value, or_left, untouched, contains-both}
 use Rattle.assise_private_log.specs.NumberedLog.{NumberedLog, record_at}
-use Rattle.assise_digest.specs.Ahead.{all_effects}
 use Rattle.assise_digest.specs.Pending.{StandsFor, seen}
 use Rattle.assise_digest.specs.Region.{AreWhole, HasClient, IsBegun, IsQuiet, ReceivedLog, RegionValue, TouchApart, ahead, digested_by, digested_further, log_at, log_of, no_log, read_by, with_log}
 use Rattle.assise_digest.specs.Sound.{AreSound, IsSoundLog, StandsHere, seen_log, seen_logs}
 use Rattle.assise_digest.specs.declared.pending.Pending.{Pending}
 use Rattle.assise_digest.specs.declared.received.Received.{Received}
 use Rattle.assise_digest.proofs.Receiving.{ahead_next, whole_drop}
-use Rattle.assise_digest.proofs.Standing.{seen_after, stands_beside, stands_for_none, touched_both}
+use Rattle.assise_digest.proofs.Standing.{seen_after, stands_beside, stands_for_none}
 
 abbrev pub region : InodeMap → List Received → RegionValue
 region m xs = record { inodes = m; logs = seen_logs xs }
@@ -115,7 +115,7 @@ digested_sound m w xs r c x y next view has apart sound at is applied here =
         let ours = apart j (c - 1) other i theirs in
         let first : ahead (log_of r c) ≡ next ∷ ahead (digested_further (seen_log x) 1) = ap ahead (log_there m xs r c x view has at) ∙ ahead_next (seen_log x) next b is in
         or_left (contains (touched next.effects) i) _
-        (sym (touched_both next.effects (all_effects (ahead (digested_further (seen_log x) 1))) i) ∙ sym (ap (λ rs. contains (touched (all_effects rs)) i) first) ∙ ours)
+        (sym (contains-both next.effects (all_effects (ahead (digested_further (seen_log x) 1))) i) ∙ sym (ap (λ rs. contains (touched (all_effects rs)) i) first) ∙ ours)
 
 pub same_item : {X : Type 0} (xs : List X) (k : ℕ) (x y : X) → k < length xs → x ≡ slice_index_or xs k x → y ≡ slice_index_or xs k y → x ≡ y
 same_item [] k x y h a b = absurd (omega (arith, h))

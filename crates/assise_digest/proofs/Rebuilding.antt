@@ -1,10 +1,10 @@
 -- The inodes that a region alone gives.
 use Rattle.std.proofs.Common.{◌≡◌, ◌≤◌, ◌<◌, ◌+◌, ℕ, zero, suc, List, [], ◌∷◌, ◌++◌, length, take, slice_index_or, refl, sym, ap, ◌∙◌, append_assoc, append-nil, min, arith}
 use Rattle.assise_record.specs.LogRecord.{LogRecord}
+use Rattle.assise_record.specs.Records.{all_effects}
 use Rattle.assise_inode_table.specs.Contents.{InodeMap, values}
 use Rattle.assise_inode_table.specs.Effects.{all_applied}
 use Rattle.assise_inode_table.proofs.Applying.{get-all_applied, same_inodes, values-all_applied}
-use Rattle.assise_digest.specs.Ahead.{all_effects}
 use Rattle.assise_digest.specs.Pending.{Lays, StandsFor, overlaid}
 use Rattle.assise_digest.specs.Region.{ReceivedLog, RegionValue, ahead_below, all_ahead, alone, no_log}
 use Rattle.assise_digest.specs.declared.pending.Pending.{Pending}

@@ -7,32 +7,23 @@ use Rattle.std.specs.FinMap as map
 use Rattle.assise_record.specs.declared.effect.Effect.{Effect}
 use Rattle.assise_record.specs.LogRecord.{LogRecord}
 use Rattle.assise_record.specs.Touched.{touched_by}
+use Rattle.assise_record.specs.Records.{all_effects}
+use Rattle.assise_record.proofs.Records.{all_effects-append}
 use Rattle.assise_inode_table.specs.Contents.{Content, InodeMap}
 use Rattle.assise_inode_table.specs.Effects.{all_applied, contains, touched, value_after}
-use Rattle.assise_inode_table.proofs.Making.{contains-append, untouched, value_after-append}
+use Rattle.assise_inode_table.proofs.Making.{contains-both, untouched, value_after-append}
 use Rattle.assise_inode_table.proofs.Applying.{get-all_applied}
-use Rattle.assise_digest.specs.Ahead.{all_effects, last_touch}
+use Rattle.assise_digest.specs.Ahead.{last_touch}
 use Rattle.assise_digest.specs.Pending.{IsNew, KeepsNoMore, StandsFor, all_held, forgotten, seen, taken_in}
 use Rattle.assise_digest.specs.declared.pending.Pending.{Pending}
 use Rattle.assise_digest.proofs.Keeping.{all_held_point, forgotten_point, get-noted, kept_at, left_at, point}
 
 -- ---- effects of records
 
-pub all_effects-append : (rs ss : List LogRecord) → all_effects (rs ++ ss) ≡ all_effects rs ++ all_effects ss
-all_effects-append [] ss = refl
-all_effects-append (r ∷ rs) ss = ap (λ es. r.effects ++ es) (all_effects-append rs ss) ∙ sym (append-assoc r.effects (all_effects rs) (all_effects ss))
-  where
-    append-assoc : (es fs gs : List Effect) → (es ++ fs) ++ gs ≡ es ++ (fs ++ gs)
-    append-assoc [] fs gs = refl
-    append-assoc (e ∷ es) fs gs = ap (λ xs. e ∷ xs) (append-assoc es fs gs)
-
 pub value_after_one_more : (i : ℕ) (old : Option Content) (rs : List LogRecord) (r : LogRecord) → value_after i old (all_effects (rs ++ r ∷ [])) ≡ value_after i (value_after i old (all_effects rs)) r.effects
 value_after_one_more i old rs r =
     ap (value_after i old) (all_effects-append rs (r ∷ [])) ∙ value_after-append i old (all_effects rs) (r.effects ++ [])
     ∙ value_after-append i (value_after i old (all_effects rs)) r.effects []
-
-pub touched_both : (es fs : List Effect) (i : ℕ) → contains (touched (es ++ fs)) i ≡ (contains (touched es) i || contains (touched fs) i)
-touched_both es fs i = ap (λ is. contains is i) (map-append touched_by es fs) ∙ contains-append (touched es) (touched fs) i
 
 -- ---- the last record that touches an inode
 
@@ -41,7 +32,7 @@ pub is_touched : (n : ℕ) (rs : List LogRecord) (i : ℕ) → is_some (last_tou
 is_touched n [] i = refl
 is_touched n (r ∷ rs) i =
     go (last_touch (n + 1) rs i) (contains (touched r.effects) i)
-    ∙ ap (λ b. contains (touched r.effects) i || b) (is_touched (n + 1) rs i) ∙ sym (touched_both r.effects (all_effects rs) i)
+    ∙ ap (λ b. contains (touched r.effects) i || b) (is_touched (n + 1) rs i) ∙ sym (contains-both r.effects (all_effects rs) i)
   where
     go : (o : Option ℕ) (b : Bool) → is_some (option_or o (if b then Some n else None)) ≡ (b || is_some o)
     go None true = refl

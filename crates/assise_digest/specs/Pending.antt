@@ -1,15 +1,16 @@
 -- The values of the inodes that records touch, kept beside the area until the records are digested.
 -- Assise (OSDI 2020), section 3: a process reads its update log over the shared areas.
-use Rattle.std.specs.Prelude.{◌≡◌, ℕ, ◌==◌, Bool, true, false, if◌then◌else◌, List, [], ◌∷◌, Option, None, is_some, IsSome}
+use Rattle.std.specs.Prelude.{◌≡◌, ℕ, ◌==◌, ◌+◌, Bool, true, false, if◌then◌else◌, List, [], ◌∷◌, Option, None, is_some, IsSome}
 use Rattle.std.specs.Option.{option_map_or}
 use Rattle.std.specs.FinMap as map
 use Rattle.std.specs.Ordering.{nat_cmp}
 use Rattle.assise_record.specs.declared.effect.Effect.{Effect}
 use Rattle.assise_record.specs.LogRecord.{LogRecord}
 use Rattle.assise_record.specs.Touched.{touched_by}
+use Rattle.assise_record.specs.Records.{all_effects}
 use Rattle.assise_inode_table.specs.Contents.{Content, InodeMap}
 use Rattle.assise_inode_table.specs.Effects.{all_applied, contains, touched, value_after, with_value}
-use Rattle.assise_digest.specs.Ahead.{all_effects, last_touch}
+use Rattle.assise_digest.specs.Ahead.{last_touch}
 use Rattle.assise_digest.specs.declared.pending.Pending.{Pending}
 
 -- the value of an inode: what is kept of it, or what it was
@@ -53,6 +54,11 @@ forgotten p number es = in_turn (λ q i. let_go q number i) p (touched es)
 abbrev pub noted : map.FinMap nat_cmp ℕ → ℕ → List Effect → map.FinMap nat_cmp ℕ
 noted l number [] = l
 noted l number (e ∷ es) = noted (map.insert l (touched_by e) number) number es
+
+-- each record is the last that touches the inodes of its effects, one after another, from this number on
+abbrev pub all_noted : map.FinMap nat_cmp ℕ → ℕ → List LogRecord → map.FinMap nat_cmp ℕ
+all_noted l number [] = l
+all_noted l number (r ∷ rs) = all_noted (noted l number r.effects) (number + 1) rs
 
 -- each inode that effects touch has a number
 abbrev pub HasAll : map.FinMap nat_cmp ℕ → List Effect → Type 0

@@ -4,11 +4,11 @@ use Rattle.std.specs.Prelude.{◌≡◌, ◌≢◌, ℕ, ◌+◌, ◌-◌, ◌<�
 use Rattle.std.specs.FinMap as map
 use Rattle.assise_record.specs.declared.effect.Effect.{Effect}
 use Rattle.assise_record.specs.LogRecord.{LogRecord}
+use Rattle.assise_record.specs.Records.{all_effects}
 use Rattle.assise_private_log.specs.NumberedLog.{NumberedLog, empty_log, end, records_from, with_record, without_front, without_tail}
 use Rattle.assise_inode_table.specs.Contents.{Content, InodeMap, Values}
 use Rattle.assise_inode_table.specs.Effects.{all_applied, contains, touched, value_after, with_value}
 use Rattle.assise_inode_table.specs.Whole.{CanBeMadeWhole}
-use Rattle.assise_digest.specs.Ahead.{all_effects}
 
 -- the log of a client as far as the node received it, the number up to which it is digested, and whether the client
 -- lives on this node

@@ -1,5 +1,6 @@
 // What a node received of a client's log.
 ghost use Rattle.std.specs.Prelude.{◌≡◌, ◌≢◌, ◌⊎◌, ◌+◌, ◌^◌, ◌<◌, ◌≤◌, ◌++◌, IfErr, IsOk, IsOkUnless, List, Option, Some, None, OnErr, OnOk, false, is_some, length, true, option_map, ℕ};
+ghost use Rattle.assise_record.specs.Records.{all_effects};
 ghost use Rattle.assise_inode_table.specs.Contents.{InodeMap};
 ghost use Rattle.assise_inode_table.specs.Effects.{all_applied};
 ghost use Rattle.assise_inode_table.specs.Whole.{CanBeMadeWhole};
@@ -7,7 +8,6 @@ ghost use Rattle.assise_names.specs.declared.refusal.Refusal.TheVariants.{LogFul
 ghost use Rattle.assise_private_log.specs.NumberedLog.{end};
 ghost use Rattle.assise_digest.specs.Region.{AreWhole, IsBegun, ahead_below, digested_further, from_number, next_effects, up_to_number, with_more};
 ghost use Rattle.assise_record.specs.declared.effect.Effect.{Effect};
-ghost use Rattle.assise_digest.specs.Ahead.{all_effects};
 ghost use Rattle.assise_digest.specs.Pending.{KeepsNoMore, Lays, forgotten};
 ghost use Rattle.assise_digest.specs.Sound.{IsKeptFor, IsSoundLog, seen_log};
 

@@ -7,10 +7,10 @@ use Rattle.std.proofs.lemmas.List.Folds.{list_any-append}
 use Rattle.assise_record.specs.declared.effect.Effect.{Effect}
 use Rattle.assise_record.specs.LogRecord.{LogRecord}
 use Rattle.assise_record.specs.Touched.{touched_by}
+use Rattle.assise_record.specs.Records.{all_effects}
 use Rattle.assise_inode_table.specs.Effects.{contains, touched}
 use Rattle.assise_private_log.specs.NumberedLog.{NumberedLog, records_from}
 use Rattle.assise_private_log.specs.Touches.{record_touches, touches_after}
-use Rattle.assise_digest.specs.Ahead.{all_effects}
 use Rattle.assise_digest.specs.Region.{IsQuiet, RegionValue, TouchApart, ahead, log_at, log_of, no_log}
 use Rattle.assise_digest_tests.specs.Apart.{HasBoth, record_meets, records_meet}
 

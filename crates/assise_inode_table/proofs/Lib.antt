@@ -40,3 +40,8 @@ pub mod LinkingFirst
 pub mod Wholeness
 pub mod Changing
 pub mod Putting
+pub mod Bytes
+pub mod Grouped
+pub mod LeftWhole
+pub mod Overriding
+pub mod WrongRule

@@ -1,6 +1,7 @@
 -- What effects make of the value of an inode.
 use Rattle.std.proofs.Common.{◌≡◌, ℕ, Bool, true, false, cond, if◌then◌else◌, List, [], ◌∷◌, ◌++◌, ◌||◌, ◌==◌, Option, Some, None, refl, ap, sym, ◌∙◌, inl, inr}
 use Rattle.std.proofs.lemmas.Bool.{eq-eqb, ne_eqb, cases_eq}
+use Rattle.std.proofs.lemmas.List.{map-append}
 use Rattle.std.specs.Ordering.{nat_cmp, eq_by_cmp, is_eq}
 use Rattle.std.specs.Cmp.{nat_cmp_total, tied_itself}
 use Rattle.std.proofs.lemmas.Map.Lookups.{exact_unsigned}
@@ -27,6 +28,12 @@ or_assoc false b c = refl
 pub contains-append : (is js : List ℕ) (i : ℕ) → contains (is ++ js) i ≡ (contains is i || contains js i)
 contains-append [] js i = refl
 contains-append (k ∷ is) js i = rw (contains-append is js i) (sym (or_assoc (k == i) (contains is i) (contains js i)))
+
+pub touched-append : (es fs : List Effect) → touched (es ++ fs) ≡ touched es ++ touched fs
+touched-append es fs = map-append touched_by es fs
+
+pub contains-both : (es fs : List Effect) (i : ℕ) → contains (touched (es ++ fs)) i ≡ (contains (touched es) i || contains (touched fs) i)
+contains-both es fs i = ap (λ l. contains l i) (touched-append es fs) ∙ contains-append (touched es) (touched fs) i
 
 pub value_after-append : (i : ℕ) (old : Option Content) (es fs : List Effect) → value_after i old (es ++ fs) ≡ value_after i (value_after i old es) fs
 value_after-append i old [] fs = refl

@@ -13,3 +13,4 @@ pub mod Opening
 pub mod Blocks
 pub mod Whole
 pub mod Changes
+pub mod WrongRule

@@ -5,6 +5,10 @@ ghost use Rattle.std.specs.List.{list_any};
 ghost use Rattle.std.specs.FinMap as map;
 ghost use Rattle.assise_names.specs.declared.call.Op.{Op};
 ghost use Rattle.assise_record.specs.declared.effect.Effect.{Effect};
+ghost use Rattle.assise_record.specs.Coalesced.{coalesced};
+ghost use Rattle.assise_record.specs.Groups.{AllHaveEffects, coalesced_group, left_of};
+ghost use Rattle.assise_record.specs.LogRecord.{LogRecord};
+ghost use Rattle.assise_record.specs.Records.{Rising, all_effects, call_of};
 ghost use Rattle.assise_seq_tree.specs.Answer.{answer};
 ghost use Rattle.assise_seq_tree.specs.Runs.{AreAnswered, tree_after_calls};
 ghost use Rattle.assise_seq_tree.specs.Tree.{IsOrdered, Tree, at, dir, file, no_entries, opening as opening_tree, put, without};
@@ -19,6 +23,8 @@ ghost use Rattle.assise_inode_table.specs.Reach.{children, reach};
 ghost use Rattle.assise_inode_table.specs.Spelled.{AddsLink, AgreeBut, RemovesLink, ShareNone, Spells, SpellsFrom};
 ghost use Rattle.assise_inode_table.specs.Traces.{AllMakeNew, Each, NumberedCall, Rises, below, exchanges, ops, trace, values_after_calls, window};
 ghost use Rattle.assise_inode_table.specs.Unseen.{Unseen};
+ghost use Rattle.assise_inode_table.specs.Whole.{CanBeMadeWhole};
+ghost use Rattle.assise_inode_table.specs.WrongRule.{wrongly_coalesced};
 
 /// A map spells at most one tree. The names in each of its directories rise.
 pub fn a_map_spells_one_tree()
@@ -147,4 +153,33 @@ pub fn numbered_calls_make_new_inodes()
     ensures more { (xs : List AnsweredCall) (x : AnsweredCall) → numbered (xs ++ x ∷ []) ≡ numbered xs ++ numbered_call xs x ∷ [] }
     ensures new { (xs : List AnsweredCall) → Each (λ x. 0 < x.client) xs → ((c : ℕ) → inodes_made c xs < 2 ^ 32) →
         AreAnswered opening_tree (exchanges (numbered xs)) → AllMakeNew (values opening) (numbered xs) }
+{}
+
+/// Effects that a later one overrides may be left out: every inode gets the same value from every old one, and the same inodes
+/// are touched.
+pub fn what_is_overridden_counts_for_nothing()
+    ensures net { (es : List Effect) → SameNetEffect (coalesced es) es }
+    ensures touch { (es : List Effect) (i : ℕ) → contains (touched (coalesced es)) i ≡ contains (touched es) i }
+{}
+
+/// It isn't so where an unlink makes the link of another name of no account.
+pub fn an_unlink_counts_for_its_own_name()
+    ensures { ((es : List Effect) → SameNetEffect (wrongly_coalesced es) es) → ⊥ }
+{}
+
+/// A coalesced group keeps the group's net effect and what it touches, begins with the same call, has no more records, and
+/// their calls rise.
+pub fn a_coalesced_group_stands_for_the_group()
+    ensures effects { (rs : List LogRecord) → all_effects (coalesced_group rs) ≡ coalesced (all_effects rs) }
+    ensures net { (rs : List LogRecord) → SameNetEffect (all_effects (coalesced_group rs)) (all_effects rs) }
+    ensures touch { (rs : List LogRecord) (i : ℕ) →
+        contains (touched (all_effects (coalesced_group rs))) i ≡ contains (touched (all_effects rs)) i }
+    ensures begins { (rs : List LogRecord) (next : ℕ) → AllHaveEffects rs → call_of (coalesced_group rs) 0 next ≡ call_of rs 0 next }
+    ensures rising { (rs : List LogRecord) (next : ℕ) → Rising rs next → Rising (coalesced_group rs) next }
+    ensures shorter { (rs : List LogRecord) → length (coalesced_group rs) ≤ length rs }
+{}
+
+/// What is left of a record's effects can be made all or none, as those could.
+pub fn what_is_left_can_be_made_whole()
+    ensures { (es later : List Effect) → CanBeMadeWhole es → CanBeMadeWhole (left_of es later) }
 {}

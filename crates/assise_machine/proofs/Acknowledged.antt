@@ -3,11 +3,11 @@ use Rattle.std.proofs.Common.{◌≡◌, ◌⊎◌, ℕ, zero, suc, ◌-◌, ◌
 use Rattle.std.proofs.lemmas.Bool.{cases_Bool, cases_lt, le-leb, leb-true}
 use Rattle.assise_history.specs.Legal.{calls_made}
 use Rattle.assise_record.specs.LogRecord.{LogRecord}
+use Rattle.assise_record.specs.Records.{call_of}
 use Rattle.assise_private_log.specs.NumberedLog.{end as log_end, records_from}
 use Rattle.assise_digest.specs.Region.{RegionValue, no_log}
 use Rattle.assise_manager.specs.Membership.{lowest_full}
 use Rattle.assise_manager.specs.Standings.{full_nodes}
-use Rattle.assise_machine_laws.specs.Records.{call_of}
 use Rattle.assise_machine_laws.specs.Sound.{IsSound}
 use Rattle.assise_machine_laws.specs.World.{Full, World, call_at, end, first_unreplicated, received_by_all}
 use Rattle.assise_machine_laws.proofs.Firm.{log_of_home, log_of_left}

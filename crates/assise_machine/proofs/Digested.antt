@@ -9,9 +9,9 @@ use Rattle.std.specs.Cmp.{nat_cmp_total}
 use Rattle.std.specs.FinSet as set
 use Rattle.std.specs.FinSet.{contains-empty, contains-from_list_nat, contains-union, nat_cmp-IsAntisymmetric, same_set}
 use Rattle.std.specs.Ordering.{nat_cmp}
+use Rattle.assise_record.specs.Records.{all_effects}
 use Rattle.assise_inode_table.specs.Effects.{contains, touched}
 use Rattle.assise_private_log.specs.NumberedLog.{end as log_end}
-use Rattle.assise_digest.specs.Ahead.{all_effects}
 use Rattle.assise_digest.specs.Region.{HasClient, ReceivedLog, RegionValue, TouchApart, ahead, digested_by, digested_further, log_at, log_of, no_log}
 use Rattle.assise_manager.specs.Changes.{noted, stale_again, with_written}
 use Rattle.assise_manager.specs.Membership.{Membership}

@@ -2,8 +2,8 @@
 -- Assise (OSDI 2020), section 3 (digests); Strata (SOSP 2017), section 3.
 use Rattle.std.specs.Prelude.{ℕ, zero, suc, ◌+◌, take}
 use Rattle.std.specs.FinSet as set
+use Rattle.assise_record.specs.Records.{all_effects}
 use Rattle.assise_inode_table.specs.Effects.{touched}
-use Rattle.assise_digest.specs.Ahead.{all_effects}
 use Rattle.assise_digest.specs.Region.{ahead}
 use Rattle.assise_machine_events.specs.NodeEvents.{part_of}
 use Rattle.assise_machine_state.specs.Changes.{after_digest}

@@ -12,6 +12,7 @@ use Rattle.assise_names.specs.declared.refusal.Refusal.TheVariants.{InodesSpent,
 use Rattle.assise_names.specs.declared.reply.Reply.TheVariants.{Done}
 use Rattle.assise_history.specs.Entries.{Event, calls}
 use Rattle.assise_record.specs.declared.effect.Effect.{Effect}
+use Rattle.assise_record.specs.Records.{has_some}
 use Rattle.assise_inode_table.specs.Effects.{contains, makes, touched}
 use Rattle.assise_inode_table.specs.Interaction.{Step}
 use Rattle.assise_inode_table.specs.Numbers.{inode_number}
@@ -24,7 +25,6 @@ use Rattle.assise_private_log.specs.NumberedLog.{end as log_end}
 use Rattle.assise_digest.specs.Region.{HasRoom, ReceivedLog, RegionValue}
 use Rattle.assise_machine_laws.specs.Chances.{MayCall}
 use Rattle.assise_machine_laws.specs.ClientSteps.{MakesCall, is_for_writing}
-use Rattle.assise_machine_laws.specs.Records.{has_some}
 use Rattle.assise_machine_laws.specs.World.{World, call_makes_inode, end, step_at_home}
 use Rattle.assise_machine_leases.specs.Leases.{client_lease, is_held, is_written}
 use Rattle.assise_machine_history.proofs.Bounding.{records_below}

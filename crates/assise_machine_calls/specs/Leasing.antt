@@ -8,13 +8,13 @@ use Rattle.assise_names.specs.declared.refusal.Refusal.{Refusal}
 use Rattle.assise_names.specs.declared.refusal.Refusal.TheVariants.{InodesSpent, LogFull}
 use Rattle.assise_names.specs.declared.reply.Reply.TheVariants.{Done}
 use Rattle.assise_record.specs.declared.effect.Effect.{Effect}
+use Rattle.assise_record.specs.Records.{has_some}
 use Rattle.assise_inode_table.specs.Effects.{contains, makes}
 use Rattle.assise_inode_table.specs.Interaction.{Step}
 use Rattle.assise_inode_table.specs.Numbers.{inode_number}
 use Rattle.assise_inode_table.specs.Traces.{NumberedCall}
 use Rattle.assise_digest.specs.Region.{ReceivedLog}
 use Rattle.assise_lease_table.specs.Leases.{serves}
-use Rattle.assise_machine_laws.specs.Records.{has_some}
 use Rattle.assise_machine_laws.specs.World.{World, step_at_home}
 use Rattle.assise_machine_leases.specs.Leases.{client_lease}
 use Rattle.assise_machine_events.specs.ClientEvents.{IsServed, call_of_client}

@@ -3,6 +3,7 @@ ghost use Rattle.std.specs.Prelude.{◌≡◌, ◌==◌, ◌+◌, ◌<◌, ◌�
 ghost use Rattle.std.specs.List.{list_any};
 ghost use Rattle.assise_names.specs.declared.refusal.Refusal.TheVariants.{OutOfMemory};
 ghost use Rattle.assise_history.specs.Entries.{calls};
+ghost use Rattle.assise_record.specs.Records.{has_some};
 ghost use Rattle.assise_inode_table.specs.Effects.{makes};
 ghost use Rattle.assise_inode_table.specs.Whole.{CanBeMadeWhole};
 ghost use Rattle.assise_private_log.specs.NumberedLog.{end};
@@ -10,7 +11,6 @@ ghost use Rattle.assise_digest.specs.Region.{HasRoom};
 ghost use Rattle.assise_machine_events.specs.ClientEvents.{Calling};
 ghost use Rattle.assise_machine_events.specs.Faults.{call_fault};
 ghost use Rattle.assise_machine_events.specs.Machine.{Holds};
-ghost use Rattle.assise_machine_laws.specs.Records.{has_some};
 ghost use Rattle.assise_machine_state.specs.ClientValues.{client_in};
 ghost use Rattle.assise_machine_state.specs.NodeValues.{HasLog, log_in, with_call_in};
 ghost use Rattle.assise_machine_state.specs.Places.{IsNumber};

@@ -8,12 +8,12 @@ use Rattle.assise_names.specs.declared.refusal.Refusal.TheVariants.{BadClient, N
 use Rattle.assise_names.specs.declared.reply.Reply.{Reply}
 use Rattle.assise_names.specs.declared.reply.Reply.TheVariants.{Done}
 use Rattle.assise_history.specs.Entries.{crashes, opens}
+use Rattle.assise_record.specs.Records.{has_some}
 use Rattle.assise_inode_table.specs.Traces.{NumberedCall}
 use Rattle.assise_lease_tree.specs.TwoLevels.{is_free_for}
 use Rattle.assise_manager.specs.Standings.{standing_of}
 use Rattle.assise_manager.specs.Standings.Standing.{full}
 use Rattle.assise_machine_laws.specs.ClientSteps.{RaisesGoals}
-use Rattle.assise_machine_laws.specs.Records.{has_some}
 use Rattle.assise_machine_laws.specs.Runs.{raises_goals}
 use Rattle.assise_machine_laws.specs.Sound.{IsSound}
 use Rattle.assise_machine_laws.specs.World.{World, end, received_by_all, step_at_home}

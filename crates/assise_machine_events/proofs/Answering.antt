@@ -3,10 +3,10 @@ use Rattle.std.proofs.Common.{◌≡◌, ℕ, ◌+◌, ◌<◌, ◌≤◌, true,
 use Rattle.std.proofs.lemmas.Bool.{cases_eq}
 use Rattle.assise_history.specs.Entries.{calls}
 use Rattle.assise_history.specs.Legal.{is_fsync}
+use Rattle.assise_record.specs.Records.{has_some, record_of}
 use Rattle.assise_inode_table.specs.Traces.{NumberedCall}
 use Rattle.assise_record.specs.declared.effect.Effect.{Effect}
 use Rattle.assise_machine_laws.specs.ClientSteps.{MakesCall}
-use Rattle.assise_machine_laws.specs.Records.{has_some, record_of}
 use Rattle.assise_machine_laws.specs.World.{World, end, received_by_all, step_at_home}
 use Rattle.assise_machine_history.specs.Courses.{Happens, call}
 use Rattle.assise_machine_history.specs.Numbered.{plain_call}

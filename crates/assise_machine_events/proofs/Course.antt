@@ -3,11 +3,11 @@ use Rattle.std.proofs.Common.{◌≡◌, ℕ, ◌==◌, ◌||◌, true, false, L
 use Rattle.std.proofs.lemmas.Bool.{or_right}
 use Rattle.assise_names.specs.declared.mode.Mode.TheVariants.{Write}
 use Rattle.assise_names.specs.declared.reply.Reply.TheVariants.{Done}
+use Rattle.assise_record.specs.Records.{has_some}
 use Rattle.assise_inode_table.specs.Effects.{contains, touched}
 use Rattle.assise_lease_table.specs.Leases.{new_lease}
 use Rattle.assise_lease_tree.specs.Levels.{clients_granted, nodes_granted}
 use Rattle.assise_manager.specs.Changes.{all_full}
-use Rattle.assise_machine_laws.specs.Records.{has_some}
 use Rattle.assise_machine_laws.specs.World.{World, Full, step_at_home}
 use Rattle.assise_machine_leases.specs.Chances.{MayCallUnder}
 use Rattle.assise_machine_leases.specs.Handing.{Grants}

@@ -4,11 +4,11 @@ use Rattle.std.proofs.lemmas.Bool.{cases_eq}
 use Rattle.assise_names.specs.declared.mode.Mode.TheVariants.{Write}
 use Rattle.assise_names.specs.declared.reply.Reply.TheVariants.{Done}
 use Rattle.assise_record.specs.LogRecord.{LogRecord}
+use Rattle.assise_record.specs.Records.{record_of}
 use Rattle.assise_inode_table.specs.Effects.{contains}
 use Rattle.assise_lease_table.specs.Leases.{new_lease}
 use Rattle.assise_manager.specs.Changes.{all_full}
 use Rattle.assise_machine_laws.specs.ClientSteps.{MakesCall}
-use Rattle.assise_machine_laws.specs.Records.{record_of}
 use Rattle.assise_machine_laws.specs.World.{World, Full, end, step_at_home}
 use Rattle.assise_machine_leases.specs.Handing.{CallsUnder}
 use Rattle.assise_machine_leases.specs.Leases.{Leases}

@@ -3,7 +3,7 @@ use Rattle.std.proofs.Common.{◌≡◌, ℕ, ◌<◌, true, List, [], length, N
 use Rattle.assise_names.specs.declared.call.Op.{Op}
 use Rattle.assise_names.specs.declared.reply.Reply.{Reply}
 use Rattle.assise_names.specs.declared.refusal.Refusal.TheVariants.{InodesSpent, LogFull, OutOfMemory}
-use Rattle.assise_machine_laws.specs.Records.{has_some}
+use Rattle.assise_record.specs.Records.{has_some}
 use Rattle.assise_machine_laws.specs.World.{call_makes_inode, step_at_home}
 use Rattle.assise_machine_events.specs.ClientEvents.{Calling, is_spent, is_full, lacks_memory, Granted, IsServed, KeepsGranted, call_of_client, last_leases, last_world}
 use Rattle.assise_machine_events.specs.Events.{refused}

@@ -4,6 +4,8 @@ pub mod Members
 pub mod Crashing
 pub mod Answering
 pub mod Syncing
+pub mod Dsyncing
+pub mod Regroupable
 pub mod Granting
 pub mod Calling
 pub mod Noding

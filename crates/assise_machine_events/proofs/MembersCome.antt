@@ -8,7 +8,7 @@ use Rattle.std.specs.Cmp.{nat_cmp_total}
 use Rattle.std.specs.Ordering.{nat_cmp}
 use Rattle.assise_names.specs.declared.refusal.Refusal.TheVariants.{Busy, LastNode, OutOfMemory, WrongPhase}
 use Rattle.assise_history.specs.declared.call.Loss.{Loss}
-use Rattle.assise_digest.specs.Ahead.{all_effects}
+use Rattle.assise_record.specs.Records.{all_effects}
 use Rattle.assise_inode_table.specs.Effects.{contains, touched}
 use Rattle.assise_manager.specs.Changes.{all_full, failed as failed_members, back as back_members, is_returning, join_fault, stale_of}
 use Rattle.assise_manager.specs.Membership.{Membership}

@@ -16,6 +16,7 @@ use Rattle.assise_record.specs.declared.effect.Effect.{Effect}
 use Rattle.assise_record.specs.LogRecord.{LogRecord}
 use Rattle.assise_seq_tree.specs.Tree.{same_name}
 use Rattle.assise_seq_tree.proofs.Sets.{same_itself}
+use Rattle.assise_record.specs.Records.{all_effects, has_some, record_of}
 use Rattle.assise_inode_table.specs.Calls.{as_regular, step, then_or_error, walk_from}
 use Rattle.assise_inode_table.specs.Contents.{Content, regular, directory, Links, Values}
 use Rattle.assise_inode_table.specs.Effects.{value_after, contains, touched}
@@ -24,13 +25,11 @@ use Rattle.assise_inode_table.specs.Reach.{link_of}
 use Rattle.assise_inode_table.specs.Numbers.{inode_number}
 use Rattle.assise_inode_table.specs.Traces.{NumberedCall}
 use Rattle.assise_inode_table.proofs.Making.{contains-append}
-use Rattle.assise_digest.specs.Ahead.{all_effects}
 use Rattle.assise_digest.proofs.Standing.{value_after_one_more}
 use Rattle.assise_lease_table.specs.declared.lease.Lease.{Lease}
 use Rattle.assise_lease_table.specs.Modes.{strong}
 use Rattle.assise_lease_table.specs.Leases.{serves}
 use Rattle.assise_machine_laws.specs.ClientSteps.{MakesCall, is_for_writing}
-use Rattle.assise_machine_laws.specs.Records.{has_some, record_of}
 use Rattle.assise_machine_laws.specs.Staying.{SameNode}
 use Rattle.assise_machine_laws.specs.World.{World, Full, ahead, call_makes_inode, step_at_home, view}
 use Rattle.assise_machine_leases.specs.Chances.{MayCallUnder}

@@ -7,13 +7,13 @@ use Rattle.assise_names.specs.declared.mode.Mode.{Mode}
 use Rattle.assise_names.specs.declared.mode.Mode.TheVariants.{Read, Write}
 use Rattle.assise_names.specs.declared.refusal.Refusal.TheVariants.{InodesSpent, OutOfMemory}
 use Rattle.assise_names.specs.declared.reply.Reply.TheVariants.{Done}
+use Rattle.assise_record.specs.Records.{has_some}
 use Rattle.assise_inode_table.specs.Contents.{regular, directory}
 use Rattle.assise_inode_table.specs.Effects.{contains, touched, value_after, makes}
 use Rattle.assise_inode_table.specs.Numbers.{inode_number}
 use Rattle.assise_inode_table.specs.Traces.{NumberedCall}
 use Rattle.assise_lease_table.specs.Leases.{new_lease, serves}
 use Rattle.assise_lease_tree.specs.Levels.{clients_granted}
-use Rattle.assise_machine_laws.specs.Records.{has_some}
 use Rattle.assise_machine_laws.specs.World.{World, Full, call_makes_inode, step_at_home, view}
 use Rattle.assise_machine_leases.specs.Handing.{Grants}
 use Rattle.assise_machine_leases.specs.Leases.{Leases, client_lease}

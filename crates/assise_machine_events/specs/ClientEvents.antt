@@ -9,12 +9,12 @@ use Rattle.assise_names.specs.declared.refusal.Refusal.{Refusal}
 use Rattle.assise_names.specs.declared.refusal.Refusal.TheVariants.{OutOfMemory, InodesSpent, LogFull}
 use Rattle.assise_names.specs.declared.reply.Reply.{Reply}
 use Rattle.assise_history.specs.Entries.{opens, crashes}
+use Rattle.assise_record.specs.Records.{has_some}
 use Rattle.assise_inode_table.specs.Effects.{touched, contains}
 use Rattle.assise_inode_table.specs.Numbers.{inode_number}
 use Rattle.assise_inode_table.specs.Traces.{NumberedCall}
 use Rattle.assise_lease_table.specs.Leases.{serves}
 use Rattle.assise_machine_laws.specs.ClientSteps.{RaisesGoals}
-use Rattle.assise_machine_laws.specs.Records.{has_some}
 use Rattle.assise_machine_laws.specs.World.{World, end, received_by_all, step_at_home, call_makes_inode}
 use Rattle.assise_machine_leases.specs.Handing.{OpensAt, CallsUnder, Grants, Asks, CrashesWith}
 use Rattle.assise_machine_leases.specs.Leases.{Leases, client_lease}

@@ -1,4 +1,5 @@
 pub mod ClientEvents
+pub mod Dsyncs
 pub mod Events
 pub mod Faults
 pub mod Happenings

@@ -6,6 +6,7 @@
 pub mod answers;
 pub mod chances;
 pub mod clients;
+pub mod dsyncs;
 pub mod failures;
 pub mod headline;
 pub mod nodes;

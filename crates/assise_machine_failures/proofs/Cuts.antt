@@ -7,13 +7,12 @@ use Rattle.std.proofs.lemmas.List.{map-append}
 use Rattle.std.proofs.lemmas.Option.{none-some, slice_get_within}
 use Rattle.assise_history.specs.declared.call.Loss.{Loss}
 use Rattle.assise_record.specs.LogRecord.{LogRecord}
+use Rattle.assise_record.specs.Records.{all_effects, call_of}
 use Rattle.assise_private_log.specs.NumberedLog.{NumberedLog, end as log_end, record_at, records_from}
 use Rattle.assise_inode_table.specs.Effects.{touched}
-use Rattle.assise_digest.specs.Ahead.{all_effects}
 use Rattle.assise_digest.specs.Region.{ReceivedLog}
 use Rattle.assise_manager.specs.Standings.{full_nodes}
 use Rattle.assise_machine_laws.specs.NodeSteps.{kept_at_failure}
-use Rattle.assise_machine_laws.specs.Records.{call_of}
 use Rattle.assise_machine_laws.specs.Sound.{IsSound}
 use Rattle.assise_machine_laws.specs.World.{World, call_at, end, records_between}
 use Rattle.assise_machine_history.specs.Lost.{is_cut, losses_to}

@@ -7,11 +7,11 @@ use Rattle.std.specs.Ordering.{nat_cmp}
 use Rattle.std.specs.FinSet as set
 use Rattle.std.specs.FinSet.{contains-from_list_nat}
 use Rattle.assise_record.specs.LogRecord.{LogRecord}
+use Rattle.assise_record.specs.Records.{all_effects}
 use Rattle.assise_inode_table.specs.Effects.{contains, touched}
 use Rattle.assise_inode_table.proofs.Making.{contains-append}
 use Rattle.assise_lease_table.specs.Leases.{Among}
 use Rattle.assise_lease_table.proofs.Elements.{among_front, among_last, among_push}
-use Rattle.assise_digest.specs.Ahead.{all_effects}
 use Rattle.assise_digest.specs.Region.{no_log}
 use Rattle.assise_manager.specs.Changes.{donor_of}
 use Rattle.assise_manager.specs.Standings.{Standing, standing_of}

@@ -1,8 +1,8 @@
 -- What a failure lists before anything changes.
 -- Assise (OSDI 2020), section 3 (prefix crash consistency, fail-over; recovery: the inodes that were written).
 use Rattle.std.specs.Prelude.{ℕ, zero, suc, ◌-◌, ◌==◌, Bool, false, if◌then◌else◌, List, [], ◌∷◌, ◌++◌, slice_index_or, Option, Some, None}
+use Rattle.assise_record.specs.Records.{all_effects}
 use Rattle.assise_inode_table.specs.Effects.{touched}
-use Rattle.assise_digest.specs.Ahead.{all_effects}
 use Rattle.assise_manager.specs.Changes.{donor_of}
 use Rattle.assise_manager.specs.Standings.{Standing, standing_of}
 use Rattle.assise_machine_laws.specs.NodeSteps.{kept_at_failure}

@@ -10,10 +10,10 @@ use Rattle.assise_history.specs.Legal.{IsDown, IsFair, IsOn, IsPastFsyncs, is_fa
 use Rattle.assise_history.proofs.OneMore.{legal-failure, legal-return}
 use Rattle.assise_history.proofs.Passing.{Passes, passes_from, not_nil}
 use Rattle.assise_history.proofs.Standing.{down-failed, down-push, down-last}
+use Rattle.assise_record.specs.Records.{Rising, call_of}
 use Rattle.assise_inode_table.specs.Traces.{NumberedCall, below}
 use Rattle.assise_inode_table.proofs.Pairing.{each-map}
 use Rattle.assise_record.specs.LogRecord.{LogRecord}
-use Rattle.assise_machine_laws.specs.Records.{Rising, call_of}
 use Rattle.assise_machine_laws.specs.NodeSteps.{Fails, kept_at_failure}
 use Rattle.assise_machine_laws.specs.Runs.{fails as fails_node, joins as joins_node, rests as rests_all}
 use Rattle.assise_machine_laws.specs.Sound.{Counted, IsSound}

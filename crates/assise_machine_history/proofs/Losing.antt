@@ -17,6 +17,7 @@ use Rattle.assise_seq_tree.specs.Tree.{no_entries}
 use Rattle.assise_history.specs.Entries.{opens, calls, fails}
 use Rattle.assise_history.specs.Kept.{kept}
 use Rattle.assise_record.specs.declared.effect.Effect.TheVariants.{NewFile, Link}
+use Rattle.assise_record.specs.Records.{record_of}
 use Rattle.assise_inode_table.specs.Calls.{then_or_error, as_links, room_among, step}
 use Rattle.assise_inode_table.specs.Contents.{Content, directory, Links, Values}
 use Rattle.assise_inode_table.specs.Effects.{contains, touched}
@@ -27,7 +28,6 @@ use Rattle.assise_inode_table.proofs.Naming.{names_are_keys}
 use Rattle.assise_machine_laws.specs.Chances.{MayCall}
 use Rattle.assise_machine_laws.specs.ClientSteps.{Acquires}
 use Rattle.assise_machine_laws.specs.NodeSteps.{kept_at_failure}
-use Rattle.assise_machine_laws.specs.Records.{record_of}
 use Rattle.assise_machine_laws.specs.Sound.{IsSound}
 use Rattle.assise_machine_laws.specs.World.{World, Full, opening_values, end, call_at, ahead, view, step_at_home}
 use Rattle.assise_machine_laws.proofs.Observing.{least_of-below}

@@ -10,10 +10,10 @@ use Rattle.assise_history.specs.Entries.{Event, opens, calls, crashes}
 use Rattle.assise_history.specs.Kept.{kept, IsRun, exchange, tree_after}
 use Rattle.assise_history.specs.Legal.{IsAlive, IsLegal, IsNextCall, MayOpen, calls_made, clients_opened, is_call_of, is_failure_of, is_fsync, is_opening}
 use Rattle.assise_history.proofs.OneMore.{legal-open, legal-call, legal-crash}
+use Rattle.assise_record.specs.Records.{record_of}
 use Rattle.assise_inode_table.specs.Effects.{contains}
 use Rattle.assise_inode_table.specs.Numbers.{inode_number, makes_inode}
 use Rattle.assise_inode_table.specs.Traces.{NumberedCall, exchanges, ops}
-use Rattle.assise_machine_laws.specs.Records.{record_of}
 use Rattle.assise_machine_laws.specs.ClientSteps.{MakesCall}
 use Rattle.assise_machine_laws.specs.Runs.{Moves, NoneFalls, opens as opens_client, makes_call, crashes as crashes_client, raises_goals, acquires, releases, delivers, digests, drops, coalesces, rests}
 use Rattle.assise_machine_laws.specs.Sound.{IsSound}

@@ -1,9 +1,9 @@
 -- Where areas agree.
 use Rattle.std.proofs.Common.{◌≡◌, ℕ, ◌<◌, ◌≤◌, ◌⊎◌, inl, inr, true, false, refl, sym, ◌∙◌, arith}
 use Rattle.std.proofs.lemmas.Bool.{cases_Bool, ltb-true, ltb-false}
+use Rattle.assise_record.specs.Records.{all_effects}
 use Rattle.assise_inode_table.specs.Effects.{touched, contains}
 use Rattle.assise_inode_table.specs.Traces.{NumberedCall, Each, below, window}
-use Rattle.assise_digest.specs.Ahead.{all_effects}
 use Rattle.assise_machine_laws.specs.Sound.{IsCoherent}
 use Rattle.assise_machine_laws.specs.World.{World, Full, opening_values, received_by_all, records_between, call_at, first_undigested_at, first_unreplicated, steps}
 use Rattle.assise_inode_table.proofs.Pairing.{each-map}

@@ -3,8 +3,8 @@ use Rattle.std.proofs.Common.{◌≡◌, ◌≢◌, ℕ, suc, ◌≤◌, ◌⊎�
 use Rattle.std.proofs.lemmas.Bool.{both_ways, cases_eq, or_cases}
 use Rattle.assise_names.specs.declared.mode.Mode.{Mode}
 use Rattle.assise_names.specs.declared.mode.Mode.TheVariants.{Read, Write}
+use Rattle.assise_record.specs.Records.{all_effects}
 use Rattle.assise_inode_table.specs.Effects.{touched, contains}
-use Rattle.assise_digest.specs.Ahead.{all_effects}
 use Rattle.assise_machine_laws.specs.ClientSteps.{Opens, RaisesGoals, Crashes, is_for_writing, IsFree, Acquires, Releases}
 use Rattle.assise_machine_laws.specs.NodeSteps.{Rests}
 use Rattle.assise_machine_laws.specs.Runs.{NoneFalls}

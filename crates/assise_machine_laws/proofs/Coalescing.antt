@@ -5,20 +5,20 @@ use Rattle.std.proofs.lemmas.Bool.{both_ways, cases_eq, or_from, or_right, or_ca
 use Rattle.assise_seq_tree.specs.Tree.{opening as opening_tree}
 use Rattle.assise_seq_tree.specs.Runs.{AreAnswered}
 use Rattle.assise_record.specs.LogRecord.{LogRecord}
+use Rattle.assise_record.specs.Records.{all_effects, call_of, Rising}
+use Rattle.assise_record.proofs.Records.{all_effects-append, rising-append}
 use Rattle.assise_inode_table.specs.Effects.{value_after, touched, contains, SameNetEffect}
 use Rattle.assise_inode_table.specs.Late.{value_of}
 use Rattle.assise_inode_table.specs.Traces.{AllMakeNew, exchanges, Rises, below, window}
 use Rattle.assise_inode_table.specs.Unseen.{Unseen}
-use Rattle.assise_digest.specs.Ahead.{all_effects}
 use Rattle.assise_machine_laws.specs.Coalescing.{Coalesces}
-use Rattle.assise_machine_laws.specs.Records.{call_of, Rising}
 use Rattle.assise_machine_laws.specs.Runs.{NoneFalls}
 use Rattle.assise_machine_laws.specs.Sound.{IsSound, AreDropped, StandFor, Stands, Guarded, Compatible, IsOrdered, Areas, IsCoherent}
 use Rattle.assise_machine_laws.specs.Staying.{SameLeases}
 use Rattle.assise_machine_laws.specs.World.{World, Full, opening_values, least_of, end, digested_by_all, received_by_all, records_between, call_at, first_undigested_at, first_undigested, first_unreplicated, steps, value_below}
-use Rattle.assise_inode_table.proofs.Making.{value_after-append}
+use Rattle.assise_inode_table.proofs.Making.{value_after-append, contains-both}
 use Rattle.assise_machine_laws.proofs.Lists.{unseen-raise, below-same}
-use Rattle.assise_machine_laws.proofs.Logs.{at_mono, take-of_take, take-of_append, all_effects-append, length-both, drop-front, rising-append, contains-both, contains-take, at-take}
+use Rattle.assise_machine_laws.proofs.Logs.{at_mono, take-of_take, take-of_append, length-both, drop-front, contains-take, at-take}
 use Rattle.assise_machine_laws.proofs.Observing.{least_of-same, least_of-most, least_of-below, least_of-above, least_of-end, part_of, call_at-end, digested_by_all-first, first-received_by_all, part-whole, part-append, part_moves, call_at-same, steps-same, part_none, end-else, part-else, area_at}
 use Rattle.assise_machine_laws.proofs.Between.{digested_by_all-received_by_all}
 use Rattle.assise_machine_laws.proofs.Staying.{held-same, spelled-same, are_made-same, numbered-same, counted-same}

@@ -8,6 +8,8 @@ use Rattle.assise_seq_tree.specs.Answer.{answer}
 use Rattle.assise_seq_tree.specs.Runs.{AreAnswered, tree_after_calls}
 use Rattle.assise_record.specs.declared.effect.Effect.{Effect}
 use Rattle.assise_record.specs.LogRecord.{LogRecord}
+use Rattle.assise_record.specs.Records.{all_effects, has_some, record_of, call_of, Rising}
+use Rattle.assise_record.proofs.Records.{all_effects-append, all_effects-one, rising-append}
 use Rattle.assise_inode_table.specs.Contents.{Content}
 use Rattle.assise_inode_table.specs.Effects.{value_after, touched, contains, after, makes}
 use Rattle.assise_inode_table.specs.Interaction.{Step}
@@ -15,18 +17,16 @@ use Rattle.assise_inode_table.specs.Late.{value_of}
 use Rattle.assise_inode_table.specs.Spelled.{Spells}
 use Rattle.assise_inode_table.specs.Traces.{NumberedCall, trace, step_of, values_after_calls, AllMakeNew, exchanges, ops, Each, Rises, below, window}
 use Rattle.assise_inode_table.specs.Unseen.{Clear, Unseen}
-use Rattle.assise_digest.specs.Ahead.{all_effects}
-use Rattle.assise_machine_laws.specs.Records.{has_some, record_of, call_of, Rising}
 use Rattle.assise_machine_laws.specs.Runs.{NoneFalls, StayFirm}
 use Rattle.assise_machine_laws.specs.Sound.{IsSound, AreDropped, IsMadeBy, IsMade, StandFor, Stands, Counted, Numbered, AreMade, Guarded, Compatible, IsOrdered, Areas, IsCoherent}
 use Rattle.assise_machine_laws.specs.ClientSteps.{MakesCall}
 use Rattle.assise_machine_laws.specs.World.{IsClient, firm, step_at_home, World, Full, opening_values, least_of, end, digested_by_all, received_by_all, records_between, call_at, first_undigested_at, first_undigested, first_unreplicated, steps, now, tree, value_below}
 use Rattle.assise_inode_table.proofs.Lateness.{in_window}
-use Rattle.assise_inode_table.proofs.Making.{value_after-append}
+use Rattle.assise_inode_table.proofs.Making.{value_after-append, contains-both}
 use Rattle.assise_inode_table.proofs.Pairing.{each-map, each-both}
 use Rattle.assise_inode_table.proofs.CallSteps.{step_replies, step_spells}
 use Rattle.assise_machine_laws.proofs.Lists.{each-snoc, pairs-snoc, unseen-raise, value-cong, value-snoc, has-none, trace-snoc, values-snoc, answered-snoc, tree-snoc, new-snoc}
-use Rattle.assise_machine_laws.proofs.Logs.{in_window_from, windows_agree, take-of_append, all_effects-append, at-grows, at-same, at-push, all_effects-one, of_fresh, length-both, drop-front, rising-append, contains-both}
+use Rattle.assise_machine_laws.proofs.Logs.{in_window_from, windows_agree, take-of_append, at-grows, at-same, at-push, of_fresh, length-both, drop-front}
 use Rattle.assise_machine_laws.proofs.Observing.{least_of-same, least_of-most, least_of-below, least_of-above, least_of-end, call_at-mono, next-top, part_of, call_at-end, received_by_all-end, IsCounted, all_counted, guarded_all, part-append, part_none, end-else, part-else, area_at, apart}
 use Rattle.assise_machine_laws.proofs.Views.{clear_from, true_step}
 use Rattle.assise_machine_laws.proofs.Staying.{held-same, made_more, made_by_more}

@@ -1,10 +1,10 @@
 -- A digest makes a full node's area that of more calls.
 use Rattle.std.proofs.Common.{◌≡◌, ℕ, ◌≤◌, ◌⊎◌, inl, inr, true, refl, ap, sym, ◌∙◌, subst, arith, filter}
 use Rattle.std.proofs.lemmas.Bool.{cases_eq}
+use Rattle.assise_record.specs.Records.{all_effects}
 use Rattle.assise_inode_table.specs.Effects.{value_after, contains}
 use Rattle.assise_inode_table.specs.Late.{value_of, raised}
 use Rattle.assise_inode_table.specs.Traces.{below}
-use Rattle.assise_digest.specs.Ahead.{all_effects}
 use Rattle.assise_machine_laws.specs.NodeSteps.{Digests}
 use Rattle.assise_machine_laws.specs.Runs.{NoneFalls, StayFirm}
 use Rattle.assise_machine_laws.specs.Sound.{IsOrdered, Areas, IsCoherent, IsSound}

@@ -3,12 +3,12 @@ use Rattle.std.proofs.Common.{◌≡◌, ℕ, ◌+◌, ◌-◌, ◌≤◌, true,
 use Rattle.std.proofs.lemmas.List.{drop-take}
 use Rattle.assise_seq_tree.specs.Tree.{opening as opening_tree}
 use Rattle.assise_seq_tree.specs.Runs.{AreAnswered}
+use Rattle.assise_record.specs.Records.{call_of}
 use Rattle.assise_inode_table.specs.Effects.{contains}
 use Rattle.assise_inode_table.specs.Late.{value_of}
 use Rattle.assise_inode_table.specs.Traces.{AllMakeNew, exchanges, Rises, below}
 use Rattle.assise_inode_table.specs.Unseen.{Unseen}
 use Rattle.assise_machine_laws.specs.NodeSteps.{Drops}
-use Rattle.assise_machine_laws.specs.Records.{call_of}
 use Rattle.assise_machine_laws.specs.Runs.{NoneFalls, StayFirm}
 use Rattle.assise_machine_laws.specs.Sound.{Stands, Guarded, IsOrdered, Areas, IsCoherent, IsSound, AreDropped}
 use Rattle.assise_machine_laws.specs.World.{World, Full, opening_values, end, digested_by_all, received_by_all, records_between, call_at, first_undigested_at, first_undigested, first_unreplicated, steps, value_below, firm}

@@ -6,14 +6,13 @@ use Rattle.std.proofs.lemmas.Bool.Decides.{nat_tests}
 use Rattle.assise_seq_tree.specs.Tree.{opening as opening_tree}
 use Rattle.assise_seq_tree.specs.Runs.{AreAnswered, tree_after_calls}
 use Rattle.assise_record.specs.LogRecord.{LogRecord}
+use Rattle.assise_record.specs.Records.{all_effects, call_of}
 use Rattle.assise_inode_table.specs.Effects.{value_after, touched, contains, makes}
 use Rattle.assise_inode_table.specs.Late.{value_of}
 use Rattle.assise_inode_table.specs.Spelled.{Spells}
 use Rattle.assise_inode_table.specs.Traces.{NumberedCall, trace, values_after_calls, AllMakeNew, exchanges, ops, Each, Rises, below, window}
 use Rattle.assise_inode_table.specs.Unseen.{Clear, Unseen}
-use Rattle.assise_digest.specs.Ahead.{all_effects}
 use Rattle.assise_machine_laws.specs.NodeSteps.{kept_at_failure, Fails}
-use Rattle.assise_machine_laws.specs.Records.{call_of}
 use Rattle.assise_machine_laws.specs.Runs.{NoneFalls, StayFirm}
 use Rattle.assise_machine_laws.specs.Sound.{IsMadeBy, StandFor, Stands, Counted, Numbered, Guarded, IsOrdered, Areas, IsCoherent, IsSound}
 use Rattle.assise_machine_laws.specs.World.{World, Full, opening_values, least_of, end, digested_by_all, received_by_all, records_between, call_at, first_undigested_at, first_undigested, first_unreplicated, steps, now, tree, value_below, firm}
@@ -31,7 +30,7 @@ use Rattle.assise_machine_laws.proofs.Numbering.{there_was_made}
 abbrev survivors : World → ℕ → List ℕ
 survivors w n = filter (λ m. not (m == n)) w.full
 
-contains-filter : (p : ℕ → Bool) (ns : List ℕ) (m : ℕ) → contains (filter p ns) m ≡ true → contains ns m ≡ true
+pub contains-filter : (p : ℕ → Bool) (ns : List ℕ) (m : ℕ) → contains (filter p ns) m ≡ true → contains ns m ≡ true
 contains-filter p [] m h = h
 contains-filter p (k ∷ ns) m h =
     (elim (p k) as (λ b. contains (if b then k ∷ filter p ns else filter p ns) m ≡ true → ((k == m) || contains ns m) ≡ true) [
@@ -42,7 +41,7 @@ contains-filter p (k ∷ ns) m h =
       | false ↦ λ h. or_right (k == m) (contains ns m) (contains-filter p ns m h)
     ]) h
 
-filter-contains : (p : ℕ → Bool) (ns : List ℕ) (m : ℕ) → p m ≡ true → contains ns m ≡ true → contains (filter p ns) m ≡ true
+pub filter-contains : (p : ℕ → Bool) (ns : List ℕ) (m : ℕ) → p m ≡ true → contains ns m ≡ true → contains (filter p ns) m ≡ true
 filter-contains p [] m t h = h
 filter-contains p (k ∷ ns) m t h =
     elim (cases_Bool (k == m)) [

@@ -2,11 +2,11 @@
 use Rattle.std.proofs.Common.{◌≡◌, ◌≢◌, ℕ, List, [], ◌∷◌, if◌then◌else◌, ◌-◌, ◌<◌, ◌≤◌, inl, inr, true, false, refl, ap, sym, ◌∙◌, subst, ◌==◌, arith, drop, length, filter}
 use Rattle.std.proofs.lemmas.List.{take_all}
 use Rattle.std.proofs.lemmas.Bool.{both_ways, false_from_ne_true, cases_lt, cases_eq, lt-ltb, eq-eqb, ne_eqb}
+use Rattle.assise_record.specs.Records.{all_effects}
 use Rattle.assise_inode_table.specs.Effects.{contains, touched}
 use Rattle.assise_inode_table.specs.Traces.{NumberedCall, Each, below}
 use Rattle.assise_inode_table.specs.Unseen.{Unseen}
 use Rattle.assise_inode_table.proofs.Pairing.{each-map}
-use Rattle.assise_digest.specs.Ahead.{all_effects}
 use Rattle.assise_machine_laws.specs.Sound.{Counted, Guarded, WritesAreHeld, IsSound}
 use Rattle.assise_machine_laws.specs.World.{World, Full, end, received_by_all, records_between, call_at, first_undigested, first_unreplicated, steps, firm}
 use Rattle.assise_machine_laws.proofs.Lists.{unseen-raise}

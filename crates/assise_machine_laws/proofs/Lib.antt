@@ -16,5 +16,6 @@ pub mod Failing
 pub mod Firm
 pub mod Committing
 pub mod Coalescing
+pub mod Regrouping
 pub mod Running
 pub mod Possible

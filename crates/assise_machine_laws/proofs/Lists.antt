@@ -5,13 +5,13 @@ use Rattle.assise_seq_tree.specs.Tree.{Tree}
 use Rattle.assise_seq_tree.specs.Answer.{answer}
 use Rattle.assise_seq_tree.specs.Runs.{AreAnswered, tree_after_calls}
 use Rattle.assise_record.specs.declared.effect.Effect.{Effect}
+use Rattle.assise_record.specs.Records.{has_some}
 use Rattle.assise_inode_table.specs.Contents.{Content, Values}
 use Rattle.assise_inode_table.specs.Effects.{value_after, touched, contains, after, makes}
 use Rattle.assise_inode_table.specs.Interaction.{Step}
 use Rattle.assise_inode_table.specs.Late.{value_of}
 use Rattle.assise_inode_table.specs.Traces.{NumberedCall, trace, step_of, values_after_calls, AllMakeNew, exchanges, ops, Each, Pairs, below}
 use Rattle.assise_inode_table.specs.Unseen.{Clear, Unseen}
-use Rattle.assise_machine_laws.specs.Records.{has_some}
 use Rattle.assise_inode_table.proofs.Making.{untouched}
 use Rattle.assise_inode_table.proofs.Pairing.{each-map}
 

@@ -4,12 +4,12 @@ use Rattle.std.proofs.lemmas.Bool.{cases_Bool, eqb-true, ltb-true, leb-true, lt-
 use Rattle.std.proofs.lemmas.Bool.Decides.{nat_tests}
 use Rattle.assise_record.specs.declared.effect.Effect.{Effect}
 use Rattle.assise_record.specs.LogRecord.{LogRecord}
+use Rattle.assise_record.specs.Records.{all_effects, has_some, record_of, call_of, Rising}
+use Rattle.assise_record.proofs.Records.{all_effects-one}
 use Rattle.assise_inode_table.specs.Effects.{touched, contains}
 use Rattle.assise_inode_table.specs.Traces.{NumberedCall, below, window}
-use Rattle.assise_digest.specs.Ahead.{all_effects}
-use Rattle.assise_machine_laws.specs.Records.{has_some, record_of, call_of, Rising}
 use Rattle.assise_record.specs.Touched.{touched_by}
-use Rattle.assise_inode_table.proofs.Making.{contains-append}
+use Rattle.assise_inode_table.proofs.Making.{contains-both}
 
 -- what it is to pass a window
 pub in_window : (c a b : ℕ) (x : NumberedCall) → window c a b x ≡ true → (x.client ≡ c) × (a ≤ x.number) × (x.number < b)
@@ -111,14 +111,6 @@ take-sum rs j m n = split (drop j rs) m n ∙ ap (λ l. take m (drop j rs) ++ ta
     split [] (suc m) n = (let e : suc m + n ≡ suc (m + n) = omega arith in rw e (elim n as (λ n. [] ≡ take {A = LogRecord} n []) [ zero ↦ refl | suc n ↦ refl ]))
     split (q ∷ qs) (suc m) n = (let e : suc m + n ≡ suc (m + n) = omega arith in rw e (ap (λ l. q ∷ l) (split qs m n)))
 
-pub all_effects-append : (rs zs : List LogRecord) → all_effects (rs ++ zs) ≡ all_effects rs ++ all_effects zs
-all_effects-append [] zs = refl
-all_effects-append (r ∷ rs) zs = rw (all_effects-append rs zs) (append_assoc r.effects (all_effects rs) (all_effects zs))
-  where
-    append_assoc : (a b c : List Effect) → a ++ (b ++ c) ≡ (a ++ b) ++ c
-    append_assoc [] b c = refl
-    append_assoc (x ∷ a) b c = ap (λ l. x ∷ l) (append_assoc a b c)
-
 -- ---- one more record
 
 pub at-grows : (rs : List LogRecord) (j n : ℕ) (es : List Effect) → call_of rs j n ≤ call_of (rs ++ record_of n es) j (suc n)
@@ -142,13 +134,6 @@ at-push [] r zero d h = refl
 at-push [] r (suc j) d h = absurd (omega arith)
 at-push (q ∷ rs) r zero d h = refl
 at-push (q ∷ rs) r (suc j) d h = at-push rs r j d (omega arith)
-
-pub all_effects-one : (n : ℕ) (es : List Effect) → all_effects (record { call = n; effects = es } ∷ []) ≡ es
-all_effects-one n es = none es
-  where
-    none : (fs : List Effect) → fs ++ [] ≡ fs
-    none [] = refl
-    none (f ∷ fs) = ap (λ l. f ∷ l) (none fs)
 
 pub of_fresh : (n : ℕ) (es : List Effect) (i : ℕ) → contains (touched (all_effects (record_of n es))) i ≡ true → contains (touched es) i ≡ true
 of_fresh n es i h =
@@ -179,24 +164,7 @@ pub at-seam : (rs zs : List LogRecord) (d : ℕ) → call_of (rs ++ zs) (length 
 at-seam [] zs d = refl
 at-seam (r ∷ rs) zs d = at-seam rs zs d
 
-pub rising-append : (rs zs : List LogRecord) (d : ℕ) → Rising rs (call_of zs 0 d) → Rising zs d → Rising (rs ++ zs) d
-rising-append [] zs d h k = k
-rising-append (r ∷ rs) zs d h k = (first_of rs h.0, rising-append rs zs d h.1 k)
-  where
-    first_of : (qs : List LogRecord) → r.call < call_of qs 0 (call_of zs 0 d) → r.call < call_of (qs ++ zs) 0 d
-    first_of [] g = g
-    first_of (q ∷ qs) g = g
-
--- places of the client's log
-
 -- ---- what is touched
-
-pub touched-append : (es fs : List Effect) → touched (es ++ fs) ≡ touched es ++ touched fs
-touched-append [] fs = refl
-touched-append (e ∷ es) fs = ap (λ l. touched_by e ∷ l) (touched-append es fs)
-
-pub contains-both : (es fs : List Effect) (i : ℕ) → contains (touched (es ++ fs)) i ≡ (contains (touched es) i || contains (touched fs) i)
-contains-both es fs i = ap (λ l. contains l i) (touched-append es fs) ∙ contains-append (touched es) (touched fs) i
 
 pub contains-all_effects : (r : LogRecord) (rs : List LogRecord) (i : ℕ) → contains (touched (all_effects (r ∷ rs))) i ≡ (contains (touched r.effects) i || contains (touched (all_effects rs)) i)
 contains-all_effects r rs i = contains-both r.effects (all_effects rs) i

@@ -2,13 +2,12 @@
 use Rattle.std.proofs.Common.{◌≡◌, ℕ, zero, suc, ◌+◌, ◌-◌, ◌<◌, ◌≤◌, ◌≢◌, ◌⊎◌, inl, inr, min, Bool, true, false, List, [], ◌∷◌, ◌++◌, Option, refl, ap, sym, subst, ◌||◌, ◌==◌, arith, take, length}
 use Rattle.std.proofs.lemmas.Bool.{cases_Bool, eqb-true, eq-eqb, ne_eqb, both_ways, cases_lt}
 use Rattle.assise_record.specs.LogRecord.{LogRecord}
+use Rattle.assise_record.specs.Records.{all_effects, call_of}
 use Rattle.assise_inode_table.specs.Contents.{Content}
 use Rattle.assise_inode_table.specs.Effects.{value_after, touched, contains}
 use Rattle.assise_inode_table.specs.Interaction.{Step}
 use Rattle.assise_inode_table.specs.Late.{value_of, raised}
 use Rattle.assise_inode_table.specs.Traces.{NumberedCall, Each, below, window}
-use Rattle.assise_digest.specs.Ahead.{all_effects}
-use Rattle.assise_machine_laws.specs.Records.{call_of}
 use Rattle.assise_machine_laws.specs.Sound.{StandFor, Stands, Counted, Guarded, Compatible, IsOrdered, Areas, IsCoherent}
 use Rattle.assise_machine_laws.specs.World.{World, Full, IsClient, opening_values, least_of, end, digested_by_all, received_by_all, records_between, call_at, first_undigested_at, first_undigested, first_unreplicated, steps, value_below}
 use Rattle.assise_inode_table.proofs.Lateness.{in_window, late_client}
@@ -101,6 +100,10 @@ call_at-end w c k h = past (w.records c) (k - w.first c) (w.next c) (omega arith
     past [] j d h = refl
     past (r ∷ rs) zero d h = absurd (omega arith)
     past (r ∷ rs) (suc j) d h = past rs j d (omega arith)
+
+pub end_is : (w : World) (c : ℕ) → end w c ≡ w.first c + length (w.records c)
+unfolding end
+end_is w c = refl
 
 pub digested_by_all-below : (w : World) (n c : ℕ) → Full w n → digested_by_all w c ≤ w.digested n c
 unfolding digested_by_all

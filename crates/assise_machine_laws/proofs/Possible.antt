@@ -2,13 +2,12 @@
 use Rattle.std.proofs.Common.{◌≡◌, ℕ, suc, ◌+◌, ◌-◌, ◌<◌, ◌≤◌, ◌≢◌, inl, inr, min, max, true, false, not, List, [], ◌∷◌, ◌++◌, if◌then◌else◌, refl, ap, sym, ◌∙◌, subst, ◌&&◌, ◌||◌, nat_le, ◌==◌, arith, take, drop, length, filter}
 use Rattle.std.proofs.lemmas.Bool.{cases_Bool, eqb-true, leb-true, le-leb, eq-eqb, ne_eqb, and_parts, and_from, false_from_ne_true, both_ways, or_right}
 use Rattle.assise_names.specs.declared.mode.Mode.{Mode}
+use Rattle.assise_record.specs.Records.{all_effects, record_of}
 use Rattle.assise_inode_table.specs.Effects.{value_after, touched, contains}
 use Rattle.assise_inode_table.specs.Traces.{NumberedCall, below}
-use Rattle.assise_digest.specs.Ahead.{all_effects}
 use Rattle.assise_machine_laws.specs.Chances.{MayCall, MayDeliver, MayDigest, MayDrop, MayFail, MayJoin}
 use Rattle.assise_machine_laws.specs.ClientSteps.{Opens, MakesCall, RaisesGoals, Crashes, is_for_writing, IsFree, Acquires, Releases}
 use Rattle.assise_machine_laws.specs.NodeSteps.{Delivers, Digests, Drops, kept_at_failure, Fails, Joins, Rests}
-use Rattle.assise_machine_laws.specs.Records.{record_of}
 use Rattle.assise_machine_laws.specs.Sound.{IsSound}
 use Rattle.assise_machine_laws.specs.Staying.{SameLogs, SameClients, SameLeases, SameNodes}
 use Rattle.assise_machine_laws.specs.World.{World, Full, end, call_at, records_between, ahead_below, step_at_home, call_makes_inode}

@@ -3,12 +3,12 @@ use Rattle.std.proofs.Common.{◌≡◌, ℕ, zero, suc, ◌<◌, ◌≤◌, inl
 use Rattle.std.proofs.lemmas.Bool.{cases_eq}
 use Rattle.assise_seq_tree.specs.Tree.{opening as opening_tree}
 use Rattle.assise_seq_tree.specs.Runs.{AreAnswered, tree_after_calls}
+use Rattle.assise_record.specs.Records.{all_effects}
 use Rattle.assise_inode_table.specs.Contents.{Content}
 use Rattle.assise_inode_table.specs.Effects.{value_after}
 use Rattle.assise_inode_table.specs.Late.{value_of, raised}
 use Rattle.assise_inode_table.specs.Spelled.{Spells}
 use Rattle.assise_inode_table.specs.Traces.{trace, values_after_calls, AllMakeNew, exchanges, ops, below, window}
-use Rattle.assise_digest.specs.Ahead.{all_effects}
 use Rattle.assise_machine_laws.specs.Sound.{IsCoherent, IsSound}
 use Rattle.assise_machine_laws.specs.World.{World, Full, opening_values, digested_by_all, received_by_all, records_between, first_undigested_at, first_undigested, first_unreplicated, steps, firm, ahead_below, all_ahead, alone}
 use Rattle.assise_inode_table.proofs.Making.{value_after-append}

@@ -2,9 +2,9 @@
 use Rattle.std.proofs.Common.{◌≡◌, ℕ, ◌-◌, inl, List, [], ◌∷◌, refl, ap, sym, ◌∙◌, arith, take, drop, filter}
 use Rattle.std.proofs.Math.Seq.{take-nil, drop-nil}
 use Rattle.assise_record.specs.LogRecord.{LogRecord}
+use Rattle.assise_record.specs.Records.{all_effects}
 use Rattle.assise_inode_table.specs.Effects.{value_after}
 use Rattle.assise_inode_table.specs.Traces.{below}
-use Rattle.assise_digest.specs.Ahead.{all_effects}
 use Rattle.assise_machine_laws.specs.Runs.{Moves, opens, makes_call, raises_goals, crashes, acquires, releases, delivers, digests, drops, coalesces, fails, joins, rests, Runs, last, begun, NoneFalls, StayFirm}
 use Rattle.assise_machine_laws.specs.Sound.{Stands, Counted, Numbered, AreMade, Guarded, Compatible, WritesAreHeld, Areas, IsCoherent, IsSound, AreDropped}
 use Rattle.assise_machine_laws.specs.World.{World, least_of, end, digested_by_all, received_by_all, records_between, call_at, first_undigested_at, first_undigested, first_unreplicated, steps, now, tree, value_below, firm}

@@ -3,13 +3,13 @@ use Rattle.std.proofs.Common.{◌≡◌, ℕ, ◌+◌, ◌-◌, ◌<◌, ◌≤�
 use Rattle.std.proofs.lemmas.List.{drop-take, take-take}
 use Rattle.std.proofs.lemmas.Bool.{cases_Bool, ltb-false, eq-eqb, cases_eq, or_right, false_from_ne_true}
 use Rattle.assise_seq_tree.specs.Answer.{answer}
+use Rattle.assise_record.specs.Records.{all_effects}
 use Rattle.assise_inode_table.specs.Contents.{Values}
 use Rattle.assise_inode_table.specs.Effects.{value_after, touched, contains}
 use Rattle.assise_inode_table.specs.Interaction.{Step, AgreeOn}
 use Rattle.assise_inode_table.specs.Late.{value_of, raised}
 use Rattle.assise_inode_table.specs.Traces.{NumberedCall, step_of, below}
 use Rattle.assise_inode_table.specs.Unseen.{Clear}
-use Rattle.assise_digest.specs.Ahead.{all_effects}
 use Rattle.assise_machine_laws.specs.Sound.{IsOrdered, IsCoherent, IsSound}
 use Rattle.assise_machine_laws.specs.World.{World, Full, opening_values, end, records_between, call_at, first_undigested_at, first_undigested, steps, now, tree, ahead, ahead_below, view, step_at_home}
 use Rattle.assise_inode_table.proofs.Pairing.{each-both}

@@ -3,11 +3,10 @@
 use Rattle.std.specs.Prelude.{◌≡◌, ◌≢◌, ℕ, suc, ◌≤◌, max, Bool, true, false, [], ◌∷◌, ◌++◌, ◌||◌, if◌then◌else◌}
 use Rattle.assise_names.specs.declared.mode.Mode.{Mode}
 use Rattle.assise_names.specs.declared.mode.Mode.TheVariants.{Read, Write}
+use Rattle.assise_record.specs.Records.{all_effects, record_of}
 use Rattle.assise_inode_table.specs.Effects.{touched, contains}
 use Rattle.assise_inode_table.specs.Numbers.{inode_number}
 use Rattle.assise_inode_table.specs.Traces.{NumberedCall}
-use Rattle.assise_digest.specs.Ahead.{all_effects}
-use Rattle.assise_machine_laws.specs.Records.{record_of}
 use Rattle.assise_machine_laws.specs.World.{World, Full, end, step_at_home, call_makes_inode}
 use Rattle.assise_machine_laws.specs.Staying.{SameLogs, SameClients, SameGoals, SameLeases, SameNodes}
 

@@ -2,9 +2,8 @@
 -- Assise (OSDI 2020), section 3 (CC-NVM: in optimistic mode update logs are coalesced before they are replicated).
 use Rattle.std.specs.Prelude.{◌≡◌, ◌≢◌, ◌⊎◌, ℕ, ◌-◌, ◌<◌, ◌≤◌, min, true, List, ◌++◌, take}
 use Rattle.assise_record.specs.LogRecord.{LogRecord}
+use Rattle.assise_record.specs.Records.{all_effects, call_of, Rising}
 use Rattle.assise_inode_table.specs.Effects.{touched, contains, SameNetEffect}
-use Rattle.assise_digest.specs.Ahead.{all_effects}
-use Rattle.assise_machine_laws.specs.Records.{call_of, Rising}
 use Rattle.assise_machine_laws.specs.World.{World, Full, end, received_by_all, call_at, records_between}
 use Rattle.assise_machine_laws.specs.Staying.{SameClients, SameLeases}
 

@@ -2,7 +2,7 @@ pub mod Chances
 pub mod ClientSteps
 pub mod Coalescing
 pub mod NodeSteps
-pub mod Records
+pub mod Regrouped
 pub mod Runs
 pub mod Sound
 pub mod Staying

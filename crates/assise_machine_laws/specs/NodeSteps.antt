@@ -1,9 +1,9 @@
 -- What nodes do, and what happens to them.
 -- Assise (OSDI 2020), section 3 (CC-NVM: replication, digests, fail-over, node recovery); Strata (SOSP 2017), section 3.
 use Rattle.std.specs.Prelude.{◌≡◌, ◌≢◌, ◌⊎◌, ℕ, ◌-◌, ◌≤◌, min, true, false, not, ◌&&◌, ◌==◌, ◌++◌, if◌then◌else◌, take, drop, filter}
+use Rattle.assise_record.specs.Records.{all_effects}
 use Rattle.assise_inode_table.specs.Effects.{value_after}
 use Rattle.assise_inode_table.specs.Traces.{below}
-use Rattle.assise_digest.specs.Ahead.{all_effects}
 use Rattle.assise_machine_laws.specs.World.{World, Full, least_of, end, digested_by_all, received_by_all, records_between, call_at, ahead_below}
 use Rattle.assise_machine_laws.specs.Staying.{SameLogs, SameClients, SameGoals, SameLeases, SameNode, SameNodes}
 

@@ -4,6 +4,7 @@ use Rattle.std.specs.Prelude.{◌≡◌, ◌≢◌, ◌⊎◌, ℕ, ◌-◌, ◌
 use Rattle.std.specs.List.{list_any}
 use Rattle.assise_seq_tree.specs.Tree.{opening as opening_tree}
 use Rattle.assise_seq_tree.specs.Runs.{AreAnswered}
+use Rattle.assise_record.specs.Records.{all_effects, Rising}
 use Rattle.assise_inode_table.specs.Contents.{Content}
 use Rattle.assise_inode_table.specs.Effects.{value_after, touched, contains, makes}
 use Rattle.assise_inode_table.specs.Late.{value_of}
@@ -11,8 +12,6 @@ use Rattle.assise_inode_table.specs.Numbers.{inode_number}
 use Rattle.assise_inode_table.specs.Spelled.{Spells}
 use Rattle.assise_inode_table.specs.Traces.{AllMakeNew, exchanges, Each, Rises, window}
 use Rattle.assise_inode_table.specs.Unseen.{Unseen}
-use Rattle.assise_digest.specs.Ahead.{all_effects}
-use Rattle.assise_machine_laws.specs.Records.{Rising}
 use Rattle.assise_machine_laws.specs.World.{World, Full, IsClient, opening_values, end, digested_by_all, received_by_all, records_between, call_at, first_undigested, first_undigested_at, steps, now, tree, value_below}
 
 -- ---- numbers of inodes

@@ -6,14 +6,13 @@ use Rattle.assise_seq_tree.specs.Tree.{Tree, opening as opening_tree}
 use Rattle.assise_seq_tree.specs.Runs.{tree_after_calls}
 use Rattle.assise_record.specs.declared.effect.Effect.{Effect}
 use Rattle.assise_record.specs.LogRecord.{LogRecord}
+use Rattle.assise_record.specs.Records.{all_effects, call_of}
 use Rattle.assise_inode_table.specs.Contents.{Values, values}
 use Rattle.assise_inode_table.specs.Effects.{value_after, contains, makes}
 use Rattle.assise_inode_table.specs.Interaction.{Step}
 use Rattle.assise_inode_table.specs.Late.{value_of}
 use Rattle.assise_inode_table.specs.Opening.{opening}
 use Rattle.assise_inode_table.specs.Traces.{NumberedCall, trace, step_of, values_after_calls, ops, below}
-use Rattle.assise_digest.specs.Ahead.{all_effects}
-use Rattle.assise_machine_laws.specs.Records.{call_of}
 
 -- A client's records have places, from 0 on: those that went from the front of its log are counted. Its calls have
 -- numbers, from 0 on. A call without effects has no record, so a record's place is at most the number of its call.

@@ -1,9 +1,9 @@
 // Each step can be made.
 ghost use Rattle.std.specs.Prelude.{◌≡◌, ◌≤◌, false, true, ℕ};
 ghost use Rattle.assise_names.specs.declared.mode.Mode.{Mode};
+ghost use Rattle.assise_record.specs.Records.{all_effects};
 ghost use Rattle.assise_inode_table.specs.Effects.{contains, touched};
 ghost use Rattle.assise_inode_table.specs.Traces.{NumberedCall};
-ghost use Rattle.assise_digest.specs.Ahead.{all_effects};
 ghost use Rattle.assise_machine_laws.specs.Chances.{MayCall, MayDeliver, MayDigest, MayDrop, MayFail, MayJoin};
 ghost use Rattle.assise_machine_laws.specs.ClientSteps.{Acquires, Crashes, IsFree, MakesCall, Opens, RaisesGoals, Releases};
 ghost use Rattle.assise_machine_laws.specs.NodeSteps.{Delivers, Digests, Drops, Fails, Joins, Rests};

@@ -1,9 +1,9 @@
 // What all full nodes have, and what others have seen.
 ghost use Rattle.std.specs.Prelude.{◌≡◌, ◌≢◌, ◌<◌, ◌≤◌, ◌==◌, List, false, filter, true, ℕ};
+ghost use Rattle.assise_record.specs.Records.{all_effects};
 ghost use Rattle.assise_inode_table.specs.Effects.{contains, touched};
 ghost use Rattle.assise_inode_table.specs.Traces.{Each};
 ghost use Rattle.assise_inode_table.specs.Unseen.{Unseen};
-ghost use Rattle.assise_digest.specs.Ahead.{all_effects};
 ghost use Rattle.assise_machine_laws.specs.Sound.{IsSound};
 ghost use Rattle.assise_machine_laws.specs.World.{Full, World, digested_by_all, end, firm, first_undigested, first_unreplicated, received_by_all, records_between, steps};
 

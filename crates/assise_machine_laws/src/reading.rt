@@ -1,9 +1,9 @@
 // What is read: by a client at its home, and of a node alone.
 ghost use Rattle.std.specs.Prelude.{◌≡◌, List, false, true, ℕ};
+ghost use Rattle.assise_record.specs.Records.{all_effects};
 ghost use Rattle.assise_inode_table.specs.Effects.{contains, touched};
 ghost use Rattle.assise_inode_table.specs.Spelled.{Spells};
 ghost use Rattle.assise_inode_table.specs.Traces.{NumberedCall, exchanges, ops, step_of, values_after_calls};
-ghost use Rattle.assise_digest.specs.Ahead.{all_effects};
 ghost use Rattle.assise_machine_laws.specs.Sound.{IsSound};
 ghost use Rattle.assise_machine_laws.specs.World.{Full, World, alone, firm, now, opening_values, received_by_all, records_between, step_at_home, tree, view};
 ghost use Rattle.assise_seq_tree.specs.Answer.{answer};

@@ -5,8 +5,10 @@ ghost use Rattle.assise_inode_table.specs.Traces.{NumberedCall};
 ghost use Rattle.assise_machine_laws.specs.ClientSteps.{Acquires, Crashes, MakesCall, Opens, RaisesGoals, Releases};
 ghost use Rattle.assise_machine_laws.specs.Coalescing.{Coalesces};
 ghost use Rattle.assise_machine_laws.specs.NodeSteps.{Delivers, Digests, Drops, Fails, Joins, Rests};
+ghost use Rattle.assise_machine_laws.specs.Regrouped.{Regroups};
 ghost use Rattle.assise_machine_laws.specs.Sound.{AreDropped, IsSound};
 ghost use Rattle.assise_machine_laws.specs.World.{World, digested_by_all, tree};
+ghost use Rattle.assise_record.specs.Groups.{all_coalesced};
 ghost use Rattle.assise_record.specs.LogRecord.{LogRecord};
 ghost use Rattle.assise_seq_tree.specs.Answer.{answer};
 
@@ -81,9 +83,17 @@ pub fn what_other_nodes_have_is_free()
     ensures dropped { (w u : World) → AreDropped w → Rests w u → AreDropped u }
 {}
 
-/// A client's last records may give way to others with the same net effect on the same inodes, where each full node has none of
-/// the old ones, or gets all of the new ones.
+/// A client's last records may give way to others with the same net effect on the same inodes between each two borders, where
+/// each full node has none of the old ones, or gets all of the new ones.
 pub fn an_equal_net_effect_keeps_what_holds()
     ensures keeps { (w u : World) (c s : ℕ) (new : List LogRecord) (was : ℕ → ℕ) → IsSound w → Coalesces w c s new was u → IsSound u }
     ensures dropped { (w u : World) (c s : ℕ) (new : List LogRecord) (was : ℕ → ℕ) → IsSound w → AreDropped w → Coalesces w c s new was u → AreDropped u }
+{}
+
+/// They may give way so to what is left of them, where they are cut into groups and each group is coalesced.
+pub fn regrouped_records_keep_what_holds()
+    ensures coalesces { (w u : World) (c s : ℕ) (gs : List (List LogRecord)) → IsSound w → Regroups w c s gs u →
+        (was : ℕ → ℕ) × Coalesces w c s (all_coalesced gs) was u }
+    ensures keeps { (w u : World) (c s : ℕ) (gs : List (List LogRecord)) → IsSound w → Regroups w c s gs u → IsSound u }
+    ensures dropped { (w u : World) (c s : ℕ) (gs : List (List LogRecord)) → IsSound w → AreDropped w → Regroups w c s gs u → AreDropped u }
 {}

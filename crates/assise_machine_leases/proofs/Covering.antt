@@ -4,14 +4,16 @@ use Rattle.std.proofs.Math.ListN.{drop_of_length-le}
 use Rattle.std.proofs.lemmas.List.{drop-take, length-drop, length-take-le}
 use Rattle.std.proofs.lemmas.Bool.{both_ways, false_from_ne_true}
 use Rattle.assise_record.specs.LogRecord.{LogRecord}
+use Rattle.assise_record.specs.Records.{all_effects}
+use Rattle.assise_record.proofs.Records.{all_effects-append}
 use Rattle.assise_inode_table.specs.Effects.{touched, contains}
-use Rattle.assise_digest.specs.Ahead.{all_effects}
+use Rattle.assise_inode_table.proofs.Making.{contains-both}
 use Rattle.assise_machine_laws.specs.Coalescing.{Coalesces}
 use Rattle.assise_machine_laws.specs.Sound.{IsSound}
 use Rattle.assise_machine_laws.proofs.Coalescing.{touch_all}
 use Rattle.assise_machine_laws.specs.NodeSteps.{Drops}
 use Rattle.assise_machine_laws.specs.World.{World, end, digested_by_all, records_between}
-use Rattle.assise_machine_laws.proofs.Logs.{drop-of_drop, contains-drop, contains-take, contains-both, all_effects-append, length-both}
+use Rattle.assise_machine_laws.proofs.Logs.{drop-of_drop, contains-drop, contains-take, length-both}
 use Rattle.assise_machine_laws.proofs.Observing.{end-else, least_of-end}
 use Rattle.assise_machine_leases.specs.Leases.{records_from, Covers}
 

@@ -1,8 +1,8 @@
 -- Leases go: a client's, once what lies before its cut is digested everywhere, and those of a node without clients that hold.
 use Rattle.std.proofs.Common.{◌≡◌, ℕ, ◌-◌, inl, inr, true, false, Some, None, ap, sym, ◌∙◌, subst, arith}
 use Rattle.std.proofs.lemmas.Bool.{cases_eq}
+use Rattle.assise_record.specs.Records.{all_effects}
 use Rattle.assise_inode_table.specs.Effects.{touched, contains}
-use Rattle.assise_digest.specs.Ahead.{all_effects}
 use Rattle.assise_lease_table.specs.Leases.{lease_of}
 use Rattle.assise_lease_tree.specs.Levels.{is_frozen}
 use Rattle.assise_lease_tree.proofs.Steps.{released_lawful, freed_lawful}

@@ -2,9 +2,9 @@
 use Rattle.std.proofs.Common.{◌≡◌, ◌≢◌, ℕ, suc, ◌≤◌, ◌⊎◌, inl, inr, true, List, Some, None, ap, sym, ◌∙◌, subst, arith}
 use Rattle.std.proofs.lemmas.Bool.{both_ways, cases_eq, cases_lt, false_from_ne_true}
 use Rattle.assise_record.specs.LogRecord.{LogRecord}
+use Rattle.assise_record.specs.Records.{all_effects, record_of}
 use Rattle.assise_inode_table.specs.Effects.{touched, contains}
 use Rattle.assise_inode_table.specs.Traces.{NumberedCall}
-use Rattle.assise_digest.specs.Ahead.{all_effects}
 use Rattle.assise_names.specs.declared.mode.Mode.TheVariants.{Write}
 use Rattle.assise_lease_table.specs.Leases.{lease_of, serves}
 use Rattle.assise_lease_table.proofs.Elements.{any_among, both_true}
@@ -12,7 +12,6 @@ use Rattle.assise_lease_tree.specs.Levels.{is_frozen, carries, lives}
 use Rattle.assise_lease_tree.proofs.Steps.{enrolled_lawful}
 use Rattle.assise_lease_table.specs.Modes.{strong}
 use Rattle.assise_machine_laws.specs.NodeSteps.{Drops}
-use Rattle.assise_machine_laws.specs.Records.{record_of}
 use Rattle.assise_machine_laws.specs.Sound.{IsSound}
 use Rattle.assise_machine_laws.specs.Staying.{SameLogs, SameClients, SameLeases}
 use Rattle.assise_machine_laws.specs.World.{World, IsClient, step_at_home}

@@ -8,8 +8,8 @@ use Rattle.std.specs.FinSet.{contains-union}
 use Rattle.std.specs.Cmp.{nat_cmp_total}
 use Rattle.std.proofs.lemmas.Bool.{or_cases, or_left, or_right, true_from_ne_false}
 use Rattle.std.proofs.lemmas.Option.{same_Some}
+use Rattle.assise_record.specs.Records.{all_effects}
 use Rattle.assise_inode_table.specs.Effects.{touched, contains}
-use Rattle.assise_digest.specs.Ahead.{all_effects}
 use Rattle.assise_machine_laws.specs.World.{World, ahead_below}
 use Rattle.assise_machine_returns.specs.Members.{since_of, AreMembers}
 use Rattle.assise_machine_returns.specs.Returns.{FailsAgain, DigestsNoted, ComesBack, Refills}

@@ -10,10 +10,10 @@ use Rattle.std.proofs.lemmas.Bool.{cases_Bool, cases_eq, cases_lt, both_ways, or
 use Rattle.std.proofs.lemmas.Option.{none-some, same_Some}
 use Rattle.assise_names.specs.declared.refusal.Refusal.TheVariants.{Busy}
 use Rattle.assise_record.specs.LogRecord.{LogRecord}
+use Rattle.assise_record.specs.Records.{all_effects}
 use Rattle.assise_inode_table.specs.Contents.{Content, Values}
 use Rattle.assise_inode_table.specs.Effects.{value_after, touched, contains}
 use Rattle.assise_inode_table.specs.Traces.{below}
-use Rattle.assise_digest.specs.Ahead.{all_effects}
 use Rattle.assise_machine_laws.specs.Chances.{MayDigest}
 use Rattle.assise_machine_laws.specs.NodeSteps.{Digests, Fails, Rests, kept_at_failure}
 use Rattle.assise_machine_laws.specs.World.{World, Full, records_between, call_at, ahead_below}

@@ -7,9 +7,9 @@ use Rattle.std.specs.FinSet.{contains-union}
 use Rattle.std.specs.Cmp.{nat_cmp_total}
 use Rattle.std.proofs.lemmas.Bool.{cases_eq, cases_Bool, or_parts, both_ways}
 use Rattle.std.proofs.lemmas.Option.{none-some}
+use Rattle.assise_record.specs.Records.{all_effects}
 use Rattle.assise_inode_table.specs.Effects.{contains}
 use Rattle.assise_inode_table.proofs.Making.{untouched}
-use Rattle.assise_digest.specs.Ahead.{all_effects}
 use Rattle.assise_machine_laws.specs.Runs.{begun}
 use Rattle.assise_machine_laws.specs.World.{World, Full, ahead_below}
 use Rattle.assise_machine_returns.specs.Members.{since_of, AreMembers}

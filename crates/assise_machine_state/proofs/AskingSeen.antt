@@ -9,10 +9,10 @@ use Rattle.assise_names.specs.declared.mode.Mode.{Mode}
 use Rattle.assise_record.specs.declared.effect.Effect.{Effect}
 use Rattle.assise_record.specs.LogRecord.{LogRecord}
 use Rattle.assise_record.specs.Touched.{touched_by}
+use Rattle.assise_record.specs.Records.{all_effects}
 use Rattle.assise_inode_table.specs.Effects.{contains, touched}
 use Rattle.assise_private_log.specs.NumberedLog.{NumberedLog, record_at}
 use Rattle.assise_private_log.specs.Touches.{Covers as CoversLog, found_touches}
-use Rattle.assise_digest.specs.Ahead.{all_effects}
 use Rattle.assise_lease_table.specs.declared.lease.Asked.{Asked}
 use Rattle.assise_lease_table.specs.declared.lease.Lease.{Lease}
 use Rattle.assise_lease_table.specs.Answers.{clients_of}

@@ -3,6 +3,7 @@ use Rattle.std.proofs.Common.{◌≡◌, ◌≢◌, ℕ, suc, ◌+◌, ◌-◌, 
 use Rattle.std.proofs.lemmas.Bool.{cases_Bool}
 use Rattle.std.proofs.lemmas.List.{length-set}
 use Rattle.assise_record.specs.declared.effect.Effect.{Effect}
+use Rattle.assise_record.specs.Records.{has_some, record_of}
 use Rattle.assise_inode_table.specs.Contents.{values}
 use Rattle.assise_inode_table.specs.Numbers.{inode_number}
 use Rattle.assise_inode_table.specs.Traces.{NumberedCall}
@@ -10,7 +11,6 @@ use Rattle.assise_private_log.specs.NumberedLog.{end as log_end}
 use Rattle.assise_digest.specs.Region.{ReceivedLog, RegionValue, with_log, with_more}
 use Rattle.assise_machine_laws.specs.Chances.{MayCall}
 use Rattle.assise_machine_laws.specs.ClientSteps.{MakesCall}
-use Rattle.assise_machine_laws.specs.Records.{has_some, record_of}
 use Rattle.assise_machine_laws.specs.World.{World, call_makes_inode, end, step_at_home}
 use Rattle.assise_machine_returns.specs.Returns.{OtherAreasStay}
 use Rattle.assise_machine_history.specs.Numbered.{kept_numbered, made_in, numbered_in, plain_call}

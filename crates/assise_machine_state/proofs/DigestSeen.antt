@@ -3,11 +3,11 @@ use Rattle.std.proofs.Common.{◌≡◌, ◌≢◌, ℕ, ◌+◌, ◌-◌, ◌�
 use Rattle.std.proofs.lemmas.List.{length-map}
 use Rattle.std.specs.FinSet as set
 use Rattle.std.specs.Ordering.{nat_cmp}
+use Rattle.assise_record.specs.Records.{all_effects}
 use Rattle.assise_inode_table.proofs.Applying.{get-all_applied}
 use Rattle.assise_inode_table.specs.Contents.{InodeMap, values}
 use Rattle.assise_inode_table.specs.Effects.{all_applied, contains, touched, value_after}
 use Rattle.assise_private_log.specs.NumberedLog.{end as log_end}
-use Rattle.assise_digest.specs.Ahead.{all_effects}
 use Rattle.assise_digest.specs.Region.{ReceivedLog, RegionValue, ahead, digested_further}
 use Rattle.assise_manager.specs.Changes.{noted, stale_again}
 use Rattle.assise_manager.specs.Standings.{Standing, down, full, is_full, returning}

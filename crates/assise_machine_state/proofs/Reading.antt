@@ -2,10 +2,10 @@
 use Rattle.std.proofs.Common.{◌≡◌, ℕ, zero, suc, ◌<◌, ◌≤◌, true, List, [], ◌∷◌, ◌++◌, ◌-◌, length, get_or, drop, take, slice_index_or, refl, ap, sym, ◌∙◌, arith}
 use Rattle.std.proofs.lemmas.List.{append-nil, append_assoc, take_all}
 use Rattle.std.specs.FinMap as map
+use Rattle.assise_record.specs.Records.{all_effects}
 use Rattle.assise_inode_table.proofs.Applying.{get-all_applied}
 use Rattle.assise_inode_table.specs.Contents.{values}
 use Rattle.assise_inode_table.specs.Effects.{all_applied, value_after}
-use Rattle.assise_digest.specs.Ahead.{all_effects}
 use Rattle.assise_digest.specs.Region.{ReceivedLog, ahead, ahead_below, all_ahead, alone, no_log}
 use Rattle.assise_machine_laws.specs.Sound.{IsSound}
 use Rattle.assise_machine_laws.specs.World.{Full, World, ahead as ahead_observed, ahead_below as below_observed, all_ahead as all_observed, alone as alone_observed, received_by_all, view}

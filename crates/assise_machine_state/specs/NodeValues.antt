@@ -1,12 +1,12 @@
 -- What nodes have: for each its inodes, and the logs that it received.
 -- Assise (OSDI 2020), section 3 (CC-NVM: update logs, shared areas, recovery).
 use Rattle.std.specs.Prelude.{◌≡◌, ℕ, zero, suc, ◌≤◌, nat_le, Bool, false, ◌==◌, if◌then◌else◌, List, [], ◌∷◌, ◌++◌, length, map}
+use Rattle.assise_record.specs.Records.{has_some}
 use Rattle.assise_inode_table.specs.Opening.{opening}
 use Rattle.assise_record.specs.declared.effect.Effect.{Effect}
 use Rattle.assise_record.specs.LogRecord.{LogRecord}
 use Rattle.assise_private_log.specs.NumberedLog.{NumberedLog, empty_log}
 use Rattle.assise_digest.specs.Region.{AreWhole, HasClient, IsBegun, ReceivedLog, RegionValue, from_number, log_of, no_log, up_to_number, with_client, with_log, with_more, without_last_client}
-use Rattle.assise_machine_laws.specs.Records.{has_some}
 use Rattle.assise_machine_state.specs.Places.{IsNumber, at, item, put}
 
 -- a node that received nothing

@@ -1,10 +1,10 @@
 -- The state as the laws observe it.
 -- Assise (OSDI 2020), section 3 (CC-NVM: update logs, replication, digests, leases, recovery).
 use Rattle.std.specs.Prelude.{ℕ, Bool, true, false, not, if◌then◌else◌, List, filter, length, Option, Some, None}
+use Rattle.assise_record.specs.Records.{all_effects}
 use Rattle.assise_inode_table.specs.Contents.{InodeMap, values}
 use Rattle.assise_inode_table.specs.Effects.{all_applied}
 use Rattle.assise_private_log.specs.NumberedLog.{end}
-use Rattle.assise_digest.specs.Ahead.{all_effects}
 use Rattle.assise_digest.specs.Region.{ReceivedLog, ahead}
 use Rattle.assise_manager.specs.Membership.{lowest_full}
 use Rattle.assise_manager.specs.Standings.{Standing, is_full, standing_of}

@@ -3,8 +3,8 @@ ghost use Rattle.std.specs.Prelude.{◌≡◌, ◌<◌, ◌≤◌, true, suc, le
 ghost use Rattle.std.specs.Ordering.{nat_cmp};
 ghost use Rattle.std.specs.FinMap as map;
 ghost use Rattle.std.specs.FinSet as set;
+ghost use Rattle.assise_record.specs.Records.{all_effects};
 ghost use Rattle.assise_inode_table.specs.Effects.{contains, touched};
-ghost use Rattle.assise_digest.specs.Ahead.{all_effects};
 ghost use Rattle.assise_digest.specs.Region.{alone};
 ghost use Rattle.assise_machine_laws.specs.Chances.{MayDeliver, MayDigest};
 ghost use Rattle.assise_machine_laws.specs.NodeSteps.{Delivers, Drops};

@@ -1,9 +1,9 @@
 // The inodes that records of a log touch.
 ghost use Rattle.std.specs.Prelude.{◌≡◌, ◌++◌, IsOkUnless, OnOk, take};
 ghost use Rattle.assise_names.specs.declared.refusal.Refusal.TheVariants.{OutOfMemory};
+ghost use Rattle.assise_record.specs.Records.{all_effects};
 ghost use Rattle.assise_inode_table.specs.Effects.{touched};
 ghost use Rattle.assise_private_log.specs.NumberedLog.{records_from};
-ghost use Rattle.assise_digest.specs.Ahead.{all_effects};
 
 use assise_names::refusal::Refusal;
 use assise_private_log::log::Log;

@@ -1,4 +1,4 @@
-//! Tests of `assise_record`: frames byte by byte, each fault in its place, and what is copied.
+//! Tests of `assise_record`: frames byte by byte, each fault in its place, what is copied, and what is overridden.
 #![tactic(auto)]
 
 #[cfg(test)]
@@ -9,5 +9,7 @@ mod frames;
 mod marks;
 #[cfg(test)]
 mod outcome;
+#[cfg(test)]
+mod overrides;
 #[cfg(test)]
 mod rows;

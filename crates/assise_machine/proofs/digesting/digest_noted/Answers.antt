@@ -1,10 +1,10 @@
 use Rattle.std.proofs.Common.{◌≡◌, ◌≤◌, ◌++◌, length, take, ap, sym, subst, ◌∙◌, arith}
 use Rattle.std.proofs.lemmas.List.{length-map, length-take}
 use Rattle.std.specs.FinSet as set
+use Rattle.assise_record.specs.Records.{all_effects}
 use Rattle.assise_inode_table.specs.Effects.{touched}
 use Rattle.assise_record.specs.Touched.{touched_by}
 use Rattle.assise_private_log.specs.NumberedLog.{records_from}
-use Rattle.assise_digest.specs.Ahead.{all_effects}
 use Rattle.assise_digest.specs.Region.{HasClient, ahead, log_of}
 use Rattle.assise_manager.specs.Changes.{noted}
 use Rattle.assise_manager.specs.Whole.{membership}

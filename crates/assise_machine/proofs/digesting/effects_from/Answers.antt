@@ -1,7 +1,7 @@
 use Rattle.std.proofs.Common.{◌≡◌, ◌+◌, ◌≤◌, length, take, ap, ◌∙◌, arith}
 use Rattle.std.proofs.lemmas.List.{length-append}
 use Rattle.assise_record.specs.LogRecord.{LogRecord}
-use Rattle.assise_digest.specs.Ahead.{all_effects}
+use Rattle.assise_record.specs.Records.{all_effects}
 use Rattle.assise_machine_state.proofs.TouchedFrom.{taken_first}
 use Rattle.assise_machine.proofs.digesting.effects_from.Goals as goal
 

@@ -1,5 +1,5 @@
 use Rattle.std.proofs.Common.{◌≡◌, ◌+◌, ◌*◌, ◌≤◌, length, take}
-use Rattle.assise_digest.specs.Ahead.{all_effects}
+use Rattle.assise_record.specs.Records.{all_effects}
 use Rattle.assise_private_log.specs.NumberedLog.{records_from}
 use Rattle.assise_machine.proofs.digesting.effects_from.Given as goal
 

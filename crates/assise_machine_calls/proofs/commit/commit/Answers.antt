@@ -3,11 +3,11 @@ use Rattle.std.specs.List.{list_any}
 use Rattle.std.proofs.lemmas.List.{length_push}
 use Rattle.std.proofs.lemmas.Result.{err_from_is_err_and}
 use Rattle.assise_history.specs.Entries.{calls}
+use Rattle.assise_record.specs.Records.{has_some}
 use Rattle.assise_inode_table.specs.Effects.{makes}
 use Rattle.assise_inode_table.specs.Numbers.{inode_number}
 use Rattle.assise_private_log.specs.NumberedLog.{end}
 use Rattle.assise_digest.specs.Region.{HasRoom, RegionValue}
-use Rattle.assise_machine_laws.specs.Records.{has_some}
 use Rattle.assise_machine_events.specs.ClientEvents.{Calling}
 use Rattle.assise_machine_events.specs.Events.{replied}
 use Rattle.assise_machine_state.specs.ClientValues.{client_in}

@@ -1,7 +1,7 @@
 use Rattle.std.proofs.Common.{◌+◌, ◌-◌, ◌++◌, take, ap, ◌∙◌, arith}
+use Rattle.assise_record.specs.Records.{all_effects}
 use Rattle.assise_inode_table.specs.Effects.{touched}
 use Rattle.assise_private_log.specs.NumberedLog.{records_from}
-use Rattle.assise_digest.specs.Ahead.{all_effects}
 use Rattle.assise_digest.specs.Region.{log_of}
 use Rattle.assise_machine_state.specs.Observed.{world_of}
 use Rattle.assise_machine_state.specs.Whole.{value_of}

@@ -1,6 +1,6 @@
 use Rattle.std.proofs.Common.{◌≡◌, ◌++◌, take}
+use Rattle.assise_record.specs.Records.{all_effects}
 use Rattle.assise_inode_table.specs.Effects.{touched}
-use Rattle.assise_digest.specs.Ahead.{all_effects}
 use Rattle.assise_private_log.specs.NumberedLog.{records_from}
 use Rattle.assise_machine_state.proofs.touching.push_touched_from.Given as goal
 

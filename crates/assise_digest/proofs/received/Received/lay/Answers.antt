@@ -1,11 +1,11 @@
 use Rattle.std.proofs.Common.{◌≡◌, ◌-◌, ◌++◌, ◌∙◌, [], ◌∷◌, min, length, take, ap, sym, subst, arith}
+use Rattle.assise_record.specs.Records.{all_effects}
+use Rattle.assise_record.proofs.Records.{all_effects-append}
 use Rattle.assise_inode_table.specs.Whole.{CanBeMadeWhole}
-use Rattle.assise_digest.specs.Ahead.{all_effects}
 use Rattle.assise_digest.specs.Pending.{Lays}
 use Rattle.assise_digest.specs.Region.{ahead}
 use Rattle.assise_digest.specs.Sound.{seen_log}
 use Rattle.assise_digest.proofs.Receiving.{count_ahead}
-use Rattle.assise_digest.proofs.Standing.{all_effects-append}
 use Rattle.assise_digest.proofs.Laying.{appended_last, laid_no_more, lays_more, one_more_ahead, record_here, take_same, whole_at}
 use Rattle.assise_digest.proofs.received.Received.lay.Goals as goal
 

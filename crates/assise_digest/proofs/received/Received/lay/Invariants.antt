@@ -1,6 +1,6 @@
 use Rattle.std.proofs.Common.{◌-◌, ◌++◌, List, take}
 use Rattle.assise_record.specs.declared.effect.Effect.{Effect}
-use Rattle.assise_digest.specs.Ahead.{all_effects}
+use Rattle.assise_record.specs.Records.{all_effects}
 use Rattle.assise_digest.specs.Pending.{KeepsNoMore, Lays}
 use Rattle.assise_digest.specs.Region.{ahead}
 use Rattle.assise_digest.specs.Sound.{seen_log}

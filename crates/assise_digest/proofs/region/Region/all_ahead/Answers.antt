@@ -1,6 +1,6 @@
 use Rattle.std.proofs.Common.{◌≡◌, ◌<◌, ◌≤◌, ◌++◌, ◌∙◌, length, min, slice_index_or, take, ap, sym, subst, arith}
 use Rattle.std.proofs.lemmas.List.{get_or-map, length-map}
-use Rattle.assise_digest.specs.Ahead.{all_effects}
+use Rattle.assise_record.specs.Records.{all_effects}
 use Rattle.assise_digest.specs.Pending.{Lays}
 use Rattle.assise_digest.specs.Region.{ahead_below, all_ahead, no_log}
 use Rattle.assise_digest.specs.Sound.{seen_log, seen_logs}

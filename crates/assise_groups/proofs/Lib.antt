@@ -1,9 +1,0 @@
-pub mod Bytes
-pub mod Overriding
-pub mod Grouping
-pub mod Wrong
-pub mod Parts
-pub mod Regrouping
-pub mod Wholes
-pub mod Renoting
-pub mod Marking

@@ -1,2 +1,0 @@
-pub mod Coalescing
-pub mod Possible

@@ -1,4 +1,0 @@
-//! A dsync that coalesces is an event of the machine.
-#![tactic(auto)]
-
-pub mod laws;

@@ -1,0 +1,21 @@
+use Rattle.assise_record.proofs.Grouping.{group-effects, group-begins, group-rising, group-shorter}
+use Rattle.assise_inode_table.proofs.Grouped.{same_group}
+use Rattle.assise_inode_table.proofs.laws.a_coalesced_group_stands_for_the_group.Goals as goal
+
+pub returns-clause-effects : goal.returns-clause-effects
+returns-clause-effects c = group-effects
+
+pub returns-clause-net : goal.returns-clause-net
+returns-clause-net c = λ rs. (same_group rs).net
+
+pub returns-clause-touch : goal.returns-clause-touch
+returns-clause-touch c = λ rs. (same_group rs).touch
+
+pub returns-clause-begins : goal.returns-clause-begins
+returns-clause-begins c = group-begins
+
+pub returns-clause-rising : goal.returns-clause-rising
+returns-clause-rising c = group-rising
+
+pub returns-clause-shorter : goal.returns-clause-shorter
+returns-clause-shorter c = group-shorter

@@ -1,0 +1,5 @@
+use Rattle.assise_inode_table.proofs.LeftWhole.{whole_left}
+use Rattle.assise_inode_table.proofs.laws.what_is_left_can_be_made_whole.Goals as goal
+
+pub returns : goal.returns
+returns c = whole_left

@@ -1,0 +1,166 @@
+-- A dsync can coalesce.
+use Rattle.std.proofs.Common.{◌≡◌, ◌≢◌, ◌⊎◌, ℕ, ◌+◌, ◌-◌, ◌<◌, ◌≤◌, ◌==◌, ◌&&◌, ◌||◌, max, min, not, nat_le, if◌then◌else◌, Bool, true, false, List, [], ◌∷◌, ◌++◌, filter, length, take, drop, refl, ap, sym, subst, ◌∙◌, inl, inr, arith, length-drop, append-nil}
+use Rattle.std.proofs.lemmas.Bool.{false≢true, cases_eq, cases_lt, cond-true, cond-false, eq-eqb, ne_eqb, le-leb, lt-leb, and_from, and_left, and_right, or_right}
+use Rattle.std.proofs.lemmas.List.{length-take}
+use Rattle.assise_record.specs.Groups.{AllHaveEffects, all_coalesced, are_whole}
+use Rattle.assise_record.specs.LogRecord.{LogRecord}
+use Rattle.assise_record.proofs.Marking.{groups-all, groups-are}
+use Rattle.assise_record.proofs.WholeGroups.{whole_none}
+use Rattle.assise_inode_table.specs.Effects.{contains}
+use Rattle.assise_machine_laws.specs.Coalescing.{HasNone, GetsAll}
+use Rattle.assise_machine_laws.specs.Regrouped.{Regroups}
+use Rattle.assise_machine_laws.specs.Sound.{IsSound}
+use Rattle.assise_machine_laws.specs.World.{World, Full, end, received_by_all, records_between}
+use Rattle.assise_machine_laws.proofs.Failing.{contains-filter, filter-contains}
+use Rattle.assise_machine_laws.proofs.Logs.{length-both}
+use Rattle.assise_machine_laws.proofs.Observing.{end_is, first-received_by_all, received_by_all-end}
+use Rattle.assise_machine_events.specs.Dsyncs.{IsCoalescing, coalesced_from, full_elsewhere, most_of, new_groups}
+use Rattle.assise_machine_events.specs.Machine.{Holds, Machine}
+
+between_length : (w : World) (c s : ℕ) → w.first c ≤ s → s ≤ end w c → length (records_between w c s (end w c)) ≤ end w c
+unfolding records_between
+between_length w c s low high = omega (arith, length-take (end w c - s) (drop (s - w.first c) (w.records c)))
+
+most-above : (ns : List ℕ) (f : ℕ → ℕ) (n : ℕ) → contains ns n ≡ true → f n ≤ most_of ns f
+most-above [] f n h = absurd (false≢true h)
+most-above (m ∷ ns) f n h =
+    elim (cases_eq m n) [
+      | inl is ↦ (let t : f m ≡ f n = ap f is in omega (arith, t))
+      | inr other ↦ (let rest : contains ns n ≡ true = sym (ap (λ b. b || contains ns n) (ne_eqb m n other)) ∙ h in omega (arith, most-above ns f n rest))
+    ]
+
+most-below : (ns : List ℕ) (f : ℕ → ℕ) (top : ℕ) → ((n : ℕ) → contains ns n ≡ true → f n ≤ top) → most_of ns f ≤ top
+most-below [] f top h = omega arith
+most-below (m ∷ ns) f top h =
+    omega (arith, h m (ap (λ b. b || contains ns m) (eq-eqb m m refl)), most-below ns f top (λ n t. h n (or_right (m == n) (contains ns n) t)))
+
+module _ (w : World) (c : ℕ) (h : IsSound w) (lives : w.lives c ≡ true) (some : AllHaveEffects (records_between w c (coalesced_from w c) (end w c))) where
+
+  abbrev s : ℕ
+  s = coalesced_from w c
+
+  abbrev gs : List (List LogRecord)
+  gs = new_groups w c
+
+  abbrev records_now : List LogRecord
+  records_now = take (s - w.first c) (w.records c) ++ all_coalesced gs
+
+  abbrev here : ℕ → ℕ → Bool
+  here n d = (d == c) && (n == w.home c)
+
+  abbrev u : World
+  u = record w {
+    records = λ d. if d == c then records_now else w.records d;
+    border = λ d k. if d == c then (if nat_le k s then w.border c k else are_whole gs (k - s)) else w.border d k;
+    received = λ n d. if here n d then s + length (all_coalesced gs) else w.received n d;
+    log = λ n d. if here n d then records_now else w.log n d;
+    goal = λ d. if d == c then s + length (all_coalesced gs) else w.goal d;
+  }
+
+  elsewhere : (n : ℕ) → Full w n → n ≢ w.home c → w.received n c ≤ s
+  elsewhere n f other =
+      (let kept : contains (full_elsewhere w c) n ≡ true = filter-contains (λ m. not (m == w.home c)) w.full n (ap not (ne_eqb n (w.home c) other)) f in
+      let t : w.received n c ≤ most_of (full_elsewhere w c) (λ m. w.received m c) = most-above (full_elsewhere w c) (λ m. w.received m c) n kept in
+      omega (arith, t))
+
+  high : s ≤ end w c
+  high =
+      (let t : most_of (full_elsewhere w c) (λ m. w.received m c) ≤ end w c =
+      most-below (full_elsewhere w c) (λ m. w.received m c) (end w c) (λ n k. (h.coherent.order n c (contains-filter (λ m. not (m == w.home c)) w.full n k)).known) in
+      omega (arith, t, h.goals c, received_by_all-end w c))
+
+  low : received_by_all w c ≤ s
+  low = omega arith
+
+  first_low : w.first c ≤ s
+  first_low = omega (arith, first-received_by_all w h.coherent c, low)
+
+  own : (c == c) ≡ true
+  own = eq-eqb c c refl
+
+  records_are : u.records c ≡ records_now
+  records_are = cond-true (c == c) records_now (w.records c) own
+
+  end_now : end u c ≡ s + length (all_coalesced gs)
+  end_now =
+      end_is u c ∙ ap (λ l. w.first c + length l) records_are
+      ∙ omega (arith, length-both (take (s - w.first c) (w.records c)) (all_coalesced gs), length-take (s - w.first c) (w.records c), first_low, high, end_is w c)
+
+  border_then : (k : ℕ) → (b : Bool) → nat_le (s + k) s ≡ b → b ≡ false → u.border c (s + k) ≡ are_whole gs k
+  border_then k b is off =
+      (let back : (s + k) - s ≡ k = omega arith in
+      cond-true (c == c) _ _ own ∙ cond-false (nat_le (s + k) s) _ _ (is ∙ off) ∙ ap (are_whole gs) back)
+
+  border_first : (k : ℕ) → k ≡ 0 → u.border c (s + k) ≡ are_whole gs k
+  border_first k none =
+      (let at : s + k ≡ s = omega (arith, none) in
+      ap (u.border c) at ∙ cond-true (c == c) _ _ own ∙ cond-true (nat_le s s) _ _ (le-leb s s (omega arith))
+      ∙ h.apart c s lives first_low (omega arith) high ∙ sym (ap (are_whole gs) none ∙ whole_none gs))
+
+  at_home : GetsAll (w.home c) c u
+  at_home = record {
+    received = cond-true (here (w.home c) c) _ _ (and_from (c == c) (w.home c == w.home c) own (eq-eqb (w.home c) (w.home c) refl)) ∙ sym end_now;
+    log = cond-true (here (w.home c) c) _ _ (and_from (c == c) (w.home c == w.home c) own (eq-eqb (w.home c) (w.home c) refl)) ∙ sym records_are;
+  }
+
+  else_here : (n d : ℕ) → d ≢ c → here n d ≡ false
+  else_here n d other = and_left (d == c) (n == w.home c) (ne_eqb d c other)
+
+  regroups : Regroups w c (coalesced_from w c) (new_groups w c) u
+  regroups = record {
+    lives = lives;
+    low = low;
+    high = high;
+    groups = groups-are (end w c) (records_between w c s (end w c)) some;
+    cut = groups-all (end w c) (records_between w c s (end w c)) (between_length w c s first_low high);
+    records_own = records_are;
+    records_else = λ d other. cond-false (d == c) _ _ (ne_eqb d c other);
+    border_old = λ k old. cond-true (c == c) _ _ own ∙ cond-true (nat_le k s) _ _ (le-leb k s old);
+    border_new = λ k le. elim (cases_eq k 0) [
+      | inl none ↦ border_first k none
+      | inr more ↦ border_then k (nat_le (s + k) s) refl (lt-leb (s + k) s (omega (arith, more)))
+    ];
+    border_else = λ d k other. cond-false (d == c) _ _ (ne_eqb d c other);
+    here = λ n f. elim (cases_eq n (w.home c)) [
+      | inl is ↦ inr (subst (λ m. GetsAll m c u) (sym is) at_home)
+      | inr other ↦ inl (record {
+          before = elsewhere n f other;
+          received = cond-false (here n c) _ _ (and_right (c == c) (n == w.home c) (ne_eqb n (w.home c) other));
+          log = cond-false (here n c) _ _ (and_right (c == c) (n == w.home c) (ne_eqb n (w.home c) other));
+        })
+    ];
+    at_home = at_home;
+    received_else = λ n d f other. cond-false (here n d) _ _ (else_here n d other);
+    log_else = λ n d f other. cond-false (here n d) _ _ (else_here n d other);
+    full = refl;
+    area = λ n i f. refl;
+    digested = λ n d f. refl;
+    calls = refl;
+    first = λ d. refl;
+    next = λ d. refl;
+    made = λ d. refl;
+    clients = record { clients = refl; home = λ d. refl; lives = λ d. refl; crashed = λ d. refl };
+    goal = omega arith;
+    goal_here = cond-true (c == c) _ _ own ∙ sym end_now;
+    goal_else = λ d other. cond-false (d == c) _ _ (ne_eqb d c other);
+    leases = record { holds = λ d i. refl; writes = λ d i. refl };
+  }
+
+  -- areas stay, those of nodes that aren't full too
+  pub can_regroup : (v : World) × (Regroups w c (coalesced_from w c) (new_groups w c) v × ((n i : ℕ) → v.area n i ≡ w.area n i))
+  can_regroup = (u, (regroups, λ n i. refl))
+
+pub can_coalesce : (m : Machine) (c : ℕ) → Holds m → m.world.lives c ≡ true → received_by_all m.world c < end m.world c →
+    AllHaveEffects (records_between m.world c (coalesced_from m.world c) (end m.world c)) → (m' : Machine) × IsCoalescing m c m'
+can_coalesce m c h lives lacking some =
+    let (v, t) = can_regroup m.world c h.sound lives some in
+    (
+      record m { world = v },
+      record {
+        lacking = lacking;
+        regroups = t.0;
+        leases = refl;
+        adds = record { history = sym (append-nil m.history); limit = refl };
+        keeps = record { members = refl; others = λ n i other. t.1 n i };
+      },
+    )

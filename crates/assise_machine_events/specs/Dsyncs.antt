@@ -1,0 +1,35 @@
+-- A dsync of an optimistic client that is awaited: what only its home has and what wasn't to be replicated yet is cut into groups, each
+-- group is coalesced, and all of the log is to be replicated. The machine doesn't make this event yet.
+-- Assise (OSDI 2020), section 3 (CC-NVM: in optimistic mode update logs are coalesced before they are replicated; dsync).
+use Rattle.std.specs.Prelude.{◌≡◌, ℕ, ◌<◌, ◌==◌, max, not, List, [], ◌∷◌, filter}
+use Rattle.assise_record.specs.Groups.{groups_of}
+use Rattle.assise_record.specs.LogRecord.{LogRecord}
+use Rattle.assise_machine_laws.specs.Regrouped.{Regroups}
+use Rattle.assise_machine_laws.specs.World.{World, end, received_by_all, records_between}
+use Rattle.assise_machine_events.specs.ClientEvents.{KeepsMembers}
+use Rattle.assise_machine_events.specs.Machine.{Machine, Adds}
+
+-- the greatest value of some numbers, or 0
+abbrev pub most_of : List ℕ → (ℕ → ℕ) → ℕ
+most_of [] f = 0
+most_of (n ∷ ns) f = max (f n) (most_of ns f)
+
+-- the full nodes besides the client's home
+abbrev pub full_elsewhere : World → ℕ → List ℕ
+full_elsewhere w c = filter (λ n. not (n == w.home c)) w.full
+
+-- where a dsync begins to coalesce: what another full node has stays, and so does what is to be replicated already
+abbrev pub coalesced_from : World → ℕ → ℕ
+coalesced_from w c = max (w.goal c) (max (received_by_all w c) (most_of (full_elsewhere w c) (λ n. w.received n c)))
+
+-- the groups of the records from there on
+abbrev pub new_groups : World → ℕ → List (List LogRecord)
+new_groups w c = groups_of (end w c) (records_between w c (coalesced_from w c) (end w c))
+
+-- a full node lacks records of the client, whose last records become groups
+pub record IsCoalescing (m : Machine) (c : ℕ) (m' : Machine) : Type 0 where
+  pub lacking : received_by_all m.world c < end m.world c
+  pub regroups : Regroups m.world c (coalesced_from m.world c) (new_groups m.world c) m'.world
+  pub leases : m'.leases ≡ m.leases
+  pub adds : Adds m [] m'
+  pub keeps : KeepsMembers m m'
