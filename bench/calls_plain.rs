@@ -1,7 +1,7 @@
-//! The calls of crates/assise_machine_calls_bench over std's maps: plain Rust, in which nothing is proved and a want of
-//! memory ends the program. It takes the same words and prints the same number, so `bench/calls` times it too:
+//! The calls of `assise_bench calls` over std's maps: plain Rust, in which nothing is proved and a want of
+//! memory ends the program. It takes the same words and prints the same number, so `bench/run calls` times it too:
 //!
-//!     rustc -O -o /tmp/calls_plain bench/calls_plain.rs && bench/calls /tmp/calls_plain
+//!     rustc -O -o /tmp/calls_plain bench/calls_plain.rs && bench/run calls /tmp/calls_plain
 //!
 //! A call walks its path with a look-up of a lease and of an inode for each name, and gives an entry of the history and, if it
 //! changes something, a record of the log. A directory is a `BTreeMap`, a file a vector of blocks.
@@ -334,7 +334,8 @@ fn run(words: &[String]) -> Option<usize> {
 }
 
 fn main() {
-    let words: Vec<String> = std::env::args().collect();
+    // The first word is `calls`.
+    let words: Vec<String> = std::env::args().skip(1).collect();
     match run(&words) {
         Some(answered) => println!("{answered}"),
         None => std::process::exit(2),

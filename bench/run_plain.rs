@@ -1,6 +1,6 @@
 // What a plain Rust program takes for the scripts of bench/generate with one client on one node: it reads a script, serves the calls
 // on ordered maps and prints the answers, without leases, replication, a history or proofs. Built by `rustc -O bench/run_plain.rs`;
-// bench/run takes it as its program. It stops where a script has another command, or a call fails.
+// `bench/run scripts` takes it as its program. It stops where a script has another command, or a call fails.
 
 use std::collections::{BTreeMap, HashMap, VecDeque};
 use std::fmt::Write as _;

@@ -21,8 +21,8 @@ use std::alloc::Global;
 /// The most clients of a cluster.
 const MOST_CLIENTS: u32 = 16;
 
-/// The tree that a full node's region alone gives: that of all replicated calls. Refused with [`Refusal::BadNode`], [`Refusal::WrongPhase`] where the node isn't
-/// full, and [`Refusal::OutOfMemory`].
+/// The tree that a full node's region alone gives: that of all replicated calls. Refused with [`Refusal::BadNode`],
+/// [`Refusal::WrongPhase`] where the node isn't full, and [`Refusal::OutOfMemory`].
 pub(crate) fn tree_at<C: Revokes + Drop>(
     alloc: Global,
     cluster: &ClusterOf<C>,

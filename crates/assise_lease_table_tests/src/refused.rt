@@ -1,4 +1,4 @@
-// Allocations that are refused: `checks/lease_allocations` refuses each in turn.
+// Allocations that are refused: `checks/allocations leases` refuses each in turn.
 use crate::logs::{OneLog, log_of};
 use crate::steps::{enrol, hold};
 use assise_lease_table::client_table::{ClientTable, ClientTableOf};

@@ -2,12 +2,12 @@
 use Rattle.std.specs.Prelude.{◌≡◌, ℕ, ◌-◌, List, [], ◌∷◌, None, Result, Ok, Err}
 use Rattle.assise_names.specs.declared.refusal.Refusal.{Refusal}
 use Rattle.assise_names.specs.declared.refusal.Refusal.TheVariants.{BadClient}
-use Rattle.assise_machine_calls.specs.Answers.{turn_answer}
+use Rattle.assise_machine_calls.specs.Answers.{crashing_answer, turn_answer}
 use Rattle.assise_machine_events.specs.Events.{Answer, ClusterEvent, back, crash, deliver, digest, fail, join, open_client, opened, outgoing, refill, refused, release_ready, released, try_call, try_fsync}
 use Rattle.assise_machine_events.specs.Faults.{open_fault}
 use Rattle.assise_machine_events.specs.Happenings.{Happens}
 use Rattle.assise_machine_events.specs.Machine.{Machine}
-use Rattle.assise_machine_failures.specs.Answers.{crashing_answer, failing_answer, joining_answer, refilling_answer, returning_answer}
+use Rattle.assise_machine_failures.specs.Answers.{failing_answer, joining_answer, refilling_answer, returning_answer}
 use Rattle.assise_machine.specs.declared.answer.Answer.{Answer as Answered}
 use Rattle.assise_machine.specs.declared.answer.Answer.TheVariants.{Opened, Called, Sent, Received, Digested, Released, Crashed, Failed, Began, Left, Joined}
 use Rattle.assise_machine.specs.declared.event.Event.{Event}

@@ -2,6 +2,7 @@ pub mod OpenFaults
 pub mod Opened
 pub mod ClientFaults
 pub mod Fsyncing
+pub mod Crashed
 pub mod Committing
 pub mod Granted
 pub mod Wanting

@@ -5,6 +5,7 @@
 mod asking;
 pub mod calling;
 mod commit;
+pub mod crash;
 pub mod faults;
 pub mod fsync;
 pub mod opening;

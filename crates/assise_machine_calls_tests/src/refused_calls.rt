@@ -1,4 +1,4 @@
-// Steps that are refused for want of memory: `checks/state_allocations` refuses each allocation in turn. What is refused leaves all
+// Steps that are refused for want of memory: `checks/allocations state` refuses each allocation in turn. What is refused leaves all
 // as it was but for leases that it got, and the same step answers then.
 ghost use Rattle.std.specs.Prelude.{◌<◌, ◌≤◌};
 

@@ -5,7 +5,6 @@ pub mod Filling
 pub mod Codes
 pub mod Settled
 pub mod TakenIn
-pub mod Crashed
 pub mod CutOff
 pub mod Cuts
 pub mod FilledFrom

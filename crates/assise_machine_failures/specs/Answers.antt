@@ -1,13 +1,9 @@
--- What crashes, failures and returns answer, in the words of the laws.
+-- What failures and returns answer, in the words of the laws.
 use Rattle.std.specs.Prelude.{ℕ, map, Result, Ok, Err, ⊤}
 use Rattle.std.specs.Global.{Vec}
 use Rattle.assise_names.specs.declared.refusal.Refusal.{Refusal}
 use Rattle.assise_history.specs.declared.call.Loss.{Loss}
-use Rattle.assise_machine_events.specs.Events.{Answer, began, crashed, failed, joined, left, refused}
-
-abbrev pub crashing_answer : Result ⊤ Refusal → Answer
-crashing_answer (Ok _) = crashed
-crashing_answer (Err refusal) = refused refusal
+use Rattle.assise_machine_events.specs.Events.{Answer, began, failed, joined, left, refused}
 
 -- a client with the number of its first lost call
 abbrev pub loss_of : ℕ × ℕ → Loss

@@ -20,7 +20,7 @@ ghost use Rattle.assise_machine_failures.specs.Failures.{FreezesBelow, IsListed}
 use crate::copies::drop_copies;
 use crate::cutting::cut_to;
 use crate::failure::Failure;
-use crate::listing::note_all;
+use assise_machine_state::noting::note_all;
 use assise_history::entry::Entry;
 use assise_lease_table::revoker::Revokes;
 use assise_machine_state::dropping::drop_digested;

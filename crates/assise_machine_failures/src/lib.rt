@@ -1,9 +1,8 @@
-//! Crashes of clients, failures of nodes, and nodes that come back: each leads from one state in which all holds to the next.
+//! Failures of nodes, and nodes that come back: each leads from one state in which all holds to the next.
 #![tactic(auto)]
 
 pub mod back;
 mod copies;
-pub mod crash;
 mod cutting;
 pub mod fail;
 mod failure;

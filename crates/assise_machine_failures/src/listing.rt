@@ -1,5 +1,5 @@
-// What a crash or a failure lists before anything changes.
-ghost use Rattle.std.specs.Prelude.{◌≡◌, ◌+◌, ◌^◌, ◌<◌, ◌≤◌, ◌++◌, IfOk, IsOkUnless, length, map as mapped, vec_capacity};
+// What a failure lists before anything changes.
+ghost use Rattle.std.specs.Prelude.{◌≡◌, ◌+◌, ◌^◌, ◌<◌, IfOk, IsOkUnless, length, map as mapped};
 ghost use Rattle.assise_names.specs.declared.refusal.Refusal.TheVariants.{OutOfMemory};
 ghost use Rattle.assise_machine_laws.specs.NodeSteps.{kept_at_failure};
 ghost use Rattle.assise_machine_laws.specs.Sound.{IsSound};
@@ -13,25 +13,11 @@ ghost use Rattle.assise_machine_state.specs.StateValues.{standings};
 ghost use Rattle.assise_machine_failures.specs.Listing.{filled_from, kept_inodes, kept_to};
 
 use assise_history::call::Loss;
-use assise_lease_table::lease::Asked;
 use assise_lease_table::revoker::Revokes;
 use assise_machine_state::state::StateOf;
 use assise_machine_state::touching::push_touched_from;
 use assise_names::refusal::Refusal;
 use std::alloc::Global;
-use std::vec::IntoIter;
-
-/// Notes answers, for which there is room.
-pub(crate) fn note_all(cuts: &mut Vec<Asked>, mut asked: IntoIter<Asked>)
-    requires room { length cuts.old.items + length asked.rest.items ≤ vec_capacity cuts.old }
-    ensures { cuts.new.items ≡ cuts.old.items ++ asked.rest.items }
-{
-    let Some(answer) = asked.next() else {
-        return;
-    };
-    cuts.push_reserved(answer);
-    note_all(cuts, asked);
-}
 
 /// The place up to which a client's log is kept when a node fails: of a client that lives there what all other full nodes have, and
 /// of another all. It costs the nodes.

@@ -7,6 +7,7 @@ pub mod client_view;
 pub mod clients;
 pub mod dropping;
 pub mod nodes;
+pub mod noting;
 pub mod seen_clients;
 pub mod seen_failures;
 pub mod seen_nodes;

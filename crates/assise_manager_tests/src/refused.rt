@@ -1,4 +1,4 @@
-// Allocations that are refused: `checks/member_allocations` refuses each in turn.
+// Allocations that are refused: `checks/allocations members` refuses each in turn.
 use crate::steps::{change, members_of};
 use assise_manager::members::Members;
 use assise_manager::phase::Phase;

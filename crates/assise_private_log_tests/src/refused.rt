@@ -1,4 +1,4 @@
-// Allocations that are refused: `checks/log_allocations` refuses each in turn.
+// Allocations that are refused: `checks/allocations logs` refuses each in turn.
 use crate::steps::append;
 use assise_names::name::Name;
 use assise_names::refusal::Refusal;

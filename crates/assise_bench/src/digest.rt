@@ -1,0 +1,44 @@
+//! `digest KIND PLACE INODES TURNS`: appends 64 records of one client to a region of so many inodes, digests them and lets them go, so
+//! many times. KIND is `creates`, of files in a directory of 4,032 entries, which are taken out again, or `writes`, of 4 KiB into
+//! files of 1 MiB. PLACE is `home`, where the client lives on the node, or `away`.
+//!
+//! `digest refused` appends three records, digests them, and says how often either was refused. A refused call is made again.
+mod built;
+mod records;
+mod refused;
+mod turns;
+
+pub(crate) use crate::digest::refused::{Fault, Refused, refusals};
+
+use crate::digest::built::region_of;
+use crate::digest::records::Kind;
+use crate::digest::turns::{Times, turns};
+
+/// How long the turns took that the words say. None where they say none, or there is no memory.
+pub(crate) fn times(rt: &HostRuntime, words: &[String]) -> Option<Times> {
+    let [kind, place, inodes, count] = words else {
+        return None;
+    };
+    let kind = kind_of(kind)?;
+    let at_home = is_home(place)?;
+    let inodes: u64 = inodes.parse().ok()?;
+    let count: u32 = count.parse().ok()?;
+    let mut region = region_of(rt.alloc(), at_home, inodes)?;
+    turns(rt, &mut region, kind, count)
+}
+
+fn kind_of(text: &str) -> Option<Kind> {
+    match text {
+        "creates" => Some(Kind::Create),
+        "writes" => Some(Kind::Write),
+        _ => None,
+    }
+}
+
+fn is_home(text: &str) -> Option<bool> {
+    match text {
+        "home" => Some(true),
+        "away" => Some(false),
+        _ => None,
+    }
+}

@@ -1,0 +1,128 @@
+//! `assise_bench WHAT ..`: makes one thing over and over, for `bench/run` and `checks/allocations`. WHAT is `calls`, `copies`,
+//! `digest`, `keeper`, `leases`, `log` or `rounds`, each with words of its own, which the module of that name says; or `each`, which
+//! makes a little of everything. It prints what was made, and no time: `bench/run` takes that from outside, but that of a digest,
+//! which is printed on standard error. The status is 2 where the words say nothing, there is no memory, or a call went wrong; of
+//! `digest refused` it is 1 where a refused call left something else than there was.
+#![tactic(auto)]
+
+mod calls;
+mod copies;
+mod digest;
+mod keeper;
+mod least;
+mod leases;
+mod log;
+mod numbers;
+mod rounds;
+
+use crate::digest::{Fault, Refused};
+use std::alloc::Global;
+use std::env;
+use std::process::ExitCode;
+
+/// A little of everything, in words of the command line.
+const EACH: [&str; 7] = [
+    "calls unlink 4096 64 2 32 100 1000",
+    "copies copies 65536 100",
+    "digest creates home 1000 2",
+    "keeper keeper 4 1000",
+    "leases 64 4 1000 shared",
+    "log 8 100",
+    "rounds whole write 3 4 16 4",
+];
+
+fn main(rt: HostRuntime) -> ExitCode {
+    match run(&rt) {
+        Some(code) => code,
+        None => ExitCode::from(2),
+    }
+}
+
+/// Runs what the command line says. None where it says nothing, there is no memory, or a call goes wrong.
+fn run(rt: &HostRuntime) -> Option<ExitCode> {
+    let words: Vec<String> = env::args(rt).ok()?.collect(rt.alloc()).ok()?;
+    match words.as_slice() {
+        [_, what, word] if what.as_str() == "digest" && word.as_str() == "refused" => show_refused(rt),
+        [_, what] if what.as_str() == "each" => {
+            show_each(rt)?;
+            Some(ExitCode::SUCCESS)
+        }
+        [_, what, words @ ..] => {
+            show(rt, what.as_str(), words)?;
+            Some(ExitCode::SUCCESS)
+        }
+        _ => None,
+    }
+}
+
+/// Makes a little of everything.
+fn show_each(rt: &HostRuntime) -> Option<()> {
+    for line in EACH {
+        let words = words_of(rt.alloc(), line)?;
+        let [what, words @ ..] = words.as_slice() else {
+            return None;
+        };
+        show(rt, what.as_str(), words)?;
+    }
+    Some(())
+}
+
+/// The words of a line.
+fn words_of(alloc: Global, line: &str) -> Option<Vec<String>> {
+    let mut words = Vec::new(alloc);
+    for word in line.split(' ') {
+        words.push(String::from_str(alloc, word).ok()?).ok()?;
+    }
+    Some(words)
+}
+
+/// Makes what the words say, and prints a line of it.
+fn show(rt: &HostRuntime, what: &str, words: &[String]) -> Option<()> {
+    let alloc = rt.alloc();
+    match what {
+        "calls" => {
+            let made = calls::count(alloc, words)?;
+            println!(rt; "{made}").ok()
+        }
+        "copies" => {
+            let done = copies::done(alloc, words)?;
+            println!(rt; "{done}").ok()
+        }
+        "digest" => {
+            let times = digest::times(rt, words)?;
+            let digested = times.count();
+            println!(rt; "{digested}").ok()?;
+            let (append, digest, peek) = times.nanos_each();
+            eprintln!(rt; "{append} ns an append, {digest} ns a digest, {peek} ns a peek").ok()
+        }
+        "keeper" => {
+            let sum = keeper::sum(rt, alloc, words)?;
+            println!(rt; "{sum}").ok()
+        }
+        "leases" => {
+            let held = leases::held(alloc, words)?;
+            println!(rt; "{held}").ok()
+        }
+        "log" => {
+            let (first, end, call) = log::numbers(alloc, words)?;
+            println!(rt; "{first} {end} {call}").ok()
+        }
+        "rounds" => {
+            let (made, digested) = rounds::counts(alloc, words)?;
+            println!(rt; "{made} calls, {digested} digested").ok()
+        }
+        _ => None,
+    }
+}
+
+/// How often appends and digests were refused.
+fn show_refused(rt: &HostRuntime) -> Option<ExitCode> {
+    match digest::refusals(rt.alloc()) {
+        Ok(Refused { appends, digests }) => {
+            println!(rt; "refused: {appends} appends, {digests} digests").ok()?;
+            Some(ExitCode::SUCCESS)
+        }
+        Err(Fault::NoMemory) => None,
+        Err(Fault::Torn) => Some(ExitCode::FAILURE),
+    }
+}

@@ -1,0 +1,28 @@
+//! `rounds PARTS CALL NODES CLIENTS RECORDS TURNS`: so many clients are opened on so many nodes in turn, and each makes a directory
+//! with a file in it. Then, so many times, each client makes so many calls and an fsync, and a round follows. A call is a `write` of
+//! 4 KiB into the client's file, block after block of 1 MiB, or `create`, which is a create and an unlink in turn.
+//!
+//! PARTS are those of a round that are made: `calls`, none; `sent`, each node by rising number sends what it has for others, and
+//! they take it in; `coded`, the same, but each frame comes as the bytes of its spelling; `whole`, moreover each node digests once,
+//! and leases that were asked for go. Only with `whole` the logs get room again, of 4,096 records each.
+//!
+//! It says how many calls were made, and how many records all nodes digested in these rounds. None where something was refused,
+//! answered an error, or wasn't answered.
+mod clients;
+mod exchange;
+mod made;
+mod setting;
+
+use crate::rounds::clients::{begin, opened, turns};
+use crate::rounds::made::calls_of_all;
+use crate::rounds::setting::setting_of;
+use std::alloc::Global;
+
+/// How many calls are made, and how many records are digested.
+pub(crate) fn counts(alloc: Global, words: &[String]) -> Option<(u64, u64)> {
+    let setting = setting_of(alloc, words)?;
+    let calls = calls_of_all(alloc, setting.kind, setting.clients)?;
+    let mut cluster = opened(alloc, setting)?;
+    begin(alloc, &mut cluster, setting, calls.as_slice())?;
+    turns(alloc, &mut cluster, setting, calls.as_slice())
+}

@@ -1,0 +1,124 @@
+// Clients that make calls.
+use crate::rounds::made::{directory, file};
+use crate::least::Least;
+use crate::rounds::exchange::{Cluster, round};
+use crate::rounds::setting::{Parts, Setting};
+use assise_machine_calls::turn::Turn;
+use assise_names::call::Op;
+use assise_names::reply::Reply;
+use std::alloc::Global;
+
+/// More rounds than a call waits for the leases that it needs.
+const MOST_TRIES: u32 = 64;
+
+/// So many nodes, and so many clients that live on them in turn, the first on node 1.
+pub(crate) fn opened(alloc: Global, setting: Setting) -> Option<Cluster> {
+    if setting.nodes == 0 || setting.nodes > 8 {
+        return None;
+    }
+    let mut cluster = Cluster::new(alloc, setting.nodes, 4096, 4096).ok()?;
+    for number in 0..setting.clients {
+        cluster.open(alloc, 1 + number % setting.nodes, Least).ok()?;
+    }
+    Some(cluster)
+}
+
+/// Each client makes its directory and its file, and gets the leases that its calls need. Then all is digested.
+pub(crate) fn begin(
+    alloc: Global,
+    cluster: &mut Cluster,
+    setting: Setting,
+    calls: &[Vec<Op>],
+) -> Option<()> {
+    for number in 0..setting.clients {
+        let client = number.saturating_add(1);
+        reach(alloc, cluster, setting, client, &directory(alloc, number)?)?;
+        reach(alloc, cluster, setting, client, &file(alloc, number)?)?;
+    }
+    let mut client = 0u32;
+    for own in calls {
+        client = client.saturating_add(1);
+        reach(alloc, cluster, setting, client, own.first()?)?;
+        reach(alloc, cluster, setting, client, own.get(1)?)?;
+        cluster.try_fsync(client).ok()?;
+    }
+    for _ in 0..MOST_TRIES {
+        round(alloc, cluster, setting.nodes, Parts::Whole)?;
+    }
+    Some(())
+}
+
+/// Makes a call of a client, with a whole round before each further try. None where it isn't answered, or by an error.
+fn reach(
+    alloc: Global,
+    cluster: &mut Cluster,
+    setting: Setting,
+    client: u32,
+    call: &Op,
+) -> Option<()> {
+    for _ in 0..MOST_TRIES {
+        match cluster.try_call(alloc, client, call).ok()? {
+            Turn::Answered(reply) => return done(&reply),
+            Turn::NotYet => round(alloc, cluster, setting.nodes, Parts::Whole)?,
+        };
+    }
+    None
+}
+
+/// All clients make calls and sync, and a round follows, so many times: how many calls were made, and how many records digested.
+pub(crate) fn turns(
+    alloc: Global,
+    cluster: &mut Cluster,
+    setting: Setting,
+    calls: &[Vec<Op>],
+) -> Option<(u64, u64)> {
+    let (mut made, mut digested) = (0u64, 0u64);
+    for turn in 0..setting.turns {
+        let first = turn.saturating_mul(setting.records);
+        let count = make_all(alloc, cluster, calls, first, setting.records)?;
+        made = made.saturating_add(count);
+        let count = round(alloc, cluster, setting.nodes, setting.parts)?;
+        digested = digested.saturating_add(count);
+    }
+    Some((made, digested))
+}
+
+/// Each client makes so many of its calls, from a number on, and syncs.
+fn make_all(
+    alloc: Global,
+    cluster: &mut Cluster,
+    calls: &[Vec<Op>],
+    first: u64,
+    count: u64,
+) -> Option<u64> {
+    let mut made = 0u64;
+    let mut client = 0u32;
+    for own in calls {
+        client = client.saturating_add(1);
+        for number in first..first.saturating_add(count) {
+            make(alloc, cluster, client, own.as_slice(), number)?;
+            made = made.saturating_add(1);
+        }
+        cluster.try_fsync(client).ok()?;
+    }
+    Some(made)
+}
+
+/// A client makes the call of a number, which begins again after the last. None where it isn't answered, or by an error.
+fn make(alloc: Global, cluster: &mut Cluster, client: u32, own: &[Op], number: u64) -> Option<()> {
+    let place = number % own.len().max(1) as u64;
+    match cluster
+        .try_call(alloc, client, own.get(place as usize)?)
+        .ok()?
+    {
+        Turn::Answered(reply) => done(&reply),
+        Turn::NotYet => None,
+    }
+}
+
+fn done(reply: &Reply) -> Option<()> {
+    match reply {
+        Reply::Error(_) => None,
+        _ => Some(()),
+    }
+}

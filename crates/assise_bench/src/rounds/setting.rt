@@ -1,0 +1,80 @@
+// What the words of the command line say.
+use crate::numbers::numbers_of;
+use std::alloc::Global;
+
+/// The parts of a round that are made, each with those before it.
+#[derive(Clone, Copy, PartialEq, Eq, Debug)]
+pub(crate) enum Parts {
+    /// None.
+    Calls,
+    /// Frames are sent and taken in.
+    Sent,
+    /// They come as bytes.
+    Coded,
+    /// All nodes digest, and leases go.
+    Whole,
+}
+
+/// The call that is made.
+#[derive(Clone, Copy, PartialEq, Eq, Debug)]
+pub(crate) enum Kind {
+    /// A write of 4 KiB into a file.
+    Write,
+    /// A new file in a directory, and its unlink, in turn.
+    Create,
+}
+
+/// What is measured, and over what.
+#[derive(Clone, Copy)]
+pub(crate) struct Setting {
+    /// The parts of a round.
+    pub(crate) parts: Parts,
+    /// The call.
+    pub(crate) kind: Kind,
+    /// How many nodes there are.
+    pub(crate) nodes: u32,
+    /// How many clients there are.
+    pub(crate) clients: u32,
+    /// How many calls each client makes before a round.
+    pub(crate) records: u64,
+    /// How many rounds there are.
+    pub(crate) turns: u64,
+}
+
+/// What the words say.
+pub(crate) fn setting_of(alloc: Global, words: &[String]) -> Option<Setting> {
+    let [parts, kind, rest @ ..] = words else {
+        return None;
+    };
+    let (parts, kind) = (parts_of(parts.as_str())?, kind_of(kind.as_str())?);
+    let numbers = numbers_of(alloc, rest)?;
+    let [nodes, clients, records, turns] = numbers.as_slice() else {
+        return None;
+    };
+    Some(Setting {
+        parts,
+        kind,
+        nodes: (*nodes).min(8) as u32,
+        clients: (*clients).min(16) as u32,
+        records: *records,
+        turns: *turns,
+    })
+}
+
+fn parts_of(text: &str) -> Option<Parts> {
+    match text {
+        "calls" => Some(Parts::Calls),
+        "sent" => Some(Parts::Sent),
+        "coded" => Some(Parts::Coded),
+        "whole" => Some(Parts::Whole),
+        _ => None,
+    }
+}
+
+fn kind_of(text: &str) -> Option<Kind> {
+    match text {
+        "write" => Some(Kind::Write),
+        "create" => Some(Kind::Create),
+        _ => None,
+    }
+}

@@ -1,5 +1,0 @@
-use Rattle.std.proofs.Common.{length}
-use Rattle.assise_machine_failures.proofs.listing.+note_all.Given as goal
-
-abbrev pub decreases-note_all : goal.decreases-note_all
-decreases-note_all l = length l.asked.rest.items
