@@ -1,4 +1,4 @@
--- A plan made visit by visit is the plan of the whole step.
+-- A plan made visit by visit is the plan of the whole step by its visits.
 use Rattle.std.proofs.Common.{◌≡◌, ◌≤◌, ℕ, length, arith, List, [], ◌∷◌, ◌++◌, Option, Some, None, Result, Ok, Err, IfOk, refl, ap, sym, subst, ◌∙◌, inl, inr, append_assoc}
 use Rattle.std.proofs.lemmas.List.{append-nil}
 use Rattle.std.proofs.lemmas.Bool.{cases_Bool}
@@ -16,7 +16,7 @@ use Rattle.assise_inode_table.specs.Whole.{CanBeMadeWhole}
 use Rattle.assise_inode_table.proofs.CallSteps.{step_replies, step_spells}
 use Rattle.assise_inode_table.proofs.Wholeness.{effects_whole}
 use Rattle.assise_inode_plan.specs.Leased.{Leases, for_reading, first_missing}
-use Rattle.assise_inode_plan.specs.Planning.{Answers, effects_planned, plan_lacking, plan_of, ready, shown}
+use Rattle.assise_inode_plan.specs.Planning.{Answers, effects_planned, plan_lacking, visited_plan_of, ready, shown}
 use Rattle.assise_inode_plan.specs.Walking.{plan_from}
 use Rattle.assise_inode_plan.specs.declared.plan.Planned.{Planned}
 
@@ -37,11 +37,11 @@ step_by_step leased v before (visit i next) =
       | inr bare ↦ rw bare refl
     ]
 
-pub whole_plan : (leased : Leases) (v : Values) (x : Interaction) → plan_from leased v [] x ≡ plan_of leased (step_by v x)
+pub whole_plan : (leased : Leases) (v : Values) (x : Interaction) → plan_from leased v [] x ≡ visited_plan_of leased (step_by v x)
 unfolding after_visits
 whole_plan leased v x = step_by_step leased v [] x
 
-pub exact_plan : {E : Type 0} (r : Result Planned E) (leased : Leases) (v : Values) (op : Op) (fresh : ℕ) → IfOk r (λ p. shown p ≡ plan_from leased v [] (interaction op fresh)) → IfOk r (λ p. shown p ≡ plan_of leased (step v op fresh))
+pub exact_plan : {E : Type 0} (r : Result Planned E) (leased : Leases) (v : Values) (op : Op) (fresh : ℕ) → IfOk r (λ p. shown p ≡ plan_from leased v [] (interaction op fresh)) → IfOk r (λ p. shown p ≡ visited_plan_of leased (step v op fresh))
 exact_plan (Ok p) leased v op fresh h = h ∙ whole_plan leased v (interaction op fresh)
 exact_plan (Err e) leased v op fresh h = tt
 

@@ -7,5 +7,6 @@ pub mod Making
 pub mod Removing
 pub mod Moving
 pub mod Exact
+pub mod Changing
 pub mod Wanting
 pub mod Noting

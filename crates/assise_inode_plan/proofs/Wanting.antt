@@ -8,9 +8,10 @@ use Rattle.assise_inode_table.specs.Calls.{interaction, step}
 use Rattle.assise_inode_table.specs.Contents.{Values}
 use Rattle.assise_inode_table.specs.Interaction.{Interaction, visit, finish, Step, AgreeOn}
 use Rattle.assise_inode_table.proofs.Local.{step_local}
-use Rattle.assise_inode_plan.specs.Leased.{AreLeased, Leases, for_reading, first_missing}
-use Rattle.assise_inode_plan.specs.Planning.{ready, missing, plan_lacking, plan_of}
+use Rattle.assise_inode_plan.specs.Leased.{AreLeased, Leases, first_missing}
+use Rattle.assise_inode_plan.specs.Planning.{changed_plan_of, ready, missing, plan_lacking, plan_of, visited_plan_of}
 use Rattle.assise_inode_plan.specs.Walking.{plan_from}
+use Rattle.assise_inode_plan.proofs.Changing.{visits_then_changes}
 use Rattle.assise_inode_plan.proofs.Exact.{whole_plan}
 
 -- where the first one that is lacking stands
@@ -51,20 +52,21 @@ missing_from s (Some w) i mode e =
     let kind : w.1 ≡ mode = cc in
     ap (λ j. Some (j, w.1)) number ∙ ap (λ m. Some (i, m)) kind
 
-pub missing_is_first : (leased : Leases) (s : Step) (i : ℕ) (mode : Mode) → plan_of leased s ≡ missing i mode →
-    (before : List (ℕ × Mode)) × (after : List (ℕ × Mode)) × (for_reading s.visits ≡ before ++ (i, mode) ∷ after) × AreLeased leased before × (leased i mode ≡ false)
-missing_is_first leased s i mode e =
-    let l : Lacks leased (for_reading s.visits) (i, mode) = lacks leased (for_reading s.visits) (i, mode) (missing_from s (first_missing leased (for_reading s.visits)) i mode e) in
+-- of these leases that a step wants
+pub missing_is_first : (leased : Leases) (s : Step) (ws : List (ℕ × Mode)) (i : ℕ) (mode : Mode) → plan_lacking s (first_missing leased ws) ≡ missing i mode →
+    (before : List (ℕ × Mode)) × (after : List (ℕ × Mode)) × (ws ≡ before ++ (i, mode) ∷ after) × AreLeased leased before × (leased i mode ≡ false)
+missing_is_first leased s ws i mode e =
+    let l : Lacks leased ws (i, mode) = lacks leased ws (i, mode) (missing_from s (first_missing leased ws) i mode e) in
     (l.before, l.after, l.split, l.held, l.bare)
 
 ready_from : (s u : Step) (o : Option (ℕ × Mode)) → plan_lacking s o ≡ ready u → (o ≡ None) × (u ≡ s)
 ready_from s u None e = (refl, cc)
 ready_from s u (Some w) e = cc
 
-pub ready_has_all : (leased : Leases) (s u : Step) → plan_of leased s ≡ ready u → (u ≡ s) × AreLeased leased (for_reading s.visits)
-ready_has_all leased s u e =
-    let r = ready_from s u (first_missing leased (for_reading s.visits)) e in
-    (r.1, all_leased leased (for_reading s.visits) r.0)
+pub ready_has_all : (leased : Leases) (s u : Step) (ws : List (ℕ × Mode)) → plan_lacking s (first_missing leased ws) ≡ ready u → (u ≡ s) × AreLeased leased ws
+ready_has_all leased s u ws e =
+    let r = ready_from s u (first_missing leased ws) e in
+    (r.1, all_leased leased ws r.0)
 
 -- ---- inodes that agree
 
@@ -76,8 +78,12 @@ same_from leased v w before (visit i next) same =
       | inr bare ↦ rw bare refl
     ]
 
+pub same_visits : (leased : Leases) (v w : Values) (op : Op) (fresh : ℕ) → ((i : ℕ) → leased i Read ≡ true → v i ≡ w i) → visited_plan_of leased (step v op fresh) ≡ visited_plan_of leased (step w op fresh)
+same_visits leased v w op fresh same = sym (whole_plan leased v (interaction op fresh)) ∙ same_from leased v w [] (interaction op fresh) same ∙ whole_plan leased w (interaction op fresh)
+
 pub same_leased : (leased : Leases) (v w : Values) (op : Op) (fresh : ℕ) → ((i : ℕ) → leased i Read ≡ true → v i ≡ w i) → plan_of leased (step v op fresh) ≡ plan_of leased (step w op fresh)
-same_leased leased v w op fresh same = sym (whole_plan leased v (interaction op fresh)) ∙ same_from leased v w [] (interaction op fresh) same ∙ whole_plan leased w (interaction op fresh)
+same_leased leased v w op fresh same =
+    sym (visits_then_changes leased (step v op fresh)) ∙ ap (changed_plan_of leased) (same_visits leased v w op fresh same) ∙ visits_then_changes leased (step w op fresh)
 
 pub same_visited : (leased : Leases) (v w : Values) (op : Op) (fresh : ℕ) → AgreeOn (step v op fresh).visits v w → plan_of leased (step v op fresh) ≡ plan_of leased (step w op fresh)
 same_visited leased v w op fresh agree = ap (plan_of leased) (step_local v w op fresh agree)

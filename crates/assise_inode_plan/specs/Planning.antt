@@ -7,14 +7,14 @@ use Rattle.assise_names.specs.declared.reply.Reply.{Reply}
 use Rattle.assise_record.specs.declared.effect.Effect.{Effect}
 use Rattle.assise_seq_tree.specs.Tree.{Tree}
 use Rattle.assise_inode_table.specs.Contents.{Values}
-use Rattle.assise_inode_table.specs.Effects.{after}
+use Rattle.assise_inode_table.specs.Effects.{after, touched}
 use Rattle.assise_inode_table.specs.Interaction.{Step}
 use Rattle.assise_inode_table.specs.Spelled.{Spells}
-use Rattle.assise_inode_plan.specs.Leased.{Leases, for_reading, first_missing}
+use Rattle.assise_inode_plan.specs.Leased.{Leases, wants, for_reading, for_writing, first_missing}
 use Rattle.assise_inode_plan.specs.declared.plan.Planned.{Planned}
 use Rattle.assise_inode_plan.specs.declared.plan.Planned.TheVariants.{Ready, Missing}
 
--- the whole step, or the first lease that it lacks for its visits
+-- the whole step, or the first lease that it lacks
 pub data Plan : Type 0 where
   ready : Step → Plan
   missing : ℕ → Mode → Plan
@@ -24,7 +24,16 @@ plan_lacking s None = ready s
 plan_lacking s (Some w) = missing w.0 w.1
 
 abbrev pub plan_of : Leases → Step → Plan
-plan_of leased s = plan_lacking s (first_missing leased (for_reading s.visits))
+plan_of leased s = plan_lacking s (first_missing leased (wants s))
+
+-- planned by the visits alone: what the step changes needn't be leased
+abbrev pub visited_plan_of : Leases → Step → Plan
+visited_plan_of leased s = plan_lacking s (first_missing leased (for_reading s.visits))
+
+-- and then by what it changes
+abbrev pub changed_plan_of : Leases → Plan → Plan
+changed_plan_of leased (missing inode mode) = missing inode mode
+changed_plan_of leased (ready s) = plan_lacking s (first_missing leased (for_writing (touched s.effects)))
 
 -- what a plan changes; where a lease is missing, nothing
 abbrev pub effects_planned : Plan → List Effect

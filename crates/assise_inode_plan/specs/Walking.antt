@@ -1,4 +1,4 @@
--- Plans of what is left of a call, after some visits.
+-- Plans by visits of what is left of a call, after some of them.
 use Rattle.std.specs.Prelude.{ℕ, if◌then◌else◌, List, [], ◌∷◌, ◌++◌}
 use Rattle.assise_names.specs.declared.mode.Mode.TheVariants.{Read}
 use Rattle.assise_names.specs.declared.reply.Reply.TheVariants.{Error}

@@ -77,7 +77,7 @@ fn plan_new<V: View>(
         return Ok(answered(alloc, Reply::Error(error), reads));
     }
     let effects = new_inode_effects(alloc, new, directory, name, fresh)?;
-    Ok(finished(view, Reply::Done, reads, effects))
+    Ok(finished(Reply::Done, reads, effects))
 }
 
 /// A new inode, and its entry in a directory.

@@ -46,7 +46,7 @@ pub(crate) fn plan_write<V: View>(
         return Ok(answered(alloc, Reply::Error(TreeError::TooBig), reads));
     }
     let effects = write_effects(alloc, file, offset, new)?;
-    Ok(finished(view, Reply::Done, reads, effects))
+    Ok(finished(Reply::Done, reads, effects))
 }
 
 /// Gives a file another size.
@@ -72,7 +72,7 @@ pub(crate) fn plan_truncate<V: View>(
         return Ok(answered(alloc, Reply::Error(TreeError::TooBig), reads));
     }
     let effects = size_effects(alloc, file, size)?;
-    Ok(finished(view, Reply::Done, reads, effects))
+    Ok(finished(Reply::Done, reads, effects))
 }
 
 /// The written bytes, shared; nothing where there are none.

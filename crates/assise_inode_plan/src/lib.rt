@@ -2,7 +2,7 @@
 #![tactic(auto)]
 
 mod creation;
-pub mod ending;
+mod ending;
 mod file_changes;
 pub mod laws;
 pub mod plan;

@@ -2,7 +2,7 @@
 ghost use Rattle.std.specs.Prelude.{◌≡◌, ◌≤◌, IfOk, IsOkUnless, None, OnErr, [], length};
 ghost use Rattle.std.specs.FinMap as map;
 ghost use Rattle.assise_inode_plan.specs.Leased.{NotesAVisit};
-ghost use Rattle.assise_inode_plan.specs.Planning.{Answers, IsWritable, effects_planned, plan_of, shown};
+ghost use Rattle.assise_inode_plan.specs.Planning.{Answers, IsWritable, changed_plan_of, effects_planned, plan_of, shown, visited_plan_of};
 ghost use Rattle.assise_inode_plan.specs.Walking.{plan_from};
 ghost use Rattle.assise_inode_table.specs.Calls.{interaction, step};
 ghost use Rattle.assise_inode_table.specs.Contents.{Values, values};
@@ -19,7 +19,7 @@ use crate::file_changes::{plan_truncate, plan_write};
 use crate::queries::{plan_list, plan_read, plan_stat};
 use crate::removal::{plan_rmdir, plan_unlink};
 use crate::renaming::plan_rename;
-use crate::view::View;
+use crate::view::{View, first_unleased};
 use assise_names::call::Op;
 use assise_names::mode::Mode;
 use assise_names::refusal::Refusal;
@@ -30,7 +30,7 @@ use std::alloc::Global;
 /// What is planned for a call.
 #[derive(Debug, Drop)]
 pub enum Planned {
-    /// All that it visits and changes is leased.
+    /// What it needs leased is leased.
     Ready {
         /// What it answers.
         reply: Reply,
@@ -94,7 +94,48 @@ pub fn plan<V: View>(alloc: Global, view: &V, op: &Op, fresh: u64) -> Result<Pla
     ensures asked { OnErr result (NotesAVisit (V.leased view.now) (step (values (V.contents view.now)) op.now fresh).visits) }
     ensures only_memory { IsOkUnless result OutOfMemory }
 {
+    let planned = plan_by_visits(alloc, view, op, fresh)?;
+    Ok(plan_changes(view, planned))
+}
+
+/// Plans a call by its visits alone: what it changes needn't be leased. Nothing is changed.
+///
+/// The plan is [`Planned::Missing`] with the first inode that the call visits, in the order of the visits, and that isn't
+/// leased for reading; the value of an inode that isn't leased is never looked at. Else it is [`Planned::Ready`], with all
+/// that [`plan`] says; [`first_unleased`] then names what it changes and isn't leased for writing.
+///
+/// The one refusal is [`Refusal::OutOfMemory`], where [`plan`] has it.
+pub fn plan_by_visits<V: View>(
+    alloc: Global,
+    view: &V,
+    op: &Op,
+    fresh: u64,
+) -> Result<Planned, Refusal>
+    requires one_write { IsWritable op.now }
+    ensures exact { IfOk result (λ p. shown p ≡ visited_plan_of (V.leased view.now) (step (values (V.contents view.now)) op.now fresh)) }
+
+    // Over inodes that spell a tree the reply is the tree's, and after the effects they spell the tree after the call.
+    ensures answers { (t : Tree) → Spells (values (V.contents view.now)) t → map.get (V.contents view.now) fresh ≡ None
+        → IfOk result (λ p. Answers (values (V.contents view.now)) (answer t op.now) (shown p)) }
+    ensures few_effects { IfOk result (λ p. length (effects_planned (shown p)) ≤ 4) }
+    ensures whole { IfOk result (λ p. CanBeMadeWhole (effects_planned (shown p))) }
+    ensures asked { OnErr result (NotesAVisit (V.leased view.now) (step (values (V.contents view.now)) op.now fresh).visits) }
+    ensures only_memory { IsOkUnless result OutOfMemory }
+{
     plan_call(alloc, view, op, fresh)
+}
+
+/// A plan by visits, or the first inode that it changes and that isn't leased for writing.
+fn plan_changes<V: View>(view: &V, planned: Planned) -> Planned
+    ensures { shown result ≡ changed_plan_of (V.leased view.now) (shown planned) }
+{
+    let Planned::Ready { effects, .. } = &planned else {
+        return planned;
+    };
+    match first_unleased(view, effects.as_slice()) {
+        Some(inode) => Planned::Missing(inode, Mode::Write),
+        None => planned,
+    }
 }
 
 /// Plans a call from its first visit on.

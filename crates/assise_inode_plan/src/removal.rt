@@ -41,7 +41,7 @@ pub(crate) fn plan_unlink<V: View>(
         return Ok(answered(alloc, Reply::Error(error), reads));
     }
     let effects = removal_effects(alloc, entry.directory, name, entry.inode)?;
-    Ok(finished(view, Reply::Done, reads, effects))
+    Ok(finished(Reply::Done, reads, effects))
 }
 
 /// Removes a directory without entries.
@@ -70,7 +70,7 @@ pub(crate) fn plan_rmdir<V: View>(
         return Ok(answered(alloc, Reply::Error(TreeError::NotEmpty), reads));
     }
     let effects = removal_effects(alloc, entry.directory, name, entry.inode)?;
-    Ok(finished(view, Reply::Done, reads, effects))
+    Ok(finished(Reply::Done, reads, effects))
 }
 
 /// An entry is taken out of its directory, and then its inode is freed.

@@ -122,7 +122,7 @@ fn plan_receiving<V: View>(
     }
     let mut effects = Vec::with_capacity(alloc, 2)?;
     push_move(&mut effects, moving)?;
-    Ok(finished(view, Reply::Done, reads, effects))
+    Ok(finished(Reply::Done, reads, effects))
 }
 
 /// Moves an entry to a place where another inode stands: that one is visited, and goes.
@@ -146,7 +146,7 @@ fn plan_replacing<V: View>(
     }
     let mut effects = removal_effects(alloc, moving.directory, moving.new_name, target)?;
     push_move(&mut effects, moving)?;
-    Ok(finished(view, Reply::Done, reads, effects))
+    Ok(finished(Reply::Done, reads, effects))
 }
 
 /// Whether an inode may take the place of another: a file that of a file, and a directory that of a directory without

@@ -15,7 +15,7 @@ use Rattle.assise_names.specs.declared.reply.Reply.TheVariants.{Done}
 use Rattle.assise_history.specs.Legal.{is_fsync}
 use Rattle.assise_record.specs.declared.effect.Effect.{Effect}
 use Rattle.assise_inode_plan.specs.Leased.{AreLeased, Leases as Leased, first_missing, for_reading, for_writing, wants}
-use Rattle.assise_inode_plan.specs.Planning.{Plan, missing, plan_lacking, plan_of, ready}
+use Rattle.assise_inode_plan.specs.Planning.{Plan, missing, plan_lacking, ready, visited_plan_of}
 use Rattle.assise_inode_plan.proofs.Wanting.{ready_has_all}
 use Rattle.assise_inode_table.specs.Calls.{step}
 use Rattle.assise_inode_table.specs.Contents.{InodeMap, coded_content, values}
@@ -252,12 +252,12 @@ module _ (s : StateValue) (c : ℕ) (op : Op) (shape : IsShaped s) (holds : ∥ 
 
   -- what the code plans over a view of this client, with these leases and inodes
   pub planned_now : (fresh : ℕ) → fresh ≡ inode_number c (client_in s.clients c).made → (p : Plan) (d : ℕ) (ls : ℕ → List Lease) (m : InodeMap) →
-      p ≡ plan_of (λ i mode. serves (lease_of (ls i) d) mode) (step (values m) op fresh) → d ≡ c → ls ≡ s.levels.clients → m ≡ inodes_read s c → p ≡ plan_of (served s c) next
+      p ≡ visited_plan_of (λ i mode. serves (lease_of (ls i) d) mode) (step (values m) op fresh) → d ≡ c → ls ≡ s.levels.clients → m ≡ inodes_read s c → p ≡ visited_plan_of (served s c) next
   unfolding leases_of
   planned_now fresh is p d ls m exact client held read =
       exact
-      ∙ (λ k. plan_of (λ i mode. serves (lease_of (held k i) (client k)) mode) (step (values (read k)) op fresh))
-      ∙ ap (plan_of (served s c)) (step_is fresh is)
+      ∙ (λ k. visited_plan_of (λ i mode. serves (lease_of (held k i) (client k)) mode) (step (values (read k)) op fresh))
+      ∙ ap (visited_plan_of (served s c)) (step_is fresh is)
 
   -- what the code finds missing of what is changed
   pub lacked_now : (o : Option (ℕ × Mode)) (d : ℕ) (ls : ℕ → List Lease) (es fs : List Effect) → first_missing (λ i mode. serves (lease_of (ls i) d) mode) (for_writing (touched es)) ≡ o →
@@ -266,10 +266,10 @@ module _ (s : StateValue) (c : ℕ) (op : Op) (shape : IsShaped s) (holds : ∥ 
   lacked_now o d ls es fs found client held same = sym (λ k. first_missing (λ i mode. serves (lease_of (held k i) (client k)) mode) (for_writing (touched (same k)))) ∙ found
 
   -- a plan that is ready
-  pub visited_now : (u : Step) → plan_of (served s c) next ≡ ready u → IsVisited (observed s) c op u
+  pub visited_now : (u : Step) → visited_plan_of (served s c) next ≡ ready u → IsVisited (observed s) c op u
   unfolding observed
   visited_now u plan =
-      let all = ready_has_all (served s c) next u plan in
+      let all = ready_has_all (served s c) next u (for_reading next.visits) plan in
       record { step = all.0; visited = serves_reading (served s c) next.visits all.1 }
 
   -- and what it changes is leased, too
@@ -285,7 +285,7 @@ module _ (s : StateValue) (c : ℕ) (op : Op) (shape : IsShaped s) (holds : ∥ 
       }
 
   -- the first lease that a call lacks for its visits
-  pub lacks_visit : (i : ℕ) (mode : Mode) → plan_of (served s c) next ≡ missing i mode → first_missing (served s c) (wants next) ≡ Some (i, mode)
+  pub lacks_visit : (i : ℕ) (mode : Mode) → visited_plan_of (served s c) next ≡ missing i mode → first_missing (served s c) (wants next) ≡ Some (i, mode)
   lacks_visit i mode plan = missing_later (served s c) (for_reading next.visits) (for_writing (touched next.effects)) (i, mode) (first_lacks next (first_missing (served s c) (for_reading next.visits)) i mode plan)
 
   -- the first that it lacks for what it changes

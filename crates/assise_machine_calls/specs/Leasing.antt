@@ -1,6 +1,6 @@
 -- What a client's next call does over what the client reads, and that all its leases are there.
 -- Assise (OSDI 2020), section 3 (CC-NVM: update logs, leases).
-use Rattle.std.specs.Prelude.{◌≡◌, ◌==◌, ◌&&◌, ℕ, List, Option, length, true}
+use Rattle.std.specs.Prelude.{◌≡◌, ◌==◌, ◌&&◌, ℕ, List, None, Option, length, true}
 use Rattle.std.specs.List.{list_any}
 use Rattle.assise_names.specs.declared.call.Op.{Op}
 use Rattle.assise_names.specs.declared.mode.Mode.TheVariants.{Read}
@@ -17,9 +17,10 @@ use Rattle.assise_digest.specs.Region.{ReceivedLog}
 use Rattle.assise_lease_table.specs.Leases.{serves}
 use Rattle.assise_machine_laws.specs.World.{World, step_at_home}
 use Rattle.assise_machine_leases.specs.Leases.{client_lease}
-use Rattle.assise_machine_events.specs.ClientEvents.{IsServed, call_of_client}
-use Rattle.assise_machine_events.specs.Faults.{fault_if, or_else}
-use Rattle.assise_machine_events.specs.Machine.{Machine}
+use Rattle.assise_machine_events.specs.ClientEvents.{Calling, IsServed, call_of_client}
+use Rattle.assise_machine_events.specs.Events.{Answer}
+use Rattle.assise_machine_events.specs.Faults.{call_fault, fault_if, or_else}
+use Rattle.assise_machine_events.specs.Machine.{Holds, Machine}
 use Rattle.assise_machine_state.specs.ClientValues.{ClientValue}
 use Rattle.assise_machine_calls.specs.declared.outcome.Outcome.{Outcome}
 
@@ -43,6 +44,13 @@ pub record IsVisited (m : Machine) (c : ℕ) (op : Op) (s : Step) : Type 0 where
 pub record IsReady (m : Machine) (c : ℕ) (op : Op) (s : Step) : Type 0 where
   pub step : s ≡ next_step m.world c op
   pub served : IsServed m.world m.leases (next_call m.world c op)
+
+-- the client got leases, and has all that the call needs: what comes of the call from here on comes of it
+pub record HasAll (m : Machine) (c : ℕ) (op : Op) (s : Step) (m' : Machine) : Type 0 where
+  pub fine : call_fault m' c op ≡ None
+  pub holds : ∥ Holds m' ∥₁
+  pub ready : IsReady m' c op s
+  pub onward : (a : Answer) (last : Machine) → Calling m' c op a last → Calling m c op a last
 
 -- the client would make an inode and has made as many as it may, or its log has no room for the effects
 abbrev pub room_fault : ClientValue → ℕ → ReceivedLog → List Effect → Option Refusal

@@ -1,17 +1,17 @@
 // A client's call.
-ghost use Rattle.std.specs.Prelude.{◌≡◌, ◌≤◌, None, false, length};
+ghost use Rattle.std.specs.Prelude.{◌≡◌, IfErr, IfOk, None, false, true};
 ghost use Rattle.assise_history.specs.Legal.{is_fsync};
 ghost use Rattle.assise_lease_table.specs.Tables.{SameRevokers};
 ghost use Rattle.assise_lease_tree.specs.Trees.{stored_by};
 ghost use Rattle.assise_machine_events.specs.ClientEvents.{Calling};
+ghost use Rattle.assise_machine_events.specs.Events.{not_yet, refused};
 ghost use Rattle.assise_machine_events.specs.Faults.{call_fault};
 ghost use Rattle.assise_machine_events.specs.Happenings.{Trying};
 ghost use Rattle.assise_machine_events.specs.Machine.{Holds};
 ghost use Rattle.assise_machine_state.specs.Shape.{AreNoted, IsShaped};
 ghost use Rattle.assise_machine_state.specs.Whole.{machine_of, value_of};
 ghost use Rattle.assise_machine_calls.specs.Answers.{turn_answer};
-ghost use Rattle.assise_machine_calls.specs.Leasing.{IsVisited, step_in};
-ghost use Rattle.assise_inode_table.specs.Whole.{CanBeMadeWhole};
+ghost use Rattle.assise_machine_calls.specs.Leasing.{HasAll, IsVisited, step_in};
 
 use crate::asking::ask;
 use crate::commit::commit;
@@ -19,8 +19,8 @@ use crate::faults::call_refusal;
 use crate::fsync::try_fsync;
 use crate::outcome::Outcome;
 use crate::turn::Turn;
-use assise_inode_plan::ending::first_unleased;
-use assise_inode_plan::plan::{Planned, plan};
+use assise_inode_plan::plan::{Planned, plan_by_visits};
+use assise_inode_plan::view::first_unleased;
 use assise_inode_table::numbers::inode_number;
 use assise_lease_table::revoker::Revokes;
 use assise_lease_tree::request::Request;
@@ -60,7 +60,7 @@ pub fn try_call<C: Revokes + Drop>(
     call(alloc, state, client, op)
 }
 
-/// Answers a call, or gets a lease for it and begins again, or asks those who stand in the way of one.
+/// Answers a call, or gets a lease of what it visits and begins again, or asks those who stand in the way of one.
 fn call<C: Revokes + Drop>(
     alloc: Global,
     state: &mut StateOf<C>,
@@ -80,7 +80,7 @@ fn call<C: Revokes + Drop>(
     let known = state.clients.get(client);
     let (home, fresh) = (known.home(), inode_number(client, known.made()));
     let view = state.view(client);
-    match plan(alloc, &view, op, fresh)? {
+    match plan_by_visits(alloc, &view, op, fresh)? {
         Planned::Ready {
             reply,
             reads,
@@ -91,7 +91,10 @@ fn call<C: Revokes + Drop>(
                 reads,
                 effects,
             };
-            finish(alloc, state, client, op, outcome)
+            if !lease_changes(state, client, op, &outcome)? {
+                return Ok(Turn::NotYet);
+            }
+            commit(alloc, state, client, op, outcome)
         }
         Planned::Missing(inode, mode) => {
             let request = Request {
@@ -110,30 +113,30 @@ fn call<C: Revokes + Drop>(
     }
 }
 
-/// Answers a call whose visits are leased, or gets a lease of what it changes and goes on, or asks those who stand in the way of one.
-fn finish<C: Revokes + Drop>(
-    alloc: Global,
+/// Gets the leases that a call whose visits are leased needs for what it changes, in the order of its effects: whether it has
+/// them all. Where others stand in the way of one, they are asked. The one refusal is [`Refusal::OutOfMemory`].
+fn lease_changes<C: Revokes + Drop>(
     state: &mut StateOf<C>,
     client: u32,
     op: &Op,
-    outcome: Outcome,
-) -> Result<Turn, Refusal>
+    outcome: &Outcome,
+) -> Result<bool, Refusal>
     requires fine { call_fault (machine_of state.old) client op.now ≡ None }
     requires call { is_fsync op.now ≡ false }
     requires holds { ∥ Holds (machine_of state.old) ∥₁ }
     requires shape { IsShaped (value_of state.old) }
     requires noted { AreNoted (value_of state.old) }
-    requires visited { IsVisited (machine_of state.old) client op.now (step_in outcome) }
-    requires few { length outcome.effects.items ≤ 4 }
-    requires whole { CanBeMadeWhole outcome.effects.items }
-    ensures happens { Calling (machine_of state.old) client op.now (turn_answer result) (machine_of state.new) }
+    requires visited { IsVisited (machine_of state.old) client op.now (step_in outcome.now) }
+    ensures all { IfOk result (λ all. all ≡ true → HasAll (machine_of state.old) client op.now (step_in outcome.now) (machine_of state.new)) }
+    ensures waits { IfOk result (λ all. all ≡ false → Calling (machine_of state.old) client op.now not_yet (machine_of state.new)) }
+    ensures refused { IfErr result (λ r. Calling (machine_of state.old) client op.now (refused r) (machine_of state.new)) }
     ensures shape { IsShaped (value_of state.new) }
     ensures noted { AreNoted (value_of state.new) }
     ensures revokers { SameRevokers (stored_by state.old.leases) (stored_by state.new.leases) }
 {
     let view = state.view(client);
     let Some(inode) = first_unleased(&view, &outcome.effects) else {
-        return commit(alloc, state, client, op, outcome);
+        return Ok(true);
     };
     let request = Request {
         client,
@@ -143,8 +146,8 @@ fn finish<C: Revokes + Drop>(
     };
     if !state.leases.is_free(request) {
         ask(state, request)?;
-        return Ok(Turn::NotYet);
+        return Ok(false);
     }
     state.leases.grant(request)?;
-    finish(alloc, state, client, op, outcome)
+    lease_changes(state, client, op, outcome)
 }

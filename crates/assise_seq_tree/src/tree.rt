@@ -186,7 +186,11 @@ impl Tree {
         // A look at the field tells the proof that the new tree is ordered.
         let _ = &tree.node;
         match &mut self.node {
-            Node::File(_) => Ok(()),
+            // A file has no entries: neither is kept.
+            Node::File(_) => {
+                drop((name, tree));
+                Ok(())
+            }
             Node::Directory(entries) => {
                 entries.insert(name, tree)?;
                 Ok(())

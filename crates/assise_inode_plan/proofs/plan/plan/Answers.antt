@@ -1,18 +1,19 @@
+use Rattle.std.proofs.Common.{◌∙◌, ap, sym, subst}
+use Rattle.assise_inode_table.specs.Calls.{step}
 use Rattle.assise_inode_table.specs.Contents.{values}
-use Rattle.assise_inode_plan.proofs.Exact.{exact_plan, plan_answers_call, few_effects_planned, whole_effects_planned}
+use Rattle.assise_seq_tree.specs.Answer.{answer}
+use Rattle.assise_inode_plan.specs.Planning.{Answers, changed_plan_of, shown}
+use Rattle.assise_inode_plan.proofs.Changing.{answers_kept, visits_then_changes}
 use Rattle.assise_inode_plan.proofs.plan.plan.Goals as goal
 
 pub returns-clause-exact : goal.returns-clause-exact
-returns-clause-exact g c = exact_plan c.plan_call.result (g.V.View.leased c.args.view.now) (values (g.V.Inodes.contents c.args.view.now)) c.args.op.now c.args.fresh c.plan_call.ensures.exact
+returns-clause-exact g c =
+    c.plan_changes.ensures
+    ∙ ap (changed_plan_of (g.V.View.leased c.args.view.now)) c.in_ok-planned.ensures.exact
+    ∙ visits_then_changes (g.V.View.leased c.args.view.now) (step (values (g.V.Inodes.contents c.args.view.now)) c.args.op.now c.args.fresh)
 
 pub returns-clause-answers : goal.returns-clause-answers
-returns-clause-answers g c =
-    plan_answers_call c.plan_call.result (g.V.View.leased c.args.view.now) (values (g.V.Inodes.contents c.args.view.now)) c.args.op.now c.args.fresh c.plan_call.ensures.exact
-
-pub returns-clause-few_effects : goal.returns-clause-few_effects
-returns-clause-few_effects g c =
-    few_effects_planned c.plan_call.result (g.V.View.leased c.args.view.now) (values (g.V.Inodes.contents c.args.view.now)) c.args.op.now c.args.fresh c.plan_call.ensures.exact
-
-pub returns-clause-whole : goal.returns-clause-whole
-returns-clause-whole g c =
-    whole_effects_planned c.plan_call.result (g.V.View.leased c.args.view.now) (values (g.V.Inodes.contents c.args.view.now)) c.args.op.now c.args.fresh c.plan_call.ensures.exact
+returns-clause-answers g c = λ t spells new.
+    let v = values (g.V.Inodes.contents c.args.view.now) in
+    subst (Answers v (answer t c.args.op.now)) (sym c.plan_changes.ensures)
+    (answers_kept v (answer t c.args.op.now) (g.V.View.leased c.args.view.now) (shown c.in_ok-planned.planned) (c.in_ok-planned.ensures.answers t spells new))

@@ -37,8 +37,8 @@ returns-in_err-reply-clause-happens g t c =
     let m = observed (value_of c.args.state.now) in
     lacking_as m m c.args.client c.args.op.now (turn_answer c.from_residual.result) error.0 c.requires.fine (ap turn_answer error.1) (error.2 ∙ c.in_err-reply.ensures.only_memory) refl
 
-pub finish-requires-clause-visited : goal.finish-requires-clause-visited
-finish-requires-clause-visited g t c =
+pub lease_changes-requires-clause-visited : goal.lease_changes-requires-clause-visited
+lease_changes-requires-clause-visited g t c =
     let s = value_of c.args.state.now in
     let planned =
     planned_now s c.args.client c.args.op.now c.requires.shape c.requires.holds c.requires.fine c.inode_number-fresh.result

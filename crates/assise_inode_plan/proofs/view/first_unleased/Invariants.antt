@@ -1,5 +1,5 @@
 use Rattle.assise_inode_plan.proofs.Lacking.{LooksAt}
-use Rattle.assise_inode_plan.proofs.ending.first_unleased.Given as goal
+use Rattle.assise_inode_plan.proofs.view.first_unleased.Given as goal
 
 abbrev pub invariant-loop-effect : goal.invariant-loop-effect
 invariant-loop-effect g l = LooksAt (g.V.View.leased l.view) l.effects l.effect-index

@@ -13,7 +13,7 @@ use Rattle.assise_machine_calls.proofs.Committing.{call_number, call_unfailed}
 use Rattle.assise_machine_calls.proofs.Leasing.{home_known}
 use Rattle.assise_machine_calls.proofs.Trying.{awaited, fewer_then, fine_then, goes_on, holds_then, lacked_now, lacking_as, lacks, lacks_change, noted_then, ready_now, same_levels, served, shape_then, visited_then}
 use Rattle.assise_machine_calls.proofs.Wanting.{unserved}
-use Rattle.assise_machine_calls.proofs.calling.+finish.Goals as goal
+use Rattle.assise_machine_calls.proofs.calling.+lease_changes.Goals as goal
 
 pub view-view-requires-clause-client : goal.view-view-requires-clause-client
 view-view-requires-clause-client g t c = call_number (value_of c.args.state.now) c.args.client c.args.op.now c.requires.fine
@@ -24,8 +24,8 @@ view-view-requires-clause-lives g t c = call_unfailed (value_of c.args.state.now
 pub commit-requires-clause-ready : goal.commit-requires-clause-ready
 commit-requires-clause-ready g t c =
     let s = value_of c.args.state.now in
-    ready_now s c.args.client c.args.op.now c.requires.shape c.requires.holds c.requires.fine (step_in c.args.outcome) c.requires.visited
-    (lacked_now s c.args.client c.args.op.now c.requires.shape c.requires.holds c.requires.fine None c.view-view.result.client (levels_of c.view-view.result.leases.now).clients c.deref.result.now c.args.outcome.effects.items
+    ready_now s c.args.client c.args.op.now c.requires.shape c.requires.holds c.requires.fine (step_in c.args.outcome.now) c.requires.visited
+    (lacked_now s c.args.client c.args.op.now c.requires.shape c.requires.holds c.requires.fine None c.view-view.result.client (levels_of c.view-view.result.leases.now).clients c.deref.result.now c.args.outcome.now.effects.items
     c.in_default.ensures c.view-view.ensures.client (ap (λ l. (levels_of l).clients) c.view-view.ensures.leases) c.deref.ensures.value)
 
 pub get-requires : goal.get-requires
@@ -43,8 +43,8 @@ returns-then-not-is_free-clause-happens g t c =
     let s = value_of c.args.state.now in
     let home = c.home.ensures ∙ ap (λ x. x.home) c.get.ensures in
     let lack =
-    lacks_change s c.args.client c.args.op.now c.requires.shape c.requires.holds c.requires.fine (step_in c.args.outcome) c.in-Some.inode c.requires.visited
-    (lacked_now s c.args.client c.args.op.now c.requires.shape c.requires.holds c.requires.fine (Some (c.in-Some.inode, Write)) c.view-view.result.client (levels_of c.view-view.result.leases.now).clients c.deref.result.now c.args.outcome.effects.items
+    lacks_change s c.args.client c.args.op.now c.requires.shape c.requires.holds c.requires.fine (step_in c.args.outcome.now) c.in-Some.inode c.requires.visited
+    (lacked_now s c.args.client c.args.op.now c.requires.shape c.requires.holds c.requires.fine (Some (c.in-Some.inode, Write)) c.view-view.result.client (levels_of c.view-view.result.leases.now).clients c.deref.result.now c.args.outcome.now.effects.items
     c.in-Some.ensures c.view-view.ensures.client (ap (λ l. (levels_of l).clients) c.view-view.ensures.leases) c.deref.ensures.value) in
     awaited (observed s) (machine_of c.ask.new.state) c.args.client c.args.op.now c.in-Some.inode Write c.home.result c.requires.fine
     (lacks s c.args.client c.args.op.now c.requires.shape c.requires.holds c.requires.fine c.in-Some.inode Write lack) c.in_ok-ask.ensures.ok
@@ -62,13 +62,13 @@ returns-in_err-grant-clause-happens g t c =
     lacking_as (observed s) (observed (after_leases s (levels_of c.grant.new.self))) c.args.client c.args.op.now (turn_answer c.from_residual-in_err-grant.result) error.0 c.requires.fine
     (ap turn_answer error.1) (error.2 ∙ c.in_err-grant.ensures.only_memory) (ap (λ l. observed (after_leases s l)) same)
 
-pub finish-requires : goal.finish-requires
-finish-requires g t c κs within =
+pub lease_changes-requires : goal.lease_changes-requires
+lease_changes-requires g t c κs within =
     let s = value_of c.args.state.now in
     let home = c.home.ensures ∙ ap (λ x. x.home) c.get.ensures in
     let lack =
-    lacks_change s c.args.client c.args.op.now c.requires.shape c.requires.holds c.requires.fine (step_in c.args.outcome) c.in-Some.inode c.requires.visited
-    (lacked_now s c.args.client c.args.op.now c.requires.shape c.requires.holds c.requires.fine (Some (c.in-Some.inode, Write)) c.view-view.result.client (levels_of c.view-view.result.leases.now).clients c.deref.result.now c.args.outcome.effects.items
+    lacks_change s c.args.client c.args.op.now c.requires.shape c.requires.holds c.requires.fine (step_in c.args.outcome.now) c.in-Some.inode c.requires.visited
+    (lacked_now s c.args.client c.args.op.now c.requires.shape c.requires.holds c.requires.fine (Some (c.in-Some.inode, Write)) c.view-view.result.client (levels_of c.view-view.result.leases.now).clients c.deref.result.now c.args.outcome.now.effects.items
     c.in-Some.ensures c.view-view.ensures.client (ap (λ l. (levels_of l).clients) c.view-view.ensures.leases) c.deref.ensures.value) in
     let free = subst (λ n. is_free_for s.levels c.args.client n c.in-Some.inode Write ≡ true) home (sym c.is_free.ensures ∙ c.if-not-is_free.false) in
     let granted = subst (λ n. IsGranted s.levels (levels_of c.grant.new.self) c.args.client n c.in-Some.inode Write) home c.in_ok-grant.ensures.granted in
@@ -88,7 +88,7 @@ finish-requires g t c κs within =
                 (
                   noted_then s c.args.client c.args.op.now c.requires.shape c.requires.holds c.requires.fine c.in-Some.inode Write (levels_of c.grant.new.self) lack free granted c.requires.noted,
                   (
-                    visited_then s c.args.client c.args.op.now c.requires.shape c.requires.holds c.requires.fine c.in-Some.inode Write (levels_of c.grant.new.self) lack free granted (step_in c.args.outcome) c.requires.visited,
+                    visited_then s c.args.client c.args.op.now c.requires.shape c.requires.holds c.requires.fine c.in-Some.inode Write (levels_of c.grant.new.self) lack free granted (step_in c.args.outcome.now) c.requires.visited,
                     (c.requires.few, c.requires.whole),
                   ),
                 ),
@@ -104,10 +104,10 @@ returns-clause-happens g t c =
     let s = value_of c.args.state.now in
     let home = c.home.ensures ∙ ap (λ x. x.home) c.get.ensures in
     let lack =
-    lacks_change s c.args.client c.args.op.now c.requires.shape c.requires.holds c.requires.fine (step_in c.args.outcome) c.in-Some.inode c.requires.visited
-    (lacked_now s c.args.client c.args.op.now c.requires.shape c.requires.holds c.requires.fine (Some (c.in-Some.inode, Write)) c.view-view.result.client (levels_of c.view-view.result.leases.now).clients c.deref.result.now c.args.outcome.effects.items
+    lacks_change s c.args.client c.args.op.now c.requires.shape c.requires.holds c.requires.fine (step_in c.args.outcome.now) c.in-Some.inode c.requires.visited
+    (lacked_now s c.args.client c.args.op.now c.requires.shape c.requires.holds c.requires.fine (Some (c.in-Some.inode, Write)) c.view-view.result.client (levels_of c.view-view.result.leases.now).clients c.deref.result.now c.args.outcome.now.effects.items
     c.in-Some.ensures c.view-view.ensures.client (ap (λ l. (levels_of l).clients) c.view-view.ensures.leases) c.deref.ensures.value) in
     let free = subst (λ n. is_free_for s.levels c.args.client n c.in-Some.inode Write ≡ true) home (sym c.is_free.ensures ∙ c.if-not-is_free.false) in
     let granted = subst (λ n. IsGranted s.levels (levels_of c.grant.new.self) c.args.client n c.in-Some.inode Write) home c.in_ok-grant.ensures.granted in
     goes_on s c.args.client c.args.op.now c.requires.shape c.requires.holds c.requires.fine c.in-Some.inode Write (levels_of c.grant.new.self) lack free granted
-    (turn_answer c.finish.result) (machine_of c.finish.new.state) c.finish.ensures.happens
+    (turn_answer c.lease_changes.result) (machine_of c.lease_changes.new.state) c.lease_changes.ensures.happens
