@@ -63,35 +63,23 @@ resized_inside xs n p h =
           ∙ sym (past xs p (omega (arith, length-take n xs)))
     ]
 
--- ---- a write
-
--- what a write puts before the bytes that stay
-abbrev front : List ℕ → ℕ → List ℕ
-front xs o = take o xs ++ replicate (o - length xs) 0
-
-length-front : (xs : List ℕ) (o : ℕ) → length (front xs o) ≡ o
-length-front xs o =
-    let none : ℕ = 0 in
-    length-append (take o xs) (replicate (o - length xs) 0) ∙ omega (arith, length-take o xs, length-replicate (o - length xs) none)
-
-front_is : (xs : List ℕ) (o p : ℕ) → p < o → byte (front xs o) p ≡ byte xs p
-front_is xs o p h = resized_inside xs o p h
+-- ---- a write: the bytes before it are those of a file of that size
 
 pub written_before : (xs : List ℕ) (o : ℕ) (new : List ℕ) (p : ℕ) → p < o → byte (overwritten xs o new) p ≡ byte xs p
 written_before xs o new p h =
-    byte-left (front xs o ++ new) (drop (o + length new) xs) p (omega (arith, length-append (front xs o) new, length-front xs o))
-    ∙ byte-left (front xs o) new p (omega (arith, length-front xs o)) ∙ front_is xs o p h
+    byte-left (resized xs o ++ new) (drop (o + length new) xs) p (omega (arith, length-append (resized xs o) new, length-resized xs o))
+    ∙ byte-left (resized xs o) new p (omega (arith, length-resized xs o)) ∙ resized_inside xs o p h
 
 pub written_here : (xs : List ℕ) (o : ℕ) (new : List ℕ) (p : ℕ) → o ≤ p → p < o + length new → byte (overwritten xs o new) p ≡ byte new (p - o)
 written_here xs o new p low high =
-    byte-left (front xs o ++ new) (drop (o + length new) xs) p (omega (arith, length-append (front xs o) new, length-front xs o))
-    ∙ byte-right (front xs o) new p (omega (arith, length-front xs o)) ∙ ap (byte new) (omega (arith, length-front xs o))
+    byte-left (resized xs o ++ new) (drop (o + length new) xs) p (omega (arith, length-append (resized xs o) new, length-resized xs o))
+    ∙ byte-right (resized xs o) new p (omega (arith, length-resized xs o)) ∙ ap (byte new) (omega (arith, length-resized xs o))
 
 pub written_behind : (xs : List ℕ) (o : ℕ) (new : List ℕ) (p : ℕ) → o + length new ≤ p → byte (overwritten xs o new) p ≡ byte xs p
 written_behind xs o new p low =
-    byte-right (front xs o ++ new) (drop (o + length new) xs) p (omega (arith, length-append (front xs o) new, length-front xs o))
-    ∙ byte-drop (o + length new) xs (p - length (front xs o ++ new))
-    ∙ ap (byte xs) (omega (arith, length-append (front xs o) new, length-front xs o))
+    byte-right (resized xs o ++ new) (drop (o + length new) xs) p (omega (arith, length-append (resized xs o) new, length-resized xs o))
+    ∙ byte-drop (o + length new) xs (p - length (resized xs o ++ new))
+    ∙ ap (byte xs) (omega (arith, length-append (resized xs o) new, length-resized xs o))
 
 -- ---- files that differ only in some bytes
 

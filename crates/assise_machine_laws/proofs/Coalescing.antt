@@ -1,7 +1,7 @@
 -- Last records give way to others with the same net effect.
 use Rattle.std.proofs.Common.{◌≡◌, ℕ, zero, suc, ◌+◌, ◌-◌, ◌<◌, ◌≤◌, ◌≢◌, inl, inr, true, false, List, [], ◌∷◌, ◌++◌, refl, ap, sym, ◌∙◌, subst, ◌||◌, arith, take, drop, length}
 use Rattle.std.proofs.lemmas.List.{take_all, take-append-le, take-take}
-use Rattle.std.proofs.lemmas.Bool.{both_ways, cases_eq, or_from, or_right, or_cases, or_parts, cases_lt}
+use Rattle.std.proofs.lemmas.Bool.{both_ways, cases_eq, or_right, or_cases, cases_lt}
 use Rattle.assise_seq_tree.specs.Tree.{opening as opening_tree}
 use Rattle.assise_seq_tree.specs.Runs.{AreAnswered}
 use Rattle.assise_record.specs.LogRecord.{LogRecord}
@@ -19,7 +19,7 @@ use Rattle.assise_machine_laws.specs.World.{World, Full, opening_values, least_o
 use Rattle.assise_inode_table.proofs.Making.{value_after-append, contains-both}
 use Rattle.assise_machine_laws.proofs.Lists.{unseen-raise, below-same}
 use Rattle.assise_machine_laws.proofs.Logs.{at_mono, take-of_take, take-of_append, length-both, drop-front, contains-take, at-take}
-use Rattle.assise_machine_laws.proofs.Observing.{least_of-same, least_of-most, least_of-below, least_of-above, least_of-end, part_of, call_at-end, digested_by_all-first, first-received_by_all, part-whole, part-append, part_moves, call_at-same, steps-same, part_none, end-else, part-else, area_at}
+use Rattle.assise_machine_laws.proofs.Observing.{least_of-same, least_of-most, least_of-below, least_of-above, least_of-end, part_of, digested_by_all-first, first-received_by_all, part-whole, part-append, part_moves, call_at-same, steps-same, end-else, part-else, area_at}
 use Rattle.assise_machine_laws.proofs.Between.{digested_by_all-received_by_all}
 use Rattle.assise_machine_laws.proofs.Staying.{held-same, spelled-same, are_made-same, numbered-same, counted-same}
 use Rattle.assise_machine_laws.proofs.Logs.{take-all, at-before, at-seam}

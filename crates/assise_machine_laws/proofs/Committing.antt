@@ -628,10 +628,10 @@ module _ (w w' : World) (y : NumberedCall) (sound : IsSound w) (e : MakesCall w 
     apart = λ d k t low from to. elim (cases_lt (end w d) k) [
       | inr old ↦ e.border_old d k old ∙ sound.apart d k (sym (e.clients.lives d) ∙ t) (rw (e.first d) at low) (rw (e.goals d) at from) old
       | inl new ↦ elim (cases_eq d y.client) [
-          | inl own ↦ subst (λ d. end w d < k → k ≤ end w' d → w'.border d k ≡ true) (sym own)
-              (λ past top. (let last : k ≡ end w' y.client = omega (arith, past, top, one_more) in ap (w'.border y.client) last ∙ e.border_new)) new to
-          | inr other ↦ (let still : end w' d ≡ end w d = end-else w w' d (e.first d) (e.records_else d other) in absurd (omega (arith, new, to, still)))
-        ]
+        | inl own ↦ subst (λ d. end w d < k → k ≤ end w' d → w'.border d k ≡ true) (sym own)
+            (λ past top. (let last : k ≡ end w' y.client = omega (arith, past, top, one_more) in ap (w'.border y.client) last ∙ e.border_new)) new to
+        | inr other ↦ (let still : end w' d ≡ end w d = end-else w w' d (e.first d) (e.records_else d other) in absurd (omega (arith, new, to, still)))
+      ]
     ];
     unused = λ d h. (let other : d ≢ y.client = λ is. omega (arith, is, e.clients.clients, (sound.opened y.client e.lives).1, h) in
         e.next_else d other ∙ sound.unused d (omega (arith, e.clients.clients, h)));

@@ -8,7 +8,6 @@ use Rattle.assise_record.specs.Records.{all_effects, has_some, record_of, call_o
 use Rattle.assise_record.proofs.Records.{all_effects-one}
 use Rattle.assise_inode_table.specs.Effects.{touched, contains}
 use Rattle.assise_inode_table.specs.Traces.{NumberedCall, below, window}
-use Rattle.assise_record.specs.Touched.{touched_by}
 use Rattle.assise_inode_table.proofs.Making.{contains-both}
 
 -- what it is to pass a window

@@ -24,7 +24,6 @@ unfolding call_at
 call_is w c k = refl
 
 module _ (w u : World) (c s : ℕ) (gs : List (List LogRecord)) (h : IsSound w) (e : Regroups w c s gs u) where
-
   new : List LogRecord
   new = all_coalesced gs
 

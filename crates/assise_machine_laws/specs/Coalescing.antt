@@ -1,6 +1,6 @@
 -- A client's last records give way to others with the same net effect.
 -- Assise (OSDI 2020), section 3 (CC-NVM: in optimistic mode update logs are coalesced before they are replicated).
-use Rattle.std.specs.Prelude.{◌≡◌, ◌≢◌, ◌⊎◌, ℕ, ◌-◌, ◌<◌, ◌≤◌, min, true, List, ◌++◌, take}
+use Rattle.std.specs.Prelude.{◌≡◌, ◌≢◌, ◌⊎◌, ℕ, ◌-◌, ◌≤◌, true, List, ◌++◌, take}
 use Rattle.assise_record.specs.LogRecord.{LogRecord}
 use Rattle.assise_record.specs.Records.{all_effects, call_of, Rising}
 use Rattle.assise_inode_table.specs.Effects.{touched, contains, SameNetEffect}

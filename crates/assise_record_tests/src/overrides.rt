@@ -27,14 +27,34 @@ fn effects(alloc: Global) -> Option<Vec<Effect>> {
         Effect::NewDir { inode: 1 },
         Effect::Free { inode: 1 },
         write_at(alloc, 1, true, b"four")?,
-        Effect::Write { inode: 1, extent: long },
+        Effect::Write {
+            inode: 1,
+            extent: long
+        },
         write_at(alloc, 1, false, b"four")?,
         write_at(alloc, 2, true, b"four")?,
-        Effect::SetLen { inode: 1, size: FileSize::new(4) },
-        Effect::Link { directory: 1, name: a, inode: 5 },
-        Effect::Unlink { directory: 1, name: same },
-        Effect::Link { directory: 1, name: other, inode: 5 },
-        Effect::Unlink { directory: 2, name: elsewhere },
+        Effect::SetLen {
+            inode: 1,
+            size: FileSize::new(4)
+        },
+        Effect::Link {
+            directory: 1,
+            name: a,
+            inode: 5
+        },
+        Effect::Unlink {
+            directory: 1,
+            name: same
+        },
+        Effect::Link {
+            directory: 1,
+            name: other,
+            inode: 5
+        },
+        Effect::Unlink {
+            directory: 2,
+            name: elsewhere
+        },
     ]
     .ok()
 }
