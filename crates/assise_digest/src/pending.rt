@@ -49,7 +49,7 @@ impl Pending {
     pub(crate) fn value<'a>(&'a self, inode: u64, base: Option<&'a Inode>) -> Option<&'a Inode>
         ensures { option_copied result ≡ seen self.now inode (option_copied base.entry) }
     {
-        if self.last.get(inode).is_some() {
+        if self.has(inode) {
             self.inodes.get(inode)
         } else {
             base
@@ -169,7 +169,7 @@ fn note(last: &mut Numbers, number: u64, effects: &[Effect])
     }
 }
 
-/// Gives a number that has no inode one, or none.
+/// Gives a number that has no inode this one, if there is one.
 fn set_value(inodes: &mut InodeTable, inode: u64, value: Option<Inode>) -> Result<(), Refusal>
     requires none { map.get inodes.old inode ≡ None }
     ensures ok { OnOk result (inodes.new ≡ with_value inodes.old inode value) }

@@ -16,6 +16,9 @@ use assise_names::name::Name;
 use assise_names::refusal::Refusal;
 use assise_names::reply::TreeError;
 
+/// The visits for which the first one makes room: few calls make more.
+const USUAL_VISITS: usize = 16;
+
 /// Why a walk ends early.
 #[derive(Clone, Copy, Debug)]
 pub(crate) enum Stop {
@@ -143,7 +146,7 @@ fn visit<'a, V: View>(
         return Ok(Err(Stop::Unleased(inode)));
     }
     if reads.is_empty() {
-        reads.reserve(16)?;
+        reads.reserve(USUAL_VISITS)?;
     }
     reads.push(inode)?;
     Ok(Ok(look_at(view, inode)))

@@ -96,7 +96,8 @@ impl Directory {
         Ok(())
     }
 
-    /// As [`Directory::insert`], by a copy of the name where it is new.
+    /// As [`Directory::insert`], by a copy of the name. Where there can be no copy, a name that has an entry is linked in its
+    /// place.
     pub fn link(&mut self, name: &Name, inode: u64) -> Result<(), Refusal>
         ensures ok { OnOk result (self.new ≡ map.insert self.old name.now inode) }
         ensures err { OnErr result (self.new ≡ self.old) }
@@ -109,7 +110,7 @@ impl Directory {
         }
     }
 
-    /// Links a name that has an entry to an inode, or is refused so.
+    /// Links a name that has an entry to an inode, in place of what it linked to. Without an entry the name is refused so.
     fn relink(&mut self, name: &Name, inode: u64, refusal: Refusal) -> Result<(), Refusal>
         ensures ok { OnOk result (self.new ≡ map.insert self.old name.now inode) }
         ensures err { OnErr result (self.new ≡ self.old) }

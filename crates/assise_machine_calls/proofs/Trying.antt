@@ -1,5 +1,5 @@
 -- A call that is tried: what it finds, what it lacks, and what it comes to.
-use Rattle.std.proofs.Common.{◌≡◌, ℕ, ◌<◌, true, false, not, ◌&&◌, ◌||◌, ◌==◌, if◌then◌else◌, ◌⊎◌, List, [], ◌∷◌, ◌++◌, Option, Some, None, inl, inr, refl, ap, sym, subst, ◌∙◌, append-nil, eq-eqb}
+use Rattle.std.proofs.Common.{◌≡◌, ℕ, ◌<◌, true, false, not, ◌&&◌, ◌||◌, ◌==◌, if◌then◌else◌, ◌⊎◌, List, [], ◌∷◌, ◌++◌, Option, Some, None, Bool, Result, Ok, Err, IfOk, IfErr, inl, inr, refl, ap, sym, subst, ◌∙◌, append-nil, eq-eqb}
 use Rattle.std.proofs.Math.Logic.{∥∥₁_elim, ∥∥₁_map}
 use Rattle.std.proofs.lemmas.Bool.{cases_Bool, cases_eq, and_parts, ne_eqb, not-true, or_right}
 use Rattle.std.specs.Coded.{Coded-set, coded_option}
@@ -49,7 +49,7 @@ use Rattle.assise_machine_state.proofs.Reading.{read_at_home}
 use Rattle.assise_machine_state.proofs.Seeing.{client_is}
 use Rattle.assise_machine_state.proofs.ShapedClients.{areas_stay, leases_held}
 use Rattle.assise_machine_calls.specs.Asked.{AsksThem}
-use Rattle.assise_machine_calls.specs.Leasing.{IsReady, IsVisited, next_call, next_step}
+use Rattle.assise_machine_calls.specs.Leasing.{HasAll, IsReady, IsVisited, next_call, next_step}
 use Rattle.assise_machine_calls.proofs.Committing.{call_client, call_number}
 use Rattle.assise_machine_calls.proofs.Granted.{granted_first}
 use Rattle.assise_machine_calls.proofs.Wanting.{fewer, first_unserved, unserved}
@@ -368,6 +368,31 @@ module _ (s : StateValue) (c : ℕ) (op : Op) (shape : IsShaped s) (holds : ∥ 
     pub fewer_then : unserved (served s' c) (wants (next_step (world_of s') c op)) < unserved (served s c) (wants next)
     unfolding leases_of
     fewer_then = subst (λ u. unserved (served s' c) (wants u) < unserved (served s c) (wants next)) (sym same_step) (fewer (served s c) (served s' c) (wants next) (i, mode) (still_serves s.levels levels c (client_in s.clients c).home i mode granted) first granted.held)
+
+-- ---- the leases that are left
+
+-- what comes of a call after a lease comes of it before
+module _ (old m m' : Machine) (c : ℕ) (op : Op) (r : Result Bool Refusal) (onward : (a : Answer) (last : Machine) → Calling m c op a last → Calling old c op a last) where
+  pub all_onward : (s : Step) → IfOk r (λ all. all ≡ true → HasAll m c op s m') → IfOk r (λ all. all ≡ true → HasAll old c op s m')
+  all_onward s had = go r had
+    where
+      go : (r : Result Bool Refusal) → IfOk r (λ all. all ≡ true → HasAll m c op s m') → IfOk r (λ all. all ≡ true → HasAll old c op s m')
+      go (Ok all) had = λ is. record { fine = (had is).fine; holds = (had is).holds; ready = (had is).ready; onward = λ a last e. onward a last ((had is).onward a last e) }
+      go (Err e) had = tt
+
+  pub waits_onward : IfOk r (λ all. all ≡ false → Calling m c op not_yet m') → IfOk r (λ all. all ≡ false → Calling old c op not_yet m')
+  waits_onward waits = go r waits
+    where
+      go : (r : Result Bool Refusal) → IfOk r (λ all. all ≡ false → Calling m c op not_yet m') → IfOk r (λ all. all ≡ false → Calling old c op not_yet m')
+      go (Ok all) waits = λ is. onward not_yet m' (waits is)
+      go (Err e) waits = tt
+
+  pub refused_onward : IfErr r (λ e. Calling m c op (refused e) m') → IfErr r (λ e. Calling old c op (refused e) m')
+  refused_onward told = go r told
+    where
+      go : (r : Result Bool Refusal) → IfErr r (λ e. Calling m c op (refused e) m') → IfErr r (λ e. Calling old c op (refused e) m')
+      go (Ok all) told = tt
+      go (Err e) told = onward (refused e) m' told
 
 -- ---- any call but an fsync
 

@@ -1,5 +1,5 @@
 -- Names rise if each is below the next.
-use Rattle.std.proofs.Common.{◌≡◌, ◌≤◌, ◌<◌, ℕ, ◌+◌, ◌-◌, true, List, [], length, get_or, refl, sym, ◌∙◌, arith, nat_cmp}
+use Rattle.std.proofs.Common.{◌≡◌, ◌≤◌, ◌<◌, ℕ, ◌+◌, ◌-◌, true, List, [], length, get_or, sym, ◌∙◌, arith, nat_cmp}
 use Rattle.std.specs.Cmp.Lexicographic.{slice_cmp}
 use Rattle.std.proofs.lemmas.List.{get_or_default}
 use Rattle.std.specs.List.Sorted.{IsStrictlySortedBy}

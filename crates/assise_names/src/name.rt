@@ -24,7 +24,8 @@ use std::marker::Model;
 pub const MOST_NAME_BYTES: usize = 255;
 
 /// The name of an entry of a directory: 1 to 255 bytes of UTF-8 without a slash or a NUL, and neither `.` nor
-/// `..` (POSIX.1-2017, base definitions, chapter 3: Filename). Names are ordered by their bytes. Copies share them.
+/// `..` (POSIX.1-2017, base definitions, chapter 3: Filename). Names are ordered by their bytes. At most 16 bytes lie in the
+/// name itself, and copies of a longer name share them.
 #[derive(Debug, Drop)]
 pub struct Name {
     text: Text,
@@ -75,8 +76,8 @@ impl Name {
         self.text.as_str()
     }
 
-    /// An equal value, which shares the bytes. It takes no memory: the one refusal, [`Refusal::OutOfMemory`], comes where
-    /// the count of those that share them is full.
+    /// An equal value. It takes no memory: the one refusal, [`Refusal::OutOfMemory`], comes where the bytes are shared and the
+    /// count of those that share them is full.
     pub fn copy(&self) -> Result<Name, Refusal>
         ensures equal { IfOk result (λ copied. copied ≡ self.now) }
         ensures only_memory { IsOkUnless result OutOfMemory }

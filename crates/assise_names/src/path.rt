@@ -21,6 +21,9 @@ use std::marker::Model;
 /// The most names of a path.
 pub const MOST_NAMES: usize = 32;
 
+/// The names that a path gets room for at once: few paths have more.
+const USUAL_NAMES: usize = 8;
+
 /// Why a text is no path: the first fault that is found.
 #[derive(Clone, Copy, PartialEq, Eq, Debug)]
 pub enum PathFault {
@@ -110,27 +113,17 @@ impl Path {
         path_of(alloc, text)
     }
 
-    /// The path that a text spells which spells one: [`Path::parse`] without another look for faults. The one refusal
-    /// is [`Refusal::OutOfMemory`], and the root takes no memory.
-    pub fn of_text(alloc: Global, text: &str) -> Result<Path, Refusal>
-        requires { IsOk (path_of text.now) }
-        ensures path { IfOk result (λ path. path_of text.now ≡ Ok path) }
-        ensures root { text.now ≡ spelling [] → IsOk result }
-        ensures only_memory { IsOkUnless result OutOfMemory }
-    {
-        let rest = text.strip_prefix('/').unwrap_or("");
-        match names_of(alloc, rest) {
-            Ok(names) => Ok(Path { names }),
-            Err(_) => Err(Refusal::OutOfMemory),
-        }
-    }
-
     /// Whether a text spells a path, or its first fault. It takes no memory.
     pub fn check(text: &str) -> Result<(), PathFault>
         ensures spells { IsOk result ↔ IsOk (path_of text.now) }
         ensures first_fault { IfErr result (λ fault. path_of text.now ≡ Err fault) }
     {
-        behind_slash(text)?;
+        let Some(rest) = text.strip_prefix('/') else {
+            return Err(PathFault::NotAbsolute);
+        };
+        if count_names(rest)? > MOST_NAMES {
+            return Err(PathFault::TooDeep);
+        }
         Ok(())
     }
 
@@ -176,7 +169,7 @@ impl Eq for Path {
     ghost laws = { Prim.search (comparing, rules) };
 }
 
-/// The path that a text spells, or its first fault. Where memory is refused the text is looked through for one.
+/// The path that a text spells, or its first fault. Where memory is refused, the text is looked through for a fault first.
 fn path_of(alloc: Global, text: &str) -> Result<Path, PathFault>
     ensures first_fault { Gives result (path_of text.now) }
     ensures faults { (fault : PathFault) → path_of text.now ≡ Err fault → result ≡ Err fault }
@@ -190,7 +183,7 @@ fn path_of(alloc: Global, text: &str) -> Result<Path, PathFault>
     match names_of(alloc, rest) {
         Ok(names) => path_of_names(names),
         Err(PathFault::Memory) => {
-            behind_slash(text)?;
+            Path::check(text)?;
             Err(PathFault::Memory)
         }
         Err(fault) => Err(fault),
@@ -205,22 +198,6 @@ fn path_of_names(names: Vec<Name>) -> Result<Path, PathFault>
         return Err(PathFault::TooDeep);
     }
     Ok(Path { names })
-}
-
-/// What stands behind the first slash of a text that spells a path, or the text's first fault.
-fn behind_slash(text: &str) -> Result<&str, PathFault>
-    ensures rest { IfOk result (λ rest. text.now ≡ 47 ∷ rest.now) }
-    ensures names { IfOk result (λ rest. path_of text.now ≡ names_behind rest.now) }
-    ensures spells { IfOk result (λ _. IsOk (path_of text.now)) }
-    ensures first_fault { IfErr result (λ fault. path_of text.now ≡ Err fault) }
-{
-    let Some(rest) = text.strip_prefix('/') else {
-        return Err(PathFault::NotAbsolute);
-    };
-    if count_names(rest)? > MOST_NAMES {
-        return Err(PathFault::TooDeep);
-    }
-    Ok(rest)
 }
 
 /// How many names stand between slashes, or the first fault of one. There is none where there is no text.
@@ -250,7 +227,7 @@ fn names_of(alloc: Global, text: &str) -> Result<Vec<Name>, PathFault>
     if text.is_empty() {
         return Ok(Vec::new(alloc));
     }
-    let mut names = Vec::with_capacity(alloc, pieces(text))?;
+    let mut names = Vec::with_capacity(alloc, USUAL_NAMES)?;
     let mut rest = text;
     while let Some((piece, more)) = rest.split_once('/') {
         names.push(Name::parse(alloc, piece)?)?;
@@ -258,19 +235,6 @@ fn names_of(alloc: Global, text: &str) -> Result<Vec<Name>, PathFault>
     }
     names.push(Name::parse(alloc, rest)?)?;
     Ok(names)
-}
-
-/// How many pieces stand between the slashes of a text.
-fn pieces(text: &str) -> usize
-    ensures few { result ≤ length text.now + 1 }
-{
-    let mut count = 1;
-    for byte in text.as_bytes() {
-        if *byte == b'/' {
-            count += 1;
-        }
-    }
-    count
 }
 
 impl Display for Path {

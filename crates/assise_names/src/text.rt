@@ -1,4 +1,4 @@
-// A text that lies in the value itself where it is short.
+// A text that lies in its value where it is short.
 ghost use Rattle.std.specs.Prelude.{◌≡◌, IfOk, IsTrue, length};
 
 use arrayvec::ArrayString;
@@ -6,22 +6,22 @@ use std::alloc::{AllocError, Global};
 use std::marker::Model;
 use std::sync::ArcStr;
 
-/// The most bytes of a text that lies in the value itself.
-const SHORT: usize = 16;
+/// The most bytes of a text that lies in its value.
+const MOST_SHORT_BYTES: usize = 16;
 
-/// A text: short, in the value itself, or shared by its copies.
+/// A text that lies in its value where it is short, and else is shared by its copies.
 #[derive(Debug, Drop)]
 pub(crate) enum Text {
     /// At most 16 bytes.
-    Short(ArrayString<16>),
-    /// Any text.
+    Short(ArrayString<MOST_SHORT_BYTES>),
+    /// More bytes.
     Shared(ArcStr),
 }
 
 impl Text {
     ghost use Rattle.assise_names.specs.Texts.{text_bytes};
 
-    /// A copy of a text. A short one takes no memory.
+    /// This text. A short one takes no memory.
     pub(crate) fn new(alloc: Global, text: &str) -> Result<Text, AllocError>
         ensures ok { IfOk result (λ t. text_bytes t ≡ text.now) }
     {
@@ -41,7 +41,7 @@ impl Text {
         }
     }
 
-    /// An equal text. It takes no memory.
+    /// An equal text. It takes no memory: it is refused only where the count of those that share it is full.
     pub(crate) fn copy(&self) -> Result<Text, AllocError>
         ensures equal { IfOk result (λ t. text_bytes t ≡ text_bytes self.now) }
     {

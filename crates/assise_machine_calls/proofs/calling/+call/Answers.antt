@@ -5,6 +5,8 @@ use Rattle.assise_inode_plan.specs.Planning.{shown}
 use Rattle.assise_inode_table.specs.Numbers.{inode_number}
 use Rattle.assise_lease_tree.specs.Trees.{levels_of}
 use Rattle.assise_lease_tree.specs.TwoLevels.{IsGranted, is_free_for}
+use Rattle.assise_machine_events.specs.ClientEvents.{Calling}
+use Rattle.assise_machine_events.specs.Events.{refused}
 use Rattle.assise_machine_state.specs.Changes.{after_leases}
 use Rattle.assise_machine_state.specs.Observed.{observed, world_of}
 use Rattle.assise_machine_state.specs.Shape.{AreNoted}
@@ -47,6 +49,11 @@ lease_changes-requires-clause-visited g t c =
     c.in_ok-reply.ensures.exact c.view-view.ensures.client (ap (λ l. (levels_of l).clients) c.view-view.ensures.leases) c.view-view.ensures.inodes in
     visited_now s c.args.client c.args.op.now c.requires.shape c.requires.holds c.requires.fine (step_in record { reply = c.in-Ready.reply; reads = c.in-Ready.reads; effects = c.in-Ready.effects })
     (sym planned ∙ ap shown c.in-Ready.is)
+
+pub returns-in_err-lease_changes-in-Ready-clause-happens : goal.returns-in_err-lease_changes-in-Ready-clause-happens
+returns-in_err-lease_changes-in-Ready-clause-happens g t c =
+    let error = err_from_is_err_and c.from_residual-in_err-lease_changes-in-Ready.result c.from_residual-in_err-lease_changes-in-Ready.ensures.1 in
+    subst (λ a. Calling (machine_of c.args.state.now) c.args.client c.args.op.now a (machine_of c.lease_changes.new.state)) (sym (ap turn_answer error.1 ∙ ap refused error.2)) c.in_err-lease_changes-in-Ready.ensures.refused
 
 pub returns-in_err-ask-in-Missing-clause-happens : goal.returns-in_err-ask-in-Missing-clause-happens
 returns-in_err-ask-in-Missing-clause-happens g t c =

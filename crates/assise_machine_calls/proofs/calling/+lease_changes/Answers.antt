@@ -1,17 +1,19 @@
-use Rattle.std.proofs.Common.{◌≡◌, ◌<◌, true, refl, None, Some, ap, sym, subst, ◌∙◌}
+use Rattle.std.proofs.Common.{◌≡◌, ◌<◌, true, refl, None, Some, IfErr, ap, sym, subst, ◌∙◌}
 use Rattle.std.proofs.lemmas.Result.{err_from_is_err_and}
 use Rattle.assise_inode_plan.specs.Leased.{wants}
 use Rattle.assise_names.specs.declared.mode.Mode.TheVariants.{Write}
+use Rattle.assise_names.specs.declared.refusal.Refusal.{Refusal}
 use Rattle.assise_lease_tree.specs.Trees.{levels_of}
 use Rattle.assise_lease_tree.specs.TwoLevels.{IsGranted, is_free_for}
+use Rattle.assise_machine_events.specs.ClientEvents.{Calling}
+use Rattle.assise_machine_events.specs.Events.{refused}
 use Rattle.assise_machine_state.specs.Changes.{after_leases}
 use Rattle.assise_machine_state.specs.Observed.{observed, world_of}
 use Rattle.assise_machine_state.specs.Whole.{machine_of, value_of}
-use Rattle.assise_machine_calls.specs.Answers.{turn_answer}
 use Rattle.assise_machine_calls.specs.Leasing.{next_step, step_in}
 use Rattle.assise_machine_calls.proofs.Committing.{call_number, call_unfailed}
 use Rattle.assise_machine_calls.proofs.Leasing.{home_known}
-use Rattle.assise_machine_calls.proofs.Trying.{awaited, fewer_then, fine_then, goes_on, holds_then, lacked_now, lacking_as, lacks, lacks_change, noted_then, ready_now, same_levels, served, shape_then, visited_then}
+use Rattle.assise_machine_calls.proofs.Trying.{all_onward, awaited, fewer_then, fine_then, goes_on, holds_then, lacked_now, lacking_as, lacks, lacks_change, noted_then, ready_now, refused_onward, same_levels, served, shape_then, visited_then, waits_onward}
 use Rattle.assise_machine_calls.proofs.Wanting.{unserved}
 use Rattle.assise_machine_calls.proofs.calling.+lease_changes.Goals as goal
 
@@ -21,27 +23,34 @@ view-view-requires-clause-client g t c = call_number (value_of c.args.state.now)
 pub view-view-requires-clause-lives : goal.view-view-requires-clause-lives
 view-view-requires-clause-lives g t c = call_unfailed (value_of c.args.state.now) c.args.client c.args.op.now c.requires.shape c.requires.fine
 
-pub commit-requires-clause-ready : goal.commit-requires-clause-ready
-commit-requires-clause-ready g t c =
+pub returns-in_default-clause-all : goal.returns-in_default-clause-all
+returns-in_default-clause-all g t c = λ is.
     let s = value_of c.args.state.now in
-    ready_now s c.args.client c.args.op.now c.requires.shape c.requires.holds c.requires.fine (step_in c.args.outcome.now) c.requires.visited
-    (lacked_now s c.args.client c.args.op.now c.requires.shape c.requires.holds c.requires.fine None c.view-view.result.client (levels_of c.view-view.result.leases.now).clients c.deref.result.now c.args.outcome.now.effects.items
-    c.in_default.ensures c.view-view.ensures.client (ap (λ l. (levels_of l).clients) c.view-view.ensures.leases) c.deref.ensures.value)
+    record {
+      fine = c.requires.fine;
+      holds = c.requires.holds;
+      ready =
+          ready_now s c.args.client c.args.op.now c.requires.shape c.requires.holds c.requires.fine (step_in c.args.outcome.now) c.requires.visited
+          (lacked_now s c.args.client c.args.op.now c.requires.shape c.requires.holds c.requires.fine None c.view-view.result.client (levels_of c.view-view.result.leases.now).clients c.deref.result.now c.args.outcome.now.effects.items
+          c.in_default.ensures c.view-view.ensures.client (ap (λ l. (levels_of l).clients) c.view-view.ensures.leases) c.deref.ensures.value);
+      onward = λ a last e. e;
+    }
 
 pub get-requires : goal.get-requires
 get-requires g t c = record { client = call_number (value_of c.args.state.now) c.args.client c.args.op.now c.requires.fine }
 
-pub returns-in_err-ask-clause-happens : goal.returns-in_err-ask-clause-happens
-returns-in_err-ask-clause-happens g t c =
+pub returns-in_err-ask-clause-refused : goal.returns-in_err-ask-clause-refused
+returns-in_err-ask-clause-refused g t c =
     let error = err_from_is_err_and c.from_residual.result c.from_residual.ensures.1 in
-    lacking_as (machine_of c.args.state.now) (machine_of c.ask.new.state) c.args.client c.args.op.now (turn_answer c.from_residual.result) error.0 c.requires.fine
-    (ap turn_answer error.1) (error.2 ∙ c.in_err-ask.ensures.only_memory) c.in_err-ask.ensures.err
+    let m = machine_of c.args.state.now in
+    let P : Refusal → Type 0 = λ e. Calling m c.args.client c.args.op.now (refused e) (machine_of c.ask.new.state) in
+    subst (λ o. IfErr o P) (sym error.1)
+    (lacking_as m (machine_of c.ask.new.state) c.args.client c.args.op.now (refused error.0) error.0 c.requires.fine refl (error.2 ∙ c.in_err-ask.ensures.only_memory) c.in_err-ask.ensures.err)
 
-pub returns-then-not-is_free-clause-happens : goal.returns-then-not-is_free-clause-happens
+pub returns-then-not-is_free-clause-waits : goal.returns-then-not-is_free-clause-waits
 unfolding observed world_of
-returns-then-not-is_free-clause-happens g t c =
+returns-then-not-is_free-clause-waits g t c = λ is.
     let s = value_of c.args.state.now in
-    let home = c.home.ensures ∙ ap (λ x. x.home) c.get.ensures in
     let lack =
     lacks_change s c.args.client c.args.op.now c.requires.shape c.requires.holds c.requires.fine (step_in c.args.outcome.now) c.in-Some.inode c.requires.visited
     (lacked_now s c.args.client c.args.op.now c.requires.shape c.requires.holds c.requires.fine (Some (c.in-Some.inode, Write)) c.view-view.result.client (levels_of c.view-view.result.leases.now).clients c.deref.result.now c.args.outcome.now.effects.items
@@ -54,13 +63,15 @@ grant-requires-clause-at_home g t c =
     home_known (value_of c.args.state.now) c.requires.holds c.args.client (call_number (value_of c.args.state.now) c.args.client c.args.op.now c.requires.fine)
     ∙ ap Some (sym (c.home.ensures ∙ ap (λ x. x.home) c.get.ensures))
 
-pub returns-in_err-grant-clause-happens : goal.returns-in_err-grant-clause-happens
-returns-in_err-grant-clause-happens g t c =
+pub returns-in_err-grant-clause-refused : goal.returns-in_err-grant-clause-refused
+returns-in_err-grant-clause-refused g t c =
     let error = err_from_is_err_and c.from_residual-in_err-grant.result c.from_residual-in_err-grant.ensures.1 in
     let s = value_of c.args.state.now in
     let same : levels_of c.grant.new.self ≡ s.levels = same_levels s.levels (levels_of c.grant.new.self) c.in_err-grant.ensures.err in
-    lacking_as (observed s) (observed (after_leases s (levels_of c.grant.new.self))) c.args.client c.args.op.now (turn_answer c.from_residual-in_err-grant.result) error.0 c.requires.fine
-    (ap turn_answer error.1) (error.2 ∙ c.in_err-grant.ensures.only_memory) (ap (λ l. observed (after_leases s l)) same)
+    let after = observed (after_leases s (levels_of c.grant.new.self)) in
+    let P : Refusal → Type 0 = λ e. Calling (observed s) c.args.client c.args.op.now (refused e) after in
+    subst (λ o. IfErr o P) (sym error.1)
+    (lacking_as (observed s) after c.args.client c.args.op.now (refused error.0) error.0 c.requires.fine refl (error.2 ∙ c.in_err-grant.ensures.only_memory) (ap (λ l. observed (after_leases s l)) same))
 
 pub lease_changes-requires : goal.lease_changes-requires
 lease_changes-requires g t c κs within =
@@ -87,10 +98,7 @@ lease_changes-requires g t c κs within =
                 shape_then s c.args.client c.args.op.now c.requires.shape c.requires.holds c.requires.fine c.in-Some.inode Write (levels_of c.grant.new.self) lack free granted,
                 (
                   noted_then s c.args.client c.args.op.now c.requires.shape c.requires.holds c.requires.fine c.in-Some.inode Write (levels_of c.grant.new.self) lack free granted c.requires.noted,
-                  (
-                    visited_then s c.args.client c.args.op.now c.requires.shape c.requires.holds c.requires.fine c.in-Some.inode Write (levels_of c.grant.new.self) lack free granted (step_in c.args.outcome.now) c.requires.visited,
-                    (c.requires.few, c.requires.whole),
-                  ),
+                  visited_then s c.args.client c.args.op.now c.requires.shape c.requires.holds c.requires.fine c.in-Some.inode Write (levels_of c.grant.new.self) lack free granted (step_in c.args.outcome.now) c.requires.visited,
                 ),
               ),
             ),
@@ -98,16 +106,3 @@ lease_changes-requires g t c κs within =
         ),
       ),
     )
-
-pub returns-clause-happens : goal.returns-clause-happens
-returns-clause-happens g t c =
-    let s = value_of c.args.state.now in
-    let home = c.home.ensures ∙ ap (λ x. x.home) c.get.ensures in
-    let lack =
-    lacks_change s c.args.client c.args.op.now c.requires.shape c.requires.holds c.requires.fine (step_in c.args.outcome.now) c.in-Some.inode c.requires.visited
-    (lacked_now s c.args.client c.args.op.now c.requires.shape c.requires.holds c.requires.fine (Some (c.in-Some.inode, Write)) c.view-view.result.client (levels_of c.view-view.result.leases.now).clients c.deref.result.now c.args.outcome.now.effects.items
-    c.in-Some.ensures c.view-view.ensures.client (ap (λ l. (levels_of l).clients) c.view-view.ensures.leases) c.deref.ensures.value) in
-    let free = subst (λ n. is_free_for s.levels c.args.client n c.in-Some.inode Write ≡ true) home (sym c.is_free.ensures ∙ c.if-not-is_free.false) in
-    let granted = subst (λ n. IsGranted s.levels (levels_of c.grant.new.self) c.args.client n c.in-Some.inode Write) home c.in_ok-grant.ensures.granted in
-    goes_on s c.args.client c.args.op.now c.requires.shape c.requires.holds c.requires.fine c.in-Some.inode Write (levels_of c.grant.new.self) lack free granted
-    (turn_answer c.lease_changes.result) (machine_of c.lease_changes.new.state) c.lease_changes.ensures.happens

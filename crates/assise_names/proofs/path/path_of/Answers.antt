@@ -1,4 +1,4 @@
-use Rattle.std.proofs.Common.{◌≡◌, ◌∙◌, [], ◌∷◌, ℕ, lit<, sym, ap, subst, List, Result, Ok, Err, IfOk, MatchResult, inr}
+use Rattle.std.proofs.Common.{◌≡◌, ◌∙◌, [], ℕ, lit<, sym, ap, subst, List, Result, Ok, Err, IfOk, MatchResult, inr}
 use Rattle.std.proofs.lemmas.Str.Pattern.{strip_prefix_char}
 use Rattle.std.proofs.lemmas.Result.{err_from_is_err_and}
 use Rattle.assise_names.specs.Path.{Spells, no_deeper, path_of}
@@ -21,10 +21,10 @@ returns-in_default-clause-root c =
     let none = no_slash _ c.strip_prefix.result (strip_prefix_char 47 _ _ c.strip_prefix.ensures.cases (lit< tt)) c.in_default.is in
     λ root. absurd (let bad : Ok [] ≡ Err NotAbsolute = ap path_of (sym root) ∙ none in cc)
 
-pub returns-in_err-behind_slash-in-Err-Memory-clause-memory : goal.returns-in_err-behind_slash-in-Err-Memory-clause-memory
-returns-in_err-behind_slash-in-Err-Memory-clause-memory c =
+pub returns-in_err-check-in-Err-Memory-clause-memory : goal.returns-in_err-check-in-Err-Memory-clause-memory
+returns-in_err-check-in-Err-Memory-clause-memory c =
     let y = err_from_is_err_and c.from_residual.result c.from_residual.ensures.1 in
-    λ is. absurd (path_kind c.args.text.now (c.in_err-behind_slash-in-Err-Memory.ensures.first_fault ∙ ap Err (sym y.2 ∙ (let both : Err y.0 ≡ Err Memory = sym y.1 ∙ is in cc))))
+    λ is. absurd (path_kind c.args.text.now (c.in_err-check-in-Err-Memory.ensures.first_fault ∙ ap Err (sym y.2 ∙ (let both : Err y.0 ≡ Err Memory = sym y.1 ∙ is in cc))))
 
 spelled_if : (r : Result (List (List ℕ)) PathFault) (names : List (List ℕ)) (text : List ℕ) → MatchResult r (λ path. (path ≡ names) × (no_deeper names ≡ Ok names)) (λ fault. no_deeper names ≡ Err fault) →
     (no_deeper names ≡ Ok names → Spells text names) → IfOk r (Spells text)
