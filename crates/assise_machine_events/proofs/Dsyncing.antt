@@ -1,10 +1,9 @@
 -- A dsync that coalesces keeps what holds.
-use Rattle.std.proofs.Common.{◌≡◌, ℕ, ◌+◌, ◌≤◌, List, [], ◌∷◌, length, refl, ap, sym, subst, ◌∙◌, inl, inr, arith}
+use Rattle.std.proofs.Common.{ℕ, ◌≤◌, List, [], ◌∷◌, length, refl, ap, sym, subst, inl, inr, arith}
 use Rattle.std.proofs.lemmas.Bool.{cases_eq}
 use Rattle.assise_record.specs.Groups.{all_coalesced}
 use Rattle.assise_record.specs.LogRecord.{LogRecord}
 use Rattle.assise_machine_laws.specs.Coalescing.{Coalesces}
-use Rattle.assise_machine_laws.specs.World.{World}
 use Rattle.assise_machine_laws.proofs.Observing.{end_is}
 use Rattle.assise_machine_laws.proofs.Regrouping.{regroups_to, regroup_dropped}
 use Rattle.assise_machine_leases.specs.Leases.{AreLeases}

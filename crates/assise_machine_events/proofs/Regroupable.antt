@@ -1,13 +1,13 @@
 -- A dsync can coalesce.
-use Rattle.std.proofs.Common.{◌≡◌, ◌≢◌, ◌⊎◌, ℕ, ◌+◌, ◌-◌, ◌<◌, ◌≤◌, ◌==◌, ◌&&◌, ◌||◌, max, min, not, nat_le, if◌then◌else◌, Bool, true, false, List, [], ◌∷◌, ◌++◌, filter, length, take, drop, refl, ap, sym, subst, ◌∙◌, inl, inr, arith, length-drop, append-nil}
-use Rattle.std.proofs.lemmas.Bool.{false≢true, cases_eq, cases_lt, cond-true, cond-false, eq-eqb, ne_eqb, le-leb, lt-leb, and_from, and_left, and_right, or_right}
+use Rattle.std.proofs.Common.{◌≡◌, ◌≢◌, ℕ, ◌+◌, ◌-◌, ◌<◌, ◌≤◌, ◌==◌, ◌&&◌, ◌||◌, not, nat_le, if◌then◌else◌, Bool, true, false, List, [], ◌∷◌, ◌++◌, length, take, drop, refl, ap, sym, subst, ◌∙◌, inl, inr, arith, append-nil}
+use Rattle.std.proofs.lemmas.Bool.{false≢true, cases_eq, cond-true, cond-false, eq-eqb, ne_eqb, le-leb, lt-leb, and_from, and_left, and_right, or_right}
 use Rattle.std.proofs.lemmas.List.{length-take}
 use Rattle.assise_record.specs.Groups.{AllHaveEffects, all_coalesced, are_whole}
 use Rattle.assise_record.specs.LogRecord.{LogRecord}
 use Rattle.assise_record.proofs.Marking.{groups-all, groups-are}
 use Rattle.assise_record.proofs.WholeGroups.{whole_none}
 use Rattle.assise_inode_table.specs.Effects.{contains}
-use Rattle.assise_machine_laws.specs.Coalescing.{HasNone, GetsAll}
+use Rattle.assise_machine_laws.specs.Coalescing.{GetsAll}
 use Rattle.assise_machine_laws.specs.Regrouped.{Regroups}
 use Rattle.assise_machine_laws.specs.Sound.{IsSound}
 use Rattle.assise_machine_laws.specs.World.{World, Full, end, received_by_all, records_between}
@@ -35,7 +35,6 @@ most-below (m ∷ ns) f top h =
     omega (arith, h m (ap (λ b. b || contains ns m) (eq-eqb m m refl)), most-below ns f top (λ n t. h n (or_right (m == n) (contains ns n) t)))
 
 module _ (w : World) (c : ℕ) (h : IsSound w) (lives : w.lives c ≡ true) (some : AllHaveEffects (records_between w c (coalesced_from w c) (end w c))) where
-
   abbrev s : ℕ
   s = coalesced_from w c
 
@@ -124,10 +123,10 @@ module _ (w : World) (c : ℕ) (h : IsSound w) (lives : w.lives c ≡ true) (som
     here = λ n f. elim (cases_eq n (w.home c)) [
       | inl is ↦ inr (subst (λ m. GetsAll m c u) (sym is) at_home)
       | inr other ↦ inl (record {
-          before = elsewhere n f other;
-          received = cond-false (here n c) _ _ (and_right (c == c) (n == w.home c) (ne_eqb n (w.home c) other));
-          log = cond-false (here n c) _ _ (and_right (c == c) (n == w.home c) (ne_eqb n (w.home c) other));
-        })
+        before = elsewhere n f other;
+        received = cond-false (here n c) _ _ (and_right (c == c) (n == w.home c) (ne_eqb n (w.home c) other));
+        log = cond-false (here n c) _ _ (and_right (c == c) (n == w.home c) (ne_eqb n (w.home c) other));
+      })
     ];
     at_home = at_home;
     received_else = λ n d f other. cond-false (here n d) _ _ (else_here n d other);
@@ -153,8 +152,7 @@ module _ (w : World) (c : ℕ) (h : IsSound w) (lives : w.lives c ≡ true) (som
 pub can_coalesce : (m : Machine) (c : ℕ) → Holds m → m.world.lives c ≡ true → received_by_all m.world c < end m.world c →
     AllHaveEffects (records_between m.world c (coalesced_from m.world c) (end m.world c)) → (m' : Machine) × IsCoalescing m c m'
 can_coalesce m c h lives lacking some =
-    let (v, t) = can_regroup m.world c h.sound lives some in
-    (
+    let (v, t) = can_regroup m.world c h.sound lives some in (
       record m { world = v },
       record {
         lacking = lacking;

@@ -1,5 +1,5 @@
 -- How high numbers of calls and records can be.
-use Rattle.std.proofs.Common.{◌≡◌, ℕ, ◌≤◌, arith, length, filter}
+use Rattle.std.proofs.Common.{ℕ, ◌≤◌, arith, length}
 use Rattle.std.proofs.lemmas.List.Sums.{length-filter, count_by-le-length}
 use Rattle.assise_history.specs.Legal.{is_call_of}
 use Rattle.assise_machine_laws.specs.Sound.{IsSound}
