@@ -53,7 +53,7 @@ pub fn call(alloc: Global, name: CallWord, words: &[&str]) -> Result<Op, ScriptF
 }
 
 /// The path that a word spells, or none where memory ran out.
-fn made(alloc: Global, word: &str) -> Result<Option<Path>, ScriptFault>
+fn path_made(alloc: Global, word: &str) -> Result<Option<Path>, ScriptFault>
     ensures { Makes result (path_word word.now) }
 {
     match Path::parse(alloc, word) {
@@ -66,7 +66,7 @@ fn made(alloc: Global, word: &str) -> Result<Option<Path>, ScriptFault>
 fn path(alloc: Global, word: &str) -> Result<Path, ScriptFault>
     ensures { Answers result (path_word word.now) }
 {
-    match made(alloc, word)? {
+    match path_made(alloc, word)? {
         Some(path) => Ok(path),
         None => Err(ScriptFault::Memory),
     }
@@ -89,7 +89,7 @@ fn mkdir(alloc: Global, word: &str) -> Result<Op, ScriptFault>
 fn read(alloc: Global, word: &str, offset: &str, count: &str) -> Result<Op, ScriptFault>
     ensures { Answers result (read_of word.now offset.now count.now) }
 {
-    let path = made(alloc, word)?;
+    let path = path_made(alloc, word)?;
     let offset = number(offset)?;
     let count = number(count)?;
     let path = path.ok_or(ScriptFault::Memory)?;
@@ -99,7 +99,7 @@ fn read(alloc: Global, word: &str, offset: &str, count: &str) -> Result<Op, Scri
 fn write(alloc: Global, word: &str, offset: &str, bytes: &str) -> Result<Op, ScriptFault>
     ensures { Answers result (write_of word.now offset.now bytes.now) }
 {
-    let path = made(alloc, word)?;
+    let path = path_made(alloc, word)?;
     let offset = number(offset)?;
     check_data(bytes)?;
     let path = path.ok_or(ScriptFault::Memory)?;
@@ -110,7 +110,7 @@ fn write(alloc: Global, word: &str, offset: &str, bytes: &str) -> Result<Op, Scr
 fn truncate(alloc: Global, word: &str, size: &str) -> Result<Op, ScriptFault>
     ensures { Answers result (truncate_of word.now size.now) }
 {
-    let path = made(alloc, word)?;
+    let path = path_made(alloc, word)?;
     let size = number(size)?;
     let path = path.ok_or(ScriptFault::Memory)?;
     Ok(Op::Truncate(path, size))
@@ -119,8 +119,8 @@ fn truncate(alloc: Global, word: &str, size: &str) -> Result<Op, ScriptFault>
 fn rename(alloc: Global, from: &str, to: &str) -> Result<Op, ScriptFault>
     ensures { Answers result (rename_of from.now to.now) }
 {
-    let from = made(alloc, from)?;
-    let to = made(alloc, to)?;
+    let from = path_made(alloc, from)?;
+    let to = path_made(alloc, to)?;
     let from = from.ok_or(ScriptFault::Memory)?;
     let to = to.ok_or(ScriptFault::Memory)?;
     Ok(Op::Rename(from, to))

@@ -104,6 +104,15 @@ unread 4000, written 4294967297: rename /d/g /h => missing 0 write
 unread 4000, written 0: rename /f /h => done [0, 4294967296, 0] | unlink 0 f | link 0 h 4294967296
 ";
 
+/// By its visits a call wants no lease of what it changes.
+const BY_VISITS: &str = "\
+create /f => done [0] | new_file 4294967296 | link 0 f 4294967296
+by visits, unread 0, unwritten 4000: create /g => missing 0 read
+by visits, unread 4000, unwritten 0: create /g => done [0] | new_file 4294967297 | link 0 g 4294967297
+by visits, unread 4294967296, unwritten 0: unlink /f => missing 4294967296 read
+by visits, unread 4000, unwritten 0: unlink /f => done [0, 4294967296] | unlink 0 f | free 4294967296
+";
+
 #[test]
 fn the_missing_lease_is_named(rt: HostRuntime) {
     show(
@@ -115,6 +124,7 @@ fn the_missing_lease_is_named(rt: HostRuntime) {
             FIRST_EFFECTS,
             RENAMES,
             FIRST_EFFECTS_OF_RENAMES,
+            BY_VISITS,
         ],
     );
 }

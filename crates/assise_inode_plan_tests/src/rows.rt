@@ -6,7 +6,7 @@ use crate::leases::PartlyLeased;
 use crate::plan_text::put_plan;
 use assise_fault_script::command::Command;
 use assise_fault_script::parse::{NumberedCommand, parse};
-use assise_inode_plan::plan::{Planned, plan};
+use assise_inode_plan::plan::{Planned, plan, plan_by_visits};
 use assise_inode_plan::view::{AllLeased, View};
 use assise_inode_table::table::InodeTable;
 use assise_names::call::Op;
@@ -62,7 +62,7 @@ fn next(inodes: &InodeTable, fresh: u64) -> u64 {
 }
 
 /// Plans a call over all inodes and makes its effects; or, where it is `LEASES: CALL`, over the inodes with these
-/// leases, and makes none.
+/// leases, and makes none. `by visits, LEASES: CALL` is planned by its visits alone.
 fn planned_row(alloc: Global, inodes: &mut InodeTable, call: &str, fresh: u64) -> Option<Planned> {
     match call.split_once(": ") {
         Some((leases, call)) => planned_under(alloc, inodes, leases, call, fresh),
@@ -77,8 +77,16 @@ fn planned_under(
     call: &str,
     fresh: u64,
 ) -> Option<Planned> {
-    let view = PartlyLeased::parse(inodes, leases)?;
-    planned_call(alloc, &view, call, fresh)
+    match leases.strip_prefix("by visits, ") {
+        Some(leases) => {
+            let view = PartlyLeased::parse(inodes, leases)?;
+            planned_by_visits(alloc, &view, call, fresh)
+        }
+        None => {
+            let view = PartlyLeased::parse(inodes, leases)?;
+            planned_call(alloc, &view, call, fresh)
+        }
+    }
 }
 
 fn planned_and_made(
@@ -116,6 +124,17 @@ fn plan_and_make(
 fn planned_call<V: View>(alloc: Global, view: &V, call: &str, fresh: u64) -> Option<Planned> {
     let commands = commands_of(alloc, call)?;
     planned_op(alloc, view, op_in(commands.as_slice())?, fresh)
+}
+
+/// Plans a call by its visits.
+fn planned_by_visits<V: View>(alloc: Global, view: &V, call: &str, fresh: u64) -> Option<Planned> {
+    let commands = commands_of(alloc, call)?;
+    let op = op_in(commands.as_slice())?;
+    if is_writable(op) {
+        plan_by_visits(alloc, view, op, fresh).ok()
+    } else {
+        None
+    }
 }
 
 /// The commands of a script with this call behind a cluster.

@@ -55,6 +55,13 @@ returns-in_err-lease_changes-in-Ready-clause-happens g t c =
     let error = err_from_is_err_and c.from_residual-in_err-lease_changes-in-Ready.result c.from_residual-in_err-lease_changes-in-Ready.ensures.1 in
     subst (λ a. Calling (machine_of c.args.state.now) c.args.client c.args.op.now a (machine_of c.lease_changes.new.state)) (sym (ap turn_answer error.1 ∙ ap refused error.2)) c.in_err-lease_changes-in-Ready.ensures.refused
 
+pub returns-then-not-branch-clause-happens : goal.returns-then-not-branch-clause-happens
+returns-then-not-branch-clause-happens g t c = c.in_ok-lease_changes-in-Ready.ensures.waits c.if-not-branch.true
+
+pub returns-else-not-branch-clause-happens : goal.returns-else-not-branch-clause-happens
+returns-else-not-branch-clause-happens g t c =
+    (c.in_ok-lease_changes-in-Ready.ensures.all c.if-not-branch.false).onward (turn_answer c.commit.result) (machine_of c.commit.new.state) c.commit.ensures.happens
+
 pub returns-in_err-ask-in-Missing-clause-happens : goal.returns-in_err-ask-in-Missing-clause-happens
 returns-in_err-ask-in-Missing-clause-happens g t c =
     let error = err_from_is_err_and c.from_residual-in_err-ask-in-Missing.result c.from_residual-in_err-ask-in-Missing.ensures.1 in

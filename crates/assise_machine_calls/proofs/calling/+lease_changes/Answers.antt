@@ -82,8 +82,7 @@ lease_changes-requires g t c κs within =
     (lacked_now s c.args.client c.args.op.now c.requires.shape c.requires.holds c.requires.fine (Some (c.in-Some.inode, Write)) c.view-view.result.client (levels_of c.view-view.result.leases.now).clients c.deref.result.now c.args.outcome.now.effects.items
     c.in-Some.ensures c.view-view.ensures.client (ap (λ l. (levels_of l).clients) c.view-view.ensures.leases) c.deref.ensures.value) in
     let free = subst (λ n. is_free_for s.levels c.args.client n c.in-Some.inode Write ≡ true) home (sym c.is_free.ensures ∙ c.if-not-is_free.false) in
-    let granted = subst (λ n. IsGranted s.levels (levels_of c.grant.new.self) c.args.client n c.in-Some.inode Write) home c.in_ok-grant.ensures.granted in
-    (
+    let granted = subst (λ n. IsGranted s.levels (levels_of c.grant.new.self) c.args.client n c.in-Some.inode Write) home c.in_ok-grant.ensures.granted in (
       subst (λ k. unserved (served (after_leases s (levels_of c.grant.new.self)) c.args.client) (wants (next_step (world_of (after_leases s (levels_of c.grant.new.self))) c.args.client c.args.op.now)) < k) c.decreases
           (fewer_then s c.args.client c.args.op.now c.requires.shape c.requires.holds c.requires.fine c.in-Some.inode Write (levels_of c.grant.new.self) lack free granted),
       (
@@ -106,3 +105,42 @@ lease_changes-requires g t c κs within =
         ),
       ),
     )
+
+pub returns-clause-all : goal.returns-clause-all
+returns-clause-all g t c =
+    let s = value_of c.args.state.now in
+    let home = c.home.ensures ∙ ap (λ x. x.home) c.get.ensures in
+    let lack =
+    lacks_change s c.args.client c.args.op.now c.requires.shape c.requires.holds c.requires.fine (step_in c.args.outcome.now) c.in-Some.inode c.requires.visited
+    (lacked_now s c.args.client c.args.op.now c.requires.shape c.requires.holds c.requires.fine (Some (c.in-Some.inode, Write)) c.view-view.result.client (levels_of c.view-view.result.leases.now).clients c.deref.result.now c.args.outcome.now.effects.items
+    c.in-Some.ensures c.view-view.ensures.client (ap (λ l. (levels_of l).clients) c.view-view.ensures.leases) c.deref.ensures.value) in
+    let free = subst (λ n. is_free_for s.levels c.args.client n c.in-Some.inode Write ≡ true) home (sym c.is_free.ensures ∙ c.if-not-is_free.false) in
+    let granted = subst (λ n. IsGranted s.levels (levels_of c.grant.new.self) c.args.client n c.in-Some.inode Write) home c.in_ok-grant.ensures.granted in
+    all_onward (observed s) (observed (after_leases s (levels_of c.grant.new.self))) (machine_of c.lease_changes.new.state) c.args.client c.args.op.now c.lease_changes.result
+    (goes_on s c.args.client c.args.op.now c.requires.shape c.requires.holds c.requires.fine c.in-Some.inode Write (levels_of c.grant.new.self) lack free granted) (step_in c.args.outcome.now) c.lease_changes.ensures.all
+
+pub returns-clause-waits : goal.returns-clause-waits
+returns-clause-waits g t c =
+    let s = value_of c.args.state.now in
+    let home = c.home.ensures ∙ ap (λ x. x.home) c.get.ensures in
+    let lack =
+    lacks_change s c.args.client c.args.op.now c.requires.shape c.requires.holds c.requires.fine (step_in c.args.outcome.now) c.in-Some.inode c.requires.visited
+    (lacked_now s c.args.client c.args.op.now c.requires.shape c.requires.holds c.requires.fine (Some (c.in-Some.inode, Write)) c.view-view.result.client (levels_of c.view-view.result.leases.now).clients c.deref.result.now c.args.outcome.now.effects.items
+    c.in-Some.ensures c.view-view.ensures.client (ap (λ l. (levels_of l).clients) c.view-view.ensures.leases) c.deref.ensures.value) in
+    let free = subst (λ n. is_free_for s.levels c.args.client n c.in-Some.inode Write ≡ true) home (sym c.is_free.ensures ∙ c.if-not-is_free.false) in
+    let granted = subst (λ n. IsGranted s.levels (levels_of c.grant.new.self) c.args.client n c.in-Some.inode Write) home c.in_ok-grant.ensures.granted in
+    waits_onward (observed s) (observed (after_leases s (levels_of c.grant.new.self))) (machine_of c.lease_changes.new.state) c.args.client c.args.op.now c.lease_changes.result
+    (goes_on s c.args.client c.args.op.now c.requires.shape c.requires.holds c.requires.fine c.in-Some.inode Write (levels_of c.grant.new.self) lack free granted) c.lease_changes.ensures.waits
+
+pub returns-clause-refused : goal.returns-clause-refused
+returns-clause-refused g t c =
+    let s = value_of c.args.state.now in
+    let home = c.home.ensures ∙ ap (λ x. x.home) c.get.ensures in
+    let lack =
+    lacks_change s c.args.client c.args.op.now c.requires.shape c.requires.holds c.requires.fine (step_in c.args.outcome.now) c.in-Some.inode c.requires.visited
+    (lacked_now s c.args.client c.args.op.now c.requires.shape c.requires.holds c.requires.fine (Some (c.in-Some.inode, Write)) c.view-view.result.client (levels_of c.view-view.result.leases.now).clients c.deref.result.now c.args.outcome.now.effects.items
+    c.in-Some.ensures c.view-view.ensures.client (ap (λ l. (levels_of l).clients) c.view-view.ensures.leases) c.deref.ensures.value) in
+    let free = subst (λ n. is_free_for s.levels c.args.client n c.in-Some.inode Write ≡ true) home (sym c.is_free.ensures ∙ c.if-not-is_free.false) in
+    let granted = subst (λ n. IsGranted s.levels (levels_of c.grant.new.self) c.args.client n c.in-Some.inode Write) home c.in_ok-grant.ensures.granted in
+    refused_onward (observed s) (observed (after_leases s (levels_of c.grant.new.self))) (machine_of c.lease_changes.new.state) c.args.client c.args.op.now c.lease_changes.result
+    (goes_on s c.args.client c.args.op.now c.requires.shape c.requires.holds c.requires.fine c.in-Some.inode Write (levels_of c.grant.new.self) lack free granted) c.lease_changes.ensures.refused
