@@ -1,7 +1,7 @@
 -- The bytes of a file by their places, with zeros past its end.
 use Rattle.std.proofs.Common.{◌≡◌, ℕ, zero, suc, ◌+◌, ◌-◌, ◌<◌, ◌≤◌, ◌⊎◌, List, [], ◌∷◌, ◌++◌, length, take, drop, replicate, refl, ap, sym, ◌∙◌, arith, max, inl, inr, length-append}
 use Rattle.std.proofs.lemmas.Bool.{cases_lt}
-use Rattle.std.proofs.lemmas.List.{length-take, length-replicate}
+use Rattle.std.proofs.lemmas.List.{length-take}
 use Rattle.assise_seq_tree.specs.Contents.{overwritten, resized}
 use Rattle.assise_seq_tree.proofs.Reading.{length-overwritten}
 use Rattle.assise_seq_tree.proofs.Resizing.{length-resized}

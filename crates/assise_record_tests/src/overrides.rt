@@ -16,12 +16,10 @@ fn write_at(alloc: Global, inode: u64, from_four: bool, bytes: &[u8; 4]) -> Opti
 /// The effects that stand against each other.
 fn effects(alloc: Global) -> Option<Vec<Effect>> {
     let long = Extent::new(4, Bytes::copy_from_slice(alloc, b"eight by").ok()?);
-    let [a, same, other] = [
-        Name::parse(alloc, "a").ok()?,
-        Name::parse(alloc, "a").ok()?,
-        Name::parse(alloc, "b").ok()?,
-    ];
-    let elsewhere = a.copy().ok()?;
+    let a = Name::parse(alloc, "a").ok()?;
+    let same = Name::parse(alloc, "a").ok()?;
+    let other = Name::parse(alloc, "b").ok()?;
+    let elsewhere = Name::parse(alloc, "a").ok()?;
     vec![in alloc;
         Effect::NewFile { inode: 1 },
         Effect::NewDir { inode: 1 },
