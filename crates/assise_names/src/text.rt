@@ -1,8 +1,9 @@
 // A text that lies in its value where it is short.
-ghost use Rattle.std.specs.Prelude.{◌≡◌, IfOk, IsTrue, length};
+ghost use Rattle.std.specs.Prelude.{◌≡◌, IfOk, IsTrue, None, length};
 
 use arrayvec::ArrayString;
 use std::alloc::{AllocError, Global};
+use std::fmt::{self, Debug, Formatter};
 use std::marker::Model;
 use std::sync::ArcStr;
 
@@ -10,7 +11,7 @@ use std::sync::ArcStr;
 const MOST_SHORT_BYTES: usize = 16;
 
 /// A text that lies in its value where it is short, and else is shared by its copies.
-#[derive(Debug, Drop)]
+#[derive(Drop)]
 pub(crate) enum Text {
     /// At most 16 bytes.
     Short(ArrayString<MOST_SHORT_BYTES>),
@@ -49,5 +50,14 @@ impl Text {
             Text::Short(short) => Ok(Text::Short(*short)),
             Text::Shared(shared) => Ok(Text::Shared(shared.clone()?)),
         }
+    }
+}
+
+/// Printed as the text is, wherever it lies.
+impl Debug for Text {
+    ghost debug_output = { λ _. None };
+
+    fn fmt<W: fmt::Write>(&self, f: &mut Formatter<W>) -> fmt::Result {
+        write!(f, "{:?}", self.as_str())
     }
 }
