@@ -26,3 +26,21 @@ loop-frame-preserved g c =
         few = omega (arith, rest, before.few);
       })
     ]
+
+pub loop-frame-preserved-after-deliver : goal.loop-frame-preserved-after-deliver
+loop-frame-preserved-after-deliver g c =
+    let m = machine c.args.cluster.now in
+    let v = machine c.loop-frame.cluster in
+    let u = machine c.deliver.new.cluster in
+    let before = c.loop-frame.invariant in
+    let rest = ap length c.in-Some.ensures.steps.0 in
+    elim c.if-deliver.branch [
+      | then-deliver w ↦ rw w.taken-is (record {
+        carried = one_taken m v u c.loop-frame.yielded c.loop-frame.taken c.in-Some.frame c.in-Some.next c.deliver.result before.carried c.deliver.ensures w.if-deliver.true;
+        few = omega (arith, rest, before.few);
+      })
+      | else-deliver w ↦ rw w.taken-is (record {
+        carried = one_lost m v u c.loop-frame.yielded c.loop-frame.taken c.in-Some.frame c.in-Some.next c.deliver.result before.carried c.deliver.ensures w.if-deliver.false;
+        few = omega (arith, rest, before.few);
+      })
+    ]
