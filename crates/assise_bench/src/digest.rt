@@ -8,10 +8,9 @@ mod records;
 mod refused;
 mod turns;
 
-pub(crate) use crate::digest::refused::{Fault, Refused, refusals};
-
 use crate::digest::built::region_of;
 use crate::digest::records::Kind;
+pub(crate) use crate::digest::refused::{Fault, Refused, refusals};
 use crate::digest::turns::{Times, turns};
 
 /// How long the turns took that the words say. None where they say none, or there is no memory.

@@ -9,7 +9,11 @@ use std::sync::Wait;
 use std::thread::Threads;
 
 /// The sum of all turns. None where the words say none, or there is no memory.
-pub(crate) fn sum<R: Threads + Wait + Sync>(rt: &R, alloc: Global, words: &[String]) -> Option<u64> {
+pub(crate) fn sum<R: Threads + Wait + Sync>(
+    rt: &R,
+    alloc: Global,
+    words: &[String],
+) -> Option<u64> {
     let [kind, threads, turns] = words else {
         return None;
     };

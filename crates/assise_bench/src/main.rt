@@ -9,8 +9,8 @@ mod calls;
 mod copies;
 mod digest;
 mod keeper;
-mod least;
 mod leases;
+mod least;
 mod log;
 mod numbers;
 mod rounds;
@@ -42,7 +42,9 @@ fn main(rt: HostRuntime) -> ExitCode {
 fn run(rt: &HostRuntime) -> Option<ExitCode> {
     let words: Vec<String> = env::args(rt).ok()?.collect(rt.alloc()).ok()?;
     match words.as_slice() {
-        [_, what, word] if what.as_str() == "digest" && word.as_str() == "refused" => show_refused(rt),
+        [_, what, word] if what.as_str() == "digest" && word.as_str() == "refused" => show_refused(
+            rt,
+        ),
         [_, what] if what.as_str() == "each" => {
             show_each(rt)?;
             Some(ExitCode::SUCCESS)

@@ -20,10 +20,10 @@ ghost use Rattle.assise_machine_failures.specs.Failures.{FreezesBelow, IsListed}
 use crate::copies::drop_copies;
 use crate::cutting::cut_to;
 use crate::failure::Failure;
-use assise_machine_state::noting::note_all;
 use assise_history::entry::Entry;
 use assise_lease_table::revoker::Revokes;
 use assise_machine_state::dropping::drop_digested;
+use assise_machine_state::noting::note_all;
 use assise_machine_state::sound::SoundOf;
 use assise_machine_state::state::StateOf;
 use assise_manager::phase::Phase;

@@ -1,7 +1,7 @@
 // A cluster whose clients make calls.
 use crate::calls::made::{creates, fill, first_calls, root, stat, writes};
-use crate::least::Least;
 use crate::calls::setting::{Kind, Setting};
+use crate::least::Least;
 use assise_machine_calls::calling::try_call;
 use assise_machine_calls::opening::open;
 use assise_machine_calls::turn::Turn;

@@ -1,7 +1,7 @@
 // Clients that make calls.
-use crate::rounds::made::{directory, file};
 use crate::least::Least;
 use crate::rounds::exchange::{Cluster, round};
+use crate::rounds::made::{directory, file};
 use crate::rounds::setting::{Parts, Setting};
 use assise_machine_calls::turn::Turn;
 use assise_names::call::Op;
