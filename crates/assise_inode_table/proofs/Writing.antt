@@ -1,6 +1,6 @@
 -- Writes, reads and cuts of bytes in blocks.
 use Rattle.std.proofs.Common.{◌≡◌, ℕ, zero, suc, ◌+◌, ◌-◌, ◌*◌, ◌/◌, ◌%◌, ◌<◌, ◌≤◌, ◌≢◌, List, [], ◌∷◌, ◌++◌, length, take, drop, replicate, refl, ap, sym, ◌∙◌, subst, get_or, set, arith, min, max, append_assoc, append-nil, length-append, take-append-drop}
-use Rattle.std.proofs.lemmas.List.{length-take, length-drop, length-replicate, take_all, drop_all, take-take, drop-take, drop-drop, drop_more, take-append-le, take_more_set}
+use Rattle.std.proofs.lemmas.List.{length-take, length-drop, length-replicate, take_all, drop_all, take-take, drop-take, drop-drop, drop_more, set_split, take-append-le, take_more_set}
 use Rattle.std.proofs.lemmas.List.Folds.{concat-append}
 use Rattle.std.proofs.Math.Seq.{take-add}
 use Rattle.std.specs.Int.{div_ceil}
@@ -239,6 +239,21 @@ module _ {bs : List (List ℕ)} {size o : ℕ} {new : List ℕ} {first past unti
       let head : length (concat (take first bs)) ≡ 4096 * length (take first bs) =
       ap length (concat_take bs first r.cut (omega (arith, r.stop, fits))) ∙ omega (arith, length-take (4096 * first) (concat bs), length-take first bs, r.held, r.bytes, r.stop, fits) in
       cut_append (take first bs) (made ++ drop until bs) (cut_take bs first r.cut) (cut_append made (drop until bs) cut (cut_drop bs until r.cut) tail) (λ p. head)
+
+  -- where the write reaches one block alone, that one changes
+  pub one_written : suc first ≡ until → (d b : List ℕ) → o - first * 4096 + length new ≤ 4096 → b ≡ overwritten (get_or bs first d) (o - first * 4096) new
+      → IsCut (set bs first b) × (concat (set bs first b) ≡ overwritten (concat bs) o new)
+  one_written next d b fits is =
+      let old = get_or bs first d in
+      let held : first < length bs = omega (arith, next, until_held) in
+      let one : until - first ≡ 1 = omega (arith, next) in
+      let reached : take (until - first) (drop first bs) ≡ old ∷ [] = ap (λ n. take n (drop first bs)) one ∙ ap (take 1) (drop_more bs first d held) in
+      let cut : IsCut (old ∷ []) = subst IsCut reached cut_reached in
+      let size = length-overwritten old (o - first * 4096) new in
+      let bytes = made_is (concat (b ∷ [])) (append-nil b ∙ is ∙ ap (λ xs. overwritten xs (o - first * 4096) new) (sym (append-nil old) ∙ sym (ap concat reached))) in
+      let made = cut_one b (omega (arith, ap length is, size, least (old ∷ []) cut, ap length (append-nil old))) (omega (arith, ap length is, size, fits, most (old ∷ []) cut, ap length (append-nil old))) in
+      let put : set bs first b ≡ take first bs ++ b ∷ drop until bs = set_split bs first b held ∙ ap (λ n. take first bs ++ b ∷ drop n bs) next in
+      (subst IsCut (sym put) (still_cut (b ∷ []) made bytes), ap concat put ∙ written (b ∷ []) bytes)
 
 -- ---- reads
 pub end_held : (bs : List (List ℕ)) (start end : ℕ) → IsCut bs → start < end → end ≤ length (concat bs) → (end - 1) / 4096 + 1 ≤ length bs

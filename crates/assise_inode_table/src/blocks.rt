@@ -139,7 +139,13 @@ pub fn overwrite(
 {
     let first = size.min(offset) / BLOCK;
     let until = blocks.len().min((offset + new.len() - 1) / BLOCK + 1);
-    let made = overwritten(alloc, &blocks[first..until], offset - first * BLOCK, new)?;
+    let at = offset - first * BLOCK;
+    if first + 1 == until && at + new.len() <= BLOCK {
+        let alone = block(alloc, blocks[first].as_slice(), at, new)?;
+        blocks[first] = alone;
+        return Ok(());
+    }
+    let made = overwritten(alloc, &blocks[first..until], at, new)?;
     replace(blocks, first, until, made)
 }
 

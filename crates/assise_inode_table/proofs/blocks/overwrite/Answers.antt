@@ -1,9 +1,9 @@
-use Rattle.std.proofs.Common.{◌≡◌, ◌∙◌, ◌-◌, ◌/◌, ◌*◌, ap, arith, length, take, drop, subst, sym}
+use Rattle.std.proofs.Common.{◌≡◌, ◌∙◌, suc, ◌-◌, ◌/◌, ◌*◌, ap, arith, length, take, drop, set, subst, sym}
 use Rattle.std.specs.List.{concat}
 use Rattle.std.proofs.lemmas.Result.{on_ok_weaker}
 use Rattle.assise_seq_tree.specs.Contents.{overwritten}
 use Rattle.assise_inode_table.specs.Blocks.{IsCut}
-use Rattle.assise_inode_table.proofs.Writing.{reach, first_held, until_held, cut_reached, reached_held, made_is, written, still_cut}
+use Rattle.assise_inode_table.proofs.Writing.{reach, first_held, until_held, cut_reached, reached_held, made_is, one_written, written, still_cut}
 use Rattle.assise_inode_table.proofs.blocks.overwrite.Goals as goal
 
 pub slice_bounds-overwritten-count : goal.slice_bounds-overwritten-count
@@ -66,3 +66,20 @@ returns-clause-bytes c =
     let bytes = c.in_ok-made.ensures.bytes ∙ ap (λ xs. overwritten (concat (take (until - first) (drop first xs))) (c.args.offset - first * 4096) c.args.new.now) c.deref.ensures.value in
     let made = made_is r (concat c.in_ok-made.made.items) bytes in
     on_ok_weaker c.replace.result (λ e. ap concat e ∙ written r c.in_ok-made.made.items made) c.replace.ensures.ok
+
+-- the one block that is reached is made anew, and the others stay
+alone_written : (c : goal.Joined-index_mut-alone) → IsCut (set c.args.blocks.now.items (c.min-first.result / 4096) c.in_ok-alone.alone)
+    × (concat (set c.args.blocks.now.items (c.min-first.result / 4096) c.in_ok-alone.alone) ≡ overwritten (concat c.args.blocks.now.items) c.args.offset c.args.new.now)
+alone_written c =
+    let bs = c.args.blocks.now.items in
+    let held : c.len.result ≡ length bs = omega (arith, c.len.ensures, c.args.blocks.now.ok.0) in
+    let r = reach bs c.args.size c.args.offset c.args.new.now c.min-first.result c.len.result c.min-until.result c.requires.shape c.requires.bytes c.requires.some c.min-first.ensures held c.min-until.ensures in
+    let next : suc (c.min-first.result / 4096) ≡ c.min-until.result = omega (arith, c.if-first-until.true) in
+    let is = c.in_ok-alone.ensures ∙ ap (λ xs. overwritten xs (c.args.offset - c.min-first.result / 4096 * 4096) c.args.new.now) (c.as_slice.ensures ∙ c.index.ensures) in
+    one_written r next c.index.result.now c.in_ok-alone.alone (omega (arith, c.if-at-new-le-BLOCK.true)) is
+
+pub returns-then-at-new-le-BLOCK-clause-shape : goal.returns-then-at-new-le-BLOCK-clause-shape
+returns-then-at-new-le-BLOCK-clause-shape c = (alone_written c).0
+
+pub returns-then-at-new-le-BLOCK-clause-bytes : goal.returns-then-at-new-le-BLOCK-clause-bytes
+returns-then-at-new-le-BLOCK-clause-bytes c = (alone_written c).1
