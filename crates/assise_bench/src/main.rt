@@ -19,6 +19,8 @@ use crate::digest::{Fault, Refused};
 use std::alloc::Global;
 use std::env;
 use std::process::ExitCode;
+use std::sync::Wait;
+use std::thread::Threads;
 
 /// A little of everything, in words of the command line.
 const EACH: [&str; 7] = [
@@ -32,25 +34,26 @@ const EACH: [&str; 7] = [
 ];
 
 fn main(rt: HostRuntime) -> ExitCode {
-    match run(&rt) {
+    match run(&rt, &rt) {
         Some(code) => code,
         None => ExitCode::from(2),
     }
 }
 
-/// Runs what the command line says. None where it says nothing, there is no memory, or a call goes wrong.
-fn run(rt: &HostRuntime) -> Option<ExitCode> {
+/// Runs what the command line says, with the leave to start threads. None where it says nothing, there is no memory, or a call goes
+/// wrong.
+fn run<R: Threads + Wait + Sync>(rt: &HostRuntime, leave: &R) -> Option<ExitCode> {
     let words: Vec<String> = env::args(rt).ok()?.collect(rt.alloc()).ok()?;
     match words.as_slice() {
         [_, what, word] if what.as_str() == "digest" && word.as_str() == "refused" => show_refused(
             rt,
         ),
         [_, what] if what.as_str() == "each" => {
-            show_each(rt)?;
+            show_each(rt, leave)?;
             Some(ExitCode::SUCCESS)
         }
         [_, what, words @ ..] => {
-            show(rt, what.as_str(), words)?;
+            show(rt, leave, what.as_str(), words)?;
             Some(ExitCode::SUCCESS)
         }
         _ => None,
@@ -58,13 +61,13 @@ fn run(rt: &HostRuntime) -> Option<ExitCode> {
 }
 
 /// Makes a little of everything.
-fn show_each(rt: &HostRuntime) -> Option<()> {
+fn show_each<R: Threads + Wait + Sync>(rt: &HostRuntime, leave: &R) -> Option<()> {
     for line in EACH {
         let words = words_of(rt.alloc(), line)?;
         let [what, words @ ..] = words.as_slice() else {
             return None;
         };
-        show(rt, what.as_str(), words)?;
+        show(rt, leave, what.as_str(), words)?;
     }
     Some(())
 }
@@ -79,7 +82,12 @@ fn words_of(alloc: Global, line: &str) -> Option<Vec<String>> {
 }
 
 /// Makes what the words say, and prints a line of it.
-fn show(rt: &HostRuntime, what: &str, words: &[String]) -> Option<()> {
+fn show<R: Threads + Wait + Sync>(
+    rt: &HostRuntime,
+    leave: &R,
+    what: &str,
+    words: &[String],
+) -> Option<()> {
     let alloc = rt.alloc();
     match what {
         "calls" => {
@@ -98,7 +106,7 @@ fn show(rt: &HostRuntime, what: &str, words: &[String]) -> Option<()> {
             eprintln!(rt; "{append} ns an append, {digest} ns a digest, {peek} ns a peek").ok()
         }
         "keeper" => {
-            let sum = keeper::sum(rt, alloc, words)?;
+            let sum = keeper::sum(leave, alloc, words)?;
             println!(rt; "{sum}").ok()
         }
         "leases" => {
