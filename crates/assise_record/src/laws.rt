@@ -19,7 +19,8 @@ pub fn reads_again()
 
 /// Where bytes are read as a frame, they begin with its spelling.
 pub fn what_is_read_is_spelled()
-    ensures { (newest : ℕ) (bytes : List ℕ) (f : LogFrame) (n : ℕ) → newest ≤ 2 → All (λ b. b < 256) bytes → frame_at newest bytes ≡ Ok (f, n) → BeginsWith newest bytes f n }
+    ensures { (newest : ℕ) (bytes : List ℕ) (f : LogFrame) (n : ℕ) → newest ≤ 2 → All (λ b. b < 256) bytes →
+        frame_at newest bytes ≡ Ok (f, n) → BeginsWith newest bytes f n }
 {}
 
 /// A frame has one spelling, and bytes spell one frame at most.
@@ -38,7 +39,8 @@ pub fn no_spelling_begins_another()
 /// by all that know newer ones.
 pub fn a_newer_version_changes_only_what_is_bad_version()
     ensures above { (newest version : ℕ) (rest : List ℕ) → newest < version → frame_at newest (65 ∷ 83 ∷ version ∷ rest) ≡ Err BadVersion }
-    ensures read { (newest later : ℕ) (bytes : List ℕ) → newest ≤ later → ¬ (frame_at newest bytes ≡ Err BadVersion) → frame_at later bytes ≡ frame_at newest bytes }
+    ensures read { (newest later : ℕ) (bytes : List ℕ) → newest ≤ later → ¬ (frame_at newest bytes ≡ Err BadVersion) →
+        frame_at later bytes ≡ frame_at newest bytes }
     ensures spelled { (newest later : ℕ) (f : LogFrame) (text : List ℕ) → newest ≤ later → Spells newest text f → Spells later text f }
 {}
 
@@ -52,7 +54,8 @@ pub fn version_1_has_no_marks()
 /// More bytes change nothing behind a frame or a fault, but only what is Short. A fault isn't found at the first byte
 /// with which no frame can begin any more: a field is looked at once all its bytes are there, and a body once it is whole.
 pub fn only_what_is_short_changes()
-    ensures { (newest : ℕ) (bytes more : List ℕ) → ¬ (frame_at newest bytes ≡ Err Short) → frame_at newest (bytes ++ more) ≡ frame_at newest bytes }
+    ensures { (newest : ℕ) (bytes more : List ℕ) → ¬ (frame_at newest bytes ≡ Err Short) →
+        frame_at newest (bytes ++ more) ≡ frame_at newest bytes }
 {}
 
 /// Short are exactly the bytes that end inside a header whose whole fields are lawful, or behind a lawful header before
@@ -63,7 +66,8 @@ pub fn what_is_short_is_unfinished()
 
 /// A frame that is cut is Short, wherever it is cut.
 pub fn a_cut_frame_is_short()
-    ensures { (newest : ℕ) (f : LogFrame) (front rest : List ℕ) → newest ≤ 2 → All (λ b. b < 256) front → 0 < length rest → Spells newest (front ++ rest) f → frame_at newest front ≡ Err Short }
+    ensures { (newest : ℕ) (f : LogFrame) (front rest : List ℕ) → newest ≤ 2 → All (λ b. b < 256) front → 0 < length rest →
+        Spells newest (front ++ rest) f → frame_at newest front ≡ Err Short }
 {}
 
 /// Effects compare equal exactly where they are the same, and so do records.
