@@ -55,7 +55,7 @@ One command a line. Spaces alone part its words. A line that begins with # is a 
   manual                        from here on a call is tried once, and nodes do only what a command says
   carry NODE                    sends what is to be replicated to the nodes behind it
   digest NODE                   digests what every full node has, and so makes room in logs
-  release                       frees the leases that were asked for and may go
+  release                       frees the revoked leases that may go
   refill NODE                   a node that comes back gets one inode
   join NODE                     a node that comes back and lacks nothing is full again
 
