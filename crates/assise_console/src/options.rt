@@ -20,11 +20,49 @@ pub struct CommandLine<'a> {
 /// The version that `assise --version` prints.
 pub const VERSION: &str = "0.1.0";
 
-/// What a script looks like, where its commands are explained, and the exit statuses: the end of the help.
-const ABOUT_SCRIPTS: &str =
-    "A script has a command in each line, as 'cluster 1 8 4', 'open 1 least', '1 create /f', '1 write /f 0 thello', 'history'.\n\
-    Its commands and what they print are explained in docs/SCRIPT.md.\n\
-    Exit status: 0 the script ran to its end, 1 no memory or no output, 2 a fault of the words or the script, 3 an unreadable script.";
+/// What `assise --help` prints.
+const HELP: &str = r"Runs a script on a cluster of a replicated file system, and prints each answer
+
+Usage: assise [OPTIONS] <SCRIPT>
+
+Arguments:
+  <SCRIPT>  A file, or - for standard input
+
+Options:
+      --turns <N>  Tries of a call before it is refused as F2 Busy, 1 to 1000000 [default: 100000]
+  -h, --help       Print help
+  -V, --version    Print version
+
+One command a line. Spaces alone part its words. A line that begins with # is a comment.
+  cluster NODES LOG HOT         first of all: 1-8 nodes, 8-4096 records a log, 1-4096 hot inodes a node
+  open NODE KIND                opens client 1, 2, .. 16; KIND is least, whole or eights
+  C create P                    the calls of client C; P and Q are paths, as /mail/new
+  C mkdir P
+  C read P OFFSET LENGTH
+  C write P OFFSET DATA         DATA is tTEXT, xHEX, or zCOUNT for zeros, and has no space in it
+  C truncate P SIZE
+  C rename P Q
+  C unlink P
+  C rmdir P
+  C list P
+  C stat P
+  C fsync                       is answered once every full node has what the client did before
+  crash C                       a client stops
+  fail NODE                     a node stops, and the clients on it
+  back NODE                     a node comes back; after manual it only begins to
+  tree NODE                     prints what this node alone has
+  history                       prints what happened so far
+  manual                        from here on a call is tried once, and nodes do only what a command says
+  carry NODE                    sends what is to be replicated to the nodes behind it
+  digest NODE                   digests what every full node has, and so makes room in logs
+  release                       frees the revoked leases that may go
+  refill NODE                   a node that comes back gets one inode
+  join NODE                     a node that comes back and lacks nothing is full again
+
+Example:  printf 'cluster 1 8 4\nopen 1 least\n1 create /f\n1 stat /f\n' | ./assise -
+
+Exit status: 0 the script ran to its end, whatever was refused; 1 no memory, or no output;
+2 a fault of the words or the script; 3 an unreadable script. More: docs/SCRIPT.md";
 
 /// Reads the command line `assise SCRIPT [--turns N]`, of which `words` are all words, the program's own first. An
 /// error has the text and the exit status of `clap`: `--help` and `--version` are errors of their own kinds, and so
@@ -55,8 +93,7 @@ fn command<'a>(alloc: Global) -> Result<Command<'a>, AllocError>
 {
     Command::new(alloc, "assise")
         .version(VERSION)
-        .about("Runs a script on a distributed file system")
-        .after_help(ABOUT_SCRIPTS)
+        .override_help(HELP)
         .arg(script_argument(alloc))?
         .arg(turns_option(alloc))
 }
@@ -68,7 +105,6 @@ fn script_argument<'a>(alloc: Global) -> Arg<'a>
     Arg::new(alloc, "SCRIPT")
         .required(true)
         .action(ArgAction::Set)
-        .help("The script to run, or - for standard input")
 }
 
 fn turns_option<'a>(alloc: Global) -> Arg<'a>
@@ -81,5 +117,4 @@ fn turns_option<'a>(alloc: Global) -> Arg<'a>
         .action(ArgAction::Set)
         .value_parser(value_parser!(u32).range(1..=1_000_000))
         .default_value("100000")
-        .help("The most tries of a call before it is refused as busy, 1 to 1000000")
 }

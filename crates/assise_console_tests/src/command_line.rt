@@ -106,17 +106,45 @@ fn the_version_is_printed(rt: HostRuntime) -> Result<(), Fail> {
 }
 
 #[test]
-fn the_help_says_what_a_script_looks_like(rt: HostRuntime) -> Result<(), Fail> {
+fn the_help_names_every_command(rt: HostRuntime) -> Result<(), Fail> {
     let text = printed(&rt, &["assise", "--help"])?;
-    for line in [
-        "Usage: assise [OPTIONS] <SCRIPT>\n",
-        "--turns <N>",
-        "[default: 100000]",
-        "'cluster 1 8 4', 'open 1 least', '1 create /f', '1 write /f 0 thello', 'history'.\n",
-        "docs/SCRIPT.md",
-        "Exit status: 0 ",
+    for part in [
+        "\n\nUsage: assise [OPTIONS] <SCRIPT>\n",
+        "  <SCRIPT>  ",
+        "  --turns <N>  ",
+        " 1 to 1000000 [default: 100000]\n",
+        "  -h, --help  ",
+        "  -V, --version  ",
+        "\n  cluster NODES LOG HOT ",
+        "\n  open NODE KIND ",
+        " least, whole or eights\n",
+        "\n  C create P ",
+        "\n  C mkdir P\n",
+        "\n  C read P OFFSET LENGTH\n",
+        "\n  C write P OFFSET DATA ",
+        " tTEXT, xHEX, or zCOUNT ",
+        "\n  C truncate P SIZE\n",
+        "\n  C rename P Q\n",
+        "\n  C unlink P\n",
+        "\n  C rmdir P\n",
+        "\n  C list P\n",
+        "\n  C stat P\n",
+        "\n  C fsync ",
+        "\n  crash C ",
+        "\n  fail NODE ",
+        "\n  back NODE ",
+        "\n  tree NODE ",
+        "\n  history ",
+        "\n  manual ",
+        "\n  carry NODE ",
+        "\n  digest NODE ",
+        "\n  release ",
+        "\n  refill NODE ",
+        "\n  join NODE ",
+        "\nExample:  printf ",
+        "\nExit status: 0 ",
     ] {
-        assert!(rt; text.contains(line), "{line}");
+        assert!(rt; text.contains(part), "{part}");
     }
     Ok(())
 }

@@ -6,7 +6,7 @@ use Rattle.assise_console.proofs.options.command.Goals as goal
 
 pub returns : goal.returns
 returns c =
-    let about : app_of c.after_help.result ≡ named = search rules in
+    let alone : app_of c.override_help.result ≡ named = search rules in
     let script : app_of c.in_ok-arg.field-0 ≡ with_rule named script_rule =
-    c.in_ok-arg.ensures.shape c.script_argument.ensures.local ∙ ap₂ with_rule about c.script_argument.ensures.rule in
+    c.in_ok-arg.ensures.shape c.script_argument.ensures.local ∙ ap₂ with_rule alone c.script_argument.ensures.rule in
     IfOk-weaker c.arg-2.result _ _ (λ command added. added.shape c.turns_option.ensures.local ∙ ap₂ with_rule script c.turns_option.ensures.rule) c.arg-2.ensures
