@@ -6,9 +6,9 @@ use Rattle.std.specs.List.{list_all, list_any}
 use Rattle.assise_names.specs.declared.mode.Mode.{Mode}
 use Rattle.assise_names.specs.declared.mode.Mode.TheVariants.{Read, Write}
 use Rattle.assise_lease_table.specs.declared.lease.Lease.{Lease}
-use Rattle.assise_lease_table.specs.Modes.{against}
-use Rattle.assise_lease_table.specs.Leases.{is_rival, Among, apart, compatible, IsFree, without, with_lease}
-use Rattle.assise_lease_table.proofs.Elements.{cases_of, both_true, and_true, not_true, true_not, not_both, none_among, all_among, among_all, among_filter, among_push}
+use Rattle.assise_lease_table.specs.Modes.{against, stronger}
+use Rattle.assise_lease_table.specs.Leases.{is_own_unasked, is_rival, Among, apart, compatible, IsFree, raise, raise_unopposed, raised_if, without, with_lease}
+use Rattle.assise_lease_table.proofs.Elements.{cases_of, both_true, and_true, and_false_left, not_true, true_not, not_both, none_among, all_among, among_all, among_filter, among_map, among_push}
 
 pub against_swap : (a b : Mode) → against a b ≡ against b a
 against_swap Read Read = refl
@@ -114,3 +114,58 @@ no_rivals ls h mode none l a other = elim (cases_of (against mode l.mode)) [
   | inl is ↦ not_both (is_rival h mode l) (and_true (not (l.holder == h)) (against mode l.mode) (true_not (l.holder == h) (other_number l.holder h other)) is) (none_among (is_rival h mode) ls none l a)
   | inr not_so ↦ not_so
 ]
+
+-- ---- a lease that is raised
+
+pub stronger_against : (o m x : Mode) → against o x ≡ false → against m x ≡ false → against (stronger o m) x ≡ false
+stronger_against Read m x a b = b
+stronger_against Write m x a b = a
+
+raised_against : (b : Bool) (mode : Mode) (l : Lease) (x : Mode) → against l.mode x ≡ false → (b ≡ true → against mode x ≡ false) → against (raised_if b mode l).mode x ≡ false
+raised_against true mode l x none free = stronger_against l.mode mode x none (free refl)
+raised_against false mode l x none free = none
+
+raised_other : (b : Bool) (mode : Mode) (l : Lease) → b ≡ false → (raised_if b mode l).mode ≡ l.mode
+raised_other true mode l is = cc
+raised_other false mode l is = refl
+
+module _ (h : ℕ) (mode : Mode) where
+  abbrev raised_now : Lease → Lease
+  raised_now l = raised_if (is_own_unasked h l) mode l
+
+  own_holder : (l : Lease) → is_own_unasked h l ≡ true → l.holder ≡ h
+  own_holder l own = same_number l.holder h (both_true (l.holder == h) (not l.frozen) own).0
+
+  not_own : (l : Lease) → l.holder ≢ h → is_own_unasked h l ≡ false
+  not_own l other = and_false_left (l.holder == h) (not l.frozen) (other_number l.holder h other)
+
+  raised_apart : (a b : Lease) → (a.holder ≢ h → against mode a.mode ≡ false) → (b.holder ≢ h → against mode b.mode ≡ false) → apart a b ≡ true → apart (raised_now a) (raised_now b) ≡ true
+  raised_apart a b free_a free_b e =
+      let parts = apart_from a b e in
+      let first : against (raised_now a).mode b.mode ≡ false =
+      raised_against (is_own_unasked h a) mode a b.mode parts.1 (λ own. free_b (λ same. parts.0 (own_holder a own ∙ sym same)))
+      in
+      let second : against (raised_now b).mode (raised_now a).mode ≡ false =
+      raised_against (is_own_unasked h b) mode b (raised_now a).mode (against_swap b.mode (raised_now a).mode ∙ first)
+      (λ own.
+      let other : a.holder ≢ h = λ same. parts.0 (same ∙ sym (own_holder b own)) in
+      ap (against mode) (raised_other (is_own_unasked h a) mode a (not_own a other)) ∙ free_a other)
+      in
+      to_apart (raised_now a) (raised_now b) parts.0 (against_swap (raised_now a).mode (raised_now b).mode ∙ second)
+
+  pub raise_compatible : (ls : List Lease) → compatible ls ≡ true → IsFree ls h mode → compatible (raise h mode ls) ≡ true
+  raise_compatible [] c free = refl
+  raise_compatible (l ∷ ls) c free =
+      let parts = both_true (list_all (apart l) ls) (compatible ls) c in
+      and_true (list_all (apart (raised_now l)) (raise h mode ls)) (compatible (raise h mode ls))
+      (among_all (apart (raised_now l)) (raise h mode ls) (λ k a.
+      let was = among_map raised_now ls k a in
+      ap (apart (raised_now l)) was.2 ∙ raised_apart l was.0 (λ other. free l (inl refl) other) (λ other. free was.0 (inr was.1) other) (all_among (apart l) ls parts.0 was.0 was.1)))
+      (raise_compatible ls parts.1 (λ k a other. free k (inr a) other))
+
+  raise_unless : (b : Bool) (ls : List Lease) → list_any (is_rival h mode) ls ≡ b → compatible ls ≡ true → compatible (cond b ls (raise h mode ls)) ≡ true
+  raise_unless true ls is c = c
+  raise_unless false ls is c = raise_compatible ls c (no_rivals ls h mode is)
+
+  pub raise_unopposed_compatible : (ls : List Lease) → compatible ls ≡ true → compatible (raise_unopposed h mode ls) ≡ true
+  raise_unopposed_compatible ls c = raise_unless (list_any (is_rival h mode) ls) ls refl c

@@ -1,11 +1,11 @@
 -- The chosen leases that aren't frozen, of one inode and of all.
 use Rattle.std.proofs.Common.{◌≡◌, ℕ, ◌==◌, ◌+◌, ◌<◌, Bool, true, false, cond, not, ◌&&◌, ◌||◌, List, [], ◌∷◌, ◌++◌, length, drop, get_or, Option, Some, None, nat_eq, inl, inr, sym, refl, ap, ◌∙◌, eq-eqb}
 use Rattle.std.proofs.lemmas.List.{drop_more, append_assoc}
-use Rattle.std.proofs.lemmas.List.Folds.{list_any-append}
+use Rattle.std.proofs.lemmas.List.Folds.{list_all-append, list_any-append}
 use Rattle.std.specs.Global.{Vec}
 use Rattle.std.specs.List.{IsDistinct, list_any, list_all}
 use Rattle.std.specs.Map.{lookup, keys_of}
-use Rattle.assise_lease_table.specs.Cuts.{is_of, is_asked, are_once, asked_at}
+use Rattle.assise_lease_table.specs.Cuts.{is_of, is_asked, are_once, are_uncut, asked_at}
 use Rattle.assise_lease_table.specs.Leases.{apart, compatible, is_own, is_to_ask}
 use Rattle.assise_lease_table.specs.Lists.{items_or_none}
 use Rattle.assise_lease_table.specs.declared.lease.Asked.{Asked}
@@ -141,6 +141,22 @@ module _ (choice : Lease → Bool) where
       once_both e.0 (unasked_in es) (λ c. which_in es distinct.1 c e.0 ∙ ap (λ o. list_any (wanted c) (items_or_none o)) (absent e.0 e.0 es (eq-eqb e.0 e.0 refl) distinct.0))
       (once_in es distinct.1 (λ i. fits_rest (nat_eq i e.0) e.1 (lookup (nat_eq i) es) (λ same. absent i e.0 es same distinct.0) (fits i)))
       e.1.items (once_at e.0 e.1.items (ap (λ b. compatible (items_or_none (cond b (Some e.1) (lookup (nat_eq e.0) es)))) (sym (eq-eqb e.0 e.0 refl)) ∙ fits e.0))
+
+  -- ---- nobody answered
+
+  uncut_step : (t : Bool) (j : ℕ) (l : Lease) (more_of : List Asked) → are_uncut more_of ≡ true → are_uncut (cond t (answer_at j l ∷ more_of) more_of) ≡ true
+  uncut_step true j l more_of more = more
+  uncut_step false j l more_of more = more
+
+  uncut_at : (j : ℕ) (ls : List Lease) → are_uncut (asked_at choice j ls) ≡ true
+  uncut_at j [] = refl
+  uncut_at j (l ∷ ls) = uncut_step (is_to_ask choice l) j l (asked_at choice j ls) (uncut_at j ls)
+
+  pub uncut_in : (es : List (ℕ × Vec Lease)) → are_uncut (unasked_in es) ≡ true
+  uncut_in [] = refl
+  uncut_in (e ∷ es) =
+      list_all-append (λ (a : Asked). a.cut == 0) (asked_at choice e.0 e.1.items) (unasked_in es)
+      ∙ and_true (are_uncut (asked_at choice e.0 e.1.items)) (are_uncut (unasked_in es)) (uncut_at e.0 e.1.items) (uncut_in es)
 
   nothing_more : (asked : List Asked) → asked ++ [] ≡ asked
   nothing_more [] = refl

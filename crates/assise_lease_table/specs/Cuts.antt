@@ -1,7 +1,7 @@
 -- What clients answered when they were asked for their leases: up to where their logs have to be digested before the lease goes.
 -- Assise (OSDI 2020), section 3 (CC-NVM: a holder whose lease is revoked says what has to be replicated before).
 use Rattle.std.specs.Prelude.{ℕ, Bool, true, false, not, ◌==◌, ◌&&◌, if◌then◌else◌, List, [], ◌∷◌, Option, Some, None}
-use Rattle.std.specs.List.{list_any}
+use Rattle.std.specs.List.{list_all, list_any}
 use Rattle.assise_lease_table.specs.declared.lease.Asked.{Asked}
 use Rattle.assise_lease_table.specs.declared.lease.Lease.{Lease}
 use Rattle.assise_lease_table.specs.Leases.{is_to_ask}
@@ -23,6 +23,10 @@ cut_in (a ∷ asked) c i = if is_of c i a then a.cut else cut_in asked c i
 abbrev pub are_once : List Asked → Bool
 are_once [] = true
 are_once (a ∷ asked) = not (is_asked asked a.client a.inode) && are_once asked
+
+-- nobody answered a place: all cuts are 0
+abbrev pub are_uncut : List Asked → Bool
+are_uncut asked = list_all (λ (a : Asked). a.cut == 0) asked
 
 -- the chosen leases of the inode that aren't frozen, in their order: nobody was asked yet, so the cuts are 0
 abbrev pub asked_at : (Lease → Bool) → ℕ → List Lease → List Asked

@@ -4,7 +4,7 @@ use Rattle.std.specs.Prelude.{◌≡◌, ◌≢◌, ℕ, ◌==◌, ◌&&◌, not
 use Rattle.std.specs.List.{list_all, list_any, find}
 use Rattle.assise_names.specs.declared.mode.Mode.{Mode}
 use Rattle.assise_lease_table.specs.declared.lease.Lease.{Lease}
-use Rattle.assise_lease_table.specs.Modes.{against, strong}
+use Rattle.assise_lease_table.specs.Modes.{against, strong, stronger}
 
 -- the element is one of the list
 abbrev pub Among : {X : Type 0} → List X → X → Type 0
@@ -76,6 +76,21 @@ frozen_if b l = record l { frozen = cond b true l.frozen }
 -- the chosen leases are frozen: they serve no call any more
 abbrev pub freeze : (Lease → Bool) → List Lease → List Lease
 freeze choice ls = map (λ l. frozen_if (choice l) l) ls
+
+abbrev pub raised_if : Bool → Mode → Lease → Lease
+raised_if b mode l = record l { mode = cond b (stronger l.mode mode) l.mode }
+
+-- the lease is the holder's, and wasn't asked for
+abbrev pub is_own_unasked : ℕ → Lease → Bool
+is_own_unasked h l = l.holder == h && not l.frozen
+
+-- the holder's lease that wasn't asked for has this mode where its own is weaker
+abbrev pub raise : ℕ → Mode → List Lease → List Lease
+raise h mode ls = map (λ l. raised_if (is_own_unasked h l) mode l) ls
+
+-- it is raised unless another holder's stands against the mode
+abbrev pub raise_unopposed : ℕ → Mode → List Lease → List Lease
+raise_unopposed h mode ls = cond (list_any (is_rival h mode) ls) ls (raise h mode ls)
 
 -- the holders of the leases
 abbrev pub holders : List Lease → List ℕ

@@ -32,7 +32,7 @@ impl<C: Revokes + Drop> ClientTableOf<C> {
     ghost use Rattle.std.specs.Prelude.{◌≡◌, ◌≢◌, ◌&&◌, ℕ, [], true, false, Some, None, is_some, IsOk, IsOkUnless, OnOk, OnErr, IfErr, IfOk};
     ghost use Rattle.assise_names.specs.declared.refusal.Refusal.TheVariants.{OutOfMemory};
     ghost use Rattle.std.specs.List.{list_any};
-    ghost use Rattle.assise_lease_table.specs.Cuts.{is_asked, are_once};
+    ghost use Rattle.assise_lease_table.specs.Cuts.{is_asked, are_once, are_uncut};
     ghost use Rattle.assise_lease_table.specs.LeaseMaps.{Becomes, SameLeases};
     ghost use Rattle.assise_lease_table.specs.Leases.{Among, with_lease, new_lease, without, freeze, is_own, is_rival, is_to_ask, lease_of, may_be_held, may_raise, serves, IsFree, compatible};
     ghost use Rattle.assise_lease_table.specs.Answers.{AnswerAll, IsAnswer};
@@ -92,6 +92,7 @@ impl<C: Revokes + Drop> ClientTableOf<C> {
     /// one refusal is [`Refusal::OutOfMemory`].
     pub fn unasked<T: Chooses>(&self, test: &T) -> Result<Vec<Asked>, Refusal>
         ensures once { IfOk result (λ asked. are_once asked.items ≡ true) }
+        ensures uncut { IfOk result (λ asked. are_uncut asked.items ≡ true) }
         ensures which { IfOk result (λ asked. (c i : ℕ) → is_asked asked.items c i ≡ list_any (λ l. is_own c l && is_to_ask (T.choice test.now) l) (client_leases self.now i)) }
         ensures only_memory { IsOkUnless result OutOfMemory }
     {

@@ -2,9 +2,11 @@
 ghost use Rattle.std.specs.Prelude.{◌≡◌, ◌≤◌, ◌++◌, true, OnOk, vec_len, vec_capacity};
 ghost use Rattle.assise_lease_table.specs.Cuts.{asked_at};
 ghost use Rattle.assise_lease_table.specs.Lists.{HasPlaceIn, is_any};
-ghost use Rattle.assise_lease_table.specs.Leases.{with_lease, leave_out, freeze, frozen_if, lease_of, is_own, may_be_held, may_raise, IsFree};
+ghost use Rattle.assise_lease_table.specs.Leases.{with_lease, leave_out, freeze, frozen_if, is_own_unasked, lease_of, is_own, may_be_held, may_raise, raise, raised_if, IsFree};
 
-use crate::lease::{Asked, Chooses, Lease, Own, Rivals, is_any_chosen, is_strong, is_to_ask};
+use crate::lease::{
+    Asked, Chooses, Lease, Own, Rivals, is_any_chosen, is_strong, is_to_ask, stronger_of,
+};
 use assise_names::mode::Mode;
 use std::alloc::AllocError;
 
@@ -93,6 +95,26 @@ pub(crate) fn freeze_all<T: Chooses>(leases: &mut Vec<Lease>, test: &T)
     ensures { leases.new.items ≡ freeze (T.choice test.now) leases.old.items }
 {
     freeze_chosen(leases, test);
+}
+
+/// The lease, in this mode where its own is weaker, if it is the holder's and not frozen.
+fn raised_if_own(lease: Lease, holder: u32, mode: Mode) -> Lease
+    ensures { result ≡ raised_if (is_own_unasked holder lease) mode lease }
+{
+    if lease.holder == holder && !lease.frozen {
+        let mode = stronger_of(lease.mode, mode);
+        return Lease { mode, ..lease };
+    }
+    lease
+}
+
+/// Raises the holder's lease to a mode where it is weaker, unless it is frozen.
+pub(crate) fn raise_own(leases: &mut [Lease], holder: u32, mode: Mode)
+    ensures { leases.new ≡ raise holder mode leases.old }
+{
+    for lease in leases.iter_mut() {
+        *lease = raised_if_own(*lease, holder, mode);
+    }
 }
 
 /// Lists the chosen leases of an inode that are not frozen, with 0 as their cuts.

@@ -4,10 +4,11 @@ ghost use Rattle.indexmap.specs.IndexMap.{get};
 ghost use Rattle.assise_lease_table.specs.Lists.{is_held};
 
 use crate::holders::{
-    freeze_all, freeze_chosen, lease_of_holder, leaves_others, push_unasked, put_over, take_out,
-    take_own_out,
+    freeze_all, freeze_chosen, lease_of_holder, leaves_others, push_unasked, put_over, raise_own,
+    take_out, take_own_out,
 };
 use crate::lease::{Asked, Chooses, Lease, Own, is_any_chosen};
+use assise_names::mode::Mode;
 use indexmap::IndexMap;
 use std::alloc::{AllocError, Global};
 use std::mem;
@@ -27,9 +28,9 @@ impl LeaseMap {
     ghost use Rattle.std.specs.Prelude.{◌≡◌, ◌&&◌, ℕ, OnOk, IfOk, [], ◌∷◌, true, false, is_some, IsOk};
     ghost use Rattle.std.specs.List.{list_any};
     ghost use Rattle.indexmap.specs.IndexMap.{values};
-    ghost use Rattle.assise_lease_table.specs.Cuts.{is_asked, are_once};
+    ghost use Rattle.assise_lease_table.specs.Cuts.{is_asked, are_once, are_uncut};
     ghost use Rattle.assise_lease_table.specs.LeaseMaps.{leases_at, HasRoom, Becomes, SameLeases};
-    ghost use Rattle.assise_lease_table.specs.Leases.{with_lease, without, leave_out, freeze, is_own, is_to_ask, lease_of, compatible};
+    ghost use Rattle.assise_lease_table.specs.Leases.{with_lease, without, leave_out, freeze, is_own, is_to_ask, lease_of, compatible, raise};
 
     /// No leases. It takes no memory.
     pub fn new(alloc: Global) -> LeaseMap
@@ -74,6 +75,7 @@ impl LeaseMap {
     pub fn unasked<T: Chooses>(&self, test: &T) -> Result<Vec<Asked>, AllocError>
         requires compatible { (i : ℕ) → compatible (leases_at self.now i) ≡ true }
         ensures once { IfOk result (λ asked. are_once asked.items ≡ true) }
+        ensures uncut { IfOk result (λ asked. are_uncut asked.items ≡ true) }
         ensures which { IfOk result (λ asked. (c i : ℕ) → is_asked asked.items c i ≡ list_any (λ l. is_own c l && is_to_ask (T.choice test.now) l) (leases_at self.now i)) }
     {
         let mut asked = Vec::new(self.alloc);
@@ -158,6 +160,16 @@ impl LeaseMap {
             return;
         };
         freeze_chosen(leases, test);
+    }
+
+    /// Raises a holder's lease of an inode to a mode where it is weaker, unless it is frozen.
+    pub fn raise(&mut self, inode: u64, holder: u32, mode: Mode)
+        ensures { Becomes (leases_at self.old) (leases_at self.new) inode (raise holder mode (leases_at self.old inode)) }
+    {
+        let Some(leases) = self.inodes.get_mut(&inode) else {
+            return;
+        };
+        raise_own(leases, holder, mode);
     }
 
     /// Freezes the chosen leases of all inodes.

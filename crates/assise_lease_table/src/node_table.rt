@@ -4,7 +4,7 @@ ghost use Rattle.assise_lease_table.specs.LeaseMaps.{leases_at};
 ghost use Rattle.assise_lease_table.specs.Leases.{compatible};
 
 use crate::holders::{lease_of_holder, may_be_held};
-use crate::lease::{Chooses, Lease, Own, Rivals, is_strong};
+use crate::lease::{Chooses, Lease, Own, Rivals, is_any_chosen, is_strong};
 use crate::lease_map::LeaseMap;
 use assise_names::mode::Mode;
 use assise_names::refusal::Refusal;
@@ -22,7 +22,7 @@ impl NodeTable {
     ghost use Rattle.std.specs.Prelude.{◌≡◌, ℕ, [], true, is_some, OnOk, OnErr, IsOk, IsOkUnless};
     ghost use Rattle.assise_names.specs.declared.refusal.Refusal.TheVariants.{OutOfMemory};
     ghost use Rattle.assise_lease_table.specs.LeaseMaps.{HasRoom, Becomes, SameLeases};
-    ghost use Rattle.assise_lease_table.specs.Leases.{with_lease, new_lease, without, leave_out, freeze, is_own, is_rival, IsFree, compatible, lease_of, may_be_held, may_raise, serves};
+    ghost use Rattle.assise_lease_table.specs.Leases.{with_lease, new_lease, without, leave_out, freeze, is_own, is_rival, IsFree, compatible, lease_of, may_be_held, may_raise, raise_unopposed, serves};
     ghost use Rattle.assise_lease_table.specs.Tables.{node_leases, HasNodeRoom};
 
     /// No leases. It takes no memory.
@@ -143,6 +143,17 @@ impl NodeTable {
         ensures { Becomes (node_leases self.old) (node_leases self.new) inode (freeze (is_rival node mode) (node_leases self.old inode)) }
     {
         self.leases.freeze(inode, &Rivals { holder: node, mode });
+    }
+
+    /// Raises a node's lease of an inode to a mode where it is weaker, unless it was asked for or another node's stands against
+    /// the mode. It takes no memory.
+    pub fn raise(&mut self, inode: u64, node: u32, mode: Mode)
+        ensures { Becomes (node_leases self.old) (node_leases self.new) inode (raise_unopposed node mode (node_leases self.old inode)) }
+    {
+        let rivals = Rivals { holder: node, mode };
+        if !is_any_chosen(&rivals, self.leases.leases(inode)) {
+            self.leases.raise(inode, node, mode);
+        }
     }
 
     /// Freezes all leases of a node. It takes no memory.

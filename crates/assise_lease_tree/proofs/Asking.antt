@@ -4,13 +4,13 @@ use Rattle.std.specs.List.{list_any}
 use Rattle.assise_names.specs.declared.mode.Mode.{Mode}
 use Rattle.assise_lease_table.specs.declared.lease.Lease.{Lease}
 use Rattle.assise_lease_table.specs.Modes.{against, strong}
-use Rattle.assise_lease_table.specs.Leases.{Among, lease_of, is_rival, frozen_if, freeze, leave_out}
+use Rattle.assise_lease_table.specs.Leases.{Among, lease_of, is_own_unasked, is_rival, frozen_if, freeze, leave_out, raise, raise_unopposed, raised_if}
 use Rattle.assise_lease_table.proofs.Elements.{cases_of, both_true, and_true, or_true_right, not_true, true_not, not_both, any_among, among_any, filter_among, among_filter, map_among, among_map}
-use Rattle.assise_lease_table.proofs.Compatibles.{other_number, differ}
+use Rattle.assise_lease_table.proofs.Compatibles.{other_number, differ, raise_unopposed_compatible}
 use Rattle.assise_lease_table.specs.Leases.{compatible}
 use Rattle.assise_lease_table.proofs.Becoming.{leave_out_fits, freeze_fits}
-use Rattle.assise_lease_tree.specs.Levels.{Homes, lives, is_busy, carries, Under, AskedBelow, in_way, is_frozen, is_free, gives_up, nodes_asked}
-use Rattle.assise_lease_tree.proofs.Homing.{lives_at, one_home, lease_among, busy_from, busy_some}
+use Rattle.assise_lease_tree.specs.Levels.{Homes, lives, is_busy, carries, Under, AskedBelow, in_way, is_frozen, is_free, gives_up, nodes_asked, rivals_asked}
+use Rattle.assise_lease_tree.proofs.Homing.{lives_at, one_home, lease_among, stronger_left, busy_from, busy_some}
 
 pub cond_right : (b x : Bool) → x ≡ true → cond b true x ≡ true
 cond_right true x e = refl
@@ -33,6 +33,45 @@ busy_same home choice (l ∷ ls) n = ap (λ b. lives home l.holder n || b) (busy
 abbrev pub SomeFrozen : List Lease → Type 0
 SomeFrozen ls = list_any (λ l. l.frozen) ls ≡ true
 
+-- ---- a node's lease that is raised
+
+module _ (home : Homes) (cs : List Lease) (n : ℕ) (mode : Mode) where
+  abbrev raised_now : Lease → Lease
+  raised_now k = raised_if (is_own_unasked n k) mode k
+
+  -- a lease that is raised carries what it carried
+  still_strong : (b : Bool) (k : Lease) (m : Mode) → strong k.mode m ≡ true → strong (raised_if b mode k).mode m ≡ true
+  still_strong true k m s = stronger_left k.mode mode m s
+  still_strong false k m s = s
+
+  raise_under : (ns : List Lease) → Under home cs ns → Under home cs (raise n mode ns)
+  raise_under ns under l a =
+      let found = any_among (carries home l) ns (under l a) in
+      let k = found.0 in
+      let parts = both_true (lives home l.holder k.holder) (strong k.mode l.mode) found.2 in
+      among_any (carries home l) (raise n mode ns) (raised_now k) (map_among raised_now ns k found.1)
+      (and_true (lives home l.holder k.holder) _ parts.0 (still_strong (is_own_unasked n k) k l.mode parts.1))
+
+  raise_below : (ns : List Lease) → AskedBelow home cs ns → AskedBelow home cs (raise n mode ns)
+  raise_below ns below k a frozen =
+      let was = among_map raised_now ns k a in
+      let goal_at : Lease → Type 0 = λ (z : Lease). (is_busy home cs z.holder ≡ true) × ((l : Lease) → Among cs l → lives home l.holder z.holder ≡ true → l.frozen ≡ true) in
+      subst goal_at (sym was.2) (below was.0 was.1 (sym (ap (λ (z : Lease). z.frozen) was.2) ∙ frozen))
+
+  under_unless : (b : Bool) (ns : List Lease) → Under home cs ns → Under home cs (cond b ns (raise n mode ns))
+  under_unless true ns under = under
+  under_unless false ns under = raise_under ns under
+
+  below_unless : (b : Bool) (ns : List Lease) → AskedBelow home cs ns → AskedBelow home cs (cond b ns (raise n mode ns))
+  below_unless true ns below = below
+  below_unless false ns below = raise_below ns below
+
+  raised_under : (ns : List Lease) → Under home cs ns → Under home cs (raise_unopposed n mode ns)
+  raised_under ns under = under_unless (list_any (is_rival n mode) ns) ns under
+
+  raised_below : (ns : List Lease) → AskedBelow home cs ns → AskedBelow home cs (raise_unopposed n mode ns)
+  raised_below ns below = below_unless (list_any (is_rival n mode) ns) ns below
+
 module _ (home : Homes) (cs ns : List Lease) (c n : ℕ) (mode : Mode) (at_home : home c ≡ Some n)
     (under : Under home cs ns) (below : AskedBelow home cs ns) where
   abbrev frozen_now : Lease → Lease
@@ -50,9 +89,8 @@ module _ (home : Homes) (cs ns : List Lease) (c n : ℕ) (mode : Mode) (at_home 
       let l = busy_some home cs m busy in
       busy_from home (freeze (in_way home ns c n mode) cs) m (frozen_now l.0) (map_among frozen_now cs l.0 l.1) l.2
 
-  pub asked_under : Under home (freeze (in_way home ns c n mode) cs) (nodes_asked home cs n mode ns)
-  unfolding nodes_asked
-  asked_under l a =
+  rivals_under : Under home (freeze (in_way home ns c n mode) cs) (rivals_asked home cs n mode ns)
+  rivals_under l a =
       let was = among_map frozen_now cs l a in
       let found = any_among (carries home was.0) ns (under was.0 was.1) in
       let k = found.0 in
@@ -61,15 +99,21 @@ module _ (home : Homes) (cs ns : List Lease) (c n : ℕ) (mode : Mode) (at_home 
         | inl gone ↦ not_both (is_busy home cs k.holder) (busy_from home cs k.holder was.0 was.1 parts.0) (not_true (is_busy home cs k.holder) (both_true (is_rival n mode k) (not (is_busy home cs k.holder)) gone).1)
         | inr kept ↦ kept
       ] in
-      subst (λ (z : Lease). list_any (carries home z) (nodes_asked home cs n mode ns) ≡ true) (sym was.2)
-      (among_any (carries home (frozen_now was.0)) (nodes_asked home cs n mode ns) (frozen_if (is_rival n mode k) k)
+      subst (λ (z : Lease). list_any (carries home z) (rivals_asked home cs n mode ns) ≡ true) (sym was.2)
+      (among_any (carries home (frozen_now was.0)) (rivals_asked home cs n mode ns) (frozen_if (is_rival n mode k) k)
       (map_among (λ z. frozen_if (is_rival n mode z) z) (leave_out (gives_up home cs n mode) ns) k
       (filter_among (λ z. not (gives_up home cs n mode z)) ns k found.1 (true_not (gives_up home cs n mode k) stays)))
       found.2)
 
+  pub asked_under : Under home (freeze (in_way home ns c n mode) cs) (nodes_asked home cs n mode ns)
+  unfolding nodes_asked
+  asked_under = raised_under home (freeze (in_way home ns c n mode) cs) n mode (rivals_asked home cs n mode ns) rivals_under
+
   pub nodes_asked_compatible : compatible ns ≡ true → compatible (nodes_asked home cs n mode ns) ≡ true
   unfolding nodes_asked
-  nodes_asked_compatible fits = freeze_fits (is_rival n mode) (leave_out (gives_up home cs n mode) ns) (leave_out_fits (gives_up home cs n mode) ns fits)
+  nodes_asked_compatible fits =
+      raise_unopposed_compatible n mode (rivals_asked home cs n mode ns)
+      (freeze_fits (is_rival n mode) (leave_out (gives_up home cs n mode) ns) (leave_out_fits (gives_up home cs n mode) ns fits))
 
   -- a rival of the node stands in the way of all its clients
   rival_in_way : (k : Lease) → Among ns k → is_rival n mode k ≡ true → (l : Lease) → Among cs l → lives home l.holder k.holder ≡ true → in_way home ns c n mode l ≡ true
@@ -81,9 +125,8 @@ module _ (home : Homes) (cs ns : List Lease) (c n : ℕ) (mode : Mode) (at_home 
       (or_true_right (lives home l.holder n && against mode l.mode) _
       (among_any (λ (z : Lease). lives home l.holder z.holder && is_rival n mode z) ns k in_k (and_true (lives home l.holder k.holder) (is_rival n mode k) there rival)))
 
-  pub asked_asked : AskedBelow home (freeze (in_way home ns c n mode) cs) (nodes_asked home cs n mode ns)
-  unfolding nodes_asked
-  asked_asked k a frozen =
+  rivals_below : AskedBelow home (freeze (in_way home ns c n mode) cs) (rivals_asked home cs n mode ns)
+  rivals_below k a frozen =
       let was = among_map (λ z. frozen_if (is_rival n mode z) z) (leave_out (gives_up home cs n mode) ns) k a in
       let old = among_filter (λ z. not (gives_up home cs n mode z)) ns was.0 was.1 in
       let goal_at : Lease → Type 0 = λ (z : Lease). (is_busy home (freeze (in_way home ns c n mode) cs) z.holder ≡ true) × ((l : Lease) → Among (freeze (in_way home ns c n mode) cs) l → lives home l.holder z.holder ≡ true → l.frozen ≡ true) in
@@ -108,6 +151,10 @@ module _ (home : Homes) (cs ns : List Lease) (c n : ℕ) (mode : Mode) (at_home 
                   ∙ cond_right (in_way home ns c n mode before.0) before.0.frozen (held.1 before.0 before.1 (sym (ap (λ (z : Lease). lives home z.holder was.0.holder) before.2) ∙ there)),
             )
       ])
+
+  pub asked_asked : AskedBelow home (freeze (in_way home ns c n mode) cs) (nodes_asked home cs n mode ns)
+  unfolding nodes_asked
+  asked_asked = raised_below home (freeze (in_way home ns c n mode) cs) n mode (rivals_asked home cs n mode ns) rivals_below
 
   frozen_client : (l : Lease) → Among cs l → (frozen_now l).frozen ≡ true → SomeFrozen (freeze (in_way home ns c n mode) cs)
   frozen_client l a e = among_any (λ (z : Lease). z.frozen) (freeze (in_way home ns c n mode) cs) (frozen_now l) (map_among frozen_now cs l a) e

@@ -7,8 +7,8 @@ use Rattle.std.specs.List.{list_any}
 use Rattle.assise_names.specs.declared.mode.Mode.{Mode}
 use Rattle.assise_lease_table.specs.declared.lease.Lease.{Lease}
 use Rattle.assise_lease_table.specs.LeaseMaps.{Becomes, SameLeases}
-use Rattle.assise_lease_table.specs.Leases.{IsFree, lease_of, serves, new_lease, with_lease, without, leave_out, freeze, is_rival}
-use Rattle.assise_lease_tree.specs.Levels.{Homes, carries, lives, in_way, is_frozen, is_busy, raised, gives_up, clients_granted, nodes_granted, nodes_asked, nodes_released}
+use Rattle.assise_lease_table.specs.Leases.{IsFree, lease_of, serves, new_lease, with_lease, without, leave_out, freeze, is_rival, raise_unopposed}
+use Rattle.assise_lease_tree.specs.Levels.{Homes, carries, lives, in_way, is_frozen, is_busy, raised, gives_up, clients_granted, nodes_granted, nodes_asked, nodes_released, rivals_asked}
 use Rattle.assise_lease_table.specs.Modes.{strong}
 use Rattle.assise_lease_table.proofs.Elements.{any_among, both_true}
 use Rattle.assise_lease_tree.specs.declared.lease_tree.LeaseTreeOf.{LeaseTreeOf}
@@ -139,7 +139,8 @@ module _ (old : TwoLevels) (lawful : IsLawful old) (c n inode : ℕ) (mode : Mod
       (frozen_c : Becomes old.clients mc inode (freeze (in_way old.home seen c n mode) cs))
       (now : List Lease) (now_is : now ≡ mc inode)
       (gone : Becomes old.nodes mn inode (leave_out (gives_up old.home now n mode) ns))
-      (asked_n : Becomes mn mn2 inode (freeze (is_rival n mode) (mn inode))) where
+      (asked_n : Becomes mn mn2 inode (freeze (is_rival n mode) (mn inode)))
+      (mn3 : LeasesOf) (raised_n : Becomes mn2 mn3 inode (raise_unopposed n mode (mn2 inode))) where
     frozen_is : freeze (in_way old.home seen c n mode) cs ≡ freeze (in_way old.home ns c n mode) cs
     frozen_is = ap (λ ls. freeze (in_way old.home ls c n mode) cs) seen_is
 
@@ -149,11 +150,14 @@ module _ (old : TwoLevels) (lawful : IsLawful old) (c n inode : ℕ) (mode : Mod
     left_then : leave_out (gives_up old.home now n mode) ns ≡ leave_out (gives_up old.home cs n mode) ns
     left_then = given_up_alike old.home cs now n mode ns (λ m. ap (λ ls. is_busy old.home ls m) (now_is ∙ clients_asked.here) ∙ busy_same old.home (in_way old.home ns c n mode) cs m)
 
-    asked_nodes : Becomes old.nodes mn2 inode (nodes_asked old.home cs n mode ns)
-    unfolding nodes_asked
-    asked_nodes = becomes_is (ap (freeze (is_rival n mode)) (gone.here ∙ left_then)) (becomes_twice gone asked_n)
+    rivals_now : Becomes old.nodes mn2 inode (rivals_asked old.home cs n mode ns)
+    rivals_now = becomes_is (ap (freeze (is_rival n mode)) (gone.here ∙ left_then)) (becomes_twice gone asked_n)
 
-    pub is_asked_for : IsAskedFor old (record { home = old.home; clients = mc; nodes = mn2 }) c n inode mode
+    asked_nodes : Becomes old.nodes mn3 inode (nodes_asked old.home cs n mode ns)
+    unfolding nodes_asked
+    asked_nodes = becomes_is (ap (raise_unopposed n mode) rivals_now.here) (becomes_twice rivals_now raised_n)
+
+    pub is_asked_for : IsAskedFor old (record { home = old.home; clients = mc; nodes = mn3 }) c n inode mode
     is_asked_for =
         let l = lawful_at lawful inode in
         record {

@@ -8,9 +8,9 @@ use Rattle.assise_lease_table.specs.declared.lease.Lease.{Lease}
 use Rattle.assise_lease_table.specs.Modes.{against, strong, stronger}
 use Rattle.assise_lease_table.specs.Leases.{Among, lease_of, compatible, IsFree, is_rival, leave_out, without, new_lease}
 use Rattle.assise_lease_table.proofs.Elements.{cases_of, both_true, and_true, or_true_left, or_true_right, not_true, true_not, not_both, any_among, among_any, none_among, filter_among, among_filter, among_front, among_last, among_push}
-use Rattle.assise_lease_table.proofs.Compatibles.{other_number, differ, not_against, with_compatible, filter_compatible}
+use Rattle.assise_lease_table.proofs.Compatibles.{other_number, differ, not_against, stronger_against, with_compatible, filter_compatible}
 use Rattle.assise_lease_tree.specs.Levels.{Homes, lives, is_busy, carries, Under, AskedBelow, in_way, raised, gives_up, clients_granted, nodes_granted}
-use Rattle.assise_lease_tree.proofs.Homing.{lives_at, one_home, weaker_against, stronger_against, stronger_left, stronger_both, strong_raised, lease_among, lease_found, busy_from, busy_some}
+use Rattle.assise_lease_tree.proofs.Homing.{lives_at, one_home, weaker_against, stronger_left, stronger_both, strong_raised, lease_among, lease_found, busy_from, busy_some}
 
 module _ (home : Homes) (cs ns : List Lease) (c n : ℕ) (mode : Mode) (at_home : home c ≡ Some n)
     (fits_c : compatible cs ≡ true) (fits_n : compatible ns ≡ true) (under : Under home cs ns) (asked : AskedBelow home cs ns)

@@ -33,10 +33,6 @@ weaker_against Read Read Write s a = cc
 weaker_against Read Write l s a = cc
 weaker_against Write k l s a = cc
 
-pub stronger_against : (o m x : Mode) → against o x ≡ false → against m x ≡ false → against (stronger o m) x ≡ false
-stronger_against Read m x a b = b
-stronger_against Write m x a b = a
-
 pub stronger_left : (o m x : Mode) → strong o x ≡ true → strong (stronger o m) x ≡ true
 stronger_left Write m x s = refl
 stronger_left Read Write x s = refl

@@ -5,7 +5,7 @@ use Rattle.std.specs.List.{list_any}
 use Rattle.assise_names.specs.declared.mode.Mode.{Mode}
 use Rattle.assise_lease_table.specs.declared.lease.Lease.{Lease}
 use Rattle.assise_lease_table.specs.Modes.{against, strong, stronger}
-use Rattle.assise_lease_table.specs.Leases.{Among, lease_of, new_lease, with_lease, without, leave_out, freeze, is_rival}
+use Rattle.assise_lease_table.specs.Leases.{Among, lease_of, new_lease, with_lease, without, leave_out, freeze, is_rival, raise_unopposed}
 
 -- the node of each client
 abbrev pub Homes : Type 0
@@ -69,9 +69,15 @@ clients_granted c mode cs = with_lease (new_lease c (raised mode (lease_of cs c)
 unfoldable pub nodes_granted : Homes → List Lease → ℕ → Mode → List Lease → List Lease
 nodes_granted home cs n mode ns = with_lease (new_lease n (raised mode (lease_of ns n))) (leave_out (gives_up home cs n mode) ns)
 
--- the leases of nodes once those in the way are asked
+-- the leases of nodes once a client of node n waits for its mode: nodes with no client that holds the inode gave up what stood
+-- against it, and the others are asked
+abbrev pub rivals_asked : Homes → List Lease → ℕ → Mode → List Lease → List Lease
+rivals_asked home cs n mode ns = freeze (is_rival n mode) (leave_out (gives_up home cs n mode) ns)
+
+-- where no other node stands against the mode then, the manager raises the lease of the node in the same step, though its own
+-- clients still stand in the way: so no other node overtakes the one that waits
 unfoldable pub nodes_asked : Homes → List Lease → ℕ → Mode → List Lease → List Lease
-nodes_asked home cs n mode ns = freeze (is_rival n mode) (leave_out (gives_up home cs n mode) ns)
+nodes_asked home cs n mode ns = raise_unopposed n mode (rivals_asked home cs n mode ns)
 
 -- the leases of nodes once a client of node n let go, with these clients' leases left: the asked lease of its node goes
 -- with the last client below

@@ -39,7 +39,7 @@ impl<C: Revokes + Drop> LeaseTreeOf<C> {
     ghost use Rattle.assise_names.specs.declared.refusal.Refusal.TheVariants.{OutOfMemory};
     ghost use Rattle.std.specs.List.{list_any};
     ghost use Rattle.assise_lease_table.specs.Answers.{AnswerAll};
-    ghost use Rattle.assise_lease_table.specs.Cuts.{is_asked, is_unasked, are_once};
+    ghost use Rattle.assise_lease_table.specs.Cuts.{is_asked, is_unasked, are_once, are_uncut};
     ghost use Rattle.assise_lease_table.specs.LeaseMaps.{SameLeases};
     ghost use Rattle.assise_lease_table.specs.Leases.{Among, lease_of, serves, is_to_ask, freeze};
     ghost use Rattle.assise_lease_table.specs.Tables.{Enrols, SameRevokers};
@@ -148,7 +148,8 @@ impl<C: Revokes + Drop> LeaseTreeOf<C> {
         Ok(())
     }
 
-    /// Asks those who stand in the way of a request, and answers their cuts. Who was asked before isn't asked again. The one
+    /// Asks those who stand in the way of a request, and answers their cuts. Who was asked before isn't asked again. Where no other
+    /// node stands against the mode then, the manager raises the lease of the client's node at once, which takes no memory. The one
     /// refusal is [`Refusal::OutOfMemory`], which leaves all leases as they were; it never comes where nobody is asked.
     // All answers are there before the first lease is frozen.
     pub fn ask<V: Views>(&mut self, request: Request, views: &V) -> Result<Vec<Asked>, Refusal>
@@ -182,13 +183,14 @@ impl<C: Revokes + Drop> LeaseTreeOf<C> {
         };
         self.nodes.take(inode, &given_up);
         self.nodes.ask(inode, mode, node);
+        self.nodes.raise(inode, node, mode);
         Ok(asked)
     }
 
     /// Gets a client a lease. It asks its node first, which grants where its own lease was not asked for and is strong
     /// enough and no other local client stands against the mode. Else in one step each local client that stands against
     /// it is asked, and each client of a node that stands against it; a node with no client that holds the inode gives
-    /// its lease up at once. Where nobody stands against the mode then, the client gets the lease. Who was asked before
+    /// its lease up at once, and where no other node stands against the mode then, that of the client's node is raised. Where nobody stands against the mode then, the client gets the lease. Who was asked before
     /// isn't asked again. The one refusal is [`Refusal::OutOfMemory`], which leaves all leases as they were; it never comes
     /// where a lease is raised in its place, nor where nobody is asked.
     pub fn acquire<V: Views>(
@@ -275,6 +277,7 @@ impl<C: Revokes + Drop> LeaseTreeOf<C> {
     /// clients. The one refusal is [`Refusal::OutOfMemory`].
     pub fn unasked_of(&self, client: u32) -> Result<Vec<Asked>, Refusal>
         ensures once { IfOk result (λ asked. are_once asked.items ≡ true) }
+        ensures uncut { IfOk result (λ asked. are_uncut asked.items ≡ true) }
         ensures all { IfOk result (λ asked. (c i : ℕ) → is_asked asked.items c i ≡ ((c == client) && is_unasked (lease_of ((levels_of self.now).clients i) c))) }
         ensures only_memory { IsOkUnless result OutOfMemory }
     {
@@ -284,6 +287,7 @@ impl<C: Revokes + Drop> LeaseTreeOf<C> {
     /// Each lease of a node's clients that is not frozen, as [`LeaseTreeOf::unasked_of`] lists those of one client.
     pub fn unasked_below(&self, node: u32) -> Result<Vec<Asked>, Refusal>
         ensures once { IfOk result (λ asked. are_once asked.items ≡ true) }
+        ensures uncut { IfOk result (λ asked. are_uncut asked.items ≡ true) }
         ensures all { IfOk result (λ asked. (c i : ℕ) → is_asked asked.items c i ≡ (lives (levels_of self.now).home c node && is_unasked (lease_of ((levels_of self.now).clients i) c))) }
         ensures only_memory { IsOkUnless result OutOfMemory }
     {

@@ -26,6 +26,13 @@ enrol 1 1 least, enrol 2 2 least, read 1 7, read 2 7, write 1 7, write 2 7, hold
 enrol 1 1 least, enrol 2 1 least, read 1 7, read 2 7, write 1 7, write 2 7, release 2 7, write 1 7, release 1 7, write 1 7, holds 1 7 => granted granted asked 2:7:0 asked 1:7:0 asked granted write
 ";
 
+/// While a client waits for one of its own node, the node's lease is raised: a reader at another node has to ask, and doesn't
+/// overtake it. Where another node stands against the mode, too, it is asked, and nothing is raised.
+const WAITING: &str = "\
+enrol 1 1 least, enrol 2 1 least, enrol 3 2 least, read 2 7, write 1 7, read 3 7, release 2 7, write 1 7, holds 1 7 => granted asked 2:7:0 asked granted write
+enrol 1 1 least, enrol 2 1 least, enrol 3 2 least, enrol 4 3 least, read 2 7, read 3 7, write 1 7, read 4 7 => granted granted asked 2:7:0 3:7:0 granted
+";
+
 /// An asked lease of a node grants nothing, and goes with the last client below.
 const NODES: &str = "\
 enrol 1 1 least, enrol 2 1 least, enrol 3 2 least, read 1 7, write 3 7, read 2 7, release 1 7, read 2 7, write 3 7, holds 2 7 => granted asked 1:7:0 asked granted asked 2:7:0 -
@@ -55,6 +62,7 @@ fn leases_are_acquired_step_by_step(rt: HostRuntime) {
     show(rt.alloc(), &rt, &mut NewTree, MODES);
     show(rt.alloc(), &rt, &mut NewTree, ASKED);
     show(rt.alloc(), &rt, &mut NewTree, CROSSING);
+    show(rt.alloc(), &rt, &mut NewTree, WAITING);
 }
 
 #[test]
