@@ -15,7 +15,7 @@ use Rattle.assise_private_log.specs.NumberedLog.{end as log_end}
 use Rattle.assise_digest.specs.Region.{HasClient, ReceivedLog, RegionValue, TouchApart, ahead, digested_by, digested_further, log_at, log_of, no_log}
 use Rattle.assise_manager.specs.Changes.{noted, stale_again, with_written}
 use Rattle.assise_manager.specs.Membership.{Membership}
-use Rattle.assise_manager.specs.Standings.{Standing, down, full, returning}
+use Rattle.assise_manager.specs.Standings.{Standing, down, full, full_nodes, returning}
 use Rattle.assise_machine_laws.specs.Chances.{MayDigest}
 use Rattle.assise_machine_laws.specs.Sound.{Compatible, Guarded, IsSound, WritesAreHeld}
 use Rattle.assise_machine_laws.specs.World.{Full, World, ahead_below, received_by_all}
@@ -32,7 +32,8 @@ use Rattle.assise_machine_state.specs.StateValues.{StateValue, standings}
 use Rattle.assise_machine_state.proofs.DigestSeen.{digest_shaped, noted_front}
 use Rattle.assise_machine_state.proofs.Fullness.{has_log, log_is, region_is, same_first, seen_full}
 use Rattle.assise_machine_state.proofs.Reading.{ahead_first}
-use Rattle.assise_machine.specs.Digesting.{digests_some}
+use Rattle.assise_machine.specs.Digesting.{NoneListed, digests_some}
+use Rattle.assise_machine.proofs.Unlisted.{nothing_noted}
 
 -- ---- nothing is changed where nothing is digested
 
@@ -93,6 +94,14 @@ digests_as s n c count has rs m is nodes members inodes =
     let there = nodes ∙ ap (λ k. with_region s.nodes n (digested_by (region_in s.nodes n) c k)) so_many in
     let listed = members ∙ ap (λ l. noted s.members n (set.from_list l)) inodes in
     (λ i. record s { nodes = there i; members = listed i })
+
+-- as the code finds it while all nodes are full, when nothing is noted
+
+pub digests_unlisted : (s : StateValue) (n c count : ℕ) → HasLog s.nodes n c → length (standings s) ≤ length (full_nodes (standings s)) → NoneListed s.members →
+    (rs : List RegionValue) → rs ≡ with_region s.nodes n (digested_by (region_in s.nodes n) c count) → record s { nodes = rs } ≡ digests_some s n c count
+digests_unlisted s n c count has many none rs nodes =
+    let inodes = touched (all_effects (take count (ahead (log_in s.nodes n c)))) in
+    digests_as s n c count has rs s.members inodes nodes (sym (nothing_noted s.members n (set.from_list inodes) many none)) refl
 
 -- what the node has then
 

@@ -2,6 +2,7 @@
 use Rattle.std.proofs.Common.{◌≡◌, ℕ, zero, suc, ◌+◌, ◌-◌, ◌<◌, ◌≤◌, min, true, take, length, inl, inr, refl, ap, sym, subst, ◌∙◌, arith}
 use Rattle.std.proofs.lemmas.Bool.{cases_lt}
 use Rattle.std.specs.FinSet as set
+use Rattle.std.specs.Ordering.{nat_cmp}
 use Rattle.assise_record.specs.Records.{all_effects}
 use Rattle.assise_inode_table.specs.Effects.{contains, touched}
 use Rattle.assise_digest.specs.Region.{ahead}
@@ -16,8 +17,9 @@ use Rattle.assise_machine_state.specs.Places.{IsNumber}
 use Rattle.assise_machine_state.specs.Shape.{IsShaped}
 use Rattle.assise_machine_state.specs.StateValues.{StateValue, standings}
 use Rattle.assise_machine_state.proofs.Fullness.{full_seen, seen_full}
-use Rattle.assise_machine.specs.Digesting.{digests_some, digests_to}
+use Rattle.assise_machine.specs.Digesting.{NoneListed, digests_some, digests_to}
 use Rattle.assise_machine.proofs.Digested.{has_here, next_shape, next_sound, none_digested, noted_so}
+use Rattle.assise_machine.proofs.Unlisted.{still_none}
 
 -- ---- what stays
 
@@ -28,6 +30,7 @@ pub record StillSame (s t : StateValue) (n m : ℕ) : Type 0 where
   pub cuts : t.cuts ≡ s.cuts
   pub history : t.history ≡ s.history
   pub limit : t.limit ≡ s.limit
+  pub lists : NoneListed s.members → NoneListed t.members
   pub full : (world_of t).full ≡ (world_of s).full
   pub received : (c : ℕ) → received_by_all (world_of t) c ≡ received_by_all (world_of s) c
   pub later : (c : ℕ) → m < c → (world_of t).digested n c ≡ (world_of s).digested n c
@@ -62,7 +65,10 @@ module _ (s : StateValue) (n : ℕ) (shape : IsShaped s) (sound : ∥ IsSound (w
       abbrev place : ℕ
       place = (world_of t).digested n (suc m) + count
 
-      next_noted : DigestsNoted (world_of t) t.members n (suc m) place (set.from_list (touched (all_effects (take count (ahead (log_in t.nodes n (suc m))))))) (world_of u) u.members
+      abbrev inodes : set.FinSet nat_cmp
+      inodes = set.from_list (touched (all_effects (take count (ahead (log_in t.nodes n (suc m))))))
+
+      next_noted : DigestsNoted (world_of t) t.members n (suc m) place inodes (world_of u) u.members
       next_noted = noted_so t n (suc m) same.shape same.sound next_here next_client count few_next
 
       next_same : StillSame s u n (suc m)
@@ -72,6 +78,7 @@ module _ (s : StateValue) (n : ℕ) (shape : IsShaped s) (sound : ∥ IsSound (w
         cuts = same.cuts;
         history = same.history;
         limit = same.limit;
+        lists = λ none. still_none t.members n inodes (same.lists none);
         full = next_noted.digests.full ∙ same.full;
         received = λ c. same_received (world_of t) (world_of u) n (suc m) place next_noted.digests c ∙ same.received c;
         later = λ c above. next_noted.digests.digested_else n c next_noted.digests.full_node (λ is own. omega (arith, above, own)) ∙ same.later c (omega (arith, above));
@@ -89,6 +96,7 @@ module _ (s : StateValue) (n : ℕ) (shape : IsShaped s) (sound : ∥ IsSound (w
     cuts = refl;
     history = refl;
     limit = refl;
+    lists = λ none. none;
     full = refl;
     received = λ c. refl;
     later = λ c above. refl;
@@ -175,6 +183,9 @@ module _ (s : StateValue) (n : ℕ) (shape : IsShaped s) (sound : ∥ IsSound (w
 
       pub sound_as : ∥ IsSound (world_of t) ∥₁
       sound_as = same_as.sound
+
+      pub lists_as : NoneListed s.members → NoneListed t.members
+      lists_as = same_as.lists
 
       undigested_as : undigested (world_of t) n last ≡ undigested w n last
       undigested_as = subst (λ c. undigested (world_of t) n c ≡ undigested w n c) next (next_undigested t m same_as low)

@@ -10,6 +10,8 @@ pub mod Frames
 pub mod Touching
 pub mod Few
 pub mod Fewer
+pub mod Results
+pub mod Unlisted
 pub mod Digested
 pub mod DigestedTo
 pub mod WholeDigest

@@ -1,6 +1,7 @@
 -- A digest as a whole, as the laws have it, and what holds after it.
 use Rattle.std.proofs.Common.{◌≡◌, ℕ, ◌<◌, ◌≤◌, min, true, length, None, append-nil, refl, ap, sym, subst, ◌∙◌, arith}
-use Rattle.std.proofs.Math.Logic.{∥∥₁_map}
+use Rattle.std.proofs.Math.Logic.{∥∥₁_elim, ∥∥₁_map}
+use Rattle.std.proofs.Props.{props}
 use Rattle.assise_names.specs.declared.refusal.Refusal.TheVariants.{OutOfMemory}
 use Rattle.assise_lease_table.specs.Leases.{lease_of}
 use Rattle.assise_lease_tree.specs.Levels.{is_frozen}
@@ -18,7 +19,7 @@ use Rattle.assise_machine_state.specs.Observed.{is_full_in, observed, world_of}
 use Rattle.assise_machine_state.specs.Shape.{AreNoted, IsShaped}
 use Rattle.assise_machine_state.specs.StateValues.{StateValue, leases_of, standings}
 use Rattle.assise_machine_state.proofs.Noted.{still_noted}
-use Rattle.assise_machine.specs.Digesting.{digests_to}
+use Rattle.assise_machine.specs.Digesting.{NoneListed, digests_to}
 use Rattle.assise_machine.proofs.DigestedTo.{StillSame, course_to, none_to, same_to}
 use Rattle.assise_machine_state.proofs.Dropped.{StillDropping, all_dropped, same_dropping}
 use Rattle.assise_machine.proofs.Frames.{fine_node}
@@ -26,6 +27,10 @@ use Rattle.assise_machine.proofs.Frames.{fine_node}
 pub sound_of : (s : StateValue) → ∥ Holds (observed s) ∥₁ → ∥ IsSound (world_of s) ∥₁
 unfolding observed
 sound_of s holds = ∥∥₁_map holds (λ h. h.sound)
+
+pub lists_of : (s : StateValue) → ∥ Holds (observed s) ∥₁ → NoneListed s.members
+unfolding observed
+lists_of s holds all = ∥∥₁_elim holds (search props) (λ h. h.members.lawful.none_listed all)
 
 -- a digest with its answer, and what holds after it
 pub record Gives (s : StateValue) (n count : ℕ) (u : StateValue) : Type 0 where

@@ -1,10 +1,13 @@
 -- What a node's digest changes of the state, client by client.
 -- Assise (OSDI 2020), section 3 (digests); Strata (SOSP 2017), section 3.
-use Rattle.std.specs.Prelude.{ℕ, zero, suc, ◌+◌, take}
+use Rattle.std.specs.Prelude.{◌≡◌, ℕ, zero, suc, ◌+◌, true, length, take}
+use Rattle.std.specs.List.{list_all}
 use Rattle.std.specs.FinSet as set
 use Rattle.assise_record.specs.Records.{all_effects}
 use Rattle.assise_inode_table.specs.Effects.{touched}
 use Rattle.assise_digest.specs.Region.{ahead}
+use Rattle.assise_manager.specs.Membership.{Membership}
+use Rattle.assise_manager.specs.Standings.{is_full}
 use Rattle.assise_machine_events.specs.NodeEvents.{part_of}
 use Rattle.assise_machine_state.specs.Changes.{after_digest}
 use Rattle.assise_machine_state.specs.NodeValues.{log_in}
@@ -20,3 +23,7 @@ digests_some s n c count =
 abbrev pub digests_to : StateValue → (n count m : ℕ) → StateValue
 digests_to s n count zero = s
 digests_to s n count (suc c) = digests_some (digests_to s n count c) n (suc c) (part_of (world_of s) n count (suc c))
+
+-- where all nodes are full there is no list on which a digest could note an inode
+abbrev pub NoneListed : Membership → Type 0
+NoneListed m = list_all is_full m.nodes ≡ true → length m.written ≡ 0

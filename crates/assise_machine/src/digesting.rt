@@ -14,7 +14,7 @@ ghost use Rattle.assise_machine_state.specs.Shape.{IsShaped};
 ghost use Rattle.assise_machine_state.specs.StateValues.{standings};
 ghost use Rattle.assise_machine_state.specs.Whole.{machine_of, value_of};
 ghost use Rattle.assise_machine.specs.Answers.{digesting_answer};
-ghost use Rattle.assise_machine.specs.Digesting.{digests_some, digests_to};
+ghost use Rattle.assise_machine.specs.Digesting.{NoneListed, digests_some, digests_to};
 
 use crate::faults::node_refusal;
 use crate::progress::Progress;
@@ -66,6 +66,7 @@ fn digest_to<C: Revokes + Drop>(
     requires last { last ≤ length state.old.clients }
     requires sound { ∥ IsSound (world_of (value_of state.old)) ∥₁ }
     requires shape { IsShaped (value_of state.old) }
+    requires lists { NoneListed (value_of state.old).members }
     ensures digests { value_of state.new ≡ digests_to (value_of state.old) node result.count last }
     ensures few { result.count ≤ min most_digested (undigested_to (world_of (value_of state.old)) node last) }
     ensures all { result.refused ≡ false → result.count ≡ min most_digested (undigested_to (world_of (value_of state.old)) node last) }
@@ -102,6 +103,7 @@ fn digest_of<C: Revokes + Drop>(
     requires few_most { at_most ≤ 64 }
     requires sound { ∥ IsSound (world_of (value_of state.old)) ∥₁ }
     requires shape { IsShaped (value_of state.old) }
+    requires lists { NoneListed (value_of state.old).members }
     ensures digests { value_of state.new ≡ digests_some (value_of state.old) node client result.count }
     ensures few { result.count ≤ min at_most (undigested (world_of (value_of state.old)) node client) }
     ensures all { result.refused ≡ false → result.count ≡ min at_most (undigested (world_of (value_of state.old)) node client) }
@@ -117,7 +119,7 @@ fn digest_of<C: Revokes + Drop>(
             refused: false,
         };
     }
-    match digest_noted(alloc, state, node, client, acked, wanted) {
+    match digest_wanted(alloc, state, node, client, acked, wanted) {
         Ok(count) => Progress {
             count,
             refused: count < wanted,
@@ -127,6 +129,36 @@ fn digest_of<C: Revokes + Drop>(
             refused: true,
         },
     }
+}
+
+/// A node digests so many records of a client, of those that all full nodes have, or fewer where memory runs out. It answers how
+/// many there were. While all nodes are full nothing is to be noted, so no list of inodes is made. The one refusal is
+/// [`Refusal::OutOfMemory`], where there was none, and it changes nothing.
+fn digest_wanted<C: Revokes + Drop>(
+    alloc: Global,
+    state: &mut StateOf<C>,
+    node: u32,
+    client: u32,
+    acked: u64,
+    wanted: usize,
+) -> Result<usize, Refusal>
+    requires full { is_full_in (standings (value_of state.old)) node ≡ true }
+    requires client { IsNumber state.old.clients client }
+    requires wanted { wanted ≤ undigested (world_of (value_of state.old)) node client }
+    requires few_wanted { wanted ≤ 64 }
+    requires sound { ∥ IsSound (world_of (value_of state.old)) ∥₁ }
+    requires shape { IsShaped (value_of state.old) }
+    requires lists { NoneListed (value_of state.old).members }
+    ensures ok { IfOk result (λ count. value_of state.new ≡ digests_some (value_of state.old) node client count) }
+    ensures few { IfOk result (λ count. count ≤ wanted) }
+    ensures err { OnErr result (value_of state.new ≡ value_of state.old) }
+    ensures revokers { state.new.leases ≡ state.old.leases }
+    ensures only_memory { IsOkUnless result OutOfMemory }
+{
+    if state.members.full_nodes().len() < state.nodes.len() {
+        return digest_noted(alloc, state, node, client, acked, wanted);
+    }
+    state.nodes.digest_some(node, client, acked, wanted)
 }
 
 /// A node digests so many records of a client, of those that all full nodes have, or fewer where memory runs out, and the manager

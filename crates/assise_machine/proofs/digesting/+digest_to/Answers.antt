@@ -1,6 +1,6 @@
 use Rattle.std.proofs.Common.{◌-◌, arith}
 use Rattle.assise_machine_state.specs.Whole.{value_of}
-use Rattle.assise_machine.proofs.DigestedTo.{all_as, both_as, client_as, few_as, here_as, refused_as, shape_as, sound_as, stopped_as}
+use Rattle.assise_machine.proofs.DigestedTo.{all_as, both_as, client_as, few_as, here_as, lists_as, refused_as, shape_as, sound_as, stopped_as}
 use Rattle.assise_machine.proofs.digesting.+digest_to.Goals as goal
 
 pub returns-then-before-clause-digests : goal.returns-then-before-clause-digests
@@ -27,6 +27,11 @@ pub digest_of-own-requires-clause-shape : goal.digest_of-own-requires-clause-sha
 digest_of-own-requires-clause-shape g t c =
     shape_as (value_of c.args.state.now) c.args.node c.requires.shape c.requires.sound c.requires.full c.args.last (c.args.last - 1) (omega (arith, c.if-last-eq0.false)) c.requires.last
     (value_of c.digest_to-before.new.state) c.digest_to-before.result.count c.digest_to-before.ensures.digests
+
+pub digest_of-own-requires-clause-lists : goal.digest_of-own-requires-clause-lists
+digest_of-own-requires-clause-lists g t c =
+    lists_as (value_of c.args.state.now) c.args.node c.requires.shape c.requires.sound c.requires.full c.args.last (c.args.last - 1) (omega (arith, c.if-last-eq0.false)) c.requires.last
+    (value_of c.digest_to-before.new.state) c.digest_to-before.result.count c.digest_to-before.ensures.digests c.requires.lists
 
 pub returns-clause-digests : goal.returns-clause-digests
 returns-clause-digests g t c =

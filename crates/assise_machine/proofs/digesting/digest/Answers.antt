@@ -8,7 +8,7 @@ use Rattle.assise_machine_events.specs.Machine.{Holds}
 use Rattle.assise_machine_state.specs.Shape.{AreNoted, IsShaped}
 use Rattle.assise_machine.specs.Digesting.{digests_to}
 use Rattle.assise_machine.proofs.Frames.{few_clients, fine_node}
-use Rattle.assise_machine.proofs.WholeDigest.{Gives, clients_between, gives_as, lacks, nothing_digested, shape_between, sound_between, sound_of}
+use Rattle.assise_machine.proofs.WholeDigest.{Gives, clients_between, gives_as, lacks, lists_of, nothing_digested, shape_between, sound_between, sound_of}
 use Rattle.assise_machine.proofs.digesting.digest.Given as given
 use Rattle.assise_machine.proofs.digesting.digest.Goals as goal
 use Rattle.assise_machine.proofs.digesting.digest.Goals.{else-progress-via-then-progress+else-progress-eq0, else-progress-via-else-progress}
@@ -24,6 +24,9 @@ digest_to-progress-requires-clause-full g c = fine_node (value_of c.args.sound.n
 
 pub digest_to-progress-requires-clause-sound : goal.digest_to-progress-requires-clause-sound
 digest_to-progress-requires-clause-sound g c = sound_of (value_of c.args.sound.now.state) c.args.sound.now.holds
+
+pub digest_to-progress-requires-clause-lists : goal.digest_to-progress-requires-clause-lists
+digest_to-progress-requires-clause-lists g c = lists_of (value_of c.args.sound.now.state) c.args.sound.now.holds
 
 -- where memory ran out before the first, all is as it was
 

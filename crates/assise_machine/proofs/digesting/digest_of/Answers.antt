@@ -43,15 +43,15 @@ returns-then-wanted-eq0-clause-digests g c =
 pub returns-then-wanted-eq0-clause-all : goal.returns-then-wanted-eq0-clause-all
 returns-then-wanted-eq0-clause-all g c fine = omega (arith, wanted_now g c, c.if-wanted-eq0.true)
 
-pub digest_noted-requires-clause-wanted : goal.digest_noted-requires-clause-wanted
-digest_noted-requires-clause-wanted g c =
+pub digest_wanted-requires-clause-wanted : goal.digest_wanted-requires-clause-wanted
+digest_wanted-requires-clause-wanted g c =
     let wanted =
     wanted_as (value_of c.args.state.now) c.args.node c.args.client c.requires.shape c.requires.sound c.requires.full c.requires.client c.region.result.now c.digested-from.result c.acked-acked.result c.args.at_most c.min-wanted.result
     c.digested-from.ensures.value c.region.ensures c.acked-acked.ensures c.min-wanted.ensures in
     omega (arith, wanted)
 
-pub digest_noted-requires-clause-few_wanted : goal.digest_noted-requires-clause-few_wanted
-digest_noted-requires-clause-few_wanted g c = omega (arith, c.min-wanted.ensures, c.requires.few_most)
+pub digest_wanted-requires-clause-few_wanted : goal.digest_wanted-requires-clause-few_wanted
+digest_wanted-requires-clause-few_wanted g c = omega (arith, c.min-wanted.ensures, c.requires.few_most)
 
 wanted_ok : (g : given.Over) (c : goal.In-Ok g) → c.min-wanted.result ≡ min c.args.at_most (undigested (world_of (value_of c.args.state.now)) c.args.node c.args.client)
 wanted_ok g c =
