@@ -1,9 +1,8 @@
 -- A number for each client, client by client.
-use Rattle.std.proofs.Common.{◌≡◌, ◌≤◌, ◌<◌, ◌⊎◌, ℕ, suc, ◌+◌, min, List, [], ◌∷◌, ◌++◌, length, get_or, slice_index_or, zero, true, false, IfOk, Result, Ok, Err, inl, inr, refl, ap, sym, subst, ◌∙◌, arith}
+use Rattle.std.proofs.Common.{◌≡◌, ◌≤◌, ◌<◌, ◌⊎◌, ℕ, suc, ◌+◌, min, List, [], ◌∷◌, ◌++◌, length, get_or, slice_index_or, zero, true, false, inl, inr, refl, ap, sym, subst, ◌∙◌, arith}
 use Rattle.std.proofs.lemmas.Bool.{cases_lt}
 use Rattle.std.proofs.lemmas.List.{get_or_append_left, length-append}
 use Rattle.std.proofs.Math.Seq.{get_or-append_seam}
-use Rattle.assise_names.specs.declared.refusal.Refusal.{Refusal}
 use Rattle.assise_machine_laws.specs.World.{World, received_by_all}
 use Rattle.assise_machine.specs.Clusters.{AreAcked}
 
@@ -59,10 +58,6 @@ acked_up_to w (suc i) few =
 
 pub some_acked : (w : World) → (acked : List ℕ) × AreAcked w acked
 some_acked w = (acked_of w w.clients, all_acked w w.clients (acked_of w w.clients) (omega arith) (acked_up_to w w.clients (omega arith)))
-
-pub if_ok_as : {X : Type 0} (r : Result X Refusal) (P Q : X → Type 0) → IfOk r P → ((x : X) → P x → Q x) → IfOk r Q
-if_ok_as (Ok x) P Q p f = f x p
-if_ok_as (Err e) P Q p f = tt
 
 pub not_both : false ≡ true → ⊥
 not_both is = cc

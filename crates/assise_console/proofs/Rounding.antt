@@ -1,5 +1,5 @@
 -- Rounds, node by node, and tries of a call with rounds behind them.
-use Rattle.std.proofs.Common.{◌≡◌, ◌≤◌, ℕ, zero, suc, ◌-◌, true, false, [], ◌++◌, Option, None, Some, Result, Ok, Err, IfOk, IfErr, is_none, refl, subst, arith}
+use Rattle.std.proofs.Common.{◌≡◌, ◌≤◌, ℕ, zero, suc, ◌+◌, ◌-◌, true, false, [], ◌++◌, Option, None, Some, Result, Ok, Err, IfOk, IfErr, is_none, refl, subst, arith}
 use Rattle.assise_names.specs.declared.call.Op.{Op}
 use Rattle.assise_names.specs.declared.refusal.Refusal.{Refusal}
 use Rattle.assise_names.specs.declared.refusal.Refusal.TheVariants.{Busy}
@@ -24,6 +24,13 @@ last_does Does zero m v m' es fs some before now = absurd (some refl)
 last_does Does (suc n) m v m' es fs some before now =
     let same : suc n - 1 ≡ n = omega arith in
     record { between = v; before = es; after = fs; told = refl; first = subst (λ k. EachFull Does k m es v) same before; second = now }
+
+-- a node more, as a loop over the nodes from 1 on comes to it
+
+pub next_does : (Does : ℕ → Machine → Told → Machine → Type 0) (n : ℕ) (m v m' : Machine) → 1 ≤ n → (es : Told) × EachFull Does (n - 1) m es v → (fs : Told) × IfFull Does n v fs m' → (gs : Told) × EachFull Does (n + 1 - 1) m gs m'
+next_does Does n m v m' some (es, before) (fs, now) =
+    let back : n ≡ n + 1 - 1 = omega arith in
+    (es ++ fs, subst (λ k. EachFull Does k m (es ++ fs) m') back (last_does Does n m v m' es fs (λ none. omega (arith, some, none)) before now))
 
 pub full_does : (fault : Option Refusal) (Does : Machine → Told → Machine → Type 0) (m : Machine) (es : Told) (m' : Machine) → is_none fault ≡ true → Does m es m' → UnlessAtFault fault Does m es m'
 full_does None Does m es m' fine h = h

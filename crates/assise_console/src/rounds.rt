@@ -5,7 +5,7 @@ ghost use Rattle.assise_machine_events.specs.Faults.{node_fault};
 ghost use Rattle.assise_machine_events.specs.NodeEvents.{Releasing, Sending};
 ghost use Rattle.assise_machine.specs.Clusters.{machine};
 ghost use Rattle.assise_console.specs.Courses.{Told};
-ghost use Rattle.assise_console.specs.Rounds.{AreCarried, Delivers, DigestsOnce, EachFull, IsRound, Replicates, TakesTurn};
+ghost use Rattle.assise_console.specs.Rounds.{AreCarried, Delivers, DigestsOnce, EachFull, IsRound, Replicates, TakesTurn, most_nodes};
 
 use crate::link::carry;
 use assise_lease_table::revoker::Revokes;
@@ -70,34 +70,30 @@ fn deliver<C: Revokes + Drop>(
 pub(crate) fn round<C: Revokes + Drop>(alloc: Global, cluster: &mut ClusterOf<C>)
     ensures { (es : Told) × IsRound (machine cluster.old) es (machine cluster.new) }
 {
-    replicate_to(alloc, cluster, MOST_NODES);
-    digest_to(alloc, cluster, MOST_NODES);
+    replicate_all(alloc, cluster);
+    digest_all(alloc, cluster);
     release(cluster);
 }
 
-/// Of nodes 1 to a last one, each that is full makes a replicate turn.
-fn replicate_to<C: Revokes + Drop>(alloc: Global, cluster: &mut ClusterOf<C>, last: u32)
-    ensures { (es : Told) × EachFull TakesTurn last (machine cluster.old) es (machine cluster.new) }
+/// Each full node makes a replicate turn, by rising number.
+fn replicate_all<C: Revokes + Drop>(alloc: Global, cluster: &mut ClusterOf<C>)
+    ensures { (es : Told) × EachFull TakesTurn most_nodes (machine cluster.old) es (machine cluster.new) }
 {
-    if last == 0 {
-        return;
-    }
-    replicate_to(alloc, cluster, last - 1);
-    if is_full(cluster, last) {
-        let _ = replicate(alloc, cluster, last);
+    for node in 1..=MOST_NODES {
+        if is_full(cluster, node) {
+            let _ = replicate(alloc, cluster, node);
+        }
     }
 }
 
-/// Of nodes 1 to a last one, each that is full digests once.
-fn digest_to<C: Revokes + Drop>(alloc: Global, cluster: &mut ClusterOf<C>, last: u32)
-    ensures { (es : Told) × EachFull DigestsOnce last (machine cluster.old) es (machine cluster.new) }
+/// Each full node digests once, by rising number.
+fn digest_all<C: Revokes + Drop>(alloc: Global, cluster: &mut ClusterOf<C>)
+    ensures { (es : Told) × EachFull DigestsOnce most_nodes (machine cluster.old) es (machine cluster.new) }
 {
-    if last == 0 {
-        return;
-    }
-    digest_to(alloc, cluster, last - 1);
-    if is_full(cluster, last) {
-        let _ = cluster.digest(alloc, last);
+    for node in 1..=MOST_NODES {
+        if is_full(cluster, node) {
+            let _ = cluster.digest(alloc, node);
+        }
     }
 }
 

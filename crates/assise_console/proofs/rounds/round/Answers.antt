@@ -5,5 +5,5 @@ use Rattle.assise_console.proofs.rounds.round.Goals as goal
 
 pub returns : goal.returns
 returns g c =
-    whole_round (machine c.args.cluster.now) (machine c.replicate_to.new.cluster) (machine c.digest_to.new.cluster) (machine c.release.new.cluster)
-    c.replicate_to.ensures.0 c.digest_to.ensures.0 (released c.release.result) c.replicate_to.ensures.1 c.digest_to.ensures.1 c.release.ensures
+    whole_round (machine c.args.cluster.now) (machine c.replicate_all.new.cluster) (machine c.digest_all.new.cluster) (machine c.release.new.cluster)
+    c.replicate_all.ensures.0 c.digest_all.ensures.0 (released c.release.result) c.replicate_all.ensures.1 c.digest_all.ensures.1 c.release.ensures

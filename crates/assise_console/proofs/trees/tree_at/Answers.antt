@@ -8,7 +8,8 @@ use Rattle.assise_machine_history.specs.Courses.{firm_calls}
 use Rattle.assise_machine_events.specs.Machine.{state_of}
 use Rattle.assise_machine.specs.Clusters.{machine}
 use Rattle.assise_machine.proofs.Replicated.{replicated_tree}
-use Rattle.assise_console.proofs.Acked.{if_ok_as, some_acked}
+use Rattle.assise_machine.proofs.Results.{if_ok_as}
+use Rattle.assise_console.proofs.Acked.{some_acked}
 use Rattle.assise_console.proofs.trees.tree_at.Goals as goal
 
 pub returns-in-Ok-clause-tree : goal.returns-in-Ok-clause-tree
