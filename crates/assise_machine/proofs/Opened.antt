@@ -232,8 +232,8 @@ module _ {C : Type 0} where
 pub opened_now : (k j : ℕ) (m v m' : Machine) (es : List Event) (bs cs : List Answered) (i : ℕ) (e : Event) (a : Answered) →
     length bs ≡ i → i < length es → e ≡ get_or es i e → cs ≡ bs ++ a ∷ [] → j ≡ stock_left k (told (take i es) bs) →
     all_opened (told (take (i + 1) es) cs) ≡ all_opened (told (take i es) bs) ++ opened_of (answer_seen a)
-opened_now k j m v m' es bs cs i e a count inside is grown left =
-    ap all_opened (told_now k j m v m' es bs cs i e a count inside is grown left) ∙ opened_more (told (take i es) bs) (event_seen e) (answer_seen a)
+opened_now k j m v m' es bs cs i e a count inside is grown stock =
+    ap all_opened (told_now k j m v m' es bs cs i e a count inside is grown stock) ∙ opened_more (told (take i es) bs) (event_seen e) (answer_seen a)
 
 -- who is opened next is none of them, whatever proof there is that the first state holds
 pub opened_anew : (k j : ℕ) (m v m' : Machine) (es : List (ClusterEvent × Answer)) (e : ClusterEvent) (a : Answer) → ∥ Holds m ∥₁ → AllServed k m es v → IsServed j v e a m' →
