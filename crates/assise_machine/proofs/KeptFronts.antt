@@ -1,12 +1,12 @@
 -- What a failure leaves at the other full nodes.
-use Rattle.std.proofs.Common.{◌≡◌, ◌≢◌, ◌⊎◌, inl, inr, ℕ, ◌+◌, ◌-◌, ◌≤◌, Some, None, Bool, true, false, ◌&&◌, ◌==◌, if◌then◌else◌, drop, take, length, List, [], ◌∷◌, refl, ap, sym, subst, ◌∙◌, arith}
+use Rattle.std.proofs.Common.{◌≡◌, ◌≢◌, inl, inr, ℕ, ◌+◌, ◌-◌, ◌≤◌, Some, true, ◌&&◌, ◌==◌, drop, take, length, List, refl, ap, sym, subst, ◌∙◌, arith}
 use Rattle.std.proofs.lemmas.Bool.{and_parts, cases_Bool, cases_eq, eqb-true}
-use Rattle.std.proofs.lemmas.List.{drop-take, length-drop, length-take, take_all}
+use Rattle.std.proofs.lemmas.List.{drop-take, length-take, take_all}
 use Rattle.assise_history.specs.declared.call.Loss.{Loss}
 use Rattle.assise_inode_table.specs.Effects.{contains}
 use Rattle.assise_manager.specs.Changes.{donor_of, is_returning}
 use Rattle.assise_manager.specs.Standings.{full, standing_of}
-use Rattle.assise_machine_laws.specs.NodeSteps.{Drops, kept_at_failure}
+use Rattle.assise_machine_laws.specs.NodeSteps.{kept_at_failure}
 use Rattle.assise_machine_laws.specs.Sound.{IsSound}
 use Rattle.assise_machine_laws.specs.World.{World, Full, ahead, ahead_below, end, records_between}
 use Rattle.assise_machine_laws.proofs.Failing.{kept_low}
@@ -16,7 +16,7 @@ use Rattle.assise_machine_events.specs.Machine.{Holds, Machine}
 use Rattle.assise_machine_events.specs.MemberEvents as member
 use Rattle.assise_machine_events.specs.MemberEvents.{Failing, IsFailed, IsFailedAgain}
 use Rattle.assise_machine_events.proofs.Granting.{full_after}
-use Rattle.assise_machine.proofs.Others.{Leaves, dropped_ahead, leaves_all, leaves_nodes}
+use Rattle.assise_machine.proofs.Others.{dropped_ahead, leaves_all, leaves_nodes}
 
 -- ---- areas
 

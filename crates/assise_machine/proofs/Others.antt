@@ -1,10 +1,9 @@
 -- What happens at one node leaves what other full nodes have.
-use Rattle.std.proofs.Common.{◌≡◌, ◌≢◌, ℕ, zero, suc, ◌+◌, ◌-◌, Some, drop, List, [], ◌∷◌, refl, ap, sym, subst, ◌∙◌, arith}
+use Rattle.std.proofs.Common.{◌≡◌, ◌≢◌, ℕ, zero, suc, ◌+◌, ◌-◌, drop, List, [], ◌∷◌, refl, ap, sym, subst, ◌∙◌, arith}
 use Rattle.std.proofs.lemmas.List.{drop-drop}
 use Rattle.assise_names.specs.declared.call.Op.{Op}
 use Rattle.assise_names.specs.declared.call.Op.TheVariants.{Create, Mkdir, Read, Write, Truncate, Rename, Unlink, Rmdir, List as ListCall, Stat, Fsync}
 use Rattle.assise_names.specs.declared.reply.Reply.{Reply}
-use Rattle.assise_history.specs.declared.call.Loss.{Loss}
 use Rattle.assise_record.specs.LogFrame.{LogFrame}
 use Rattle.assise_inode_table.specs.Traces.{NumberedCall}
 use Rattle.assise_manager.specs.Membership.{Membership}
@@ -16,15 +15,14 @@ use Rattle.assise_machine_laws.proofs.Observing.{digested_by_all-below}
 use Rattle.assise_machine_leases.specs.Leases.{Leases}
 use Rattle.assise_machine_events.specs.ClientEvents as client
 use Rattle.assise_machine_events.specs.ClientEvents.{Calling, Crashing, Gets, Granted, IsTried, KeepsGranted, Opening, Syncing, call_of_client, last_world}
-use Rattle.assise_machine_events.specs.Events.{Answer, ClusterEvent, open_client, try_call, try_fsync, outgoing, deliver, digest, release_ready, crash, fail, back, refill, join, failed}
-use Rattle.assise_machine_events.specs.Happenings.{Happens, Trying}
+use Rattle.assise_machine_events.specs.Events.{Answer}
+use Rattle.assise_machine_events.specs.Happenings.{Trying}
 use Rattle.assise_machine_events.specs.Machine.{Machine}
 use Rattle.assise_machine_events.specs.MemberEvents as member
 use Rattle.assise_machine_events.specs.MemberEvents.{Failing, Joining, Refilling, Returning}
 use Rattle.assise_machine_events.specs.NodeEvents as node
 use Rattle.assise_machine_events.specs.NodeEvents.{Delivering, Digesting, DigestsTo, Gone, LetsGo, Releasing, Sending, world_after}
 use Rattle.assise_machine_events.proofs.Granting.{clients_after, full_after, logs_after, nodes_after}
-use Rattle.assise_machine.specs.EventNodes.{node_of}
 
 -- ---- what one node has
 
@@ -142,8 +140,8 @@ made_leaves w u w' x j rested e there =
     record {
       area = λ i. e.area j i still ∙ before.area i;
       ahead = λ other d.
-        ahead_as u w' j d (e.digested j d still) (e.first d) (e.log_else j d still (λ home own. other (home ∙ rested.clients.home x.client)))
-        ∙ before.ahead d;
+          ahead_as u w' j d (e.digested j d still) (e.first d) (e.log_else j d still (λ home own. other (home ∙ rested.clients.home x.client)))
+          ∙ before.ahead d;
     }
 
 pub granted_leaves : (m m' : Machine) (c : ℕ) (op : Op) (reply : Reply) (granted : List Granted) →

@@ -41,8 +41,10 @@ pub fn run<C: Revokes + Drop>(
     ensures front { stock.new.items ≡ take (length stock.new.items) stock.old.items }
 
     // What went from the stock the opened clients store, the last revoker the first of them. All other clients store what they did.
-    ensures gets { IfOk result (λ answers. stock.old.items ≡ stock.new.items ++ last_first (revokers cluster.new) (all_opened (told events.now answers.items))) }
-    ensures others { IfOk result (λ answers. (c : ℕ) → (Contains (all_opened (told events.now answers.items)) c → ⊥) → revokers cluster.new c ≡ revokers cluster.old c) }
+    ensures gets { IfOk result (λ answers. stock.old.items ≡
+        stock.new.items ++ last_first (revokers cluster.new) (all_opened (told events.now answers.items))) }
+    ensures others { IfOk result (λ answers. (c : ℕ) → (Contains (all_opened (told events.now answers.items)) c → ⊥) →
+        revokers cluster.new c ≡ revokers cluster.old c) }
     ensures revokers { OnErr result (SameRevokers (revokers cluster.old) (revokers cluster.new)) }
 
     ensures err { OnErr result (machine cluster.new ≡ machine cluster.old) }

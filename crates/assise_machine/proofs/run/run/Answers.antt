@@ -37,10 +37,10 @@ loop-event-preserved g c =
       front = front_on c.args.stock.now.items c.loop-event.stock.items c.apply_event-answer.new.stock.items before.front step.front;
       count = count_on k j m v u es bs ds i e a before.count c.loop-event-test.true c.event-item.is pushed.items before.stock;
       gets = subst (λ cs. c.args.stock.now.items ≡ c.apply_event-answer.new.stock.items ++ last_first f' cs) (sym grown)
-        (gets_on f f' c.args.stock.now.items c.loop-event.stock.items c.apply_event-answer.new.stock.items (all_opened ts) (answer_seen a) before.gets
-        (opened_anew k j m v u ts (event_seen e) (answer_seen a) c.args.cluster.now.sound.holds before.served step.served) step.gets step.others step.stock step.front);
+          (gets_on f f' c.args.stock.now.items c.loop-event.stock.items c.apply_event-answer.new.stock.items (all_opened ts) (answer_seen a) before.gets
+          (opened_anew k j m v u ts (event_seen e) (answer_seen a) c.args.cluster.now.sound.holds before.served step.served) step.gets step.others step.stock step.front);
       others = subst (λ cs. (d : ℕ) → (Contains cs d → ⊥) → f' d ≡ revokers c.args.cluster.now d) (sym grown)
-        (others_on (revokers c.args.cluster.now) f f' (all_opened ts) (answer_seen a) before.others step.others);
+          (others_on (revokers c.args.cluster.now) f f' (all_opened ts) (answer_seen a) before.others step.others);
       room = omega (arith, before.room, pushed.capacity);
     }
 
