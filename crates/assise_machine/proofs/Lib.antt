@@ -5,7 +5,10 @@ pub mod Alone
 pub mod Copying
 pub mod Delivering
 pub mod Running
+pub mod Opened
 pub mod Others
+pub mod KeptFronts
+pub mod Elsewhere
 pub mod Frames
 pub mod Touching
 pub mod Few

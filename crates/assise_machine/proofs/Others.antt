@@ -1,42 +1,213 @@
 -- What happens at one node leaves what other full nodes have.
-use Rattle.std.proofs.Common.{◌≡◌, ◌≢◌, ℕ, zero, suc, ◌+◌, ◌-◌, drop, refl, ap, ◌∙◌, arith}
+use Rattle.std.proofs.Common.{◌≡◌, ◌≢◌, ℕ, zero, suc, ◌+◌, ◌-◌, drop, List, [], ◌∷◌, refl, ap, sym, subst, ◌∙◌, arith}
 use Rattle.std.proofs.lemmas.List.{drop-drop}
+use Rattle.assise_names.specs.declared.call.Op.{Op}
+use Rattle.assise_names.specs.declared.call.Op.TheVariants.{Create, Mkdir, Read, Write, Truncate, Rename, Unlink, Rmdir, List as ListCall, Stat, Fsync}
+use Rattle.assise_names.specs.declared.reply.Reply.{Reply}
 use Rattle.assise_record.specs.LogFrame.{LogFrame}
+use Rattle.assise_inode_table.specs.Traces.{NumberedCall}
 use Rattle.assise_manager.specs.Membership.{Membership}
+use Rattle.assise_machine_laws.specs.ClientSteps.{MakesCall}
 use Rattle.assise_machine_laws.specs.NodeSteps.{Digests, Drops}
+use Rattle.assise_machine_laws.specs.Staying.{SameLogs, SameClients, SameNode, SameNodes}
 use Rattle.assise_machine_laws.specs.World.{World, Full, ahead, digested_by_all}
 use Rattle.assise_machine_laws.proofs.Observing.{digested_by_all-below}
+use Rattle.assise_machine_leases.specs.Leases.{Leases}
+use Rattle.assise_machine_events.specs.ClientEvents as client
+use Rattle.assise_machine_events.specs.ClientEvents.{Calling, Crashing, Gets, Granted, IsTried, KeepsGranted, Opening, Syncing, call_of_client, last_world}
 use Rattle.assise_machine_events.specs.Events.{Answer}
+use Rattle.assise_machine_events.specs.Happenings.{Trying}
 use Rattle.assise_machine_events.specs.Machine.{Machine}
-use Rattle.assise_machine_events.specs.NodeEvents.{Delivering, Digesting, DigestsTo, is_delivered, is_digested, is_refused, is_stale, lacks_memory}
-use Rattle.assise_machine_events.proofs.Apart.{digested_areas}
-use Rattle.assise_machine_events.proofs.Granting.{full_after}
+use Rattle.assise_machine_events.specs.MemberEvents as member
+use Rattle.assise_machine_events.specs.MemberEvents.{Failing, Joining, Refilling, Returning}
+use Rattle.assise_machine_events.specs.NodeEvents as node
+use Rattle.assise_machine_events.specs.NodeEvents.{Delivering, Digesting, DigestsTo, Gone, LetsGo, Releasing, Sending, world_after}
+use Rattle.assise_machine_events.proofs.Granting.{clients_after, full_after, logs_after, nodes_after}
 
--- ---- a frame comes in
+-- ---- what one node has
 
-pub delivered_area : (m m' : Machine) (f : LogFrame) (n : ℕ) (a : Answer) → Delivering m f n a m' → (j i : ℕ) → Full m.world j → m'.world.area j i ≡ m.world.area j i
-delivered_area m m' f n a (is_delivered fine is e) j i there = e.delivers.area j i there
-delivered_area m m' f n a (is_stale fine late is same) j i there = ap (λ x. x.world.area j i) same
-delivered_area m m' f n a (lacks_memory fine timely is same) j i there = ap (λ x. x.world.area j i) same
-delivered_area m m' f n a (is_refused r fault is same) j i there = ap (λ x. x.world.area j i) same
+-- the node's area stays, and what it has of each client and has not digested
+pub record Leaves (w w' : World) (j : ℕ) : Type 0 where
+  pub area : (i : ℕ) → w'.area j i ≡ w.area j i
+  pub ahead : (c : ℕ) → ahead w' j c ≡ ahead w j c
 
 ahead_as : (w w' : World) (j c : ℕ) → w'.digested j c ≡ w.digested j c → w'.first c ≡ w.first c → w'.log j c ≡ w.log j c → ahead w' j c ≡ ahead w j c
 unfolding ahead
 ahead_as w w' j c digested first log = λ i. drop (digested i - first i) (log i)
 
-pub delivered_ahead : (m m' : Machine) (f : LogFrame) (n : ℕ) (a : Answer) → Delivering m f n a m' → (j c : ℕ) → Full m.world j → j ≢ n → ahead m'.world j c ≡ ahead m.world j c
-delivered_ahead m m' f n a (is_delivered fine is e) j c there other =
-    ahead_as m.world m'.world j c (e.delivers.digested j c there) (e.delivers.logs.first c) (e.delivers.log_else j c there (λ here d. other here))
-delivered_ahead m m' f n a (is_stale fine late is same) j c there other = ap (λ x. ahead x.world j c) same
-delivered_ahead m m' f n a (lacks_memory fine timely is same) j c there other = ap (λ x. ahead x.world j c) same
-delivered_ahead m m' f n a (is_refused r fault is same) j c there other = ap (λ x. ahead x.world j c) same
+pub leaves_node : (w w' : World) (j : ℕ) → SameLogs w w' → SameNode w w' j → Leaves w w' j
+leaves_node w w' j logs node = record {
+  area = λ i. node.area i;
+  ahead = λ c. ahead_as w w' j c (node.digested c) (logs.first c) (node.log c);
+}
+
+pub leaves_nodes : (w w' : World) (j : ℕ) → SameLogs w w' → SameNodes w w' → Full w j → Leaves w w' j
+leaves_nodes w w' j logs nodes there = leaves_node w w' j logs (nodes.same j there)
+
+pub leaves_all : (m m' : Machine) (j : ℕ) → m' ≡ m → Leaves m.world m'.world j
+leaves_all m m' j same = record { area = λ i. ap (λ x. x.world.area j i) same; ahead = λ c. ap (λ x. ahead x.world j c) same }
+
+-- ---- what leaves all full nodes as they are
+
+pub opening_leaves : (m m' : Machine) (n : ℕ) (a : Answer) → Opening m n a m' → (j : ℕ) → Full m.world j → Leaves m.world m'.world j
+opening_leaves m m' n a (client.is_opened fine is e) j there = leaves_nodes m.world m'.world j e.opening.opens.logs e.opening.opens.nodes there
+opening_leaves m m' n a (client.is_refused r fault is same) j there = leaves_all m m' j same
+opening_leaves m m' n a (client.lacks_memory fine is same) j there = leaves_all m m' j same
+
+pub sending_leaves : (m m' : Machine) (n : ℕ) (a : Answer) → Sending m n a m' → (j : ℕ) → Leaves m.world m'.world j
+sending_leaves m m' n a (node.is_sent fine is same) j = leaves_all m m' j same
+sending_leaves m m' n a (node.lacks_memory fine is same) j = leaves_all m m' j same
+sending_leaves m m' n a (node.is_refused r fault is same) j = leaves_all m m' j same
+
+pub crashing_leaves : (m m' : Machine) (c : ℕ) (a : Answer) → Crashing m c a m' → (j : ℕ) → Full m.world j → Leaves m.world m'.world j
+crashing_leaves m m' c a (client.is_crashed fine is e) j there = leaves_nodes m.world m'.world j e.crash.crash.logs e.crash.crash.nodes there
+crashing_leaves m m' c a (client.lacks_memory fine is same) j there = leaves_all m m' j same
+crashing_leaves m m' c a (client.is_refused r fault is same) j there = leaves_all m m' j same
+
+pub returning_leaves : (m m' : Machine) (n : ℕ) (a : Answer) → Returning m n a m' → (j : ℕ) → Full m.world j → Leaves m.world m'.world j
+returning_leaves m m' n a (member.is_back fine is e) j there = leaves_nodes m.world m'.world j e.comes.rests.logs e.comes.rests.nodes there
+returning_leaves m m' n a (member.lacks_memory fine is same) j there = leaves_all m m' j same
+returning_leaves m m' n a (member.is_refused r fault is same) j there = leaves_all m m' j same
+
+pub refilling_leaves : (m m' : Machine) (n : ℕ) (a : Answer) → Refilling m n a m' → (j : ℕ) → Full m.world j → Leaves m.world m'.world j
+refilling_leaves m m' n a (member.is_refilled fine is e) j there = leaves_nodes m.world m'.world j e.refills.rests.logs e.refills.rests.nodes there
+refilling_leaves m m' n a (member.is_whole fine none is same) j there = leaves_all m m' j same
+refilling_leaves m m' n a (member.lacks_memory fine is same) j there = leaves_all m m' j same
+refilling_leaves m m' n a (member.is_refused r fault is same) j there = leaves_all m m' j same
+
+pub joining_leaves : (m m' : Machine) (n : ℕ) (a : Answer) → Joining m n a m' → (j : ℕ) → Full m.world j → Leaves m.world m'.world j
+joining_leaves m m' n a (member.is_joined fine is e) j there = leaves_node m.world m'.world j e.rejoins.logs (e.rejoins.else_same j there)
+joining_leaves m m' n a (member.lacks_memory fine is same) j there = leaves_all m m' j same
+joining_leaves m m' n a (member.is_refused r fault is same) j there = leaves_all m m' j same
+
+-- ---- leases come and go
+
+-- logs, clients and what nodes have stay
+pub record Rested (w w' : World) : Type 0 where
+  pub logs : SameLogs w w'
+  pub clients : SameClients w w'
+  pub nodes : SameNodes w w'
+
+all_rest : (w : World) → Rested w w
+all_rest w = record {
+  logs = record { calls = refl; records = λ c. refl; first = λ c. refl; next = λ c. refl; border = λ c k. refl; made = λ c. refl };
+  clients = record { clients = refl; home = λ c. refl; lives = λ c. refl; crashed = λ c. refl };
+  nodes = record { full = refl; same = λ n f. record { area = λ i. refl; log = λ c. refl; received = λ c. refl; digested = λ c. refl } };
+}
+
+rested_after : (w v u : World) → Rested w v → Rested v u → Rested w u
+rested_after w v u a b = record {
+  logs = logs_after w v u a.logs b.logs;
+  clients = clients_after w v u a.clients b.clients;
+  nodes = nodes_after w v u a.nodes b.nodes;
+}
+
+gets_rested : (x : NumberedCall) (w : World) (l : Leases) (gs : List Granted) → Gets x w l gs → Rested w (last_world w gs)
+gets_rested x w l [] e = all_rest w
+gets_rested x w l (g ∷ gs) (missing, grants, others, rest) =
+    rested_after w g.world (last_world g.world gs)
+    (record { logs = grants.holds.logs; clients = grants.holds.clients; nodes = grants.holds.nodes })
+    (gets_rested x g.world g.leases gs rest)
+
+goes_rested : (w : World) (l : Leases) (gs : List Gone) → LetsGo w l gs → Rested w (world_after w gs)
+goes_rested w l [] e = all_rest w
+goes_rested w l (g ∷ gs) (releases, others, rest) =
+    rested_after w g.world (world_after g.world gs)
+    (record { logs = releases.holds.logs; clients = releases.holds.clients; nodes = releases.holds.nodes })
+    (goes_rested g.world g.leases gs rest)
+
+pub rested_leaves : (w w' : World) (j : ℕ) → Rested w w' → Full w j → Leaves w w' j
+rested_leaves w w' j e there = leaves_nodes w w' j e.logs e.nodes there
+
+pub releasing_leaves : (m m' : Machine) (a : Answer) → Releasing m a m' → (j : ℕ) → Full m.world j → Leaves m.world m'.world j
+releasing_leaves m m' a (node.is_released gone freed is e) j there =
+    subst (λ w. Leaves m.world w j) (sym e.world) (rested_leaves m.world (world_after m.world gone) j (goes_rested m.world m.leases gone e.releases) there)
+
+-- ---- a call
+
+-- all areas stay, and what other nodes than the client's home have of it
+pub record LeavesElse (w w' : World) (c j : ℕ) : Type 0 where
+  pub area : (i : ℕ) → w'.area j i ≡ w.area j i
+  pub ahead : j ≢ w.home c → (d : ℕ) → ahead w' j d ≡ ahead w j d
+
+leaves_else : (w w' : World) (c j : ℕ) → Leaves w w' j → LeavesElse w w' c j
+leaves_else w w' c j e = record { area = e.area; ahead = λ other. e.ahead }
+
+pub made_leaves : (w u w' : World) (x : NumberedCall) (j : ℕ) → Rested w u → MakesCall u x w' → Full w j → LeavesElse w w' x.client j
+made_leaves w u w' x j rested e there =
+    let still = full_after w u j rested.nodes.full there in
+    let before = rested_leaves w u j rested there in
+    record {
+      area = λ i. e.area j i still ∙ before.area i;
+      ahead = λ other d.
+          ahead_as u w' j d (e.digested j d still) (e.first d) (e.log_else j d still (λ home own. other (home ∙ rested.clients.home x.client)))
+          ∙ before.ahead d;
+    }
+
+pub granted_leaves : (m m' : Machine) (c : ℕ) (op : Op) (reply : Reply) (granted : List Granted) →
+    IsTried m (call_of_client m.world c op reply) granted → KeepsGranted m granted m' → (j : ℕ) → Full m.world j → LeavesElse m.world m'.world c j
+granted_leaves m m' c op reply granted tried keeps j there =
+    leaves_else m.world m'.world c j
+    (subst (λ w. Leaves m.world w j) (sym keeps.world)
+    (rested_leaves m.world (last_world m.world granted) j (gets_rested (call_of_client m.world c op reply) m.world m.leases granted tried.gets) there))
+
+pub calling_leaves : (m m' : Machine) (c : ℕ) (op : Op) (a : Answer) → Calling m c op a m' → (j : ℕ) → Full m.world j → LeavesElse m.world m'.world c j
+calling_leaves m m' c op a (client.is_answered reply granted is e) j there =
+    let x = call_of_client m.world c op reply in
+    made_leaves m.world (last_world m.world granted) m'.world x j (gets_rested x m.world m.leases granted e.tried.gets) e.call.call there
+calling_leaves m m' c op a (client.is_awaited reply granted is e) j there =
+    let x = call_of_client m.world c op reply in
+    let u = last_world m.world granted in
+    leaves_else m.world m'.world c j
+    (rested_leaves m.world m'.world j
+    (rested_after m.world u m'.world (gets_rested x m.world m.leases granted e.tried.gets)
+    (record { logs = e.asks.goals.logs; clients = e.asks.goals.clients; nodes = e.asks.goals.nodes })) there)
+calling_leaves m m' c op a (client.is_spent reply granted is e keeps) j there = granted_leaves m m' c op reply granted e.tried keeps j there
+calling_leaves m m' c op a (client.is_full reply granted is e keeps) j there = granted_leaves m m' c op reply granted e.tried keeps j there
+calling_leaves m m' c op a (client.lacks_memory reply granted is e keeps) j there = granted_leaves m m' c op reply granted e keeps j there
+calling_leaves m m' c op a (client.is_refused r fault is same) j there = leaves_else m.world m'.world c j (leaves_all m m' j same)
+
+pub syncing_leaves : (m m' : Machine) (c : ℕ) (a : Answer) → Syncing m c a m' → (j : ℕ) → Full m.world j → LeavesElse m.world m'.world c j
+syncing_leaves m m' c a (client.is_synced reply fine is e) j there =
+    made_leaves m.world e.between m'.world (call_of_client m.world c Fsync reply) j
+    (record { logs = e.raises.logs; clients = e.raises.clients; nodes = e.raises.nodes }) e.call.call there
+syncing_leaves m m' c a (client.is_replicating fine is e) j there = leaves_else m.world m'.world c j (leaves_nodes m.world m'.world j e.raises.logs e.raises.nodes there)
+syncing_leaves m m' c a (client.lacks_memory fine all is same) j there = leaves_else m.world m'.world c j (leaves_all m m' j same)
+syncing_leaves m m' c a (client.is_refused r fault is same) j there = leaves_else m.world m'.world c j (leaves_all m m' j same)
+
+pub trying_leaves : (m m' : Machine) (c : ℕ) (op : Op) (a : Answer) → Trying m c op a m' → (j : ℕ) → Full m.world j → LeavesElse m.world m'.world c j
+trying_leaves m m' c (Create p) a s j there = calling_leaves m m' c (Create p) a s j there
+trying_leaves m m' c (Mkdir p) a s j there = calling_leaves m m' c (Mkdir p) a s j there
+trying_leaves m m' c (Read p offset n) a s j there = calling_leaves m m' c (Read p offset n) a s j there
+trying_leaves m m' c (Write p offset bytes) a s j there = calling_leaves m m' c (Write p offset bytes) a s j there
+trying_leaves m m' c (Truncate p size) a s j there = calling_leaves m m' c (Truncate p size) a s j there
+trying_leaves m m' c (Rename p q) a s j there = calling_leaves m m' c (Rename p q) a s j there
+trying_leaves m m' c (Unlink p) a s j there = calling_leaves m m' c (Unlink p) a s j there
+trying_leaves m m' c (Rmdir p) a s j there = calling_leaves m m' c (Rmdir p) a s j there
+trying_leaves m m' c (ListCall p) a s j there = calling_leaves m m' c (ListCall p) a s j there
+trying_leaves m m' c (Stat p) a s j there = calling_leaves m m' c (Stat p) a s j there
+trying_leaves m m' c Fsync a s j there = syncing_leaves m m' c a s j there
+
+-- ---- a frame comes in
+
+-- all areas stay, and what other nodes than this have
+pub record LeavesBeside (w w' : World) (n j : ℕ) : Type 0 where
+  pub area : (i : ℕ) → w'.area j i ≡ w.area j i
+  pub ahead : j ≢ n → (c : ℕ) → ahead w' j c ≡ ahead w j c
+
+leaves_beside : (w w' : World) (n j : ℕ) → Leaves w w' j → LeavesBeside w w' n j
+leaves_beside w w' n j e = record { area = e.area; ahead = λ other. e.ahead }
+
+pub delivering_leaves : (m m' : Machine) (f : LogFrame) (n : ℕ) (a : Answer) → Delivering m f n a m' → (j : ℕ) → Full m.world j → LeavesBeside m.world m'.world n j
+delivering_leaves m m' f n a (node.is_delivered fine is e) j there = record {
+  area = λ i. e.delivers.area j i there;
+  ahead = λ other c. ahead_as m.world m'.world j c (e.delivers.digested j c there) (e.delivers.logs.first c) (e.delivers.log_else j c there (λ here d. other here));
+}
+delivering_leaves m m' f n a (node.is_stale fine late is same) j there = leaves_beside m.world m'.world n j (leaves_all m m' j same)
+delivering_leaves m m' f n a (node.lacks_memory fine timely is same) j there = leaves_beside m.world m'.world n j (leaves_all m m' j same)
+delivering_leaves m m' f n a (node.is_refused r fault is same) j there = leaves_beside m.world m'.world n j (leaves_all m m' j same)
 
 -- ---- a digest
-
-pub digested_area : (m m' : Machine) (n : ℕ) (a : Answer) → Digesting m n a m' → (j i : ℕ) → Full m.world j → j ≢ n → m'.world.area j i ≡ m.world.area j i
-digested_area m m' n a (is_digested k fine is e) j i there other = digested_areas m m' n k (is_digested k fine refl e) j i there other
-digested_area m m' n a (lacks_memory fine some is same) j i there other = ap (λ x. x.world.area j i) same
-digested_area m m' n a (is_refused r fault is same) j i there other = ap (λ x. x.world.area j i) same
 
 part_ahead : (w w' : World) (n c k j d : ℕ) → Digests w n c k w' → Full w j → j ≢ n → ahead w' j d ≡ ahead w j d
 part_ahead w w' n c k j d e there other = ahead_as w w' j d (e.digested_else j d there (λ here of_client. other here)) (e.logs.first d) (e.log j d there)
@@ -45,15 +216,19 @@ parts_full : (n count : ℕ) (w₀ w : World) (o : Membership) (c : ℕ) (u : Wo
 parts_full n count w₀ w o zero u p (same, stay) = ap (λ x. x.full) same
 parts_full n count w₀ w o (suc c) u p (v, (q, (before, step))) = step.digests.digests.full ∙ parts_full n count w₀ w o c v q before
 
-parts_ahead : (n count : ℕ) (w₀ w : World) (o : Membership) (c : ℕ) (u : World) (p : Membership) → DigestsTo n count w₀ w o c u p →
-    (j d : ℕ) → Full w j → j ≢ n → ahead u j d ≡ ahead w j d
-parts_ahead n count w₀ w o zero u p (same, stay) j d there other = ap (λ x. ahead x j d) same
-parts_ahead n count w₀ w o (suc c) u p (v, (q, (before, step))) j d there other =
-    part_ahead v u n (suc c) _ j d step.digests.digests (full_after w v j (parts_full n count w₀ w o c v q before) there) other
-    ∙ parts_ahead n count w₀ w o c v q before j d there other
+parts_leave : (n count : ℕ) (w₀ w : World) (o : Membership) (c : ℕ) (u : World) (p : Membership) → DigestsTo n count w₀ w o c u p →
+    (j : ℕ) → Full w j → j ≢ n → Leaves w u j
+parts_leave n count w₀ w o zero u p (same, stay) j there other = subst (λ x. Leaves w x j) (sym same) (record { area = λ i. refl; ahead = λ c. refl })
+parts_leave n count w₀ w o (suc c) u p (v, (q, (before, step))) j there other =
+    let still = full_after w v j (parts_full n count w₀ w o c v q before) there in
+    let first = parts_leave n count w₀ w o c v q before j there other in
+    record {
+      area = λ i. step.digests.digests.area_else j i still other ∙ first.area i;
+      ahead = λ d. part_ahead v u n (suc c) _ j d step.digests.digests still other ∙ first.ahead d;
+    }
 
 -- what all have digested goes from the front
-dropped_ahead : (w w' : World) (j c : ℕ) → Drops w (digested_by_all w) w' → Full w j → ahead w' j c ≡ ahead w j c
+pub dropped_ahead : (w w' : World) (j c : ℕ) → Drops w (digested_by_all w) w' → Full w j → ahead w' j c ≡ ahead w j c
 unfolding ahead
 dropped_ahead w w' j c e there =
     let low = e.low c in
@@ -63,9 +238,13 @@ dropped_ahead w w' j c e there =
     ∙ drop-drop (w.digested j c - digested_by_all w c) (digested_by_all w c - w.first c) (w.log j c)
     ∙ ap (λ k. drop k (w.log j c)) so_many
 
-pub digested_ahead : (m m' : Machine) (n : ℕ) (a : Answer) → Digesting m n a m' → (j c : ℕ) → Full m.world j → j ≢ n → ahead m'.world j c ≡ ahead m.world j c
-digested_ahead m m' n a (is_digested k fine is e) j c there other =
-    dropped_ahead e.between m'.world j c e.drops (full_after m.world e.between j (parts_full n k m.world m.world m.members m.world.clients e.between m'.members e.digests) there)
-    ∙ parts_ahead n k m.world m.world m.members m.world.clients e.between m'.members e.digests j c there other
-digested_ahead m m' n a (lacks_memory fine some is same) j c there other = ap (λ x. ahead x.world j c) same
-digested_ahead m m' n a (is_refused r fault is same) j c there other = ap (λ x. ahead x.world j c) same
+pub digesting_leaves : (m m' : Machine) (n : ℕ) (a : Answer) → Digesting m n a m' → (j : ℕ) → Full m.world j → j ≢ n → Leaves m.world m'.world j
+digesting_leaves m m' n a (node.is_digested k fine is e) j there other =
+    let still = full_after m.world e.between j (parts_full n k m.world m.world m.members m.world.clients e.between m'.members e.digests) there in
+    let parts = parts_leave n k m.world m.world m.members m.world.clients e.between m'.members e.digests j there other in
+    record {
+      area = λ i. e.drops.area j i still ∙ parts.area i;
+      ahead = λ c. dropped_ahead e.between m'.world j c e.drops still ∙ parts.ahead c;
+    }
+digesting_leaves m m' n a (node.lacks_memory fine some is same) j there other = leaves_all m m' j same
+digesting_leaves m m' n a (node.is_refused r fault is same) j there other = leaves_all m m' j same

@@ -82,7 +82,7 @@ grown_length (b ∷ bs) a = (let rest = grown_length bs a in omega (arith, rest)
 module _ (k j : ℕ) (m v m' : Machine) (es : List Event) (bs cs : List Answered) (i : ℕ) (e : Event) (a : Answered)
     (count : length bs ≡ i) (inside : i < length es) (is : e ≡ get_or es i e) (grown : cs ≡ bs ++ a ∷ []) (left : j ≡ stock_left k (told (take i es) bs))
   where
-    told_now : told (take (i + 1) es) cs ≡ told (take i es) bs ++ (event_seen e, answer_seen a) ∷ []
+    pub told_now : told (take (i + 1) es) cs ≡ told (take i es) bs ++ (event_seen e, answer_seen a) ∷ []
     told_now =
         let few = length-take i es in
         let same : length (take i es) ≡ length bs = omega (arith, few, count, inside) in

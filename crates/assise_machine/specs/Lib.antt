@@ -1,6 +1,7 @@
 pub mod Answers
 pub mod Clusters
 pub mod Digesting
+pub mod EventNodes
 pub mod HandedOver
 pub mod Headline
 pub mod Running

@@ -1,5 +1,6 @@
 -- Events with a stock of revokers, and their answers.
-use Rattle.std.specs.Prelude.{◌≡◌, ℕ, ◌-◌, List, [], ◌∷◌, None, Result, Ok, Err}
+use Rattle.std.specs.Option.{option_to_list}
+use Rattle.std.specs.Prelude.{◌≡◌, ℕ, ◌-◌, List, [], ◌∷◌, ◌++◌, None, Option, Result, Ok, Err}
 use Rattle.assise_names.specs.declared.refusal.Refusal.{Refusal}
 use Rattle.assise_names.specs.declared.refusal.Refusal.TheVariants.{BadClient}
 use Rattle.assise_machine_calls.specs.Answers.{crashing_answer, turn_answer}
@@ -62,6 +63,21 @@ stock_after stock a = stock
 abbrev pub stock_left : ℕ → List (ClusterEvent × Answer) → ℕ
 stock_left stock [] = stock
 stock_left stock ((e, a) ∷ es) = stock_left (stock_after stock a) es
+
+-- the client that an answer says was opened
+abbrev pub opened_of : Answer → List ℕ
+opened_of (opened c) = c ∷ []
+opened_of a = []
+
+-- the clients that were opened, one after another
+abbrev pub all_opened : List (ClusterEvent × Answer) → List ℕ
+all_opened [] = []
+all_opened ((e, a) ∷ es) = opened_of a ++ all_opened es
+
+-- the revokers of these clients, the last client's first
+abbrev pub last_first : {C : Type 0} → (ℕ → Option C) → List ℕ → List C
+last_first stored [] = []
+last_first stored (c ∷ cs) = last_first stored cs ++ option_to_list (stored c)
 
 -- the event happens; or it is an open that nothing but the lack of a revoker stands against, which is refused as one client too many
 pub data IsServed (stock : ℕ) (m : Machine) (e : ClusterEvent) (a : Answer) (m' : Machine) : Type 0 where

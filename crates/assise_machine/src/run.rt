@@ -1,11 +1,12 @@
 // Lists of events.
 ghost use Rattle.std.specs.Option.{option_to_list};
-ghost use Rattle.std.specs.Prelude.{◌≡◌, ◌-◌, ◌≤◌, ◌++◌, ℕ, IfOk, IsOkUnless, OnErr, OnOk, length, take};
+ghost use Rattle.std.specs.Prelude.{◌≡◌, ◌-◌, ◌≤◌, ◌++◌, ℕ, Contains, IfOk, IsOkUnless, OnErr, OnOk, length, take};
 ghost use Rattle.assise_names.specs.declared.refusal.Refusal.TheVariants.{OutOfMemory};
+ghost use Rattle.assise_lease_table.specs.Tables.{SameRevokers};
 ghost use Rattle.assise_machine_events.specs.Events.{all_entries, open_client, opened};
 ghost use Rattle.assise_machine.specs.Clusters.{machine, revokers};
 ghost use Rattle.assise_machine.specs.Headline.{history_after, history_of, kept_below, regions_of, replicated_calls, replicated_to};
-ghost use Rattle.assise_machine.specs.Running.{AllServed, IsServed, answer_seen, event_seen, opened_answer, stock_after, stock_left, told};
+ghost use Rattle.assise_machine.specs.Running.{AllServed, IsServed, all_opened, answer_seen, event_seen, last_first, opened_answer, stock_after, stock_left, told};
 
 use crate::answer::Answer;
 use crate::cluster::ClusterOf;
@@ -38,6 +39,14 @@ pub fn run<C: Revokes + Drop>(
 
     ensures stock { IfOk result (λ answers. length stock.new.items ≡ stock_left (length stock.old.items) (told events.now answers.items)) }
     ensures front { stock.new.items ≡ take (length stock.new.items) stock.old.items }
+
+    // What went from the stock the opened clients store, the last revoker the first of them. All other clients store what they did.
+    ensures gets { IfOk result (λ answers. stock.old.items ≡
+        stock.new.items ++ last_first (revokers cluster.new) (all_opened (told events.now answers.items))) }
+    ensures others { IfOk result (λ answers. (c : ℕ) → (Contains (all_opened (told events.now answers.items)) c → ⊥) →
+        revokers cluster.new c ≡ revokers cluster.old c) }
+    ensures revokers { OnErr result (SameRevokers (revokers cluster.old) (revokers cluster.new)) }
+
     ensures err { OnErr result (machine cluster.new ≡ machine cluster.old) }
     ensures unused { OnErr result (stock.new.items ≡ stock.old.items) }
     ensures only_memory { IsOkUnless result OutOfMemory }

@@ -1,14 +1,15 @@
-use Rattle.assise_machine.proofs.Others.{delivered_ahead, delivered_area, digested_ahead, digested_area}
+use Rattle.assise_machine.proofs.Elsewhere.{event_ahead, event_area}
+use Rattle.assise_machine.proofs.KeptFronts.{failing_ahead, failing_elsewhere}
 use Rattle.assise_machine.proofs.laws.what_happens_at_one_node_leaves_what_others_have.Goals as goal
 
-pub returns-clause-delivered_area : goal.returns-clause-delivered_area
-returns-clause-delivered_area r = λ m m' f n a e j i there. delivered_area m m' f n a e j i there
+pub returns-clause-area : goal.returns-clause-area
+returns-clause-area r = λ m m' e a step j i there other. event_area m m' e a step j i there other
 
-pub returns-clause-delivered_ahead : goal.returns-clause-delivered_ahead
-returns-clause-delivered_ahead r = λ m m' f n a e j c there other. delivered_ahead m m' f n a e j c there other
+pub returns-clause-ahead : goal.returns-clause-ahead
+returns-clause-ahead r = λ m m' e a step none j c there other. event_ahead m m' e a step none j c there other
 
-pub returns-clause-digested_area : goal.returns-clause-digested_area
-returns-clause-digested_area r = λ m m' n a e j i there other. digested_area m m' n a e j i there other
+pub returns-clause-failure : goal.returns-clause-failure
+returns-clause-failure r = λ m m' n losses h step j c there other. failing_ahead m m' n losses h step j c there other
 
-pub returns-clause-digested_ahead : goal.returns-clause-digested_ahead
-returns-clause-digested_ahead r = λ m m' n a e j c there other. digested_ahead m m' n a e j c there other
+pub returns-clause-elsewhere : goal.returns-clause-elsewhere
+returns-clause-elsewhere r = λ m m' n a h step j c there other away. failing_elsewhere m m' n a h step j c there other away

@@ -1,9 +1,11 @@
-use Rattle.std.proofs.Common.{◌≤◌, ◌∙◌, length, sym, take, arith}
+use Rattle.std.proofs.Common.{◌≡◌, ◌≤◌, ◌++◌, ◌∙◌, ℕ, Contains, length, subst, sym, take, arith}
+use Rattle.std.proofs.lemmas.List.{take_all}
 use Rattle.assise_machine_state.specs.Observed.{observed}
 use Rattle.assise_machine_state.specs.Whole.{value_of}
-use Rattle.assise_machine.specs.Clusters.{machine}
+use Rattle.assise_machine.specs.Clusters.{machine, revokers}
 use Rattle.assise_machine.specs.Headline.{history_of}
-use Rattle.assise_machine.specs.Running.{told}
+use Rattle.assise_machine.specs.Running.{all_opened, answer_seen, event_seen, last_first, told}
+use Rattle.assise_machine.proofs.Opened.{gets_on, opened_anew, opened_now, others_on}
 use Rattle.assise_machine.proofs.Replicated.{bounds_stay, calls_stay, nodes_stay}
 use Rattle.assise_machine.proofs.Running.{all_last, count_on, front_on, left_on, served_on, told_all}
 use Rattle.assise_machine.proofs.Telling.{history_told}
@@ -25,11 +27,20 @@ loop-event-preserved g c =
     let before = c.loop-event.invariant in
     let step = c.apply_event-answer.ensures in
     let pushed = c.push_reserved.ensures in
+    let ts = told (take i es) bs in
+    let grown = opened_now k j m v u es bs ds i e a before.count c.loop-event-test.true c.event-item.is pushed.items before.stock in
+    let f = revokers c.loop-event.cluster in
+    let f' = revokers c.apply_event-answer.new.cluster in
     record {
       served = served_on k j m v u es bs ds i e a before.count c.loop-event-test.true c.event-item.is pushed.items before.stock before.served step.served;
       stock = step.stock ∙ left_on k j m v u es bs ds i e a before.count c.loop-event-test.true c.event-item.is pushed.items before.stock;
       front = front_on c.args.stock.now.items c.loop-event.stock.items c.apply_event-answer.new.stock.items before.front step.front;
       count = count_on k j m v u es bs ds i e a before.count c.loop-event-test.true c.event-item.is pushed.items before.stock;
+      gets = subst (λ cs. c.args.stock.now.items ≡ c.apply_event-answer.new.stock.items ++ last_first f' cs) (sym grown)
+          (gets_on f f' c.args.stock.now.items c.loop-event.stock.items c.apply_event-answer.new.stock.items (all_opened ts) (answer_seen a) before.gets
+          (opened_anew k j m v u ts (event_seen e) (answer_seen a) c.args.cluster.now.sound.holds before.served step.served) step.gets step.others step.stock step.front);
+      others = subst (λ cs. (d : ℕ) → (Contains cs d → ⊥) → f' d ≡ revokers c.args.cluster.now d) (sym grown)
+          (others_on (revokers c.args.cluster.now) f f' (all_opened ts) (answer_seen a) before.others step.others);
       room = omega (arith, before.room, pushed.capacity);
     }
 
@@ -68,3 +79,15 @@ returns-clause-nodes g c =
     let es = told (take c.loop-event.event-index c.args.events.now) c.loop-event.answers.items in
     nodes_stay (value_of old.state) (value_of new.state) old.shape new.shape old.state.members.lawful.some_full new.state.members.lawful.some_full old.holds new.holds
     (λ h. all_last (length c.args.stock.now.items) (machine c.args.cluster.now) (machine c.loop-event.cluster) es h c.loop-event.invariant.served)
+
+pub returns-clause-gets : goal.returns-clause-gets
+returns-clause-gets g c =
+    let past : length c.args.events.now ≤ c.loop-event.event-index = omega (arith, c.loop-event-test.false) in
+    subst (λ es. c.args.stock.now.items ≡ c.loop-event.stock.items ++ last_first (revokers c.loop-event.cluster) (all_opened (told es c.loop-event.answers.items)))
+    (take_all c.loop-event.event-index c.args.events.now past) c.loop-event.invariant.gets
+
+pub returns-clause-others : goal.returns-clause-others
+returns-clause-others g c =
+    let past : length c.args.events.now ≤ c.loop-event.event-index = omega (arith, c.loop-event-test.false) in
+    subst (λ es. (d : ℕ) → (Contains (all_opened (told es c.loop-event.answers.items)) d → ⊥) → revokers c.loop-event.cluster d ≡ revokers c.args.cluster.now d)
+    (take_all c.loop-event.event-index c.args.events.now past) c.loop-event.invariant.others

@@ -1,0 +1,241 @@
+-- The clients that events opened, and what they store.
+use Rattle.std.proofs.Common.{◌≡◌, ◌≢◌, ◌⊎◌, inl, inr, ℕ, suc, ◌+◌, ◌<◌, ◌≤◌, Option, List, [], ◌∷◌, ◌++◌, Contains, get_or, length, take, refl, ap, sym, subst, ◌∙◌, append_assoc, append-nil, arith}
+use Rattle.std.proofs.Math.Logic.{∥∥₁_elim}
+use Rattle.std.specs.Option.{option_to_list}
+use Rattle.std.proofs.lemmas.List.{take_all}
+use Rattle.std.proofs.lemmas.List.Elements.{Contains-append_cases, Contains-append_left, Contains-append_right, Contains-push, Contains-push_cases}
+use Rattle.assise_names.specs.declared.call.Op.{Op}
+use Rattle.assise_names.specs.declared.call.Op.TheVariants.{Create, Mkdir, Read, Write, Truncate, Rename, Unlink, Rmdir, List as ListCall, Stat, Fsync}
+use Rattle.assise_history.specs.Legal.{clients_opened}
+use Rattle.assise_history.proofs.Counting.{opened_append}
+use Rattle.assise_machine_events.specs.ClientEvents as client
+use Rattle.assise_machine_events.specs.ClientEvents.{Calling, Crashing, Opening, Syncing}
+use Rattle.assise_machine_events.specs.Events.{Answer, ClusterEvent, open_client, try_call, try_fsync, outgoing, deliver, digest, release_ready, crash, fail, back, refill, join, refused, opened, replied, not_yet, sent, received, digested, released, crashed, failed, began, left, joined, entries_of}
+use Rattle.assise_machine_events.specs.Happenings.{Happens, Trying}
+use Rattle.assise_machine_events.specs.Machine.{Holds, Machine}
+use Rattle.assise_machine_events.specs.MemberEvents as member
+use Rattle.assise_machine_events.specs.NodeEvents as node
+use Rattle.assise_machine.specs.declared.answer.Answer.{Answer as Answered}
+use Rattle.assise_machine.specs.declared.event.Event.{Event}
+use Rattle.assise_machine.specs.Running.{AllServed, IsServed, all_opened, answer_seen, event_seen, happens, lacks_revoker, last_first, opened_of, stock_after, stock_left, told}
+use Rattle.assise_machine.proofs.Running.{served_keeps, served_told, told_now}
+
+-- ---- an answer
+
+-- no client was opened
+record OpensNone (a : Answer) : Type 0 where
+  pub never : (c : ℕ) → a ≢ opened c
+  pub none : opened_of a ≡ []
+  pub stock : (k : ℕ) → stock_after k a ≡ k
+
+opens_or : (a : Answer) → ((c : ℕ) × (a ≡ opened c)) ⊎ OpensNone a
+opens_or (opened c) = inl (c, refl)
+opens_or (refused r) = inr (record { never = λ c is. cc; none = refl; stock = λ k. refl })
+opens_or (replied reply) = inr (record { never = λ c is. cc; none = refl; stock = λ k. refl })
+opens_or not_yet = inr (record { never = λ c is. cc; none = refl; stock = λ k. refl })
+opens_or (sent frames) = inr (record { never = λ c is. cc; none = refl; stock = λ k. refl })
+opens_or (received place) = inr (record { never = λ c is. cc; none = refl; stock = λ k. refl })
+opens_or (digested count) = inr (record { never = λ c is. cc; none = refl; stock = λ k. refl })
+opens_or (released count) = inr (record { never = λ c is. cc; none = refl; stock = λ k. refl })
+opens_or crashed = inr (record { never = λ c is. cc; none = refl; stock = λ k. refl })
+opens_or (failed losses) = inr (record { never = λ c is. cc; none = refl; stock = λ k. refl })
+opens_or (began stale) = inr (record { never = λ c is. cc; none = refl; stock = λ k. refl })
+opens_or (left stale) = inr (record { never = λ c is. cc; none = refl; stock = λ k. refl })
+opens_or joined = inr (record { never = λ c is. cc; none = refl; stock = λ k. refl })
+
+in_none : (c : ℕ) → Contains [] c → ⊥
+in_none c (k, low, is) = omega (arith, low)
+
+opened_is : (a : Answer) (c : ℕ) → Contains (opened_of a) c → a ≡ opened c
+opened_is a c here =
+    elim (opens_or a) [
+      | inl (d, is) ↦
+          elim (Contains-push_cases [] d c (subst (λ b. Contains (opened_of b) c) is here)) [
+            | inl before ↦ absurd (in_none c before)
+            | inr same ↦ is ∙ ap opened same
+          ]
+      | inr none ↦ absurd (in_none c (subst (λ cs. Contains cs c) none.none here))
+    ]
+
+opened_there : (a : Answer) (c : ℕ) → a ≡ opened c → Contains (opened_of a) c
+opened_there a c is = subst (λ b. Contains (opened_of b) c) (sym is) (Contains-push [] c)
+
+-- ---- an event
+
+-- the next client was opened
+record OpensNext (m m' : Machine) (c : ℕ) : Type 0 where
+  pub next : c ≡ suc m.world.clients
+  pub clients : m'.world.clients ≡ c
+
+opening_next : (m m' : Machine) (n c : ℕ) → Opening m n (opened c) m' → OpensNext m m' c
+opening_next m m' n c (client.is_opened fine is e) =
+    let same : c ≡ suc m.world.clients = cc in
+    record { next = same; clients = e.opening.opens.clients ∙ sym same }
+opening_next m m' n c (client.is_refused r fault is same) = cc
+opening_next m m' n c (client.lacks_memory fine is same) = cc
+
+calling_none : (m m' : Machine) (d : ℕ) (op : Op) (c : ℕ) → Calling m d op (opened c) m' → ⊥
+calling_none m m' d op c (client.is_answered reply granted is e) = cc
+calling_none m m' d op c (client.is_awaited reply granted is e) = cc
+calling_none m m' d op c (client.is_spent reply granted is e keeps) = cc
+calling_none m m' d op c (client.is_full reply granted is e keeps) = cc
+calling_none m m' d op c (client.lacks_memory reply granted is e keeps) = cc
+calling_none m m' d op c (client.is_refused r fault is same) = cc
+
+syncing_none : (m m' : Machine) (d c : ℕ) → Syncing m d (opened c) m' → ⊥
+syncing_none m m' d c (client.is_synced reply fine is e) = cc
+syncing_none m m' d c (client.is_replicating fine is e) = cc
+syncing_none m m' d c (client.lacks_memory fine all is same) = cc
+syncing_none m m' d c (client.is_refused r fault is same) = cc
+
+crashing_none : (m m' : Machine) (d c : ℕ) → Crashing m d (opened c) m' → ⊥
+crashing_none m m' d c (client.is_crashed fine is e) = cc
+crashing_none m m' d c (client.lacks_memory fine is same) = cc
+crashing_none m m' d c (client.is_refused r fault is same) = cc
+
+trying_none : (m m' : Machine) (d : ℕ) (op : Op) (c : ℕ) → Trying m d op (opened c) m' → ⊥
+trying_none m m' d (Create p) c s = calling_none m m' d (Create p) c s
+trying_none m m' d (Mkdir p) c s = calling_none m m' d (Mkdir p) c s
+trying_none m m' d (Read p offset n) c s = calling_none m m' d (Read p offset n) c s
+trying_none m m' d (Write p offset bytes) c s = calling_none m m' d (Write p offset bytes) c s
+trying_none m m' d (Truncate p size) c s = calling_none m m' d (Truncate p size) c s
+trying_none m m' d (Rename p q) c s = calling_none m m' d (Rename p q) c s
+trying_none m m' d (Unlink p) c s = calling_none m m' d (Unlink p) c s
+trying_none m m' d (Rmdir p) c s = calling_none m m' d (Rmdir p) c s
+trying_none m m' d (ListCall p) c s = calling_none m m' d (ListCall p) c s
+trying_none m m' d (Stat p) c s = calling_none m m' d (Stat p) c s
+trying_none m m' d Fsync c s = syncing_none m m' d c s
+
+event_next : (m m' : Machine) (e : ClusterEvent) (c : ℕ) → Happens m e (opened c) m' → OpensNext m m' c
+event_next m m' (open_client n) c s = opening_next m m' n c s
+event_next m m' (try_call d op) c s = absurd (trying_none m m' d op c s)
+event_next m m' (try_fsync d) c s = absurd (syncing_none m m' d c s)
+event_next m m' (outgoing n) c (node.is_sent fine is same) = cc
+event_next m m' (outgoing n) c (node.lacks_memory fine is same) = cc
+event_next m m' (outgoing n) c (node.is_refused r fault is same) = cc
+event_next m m' (deliver f n) c (node.is_delivered fine is e) = cc
+event_next m m' (deliver f n) c (node.is_stale fine late is same) = cc
+event_next m m' (deliver f n) c (node.lacks_memory fine timely is same) = cc
+event_next m m' (deliver f n) c (node.is_refused r fault is same) = cc
+event_next m m' (digest n) c (node.is_digested count fine is e) = cc
+event_next m m' (digest n) c (node.lacks_memory fine some is same) = cc
+event_next m m' (digest n) c (node.is_refused r fault is same) = cc
+event_next m m' release_ready c (node.is_released gone freed is e) = cc
+event_next m m' (crash d) c s = absurd (crashing_none m m' d c s)
+event_next m m' (fail n) c (member.is_failed fine is e) = cc
+event_next m m' (fail n) c (member.is_failed_again fine is e) = cc
+event_next m m' (fail n) c (member.lacks_memory fine is same) = cc
+event_next m m' (fail n) c (member.is_refused r fault is same) = cc
+event_next m m' (back n) c (member.is_back fine is e) = cc
+event_next m m' (back n) c (member.lacks_memory fine is same) = cc
+event_next m m' (back n) c (member.is_refused r fault is same) = cc
+event_next m m' (refill n) c (member.is_refilled fine is e) = cc
+event_next m m' (refill n) c (member.is_whole fine none is same) = cc
+event_next m m' (refill n) c (member.lacks_memory fine is same) = cc
+event_next m m' (refill n) c (member.is_refused r fault is same) = cc
+event_next m m' (join n) c (member.is_joined fine is e) = cc
+event_next m m' (join n) c (member.lacks_memory fine is same) = cc
+event_next m m' (join n) c (member.is_refused r fault is same) = cc
+
+served_next : (k : ℕ) (m m' : Machine) (e : ClusterEvent) (c : ℕ) → IsServed k m e (opened c) m' → OpensNext m m' c
+served_next k m m' e c (happens step) = event_next m m' e c step
+served_next k m m' e c (lacks_revoker n is none fine answer same) = cc
+
+-- ---- the clients are opened by rising numbers
+
+clients_grow : (k : ℕ) (m m' : Machine) (e : ClusterEvent) (a : Answer) → Holds m → IsServed k m e a m' → m.world.clients ≤ m'.world.clients
+clients_grow k m m' e a h step =
+    let h' = served_keeps k m m' e a h step in
+    let old = h.recorded.count in
+    let new = h'.recorded.count in
+    let told = ap clients_opened (served_told k m m' e a step) ∙ opened_append m.history (entries_of m.history e a) in
+    omega (arith, old, new, told)
+
+all_grow : (k : ℕ) (m m' : Machine) (es : List (ClusterEvent × Answer)) → Holds m → AllServed k m es m' → m.world.clients ≤ m'.world.clients
+all_grow k m m' [] h same = (let is = ap (λ x. x.world.clients) same in omega (arith, is))
+all_grow k m m' ((e, a) ∷ es) h (v, (step, rest)) =
+    let first = clients_grow k m v e a h step in
+    let then = all_grow (stock_after k a) v m' es (served_keeps k m v e a h step) rest in
+    omega (arith, first, then)
+
+-- those that were opened so far have no higher numbers than there are clients
+opened_low : (k : ℕ) (m m' : Machine) (es : List (ClusterEvent × Answer)) → Holds m → AllServed k m es m' → (c : ℕ) → Contains (all_opened es) c → c ≤ m'.world.clients
+opened_low k m m' [] h same c here = absurd (in_none c here)
+opened_low k m m' ((e, a) ∷ es) h (v, (step, rest)) c here =
+    let still = served_keeps k m v e a h step in
+    elim (Contains-append_cases (opened_of a) (all_opened es) c here) [
+      | inl now ↦
+          let next = served_next k m v e c (subst (λ b. IsServed k m e b v) (opened_is a c now) step) in
+          let count = next.clients in
+          let later = all_grow (stock_after k a) v m' es still rest in
+          omega (arith, count, later)
+      | inr then ↦ opened_low (stock_after k a) v m' es still rest c then
+    ]
+
+-- who is opened next is none of them
+pub opened_new : (k j : ℕ) (m v m' : Machine) (es : List (ClusterEvent × Answer)) (e : ClusterEvent) (a : Answer) → Holds m → AllServed k m es v → IsServed j v e a m' →
+    (c : ℕ) → Contains (all_opened es) c → a ≢ opened c
+opened_new k j m v m' es e a h run step c here is =
+    let next = (served_next j v m' e c (subst (λ b. IsServed j v e b m') is step)).next in
+    let low = opened_low k m v es h run c here in
+    omega (arith, next, low)
+
+-- ---- what they store
+
+pub opened_more : (es : List (ClusterEvent × Answer)) (e : ClusterEvent) (a : Answer) → all_opened (es ++ (e, a) ∷ []) ≡ all_opened es ++ opened_of a
+opened_more [] e a = append-nil (opened_of a)
+opened_more ((f, b) ∷ es) e a = ap (λ cs. opened_of b ++ cs) (opened_more es e a) ∙ sym (append_assoc (opened_of b) (all_opened es) (opened_of a))
+
+module _ {C : Type 0} where
+  last_append : (f : ℕ → Option C) (cs ds : List ℕ) → last_first f (cs ++ ds) ≡ last_first f ds ++ last_first f cs
+  last_append f [] ds = sym (append-nil (last_first f ds))
+  last_append f (c ∷ cs) ds =
+      ap (λ rs. rs ++ option_to_list (f c)) (last_append f cs ds) ∙ append_assoc (last_first f ds) (last_first f cs) (option_to_list (f c))
+
+  same_stored : (f g : ℕ → Option C) (cs : List ℕ) → ((c : ℕ) → Contains cs c → g c ≡ f c) → last_first g cs ≡ last_first f cs
+  same_stored f g [] same = refl
+  same_stored f g (c ∷ cs) same =
+      (λ i. same_stored f g cs (λ d here. same d (Contains-append_right (c ∷ []) cs d here)) i ++ option_to_list (same c (Contains-append_left (c ∷ []) cs c (Contains-push [] c)) i))
+
+  -- one answer more: what went from the stock is what the clients store that were opened
+  pub gets_on : (f g : ℕ → Option C) (xs ys zs : List C) (cs : List ℕ) (a : Answer) → xs ≡ ys ++ last_first f cs →
+      ((c : ℕ) → Contains cs c → a ≢ opened c) →
+      ((c : ℕ) → a ≡ opened c → ys ≡ zs ++ option_to_list (g c)) →
+      ((c : ℕ) → (a ≡ opened c → ⊥) → g c ≡ f c) →
+      length zs ≡ stock_after (length ys) a → zs ≡ take (length zs) ys → xs ≡ zs ++ last_first g (cs ++ opened_of a)
+  gets_on f g xs ys zs cs a before new gets others stock front =
+      let stay : last_first f cs ≡ last_first g cs = sym (same_stored f g cs (λ c here. others c (new c here))) in
+      elim (opens_or a) [
+        | inl (c, is) ↦
+            before
+            ∙ (λ i. gets c is i ++ stay i)
+            ∙ append_assoc zs (option_to_list (g c)) (last_first g cs)
+            ∙ ap (λ rs. zs ++ rs) (sym (last_append g cs (c ∷ [])))
+            ∙ ap (λ b. zs ++ last_first g (cs ++ opened_of b)) (sym is)
+        | inr none ↦
+            let all : zs ≡ ys = front ∙ take_all (length zs) ys (omega (arith, stock, none.stock (length ys))) in
+            before
+            ∙ (λ i. sym all i ++ stay i)
+            ∙ ap (λ ds. zs ++ last_first g ds) (sym (append-nil cs))
+            ∙ ap (λ ds. zs ++ last_first g (cs ++ ds)) (sym none.none)
+      ]
+
+  pub others_on : (f g h : ℕ → Option C) (cs : List ℕ) (a : Answer) → ((c : ℕ) → (Contains cs c → ⊥) → g c ≡ f c) → ((c : ℕ) → (a ≡ opened c → ⊥) → h c ≡ g c) →
+      (c : ℕ) → (Contains (cs ++ opened_of a) c → ⊥) → h c ≡ f c
+  others_on f g h cs a before now c not_there =
+      now c (λ is. not_there (Contains-append_right cs (opened_of a) c (opened_there a c is)))
+      ∙ before c (λ here. not_there (Contains-append_left cs (opened_of a) c here))
+
+-- ---- a run
+
+-- who was opened, behind those before
+pub opened_now : (k j : ℕ) (m v m' : Machine) (es : List Event) (bs cs : List Answered) (i : ℕ) (e : Event) (a : Answered) →
+    length bs ≡ i → i < length es → e ≡ get_or es i e → cs ≡ bs ++ a ∷ [] → j ≡ stock_left k (told (take i es) bs) →
+    all_opened (told (take (i + 1) es) cs) ≡ all_opened (told (take i es) bs) ++ opened_of (answer_seen a)
+opened_now k j m v m' es bs cs i e a count inside is grown stock =
+    ap all_opened (told_now k j m v m' es bs cs i e a count inside is grown stock) ∙ opened_more (told (take i es) bs) (event_seen e) (answer_seen a)
+
+-- who is opened next is none of them, whatever proof there is that the first state holds
+pub opened_anew : (k j : ℕ) (m v m' : Machine) (es : List (ClusterEvent × Answer)) (e : ClusterEvent) (a : Answer) → ∥ Holds m ∥₁ → AllServed k m es v → IsServed j v e a m' →
+    (c : ℕ) → Contains (all_opened es) c → a ≢ opened c
+opened_anew k j m v m' es e a holds run step c here is = ∥∥₁_elim holds (λ x y. absurd x) (λ h. opened_new k j m v m' es e a h run step c here is)
