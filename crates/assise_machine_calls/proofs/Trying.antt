@@ -31,7 +31,7 @@ use Rattle.assise_lease_tree.specs.TwoLevels.{IsGranted, SameLevels, TwoLevels, 
 use Rattle.assise_machine_laws.specs.World.{World, ahead, view}
 use Rattle.assise_machine_leases.specs.Handing.{Grants}
 use Rattle.assise_machine_leases.specs.Leases.{client_lease}
-use Rattle.assise_machine_events.specs.ClientEvents.{Calling, IsMissing, IsNeeded, is_awaited, lacks_memory}
+use Rattle.assise_machine_events.specs.ClientEvents.{Calling, IsMissing, is_awaited, lacks_memory}
 use Rattle.assise_machine_events.specs.Events.{Answer, not_yet, refused}
 use Rattle.assise_machine_events.specs.Faults.{call_fault}
 use Rattle.assise_machine_events.specs.Happenings.{Trying}
@@ -52,7 +52,7 @@ use Rattle.assise_machine_calls.specs.Asked.{AsksThem}
 use Rattle.assise_machine_calls.specs.Leasing.{HasAll, IsReady, IsVisited, next_call, next_step}
 use Rattle.assise_machine_calls.proofs.Committing.{call_client, call_number}
 use Rattle.assise_machine_calls.proofs.Granted.{granted_first}
-use Rattle.assise_machine_calls.proofs.Wanting.{fewer, first_unserved, unserved}
+use Rattle.assise_machine_calls.proofs.Wanting.{fewer, unserved}
 
 -- ---- nothing is granted
 
@@ -96,38 +96,6 @@ in_rest j is i rest = or_right (j == i) (contains is i) rest
 
 in_front : (j : ℕ) (is : List ℕ) (i : ℕ) → j ≡ i → contains (j ∷ is) i ≡ true
 in_front j is i same = rw (eq-eqb j i same) refl
-
-some_same : (p q : ℕ × Mode) → Some p ≡ Some q → p ≡ q
-some_same p q e = cc
-
-wanted_writing : (leased : Leased) (js : List ℕ) (i : ℕ) (mode : Mode) → first_missing leased (for_writing js) ≡ Some (i, mode) → (mode ≡ Write) × (contains js i ≡ true)
-wanted_writing leased [] i mode e = absurd (let none : None ≡ Some (i, mode) = e in cc)
-wanted_writing leased (j ∷ js) i mode e =
-    elim (cases_Bool (leased j Write)) [
-      | inl had ↦
-          let rest = wanted_writing leased js i mode (subst (λ b. (if b then first_missing leased (for_writing js) else Some (j, Write)) ≡ Some (i, mode)) had e) in
-          (rest.0, in_rest j js i rest.1)
-      | inr lacked ↦
-          let here : Some (j, Write) ≡ Some (i, mode) = subst (λ b. (if b then first_missing leased (for_writing js) else Some (j, Write)) ≡ Some (i, mode)) lacked e in
-          let pair : (j, Write) ≡ (i, mode) = some_same (j, Write) (i, mode) here in
-          (sym (ap (λ p. p.1) pair), in_front j js i (ap (λ p. p.0) pair))
-    ]
-
-wanted : (leased : Leased) (is js : List ℕ) (i : ℕ) (mode : Mode) → first_missing leased (for_reading is ++ for_writing js) ≡ Some (i, mode) →
-    ((mode ≡ Read) × (contains is i ≡ true)) ⊎ ((mode ≡ Write) × (contains js i ≡ true))
-wanted leased [] js i mode e = inr (wanted_writing leased js i mode e)
-wanted leased (j ∷ is) js i mode e =
-    elim (cases_Bool (leased j Read)) [
-      | inl had ↦
-          elim (wanted leased is js i mode (subst (λ b. (if b then first_missing leased (for_reading is ++ for_writing js) else Some (j, Read)) ≡ Some (i, mode)) had e)) [
-            | inl visited ↦ inl (visited.0, in_rest j is i visited.1)
-            | inr changed ↦ inr changed
-          ]
-      | inr lacked ↦
-          let here : Some (j, Read) ≡ Some (i, mode) = subst (λ b. (if b then first_missing leased (for_reading is ++ for_writing js) else Some (j, Read)) ≡ Some (i, mode)) lacked e in
-          let pair : (j, Read) ≡ (i, mode) = some_same (j, Read) (i, mode) here in
-          inl (sym (ap (λ p. p.1) pair), in_front j is i (ap (λ p. p.0) pair))
-    ]
 
 -- what is all leased serves for each
 serves_writing : (leased : Leased) (js : List ℕ) → AreLeased leased (for_writing js) → (i : ℕ) → contains js i ≡ true → leased i Write ≡ true
@@ -295,23 +263,6 @@ module _ (s : StateValue) (c : ℕ) (op : Op) (shape : IsShaped s) (holds : ∥ 
       past_visits (served s c) next.visits (for_writing (touched next.effects)) visited.visited
       ∙ subst (λ t. first_missing (served s c) (for_writing (touched t.effects)) ≡ Some (i, Write)) visited.step lacked
 
-  -- a lease that is missing
-  module _ (i : ℕ) (mode : Mode) (first : first_missing (served s c) (wants next) ≡ Some (i, mode)) where
-    unserved_now : served s c i mode ≡ false
-    unserved_now = first_unserved (served s c) (wants next) (i, mode) first
-
-    pub lacks : IsMissing w (leases_of s) (next_call w c op) i mode
-    lacks =
-        let found = wanted (served s c) next.visits (touched next.effects) i mode first in
-        record {
-          needed =
-              elim found [
-                | inl visited ↦ subst (λ m. IsNeeded w (next_call w c op) i m) (sym visited.0) visited.1
-                | inr changed ↦ subst (λ m. IsNeeded w (next_call w c op) i m) (sym changed.0) changed.1
-              ];
-          unserved = unserved_now;
-        }
-
   -- ---- a lease is granted
 
   module _ (i : ℕ) (mode : Mode) (levels : TwoLevels) (first : first_missing (served s c) (wants next) ≡ Some (i, mode)) (free : is_free_for s.levels c (client_in s.clients c).home i mode ≡ true)
@@ -336,7 +287,7 @@ module _ (s : StateValue) (c : ℕ) (op : Op) (shape : IsShaped s) (holds : ∥ 
 
     pub goes_on : (a : Answer) (m' : Machine) → Calling (observed s') c op a m' → Calling (observed s) c op a m'
     unfolding observed
-    goes_on a m' e = granted_first (observed s) (world_of s') (leases_of s') c op i mode (lacks i mode first) grants (areas_stay s s' refl) fine a m' e
+    goes_on a m' e = granted_first (observed s) (world_of s') (leases_of s') c op i mode first grants (areas_stay s s' refl) fine a m' e
 
     pub fine_then : call_fault (observed s') c op ≡ None
     unfolding observed world_of

@@ -15,7 +15,7 @@ use Rattle.assise_machine_calls.specs.Answers.{turn_answer}
 use Rattle.assise_machine_calls.specs.Leasing.{next_step, step_in}
 use Rattle.assise_machine_calls.proofs.Committing.{call_made, call_number, call_unfailed}
 use Rattle.assise_machine_calls.proofs.Leasing.{home_known}
-use Rattle.assise_machine_calls.proofs.Trying.{awaited, fewer_then, fine_then, goes_on, holds_then, lacking_as, lacks, lacks_visit, noted_then, planned_now, visited_now, same_levels, served, shape_then}
+use Rattle.assise_machine_calls.proofs.Trying.{awaited, fewer_then, fine_then, goes_on, holds_then, lacking_as, lacks_visit, noted_then, planned_now, visited_now, same_levels, served, shape_then}
 use Rattle.assise_machine_calls.proofs.Wanting.{unserved}
 use Rattle.assise_machine_calls.proofs.calling.+call.Goals as goal
 
@@ -79,7 +79,7 @@ returns-then-not-is_free-clause-happens g t c =
     c.in_ok-reply.ensures.exact c.view-view.ensures.client (ap (λ l. (levels_of l).clients) c.view-view.ensures.leases) c.view-view.ensures.inodes in
     let plan = lacks_visit s c.args.client c.args.op.now c.requires.shape c.requires.holds c.requires.fine c.in-Missing.inode c.in-Missing.mode (sym planned ∙ ap shown c.in-Missing.is) in
     awaited (observed s) (machine_of c.ask.new.state) c.args.client c.args.op.now c.in-Missing.inode c.in-Missing.mode c.home-home.result c.requires.fine
-    (lacks s c.args.client c.args.op.now c.requires.shape c.requires.holds c.requires.fine c.in-Missing.inode c.in-Missing.mode plan) c.in_ok-ask-in-Missing.ensures.ok
+    plan c.in_ok-ask-in-Missing.ensures.ok
 
 pub grant-requires-clause-at_home : goal.grant-requires-clause-at_home
 grant-requires-clause-at_home g t c =

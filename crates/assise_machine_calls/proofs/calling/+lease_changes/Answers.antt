@@ -13,7 +13,7 @@ use Rattle.assise_machine_state.specs.Whole.{machine_of, value_of}
 use Rattle.assise_machine_calls.specs.Leasing.{next_step, step_in}
 use Rattle.assise_machine_calls.proofs.Committing.{call_number, call_unfailed}
 use Rattle.assise_machine_calls.proofs.Leasing.{home_known}
-use Rattle.assise_machine_calls.proofs.Trying.{all_onward, awaited, fewer_then, fine_then, goes_on, holds_then, lacked_now, lacking_as, lacks, lacks_change, noted_then, ready_now, refused_onward, same_levels, served, shape_then, visited_then, waits_onward}
+use Rattle.assise_machine_calls.proofs.Trying.{all_onward, awaited, fewer_then, fine_then, goes_on, holds_then, lacked_now, lacking_as, lacks_change, noted_then, ready_now, refused_onward, same_levels, served, shape_then, visited_then, waits_onward}
 use Rattle.assise_machine_calls.proofs.Wanting.{unserved}
 use Rattle.assise_machine_calls.proofs.calling.+lease_changes.Goals as goal
 
@@ -56,7 +56,7 @@ returns-then-not-is_free-clause-waits g t c = λ is.
     (lacked_now s c.args.client c.args.op.now c.requires.shape c.requires.holds c.requires.fine (Some (c.in-Some.inode, Write)) c.view-view.result.client (levels_of c.view-view.result.leases.now).clients c.deref.result.now c.args.outcome.now.effects.items
     c.in-Some.ensures c.view-view.ensures.client (ap (λ l. (levels_of l).clients) c.view-view.ensures.leases) c.deref.ensures.value) in
     awaited (observed s) (machine_of c.ask.new.state) c.args.client c.args.op.now c.in-Some.inode Write c.home.result c.requires.fine
-    (lacks s c.args.client c.args.op.now c.requires.shape c.requires.holds c.requires.fine c.in-Some.inode Write lack) c.in_ok-ask.ensures.ok
+    lack c.in_ok-ask.ensures.ok
 
 pub grant-requires-clause-at_home : goal.grant-requires-clause-at_home
 grant-requires-clause-at_home g t c =
