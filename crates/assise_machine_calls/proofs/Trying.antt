@@ -1,5 +1,5 @@
 -- A call that is tried: what it finds, what it lacks, and what it comes to.
-use Rattle.std.proofs.Common.{◌≡◌, ℕ, ◌<◌, true, false, not, ◌&&◌, ◌||◌, ◌==◌, if◌then◌else◌, ◌⊎◌, List, [], ◌∷◌, ◌++◌, Option, Some, None, Bool, Result, Ok, Err, IfOk, IfErr, inl, inr, refl, ap, sym, subst, ◌∙◌, append-nil, eq-eqb}
+use Rattle.std.proofs.Common.{◌≡◌, ℕ, ◌<◌, true, false, not, ◌&&◌, ◌||◌, ◌==◌, List, [], ◌∷◌, ◌++◌, Option, Some, None, Bool, Result, Ok, Err, IfOk, IfErr, inl, inr, refl, ap, sym, subst, ◌∙◌, append-nil, eq-eqb}
 use Rattle.std.proofs.Math.Logic.{∥∥₁_elim, ∥∥₁_map}
 use Rattle.std.proofs.lemmas.Bool.{cases_Bool, cases_eq, and_parts, ne_eqb, not-true, or_right}
 use Rattle.std.specs.Coded.{Coded-set, coded_option}
@@ -25,6 +25,8 @@ use Rattle.assise_inode_table.specs.Numbers.{inode_number}
 use Rattle.assise_lease_table.specs.declared.lease.Lease.{Lease}
 use Rattle.assise_lease_table.specs.Leases.{lease_of, new_lease, serves}
 use Rattle.assise_lease_table.specs.Modes.{strong, stronger}
+use Rattle.assise_lease_table.specs.Tables.{SameRevokers}
+use Rattle.assise_private_log.specs.NumberedLog.{NumberedLog}
 use Rattle.assise_lease_tree.proofs.Lookups.{with_own}
 use Rattle.assise_lease_tree.specs.Levels.{clients_granted, in_way, is_frozen, raised}
 use Rattle.assise_lease_tree.specs.TwoLevels.{IsGranted, SameLevels, TwoLevels, is_free_for}
@@ -48,8 +50,9 @@ use Rattle.assise_machine_state.proofs.Noted.{leases_noted}
 use Rattle.assise_machine_state.proofs.Reading.{read_at_home}
 use Rattle.assise_machine_state.proofs.Seeing.{client_is}
 use Rattle.assise_machine_state.proofs.ShapedClients.{areas_stay, leases_held}
-use Rattle.assise_machine_calls.specs.Asked.{AsksThem}
+use Rattle.assise_machine_calls.specs.Asked.{AsksThem, CutsAreAnswers}
 use Rattle.assise_machine_calls.specs.Leasing.{HasAll, IsReady, IsVisited, next_call, next_step}
+use Rattle.assise_machine_calls.proofs.AnsweredCuts.{SameFrozen as SameFrozenLeases, frozen_later}
 use Rattle.assise_machine_calls.proofs.Committing.{call_client, call_number}
 use Rattle.assise_machine_calls.proofs.Granted.{granted_first}
 use Rattle.assise_machine_calls.proofs.Wanting.{fewer, unserved}
@@ -190,6 +193,11 @@ own_unfrozen t c n i mode free =
 pub same_levels : (old new : TwoLevels) → SameLevels old new → new ≡ old
 same_levels old new e = λ k. record { home = λ c. e.home c k; clients = λ i. e.clients i k; nodes = λ i. e.nodes i k }
 
+-- with the same levels the same leases are frozen
+pub same_levels_frozen : (s : StateValue) (levels : TwoLevels) → levels ≡ s.levels → SameFrozenLeases (observed s).leases (observed (after_leases s levels)).leases
+unfolding observed leases_of
+same_levels_frozen s levels same d i = ap (λ l. is_frozen (lease_of (l.clients i) d)) same
+
 -- ---- a client that may call
 
 module _ (s : StateValue) (c : ℕ) (op : Op) (shape : IsShaped s) (holds : ∥ Holds (observed s) ∥₁) (fine : call_fault (observed s) c op ≡ None) where
@@ -302,6 +310,16 @@ module _ (s : StateValue) (c : ℕ) (op : Op) (shape : IsShaped s) (holds : ∥ 
     frozen_same : SameFrozen s levels
     frozen_same = same_frozen s.levels levels c (client_in s.clients c).home i mode granted (own_unfrozen s.levels c (client_in s.clients c).home i mode free)
 
+    -- whom it asks from there on, it asks
+    pub cuts_then : {C : Type 0} (answers : C → NumberedLog → ℕ → ℕ → Type 0) (stored kept : ℕ → Option C) (m' : Machine) → SameRevokers stored kept →
+        CutsAreAnswers answers kept (observed s') m' → CutsAreAnswers answers stored (observed s) m'
+    unfolding observed world_of leases_of own_seen
+    cuts_then answers stored kept m' same cuts = frozen_later answers stored kept (observed s) (observed s') m' (λ d j. frozen_same d j) (λ d. refl) same cuts
+
+    pub unfrozen_then : SameFrozenLeases (observed s).leases (observed s').leases
+    unfolding observed leases_of
+    unfrozen_then d j = frozen_same d j
+
     pub noted_then : AreNoted s → AreNoted s'
     noted_then noted = leases_noted s levels noted frozen_same
 
@@ -324,11 +342,11 @@ module _ (s : StateValue) (c : ℕ) (op : Op) (shape : IsShaped s) (holds : ∥ 
 
 -- what comes of a call after a lease comes of it before
 module _ (old m m' : Machine) (c : ℕ) (op : Op) (r : Result Bool Refusal) (onward : (a : Answer) (last : Machine) → Calling m c op a last → Calling old c op a last) where
-  pub all_onward : (s : Step) → IfOk r (λ all. all ≡ true → HasAll m c op s m') → IfOk r (λ all. all ≡ true → HasAll old c op s m')
-  all_onward s had = go r had
+  pub all_onward : (s : Step) → SameFrozenLeases old.leases m.leases → IfOk r (λ all. all ≡ true → HasAll m c op s m') → IfOk r (λ all. all ≡ true → HasAll old c op s m')
+  all_onward s same had = go r had
     where
       go : (r : Result Bool Refusal) → IfOk r (λ all. all ≡ true → HasAll m c op s m') → IfOk r (λ all. all ≡ true → HasAll old c op s m')
-      go (Ok all) had = λ is. record { fine = (had is).fine; holds = (had is).holds; ready = (had is).ready; onward = λ a last e. onward a last ((had is).onward a last e) }
+      go (Ok all) had = λ is. record { fine = (had is).fine; holds = (had is).holds; ready = (had is).ready; unfrozen = λ d i. (had is).unfrozen d i ∙ same d i; onward = λ a last e. onward a last ((had is).onward a last e) }
       go (Err e) had = tt
 
   pub waits_onward : IfOk r (λ all. all ≡ false → Calling m c op not_yet m') → IfOk r (λ all. all ≡ false → Calling old c op not_yet m')
