@@ -1,15 +1,16 @@
 -- What a node sends of a client's log, as the laws have it.
-use Rattle.std.proofs.Common.{append-nil, ◌≡◌, ℕ, zero, suc, ◌-◌, ◌<◌, ◌≤◌, ◌==◌, min, Bool, true, List, [], ◌∷◌, ◌++◌, filter, length, nat_le, nat_lt, Option, Some, None, inl, inr, refl, ap, sym, ◌∙◌, arith, eq-eqb}
+use Rattle.std.proofs.Common.{append-nil, false, true≢false, subst, length-append, ◌≡◌, ℕ, zero, suc, ◌-◌, ◌<◌, ◌≤◌, ◌==◌, min, Bool, true, List, [], ◌∷◌, ◌++◌, filter, length, nat_le, nat_lt, Option, Some, None, inl, inr, refl, ap, sym, ◌∙◌, arith, eq-eqb}
 use Rattle.std.specs.Option.{option_to_list}
 use Rattle.std.proofs.Math.Logic.{∥∥₁_elim}
 use Rattle.std.proofs.Props.{props}
-use Rattle.std.proofs.lemmas.Bool.{and_parts, cases_Bool, eqb-true, or_cases, or_left, or_right}
+use Rattle.std.proofs.lemmas.Bool.{and_parts, cases_Bool, cases_eq, eqb-true, or_cases, or_left, or_right}
 use Rattle.std.proofs.lemmas.Map.Views.{any-filter_same}
 use Rattle.assise_names.specs.declared.refusal.Refusal.TheVariants.{WrongPhase}
 use Rattle.assise_record.specs.LogFrame.{LogFrame}
 use Rattle.assise_private_log.specs.NumberedLog.{end as log_end}
 use Rattle.assise_chain.specs.Chains.{behind, chain, first_of_all}
-use Rattle.assise_chain.specs.Messages.{message_of}
+use Rattle.assise_record.specs.LogRecord.{LogRecord}
+use Rattle.assise_chain.specs.Messages.{frame_of, message_of}
 use Rattle.assise_inode_table.specs.Effects.{contains}
 use Rattle.assise_inode_table.proofs.Making.{contains-append}
 use Rattle.assise_manager.specs.Standings.{Standing, down, full, full_nodes, returning, standing_of}
@@ -155,3 +156,37 @@ module _ (m : Machine) (n c : ℕ) (frames more : List (LogFrame × ℕ)) (one :
 
     pub without_frame : one ≡ None → more ≡ frames → more ≡ frames_to m n c
     without_frame none same = one_more (same ∙ sym (append-nil frames) ∙ ap (λ o. frames ++ option_to_list o) (sym none))
+
+-- ---- there is something to send
+
+-- a frame without records isn't sent
+pub nothing_sent : (k epoch c first : ℕ) (rs : List LogRecord) → for_node k (frame_of epoch c first rs) ≡ [] → rs ≡ []
+nothing_sent k epoch c first [] none = refl
+nothing_sent k epoch c first (r ∷ rs) none = cc
+
+-- nor is it refused then
+pub never : {P : Type 0} → (P → false ≡ true) → P → ⊥
+never shows p = true≢false (sym (shows p))
+
+-- where a frame is sent it is one
+pub is_one : {X : Type 0} {x : X} {xs : List X} → x ∷ [] ≡ xs → xs ≡ [] → ⊥
+is_one one none = (let both = one ∙ none in cc)
+
+some_long : {X : Type 0} (xs : List X) → (xs ≡ [] → ⊥) → 0 < length xs
+some_long [] some = absurd (some refl)
+some_long (x ∷ xs) some = omega arith
+
+-- what is sent of one client is sent of all
+pub some_frames : (m : Machine) (n c k : ℕ) → 0 < c → c ≤ k → (frame_for m n c (next_node m n c) ≡ [] → ⊥) → 0 < length (frames_to m n k)
+some_frames m n c zero client low some = absurd (omega (arith, client, low))
+some_frames m n c (suc k) client low some =
+    let both = length-append (frames_to m n k) (frame_for m n (suc k) (next_node m n (suc k))) in
+    elim (cases_eq c (suc k)) [
+      | inl last ↦
+          let here : 0 < length (frame_for m n (suc k) (next_node m n (suc k))) = subst (λ d. 0 < length (frame_for m n d (next_node m n d))) last (some_long (frame_for m n c (next_node m n c)) some) in
+          omega (arith, both, here)
+      | inr before ↦
+          let below : c ≤ k = omega (arith, low, before) in
+          let there = some_frames m n c k client below some in
+          omega (arith, both, there)
+    ]

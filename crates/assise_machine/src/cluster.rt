@@ -54,6 +54,7 @@ impl<C: Revokes + Drop> ClusterOf<C> {
     ghost use Rattle.assise_machine_events.specs.MemberEvents.{Failing, Joining, Refilling, Returning};
     ghost use Rattle.assise_machine_events.specs.NodeEvents.{Delivering, Digesting, Releasing, Sending};
     ghost use Rattle.assise_machine_calls.specs.Answers.{crashing_answer, opening_answer, turn_answer};
+    ghost use Rattle.assise_machine_calls.specs.Asked.{CutsAreAnswers};
     ghost use Rattle.assise_machine_failures.specs.Answers.{failing_answer, joining_answer, refilling_answer, returning_answer};
     ghost use Rattle.assise_machine.specs.Answers.{delivery_answer, digesting_answer, sending_answer};
     ghost use Rattle.assise_machine.specs.Clusters.{AreAcked, machine, region_of, revokers};
@@ -93,6 +94,7 @@ impl<C: Revokes + Drop> ClusterOf<C> {
     /// Tries a client's call, as [`try_call`](fn@try_call) says.
     pub fn try_call(&mut self, alloc: Global, client: u32, op: &Op) -> Result<Turn, Refusal>
         ensures happens { Trying (machine self.old) client op.now (turn_answer result) (machine self.new) }
+        ensures cuts { CutsAreAnswers C.answers (revokers self.old) (machine self.old) (machine self.new) }
         ensures revokers { SameRevokers (revokers self.old) (revokers self.new) }
     {
         try_call(alloc, &mut self.sound, client, op)

@@ -1,9 +1,11 @@
 // Lists of events.
 ghost use Rattle.std.specs.Option.{option_to_list};
 ghost use Rattle.std.specs.Prelude.{◌≡◌, ◌-◌, ◌≤◌, ◌++◌, ℕ, Contains, IfOk, IsOkUnless, OnErr, OnOk, length, take};
+ghost use Rattle.assise_names.specs.declared.call.Op.{Op};
 ghost use Rattle.assise_names.specs.declared.refusal.Refusal.TheVariants.{OutOfMemory};
 ghost use Rattle.assise_lease_table.specs.Tables.{SameRevokers};
-ghost use Rattle.assise_machine_events.specs.Events.{all_entries, open_client, opened};
+ghost use Rattle.assise_machine_calls.specs.Asked.{CutsAreAnswers};
+ghost use Rattle.assise_machine_events.specs.Events.{all_entries, open_client, opened, try_call};
 ghost use Rattle.assise_machine.specs.Clusters.{machine, revokers};
 ghost use Rattle.assise_machine.specs.Headline.{history_after, history_of, kept_below, regions_of, replicated_calls, replicated_to};
 ghost use Rattle.assise_machine.specs.Running.{AllServed, IsServed, all_opened, answer_seen, event_seen, last_first, opened_answer, stock_after, stock_left, told};
@@ -59,7 +61,8 @@ pub fn run<C: Revokes + Drop>(
     Ok(answers)
 }
 
-/// One event with its answer. A client that is opened is asked by the last revoker of the stock, and all others as before.
+/// One event with its answer. A client that is opened is asked by the last revoker of the stock, and all others as before. Where a
+/// call freezes a lease, its cut is what the revoker that its holder stored answers.
 pub fn apply_event<C: Revokes + Drop>(
     alloc: Global,
     cluster: &mut ClusterOf<C>,
@@ -71,6 +74,7 @@ pub fn apply_event<C: Revokes + Drop>(
     ensures front { stock.new.items ≡ take (length stock.new.items) stock.old.items }
     ensures gets { (c : ℕ) → answer_seen result ≡ opened c → stock.old.items ≡ stock.new.items ++ option_to_list (revokers cluster.new c) }
     ensures others { (c : ℕ) → (answer_seen result ≡ opened c → ⊥) → revokers cluster.new c ≡ revokers cluster.old c }
+    ensures cuts { (c : ℕ) (op : Op) → event_seen event.now ≡ try_call c op → CutsAreAnswers C.answers (revokers cluster.old) (machine cluster.old) (machine cluster.new) }
 {
     match event {
         Event::Open(node) => Answer::Opened(open_next(alloc, cluster, *node, stock)),

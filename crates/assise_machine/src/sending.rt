@@ -1,5 +1,5 @@
 // Frames that a node sends.
-ghost use Rattle.std.specs.Prelude.{◌≡◌, IfOk, IsOkUnless, true};
+ghost use Rattle.std.specs.Prelude.{◌≡◌, [], IfOk, IsOk, IsOkUnless, true};
 ghost use Rattle.std.specs.Option.{option_to_list};
 ghost use Rattle.assise_names.specs.declared.refusal.Refusal.TheVariants.{OutOfMemory};
 ghost use Rattle.assise_machine_events.specs.Machine.{Holds};
@@ -45,7 +45,7 @@ pub fn outgoing<C: Revokes + Drop>(
 }
 
 /// The frame of a client's records that a full node sends, with the node that it is for: none, where no node stands behind it in
-/// the client's chain, or that one lacks nothing. The one refusal is [`Refusal::OutOfMemory`].
+/// the client's chain, or that one lacks nothing. The one refusal is [`Refusal::OutOfMemory`], which never comes then.
 fn frame_of<C: Revokes + Drop>(
     alloc: Global,
     state: &StateOf<C>,
@@ -58,6 +58,7 @@ fn frame_of<C: Revokes + Drop>(
     requires shape { IsShaped (value_of state.now) }
     ensures frame { IfOk result (λ frame. option_to_list frame ≡ frame_for (machine_of state.now) node client (next_node (machine_of state.now) node client)) }
     ensures only_memory { IsOkUnless result OutOfMemory }
+    ensures nothing_asked { frame_for (machine_of state.now) node client (next_node (machine_of state.now) node client) ≡ [] → IsOk result }
 {
     let known = state.clients.get(client);
     let Some(next) = successor(state.members.full_nodes(), known.home(), node) else {

@@ -1,4 +1,4 @@
--- Those who are asked for their leases are lent their own logs, and their answers cover there.
+-- Those who are asked for their leases are lent their own logs, and their revokers answer cuts of these.
 use Rattle.std.proofs.Common.{◌≡◌, ℕ, ◌-◌, ◌<◌, ◌≤◌, nat_le, Bool, true, false, not, ◌&&◌, if◌then◌else◌, List, [], ◌∷◌, ◌++◌, filter, length, Option, Some, None, inl, inr, refl, ap, sym, subst, ◌∙◌, arith, append-nil}
 use Rattle.std.proofs.lemmas.Bool.{and_parts, cases_Bool, le-leb, leb-true, true≢false}
 use Rattle.std.proofs.lemmas.List.{length-map, length-set}
@@ -26,13 +26,13 @@ use Rattle.assise_machine_state.specs.Observed.{observed, own_node, own_seen, wo
 use Rattle.assise_machine_state.specs.Places.{IsNumber}
 use Rattle.assise_machine_state.specs.Shape.{AreAnswers, AreNoted, IsShaped}
 use Rattle.assise_machine_state.specs.StateValues.{StateValue, leases_of, standings}
-use Rattle.assise_machine_state.proofs.AskingSeen.{asking_noted, asking_seen, asking_shaped}
+use Rattle.assise_machine_state.proofs.AskingSeen.{asking_noted, asking_seen, asking_shaped, newly_answered}
 use Rattle.assise_machine_state.proofs.Fullness.{log_is}
 use Rattle.assise_machine_state.proofs.Noted.{running_number}
 use Rattle.assise_machine_state.proofs.Owning.{own_log as has_own_log}
 use Rattle.assise_machine_state.proofs.Seeing.{client_is}
 use Rattle.assise_machine_state.proofs.ShapedClients.{areas_stay}
-use Rattle.assise_machine_calls.specs.Asked.{AsksThem, own_log}
+use Rattle.assise_machine_calls.specs.Asked.{AsksThem, CutsAreAnswers, log_of, own_log}
 use Rattle.assise_machine_calls.proofs.Fsyncing.{fine_number}
 use Rattle.assise_machine_calls.proofs.Leasing.{are_leases}
 
@@ -110,6 +110,20 @@ module _ {C : Type 0} (answers : C → NumberedLog → ℕ → ℕ → Type 0) (
       let known = lent_to s.nodes (standings s) s.clients a.client answer.view answer.seen in
       subst (λ l. Covers l i a.cut) (known.1 ∙ own_is a.client known.0) answer.covers
 
+  -- what its revoker answered for its own log
+  log_lent : (d : ℕ) → IsNumber s.clients d → (log_in s.nodes (own_node (standings s) (client_in s.clients d)) d).log ≡ log_of (observed s) d
+  unfolding observed world_of
+  log_lent d there =
+      let own = own_is d there in
+      let limit = shape.limits (own_node (standings s) (client_in s.clients d)) d (has_own_log s d shape there some_full) in
+      λ k. record { first = (own k).first; limit = limit k; records = (own k).records }
+
+  cut_answered : (a : Asked) → Among asked a → (revoker : C) × (stored a.client ≡ Some revoker) × answers revoker (log_of (observed s) a.client) i a.cut
+  cut_answered a among =
+      let answer = all.each a among in
+      let known = lent_to s.nodes (standings s) s.clients a.client answer.view answer.seen in
+      (answer.revoker, answer.stored, subst (λ l. answers answer.revoker l i a.cut) (known.1 ∙ log_lent a.client known.0) answer.answered)
+
   pub are_answers : AreAnswers s c i mode asked
   are_answers = record {
     who = all.who ∙ ap (λ m. holders (filter (is_to_ask (in_way s.levels.home (s.levels.nodes i) c m mode)) (s.levels.clients i))) home;
@@ -160,8 +174,27 @@ module _ {C : Type 0} (answers : C → NumberedLog → ℕ → ℕ → Type 0) (
     (holds : ∥ Holds (observed s) ∥₁) (shape : IsShaped s) (noted : AreNoted s) (some_full : 0 < length (full_nodes (standings s))) (fine : client_fault (observed s) r.client ≡ None)
     (home : r.node ≡ (client_in s.clients r.client).home) (busy : is_free_for s.levels r.client r.node r.inode r.mode ≡ false) (asks : IsAskedFor s.levels levels r.client r.node r.inode r.mode)
     (all : AnswerAll answers stored (own_log s.nodes (standings s) s.clients) r.inode (in_way s.levels.home (s.levels.nodes r.inode) r.client r.node r.mode) (s.levels.clients r.inode) asked) where
+  home_seen : r.node ≡ (client_seen s.clients r.client).home
+  home_seen = home ∙ ap (λ x. x.home) (sym (client_is s.clients r.client (fine_number s r.client fine)))
+
   here : AreAnswers s r.client r.inode r.mode asked
-  here = are_answers answers stored s r.client r.inode r.node r.mode asked shape some_full (home ∙ ap (λ x. x.home) (sym (client_is s.clients r.client (fine_number s r.client fine)))) all
+  here = are_answers answers stored s r.client r.inode r.node r.mode asked shape some_full home_seen all
+
+  -- and what is frozen has as its cut what was answered
+  cuts_asked : CutsAreAnswers answers stored (observed s) (observed (after_asking s levels asked))
+  unfolding observed
+  cuts_asked d j fresh =
+      let asks_home : IsAskedFor s.levels levels r.client (client_seen s.clients r.client).home r.inode r.mode = subst (λ m. IsAskedFor s.levels levels r.client m r.inode r.mode) home_seen asks in
+      let found = newly_answered s r.client r.inode r.mode levels asked noted (are_leases s holds) asks_home here d j fresh in
+      let a = found.1 in
+      let got = cut_answered answers stored s r.client r.inode r.node r.mode asked shape some_full home_seen all a.0 a.1 in
+      let cut = (leases_of (after_asking s levels asked)).cut in
+      let at_cut : answers got.0 (log_of (observed s) a.0.client) r.inode (cut d r.inode) = subst (λ k. answers got.0 (log_of (observed s) a.0.client) r.inode k) (sym a.3) got.2 in
+      let of_holder : answers got.0 (log_of (observed s) d) r.inode (cut d r.inode) = subst (λ c. answers got.0 (log_of (observed s) c) r.inode (cut d r.inode)) a.2 at_cut in (
+        got.0,
+        subst (λ c. stored c ≡ Some got.0) a.2 got.1,
+        subst (λ k. answers got.0 (log_of (observed s) d) k (cut d k)) (sym found.0) of_holder,
+      )
 
   all_asked : IsAsked s r (after_asking s levels asked)
   all_asked = record {
@@ -176,6 +209,13 @@ module _ {C : Type 0} (answers : C → NumberedLog → ℕ → ℕ → Type 0) (
       let clients : with_goals asked s.clients ≡ cs = sym (goals ∙ ap (λ xs. with_goals xs s.clients) left) in
       let list : s.cuts ++ asked ≡ cuts = sym (noted_now ∙ (λ k. kept k ++ left k)) in
       subst (IsAsked s r) (λ k. record s { clients = clients k; levels = levels; cuts = list k }) all_asked
+
+  pub cuts_in : (cs : List ClientValue) (before cuts rest : List Asked) → rest ≡ asked → before ≡ s.cuts → cs ≡ with_goals rest s.clients → cuts ≡ before ++ rest →
+      CutsAreAnswers answers stored (observed s) (observed (record s { clients = cs; levels = levels; cuts = cuts }))
+  cuts_in cs before cuts rest left kept goals noted_now =
+      let clients : with_goals asked s.clients ≡ cs = sym (goals ∙ ap (λ xs. with_goals xs s.clients) left) in
+      let list : s.cuts ++ asked ≡ cuts = sym (noted_now ∙ (λ k. kept k ++ left k)) in
+      subst (λ t. CutsAreAnswers answers stored (observed s) (observed t)) (λ k. record s { clients = clients k; levels = levels; cuts = list k }) cuts_asked
 
 -- with the next client's goal raised there are the same clients
 pub still_known : (cs ds : List ClientValue) (c to : ℕ) → ds ≡ with_client cs c (with_goal to (client_in cs c)) → (d : ℕ) → IsNumber cs d → IsNumber ds d

@@ -36,7 +36,7 @@ module _ (m : Machine) (w : World) (l : Leases) (c : ℕ) (op : Op) (i : ℕ) (m
   same_call reply = λ k. record { client = c; number = grants.holds.logs.next c k; op = op; reply = reply; fresh = inode_number c (grants.holds.logs.made c k) }
 
   got_first : (reply : Reply) (gs : List Granted) → Gets (before reply) w l gs → Gets (before reply) m.world m.leases (granted ∷ gs)
-  got_first reply gs gets = (record { needed = missing.needed; unserved = missing.unserved }, grants, others, gets)
+  got_first reply gs gets = (missing, grants, others, gets)
 
   tried_first : (reply : Reply) (gs : List Granted) → Gets (before reply) w l gs → IsTried m (before reply) (granted ∷ gs)
   tried_first reply gs gets = record { fine = fine; next = refl; fresh = refl; gets = got_first reply gs gets }

@@ -7,6 +7,7 @@ pub mod Committing
 pub mod Granted
 pub mod Wanting
 pub mod Leasing
+pub mod AnsweredCuts
 pub mod Answering
 pub mod Trying
 pub mod Releasing

@@ -1,5 +1,5 @@
 -- A call that is tried: what it finds, what it lacks, and what it comes to.
-use Rattle.std.proofs.Common.{◌≡◌, ℕ, ◌<◌, true, false, not, ◌&&◌, ◌||◌, ◌==◌, if◌then◌else◌, ◌⊎◌, List, [], ◌∷◌, ◌++◌, Option, Some, None, Bool, Result, Ok, Err, IfOk, IfErr, inl, inr, refl, ap, sym, subst, ◌∙◌, append-nil, eq-eqb}
+use Rattle.std.proofs.Common.{◌≡◌, ℕ, ◌<◌, true, false, not, ◌&&◌, ◌||◌, ◌==◌, List, [], ◌∷◌, ◌++◌, Option, Some, None, Bool, Result, Ok, Err, IfOk, IfErr, inl, inr, refl, ap, sym, subst, ◌∙◌, append-nil, eq-eqb}
 use Rattle.std.proofs.Math.Logic.{∥∥₁_elim, ∥∥₁_map}
 use Rattle.std.proofs.lemmas.Bool.{cases_Bool, cases_eq, and_parts, ne_eqb, not-true, or_right}
 use Rattle.std.specs.Coded.{Coded-set, coded_option}
@@ -25,13 +25,15 @@ use Rattle.assise_inode_table.specs.Numbers.{inode_number}
 use Rattle.assise_lease_table.specs.declared.lease.Lease.{Lease}
 use Rattle.assise_lease_table.specs.Leases.{lease_of, new_lease, serves}
 use Rattle.assise_lease_table.specs.Modes.{strong, stronger}
+use Rattle.assise_lease_table.specs.Tables.{SameRevokers}
+use Rattle.assise_private_log.specs.NumberedLog.{NumberedLog}
 use Rattle.assise_lease_tree.proofs.Lookups.{with_own}
 use Rattle.assise_lease_tree.specs.Levels.{clients_granted, in_way, is_frozen, raised}
 use Rattle.assise_lease_tree.specs.TwoLevels.{IsGranted, SameLevels, TwoLevels, is_free_for}
 use Rattle.assise_machine_laws.specs.World.{World, ahead, view}
 use Rattle.assise_machine_leases.specs.Handing.{Grants}
 use Rattle.assise_machine_leases.specs.Leases.{client_lease}
-use Rattle.assise_machine_events.specs.ClientEvents.{Calling, IsMissing, IsNeeded, is_awaited, lacks_memory}
+use Rattle.assise_machine_events.specs.ClientEvents.{Calling, IsMissing, is_awaited, lacks_memory}
 use Rattle.assise_machine_events.specs.Events.{Answer, not_yet, refused}
 use Rattle.assise_machine_events.specs.Faults.{call_fault}
 use Rattle.assise_machine_events.specs.Happenings.{Trying}
@@ -48,11 +50,12 @@ use Rattle.assise_machine_state.proofs.Noted.{leases_noted}
 use Rattle.assise_machine_state.proofs.Reading.{read_at_home}
 use Rattle.assise_machine_state.proofs.Seeing.{client_is}
 use Rattle.assise_machine_state.proofs.ShapedClients.{areas_stay, leases_held}
-use Rattle.assise_machine_calls.specs.Asked.{AsksThem}
+use Rattle.assise_machine_calls.specs.Asked.{AsksThem, CutsAreAnswers}
 use Rattle.assise_machine_calls.specs.Leasing.{HasAll, IsReady, IsVisited, next_call, next_step}
+use Rattle.assise_machine_calls.proofs.AnsweredCuts.{SameFrozen as SameFrozenLeases, frozen_later}
 use Rattle.assise_machine_calls.proofs.Committing.{call_client, call_number}
 use Rattle.assise_machine_calls.proofs.Granted.{granted_first}
-use Rattle.assise_machine_calls.proofs.Wanting.{fewer, first_unserved, unserved}
+use Rattle.assise_machine_calls.proofs.Wanting.{fewer, unserved}
 
 -- ---- nothing is granted
 
@@ -96,38 +99,6 @@ in_rest j is i rest = or_right (j == i) (contains is i) rest
 
 in_front : (j : ℕ) (is : List ℕ) (i : ℕ) → j ≡ i → contains (j ∷ is) i ≡ true
 in_front j is i same = rw (eq-eqb j i same) refl
-
-some_same : (p q : ℕ × Mode) → Some p ≡ Some q → p ≡ q
-some_same p q e = cc
-
-wanted_writing : (leased : Leased) (js : List ℕ) (i : ℕ) (mode : Mode) → first_missing leased (for_writing js) ≡ Some (i, mode) → (mode ≡ Write) × (contains js i ≡ true)
-wanted_writing leased [] i mode e = absurd (let none : None ≡ Some (i, mode) = e in cc)
-wanted_writing leased (j ∷ js) i mode e =
-    elim (cases_Bool (leased j Write)) [
-      | inl had ↦
-          let rest = wanted_writing leased js i mode (subst (λ b. (if b then first_missing leased (for_writing js) else Some (j, Write)) ≡ Some (i, mode)) had e) in
-          (rest.0, in_rest j js i rest.1)
-      | inr lacked ↦
-          let here : Some (j, Write) ≡ Some (i, mode) = subst (λ b. (if b then first_missing leased (for_writing js) else Some (j, Write)) ≡ Some (i, mode)) lacked e in
-          let pair : (j, Write) ≡ (i, mode) = some_same (j, Write) (i, mode) here in
-          (sym (ap (λ p. p.1) pair), in_front j js i (ap (λ p. p.0) pair))
-    ]
-
-wanted : (leased : Leased) (is js : List ℕ) (i : ℕ) (mode : Mode) → first_missing leased (for_reading is ++ for_writing js) ≡ Some (i, mode) →
-    ((mode ≡ Read) × (contains is i ≡ true)) ⊎ ((mode ≡ Write) × (contains js i ≡ true))
-wanted leased [] js i mode e = inr (wanted_writing leased js i mode e)
-wanted leased (j ∷ is) js i mode e =
-    elim (cases_Bool (leased j Read)) [
-      | inl had ↦
-          elim (wanted leased is js i mode (subst (λ b. (if b then first_missing leased (for_reading is ++ for_writing js) else Some (j, Read)) ≡ Some (i, mode)) had e)) [
-            | inl visited ↦ inl (visited.0, in_rest j is i visited.1)
-            | inr changed ↦ inr changed
-          ]
-      | inr lacked ↦
-          let here : Some (j, Read) ≡ Some (i, mode) = subst (λ b. (if b then first_missing leased (for_reading is ++ for_writing js) else Some (j, Read)) ≡ Some (i, mode)) lacked e in
-          let pair : (j, Read) ≡ (i, mode) = some_same (j, Read) (i, mode) here in
-          inl (sym (ap (λ p. p.1) pair), in_front j is i (ap (λ p. p.0) pair))
-    ]
 
 -- what is all leased serves for each
 serves_writing : (leased : Leased) (js : List ℕ) → AreLeased leased (for_writing js) → (i : ℕ) → contains js i ≡ true → leased i Write ≡ true
@@ -222,6 +193,11 @@ own_unfrozen t c n i mode free =
 pub same_levels : (old new : TwoLevels) → SameLevels old new → new ≡ old
 same_levels old new e = λ k. record { home = λ c. e.home c k; clients = λ i. e.clients i k; nodes = λ i. e.nodes i k }
 
+-- with the same levels the same leases are frozen
+pub same_levels_frozen : (s : StateValue) (levels : TwoLevels) → levels ≡ s.levels → SameFrozenLeases (observed s).leases (observed (after_leases s levels)).leases
+unfolding observed leases_of
+same_levels_frozen s levels same d i = ap (λ l. is_frozen (lease_of (l.clients i) d)) same
+
 -- ---- a client that may call
 
 module _ (s : StateValue) (c : ℕ) (op : Op) (shape : IsShaped s) (holds : ∥ Holds (observed s) ∥₁) (fine : call_fault (observed s) c op ≡ None) where
@@ -295,23 +271,6 @@ module _ (s : StateValue) (c : ℕ) (op : Op) (shape : IsShaped s) (holds : ∥ 
       past_visits (served s c) next.visits (for_writing (touched next.effects)) visited.visited
       ∙ subst (λ t. first_missing (served s c) (for_writing (touched t.effects)) ≡ Some (i, Write)) visited.step lacked
 
-  -- a lease that is missing
-  module _ (i : ℕ) (mode : Mode) (first : first_missing (served s c) (wants next) ≡ Some (i, mode)) where
-    unserved_now : served s c i mode ≡ false
-    unserved_now = first_unserved (served s c) (wants next) (i, mode) first
-
-    pub lacks : IsMissing w (leases_of s) (next_call w c op) i mode
-    lacks =
-        let found = wanted (served s c) next.visits (touched next.effects) i mode first in
-        record {
-          needed =
-              elim found [
-                | inl visited ↦ subst (λ m. IsNeeded w (next_call w c op) i m) (sym visited.0) visited.1
-                | inr changed ↦ subst (λ m. IsNeeded w (next_call w c op) i m) (sym changed.0) changed.1
-              ];
-          unserved = unserved_now;
-        }
-
   -- ---- a lease is granted
 
   module _ (i : ℕ) (mode : Mode) (levels : TwoLevels) (first : first_missing (served s c) (wants next) ≡ Some (i, mode)) (free : is_free_for s.levels c (client_in s.clients c).home i mode ≡ true)
@@ -336,7 +295,7 @@ module _ (s : StateValue) (c : ℕ) (op : Op) (shape : IsShaped s) (holds : ∥ 
 
     pub goes_on : (a : Answer) (m' : Machine) → Calling (observed s') c op a m' → Calling (observed s) c op a m'
     unfolding observed
-    goes_on a m' e = granted_first (observed s) (world_of s') (leases_of s') c op i mode (lacks i mode first) grants (areas_stay s s' refl) fine a m' e
+    goes_on a m' e = granted_first (observed s) (world_of s') (leases_of s') c op i mode first grants (areas_stay s s' refl) fine a m' e
 
     pub fine_then : call_fault (observed s') c op ≡ None
     unfolding observed world_of
@@ -350,6 +309,16 @@ module _ (s : StateValue) (c : ℕ) (op : Op) (shape : IsShaped s) (holds : ∥ 
 
     frozen_same : SameFrozen s levels
     frozen_same = same_frozen s.levels levels c (client_in s.clients c).home i mode granted (own_unfrozen s.levels c (client_in s.clients c).home i mode free)
+
+    -- whom it asks from there on, it asks
+    pub cuts_then : {C : Type 0} (answers : C → NumberedLog → ℕ → ℕ → Type 0) (stored kept : ℕ → Option C) (m' : Machine) → SameRevokers stored kept →
+        CutsAreAnswers answers kept (observed s') m' → CutsAreAnswers answers stored (observed s) m'
+    unfolding observed world_of leases_of own_seen
+    cuts_then answers stored kept m' same cuts = frozen_later answers stored kept (observed s) (observed s') m' (λ d j. frozen_same d j) (λ d. refl) same cuts
+
+    pub unfrozen_then : SameFrozenLeases (observed s).leases (observed s').leases
+    unfolding observed leases_of
+    unfrozen_then d j = frozen_same d j
 
     pub noted_then : AreNoted s → AreNoted s'
     noted_then noted = leases_noted s levels noted frozen_same
@@ -373,11 +342,11 @@ module _ (s : StateValue) (c : ℕ) (op : Op) (shape : IsShaped s) (holds : ∥ 
 
 -- what comes of a call after a lease comes of it before
 module _ (old m m' : Machine) (c : ℕ) (op : Op) (r : Result Bool Refusal) (onward : (a : Answer) (last : Machine) → Calling m c op a last → Calling old c op a last) where
-  pub all_onward : (s : Step) → IfOk r (λ all. all ≡ true → HasAll m c op s m') → IfOk r (λ all. all ≡ true → HasAll old c op s m')
-  all_onward s had = go r had
+  pub all_onward : (s : Step) → SameFrozenLeases old.leases m.leases → IfOk r (λ all. all ≡ true → HasAll m c op s m') → IfOk r (λ all. all ≡ true → HasAll old c op s m')
+  all_onward s same had = go r had
     where
       go : (r : Result Bool Refusal) → IfOk r (λ all. all ≡ true → HasAll m c op s m') → IfOk r (λ all. all ≡ true → HasAll old c op s m')
-      go (Ok all) had = λ is. record { fine = (had is).fine; holds = (had is).holds; ready = (had is).ready; onward = λ a last e. onward a last ((had is).onward a last e) }
+      go (Ok all) had = λ is. record { fine = (had is).fine; holds = (had is).holds; ready = (had is).ready; unfrozen = λ d i. (had is).unfrozen d i ∙ same d i; onward = λ a last e. onward a last ((had is).onward a last e) }
       go (Err e) had = tt
 
   pub waits_onward : IfOk r (λ all. all ≡ false → Calling m c op not_yet m') → IfOk r (λ all. all ≡ false → Calling old c op not_yet m')

@@ -1,5 +1,5 @@
 -- With each lease that a call gets it lacks fewer.
-use Rattle.std.proofs.Common.{◌≡◌, ℕ, suc, ◌<◌, ◌≤◌, true, false, if◌then◌else◌, List, [], ◌∷◌, Some, None, inl, inr, subst, sym, arith}
+use Rattle.std.proofs.Common.{◌≡◌, ℕ, suc, ◌<◌, ◌≤◌, true, if◌then◌else◌, List, [], ◌∷◌, Some, None, inl, inr, subst, sym, arith}
 use Rattle.std.proofs.lemmas.Bool.{cases_Bool}
 use Rattle.assise_names.specs.declared.mode.Mode.{Mode}
 use Rattle.assise_inode_plan.specs.Leased.{Leases, first_missing}
@@ -40,15 +40,3 @@ fewer old new (v ∷ vs) w grows missing got =
   where
     some_same : Some v ≡ Some w → v ≡ w
     some_same e = cc
-
--- the first that is missing isn't leased so
-pub first_unserved : (leased : Leases) (ws : List (ℕ × Mode)) (w : ℕ × Mode) → first_missing leased ws ≡ Some w → leased w.0 w.1 ≡ false
-first_unserved leased [] w missing = absurd (let none : None ≡ Some w = missing in cc)
-first_unserved leased (v ∷ vs) w missing =
-    elim (cases_Bool (leased v.0 v.1)) [
-      | inl had ↦ first_unserved leased vs w (subst (λ b. (if b then first_missing leased vs else Some v) ≡ Some w) had missing)
-      | inr lacked ↦ subst (λ u. leased u.0 u.1 ≡ false) (same v w (subst (λ b. (if b then first_missing leased vs else Some v) ≡ Some w) lacked missing)) lacked
-    ]
-  where
-    same : (p q : ℕ × Mode) → Some p ≡ Some q → p ≡ q
-    same p q e = cc

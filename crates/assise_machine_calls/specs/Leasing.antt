@@ -15,6 +15,7 @@ use Rattle.assise_inode_table.specs.Numbers.{inode_number}
 use Rattle.assise_inode_table.specs.Traces.{NumberedCall}
 use Rattle.assise_digest.specs.Region.{ReceivedLog}
 use Rattle.assise_lease_table.specs.Leases.{serves}
+use Rattle.assise_lease_tree.specs.Levels.{is_frozen}
 use Rattle.assise_machine_laws.specs.World.{World, step_at_home}
 use Rattle.assise_machine_leases.specs.Leases.{client_lease}
 use Rattle.assise_machine_events.specs.ClientEvents.{Calling, IsServed, call_of_client}
@@ -45,11 +46,12 @@ pub record IsReady (m : Machine) (c : ℕ) (op : Op) (s : Step) : Type 0 where
   pub step : s ≡ next_step m.world c op
   pub served : IsServed m.world m.leases (next_call m.world c op)
 
--- the client got leases, and has all that the call needs: what comes of the call from here on comes of it
+-- the client got leases, of which none was frozen, and has all that the call needs: what comes of the call from here on comes of it
 pub record HasAll (m : Machine) (c : ℕ) (op : Op) (s : Step) (m' : Machine) : Type 0 where
   pub fine : call_fault m' c op ≡ None
   pub holds : ∥ Holds m' ∥₁
   pub ready : IsReady m' c op s
+  pub unfrozen : (d i : ℕ) → is_frozen (client_lease m'.leases d i) ≡ is_frozen (client_lease m.leases d i)
   pub onward : (a : Answer) (last : Machine) → Calling m' c op a last → Calling m c op a last
 
 -- the client would make an inode and has made as many as it may, or its log has no room for the effects

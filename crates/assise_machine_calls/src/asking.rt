@@ -13,7 +13,7 @@ ghost use Rattle.assise_machine_state.specs.ClientValues.{client_in};
 ghost use Rattle.assise_machine_state.specs.Places.{IsNumber};
 ghost use Rattle.assise_machine_state.specs.Shape.{AreNoted, IsShaped};
 ghost use Rattle.assise_machine_state.specs.Whole.{machine_of, value_of};
-ghost use Rattle.assise_machine_calls.specs.Asked.{AsksThem};
+ghost use Rattle.assise_machine_calls.specs.Asked.{AsksThem, CutsAreAnswers};
 
 use crate::own_logs::OwnLogs;
 use assise_lease_table::lease::Asked;
@@ -24,8 +24,8 @@ use assise_machine_state::state::StateOf;
 use assise_names::refusal::Refusal;
 use std::vec::IntoIter;
 
-/// Asks those who stand in the way of a client that lives: their leases are frozen, and their logs are to be replicated up to
-/// what they answer. The one refusal is [`Refusal::OutOfMemory`], and it leaves all as it was.
+/// Asks those who stand in the way of a client that lives: their leases are frozen with what their revokers answer for their own
+/// logs, and their logs are to be replicated up to there. The one refusal is [`Refusal::OutOfMemory`], and it leaves all as it was.
 pub(crate) fn ask<C: Revokes + Drop>(
     state: &mut StateOf<C>,
     request: Request,
@@ -38,6 +38,7 @@ pub(crate) fn ask<C: Revokes + Drop>(
     requires noted { AreNoted (value_of state.old) }
     ensures ok { OnOk result (AsksThem (machine_of state.old) request (machine_of state.new)) }
     ensures err { OnErr result (machine_of state.new ≡ machine_of state.old) }
+    ensures cuts { CutsAreAnswers C.answers (stored_by state.old.leases) (machine_of state.old) (machine_of state.new) }
     ensures shape { IsShaped (value_of state.new) }
     ensures noted { AreNoted (value_of state.new) }
     ensures only_memory { IsOkUnless result OutOfMemory }

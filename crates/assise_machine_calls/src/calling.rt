@@ -11,6 +11,7 @@ ghost use Rattle.assise_machine_events.specs.Machine.{Holds};
 ghost use Rattle.assise_machine_state.specs.Shape.{AreNoted, IsShaped};
 ghost use Rattle.assise_machine_state.specs.Whole.{machine_of, value_of};
 ghost use Rattle.assise_machine_calls.specs.Answers.{turn_answer};
+ghost use Rattle.assise_machine_calls.specs.Asked.{CutsAreAnswers};
 ghost use Rattle.assise_machine_calls.specs.Leasing.{HasAll, IsVisited, step_in};
 
 use crate::asking::ask;
@@ -34,8 +35,8 @@ use std::alloc::Global;
 /// Tries a client's call. It reads at its home: the node's inodes after those of its own records that aren't digested there.
 ///
 /// It gets the leases that the call needs, one after another: of what it visits for reading, in the order of the visits, and
-/// then of what it changes for writing. Where others stand in the way of one, they are asked, and it is [`Turn::NotYet`]: the call
-/// may be tried again. Where it has all, it is [`Turn::Answered`], with one entry of the history, and one record of the client's log
+/// then of what it changes for writing. Where others stand in the way of one, they are asked, each by the revoker that it stored,
+/// and it is [`Turn::NotYet`]: the call may be tried again. Where it has all, it is [`Turn::Answered`], with one entry of the history, and one record of the client's log
 /// if it has effects. [`Op::Fsync`] is tried as [`try_fsync`] says.
 ///
 /// Refused as [`call_refusal`] says, with all as it was; and once it has its leases with [`Refusal::InodesSpent`] where it would make
@@ -48,6 +49,7 @@ pub fn try_call<C: Revokes + Drop>(
     op: &Op,
 ) -> Result<Turn, Refusal>
     ensures happens { Trying (machine_of sound.old.state) client op.now (turn_answer result) (machine_of sound.new.state) }
+    ensures cuts { CutsAreAnswers C.answers (stored_by sound.old.state.leases) (machine_of sound.old.state) (machine_of sound.new.state) }
     ensures revokers { SameRevokers (stored_by sound.old.state.leases) (stored_by sound.new.state.leases) }
 {
     if let Op::Fsync = op {
@@ -73,6 +75,7 @@ fn call<C: Revokes + Drop>(
     requires shape { IsShaped (value_of state.old) }
     requires noted { AreNoted (value_of state.old) }
     ensures happens { Calling (machine_of state.old) client op.now (turn_answer result) (machine_of state.new) }
+    ensures cuts { CutsAreAnswers C.answers (stored_by state.old.leases) (machine_of state.old) (machine_of state.new) }
     ensures shape { IsShaped (value_of state.new) }
     ensures noted { AreNoted (value_of state.new) }
     ensures revokers { SameRevokers (stored_by state.old.leases) (stored_by state.new.leases) }
@@ -130,6 +133,7 @@ fn lease_changes<C: Revokes + Drop>(
     ensures all { IfOk result (λ all. all ≡ true → HasAll (machine_of state.old) client op.now (step_in outcome.now) (machine_of state.new)) }
     ensures waits { IfOk result (λ all. all ≡ false → Calling (machine_of state.old) client op.now not_yet (machine_of state.new)) }
     ensures refused { IfErr result (λ r. Calling (machine_of state.old) client op.now (refused r) (machine_of state.new)) }
+    ensures cuts { CutsAreAnswers C.answers (stored_by state.old.leases) (machine_of state.old) (machine_of state.new) }
     ensures shape { IsShaped (value_of state.new) }
     ensures noted { AreNoted (value_of state.new) }
     ensures revokers { SameRevokers (stored_by state.old.leases) (stored_by state.new.leases) }

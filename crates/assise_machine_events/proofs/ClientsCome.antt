@@ -147,7 +147,7 @@ has_two =
     (m', of_second m m' f h)
 
 root_missing : (m : Machine) → HasTwo m → IsMissing m.world m.leases (call_of_client m.world 2 (Stat []) Done) 0 Read
-root_missing m t = record { needed = refl; unserved = rw t.root refl }
+root_missing m t = rw t.root refl
 
 root_taken : (m : Machine) → HasTwo m → is_free_for m.leases.levels 2 (m.world.home 2) 0 Read ≡ false
 unfolding in_way

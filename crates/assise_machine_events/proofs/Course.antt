@@ -1,21 +1,24 @@
 -- How two nodes begin: client 1 is opened on node 1, and gets the leases that it needs to create a file.
-use Rattle.std.proofs.Common.{◌≡◌, ℕ, ◌==◌, ◌||◌, true, false, List, [], ◌∷◌, ◌++◌, Option, Some, None, refl, ap, sym, subst, ◌∙◌, arith}
+use Rattle.std.proofs.Common.{◌≡◌, ◌≢◌, ℕ, ◌==◌, ◌||◌, true, false, List, [], ◌∷◌, ◌++◌, Option, Some, None, refl, ap, sym, subst, ◌∙◌, arith}
 use Rattle.std.proofs.lemmas.Bool.{or_right}
-use Rattle.assise_names.specs.declared.mode.Mode.TheVariants.{Write}
+use Rattle.assise_names.specs.declared.mode.Mode.{Mode}
+use Rattle.assise_names.specs.declared.mode.Mode.TheVariants.{Read, Write}
 use Rattle.assise_names.specs.declared.reply.Reply.TheVariants.{Done}
 use Rattle.assise_record.specs.Records.{has_some}
 use Rattle.assise_inode_table.specs.Effects.{contains, touched}
+use Rattle.assise_lease_table.specs.declared.lease.Lease.{Lease}
 use Rattle.assise_lease_table.specs.Leases.{new_lease}
-use Rattle.assise_lease_tree.specs.Levels.{clients_granted, nodes_granted}
+use Rattle.assise_lease_tree.specs.Levels.{clients_granted, in_way, nodes_granted}
+use Rattle.assise_lease_tree.specs.TwoLevels.{is_free_for}
 use Rattle.assise_manager.specs.Changes.{all_full}
 use Rattle.assise_machine_laws.specs.World.{World, Full, step_at_home}
 use Rattle.assise_machine_leases.specs.Chances.{MayCallUnder}
 use Rattle.assise_machine_leases.specs.Handing.{Grants}
 use Rattle.assise_machine_leases.specs.Leases.{Leases, client_lease, is_held, is_written}
-use Rattle.assise_machine_leases.proofs.Giving.{grant_acquires}
 use Rattle.assise_machine_leases.proofs.Possible.{may_grant}
-use Rattle.assise_machine_history.proofs.Losing.{IsNew, acquired_new, creation, create_op, made_number, may_create, of_either, step_is}
-use Rattle.assise_machine_events.specs.ClientEvents.{Opening, Granted, Gets, IsServed, IsTried, call_of_client, is_opened, is_refused, lacks_memory, last_leases, last_world}
+use Rattle.assise_machine_returns.specs.Returns.{OtherAreasStay}
+use Rattle.assise_machine_history.proofs.Losing.{IsNew, creation, create_op, first_step, made_number, may_create, of_either, step_is}
+use Rattle.assise_machine_events.specs.ClientEvents.{Opening, Granted, Gets, IsFirstMissing, IsMissing, IsServed, IsTried, call_of_client, is_opened, is_refused, lacks_memory, last_leases, last_world}
 use Rattle.assise_machine_events.specs.Events.{Answer, ClusterEvent, open_client, opened}
 use Rattle.assise_machine_events.specs.Faults.{call_fault}
 use Rattle.assise_machine_events.specs.Happenings.{AllHappen, Happens}
@@ -24,17 +27,17 @@ use Rattle.assise_machine_events.specs.Reached.{IsReached}
 use Rattle.assise_machine_events.proofs.Answerable.{opened_can}
 use Rattle.assise_machine_events.proofs.Beginning.{begun_holds}
 use Rattle.assise_machine_events.proofs.EachEvent.{event_keeps}
-use Rattle.assise_machine_events.proofs.Granting.{Reached, comes_to}
+use Rattle.assise_machine_events.proofs.Granting.{Reached, begins, one_more}
 use Rattle.assise_machine_events.proofs.Steady.{old_grants, with_old_areas}
 
 -- ---- what happens is reached
 
-one_more : (m v m' : Machine) (es : List (ClusterEvent × Answer)) (e : ClusterEvent) (a : Answer) → AllHappen m es v → Happens v e a m' → AllHappen m (es ++ (e, a) ∷ []) m'
-one_more m v m' [] e a same h = (m', (subst (λ u. Happens u e a m') same h, refl))
-one_more m v m' ((f, b) ∷ es) e a (u, (first, rest)) h = (u, (first, one_more u v m' es e a rest h))
+happens_next : (m v m' : Machine) (es : List (ClusterEvent × Answer)) (e : ClusterEvent) (a : Answer) → AllHappen m es v → Happens v e a m' → AllHappen m (es ++ (e, a) ∷ []) m'
+happens_next m v m' [] e a same h = (m', (subst (λ u. Happens u e a m') same h, refl))
+happens_next m v m' ((f, b) ∷ es) e a (u, (first, rest)) h = (u, (first, happens_next u v m' es e a rest h))
 
 pub reaches : (limit : ℕ) (m m' : Machine) (e : ClusterEvent) (a : Answer) → IsReached limit m → Happens m e a m' → IsReached limit m'
-reaches limit m m' e a r h = record { happened = r.happened ++ (e, a) ∷ []; course = one_more (begun_as 2 limit) m m' r.happened e a r.course h }
+reaches limit m m' e a r h = record { happened = r.happened ++ (e, a) ∷ []; course = happens_next (begun_as 2 limit) m m' r.happened e a r.course h }
 
 -- ---- nothing happened
 
@@ -116,94 +119,158 @@ pub record HasLeases (m : Machine) (granted : List Granted) : Type 0 where
   pub clients_root : (last_leases m.leases granted).levels.clients 0 ≡ new_lease 1 Write ∷ []
   pub nodes_root : (last_leases m.leases granted).levels.nodes 0 ≡ new_lease 1 Write ∷ []
   pub clients_own : (last_leases m.leases granted).levels.clients made_number ≡ new_lease 1 Write ∷ []
+  -- and of no other
+  pub clients_else : (i : ℕ) → i ≢ 0 → i ≢ made_number → (last_leases m.leases granted).levels.clients i ≡ []
+  pub nodes_else : (i : ℕ) → i ≢ 0 → i ≢ made_number → (last_leases m.leases granted).levels.nodes i ≡ []
 
-pub one_client : clients_granted 1 Write [] ≡ new_lease 1 Write ∷ []
+pub one_client : (mode : Mode) → clients_granted 1 mode [] ≡ new_lease 1 mode ∷ []
 unfolding clients_granted
-one_client = refl
+one_client mode = refl
 
-pub one_node : (home : ℕ → Option ℕ) → nodes_granted home [] 1 Write [] ≡ new_lease 1 Write ∷ []
+one_node : (home : ℕ → Option ℕ) (mode : Mode) → nodes_granted home [] 1 mode [] ≡ new_lease 1 mode ∷ []
 unfolding nodes_granted
-one_node home = refl
+one_node home mode = refl
 
-touches : (w : World) (i : ℕ) → IsNew w → contains (made_number ∷ 0 ∷ []) i ≡ true → contains (touched (step_at_home w creation).effects) i ≡ true
-touches w i n there = subst (λ t. contains (touched t.effects) i ≡ true) (sym (step_is w n)) there
+-- a lease for reading becomes one for writing
+
+client_raised : clients_granted 1 Write (new_lease 1 Read ∷ []) ≡ new_lease 1 Write ∷ []
+unfolding clients_granted
+client_raised = refl
+
+node_raised : (home : ℕ → Option ℕ) (cs : List Lease) → nodes_granted home cs 1 Write (new_lease 1 Read ∷ []) ≡ new_lease 1 Write ∷ []
+unfolding nodes_granted
+node_raised home cs = refl
+
+-- the first lease that its creation lacks
+lacks : (w : World) (l : Leases) (i : ℕ) (mode : Mode) → IsNew w → IsFirstMissing l 1 first_step i mode → IsMissing w l creation i mode
+lacks w l i mode n first = subst (λ t. IsFirstMissing l 1 t i mode) (sym (step_is w n)) first
 
 own_not_root : made_number ≡ 0 → ⊥
 own_not_root same = omega (arith, same)
 
+-- the client is as new with leases as it was
+still_new : (m : Machine) (w : World) (l : Leases) → IsNew m.world → Reached m w l → IsNew w
+still_new m w l n r = record {
+  clients = r.clients.clients ∙ n.clients;
+  home = r.clients.home 1 ∙ n.home;
+  lives = r.clients.lives 1 ∙ n.lives;
+  runs = r.clients.crashed 1 ∙ n.runs;
+  records = r.logs.records 1 ∙ n.records;
+  first = r.logs.first 1 ∙ n.first;
+  next = r.logs.next 1 ∙ n.next;
+  made = r.logs.made 1 ∙ n.made;
+  full = r.nodes.full ∙ n.full;
+  log = (r.nodes.same 1 (rw n.full refl)).log 1 ∙ n.log;
+  received = (r.nodes.same 2 (rw n.full refl)).received 1 ∙ n.received;
+  area = (r.nodes.same 1 (rw n.full refl)).area 0 ∙ n.area;
+}
+
+-- the client got one lease more
+record GotOne (m : Machine) (w : World) (l : Leases) (i : ℕ) (mode : Mode) (u : World) (k : Leases) : Type 0 where
+  pub grant : Grants w l 1 i mode u k
+  pub others : OtherAreasStay w u
+  pub reached : Reached m u k
+  pub clients : k.levels.clients i ≡ clients_granted 1 mode (l.levels.clients i)
+  pub nodes : k.levels.nodes i ≡ nodes_granted l.levels.home (l.levels.clients i) 1 mode (l.levels.nodes i)
+
+gets_one : (m : Machine) (w : World) (l : Leases) (i : ℕ) (mode : Mode) → IsNew m.world → Reached m w l → is_free_for l.levels 1 (w.home 1) i mode ≡ true → (u : World) × (k : Leases) × GotOne m w l i mode u k
+gets_one m w l i mode new r free =
+    let n : IsNew w = still_new m w l new r in
+    let (v, k, got) = may_grant w l 1 i mode (record { lives_on = n.lives; running = n.runs; free = free }) in
+    let u : World = with_old_areas w v in
+    let grant : Grants w l 1 i mode u k = old_grants w v l k 1 i mode got in (
+      u,
+      k,
+      record {
+        grant = grant;
+        others = λ j o away. refl;
+        reached = one_more m creation w l (record { inode = i; mode = mode; world = u; leases = k }) r grant (λ j o away. refl);
+        clients = grant.granted.clients.here;
+        nodes = grant.granted.nodes.here ∙ ap (λ h. nodes_granted l.levels.home (l.levels.clients i) h mode (l.levels.nodes i)) n.home;
+      },
+    )
+
 module _ (limit : ℕ) (m : Machine) (o : IsOpen limit m) where
-  root : (u : World) × (k : Leases) × Grants m.world m.leases 1 0 Write u k
-  root = may_grant m.world m.leases 1 0 Write (record { lives_on = o.world.lives; running = o.world.runs; free = rw (o.clients_none 0, o.nodes_none 0) refl })
+  -- the root for reading
+  read : (u : World) × (k : Leases) × GotOne m m.world m.leases 0 Read u k
+  read = gets_one m m.world m.leases 0 Read o.world (begins m o.holds) (rw (o.clients_none 0, o.nodes_none 0) refl)
 
-  abbrev root_world : World
-  root_world = with_old_areas m.world root.0
+  read_clients : read.1.levels.clients 0 ≡ new_lease 1 Read ∷ []
+  read_clients = read.2.clients ∙ ap (clients_granted 1 Read) (o.clients_none 0) ∙ one_client Read
 
-  abbrev root_leases : Leases
-  root_leases = root.1
+  read_nodes : read.1.levels.nodes 0 ≡ new_lease 1 Read ∷ []
+  read_nodes =
+      read.2.nodes
+      ∙ ap (λ cs. nodes_granted m.leases.levels.home cs 1 Read (m.leases.levels.nodes 0)) (o.clients_none 0)
+      ∙ ap (nodes_granted m.leases.levels.home [] 1 Read) (o.nodes_none 0)
+      ∙ one_node m.leases.levels.home Read
 
-  root_grant : Grants m.world m.leases 1 0 Write root_world root_leases
-  root_grant = old_grants m.world root.0 m.leases root.1 1 0 Write root.2
+  no_client : read.1.levels.clients made_number ≡ []
+  no_client = read.2.grant.granted.clients.elsewhere made_number own_not_root ∙ o.clients_none made_number
 
-  root_new : IsNew root_world
-  root_new = acquired_new m.world root_world 0 o.world (grant_acquires m.world root_world m.leases root_leases 1 0 Write o.holds.leases root_grant)
+  no_node : read.1.levels.nodes made_number ≡ []
+  no_node = read.2.grant.granted.nodes.elsewhere made_number own_not_root ∙ o.nodes_none made_number
 
-  root_clients : root_leases.levels.clients 0 ≡ new_lease 1 Write ∷ []
-  root_clients = root_grant.granted.clients.here ∙ ap (clients_granted 1 Write) (o.clients_none 0) ∙ one_client
+  -- the file's inode for writing
+  own : (u : World) × (k : Leases) × GotOne m read.0 read.1 made_number Write u k
+  own = gets_one m read.0 read.1 made_number Write o.world read.2.reached (rw (no_client, no_node) refl)
 
-  root_nodes : root_leases.levels.nodes 0 ≡ new_lease 1 Write ∷ []
-  root_nodes =
-      root_grant.granted.nodes.here
-      ∙ ap (λ cs. nodes_granted m.leases.levels.home cs (m.world.home 1) Write (m.leases.levels.nodes 0)) (o.clients_none 0)
-      ∙ ap (λ n. nodes_granted m.leases.levels.home [] n Write (m.leases.levels.nodes 0)) o.world.home
-      ∙ ap (nodes_granted m.leases.levels.home [] 1 Write) (o.nodes_none 0)
-      ∙ one_node m.leases.levels.home
+  own_clients : own.1.levels.clients made_number ≡ new_lease 1 Write ∷ []
+  own_clients = own.2.clients ∙ ap (clients_granted 1 Write) no_client ∙ one_client Write
 
-  clients_else : root_leases.levels.clients made_number ≡ []
-  clients_else = root_grant.granted.clients.elsewhere made_number own_not_root ∙ o.clients_none made_number
+  still_clients : own.1.levels.clients 0 ≡ new_lease 1 Read ∷ []
+  still_clients = own.2.grant.granted.clients.elsewhere 0 (λ same. own_not_root (sym same)) ∙ read_clients
 
-  nodes_else : root_leases.levels.nodes made_number ≡ []
-  nodes_else = root_grant.granted.nodes.elsewhere made_number own_not_root ∙ o.nodes_none made_number
+  still_nodes : own.1.levels.nodes 0 ≡ new_lease 1 Read ∷ []
+  still_nodes = own.2.grant.granted.nodes.elsewhere 0 (λ same. own_not_root (sym same)) ∙ read_nodes
 
-  own : (u : World) × (k : Leases) × Grants root_world root_leases 1 made_number Write u k
-  own = may_grant root_world root_leases 1 made_number Write (record { lives_on = root_new.lives; running = root_new.runs; free = rw (clients_else, nodes_else) refl })
+  free_root : is_free_for own.1.levels 1 (own.0.home 1) 0 Write ≡ true
+  unfolding in_way
+  free_root = rw (still_clients, still_nodes, (still_new m own.0 own.1 o.world own.2.reached).home) refl
 
-  abbrev own_world : World
-  own_world = with_old_areas root_world own.0
+  -- the root for writing
+  root : (u : World) × (k : Leases) × GotOne m own.0 own.1 0 Write u k
+  root = gets_one m own.0 own.1 0 Write o.world own.2.reached free_root
 
-  abbrev own_leases : Leases
-  own_leases = own.1
+  abbrev all : List Granted
+  all =
+      record { inode = 0; mode = Read; world = read.0; leases = read.1 }
+      ∷ record { inode = made_number; mode = Write; world = own.0; leases = own.1 }
+      ∷ record { inode = 0; mode = Write; world = root.0; leases = root.1 }
+      ∷ []
 
-  own_grant : Grants root_world root_leases 1 made_number Write own_world own_leases
-  own_grant = old_grants root_world own.0 root_leases own.1 1 made_number Write own.2
-
-  abbrev both : List Granted
-  both = record { inode = 0; mode = Write; world = root_world; leases = root_leases } ∷ record { inode = made_number; mode = Write; world = own_world; leases = own_leases } ∷ []
-
-  gets_both : Gets creation m.world m.leases both
-  gets_both = (
-    record { needed = touches m.world 0 o.world refl; unserved = rw (o.clients_none 0) refl },
-    root_grant,
-    λ k i away. refl,
-    (record { needed = touches root_world made_number root_new refl; unserved = rw clients_else refl }, own_grant, λ k i away. refl, tt),
+  gets_all : Gets creation m.world m.leases all
+  gets_all = (
+    lacks m.world m.leases 0 Read o.world (rw (o.clients_none 0) refl),
+    read.2.grant,
+    read.2.others,
+    (
+      lacks read.0 read.1 made_number Write (still_new m read.0 read.1 o.world read.2.reached) (rw (read_clients, no_client) refl),
+      own.2.grant,
+      own.2.others,
+      (lacks own.0 own.1 0 Write (still_new m own.0 own.1 o.world own.2.reached) (rw (still_clients, own_clients) refl), root.2.grant, root.2.others, tt),
+    ),
   )
 
-  has_leases : HasLeases m both
-  has_leases =
-      let rest : Reached m own_world own_leases = comes_to m creation both o.holds gets_both in
-      let at_root : Reached m root_world root_leases = comes_to m creation (record { inode = 0; mode = Write; world = root_world; leases = root_leases } ∷ []) o.holds (gets_both.0, gets_both.1, gets_both.2, tt) in
-      record {
-        gets = gets_both;
-        world = acquired_new root_world own_world made_number root_new (grant_acquires root_world own_world root_leases own_leases 1 made_number Write at_root.leases own_grant);
-        rest = rest;
-        goal = own_grant.holds.goals 1 ∙ root_grant.holds.goals 1;
-        home_known = own_grant.granted.home 1 ∙ root_grant.granted.home 1 ∙ o.home_known;
-        clients_root = own_grant.granted.clients.elsewhere 0 (λ same. own_not_root (sym same)) ∙ root_clients;
-        nodes_root = own_grant.granted.nodes.elsewhere 0 (λ same. own_not_root (sym same)) ∙ root_nodes;
-        clients_own = own_grant.granted.clients.here ∙ ap (clients_granted 1 Write) clients_else ∙ one_client;
-      }
+  has_leases : HasLeases m all
+  has_leases = record {
+    gets = gets_all;
+    world = still_new m root.0 root.1 o.world root.2.reached;
+    rest = root.2.reached;
+    goal = root.2.grant.holds.goals 1 ∙ own.2.grant.holds.goals 1 ∙ read.2.grant.holds.goals 1;
+    home_known = root.2.grant.granted.home 1 ∙ own.2.grant.granted.home 1 ∙ read.2.grant.granted.home 1 ∙ o.home_known;
+    clients_root = root.2.clients ∙ ap (clients_granted 1 Write) still_clients ∙ client_raised;
+    nodes_root =
+        root.2.nodes ∙ ap (nodes_granted own.1.levels.home (own.1.levels.clients 0) 1 Write) still_nodes ∙ node_raised own.1.levels.home (own.1.levels.clients 0);
+    clients_own = root.2.grant.granted.clients.elsewhere made_number own_not_root ∙ own_clients;
+    clients_else = λ i rest file.
+        root.2.grant.granted.clients.elsewhere i rest ∙ own.2.grant.granted.clients.elsewhere i file ∙ read.2.grant.granted.clients.elsewhere i rest ∙ o.clients_none i;
+    nodes_else = λ i rest file.
+        root.2.grant.granted.nodes.elsewhere i rest ∙ own.2.grant.granted.nodes.elsewhere i file ∙ read.2.grant.granted.nodes.elsewhere i rest ∙ o.nodes_none i;
+  }
 
   pub leases_had : (gs : List Granted) × HasLeases m gs
-  leases_had = (both, has_leases)
+  leases_had = (all, has_leases)
 
 -- ---- with them it may create one
 

@@ -38,12 +38,12 @@ event_told m m' (join n) a h = joining_told m m' n a h
 
 sending_leads : (m m' : Machine) (n : ℕ) (a : Answer) → Sending m n a m' → Leads m m'
 sending_leads m m' n a (is_sent fine is same) = same_leads m m' same
-sending_leads m m' n a (lacks_memory fine is same) = same_leads m m' same
+sending_leads m m' n a (lacks_memory fine some is same) = same_leads m m' same
 sending_leads m m' n a (is_refused r fault is same) = same_leads m m' same
 
 sending_holds : (m m' : Machine) (n : ℕ) (a : Answer) → Holds m → Sending m n a m' → Holds m'
 sending_holds m m' n a h (is_sent fine is same) = same_holds m m' same h
-sending_holds m m' n a h (lacks_memory fine is same) = same_holds m m' same h
+sending_holds m m' n a h (lacks_memory fine some is same) = same_holds m m' same h
 sending_holds m m' n a h (is_refused r fault is same) = same_holds m m' same h
 
 trying_leads : (m m' : Machine) (c : ℕ) (op : Op) (a : Answer) → Holds m → Trying m c op a m' → Leads m m'

@@ -67,7 +67,7 @@ pub record Reached (m : Machine) (w : World) (l : Leases) : Type 0 where
   pub nodes : SameNodes m.world w
   pub others : OtherAreasStay m.world w
 
-begins : (m : Machine) → Holds m → Reached m m.world m.leases
+pub begins : (m : Machine) → Holds m → Reached m m.world m.leases
 begins m h = record {
   sound = h.sound;
   dropped = h.dropped;
@@ -82,7 +82,7 @@ module _ (m : Machine) (x : NumberedCall) (w : World) (l : Leases) (g : Granted)
   acquired : Acquires w x.client g.inode g.mode g.world
   acquired = grant_acquires w g.world l g.leases x.client g.inode g.mode r.leases e
 
-  one_more : OtherAreasStay w g.world → Reached m g.world g.leases
+  pub one_more : OtherAreasStay w g.world → Reached m g.world g.leases
   one_more others = record {
     sound = acquire_sound w g.world x.client g.inode g.mode r.sound acquired;
     dropped = still_dropped w g.world acquired.logs acquired.nodes r.dropped;

@@ -155,9 +155,6 @@ failed_again_comes =
     let (m', (losses, e)) = failed_can m 2 b.holds (rw b.nodes refl) in
     record { limit = 0; before = m; reached = b.reached; after = m'; outcome = (not_full 0 set.empty m b, fails_again 0 set.empty m m' losses b e) }
 
-pub not_refilled_for_memory_comes : Comes (λ m m'. Refilling m 2 (refused OutOfMemory) m')
-not_refilled_for_memory_comes = (let (m, b) = back_at_start in record { limit = 0; before = m; reached = b.reached; after = m; outcome = lacks_memory (rw b.nodes refl) refl refl })
-
 pub whole_comes : Comes (λ m m'. (stale_at m.members 2 ≡ 0) × Refilling m 2 (left 0) m')
 whole_comes =
     let (m, b) = back_at_start in
@@ -235,7 +232,7 @@ left_less limit stale m m' b e =
 
 gets_one : (limit : ℕ) (stale : Numbers) (m m' : Machine) (count : ℕ) → IsReturning limit stale m → 0 < set.len stale → Refilling m 2 (left count) m' → Refilling m 2 (left (set.len stale - 1)) m'
 gets_one limit stale m m' count b some (is_refused why fault answer same) = cc
-gets_one limit stale m m' count b some (lacks_memory fine answer same) = cc
+gets_one limit stale m m' count b some (lacks_memory fine lacks answer same) = cc
 gets_one limit stale m m' count b some (is_whole fine none answer same) = (let lacks : stale_at m.members 2 ≡ set.len stale = lacks_so_many limit stale m b in absurd (omega (arith, none, lacks, some)))
 gets_one limit stale m m' count b some (is_refilled fine answer e) = is_refilled fine (ap left (sym (left_less limit stale m m' b e))) e
 
@@ -245,3 +242,10 @@ refilled_comes =
     let lacks : stale_at m.members 2 ≡ set.len b.stale = lacks_so_many 1 b.stale m b.state in
     let (m', e) = refilled_can m 2 b.state.holds (rw b.state.nodes refl) (subst (λ k. 0 < k) (sym lacks) b.some) in
     (set.len b.stale - 1, record { limit = 1; before = m; reached = b.state.reached; after = m'; outcome = (lacks ∙ one_less (set.len b.stale) b.some, gets_one 1 b.stale m m' (stale_at m'.members 2) b.state b.some e) })
+
+pub not_refilled_for_memory_comes : Comes (λ m m'. Refilling m 2 (refused OutOfMemory) m')
+not_refilled_for_memory_comes =
+    let (m, b) = back_with_file in
+    let lacks : stale_at m.members 2 ≡ set.len b.stale = lacks_so_many 1 b.stale m b.state in
+    let some : 0 < stale_at m.members 2 = subst (λ k. 0 < k) (sym lacks) b.some in
+    record { limit = 1; before = m; reached = b.state.reached; after = m; outcome = lacks_memory (rw b.state.nodes refl) some refl refl }

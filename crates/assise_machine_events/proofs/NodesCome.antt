@@ -1,5 +1,5 @@
 -- Each outcome of what nodes do comes: frames and digests.
-use Rattle.std.proofs.Common.{◌≡◌, ℕ, ◌≤◌, true, [], ◌∷◌, None, refl, ap, sym, ◌∙◌, subst, arith}
+use Rattle.std.proofs.Common.{◌≡◌, ℕ, ◌<◌, ◌≤◌, length, true, [], ◌∷◌, None, refl, ap, sym, ◌∙◌, subst, arith}
 use Rattle.assise_names.specs.declared.refusal.Refusal.TheVariants.{OutOfMemory, StaleMessage, WrongPhase}
 use Rattle.assise_record.specs.LogFrame.{LogFrame}
 use Rattle.assise_manager.specs.Changes.{all_full}
@@ -20,11 +20,6 @@ use Rattle.assise_machine_events.proofs.Digestible.{digested_can}
 use Rattle.assise_machine_events.proofs.Doable.{delivered_can}
 use Rattle.assise_machine_events.proofs.EachEvent.{event_keeps}
 use Rattle.assise_machine_events.proofs.MembersCome.{falls}
-
--- ---- at the start
-
-pub not_sent_for_memory : Comes (λ m m'. Sending m 1 (refused OutOfMemory) m')
-not_sent_for_memory = record { limit = 1; before = start 1; reached = start_reached 1; after = start 1; outcome = lacks_memory refl refl refl }
 
 -- ---- node 2 is down
 
@@ -205,3 +200,9 @@ pub sent_one : (f : LogFrame) × Comes (λ m m'. Sending m 1 (sent ((f, 2) ∷ [
 sent_one =
     let (m, o) = awaits in
     (file_frame 1, record { limit = 1; before = m; reached = o.reached; after = m; outcome = is_sent (rw o.members refl) (ap sent (sym (frames m o))) refl })
+
+pub not_sent_for_memory : Comes (λ m m'. Sending m 1 (refused OutOfMemory) m')
+not_sent_for_memory =
+    let (m, o) = awaits in
+    let some : 0 < length (frames_to m 1 m.world.clients) = subst (λ fs. 0 < length fs) (sym (frames m o)) (omega arith) in
+    record { limit = 1; before = m; reached = o.reached; after = m; outcome = lacks_memory (rw o.members refl) some refl refl }

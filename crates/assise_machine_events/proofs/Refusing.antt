@@ -28,7 +28,7 @@ crashing_same m m' c r (is_refused other fault is same) = same
 
 sending_same : (m m' : Machine) (n : ℕ) (r : Refusal) → Sending m n (refused r) m' → m' ≡ m
 sending_same m m' n r (is_sent fine is same) = same
-sending_same m m' n r (lacks_memory fine is same) = same
+sending_same m m' n r (lacks_memory fine some is same) = same
 sending_same m m' n r (is_refused other fault is same) = same
 
 delivering_same : (m m' : Machine) (f : LogFrame) (n : ℕ) (r : Refusal) → Delivering m f n (refused r) m' → m' ≡ m
@@ -59,7 +59,7 @@ returning_same m m' n r (is_refused other fault is same) = same
 refilling_same : (m m' : Machine) (n : ℕ) (r : Refusal) → Refilling m n (refused r) m' → m' ≡ m
 refilling_same m m' n r (is_refilled fine is e) = cc
 refilling_same m m' n r (is_whole fine none is same) = same
-refilling_same m m' n r (lacks_memory fine is same) = same
+refilling_same m m' n r (lacks_memory fine some is same) = same
 refilling_same m m' n r (is_refused other fault is same) = same
 
 joining_same : (m m' : Machine) (n : ℕ) (r : Refusal) → Joining m n (refused r) m' → m' ≡ m

@@ -89,7 +89,7 @@ refill_leads m m' n a h (is_refilled fine is e) = record {
   last = ends_as m m' m'.world (ap (λ o. length o.nodes) e.refills.members ∙ copied_many m.members.nodes n e.inode (standing_of m.members.nodes n)) e.adds refl;
 }
 refill_leads m m' n a h (is_whole fine none is same) = same_leads m m' same
-refill_leads m m' n a h (lacks_memory_there fine is same) = same_leads m m' same
+refill_leads m m' n a h (lacks_memory_there fine some is same) = same_leads m m' same
 refill_leads m m' n a h (is_refused_there r fault is same) = same_leads m m' same
 
 pub refill_holds : (m m' : Machine) (n : ℕ) (a : Answer) → Holds m → Refilling m n a m' → Holds m'
@@ -98,5 +98,5 @@ refill_holds m m' n a h (is_refilled fine is e) =
     rest_holds m m' [] h (refill_leads m m' n a h (is_refilled fine is e)) e.refills.rests e.leases e.adds (omega (arith, epoch))
     (refill_keeps m.world m'.world m.members m'.members n e.inode e.refills h.members)
 refill_holds m m' n a h (is_whole fine none is same) = same_holds m m' same h
-refill_holds m m' n a h (lacks_memory_there fine is same) = same_holds m m' same h
+refill_holds m m' n a h (lacks_memory_there fine some is same) = same_holds m m' same h
 refill_holds m m' n a h (is_refused_there r fault is same) = same_holds m m' same h

@@ -41,7 +41,7 @@ crashing_told m m' c a (is_refused r fault is same) = told_as m m' (crash c) a _
 
 pub sending_told : (m m' : Machine) (n : ℕ) (a : Answer) → Sending m n a m' → m'.history ≡ m.history ++ entries_of m.history (outgoing n) a
 sending_told m m' n a (is_sent fine is same) = told_as m m' (outgoing n) a _ is (same_told m m' same)
-sending_told m m' n a (lacks_memory fine is same) = told_as m m' (outgoing n) a _ is (same_told m m' same)
+sending_told m m' n a (lacks_memory fine some is same) = told_as m m' (outgoing n) a _ is (same_told m m' same)
 sending_told m m' n a (is_refused r fault is same) = told_as m m' (outgoing n) a _ is (same_told m m' same)
 
 pub delivering_told : (m m' : Machine) (f : LogFrame) (n : ℕ) (a : Answer) → Delivering m f n a m' → m'.history ≡ m.history ++ entries_of m.history (deliver f n) a
@@ -72,7 +72,7 @@ returning_told m m' n a (is_refused r fault is same) = told_as m m' (back n) a _
 pub refilling_told : (m m' : Machine) (n : ℕ) (a : Answer) → Refilling m n a m' → m'.history ≡ m.history ++ entries_of m.history (refill n) a
 refilling_told m m' n a (is_refilled fine is e) = told_as m m' (refill n) a _ is e.adds.history
 refilling_told m m' n a (is_whole fine none is same) = told_as m m' (refill n) a _ is (same_told m m' same)
-refilling_told m m' n a (lacks_memory fine is same) = told_as m m' (refill n) a _ is (same_told m m' same)
+refilling_told m m' n a (lacks_memory fine some is same) = told_as m m' (refill n) a _ is (same_told m m' same)
 refilling_told m m' n a (is_refused r fault is same) = told_as m m' (refill n) a _ is (same_told m m' same)
 
 pub joining_told : (m m' : Machine) (n : ℕ) (a : Answer) → Joining m n a m' → m'.history ≡ m.history ++ entries_of m.history (join n) a

@@ -1,6 +1,6 @@
 -- What clients do: each outcome with its answer, and what stands after it.
 -- Assise (OSDI 2020), section 3 (CC-NVM: update logs, fsync, leases, process crash).
-use Rattle.std.specs.Prelude.{◌≡◌, ℕ, suc, ◌<◌, true, false, ◌==◌, if◌then◌else◌, List, [], ◌∷◌, length, Some, None}
+use Rattle.std.specs.Prelude.{◌≡◌, ℕ, suc, ◌<◌, true, ◌==◌, if◌then◌else◌, List, [], ◌∷◌, length, Some, None}
 use Rattle.assise_names.specs.declared.call.Op.{Op}
 use Rattle.assise_names.specs.declared.call.Op.TheVariants.{Fsync}
 use Rattle.assise_names.specs.declared.mode.Mode.{Mode}
@@ -11,8 +11,10 @@ use Rattle.assise_names.specs.declared.reply.Reply.{Reply}
 use Rattle.assise_history.specs.Entries.{opens, crashes}
 use Rattle.assise_record.specs.Records.{has_some}
 use Rattle.assise_inode_table.specs.Effects.{touched, contains}
+use Rattle.assise_inode_table.specs.Interaction.{Step}
 use Rattle.assise_inode_table.specs.Numbers.{inode_number}
 use Rattle.assise_inode_table.specs.Traces.{NumberedCall}
+use Rattle.assise_inode_plan.specs.Leased.{Leases as Leased, first_missing, wants}
 use Rattle.assise_lease_table.specs.Leases.{serves}
 use Rattle.assise_machine_laws.specs.ClientSteps.{RaisesGoals}
 use Rattle.assise_machine_laws.specs.World.{World, end, received_by_all, step_at_home, call_makes_inode}
@@ -47,15 +49,18 @@ pub data Opening (m : Machine) (n : ℕ) (a : Answer) (m' : Machine) : Type 0 wh
 abbrev pub call_of_client : World → ℕ → Op → Reply → NumberedCall
 call_of_client w c op reply = record { client = c; number = w.next c; op = op; reply = reply; fresh = inode_number c (w.made c) }
 
--- the call visits or changes the inode in this mode
-abbrev pub IsNeeded : World → NumberedCall → ℕ → Mode → Type 0
-IsNeeded w x i Read = contains (step_at_home w x).visits i ≡ true
-IsNeeded w x i Write = contains (touched (step_at_home w x).effects) i ≡ true
+-- what the client's leases serve for
+abbrev pub served_by : Leases → ℕ → Leased
+served_by l c i mode = serves (client_lease l c i) mode
 
--- it does, and its client's lease of the inode doesn't serve
-pub record IsMissing (w : World) (l : Leases) (x : NumberedCall) (i : ℕ) (mode : Mode) : Type 0 where
-  pub needed : IsNeeded w x i mode
-  pub unserved : serves (client_lease l x.client i) mode ≡ false
+-- of what a step visits, for reading, and then of what it changes, for writing, this is the first that the client's leases don't
+-- serve
+abbrev pub IsFirstMissing : Leases → ℕ → Step → ℕ → Mode → Type 0
+IsFirstMissing l c s i mode = first_missing (served_by l c) (wants s) ≡ Some (i, mode)
+
+-- it is the first that the call lacks
+abbrev pub IsMissing : World → Leases → NumberedCall → ℕ → Mode → Type 0
+IsMissing w l x i mode = IsFirstMissing l x.client (step_at_home w x) i mode
 
 -- all leases serve that the call needs
 pub record IsServed (w : World) (l : Leases) (x : NumberedCall) : Type 0 where

@@ -1,6 +1,6 @@
 -- What happens to nodes: they fail, and come back. Each outcome with its answer, and what stands after it.
 -- Assise (OSDI 2020), section 3 (CC-NVM: fail-over; recovery: epochs, and the inodes written in each).
-use Rattle.std.specs.Prelude.{◌≡◌, ℕ, [], ◌∷◌, Option, Some, None}
+use Rattle.std.specs.Prelude.{◌≡◌, ℕ, ◌<◌, [], ◌∷◌, Option, Some, None}
 use Rattle.std.specs.Ordering.{nat_cmp}
 use Rattle.std.specs.FinSet as set
 use Rattle.assise_names.specs.declared.refusal.Refusal.{Refusal}
@@ -77,7 +77,7 @@ pub record IsRefilled (m : Machine) (n : ℕ) (m' : Machine) : Type 0 where
 pub data Refilling (m : Machine) (n : ℕ) (a : Answer) (m' : Machine) : Type 0 where
   is_refilled : filling_fault m.members n ≡ None → a ≡ left (stale_at m'.members n) → IsRefilled m n m' → Refilling m n a m'
   is_whole : filling_fault m.members n ≡ None → stale_at m.members n ≡ 0 → a ≡ left 0 → m' ≡ m → Refilling m n a m'
-  lacks_memory : filling_fault m.members n ≡ None → a ≡ refused OutOfMemory → m' ≡ m → Refilling m n a m'
+  lacks_memory : filling_fault m.members n ≡ None → 0 < stale_at m.members n → a ≡ refused OutOfMemory → m' ≡ m → Refilling m n a m'
   is_refused : (r : Refusal) → filling_fault m.members n ≡ Some r → a ≡ refused r → m' ≡ m → Refilling m n a m'
 
 -- ---- a node is full again

@@ -53,7 +53,7 @@ frames_to m n (suc c) = frames_to m n c ++ frame_for m n (suc c) (next_node m n 
 
 pub data Sending (m : Machine) (n : ℕ) (a : Answer) (m' : Machine) : Type 0 where
   is_sent : node_fault m n ≡ None → a ≡ sent (frames_to m n m.world.clients) → m' ≡ m → Sending m n a m'
-  lacks_memory : node_fault m n ≡ None → a ≡ refused OutOfMemory → m' ≡ m → Sending m n a m'
+  lacks_memory : node_fault m n ≡ None → 0 < length (frames_to m n m.world.clients) → a ≡ refused OutOfMemory → m' ≡ m → Sending m n a m'
   is_refused : (r : Refusal) → node_fault m n ≡ Some r → a ≡ refused r → m' ≡ m → Sending m n a m'
 
 -- ---- a frame comes in

@@ -6,20 +6,23 @@ use Rattle.assise_names.specs.declared.call.Op.{Op}
 use Rattle.assise_names.specs.declared.mode.Mode.{Mode}
 use Rattle.assise_names.specs.declared.reply.Reply.{Reply}
 use Rattle.assise_lease_table.specs.declared.lease.Lease.{Lease}
+use Rattle.assise_inode_plan.specs.Leased.{first_missing, wants}
 use Rattle.assise_lease_tree.specs.Levels.{in_way}
+use Rattle.assise_machine_laws.specs.World.{step_at_home}
 use Rattle.assise_machine_leases.specs.Handing.{is_newly_frozen}
 use Rattle.assise_machine_leases.specs.Leases.{client_lease, IsFrozenLease}
-use Rattle.assise_machine_events.specs.ClientEvents.{Granted, IsNeeded, call_of_client, last_leases, last_world}
+use Rattle.assise_machine_events.specs.ClientEvents.{Granted, call_of_client, last_leases, last_world, served_by}
 use Rattle.assise_machine_events.specs.Machine.{Machine}
 
 -- client c's call, which got these leases, awaits another
 pub record AwaitsLease (m : Machine) (c : ℕ) (op : Op) (m' : Machine) : Type 0 where
   pub reply : Reply
   pub granted : List Granted
-  -- an inode that the call visits or changes
+  -- the first that it lacks of what it visits, and then of what it changes
   pub inode : ℕ
   pub mode : Mode
-  pub needed : IsNeeded (last_world m.world granted) (call_of_client m.world c op reply) inode mode
+  pub first : first_missing (served_by (last_leases m.leases granted) c)
+      (wants (step_at_home (last_world m.world granted) (call_of_client m.world c op reply))) ≡ Some (inode, mode)
   -- which some client holds frozen now
   pub frozen : list_any (λ a. a.frozen) (m'.leases.levels.clients inode) ≡ true
   -- its own grants froze nothing, and changed no other client's lease

@@ -23,8 +23,9 @@ ghost use Rattle.assise_machine_events.specs.MemberEvents.{Failing, Joining};
 ghost use Rattle.assise_machine_events.specs.NodeEvents.{Delivering, Digesting, Releasing, is_ready, most_digested, undigested_to};
 ghost use Rattle.assise_machine_events.specs.Outcomes.{AwaitsLease};
 
-/// A call is awaited only where some client then holds a frozen lease of an inode that the call visits or changes. Its asking
-/// froze no lease of its own client, nor one of another inode, nor one that didn't stand in the way.
+/// A call is awaited only where some client then holds a frozen lease of the first inode that the call lacks, of those that it
+/// visits and then of those that it changes. Its asking froze no lease of its own client, nor one of another inode, nor one that
+/// didn't stand in the way.
 pub fn a_call_is_awaited_only_for_a_lease()
     ensures { (m m' : Machine) (c : ℕ) (op : Op) → Calling m c op not_yet m' → AwaitsLease m c op m' }
 {}

@@ -1,10 +1,11 @@
 -- A node that comes back gets an inode from the node that it is filled from, as the laws have it.
-use Rattle.std.proofs.Common.{◌≡◌, ℕ, false, List, [], length, Option, Some, None, Result, Ok, Err, IfOk, IsOk, inl, inr, refl, ap, sym, subst, ◌∙◌, append-nil, true≢false}
+use Rattle.std.proofs.Common.{◌≡◌, ◌≢◌, ◌<◌, arith, ℕ, false, List, [], length, Option, Some, None, Result, Ok, Err, IfOk, IsOk, inl, inr, refl, ap, sym, subst, ◌∙◌, append-nil, true≢false}
 use Rattle.std.specs.Option.{option_map}
 use Rattle.std.specs.Ordering.{nat_cmp}
 use Rattle.std.specs.FinMap as map
 use Rattle.std.specs.FinSet as set
 use Rattle.std.specs.FinSet.{len-empty}
+use Rattle.std.proofs.lemmas.Bool.{cases_eq}
 use Rattle.std.proofs.lemmas.Option.{none-some, same_Some}
 use Rattle.assise_names.specs.declared.refusal.Refusal.{Refusal}
 use Rattle.assise_names.specs.declared.refusal.Refusal.TheVariants.{OutOfMemory}
@@ -37,10 +38,10 @@ use Rattle.assise_machine_failures.proofs.Refusing.{IsFaultOr}
 
 -- ---- it is refused
 
-pub refill_refused : (s : StateValue) (n : ℕ) (e : Refusal) (a : Answer) → a ≡ refused e → IsFaultOr (filling_fault s.members n) e → Refilling (observed s) n a (observed s)
+pub refill_refused : (s : StateValue) (n : ℕ) (e : Refusal) (a : Answer) → a ≡ refused e → filling_fault s.members n ≢ None → IsFaultOr (filling_fault s.members n) e → Refilling (observed s) n a (observed s)
 unfolding observed
-refill_refused s n e a is (inl (fine, memory)) = lacks_memory fine (is ∙ ap refused memory) refl
-refill_refused s n e a is (inr fault) = is_refused e fault is refl
+refill_refused s n e a is faulty (inl (fine, memory)) = absurd (faulty fine)
+refill_refused s n e a is faulty (inr fault) = is_refused e fault is refl
 
 -- ---- a node stands coming back
 
@@ -52,6 +53,15 @@ filled_stands (Some (returning since donor stale)) d from = (since, (stale, ap (
 
 lowest_of : (o : Option (set.FinSet nat_cmp)) (stale : set.FinSet nat_cmp) (i : ℕ) → o ≡ Some stale → IsLowestOf o (Some i) → IsLowest stale i
 lowest_of o stale i is low = subst (λ p. IsLowestOf p (Some i)) is low
+
+-- where there is a lowest inode it may lack some
+some_stale : (o : Option (set.FinSet nat_cmp)) (i : ℕ) → IsLowestOf o (Some i) → 0 < count_of o
+some_stale None i low = absurd low
+some_stale (Some inodes) i low =
+    elim (cases_eq (set.len inodes) 0) [
+      | inr some ↦ omega (arith, some)
+      | inl none ↦ absurd (true≢false (sym low.there ∙ ap (λ s. set.contains s i) (set.empty_of_len inodes none) ∙ set.contains-empty nat_cmp i))
+    ]
 
 -- node n comes back, and is filled from node d
 pub record IsFilledFrom (s : StateValue) (n d : ℕ) : Type 0 where
@@ -89,8 +99,11 @@ module _ {s : StateValue} {n d : ℕ} (fills : IsFilledFrom s n d) where
   pub filled_fine : filling_fault s.members n ≡ None
   filled_fine = ap filling_fault_of filled_from
 
-  pub lacks_memory_so : (e : Refusal) (a : Answer) → a ≡ refused e → e ≡ OutOfMemory → Refilling (observed s) n a (observed s)
-  lacks_memory_so e a is memory = refill_refused s n e a is (inl (filled_fine, memory))
+  -- it lacks an inode, for which there is no memory
+  pub lacks_memory_so : (i : ℕ) (e : Refusal) (a : Answer) → IsLowestOf (stale_of (standing_of (standings s) n)) (Some i) → a ≡ refused e → e ≡ OutOfMemory →
+      Refilling (observed s) n a (observed s)
+  unfolding observed
+  lacks_memory_so i e a low is memory = lacks_memory filled_fine (some_stale (stale_of (standing_of (standings s) n)) i low) (is ∙ ap refused memory) refl
 
   -- it lacks nothing
   pub whole_so : IsLowestOf (stale_of (standing_of (standings s) n)) None → Refilling (observed s) n (left 0) (observed s)

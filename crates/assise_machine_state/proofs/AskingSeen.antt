@@ -443,6 +443,19 @@ module _ (s : StateValue) (c i : ℕ) (mode : Mode) (levels : TwoLevels) (asked 
     goals = raises;
   }
 
+  -- the cut of a lease that is frozen by it is the answer of its holder
+  pub newly_answered : (d j : ℕ) → is_newly_frozen l l' d j ≡ true → (j ≡ i) × ((a : Asked) × Among asked a × (a.client ≡ d) × (l'.cut d i ≡ a.cut))
+  newly_answered d j fresh =
+      elim (cases_eq j i) [
+        | inl is ↦
+            let h : is_asked asked d i ≡ true = sym (newly d) ∙ subst (λ k. is_newly_frozen l l' d k ≡ true) is fresh in
+            let a = answer_of asked d i h in
+            (is, (a.0, a.1, a.2, cut_now d h ∙ a.3))
+        | inr other ↦
+            let parts = and_parts (not (is_frozen (client_lease l d j))) (is_frozen (client_lease l' d j)) fresh in
+            not_both (is_frozen (client_lease l d j)) (sym (ap is_frozen (elsewhere d j other)) ∙ parts.1) (not-true (is_frozen (client_lease l d j)) parts.0)
+      ]
+
   -- ---- what is noted
 
   -- what is frozen was so before, or was asked for

@@ -1,8 +1,11 @@
-use Rattle.std.proofs.Common.{◌≡◌, ◌+◌, ◌-◌, refl, ap, sym, ◌∙◌, length, arith}
-use Rattle.assise_machine_events.specs.Events.{sent}
-use Rattle.assise_machine_events.specs.NodeEvents.{frames_to, is_refused, is_sent}
+use Rattle.std.proofs.Common.{◌≡◌, ◌≤◌, ◌+◌, ◌-◌, refl, ap, sym, ◌∙◌, length, arith}
+use Rattle.std.specs.Option.{option_to_list}
+use Rattle.std.proofs.lemmas.Result.{err_from_is_err_and}
+use Rattle.assise_machine_events.specs.Events.{refused, sent}
+use Rattle.assise_machine_events.specs.NodeEvents.{frames_to, is_refused, is_sent, lacks_memory}
 use Rattle.assise_machine_state.specs.Whole.{machine_of, value_of}
-use Rattle.assise_machine.proofs.Frames.{all_clients, few_clients, fine_node, with_frame, without_frame}
+use Rattle.assise_machine.specs.Answers.{sending_answer}
+use Rattle.assise_machine.proofs.Frames.{all_clients, few_clients, fine_node, is_one, never, some_frames, with_frame, without_frame}
 use Rattle.assise_machine.proofs.sending.outgoing.Goals as goal
 use Rattle.assise_machine.proofs.sending.outgoing.Goals.{else-loop-client-test, then-loop-client-test+in_ok-frame+else-client-client-end, in-Some-2+in_ok-push, in_default-2}
 
@@ -65,3 +68,26 @@ returns g c =
           in
           is_sent fine (ap sent all) refl
     ]
+
+-- there is something to send, for which there is no memory
+
+pub returns-in_err-frame : goal.returns-in_err-frame
+returns-in_err-frame g c =
+    let s = value_of c.args.sound.now.state in
+    let m = machine_of c.args.sound.now.state in
+    let error = err_from_is_err_and c.from_residual.result c.from_residual.ensures.1 in
+    let low : c.loop-client.client ≤ m.world.clients = omega (arith, c.loop-client-test.true, c.len-client-end.ensures, all_clients s) in
+    lacks_memory (sym c.node_refusal.ensures ∙ c.in_default.is)
+    (some_frames m c.args.node c.loop-client.client m.world.clients c.loop-client.auto.client low (never c.in_err-frame.ensures.nothing_asked))
+    (ap sending_answer error.1 ∙ ap refused (error.2 ∙ c.in_err-frame.ensures.only_memory)) refl
+
+pub returns-in_err-push : goal.returns-in_err-push
+returns-in_err-push g c =
+    let s = value_of c.args.sound.now.state in
+    let m = machine_of c.args.sound.now.state in
+    let error = err_from_is_err_and c.from_residual-in_err-push.result c.from_residual-in_err-push.ensures.1 in
+    let low : c.loop-client.client ≤ m.world.clients = omega (arith, c.loop-client-test.true, c.len-client-end.ensures, all_clients s) in
+    let found = ap option_to_list (sym c.in-Some-2.is) ∙ c.in_ok-frame.ensures.frame in
+    lacks_memory (sym c.node_refusal.ensures ∙ c.in_default.is)
+    (some_frames m c.args.node c.loop-client.client m.world.clients c.loop-client.auto.client low (is_one found))
+    (ap sending_answer error.1 ∙ ap refused error.2) refl

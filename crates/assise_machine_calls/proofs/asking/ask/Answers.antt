@@ -5,7 +5,7 @@ use Rattle.assise_manager.specs.Whole.{membership}
 use Rattle.assise_machine_state.specs.Shape.{AreNoted}
 use Rattle.assise_machine_state.specs.Whole.{value_of}
 use Rattle.assise_machine_state.proofs.Owning.{own_log}
-use Rattle.assise_machine_calls.proofs.Answering.{IsAsked, few_asked, is_asked_in, lent, running_holder}
+use Rattle.assise_machine_calls.proofs.Answering.{IsAsked, cuts_in, few_asked, is_asked_in, lent, running_holder}
 use Rattle.assise_machine_calls.proofs.Fsyncing.{fine_number}
 use Rattle.assise_machine_calls.proofs.Leasing.{are_leases, home_known}
 use Rattle.assise_machine_calls.proofs.Trying.{same_levels}
@@ -55,3 +55,10 @@ returns-clause-shape g c = (all_done g c).shape
 
 pub returns-clause-noted : goal.returns-clause-noted
 returns-clause-noted g c = (all_done g c).noted
+
+pub returns-clause-cuts : goal.returns-clause-cuts
+returns-clause-cuts g c =
+    let s = value_of c.args.state.now in
+    cuts_in _ (stored_by c.args.state.now.leases) s c.args.request (levels_of c.ask.new.self) c.in_ok-asked.asked.items c.requires.holds c.requires.shape c.requires.noted
+    c.args.state.now.members.lawful.some_full c.requires.fine c.requires.home c.requires.blocked c.in_ok-asked.ensures.asked c.in_ok-asked.ensures.answers
+    c.note_all.new.clients c.reserve.new.self.items c.note_all.new.cuts.items c.into_iter.result.rest.items c.into_iter.ensures.rest c.reserve.ensures.items c.note_all.ensures.goals c.note_all.ensures.cuts

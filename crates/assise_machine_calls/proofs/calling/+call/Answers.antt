@@ -3,19 +3,23 @@ use Rattle.std.proofs.lemmas.Result.{err_from_is_err_and}
 use Rattle.assise_inode_plan.specs.Leased.{wants}
 use Rattle.assise_inode_plan.specs.Planning.{shown}
 use Rattle.assise_inode_table.specs.Numbers.{inode_number}
-use Rattle.assise_lease_tree.specs.Trees.{levels_of}
+use Rattle.assise_lease_table.specs.Leases.{lease_of}
+use Rattle.assise_lease_tree.specs.Levels.{is_frozen}
+use Rattle.assise_lease_tree.specs.Trees.{levels_of, stored_by}
 use Rattle.assise_lease_tree.specs.TwoLevels.{IsGranted, is_free_for}
 use Rattle.assise_machine_events.specs.ClientEvents.{Calling}
 use Rattle.assise_machine_events.specs.Events.{refused}
 use Rattle.assise_machine_state.specs.Changes.{after_leases}
 use Rattle.assise_machine_state.specs.Observed.{observed, world_of}
 use Rattle.assise_machine_state.specs.Shape.{AreNoted}
+use Rattle.assise_machine_state.specs.StateValues.{leases_of}
 use Rattle.assise_machine_state.specs.Whole.{machine_of, value_of}
 use Rattle.assise_machine_calls.specs.Answers.{turn_answer}
 use Rattle.assise_machine_calls.specs.Leasing.{next_step, step_in}
+use Rattle.assise_machine_calls.proofs.AnsweredCuts.{nothing_frozen}
 use Rattle.assise_machine_calls.proofs.Committing.{call_made, call_number, call_unfailed}
 use Rattle.assise_machine_calls.proofs.Leasing.{home_known}
-use Rattle.assise_machine_calls.proofs.Trying.{awaited, fewer_then, fine_then, goes_on, holds_then, lacking_as, lacks, lacks_visit, noted_then, planned_now, visited_now, same_levels, served, shape_then}
+use Rattle.assise_machine_calls.proofs.Trying.{awaited, cuts_then, fewer_then, fine_then, goes_on, holds_then, lacking_as, lacks_visit, noted_then, planned_now, visited_now, same_levels, same_levels_frozen, served, shape_then}
 use Rattle.assise_machine_calls.proofs.Wanting.{unserved}
 use Rattle.assise_machine_calls.proofs.calling.+call.Goals as goal
 
@@ -79,7 +83,7 @@ returns-then-not-is_free-clause-happens g t c =
     c.in_ok-reply.ensures.exact c.view-view.ensures.client (ap (λ l. (levels_of l).clients) c.view-view.ensures.leases) c.view-view.ensures.inodes in
     let plan = lacks_visit s c.args.client c.args.op.now c.requires.shape c.requires.holds c.requires.fine c.in-Missing.inode c.in-Missing.mode (sym planned ∙ ap shown c.in-Missing.is) in
     awaited (observed s) (machine_of c.ask.new.state) c.args.client c.args.op.now c.in-Missing.inode c.in-Missing.mode c.home-home.result c.requires.fine
-    (lacks s c.args.client c.args.op.now c.requires.shape c.requires.holds c.requires.fine c.in-Missing.inode c.in-Missing.mode plan) c.in_ok-ask-in-Missing.ensures.ok
+    plan c.in_ok-ask-in-Missing.ensures.ok
 
 pub grant-requires-clause-at_home : goal.grant-requires-clause-at_home
 grant-requires-clause-at_home g t c =
@@ -146,3 +150,33 @@ pub returns-in_err-grant-in-Missing-clause-noted : goal.returns-in_err-grant-in-
 returns-in_err-grant-in-Missing-clause-noted g t c =
     let s = value_of c.args.state.now in
     subst (λ l. AreNoted (after_leases s l)) (sym (same_levels s.levels (levels_of c.grant.new.self) c.in_err-grant-in-Missing.ensures.err)) c.requires.noted
+
+pub returns-in_err-reply-clause-cuts : goal.returns-in_err-reply-clause-cuts
+returns-in_err-reply-clause-cuts g t c = nothing_frozen g.C.Revokes.answers (stored_by c.args.state.now.leases) (machine_of c.args.state.now) (machine_of c.args.state.now) (λ d i. refl)
+
+pub returns-else-not-branch-clause-cuts : goal.returns-else-not-branch-clause-cuts
+unfolding observed leases_of
+returns-else-not-branch-clause-cuts g t c =
+    let leased = c.in_ok-lease_changes-in-Ready.ensures.all c.if-not-branch.false in
+    nothing_frozen g.C.Revokes.answers (stored_by c.args.state.now.leases) (machine_of c.args.state.now) (machine_of c.commit.new.state) (λ d i. ap (λ l. is_frozen (lease_of ((levels_of l).clients i) d)) c.commit.ensures.leases ∙ leased.unfrozen d i)
+
+pub returns-in_err-grant-in-Missing-clause-cuts : goal.returns-in_err-grant-in-Missing-clause-cuts
+returns-in_err-grant-in-Missing-clause-cuts g t c =
+    let s = value_of c.args.state.now in
+    let same : levels_of c.grant.new.self ≡ s.levels = same_levels s.levels (levels_of c.grant.new.self) c.in_err-grant-in-Missing.ensures.err in
+    nothing_frozen g.C.Revokes.answers (stored_by c.args.state.now.leases) (observed s) (observed (after_leases s (levels_of c.grant.new.self))) (same_levels_frozen s (levels_of c.grant.new.self) same)
+
+pub returns-in_ok-grant-in-Missing-clause-cuts : goal.returns-in_ok-grant-in-Missing-clause-cuts
+returns-in_ok-grant-in-Missing-clause-cuts g t c =
+    let s = value_of c.args.state.now in
+    let home = c.home-home.ensures ∙ ap (λ x. x.home) c.get-known.ensures in
+    let planned =
+    planned_now s c.args.client c.args.op.now c.requires.shape c.requires.holds c.requires.fine c.inode_number-fresh.result
+    (c.inode_number-fresh.ensures ∙ ap (inode_number c.args.client) (c.made.ensures ∙ ap (λ x. x.made) c.get-known.ensures))
+    (shown c.in_ok-reply.field-0) c.view-view.result.client (levels_of c.view-view.result.leases.now).clients c.view-view.result.inodes
+    c.in_ok-reply.ensures.exact c.view-view.ensures.client (ap (λ l. (levels_of l).clients) c.view-view.ensures.leases) c.view-view.ensures.inodes in
+    let plan = lacks_visit s c.args.client c.args.op.now c.requires.shape c.requires.holds c.requires.fine c.in-Missing.inode c.in-Missing.mode (sym planned ∙ ap shown c.in-Missing.is) in
+    let free = subst (λ n. is_free_for s.levels c.args.client n c.in-Missing.inode c.in-Missing.mode ≡ true) home (sym c.is_free.ensures ∙ c.if-not-is_free.false) in
+    let granted = subst (λ n. IsGranted s.levels (levels_of c.grant.new.self) c.args.client n c.in-Missing.inode c.in-Missing.mode) home c.in_ok-grant-in-Missing.ensures.granted in
+    cuts_then s c.args.client c.args.op.now c.requires.shape c.requires.holds c.requires.fine c.in-Missing.inode c.in-Missing.mode (levels_of c.grant.new.self) plan free granted
+    g.C.Revokes.answers (stored_by c.args.state.now.leases) (stored_by c.grant.new.self) (machine_of c.call.new.state) c.grant.ensures.revokers c.call.ensures.cuts

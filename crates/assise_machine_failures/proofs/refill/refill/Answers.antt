@@ -23,7 +23,7 @@ pub returns-in_err-donor-clause-happens : goal.returns-in_err-donor-clause-happe
 returns-in_err-donor-clause-happens g c =
     let s = value_of c.args.sound.now.state in
     let error = err_from_is_err_and c.from_residual.result c.from_residual.ensures.1 in
-    refill_refused s c.args.node c.in_err-donor.field-0.0 (refilling_answer c.from_residual.result) (ap refilling_answer error.1 ∙ ap refused error.2)
+    refill_refused s c.args.node c.in_err-donor.field-0.0 (refilling_answer c.from_residual.result) (ap refilling_answer error.1 ∙ ap refused error.2) (never c.in_err-donor.ensures.ok.1)
     (fault_or {X = ℕ} (filling_fault s.members c.args.node) c.in_err-donor.field-0.0 c.in_err-donor.ensures.fault
     (λ fine. absurd (never c.in_err-donor.ensures.ok.1 fine)))
 
@@ -40,7 +40,8 @@ pub returns-in_err-value-clause-happens : goal.returns-in_err-value-clause-happe
 returns-in_err-value-clause-happens g c =
     let error = err_from_is_err_and c.from_residual-in_err-value.result c.from_residual-in_err-value.ensures.1 in
     lacks_memory_so (filling c.args.sound.now c.args.node c.in_ok-donor.donor c.in_ok-donor.ensures.donor)
-    c.in_err-value.field-0.0 (refilling_answer c.from_residual-in_err-value.result)
+    c.in-Some.inode c.in_err-value.field-0.0 (refilling_answer c.from_residual-in_err-value.result)
+    (subst (IsLowestOf (stale_of (standing_of (standings (value_of c.args.sound.now.state)) c.args.node))) c.in-Some.is c.in_ok-inode.ensures.lowest)
     (ap refilling_answer error.1 ∙ ap refused error.2) c.in_err-value.ensures.only_memory
 
 pub refill_one-requires-clause-node : goal.refill_one-requires-clause-node
@@ -57,7 +58,8 @@ returns-in_err-refill_one-clause-happens g c =
     let a = refilling_answer c.from_residual-in_err-refill_one.result in
     let error = err_from_is_err_and c.from_residual-in_err-refill_one.result c.from_residual-in_err-refill_one.ensures.1 in
     subst (λ rs. Refilling (observed s) c.args.node a (observed (record s { nodes = rs }))) (sym c.in_err-refill_one.ensures.err)
-    (lacks_memory_so (filling c.args.sound.now c.args.node c.in_ok-donor.donor c.in_ok-donor.ensures.donor) c.in_err-refill_one.field-0.0 a
+    (lacks_memory_so (filling c.args.sound.now c.args.node c.in_ok-donor.donor c.in_ok-donor.ensures.donor) c.in-Some.inode c.in_err-refill_one.field-0.0 a
+    (subst (IsLowestOf (stale_of (standing_of (standings s) c.args.node))) c.in-Some.is c.in_ok-inode.ensures.lowest)
     (ap refilling_answer error.1 ∙ ap refused error.2) c.in_err-refill_one.ensures.only_memory)
 
 -- the node has the inode

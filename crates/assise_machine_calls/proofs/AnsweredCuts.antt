@@ -1,0 +1,39 @@
+-- The cuts of the leases that a call froze are answers of their holders' revokers.
+use Rattle.std.proofs.Common.{◌≡◌, ℕ, true, not, ◌&&◌, Option, ap, sym, subst, ◌∙◌}
+use Rattle.std.proofs.lemmas.Bool.{and_parts, not-true, true≢false}
+use Rattle.assise_private_log.specs.NumberedLog.{NumberedLog}
+use Rattle.assise_lease_table.specs.Tables.{SameRevokers}
+use Rattle.assise_lease_tree.specs.Levels.{is_frozen}
+use Rattle.assise_machine_leases.specs.Leases.{Leases, client_lease}
+use Rattle.assise_machine_events.specs.ClientEvents.{Syncing, is_refused, is_replicating, is_synced, lacks_memory}
+use Rattle.assise_machine_events.specs.Events.{Answer}
+use Rattle.assise_machine_events.specs.Machine.{Machine}
+use Rattle.assise_machine_calls.specs.Asked.{CutsAreAnswers, log_of}
+
+-- the same leases are frozen
+abbrev pub SameFrozen : Leases → Leases → Type 0
+SameFrozen l l' = (c i : ℕ) → is_frozen (client_lease l' c i) ≡ is_frozen (client_lease l c i)
+
+-- an fsync leaves leases as they are
+fsync_leases : (m m' : Machine) (c : ℕ) (a : Answer) → Syncing m c a m' → m'.leases ≡ m.leases
+fsync_leases m m' c a (is_synced reply fine is e) = e.leases
+fsync_leases m m' c a (is_replicating fine is e) = e.leases
+fsync_leases m m' c a (lacks_memory fine all is same) = ap (λ x. x.leases) same
+fsync_leases m m' c a (is_refused r fault is same) = ap (λ x. x.leases) same
+
+module _ {C : Type 0} (answers : C → NumberedLog → ℕ → ℕ → Type 0) where
+  -- nothing is frozen
+  pub nothing_frozen : (stored : ℕ → Option C) (m m' : Machine) → SameFrozen m.leases m'.leases → CutsAreAnswers answers stored m m'
+  nothing_frozen stored m m' same c i fresh =
+      let parts = and_parts (not (is_frozen (client_lease m.leases c i))) (is_frozen (client_lease m'.leases c i)) fresh in
+      absurd (true≢false (sym parts.1 ∙ same c i ∙ not-true (is_frozen (client_lease m.leases c i)) parts.0))
+
+  -- or it is once leases were got
+  pub frozen_later : (stored kept : ℕ → Option C) (m v m' : Machine) → SameFrozen m.leases v.leases → ((c : ℕ) → log_of v c ≡ log_of m c) → SameRevokers stored kept →
+      CutsAreAnswers answers kept v m' → CutsAreAnswers answers stored m m'
+  frozen_later stored kept m v m' same logs stays cuts c i fresh =
+      let found = cuts c i (subst (λ b. (not b && is_frozen (client_lease m'.leases c i)) ≡ true) (sym (same c i)) fresh) in
+      (found.0, sym (stays c) ∙ found.1, subst (λ l. answers found.0 l i (m'.leases.cut c i)) (logs c) found.2)
+
+  pub fsync_freezes_nothing : (stored : ℕ → Option C) (m m' : Machine) (c : ℕ) (a : Answer) → Syncing m c a m' → CutsAreAnswers answers stored m m'
+  fsync_freezes_nothing stored m m' c a e = nothing_frozen stored m m' (λ d i. ap (λ l. is_frozen (client_lease l d i)) (fsync_leases m m' c a e))
