@@ -4,6 +4,7 @@ use Rattle.std.proofs.lemmas.List.{length-take, take-take, take_all, take_more}
 use Rattle.std.specs.Option.{unwrap_or}
 use Rattle.assise_names.specs.declared.refusal.Refusal.{Refusal}
 use Rattle.assise_names.specs.declared.refusal.Refusal.TheVariants.{BadClient}
+use Rattle.assise_private_log.specs.NumberedLog.{NumberedLog}
 use Rattle.assise_machine_events.specs.ClientEvents.{is_refused}
 use Rattle.assise_machine_events.specs.Events.{Answer, ClusterEvent, all_entries, entries_of, open_client, refused}
 use Rattle.assise_machine_events.specs.Faults.{open_fault}
@@ -17,7 +18,7 @@ use Rattle.assise_machine_history.specs.Courses.{IsLasting}
 use Rattle.assise_machine_history.proofs.Running.{course_lasts}
 use Rattle.assise_machine.specs.declared.answer.Answer.{Answer as Answered}
 use Rattle.assise_machine.specs.declared.event.Event.{Event}
-use Rattle.assise_machine.specs.Running.{AllServed, IsServed, answer_seen, event_seen, happens, lacks_revoker, stock_after, stock_left, told}
+use Rattle.assise_machine.specs.Running.{AllApplied, AllServed, IsApplied, IsServed, Stocked, answer_seen, event_seen, happens, lacks_revoker, stock_after, stock_left, told}
 
 -- ---- one event
 
@@ -64,6 +65,11 @@ pub served_more : (k : ℕ) (m v m' : Machine) (es : List (ClusterEvent × Answe
 served_more k m v m' [] e a same h = (m', (subst (λ u. IsServed k u e a m') same h, refl))
 served_more k m v m' ((f, b) ∷ es) e a (u, (first, rest)) h = (u, (first, served_more (stock_after k b) u v m' es e a rest h))
 
+pub applied_more : {C : Type 0} (answers : C → NumberedLog → ℕ → ℕ → Type 0) (s v t : Stocked C) (es : List (ClusterEvent × Answer)) (e : ClusterEvent) (a : Answer) →
+    AllApplied answers s es v → IsApplied answers v e a t → AllApplied answers s (es ++ (e, a) ∷ []) t
+applied_more answers s v t [] e a same h = (t, (subst (λ u. IsApplied answers u e a t) same h, refl))
+applied_more answers s v t ((f, b) ∷ es) e a (u, (first, rest)) h = (u, (first, applied_more answers u v t es e a rest h))
+
 pub left_more : (k : ℕ) (es : List (ClusterEvent × Answer)) (e : ClusterEvent) (a : Answer) → stock_left k (es ++ (e, a) ∷ []) ≡ stock_after (stock_left k es) a
 left_more k [] e a = refl
 left_more k ((f, b) ∷ es) e a = left_more (stock_after k b) es e a
@@ -92,6 +98,10 @@ module _ (k j : ℕ) (m v m' : Machine) (es : List Event) (bs cs : List Answered
     served_on before step =
         subst (λ ts. AllServed k m ts m') (sym told_now)
         (served_more k m v m' (told (take i es) bs) (event_seen e) (answer_seen a) before (subst (λ q. IsServed q v (event_seen e) (answer_seen a) m') left step))
+
+    pub applied_on : {C : Type 0} (answers : C → NumberedLog → ℕ → ℕ → Type 0) (s u t : Stocked C) → AllApplied answers s (told (take i es) bs) u → IsApplied answers u (event_seen e) (answer_seen a) t →
+        AllApplied answers s (told (take (i + 1) es) cs) t
+    applied_on answers s u t before step = subst (λ ts. AllApplied answers s ts t) (sym told_now) (applied_more answers s u t (told (take i es) bs) (event_seen e) (answer_seen a) before step)
 
     pub left_on : stock_after j (answer_seen a) ≡ stock_left k (told (take (i + 1) es) cs)
     left_on =

@@ -1,9 +1,12 @@
 -- Events with a stock of revokers, and their answers.
+use Rattle.std.specs.Prelude.{◌≡◌, ℕ, ◌-◌, List, [], ◌∷◌, ◌++◌, length, take, Option, None, Result, Ok, Err}
 use Rattle.std.specs.Option.{option_to_list}
-use Rattle.std.specs.Prelude.{◌≡◌, ℕ, ◌-◌, List, [], ◌∷◌, ◌++◌, None, Option, Result, Ok, Err}
+use Rattle.assise_names.specs.declared.call.Op.{Op}
 use Rattle.assise_names.specs.declared.refusal.Refusal.{Refusal}
 use Rattle.assise_names.specs.declared.refusal.Refusal.TheVariants.{BadClient}
+use Rattle.assise_private_log.specs.NumberedLog.{NumberedLog}
 use Rattle.assise_machine_calls.specs.Answers.{crashing_answer, turn_answer}
+use Rattle.assise_machine_calls.specs.Asked.{CutsAreAnswers}
 use Rattle.assise_machine_events.specs.Events.{Answer, ClusterEvent, back, crash, deliver, digest, fail, join, open_client, opened, outgoing, refill, refused, release_ready, released, try_call, try_fsync}
 use Rattle.assise_machine_events.specs.Faults.{open_fault}
 use Rattle.assise_machine_events.specs.Happenings.{Happens}
@@ -11,9 +14,11 @@ use Rattle.assise_machine_events.specs.Machine.{Machine}
 use Rattle.assise_machine_failures.specs.Answers.{failing_answer, joining_answer, refilling_answer, returning_answer}
 use Rattle.assise_machine.specs.declared.answer.Answer.{Answer as Answered}
 use Rattle.assise_machine.specs.declared.answer.Answer.TheVariants.{Opened, Called, Sent, Received, Digested, Released, Crashed, Failed, Began, Left, Joined}
+use Rattle.assise_machine.specs.declared.cluster.ClusterOf.{ClusterOf}
 use Rattle.assise_machine.specs.declared.event.Event.{Event}
 use Rattle.assise_machine.specs.declared.event.Event.TheVariants.{Open, Call, Fsync, Outgoing, Deliver, Digest, ReleaseReady, Crash, Fail, Back, Refill, Join}
 use Rattle.assise_machine.specs.Answers.{delivery_answer, digesting_answer, sending_answer}
+use Rattle.assise_machine.specs.Clusters.{machine, revokers}
 
 abbrev pub event_seen : Event → ClusterEvent
 event_seen (Open n) = open_client n
@@ -88,3 +93,29 @@ pub data IsServed (stock : ℕ) (m : Machine) (e : ClusterEvent) (a : Answer) (m
 abbrev pub AllServed : ℕ → Machine → List (ClusterEvent × Answer) → Machine → Type 0
 AllServed stock m [] m' = m' ≡ m
 AllServed stock m ((e, a) ∷ es) m' = (v : Machine) × (IsServed stock m e a v × AllServed (stock_after stock a) v es m')
+
+-- ---- with the revokers
+
+-- a cluster with a stock: what the laws observe, the revoker of each client, and those that are left
+pub record Stocked (C : Type 0) : Type 0 where
+  pub observed : Machine
+  pub stored : ℕ → Option C
+  pub stock : List C
+
+abbrev pub stocked : {C : Type 0} → ClusterOf C → List C → Stocked C
+stocked cluster stock = record { observed = machine cluster; stored = revokers cluster; stock = stock }
+
+-- the event is served; who is opened by it stores the last revoker of the stock, and all others what they stored; and the cut of
+-- each lease that a call froze is what its holder's stored revoker answers
+pub record IsApplied {C : Type 0} (answers : C → NumberedLog → ℕ → ℕ → Type 0) (s : Stocked C) (e : ClusterEvent) (a : Answer) (t : Stocked C) : Type 0 where
+  pub served : IsServed (length s.stock) s.observed e a t.observed
+  pub left : length t.stock ≡ stock_after (length s.stock) a
+  pub front : t.stock ≡ take (length t.stock) s.stock
+  pub gets : (c : ℕ) → a ≡ opened c → s.stock ≡ t.stock ++ option_to_list (t.stored c)
+  pub others : (c : ℕ) → (a ≡ opened c → ⊥) → t.stored c ≡ s.stored c
+  pub cuts : (c : ℕ) (op : Op) → e ≡ try_call c op → CutsAreAnswers answers s.stored s.observed t.observed
+
+-- one after another
+abbrev pub AllApplied : {C : Type 0} → (C → NumberedLog → ℕ → ℕ → Type 0) → Stocked C → List (ClusterEvent × Answer) → Stocked C → Type 0
+AllApplied answers s [] t = t ≡ s
+AllApplied {C} answers s ((e, a) ∷ es) t = (v : Stocked C) × (IsApplied answers s e a v × AllApplied answers v es t)

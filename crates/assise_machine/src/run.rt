@@ -8,7 +8,7 @@ ghost use Rattle.assise_machine_calls.specs.Asked.{CutsAreAnswers};
 ghost use Rattle.assise_machine_events.specs.Events.{all_entries, open_client, opened, try_call};
 ghost use Rattle.assise_machine.specs.Clusters.{machine, revokers};
 ghost use Rattle.assise_machine.specs.Headline.{history_after, history_of, kept_below, regions_of, replicated_calls, replicated_to};
-ghost use Rattle.assise_machine.specs.Running.{AllServed, IsServed, all_opened, answer_seen, event_seen, last_first, opened_answer, stock_after, stock_left, told};
+ghost use Rattle.assise_machine.specs.Running.{AllApplied, AllServed, IsServed, all_opened, answer_seen, event_seen, last_first, opened_answer, stock_after, stock_left, stocked, told};
 
 use crate::answer::Answer;
 use crate::cluster::ClusterOf;
@@ -29,6 +29,10 @@ pub fn run<C: Revokes + Drop>(
 ) -> Result<Vec<Answer>, Refusal>
     ensures served { IfOk result (λ answers. AllServed (length stock.old.items) (machine cluster.old) (told events.now answers.items) (machine cluster.new)) }
     ensures answered { IfOk result (λ answers. length answers.items ≡ length events.now) }
+
+    // Whom each open gives the last revoker of the stock, and whose answer each cut of a lease is that a call froze.
+    ensures applied { IfOk result (λ answers. AllApplied C.answers (stocked cluster.old stock.old.items) (told events.now answers.items) (stocked cluster.new stock.new.items)) }
+
     ensures extends { IfOk result (λ answers. (machine cluster.new).history ≡ (machine cluster.old).history ++ all_entries (machine cluster.old).history (told events.now answers.items)) }
 
     // The history gets exactly the entries of the answers, and no node goes or comes.

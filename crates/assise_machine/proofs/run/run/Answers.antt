@@ -4,10 +4,10 @@ use Rattle.assise_machine_state.specs.Observed.{observed}
 use Rattle.assise_machine_state.specs.Whole.{value_of}
 use Rattle.assise_machine.specs.Clusters.{machine, revokers}
 use Rattle.assise_machine.specs.Headline.{history_of}
-use Rattle.assise_machine.specs.Running.{all_opened, answer_seen, event_seen, last_first, told}
+use Rattle.assise_machine.specs.Running.{all_opened, answer_seen, event_seen, last_first, stocked, told}
 use Rattle.assise_machine.proofs.Opened.{gets_on, opened_anew, opened_now, others_on}
 use Rattle.assise_machine.proofs.Replicated.{bounds_stay, calls_stay, nodes_stay}
-use Rattle.assise_machine.proofs.Running.{all_last, count_on, front_on, left_on, served_on, told_all}
+use Rattle.assise_machine.proofs.Running.{all_last, applied_on, count_on, front_on, left_on, served_on, told_all}
 use Rattle.assise_machine.proofs.Telling.{history_told}
 use Rattle.assise_machine.proofs.run.run.Goals as goal
 
@@ -33,6 +33,10 @@ loop-event-preserved g c =
     let f' = revokers c.apply_event-answer.new.cluster in
     record {
       served = served_on k j m v u es bs ds i e a before.count c.loop-event-test.true c.event-item.is pushed.items before.stock before.served step.served;
+      applied =
+          applied_on k j m v u es bs ds i e a before.count c.loop-event-test.true c.event-item.is pushed.items before.stock
+          g.C.Revokes.answers (stocked c.args.cluster.now c.args.stock.now.items) (stocked c.loop-event.cluster c.loop-event.stock.items) (stocked c.apply_event-answer.new.cluster c.apply_event-answer.new.stock.items)
+          before.applied (record { served = step.served; left = step.stock; front = step.front; gets = step.gets; others = step.others; cuts = step.cuts });
       stock = step.stock ∙ left_on k j m v u es bs ds i e a before.count c.loop-event-test.true c.event-item.is pushed.items before.stock;
       front = front_on c.args.stock.now.items c.loop-event.stock.items c.apply_event-answer.new.stock.items before.front step.front;
       count = count_on k j m v u es bs ds i e a before.count c.loop-event-test.true c.event-item.is pushed.items before.stock;
