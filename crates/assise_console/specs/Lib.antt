@@ -6,6 +6,7 @@ pub mod Trying
 pub mod Returning
 pub mod Steps
 pub mod Consoles
+pub mod Stored
 pub mod Lines
 pub mod Engines
 pub mod Faults

@@ -7,6 +7,7 @@ ghost use Rattle.assise_console.specs.Consoles.{seen, stocks};
 ghost use Rattle.assise_console.specs.Courses.{Told};
 ghost use Rattle.assise_console.specs.Returning.{IsOneAt};
 ghost use Rattle.assise_console.specs.State.{begun};
+ghost use Rattle.assise_console.specs.Stored.{Stores, StoresLast};
 ghost use Rattle.assise_console.specs.Steps.{Calls, Carries, Changes, Does, Opens, Returns, Shows};
 ghost use Rattle.assise_console.specs.Trying.{IsOne, Tells};
 
@@ -74,7 +75,8 @@ impl<C: Revokes + Drop> ConsoleOf<C> {
 
     /// Runs a command, by events on the cluster.
     pub fn step(&mut self, alloc: Global, command: Command) -> Answer
-        ensures { Does (seen self.old) command result (seen self.new) }
+        ensures does { Does (seen self.old) command result (seen self.new) }
+        ensures stores { Stores command result self.old self.new }
     {
         match command {
             Command::Cluster { .. } => Answer::Quiet,
@@ -99,7 +101,8 @@ impl<C: Revokes + Drop> ConsoleOf<C> {
 
     /// Opens a client on a node, with a revoker of a kind.
     fn open(&mut self, alloc: Global, node: u64, kind: RevokerKind) -> Answer
-        ensures { (es : Told) × Opens (seen self.old) node kind es result (seen self.new) }
+        ensures opens { (es : Told) × Opens (seen self.old) node kind es result (seen self.new) }
+        ensures stores { StoresLast kind result self.old self.new }
     {
         let Some(node) = number_of(node) else {
             return Answer::Refused(Refusal::BadNode);

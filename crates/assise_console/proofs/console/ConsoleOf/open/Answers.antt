@@ -1,32 +1,72 @@
 use Rattle.std.proofs.Common.{length, arith}
-use Rattle.assise_machine.specs.Clusters.{machine}
+use Rattle.assise_machine.specs.Clusters.{machine, revokers}
 use Rattle.assise_machine.proofs.Few.{few_nodes}
 use Rattle.assise_console.specs.Consoles.{seen}
 use Rattle.assise_fault_script.specs.declared.command.RevokerKind.TheVariants.{Least, Whole, Eights}
 use Rattle.assise_machine.specs.Running.{opened_answer}
 use Rattle.assise_console.proofs.Commands.{opens_by, opens_none}
+use Rattle.assise_console.proofs.Stored.{kept, other_kinds_eights, other_kinds_least, other_kinds_whole, others_stay, takes}
 use Rattle.assise_console.proofs.console.ConsoleOf.open.Goals as goal
 
-pub returns-in_default : goal.returns-in_default
-returns-in_default g c =
+pub returns-in_default-clause-opens : goal.returns-in_default-clause-opens
+returns-in_default-clause-opens g c =
     let few = few_nodes c.args.self.now.cluster in
     let large = c.number_of.ensures.none c.in_default.is in
     opens_none (seen c.args.self.now) c.args.node c.args.kind (omega (arith, few, large))
 
-pub returns-in-Least : goal.returns-in-Least
-returns-in-Least g c =
+pub returns-in-Least-clause-opens : goal.returns-in-Least-clause-opens
+returns-in-Least-clause-opens g c =
     rw c.in-Least.is
     (opens_by (seen c.args.self.now) c.args.node c.in-Some.node Least c.opened.result (opened_answer c.open_next.result) (machine c.open_next.new.cluster) (length c.open_next.new.stock.items)
     c.in-Some.ensures.some c.opened.ensures c.open_next.ensures.served c.open_next.ensures.stock)
 
-pub returns-in-Whole : goal.returns-in-Whole
-returns-in-Whole g c =
+pub returns-in-Whole-clause-opens : goal.returns-in-Whole-clause-opens
+returns-in-Whole-clause-opens g c =
     rw c.in-Whole.is
     (opens_by (seen c.args.self.now) c.args.node c.in-Some.node Whole c.opened-in-Whole.result (opened_answer c.open_next-in-Whole.result) (machine c.open_next-in-Whole.new.cluster) (length c.open_next-in-Whole.new.stock.items)
     c.in-Some.ensures.some c.opened-in-Whole.ensures c.open_next-in-Whole.ensures.served c.open_next-in-Whole.ensures.stock)
 
-pub returns-in-Eights : goal.returns-in-Eights
-returns-in-Eights g c =
+pub returns-in-Eights-clause-opens : goal.returns-in-Eights-clause-opens
+returns-in-Eights-clause-opens g c =
     rw c.in-Eights.is
     (opens_by (seen c.args.self.now) c.args.node c.in-Some.node Eights c.opened-in-Eights.result (opened_answer c.open_next-in-Eights.result) (machine c.open_next-in-Eights.new.cluster) (length c.open_next-in-Eights.new.stock.items)
     c.in-Some.ensures.some c.opened-in-Eights.ensures c.open_next-in-Eights.ensures.served c.open_next-in-Eights.ensures.stock)
+
+pub returns-in-Least-clause-stores : goal.returns-in-Least-clause-stores
+returns-in-Least-clause-stores g c =
+    let told = c.opened.ensures in
+    let left = c.open_next.new.stock.items in
+    let was = revokers c.args.self.now.cluster in
+    let now = revokers c.open_next.new.cluster in
+    rw c.in-Least.is (record {
+      takes = takes c.opened.result c.open_next.result c.args.self.now.stock.least.items left was now told c.open_next.ensures.gets;
+      kept = kept c.opened.result c.open_next.result c.args.self.now.stock.least.items left was now told c.open_next.ensures.refused;
+      kinds = λ k other. other_kinds_least c.args.self.now.stock c.open_next.new.stock k other;
+      others = others_stay c.opened.result c.open_next.result c.args.self.now.stock.least.items left was now told c.open_next.ensures.others;
+    })
+
+pub returns-in-Whole-clause-stores : goal.returns-in-Whole-clause-stores
+returns-in-Whole-clause-stores g c =
+    let told = c.opened-in-Whole.ensures in
+    let left = c.open_next-in-Whole.new.stock.items in
+    let was = revokers c.args.self.now.cluster in
+    let now = revokers c.open_next-in-Whole.new.cluster in
+    rw c.in-Whole.is (record {
+      takes = takes c.opened-in-Whole.result c.open_next-in-Whole.result c.args.self.now.stock.whole.items left was now told c.open_next-in-Whole.ensures.gets;
+      kept = kept c.opened-in-Whole.result c.open_next-in-Whole.result c.args.self.now.stock.whole.items left was now told c.open_next-in-Whole.ensures.refused;
+      kinds = λ k other. other_kinds_whole c.args.self.now.stock c.open_next-in-Whole.new.stock k other;
+      others = others_stay c.opened-in-Whole.result c.open_next-in-Whole.result c.args.self.now.stock.whole.items left was now told c.open_next-in-Whole.ensures.others;
+    })
+
+pub returns-in-Eights-clause-stores : goal.returns-in-Eights-clause-stores
+returns-in-Eights-clause-stores g c =
+    let told = c.opened-in-Eights.ensures in
+    let left = c.open_next-in-Eights.new.stock.items in
+    let was = revokers c.args.self.now.cluster in
+    let now = revokers c.open_next-in-Eights.new.cluster in
+    rw c.in-Eights.is (record {
+      takes = takes c.opened-in-Eights.result c.open_next-in-Eights.result c.args.self.now.stock.eights.items left was now told c.open_next-in-Eights.ensures.gets;
+      kept = kept c.opened-in-Eights.result c.open_next-in-Eights.result c.args.self.now.stock.eights.items left was now told c.open_next-in-Eights.ensures.refused;
+      kinds = λ k other. other_kinds_eights c.args.self.now.stock c.open_next-in-Eights.new.stock k other;
+      others = others_stay c.opened-in-Eights.result c.open_next-in-Eights.result c.args.self.now.stock.eights.items left was now told c.open_next-in-Eights.ensures.others;
+    })

@@ -1,0 +1,43 @@
+-- Whose revokers are stored where a script opens clients.
+-- Assise (OSDI 2020), section 3 (CC-NVM: a holder whose lease is revoked says what has to be replicated before).
+use Rattle.std.specs.Prelude.{◌≡◌, ℕ, ⊤, List, ◌++◌}
+use Rattle.std.specs.Option.{option_to_list}
+use Rattle.assise_fault_script.specs.declared.command.Command.{Command}
+use Rattle.assise_fault_script.specs.declared.command.Command.TheVariants.{Cluster, Manual, Open, Call, Carry, Digest, Release, Crash, Fail, Back, Refill, Join, Tree as TreeOf, History}
+use Rattle.assise_fault_script.specs.declared.command.RevokerKind.{RevokerKind}
+use Rattle.assise_fault_script.specs.declared.command.RevokerKind.TheVariants.{Least, Whole, Eights}
+use Rattle.assise_machine.specs.Clusters.{revokers}
+use Rattle.assise_console.specs.declared.answer.Answer.{Answer}
+use Rattle.assise_console.specs.declared.answer.Answer.TheVariants.{Client}
+use Rattle.assise_console.specs.declared.console.ConsoleOf.{ConsoleOf}
+use Rattle.assise_console.specs.declared.stock.Stock.{Stock}
+
+-- the revokers of a kind that are left
+abbrev pub left_of : {C : Type 0} → RevokerKind → Stock C → List C
+left_of Least s = s.least.items
+left_of Whole s = s.whole.items
+left_of Eights s = s.eights.items
+
+-- a client that is opened stores the last revoker of this kind; where none is opened that stays, and all else stays anyhow
+pub record StoresLast {C : Type 0} (kind : RevokerKind) (a : Answer) (old new : ConsoleOf C) : Type 0 where
+  pub takes : (c : ℕ) → a ≡ Client c → left_of kind old.stock ≡ left_of kind new.stock ++ option_to_list (revokers new.cluster c)
+  pub kept : ((c : ℕ) → a ≡ Client c → ⊥) → left_of kind new.stock ≡ left_of kind old.stock
+  pub kinds : (k : RevokerKind) → (k ≡ kind → ⊥) → left_of k new.stock ≡ left_of k old.stock
+  pub others : (c : ℕ) → (a ≡ Client c → ⊥) → revokers new.cluster c ≡ revokers old.cluster c
+
+-- where the command is an open
+abbrev pub Stores : {C : Type 0} → Command → Answer → ConsoleOf C → ConsoleOf C → Type 0
+Stores (Open n kind) a old new = StoresLast kind a old new
+Stores (Cluster n l h) a old new = ⊤
+Stores Manual a old new = ⊤
+Stores (Call c op) a old new = ⊤
+Stores (Carry n) a old new = ⊤
+Stores (Digest n) a old new = ⊤
+Stores Release a old new = ⊤
+Stores (Crash c) a old new = ⊤
+Stores (Fail n) a old new = ⊤
+Stores (Back n) a old new = ⊤
+Stores (Refill n) a old new = ⊤
+Stores (Join n) a old new = ⊤
+Stores (TreeOf n) a old new = ⊤
+Stores History a old new = ⊤
