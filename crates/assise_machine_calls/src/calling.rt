@@ -36,8 +36,8 @@ use std::alloc::Global;
 ///
 /// It gets the leases that the call needs, one after another: of what it visits for reading, in the order of the visits, and
 /// then of what it changes for writing. Where others stand in the way of one, they are asked, each by the revoker that it stored,
-/// and it is [`Turn::NotYet`]: the call may be tried again. Where it has all, it is [`Turn::Answered`], with one entry of the history, and one record of the client's log
-/// if it has effects. [`Op::Fsync`] is tried as [`try_fsync`] says.
+/// and it is [`Turn::NotYet`]: the call may be tried again. Where it has all, it is [`Turn::Answered`], with one entry of the
+/// history, and one record of the client's log if it has effects. [`Op::Fsync`] is tried as [`try_fsync`] says.
 ///
 /// Refused as [`call_refusal`] says, with all as it was; and once it has its leases with [`Refusal::InodesSpent`] where it would make
 /// an inode and the client has made 1,048,576, and with [`Refusal::LogFull`] where it has effects and the client's log has no room.
