@@ -56,7 +56,7 @@ opening_leaves m m' n a (client.lacks_memory fine is same) j there = leaves_all 
 
 pub sending_leaves : (m m' : Machine) (n : ℕ) (a : Answer) → Sending m n a m' → (j : ℕ) → Leaves m.world m'.world j
 sending_leaves m m' n a (node.is_sent fine is same) j = leaves_all m m' j same
-sending_leaves m m' n a (node.lacks_memory fine is same) j = leaves_all m m' j same
+sending_leaves m m' n a (node.lacks_memory fine some is same) j = leaves_all m m' j same
 sending_leaves m m' n a (node.is_refused r fault is same) j = leaves_all m m' j same
 
 pub crashing_leaves : (m m' : Machine) (c : ℕ) (a : Answer) → Crashing m c a m' → (j : ℕ) → Full m.world j → Leaves m.world m'.world j
@@ -72,7 +72,7 @@ returning_leaves m m' n a (member.is_refused r fault is same) j there = leaves_a
 pub refilling_leaves : (m m' : Machine) (n : ℕ) (a : Answer) → Refilling m n a m' → (j : ℕ) → Full m.world j → Leaves m.world m'.world j
 refilling_leaves m m' n a (member.is_refilled fine is e) j there = leaves_nodes m.world m'.world j e.refills.rests.logs e.refills.rests.nodes there
 refilling_leaves m m' n a (member.is_whole fine none is same) j there = leaves_all m m' j same
-refilling_leaves m m' n a (member.lacks_memory fine is same) j there = leaves_all m m' j same
+refilling_leaves m m' n a (member.lacks_memory fine some is same) j there = leaves_all m m' j same
 refilling_leaves m m' n a (member.is_refused r fault is same) j there = leaves_all m m' j same
 
 pub joining_leaves : (m m' : Machine) (n : ℕ) (a : Answer) → Joining m n a m' → (j : ℕ) → Full m.world j → Leaves m.world m'.world j
