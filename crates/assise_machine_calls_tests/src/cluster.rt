@@ -27,10 +27,27 @@ pub(crate) fn open_as(
     node: u32,
     kind: RevokerKind,
 ) -> Result<u32, Refusal> {
-    let cut: Cut = match kind {
-        RevokerKind::Least => Box::new(alloc, least)?,
-        RevokerKind::Whole => Box::new(alloc, whole)?,
-        RevokerKind::Eights => Box::new(alloc, eights)?,
-    };
-    open(alloc, sound, node, Revoker::new(cut)).map_err(|refused| refused.0)
+    match kind {
+        RevokerKind::Least => {
+            let cut: Cut = Box::new(alloc, least)?;
+            open_with(alloc, sound, node, Revoker::new(cut))
+        }
+        RevokerKind::Whole => {
+            let cut: Cut = Box::new(alloc, whole)?;
+            open_with(alloc, sound, node, Revoker::new(cut))
+        }
+        RevokerKind::Eights => {
+            let cut: Cut = Box::new(alloc, eights)?;
+            open_with(alloc, sound, node, Revoker::new(cut))
+        }
+    }
+}
+
+fn open_with(
+    alloc: Global,
+    sound: &mut Sound,
+    node: u32,
+    revoker: Revoker,
+) -> Result<u32, Refusal> {
+    open(alloc, sound, node, revoker).map_err(|refused| refused.0)
 }
