@@ -210,3 +210,134 @@ fn a_call_is_busy_once_its_tries_are_spent(rt: HostRuntime) -> Result<(), Fail> 
     7: F2 Busy\n";
     prints_in(rt.alloc(), &rt, ONE_TRY, 1, wanted)
 }
+
+/// A client waits for another one of its node to give up the root. Its node's lease is raised at the asking, so a reader elsewhere
+/// doesn't overtake it.
+const RAISED_WHILE_ASKED: &str = "cluster 2 64 4\n\
+    manual\n\
+    open 1 least\n\
+    open 1 least\n\
+    open 2 least\n\
+    2 read /a 3 2\n\
+    1 mkdir /a\n\
+    3 list /a\n\
+    release\n\
+    release\n\
+    1 mkdir /a\n\
+    3 list /a\n\
+    carry 1\n\
+    digest 1\n\
+    digest 2\n\
+    release\n\
+    3 list /a\n\
+    history\n";
+
+#[test]
+fn a_writer_is_not_overtaken(rt: HostRuntime) -> Result<(), Fail> {
+    let wanted = "3: client 1\n\
+    4: client 2\n\
+    5: client 3\n\
+    6: E1 NoEnt\n\
+    7: wait\n\
+    8: wait\n\
+    9: released 2\n\
+    10: released 0\n\
+    11: done\n\
+    12: wait\n\
+    13: carried 1\n\
+    14: digested 1\n\
+    15: digested 1\n\
+    16: released 1\n\
+    17: wait\n\
+    18: history 5\n\
+    open 1 1\n\
+    open 2 1\n\
+    open 3 2\n\
+    call 2 0 read /a 3 2 = E1 NoEnt\n\
+    call 1 0 mkdir /a = done\n";
+    prints(rt.alloc(), &rt, RAISED_WHILE_ASKED, wanted)
+}
+
+/// Nine clients on three nodes make a file each, and the last one writes the first one's.
+const NINE_CLIENTS: &str = "cluster 3 8 4\n\
+    open 1 least\n\
+    open 2 whole\n\
+    open 3 eights\n\
+    open 1 least\n\
+    open 2 whole\n\
+    open 3 eights\n\
+    open 1 least\n\
+    open 2 whole\n\
+    open 3 eights\n\
+    1 create /a\n\
+    2 create /b\n\
+    3 create /c\n\
+    4 create /d\n\
+    5 create /e\n\
+    6 create /f\n\
+    7 create /g\n\
+    8 create /h\n\
+    9 create /i\n\
+    tree 1\n\
+    9 fsync\n\
+    tree 1\n\
+    9 write /a 0 t9\n\
+    1 fsync\n\
+    9 fsync\n\
+    tree 3\n";
+
+#[test]
+fn nine_clients_have_one_tree(rt: HostRuntime) -> Result<(), Fail> {
+    let wanted = "2: client 1\n\
+    3: client 2\n\
+    4: client 3\n\
+    5: client 4\n\
+    6: client 5\n\
+    7: client 6\n\
+    8: client 7\n\
+    9: client 8\n\
+    10: client 9\n\
+    11: done\n\
+    12: done\n\
+    13: done\n\
+    14: done\n\
+    15: done\n\
+    16: done\n\
+    17: done\n\
+    18: done\n\
+    19: done\n\
+    20: tree 8\n\
+    /a file 0\n\
+    /b file 0\n\
+    /c file 0\n\
+    /d file 0\n\
+    /e file 0\n\
+    /f file 0\n\
+    /g file 0\n\
+    /h file 0\n\
+    21: done\n\
+    22: tree 9\n\
+    /a file 0\n\
+    /b file 0\n\
+    /c file 0\n\
+    /d file 0\n\
+    /e file 0\n\
+    /f file 0\n\
+    /g file 0\n\
+    /h file 0\n\
+    /i file 0\n\
+    23: done\n\
+    24: done\n\
+    25: done\n\
+    26: tree 9\n\
+    /a file 1\n\
+    /b file 0\n\
+    /c file 0\n\
+    /d file 0\n\
+    /e file 0\n\
+    /f file 0\n\
+    /g file 0\n\
+    /h file 0\n\
+    /i file 0\n";
+    prints(rt.alloc(), &rt, NINE_CLIENTS, wanted)
+}

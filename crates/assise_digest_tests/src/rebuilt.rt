@@ -11,6 +11,7 @@ use assise_inode_table::table::ROOT;
 use assise_names::call::Op;
 use assise_names::name::Name;
 use assise_names::path::Path;
+use assise_names::reply::Reply;
 use assise_private_log::log::Log;
 use assise_record::effect::Effect;
 use assise_record::record::Record;
@@ -23,17 +24,34 @@ use std::alloc::Global;
 pub(crate) fn stats(alloc: Global) -> Option<String> {
     let name = Name::parse(alloc, "f").ok()?;
     let region = region_of(alloc, name.copy().ok()?)?;
-    let mut lost = tree_where_lost(alloc, &region, &name)?;
-    let mut kept = tree_where_kept(alloc, &region, &name)?;
-    let lost = stat(alloc, &mut lost)?;
-    let kept = stat(alloc, &mut kept)?;
+    stats_of(alloc, &region, &name)
+}
+
+fn stats_of(alloc: Global, region: &Region, name: &Name) -> Option<String>
+    requires made { region.now ≡ with_file name.now }
+{
+    let lost = stat_where_lost(alloc, region, name)?;
+    let kept = stat_where_kept(alloc, region, name)?;
     format!(in alloc; "{lost}, {kept}").ok()
 }
 
-fn stat(alloc: Global, tree: &mut Tree) -> Option<String> {
+fn stat_where_lost(alloc: Global, region: &Region, name: &Name) -> Option<Reply>
+    requires made { region.now ≡ with_file name.now }
+{
+    let mut tree = tree_where_lost(alloc, region, name)?;
+    stat(alloc, &mut tree)
+}
+
+fn stat_where_kept(alloc: Global, region: &Region, name: &Name) -> Option<Reply>
+    requires made { region.now ≡ with_file name.now }
+{
+    let mut tree = tree_where_kept(alloc, region, name)?;
+    stat(alloc, &mut tree)
+}
+
+fn stat(alloc: Global, tree: &mut Tree) -> Option<Reply> {
     let path = Path::parse(alloc, "/f").ok()?;
-    let reply = answer(alloc, tree, &Op::Stat(path)).ok()?;
-    format!(in alloc; "{reply}").ok()
+    answer(alloc, tree, &Op::Stat(path)).ok()
 }
 
 /// A region of which one client, on another node, has made a file of this name.

@@ -2,8 +2,9 @@
 ghost use Rattle.std.specs.Prelude.{◌≡◌, ◌∷◌, [], IfSome};
 ghost use Rattle.assise_inode_table.specs.Whole.{CanBeMadeWhole};
 
-use assise_effect_texts::effects::{extent_of, size_of, split_name, split_number};
+use assise_effect_texts::effects::{extent_of, size_of, split_number};
 use assise_inode_table::inode::Inode;
+use assise_names::name::Name;
 use assise_record::effect::Effect;
 use assise_record::record::Record;
 use std::alloc::Global;
@@ -42,8 +43,9 @@ fn record_of_new(alloc: Global, call: u64, kind: &str, text: &str) -> Option<Rec
     ensures whole { IfSome result (λ made. CanBeMadeWhole made.effects) }
 {
     let (directory, rest) = split_number(text)?;
-    let (name, inode) = split_name(alloc, rest)?;
+    let (name, inode) = rest.split_once(' ')?;
     let inode = inode.parse::<u64>().ok()?;
+    let name = Name::parse(alloc, name).ok()?;
     let link = Effect::Link {
         directory,
         name,
@@ -61,8 +63,9 @@ fn record_of_unlink(alloc: Global, call: u64, text: &str) -> Option<Record>
     ensures whole { IfSome result (λ made. CanBeMadeWhole made.effects) }
 {
     let (directory, rest) = split_number(text)?;
-    let (name, inode) = split_name(alloc, rest)?;
+    let (name, inode) = rest.split_once(' ')?;
     let inode = inode.parse::<u64>().ok()?;
+    let name = Name::parse(alloc, name).ok()?;
     let unlink = Effect::Unlink { directory, name };
     record_of_two(alloc, call, unlink, Effect::Free { inode })
 }
@@ -71,12 +74,17 @@ fn record_of_unlink(alloc: Global, call: u64, text: &str) -> Option<Record>
 fn record_of_rename(alloc: Global, call: u64, text: &str) -> Option<Record>
     ensures whole { IfSome result (λ made. CanBeMadeWhole made.effects) }
 {
-    let (directory, rest) = split_number(text)?;
-    let (name, rest) = split_name(alloc, rest)?;
-    let unlink = Effect::Unlink { directory, name };
+    let (from, rest) = split_number(text)?;
+    let (name, rest) = rest.split_once(' ')?;
     let (directory, rest) = split_number(rest)?;
-    let (name, inode) = split_name(alloc, rest)?;
+    let (target, inode) = rest.split_once(' ')?;
     let inode = inode.parse::<u64>().ok()?;
+    let gone = Name::parse(alloc, name).ok()?;
+    let name = Name::parse(alloc, target).ok()?;
+    let unlink = Effect::Unlink {
+        directory: from,
+        name: gone,
+    };
     let link = Effect::Link {
         directory,
         name,

@@ -12,22 +12,21 @@ pub(crate) fn show(alloc: Global, rt: &impl Abort, rows: &str) {
     assert!(rt; wrong.is_empty(), "what comes out:\n{wrong}");
 }
 
-/// A new region of two clients for each row: client 1 lives there, and client 2 elsewhere. The logs have room for 8
-/// records each.
+/// A new region, of which 4 inodes may be hot, with two clients for each row: client 1 lives there, and client 2 elsewhere.
+/// The logs have room for 8 records each.
 #[derive(Clone, Copy)]
 struct NewRegion;
 
 impl Subject for NewRegion {
     fn put(&mut self, alloc: Global, steps: &str, text: &mut String) -> Option<()> {
-        let mut region = new_region(alloc)?;
-        put_steps(alloc, &mut region, steps, text)
+        let mut region = Region::new(alloc, 4).ok()?;
+        put_on(alloc, &mut region, steps, text)
     }
 }
 
-/// The region of a new node, of which 4 inodes may be hot, with its two clients.
-fn new_region(alloc: Global) -> Option<Region> {
-    let mut region = Region::new(alloc, 4).ok()?;
+/// Adds the two clients, and makes the steps.
+fn put_on(alloc: Global, region: &mut Region, steps: &str, text: &mut String) -> Option<()> {
     region.add_own_client(Log::new(alloc, 8).ok()?).ok()?;
     region.add_client(Log::new(alloc, 8).ok()?, 0).ok()?;
-    Some(region)
+    put_steps(alloc, region, steps, text)
 }

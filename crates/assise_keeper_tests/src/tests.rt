@@ -10,6 +10,7 @@ use assise_keeper::keeper::Keeper;
 use assise_keeper::pass::Pass;
 use assise_keeper::worker_pass::WorkerPass;
 use std::alloc::Global;
+use std::process::Abort;
 use std::sync::Wait;
 use std::test::Fail;
 use std::thread::Threads;
@@ -53,30 +54,29 @@ fn thousands<R: Threads + Wait + Sync>(rt: &R, alloc: Global) -> Result<(Ended, 
     Ok((ended, book))
 }
 
-#[test]
-fn the_calls_of_two_threads_stand_in_the_history(rt: HostRuntime) -> Result<(), Fail> {
-    let (ended, book) = thousands(&rt, rt.alloc())?;
-    assert!(rt; stand(rt.alloc(), &book, &ended.first)?);
-    assert!(rt; stand(rt.alloc(), &book, &ended.second)?);
+/// Sees that the calls of both clients stand in the book as they were answered, in one order that has all calls, and nothing else
+/// but their openings.
+fn see_all(alloc: Global, rt: &impl Abort, ended: &Ended, book: &Book) -> Result<(), Fail> {
+    assert!(rt; stand(alloc, book, &ended.first)?);
+    assert!(rt; stand(alloc, book, &ended.second)?);
     assert!(rt; ended.first.client != ended.second.client);
-    Ok(())
-}
-
-#[test]
-fn nothing_else_stands_in_it(rt: HostRuntime) -> Result<(), Fail> {
-    let (ended, book) = thousands(&rt, rt.alloc())?;
     assert_eq!(rt; book.history().entries().len(), 2002);
     assert_eq!(rt; book.calls(), 2000);
     assert!(rt; ended.looked <= 2000);
+    assert!(rt; is_in_order(alloc, book)?);
     Ok(())
 }
 
+/// Whether the numbers of all calls rise by one from 0 on.
+fn is_in_order(alloc: Global, book: &Book) -> Result<bool, Fail> {
+    let counted: Vec<u64> = (0..2000u64).collect(alloc)?;
+    Ok(all_numbers(alloc, book)? == counted)
+}
+
 #[test]
-fn one_order_has_all_calls(rt: HostRuntime) -> Result<(), Fail> {
-    let (_ended, book) = thousands(&rt, rt.alloc())?;
-    let counted: Vec<u64> = (0..2000u64).collect(rt.alloc())?;
-    assert_eq!(rt; all_numbers(rt.alloc(), &book)?, counted);
-    Ok(())
+fn the_calls_of_two_threads_stand_in_the_history(rt: HostRuntime) -> Result<(), Fail> {
+    let (ended, book) = thousands(&rt, rt.alloc())?;
+    see_all(rt.alloc(), &rt, &ended, &book)
 }
 
 /// Whether a keeper has its state at the end, where a worker took it once and gave it back.

@@ -3,6 +3,7 @@ use crate::rows::show;
 
 /// Where one node alone is full, all that it has is everywhere.
 const ALONE: &str = "\
+cluster 1 => begun
 open 1 least => client 1
 1 create /f => done
 client 1 => at 1, calls 1, made 1, goal 0, end 1, acked 1, digested 0
@@ -16,6 +17,7 @@ history => open 1 1; call 1 0 create /f = done; call 1 1 fsync = done; call 1 2 
 
 /// A log that another node lacks is to be replicated up to its end; until then there is no answer. Other calls go on.
 const AWAITED: &str = "\
+cluster 2 => begun
 open 1 least => client 1
 fsync 1 => done
 1 create /a => done
@@ -31,6 +33,7 @@ history => open 1 1; call 1 0 fsync = done; call 1 1 create /a = done; call 1 2 
 
 /// A client's fsync waits for no other's log.
 const ONE_AWAITS: &str = "\
+cluster 3 => begun
 open 1 least => client 1
 open 3 least => client 2
 1 create /a => done
@@ -41,17 +44,20 @@ client 2 => at 3, calls 1, made 0, goal 0, end 0, acked 0, digested 0
 history => open 1 1; open 2 3; call 1 0 create /a = done; call 2 0 fsync = done
 ";
 
-#[test]
-fn a_log_of_a_node_alone_is_synced(rt: HostRuntime) {
-    show(rt.alloc(), &rt, 1, &[ALONE]);
-}
+/// A log without records is everywhere: nothing is awaited, and each fsync is an entry.
+const WITHOUT_RECORDS: &str = "\
+cluster 2 => begun
+open 1 least => client 1
+fsync 1 => done
+fsync 1 => done
+history => open 1 1; call 1 0 fsync = done; call 1 1 fsync = done
+";
 
 #[test]
-fn a_log_that_a_node_lacks_is_awaited(rt: HostRuntime) {
-    show(rt.alloc(), &rt, 2, &[AWAITED]);
-}
-
-#[test]
-fn no_other_log_is_awaited(rt: HostRuntime) {
-    show(rt.alloc(), &rt, 3, &[ONE_AWAITS]);
+fn logs_are_synced_or_awaited(rt: HostRuntime) {
+    show(
+        rt.alloc(),
+        &rt,
+        &[ALONE, AWAITED, ONE_AWAITS, WITHOUT_RECORDS],
+    );
 }

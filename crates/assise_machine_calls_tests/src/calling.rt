@@ -3,6 +3,7 @@ use crate::rows::show;
 
 /// A file, a directory and a file in it are made, found and listed.
 const MADE: &str = "\
+cluster 1 => begun
 open 1 least => client 1
 1 stat / => dir 0
 1 list / => names 0
@@ -21,6 +22,7 @@ client 1 => at 1, calls 11, made 3, goal 0, end 3, acked 3, digested 0
 /// A write past the end fills the gap with zeros, and at the end and past it there are no bytes to read. A write without bytes is
 /// no record.
 const BYTES: &str = "\
+cluster 1 => begun
 open 1 least => client 1
 1 create /f => done
 1 write /f 5 tabc => done
@@ -38,6 +40,7 @@ client 1 => at 1, calls 11, made 1, goal 0, end 3, acked 3, digested 0
 
 /// A file that gets another size loses its end, or gets zeros there, up to 1,048,576 bytes.
 const SIZES: &str = "\
+cluster 1 => begun
 open 1 least => client 1
 1 create /f => done
 1 write /f 0 tabc => done
@@ -56,6 +59,7 @@ client 1 => at 1, calls 11, made 1, goal 0, end 6, acked 6, digested 0
 /// A rename moves a file or a directory, and replaces a file by a file and an empty directory by a directory. Onto itself it is no
 /// record.
 const MOVED: &str = "\
+cluster 1 => begun
 open 1 least => client 1
 1 create /a => done
 1 create /b => done
@@ -75,6 +79,7 @@ client 1 => at 1, calls 13, made 5, goal 0, end 8, acked 8, digested 0
 
 /// What is removed isn't there any more.
 const REMOVED: &str = "\
+cluster 1 => begun
 open 1 least => client 1
 1 create /f => done
 1 mkdir /d => done
@@ -90,6 +95,7 @@ client 1 => at 1, calls 9, made 3, goal 0, end 6, acked 6, digested 0
 
 /// Each answered call is an entry with its client's next number.
 const NUMBERED: &str = "\
+cluster 1 => begun
 open 1 least => client 1
 1 create /f => done
 1 write /f 0 thi => done
@@ -103,6 +109,7 @@ client 1 => at 1, calls 6, made 1, goal 2, end 2, acked 2, digested 0
 
 /// A client reads its own records at once, before any node's area has them: no area changes by a call.
 const OWN: &str = "\
+cluster 2 => begun
 open 2 least => client 1
 1 create /f => done
 1 write /f 0 thi => done
@@ -117,6 +124,7 @@ client 1 => at 2, calls 4, made 1, goal 0, end 2, acked 0, digested 0
 
 /// A number of an inode is used up only by what is made. The second client's first inode is 8589934592.
 const SPARED: &str = "\
+cluster 1 => begun
 open 1 least => client 1
 open 1 least => client 2
 2 create /x/f => E1 NoEnt
@@ -132,41 +140,10 @@ client 1 => at 1, calls 0, made 0, goal 0, end 0, acked 0, digested 0
 ";
 
 #[test]
-fn what_is_made_is_there(rt: HostRuntime) {
-    show(rt.alloc(), &rt, 1, &[MADE]);
-}
-
-#[test]
-fn what_is_written_is_read(rt: HostRuntime) {
-    show(rt.alloc(), &rt, 1, &[BYTES]);
-}
-
-#[test]
-fn files_get_other_sizes(rt: HostRuntime) {
-    show(rt.alloc(), &rt, 1, &[SIZES]);
-}
-
-#[test]
-fn what_is_renamed_stands_elsewhere(rt: HostRuntime) {
-    show(rt.alloc(), &rt, 1, &[MOVED]);
-}
-
-#[test]
-fn what_is_removed_is_gone(rt: HostRuntime) {
-    show(rt.alloc(), &rt, 1, &[REMOVED]);
-}
-
-#[test]
-fn each_answer_is_an_entry(rt: HostRuntime) {
-    show(rt.alloc(), &rt, 1, &[NUMBERED]);
-}
-
-#[test]
-fn a_client_reads_its_own_records(rt: HostRuntime) {
-    show(rt.alloc(), &rt, 2, &[OWN]);
-}
-
-#[test]
-fn numbers_of_inodes_are_spared(rt: HostRuntime) {
-    show(rt.alloc(), &rt, 1, &[SPARED]);
+fn calls_are_answered(rt: HostRuntime) {
+    show(
+        rt.alloc(),
+        &rt,
+        &[MADE, BYTES, SIZES, MOVED, REMOVED, NUMBERED, OWN, SPARED],
+    );
 }

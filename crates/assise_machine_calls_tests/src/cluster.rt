@@ -1,6 +1,4 @@
 // Clusters and their clients.
-ghost use Rattle.std.specs.Prelude.{◌<◌, ◌≤◌};
-
 use assise_fault_script::command::RevokerKind;
 use assise_lease_table::revoker::Revoker;
 use assise_machine_calls::opening::open;
@@ -12,18 +10,14 @@ use std::alloc::Global;
 
 type Cut = Box<dyn Fn(&LogView, u64) -> u64 + Send>;
 
-/// A cluster of so many nodes, whose clients' logs have 8 records at most.
-pub(crate) fn cluster(alloc: Global, nodes: u32) -> Result<Sound, Refusal>
-    requires some { 0 < nodes }
-    requires few { nodes ≤ 8 }
-{
-    Sound::new(alloc, nodes, 8, 1)
-}
-
-/// Opens a client on a node, with a revoker that answers the least cut.
-pub(crate) fn open_on(alloc: Global, sound: &mut Sound, node: u32) -> Result<u32, Refusal> {
-    let cut: Cut = Box::new(alloc, least)?;
-    open_with(alloc, sound, node, Revoker::new(cut))
+/// A cluster of so many nodes, whose clients' logs have 8 records at most, stands in place of another. None where there is no such
+/// cluster, or no memory.
+pub(crate) fn renew(alloc: Global, sound: &mut Sound, nodes: u32) -> Option<()> {
+    if nodes == 0 || nodes > 8 {
+        return None;
+    }
+    *sound = Sound::new(alloc, nodes, 8, 1).ok()?;
+    Some(())
 }
 
 /// Opens a client on a node, with a revoker of a kind.
@@ -34,7 +28,10 @@ pub(crate) fn open_as(
     kind: RevokerKind,
 ) -> Result<u32, Refusal> {
     match kind {
-        RevokerKind::Least => open_on(alloc, sound, node),
+        RevokerKind::Least => {
+            let cut: Cut = Box::new(alloc, least)?;
+            open_with(alloc, sound, node, Revoker::new(cut))
+        }
         RevokerKind::Whole => {
             let cut: Cut = Box::new(alloc, whole)?;
             open_with(alloc, sound, node, Revoker::new(cut))

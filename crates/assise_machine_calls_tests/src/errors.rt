@@ -3,6 +3,7 @@ use crate::rows::show;
 
 /// A file, a directory with a file, and one without entries: four records.
 const TREE: &str = "\
+cluster 1 => begun
 open 1 least => client 1
 1 create /f => done
 1 mkdir /d => done
@@ -84,6 +85,7 @@ const AFTER: &str = "\
 
 /// A call that the tree doesn't do has a number and an entry.
 const ENTRIES: &str = "\
+cluster 1 => begun
 open 1 least => client 1
 1 stat /x => E1 NoEnt
 1 rmdir / => E6 Invalid
@@ -105,31 +107,26 @@ client 1 => at 1, calls 17, made 4, goal 0, end 4, acked 4, digested 0
 ";
 
 #[test]
-fn names_are_there_or_not(rt: HostRuntime) {
+fn errors_are_answered(rt: HostRuntime) {
     show(
         rt.alloc(),
         &rt,
-        1,
-        &[TREE, NO_ENTRY, EXISTS, AFTER, AFTER_NAMES],
+        &[
+            TREE,
+            NO_ENTRY,
+            EXISTS,
+            AFTER,
+            AFTER_NAMES,
+            TREE,
+            NOT_DIRECTORY,
+            IS_DIRECTORY,
+            AFTER,
+            AFTER_KINDS,
+            TREE,
+            OTHERS,
+            AFTER,
+            AFTER_OTHERS,
+            ENTRIES,
+        ],
     );
-}
-
-#[test]
-fn files_are_no_directories(rt: HostRuntime) {
-    show(
-        rt.alloc(),
-        &rt,
-        1,
-        &[TREE, NOT_DIRECTORY, IS_DIRECTORY, AFTER, AFTER_KINDS],
-    );
-}
-
-#[test]
-fn some_calls_are_not_done(rt: HostRuntime) {
-    show(rt.alloc(), &rt, 1, &[TREE, OTHERS, AFTER, AFTER_OTHERS]);
-}
-
-#[test]
-fn each_error_is_an_entry(rt: HostRuntime) {
-    show(rt.alloc(), &rt, 1, &[ENTRIES]);
 }

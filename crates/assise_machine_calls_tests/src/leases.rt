@@ -3,6 +3,7 @@ use crate::rows::show;
 
 /// A call gets what it visits for reading, and what it changes for writing. Two may read.
 const GOT: &str = "\
+cluster 1 => begun
 open 1 least => client 1
 open 1 least => client 2
 leases 0 => nobody
@@ -15,6 +16,7 @@ history => open 1 1; open 2 1; call 1 0 list / = names 0; call 2 0 stat / = dir 
 
 /// A reader that writes holds the inode for writing, and what it makes too. A name that is there isn't visited.
 const RAISED: &str = "\
+cluster 1 => begun
 open 1 least => client 1
 1 create /x/f => E1 NoEnt
 leases 0 => 1 read
@@ -31,6 +33,7 @@ leases 4294967297 => nobody
 /// Who reads is asked by a writer: its lease is frozen, and it serves no call. The asking one's own lease serves on. Who was asked
 /// isn't asked again, and the history, the logs and the goals stay.
 const READER_ASKED: &str = "\
+cluster 1 => begun
 open 1 least => client 1
 open 1 least => client 2
 1 list / => names 0
@@ -51,6 +54,7 @@ history => open 1 1; open 2 1; call 1 0 list / = names 0; call 2 0 stat / = dir 
 /// Who writes is asked by a reader. Its log is to be replicated up to its cut: past its last record of the inode. Its frozen lease
 /// serves neither reads nor writes, and it gets nothing for a call that needs it; an fsync needs no lease.
 const WRITER_ASKED: &str = "\
+cluster 1 => begun
 open 1 least => client 1
 open 1 least => client 2
 1 create /a => done
@@ -76,6 +80,7 @@ history => open 1 1; open 2 1; call 1 0 create /a = done; call 1 1 write /a 0 1 
 
 /// A client whose cut is its log's end has all of its log to be replicated.
 const WHOLE_CUT: &str = "\
+cluster 1 => begun
 open 1 whole => client 1
 open 1 least => client 2
 1 create /a => done
@@ -86,6 +91,7 @@ client 1 => at 1, calls 2, made 1, goal 2, end 2, acked 2, digested 0
 
 /// A cut that isn't the log's end is a multiple of 8.
 const EIGHTS_CUT: &str = "\
+cluster 1 => begun
 open 1 eights => client 1
 open 1 least => client 2
 1 create /a => done
@@ -96,6 +102,7 @@ client 1 => at 1, calls 2, made 1, goal 2, end 2, acked 2, digested 0
 
 /// Two readers that both want to write: the first to ask keeps its lease, and the second's doesn't serve.
 const CROSSING: &str = "\
+cluster 1 => begun
 open 1 least => client 1
 open 1 least => client 2
 1 stat / => dir 0
@@ -110,6 +117,7 @@ leases 8589934592 => nobody
 
 /// All readers but the asking one are asked in one step.
 const ALL_ASKED: &str = "\
+cluster 1 => begun
 open 1 least => client 1
 open 1 least => client 2
 open 1 least => client 3
@@ -121,41 +129,19 @@ leases 0 => 1 read frozen, 2 read, 3 read frozen
 ";
 
 #[test]
-fn a_call_gets_its_leases(rt: HostRuntime) {
-    show(rt.alloc(), &rt, 1, &[GOT]);
-}
-
-#[test]
-fn a_reader_that_writes_holds_for_writing(rt: HostRuntime) {
-    show(rt.alloc(), &rt, 1, &[RAISED]);
-}
-
-#[test]
-fn a_reader_is_asked(rt: HostRuntime) {
-    show(rt.alloc(), &rt, 1, &[READER_ASKED]);
-}
-
-#[test]
-fn a_writer_is_asked(rt: HostRuntime) {
-    show(rt.alloc(), &rt, 1, &[WRITER_ASKED]);
-}
-
-#[test]
-fn a_cut_may_be_the_end(rt: HostRuntime) {
-    show(rt.alloc(), &rt, 1, &[WHOLE_CUT]);
-}
-
-#[test]
-fn a_cut_may_be_a_multiple_of_eight(rt: HostRuntime) {
-    show(rt.alloc(), &rt, 1, &[EIGHTS_CUT]);
-}
-
-#[test]
-fn two_readers_want_to_write(rt: HostRuntime) {
-    show(rt.alloc(), &rt, 1, &[CROSSING]);
-}
-
-#[test]
-fn all_readers_are_asked(rt: HostRuntime) {
-    show(rt.alloc(), &rt, 1, &[ALL_ASKED]);
+fn leases_of_clients_on_one_node(rt: HostRuntime) {
+    show(
+        rt.alloc(),
+        &rt,
+        &[
+            GOT,
+            RAISED,
+            READER_ASKED,
+            WRITER_ASKED,
+            WHOLE_CUT,
+            EIGHTS_CUT,
+            CROSSING,
+            ALL_ASKED,
+        ],
+    );
 }

@@ -3,6 +3,7 @@ use crate::rows::show;
 
 /// Clients of two nodes read.
 const SHARED: &str = "\
+cluster 2 => begun
 open 1 least => client 1
 open 2 least => client 2
 1 stat / => dir 0
@@ -13,6 +14,7 @@ history => open 1 1; open 2 2; call 1 0 stat / = dir 0; call 2 0 list / = names 
 
 /// A reader elsewhere is asked: it serves no more. Its node's lease is asked too, and grants nothing, also to another client there.
 const READER_ASKED: &str = "\
+cluster 2 => begun
 open 1 least => client 1
 open 2 least => client 2
 open 1 least => client 3
@@ -31,6 +33,7 @@ history => open 1 1; open 2 2; open 3 1; call 1 0 stat / = dir 0; call 2 0 stat 
 
 /// All of a node's clients that hold the inode are asked in one step.
 const NODE_ASKED: &str = "\
+cluster 2 => begun
 open 1 least => client 1
 open 2 least => client 2
 open 1 least => client 3
@@ -43,6 +46,7 @@ leases 0 => 1 read frozen, 2 read, 3 read frozen
 
 /// A writer elsewhere is asked by a reader: what it wrote is to be replicated first. No area and no log changes at the other node.
 const WRITER_ASKED: &str = "\
+cluster 2 => begun
 open 1 least => client 1
 open 2 least => client 2
 1 create /a => done
@@ -61,6 +65,7 @@ history => open 1 1; open 2 2; call 1 0 create /a = done
 
 /// Where the way to both names isn't leased, nothing is renamed.
 const RENAME_WAITS: &str = "\
+cluster 2 => begun
 open 1 least => client 1
 open 2 eights => client 2
 1 mkdir /p => done
@@ -73,26 +78,10 @@ history => open 1 1; open 2 2; call 1 0 mkdir /p = done; call 1 1 mkdir /p/x = d
 ";
 
 #[test]
-fn readers_share_among_nodes(rt: HostRuntime) {
-    show(rt.alloc(), &rt, 2, &[SHARED]);
-}
-
-#[test]
-fn a_reader_elsewhere_is_asked(rt: HostRuntime) {
-    show(rt.alloc(), &rt, 2, &[READER_ASKED]);
-}
-
-#[test]
-fn a_node_is_asked(rt: HostRuntime) {
-    show(rt.alloc(), &rt, 2, &[NODE_ASKED]);
-}
-
-#[test]
-fn a_writer_elsewhere_is_asked(rt: HostRuntime) {
-    show(rt.alloc(), &rt, 2, &[WRITER_ASKED]);
-}
-
-#[test]
-fn a_rename_waits_for_its_way(rt: HostRuntime) {
-    show(rt.alloc(), &rt, 2, &[RENAME_WAITS]);
+fn leases_of_clients_on_several_nodes(rt: HostRuntime) {
+    show(
+        rt.alloc(),
+        &rt,
+        &[SHARED, READER_ASKED, NODE_ASKED, WRITER_ASKED, RENAME_WAITS],
+    );
 }

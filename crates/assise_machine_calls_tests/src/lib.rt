@@ -30,6 +30,4 @@ mod seen;
 #[cfg(test)]
 mod short;
 #[cfg(test)]
-mod syncing;
-#[cfg(test)]
 mod told;

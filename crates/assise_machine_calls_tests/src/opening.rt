@@ -3,6 +3,7 @@ use crate::rows::show;
 
 /// Clients have rising numbers, on whichever node.
 const NUMBERS: &str = "\
+cluster 2 => begun
 open 2 least => client 1
 open 1 least => client 2
 open 2 least => client 3
@@ -11,6 +12,7 @@ history => open 1 2; open 2 1; open 3 2
 
 /// A client has a log without records at each node.
 const LOGS: &str = "\
+cluster 3 => begun
 clients at 1 => 0
 open 2 least => client 1
 clients at 1 => 1
@@ -24,6 +26,7 @@ client 1 => at 2, calls 0, made 0, goal 0, end 0, acked 0, digested 0
 
 /// A client finds what its node has, and has no lease of it.
 const FOUND: &str = "\
+cluster 2 => begun
 open 2 least => client 1
 inode 0 for 1 => dir 0
 inode 7 for 1 => none
@@ -32,6 +35,7 @@ leases 0 => nobody
 
 /// Sixteen clients are as many as there may be. The node is looked at first.
 const SEVENTEEN: &str = "\
+cluster 1 => begun
 open 1 least => client 1
 open 1 least => client 2
 open 1 least => client 3
@@ -54,21 +58,6 @@ clients at 1 => 16
 ";
 
 #[test]
-fn clients_have_rising_numbers(rt: HostRuntime) {
-    show(rt.alloc(), &rt, 2, &[NUMBERS]);
-}
-
-#[test]
-fn a_client_has_a_log_at_each_node(rt: HostRuntime) {
-    show(rt.alloc(), &rt, 3, &[LOGS]);
-}
-
-#[test]
-fn a_client_finds_the_root(rt: HostRuntime) {
-    show(rt.alloc(), &rt, 2, &[FOUND]);
-}
-
-#[test]
-fn the_seventeenth_client_is_refused(rt: HostRuntime) {
-    show(rt.alloc(), &rt, 1, &[SEVENTEEN]);
+fn clients_are_opened(rt: HostRuntime) {
+    show(rt.alloc(), &rt, &[NUMBERS, LOGS, FOUND, SEVENTEEN]);
 }

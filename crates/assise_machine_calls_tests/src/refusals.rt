@@ -3,6 +3,7 @@ use crate::rows::show;
 
 /// There is no such node, and no such client.
 const NO_SUCH: &str = "\
+cluster 2 => begun
 open 0 least => F8 BadNode
 open 3 least => F8 BadNode
 open 4294967295 least => F8 BadNode
@@ -20,6 +21,7 @@ history => open 1 2
 
 /// A write takes 65,536 bytes, and the size of its data is looked at after the client, before the leases and before the tree.
 const TOO_LARGE: &str = "\
+cluster 1 => begun
 open 1 least => client 1
 1 write /f 0 z65537 => F6 TooLarge
 2 write /f 0 z65537 => F9 BadClient
@@ -35,6 +37,7 @@ client 1 => at 1, calls 4, made 1, goal 0, end 2, acked 2, digested 0
 
 /// The size is looked at where a lease would be awaited.
 const TOO_LARGE_TO_WAIT: &str = "\
+cluster 1 => begun
 open 1 least => client 1
 open 1 least => client 2
 1 create /f => done
@@ -46,6 +49,7 @@ leases 0 => 1 write frozen
 
 /// A log of eight records takes no ninth; a call without effects needs none. It is looked at after the leases and the tree.
 const FULL: &str = "\
+cluster 1 => begun
 open 1 least => client 1
 1 create /a => done
 1 create /b => done
@@ -79,21 +83,10 @@ client 1 => at 1, calls 14, made 8, goal 8, end 8, acked 8, digested 0
 ";
 
 #[test]
-fn numbers_that_nobody_has_are_refused(rt: HostRuntime) {
-    show(rt.alloc(), &rt, 2, &[NO_SUCH]);
-}
-
-#[test]
-fn a_write_is_too_large(rt: HostRuntime) {
-    show(rt.alloc(), &rt, 1, &[TOO_LARGE]);
-}
-
-#[test]
-fn a_write_is_too_large_to_wait(rt: HostRuntime) {
-    show(rt.alloc(), &rt, 1, &[TOO_LARGE_TO_WAIT]);
-}
-
-#[test]
-fn a_log_is_full(rt: HostRuntime) {
-    show(rt.alloc(), &rt, 1, &[FULL, FULL_AND_ASKED]);
+fn calls_are_refused(rt: HostRuntime) {
+    show(
+        rt.alloc(),
+        &rt,
+        &[NO_SUCH, TOO_LARGE, TOO_LARGE_TO_WAIT, FULL, FULL_AND_ASKED],
+    );
 }

@@ -3,6 +3,7 @@ use crate::rows::show;
 
 /// A reader without records goes at once, and who asked gets the lease. No entry is made.
 const READER_GOES: &str = "\
+cluster 2 => begun
 open 1 least => client 1
 open 2 least => client 2
 1 stat / => dir 0
@@ -19,6 +20,7 @@ history => open 1 1; open 2 2; call 1 0 stat / = dir 0; call 2 0 create /a = don
 
 /// A client that was let go may get a lease again, also from a node whose lease went with it, and is asked again then.
 const GOT_AGAIN: &str = "\
+cluster 2 => begun
 open 1 least => client 1
 open 2 whole => client 2
 open 1 eights => client 3
@@ -38,6 +40,7 @@ leases 0 => 2 write
 
 /// Two readers that both want to write: the one that was asked goes, and the other writes.
 const CROSSING: &str = "\
+cluster 1 => begun
 open 1 least => client 1
 open 1 least => client 2
 1 stat / => dir 0
@@ -55,6 +58,7 @@ history => open 1 1; open 2 1; call 1 0 stat / = dir 0; call 2 0 stat / = dir 0;
 
 /// A writer's lease stays as long as some node hasn't digested what it wrote, though its log is replicated.
 const WRITER_STAYS: &str = "\
+cluster 1 => begun
 open 1 least => client 1
 open 1 least => client 2
 1 create /a => done
@@ -70,21 +74,10 @@ client 1 => at 1, calls 2, made 1, goal 1, end 1, acked 1, digested 0
 ";
 
 #[test]
-fn a_reader_goes_and_a_writer_comes(rt: HostRuntime) {
-    show(rt.alloc(), &rt, 2, &[READER_GOES]);
-}
-
-#[test]
-fn a_lease_is_got_again(rt: HostRuntime) {
-    show(rt.alloc(), &rt, 2, &[GOT_AGAIN]);
-}
-
-#[test]
-fn the_asked_one_of_two_readers_goes(rt: HostRuntime) {
-    show(rt.alloc(), &rt, 1, &[CROSSING]);
-}
-
-#[test]
-fn a_writer_stays_until_all_digested(rt: HostRuntime) {
-    show(rt.alloc(), &rt, 1, &[WRITER_STAYS]);
+fn asked_leases_go_or_stay(rt: HostRuntime) {
+    show(
+        rt.alloc(),
+        &rt,
+        &[READER_GOES, GOT_AGAIN, CROSSING, WRITER_STAYS],
+    );
 }

@@ -1,34 +1,29 @@
 // Rows `STEP => OUTCOME` of a cluster.
-ghost use Rattle.std.specs.Prelude.{◌<◌, ◌≤◌};
-
-use crate::cluster::cluster;
 use crate::script::put_step;
 use assise_machine_state::sound::Sound;
+use assise_names::refusal::Refusal;
 use assise_rows::{Subject, wrong_rows};
 use std::alloc::Global;
 use std::process::Abort;
 
-/// Sees that each row says what its step comes to. The rows of all texts come one after another, from a new cluster of so many
-/// nodes on, whose clients' logs have 8 records at most.
-pub(crate) fn show(alloc: Global, rt: &impl Abort, nodes: u32, texts: &[&str])
-    requires some { 0 < nodes }
-    requires few { nodes ≤ 8 }
-{
-    let sound = cluster(alloc, nodes).expect(rt, "out of memory");
-    let mut stepped = Stepped { sound };
-    for rows in texts {
-        let wrong = wrong_rows(alloc, &mut stepped, rows).expect(rt, "out of memory");
-        assert!(rt; wrong.is_empty(), "what comes out:\n{wrong}");
-    }
+/// Sees that each row of texts says what its step comes to, one after another.
+pub(crate) fn show(alloc: Global, rt: &impl Abort, texts: &[&str]) {
+    let shown = shown_anew(alloc, rt, texts);
+    assert!(rt; shown.is_ok(), "no memory");
 }
 
-/// Sees that each row says what its step comes to, each text's rows from a new cluster on.
-pub(crate) fn show_each(alloc: Global, rt: &impl Abort, nodes: u32, texts: &[&str])
-    requires some { 0 < nodes }
-    requires few { nodes ≤ 8 }
-{
+/// As [`show`], on a cluster that is made here. Refused for want of memory.
+fn shown_anew(alloc: Global, rt: &impl Abort, texts: &[&str]) -> Result<(), Refusal> {
+    let sound = Sound::new(alloc, 1, 8, 1)?;
+    let mut stepped = Stepped { sound };
+    show_on(alloc, rt, &mut stepped, texts);
+    Ok(())
+}
+
+fn show_on(alloc: Global, rt: &impl Abort, stepped: &mut Stepped, texts: &[&str]) {
     for rows in texts {
-        show(alloc, rt, nodes, &[*rows]);
+        let wrong = wrong_rows(alloc, stepped, rows).expect(rt, "no memory");
+        assert!(rt; wrong.is_empty(), "what comes out:\n{wrong}of\n{rows}");
     }
 }
 

@@ -1,5 +1,5 @@
 // Steps on a cluster, as text.
-use crate::cluster::open_as;
+use crate::cluster::{open_as, renew};
 use crate::told::{
     put_acked, put_client, put_clients, put_history, put_inode, put_leases, put_view,
 };
@@ -24,6 +24,10 @@ pub(crate) fn put_step(
 ) -> Option<()> {
     let (word, rest) = split_word(step);
     match word {
+        "cluster" => {
+            renew(alloc, sound, rest.parse::<u32>().ok()?)?;
+            text.push_str("begun").ok()
+        }
         "fsync" => put_turn(text, try_fsync(sound, rest.parse::<u32>().ok()?)).ok(),
         "release" => {
             let count = release_ready(sound);

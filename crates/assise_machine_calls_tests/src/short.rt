@@ -1,28 +1,32 @@
-// Short rows. Each text is made with memory here, and with each allocation refused in turn elsewhere.
-use crate::rows::{show, show_each};
+// Short rows. They are made with memory here, and with each allocation refused in turn elsewhere.
+use crate::rows::show;
 
 /// Clients of each kind are opened.
-pub(crate) const OPENED: &str = "\
+const OPENED: &str = "\
+cluster 2 => begun
 open 1 least => client 1
 open 2 whole => client 2
 open 1 eights => client 3
 ";
 
 /// A file is made.
-pub(crate) const CREATED: &str = "\
+const CREATED: &str = "\
+cluster 2 => begun
 open 2 least => client 1
 1 create /f => done
 ";
 
 /// A file is written.
-pub(crate) const WRITTEN: &str = "\
+const WRITTEN: &str = "\
+cluster 2 => begun
 open 1 least => client 1
 1 create /f => done
 1 write /f 3 tabc => done
 ";
 
 /// A file is replaced by another.
-pub(crate) const REPLACED: &str = "\
+const REPLACED: &str = "\
+cluster 2 => begun
 open 2 least => client 1
 1 create /a => done
 1 create /b => done
@@ -30,7 +34,8 @@ open 2 least => client 1
 ";
 
 /// A file is read.
-pub(crate) const READ: &str = "\
+const READ: &str = "\
+cluster 2 => begun
 open 1 least => client 1
 1 create /f => done
 1 write /f 0 thi => done
@@ -38,7 +43,8 @@ open 1 least => client 1
 ";
 
 /// A directory is made, listed and removed.
-pub(crate) const LISTED: &str = "\
+const LISTED: &str = "\
+cluster 2 => begun
 open 1 least => client 1
 1 mkdir /d => done
 1 list / => names 1 d
@@ -46,7 +52,8 @@ open 1 least => client 1
 ";
 
 /// A log of a node alone is synced.
-pub(crate) const SYNCED: &str = "\
+const SYNCED: &str = "\
+cluster 1 => begun
 open 1 least => client 1
 1 create /f => done
 fsync 1 => done
@@ -54,7 +61,8 @@ fsync 1 => done
 ";
 
 /// A log that another node lacks is awaited.
-pub(crate) const AWAITED: &str = "\
+const AWAITED: &str = "\
+cluster 2 => begun
 open 1 least => client 1
 1 create /f => done
 fsync 1 => not yet
@@ -62,7 +70,8 @@ fsync 1 => not yet
 ";
 
 /// A writer elsewhere is asked, once.
-pub(crate) const WRITER_ASKED: &str = "\
+const WRITER_ASKED: &str = "\
+cluster 2 => begun
 open 1 least => client 1
 open 2 least => client 2
 1 create /f => done
@@ -71,7 +80,8 @@ open 2 least => client 2
 ";
 
 /// A reader is asked, and waits then.
-pub(crate) const BOTH_ASKED: &str = "\
+const BOTH_ASKED: &str = "\
+cluster 2 => begun
 open 1 least => client 1
 open 1 least => client 2
 1 stat / => dir 0
@@ -80,22 +90,21 @@ open 1 least => client 2
 2 stat / => not yet
 ";
 
-#[test]
-fn one_client_is_answered(rt: HostRuntime) {
-    show_each(
-        rt.alloc(),
-        &rt,
-        2,
-        &[CREATED, WRITTEN, REPLACED, READ, LISTED, AWAITED],
-    );
-}
+/// All of them, each from a new cluster on.
+pub(crate) const SHORT: &[&str] = &[
+    OPENED,
+    CREATED,
+    WRITTEN,
+    REPLACED,
+    READ,
+    LISTED,
+    SYNCED,
+    AWAITED,
+    WRITER_ASKED,
+    BOTH_ASKED,
+];
 
 #[test]
-fn several_clients_are_answered(rt: HostRuntime) {
-    show_each(rt.alloc(), &rt, 2, &[OPENED, WRITER_ASKED, BOTH_ASKED]);
-}
-
-#[test]
-fn a_node_alone_answers(rt: HostRuntime) {
-    show(rt.alloc(), &rt, 1, &[SYNCED]);
+fn each_short_text_is_answered(rt: HostRuntime) {
+    show(rt.alloc(), &rt, SHORT);
 }

@@ -1,8 +1,9 @@
 // Digests, and what they leave.
-use crate::rows::{show, show_long};
+use crate::rows::show;
 
 /// Only what all full nodes have is digested, and what all have digested goes.
 const HAD_BY_ALL: &str = "\
+cluster 3 8 => begun
 open 1 least => client 1
 1 create /f => done
 digest 1 => digested 0
@@ -36,6 +37,7 @@ tree at 2 => / names 1 f; /f bytes 0 x
 
 /// A log that is full has room again once all have digested.
 const ROOM: &str = "\
+cluster 2 8 => begun
 open 1 least => client 1
 1 create /f => done
 times 7 1 write /f 0 thi => done
@@ -54,6 +56,7 @@ log 1 at 2 => 8..8, digested 8
 
 /// No more than 64 records are digested at once, of clients by rising number.
 const MANY: &str = "\
+cluster 1 128 => begun
 open 1 least => client 1
 open 1 least => client 2
 1 mkdir /a => done
@@ -83,6 +86,7 @@ tree at 1 => / names 2 a b; /b names 1 g; /b/g bytes 2 x0079; /a names 1 f; /a/f
 
 /// A node alone, whose clients' records are acknowledged at once.
 const ALONE: &str = "\
+cluster 1 128 => begun
 open 1 least => client 1
 1 create /f => done
 times 99 1 write /f 0 thi => done
@@ -99,20 +103,5 @@ tree at 1 => / names 1 f; /f bytes 2 x6869
 
 #[test]
 fn what_all_have_is_digested(rt: HostRuntime) {
-    show(rt.alloc(), &rt, 3, &[HAD_BY_ALL]);
-}
-
-#[test]
-fn a_full_log_has_room_again(rt: HostRuntime) {
-    show(rt.alloc(), &rt, 2, &[ROOM]);
-}
-
-#[test]
-fn a_digest_goes_by_rising_clients(rt: HostRuntime) {
-    show_long(rt.alloc(), &rt, 1, 128, &[MANY]);
-}
-
-#[test]
-fn a_digest_has_at_most_64_records(rt: HostRuntime) {
-    show_long(rt.alloc(), &rt, 1, 128, &[ALONE]);
+    show(rt.alloc(), &rt, &[HAD_BY_ALL, ROOM, MANY, ALONE]);
 }

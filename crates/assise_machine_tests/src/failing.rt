@@ -1,17 +1,10 @@
 // Nodes that fail and come back, and clients that crash.
-use crate::rows::{show, show_on};
-use crate::serving::Served;
-use std::alloc::Global;
-use std::process::Abort;
-
-/// Sees that each row says what its step comes to on two nodes, where rounds are made as long as it waits.
-fn show_rounds(alloc: Global, rt: &impl Abort, rows: &str) {
-    let mut served = Served::new(alloc, 2, 16).expect(rt, "out of memory");
-    show_on(alloc, rt, &mut served, rows);
-}
+use crate::rows::show;
 
 /// What wasn't synced is lost with its node.
 const LOST: &str = "\
+cluster 2 16 => begun
+rounds => begun
 open 1 least => client 1
 open 2 least => client 2
 1 create /f => done
@@ -23,6 +16,8 @@ fail 1 => failed 1:0
 
 /// What was synced is there, and what came behind is lost.
 const SYNCED: &str = "\
+cluster 2 16 => begun
+rounds => begun
 open 1 least => client 1
 open 2 least => client 2
 1 create /f => done
@@ -36,6 +31,8 @@ tree at 2 => / names 1 f; /f bytes 2 x6161
 
 /// A node comes back, and then the other one fails. The node that came back has all.
 const BOTH_FAIL: &str = "\
+cluster 2 16 => begun
+rounds => begun
 open 1 least => client 1
 open 2 least => client 2
 1 create /f => done
@@ -53,6 +50,7 @@ open 1 least => client 3
 
 /// A node that hadn't digested what the others had lacks it when it comes back.
 const FILLED: &str = "\
+cluster 3 8 => begun
 open 1 least => client 1
 1 create /f => done
 1 fsync => not yet
@@ -75,6 +73,7 @@ tree at 2 => / names 1 f; /f bytes 0 x
 
 /// A node fails while it comes back.
 const FAILS_AGAIN: &str = "\
+cluster 2 8 => begun
 fail 2 => failed
 back 2 => stale 0
 fail 2 => failed
@@ -83,8 +82,31 @@ join 2 => returned
 history => fail 2; fail 2; return 2
 ";
 
+/// A frame that was sent before a node failed is of an epoch that is over. What is sent then is of the next one.
+const OF_AN_EARLIER_EPOCH: &str = "\
+cluster 3 8 => begun
+open 1 least => client 1
+1 create /f => done
+fsync 1 => not yet
+send 1 => 1 for 2: client 1, 0..1
+fail 3 => failed
+deliver 1 at 2 => F11 StaleMessage
+log 1 at 2 => 0..0, digested 0
+deliver 1 at 2 epoch 2 => received 1
+send 1 => nothing
+fsync 1 => done
+back 3 => stale 2
+deliver 1 at 2 => F11 StaleMessage
+refill 3 => left 1
+refill 3 => left 0
+join 3 => returned
+deliver 1 at 3 => F11 StaleMessage
+tree at 3 => / names 1 f; /f bytes 0 x
+";
+
 /// A node alone doesn't fail, and doesn't come back.
 const ALONE: &str = "\
+cluster 1 8 => begun
 fail 1 => F7 LastNode
 fail 0 => F8 BadNode
 fail 2 => F8 BadNode
@@ -98,6 +120,7 @@ join 2 => F8 BadNode
 
 /// Of two nodes one fails, which then only comes back, and the other one doesn't fail before it is full.
 const OUT_OF_ORDER: &str = "\
+cluster 2 8 => begun
 open 2 least => client 1
 back 2 => F10 WrongPhase
 1 create /f => done
@@ -125,6 +148,7 @@ fail 1 => failed
 
 /// A client crashes once.
 const CRASHED: &str = "\
+cluster 1 8 => begun
 crash 0 => F9 BadClient
 crash 1 => F9 BadClient
 open 1 least => client 1
@@ -135,41 +159,20 @@ crash 2 => F9 BadClient
 ";
 
 #[test]
-fn what_was_not_synced_is_lost(rt: HostRuntime) {
-    show_rounds(rt.alloc(), &rt, LOST);
-}
-
-#[test]
-fn what_was_synced_is_kept(rt: HostRuntime) {
-    show_rounds(rt.alloc(), &rt, SYNCED);
-}
-
-#[test]
-fn one_node_comes_back_and_the_other_fails(rt: HostRuntime) {
-    show_rounds(rt.alloc(), &rt, BOTH_FAIL);
-}
-
-#[test]
-fn a_node_that_comes_back_is_filled(rt: HostRuntime) {
-    show(rt.alloc(), &rt, 3, &[FILLED]);
-}
-
-#[test]
-fn a_node_fails_again(rt: HostRuntime) {
-    show(rt.alloc(), &rt, 2, &[FAILS_AGAIN]);
-}
-
-#[test]
-fn a_node_alone_does_not_fail(rt: HostRuntime) {
-    show(rt.alloc(), &rt, 1, &[ALONE]);
-}
-
-#[test]
-fn what_comes_out_of_order_is_refused(rt: HostRuntime) {
-    show(rt.alloc(), &rt, 2, &[OUT_OF_ORDER]);
-}
-
-#[test]
-fn a_client_crashes_once(rt: HostRuntime) {
-    show(rt.alloc(), &rt, 1, &[CRASHED]);
+fn nodes_fail_and_come_back(rt: HostRuntime) {
+    show(
+        rt.alloc(),
+        &rt,
+        &[
+            LOST,
+            SYNCED,
+            BOTH_FAIL,
+            FILLED,
+            FAILS_AGAIN,
+            OF_AN_EARLIER_EPOCH,
+            ALONE,
+            OUT_OF_ORDER,
+            CRASHED,
+        ],
+    );
 }

@@ -1,16 +1,18 @@
-// Lists in which a node fails at each place, and comes back.
-ghost use Rattle.std.specs.Prelude.{◌<◌, ◌≤◌};
-
-use crate::desk::{Cluster, Desk};
-use crate::lists::{fault_at_the_end, is_legal, settle};
-use crate::reading::tree_at;
-use crate::script::put_step;
-use assise_names::refusal::Refusal;
-use std::alloc::{AllocError, Global};
+// Scripts in which a node fails at each place, and comes back.
+use crate::desk::Desk;
+use crate::faults::{fault_at_the_end, fault_behind};
+use crate::tasks::{Task, on_desk};
+use assise_rows::scripts::{
+    BACK_AND_ALONE, BACK_BY_HAND, CARRIED_IN_PART, CRASHED, CROSSING, CUT_AT_AN_FSYNC, FAILS_AGAIN,
+    HANDED_BY_HAND, HANDED_LEAST, HANDED_WHOLE, LOST_FILE, OUT_OF_ORDER, SHARED_FILE,
+};
+use std::alloc::Global;
 use std::process::Abort;
 
 /// A client writes on each of two nodes, and the lease of the file is handed over between them.
 const HANDED_OVER: &str = "\
+cluster 2
+manual
 open 1 least
 open 2 whole
 1 create /f
@@ -44,6 +46,8 @@ release
 
 /// Clients of all of three nodes write, and leases are handed over.
 const THREE_CLIENTS: &str = "\
+cluster 3
+manual
 open 1 least
 open 2 least
 open 1 eights
@@ -89,193 +93,140 @@ digest 1
 3 unlink /h
 ";
 
-/// One failure of a list: the node, before which step it fails, and how many steps further it comes back.
-#[derive(Clone, Copy, Debug)]
-struct Failure {
-    node: u32,
-    place: usize,
-    away: usize,
-}
+/// Scripts with many steps.
+const LONG: &[&str] = &[THREE_CLIENTS, CROSSING];
 
-/// The steps of a list with those of a failure. What hasn't come back of so many nodes comes back at the end.
-fn with_failure(
-    alloc: Global,
-    nodes: u32,
-    steps: &str,
-    failure: Failure,
-) -> Result<String, AllocError> {
-    let Failure { node, place, away } = failure;
-    let mut text = String::new(alloc);
-    let mut number = 0_usize;
-    for step in steps.lines() {
-        if number == place {
-            writeln!(text, "fail {node}")?;
-        }
-        if number == place.saturating_add(away) {
-            put_return(node, &mut text)?;
-        }
-        writeln!(text, "{step}")?;
-        number = number.saturating_add(1);
-    }
-    if number == place {
-        writeln!(text, "fail {node}")?;
-    }
-    for other in 1..=nodes {
-        put_return(other, &mut text)?;
-    }
-    Ok(text)
-}
+/// Scripts with fewer steps.
+const SHORT: &[&str] = &[
+    HANDED_OVER,
+    SHARED_FILE,
+    HANDED_BY_HAND,
+    LOST_FILE,
+    CUT_AT_AN_FSYNC,
+    CARRIED_IN_PART,
+    HANDED_LEAST,
+    HANDED_WHOLE,
+    BACK_AND_ALONE,
+    BACK_BY_HAND,
+    OUT_OF_ORDER,
+    FAILS_AGAIN,
+    CRASHED,
+];
 
-/// Appends the steps of a node's return, in which it gets as many inodes as there are at most.
-fn put_return(node: u32, text: &mut String) -> Result<(), AllocError> {
-    writeln!(text, "back {node}")?;
-    for _ in 0..6 {
-        writeln!(text, "refill {node}")?;
-    }
-    writeln!(text, "join {node}")
-}
+/// How many steps further who failed comes back.
+const AT_ONCE: usize = 0;
 
-/// What is wrong behind a step of a new cluster from a place on, or once all is digested. None where memory runs out, or a node
-/// isn't full at the end.
-fn fault_of(alloc: Global, nodes: u32, steps: &str, place: usize) -> Option<&'static str>
-    requires some { 0 < nodes }
-    requires few { nodes ≤ 8 }
-{
-    let mut desk = Desk::new(alloc, nodes, 16).ok()?;
-    fault_on(alloc, &mut desk, nodes, steps, place)
-}
+const LATER: usize = 5;
 
-/// As [`fault_of`], of steps on a cluster that is there.
-fn fault_on(
-    alloc: Global,
-    desk: &mut Desk,
-    nodes: u32,
-    steps: &str,
-    place: usize,
-) -> Option<&'static str> {
-    let mut number = 0_usize;
-    for step in steps.lines() {
-        make(alloc, desk, step);
-        if number >= place {
-            let fault = fault_between(alloc, &desk.cluster)?;
-            if !fault.is_empty() {
-                return Some(fault);
-            }
-        }
-        number = number.saturating_add(1);
-    }
-    settle(alloc, &mut desk.cluster, 4)?;
-    fault_at_the_end(alloc, &desk.cluster, nodes)
-}
+/// More steps than any script has.
+const AT_THE_END: usize = 512;
 
-/// Makes a step, which may be refused, or deliver a frame that isn't there.
-fn make(alloc: Global, desk: &mut Desk, step: &str) {
-    let mut outcome = String::new(alloc);
-    let _ = put_step(alloc, desk, step, &mut outcome);
-}
-
-/// What is wrong between steps.
-fn fault_between(alloc: Global, cluster: &Cluster) -> Option<&'static str> {
-    if !is_legal(alloc, cluster)? {
-        return Some("the history isn't legal");
-    }
-    if have_one_tree(alloc, cluster)? {
-        Some("")
-    } else {
-        Some("nodes have different trees")
-    }
-}
-
-/// Whether all full nodes have one tree.
-fn have_one_tree(alloc: Global, cluster: &Cluster) -> Option<bool> {
-    let mut known = None;
-    for node in 1..5 {
-        if let Some(tree) = tree_if_full(alloc, cluster, node)? {
-            if is_another(&known, tree.as_str()) {
-                return Some(false);
-            }
-            known = Some(tree);
-        }
-    }
-    Some(true)
-}
-
-/// Whether a tree is known, and it is another one.
-fn is_another(known: &Option<String>, tree: &str) -> bool {
-    match known {
-        Some(known) => known.as_str() != tree,
-        None => false,
-    }
-}
-
-/// The tree of a node, if it is full. None where memory runs out.
-fn tree_if_full(alloc: Global, cluster: &Cluster, node: u32) -> Option<Option<String>> {
-    match tree_at(alloc, cluster, node) {
-        Ok(tree) => Some(Some(tree)),
-        Err(Refusal::OutOfMemory) => None,
-        Err(_) => Some(None),
-    }
-}
-
-/// Sees that nothing is wrong, whichever node fails before whichever step, and comes back so many steps further.
-pub(crate) fn see_failures(alloc: Global, rt: &impl Abort, nodes: u32, steps: &str, away: usize)
-    requires some { 0 < nodes }
-    requires few { nodes ≤ 8 }
-{
-    for node in 1..=nodes {
-        see_failures_of(alloc, rt, nodes, steps, node, away);
-    }
-}
-
-/// Sees that nothing is wrong, before whichever step a node fails.
-pub(crate) fn see_failures_of(
+/// Sees that nothing is wrong in scripts, each served by steps, whichever node fails before whichever step, and comes back so many
+/// steps further.
+pub(crate) fn see_failures(
     alloc: Global,
     rt: &impl Abort,
-    nodes: u32,
+    desk: &mut Desk,
+    away: usize,
+    scripts: &[&str],
+) {
+    for script in scripts {
+        see_failures_of(alloc, rt, desk, script, away);
+    }
+}
+
+fn see_failures_of(alloc: Global, rt: &impl Abort, desk: &mut Desk, script: &str, away: usize) {
+    desk.serve_script(alloc, script)
+        .expect(rt, "no such line, or no memory");
+    let steps = desk.steps.clone().expect(rt, "no memory");
+    for node in 1..=desk.nodes {
+        for place in 0..=steps.as_str().lines().count() {
+            let fault = fault_of(alloc, desk, steps.as_str(), node, place, away);
+            assert!(rt;
+                fault == Some(""),
+                "{fault:?} where node {node} fails before step {place} of\n{script}"
+            );
+        }
+    }
+}
+
+/// What is wrong behind a step from the place on where a node fails, which comes back so many steps further, or at the end. Steps may
+/// be refused then, or deliver a frame that isn't there.
+fn fault_of(
+    alloc: Global,
+    desk: &mut Desk,
     steps: &str,
     node: u32,
+    place: usize,
     away: usize,
-)
-    requires some { 0 < nodes }
-    requires few { nodes ≤ 8 }
-{
-    for place in 0..=steps.lines().count() {
-        let failure = Failure { node, place, away };
-        see_failure(alloc, rt, nodes, steps, failure);
+) -> Option<&'static str> {
+    desk.renew(alloc, desk.nodes, 16, 0)?;
+    let mut number = 0_usize;
+    for step in steps.lines() {
+        fail_or_return(alloc, desk, node, place, away, number)?;
+        let _ = desk.make(alloc, step);
+        let fault = if number < place {
+            ""
+        } else {
+            fault_behind(alloc, &desk.cluster, desk.outcome.as_str())?
+        };
+        if !fault.is_empty() {
+            return Some(fault);
+        }
+        number = number.saturating_add(1);
     }
+    fail_or_return(alloc, desk, node, place, away, number)?;
+    fault_at_the_end(alloc, desk)
 }
 
-/// Sees that nothing is wrong from where a node fails.
-fn see_failure(alloc: Global, rt: &impl Abort, nodes: u32, steps: &str, failure: Failure)
-    requires some { 0 < nodes }
-    requires few { nodes ≤ 8 }
-{
-    let failing = with_failure(alloc, nodes, steps, failure).expect(rt, "no memory");
-    let fault = fault_of(alloc, nodes, failing.as_str(), failure.place).expect(
-        rt,
-        "no memory, or a node isn't full",
-    );
-    assert!(rt; fault.is_empty(), "{failure:?}: {fault}");
-}
-
-#[test]
-fn a_node_of_two_fails_anywhere(rt: HostRuntime) {
-    for away in [0, 5, 64] {
-        see_failures(rt.alloc(), &rt, 2, HANDED_OVER, away);
+/// A node fails before the step of a place, and comes back so many steps further.
+fn fail_or_return(
+    alloc: Global,
+    desk: &mut Desk,
+    node: u32,
+    place: usize,
+    away: usize,
+    number: usize,
+) -> Option<()> {
+    if number == place {
+        desk.make_of(alloc, "fail", node)?;
     }
+    if number == place.saturating_add(away) {
+        desk.bring_back(alloc, node)?;
+    }
+    Some(())
+}
+
+fn fail(alloc: Global, rt: &impl Abort, away: usize, scripts: &[&str]) {
+    on_desk(alloc, rt, Task::Failures(away, scripts)).expect(rt, "no memory");
 }
 
 #[test]
-fn a_node_of_three_fails_anywhere(rt: HostRuntime) {
-    see_failures(rt.alloc(), &rt, 3, THREE_CLIENTS, 64);
+fn a_node_that_fails_anywhere_is_back_at_once(rt: HostRuntime) {
+    fail(rt.alloc(), &rt, AT_ONCE, LONG);
 }
 
 #[test]
-fn a_node_of_three_comes_back_at_once(rt: HostRuntime) {
-    see_failures(rt.alloc(), &rt, 3, THREE_CLIENTS, 0);
+fn a_node_that_fails_anywhere_is_back_five_steps_further(rt: HostRuntime) {
+    fail(rt.alloc(), &rt, LATER, LONG);
 }
 
 #[test]
-fn a_node_of_three_is_away_for_some_events(rt: HostRuntime) {
-    see_failures(rt.alloc(), &rt, 3, THREE_CLIENTS, 5);
+fn a_node_that_fails_anywhere_is_back_at_the_end(rt: HostRuntime) {
+    fail(rt.alloc(), &rt, AT_THE_END, LONG);
+}
+
+#[test]
+fn a_node_that_fails_anywhere_in_a_short_script_is_back_at_once(rt: HostRuntime) {
+    fail(rt.alloc(), &rt, AT_ONCE, SHORT);
+}
+
+#[test]
+fn a_node_that_fails_anywhere_in_a_short_script_is_back_five_steps_further(rt: HostRuntime) {
+    fail(rt.alloc(), &rt, LATER, SHORT);
+}
+
+#[test]
+fn a_node_that_fails_anywhere_in_a_short_script_is_back_at_the_end(rt: HostRuntime) {
+    fail(rt.alloc(), &rt, AT_THE_END, SHORT);
 }

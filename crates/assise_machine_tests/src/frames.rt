@@ -1,40 +1,32 @@
 // Frames, which tests change, write and read.
+use crate::words::{number_in, small_in};
 use assise_record::decode::decode;
 use assise_record::encode::encode;
 use assise_record::frame::{Frame, MOST_RECORDS};
-use assise_record::record::Record;
+use assise_rows::split_word;
 use std::alloc::Global;
 
-/// A frame with the records of another one, of an epoch, of a client, and from a number on. None where there is no such frame, or
-/// no memory.
-pub(crate) fn changed(
-    alloc: Global,
-    frame: &Frame,
-    epoch: u64,
-    client: u32,
-    first: u64,
-) -> Option<Frame> {
-    let records = copies(alloc, frame.records())?;
-    frame_of(epoch, client, first, records)
+/// A copy of a frame, as it is or of another epoch, client or first number. None where there is no such frame, or no memory.
+pub(crate) fn copy_of(alloc: Global, frame: &Frame, change: &str) -> Option<Frame> {
+    let (epoch, client, first) = (frame.epoch(), frame.client(), frame.first());
+    let (word, value) = split_word(change);
+    match word {
+        "" => frame.copy(alloc).ok(),
+        "epoch" => changed(alloc, frame, number_in(value)?, client, first),
+        "client" => changed(alloc, frame, epoch, small_in(value)?, first),
+        "from" => changed(alloc, frame, epoch, client, number_in(value)?),
+        _ => None,
+    }
 }
 
-/// A frame of records. None where there is no such frame.
-pub(crate) fn frame_of(epoch: u64, client: u32, first: u64, records: Vec<Record>) -> Option<Frame> {
-    if client == 0 || records.is_empty() || records.len() > MOST_RECORDS {
-        return None;
-    }
-    if u64::MAX - first < records.len() as u64 {
+/// A frame with the records of another one.
+fn changed(alloc: Global, frame: &Frame, epoch: u64, client: u32, first: u64) -> Option<Frame> {
+    let records = frame.copy(alloc).ok()?.into_records();
+    let count = records.len();
+    if client == 0 || count == 0 || count > MOST_RECORDS || u64::MAX - first < count as u64 {
         return None;
     }
     Some(Frame::new(epoch, client, first, records))
-}
-
-fn copies(alloc: Global, records: &[Record]) -> Option<Vec<Record>> {
-    let mut copied = Vec::with_capacity(alloc, records.len()).ok()?;
-    for record in records {
-        copied.push(record.copy(alloc).ok()?).ok()?;
-    }
-    Some(copied)
 }
 
 /// The frame of two hexadecimal digits for each byte.

@@ -12,7 +12,7 @@ mod failing;
 #[cfg(test)]
 mod failing_anywhere;
 #[cfg(test)]
-mod failing_in_scripts;
+mod faults;
 #[cfg(test)]
 mod frames;
 #[cfg(test)]
@@ -22,23 +22,17 @@ mod reading;
 #[cfg(test)]
 mod refused;
 #[cfg(test)]
-mod refused_runs;
-#[cfg(test)]
 mod rows;
 #[cfg(test)]
 mod running;
-#[cfg(test)]
-mod script;
 #[cfg(test)]
 mod seen;
 #[cfg(test)]
 mod sending;
 #[cfg(test)]
-mod serving;
+mod steps;
 #[cfg(test)]
-mod stored;
-#[cfg(test)]
-mod tally;
+mod tasks;
 #[cfg(test)]
 mod told;
 #[cfg(test)]

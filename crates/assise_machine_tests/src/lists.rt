@@ -1,315 +1,253 @@
-// Lists of events by chance.
-ghost use Rattle.std.specs.Prelude.{◌<◌, ◌≤◌};
-
-use crate::desk::{Asked, Cluster, Letter};
-use crate::dice::{Dice, call_of, kind_of};
-use crate::frames::changed;
-use crate::reading::tree_at;
-use crate::tally::Tally;
-use crate::trees::put_tree;
-use assise_history::check::check;
-use assise_history::kept::kept;
-use assise_history::replay::replay;
-use assise_machine::answer::Answer;
-use assise_machine::event::Event;
-use assise_machine::run::apply_event;
-use assise_machine_calls::turn::Turn;
-use std::alloc::Global;
+// Lists of steps by chance.
+use crate::desk::Desk;
+use crate::dice::Dice;
+use crate::faults::{fault_at_the_end, fault_behind};
+use crate::tasks::{Task, on_desk};
+use assise_rows::split_word;
+use std::alloc::{AllocError, Global};
 use std::process::Abort;
 
-/// What is known of a cluster when an event is chosen: how many nodes and clients it has, and what was sent in it.
-#[derive(Drop)]
-struct Known {
-    nodes: u32,
-    clients: u32,
-    sent: Vec<Letter>,
-}
+/// What calls ask for: few paths, so that they meet.
+const PATHS: &str = "/a\n/b\n/c\n/d\n/d/a\n/d/b\n/d/e\n/d/e/a\n/a/b\n/\n";
 
-/// Revokers for 1 to 4 clients.
-fn stock_of(alloc: Global, dice: &mut Dice) -> Option<Vec<Asked>> {
-    let mut stock = Vec::new(alloc);
-    for _ in 0..dice.number(4) {
-        let kind = kind_of(dice);
-        stock.push(Asked { kind }).ok()?;
-    }
-    Some(stock)
-}
+/// What may come next, some of it likelier: `C` stands for a client, `S` for a node, `P` for a path, `N` for a number from 1 to 12,
+/// `K` for the number of a frame that was sent, and `L` for that and `at` the node that it is for.
+const STEPS: &str = "\
+C create P
+C create P
+C create P
+C create P
+C create P
+C create P
+C mkdir P
+C mkdir P
+C mkdir P
+C mkdir P
+C read P N N
+C read P N N
+C read P N N
+C read P N N
+C write P N tab
+C write P N tab
+C write P N tcdef
+C write P N tcdef
+times 14 C write /a N tx
+times 14 C write /a N tx
+times 14 C write /b N tx
+C truncate P N
+C truncate P N
+C rename P P
+C rename P P
+C fsync
+C unlink P
+C rmdir P
+C list P
+C stat P
+deliver L
+deliver L
+deliver L
+deliver L
+deliver L
+deliver L
+deliver L
+deliver L
+deliver L epoch 2
+deliver L client C
+deliver L from N
+deliver K at S
+send S
+send S
+send S
+send S
+send S
+send S
+send S
+send S
+open S
+open S
+open S
+fsync C
+fsync C
+fsync C
+fsync C
+fsync C
+fsync C
+digest S
+digest S
+digest S
+digest S
+digest S
+release
+release
+release
+release
+crash C
+fail S
+fail S
+back S
+back S
+back S
+refill S
+refill S
+refill S
+refill S
+refill S
+refill S
+refill S
+join S
+join S
+join S
+";
 
-/// The next event by chance. Now and then there is no such node or client.
-fn event_of(alloc: Global, dice: &mut Dice, known: &Known) -> Option<Event> {
-    let drawn = dice.below(64);
-    if drawn < 28 {
-        let client = dice.number(known.clients.saturating_add(1));
-        return Some(Event::Call(client, call_of(alloc, dice)?));
-    }
-    if drawn < 38 && !known.sent.is_empty() {
-        return delivery_of(alloc, dice, known);
-    }
-    Some(short_event(dice, known, drawn))
-}
+/// What comes out of some step of the lists.
+const OUTCOMES: &str = "\
+client
+done
+names
+bytes
+not yet
+ for 
+received
+digested 1
+released 1
+crashed
+failed
+stale
+left
+returned
+F3 NodeDown
+F4 ClientGone
+F7 LastNode
+F8 BadNode
+F9 BadClient
+F10 WrongPhase
+F11 StaleMessage
+F12 LogFull
+";
 
-/// An event that takes no memory.
-fn short_event(dice: &mut Dice, known: &Known, drawn: u64) -> Event {
-    let node = dice.number(known.nodes.saturating_add(1));
-    if drawn < 46 {
-        Event::Outgoing(node)
-    } else if drawn < 49 {
-        Event::Open(node)
-    } else if drawn < 55 {
-        Event::Fsync(dice.number(known.clients.saturating_add(1)))
-    } else if drawn < 60 {
-        Event::Digest(node)
-    } else {
-        Event::ReleaseReady
-    }
-}
-
-/// A frame that was sent comes to the node that it is for, or now and then to another, or of another epoch, client or place.
-fn delivery_of(alloc: Global, dice: &mut Dice, known: &Known) -> Option<Event> {
-    let (frame, node) = letter_of(dice, known.sent.as_slice())?;
-    let (mut epoch, mut client, mut first) = (frame.epoch(), frame.client(), frame.first());
-    let mut node = *node;
-    match dice.below(16) {
-        0 => epoch = 2,
-        1 => client = dice.number(known.clients),
-        2 => first = dice.below(24),
-        3 => node = dice.number(known.nodes),
-        _ => (),
-    }
-    Some(Event::Deliver(changed(alloc, frame, epoch, client, first)?, node))
-}
-
-/// One of the frames, the later the likelier.
-fn letter_of<'a>(dice: &mut Dice, sent: &'a [Letter]) -> Option<&'a Letter> {
-    let count = sent.len() as u64;
-    if count == 0 {
-        return None;
-    }
-    let (one, other) = (dice.below(count), dice.below(count));
-    sent.get(one.max(other) as usize)
-}
-
-/// Notes what an answer brings.
-fn take_in(known: &mut Known, answer: Answer) -> Option<()> {
-    match answer {
-        Answer::Opened(Ok(client)) => {
-            known.clients = client;
-            Some(())
-        }
-        Answer::Sent(Ok(letters)) => keep(&mut known.sent, letters),
-        _ => Some(()),
-    }
-}
-
-/// Keeps what was sent, so that it may come at any time.
-fn keep(sent: &mut Vec<Letter>, letters: Vec<Letter>) -> Option<()> {
-    for letter in letters {
-        sent.push(letter).ok()?;
-    }
-    Some(())
-}
-
-/// Whether the history is legal.
-pub(crate) fn is_legal(alloc: Global, cluster: &Cluster) -> Option<bool> {
-    check(alloc, cluster.history()).ok()
-}
-
-/// Whether all of so many nodes have this tree.
-fn all_have(alloc: Global, cluster: &Cluster, nodes: u32, tree: &str) -> Option<bool> {
-    for node in 1..5 {
-        if node <= nodes && !has_tree(alloc, cluster, node, tree)? {
-            return Some(false);
-        }
-    }
-    Some(true)
-}
-
-/// Whether a node has a tree.
-fn has_tree(alloc: Global, cluster: &Cluster, node: u32, tree: &str) -> Option<bool> {
-    let read = tree_at(alloc, cluster, node).ok()?;
-    Some(read.as_str() == tree)
-}
-
-/// The tree of the calls that are kept. None where they are no run.
-fn tree_of_calls(alloc: Global, cluster: &Cluster) -> Option<String> {
-    let calls = kept(alloc, cluster.history()).ok()?;
-    let mut tree = replay(alloc, calls.as_slice()).ok()??;
-    let mut text = String::new(alloc);
-    put_tree(alloc, &mut tree, &mut text)?;
-    Some(text)
-}
-
-/// All clients sync, all frames are sent and come, and all nodes digest.
-pub(crate) fn settle(alloc: Global, cluster: &mut Cluster, clients: u32) -> Option<()> {
-    for client in 1..5 {
-        if client <= clients {
-            let _ = cluster.try_fsync(client);
-        }
-    }
-    for _ in 0..4 {
-        for node in 1..5 {
-            carry(alloc, cluster, node)?;
-        }
-    }
-    for _ in 0..2 {
-        for node in 1..5 {
-            let _ = cluster.digest(alloc, node);
-        }
-    }
-    Some(())
-}
-
-/// What a node sends comes where it is for.
-pub(crate) fn carry(alloc: Global, cluster: &mut Cluster, node: u32) -> Option<()> {
-    let Ok(sent) = cluster.outgoing(alloc, node) else {
-        return Some(());
-    };
-    for (frame, next) in sent {
-        cluster.deliver(frame, next).ok()?;
-    }
-    Some(())
-}
-
-/// Whether no client waits, and no node has a record left.
-fn is_settled(cluster: &mut Cluster, clients: u32) -> bool {
-    for client in 1..5 {
-        if client > clients {
-            return true;
-        }
-        let synced = cluster.try_fsync(client);
-        if !matches!(synced, Ok(Turn::Answered(_))) || !has_digested(cluster, client) {
-            return false;
-        }
-    }
-    true
-}
-
-/// Whether all that a client wrote is acknowledged, and has gone from the log of each node.
-fn has_digested(cluster: &Cluster, client: u32) -> bool {
-    let Ok(acked) = cluster.acked(client) else {
-        return false;
-    };
-    for node in 1..5 {
-        if let Ok(region) = cluster.region(node) {
-            if client == 0 || region.clients() < client as usize {
-                return false;
-            }
-            let log = region.log(client as usize);
-            if log.first() != acked || log.end() != acked {
-                return false;
-            }
-        }
-    }
-    true
-}
-
-/// Makes an event by chance.
-fn make(
-    alloc: Global,
+/// Appends a step by chance, where so many clients were opened. Now and then there is no such node or client.
+fn put_step_by_chance(
     dice: &mut Dice,
-    cluster: &mut Cluster,
-    stock: &mut Vec<Asked>,
-    known: &mut Known,
-) -> Option<Answer> {
-    let event = event_of(alloc, dice, known)?;
-    Some(apply_event(alloc, cluster, &event, stock))
+    desk: &Desk,
+    clients: u64,
+    text: &mut String,
+) -> Result<(), AllocError> {
+    let step = dice.line(STEPS);
+    if step.starts_with("deliver") && desk.letters.is_empty() {
+        return text.push_str("release");
+    }
+    let mut rest = step;
+    for _ in 0..9 {
+        let (word, more) = split_word(rest);
+        put_word(dice, desk, clients, word, text)?;
+        if more.is_empty() {
+            return Ok(());
+        }
+        text.push(' ')?;
+        rest = more;
+    }
+    Ok(())
 }
 
-/// Makes a list of so many events in a new cluster of so many nodes, and sees to it. What is wrong, if anything. None where memory
-/// runs out.
+/// Appends a word of a step, or what it stands for.
+fn put_word(
+    dice: &mut Dice,
+    desk: &Desk,
+    clients: u64,
+    word: &str,
+    text: &mut String,
+) -> Result<(), AllocError> {
+    let most = match word {
+        "P" => return text.push_str(dice.line(PATHS)),
+        "L" => return put_letter(dice, desk, text),
+        "C" => clients.saturating_add(1),
+        "S" => u64::from(desk.nodes).saturating_add(1),
+        "N" => 12,
+        "K" => desk.letters.len() as u64,
+        _ => return text.push_str(word),
+    };
+    let number = dice.number(most);
+    write!(text, "{number}")
+}
+
+/// Appends the number of a frame that was sent, the later the likelier, and the node that it is for.
+fn put_letter(dice: &mut Dice, desk: &Desk, text: &mut String) -> Result<(), AllocError> {
+    let count = desk.letters.len() as u64;
+    let number = dice.number(count).max(dice.number(count));
+    match desk.letters.get(number.saturating_sub(1) as usize) {
+        Some((_, node)) => write!(text, "{number} at {node}"),
+        None => Ok(()),
+    }
+}
+
+/// Begins anew with 1 to 4 nodes, revokers for 1 to 4 clients, and logs of 8 to 13 records.
+fn begin(alloc: Global, dice: &mut Dice, desk: &mut Desk) -> Option<()> {
+    let log = dice.below(6) as usize + 8;
+    let nodes = dice.below(4) as u32 + 1;
+    desk.renew(alloc, nodes, log, 0)?;
+    for _ in 0..dice.number(4) {
+        desk.make(alloc, dice.line("stock l\nstock w\nstock e\n"))?;
+    }
+    Some(())
+}
+
+/// What is wrong behind a step of a list of so many, or once all nodes are back, and all is digested. What comes out is struck from
+/// the outcomes that are missing. None where memory runs out.
 fn fault_of(
     alloc: Global,
     dice: &mut Dice,
-    cluster: &mut Cluster,
-    nodes: u32,
-    events: u32,
-    tally: &mut Tally,
+    desk: &mut Desk,
+    steps: u32,
+    missing: &mut Vec<&str>,
 ) -> Option<&'static str> {
-    let mut stock = stock_of(alloc, dice)?;
-    let mut known = Known {
-        nodes,
-        clients: 0,
-        sent: Vec::new(alloc),
-    };
-    for _ in 0..events {
-        let answer = make(alloc, dice, cluster, &mut stock, &mut known)?;
-        tally.note(&answer);
-        take_in(&mut known, answer)?;
+    begin(alloc, dice, desk)?;
+    let mut clients = 0_u64;
+    let mut step = String::new(alloc);
+    for _ in 0..steps {
+        step.clear();
+        put_step_by_chance(dice, desk, clients, &mut step).ok()?;
+        desk.make(alloc, step.as_str())?;
+        if desk.outcome.as_str().starts_with("client") {
+            clients = clients.saturating_add(1);
+        }
+        strike(missing, desk.outcome.as_str());
+        let fault = fault_behind(alloc, &desk.cluster, desk.outcome.as_str())?;
+        if !fault.is_empty() {
+            return Some(fault);
+        }
     }
-    fault_in(alloc, cluster, nodes, known.clients)
+    fault_at_the_end(alloc, desk)
 }
 
-/// Sees that the history is legal, and that all nodes have one tree; and once all is digested, that it is the tree of the kept calls.
-fn fault_in(
-    alloc: Global,
-    cluster: &mut Cluster,
-    nodes: u32,
-    clients: u32,
-) -> Option<&'static str> {
-    let fault = fault_between(alloc, cluster, nodes)?;
-    if !fault.is_empty() {
-        return Some(fault);
-    }
-    settle(alloc, cluster, clients)?;
-    if is_settled(cluster, clients) {
-        fault_at_the_end(alloc, cluster, nodes)
-    } else {
-        Some("not all is digested")
-    }
+/// Strikes the outcomes that stand in what came out.
+fn strike(missing: &mut Vec<&str>, outcome: &str) {
+    missing.retain(|kind| !outcome.contains(*kind));
 }
 
-/// What is wrong between events.
-fn fault_between(alloc: Global, cluster: &Cluster, nodes: u32) -> Option<&'static str> {
-    if !is_legal(alloc, cluster)? {
-        return Some("the history isn't legal");
-    }
-    let tree = tree_at(alloc, cluster, 1).ok()?;
-    if all_have(alloc, cluster, nodes, tree.as_str())? {
-        Some("")
-    } else {
-        Some("nodes have different trees")
-    }
-}
-
-/// What is wrong once all is digested.
-pub(crate) fn fault_at_the_end(
-    alloc: Global,
-    cluster: &Cluster,
-    nodes: u32,
-) -> Option<&'static str> {
-    let tree = tree_of_calls(alloc, cluster)?;
-    if is_legal(alloc, cluster)? && all_have(alloc, cluster, nodes, tree.as_str())? {
-        Some("")
-    } else {
-        Some("a node has another tree than the calls")
-    }
-}
-
-/// What is wrong with a list of so many events on 1 to 4 nodes, whose clients' logs have 8 to 23 records.
-fn fault_of_list(
-    alloc: Global,
-    dice: &mut Dice,
-    events: u32,
-    tally: &mut Tally,
-) -> Option<&'static str> {
-    let nodes = dice.below(4) as u32 + 1;
-    let log = dice.below(16) as usize + 8;
-    let mut cluster = Cluster::new(alloc, nodes, log, 2).ok()?;
-    fault_of(alloc, dice, &mut cluster, nodes, events, tally)
-}
-
-/// Sees so many lists of so many events each, and that they bring answers of each kind.
-fn see_lists(alloc: Global, rt: &impl Abort, seed: u64, lists: u32, events: u32) {
-    let mut dice = Dice::new(seed);
-    let mut tally = Tally::default();
+/// Sees so many lists of so many steps each, and that they have each outcome.
+pub(crate) fn see_lists(alloc: Global, rt: &impl Abort, desk: &mut Desk, lists: u32, steps: u32) {
+    let mut dice = Dice::new(1);
+    let mut missing = outcomes(alloc).expect(rt, "no memory");
     for list in 0..lists {
-        let fault = fault_of_list(alloc, &mut dice, events, &mut tally).expect(rt, "no memory");
-        assert!(rt; fault.is_empty(), "list {list}: {fault}");
+        let fault = fault_of(alloc, &mut dice, desk, steps, &mut missing).expect(rt, "no memory");
+        assert!(rt;
+            fault.is_empty(),
+            "list {list}: {fault} behind\n{}",
+            desk.steps.as_str()
+        );
     }
-    assert!(rt; tally.has_all(), "{tally:?}");
+    assert!(rt; missing.is_empty(), "{missing:?}");
+}
+
+fn outcomes(alloc: Global) -> Result<Vec<&'static str>, AllocError> {
+    let mut outcomes = Vec::new(alloc);
+    for outcome in OUTCOMES.lines() {
+        outcomes.push(outcome)?;
+    }
+    Ok(outcomes)
 }
 
 #[test]
 fn lists_by_chance_end_well(rt: HostRuntime) {
-    see_lists(rt.alloc(), &rt, 1, 200, 500);
+    on_desk(rt.alloc(), &rt, Task::Chance(60, 200)).expect(&rt, "no memory");
 }

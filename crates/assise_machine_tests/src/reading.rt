@@ -22,8 +22,8 @@ pub(crate) fn tree_at(alloc: Global, cluster: &Cluster, node: u32) -> Result<Str
 
 /// The tree of all calls that are replicated, which a full node's region gives.
 fn rebuilt(alloc: Global, cluster: &Cluster, node: u32) -> Result<Tree, Refusal> {
-    let acked = acked_places(alloc, cluster)?;
     let region = cluster.region(node)?;
+    let acked = acked_places(alloc, cluster)?;
     tree_of(alloc, region, acked.as_slice(), cluster)
 }
 

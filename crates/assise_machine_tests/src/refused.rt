@@ -1,22 +1,27 @@
 // Steps that are refused for want of memory, where each allocation of a run is refused in turn. What is refused leaves all as it
 // was, and the same step answers then.
-ghost use Rattle.std.specs.Prelude.{◌<◌, ◌≤◌};
-
 use crate::desk::Desk;
-use crate::script::put_step;
 use crate::seen::seen;
+use crate::steps::{event_of, put_step};
+use crate::tasks::{Task, on_desk};
+use crate::told::{keep, put_told};
+use assise_machine::answer::Answer;
+use assise_machine::event::Event;
+use assise_machine::run::run;
 use assise_names::refusal::Refusal;
 use std::alloc::Global;
 use std::process::Abort;
 
-/// Makes the steps of rows, each once more where it is refused for want of memory. False where a refused step changed what is
-/// seen, or where a step comes to something else than its row says.
-fn ends_alike(alloc: Global, nodes: u32, rows: &str) -> Result<bool, Refusal>
-    requires some { 0 < nodes }
-    requires few { nodes ≤ 8 }
-{
-    let mut desk = Desk::new(alloc, nodes, 8)?;
-    are_right(alloc, &mut desk, rows)
+/// Makes the steps of rows, each once more where it is refused for want of memory. Sees that no refused step changed what is seen,
+/// and that each step comes to what its row says then.
+pub(crate) fn see_made_again(alloc: Global, rt: &impl Abort, desk: &mut Desk, texts: &[&str]) {
+    for rows in texts {
+        let ended = are_right(alloc, desk, rows);
+        assert!(rt;
+            matches!(ended, Ok(true) | Err(Refusal::OutOfMemory)),
+            "{ended:?} in\n{rows}"
+        );
+    }
 }
 
 fn are_right(alloc: Global, desk: &mut Desk, rows: &str) -> Result<bool, Refusal> {
@@ -31,7 +36,7 @@ fn are_right(alloc: Global, desk: &mut Desk, rows: &str) -> Result<bool, Refusal
     Ok(true)
 }
 
-/// Makes a step, once more where it is refused for want of memory, which no delivery is.
+/// Makes a step, once more where it is refused for want of memory.
 fn is_right(alloc: Global, desk: &mut Desk, step: &str, wanted: &str) -> Result<bool, Refusal> {
     if let Some(node) = step.strip_prefix("digest ") {
         return digests(alloc, desk, node, wanted);
@@ -46,7 +51,7 @@ fn is_right(alloc: Global, desk: &mut Desk, step: &str, wanted: &str) -> Result<
         return Ok(false);
     }
     let again = outcome(alloc, desk, step)?;
-    Ok(again.as_str() == wanted && !step.starts_with("deliver"))
+    Ok(again.as_str() == wanted)
 }
 
 /// A node digests, and what is left of it where memory runs out on the way. What is refused digests nothing.
@@ -79,24 +84,39 @@ fn count_in(wanted: &str) -> Option<usize> {
 /// What a step comes to. Out of memory where it can't be read or told.
 fn outcome(alloc: Global, desk: &mut Desk, step: &str) -> Result<String, Refusal> {
     let mut text = String::with_capacity(alloc, 256)?;
-    put_step(alloc, desk, step, &mut text).ok_or(Refusal::OutOfMemory)?;
+    match event_of(alloc, desk, step) {
+        Some(event) => put_run(alloc, desk, event, &mut text)?,
+        None => put_step(alloc, desk, step, &mut text).ok_or(Refusal::OutOfMemory)?,
+    }
     Ok(text)
 }
 
-/// Sees that the steps of rows come to what the rows say, whatever was refused.
-fn end(alloc: Global, rt: &impl Abort, nodes: u32, rows: &str)
-    requires some { 0 < nodes }
-    requires few { nodes ≤ 8 }
-{
-    let ended = ends_alike(alloc, nodes, rows);
-    assert!(rt;
-        matches!(ended, Ok(true) | Err(Refusal::OutOfMemory)),
-        "{ended:?}"
-    );
+/// Runs a list of one event, and appends its answer. Where it is refused, nothing was taken from the stock.
+fn put_run(alloc: Global, desk: &mut Desk, event: Event, text: &mut String) -> Result<(), Refusal> {
+    let events = vec![in alloc; event]?;
+    let revokers = desk.stock.len();
+    match run(alloc, &mut desk.cluster, events.as_slice(), &mut desk.stock) {
+        Ok(answers) => put_answers(desk, answers, text).ok_or(Refusal::OutOfMemory)?,
+        Err(refusal) => write!(text, "{refusal}")?,
+    }
+    if text.as_str() == "F1 OutOfMemory" && desk.stock.len() != revokers {
+        return Err(Refusal::Busy);
+    }
+    Ok(())
+}
+
+/// Appends answers. The frames that were sent get the next numbers.
+fn put_answers(desk: &mut Desk, answers: Vec<Answer>, text: &mut String) -> Option<()> {
+    for answer in answers {
+        put_told(&answer, desk.letters.len(), text).ok()?;
+        keep(&mut desk.letters, answer)?;
+    }
+    Some(())
 }
 
 /// Frames are sent, delivered twice, and digested.
 const CARRIED: &str = "\
+cluster 2 8 => begun
 open 1 least => client 1
 1 create /f => done
 1 write /f 0 thi => done
@@ -114,6 +134,7 @@ tree at 2 => / names 1 f; /f bytes 2 x6869
 
 /// Frames of two clients are sent at once, and records of two clients digested.
 const BOTH: &str = "\
+cluster 2 8 => begun
 open 1 least => client 1
 open 1 least => client 2
 1 create /f => done
@@ -142,6 +163,7 @@ fsync 2 => done
 
 /// A node fails, and what wasn't synced is lost. It comes back, and the other one fails.
 const FAILED: &str = "\
+cluster 2 8 => begun
 open 1 least => client 1
 1 create /f => done
 1 write /f 0 taa => done
@@ -165,17 +187,25 @@ open 1 least => client 3
 crash 3 => crashed
 ";
 
-#[test]
-fn frames_and_digests_are_made_again(rt: HostRuntime) {
-    end(rt.alloc(), &rt, 2, CARRIED);
-}
+/// The last revoker of the stock is taken, once.
+const TAKEN: &str = "\
+cluster 2 8 => begun
+stock l => 1
+open 1 => client 1
+stock => 0
+1 create /f => done
+fsync 1 => not yet
+send 1 => 1 for 2: client 1, 0..1
+deliver 1 at 2 => received 1
+fsync 1 => done
+";
 
 #[test]
-fn two_clients_frames_and_digests_are_made_again(rt: HostRuntime) {
-    end(rt.alloc(), &rt, 2, BOTH);
-}
-
-#[test]
-fn failures_and_returns_are_made_again(rt: HostRuntime) {
-    end(rt.alloc(), &rt, 2, FAILED);
+fn what_is_refused_is_made_again(rt: HostRuntime) {
+    let ended = on_desk(
+        rt.alloc(),
+        &rt,
+        Task::Again(&[CARRIED, BOTH, FAILED, TAKEN]),
+    );
+    assert!(rt; matches!(ended, Ok(()) | Err(Refusal::OutOfMemory)));
 }

@@ -1,56 +1,35 @@
 // Lists of events, with their answers.
-use crate::desk::{Asked, Desk};
-use crate::frames::changed;
-use crate::script::{command, put_digested, put_opened, put_received, put_turn};
-use crate::told::{put_failed, put_sent, put_stale, put_told_of};
-use crate::words::{number_in, small_in};
-use assise_fault_script::command::{Command, RevokerKind};
+use crate::desk::Desk;
+use crate::steps::event_of;
+use crate::tasks::{Task, on_desk};
+use crate::told::{keep, put_told};
 use assise_machine::answer::Answer;
 use assise_machine::event::Event;
 use assise_machine::run::run;
-use assise_rows::{split_word, steps_in};
-use std::alloc::{AllocError, Global};
+use assise_rows::steps_in;
+use std::alloc::Global;
 use std::process::Abort;
 
-/// Revokers of kinds. The last of them is taken first.
-pub(crate) fn stock_of(alloc: Global, kinds: &[RevokerKind]) -> Result<Vec<Asked>, AllocError> {
-    let mut stock = Vec::with_capacity(alloc, kinds.len())?;
-    for kind in kinds {
-        stock.push(Asked { kind: *kind })?;
-    }
-    Ok(stock)
+/// Makes rows as one list of events, and sees that each row says what its step comes to.
+pub(crate) fn show_list(alloc: Global, rt: &impl Abort, desk: &mut Desk, rows: &str) {
+    let right = ran(alloc, desk, rows).expect(rt, "no such step, or no memory");
+    assert!(rt;
+        right.as_str() == rows,
+        "what comes out:\n{right}of\n{rows}"
+    );
 }
 
-/// Runs the steps of rows as one list. What comes out, as rows, and the frames that are sent get the next numbers. None where there
-/// is no such step, or no memory.
-fn ran(alloc: Global, desk: &mut Desk, stock: &mut Vec<Asked>, rows: &str) -> Option<String> {
-    let answers = answers_of(alloc, desk, stock, rows)?;
+/// Runs the steps of rows as one list. What comes out, as rows. None where there is no such step, or no memory.
+fn ran(alloc: Global, desk: &mut Desk, rows: &str) -> Option<String> {
     let mut text = String::new(alloc);
-    for (answer, row) in answers.into_iter().zip(rows.lines()) {
-        put_row(desk, answer, steps_in(row), &mut text)?;
-    }
+    let events = events_of(alloc, desk, rows)?;
+    let answers = run(alloc, &mut desk.cluster, events.as_slice(), &mut desk.stock).ok()?;
+    put_rows(desk, answers, rows, &mut text)?;
     Some(text)
 }
 
-fn answers_of(
-    alloc: Global,
-    desk: &mut Desk,
-    stock: &mut Vec<Asked>,
-    rows: &str,
-) -> Option<Vec<Answer>> {
-    let events = events_of(alloc, desk, rows)?;
-    run(alloc, &mut desk.cluster, events.as_slice(), stock).ok()
-}
-
-/// Appends the row of a step.
-fn put_row(desk: &mut Desk, answer: Answer, step: &str, text: &mut String) -> Option<()> {
-    write!(text, "{step} => ").ok()?;
-    put_told(desk, answer, text)?;
-    text.push('\n').ok()
-}
-
 /// The events of rows' steps.
-pub(crate) fn events_of(alloc: Global, desk: &Desk, rows: &str) -> Option<Vec<Event>> {
+fn events_of(alloc: Global, desk: &mut Desk, rows: &str) -> Option<Vec<Event>> {
     let mut events = Vec::new(alloc);
     for row in rows.lines() {
         events.push(event_of(alloc, desk, steps_in(row))?).ok()?;
@@ -58,102 +37,59 @@ pub(crate) fn events_of(alloc: Global, desk: &Desk, rows: &str) -> Option<Vec<Ev
     Some(events)
 }
 
-fn event_of(alloc: Global, desk: &Desk, step: &str) -> Option<Event> {
-    let (word, rest) = split_word(step);
-    match word {
-        "open" | "fsync" | "send" | "digest" => Some(numbered(word, small_in(rest)?)),
-        "crash" | "fail" | "back" | "refill" | "join" => Some(failing(word, small_in(rest)?)),
-        "release" => Some(Event::ReleaseReady),
-        "deliver" => delivery_of(alloc, desk, rest),
-        _ => call_of(alloc, step),
+/// Appends rows with these answers. The frames that were sent get the next numbers.
+fn put_rows(desk: &mut Desk, answers: Vec<Answer>, rows: &str, text: &mut String) -> Option<()> {
+    for (answer, row) in answers.into_iter().zip(rows.lines()) {
+        let step = steps_in(row);
+        write!(text, "{step} => ").ok()?;
+        put_told(&answer, desk.letters.len(), text).ok()?;
+        keep(&mut desk.letters, answer)?;
+        text.push('\n').ok()?;
     }
+    Some(())
 }
 
-/// The event of a word with the number of a node or of a client.
-fn numbered(word: &str, number: u32) -> Event {
-    match word {
-        "open" => Event::Open(number),
-        "fsync" => Event::Fsync(number),
-        "send" => Event::Outgoing(number),
-        _ => Event::Digest(number),
-    }
-}
+/// A stock that is empty in the end.
+const NONE_LEFT: &str = "stock => 0\n";
 
-/// The event of a word with the number of a client that crashes, or of a node that fails or comes back.
-fn failing(word: &str, number: u32) -> Event {
-    match word {
-        "crash" => Event::Crash(number),
-        "fail" => Event::Fail(number),
-        "back" => Event::Back(number),
-        "refill" => Event::Refill(number),
-        _ => Event::Join(number),
-    }
-}
+/// A stock of which two are left.
+const TWO_LEFT: &str = "stock => 2\n";
 
-/// A copy of the frame of a number comes `at` a node.
-fn delivery_of(alloc: Global, desk: &Desk, rest: &str) -> Option<Event> {
-    let (number, node) = rest.split_once(" at ")?;
-    let (frame, _) = desk.letter(number_in(number)? as usize)?;
-    let copied = changed(alloc, frame, frame.epoch(), frame.client(), frame.first())?;
-    Some(Event::Deliver(copied, small_in(node)?))
-}
+/// No revokers.
+const NONE: &str = "\
+cluster 2 8 => begun
+stock => 0
+";
 
-fn call_of(alloc: Global, step: &str) -> Option<Event> {
-    match command(alloc, step)? {
-        Command::Call { client, op } => Some(Event::Call(u32::try_from(client).ok()?, op)),
-        _ => None,
-    }
-}
+/// Two revokers of the least cut.
+const LEAST_TWICE: &str = "\
+cluster 2 8 => begun
+stock ll => 2
+";
 
-/// Appends an answer. The frames that were sent get the next numbers.
-fn put_told(desk: &mut Desk, answer: Answer, text: &mut String) -> Option<()> {
-    match answer {
-        Answer::Opened(opened) => put_opened(text, opened).ok(),
-        Answer::Called(called) => put_turn(text, called).ok(),
-        Answer::Sent(Ok(sent)) => {
-            put_sent(sent.as_slice(), desk.letters.len(), text).ok()?;
-            for letter in sent {
-                desk.letters.push(letter).ok()?;
-            }
-            Some(())
-        }
-        Answer::Sent(Err(refusal)) => write!(text, "{refusal}").ok(),
-        Answer::Received(received) => put_received(text, received).ok(),
-        Answer::Digested(digested) => put_digested(text, digested).ok(),
-        Answer::Released(count) => write!(text, "released {count}").ok(),
-        Answer::Crashed(crashed) => put_told_of(text, "crashed", crashed).ok(),
-        Answer::Failed(failed) => put_failed(text, failed).ok(),
-        Answer::Began(stale) => put_stale(text, "stale", stale).ok(),
-        Answer::Left(stale) => put_stale(text, "left", stale).ok(),
-        Answer::Joined(joined) => put_told_of(text, "returned", joined).ok(),
-    }
-}
+/// The whole log is answered by who is opened first.
+const WHOLE_FIRST: &str = "\
+cluster 2 8 => begun
+stock lw => 2
+";
 
-/// Runs the rows of each text as one list, one text after another, on two nodes. Sees that each row says what its step comes to, and
-/// that so many revokers are left.
-fn show(alloc: Global, rt: &impl Abort, kinds: &[RevokerKind], left: usize, texts: &[&str]) {
-    let mut stock = stock_of(alloc, kinds).expect(rt, "no memory");
-    let mut desk = Desk::new(alloc, 2, 8).ok().expect(rt, "no memory");
-    show_texts(alloc, rt, &mut desk, &mut stock, texts);
-    assert_eq!(rt; stock.len(), left);
-}
+/// The least cut is answered by who is opened first.
+const LEAST_FIRST: &str = "\
+cluster 2 8 => begun
+stock wl => 2
+";
 
-fn show_texts(
-    alloc: Global,
-    rt: &impl Abort,
-    desk: &mut Desk,
-    stock: &mut Vec<Asked>,
-    texts: &[&str],
-) {
-    for rows in texts {
-        show_rows(alloc, rt, desk, stock, rows);
-    }
-}
+/// Four revokers.
+const FOUR: &str = "\
+cluster 2 8 => begun
+stock llll => 4
+";
 
-fn show_rows(alloc: Global, rt: &impl Abort, desk: &mut Desk, stock: &mut Vec<Asked>, rows: &str) {
-    let right = ran(alloc, desk, stock, rows).expect(rt, "no such step, or no memory");
-    assert!(rt; right.as_str() == rows, "what comes out:\n{right}");
-}
+/// Eighteen revokers.
+const EIGHTEEN: &str = "\
+cluster 2 8 => begun
+stock llllllllllllllllll => 18
+";
 
 /// One event of each kind.
 const EACH: &str = "\
@@ -315,32 +251,39 @@ release => released 2
 ";
 
 #[test]
-fn events_are_answered_in_order(rt: HostRuntime) {
-    let kinds = [RevokerKind::Least, RevokerKind::Least];
-    show(rt.alloc(), &rt, &kinds, 0, &[EACH, DELIVERED]);
+fn lists_are_answered_in_order(rt: HostRuntime) {
+    let lists = [
+        LEAST_TWICE,
+        EACH,
+        DELIVERED,
+        NONE_LEFT,
+        NONE,
+        EMPTY,
+        "",
+        EMPTY,
+        NONE_LEFT,
+        FOUR,
+        SYNCS,
+        FAILS,
+        RETURNS,
+        READS,
+        NONE_LEFT,
+    ];
+    on_desk(rt.alloc(), &rt, Task::Lists(&lists)).expect(&rt, "no memory");
 }
 
 #[test]
-fn an_empty_stock_opens_no_client(rt: HostRuntime) {
-    show(rt.alloc(), &rt, &[], 0, &[EMPTY, "", EMPTY]);
-}
-
-#[test]
-fn a_refused_revoker_is_taken_next(rt: HostRuntime) {
-    let kinds = [RevokerKind::Least, RevokerKind::Whole];
-    show(rt.alloc(), &rt, &kinds, 0, &[WHOLE_GOES_BACK]);
-    let kinds = [RevokerKind::Whole, RevokerKind::Least];
-    show(rt.alloc(), &rt, &kinds, 0, &[LEAST_GOES_BACK]);
-}
-
-#[test]
-fn clients_crash_and_nodes_fail_and_come_back(rt: HostRuntime) {
-    let kinds = [RevokerKind::Least; 4];
-    show(rt.alloc(), &rt, &kinds, 0, &[SYNCS, FAILS, RETURNS, READS]);
-}
-
-#[test]
-fn a_seventeenth_client_is_refused(rt: HostRuntime) {
-    let kinds = [RevokerKind::Least; 18];
-    show(rt.alloc(), &rt, &kinds, 2, &[SIXTEEN]);
+fn the_last_revoker_of_the_stock_is_taken_next(rt: HostRuntime) {
+    let lists = [
+        WHOLE_FIRST,
+        WHOLE_GOES_BACK,
+        NONE_LEFT,
+        LEAST_FIRST,
+        LEAST_GOES_BACK,
+        NONE_LEFT,
+        EIGHTEEN,
+        SIXTEEN,
+        TWO_LEFT,
+    ];
+    on_desk(rt.alloc(), &rt, Task::Lists(&lists)).expect(&rt, "no memory");
 }

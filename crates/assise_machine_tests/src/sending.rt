@@ -1,8 +1,9 @@
 // What nodes send.
-use crate::rows::{show, show_long};
+use crate::rows::show;
 
 /// For each client by rising number one frame at most, for the node behind in the client's chain. The last node sends none.
 const CHAINS: &str = "\
+cluster 3 8 => begun
 open 1 least => client 1
 open 2 least => client 2
 open 3 least => client 3
@@ -39,6 +40,7 @@ fsync 2 => done
 
 /// A node sends frames of all clients whose chains it stands in.
 const RISING: &str = "\
+cluster 3 8 => begun
 open 1 least => client 1
 open 2 least => client 2
 open 1 least => client 3
@@ -90,6 +92,7 @@ tree at 3 => / names 3 f g h; /h bytes 1 x79; /g bytes 1 x78; /f bytes 1 x7a
 
 /// What isn't asked for isn't sent.
 const UP_TO_THE_GOAL: &str = "\
+cluster 2 8 => begun
 open 1 least => client 1
 1 create /f => done
 send 1 => nothing
@@ -111,6 +114,7 @@ fsync 1 => done
 
 /// No more than 64 records are sent at once, and a node sends on what it has.
 const MANY: &str = "\
+cluster 3 128 => begun
 open 1 least => client 1
 1 create /f => done
 times 69 1 write /f 0 thi => done
@@ -132,6 +136,7 @@ fsync 1 => done
 
 /// A node alone sends nothing, and there is no other.
 const ALONE: &str = "\
+cluster 1 8 => begun
 open 1 least => client 1
 1 create /f => done
 fsync 1 => done
@@ -141,26 +146,10 @@ send 2 => F8 BadNode
 ";
 
 #[test]
-fn each_client_has_its_chain(rt: HostRuntime) {
-    show(rt.alloc(), &rt, 3, &[CHAINS]);
-}
-
-#[test]
-fn frames_rise_by_clients(rt: HostRuntime) {
-    show(rt.alloc(), &rt, 3, &[RISING]);
-}
-
-#[test]
-fn records_are_sent_up_to_the_goal(rt: HostRuntime) {
-    show(rt.alloc(), &rt, 2, &[UP_TO_THE_GOAL]);
-}
-
-#[test]
-fn a_frame_has_at_most_64_records(rt: HostRuntime) {
-    show_long(rt.alloc(), &rt, 3, 128, &[MANY]);
-}
-
-#[test]
-fn a_node_alone_sends_nothing(rt: HostRuntime) {
-    show(rt.alloc(), &rt, 1, &[ALONE]);
+fn records_are_sent_along_chains(rt: HostRuntime) {
+    show(
+        rt.alloc(),
+        &rt,
+        &[CHAINS, RISING, UP_TO_THE_GOAL, MANY, ALONE],
+    );
 }

@@ -1,19 +1,62 @@
-// What is told of a cluster.
+// What is told of answers, and of a cluster.
 use crate::desk::{Cluster, Letter};
-use crate::frames::put_digits;
 use crate::reading::tree_at;
 use crate::words::{number_in, small_in};
-use assise_names::refusal::Refusal;
-use assise_record::frame::Frame;
+use assise_machine::answer::Answer;
+use assise_machine_calls::turn::Turn;
 use assise_rows::split_word;
 use std::alloc::{AllocError, Global};
 
-/// Appends the frames that a node sent, each with its number, where so many were sent before, and the node that it is for.
-pub(crate) fn put_sent(
-    sent: &[Letter],
+/// Appends an answer, where so many frames were sent before.
+pub(crate) fn put_told(
+    answer: &Answer,
     before: usize,
     text: &mut String,
 ) -> Result<(), AllocError> {
+    match answer {
+        Answer::Opened(Ok(client)) => write!(text, "client {client}"),
+        Answer::Called(Ok(Turn::Answered(reply))) => write!(text, "{reply}"),
+        Answer::Called(Ok(Turn::NotYet)) => text.push_str("not yet"),
+        Answer::Sent(Ok(sent)) => put_sent(sent.as_slice(), before, text),
+        Answer::Received(Ok(place)) => write!(text, "received {place}"),
+        Answer::Digested(Ok(count)) => write!(text, "digested {count}"),
+        Answer::Released(count) => write!(text, "released {count}"),
+        Answer::Crashed(Ok(())) => text.push_str("crashed"),
+        Answer::Failed(Ok(losses)) => put_losses(losses.as_slice(), text),
+        Answer::Began(Ok(stale)) => write!(text, "stale {stale}"),
+        Answer::Left(Ok(stale)) => write!(text, "left {stale}"),
+        Answer::Joined(Ok(())) => text.push_str("returned"),
+        Answer::Opened(Err(refusal))
+        | Answer::Called(Err(refusal))
+        | Answer::Sent(Err(refusal))
+        | Answer::Received(Err(refusal))
+        | Answer::Digested(Err(refusal))
+        | Answer::Crashed(Err(refusal))
+        | Answer::Failed(Err(refusal))
+        | Answer::Began(Err(refusal))
+        | Answer::Left(Err(refusal))
+        | Answer::Joined(Err(refusal)) => write!(text, "{refusal}"),
+    }
+}
+
+/// Keeps the frames that were sent, which get the next numbers.
+pub(crate) fn keep(letters: &mut Vec<Letter>, answer: Answer) -> Option<()> {
+    match answer {
+        Answer::Sent(Ok(sent)) => keep_all(letters, sent),
+        _ => Some(()),
+    }
+}
+
+fn keep_all(letters: &mut Vec<Letter>, sent: Vec<Letter>) -> Option<()> {
+    for letter in sent {
+        letters.push(letter).ok()?;
+    }
+    Some(())
+}
+
+/// Appends the frames that a node sent, each with its number, the node that it is for, and whose records it has: from the first
+/// number, up to that behind the last.
+fn put_sent(sent: &[Letter], before: usize, text: &mut String) -> Result<(), AllocError> {
     if sent.is_empty() {
         return text.push_str("nothing");
     }
@@ -21,64 +64,24 @@ pub(crate) fn put_sent(
     let mut number = before;
     for (frame, node) in sent {
         number = number.saturating_add(1);
-        write!(text, "{parted}{number} for {node}: ")?;
-        put_range(frame, text)?;
+        let (client, first) = (frame.client(), frame.first());
+        let end = first.saturating_add(frame.records().len() as u64);
+        write!(
+            text,
+            "{parted}{number} for {node}: client {client}, {first}..{end}"
+        )?;
         parted = "; ";
     }
     Ok(())
 }
 
-/// Appends whose records a frame has: from the first number, up to that behind the last.
-fn put_range(frame: &Frame, text: &mut String) -> Result<(), AllocError> {
-    let (client, first) = (frame.client(), frame.first());
-    let end = first.saturating_add(frame.records().len() as u64);
-    write!(text, "client {client}, {first}..{end}")
-}
-
-/// Appends a word, where nothing was refused.
-pub(crate) fn put_told_of(
-    text: &mut String,
-    word: &str,
-    told: Result<(), Refusal>,
-) -> Result<(), AllocError> {
-    match told {
-        Ok(()) => text.push_str(word),
-        Err(refusal) => write!(text, "{refusal}"),
-    }
-}
-
-/// Appends a word and how many inodes a node may lack.
-pub(crate) fn put_stale(
-    text: &mut String,
-    word: &str,
-    stale: Result<usize, Refusal>,
-) -> Result<(), AllocError> {
-    match stale {
-        Ok(count) => write!(text, "{word} {count}"),
-        Err(refusal) => write!(text, "{refusal}"),
-    }
-}
-
 /// Appends what was lost by a failure: each client that lost a call, with the first.
-pub(crate) fn put_failed(
-    text: &mut String,
-    failed: Result<Vec<(u32, u64)>, Refusal>,
-) -> Result<(), AllocError> {
-    match failed {
-        Ok(losses) => {
-            text.push_str("failed")?;
-            for (client, first) in losses {
-                write!(text, " {client}:{first}")?;
-            }
-            Ok(())
-        }
-        Err(refusal) => write!(text, "{refusal}"),
+fn put_losses(losses: &[(u32, u64)], text: &mut String) -> Result<(), AllocError> {
+    text.push_str("failed")?;
+    for (client, first) in losses {
+        write!(text, " {client}:{first}")?;
     }
-}
-
-/// Appends a frame's bytes.
-pub(crate) fn put_letter(alloc: Global, frame: &Frame, text: &mut String) -> Option<()> {
-    put_digits(alloc, frame, text)
+    Ok(())
 }
 
 /// Appends what is told of a client's acknowledged records, of its log at a node, of an inode at a node, of the tree that a node
@@ -90,39 +93,29 @@ pub(crate) fn put_answer(
     rest: &str,
     text: &mut String,
 ) -> Option<()> {
-    let (first, second) = split_word(rest);
+    let (first, place) = split_word(rest);
+    let node = place.strip_prefix("at ").and_then(small_in);
     match word {
-        "acked" => put_acked(cluster, small_in(first)?, text).ok(),
-        "log" => put_log(cluster, number_in(first)? as usize, node_in(second)?, text),
-        "inode" => put_inode(cluster, number_in(first)?, node_in(second)?, text),
-        "tree" => {
-            let tree = tree_at(alloc, cluster, node_in(rest)?).ok()?;
-            text.push_str(tree.as_str()).ok()
+        "acked" => {
+            let acked = cluster.acked(small_in(first)?).ok()?;
+            write!(text, "{acked}").ok()
         }
+        "log" => put_log(cluster, small_in(first)?, node?, text),
+        "inode" => put_inode(cluster, number_in(first)?, node?, text),
+        "tree" => put_tree_at(alloc, cluster, small_in(place)?, text),
         _ => put_history(cluster, text).ok(),
     }
 }
 
-/// The node of `at NODE`.
-fn node_in(words: &str) -> Option<u32> {
-    small_in(words.strip_prefix("at ")?)
-}
-
-fn put_acked(cluster: &Cluster, client: u32, text: &mut String) -> Result<(), AllocError> {
-    match cluster.acked(client) {
-        Ok(place) => write!(text, "{place}"),
-        Err(refusal) => write!(text, "{refusal}"),
-    }
+fn put_tree_at(alloc: Global, cluster: &Cluster, node: u32, text: &mut String) -> Option<()> {
+    let tree = tree_at(alloc, cluster, node).ok()?;
+    text.push_str(tree.as_str()).ok()
 }
 
 /// Appends the numbers of the records that a node has of a client, and up to which they are digested. None where it has no log.
-pub(crate) fn put_log(
-    cluster: &Cluster,
-    client: usize,
-    node: u32,
-    text: &mut String,
-) -> Option<()> {
+pub(crate) fn put_log(cluster: &Cluster, client: u32, node: u32, text: &mut String) -> Option<()> {
     let region = cluster.region(node).ok()?;
+    let client = client as usize;
     if client == 0 || region.clients() < client {
         return None;
     }

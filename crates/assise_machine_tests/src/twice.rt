@@ -3,6 +3,7 @@ use crate::rows::show;
 
 /// What comes twice is passed over, and is digested once.
 const TWICE: &str = "\
+cluster 2 8 => begun
 open 1 least => client 1
 1 create /f => done
 1 write /f 0 thi => done
@@ -28,6 +29,7 @@ history => open 1 1; call 1 0 create /f = done; call 1 1 write /f 0 2 = done; ca
 
 /// A node takes of a frame what it lacks.
 const OVERLAPPING: &str = "\
+cluster 2 8 => begun
 open 1 least => client 1
 1 create /f => done
 fsync 1 => not yet
@@ -45,6 +47,7 @@ tree at 2 => / names 1 f; /f bytes 2 x6869
 
 /// A frame that comes before an earlier one leaves a gap.
 const GAP: &str = "\
+cluster 3 8 => begun
 open 1 least => client 1
 1 create /f => done
 fsync 1 => not yet
@@ -67,6 +70,7 @@ fsync 1 => done
 /// A frame of another epoch, of a client that the records aren't of, or that has them under other numbers is refused, and all
 /// stays as it was.
 const CHANGED: &str = "\
+cluster 2 8 => begun
 open 1 least => client 1
 open 2 least => client 2
 1 create /f => done
@@ -87,6 +91,7 @@ log 1 at 2 => 0..2, digested 0
 
 /// The node is looked at first, then the client, then the rest.
 const FAULTS: &str = "\
+cluster 2 8 => begun
 open 1 least => client 1
 1 create /f => done
 fsync 1 => not yet
@@ -102,6 +107,7 @@ deliver 1 at 2 => received 1
 
 /// The bytes of a frame in which client 1 makes the file `/f`, and of one in which it makes `/g`.
 const WRITTEN: &str = "\
+cluster 3 8 => begun
 open 1 least => client 1
 1 create /f => done
 fsync 1 => not yet
@@ -124,31 +130,10 @@ tree at 2 => / names 1 f; /f bytes 0 x
 ";
 
 #[test]
-fn what_comes_twice_is_there_once(rt: HostRuntime) {
-    show(rt.alloc(), &rt, 2, &[TWICE]);
-}
-
-#[test]
-fn what_a_node_lacks_is_taken(rt: HostRuntime) {
-    show(rt.alloc(), &rt, 2, &[OVERLAPPING]);
-}
-
-#[test]
-fn a_gap_is_refused(rt: HostRuntime) {
-    show(rt.alloc(), &rt, 3, &[GAP]);
-}
-
-#[test]
-fn a_changed_frame_is_refused(rt: HostRuntime) {
-    show(rt.alloc(), &rt, 2, &[CHANGED]);
-}
-
-#[test]
-fn faults_have_an_order(rt: HostRuntime) {
-    show(rt.alloc(), &rt, 2, &[FAULTS]);
-}
-
-#[test]
-fn a_frame_with_another_name_is_refused(rt: HostRuntime) {
-    show(rt.alloc(), &rt, 3, &[WRITTEN]);
+fn frames_come_twice_or_changed(rt: HostRuntime) {
+    show(
+        rt.alloc(),
+        &rt,
+        &[TWICE, OVERLAPPING, GAP, CHANGED, FAULTS, WRITTEN],
+    );
 }

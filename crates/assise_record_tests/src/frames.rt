@@ -1,4 +1,5 @@
 // Frames byte by byte, and each fault in its place.
+use crate::marks::{MARKED, MARKED_F, MARKED_TWO, MARKS};
 use crate::rows::{CREATE_F, LongRow, Row, SEVEN_EFFECTS, compare, long_bytes_of, shows};
 use std::test::Fail;
 
@@ -53,11 +54,7 @@ const SEVEN_WORDS: &str =
     NewFile { inode: 6 }, \
     Free { inode: 7 }] }], marks: None } in 136, 136 fronts, room 136 136";
 
-#[test]
-fn frames_are_read(rt: HostRuntime) -> Result<(), Fail> {
-    shows(rt.alloc(), FRAMES)
-}
-
+/// Whole frames of version 1.
 const FRAMES: &[Row<'_>] = &[
     // A created file is 66 bytes, whatever stands behind them.
     (66, b"", 66, of_file!(0)),
@@ -117,11 +114,7 @@ const FRAMES: &[Row<'_>] = &[
     ),
 ];
 
-#[test]
-fn one_wrong_byte_is_a_fault(rt: HostRuntime) -> Result<(), Fail> {
-    shows(rt.alloc(), WRONG_BYTES)
-}
-
+/// One wrong byte is a fault.
 const WRONG_BYTES: &[Row<'_>] = &[
     (0, b"\x61", 1, "BadMagic"),
     (1, b"\x41", 2, "BadMagic"),
@@ -150,11 +143,7 @@ const WRONG_BYTES: &[Row<'_>] = &[
     (57, b"\xff", 58, "BadValue"),
 ];
 
-#[test]
-fn numbers_keep_to_their_ranges(rt: HostRuntime) -> Result<(), Fail> {
-    shows(rt.alloc(), RANGES)
-}
-
+/// Numbers keep to their ranges.
 const RANGES: &[Row<'_>] = &[
     // A write keeps to its ranges. Longer ones stand among the long rows.
     (
@@ -250,11 +239,7 @@ const RANGES: &[Row<'_>] = &[
     (15, b"\xff\xff\xff\xff\xff\xff\xff\xff", 23, "BadValue"),
 ];
 
-#[test]
-fn the_first_fault_decides(rt: HostRuntime) -> Result<(), Fail> {
-    shows(rt.alloc(), FIRST_FAULTS)
-}
-
+/// The first fault decides.
 const FIRST_FAULTS: &[Row<'_>] = &[
     (0, b"", 66, "Short"),
     (0, b"A", 66, "Short"),
@@ -309,11 +294,63 @@ const FIRST_FAULTS: &[Row<'_>] = &[
     ),
 ];
 
+/// Frames that are read up to version 2: those of version 1 as ever, and no newer one.
+const ANEW: &[Row<'_>] = &[
+    (66, b"", 66, of_file!(0)),
+    (0, b"AS\x03", 66, "BadVersion"),
+    (0, b"AS\0", 66, "BadVersion"),
+];
+
+#[test]
+fn frames_are_read(rt: HostRuntime) -> Result<(), Fail> {
+    shows(rt.alloc(), CREATE_F, false, FRAMES)
+}
+
+#[test]
+fn one_wrong_byte_is_a_fault(rt: HostRuntime) -> Result<(), Fail> {
+    shows(rt.alloc(), CREATE_F, false, WRONG_BYTES)
+}
+
+#[test]
+fn numbers_keep_to_their_ranges(rt: HostRuntime) -> Result<(), Fail> {
+    shows(rt.alloc(), CREATE_F, false, RANGES)
+}
+
+#[test]
+fn the_first_fault_decides(rt: HostRuntime) -> Result<(), Fail> {
+    shows(rt.alloc(), CREATE_F, false, FIRST_FAULTS)
+}
+
+#[test]
+fn either_version_is_read(rt: HostRuntime) -> Result<(), Fail> {
+    shows(rt.alloc(), CREATE_F, true, ANEW)?;
+    shows(rt.alloc(), MARKED_F, true, MARKED)
+}
+
+#[test]
+fn marks_are_read_in_their_places(rt: HostRuntime) -> Result<(), Fail> {
+    shows(rt.alloc(), MARKED_TWO, true, MARKS)
+}
+
+#[test]
+fn version_1_alone_refuses_a_marked_frame_at_the_third_byte(rt: HostRuntime) -> Result<(), Fail> {
+    for count in 0..=MARKED_F.len() {
+        let wanted = if count < 3 { "Short" } else { "BadVersion" };
+        compare(
+            rt.alloc(),
+            MARKED_F.get(..count).unwrap_or_default(),
+            false,
+            wanted,
+        )?;
+    }
+    Ok(())
+}
+
 #[test]
 fn each_long_row_is_read_as_it_says(rt: HostRuntime) -> Result<(), Fail> {
     for row in LONG_ROWS {
         let bytes = long_bytes_of(rt.alloc(), *row)?;
-        compare(rt.alloc(), bytes.as_slice(), row.6)?;
+        compare(rt.alloc(), bytes.as_slice(), false, row.6)?;
     }
     Ok(())
 }

@@ -2,14 +2,12 @@
 #![tactic(auto)]
 
 #[cfg(test)]
-mod copies;
+mod effects;
 #[cfg(test)]
 mod frames;
 #[cfg(test)]
 mod marks;
 #[cfg(test)]
 mod outcome;
-#[cfg(test)]
-mod overrides;
 #[cfg(test)]
 mod rows;

@@ -46,45 +46,59 @@ fn count_effects(frame: &Frame) -> usize {
     count
 }
 
-/// What a frame of so many bytes says, or of a long one how many records and effects it has.
-fn content(alloc: Global, frame: &Frame, count: usize) -> Result<String, AllocError> {
+/// Appends what a frame of so many bytes says, or of a long one how many records and effects it has.
+fn put_content(text: &mut String, frame: &Frame, count: usize) -> Result<(), AllocError> {
     if count < 1000 {
-        return format!(in alloc; "{frame:?}");
+        return write!(text, "{frame:?}");
     }
     let records = frame.records().len();
     let effects = count_effects(frame);
-    format!(in alloc; "{records} records, {effects} effects")
+    write!(text, "{records} records, {effects} effects")
 }
 
-/// The words of a frame that is spelled by these bytes: what it says, how many bytes it has, how many of their fronts are
-/// short, and what room its spelling takes, in a vector without room and in one with as much as the frame needs.
+/// The words of a frame that is spelled by these bytes: what its copy says, how many bytes it has, how many of their fronts
+/// are short, and what room its spelling takes, in a vector without room and in one with as much as the frame needs.
 fn frame_words(alloc: Global, frame: &Frame, bytes: &[u8]) -> Result<String, AllocError> {
+    let mut text = String::new(alloc);
+    put_copied(alloc, &mut text, frame, bytes.len())?;
+    put_counts(alloc, &mut text, frame, bytes)?;
+    Ok(text)
+}
+
+fn put_copied(
+    alloc: Global,
+    text: &mut String,
+    frame: &Frame,
+    count: usize,
+) -> Result<(), AllocError> {
+    match frame.copy(alloc) {
+        Ok(copied) => put_content(text, &copied, count),
+        Err(_) => Err(AllocError),
+    }
+}
+
+fn put_counts(
+    alloc: Global,
+    text: &mut String,
+    frame: &Frame,
+    bytes: &[u8],
+) -> Result<(), AllocError> {
     let count = bytes.len();
-    let says = content(alloc, frame, count)?;
     let fronts = short_fronts(alloc, frame, bytes);
     let grown = room_taken(alloc, frame, bytes, 0)?;
     let kept = room_taken(alloc, frame, bytes, count)?;
-    format!(in alloc; "{says} in {count}, {fronts} fronts, room {grown} {kept}")
+    write!(text, " in {count}, {fronts} fronts, room {grown} {kept}")
 }
 
-/// The words of the frame that was read of the front of bytes, or of the fault.
-fn words(
-    alloc: Global,
-    bytes: &[u8],
-    read: Result<(Frame, usize), FrameFault>,
-) -> Result<String, AllocError> {
+/// The words of the frame that bytes begin with, of version 1 or of either, or their fault.
+pub fn outcome(alloc: Global, bytes: &[u8], is_either: bool) -> Result<String, AllocError> {
+    let read = if is_either {
+        decode_up_to(alloc, bytes, MARKED_VERSION)
+    } else {
+        decode(alloc, bytes)
+    };
     match read {
         Ok((frame, count)) => frame_words(alloc, &frame, bytes.get(..count).unwrap_or_default()),
         Err(fault) => format!(in alloc; "{fault:?}"),
     }
-}
-
-/// The words of the frame of version 1 that bytes begin with, or their fault.
-pub fn outcome(alloc: Global, bytes: &[u8]) -> Result<String, AllocError> {
-    words(alloc, bytes, decode(alloc, bytes))
-}
-
-/// The same of a frame of either version.
-pub fn outcome_of_either(alloc: Global, bytes: &[u8]) -> Result<String, AllocError> {
-    words(alloc, bytes, decode_up_to(alloc, bytes, MARKED_VERSION))
 }

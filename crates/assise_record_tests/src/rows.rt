@@ -1,10 +1,6 @@
 // Rows of bytes, and of what they are read as.
 use crate::outcome::outcome;
-use assise_names::refusal::Refusal;
-use assise_record::decode::decode_up_to;
-use assise_record::frame::MARKED_VERSION;
 use std::alloc::{AllocError, Global};
-use std::process::Abort;
 use std::test::Fail;
 
 /// Epoch 1, client 1, from record 0 on: call 0 made the file `f` of the root, inode 2^32.
@@ -24,8 +20,8 @@ pub const SEVEN_EFFECTS: &[u8] =
     \x01\0\0\0\0\0\0\0\x06\
     \x07\0\0\0\0\0\0\0\x07";
 
-/// How many bytes of [`CREATE_F`] stand in front, what stands behind them, from which byte on those of `CREATE_F`
-/// follow, and what all these bytes are read as.
+/// How many bytes of a frame stand in front, what stands behind them, from which byte on those of the frame follow, and
+/// what all these bytes are read as.
 pub type Row<'a> = (usize, &'a [u8], usize, &'a str);
 
 /// The header, how many records follow, the front of each record, how many effects it has, the front of each effect, how
@@ -48,12 +44,11 @@ fn repeated(
     Ok(bytes)
 }
 
-/// The bytes of a row.
-fn bytes_of(alloc: Global, row: Row<'_>) -> Result<Vec<u8>, AllocError> {
-    let (front, bytes, back, _) = row;
-    let front = CREATE_F.get(..front).unwrap_or_default();
-    let back = CREATE_F.get(back..).unwrap_or_default();
-    repeated(alloc, front, bytes, back, 1)
+/// The bytes of a row of a frame.
+fn bytes_of(alloc: Global, frame: &[u8], row: &Row<'_>) -> Result<Vec<u8>, AllocError> {
+    let front = frame.get(..row.0).unwrap_or_default();
+    let back = frame.get(row.2..).unwrap_or_default();
+    repeated(alloc, front, row.1, back, 1)
 }
 
 /// The bytes of a long row.
@@ -64,37 +59,20 @@ pub fn long_bytes_of(alloc: Global, row: LongRow<'_>) -> Result<Vec<u8>, AllocEr
     repeated(alloc, header, record.as_slice(), b"", records)
 }
 
-/// Compares what bytes are read as with what is wanted.
-pub fn compare(alloc: Global, bytes: &[u8], wanted: &str) -> Result<(), Fail> {
-    let found = outcome(alloc, bytes)?;
+/// Compares what bytes are read as, of version 1 or of either, with what is wanted.
+pub fn compare(alloc: Global, bytes: &[u8], is_either: bool, wanted: &str) -> Result<(), Fail> {
+    let found = outcome(alloc, bytes, is_either)?;
     if found.as_str() == wanted {
         return Ok(());
     }
     Err(Fail::new(format_args!("{found} in place of {wanted} at {bytes:?}")))
 }
 
-/// Compares what rows are read as with what they want.
-pub fn shows(alloc: Global, rows: &[Row<'_>]) -> Result<(), Fail> {
+/// Compares what the rows of a frame are read as with what they want.
+pub fn shows(alloc: Global, frame: &[u8], is_either: bool, rows: &[Row<'_>]) -> Result<(), Fail> {
     for row in rows {
-        let bytes = bytes_of(alloc, *row)?;
-        compare(alloc, bytes.as_slice(), row.3)?;
+        let bytes = bytes_of(alloc, frame, row)?;
+        compare(alloc, bytes.as_slice(), is_either, row.3)?;
     }
     Ok(())
-}
-
-/// Compares a text with what is wanted.
-pub fn is_text(rt: &impl Abort, found: &str, wanted: &str) {
-    assert_eq!(rt; found, wanted);
-}
-
-/// The version, the marks and the count of records of a copy of the frame that bytes begin with.
-pub fn copied_frame(alloc: Global, bytes: &[u8]) -> Result<String, Refusal> {
-    match decode_up_to(alloc, bytes, MARKED_VERSION) {
-        Ok((frame, _)) => {
-            let copied = frame.copy(alloc)?;
-            let count = copied.records().len();
-            Ok(format!(in alloc; "{} {:?} {count} records", copied.version(), copied.last())?)
-        }
-        Err(fault) => Ok(format!(in alloc; "{fault:?}")?),
-    }
 }

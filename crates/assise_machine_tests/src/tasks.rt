@@ -1,0 +1,59 @@
+// What tests make on a cluster. One function alone owns it.
+use crate::desk::Desk;
+use crate::failing_anywhere::see_failures;
+use crate::lists::see_lists;
+use crate::refused::see_made_again;
+use crate::rows::show_rows;
+use crate::running::show_list;
+use assise_names::refusal::Refusal;
+use std::alloc::Global;
+use std::process::Abort;
+
+/// What is made.
+#[derive(Clone, Copy)]
+pub(crate) enum Task<'a> {
+    /// The rows of texts, step by step.
+    Rows(&'a [&'a str]),
+    /// The rows of texts, each as one list of events.
+    Lists(&'a [&'a str]),
+    /// The rows of texts, each step once more where it is refused for want of memory.
+    Again(&'a [&'a str]),
+    /// Scripts in which a node fails before each step, and comes back so many steps further.
+    Failures(usize, &'a [&'a str]),
+    /// So many lists of so many steps by chance.
+    Chance(u32, u32),
+}
+
+/// Makes what is to be made on a new desk. Refused for want of memory.
+pub(crate) fn on_desk(alloc: Global, rt: &impl Abort, task: Task<'_>) -> Result<(), Refusal> {
+    let mut desk = Desk::new(alloc)?;
+    make(alloc, rt, &mut desk, task);
+    Ok(())
+}
+
+fn make(alloc: Global, rt: &impl Abort, desk: &mut Desk, task: Task<'_>) {
+    match task {
+        Task::Rows(texts) => show(alloc, rt, desk, texts),
+        Task::Lists(texts) => show_lists(alloc, rt, desk, texts),
+        Task::Again(texts) => see_made_again(alloc, rt, desk, texts),
+        Task::Failures(away, scripts) => see_failures(alloc, rt, desk, away, scripts),
+        Task::Chance(lists, steps) => see_lists(alloc, rt, desk, lists, steps),
+    }
+}
+
+fn show(alloc: Global, rt: &impl Abort, desk: &mut Desk, texts: &[&str]) {
+    for rows in texts {
+        show_rows(alloc, rt, desk, rows);
+    }
+}
+
+/// A text that begins with a cluster or a stock is made step by step.
+fn show_lists(alloc: Global, rt: &impl Abort, desk: &mut Desk, texts: &[&str]) {
+    for rows in texts {
+        if rows.starts_with("cluster") || rows.starts_with("stock") {
+            show_rows(alloc, rt, desk, rows);
+        } else {
+            show_list(alloc, rt, desk, rows);
+        }
+    }
+}
