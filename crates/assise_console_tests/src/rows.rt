@@ -1,194 +1,342 @@
 // Scripts on a cluster: replication, leases, digests and what each node has.
-use crate::scripts::{prints, prints_in};
+use crate::scripts::{NOWHERE, Run, all_print, prints};
+use assise_console::options::CommandLine;
 use assise_rows::scripts::{CROSSING, HANDED_BY_HAND, SHARED_FILE};
 use std::test::Fail;
 
-/// Records are digested, and the tree is the same before and after; there is one node.
-const DIGESTED: &str = "cluster 1 8 4\n\
-    open 1 least\n\
-    1 create /f\n\
-    1 mkdir /d\n\
-    tree 1\n\
-    digest 1\n\
-    digest 1\n\
-    tree 1\n\
-    tree 2\n";
+/// Scripts of clients that share files, on one node and on several.
+const RUNS: &[Run<'_>] = &[
+    // A digest leaves the tree.
+    // Records are digested, and the tree is the same before and after; there is one node.
+    (
+        "\
+cluster 1 8 4
+open 1 least
+1 create /f
+1 mkdir /d
+tree 1
+digest 1
+digest 1
+tree 1
+tree 2
+",
+        "\
+2: client 1
+3: done
+4: done
+5: tree 2
+/d dir
+/f file 0
+6: digested 2
+7: digested 0
+8: tree 2
+/d dir
+/f file 0
+9: F8 BadNode
+",
+    ),
+    // A full log is digested.
+    // A log of eight records gets full; what needs no record is answered still.
+    (
+        "\
+cluster 1 8 4
+manual
+open 1 least
+1 create /a
+1 create /b
+1 create /c
+1 create /d
+1 create /e
+1 create /f
+1 create /g
+1 create /h
+1 create /i
+1 create /a
+digest 1
+1 create /i
+",
+        "\
+3: client 1
+4: done
+5: done
+6: done
+7: done
+8: done
+9: done
+10: done
+11: done
+12: F12 LogFull
+13: E2 Exists
+14: digested 8
+15: done
+",
+    ),
+    // Two clients share a file.
+    (
+        SHARED_FILE,
+        "\
+2: client 1
+3: client 2
+4: done
+5: done
+6: bytes 2 x6869
+7: done
+8: bytes 3 x686921
+9: history 7
+open 1 1
+open 2 2
+call 1 0 create /f = done
+call 1 1 write /f 0 2 = done
+call 2 0 read /f 0 2 = bytes 2 x6869
+call 2 1 write /f 2 1 = done
+call 1 2 read /f 0 9 = bytes 3 x686921
+",
+    ),
+    // Renames that cross make no ring.
+    (
+        CROSSING,
+        "\
+2: client 1
+3: client 2
+4: done
+5: done
+6: done
+7: done
+8: done
+9: E1 NoEnt
+10: E6 Invalid
+11: E6 Invalid
+12: names 1 y
+13: dir 0
+",
+    ),
+    // A lease is handed over by hand.
+    (
+        HANDED_BY_HAND,
+        "\
+3: client 1
+4: client 2
+5: done
+6: wait
+7: carried 1
+8: digested 1
+9: released 0
+10: digested 1
+11: released 1
+12: wait
+13: released 1
+14: file 0
+",
+    ),
+    // What names no node is refused.
+    // Nodes and clients that aren't there, and more clients than may be.
+    (
+        "\
+cluster 2 8 4
+carry 3
+digest 0
+tree 4294967297
+open 3 whole
+carry 2
+digest 2
+release
+tree 2
+",
+        "\
+2: F8 BadNode
+3: F8 BadNode
+4: F8 BadNode
+5: F8 BadNode
+6: carried 0
+7: digested 0
+8: released 0
+9: tree 0
+",
+    ),
+    // An fsync makes room in a log.
+    // A log that gets full once more: an fsync is tried twice, and the round between digests eight records at both nodes. Then the
+    // client's node fails, and what it made behind its fsync is lost.
+    (
+        "\
+cluster 2 8 4
+open 1 least
+1 create /a
+1 create /b
+1 create /c
+1 create /d
+1 create /e
+1 create /f
+1 create /g
+1 create /h
+1 create /i
+1 fsync
+1 create /i
+fail 1
+tree 2
+",
+        "\
+2: client 1
+3: done
+4: done
+5: done
+6: done
+7: done
+8: done
+9: done
+10: done
+11: F12 LogFull
+12: done
+13: done
+14: failed 1 1:9
+15: tree 8
+/a file 0
+/b file 0
+/c file 0
+/d file 0
+/e file 0
+/f file 0
+/g file 0
+/h file 0
+",
+    ),
+    // A writer is not overtaken.
+    // A client waits for another one of its node to give up the root. Its node's lease is raised at the asking, so a reader elsewhere
+    // doesn't overtake it.
+    (
+        "\
+cluster 2 64 4
+manual
+open 1 least
+open 1 least
+open 2 least
+2 read /a 3 2
+1 mkdir /a
+3 list /a
+release
+release
+1 mkdir /a
+3 list /a
+carry 1
+digest 1
+digest 2
+release
+3 list /a
+history
+",
+        "\
+3: client 1
+4: client 2
+5: client 3
+6: E1 NoEnt
+7: wait
+8: wait
+9: released 2
+10: released 0
+11: done
+12: wait
+13: carried 1
+14: digested 1
+15: digested 1
+16: released 1
+17: wait
+18: history 5
+open 1 1
+open 2 1
+open 3 2
+call 2 0 read /a 3 2 = E1 NoEnt
+call 1 0 mkdir /a = done
+",
+    ),
+    // Nine clients have one tree.
+    // Nine clients on three nodes make a file each, and the last one writes the first one's.
+    (
+        "\
+cluster 3 8 4
+open 1 least
+open 2 whole
+open 3 eights
+open 1 least
+open 2 whole
+open 3 eights
+open 1 least
+open 2 whole
+open 3 eights
+1 create /a
+2 create /b
+3 create /c
+4 create /d
+5 create /e
+6 create /f
+7 create /g
+8 create /h
+9 create /i
+tree 1
+9 fsync
+tree 1
+9 write /a 0 t9
+1 fsync
+9 fsync
+tree 3
+",
+        "\
+2: client 1
+3: client 2
+4: client 3
+5: client 4
+6: client 5
+7: client 6
+8: client 7
+9: client 8
+10: client 9
+11: done
+12: done
+13: done
+14: done
+15: done
+16: done
+17: done
+18: done
+19: done
+20: tree 8
+/a file 0
+/b file 0
+/c file 0
+/d file 0
+/e file 0
+/f file 0
+/g file 0
+/h file 0
+21: done
+22: tree 9
+/a file 0
+/b file 0
+/c file 0
+/d file 0
+/e file 0
+/f file 0
+/g file 0
+/h file 0
+/i file 0
+23: done
+24: done
+25: done
+26: tree 9
+/a file 1
+/b file 0
+/c file 0
+/d file 0
+/e file 0
+/f file 0
+/g file 0
+/h file 0
+/i file 0
+",
+    ),
+];
 
 #[test]
-fn a_digest_leaves_the_tree(rt: HostRuntime) -> Result<(), Fail> {
-    let wanted = "2: client 1\n\
-    3: done\n\
-    4: done\n\
-    5: tree 2\n\
-    /d dir\n\
-    /f file 0\n\
-    6: digested 2\n\
-    7: digested 0\n\
-    8: tree 2\n\
-    /d dir\n\
-    /f file 0\n\
-    9: F8 BadNode\n";
-    prints(rt.alloc(), &rt, DIGESTED, wanted)
-}
-
-/// A log of eight records gets full; what needs no record is answered still.
-const FULL_LOG: &str = "cluster 1 8 4\n\
-    manual\n\
-    open 1 least\n\
-    1 create /a\n\
-    1 create /b\n\
-    1 create /c\n\
-    1 create /d\n\
-    1 create /e\n\
-    1 create /f\n\
-    1 create /g\n\
-    1 create /h\n\
-    1 create /i\n\
-    1 create /a\n\
-    digest 1\n\
-    1 create /i\n";
-
-#[test]
-fn a_full_log_is_digested(rt: HostRuntime) -> Result<(), Fail> {
-    let wanted = "3: client 1\n\
-    4: done\n\
-    5: done\n\
-    6: done\n\
-    7: done\n\
-    8: done\n\
-    9: done\n\
-    10: done\n\
-    11: done\n\
-    12: F12 LogFull\n\
-    13: E2 Exists\n\
-    14: digested 8\n\
-    15: done\n";
-    prints(rt.alloc(), &rt, FULL_LOG, wanted)
-}
-
-/// What that prints.
-pub(crate) const SHARED: &str = "2: client 1\n\
-    3: client 2\n\
-    4: done\n\
-    5: done\n\
-    6: bytes 2 x6869\n\
-    7: done\n\
-    8: bytes 3 x686921\n\
-    9: history 7\n\
-    open 1 1\n\
-    open 2 2\n\
-    call 1 0 create /f = done\n\
-    call 1 1 write /f 0 2 = done\n\
-    call 2 0 read /f 0 2 = bytes 2 x6869\n\
-    call 2 1 write /f 2 1 = done\n\
-    call 1 2 read /f 0 9 = bytes 3 x686921\n";
-
-#[test]
-fn two_clients_share_a_file(rt: HostRuntime) -> Result<(), Fail> {
-    prints(rt.alloc(), &rt, SHARED_FILE, SHARED)
-}
-
-#[test]
-fn renames_that_cross_make_no_ring(rt: HostRuntime) -> Result<(), Fail> {
-    let wanted = "2: client 1\n\
-    3: client 2\n\
-    4: done\n\
-    5: done\n\
-    6: done\n\
-    7: done\n\
-    8: done\n\
-    9: E1 NoEnt\n\
-    10: E6 Invalid\n\
-    11: E6 Invalid\n\
-    12: names 1 y\n\
-    13: dir 0\n";
-    prints(rt.alloc(), &rt, CROSSING, wanted)
-}
-
-#[test]
-fn a_lease_is_handed_over_by_hand(rt: HostRuntime) -> Result<(), Fail> {
-    let wanted = "3: client 1\n\
-    4: client 2\n\
-    5: done\n\
-    6: wait\n\
-    7: carried 1\n\
-    8: digested 1\n\
-    9: released 0\n\
-    10: digested 1\n\
-    11: released 1\n\
-    12: wait\n\
-    13: released 1\n\
-    14: file 0\n";
-    prints(rt.alloc(), &rt, HANDED_BY_HAND, wanted)
-}
-
-/// Nodes and clients that aren't there, and more clients than may be.
-const REFUSED: &str = "cluster 2 8 4\n\
-    carry 3\n\
-    digest 0\n\
-    tree 4294967297\n\
-    open 3 whole\n\
-    carry 2\n\
-    digest 2\n\
-    release\n\
-    tree 2\n";
-
-#[test]
-fn what_names_no_node_is_refused(rt: HostRuntime) -> Result<(), Fail> {
-    let wanted = "2: F8 BadNode\n\
-    3: F8 BadNode\n\
-    4: F8 BadNode\n\
-    5: F8 BadNode\n\
-    6: carried 0\n\
-    7: digested 0\n\
-    8: released 0\n\
-    9: tree 0\n";
-    prints(rt.alloc(), &rt, REFUSED, wanted)
-}
-
-/// A log that gets full once more: an fsync is tried twice, and the round between digests eight records at both nodes. Then the
-/// client's node fails, and what it made behind its fsync is lost.
-const SYNCED: &str = "cluster 2 8 4\n\
-    open 1 least\n\
-    1 create /a\n\
-    1 create /b\n\
-    1 create /c\n\
-    1 create /d\n\
-    1 create /e\n\
-    1 create /f\n\
-    1 create /g\n\
-    1 create /h\n\
-    1 create /i\n\
-    1 fsync\n\
-    1 create /i\n\
-    fail 1\n\
-    tree 2\n";
-
-#[test]
-fn an_fsync_makes_room_in_a_log(rt: HostRuntime) -> Result<(), Fail> {
-    let wanted = "2: client 1\n\
-    3: done\n\
-    4: done\n\
-    5: done\n\
-    6: done\n\
-    7: done\n\
-    8: done\n\
-    9: done\n\
-    10: done\n\
-    11: F12 LogFull\n\
-    12: done\n\
-    13: done\n\
-    14: failed 1 1:9\n\
-    15: tree 8\n\
-    /a file 0\n\
-    /b file 0\n\
-    /c file 0\n\
-    /d file 0\n\
-    /e file 0\n\
-    /f file 0\n\
-    /g file 0\n\
-    /h file 0\n";
-    prints(rt.alloc(), &rt, SYNCED, wanted)
+fn scripts_on_several_nodes_print_their_answers(rt: HostRuntime) -> Result<(), Fail> {
+    all_print(rt.alloc(), &rt, RUNS)
 }
 
 /// A call that awaits a lease is refused once all tries are spent: with one try, no round is made for it.
@@ -208,136 +356,9 @@ fn a_call_is_busy_once_its_tries_are_spent(rt: HostRuntime) -> Result<(), Fail> 
     5: F2 Busy\n\
     6: F2 Busy\n\
     7: F2 Busy\n";
-    prints_in(rt.alloc(), &rt, ONE_TRY, 1, wanted)
-}
-
-/// A client waits for another one of its node to give up the root. Its node's lease is raised at the asking, so a reader elsewhere
-/// doesn't overtake it.
-const RAISED_WHILE_ASKED: &str = "cluster 2 64 4\n\
-    manual\n\
-    open 1 least\n\
-    open 1 least\n\
-    open 2 least\n\
-    2 read /a 3 2\n\
-    1 mkdir /a\n\
-    3 list /a\n\
-    release\n\
-    release\n\
-    1 mkdir /a\n\
-    3 list /a\n\
-    carry 1\n\
-    digest 1\n\
-    digest 2\n\
-    release\n\
-    3 list /a\n\
-    history\n";
-
-#[test]
-fn a_writer_is_not_overtaken(rt: HostRuntime) -> Result<(), Fail> {
-    let wanted = "3: client 1\n\
-    4: client 2\n\
-    5: client 3\n\
-    6: E1 NoEnt\n\
-    7: wait\n\
-    8: wait\n\
-    9: released 2\n\
-    10: released 0\n\
-    11: done\n\
-    12: wait\n\
-    13: carried 1\n\
-    14: digested 1\n\
-    15: digested 1\n\
-    16: released 1\n\
-    17: wait\n\
-    18: history 5\n\
-    open 1 1\n\
-    open 2 1\n\
-    open 3 2\n\
-    call 2 0 read /a 3 2 = E1 NoEnt\n\
-    call 1 0 mkdir /a = done\n";
-    prints(rt.alloc(), &rt, RAISED_WHILE_ASKED, wanted)
-}
-
-/// Nine clients on three nodes make a file each, and the last one writes the first one's.
-const NINE_CLIENTS: &str = "cluster 3 8 4\n\
-    open 1 least\n\
-    open 2 whole\n\
-    open 3 eights\n\
-    open 1 least\n\
-    open 2 whole\n\
-    open 3 eights\n\
-    open 1 least\n\
-    open 2 whole\n\
-    open 3 eights\n\
-    1 create /a\n\
-    2 create /b\n\
-    3 create /c\n\
-    4 create /d\n\
-    5 create /e\n\
-    6 create /f\n\
-    7 create /g\n\
-    8 create /h\n\
-    9 create /i\n\
-    tree 1\n\
-    9 fsync\n\
-    tree 1\n\
-    9 write /a 0 t9\n\
-    1 fsync\n\
-    9 fsync\n\
-    tree 3\n";
-
-#[test]
-fn nine_clients_have_one_tree(rt: HostRuntime) -> Result<(), Fail> {
-    let wanted = "2: client 1\n\
-    3: client 2\n\
-    4: client 3\n\
-    5: client 4\n\
-    6: client 5\n\
-    7: client 6\n\
-    8: client 7\n\
-    9: client 8\n\
-    10: client 9\n\
-    11: done\n\
-    12: done\n\
-    13: done\n\
-    14: done\n\
-    15: done\n\
-    16: done\n\
-    17: done\n\
-    18: done\n\
-    19: done\n\
-    20: tree 8\n\
-    /a file 0\n\
-    /b file 0\n\
-    /c file 0\n\
-    /d file 0\n\
-    /e file 0\n\
-    /f file 0\n\
-    /g file 0\n\
-    /h file 0\n\
-    21: done\n\
-    22: tree 9\n\
-    /a file 0\n\
-    /b file 0\n\
-    /c file 0\n\
-    /d file 0\n\
-    /e file 0\n\
-    /f file 0\n\
-    /g file 0\n\
-    /h file 0\n\
-    /i file 0\n\
-    23: done\n\
-    24: done\n\
-    25: done\n\
-    26: tree 9\n\
-    /a file 1\n\
-    /b file 0\n\
-    /c file 0\n\
-    /d file 0\n\
-    /e file 0\n\
-    /f file 0\n\
-    /g file 0\n\
-    /h file 0\n\
-    /i file 0\n";
-    prints(rt.alloc(), &rt, NINE_CLIENTS, wanted)
+    let one_try = CommandLine {
+        turns: 1,
+        ..NOWHERE
+    };
+    prints(rt.alloc(), &rt, ONE_TRY, wanted, &one_try)
 }

@@ -2,7 +2,7 @@
 ghost use Rattle.std.specs.Prelude.{◌+◌, ◌<◌, ◌^◌};
 
 use crate::stock::stock_of;
-use assise_console::engine::run_script;
+use assise_console::engine::engine;
 use assise_console::options::CommandLine;
 use std::alloc::{AllocError, Global};
 use std::process::Abort;
@@ -14,28 +14,28 @@ pub(crate) const NOWHERE: CommandLine = CommandLine {
     turns: 1000,
 };
 
-/// Runs a script, which has to print this.
+/// A script, and what it prints.
+pub(crate) type Run<'a> = (&'a str, &'a str);
+
+/// Each script has to print what stands beside it, and the same where one inode alone is kept hot.
+pub(crate) fn all_print(alloc: Global, rt: &impl Abort, runs: &[Run<'_>]) -> Result<(), Fail> {
+    for (script, wanted) in runs {
+        prints(alloc, rt, script, wanted, &NOWHERE)?;
+    }
+    Ok(())
+}
+
+/// A script, read and run from memory to memory, has to print this, and the same where one inode alone is kept hot.
 pub(crate) fn prints(
     alloc: Global,
     rt: &impl Abort,
     script: &str,
     wanted: &str,
+    command_line: &CommandLine<'_>,
 ) -> Result<(), Fail> {
-    prints_in(alloc, rt, script, NOWHERE.turns, wanted)
-}
-
-/// Runs a script whose calls are tried so many times at most. It has to print this, and the same where one inode alone is kept
-/// hot.
-pub(crate) fn prints_in(
-    alloc: Global,
-    rt: &impl Abort,
-    script: &str,
-    turns: u32,
-    wanted: &str,
-) -> Result<(), Fail> {
-    prints_as_is(alloc, rt, script, turns, wanted)?;
+    prints_as_is(alloc, rt, script, wanted, command_line)?;
     let one_hot = with_one_hot(alloc, script)?;
-    prints_as_is(alloc, rt, one_hot.as_str(), turns, wanted)
+    prints_as_is(alloc, rt, one_hot.as_str(), wanted, command_line)
 }
 
 /// A script whose first line makes a cluster that keeps one inode hot; a script without a cluster stays as it is.
@@ -52,324 +52,20 @@ fn prints_as_is(
     alloc: Global,
     rt: &impl Abort,
     script: &str,
-    turns: u32,
     wanted: &str,
+    command_line: &CommandLine<'_>,
 ) -> Result<(), Fail> {
+    let mut reader = script.as_bytes();
     let mut output = Vec::new(alloc);
-    run_script(
+    engine(
         alloc,
-        script.as_bytes(),
+        &mut reader,
         &mut output,
         stock_of(alloc)?,
-        turns,
+        command_line,
     )?;
     assert!(rt; output.as_slice() == wanted.as_bytes(), "{script}");
     Ok(())
-}
-
-/// A write behind the end of a file.
-const GAP: &str = "cluster 1 8 4\n\
-    open 1 least\n\
-    1 create /f\n\
-    1 write /f 5 tabc\n\
-    1 read /f 0 10\n\
-    1 read /f 8 1\n\
-    1 stat /f\n";
-
-#[test]
-fn a_gap_is_filled_with_zeros(rt: HostRuntime) -> Result<(), Fail> {
-    let wanted = "2: client 1\n\
-    3: done\n\
-    4: done\n\
-    5: bytes 8 x0000000000616263\n\
-    6: bytes 0 x\n\
-    7: file 8\n";
-    prints(rt.alloc(), &rt, GAP, wanted)
-}
-
-/// Creates, some of which fail, then a write and a read of each file: no two files have one inode.
-const OWN_BYTES: &str = "cluster 1 8 4\n\
-    open 1 least\n\
-    1 create /a\n\
-    1 create /a\n\
-    1 create /a/b\n\
-    1 create /none/b\n\
-    1 create /\n\
-    1 create /b\n\
-    1 create /c\n\
-    1 write /a 0 tone\n\
-    1 write /b 0 ttwo\n\
-    1 write /c 2 tthree\n\
-    1 write /a 3 x\n\
-    1 read /a 0 9\n\
-    1 read /b 0 9\n\
-    1 read /c 0 9\n\
-    1 stat /\n\
-    1 read / 0 9\n";
-
-#[test]
-fn each_file_has_its_own_bytes(rt: HostRuntime) -> Result<(), Fail> {
-    let wanted = "2: client 1\n\
-    3: done\n\
-    4: E2 Exists\n\
-    5: E3 NotDir\n\
-    6: E1 NoEnt\n\
-    7: E2 Exists\n\
-    8: done\n\
-    9: done\n\
-    10: done\n\
-    11: done\n\
-    12: done\n\
-    13: done\n\
-    14: bytes 3 x6f6e65\n\
-    15: bytes 3 x74776f\n\
-    16: bytes 7 x00007468726565\n\
-    17: dir 3\n\
-    18: E4 IsDir\n";
-    prints(rt.alloc(), &rt, OWN_BYTES, wanted)
-}
-
-/// Calls of the root that no file system lets through.
-const OF_THE_ROOT: &str = "cluster 1 8 4\n\
-    open 1 least\n\
-    1 read / 0 1\n\
-    1 unlink /\n\
-    1 rmdir /\n\
-    1 create /\n";
-
-#[test]
-fn the_root_stays(rt: HostRuntime) -> Result<(), Fail> {
-    let wanted = "2: client 1\n\
-    3: E4 IsDir\n\
-    4: E4 IsDir\n\
-    5: E6 Invalid\n\
-    6: E2 Exists\n";
-    prints(rt.alloc(), &rt, OF_THE_ROOT, wanted)
-}
-
-/// Sizes and writes up to the most bytes of a file, and past it.
-const LARGEST_FILE: &str = "cluster 1 64 4\n\
-    open 1 least\n\
-    1 create /f\n\
-    1 truncate /f 1048575\n\
-    1 write /f 1048575 ta\n\
-    1 write /f 1048576 ta\n\
-    1 write /f 0 z65537\n\
-    1 truncate /f 1048577\n\
-    1 read /f 1048574 9\n\
-    1 stat /f\n\
-    1 write /f 1048576 t\n\
-    1 write /nope 0 z65537\n";
-
-#[test]
-fn a_file_has_at_most_1048576_bytes(rt: HostRuntime) -> Result<(), Fail> {
-    let wanted = "2: client 1\n\
-    3: done\n\
-    4: done\n\
-    5: done\n\
-    6: E7 TooBig\n\
-    7: F6 TooLarge\n\
-    8: E7 TooBig\n\
-    9: bytes 2 x0061\n\
-    10: file 1048576\n\
-    11: done\n\
-    12: F6 TooLarge\n";
-    prints(rt.alloc(), &rt, LARGEST_FILE, wanted)
-}
-
-/// Directories that are made, listed, and removed once they are empty; names rise by their bytes.
-const DIRECTORIES: &str = "cluster 1 64 4\n\
-    open 1 least\n\
-    1 mkdir /d\n\
-    1 mkdir /d\n\
-    1 mkdir /d/e\n\
-    1 create /d/b\n\
-    1 create /d/B\n\
-    1 create /d/ä\n\
-    1 list /d\n\
-    1 rmdir /d\n\
-    1 unlink /d/e\n\
-    1 rmdir /d/b\n\
-    1 list /d/b\n\
-    1 stat /d\n\
-    1 unlink /d/b\n\
-    1 unlink /d/B\n\
-    1 unlink /d/ä\n\
-    1 rmdir /d/e\n\
-    1 list /d\n\
-    1 rmdir /d\n\
-    1 list /\n\
-    1 mkdir /d/e\n\
-    1 fsync\n";
-
-#[test]
-fn directories_are_listed_and_removed(rt: HostRuntime) -> Result<(), Fail> {
-    let wanted = "2: client 1\n\
-    3: done\n\
-    4: E2 Exists\n\
-    5: done\n\
-    6: done\n\
-    7: done\n\
-    8: done\n\
-    9: names 4 B b e ä\n\
-    10: E5 NotEmpty\n\
-    11: E4 IsDir\n\
-    12: E3 NotDir\n\
-    13: E3 NotDir\n\
-    14: dir 4\n\
-    15: done\n\
-    16: done\n\
-    17: done\n\
-    18: done\n\
-    19: names 0\n\
-    20: done\n\
-    21: names 0\n\
-    22: E1 NoEnt\n\
-    23: done\n";
-    prints(rt.alloc(), &rt, DIRECTORIES, wanted)
-}
-
-/// Files and directories that are moved, over others and into others, and moves that are not made.
-const MOVES: &str = "cluster 1 64 4\n\
-    open 1 least\n\
-    1 create /a\n\
-    1 create /b\n\
-    1 mkdir /d\n\
-    1 mkdir /e\n\
-    1 create /d/k\n\
-    1 rename /a /b\n\
-    1 rename /b /d\n\
-    1 rename /d /b\n\
-    1 rename /e /d\n\
-    1 rename /d /e\n\
-    1 rename /e /e\n\
-    1 rename /e /e/k/z\n\
-    1 rename /none /b/c\n\
-    1 rename /e /b/c\n\
-    1 list /\n\
-    1 list /e\n";
-
-#[test]
-fn entries_are_moved(rt: HostRuntime) -> Result<(), Fail> {
-    let wanted = "2: client 1\n\
-    3: done\n\
-    4: done\n\
-    5: done\n\
-    6: done\n\
-    7: done\n\
-    8: done\n\
-    9: E4 IsDir\n\
-    10: E3 NotDir\n\
-    11: E5 NotEmpty\n\
-    12: done\n\
-    13: done\n\
-    14: E6 Invalid\n\
-    15: E1 NoEnt\n\
-    16: E3 NotDir\n\
-    17: names 2 b e\n\
-    18: names 1 k\n";
-    prints(rt.alloc(), &rt, MOVES, wanted)
-}
-
-/// What is moved keeps its bytes, its subtree and its place in the history.
-const MOVED: &str = "cluster 1 16 4\n\
-    open 1 least\n\
-    1 mkdir /d\n\
-    1 create /d/f\n\
-    1 write /d/f 0 tabc\n\
-    1 create /g\n\
-    1 rename /d/f /g\n\
-    1 read /g 0 9\n\
-    1 rename /g /d/h\n\
-    1 mkdir /e\n\
-    1 rename /d /e/d\n\
-    1 read /e/d/h 0 9\n\
-    1 rename / /x\n\
-    1 rename /e /\n\
-    1 list /\n\
-    1 write /e/d/h 3 td\n\
-    1 read /e/d/h 0 9\n\
-    history\n";
-
-#[test]
-fn what_is_moved_is_kept(rt: HostRuntime) -> Result<(), Fail> {
-    let wanted = "2: client 1\n\
-    3: done\n\
-    4: done\n\
-    5: done\n\
-    6: done\n\
-    7: done\n\
-    8: bytes 3 x616263\n\
-    9: done\n\
-    10: done\n\
-    11: done\n\
-    12: bytes 3 x616263\n\
-    13: E6 Invalid\n\
-    14: E6 Invalid\n\
-    15: names 1 e\n\
-    16: done\n\
-    17: bytes 4 x61626364\n\
-    18: history 16\n\
-    open 1 1\n\
-    call 1 0 mkdir /d = done\n\
-    call 1 1 create /d/f = done\n\
-    call 1 2 write /d/f 0 3 = done\n\
-    call 1 3 create /g = done\n\
-    call 1 4 rename /d/f /g = done\n\
-    call 1 5 read /g 0 9 = bytes 3 x616263\n\
-    call 1 6 rename /g /d/h = done\n\
-    call 1 7 mkdir /e = done\n\
-    call 1 8 rename /d /e/d = done\n\
-    call 1 9 read /e/d/h 0 9 = bytes 3 x616263\n\
-    call 1 10 rename / /x = E6 Invalid\n\
-    call 1 11 rename /e / = E6 Invalid\n\
-    call 1 12 list / = names 1 e\n\
-    call 1 13 write /e/d/h 3 1 = done\n\
-    call 1 14 read /e/d/h 0 9 = bytes 4 x61626364\n";
-    prints(rt.alloc(), &rt, MOVED, wanted)
-}
-
-/// A file that is removed and made again has none of its old bytes.
-const MADE_AGAIN: &str = "cluster 1 8 4\n\
-    open 1 least\n\
-    1 create /f\n\
-    1 write /f 0 tabc\n\
-    1 truncate /f 1\n\
-    1 truncate /f 3\n\
-    1 read /f 0 9\n\
-    1 unlink /f\n\
-    1 read /f 0 9\n\
-    1 create /f\n\
-    1 read /f 0 9\n\
-    1 fsync\n\
-    history\n";
-
-#[test]
-fn what_is_removed_is_gone(rt: HostRuntime) -> Result<(), Fail> {
-    let wanted = "2: client 1\n\
-    3: done\n\
-    4: done\n\
-    5: done\n\
-    6: done\n\
-    7: bytes 3 x610000\n\
-    8: done\n\
-    9: E1 NoEnt\n\
-    10: done\n\
-    11: bytes 0 x\n\
-    12: done\n\
-    13: history 11\n\
-    open 1 1\n\
-    call 1 0 create /f = done\n\
-    call 1 1 write /f 0 3 = done\n\
-    call 1 2 truncate /f 1 = done\n\
-    call 1 3 truncate /f 3 = done\n\
-    call 1 4 read /f 0 9 = bytes 3 x610000\n\
-    call 1 5 unlink /f = done\n\
-    call 1 6 read /f 0 9 = E1 NoEnt\n\
-    call 1 7 create /f = done\n\
-    call 1 8 read /f 0 9 = bytes 0 x\n\
-    call 1 9 fsync = done\n";
-    prints(rt.alloc(), &rt, MADE_AGAIN, wanted)
 }
 
 /// Calls that are answered and calls that are refused, and the history of the answered ones.
@@ -401,9 +97,331 @@ pub(crate) const PRINTED: &str = "2: client 1\n\
     call 1 3 write /f 9 0 = done\n\
     call 1 4 stat /f = file 0\n";
 
+/// Scripts on one node.
+const RUNS: &[Run<'_>] = &[
+    // A gap is filled with zeros.
+    // A write behind the end of a file.
+    (
+        "\
+cluster 1 8 4
+open 1 least
+1 create /f
+1 write /f 5 tabc
+1 read /f 0 10
+1 read /f 8 1
+1 stat /f
+",
+        "\
+2: client 1
+3: done
+4: done
+5: bytes 8 x0000000000616263
+6: bytes 0 x
+7: file 8
+",
+    ),
+    // Each file has its own bytes.
+    // Creates, some of which fail, then a write and a read of each file: no two files have one inode.
+    (
+        "\
+cluster 1 8 4
+open 1 least
+1 create /a
+1 create /a
+1 create /a/b
+1 create /none/b
+1 create /
+1 create /b
+1 create /c
+1 write /a 0 tone
+1 write /b 0 ttwo
+1 write /c 2 tthree
+1 write /a 3 x
+1 read /a 0 9
+1 read /b 0 9
+1 read /c 0 9
+1 stat /
+1 read / 0 9
+",
+        "\
+2: client 1
+3: done
+4: E2 Exists
+5: E3 NotDir
+6: E1 NoEnt
+7: E2 Exists
+8: done
+9: done
+10: done
+11: done
+12: done
+13: done
+14: bytes 3 x6f6e65
+15: bytes 3 x74776f
+16: bytes 7 x00007468726565
+17: dir 3
+18: E4 IsDir
+",
+    ),
+    // The root stays.
+    // Calls of the root that no file system lets through.
+    (
+        "\
+cluster 1 8 4
+open 1 least
+1 read / 0 1
+1 unlink /
+1 rmdir /
+1 create /
+",
+        "\
+2: client 1
+3: E4 IsDir
+4: E4 IsDir
+5: E6 Invalid
+6: E2 Exists
+",
+    ),
+    // A file has at most 1048576 bytes.
+    // Sizes and writes up to the most bytes of a file, and past it.
+    (
+        "\
+cluster 1 64 4
+open 1 least
+1 create /f
+1 truncate /f 1048575
+1 write /f 1048575 ta
+1 write /f 1048576 ta
+1 write /f 0 z65537
+1 truncate /f 1048577
+1 read /f 1048574 9
+1 stat /f
+1 write /f 1048576 t
+1 write /nope 0 z65537
+",
+        "\
+2: client 1
+3: done
+4: done
+5: done
+6: E7 TooBig
+7: F6 TooLarge
+8: E7 TooBig
+9: bytes 2 x0061
+10: file 1048576
+11: done
+12: F6 TooLarge
+",
+    ),
+    // Directories are listed and removed.
+    // Directories that are made, listed, and removed once they are empty; names rise by their bytes.
+    (
+        "\
+cluster 1 64 4
+open 1 least
+1 mkdir /d
+1 mkdir /d
+1 mkdir /d/e
+1 create /d/b
+1 create /d/B
+1 create /d/ä
+1 list /d
+1 rmdir /d
+1 unlink /d/e
+1 rmdir /d/b
+1 list /d/b
+1 stat /d
+1 unlink /d/b
+1 unlink /d/B
+1 unlink /d/ä
+1 rmdir /d/e
+1 list /d
+1 rmdir /d
+1 list /
+1 mkdir /d/e
+1 fsync
+",
+        "\
+2: client 1
+3: done
+4: E2 Exists
+5: done
+6: done
+7: done
+8: done
+9: names 4 B b e ä
+10: E5 NotEmpty
+11: E4 IsDir
+12: E3 NotDir
+13: E3 NotDir
+14: dir 4
+15: done
+16: done
+17: done
+18: done
+19: names 0
+20: done
+21: names 0
+22: E1 NoEnt
+23: done
+",
+    ),
+    // Entries are moved.
+    // Files and directories that are moved, over others and into others, and moves that are not made.
+    (
+        "\
+cluster 1 64 4
+open 1 least
+1 create /a
+1 create /b
+1 mkdir /d
+1 mkdir /e
+1 create /d/k
+1 rename /a /b
+1 rename /b /d
+1 rename /d /b
+1 rename /e /d
+1 rename /d /e
+1 rename /e /e
+1 rename /e /e/k/z
+1 rename /none /b/c
+1 rename /e /b/c
+1 list /
+1 list /e
+",
+        "\
+2: client 1
+3: done
+4: done
+5: done
+6: done
+7: done
+8: done
+9: E4 IsDir
+10: E3 NotDir
+11: E5 NotEmpty
+12: done
+13: done
+14: E6 Invalid
+15: E1 NoEnt
+16: E3 NotDir
+17: names 2 b e
+18: names 1 k
+",
+    ),
+    // What is moved is kept.
+    // What is moved keeps its bytes, its subtree and its place in the history.
+    (
+        "\
+cluster 1 16 4
+open 1 least
+1 mkdir /d
+1 create /d/f
+1 write /d/f 0 tabc
+1 create /g
+1 rename /d/f /g
+1 read /g 0 9
+1 rename /g /d/h
+1 mkdir /e
+1 rename /d /e/d
+1 read /e/d/h 0 9
+1 rename / /x
+1 rename /e /
+1 list /
+1 write /e/d/h 3 td
+1 read /e/d/h 0 9
+history
+",
+        "\
+2: client 1
+3: done
+4: done
+5: done
+6: done
+7: done
+8: bytes 3 x616263
+9: done
+10: done
+11: done
+12: bytes 3 x616263
+13: E6 Invalid
+14: E6 Invalid
+15: names 1 e
+16: done
+17: bytes 4 x61626364
+18: history 16
+open 1 1
+call 1 0 mkdir /d = done
+call 1 1 create /d/f = done
+call 1 2 write /d/f 0 3 = done
+call 1 3 create /g = done
+call 1 4 rename /d/f /g = done
+call 1 5 read /g 0 9 = bytes 3 x616263
+call 1 6 rename /g /d/h = done
+call 1 7 mkdir /e = done
+call 1 8 rename /d /e/d = done
+call 1 9 read /e/d/h 0 9 = bytes 3 x616263
+call 1 10 rename / /x = E6 Invalid
+call 1 11 rename /e / = E6 Invalid
+call 1 12 list / = names 1 e
+call 1 13 write /e/d/h 3 1 = done
+call 1 14 read /e/d/h 0 9 = bytes 4 x61626364
+",
+    ),
+    // What is removed is gone.
+    // A file that is removed and made again has none of its old bytes.
+    (
+        "\
+cluster 1 8 4
+open 1 least
+1 create /f
+1 write /f 0 tabc
+1 truncate /f 1
+1 truncate /f 3
+1 read /f 0 9
+1 unlink /f
+1 read /f 0 9
+1 create /f
+1 read /f 0 9
+1 fsync
+history
+",
+        "\
+2: client 1
+3: done
+4: done
+5: done
+6: done
+7: bytes 3 x610000
+8: done
+9: E1 NoEnt
+10: done
+11: bytes 0 x
+12: done
+13: history 11
+open 1 1
+call 1 0 create /f = done
+call 1 1 write /f 0 3 = done
+call 1 2 truncate /f 1 = done
+call 1 3 truncate /f 3 = done
+call 1 4 read /f 0 9 = bytes 3 x610000
+call 1 5 unlink /f = done
+call 1 6 read /f 0 9 = E1 NoEnt
+call 1 7 create /f = done
+call 1 8 read /f 0 9 = bytes 0 x
+call 1 9 fsync = done
+",
+    ),
+    // Answers stand in the history and refusals do not.
+    (ANSWERS, PRINTED),
+    // A script without a cluster prints nothing.
+    ("", ""),
+    ("# nothing\n\n", ""),
+];
+
 #[test]
-fn answers_stand_in_the_history_and_refusals_do_not(rt: HostRuntime) -> Result<(), Fail> {
-    prints(rt.alloc(), &rt, ANSWERS, PRINTED)
+fn scripts_on_one_node_print_their_answers(rt: HostRuntime) -> Result<(), Fail> {
+    all_print(rt.alloc(), &rt, RUNS)
 }
 
 /// Scripts that print nothing, then those with refusals, each behind a cluster.
@@ -432,24 +450,18 @@ const SHORT: [(&str, &str); 9] = [
 ];
 
 /// A script that has this behind its cluster has to print that.
-fn prints_behind_cluster(alloc: Global, rt: &impl Abort, row: (&str, &str)) -> Result<(), Fail> {
-    let (script, wanted) = row;
+fn prints_behind_cluster(alloc: Global, rt: &impl Abort, run: Run<'_>) -> Result<(), Fail> {
+    let (script, wanted) = run;
     let script = format!(in alloc; "cluster 1 8 4\n{script}")?;
-    prints(alloc, rt, script.as_str(), wanted)
+    prints(alloc, rt, script.as_str(), wanted, &NOWHERE)
 }
 
 #[test]
 fn refusals_come_in_their_order(rt: HostRuntime) -> Result<(), Fail> {
-    for row in SHORT {
-        prints_behind_cluster(rt.alloc(), &rt, row)?;
+    for run in SHORT {
+        prints_behind_cluster(rt.alloc(), &rt, run)?;
     }
     Ok(())
-}
-
-#[test]
-fn a_script_without_a_cluster_prints_nothing(rt: HostRuntime) -> Result<(), Fail> {
-    prints(rt.alloc(), &rt, "", "")?;
-    prints(rt.alloc(), &rt, "# nothing\n\n", "")
 }
 
 /// Adds the line of a create, and that of its answer.
@@ -492,5 +504,5 @@ fn a_directory_is_full_with_4096_entries(rt: HostRuntime) -> Result<(), Fail> {
     wanted.push_str(
         "4099: E8 DirFull\n4100: E8 DirFull\n4101: F12 LogFull\n4102: digested 64\n4103: done\n4104: done\n4105: done\n",
     )?;
-    prints(rt.alloc(), &rt, script.as_str(), wanted.as_str())
+    prints(rt.alloc(), &rt, script.as_str(), wanted.as_str(), &NOWHERE)
 }
