@@ -4,11 +4,13 @@ ghost use Rattle.assise_digest.specs.Region.{AreWhole};
 ghost use Rattle.assise_inode_table.specs.Whole.{CanBeMadeWhole};
 ghost use Rattle.assise_machine_state.specs.NodeValues.{HasLog};
 
-use crate::seen::has_node;
+use crate::seen::{has_node, is_quiet};
+use assise_inode_table::inode::Inode;
 use assise_machine_state::nodes::Nodes;
 use assise_manager::members::Members;
 use assise_record::effect::Effect;
 use assise_record::record::Record;
+use assise_rows::split_word;
 use std::alloc::Global;
 
 /// Whether a node has a log of a client.
@@ -36,16 +38,18 @@ pub(crate) fn three_records(alloc: Global) -> Option<Vec<Record>>
     vec![in alloc; first, second, third].ok()
 }
 
-/// A node takes so many records of a client in, each of which makes a file, from the numbered one on.
+/// `FIRST COUNT`: a node takes so many records of a client in, each of which makes a file, from the numbered one on.
 pub(crate) fn append(
     alloc: Global,
     nodes: &mut Nodes,
     node: u32,
-    client: u32,
-    first: u64,
-    count: u64,
+    client: u64,
+    files: &str,
 ) -> Option<()> {
-    for number in 0..count {
+    let client = u32::try_from(client).ok()?;
+    let (first, count) = split_word(files);
+    let first = first.parse::<u64>().ok()?;
+    for number in 0..count.parse::<u64>().ok()? {
         append_one(alloc, nodes, node, client, first.saturating_add(number))?;
     }
     Some(())
@@ -107,4 +111,62 @@ pub(crate) fn fail(members: &mut Members, node: u32) -> Option<()> {
         return None;
     }
     members.fail(node, &[]).ok()
+}
+
+/// A node that has no logs gets another's.
+pub(crate) fn copy_logs(alloc: Global, nodes: &mut Nodes, node: u32, donor: u32) -> Option<()> {
+    if !is_quiet(nodes, node) || !has_node(nodes, donor) {
+        return None;
+    }
+    nodes.copy_logs(alloc, node, donor).ok()
+}
+
+/// A node has no logs any more.
+pub(crate) fn remove_logs(nodes: &mut Nodes, node: u32) -> Option<()> {
+    if !has_node(nodes, node) {
+        return None;
+    }
+    nodes.remove_logs(node);
+    Some(())
+}
+
+/// A node gets an inode or none, if no log is in the way.
+pub(crate) fn refill(
+    alloc: Global,
+    nodes: &mut Nodes,
+    node: u32,
+    inode: u64,
+    kind: &str,
+) -> Option<()> {
+    if !is_quiet(nodes, node) {
+        return None;
+    }
+    nodes.refill_one(node, inode, inode_of(alloc, kind)).ok()
+}
+
+/// A new inode of a kind, if that is one.
+fn inode_of(alloc: Global, kind: &str) -> Option<Inode> {
+    match kind {
+        "file" => Some(Inode::new_file(alloc)),
+        "dir" => Some(Inode::new_directory(alloc)),
+        _ => None,
+    }
+}
+
+/// A node loses its copy of an inode, if no log is in the way.
+pub(crate) fn stale(nodes: &mut Nodes, node: u32, inode: u64) -> Option<()> {
+    if !is_quiet(nodes, node) {
+        return None;
+    }
+    nodes.stale(node, inode);
+    Some(())
+}
+
+/// A node uses an inode.
+pub(crate) fn touch(nodes: &mut Nodes, node: u32, inode: u64) -> Option<()> {
+    if !has_node(nodes, node) {
+        return None;
+    }
+    nodes.touch(node, inode);
+    Some(())
 }

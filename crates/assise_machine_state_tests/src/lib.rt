@@ -6,8 +6,6 @@ mod clients;
 #[cfg(test)]
 mod cluster;
 #[cfg(test)]
-mod logs;
-#[cfg(test)]
 mod nodes;
 #[cfg(test)]
 mod refused;
@@ -19,3 +17,5 @@ mod seen;
 mod sounds;
 #[cfg(test)]
 mod states;
+#[cfg(test)]
+mod steps;

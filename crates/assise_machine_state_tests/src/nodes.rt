@@ -1,11 +1,46 @@
-// Three nodes, of which no client has a log.
+// What nodes have.
 ghost use Rattle.std.specs.Prelude.{◌≡◌, IfSome};
 ghost use Rattle.assise_machine_state.specs.NodeValues.{new_regions};
 
-use crate::seen::{has_node, is_quiet, see_inode, see_no_logs};
-use assise_inode_table::inode::Inode;
+use crate::seen::{see_inode, see_no_logs};
+use crate::steps::{NewNodes, show};
 use assise_machine_state::nodes::Nodes;
 use std::alloc::Global;
+use std::process::Abort;
+
+/// Each new node has the root alone. One node alone loses its copy of an inode, gets one, or gets none in its place; a use of an inode
+/// changes none, and a node whose logs go keeps its inodes.
+const INODES: &str = "\
+3, inode 0, inode 1 => dir 0; dir 0; dir 0; none; none; none;
+8, inode 0 => dir 0; dir 0; dir 0; dir 0; dir 0; dir 0; dir 0; dir 0;
+3, stale 2 0, stale 3 9, inode 0, inode 9 => dir 0; none; dir 0; none; none; none;
+3, refill 3 9 file, inode 9, inode 0 => none; none; file 0; dir 0; dir 0; dir 0;
+3, refill 3 9 file, refill 3 9 dir, inode 9 => none; none; dir 0;
+3, refill 1 0 none, refill 1 9 none, inode 0, inode 9 => none; dir 0; dir 0; none; none; none;
+3, refill 2 9 file, touch 2 9, touch 2 0, touch 3 9, inode 9, inode 0 => none; file 0; none; dir 0; dir 0; dir 0;
+3, remove 2, inode 0, logs 1 => dir 0; dir 0; dir 0; none; none; none;
+";
+
+/// Each full node begins a log of a client, one of them as its home, and what isn't full begins none. Records come in at one node,
+/// behind the last, but for so many at the front; a node without logs gets its donor's, with what the donor digested passed over.
+const LOGS: &str = "\
+3, begin 2, logs 1, begin 3, logs 1, logs 2, inode 0 => 0..0..0 away; 0..0..0 home; 0..0..0 away; 0..0..0 away; 0..0..0 home; 0..0..0 away; 0..0..0 away; 0..0..0 away; 0..0..0 home; dir 0; dir 0; dir 0;
+3, fail 2, begin 1, logs 1, logs 2, inode 0 => 0..0..0 home; none; 0..0..0 away; none; none; none; dir 0; dir 0; dir 0;
+3, begin 1, append 2 1 9 1, extend 2 0, logs 1, digest 2 4, inode 9, inode 12 => 0..0..0 home; 0..0..4 away; 0..0..0 away; none; file 0; none; none; file 0; none;
+3, begin 1, extend 3 0, logs 1, digest 3 3, inode 10, inode 12 => 0..0..0 home; 0..0..0 away; 0..0..3 away; none; none; file 0; none; none; file 0;
+3, begin 1, extend 3 1, logs 1, digest 3 2, inode 10, inode 11 => 0..0..0 home; 0..0..0 away; 0..0..2 away; none; none; none; none; none; file 0;
+3, begin 1, extend 3 2, logs 1, digest 3 1, inode 11, inode 12 => 0..0..0 home; 0..0..0 away; 0..0..1 away; none; none; none; none; none; file 0;
+3, begin 1, extend 3 3, logs 1 => 0..0..0 home; 0..0..0 away; 0..0..0 away;
+3, begin 1, extend 3 4, logs 1 => 0..0..0 home; 0..0..0 away; 0..0..0 away;
+3, fail 2, begin 1, append 1 1 10 3, digest 1 2, begin 3, append 1 2 20 1, copy 2 1, logs 1, logs 2, inode 10, inode 0 => 0..2..3 home; 0..2..3 away; 0..0..0 away; 0..0..1 away; 0..0..1 away; 0..0..0 home; file 0; none; none; dir 0; dir 0; dir 0;
+3, fail 2, begin 1, append 1 1 10 3, digest 1 1, copy 2 1, digest 2 2, inode 10, inode 11, inode 12, logs 1 => file 0; none; none; none; file 0; none; none; file 0; none; 0..1..3 home; 0..3..3 away; 0..0..0 away;
+";
+
+#[test]
+fn one_node_alone_changes(rt: HostRuntime) {
+    show(rt.alloc(), &rt, &mut NewNodes, INODES);
+    show(rt.alloc(), &rt, &mut NewNodes, LOGS);
+}
 
 fn three_nodes(alloc: Global) -> Option<Nodes>
     ensures { IfSome result (λ nodes. nodes ≡ new_regions 3) }
@@ -13,112 +48,15 @@ fn three_nodes(alloc: Global) -> Option<Nodes>
     Nodes::new(alloc, 3, 4).ok()
 }
 
-/// A node gets an inode or none, if no log is in the way.
-fn refill(nodes: &mut Nodes, node: u32, inode: u64, value: Option<Inode>) -> Option<()> {
-    if !is_quiet(nodes, node) {
-        return None;
-    }
-    nodes.refill_one(node, inode, value).ok()
-}
-
-/// A node loses its copy of an inode, if no log is in the way.
-fn stale(nodes: &mut Nodes, node: u32, inode: u64) -> Option<()> {
-    if !is_quiet(nodes, node) {
-        return None;
-    }
-    nodes.stale(node, inode);
-    Some(())
-}
-
-/// A node uses an inode, if there is such a node.
-fn touch(nodes: &mut Nodes, node: u32, inode: u64) -> Option<()> {
-    if !has_node(nodes, node) {
-        return None;
-    }
-    nodes.touch(node, inode);
-    Some(())
+fn see_roots_alone(alloc: Global, rt: &impl Abort, nodes: &Nodes) {
+    see_inode(alloc, rt, nodes, 0, " dir 0; dir 0; dir 0;");
+    see_no_logs(rt, nodes);
 }
 
 #[test]
-fn each_new_node_has_the_root_alone(rt: HostRuntime) {
-    let nodes = three_nodes(rt.alloc()).expect(&rt, "no memory");
-    assert_eq!(rt; nodes.len(), 3);
-    see_inode(rt.alloc(), &rt, &nodes, 0, " dir 0; dir 0; dir 0;");
-    see_inode(rt.alloc(), &rt, &nodes, 1, " none; none; none;");
-    see_no_logs(&rt, &nodes);
-}
-
-#[test]
-fn there_are_none_where_none_are_made(rt: HostRuntime) {
-    let nodes = Nodes::new(rt.alloc(), 0, 1).expect(&rt, "no memory");
-    assert_eq!(rt; nodes.len(), 0);
-}
-
-#[test]
-fn one_node_alone_loses_its_copy(rt: HostRuntime) {
-    let mut nodes = three_nodes(rt.alloc()).expect(&rt, "no memory");
-    stale(&mut nodes, 2, 0).expect(&rt, "a log");
-    stale(&mut nodes, 3, 9).expect(&rt, "a log");
-    see_inode(rt.alloc(), &rt, &nodes, 0, " dir 0; none; dir 0;");
-    see_inode(rt.alloc(), &rt, &nodes, 9, " none; none; none;");
-    assert_eq!(rt; nodes.len(), 3);
-}
-
-#[test]
-fn one_node_alone_gets_an_inode(rt: HostRuntime) {
-    let mut nodes = three_nodes(rt.alloc()).expect(&rt, "no memory");
-    let file = Inode::new_file(rt.alloc());
-    refill(&mut nodes, 3, 9, Some(file)).expect(&rt, "no memory");
-    see_inode(rt.alloc(), &rt, &nodes, 9, " none; none; file 0;");
-    see_inode(rt.alloc(), &rt, &nodes, 0, " dir 0; dir 0; dir 0;");
-    let directory = Inode::new_directory(rt.alloc());
-    refill(&mut nodes, 3, 9, Some(directory)).expect(&rt, "no memory");
-    see_inode(rt.alloc(), &rt, &nodes, 9, " none; none; dir 0;");
-}
-
-#[test]
-fn one_node_alone_gets_none_in_place_of_an_inode(rt: HostRuntime) {
-    let mut nodes = three_nodes(rt.alloc()).expect(&rt, "no memory");
-    refill(&mut nodes, 1, 0, None).expect(&rt, "no memory");
-    refill(&mut nodes, 1, 9, None).expect(&rt, "no memory");
-    see_inode(rt.alloc(), &rt, &nodes, 0, " none; dir 0; dir 0;");
-    see_inode(rt.alloc(), &rt, &nodes, 9, " none; none; none;");
-}
-
-#[test]
-fn a_node_that_touches_an_inode_has_what_it_had(rt: HostRuntime) {
-    let mut nodes = three_nodes(rt.alloc()).expect(&rt, "no memory");
-    let file = Inode::new_file(rt.alloc());
-    refill(&mut nodes, 2, 9, Some(file)).expect(&rt, "no memory");
-    touch(&mut nodes, 2, 9).expect(&rt, "no node");
-    touch(&mut nodes, 2, 0).expect(&rt, "no node");
-    touch(&mut nodes, 3, 9).expect(&rt, "no node");
-    see_inode(rt.alloc(), &rt, &nodes, 9, " none; file 0; none;");
-    see_inode(rt.alloc(), &rt, &nodes, 0, " dir 0; dir 0; dir 0;");
-    see_no_logs(&rt, &nodes);
-    assert_eq!(rt; nodes.len(), 3);
-}
-
-#[test]
-fn a_node_without_logs_keeps_its_inodes(rt: HostRuntime) {
-    let mut nodes = three_nodes(rt.alloc()).expect(&rt, "no memory");
-    nodes.remove_logs(2);
-    see_inode(rt.alloc(), &rt, &nodes, 0, " dir 0; dir 0; dir 0;");
-    see_no_logs(&rt, &nodes);
-}
-
-#[test]
-fn no_front_goes_of_a_client_without_logs(rt: HostRuntime) {
+fn no_front_and_no_tail_go_of_a_client_without_logs(rt: HostRuntime) {
     let mut nodes = three_nodes(rt.alloc()).expect(&rt, "no memory");
     nodes.drop_fronts(1, 4);
-    see_inode(rt.alloc(), &rt, &nodes, 0, " dir 0; dir 0; dir 0;");
-    see_no_logs(&rt, &nodes);
-}
-
-#[test]
-fn no_tail_goes_of_a_client_without_logs(rt: HostRuntime) {
-    let mut nodes = three_nodes(rt.alloc()).expect(&rt, "no memory");
     nodes.cut_tails(1, 4);
-    see_inode(rt.alloc(), &rt, &nodes, 0, " dir 0; dir 0; dir 0;");
-    see_no_logs(&rt, &nodes);
+    see_roots_alone(rt.alloc(), &rt, &nodes);
 }

@@ -21,13 +21,17 @@ fn opens(alloc: Global) -> Result<bool, Refusal> {
 /// Makes two nodes, and gives the second an inode.
 fn refills(alloc: Global) -> Result<bool, Refusal> {
     let mut nodes = Nodes::new(alloc, 2, 4)?;
-    if !is_quiet(&nodes, 2) {
+    refills_second(alloc, &mut nodes)
+}
+
+fn refills_second(alloc: Global, nodes: &mut Nodes) -> Result<bool, Refusal> {
+    if !is_quiet(nodes, 2) {
         return Ok(false);
     }
     let file = Inode::new_file(alloc);
     match nodes.refill_one(2, 9, Some(file)) {
-        Ok(()) => is_found(alloc, &nodes, " none; file 0;"),
-        Err(Refusal::OutOfMemory) => is_found(alloc, &nodes, " none; none;"),
+        Ok(()) => is_found(alloc, nodes, " none; file 0;"),
+        Err(Refusal::OutOfMemory) => is_found(alloc, nodes, " none; none;"),
         Err(_) => Ok(false),
     }
 }

@@ -1,7 +1,6 @@
 // Logs that are refused: each allocation of a run is refused in turn, and the call is made again.
-use crate::cluster::{append, begin_logs, digest};
-use crate::logs::three_nodes;
 use crate::seen::{has_node, is_quiet, logs_of};
+use crate::steps::put_steps;
 use assise_machine_state::nodes::Nodes;
 use assise_manager::members::Members;
 use assise_names::refusal::Refusal;
@@ -14,6 +13,17 @@ fn are_logs(alloc: Global, nodes: &Nodes, first: &str, second: &str) -> Result<b
     Ok(of_first.as_str() == first && of_second.as_str() == second)
 }
 
+/// Makes steps that ask nothing.
+fn make(
+    alloc: Global,
+    nodes: &mut Nodes,
+    members: &mut Members,
+    steps: &str,
+) -> Result<(), Refusal> {
+    let mut text = String::new(alloc);
+    put_steps(alloc, nodes, members, steps, &mut text).ok_or(Refusal::OutOfMemory)
+}
+
 /// What is seen of a client's logs at three nodes once they began at the first and the third, and before.
 const BEGUN: &str = " 0..0..0 home; none; 0..0..0 away;";
 
@@ -21,10 +31,16 @@ const NONE: &str = " none; none; none;";
 
 /// Begins the logs of two clients of node 1, and each once more where that is refused.
 fn begins(alloc: Global) -> Result<bool, Refusal> {
-    let (mut nodes, members) = three_nodes(alloc, false).ok_or(Refusal::OutOfMemory)?;
+    let mut members = Members::new(alloc, 3)?;
+    let mut nodes = Nodes::new(alloc, 3, 4)?;
+    begins_both(alloc, &mut nodes, &mut members)
+}
+
+fn begins_both(alloc: Global, nodes: &mut Nodes, members: &mut Members) -> Result<bool, Refusal> {
+    make(alloc, nodes, members, "fail 2")?;
     Ok(
-        begins_one(alloc, &mut nodes, &members, (NONE, NONE), (BEGUN, NONE))?
-            && begins_one(alloc, &mut nodes, &members, (BEGUN, NONE), (BEGUN, BEGUN))?,
+        begins_one(alloc, nodes, members, (NONE, NONE), (BEGUN, NONE))?
+            && begins_one(alloc, nodes, members, (BEGUN, NONE), (BEGUN, BEGUN))?,
     )
 }
 
@@ -51,38 +67,35 @@ fn begins_one(
     are_logs(alloc, nodes, after.0, after.1)
 }
 
-/// Three nodes, of which the second has no logs, and the others have those of two clients of node 1.
-fn donors(alloc: Global) -> Option<Nodes> {
-    let (mut nodes, members) = three_nodes(alloc, false)?;
-    begin_logs(alloc, &mut nodes, &members, 1)?;
-    append(alloc, &mut nodes, 1, 1, 10, 3)?;
-    digest(&mut nodes, 1, 2)?;
-    begin_logs(alloc, &mut nodes, &members, 1)?;
-    append(alloc, &mut nodes, 1, 2, 20, 1)?;
-    Some(nodes)
+/// Copies the first node's logs to the second, which has none, and once more where that is refused.
+fn copies(alloc: Global) -> Result<bool, Refusal> {
+    let mut members = Members::new(alloc, 3)?;
+    let mut nodes = Nodes::new(alloc, 3, 4)?;
+    copies_to_second(alloc, &mut nodes, &mut members)
 }
 
-/// Copies the first node's logs to the second, and once more where that is refused.
-fn copies(alloc: Global) -> Result<bool, Refusal> {
-    let mut nodes = donors(alloc).ok_or(Refusal::OutOfMemory)?;
-    if !copy_logs(alloc, &mut nodes)? {
+fn copies_to_second(
+    alloc: Global,
+    nodes: &mut Nodes,
+    members: &mut Members,
+) -> Result<bool, Refusal> {
+    let steps = "fail 2, begin 1, append 1 1 10 3, digest 1 2, begin 1, append 1 2 20 1";
+    make(alloc, nodes, members, steps)?;
+    if !copy_logs(alloc, nodes) {
         let first = " 0..2..3 home; none; 0..0..0 away;";
         let second = " 0..0..1 home; none; 0..0..0 away;";
-        if !are_logs(alloc, &nodes, first, second)? || !copy_logs(alloc, &mut nodes)? {
+        if !are_logs(alloc, nodes, first, second)? || !copy_logs(alloc, nodes) {
             return Ok(false);
         }
     }
     let first = " 0..2..3 home; 0..2..3 away; 0..0..0 away;";
     let second = " 0..0..1 home; 0..0..1 away; 0..0..0 away;";
-    are_logs(alloc, &nodes, first, second)
+    are_logs(alloc, nodes, first, second)
 }
 
-/// Copies the first node's logs to the second, and says whether they were. None tells of nodes that have other logs.
-fn copy_logs(alloc: Global, nodes: &mut Nodes) -> Result<bool, Refusal> {
-    if !is_quiet(nodes, 2) || !has_node(nodes, 1) {
-        return Ok(false);
-    }
-    Ok(nodes.copy_logs(alloc, 2, 1).is_ok())
+/// Copies the first node's logs to the second, and says whether they were.
+fn copy_logs(alloc: Global, nodes: &mut Nodes) -> bool {
+    is_quiet(nodes, 2) && has_node(nodes, 1) && nodes.copy_logs(alloc, 2, 1).is_ok()
 }
 
 #[test]

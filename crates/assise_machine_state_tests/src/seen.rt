@@ -1,55 +1,14 @@
-// What is seen of clients and of nodes, as text.
-ghost use Rattle.std.specs.Prelude.{◌≡◌, [], ◌∷◌, IfSome, true, ℕ};
+// What is seen of nodes, as text.
+ghost use Rattle.std.specs.Prelude.{◌≡◌, [], true, ℕ};
 ghost use Rattle.assise_digest.specs.Region.{IsQuiet};
-ghost use Rattle.assise_machine_state.specs.ClientValues.{opened_on};
 ghost use Rattle.assise_machine_state.specs.NodeValues.{region_in};
 ghost use Rattle.assise_machine_state.specs.Places.{IsNumber};
 
 use assise_digest::region::Region;
 use assise_inode_table::inode::Inode;
-use assise_machine_state::client::Client;
-use assise_machine_state::clients::Clients;
 use assise_machine_state::nodes::Nodes;
 use std::alloc::{AllocError, Global};
 use std::process::Abort;
-
-/// Client 1 of node 3, and client 2 of node 5.
-pub(crate) fn two_clients(alloc: Global) -> Option<Clients>
-    ensures { IfSome result (λ clients. clients ≡ opened_on 3 ∷ opened_on 5 ∷ []) }
-{
-    let mut clients = Clients::new(alloc).ok()?;
-    clients.open(3);
-    clients.open(5);
-    Some(clients)
-}
-
-/// Sees what is known of a client, but for its last cut.
-pub(crate) fn see(alloc: Global, rt: &impl Abort, clients: &Clients, client: u32, known: &str)
-    requires client { IsNumber clients.now client }
-{
-    let text = text_of(alloc, clients.get(client)).expect(rt, "no memory");
-    assert!(rt; text.as_str() == known, "{text}");
-}
-
-fn text_of(alloc: Global, client: &Client) -> Result<String, AllocError> {
-    let (home, goal) = (client.home(), client.goal());
-    let (next, made) = (client.next(), client.made());
-    let crashed = if client.has_crashed() {
-        ", crashed"
-    } else {
-        ""
-    };
-    let failed = if client.has_failed() { ", failed" } else { "" };
-    format!(in alloc; "node {home}, goal {goal}, next {next}, made {made}{crashed}{failed}")
-}
-
-/// Sees that client 2 of [`two_clients`] is as it was opened.
-pub(crate) fn see_other(alloc: Global, rt: &impl Abort, clients: &Clients)
-    requires client { IsNumber clients.now 2 }
-{
-    see(alloc, rt, clients, 2, "node 5, goal 0, next 0, made 0");
-    assert_eq!(rt; clients.get(2).last_cut(), 0);
-}
 
 /// Whether there is a node of this number.
 pub(crate) fn has_node(nodes: &Nodes, node: u32) -> bool
@@ -129,10 +88,4 @@ fn put_log(text: &mut String, region: &Region, client: usize) -> Result<(), Allo
         "away"
     };
     write!(text, " {first}..{digested}..{end} {place};")
-}
-
-/// Sees what each node has of a client's log.
-pub(crate) fn see_logs(alloc: Global, rt: &impl Abort, nodes: &Nodes, client: u32, known: &str) {
-    let text = logs_of(alloc, nodes, client).expect(rt, "no memory");
-    assert!(rt; text.as_str() == known, "client {client}:{text}");
 }

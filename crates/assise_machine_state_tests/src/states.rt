@@ -5,7 +5,15 @@ use std::alloc::Global;
 use std::process::Abort;
 
 /// Full nodes with the root alone, in the first epoch, and nobody on them.
-fn see_begun(alloc: Global, rt: &impl Abort, state: &State, full: &[u32], roots: &str) {
+fn see_begun(
+    alloc: Global,
+    rt: &impl Abort,
+    state: &State,
+    full: &[u32],
+    limit: usize,
+    roots: &str,
+) {
+    assert_eq!(rt; state.limit, limit);
     assert_eq!(rt; state.nodes.len(), full.len());
     assert_eq!(rt; state.members.epoch(), 1);
     assert_eq!(rt; state.members.full_nodes(), full);
@@ -19,8 +27,7 @@ fn see_begun(alloc: Global, rt: &impl Abort, state: &State, full: &[u32], roots:
 #[test]
 fn a_cluster_of_one_node_begins(rt: HostRuntime) {
     let state = State::new(rt.alloc(), 1, 8, 1).expect(&rt, "no memory");
-    see_begun(rt.alloc(), &rt, &state, &[1], " dir 0;");
-    assert_eq!(rt; state.limit, 8);
+    see_begun(rt.alloc(), &rt, &state, &[1], 8, " dir 0;");
 }
 
 #[test]
@@ -31,7 +38,7 @@ fn a_cluster_of_eight_nodes_begins(rt: HostRuntime) {
         &rt,
         &state,
         &[1, 2, 3, 4, 5, 6, 7, 8],
+        4096,
         " dir 0; dir 0; dir 0; dir 0; dir 0; dir 0; dir 0; dir 0;",
     );
-    assert_eq!(rt; state.limit, 4096);
 }
