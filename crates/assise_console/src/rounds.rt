@@ -77,7 +77,8 @@ pub(crate) fn round<C: Revokes + Drop>(alloc: Global, cluster: &mut ClusterOf<C>
 
 /// Each full node makes a replicate turn, by rising number.
 fn replicate_all<C: Revokes + Drop>(alloc: Global, cluster: &mut ClusterOf<C>)
-    ensures { (es : Told) × EachFull TakesTurn most_nodes (machine cluster.old) es (machine cluster.new) }
+    ensures { (es : Told) × EachFull TakesTurn most_nodes
+        (machine cluster.old) es (machine cluster.new) }
 {
     for node in 1..=MOST_NODES {
         if is_full(cluster, node) {
@@ -88,7 +89,8 @@ fn replicate_all<C: Revokes + Drop>(alloc: Global, cluster: &mut ClusterOf<C>)
 
 /// Each full node digests once, by rising number.
 fn digest_all<C: Revokes + Drop>(alloc: Global, cluster: &mut ClusterOf<C>)
-    ensures { (es : Told) × EachFull DigestsOnce most_nodes (machine cluster.old) es (machine cluster.new) }
+    ensures { (es : Told) × EachFull DigestsOnce most_nodes
+        (machine cluster.old) es (machine cluster.new) }
 {
     for node in 1..=MOST_NODES {
         if is_full(cluster, node) {

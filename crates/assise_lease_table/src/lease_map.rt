@@ -164,7 +164,8 @@ impl LeaseMap {
 
     /// Raises a holder's lease of an inode to a mode where it is weaker, unless it is frozen.
     pub fn raise(&mut self, inode: u64, holder: u32, mode: Mode)
-        ensures { Becomes (leases_at self.old) (leases_at self.new) inode (raise holder mode (leases_at self.old inode)) }
+        ensures { Becomes (leases_at self.old) (leases_at self.new) inode
+            (raise holder mode (leases_at self.old inode)) }
     {
         let Some(leases) = self.inodes.get_mut(&inode) else {
             return;

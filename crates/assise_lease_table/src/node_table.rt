@@ -148,7 +148,8 @@ impl NodeTable {
     /// Raises a node's lease of an inode to a mode where it is weaker, unless it was asked for or another node's stands against
     /// the mode. It takes no memory.
     pub fn raise(&mut self, inode: u64, node: u32, mode: Mode)
-        ensures { Becomes (node_leases self.old) (node_leases self.new) inode (raise_unopposed node mode (node_leases self.old inode)) }
+        ensures { Becomes (node_leases self.old) (node_leases self.new) inode
+            (raise_unopposed node mode (node_leases self.old inode)) }
     {
         let rivals = Rivals { holder: node, mode };
         if !is_any_chosen(&rivals, self.leases.leases(inode)) {

@@ -94,7 +94,8 @@ impl<C: Revokes + Drop> ClusterOf<C> {
     /// Tries a client's call, as [`try_call`](fn@try_call) says.
     pub fn try_call(&mut self, alloc: Global, client: u32, op: &Op) -> Result<Turn, Refusal>
         ensures happens { Trying (machine self.old) client op.now (turn_answer result) (machine self.new) }
-        ensures cuts { CutsAreAnswers C.answers (revokers self.old) (machine self.old) (machine self.new) }
+        ensures cuts { CutsAreAnswers C.answers (revokers self.old)
+            (machine self.old) (machine self.new) }
         ensures revokers { SameRevokers (revokers self.old) (revokers self.new) }
     {
         try_call(alloc, &mut self.sound, client, op)

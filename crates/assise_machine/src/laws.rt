@@ -20,11 +20,14 @@ pub fn whatever_is_served_it_holds()
 /// node alone. What it has and has not digested is changed by events at it, and by failures of others: these leave of each client
 /// the front that is kept, and all where the client's home is another node than the one that failed.
 pub fn what_happens_at_one_node_leaves_what_others_have()
-    ensures area { (m m' : Machine) (e : ClusterEvent) (a : Answer) → Happens m e a m' → (j i : ℕ) → Full m.world j → e ≢ digest j →
+    ensures area { (m m' : Machine) (e : ClusterEvent) (a : Answer) → Happens m e a m' →
+        (j i : ℕ) → Full m.world j → e ≢ digest j →
         m'.world.area j i ≡ m.world.area j i }
-    ensures ahead { (m m' : Machine) (e : ClusterEvent) (a : Answer) → Happens m e a m' → ((losses : List Loss) → a ≢ failed losses) →
+    ensures ahead { (m m' : Machine) (e : ClusterEvent) (a : Answer) → Happens m e a m' →
+        ((losses : List Loss) → a ≢ failed losses) →
         (j c : ℕ) → Full m.world j → node_of m.world e ≢ Some j → ahead m'.world j c ≡ ahead m.world j c }
-    ensures failure { (m m' : Machine) (n : ℕ) (losses : List Loss) → Holds m → Failing m n (failed losses) m' →
+    ensures failure { (m m' : Machine) (n : ℕ) (losses : List Loss) →
+        Holds m → Failing m n (failed losses) m' →
         (j c : ℕ) → Full m.world j → j ≢ n → ahead m'.world j c ≡ ahead_below m.world j c (kept_at_failure m.world n c) }
     ensures elsewhere { (m m' : Machine) (n : ℕ) (a : Answer) → Holds m → Failing m n a m' →
         (j c : ℕ) → Full m.world j → j ≢ n → m.world.home c ≢ n → ahead m'.world j c ≡ ahead m.world j c }

@@ -31,7 +31,8 @@ pub fn run<C: Revokes + Drop>(
     ensures answered { IfOk result (λ answers. length answers.items ≡ length events.now) }
 
     // Whom each open gives the last revoker of the stock, and whose answer each cut of a lease is that a call froze.
-    ensures applied { IfOk result (λ answers. AllApplied C.answers (stocked cluster.old stock.old.items) (told events.now answers.items) (stocked cluster.new stock.new.items)) }
+    ensures applied { IfOk result (λ answers. AllApplied C.answers
+        (stocked cluster.old stock.old.items) (told events.now answers.items) (stocked cluster.new stock.new.items)) }
 
     ensures extends { IfOk result (λ answers. (machine cluster.new).history ≡ (machine cluster.old).history ++ all_entries (machine cluster.old).history (told events.now answers.items)) }
 
@@ -49,7 +50,8 @@ pub fn run<C: Revokes + Drop>(
     // What went from the stock the opened clients store, the last revoker the first of them. All other clients store what they did.
     ensures gets { IfOk result (λ answers. stock.old.items ≡
         stock.new.items ++ last_first (revokers cluster.new) (all_opened (told events.now answers.items))) }
-    ensures others { IfOk result (λ answers. (c : ℕ) → (Contains (all_opened (told events.now answers.items)) c → ⊥) →
+    ensures others { IfOk result (λ answers.
+        (c : ℕ) → (Contains (all_opened (told events.now answers.items)) c → ⊥) →
         revokers cluster.new c ≡ revokers cluster.old c) }
     ensures revokers { OnErr result (SameRevokers (revokers cluster.old) (revokers cluster.new)) }
 
@@ -78,7 +80,8 @@ pub fn apply_event<C: Revokes + Drop>(
     ensures front { stock.new.items ≡ take (length stock.new.items) stock.old.items }
     ensures gets { (c : ℕ) → answer_seen result ≡ opened c → stock.old.items ≡ stock.new.items ++ option_to_list (revokers cluster.new c) }
     ensures others { (c : ℕ) → (answer_seen result ≡ opened c → ⊥) → revokers cluster.new c ≡ revokers cluster.old c }
-    ensures cuts { (c : ℕ) (op : Op) → event_seen event.now ≡ try_call c op → CutsAreAnswers C.answers (revokers cluster.old) (machine cluster.old) (machine cluster.new) }
+    ensures cuts { (c : ℕ) (op : Op) → event_seen event.now ≡ try_call c op →
+        CutsAreAnswers C.answers (revokers cluster.old) (machine cluster.old) (machine cluster.new) }
 {
     match event {
         Event::Open(node) => Answer::Opened(open_next(alloc, cluster, *node, stock)),

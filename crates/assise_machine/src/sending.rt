@@ -58,7 +58,8 @@ fn frame_of<C: Revokes + Drop>(
     requires shape { IsShaped (value_of state.now) }
     ensures frame { IfOk result (λ frame. option_to_list frame ≡ frame_for (machine_of state.now) node client (next_node (machine_of state.now) node client)) }
     ensures only_memory { IsOkUnless result OutOfMemory }
-    ensures nothing_asked { frame_for (machine_of state.now) node client (next_node (machine_of state.now) node client) ≡ [] → IsOk result }
+    ensures nothing_asked { frame_for (machine_of state.now) node client
+        (next_node (machine_of state.now) node client) ≡ [] → IsOk result }
 {
     let known = state.clients.get(client);
     let Some(next) = successor(state.members.full_nodes(), known.home(), node) else {

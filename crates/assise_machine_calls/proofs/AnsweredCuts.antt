@@ -8,11 +8,11 @@ use Rattle.assise_machine_leases.specs.Leases.{Leases, client_lease}
 use Rattle.assise_machine_events.specs.ClientEvents.{Syncing, is_refused, is_replicating, is_synced, lacks_memory}
 use Rattle.assise_machine_events.specs.Events.{Answer}
 use Rattle.assise_machine_events.specs.Machine.{Machine}
-use Rattle.assise_machine_calls.specs.Asked.{CutsAreAnswers, log_of}
+use Rattle.assise_machine_calls.specs.Asked.{CutsAreAnswers, clients_log}
 
 -- the same leases are frozen
-abbrev pub SameFrozen : Leases → Leases → Type 0
-SameFrozen l l' = (c i : ℕ) → is_frozen (client_lease l' c i) ≡ is_frozen (client_lease l c i)
+abbrev pub KeepsFrozen : Leases → Leases → Type 0
+KeepsFrozen l l' = (c i : ℕ) → is_frozen (client_lease l' c i) ≡ is_frozen (client_lease l c i)
 
 -- an fsync leaves leases as they are
 fsync_leases : (m m' : Machine) (c : ℕ) (a : Answer) → Syncing m c a m' → m'.leases ≡ m.leases
@@ -23,13 +23,13 @@ fsync_leases m m' c a (is_refused r fault is same) = ap (λ x. x.leases) same
 
 module _ {C : Type 0} (answers : C → NumberedLog → ℕ → ℕ → Type 0) where
   -- nothing is frozen
-  pub nothing_frozen : (stored : ℕ → Option C) (m m' : Machine) → SameFrozen m.leases m'.leases → CutsAreAnswers answers stored m m'
+  pub nothing_frozen : (stored : ℕ → Option C) (m m' : Machine) → KeepsFrozen m.leases m'.leases → CutsAreAnswers answers stored m m'
   nothing_frozen stored m m' same c i fresh =
       let parts = and_parts (not (is_frozen (client_lease m.leases c i))) (is_frozen (client_lease m'.leases c i)) fresh in
       absurd (true≢false (sym parts.1 ∙ same c i ∙ not-true (is_frozen (client_lease m.leases c i)) parts.0))
 
   -- or it is once leases were got
-  pub frozen_later : (stored kept : ℕ → Option C) (m v m' : Machine) → SameFrozen m.leases v.leases → ((c : ℕ) → log_of v c ≡ log_of m c) → SameRevokers stored kept →
+  pub frozen_later : (stored kept : ℕ → Option C) (m v m' : Machine) → KeepsFrozen m.leases v.leases → ((c : ℕ) → clients_log v c ≡ clients_log m c) → SameRevokers stored kept →
       CutsAreAnswers answers kept v m' → CutsAreAnswers answers stored m m'
   frozen_later stored kept m v m' same logs stays cuts c i fresh =
       let found = cuts c i (subst (λ b. (not b && is_frozen (client_lease m'.leases c i)) ≡ true) (sym (same c i)) fresh) in

@@ -32,7 +32,7 @@ use Rattle.assise_machine_state.proofs.Noted.{running_number}
 use Rattle.assise_machine_state.proofs.Owning.{own_log as has_own_log}
 use Rattle.assise_machine_state.proofs.Seeing.{client_is}
 use Rattle.assise_machine_state.proofs.ShapedClients.{areas_stay}
-use Rattle.assise_machine_calls.specs.Asked.{AsksThem, CutsAreAnswers, log_of, own_log}
+use Rattle.assise_machine_calls.specs.Asked.{AsksThem, CutsAreAnswers, clients_log, own_log}
 use Rattle.assise_machine_calls.proofs.Fsyncing.{fine_number}
 use Rattle.assise_machine_calls.proofs.Leasing.{are_leases}
 
@@ -111,14 +111,14 @@ module _ {C : Type 0} (answers : C → NumberedLog → ℕ → ℕ → Type 0) (
       subst (λ l. Covers l i a.cut) (known.1 ∙ own_is a.client known.0) answer.covers
 
   -- what its revoker answered for its own log
-  log_lent : (d : ℕ) → IsNumber s.clients d → (log_in s.nodes (own_node (standings s) (client_in s.clients d)) d).log ≡ log_of (observed s) d
+  log_lent : (d : ℕ) → IsNumber s.clients d → (log_in s.nodes (own_node (standings s) (client_in s.clients d)) d).log ≡ clients_log (observed s) d
   unfolding observed world_of
   log_lent d there =
       let own = own_is d there in
       let limit = shape.limits (own_node (standings s) (client_in s.clients d)) d (has_own_log s d shape there some_full) in
       λ k. record { first = (own k).first; limit = limit k; records = (own k).records }
 
-  cut_answered : (a : Asked) → Among asked a → (revoker : C) × (stored a.client ≡ Some revoker) × answers revoker (log_of (observed s) a.client) i a.cut
+  cut_answered : (a : Asked) → Among asked a → (revoker : C) × (stored a.client ≡ Some revoker) × answers revoker (clients_log (observed s) a.client) i a.cut
   cut_answered a among =
       let answer = all.each a among in
       let known = lent_to s.nodes (standings s) s.clients a.client answer.view answer.seen in
@@ -189,11 +189,11 @@ module _ {C : Type 0} (answers : C → NumberedLog → ℕ → ℕ → Type 0) (
       let a = found.1 in
       let got = cut_answered answers stored s r.client r.inode r.node r.mode asked shape some_full home_seen all a.0 a.1 in
       let cut = (leases_of (after_asking s levels asked)).cut in
-      let at_cut : answers got.0 (log_of (observed s) a.0.client) r.inode (cut d r.inode) = subst (λ k. answers got.0 (log_of (observed s) a.0.client) r.inode k) (sym a.3) got.2 in
-      let of_holder : answers got.0 (log_of (observed s) d) r.inode (cut d r.inode) = subst (λ c. answers got.0 (log_of (observed s) c) r.inode (cut d r.inode)) a.2 at_cut in (
+      let at_cut : answers got.0 (clients_log (observed s) a.0.client) r.inode (cut d r.inode) = subst (λ k. answers got.0 (clients_log (observed s) a.0.client) r.inode k) (sym a.3) got.2 in
+      let of_holder : answers got.0 (clients_log (observed s) d) r.inode (cut d r.inode) = subst (λ c. answers got.0 (clients_log (observed s) c) r.inode (cut d r.inode)) a.2 at_cut in (
         got.0,
         subst (λ c. stored c ≡ Some got.0) a.2 got.1,
-        subst (λ k. answers got.0 (log_of (observed s) d) k (cut d k)) (sym found.0) of_holder,
+        subst (λ k. answers got.0 (clients_log (observed s) d) k (cut d k)) (sym found.0) of_holder,
       )
 
   all_asked : IsAsked s r (after_asking s levels asked)

@@ -52,7 +52,7 @@ use Rattle.assise_machine_state.proofs.Seeing.{client_is}
 use Rattle.assise_machine_state.proofs.ShapedClients.{areas_stay, leases_held}
 use Rattle.assise_machine_calls.specs.Asked.{AsksThem, CutsAreAnswers}
 use Rattle.assise_machine_calls.specs.Leasing.{HasAll, IsReady, IsVisited, next_call, next_step}
-use Rattle.assise_machine_calls.proofs.AnsweredCuts.{SameFrozen as SameFrozenLeases, frozen_later}
+use Rattle.assise_machine_calls.proofs.AnsweredCuts.{KeepsFrozen, frozen_later}
 use Rattle.assise_machine_calls.proofs.Committing.{call_client, call_number}
 use Rattle.assise_machine_calls.proofs.Granted.{granted_first}
 use Rattle.assise_machine_calls.proofs.Wanting.{fewer, unserved}
@@ -194,7 +194,7 @@ pub same_levels : (old new : TwoLevels) → SameLevels old new → new ≡ old
 same_levels old new e = λ k. record { home = λ c. e.home c k; clients = λ i. e.clients i k; nodes = λ i. e.nodes i k }
 
 -- with the same levels the same leases are frozen
-pub same_levels_frozen : (s : StateValue) (levels : TwoLevels) → levels ≡ s.levels → SameFrozenLeases (observed s).leases (observed (after_leases s levels)).leases
+pub same_levels_frozen : (s : StateValue) (levels : TwoLevels) → levels ≡ s.levels → KeepsFrozen (observed s).leases (observed (after_leases s levels)).leases
 unfolding observed leases_of
 same_levels_frozen s levels same d i = ap (λ l. is_frozen (lease_of (l.clients i) d)) same
 
@@ -316,7 +316,7 @@ module _ (s : StateValue) (c : ℕ) (op : Op) (shape : IsShaped s) (holds : ∥ 
     unfolding observed world_of leases_of own_seen
     cuts_then answers stored kept m' same cuts = frozen_later answers stored kept (observed s) (observed s') m' (λ d j. frozen_same d j) (λ d. refl) same cuts
 
-    pub unfrozen_then : SameFrozenLeases (observed s).leases (observed s').leases
+    pub unfrozen_then : KeepsFrozen (observed s).leases (observed s').leases
     unfolding observed leases_of
     unfrozen_then d j = frozen_same d j
 
@@ -342,7 +342,7 @@ module _ (s : StateValue) (c : ℕ) (op : Op) (shape : IsShaped s) (holds : ∥ 
 
 -- what comes of a call after a lease comes of it before
 module _ (old m m' : Machine) (c : ℕ) (op : Op) (r : Result Bool Refusal) (onward : (a : Answer) (last : Machine) → Calling m c op a last → Calling old c op a last) where
-  pub all_onward : (s : Step) → SameFrozenLeases old.leases m.leases → IfOk r (λ all. all ≡ true → HasAll m c op s m') → IfOk r (λ all. all ≡ true → HasAll old c op s m')
+  pub all_onward : (s : Step) → KeepsFrozen old.leases m.leases → IfOk r (λ all. all ≡ true → HasAll m c op s m') → IfOk r (λ all. all ≡ true → HasAll old c op s m')
   all_onward s same had = go r had
     where
       go : (r : Result Bool Refusal) → IfOk r (λ all. all ≡ true → HasAll m c op s m') → IfOk r (λ all. all ≡ true → HasAll old c op s m')

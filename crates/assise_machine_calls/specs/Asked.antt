@@ -23,11 +23,11 @@ pub record AsksThem (m : Machine) (r : Request) (m' : Machine) : Type 0 where
   pub keeps : KeepsMembers m m'
 
 -- a client's own log
-abbrev pub log_of : Machine → ℕ → NumberedLog
-log_of m c = record { first = m.world.first c; limit = m.limit; records = m.world.records c }
+abbrev pub clients_log : Machine → ℕ → NumberedLog
+clients_log m c = record { first = m.world.first c; limit = m.limit; records = m.world.records c }
 
 -- the cut of each lease that is frozen now and wasn't before is what the revoker that its holder stored answers for the holder's
 -- own log and the inode
 abbrev pub CutsAreAnswers : {C : Type 0} → (C → NumberedLog → ℕ → ℕ → Type 0) → (ℕ → Option C) → Machine → Machine → Type 0
 CutsAreAnswers {C} answers stored m m' = (c i : ℕ) → is_newly_frozen m.leases m'.leases c i ≡ true →
-    (revoker : C) × (stored c ≡ Some revoker) × answers revoker (log_of m c) i (m'.leases.cut c i)
+    (revoker : C) × (stored c ≡ Some revoker) × answers revoker (clients_log m c) i (m'.leases.cut c i)

@@ -38,7 +38,8 @@ pub(crate) fn ask<C: Revokes + Drop>(
     requires noted { AreNoted (value_of state.old) }
     ensures ok { OnOk result (AsksThem (machine_of state.old) request (machine_of state.new)) }
     ensures err { OnErr result (machine_of state.new ≡ machine_of state.old) }
-    ensures cuts { CutsAreAnswers C.answers (stored_by state.old.leases) (machine_of state.old) (machine_of state.new) }
+    ensures cuts { CutsAreAnswers C.answers (stored_by state.old.leases)
+        (machine_of state.old) (machine_of state.new) }
     ensures shape { IsShaped (value_of state.new) }
     ensures noted { AreNoted (value_of state.new) }
     ensures only_memory { IsOkUnless result OutOfMemory }

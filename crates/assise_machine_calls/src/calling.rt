@@ -49,7 +49,8 @@ pub fn try_call<C: Revokes + Drop>(
     op: &Op,
 ) -> Result<Turn, Refusal>
     ensures happens { Trying (machine_of sound.old.state) client op.now (turn_answer result) (machine_of sound.new.state) }
-    ensures cuts { CutsAreAnswers C.answers (stored_by sound.old.state.leases) (machine_of sound.old.state) (machine_of sound.new.state) }
+    ensures cuts { CutsAreAnswers C.answers (stored_by sound.old.state.leases)
+        (machine_of sound.old.state) (machine_of sound.new.state) }
     ensures revokers { SameRevokers (stored_by sound.old.state.leases) (stored_by sound.new.state.leases) }
 {
     if let Op::Fsync = op {
@@ -75,7 +76,8 @@ fn call<C: Revokes + Drop>(
     requires shape { IsShaped (value_of state.old) }
     requires noted { AreNoted (value_of state.old) }
     ensures happens { Calling (machine_of state.old) client op.now (turn_answer result) (machine_of state.new) }
-    ensures cuts { CutsAreAnswers C.answers (stored_by state.old.leases) (machine_of state.old) (machine_of state.new) }
+    ensures cuts { CutsAreAnswers C.answers (stored_by state.old.leases)
+        (machine_of state.old) (machine_of state.new) }
     ensures shape { IsShaped (value_of state.new) }
     ensures noted { AreNoted (value_of state.new) }
     ensures revokers { SameRevokers (stored_by state.old.leases) (stored_by state.new.leases) }
@@ -133,7 +135,8 @@ fn lease_changes<C: Revokes + Drop>(
     ensures all { IfOk result (λ all. all ≡ true → HasAll (machine_of state.old) client op.now (step_in outcome.now) (machine_of state.new)) }
     ensures waits { IfOk result (λ all. all ≡ false → Calling (machine_of state.old) client op.now not_yet (machine_of state.new)) }
     ensures refused { IfErr result (λ r. Calling (machine_of state.old) client op.now (refused r) (machine_of state.new)) }
-    ensures cuts { CutsAreAnswers C.answers (stored_by state.old.leases) (machine_of state.old) (machine_of state.new) }
+    ensures cuts { CutsAreAnswers C.answers (stored_by state.old.leases)
+        (machine_of state.old) (machine_of state.new) }
     ensures shape { IsShaped (value_of state.new) }
     ensures noted { AreNoted (value_of state.new) }
     ensures revokers { SameRevokers (stored_by state.old.leases) (stored_by state.new.leases) }
