@@ -12,19 +12,26 @@ mod cluster;
 mod made;
 mod setting;
 
-use crate::calls::cluster::{begin, make_turns, opened, try_turns};
+use crate::calls::cluster::{Cluster, begin, make_turns, open_all, try_turns};
 use crate::calls::made::calls_of;
-use crate::calls::setting::{Kind, setting_of};
+use crate::calls::setting::{Kind, Setting, setting_of};
+use assise_names::call::Op;
 use std::alloc::Global;
 
 /// How often the call is made that the words say.
 pub(crate) fn count(alloc: Global, words: &[String]) -> Option<u64> {
     let setting = setting_of(alloc, words)?;
     let calls = calls_of(alloc, setting.kind, setting.bytes)?;
-    let mut cluster = opened(alloc, setting.clients)?;
-    begin(alloc, &mut cluster, setting)?;
+    let mut cluster = Cluster::new(alloc, 2, 4096, 4096).ok()?;
+    count_on(alloc, &mut cluster, setting, calls.as_slice())
+}
+
+/// How often the call is made on a cluster on which nothing happened.
+fn count_on(alloc: Global, cluster: &mut Cluster, setting: Setting, calls: &[Op]) -> Option<u64> {
+    open_all(alloc, cluster, setting.clients)?;
+    begin(alloc, cluster, setting)?;
     if setting.kind == Kind::Asked {
-        return try_turns(alloc, &mut cluster, calls.as_slice(), setting.turns);
+        return try_turns(alloc, cluster, calls, setting.turns);
     }
-    make_turns(alloc, &mut cluster, calls.as_slice(), setting.turns)
+    make_turns(alloc, cluster, calls, setting.turns)
 }

@@ -8,10 +8,11 @@ mod records;
 mod refused;
 mod turns;
 
-use crate::digest::built::region_of;
+use crate::digest::built::fill;
 use crate::digest::records::Kind;
 pub(crate) use crate::digest::refused::{Fault, Refused, refusals};
 use crate::digest::turns::{Times, turns};
+use assise_digest::region::Region;
 
 /// How long the turns took that the words say. None where they say none, or there is no memory.
 pub(crate) fn times(rt: &HostRuntime, words: &[String]) -> Option<Times> {
@@ -22,8 +23,21 @@ pub(crate) fn times(rt: &HostRuntime, words: &[String]) -> Option<Times> {
     let at_home = is_home(place)?;
     let inodes: u64 = inodes.parse().ok()?;
     let count: u32 = count.parse().ok()?;
-    let mut region = region_of(rt.alloc(), at_home, inodes)?;
-    turns(rt, &mut region, kind, count)
+    let mut region = Region::new(rt.alloc(), 4096).ok()?;
+    times_on(rt, &mut region, at_home, inodes, kind, count)
+}
+
+/// How long the turns took on a new region.
+fn times_on(
+    rt: &HostRuntime,
+    region: &mut Region,
+    at_home: bool,
+    inodes: u64,
+    kind: Kind,
+    count: u32,
+) -> Option<Times> {
+    fill(rt.alloc(), region, at_home, inodes)?;
+    turns(rt, region, kind, count)
 }
 
 fn kind_of(text: &str) -> Option<Kind> {

@@ -14,24 +14,23 @@ pub(crate) fn numbers(alloc: Global, words: &[String]) -> Option<(u64, u64, u64)
     };
     let limit: usize = limit.parse().ok()?;
     let turns: u64 = turns.parse().ok()?;
-    let mut log = full_log(alloc, limit)?;
-    let mut call = 0;
-    for _ in 0..turns {
-        call = turn(alloc, &mut log)?;
-    }
-    Some((log.first(), log.end(), call))
-}
-
-/// A log with as many records as its limit.
-fn full_log(alloc: Global, limit: usize) -> Option<Log> {
     if limit < LEAST_LIMIT || MOST_LIMIT < limit {
         return None;
     }
     let mut log = Log::new(alloc, limit).ok()?;
+    numbers_of(alloc, &mut log, limit, turns)
+}
+
+/// The numbers of a log without records, once it is full and had its turns.
+fn numbers_of(alloc: Global, log: &mut Log, limit: usize, turns: u64) -> Option<(u64, u64, u64)> {
     for _ in 0..limit {
-        add(alloc, &mut log)?;
+        add(alloc, log)?;
     }
-    Some(log)
+    let mut call = 0;
+    for _ in 0..turns {
+        call = turn(alloc, log)?;
+    }
+    Some((log.first(), log.end(), call))
 }
 
 /// Adds a record of one effect.

@@ -13,16 +13,29 @@ mod exchange;
 mod made;
 mod setting;
 
-use crate::rounds::clients::{begin, opened, turns};
+use crate::rounds::clients::{begin, cluster_of, open_all, turns};
+use crate::rounds::exchange::Cluster;
 use crate::rounds::made::calls_of_all;
-use crate::rounds::setting::setting_of;
+use crate::rounds::setting::{Setting, setting_of};
+use assise_names::call::Op;
 use std::alloc::Global;
 
 /// How many calls are made, and how many records are digested.
 pub(crate) fn counts(alloc: Global, words: &[String]) -> Option<(u64, u64)> {
     let setting = setting_of(alloc, words)?;
     let calls = calls_of_all(alloc, setting.kind, setting.clients)?;
-    let mut cluster = opened(alloc, setting)?;
-    begin(alloc, &mut cluster, setting, calls.as_slice())?;
-    turns(alloc, &mut cluster, setting, calls.as_slice())
+    let mut cluster = cluster_of(alloc, setting.nodes)?;
+    counts_on(alloc, &mut cluster, setting, calls.as_slice())
+}
+
+/// How many calls are made, and how many records are digested, on a cluster on which nothing happened.
+fn counts_on(
+    alloc: Global,
+    cluster: &mut Cluster,
+    setting: Setting,
+    calls: &[Vec<Op>],
+) -> Option<(u64, u64)> {
+    open_all(alloc, cluster, setting)?;
+    begin(alloc, cluster, setting, calls)?;
+    turns(alloc, cluster, setting, calls)
 }

@@ -13,13 +13,12 @@ use std::alloc::Global;
 /// A cluster whose clients answer the least cut.
 pub(crate) type Cluster = SoundOf<Least>;
 
-/// Two nodes, and so many clients that live on either in turn, the first on node 1.
-pub(crate) fn opened(alloc: Global, clients: u32) -> Option<Cluster> {
-    let mut cluster = Cluster::new(alloc, 2, 4096, 4096).ok()?;
+/// Opens so many clients, which live on either of two nodes in turn, the first on node 1.
+pub(crate) fn open_all(alloc: Global, cluster: &mut Cluster, clients: u32) -> Option<()> {
     for number in 0..clients {
-        open(alloc, &mut cluster, 1 + number % 2, Least).ok()?;
+        open(alloc, cluster, 1 + number % 2, Least).ok()?;
     }
-    Some(cluster)
+    Some(())
 }
 
 /// Makes what is there before the turns.

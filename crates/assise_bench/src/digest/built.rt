@@ -24,17 +24,15 @@ const FIRST_OTHER: u64 = 100;
 /// The first of the files that records make.
 pub(crate) const FIRST_NEW: u64 = 1 << 32;
 
-/// A region with so many inodes and at least the named ones, of which the directory and the files that are written are
-/// hot, and with a client that lives there or elsewhere.
-pub(crate) fn region_of(alloc: Global, at_home: bool, inodes: u64) -> Option<Region> {
-    let mut region = Region::new(alloc, 4096).ok()?;
-    put(&mut region, DIRECTORY, directory(alloc)?)?;
-    put_files(alloc, &mut region)?;
+/// A region gets so many inodes and at least the named ones, of which the directory and the files that are written are
+/// hot, and a client that lives there or elsewhere.
+pub(crate) fn fill(alloc: Global, region: &mut Region, at_home: bool, inodes: u64) -> Option<()> {
+    put(region, DIRECTORY, directory(alloc)?)?;
+    put_files(alloc, region)?;
     for inode in FIRST_OTHER..FIRST_OTHER + inodes.min(1_000_000).saturating_sub(FILES + 2) {
-        put(&mut region, inode, Inode::new_file(alloc))?;
+        put(region, inode, Inode::new_file(alloc))?;
     }
-    add_client(alloc, &mut region, at_home)?;
-    Some(region)
+    add_client(alloc, region, at_home)
 }
 
 /// Gives a number of a region without clients an inode.

@@ -58,22 +58,23 @@ pub(crate) struct Refused {
 
 /// Appends three records of a client that lives on the node, and digests them. What is refused is tried once more.
 pub(crate) fn refusals(alloc: Global) -> Result<Refused, Fault> {
-    let mut region = region_of(alloc).ok_or(Fault::NoMemory)?;
+    let log = Log::new(alloc, 8)?;
+    let mut region = Region::new(alloc, 4)?;
+    refusals_on(alloc, &mut region, log)
+}
+
+/// How many appends and digests were refused on a new region.
+fn refusals_on(alloc: Global, region: &mut Region, log: Log) -> Result<Refused, Fault> {
+    region.add_own_client(log).map_err(|_| Fault::NoMemory)?;
     let mut appends = 0usize;
     for number in 0..3 {
         let added = record_of(alloc, number).ok_or(Fault::NoMemory)?;
-        if !append(alloc, &mut region, added, number)? {
+        if !append(alloc, region, added, number)? {
             appends = appends.saturating_add(1);
         }
     }
-    let digests = digest(alloc, &mut region)?;
+    let digests = digest(alloc, region)?;
     Ok(Refused { appends, digests })
-}
-
-fn region_of(alloc: Global) -> Option<Region> {
-    let mut region = Region::new(alloc, 4).ok()?;
-    region.add_own_client(Log::new(alloc, 8).ok()?).ok()?;
-    Some(region)
 }
 
 /// Appends a record behind so many, and once more where it is refused: whether it was taken in at once.

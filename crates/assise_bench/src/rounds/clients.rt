@@ -11,16 +11,21 @@ use std::alloc::Global;
 /// More rounds than a call waits for the leases that it needs.
 const MOST_TRIES: u32 = 64;
 
-/// So many nodes, and so many clients that live on them in turn, the first on node 1.
-pub(crate) fn opened(alloc: Global, setting: Setting) -> Option<Cluster> {
-    if setting.nodes == 0 || setting.nodes > 8 {
+/// So many nodes, on which nothing happened.
+pub(crate) fn cluster_of(alloc: Global, nodes: u32) -> Option<Cluster> {
+    if nodes == 0 || nodes > 8 {
         return None;
     }
-    let mut cluster = Cluster::new(alloc, setting.nodes, 4096, 4096).ok()?;
+    Cluster::new(alloc, nodes, 4096, 4096).ok()
+}
+
+/// Opens so many clients, which live on the nodes in turn, the first on node 1.
+pub(crate) fn open_all(alloc: Global, cluster: &mut Cluster, setting: Setting) -> Option<()> {
     for number in 0..setting.clients {
-        cluster.open(alloc, 1 + number % setting.nodes, Least).ok()?;
+        let node = 1 + number.checked_rem(setting.nodes)?;
+        cluster.open(alloc, node, Least).ok()?;
     }
-    Some(cluster)
+    Some(())
 }
 
 /// Each client makes its directory and its file, and gets the leases that its calls need. Then all is digested.
