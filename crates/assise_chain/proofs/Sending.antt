@@ -4,7 +4,7 @@ use mathlib.Core.Logic.{dite}
 use native.Mathlib.Decide.{ℕ_discrete}
 use Rattle.assise_record.specs.LogRecord.{LogRecord}
 use Rattle.assise_record.specs.LogFrame.{LogFrame}
-use Rattle.assise_private_log.specs.NumberedLog.{NumberedLog, with_record, without_front}
+use Rattle.assise_private_log.specs.NumberedLog.{NumberedLog, end, with_record, without_front}
 use Rattle.assise_chain.specs.Acceptance.{IsTimely, accepted}
 use Rattle.assise_chain.specs.Lists.{IsOneOf}
 use Rattle.assise_chain.specs.Messages.{first_sent, frame_of, message_of, sent}
@@ -76,7 +76,7 @@ module _ (full : List ℕ) (head epoch : ℕ) where
       same_agree between new middle same is_sent
 
   -- a frame is taken in
-  deliver_agree : (old new : Nodes) (node : ℕ) (f : LogFrame) → AllAgree old → IsOneOf old.sent f → IsOneOf full node → node ≢ head → IsTimely (old.logs node) f epoch
+  deliver_agree : (old new : Nodes) (node : ℕ) (f : LogFrame) → AllAgree old → IsOneOf old.sent f → IsOneOf full node → node ≢ head → IsTimely (end (old.logs node)) f epoch
       → Becomes old.logs new.logs node (accepted (old.logs node) f) → new.sent ≡ old.sent → AllAgree new
   deliver_agree old new node f agree a is other timely becomes is_sent =
       let at_head : new.logs head ≡ old.logs head = becomes.elsewhere head (λ (same : head ≡ node). other (sym same)) in

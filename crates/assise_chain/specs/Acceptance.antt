@@ -5,10 +5,10 @@ use Rattle.assise_record.specs.LogRecord.{LogRecord}
 use Rattle.assise_record.specs.LogFrame.{LogFrame}
 use Rattle.assise_private_log.specs.NumberedLog.{NumberedLog, end}
 
--- a frame is of this epoch, and leaves no gap behind the log
-pub record IsTimely (l : NumberedLog) (f : LogFrame) (epoch : ℕ) : Type 0 where
+-- a frame is of this epoch, and leaves no gap behind the records that were received, which are those below a number
+pub record IsTimely (received : ℕ) (f : LogFrame) (epoch : ℕ) : Type 0 where
   pub this_epoch : f.epoch ≡ epoch
-  pub no_gap : f.first ≤ end l
+  pub no_gap : f.first ≤ received
 
 -- the records of the frame that the log doesn't have
 abbrev pub records_past : NumberedLog → LogFrame → List LogRecord

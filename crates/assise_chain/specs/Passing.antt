@@ -52,7 +52,7 @@ Does full head epoch client old (append r) new = Becomes old.logs new.logs head 
 Does full head epoch client old (send node from to) new =
     IsOneOf full node × SameLogs old.logs new.logs × (new.sent ≡ with_message (message_of (old.logs node) epoch client from to) old.sent)
 Does full head epoch client old (deliver node f) new =
-    IsOneOf old.sent f × IsOneOf full node × (node ≢ head) × IsTimely (old.logs node) f epoch × Becomes old.logs new.logs node (accepted (old.logs node) f) × (new.sent ≡ old.sent)
+    IsOneOf old.sent f × IsOneOf full node × (node ≢ head) × IsTimely (end (old.logs node)) f epoch × Becomes old.logs new.logs node (accepted (old.logs node) f) × (new.sent ≡ old.sent)
 Does full head epoch client old (let_go to) new = AllReach full old.logs to × AllLetGo full old.logs new.logs to × (new.sent ≡ old.sent)
 
 -- where its condition doesn't hold, as at a frame that isn't timely, all stays as it was

@@ -30,7 +30,7 @@ pub fn each_node_passes_to_the_next()
 
 /// Records that are sent from a log's end on, by a node that hasn't let them go, are taken in, all of them.
 pub fn what_is_sent_from_the_end_is_taken_in()
-    ensures timely { (from l : NumberedLog) (f : LogFrame) (epoch client to : ℕ) → from.first ≤ end l → message_of from epoch client (end l) to ≡ Some f → IsTimely l f epoch }
+    ensures timely { (from l : NumberedLog) (f : LogFrame) (epoch client to : ℕ) → from.first ≤ end l → message_of from epoch client (end l) to ≡ Some f → IsTimely (end l) f epoch }
     ensures taken { (from l : NumberedLog) (f : LogFrame) (epoch client to : ℕ) → from.first ≤ end l → message_of from epoch client (end l) to ≡ Some f → records_past l f ≡ sent from (end l) to }
 {}
 

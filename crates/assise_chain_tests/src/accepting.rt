@@ -2,7 +2,7 @@
 ghost use Rattle.std.specs.Prelude.{◌≡◌, ◌+◌, ◌≤◌, true, length};
 
 use crate::logs::{log_of, put_log, show};
-use assise_chain::acceptance::accept;
+use assise_chain::acceptance::{accept, is_timely};
 use assise_chain::messages::message;
 use assise_private_log::log::Log;
 use assise_record::frame::Frame;
@@ -39,6 +39,22 @@ impl Subject for Accepted {
     }
 }
 
+/// `RECEIVED EPOCH, EPOCH FROM TO`: whether what the head sends in an epoch is timely behind what was received, in an epoch.
+#[derive(Clone, Copy)]
+struct Timely;
+
+impl Subject for Timely {
+    fn put(&mut self, alloc: Global, steps: &str, text: &mut String) -> Option<()> {
+        let (numbers, sent) = steps.split_once(", ")?;
+        let (received, epoch) = split_word(numbers);
+        let received = received.parse::<u64>().ok()?;
+        let epoch = epoch.parse::<u64>().ok()?;
+        let frame = frame_of(alloc, sent)?;
+        let answer = is_timely(&frame, received, epoch);
+        write!(text, " {answer}").ok()
+    }
+}
+
 /// `EPOCH FROM TO`: what the head sends.
 fn frame_of(alloc: Global, sent: &str) -> Option<Frame> {
     let head = log_of(alloc, 0, 100)?;
@@ -72,6 +88,24 @@ const REFUSED: &str = "\
 0 3, 6 3 6 => F11 StaleMessage 0-3
 0 6, 4 3 6 => F11 StaleMessage 0-6
 ";
+
+/// The next records, some again, all again; a gap; and the epochs before and after.
+const TIMELY: &str = "\
+3 5, 5 3 6 => true
+4 5, 5 3 6 => true
+9 5, 5 3 6 => true
+0 5, 5 0 64 => true
+2 5, 5 3 6 => false
+0 5, 5 1 2 => false
+3 5, 4 3 6 => false
+3 5, 6 3 6 => false
+18446744073709551615 18446744073709551615, 18446744073709551615 3 6 => true
+";
+
+#[test]
+fn what_is_timely_is_of_the_epoch_and_leaves_no_gap(rt: HostRuntime) {
+    show(rt.alloc(), &rt, &mut Timely, TIMELY);
+}
 
 #[test]
 fn what_lies_past_the_end_is_taken_in(rt: HostRuntime) {

@@ -112,7 +112,7 @@ pub fn a_step_is_the_call_on_the_tree()
 /// a threshold from which on no other client visits or changes what a call changed. The rest is a run, with the same
 /// steps, and its inodes spell its tree. The numbers of each client have to rise along the run, the calls carry the
 /// numbers of the inodes that they make, and no inode is there when it is made.
-pub fn unseen_tails_may_be_taken_out()
+pub fn tails()
     ensures run { (v : Values) (t : Tree) (a b : ℕ → ℕ) (xs : List NumberedCall) → Spells v t → AreAnswered t (exchanges xs) → Rises xs →
         AllMakeNew v xs → Unseen a (trace v xs) → ((c : ℕ) → a c ≤ b c) → AreAnswered t (exchanges (filter (below b) xs)) }
     ensures made { (v : Values) (t : Tree) (a b : ℕ → ℕ) (xs : List NumberedCall) → Spells v t → AreAnswered t (exchanges xs) → Rises xs →

@@ -232,15 +232,15 @@ impl<C: Revokes + Drop> LeaseTreeOf<C> {
         Ok(Acquired::AskedFor(asked))
     }
 
-    /// Takes a client's lease of an inode away, and the asked lease of its node with the last client below. It takes no
-    /// memory.
+    /// Takes a client's lease of an inode away, and the asked lease of its node with the last client below. A client that isn't
+    /// enrolled has none, and nothing changes. It takes no memory.
     pub fn release(&mut self, client: u32, inode: u64)
-        requires enrolled { is_some ((levels_of self.old).home client) ≡ true }
         ensures released { (node : ℕ) → (levels_of self.old).home client ≡ Some node → IsReleased (levels_of self.old) (levels_of self.new) client node inode }
+        ensures unknown { (levels_of self.old).home client ≡ None → SameLevels (levels_of self.old) (levels_of self.new) }
         ensures revokers { SameRevokers (stored_by self.old) (stored_by self.new) }
     {
         let Some(home) = self.homes.get(&client) else {
-            unreachable!()
+            return;
         };
         let node = *home;
         self.clients.release(client, inode);

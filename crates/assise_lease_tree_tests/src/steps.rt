@@ -96,7 +96,10 @@ fn put_lease_step(
         "read" => acquire(tree, logs, client, inode, Mode::Read, text),
         "write" => acquire(tree, logs, client, inode, Mode::Write, text),
         "holds" => put_held(tree, client, inode, text).ok(),
-        "release" => release(tree, client, inode),
+        "release" => {
+            tree.release(client, inode);
+            Some(())
+        }
         _ => None,
     }
 }
@@ -179,12 +182,6 @@ fn put_held(
         (false, _) => "-",
     };
     write!(text, " {mode}")
-}
-
-fn release(tree: &mut LeaseTree, client: u32, inode: u64) -> Option<()> {
-    tree.node_of(client)?;
-    tree.release(client, inode);
-    Some(())
 }
 
 /// Frees a node of whose clients none holds an inode; else it is said to be busy.

@@ -39,6 +39,7 @@ enrol 1 1 least, enrol 2 1 least, enrol 3 2 least, read 1 7, write 3 7, read 2 7
 enrol 1 1 least, enrol 2 1 least, enrol 3 2 least, read 1 7, read 2 7, write 3 7, release 1 7, write 3 7, read 1 7, release 2 7, write 3 7 => granted granted asked 1:7:0 2:7:0 asked asked granted
 enrol 1 1 least, enrol 3 2 least, write 1 7, release 1 7, write 3 7, holds 3 7 => granted granted write
 enrol 1 1 least, enrol 2 1 least, write 1 7, release 1 7, write 2 7, holds 2 7 => granted granted write
+enrol 1 1 least, write 1 7, release 2 7, holds 1 7, release 1 8, holds 1 7, home 2 => granted write write None
 enrol 1 1 least, write 1 7, free 1, release 1 7, free 1, free 2, home 1, home 2 => granted busy Some(1) None
 ";
 

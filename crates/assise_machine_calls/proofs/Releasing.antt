@@ -1,5 +1,5 @@
 -- A lease whose answer is ripe goes, and the answer with it.
-use Rattle.std.proofs.Common.{◌≡◌, ◌≢◌, inl, inr, ℕ, zero, suc, ◌+◌, ◌-◌, ◌<◌, ◌≤◌, nat_le, Bool, true, false, not, ◌||◌, ◌==◌, if◌then◌else◌, List, [], ◌∷◌, ◌++◌, length, filter, slice_index_or, take, drop, Some, None, is_some, refl, ap, sym, subst, ◌∙◌, arith, eq-eqb, true≢false}
+use Rattle.std.proofs.Common.{◌≡◌, ◌≢◌, inl, inr, ℕ, zero, suc, ◌+◌, ◌-◌, ◌<◌, ◌≤◌, nat_le, Bool, true, false, not, ◌||◌, ◌==◌, if◌then◌else◌, List, [], ◌∷◌, ◌++◌, length, filter, slice_index_or, take, drop, Some, None, refl, ap, sym, subst, ◌∙◌, arith, eq-eqb, true≢false}
 use Rattle.std.proofs.lemmas.Bool.{and_from, and_parts, cases_Bool, cases_eq, eqb-true, false_from_ne_true, leb-true, not-true, or_left, or_right}
 use Rattle.std.proofs.lemmas.List.{length-append, length-take}
 use Rattle.assise_lease_table.specs.declared.lease.Asked.{Asked}
@@ -274,9 +274,6 @@ module _ (s : StateValue) (place : ℕ) (a : Asked) (some : 0 < place) (low : pl
     home_is : s.levels.home a.client ≡ Some ((world_of s).home a.client)
     unfolding observed world_of leases_of
     home_is = leases.homes a.client (number_client s a.client answer_known)
-
-    pub enrolled_now : is_some (s.levels.home a.client) ≡ true
-    enrolled_now = ap is_some home_is
 
     module _ (ripe : is_ripe s a ≡ true) (levels : TwoLevels) (released : (n : ℕ) → s.levels.home a.client ≡ Some n → IsReleased s.levels levels a.client n a.inode) (cuts : List Asked)
         (left : cuts ≡ before ++ behind) where

@@ -1,7 +1,7 @@
 -- The members of a cluster: how each node stands, the epoch, and which inodes were written in it and in those before it while
 -- some node wasn't full. Assise (OSDI 2020), section 3 (fail-over and recovery).
-use Rattle.std.specs.Prelude.{◌≡◌, ◌==◌, ℕ, ◌+◌, ◌-◌, ◌<◌, ◌≤◌, nat_le, Bool, true, ◌&&◌, List, [], ◌∷◌, length, drop}
-use Rattle.std.specs.List.{list_all, list_any, slice_index_or}
+use Rattle.std.specs.Prelude.{◌≡◌, ◌==◌, ℕ, ◌+◌, ◌-◌, ◌<◌, ◌≤◌, nat_le, nat_lt, if◌then◌else◌, Bool, true, ◌&&◌, List, [], ◌∷◌, length, drop, Option, None}
+use Rattle.std.specs.List.{list_all, list_any, slice_get, slice_index_or}
 use Rattle.std.specs.Ordering.{nat_cmp}
 use Rattle.std.specs.FinSet as set
 use Rattle.assise_manager.specs.Standings.{Standing, full, down, returning, is_full, full_nodes}
@@ -25,6 +25,10 @@ all_inodes (inodes ∷ lists) = set.union inodes (all_inodes lists)
 -- the inodes that were written since an epoch
 abbrev pub written_since : Membership → ℕ → set.FinSet nat_cmp
 written_since m since = all_inodes (drop (since - first_listed m) m.written)
+
+-- the inodes that were written in an epoch, where it has a list
+abbrev pub written_in : Membership → ℕ → Option (set.FinSet nat_cmp)
+written_in m epoch = if nat_lt epoch (first_listed m) then None else slice_get m.written (epoch - first_listed m)
 
 -- the lowest full node
 abbrev pub lowest_full : List Standing → ℕ

@@ -31,14 +31,15 @@ pub struct Members {
 }
 
 impl Members {
-    ghost use Rattle.std.specs.Prelude.{◌≡◌, ◌↔◌, ◌+◌, ◌-◌, ◌^◌, ◌<◌, ◌≤◌, ℕ, IsSome, option_map, None, Some, IfErr, IfOk, IsOk, IsOkUnless, OnErr, OnOk, Err, length, true};
+    ghost use Rattle.std.specs.Prelude.{◌≡◌, ◌↔◌, ◌+◌, ◌-◌, ◌^◌, ◌<◌, ◌≤◌, ℕ, IsSome, option_map, None, Some, IfErr, IfNone, IfOk, IfSome, IsOk, IsOkUnless, OnErr, OnOk, Err, length, nat_eq, true};
     ghost use Rattle.std.specs.FinSet as set;
+    ghost use Rattle.std.specs.List.{IsDistinct};
     ghost use Rattle.std.specs.List.Sorted.{IsStrictlySortedBy};
     ghost use Rattle.std.specs.Ordering.{nat_cmp};
     ghost use Rattle.assise_names.specs.declared.refusal.Refusal.{Refusal as Refused};
     ghost use Rattle.assise_names.specs.declared.refusal.Refusal.TheVariants.{BadNode, OutOfMemory};
     ghost use Rattle.assise_manager.specs.Changes.{is_away, is_returning, with_node, donor_of, IsLowestOf, all_full, failed, failure_fault, back, return_fault, stale_of, filling_fault, IsLowest, copied, joined, join_fault, noted};
-    ghost use Rattle.assise_manager.specs.Membership.{IsMembership, first_listed, is_known};
+    ghost use Rattle.assise_manager.specs.Membership.{IsMembership, first_listed, is_known, written_in};
     ghost use Rattle.assise_manager.specs.Seen.{standing, stale_inodes};
     ghost use Rattle.assise_manager.specs.Standings.{full, returning, full_nodes, standing_of, phase_of};
     ghost use Rattle.assise_manager.specs.Whole.{membership, has_room_for};
@@ -118,6 +119,22 @@ impl Members {
         ensures lowest { IfOk result (λ o. IsLowestOf (stale_of (standing_of (membership self.now).nodes node)) o) }
     {
         Ok(self.returning(node)?.stale.lowest())
+    }
+
+    /// The inodes on an epoch's list, each once, in any order: those that were written in it while some node wasn't full, and
+    /// those that may not have been everywhere when it began. None, where the epoch has no list: each since the first failure
+    /// of a node that isn't full has one.
+    pub fn written_in(&self, epoch: u64) -> Option<&[u64]>
+        ensures listed { IfSome result (λ inodes. written_in (membership self.now) epoch ≡ Some (set.from_list inodes.now)) }
+        ensures once { IfSome result (λ inodes. IsDistinct nat_eq inodes.now) }
+        ensures none { IfNone result (written_in (membership self.now) epoch ≡ None) }
+    {
+        if self.written.is_empty() {
+            return None;
+        }
+        let place = epoch.checked_sub(self.first_listed())?;
+        let list = self.written.get(place as usize)?;
+        Some(list.as_slice())
     }
 
     /// A node fails. A full one is down from an epoch on that begins now; the inodes are those that may not be everywhere,

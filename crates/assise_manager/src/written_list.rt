@@ -1,6 +1,7 @@
 // Inodes that were written in an epoch.
-ghost use Rattle.std.specs.Prelude.{◌≡◌, ◌≤◌, IfOk, IsOk, IsOkUnless, OnOk, length, map, true};
+ghost use Rattle.std.specs.Prelude.{◌≡◌, ◌≤◌, IfOk, IsOk, IsOkUnless, OnOk, length, map, nat_eq, true};
 ghost use Rattle.std.specs.FinSet as set;
+ghost use Rattle.std.specs.List.{IsDistinct};
 ghost use Rattle.assise_names.specs.declared.refusal.Refusal.TheVariants.{OutOfMemory};
 ghost use Rattle.assise_manager.specs.Changes.{with_written};
 ghost use Rattle.assise_manager.specs.Seen.{listed_inodes, has_last_room, has_list_room};
@@ -58,7 +59,8 @@ impl WrittenList {
 
     /// The inodes, each once.
     pub(crate) fn as_slice(&self) -> &[u64]
-        ensures { set.from_list result.now ≡ listed_inodes self.now }
+        ensures inodes { set.from_list result.now ≡ listed_inodes self.now }
+        ensures once { IsDistinct nat_eq result.now }
     {
         self.inodes.as_slice()
     }

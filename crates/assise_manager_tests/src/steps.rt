@@ -40,6 +40,10 @@ fn put_step(alloc: Global, members: &mut Members, step: &str, text: &mut String)
     match word {
         "epoch" => write!(text, " {}", members.epoch()).ok(),
         "full" => put_nodes(members.full_nodes(), text).ok(),
+        "written" => {
+            let list = members.written_in(rest.parse::<u64>().ok()?);
+            put_written(alloc, list, text).ok()
+        }
         _ => put_node_step(alloc, members, word, rest, text),
     }
 }
@@ -170,6 +174,19 @@ fn put_nodes(nodes: &[u32], text: &mut String) -> Result<(), AllocError> {
         put_number(place == 0, u64::from(*node), text)?;
     }
     Ok(())
+}
+
+/// Appends the inodes of a list, rising, or `none` where there is no list.
+fn put_written(alloc: Global, inodes: Option<&[u64]>, text: &mut String) -> Result<(), AllocError> {
+    let Some(inodes) = inodes else {
+        return write!(text, " none");
+    };
+    let mut rising = VecDeque::new(alloc);
+    for inode in inodes {
+        let place = rising.partition_point(|&other| other < *inode);
+        rising.insert(place, *inode)?;
+    }
+    put_inodes(&rising, text)
 }
 
 /// Appends inodes with points between them, or a line where there are none.

@@ -41,6 +41,18 @@ const WRITTEN: &str = "\
 2, fail 2 18446744073709551615.0, back 2, stale 2 => done 2 0.18446744073709551615
 ";
 
+/// What each epoch's list has: none before the first failure, none once all nodes are full, and none of an epoch to come.
+const LISTED: &str = "\
+2, written 0, written 1, written 2, write 1 7, written 1 => none none none done none
+2, write 1 4, fail 2 7.0.7, written 1, written 2, written 3, write 1 9.7, written 2 => done done none 0.7 none done 0.7.9
+3, fail 2, written 2, fail 3 5.1, written 2, written 3, write 1 8, written 2, written 3 => done - done - 1.5 done - 1.5.8
+3, fail 2 1, fail 3 2, back 2, write 1 3, copied 2, written 2, written 3 => done done 2 done left 2 1 2.3
+3, fail 2 1, fail 3 2, back 3, copied 3, join 3, epoch, written 1, written 2, written 3, written 4, write 3 6, written 4 => done done 1 left 0 done 4 none 1 2 - done 6
+3, fail 2 1, fail 3 2, back 3, copied 3, join 3, back 2, copied 2, copied 2, join 2, epoch, written 2, written 3, written 4, written 5 => done done 1 left 0 done 2 left 1 left 0 done 5 none none none none
+2, fail 2 7, back 2, copied 2, join 2, written 2, written 3, fail 1 8, written 3, written 4 => done 1 left 0 done none none done none 8
+2, fail 2 7, back 2, fail 2 9, epoch, written 2, written 3, written 18446744073709551615 => done 1 done 2 7 none none
+";
+
 /// Eight nodes.
 const EIGHT: &str = "\
 8, full, fail 5, fail 1, fail 8, full, epoch, back 5, donor 5, join 5, epoch, full => 1.2.3.4.5.6.7.8 done done done 2.3.4.6.7 4 0 2 done 5 2.3.4.5.6.7
@@ -75,6 +87,11 @@ fn lists_and_donors_are_kept(rt: HostRuntime) {
     show(rt.alloc(), &rt, &mut NewMembers, LISTS);
     show(rt.alloc(), &rt, &mut NewMembers, DONORS);
     show(rt.alloc(), &rt, &mut NewMembers, WRITTEN);
+}
+
+#[test]
+fn an_epochs_list_is_lent(rt: HostRuntime) {
+    show(rt.alloc(), &rt, &mut NewMembers, LISTED);
 }
 
 #[test]

@@ -1,7 +1,7 @@
 -- A log of updates: the records of one client, numbered without a gap from a first number on, at most as many as a limit.
 -- Assise (OSDI 2020), section 3: a client's update log, which is appended to at its end and cut from its front as it is
 -- digested; Strata (SOSP 2017), section 3.
-use Rattle.std.specs.Prelude.{ℕ, ◌+◌, ◌-◌, ◌^◌, ◌<◌, ◌≤◌, nat_lt, if◌then◌else◌, List, [], ◌∷◌, ◌++◌, length, take, drop, Option, None}
+use Rattle.std.specs.Prelude.{ℕ, ◌+◌, ◌-◌, ◌^◌, ◌<◌, ◌≤◌, nat_lt, max, min, if◌then◌else◌, List, [], ◌∷◌, ◌++◌, length, take, drop, Option, None}
 use Rattle.std.specs.List.{slice_get}
 use Rattle.assise_record.specs.LogRecord.{LogRecord}
 
@@ -40,6 +40,10 @@ records_from l from = drop (from - l.first) l.records
 -- without the records below a number of the log, which is the first number then
 abbrev pub without_front : NumberedLog → ℕ → NumberedLog
 without_front l to = record { first = to; limit = l.limit; records = records_from l to }
+
+-- the number of the log that is the nearest to a number: itself, the first, or that behind the last record
+abbrev pub nearest : NumberedLog → ℕ → ℕ
+nearest l number = max l.first (min number (end l))
 
 -- without the records from a number on
 abbrev pub without_tail : NumberedLog → ℕ → NumberedLog

@@ -2,7 +2,7 @@
 ghost use Rattle.std.specs.Prelude.{◌≡◌, ◌+◌, ◌<◌, ◌≤◌, ◌==◌, ◌^◌, ◌↔◌, false, IfErr, IfOk, IsOk, IsOkUnless, OnErr, OnOk, length, option_copied};
 ghost use Rattle.std.specs.Map.Iter.{ShowsInOrder, ShowsInReverse, deref};
 ghost use Rattle.assise_names.specs.declared.refusal.Refusal.TheVariants.{LogFull, OutOfMemory};
-ghost use Rattle.assise_private_log.specs.NumberedLog.{IsNumberedLog, empty_log, end, record_at, records_from, with_record, without_front, without_tail};
+ghost use Rattle.assise_private_log.specs.NumberedLog.{IsNumberedLog, empty_log, end, nearest, record_at, records_from, with_record, without_front, without_tail};
 ghost use Rattle.assise_private_log.specs.Touches.{UntouchedFrom, touches_after};
 
 use crate::log_view::LogView;
@@ -142,12 +142,12 @@ impl Log {
         }
     }
 
-    /// Lets the records below a number go, which is the first number then.
+    /// Lets the records below a number go: none, where it lies before the first, and all, where it lies behind the last. The
+    /// number is the first one then, or as near to it as a number of the log is.
     pub fn drop_front(&mut self, to: u64)
-        requires from_first { self.old.first ≤ to }
-        requires to_end { to ≤ end self.old }
-        ensures { self.new ≡ without_front self.old to }
+        ensures { self.new ≡ without_front self.old (nearest self.old to) }
     {
+        let to = to.clamp(self.first(), self.end());
         let dropped = (to - self.view.first) as usize;
         let kept = self.len() - dropped;
         self.view.records.truncate_front(kept);

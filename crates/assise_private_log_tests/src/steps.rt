@@ -24,7 +24,10 @@ fn put_step(alloc: Global, log: &mut Log, step: &str, text: &mut String) -> Opti
     match word {
         "add" => put_added(alloc, log, rest, text),
         "fill" => fill(alloc, log, rest),
-        "drop" => drop_front(log, rest.parse::<u64>().ok()?),
+        "drop" => {
+            log.drop_front(rest.parse::<u64>().ok()?);
+            Some(())
+        }
         "cut" => {
             log.cut_tail(rest.parse::<u64>().ok()?);
             Some(())
@@ -75,15 +78,6 @@ fn fill(alloc: Global, log: &mut Log, text: &str) -> Option<()> {
     for _ in log.end()..end {
         add_one(alloc, log, inode)?;
     }
-    Some(())
-}
-
-/// Lets the front go, if the number is one of the log.
-pub(crate) fn drop_front(log: &mut Log, to: u64) -> Option<()> {
-    if to < log.first() || log.end() < to {
-        return None;
-    }
-    log.drop_front(to);
     Some(())
 }
 

@@ -1,7 +1,7 @@
 // Logs step by step, and a log beside a plain list.
 use crate::plain::{Plain, is_alike};
 use crate::rows::{new_log, show};
-use crate::steps::{add_one, drop_front};
+use crate::steps::add_one;
 use assise_private_log::log::Log;
 use std::alloc::Global;
 
@@ -13,6 +13,8 @@ fill 8 1, sizes, add 2 3, sizes, since 6 => 0..8 8+0=8 true LogFull 8:2:3 0..8 8
 fill 8 1, drop 1, sizes, add 2, sizes, get 0, get 1, get 8 => 1..8 7+1=8 true 1..9 8+0=8 true none 1:1 8:2
 fill 8 1, drop 8, sizes, get 7, get 8, add 2, sizes, since 0 => 8..8 0+8=8 true none none 8..9 1+7=8 true 8:2
 fill 8 1, drop 3, cut 6, sizes, add 2, since 0, sizes => 3..6 3+5=8 true 3:1 4:1 5:1 6:2 3..7 4+4=8 true
+fill 8 1, drop 3, drop 2, sizes, drop 0, sizes, drop 9, sizes, add 2, since 0 => 3..8 5+3=8 true 3..8 5+3=8 true 8..8 0+8=8 true 8:2
+drop 18446744073709551615, sizes, fill 2 1, drop 18446744073709551615, sizes => 0..0 0+8=8 true 2..2 0+8=8 true
 fill 5 1, cut 5, sizes, cut 4, sizes, cut 9, sizes => 0..5 5+3=8 true 0..4 4+4=8 true 0..4 4+4=8 true
 fill 5 1, drop 2, cut 2, sizes, cut 1, sizes => 2..2 0+8=8 true 2..2 0+8=8 true
 add 1, add 2, add 3, drop 1, since 0, since 1, since 2, since 3, since 9 => 1:2 2:3 1:2 2:3 2:3
@@ -85,7 +87,7 @@ fn turns_alike(
         same = adds_alike(alloc, log, plain)? && same;
     }
     let to = log.first().saturating_add(front).min(log.end());
-    drop_front(log, to)?;
+    log.drop_front(to);
     plain.drop_front(to);
     same = is_alike(log, plain) && same;
     let from = log.end().saturating_sub(back).max(log.first());

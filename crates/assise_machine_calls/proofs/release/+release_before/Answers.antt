@@ -1,17 +1,12 @@
 use Rattle.std.proofs.Common.{◌-◌, ◌<◌, sym, subst, ◌∙◌, arith}
 use Rattle.assise_lease_tree.specs.Trees.{levels_of}
 use Rattle.assise_machine_state.specs.Whole.{value_of}
-use Rattle.assise_machine_calls.proofs.Releasing.{answer_known, enrolled_now, gone_now, leases_now, noted_now, ripe_cuts, room_now, shape_now}
+use Rattle.assise_machine_calls.proofs.Releasing.{answer_known, gone_now, leases_now, noted_now, ripe_cuts, room_now, shape_now}
 use Rattle.assise_machine_calls.proofs.release.+release_before.Goals as goal
 
 pub is_ripe-requires-clause-client : goal.is_ripe-requires-clause-client
 is_ripe-requires-clause-client g t c =
     answer_known (value_of c.args.state.now) c.args.place c.index-answer.result.now (omega (arith, c.if-place-eq0.false)) c.requires.place c.index-answer.ensures c.requires.noted
-
-pub release-requires : goal.release-requires
-release-requires g t c = record {
-  enrolled = enrolled_now (value_of c.args.state.now) c.args.place c.index-answer.result.now (omega (arith, c.if-place-eq0.false)) c.requires.place c.index-answer.ensures c.requires.noted c.requires.leases;
-}
 
 pub release_before-requires-2 : goal.release_before-requires-2
 release_before-requires-2 g t c =

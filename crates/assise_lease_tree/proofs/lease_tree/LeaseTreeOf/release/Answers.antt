@@ -9,8 +9,8 @@ use Rattle.assise_lease_tree.proofs.Lawful.{becomes_is, unchanged}
 use Rattle.assise_lease_tree.proofs.Steps.{released_lawful}
 use Rattle.assise_lease_tree.proofs.lease_tree.LeaseTreeOf.release.Goals as goal
 
-pub invariant_of-self : goal.invariant_of-self
-invariant_of-self g c =
+pub invariant_of-self-then-not-is_busy : goal.invariant_of-self-then-not-is_busy
+invariant_of-self-then-not-is_busy g c =
     let lawful = released_lawful (levels_of c.args.self.now) (tree_lawful c.args.self.now) (record { home = get nat_eq c.args.self.now.homes; clients = client_leases c.release.new.self; nodes = node_leases c.release-then-not-is_busy.new.self }) c.args.client c.in-Some.home.now c.args.inode (sym c.in-Some.ensures.value)
     (record { home = λ d. refl; clients = c.release.ensures.becomes; nodes = becomes_is (sym (nodes_gone (get nat_eq c.args.self.now.homes) (without c.args.client (client_leases c.args.self.now.clients c.args.inode)) (node_leases c.args.self.now.nodes c.args.inode) c.in-Some.home.now (sym (ap is_frozen c.lease.ensures) ∙ sym c.is_frozen.ensures ∙ c.if-is_frozen.true) (sym (ap (λ ls. is_busy (get nat_eq c.args.self.now.homes) ls c.in-Some.home.now) (c.leases.ensures.leases ∙ c.release.ensures.becomes.here)) ∙ sym c.is_busy.ensures ∙ c.if-not-is_busy.true))) c.release-then-not-is_busy.ensures }) in
     record {

@@ -15,7 +15,7 @@ pub loop-list-preserved : goal.loop-list-preserved
 loop-list-preserved c =
     ap set.from_list c.in_ok-extend_from_slice.ensures.items
     ∙ from_append _ _
-    ∙ (λ i. set.union (c.loop-list.invariant i) (c.as_slice.ensures i))
+    ∙ (λ i. set.union (c.loop-list.invariant i) (c.as_slice.ensures.inodes i))
     ∙ ap (λ l. set.union (all_inodes (map listed_inodes (take c.loop-list.list-index c.args.lists.now))) (listed_inodes l)) c.list-item.is
     ∙ all_take listed_inodes c.args.lists.now c.loop-list.list-index _ c.loop-list-test.true
 

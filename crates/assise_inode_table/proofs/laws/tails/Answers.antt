@@ -1,5 +1,5 @@
 use Rattle.assise_inode_table.proofs.Removing.{tails_trace, tails_run, tails_new, tails_spelled}
-use Rattle.assise_inode_table.proofs.laws.unseen_tails_may_be_taken_out.Goals as goal
+use Rattle.assise_inode_table.proofs.laws.tails.Goals as goal
 
 pub returns-clause-run : goal.returns-clause-run
 returns-clause-run c = tails_run
