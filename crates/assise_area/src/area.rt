@@ -208,6 +208,7 @@ impl Area {
         ensures ok { OnOk result (self.new.inodes ≡ all_applied self.old.inodes effects.now) }
         ensures taken_away { OnlyTakeAway effects.now → IsOk result }
         ensures err { OnErr result (self.new.inodes ≡ self.old.inodes) }
+        ensures capacity { self.new.capacity ≡ self.old.capacity }
         ensures only_memory { IsOkUnless result OutOfMemory }
     {
         apply_all(self, effects)
@@ -239,6 +240,8 @@ impl Inodes for Area {
 }
 
 impl InodeStore for Area {
+    ghost setting = { λ area. area.capacity };
+
     fn allocator(&self) -> Global {
         self.alloc
     }
