@@ -88,6 +88,7 @@ impl Area {
         ensures ok { OnOk result (self.new ≡ with_capacity self.old capacity) }
         ensures err { OnErr result (self.new ≡ self.old) }
         ensures asked { OnErr result (capacity < length self.old.hot) }
+        ensures smaller { OnErr result (capacity < self.old.capacity) }
         ensures only_memory { IsOkUnless result OutOfMemory }
     {
         cool(self.alloc, &mut self.hot, &mut self.cold, capacity)?;
