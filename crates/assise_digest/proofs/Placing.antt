@@ -53,7 +53,7 @@ sound_set m xs k y sound here = sound_others m m xs k y (λ j none other h. soun
 -- the region with another log
 pub with_one : {hot : ℕ} (m w : InodeMap) (xs : List Received) (r : RegionValue) (c : ℕ) (y : Received) → region m hot xs ≡ r
     → region w hot (slice_set xs (c - 1) y) ≡ record { inodes = w; logs = slice_set r.logs (c - 1) (seen_log y); capacity = r.capacity }
-with_one {hot} m w xs r c y view =
+with_one {hot = hot} m w xs r c y view =
     ap (λ ls. record { inodes = w; logs = ls; capacity = hot }) (map-set seen_log xs (c - 1) y ∙ ap (λ s. slice_set s.logs (c - 1) (seen_log y)) view)
     ∙ ap (λ s. record { inodes = w; logs = slice_set r.logs (c - 1) (seen_log y); capacity = s.capacity }) view
 

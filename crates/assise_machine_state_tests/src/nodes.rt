@@ -8,7 +8,7 @@ use assise_machine_state::nodes::Nodes;
 use std::alloc::Global;
 
 fn three_nodes(alloc: Global) -> Option<Nodes>
-    ensures { IfSome result (λ nodes. nodes ≡ new_regions 3) }
+    ensures { IfSome result (λ nodes. nodes ≡ new_regions 3 4) }
 {
     Nodes::new(alloc, 3, 4).ok()
 }
