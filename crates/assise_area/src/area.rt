@@ -88,6 +88,7 @@ impl Area {
         ensures ok { OnOk result (self.new ≡ with_capacity self.old capacity) }
         ensures err { OnErr result (self.new ≡ self.old) }
         ensures asked { OnErr result (capacity < length self.old.hot) }
+        ensures smaller { OnErr result (capacity < self.old.capacity) }
         ensures only_memory { IsOkUnless result OutOfMemory }
     {
         cool(self.alloc, &mut self.hot, &mut self.cold, capacity)?;
@@ -208,6 +209,7 @@ impl Area {
         ensures ok { OnOk result (self.new.inodes ≡ all_applied self.old.inodes effects.now) }
         ensures taken_away { OnlyTakeAway effects.now → IsOk result }
         ensures err { OnErr result (self.new.inodes ≡ self.old.inodes) }
+        ensures capacity { self.new.capacity ≡ self.old.capacity }
         ensures only_memory { IsOkUnless result OutOfMemory }
     {
         apply_all(self, effects)
@@ -239,6 +241,8 @@ impl Inodes for Area {
 }
 
 impl InodeStore for Area {
+    ghost setting = { λ area. area.capacity };
+
     fn allocator(&self) -> Global {
         self.alloc
     }

@@ -28,6 +28,7 @@ pub(crate) fn cool(
     ensures err { OnErr result (hot.new ≡ hot.old) }
     ensures err_cold { OnErr result ((q : ℕ) → cold_at cold.new.entries q ≡ cold_at cold.old.entries q) }
     ensures asked { OnErr result (most < length hot.old.entries) }
+    ensures smaller { OnErr result (most < hot.old.cap) }
     ensures only_memory { IsOkUnless result OutOfMemory }
 {
     if hot.len() <= most {

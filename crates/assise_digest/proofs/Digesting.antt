@@ -63,8 +63,8 @@ has_digested r c n has = record { some = has.some; there = subst (λ k. c ≤ k)
 
 pub digested_none : (r : RegionValue) (c : ℕ) → digested_by r c 0 ≡ r
 digested_none r c =
-    ap (λ d. record { inodes = r.inodes; logs = slice_set r.logs (c - 1) (record { log = (log_of r c).log; digested = d; at_home = (log_of r c).at_home }) }) nothing
-    ∙ ap (λ ls. record { inodes = r.inodes; logs = ls }) (set-get_or r.logs (c - 1) no_log)
+    ap (λ d. record r { logs = slice_set r.logs (c - 1) (record { log = (log_of r c).log; digested = d; at_home = (log_of r c).at_home }) }) nothing
+    ∙ ap (λ ls. record r { logs = ls }) (set-get_or r.logs (c - 1) no_log)
   where
     nothing : (log_of r c).digested + 0 ≡ (log_of r c).digested
     nothing = omega arith
@@ -76,16 +76,16 @@ set_again (l ∷ ls) (suc k) x y = ap (λ xs. l ∷ xs) (set_again ls k x y)
 
 pub digested_one_more : (r : RegionValue) (c n : ℕ) → HasClient r c → IsBegun (log_of r c) → digested_by (digested_by r c n) c 1 ≡ digested_by r c (n + 1)
 digested_one_more r c n has b =
-    ap (λ l. record {
+    ap (λ l. record r {
       inodes = all_applied (all_applied r.inodes (all_effects (take n rs))) (all_effects (take 1 (ahead l)));
       logs = slice_set (slice_set r.logs (c - 1) (digested_further (log_of r c) n)) (c - 1) (digested_further l 1);
     }) (log_digested r c n has)
-    ∙ ap (λ ls. record {
+    ∙ ap (λ ls. record r {
       inodes = all_applied (all_applied r.inodes (all_effects (take n rs))) (all_effects (take 1 (ahead (digested_further (log_of r c) n))));
       logs = ls;
     }) (set_again r.logs (c - 1) (digested_further (log_of r c) n) (digested_further (digested_further (log_of r c) n) 1)
     ∙ ap (λ d. slice_set r.logs (c - 1) (record { log = (log_of r c).log; digested = d; at_home = (log_of r c).at_home })) both)
-    ∙ ap (λ m. record { inodes = m; logs = slice_set r.logs (c - 1) (digested_further (log_of r c) (n + 1)) })
+    ∙ ap (λ m. record r { inodes = m; logs = slice_set r.logs (c - 1) (digested_further (log_of r c) (n + 1)) })
     (ap (λ xs. all_applied (all_applied r.inodes (all_effects (take n rs))) (all_effects (take 1 xs))) (ahead_further (log_of r c) n b)
     ∙ sym (append_applied r.inodes (all_effects (take n rs)) (all_effects (take 1 (drop n rs))))
     ∙ ap (all_applied r.inodes) (sym (all_effects-append (take n rs) (take 1 (drop n rs))) ∙ ap all_effects (sym (take-add n 1 rs))))

@@ -19,17 +19,17 @@ use Rattle.assise_digest.specs.declared.received.Received.{Received}
 use Rattle.assise_digest.proofs.Receiving.{ahead_next, whole_drop}
 use Rattle.assise_digest.proofs.Standing.{seen_after, stands_beside, stands_for_none}
 
-abbrev pub region : InodeMap → List Received → RegionValue
-region m xs = record { inodes = m; logs = seen_logs xs }
+abbrev pub region : InodeMap → ℕ → List Received → RegionValue
+region m hot xs = record { inodes = m; logs = seen_logs xs; capacity = hot }
 
 -- the place of a client
-pub in_place : (m : InodeMap) (xs : List Received) (r : RegionValue) (c : ℕ) → region m xs ≡ r → HasClient r c → c - 1 < length xs
+pub in_place : {hot : ℕ} (m : InodeMap) (xs : List Received) (r : RegionValue) (c : ℕ) → region m hot xs ≡ r → HasClient r c → c - 1 < length xs
 in_place m xs r c view has =
     let counted : length r.logs ≡ length xs = sym (ap (λ s. length s.logs) view) ∙ length-map xs seen_log in
     omega (arith, has.some, has.there, counted)
 
 -- what stands there
-pub log_there : (m : InodeMap) (xs : List Received) (r : RegionValue) (c : ℕ) (x : Received) → region m xs ≡ r → HasClient r c → x ≡ slice_index_or xs (c - 1) x → log_of r c ≡ seen_log x
+pub log_there : {hot : ℕ} (m : InodeMap) (xs : List Received) (r : RegionValue) (c : ℕ) (x : Received) → region m hot xs ≡ r → HasClient r c → x ≡ slice_index_or xs (c - 1) x → log_of r c ≡ seen_log x
 log_there m xs r c x view has is =
     sym (ap (λ s. log_of s c) view) ∙ get_or-map seen_log xs (c - 1) x no_log (in_place m xs r c view has) ∙ ap seen_log (sym is)
 
@@ -51,11 +51,13 @@ pub sound_set : (m : InodeMap) (xs : List Received) (k : ℕ) (y : Received) →
 sound_set m xs k y sound here = sound_others m m xs k y (λ j none other h. sound j none h) here
 
 -- the region with another log
-pub with_one : (m w : InodeMap) (xs : List Received) (r : RegionValue) (c : ℕ) (y : Received) → region m xs ≡ r → region w (slice_set xs (c - 1) y) ≡ record { inodes = w; logs = slice_set r.logs (c - 1) (seen_log y) }
-with_one m w xs r c y view =
-    ap (λ ls. record { inodes = w; logs = ls }) (map-set seen_log xs (c - 1) y ∙ ap (λ s. slice_set s.logs (c - 1) (seen_log y)) view)
+pub with_one : {hot : ℕ} (m w : InodeMap) (xs : List Received) (r : RegionValue) (c : ℕ) (y : Received) → region m hot xs ≡ r
+    → region w hot (slice_set xs (c - 1) y) ≡ record { inodes = w; logs = slice_set r.logs (c - 1) (seen_log y); capacity = r.capacity }
+with_one {hot = hot} m w xs r c y view =
+    ap (λ ls. record { inodes = w; logs = ls; capacity = hot }) (map-set seen_log xs (c - 1) y ∙ ap (λ s. slice_set s.logs (c - 1) (seen_log y)) view)
+    ∙ ap (λ s. record { inodes = w; logs = slice_set r.logs (c - 1) (seen_log y); capacity = s.capacity }) view
 
-pub read_there : (m : InodeMap) (xs : List Received) (r : RegionValue) (c i : ℕ) (x : Received) (p : Pending) → region m xs ≡ r → AreSound m xs → HasClient r c
+pub read_there : {hot : ℕ} (m : InodeMap) (xs : List Received) (r : RegionValue) (c i : ℕ) (x : Received) (p : Pending) → region m hot xs ≡ r → AreSound m xs → HasClient r c
     → x ≡ slice_index_or xs (c - 1) x → x.pending ≡ Some p → seen p i (map.get m i) ≡ read_by r c i
 read_there m xs r c i x p view sound has is kept =
     let here = sound_there m xs (c - 1) x sound (in_place m xs r c view has) is in
@@ -64,10 +66,10 @@ read_there m xs r c i x p view sound has is kept =
     ∙ ap (λ n. value_after i (map.get n i) (all_effects (ahead (log_of r c)))) (ap (λ s. s.inodes) view)
 
 -- a log changed in its place
-pub changed_there : (F : ReceivedLog → ReceivedLog) (m : InodeMap) (xs : List Received) (r : RegionValue) (c : ℕ) (x y : Received) → region m xs ≡ r → HasClient r c
-    → x ≡ slice_index_or xs (c - 1) x → seen_log y ≡ F (seen_log x) → region m (slice_set xs (c - 1) y) ≡ with_log r c (F (log_of r c))
+pub changed_there : {hot : ℕ} (F : ReceivedLog → ReceivedLog) (m : InodeMap) (xs : List Received) (r : RegionValue) (c : ℕ) (x y : Received) → region m hot xs ≡ r → HasClient r c
+    → x ≡ slice_index_or xs (c - 1) x → seen_log y ≡ F (seen_log x) → region m hot (slice_set xs (c - 1) y) ≡ with_log r c (F (log_of r c))
 changed_there F m xs r c x y view has is step =
-    with_one m m xs r c y view ∙ ap (λ n. record { inodes = n; logs = slice_set r.logs (c - 1) (seen_log y) }) (ap (λ s. s.inodes) view)
+    with_one m m xs r c y view ∙ ap (λ n. record r { inodes = n; logs = slice_set r.logs (c - 1) (seen_log y) }) (ap (λ s. s.inodes) view)
     ∙ ap (λ l. with_log r c l) (step ∙ ap F (sym (log_there m xs r c x view has is)))
 
 -- ---- the next record is digested
@@ -76,15 +78,16 @@ pub next_whole : (x : Received) (next : LogRecord) → IsBegun (seen_log x) → 
 next_whole x next b w is =
     (subst AreWhole (ahead_next (seen_log x) next b is) (whole_drop (x.digested - x.log.first) x.log.records w)).0
 
-pub digested_view : (m w : InodeMap) (xs : List Received) (r : RegionValue) (c : ℕ) (x y : Received) (next : LogRecord) → region m xs ≡ r → HasClient r c → x ≡ slice_index_or xs (c - 1) x
-    → IsBegun (seen_log x) → Some next ≡ record_at x.log x.digested → w ≡ all_applied m next.effects → seen_log y ≡ digested_further (seen_log x) 1 → region w (slice_set xs (c - 1) y) ≡ digested_by r c 1
-digested_view m w xs r c x y next view has at b is applied step =
+pub digested_view : {hot : ℕ} (m w : InodeMap) (kept : ℕ) (xs : List Received) (r : RegionValue) (c : ℕ) (x y : Received) (next : LogRecord) → region m hot xs ≡ r → HasClient r c → x ≡ slice_index_or xs (c - 1) x
+    → IsBegun (seen_log x) → Some next ≡ record_at x.log x.digested → w ≡ all_applied m next.effects → kept ≡ hot → seen_log y ≡ digested_further (seen_log x) 1
+    → region w kept (slice_set xs (c - 1) y) ≡ digested_by r c 1
+digested_view m w kept xs r c x y next view has at b is applied same step =
     let here = log_there m xs r c x view has at in
     let front : take 1 (ahead (log_of r c)) ≡ next ∷ [] = ap (λ l. take 1 (ahead l)) here ∙ ap (take 1) (ahead_next (seen_log x) next b is) in
-    with_one m w xs r c y view
-    ∙ ap (λ n. record { inodes = n; logs = slice_set r.logs (c - 1) (seen_log y) })
+    ap (λ n. region w n (slice_set xs (c - 1) y)) same ∙ with_one m w xs r c y view
+    ∙ ap (λ n. record r { inodes = n; logs = slice_set r.logs (c - 1) (seen_log y) })
     (applied ∙ sym (append_applied m next.effects []) ∙ ap (λ n. all_applied n (all_effects (next ∷ []))) (ap (λ s. s.inodes) view) ∙ ap (λ rs. all_applied r.inodes (all_effects rs)) (sym front))
-    ∙ ap (λ l. record { inodes = all_applied r.inodes (all_effects (take 1 (ahead (log_of r c)))); logs = slice_set r.logs (c - 1) l }) (step ∙ ap (λ l. digested_further l 1) (sym here))
+    ∙ ap (λ l. record r { inodes = all_applied r.inodes (all_effects (take 1 (ahead (log_of r c)))); logs = slice_set r.logs (c - 1) l }) (step ∙ ap (λ l. digested_further l 1) (sym here))
 
 -- what is kept for other clients is untouched
 pub sound_beside : (m w : InodeMap) (x : Received) → IsSoundLog m x → ((i : ℕ) → contains (touched (all_effects (ahead (seen_log x)))) i ≡ true → map.get w i ≡ map.get m i) → IsSoundLog w x
@@ -94,7 +97,7 @@ sound_beside m w x s same = record { begun = s.begun; whole = s.whole; stands = 
     go None h = tt
     go (Some p) h = stands_beside p m w x.digested (ahead (seen_log x)) h same
 
-pub digested_sound : (m w : InodeMap) (xs : List Received) (r : RegionValue) (c : ℕ) (x y : Received) (next : LogRecord) → region m xs ≡ r → HasClient r c → TouchApart r → AreSound m xs
+pub digested_sound : {hot : ℕ} (m w : InodeMap) (xs : List Received) (r : RegionValue) (c : ℕ) (x y : Received) (next : LogRecord) → region m hot xs ≡ r → HasClient r c → TouchApart r → AreSound m xs
     → x ≡ slice_index_or xs (c - 1) x → Some next ≡ record_at x.log x.digested → w ≡ all_applied m next.effects → IsSoundLog w y → AreSound w (slice_set xs (c - 1) y)
 digested_sound m w xs r c x y next view has apart sound at is applied here =
     sound_others m w xs (c - 1) y
@@ -124,7 +127,7 @@ same_item (z ∷ xs) (suc k) x y h a b = same_item xs k x y (omega (arith, h)) a
 
 -- ---- one inode changes that no client's records touch that lives here
 
-pub sound_changed : (m w : InodeMap) (xs : List Received) (r : RegionValue) (i : ℕ) (v : Option Content) → region m xs ≡ r → AreSound m xs → IsQuiet r i → w ≡ with_value m i v → AreSound w xs
+pub sound_changed : {hot : ℕ} (m w : InodeMap) (xs : List Received) (r : RegionValue) (i : ℕ) (v : Option Content) → region m hot xs ≡ r → AreSound m xs → IsQuiet r i → w ≡ with_value m i v → AreSound w xs
 sound_changed m w xs r i v view sound quiet is k none h = record { begun = here.begun; whole = here.whole; stands = go x.pending refl here.stands }
   where
     x : Received

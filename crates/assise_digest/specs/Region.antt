@@ -17,10 +17,11 @@ pub record ReceivedLog : Type 0 where
   pub digested : ℕ
   pub at_home : Bool
 
--- the log of client c stands at place c - 1
+-- the log of client c stands at place c - 1; and how many inodes may be hot
 pub record RegionValue : Type 0 where
   pub inodes : InodeMap
   pub logs : List ReceivedLog
+  pub capacity : ℕ
 
 abbrev pub no_log : ReceivedLog
 no_log = record { log = empty_log 0; digested = 0; at_home = false }
@@ -37,18 +38,25 @@ pub record HasClient (r : RegionValue) (client : ℕ) : Type 0 where
   pub there : client ≤ length r.logs
 
 abbrev pub with_log : RegionValue → ℕ → ReceivedLog → RegionValue
-with_log r client l = record { inodes = r.inodes; logs = slice_set r.logs (client - 1) l }
+with_log r client l = record r { logs = slice_set r.logs (client - 1) l }
 
--- one client more, or one less
+-- one client more, one less, or none
 abbrev pub with_client : RegionValue → ReceivedLog → RegionValue
-with_client r l = record { inodes = r.inodes; logs = r.logs ++ l ∷ [] }
+with_client r l = record r { logs = r.logs ++ l ∷ [] }
 
 abbrev pub without_last_client : RegionValue → RegionValue
-without_last_client r = record { inodes = r.inodes; logs = take (length r.logs - 1) r.logs }
+without_last_client r = record r { logs = take (length r.logs - 1) r.logs }
+
+abbrev pub without_clients : RegionValue → RegionValue
+without_clients r = record r { logs = [] }
 
 -- another value of one inode
 abbrev pub with_inode : RegionValue → ℕ → Option Content → RegionValue
-with_inode r i v = record { inodes = with_value r.inodes i v; logs = r.logs }
+with_inode r i v = record r { inodes = with_value r.inodes i v }
+
+-- another number of inodes may be hot
+abbrev pub with_capacity : RegionValue → ℕ → RegionValue
+with_capacity r capacity = record r { capacity = capacity }
 
 -- what is digested is a part of what was received, of which only digested records went from the front
 pub record IsBegun (l : ReceivedLog) : Type 0 where
@@ -99,7 +107,7 @@ digested_further l count = record { log = l.log; digested = l.digested + count; 
 
 -- the first records that aren't digested, so many, are made of the inodes
 abbrev pub digested_by : RegionValue → ℕ → ℕ → RegionValue
-digested_by r client count = record {
+digested_by r client count = record r {
   inodes = all_applied r.inodes (all_effects (take count (ahead (log_of r client))));
   logs = slice_set r.logs (client - 1) (digested_further (log_of r client) count);
 }

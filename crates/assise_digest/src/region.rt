@@ -10,7 +10,7 @@ ghost use Rattle.assise_names.specs.declared.refusal.Refusal.TheVariants.{LogFul
 ghost use Rattle.assise_private_log.specs.NumberedLog.{end};
 ghost use Rattle.assise_seq_tree.specs.Tree.{Tree as PlainTree};
 ghost use Rattle.assise_digest.specs.Pending.{Lays};
-ghost use Rattle.assise_digest.specs.Region.{AreNotBelow, AreWhole, HasClient, HasRoom, IsBegun, IsFull, IsQuiet, TouchApart, ahead, ahead_below, all_ahead, alone, digested_by, from_number, log_of, read_by, up_to_number, with_client, with_inode, with_log, with_more, without_last_client};
+ghost use Rattle.assise_digest.specs.Region.{AreNotBelow, AreWhole, HasClient, HasRoom, IsBegun, IsFull, IsQuiet, TouchApart, ahead, ahead_below, all_ahead, alone, digested_by, from_number, log_of, read_by, up_to_number, with_capacity, with_client, with_inode, with_log, with_more, without_clients, without_last_client};
 ghost use Rattle.assise_digest.specs.Sound.{IsSoundLog, seen_log};
 
 use crate::overlay::Overlay;
@@ -28,8 +28,8 @@ use std::alloc::Global;
 use std::marker::Model;
 
 /// What one node has of the file system: its inodes, and for each client, from number 1 on, the log that it received. A
-/// contract sees the inodes as one finite map, whatever is hot, and each log with the number up to which it is digested
-/// into them, and whether the client lives on this node.
+/// contract sees the inodes as one finite map, whichever are hot, how many may be hot, and each log with the number up to
+/// which it is digested into the inodes, and whether the client lives on this node.
 #[derive(Drop)]
 pub struct Region {
     area: Area,
@@ -46,7 +46,7 @@ impl Model for Region {
 
     ghost coded = { Prim.hlevel (codes, coded_inodes) };
 
-    ghost view = { λ r. record { inodes = r.area.inodes; logs = seen_logs r.logs.items } };
+    ghost view = { λ r. record { inodes = r.area.inodes; logs = seen_logs r.logs.items; capacity = r.area.capacity } };
 
     ghost invariant = { λ r. AreSound r.area.inodes r.logs.items };
 }
@@ -57,7 +57,7 @@ impl Region {
     pub fn new(alloc: Global, hot_capacity: usize) -> Result<Region, Refusal>
         requires least { 1 ≤ hot_capacity }
         requires most { hot_capacity ≤ 4096 }
-        ensures opening { IfOk result (λ region. region ≡ record { inodes = opening; logs = [] }) }
+        ensures opening { IfOk result (λ region. region ≡ record { inodes = opening; logs = []; capacity = hot_capacity }) }
         ensures only_memory { IsOkUnless result OutOfMemory }
     {
         let mut area = Area::new(alloc, hot_capacity)?;
@@ -108,19 +108,38 @@ impl Region {
         self.area.peek(inode)
     }
 
-    /// Uses an inode, which is hot then, unless there is no memory for that.
+    /// Uses an inode, which is hot then, unless there is no memory for that (see [`Region::is_hot`]).
     pub fn touch(&mut self, inode: u64)
         ensures { self.new ≡ self.old }
     {
         self.area.touch(inode);
     }
 
+    /// Whether an inode is hot. No contract of a region sees that: where there is no memory for it a use heats nothing, so
+    /// the value of a region would have to say after each use that it is the one or the other. A contract of [`Area`] says
+    /// it, and a test that a region's uses reach its area.
+    pub fn is_hot(&self, inode: u64) -> bool {
+        self.area.is_hot(inode)
+    }
+
+    /// How many inodes may be hot.
+    pub fn hot_capacity(&self) -> usize
+        ensures value { result ≡ self.now.capacity }
+        ensures least { 1 ≤ result }
+        ensures most { result ≤ 4096 }
+    {
+        self.area.hot_capacity()
+    }
+
     /// Sets how many inodes may be hot, 1 to 4,096: of more than that the longest unused ones are cold then. The one
-    /// refusal is [`Refusal::OutOfMemory`], where some have to cool, and it leaves the region as it was, and as many hot.
+    /// refusal is [`Refusal::OutOfMemory`], where fewer may be hot than before and some have to cool, and it leaves the
+    /// region as it was, and as many hot.
     pub fn set_hot_capacity(&mut self, capacity: usize) -> Result<(), Refusal>
         requires least { 1 ≤ capacity }
         requires most { capacity ≤ 4096 }
-        ensures same { self.new ≡ self.old }
+        ensures ok { OnOk result (self.new ≡ with_capacity self.old capacity) }
+        ensures err { OnErr result (self.new ≡ self.old) }
+        ensures asked { OnErr result (capacity < self.old.capacity) }
         ensures only_memory { IsOkUnless result OutOfMemory }
     {
         self.area.set_hot_capacity(capacity)
@@ -234,7 +253,7 @@ impl Region {
 
     /// Takes all clients out, with their logs, as a failure does: the inodes stay. It takes no memory.
     pub fn remove_clients(&mut self)
-        ensures { self.new ≡ record { inodes = self.old.inodes; logs = [] } }
+        ensures { self.new ≡ without_clients self.old }
     {
         self.logs.clear();
     }

@@ -1,4 +1,4 @@
--- A region of which one client, on another node, has made a file in the root.
+-- A region of which one client, on another node, has made a file in the root, and 4 inodes may be hot.
 use Rattle.std.specs.Prelude.{ℕ, List, [], ◌∷◌, false}
 use Rattle.assise_record.specs.declared.effect.Effect.TheVariants.{NewFile, Link}
 use Rattle.assise_record.specs.LogRecord.{LogRecord}
@@ -13,4 +13,4 @@ abbrev pub log_making : List ℕ → ReceivedLog
 log_making name = record { log = record { first = 0; limit = 8; records = making name ∷ [] }; digested = 0; at_home = false }
 
 abbrev pub with_file : List ℕ → RegionValue
-with_file name = record { inodes = opening; logs = log_making name ∷ [] }
+with_file name = record { inodes = opening; logs = log_making name ∷ []; capacity = 4 }

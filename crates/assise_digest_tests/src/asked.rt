@@ -9,7 +9,7 @@ use assise_inode_table::inode::Inode;
 use assise_inode_table::inodes::Inodes;
 use std::alloc::{AllocError, Global};
 
-/// Appends what a region answers: `clients`, `log CLIENT`, `peek INODE` or `read CLIENT INODE`.
+/// Appends what a region answers: `clients`, `log CLIENT`, `peek INODE`, `read CLIENT INODE`, `hot INODE` or `capacity`.
 pub(crate) fn put_answer(
     alloc: Global,
     region: &Region,
@@ -22,6 +22,8 @@ pub(crate) fn put_answer(
         "log" => put_log(text, region, rest.parse::<usize>().ok()?),
         "peek" => put_found(alloc, text, region.peek(rest.parse::<u64>().ok()?)),
         "read" => put_read(alloc, text, region, rest),
+        "hot" => put_warmth(text, region, rest.parse::<u64>().ok()?).ok(),
+        "capacity" => put_capacity(text, region).ok(),
         _ => None,
     }
 }
@@ -29,6 +31,16 @@ pub(crate) fn put_answer(
 fn put_clients(text: &mut String, region: &Region) -> Result<(), AllocError> {
     let count = region.clients();
     write!(text, " {count};")
+}
+
+fn put_warmth(text: &mut String, region: &Region, inode: u64) -> Result<(), AllocError> {
+    let hot = region.is_hot(inode);
+    text.push_str(if hot { " hot;" } else { " cold;" })
+}
+
+fn put_capacity(text: &mut String, region: &Region) -> Result<(), AllocError> {
+    let capacity = region.hot_capacity();
+    write!(text, " {capacity};")
 }
 
 fn put_log(text: &mut String, region: &Region, client: usize) -> Option<()> {

@@ -46,7 +46,7 @@ fn put_step_of_inode(
             region.touch(rest.parse::<u64>().ok()?);
             Some(())
         }
-        "hot" => set_hot_capacity(region, rest.parse::<usize>().ok()?),
+        "capacity" if !rest.is_empty() => set_hot_capacity(region, rest.parse::<usize>().ok()?),
         "lose" => lose(region, rest),
         _ => put_answer(alloc, region, word, rest, text),
     }

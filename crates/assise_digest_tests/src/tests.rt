@@ -16,7 +16,7 @@ append 1 create 0 f 10, append 1 rename 0 f 0 g 10, digest 1 1 1, peek 0, read 1
 append 1 create 0 f 10, append 1 rename 0 f 0 f 10, digest 1 2 2, peek 0 => 2; dir 1 f:10;
 append 1 write 10 0 ab, read 1 10, digest 1 1 1, read 1 10 => none; 1; none;
 touch 0, touch 10, peek 0, peek 10 => dir 0; none;
-refill 10 dir, touch 0, touch 10, hot 1, peek 0, peek 10, hot 9, peek 0, read 1 10 => dir 0; dir 0; dir 0; dir 0;
+refill 10 dir, touch 0, touch 10, capacity 1, peek 0, peek 10, capacity 9, peek 0, read 1 10 => dir 0; dir 0; dir 0; dir 0;
 ";
 
 /// How many records are digested.
@@ -76,6 +76,21 @@ append 1 create 0 f 10, digest 1 1 1, append 1 create 0 g 11, lose all, clients,
 fn logs_and_inodes_come_and_go(rt: HostRuntime) {
     show(rt.alloc(), &rt, LOGS);
     show(rt.alloc(), &rt, INODES);
+}
+
+/// What a use makes hot, and what cools where fewer may be hot: no contract of a region says which are.
+const HOT: &str = "\
+capacity, hot 0, touch 0, hot 0, touch 10, hot 10 => 4; cold; hot; cold;
+refill 10 dir, capacity 1, touch 10, hot 10, hot 0, touch 0, hot 0, hot 10, peek 10 => hot; cold; hot; cold; dir 0;
+refill 10 dir, capacity 2, touch 0, touch 10, hot 0, hot 10, capacity 1, capacity, hot 0, hot 10 => hot; hot; 1; cold; hot;
+refill 10 dir, capacity 2, touch 0, touch 10, touch 0, capacity 1, hot 0, hot 10, peek 10, capacity 4096, capacity, hot 0, hot 10 => hot; cold; dir 0; 4096; hot; cold;
+refill 10 dir, refill 11 dir, capacity 2, touch 0, touch 10, touch 11, hot 0, hot 10, hot 11 => cold; hot; hot;
+append 1 create 0 f 10, digest 1 1 1, hot 0, hot 10, touch 10, hot 10, append 1 write 10 0 ab, digest 1 2 1, hot 10, peek 10, lose all, hot 10, capacity, stale 10, hot 10 => 1; cold; cold; hot; 1; hot; file 2 ab; hot; 4; cold;
+";
+
+#[test]
+fn what_was_used_last_is_hot(rt: HostRuntime) {
+    show(rt.alloc(), &rt, HOT);
 }
 
 #[test]

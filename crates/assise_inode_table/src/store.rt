@@ -1,5 +1,5 @@
 // A map of inodes that can be changed, however it is held.
-ghost use Rattle.std.specs.Prelude.{◌≡◌, IfOk, IsOk, IsOkUnless, None, OnErr, OnOk};
+ghost use Rattle.std.specs.Prelude.{◌≡◌, IfOk, IsOk, IsOkUnless, None, OnErr, OnOk, ℕ};
 ghost use Rattle.std.specs.FinMap as map;
 ghost use Rattle.assise_inode_table.specs.Effects.{AsksForMemory, TakesAway, applied};
 ghost use Rattle.assise_names.specs.declared.refusal.Refusal.TheVariants.{OutOfMemory};
@@ -11,8 +11,11 @@ use assise_names::refusal::Refusal;
 use assise_record::effect::Effect;
 use std::alloc::Global;
 
-/// Inodes by their numbers that can be changed, however they are held. A contract sees the finite map.
+/// Inodes by their numbers that can be changed, however they are held. A contract sees the finite map, and a setting:
+/// what no change of the inodes changes, as how many of them may be hot.
 pub trait InodeStore: Inodes {
+    ghost setting: { Self → ℕ };
+
     /// Where the inodes take their memory from.
     fn allocator(&self) -> Global;
 
@@ -23,12 +26,14 @@ pub trait InodeStore: Inodes {
         ensures replaced { IfOk result (λ had. had ≡ map.get (Self.contents self.old) inode) }
         ensures err { OnErr result (Self.contents self.new ≡ Self.contents self.old) }
         ensures asked { OnErr result (map.get (Self.contents self.old) inode ≡ None) }
+        ensures setting { setting self.new ≡ setting self.old }
         ensures only_memory { IsOkUnless result OutOfMemory };
 
     /// Takes the inode of a number out, if it is there.
     fn remove(&mut self, inode: u64) -> Option<Inode>
         ensures removed { result ≡ map.get (Self.contents self.old) inode }
-        ensures others { Self.contents self.new ≡ map.remove (Self.contents self.old) inode };
+        ensures others { Self.contents self.new ≡ map.remove (Self.contents self.old) inode }
+        ensures setting { setting self.new ≡ setting self.old };
 
     /// Makes an effect: a new file or directory stands in place of what its number had, a freed inode is gone, and
     /// each other effect changes the inode that it touches, where there is one of its kind. No other inode changes.
@@ -40,5 +45,6 @@ pub trait InodeStore: Inodes {
         ensures taken_away { TakesAway effect.now → IsOk result }
         ensures err { OnErr result (Self.contents self.new ≡ Self.contents self.old) }
         ensures asked { OnErr result (AsksForMemory effect.now (map.get (Self.contents self.old) (touched_by effect.now))) }
+        ensures setting { setting self.new ≡ setting self.old }
         ensures only_memory { IsOkUnless result OutOfMemory };
 }

@@ -152,6 +152,8 @@ impl Inodes for InodeTable {
 }
 
 impl InodeStore for InodeTable {
+    ghost setting = { λ _. 0 };
+
     fn allocator(&self) -> Global {
         self.alloc
     }

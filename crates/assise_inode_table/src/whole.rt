@@ -24,6 +24,7 @@ pub fn apply_all<S: InodeStore>(store: &mut S, effects: &[Effect]) -> Result<(),
     ensures ok { OnOk result (S.contents store.new ≡ all_applied (S.contents store.old) effects.now) }
     ensures taken_away { OnlyTakeAway effects.now → IsOk result }
     ensures err { OnErr result (S.contents store.new ≡ S.contents store.old) }
+    ensures setting { S.setting store.new ≡ S.setting store.old }
     ensures only_memory { IsOkUnless result OutOfMemory }
 {
     let [first, rest @ ..] = effects else {
@@ -46,6 +47,7 @@ fn apply_making<S: InodeStore>(
     requires asks { OnlyFirstAsks rest.now }
     ensures ok { OnOk result (S.contents store.new ≡ all_applied (map.insert (S.contents store.old) inode made) rest.now) }
     ensures err { OnErr result (S.contents store.new ≡ S.contents store.old) }
+    ensures setting { S.setting store.new ≡ S.setting store.old }
     ensures only_memory { IsOkUnless result OutOfMemory }
 {
     let had = store.insert(inode, made)?;
@@ -62,6 +64,7 @@ fn apply_changes<S: InodeStore>(store: &mut S, effects: &[Effect]) -> Result<(),
     ensures ok { OnOk result (S.contents store.new ≡ all_applied (S.contents store.old) effects.now) }
     ensures taken_away { OnlyTakeAway effects.now → IsOk result }
     ensures err { OnErr result (S.contents store.new ≡ S.contents store.old) }
+    ensures setting { S.setting store.new ≡ S.setting store.old }
     ensures only_memory { IsOkUnless result OutOfMemory }
 {
     let [before @ .., last] = effects else {
@@ -80,6 +83,7 @@ fn apply_in_order<S: InodeStore>(store: &mut S, effects: &[Effect]) -> Result<()
     ensures ok { OnOk result (S.contents store.new ≡ all_applied (S.contents store.old) effects.now) }
     ensures taken_away { OnlyTakeAway effects.now → IsOk result }
     ensures err { OnErr result (S.contents store.new ≡ S.contents store.old) }
+    ensures setting { S.setting store.new ≡ S.setting store.old }
     ensures only_memory { IsOkUnless result OutOfMemory }
 {
     let [first, rest @ ..] = effects else {
@@ -103,6 +107,7 @@ fn apply_link_first<S: InodeStore>(
     requires take_away { OnlyTakeAway before.now }
     ensures ok { OnOk result (S.contents store.new ≡ all_applied (S.contents store.old) (before.now ++ link.now ∷ [])) }
     ensures err { OnErr result (S.contents store.new ≡ S.contents store.old) }
+    ensures setting { S.setting store.new ≡ S.setting store.old }
     ensures only_memory { IsOkUnless result OutOfMemory }
 {
     let Effect::Link {
@@ -125,7 +130,8 @@ fn apply_link_first<S: InodeStore>(
 /// Makes an effect that only takes away, for which no memory is needed.
 fn take_away<S: InodeStore>(store: &mut S, effect: &Effect)
     requires takes_away { TakesAway effect.now }
-    ensures { S.contents store.new ≡ applied (S.contents store.old) effect.now }
+    ensures applied { S.contents store.new ≡ applied (S.contents store.old) effect.now }
+    ensures setting { S.setting store.new ≡ S.setting store.old }
 {
     if store.apply(effect).is_err() {
         unreachable!();
@@ -135,7 +141,8 @@ fn take_away<S: InodeStore>(store: &mut S, effect: &Effect)
 /// Gives a number that has an inode another one, or takes it out. It takes no memory.
 pub(crate) fn put_value<S: InodeStore>(store: &mut S, inode: u64, value: Option<Inode>)
     requires there { IsSome (map.get (S.contents store.old) inode) }
-    ensures { S.contents store.new ≡ with_value (S.contents store.old) inode value }
+    ensures value { S.contents store.new ≡ with_value (S.contents store.old) inode value }
+    ensures setting { S.setting store.new ≡ S.setting store.old }
 {
     match value {
         Some(content) => {
@@ -149,7 +156,8 @@ pub(crate) fn put_value<S: InodeStore>(store: &mut S, inode: u64, value: Option<
 
 /// Takes the inode of a number out, if it is there, and lets it go.
 pub(crate) fn discard<S: InodeStore>(store: &mut S, inode: u64)
-    ensures { S.contents store.new ≡ map.remove (S.contents store.old) inode }
+    ensures gone { S.contents store.new ≡ map.remove (S.contents store.old) inode }
+    ensures setting { S.setting store.new ≡ S.setting store.old }
 {
     store.remove(inode);
 }

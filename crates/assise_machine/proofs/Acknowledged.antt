@@ -13,7 +13,7 @@ use Rattle.assise_machine_laws.specs.World.{Full, World, call_at, end, first_unr
 use Rattle.assise_machine_laws.proofs.Firm.{log_of_home, log_of_left}
 use Rattle.assise_machine_laws.proofs.Observing.{least_of-above, least_of-end, received_by_all-below}
 use Rattle.assise_machine_state.specs.ClientValues.{client_seen, no_client}
-use Rattle.assise_machine_state.specs.NodeValues.{log_seen, new_region, region_seen}
+use Rattle.assise_machine_state.specs.NodeValues.{log_seen, no_region, region_seen}
 use Rattle.assise_machine_state.specs.Observed.{is_full_in, world_of}
 use Rattle.assise_machine_state.specs.Places.{IsNumber, at}
 use Rattle.assise_machine_state.specs.Shape.{IsShaped}
@@ -139,7 +139,7 @@ module _ (s : StateValue) (shape : IsShaped s) (some : 0 < length (full_nodes (s
   next c = calls_made c s.history
 
   abbrev region_at : ℕ → RegionValue
-  region_at j = get_or s.nodes j new_region
+  region_at j = get_or s.nodes j no_region
 
   seen_at : (j : ℕ) → region_seen s.nodes (suc j) ≡ region_at j
   unfolding region_seen at
@@ -199,7 +199,7 @@ module _ (s : StateValue) (shape : IsShaped s) (some : 0 < length (full_nodes (s
   below_full : (n c : ℕ) → IsNumber s.clients c → Full w n → least_end c s.nodes (next c) ≤ w.received n c
   below_full n c client full =
       let p : IsPlace n = place_of n full in
-      let low : least_end c s.nodes (next c) ≤ log_end (log_at (region_at p.place) c) = least_end-below c new_region s.nodes (next c) p.place p.inside (has_it p.place c client p.full) in
+      let low : least_end c s.nodes (next c) ≤ log_end (log_at (region_at p.place) c) = least_end-below c no_region s.nodes (next c) p.place p.inside (has_it p.place c client p.full) in
       subst (λ k. least_end c s.nodes (next c) ≤ w.received k c) (sym p.is) (subst (λ k. least_end c s.nodes (next c) ≤ k) (sym (received_there p.place c)) low)
 
   received-above : (c k : ℕ) → k ≤ end w c → ((n : ℕ) → Full w n → k ≤ w.received n c) → k ≤ received_by_all w c
@@ -217,7 +217,7 @@ module _ (s : StateValue) (shape : IsShaped s) (some : 0 < length (full_nodes (s
       let there : least_end c s.nodes (next c) ≤ w.received n c = below_full n c client one_full in
       let high : least_end c s.nodes (next c) ≤ received_by_all w c = received-above c (least_end c s.nodes (next c)) (omega (arith, known, there)) (λ k full. below_full k c client full) in
       let low : received_by_all w c ≤ least_end c s.nodes (next c) =
-      least_end-above c new_region s.nodes (next c) (received_by_all w c) (omega (arith, received-end c, few c)) (λ j inside has. low_at j c client has) in
+      least_end-above c no_region s.nodes (next c) (received_by_all w c) (omega (arith, received-end c, few c)) (λ j inside has. low_at j c client has) in
       omega (arith, high, low)
 
   -- who was not opened made no calls
@@ -252,7 +252,7 @@ module _ (s : StateValue) (shape : IsShaped s) (some : 0 < length (full_nodes (s
     abbrev d : ℕ
     d = place - w.first c
 
-    front_at : (j : ℕ) → HasFront c place (w.records c) d (next c) new_region (region_at j)
+    front_at : (j : ℕ) → HasFront c place (w.records c) d (next c) no_region (region_at j)
     front_at j =
         elim (cases_Bool (is_full_in (standings s) (suc j))) [
           | inl f ↦
@@ -284,7 +284,7 @@ module _ (s : StateValue) (shape : IsShaped s) (some : 0 < length (full_nodes (s
     found =
         let one : HasAll = one_has_all in
         let p : IsPlace one.node = place_of one.node one.full in
-        call_found c place (w.records c) d (next c) new_region s.nodes p.place p.inside (λ k low. front_at k)
+        call_found c place (w.records c) d (next c) no_region s.nodes p.place p.inside (λ k low. front_at k)
         ((λ i. drop (place - first_there p.place c p.full i) (records_there p.place c i)) ∙ ap (drop d) (ap (λ n. w.log n c) (sym p.is) ∙ sym one.all))
 
     call_is : call_from c place s.nodes (next c) ≡ call_at w c place

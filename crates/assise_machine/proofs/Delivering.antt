@@ -18,7 +18,7 @@ use Rattle.assise_machine_events.specs.NodeEvents.{Delivering, is_delivered}
 use Rattle.assise_machine_events.proofs.EachEvent.{event_keeps}
 use Rattle.assise_machine_state.specs.Changes.{after_delivery}
 use Rattle.assise_machine_state.specs.ClientValues.{client_in, client_seen}
-use Rattle.assise_machine_state.specs.NodeValues.{HasLog, log_in, log_seen, new_region, region_in, with_log_in, with_records, with_region}
+use Rattle.assise_machine_state.specs.NodeValues.{HasLog, log_in, log_seen, no_region, region_in, with_log_in, with_records, with_region}
 use Rattle.assise_machine_state.specs.Observed.{is_full_in, observed, own_node, own_seen, world_of}
 use Rattle.assise_machine_state.specs.Places.{IsNumber}
 use Rattle.assise_machine_state.specs.Shape.{AreNoted, IsShaped}
@@ -35,10 +35,10 @@ use Rattle.assise_machine.proofs.DeliveryFaults.{fine_client, fine_full}
 -- ---- nothing is changed where nothing comes
 
 log_kept : (r : RegionValue) (c : ℕ) → with_log r c (with_records (log_of r c) []) ≡ r
-log_kept r c = ap (with_log r c) (none_more (log_of r c)) ∙ (λ i. record { inodes = r.inodes; logs = set-get_or r.logs (c - 1) no_log i })
+log_kept r c = ap (with_log r c) (none_more (log_of r c)) ∙ (λ i. record r { logs = set-get_or r.logs (c - 1) no_log i })
 
 nodes_kept : (rs : List RegionValue) (n c : ℕ) → with_log_in rs n c (with_records (log_in rs n c) []) ≡ rs
-nodes_kept rs n c = ap (with_region rs n) (log_kept (region_in rs n) c) ∙ set-get_or rs (n - 1) new_region
+nodes_kept rs n c = ap (with_region rs n) (log_kept (region_in rs n) c) ∙ set-get_or rs (n - 1) no_region
 
 -- a delivery with its answer, and what holds after it
 pub record Gives (s : StateValue) (f : LogFrame) (n p : ℕ) (u : StateValue) : Type 0 where

@@ -24,7 +24,7 @@ use Rattle.assise_machine_laws.proofs.Logs.{contains-drop, contains-take}
 use Rattle.assise_machine_laws.proofs.Observing.{received_by_all-below}
 use Rattle.assise_machine_returns.specs.Returns.{DigestsNoted}
 use Rattle.assise_machine_events.specs.NodeEvents.{undigested}
-use Rattle.assise_machine_state.specs.NodeValues.{HasLog, log_in, log_seen, new_region, region_in, with_region}
+use Rattle.assise_machine_state.specs.NodeValues.{HasLog, log_in, log_seen, no_region, region_in, with_region}
 use Rattle.assise_machine_state.specs.Observed.{is_full_in, world_of}
 use Rattle.assise_machine_state.specs.Places.{IsNumber, at}
 use Rattle.assise_machine_state.specs.Shape.{IsShaped}
@@ -68,7 +68,7 @@ none_further l = (let same : l.digested + 0 ≡ l.digested = omega arith in (λ 
 
 none_made : (r : RegionValue) (c : ℕ) → digested_by r c 0 ≡ r
 none_made r c = (let same : slice_set r.logs (c - 1) (digested_further (log_of r c) 0) ≡ r.logs = ap (slice_set r.logs (c - 1)) (none_further (log_of r c)) ∙ set-get_or r.logs (c - 1) no_log in
-    (λ i. record { inodes = r.inodes; logs = same i }))
+    (λ i. record r { logs = same i }))
 
 pub none_digested : (s : StateValue) (n c : ℕ) → HasLog s.nodes n c → digests_some s n c 0 ≡ s
 unfolding world_of
@@ -78,7 +78,7 @@ none_digested s n c has =
     let nodes : with_region s.nodes n (digested_by (region_in s.nodes n) c ((log_seen s.nodes n c).digested + 0 - (log_in s.nodes n c).digested)) ≡ s.nodes =
     ap (λ k. with_region s.nodes n (digested_by (region_in s.nodes n) c k)) none
     ∙ ap (with_region s.nodes n) (none_made (region_in s.nodes n) c)
-    ∙ set-get_or s.nodes (n - 1) new_region in
+    ∙ set-get_or s.nodes (n - 1) no_region in
     (λ i. record s { nodes = nodes i; members = none_noted s.members n i })
 
 -- ---- one client's records
@@ -112,7 +112,7 @@ has_after rs n c count has =
     length-set (region_in rs n).logs (c - 1) (digested_further (log_in rs n c) count) in
     let there = has.client.there in
     let region : region_in (with_region rs n (digested_by (region_in rs n) c count)) n ≡ digested_by (region_in rs n) c count =
-    get_or-set_same rs (n - 1) (digested_by (region_in rs n) c count) new_region (omega (arith, has.node.some, has.node.there)) in
+    get_or-set_same rs (n - 1) (digested_by (region_in rs n) c count) no_region (omega (arith, has.node.some, has.node.there)) in
     record {
       node = record { some = has.node.some; there = omega (arith, nodes, has.node.there) };
       client = subst (λ r. HasClient r c) (sym region) (record { some = has.client.some; there = omega (arith, logs, there) });
@@ -121,7 +121,7 @@ has_after rs n c count has =
 pub log_after : (rs : List RegionValue) (n c count : ℕ) → HasLog rs n c → log_in (with_region rs n (digested_by (region_in rs n) c count)) n c ≡ digested_further (log_in rs n c) count
 log_after rs n c count has =
     let there = has.client.there in
-    ap (λ r. log_of r c) (get_or-set_same rs (n - 1) (digested_by (region_in rs n) c count) new_region (omega (arith, has.node.some, has.node.there)))
+    ap (λ r. log_of r c) (get_or-set_same rs (n - 1) (digested_by (region_in rs n) c count) no_region (omega (arith, has.node.some, has.node.there)))
     ∙ get_or-set_same (region_in rs n).logs (c - 1) (digested_further (log_in rs n c) count) no_log (omega (arith, has.client.some, there))
 
 module _ (s : StateValue) (n c : ℕ) (shape : IsShaped s) (sound : ∥ IsSound (world_of s) ∥₁) (here : is_full_in (standings s) n ≡ true) (client : IsNumber s.clients c) where

@@ -22,3 +22,4 @@ pub mod Acknowledged
 pub mod Telling
 pub mod Replicated
 pub mod Decided
+pub mod Capacities

@@ -57,7 +57,7 @@ impl<C: Revokes + Drop> ClusterOf<C> {
     ghost use Rattle.assise_machine_calls.specs.Asked.{CutsAreAnswers};
     ghost use Rattle.assise_machine_failures.specs.Answers.{failing_answer, joining_answer, refilling_answer, returning_answer};
     ghost use Rattle.assise_machine.specs.Answers.{delivery_answer, digesting_answer, sending_answer};
-    ghost use Rattle.assise_machine.specs.Clusters.{AreAcked, machine, region_of, revokers};
+    ghost use Rattle.assise_machine.specs.Clusters.{AreAcked, HaveCapacity, machine, region_of, revokers};
     ghost use Rattle.assise_machine.specs.Headline.{IsUp, acked_to, history_of, regions_of};
 
     /// A cluster in which nothing happened: 1 to 8 full nodes, whose clients' logs have 8 to 4,096 records at most, and 1 to
@@ -72,6 +72,7 @@ impl<C: Revokes + Drop> ClusterOf<C> {
         ensures history { IfOk result (λ cluster. history_of cluster ≡ []) }
         ensures nodes { IfOk result (λ cluster. length (regions_of cluster) ≡ nodes) }
         ensures begun { IfOk result (λ cluster. machine cluster ≡ begun_as nodes log) }
+        ensures hot { IfOk result (λ cluster. HaveCapacity cluster hot) }
         ensures only_memory { IsOkUnless result OutOfMemory }
     {
         Ok(ClusterOf {

@@ -13,7 +13,7 @@ use Rattle.assise_machine_events.specs.Faults.{open_fault}
 use Rattle.assise_machine_events.specs.Machine.{Holds}
 use Rattle.assise_machine_state.specs.Changes.{after_open}
 use Rattle.assise_machine_state.specs.ClientValues.{ClientValue, opened_on}
-use Rattle.assise_machine_state.specs.NodeValues.{begun_log, new_region, region_seen, with_logs_begun, with_logs_ended, without_log_of}
+use Rattle.assise_machine_state.specs.NodeValues.{begun_log, no_region, region_seen, with_logs_begun, with_logs_ended, without_log_of}
 use Rattle.assise_machine_state.specs.Observed.{is_full_in, observed, world_of}
 use Rattle.assise_machine_state.specs.Places.{at}
 use Rattle.assise_machine_state.specs.Shape.{AreNoted, IsShaped}
@@ -50,7 +50,7 @@ last_gone r l c all =
     let longer : length (r.logs ++ l ∷ []) ≡ suc c = omega (arith, more, all) in
     let shorter : length (r.logs ++ l ∷ []) - 1 ≡ length r.logs = omega (arith, longer, all) in
     rw (eq-eqb (length (r.logs ++ l ∷ [])) (suc c) longer)
-    (ap (λ k. record { inodes = r.inodes; logs = take k (r.logs ++ l ∷ []) }) shorter ∙ ap (λ ls. record { inodes = r.inodes; logs = ls }) (front r.logs))
+    (ap (λ k. record r { logs = take k (r.logs ++ l ∷ []) }) shorter ∙ ap (λ ls. record r { logs = ls }) (front r.logs))
   where
     front : (ls : List ReceivedLog) → take (length ls) (ls ++ l ∷ []) ≡ ls
     front [] = refl
@@ -59,8 +59,8 @@ last_gone r l c all =
 none_gone : (r : RegionValue) (c : ℕ) → length r.logs ≡ 0 → without_log_of (suc c) r ≡ r
 none_gone r c none = (let other : length r.logs ≢ suc c = λ same. absurd (omega (arith, none, same)) in rw (ne_eqb (length r.logs) (suc c) other) refl)
 
-all_ended : (full : ℕ → Bool) (limit home m c : ℕ) (rs : List RegionValue) → ((i : ℕ) → full (m + i) ≡ true → i < length rs → length (get_or rs i new_region).logs ≡ c) →
-    ((i : ℕ) → full (m + i) ≡ false → i < length rs → length (get_or rs i new_region).logs ≡ 0) → with_logs_ended (with_logs_begun full limit home m rs) (suc c) ≡ rs
+all_ended : (full : ℕ → Bool) (limit home m c : ℕ) (rs : List RegionValue) → ((i : ℕ) → full (m + i) ≡ true → i < length rs → length (get_or rs i no_region).logs ≡ c) →
+    ((i : ℕ) → full (m + i) ≡ false → i < length rs → length (get_or rs i no_region).logs ≡ 0) → with_logs_ended (with_logs_begun full limit home m rs) (suc c) ≡ rs
 all_ended full limit home m c [] have none = refl
 all_ended full limit home m c (r ∷ rs) have none =
     let here : m + 0 ≡ m = omega arith in
@@ -74,7 +74,7 @@ all_ended full limit home m c (r ∷ rs) have none =
       | inr away ↦ rw away (λ k. none_gone r c (none 0 (ap full here ∙ away) (omega arith)) k ∷ rest k)
     ]
 
-seen_at : (rs : List RegionValue) (i : ℕ) → region_seen rs (1 + i) ≡ get_or rs i new_region
+seen_at : (rs : List RegionValue) (i : ℕ) → region_seen rs (1 + i) ≡ get_or rs i no_region
 unfolding region_seen at
 seen_at rs i = (let next : 1 + i ≡ suc i = omega arith in rw next refl)
 

@@ -5,7 +5,7 @@ use Rattle.std.proofs.lemmas.List.{length-map}
 use Rattle.assise_digest.specs.Region.{HasClient, RegionValue, log_of, no_log, up_to_number}
 use Rattle.assise_machine_state.specs.Changes.{with_clients_cut, with_clients_failed}
 use Rattle.assise_machine_state.specs.ClientValues.{ClientValue, client_in, client_seen, failed_at, with_client}
-use Rattle.assise_machine_state.specs.NodeValues.{AreUndigested, HasLog, IsUndigestedFrom, changed_in, log_in, log_seen, new_region, region_in, region_seen, with_tails_cut}
+use Rattle.assise_machine_state.specs.NodeValues.{AreUndigested, HasLog, IsUndigestedFrom, changed_in, log_in, log_seen, no_region, region_in, region_seen, with_tails_cut}
 use Rattle.assise_machine_state.specs.Places.{IsNumber, at}
 use Rattle.assise_machine_state.proofs.CutSeen.{count_over}
 use Rattle.assise_machine_state.proofs.Logging.{beside_seen, count_seen, log_number}
@@ -15,20 +15,20 @@ use Rattle.assise_machine_state.proofs.Seeing.{client_else, client_is, is_seen, 
 
 pub seen_in : (rs : List RegionValue) (k c : ℕ) → HasLog rs k c → log_seen rs k c ≡ log_in rs k c
 unfolding log_seen region_seen
-seen_in rs k c has = ap (λ r. at no_log r.logs c) (is_seen new_region rs k has.node) ∙ is_seen no_log (region_in rs k).logs c (log_number rs k c has)
+seen_in rs k c has = ap (λ r. at no_log r.logs c) (is_seen no_region rs k has.node) ∙ is_seen no_log (region_in rs k).logs c (log_number rs k c has)
 
 pub count_in : (rs : List RegionValue) (k : ℕ) → IsNumber rs k → length (region_seen rs k).logs ≡ length (region_in rs k).logs
 unfolding region_seen
-count_in rs k there = ap (λ r. length r.logs) (is_seen new_region rs k there)
+count_in rs k there = ap (λ r. length r.logs) (is_seen no_region rs k there)
 
-each_undigested : (rs : List RegionValue) (c from : ℕ) → ((k : ℕ) → k < length rs → HasClient (slice_index_or rs k new_region) c → IsUndigestedFrom (log_of (slice_index_or rs k new_region) c) from) → AreUndigested rs c from
+each_undigested : (rs : List RegionValue) (c from : ℕ) → ((k : ℕ) → k < length rs → HasClient (slice_index_or rs k no_region) c → IsUndigestedFrom (log_of (slice_index_or rs k no_region) c) from) → AreUndigested rs c from
 each_undigested [] c from each = tt
 each_undigested (r ∷ rs) c from each = (each 0 (omega arith), each_undigested rs c from (λ k low. each (suc k) (omega (arith, low))))
 
 pub all_undigested : (rs : List RegionValue) (c from : ℕ) → ((k : ℕ) → HasLog rs k c → IsUndigestedFrom (log_in rs k c) from) → AreUndigested rs c from
 all_undigested rs c from each =
     each_undigested rs c from
-    (λ k low. subst (λ j. HasClient (slice_index_or rs j new_region) c → IsUndigestedFrom (log_of (slice_index_or rs j new_region) c) from) (less_one k)
+    (λ k low. subst (λ j. HasClient (slice_index_or rs j no_region) c → IsUndigestedFrom (log_of (slice_index_or rs j no_region) c) from) (less_one k)
     (λ has. each (suc k) (record { node = record { some = omega arith; there = omega (arith, low) }; client = has })))
 
 -- ---- what is cut of clients 1 to m leaves the logs of others

@@ -16,7 +16,7 @@ use Rattle.assise_machine_laws.specs.Staying.{SameNode}
 use Rattle.assise_machine_laws.specs.World.{Full, World}
 use Rattle.assise_machine_returns.specs.Returns.{LosesCopies}
 use Rattle.assise_machine_state.specs.Changes.{after_inode}
-use Rattle.assise_machine_state.specs.NodeValues.{new_region, region_in, with_region}
+use Rattle.assise_machine_state.specs.NodeValues.{no_region, region_in, with_region}
 use Rattle.assise_machine_state.specs.Observed.{is_full_in, stands_full, world_of}
 use Rattle.assise_machine_state.specs.Places.{IsNumber}
 use Rattle.assise_machine_state.specs.Shape.{IsShaped}
@@ -94,7 +94,7 @@ module _ (rs : List RegionValue) (n i : ℕ) (there : IsNumber rs n) where
   pub one_logless : (region_in rs n).logs ≡ [] → (region_in (with_region rs n changed) n).logs ≡ []
   one_logless none =
       let low : n - 1 < length rs = omega (arith, there.some, there.there) in
-      ap (λ r. r.logs) (get_or-set_same rs (n - 1) changed new_region low) ∙ none
+      ap (λ r. r.logs) (get_or-set_same rs (n - 1) changed no_region low) ∙ none
 
 -- where there are no logs, no record touches anything
 pub logless_quiet : (r : RegionValue) (i : ℕ) → r.logs ≡ [] → IsQuiet r i

@@ -79,12 +79,12 @@ module _ (s : StateValue) (n : ℕ) (shape : IsShaped s) (stands : standing_of (
   number = node_number s n full shape stands
 
   emptied : RegionValue
-  emptied = record { inodes = (region_in s.nodes n).inodes; logs = [] }
+  emptied = record (region_in s.nodes n) { logs = [] }
 
   -- the failed node has no log
   other_node : (k c : ℕ) → HasLog (without_logs s.nodes n) k c → k ≢ n
   other_node k c has same =
-      let none : length (region_seen (without_logs s.nodes n) n).logs ≡ 0 = ap (λ r. length r.logs) (region_here s.nodes n (record { inodes = (region_in s.nodes n).inodes; logs = [] }) number) in
+      let none : length (region_seen (without_logs s.nodes n) n).logs ≡ 0 = ap (λ r. length r.logs) (region_here s.nodes n (record (region_in s.nodes n) { logs = [] }) number) in
       let had : c ≤ length (region_seen (without_logs s.nodes n) n).logs =
       subst (λ j. c ≤ length (region_seen (without_logs s.nodes n) j).logs) same (subst (λ j. c ≤ j) (sym (count_in (without_logs s.nodes n) k has.node)) has.client.there) in
       absurd (omega (arith, none, had, has.client.some))
@@ -95,7 +95,7 @@ module _ (s : StateValue) (n : ℕ) (shape : IsShaped s) (stands : standing_of (
         | inl f ↦ f
         | inr away ↦
             let apart : k ≢ n = other_node k c has in
-            let same : length (region_seen (without_logs s.nodes n) k).logs ≡ length (region_seen s.nodes k).logs = ap (λ r. length r.logs) (region_else s.nodes n (record { inodes = (region_in s.nodes n).inodes; logs = [] }) number k apart) in
+            let same : length (region_seen (without_logs s.nodes n) k).logs ≡ length (region_seen s.nodes k).logs = ap (λ r. length r.logs) (region_else s.nodes n (record (region_in s.nodes n) { logs = [] }) number k apart) in
             let none : length (region_seen s.nodes k).logs ≡ 0 = ap length (shape.no_logs k away) in
             let count = count_in (without_logs s.nodes n) k has.node in
             absurd (omega (arith, same, none, count, has.client.some, has.client.there))
@@ -113,7 +113,7 @@ module _ (s : StateValue) (n : ℕ) (shape : IsShaped s) (stands : standing_of (
   undigested ks is k c client home has =
       let apart : k ≢ n = other_node k c has in
       let same : log_in (without_logs s.nodes n) k c ≡ log_seen s.nodes k c =
-      sym (seen_in (without_logs s.nodes n) k c has) ∙ log_away s.nodes n (record { inodes = (region_in s.nodes n).inodes; logs = [] }) number k c apart in
+      sym (seen_in (without_logs s.nodes n) k c has) ∙ log_away s.nodes n (record (region_in s.nodes n) { logs = [] }) number k c apart in
       let elsewhere : (k == (client_seen s.clients c).home) ≡ false = ne_eqb k (client_seen s.clients c).home (λ e. apart (e ∙ home)) in
       let low : (log_seen s.nodes k c).digested ≤ kept_at_failure (world_of s) n c = digested_low k c (is_full_there k c has) in
       let place : kept_in ks c ≡ kept_at_failure (world_of s) n c = place_in (world_of s) n (length s.clients) c ks is client.some client.there in

@@ -11,7 +11,7 @@ use Rattle.std.proofs.lemmas.Option.{none-some}
 use Rattle.assise_names.specs.declared.refusal.Refusal.{Refusal}
 use Rattle.assise_names.specs.declared.refusal.Refusal.TheVariants.{Busy, OutOfMemory}
 use Rattle.assise_history.specs.Entries.{Event, returns}
-use Rattle.assise_digest.specs.Region.{RegionValue}
+use Rattle.assise_digest.specs.Region.{RegionValue, without_clients}
 use Rattle.assise_manager.specs.Changes.{IsLowestOf, filling_fault, filling_fault_of, join_fault, join_fault_of, joined as joined_members, stale_of}
 use Rattle.assise_manager.specs.Membership.{Membership}
 use Rattle.assise_manager.specs.Standings.{Standing, down, full, returning, standing_of}
@@ -21,7 +21,7 @@ use Rattle.assise_machine_events.specs.MemberEvents.{IsJoined, Joining}
 use Rattle.assise_machine_events.specs.MemberEvents.Joining.{is_joined, is_refused, lacks_memory}
 use Rattle.assise_machine_returns.specs.Returns.{Rejoins}
 use Rattle.assise_machine_state.specs.Changes.{after_join}
-use Rattle.assise_machine_state.specs.NodeValues.{new_region, region_in, with_logs_of, without_logs}
+use Rattle.assise_machine_state.specs.NodeValues.{no_region, region_in, with_logs_of, without_logs}
 use Rattle.assise_machine_state.specs.Observed.{observed, world_of}
 use Rattle.assise_machine_state.specs.Places.{IsNumber}
 use Rattle.assise_machine_state.specs.Shape.{AreNoted, IsShaped}
@@ -42,9 +42,9 @@ logs_gone : (rs : List RegionValue) (n d : ℕ) → IsNumber rs n → (region_in
 logs_gone rs n d there none =
     let low : n - 1 < length rs = omega (arith, there.some, there.there) in
     let filled : RegionValue = region_in (with_logs_of rs n d) n in
-    let same : (region_in (with_logs_of rs n d) n).inodes ≡ (region_in rs n).inodes = ap (λ r. r.inodes) (get_or-set_same rs (n - 1) _ new_region low) in
-    let back : record { inodes = (region_in (with_logs_of rs n d) n).inodes; logs = [] } ≡ region_in rs n = (λ i. record { inodes = same i; logs = sym none i }) in
-    set-set rs (n - 1) _ _ ∙ ap (put_at rs (n - 1)) back ∙ set-get_or rs (n - 1) new_region
+    let same : without_clients filled ≡ without_clients (region_in rs n) = ap without_clients (get_or-set_same rs (n - 1) _ no_region low) in
+    let back : without_clients filled ≡ region_in rs n = same ∙ (λ i. record (region_in rs n) { logs = sym none i }) in
+    set-set rs (n - 1) _ _ ∙ ap (put_at rs (n - 1)) back ∙ set-get_or rs (n - 1) no_region
 
 pub logs_back : (rs ls ms : List RegionValue) (n d : ℕ) → IsNumber rs n → (region_in rs n).logs ≡ [] → ls ≡ with_logs_of rs n d → ms ≡ without_logs ls n → ms ≡ rs
 logs_back rs ls ms n d there none got gone = gone ∙ ap (λ xs. without_logs xs n) got ∙ logs_gone rs n d there none

@@ -147,7 +147,7 @@ module _ (n : ℕ) (cs : List ClientValue) (kept : ℕ → ℕ) (rs : List Regio
 
 module _ (rs : List RegionValue) (n : ℕ) (cs : List ClientValue) (kept : ℕ → ℕ) where
   abbrev emptied : RegionValue
-  emptied = record { inodes = (region_in rs n).inodes; logs = [] }
+  emptied = record (region_in rs n) { logs = [] }
 
   abbrev left : List RegionValue
   left = with_clients_cut n cs kept (length cs) (without_logs rs n)

@@ -13,7 +13,7 @@ use Rattle.assise_machine_laws.proofs.Dropping.{drop_sound}
 use Rattle.assise_machine_laws.proofs.Observing.{digested_by_all-below, least_of-end}
 use Rattle.assise_machine_state.specs.Changes.{after_drop, drops_to, first_but}
 use Rattle.assise_machine_state.specs.ClientValues.{client_seen}
-use Rattle.assise_machine_state.specs.NodeValues.{AreDigested, IsDigestedTo, log_in, log_seen, new_region, region_in, region_seen}
+use Rattle.assise_machine_state.specs.NodeValues.{AreDigested, IsDigestedTo, log_in, log_seen, no_region, region_in, region_seen}
 use Rattle.assise_machine_state.specs.Observed.{is_full_in, own_node, own_seen, world_of}
 use Rattle.assise_machine_state.specs.Places.{IsNumber, at}
 use Rattle.assise_machine_state.specs.Shape.{IsShaped}
@@ -71,7 +71,7 @@ fronts_of s c sound = record {
   begun = λ d. ∥∥₁_elim sound (search props) (λ h. (has_fronts s c h).begun d);
 }
 
-each_digested : (rs : List RegionValue) (c to : ℕ) → ((k : ℕ) → k < length rs → HasClient (slice_index_or rs k new_region) c → IsDigestedTo (log_of (slice_index_or rs k new_region) c) to) → AreDigested rs c to
+each_digested : (rs : List RegionValue) (c to : ℕ) → ((k : ℕ) → k < length rs → HasClient (slice_index_or rs k no_region) c → IsDigestedTo (log_of (slice_index_or rs k no_region) c) to) → AreDigested rs c to
 each_digested [] c to each = tt
 each_digested (r ∷ rs) c to each = (each 0 (omega arith), each_digested rs c to (λ k low. each (suc k) (omega (arith, low))))
 
@@ -102,7 +102,7 @@ module _ (s : StateValue) (c : ℕ) (shape : IsShaped s) (sound : ∥ IsSound (w
   pub are_digested : AreDigested s.nodes c (digested_by_all (world_of s) c)
   are_digested =
       each_digested s.nodes c (digested_by_all (world_of s) c)
-      (λ k low. subst (λ j. HasClient (slice_index_or s.nodes j new_region) c → IsDigestedTo (log_of (slice_index_or s.nodes j new_region) c) (digested_by_all (world_of s) c)) (less_one k)
+      (λ k low. subst (λ j. HasClient (slice_index_or s.nodes j no_region) c → IsDigestedTo (log_of (slice_index_or s.nodes j no_region) c) (digested_by_all (world_of s) c)) (less_one k)
       (digested_there (suc k) (record { some = omega arith; there = omega (arith, low) })))
 
 -- ---- one client after another

@@ -12,7 +12,7 @@ use Rattle.assise_machine_laws.proofs.Observing.{received_by_all-below}
 use Rattle.assise_machine_history.specs.State.{down_from}
 use Rattle.assise_machine_history.proofs.Running.{of_node}
 use Rattle.assise_machine_state.specs.ClientValues.{ClientValue, client_seen, no_client}
-use Rattle.assise_machine_state.specs.NodeValues.{HasLog, log_in, log_seen, new_region, region_in, region_seen}
+use Rattle.assise_machine_state.specs.NodeValues.{HasLog, log_in, log_seen, no_region, region_in, region_seen}
 use Rattle.assise_machine_state.specs.Observed.{full_in, is_full_in, observed, world_of}
 use Rattle.assise_machine_state.specs.Places.{IsNumber, at}
 use Rattle.assise_machine_state.specs.Shape.{IsShaped}
@@ -53,7 +53,7 @@ full_number s n shape f = node_number s n full shape (stands_so (standings s) n 
 
 pub region_is : (s : StateValue) (n : ℕ) → IsNumber s.nodes n → region_seen s.nodes n ≡ region_in s.nodes n
 unfolding region_seen
-region_is s n there = is_seen new_region s.nodes n there
+region_is s n there = is_seen no_region s.nodes n there
 
 pub has_log : (s : StateValue) (n c : ℕ) → IsShaped s → is_full_in (standings s) n ≡ true → IsNumber s.clients c → HasLog s.nodes n c
 has_log s n c shape f client =

@@ -5,7 +5,7 @@ use Rattle.std.proofs.lemmas.Bool.{cases_Bool, cases_eq, le-leb, leb-false, leb-
 use Rattle.std.proofs.lemmas.List.{length-set}
 use Rattle.assise_inode_table.specs.Contents.{InodeMap}
 use Rattle.assise_digest.specs.Region.{ReceivedLog, RegionValue, log_of, no_log}
-use Rattle.assise_machine_state.specs.NodeValues.{HasLog, changed_in, log_in, log_seen, new_region, region_in, region_seen, with_records, with_region}
+use Rattle.assise_machine_state.specs.NodeValues.{HasLog, changed_in, log_in, log_seen, no_region, region_in, region_seen, with_records, with_region}
 use Rattle.assise_machine_state.specs.Places.{IsNumber, at, put}
 use Rattle.assise_machine_state.proofs.Seeing.{is_seen, seen_else, seen_here, seen_kept, seen_past}
 
@@ -23,16 +23,16 @@ module _ (rs : List RegionValue) (n : ℕ) (r : RegionValue) where
   -- what it keeps stays of all nodes
   pub region_kept : {A : Type 0} (f : RegionValue → A) → f r ≡ f (region_in rs n) → (m : ℕ) → f (region_seen (with_region rs n r) m) ≡ f (region_seen rs m)
   unfolding region_seen
-  region_kept f same m = seen_kept f new_region r rs n m same
+  region_kept f same m = seen_kept f no_region r rs n m same
 
   module _ (there : IsNumber rs n) where
     pub region_here : region_seen (with_region rs n r) n ≡ r
     unfolding region_seen
-    region_here = seen_here new_region r rs n there
+    region_here = seen_here no_region r rs n there
 
     pub region_else : (m : ℕ) → m ≢ n → region_seen (with_region rs n r) m ≡ region_seen rs m
     unfolding region_seen
-    region_else m other = seen_else new_region r rs n m there other
+    region_else m other = seen_else no_region r rs n m there other
 
     pub log_away : (m d : ℕ) → m ≢ n → log_seen (with_region rs n r) m d ≡ log_seen rs m d
     unfolding log_seen
@@ -41,7 +41,7 @@ module _ (rs : List RegionValue) (n : ℕ) (r : RegionValue) where
 -- ---- node n has these inodes, and this log of client c
 
 abbrev pub region_with : List RegionValue → (n c : ℕ) → InodeMap → ReceivedLog → RegionValue
-region_with rs n c inodes l = record { inodes = inodes; logs = put (region_in rs n).logs c l }
+region_with rs n c inodes l = record (region_in rs n) { inodes = inodes; logs = put (region_in rs n).logs c l }
 
 abbrev pub log_changed : List RegionValue → (n c : ℕ) → InodeMap → ReceivedLog → List RegionValue
 log_changed rs n c inodes l = with_region rs n (region_with rs n c inodes l)
@@ -63,9 +63,9 @@ module _ (rs : List RegionValue) (n c : ℕ) (inodes : InodeMap) (l : ReceivedLo
     log_beside : (d : ℕ) → d ≢ c → log_seen (log_changed rs n c inodes l) n d ≡ log_seen rs n d
     unfolding log_seen region_seen
     log_beside d other =
-        ap (λ r. at no_log r.logs d) (seen_here new_region (region_with rs n c inodes l) rs n has.node)
+        ap (λ r. at no_log r.logs d) (seen_here no_region (region_with rs n c inodes l) rs n has.node)
         ∙ seen_else no_log l (region_in rs n).logs c d (log_number rs n c has) other
-        ∙ ap (λ r. at no_log r.logs d) (sym (is_seen new_region rs n has.node))
+        ∙ ap (λ r. at no_log r.logs d) (sym (is_seen no_region rs n has.node))
 
     -- each other log stays
     pub log_else : (m d : ℕ) → (m ≡ n → d ≡ c → ⊥) → log_seen (log_changed rs n c inodes l) m d ≡ log_seen rs m d
@@ -78,7 +78,7 @@ module _ (rs : List RegionValue) (n c : ℕ) (inodes : InodeMap) (l : ReceivedLo
 -- ---- client c's log changes at each node that has one
 
 module _ (c : ℕ) (g : ReceivedLog → ReceivedLog) where
-  none_changed : changed_in c g new_region ≡ new_region
+  none_changed : changed_in c g no_region ≡ no_region
   none_changed =
       elim (cases_Bool (nat_le c 0)) [
         | inl e ↦ rw e refl
@@ -87,7 +87,7 @@ module _ (c : ℕ) (g : ReceivedLog → ReceivedLog) where
 
   region_changed : (rs : List RegionValue) (n : ℕ) → region_seen (map (changed_in c g) rs) n ≡ changed_in c g (region_seen rs n)
   unfolding region_seen at
-  region_changed rs n = ap (λ r. get_or (r ∷ map (changed_in c g) rs) n r) (sym none_changed) ∙ get_or-map (changed_in c g) (new_region ∷ rs) n new_region
+  region_changed rs n = ap (λ r. get_or (r ∷ map (changed_in c g) rs) n r) (sym none_changed) ∙ get_or-map (changed_in c g) (no_region ∷ rs) n no_region
 
   -- a region's inodes stay, the count of its logs, and what each log keeps
 
@@ -142,7 +142,7 @@ module _ (c : ℕ) (g : ReceivedLog → ReceivedLog) where
   pub own_changes : (rs : List RegionValue) (n : ℕ) → HasLog rs n c → log_seen (map (changed_in c g) rs) n c ≡ g (log_seen rs n c)
   unfolding log_seen region_seen
   own_changes rs n has =
-      let is : region_seen rs n ≡ region_in rs n = is_seen new_region rs n has.node in
+      let is : region_seen rs n ≡ region_in rs n = is_seen no_region rs n has.node in
       let number : IsNumber (region_seen rs n).logs c = subst (λ r. IsNumber r.logs c) (sym is) (log_number rs n c has) in
       ap (λ r. at no_log r.logs c) (region_changed rs n) ∙ own_changed (region_seen rs n) number
 

@@ -15,7 +15,7 @@ use Rattle.assise_machine_returns.specs.Returns.{OtherAreasStay}
 use Rattle.assise_machine_history.proofs.Numbering.{kept_open}
 use Rattle.assise_machine_state.specs.Changes.{after_open}
 use Rattle.assise_machine_state.specs.ClientValues.{ClientValue, client_seen, cut_of, no_client, opened_on}
-use Rattle.assise_machine_state.specs.NodeValues.{begun_log, log_seen, new_region, region_seen, with_logs_begun}
+use Rattle.assise_machine_state.specs.NodeValues.{begun_log, log_seen, no_region, region_seen, with_logs_begun}
 use Rattle.assise_machine_state.specs.Observed.{is_full_in, own_node, own_seen, world_of}
 use Rattle.assise_machine_state.specs.Places.{IsNumber, at}
 use Rattle.assise_machine_state.specs.Shape.{AreNoted, IsShaped}
@@ -33,7 +33,7 @@ module _ (full : ℕ → Bool) (limit home : ℕ) where
   begun m r = with_client_log r (begun_log limit (m == home))
 
   begun_kept : {A : Type 0} (f : RegionValue → A) → ((r : RegionValue) (b : Bool) → f (with_client_log r (begun_log limit b)) ≡ f r) →
-      (n : ℕ) (rs : List RegionValue) (j : ℕ) → f (get_or (with_logs_begun full limit home n rs) j new_region) ≡ f (get_or rs j new_region)
+      (n : ℕ) (rs : List RegionValue) (j : ℕ) → f (get_or (with_logs_begun full limit home n rs) j no_region) ≡ f (get_or rs j no_region)
   begun_kept f same n [] j = refl
   begun_kept f same n (r ∷ rs) zero =
       elim (cases_Bool (full n)) [
@@ -42,14 +42,14 @@ module _ (full : ℕ → Bool) (limit home : ℕ) where
       ]
   begun_kept f same n (r ∷ rs) (suc j) = begun_kept f same (suc n) rs j
 
-  begun_there : (n : ℕ) (rs : List RegionValue) (j m : ℕ) → m ≡ n + j → full m ≡ true → j < length rs → get_or (with_logs_begun full limit home n rs) j new_region ≡ begun m (get_or rs j new_region)
+  begun_there : (n : ℕ) (rs : List RegionValue) (j m : ℕ) → m ≡ n + j → full m ≡ true → j < length rs → get_or (with_logs_begun full limit home n rs) j no_region ≡ begun m (get_or rs j no_region)
   begun_there n [] j m is has low = absurd (omega (arith, low))
-  begun_there n (r ∷ rs) zero m is has low = (let same : m ≡ n = omega (arith, is) in subst (λ k. get_or (with_logs_begun full limit home k (r ∷ rs)) 0 new_region ≡ begun m r) same (rw has refl))
+  begun_there n (r ∷ rs) zero m is has low = (let same : m ≡ n = omega (arith, is) in subst (λ k. get_or (with_logs_begun full limit home k (r ∷ rs)) 0 no_region ≡ begun m r) same (rw has refl))
   begun_there n (r ∷ rs) (suc j) m is has low = begun_there (suc n) rs j m (omega (arith, is)) has (omega (arith, low))
 
-  begun_away : (n : ℕ) (rs : List RegionValue) (j m : ℕ) → m ≡ n + j → full m ≡ false → get_or (with_logs_begun full limit home n rs) j new_region ≡ get_or rs j new_region
+  begun_away : (n : ℕ) (rs : List RegionValue) (j m : ℕ) → m ≡ n + j → full m ≡ false → get_or (with_logs_begun full limit home n rs) j no_region ≡ get_or rs j no_region
   begun_away n [] j m is away = refl
-  begun_away n (r ∷ rs) zero m is away = (let same : m ≡ n = omega (arith, is) in subst (λ k. get_or (with_logs_begun full limit home k (r ∷ rs)) 0 new_region ≡ r) same (rw away refl))
+  begun_away n (r ∷ rs) zero m is away = (let same : m ≡ n = omega (arith, is) in subst (λ k. get_or (with_logs_begun full limit home k (r ∷ rs)) 0 no_region ≡ r) same (rw away refl))
   begun_away n (r ∷ rs) (suc j) m is away = begun_away (suc n) rs j m (omega (arith, is)) away
 
   so_many_nodes : (n : ℕ) (rs : List RegionValue) → length (with_logs_begun full limit home n rs) ≡ length rs

@@ -3,9 +3,9 @@ use Rattle.std.proofs.Common.{◌≡◌, ℕ, zero, suc, ◌+◌, [], ◌∷◌,
 use Rattle.assise_machine_state.specs.NodeValues.{new_region, new_regions}
 
 -- one more
-pushed : (count : ℕ) → new_regions count ++ new_region ∷ [] ≡ new_regions (suc count)
-pushed zero = refl
-pushed (suc count) = ap (λ rs. new_region ∷ rs) (pushed count)
+pushed : (count hot : ℕ) → new_regions count hot ++ new_region hot ∷ [] ≡ new_regions (suc count) hot
+pushed zero hot = refl
+pushed (suc count) hot = ap (λ rs. new_region hot ∷ rs) (pushed count hot)
 
-pub one_region_more : (count : ℕ) → new_regions count ++ new_region ∷ [] ≡ new_regions (count + 1)
-one_region_more count = (let next : suc count ≡ count + 1 = omega arith in pushed count ∙ ap new_regions next)
+pub one_region_more : (count hot : ℕ) → new_regions count hot ++ new_region hot ∷ [] ≡ new_regions (count + 1) hot
+one_region_more count hot = (let next : suc count ≡ count + 1 = omega arith in pushed count hot ∙ ap (λ n. new_regions n hot) next)

@@ -74,7 +74,7 @@ module _ (s : StateValue) (n since donor : ℕ) (stale : set.FinSet nat_cmp) (sh
 
   -- it has the donor's logs, and all else stays
   abbrev filled : RegionValue
-  filled = record { inodes = (region_in s.nodes n).inodes; logs = map away (region_in s.nodes donor).logs }
+  filled = record (region_in s.nodes n) { logs = map away (region_in s.nodes donor).logs }
 
   filled_seen : region_seen t.nodes n ≡ filled
   filled_seen = region_here s.nodes n filled node_there

@@ -17,7 +17,7 @@ one_taken r c a rest there =
     let more : ReceivedLog = with_more (log_of r c) a in
     let here : log_of (with_log r c more) c ≡ more = get_or-set_same r.logs (c - 1) more no_log (omega (arith, there.some, there.there)) in
     ap (λ l. with_log (with_log r c more) c (with_records l rest)) here
-    ∙ ap (λ ls. record { inodes = r.inodes; logs = ls }) (set-set r.logs (c - 1) more (with_records more rest))
+    ∙ ap (λ ls. record r { logs = ls }) (set-set r.logs (c - 1) more (with_records more rest))
     ∙ ap (λ l. with_log r c l) (one_then_others (log_of r c) a rest)
 
 -- ---- copies

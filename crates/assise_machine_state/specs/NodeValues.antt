@@ -6,20 +6,24 @@ use Rattle.assise_inode_table.specs.Opening.{opening}
 use Rattle.assise_record.specs.declared.effect.Effect.{Effect}
 use Rattle.assise_record.specs.LogRecord.{LogRecord}
 use Rattle.assise_private_log.specs.NumberedLog.{NumberedLog, empty_log}
-use Rattle.assise_digest.specs.Region.{AreWhole, HasClient, IsBegun, ReceivedLog, RegionValue, from_number, log_of, no_log, up_to_number, with_client, with_log, with_more, without_last_client}
+use Rattle.assise_digest.specs.Region.{AreWhole, HasClient, IsBegun, ReceivedLog, RegionValue, from_number, log_of, no_log, up_to_number, with_client, with_log, with_more, without_clients, without_last_client}
 use Rattle.assise_machine_state.specs.Places.{IsNumber, at, item, put}
 
--- a node that received nothing
-abbrev pub new_region : RegionValue
-new_region = record { inodes = opening; logs = [] }
+-- a node that received nothing, of which so many inodes may be hot
+abbrev pub new_region : (hot : ℕ) → RegionValue
+new_region hot = record { inodes = opening; logs = []; capacity = hot }
 
 -- so many of them
-abbrev pub new_regions : ℕ → List RegionValue
-new_regions zero = []
-new_regions (suc count) = new_region ∷ new_regions count
+abbrev pub new_regions : (count hot : ℕ) → List RegionValue
+new_regions zero hot = []
+new_regions (suc count) hot = new_region hot ∷ new_regions count hot
+
+-- what a node has that isn't there
+abbrev pub no_region : RegionValue
+no_region = new_region 0
 
 abbrev pub region_in : List RegionValue → ℕ → RegionValue
-region_in rs n = item new_region rs n
+region_in rs n = item no_region rs n
 
 -- what node n has of client c's log
 abbrev pub log_in : List RegionValue → ℕ → ℕ → ReceivedLog
@@ -33,7 +37,7 @@ pub record HasLog (rs : List RegionValue) (n c : ℕ) : Type 0 where
 -- ---- of any number
 
 unfoldable pub region_seen : List RegionValue → ℕ → RegionValue
-region_seen rs n = at new_region rs n
+region_seen rs n = at no_region rs n
 
 unfoldable pub log_seen : List RegionValue → ℕ → ℕ → ReceivedLog
 log_seen rs n c = at no_log (region_seen rs n).logs c
@@ -62,17 +66,21 @@ away l = record { log = l.log; digested = l.digested; at_home = false }
 abbrev pub copied : NumberedLog × ℕ → ReceivedLog
 copied c = record { log = c.0; digested = c.1; at_home = false }
 
+-- a node gets these behind its own
+abbrev pub with_copies : RegionValue → List (NumberedLog × ℕ) → RegionValue
+with_copies r copies = record r { logs = r.logs ++ map copied copies }
+
 -- what is digested is a part of each, and each record can be made all or none
 abbrev pub AreTaken : List (NumberedLog × ℕ) → Type 0
 AreTaken [] = Unit {0}
 AreTaken (c ∷ cs) = IsBegun (copied c) × AreWhole c.0.records × AreTaken cs
 
 abbrev pub with_logs_of : List RegionValue → ℕ → ℕ → List RegionValue
-with_logs_of rs n donor = with_region rs n (record { inodes = (region_in rs n).inodes; logs = map away (region_in rs donor).logs })
+with_logs_of rs n donor = with_region rs n (record (region_in rs n) { logs = map away (region_in rs donor).logs })
 
 -- a node has no logs any more
 abbrev pub without_logs : List RegionValue → ℕ → List RegionValue
-without_logs rs n = with_region rs n (record { inodes = (region_in rs n).inodes; logs = [] })
+without_logs rs n = with_region rs n (without_clients (region_in rs n))
 
 -- ---- a client more
 

@@ -1,12 +1,12 @@
 // What all nodes have.
-ghost use Rattle.std.specs.Prelude.{◌≡◌, ◌⊎◌, ◌+◌, ◌^◌, ◌<◌, ◌≤◌, [], ◌++◌, IfErr, IfOk, IsOk, IsOkUnless, None, OnErr, OnOk, drop, false, length, map as mapped, true};
+ghost use Rattle.std.specs.Prelude.{◌≡◌, ◌⊎◌, ◌+◌, ◌^◌, ◌<◌, ◌≤◌, [], IfErr, IfOk, IsOk, IsOkUnless, None, OnErr, OnOk, drop, false, length, map as mapped, true};
 ghost use Rattle.std.specs.FinMap as map;
 ghost use Rattle.assise_names.specs.declared.refusal.Refusal.TheVariants.{LogFull, OutOfMemory};
 ghost use Rattle.assise_inode_table.specs.Whole.{CanBeMadeWhole};
 ghost use Rattle.assise_private_log.specs.NumberedLog.{end};
-ghost use Rattle.assise_digest.specs.Region.{AreWhole, HasClient, HasRoom, IsFull, IsQuiet, ReceivedLog, TouchApart, ahead_below, digested_by, from_number, log_of, up_to_number, with_client, with_inode, with_log, with_more};
+ghost use Rattle.assise_digest.specs.Region.{AreWhole, HasClient, HasRoom, IsFull, IsQuiet, ReceivedLog, TouchApart, ahead_below, digested_by, from_number, log_of, up_to_number, with_client, with_inode, with_log, with_more, without_clients};
 ghost use Rattle.assise_manager.specs.Whole.{membership};
-ghost use Rattle.assise_machine_state.specs.NodeValues.{AreDigested, AreTaken, AreUndigested, HasLog, IsDigestedTo, IsUndigestedFrom, away, begun_log, changed_in, copied, log_in, new_regions, region_in, with_fronts_dropped, with_log_in, with_logs_begun, with_logs_ended, with_logs_of, with_records, with_region, with_tails_cut, without_log_of, without_logs};
+ghost use Rattle.assise_machine_state.specs.NodeValues.{AreDigested, AreTaken, AreUndigested, HasLog, IsDigestedTo, IsUndigestedFrom, away, begun_log, changed_in, copied, log_in, new_regions, region_in, with_copies, with_fronts_dropped, with_log_in, with_logs_begun, with_logs_ended, with_logs_of, with_records, with_region, with_tails_cut, without_log_of, without_logs};
 ghost use Rattle.assise_machine_state.specs.Observed.{is_full_in};
 ghost use Rattle.assise_machine_state.specs.Places.{IsNumber};
 
@@ -46,7 +46,7 @@ impl Nodes {
     pub fn new(alloc: Global, count: u32, hot_capacity: usize) -> Result<Nodes, Refusal>
         requires least { 1 ≤ hot_capacity }
         requires most { hot_capacity ≤ 4096 }
-        ensures new { IfOk result (λ nodes. nodes ≡ new_regions count) }
+        ensures new { IfOk result (λ nodes. nodes ≡ new_regions count hot_capacity) }
         ensures only_memory { IsOkUnless result OutOfMemory }
     {
         let mut regions = Vec::with_capacity(alloc, count as usize)?;
@@ -338,8 +338,8 @@ fn copies_of(alloc: Global, region: &Region) -> Result<Vec<(Log, u64)>, Refusal>
 /// A node gets these logs behind its own, of clients that live elsewhere, up to the first for which there is no memory.
 fn add_copies(region: &mut Region, mut copies: IntoIter<(Log, u64)>) -> Result<(), Refusal>
     requires sound { AreTaken copies.rest.items }
-    ensures ok { OnOk result (region.new ≡ record { inodes = region.old.inodes; logs = region.old.logs ++ mapped copied copies.rest.items }) }
-    ensures err { OnErr result (region.new.inodes ≡ region.old.inodes) }
+    ensures ok { OnOk result (region.new ≡ with_copies region.old copies.rest.items) }
+    ensures err { OnErr result (without_clients region.new ≡ without_clients region.old) }
     ensures only_memory { IsOkUnless result OutOfMemory }
 {
     let Some((log, digested)) = copies.next() else {

@@ -31,7 +31,7 @@ impl<C: Revokes + Drop> SoundOf<C> {
     ghost use Rattle.assise_machine_laws.specs.World.{IsClient, received_by_all};
     ghost use Rattle.assise_machine_events.specs.Faults.{node_fault};
     ghost use Rattle.assise_machine_events.specs.Machine.{begun_as};
-    ghost use Rattle.assise_machine_state.specs.NodeValues.{region_seen};
+    ghost use Rattle.assise_machine_state.specs.NodeValues.{new_regions, region_seen};
 
     /// A cluster in which nothing happened: 1 to 8 full nodes, whose clients' logs have 8 to 4,096 records at most, and 1 to
     /// 4,096 inodes that may be hot. The one refusal is [`Refusal::OutOfMemory`].
@@ -48,6 +48,7 @@ impl<C: Revokes + Drop> SoundOf<C> {
         requires least_hot { 1 ≤ hot_capacity }
         requires most_hot { hot_capacity ≤ 4096 }
         ensures begun { IfOk result (λ s. machine_of s.state ≡ begun_as nodes limit) }
+        ensures regions { IfOk result (λ s. s.state.nodes ≡ new_regions nodes hot_capacity) }
         ensures only_memory { IsOkUnless result OutOfMemory }
     {
         Ok(SoundOf {

@@ -67,7 +67,7 @@ impl<C: Revokes + Drop> StateOf<C> {
         ensures begun { IfOk result (λ s. machine_of s ≡ begun_as nodes limit) }
         ensures shape { IfOk result (λ s. IsShaped (value_of s)) }
         ensures noted { IfOk result (λ s. AreNoted (value_of s)) }
-        ensures regions { IfOk result (λ s. s.nodes ≡ new_regions nodes) }
+        ensures regions { IfOk result (λ s. s.nodes ≡ new_regions nodes hot_capacity) }
         ensures only_memory { IsOkUnless result OutOfMemory }
     {
         Ok(StateOf {

@@ -43,7 +43,7 @@ fn one_node_alone_changes(rt: HostRuntime) {
 }
 
 fn three_nodes(alloc: Global) -> Option<Nodes>
-    ensures { IfSome result (λ nodes. nodes ≡ new_regions 3) }
+    ensures { IfSome result (λ nodes. nodes ≡ new_regions 3 4) }
 {
     Nodes::new(alloc, 3, 4).ok()
 }

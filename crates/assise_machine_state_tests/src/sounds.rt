@@ -6,8 +6,12 @@ use assise_names::refusal::Refusal;
 use assise_names::reply::Reply;
 use std::process::Abort;
 
-/// So many full nodes, so many records in a log at most, and nothing that happened.
-fn see_limits(rt: &impl Abort, sound: &Sound, nodes: u32, limit: usize) {
+/// So many full nodes, so many records in a log and hot inodes of each node at most, and nothing that happened.
+fn see_limits(rt: &impl Abort, sound: &Sound, nodes: u32, limit: usize, hot_capacity: usize) {
+    for node in 1..=nodes {
+        let region = sound.region(node).expect(rt, "not full");
+        assert_eq!(rt; region.hot_capacity(), hot_capacity);
+    }
     assert_eq!(rt; sound.state.limit, limit);
     assert_eq!(rt; sound.state.nodes.len(), nodes as usize);
     assert_eq!(rt; sound.state.members.full_nodes().len(), nodes as usize);
@@ -19,7 +23,7 @@ fn see_limits(rt: &impl Abort, sound: &Sound, nodes: u32, limit: usize) {
 fn the_least_and_the_greatest_limits_are_kept(rt: HostRuntime) {
     for (nodes, limit, hot_capacity) in [(1, 8, 1), (3, 64, 8), (8, 4096, 4096)] {
         let sound = Sound::new(rt.alloc(), nodes, limit, hot_capacity).expect(&rt, "no memory");
-        see_limits(&rt, &sound, nodes, limit);
+        see_limits(&rt, &sound, nodes, limit, hot_capacity);
     }
 }
 

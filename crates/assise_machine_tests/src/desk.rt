@@ -43,6 +43,9 @@ const ROUNDS: u32 = 8;
 /// More inodes than any node lacks.
 const MANY: u32 = 1000;
 
+/// How many inodes may be hot where a test doesn't say.
+pub(crate) const HOT: usize = 2;
+
 /// A cluster; the frames that its nodes sent, numbered from 1; the revokers of clients that are opened, the last first; how many
 /// nodes there are, and rounds are made where a line waits; and the steps that were made, one in a line, with what the last of
 /// them came to.
@@ -62,7 +65,7 @@ impl Desk {
     pub(crate) fn new(alloc: Global) -> Result<Desk, Refusal> {
         let letters = Vec::with_capacity(alloc, 16)?;
         let stock = Vec::with_capacity(alloc, 20)?;
-        let cluster = Cluster::new(alloc, 1, 8, 2)?;
+        let cluster = Cluster::new(alloc, 1, 8, HOT)?;
         Ok(Desk {
             cluster,
             letters,
@@ -74,16 +77,17 @@ impl Desk {
         })
     }
 
-    /// Begins anew with so many nodes, whose clients' logs have so many records at most. None where there is no such cluster, or
-    /// no memory.
+    /// Begins anew with so many nodes, whose clients' logs have so many records at most, and so many inodes that may be hot. None
+    /// where there is no such cluster, or no memory.
     pub(crate) fn renew(
         &mut self,
         alloc: Global,
         nodes: u32,
         log: usize,
+        hot: usize,
         rounds: u32,
     ) -> Option<()> {
-        if nodes == 0 || nodes > 8 || log < 8 || log > 4096 {
+        if nodes == 0 || nodes > 8 || log < 8 || log > 4096 || hot == 0 || hot > 4096 {
             return None;
         }
         self.letters.clear();
@@ -92,7 +96,7 @@ impl Desk {
         self.outcome.clear();
         self.nodes = nodes;
         self.rounds = rounds;
-        self.cluster = Cluster::new(alloc, nodes, log, 2).ok()?;
+        self.cluster = Cluster::new(alloc, nodes, log, hot).ok()?;
         Some(())
     }
 
@@ -103,7 +107,7 @@ impl Desk {
             match word {
                 "cluster" => {
                     let (nodes, _) = split_word(rest);
-                    self.renew(alloc, small_in(nodes)?, 16, ROUNDS)?;
+                    self.renew(alloc, small_in(nodes)?, 16, HOT, ROUNDS)?;
                 }
                 "history" | "tree" => (),
                 _ => self.serve(alloc, line)?,

@@ -1,5 +1,5 @@
 // Scripts in which a node fails at each place, and comes back.
-use crate::desk::Desk;
+use crate::desk::{Desk, HOT};
 use crate::faults::{fault_at_the_end, fault_behind};
 use crate::tasks::{Task, on_desk};
 use assise_rows::scripts::{
@@ -160,7 +160,7 @@ fn fault_of(
     place: usize,
     away: usize,
 ) -> Option<&'static str> {
-    desk.renew(alloc, desk.nodes, 16, 0)?;
+    desk.renew(alloc, desk.nodes, 16, HOT, 0)?;
     let mut number = 0_usize;
     for step in steps.lines() {
         fail_or_return(alloc, desk, node, place, away, number)?;

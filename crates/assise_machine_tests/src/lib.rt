@@ -16,6 +16,8 @@ mod faults;
 #[cfg(test)]
 mod frames;
 #[cfg(test)]
+mod hot;
+#[cfg(test)]
 mod lists;
 #[cfg(test)]
 mod reading;

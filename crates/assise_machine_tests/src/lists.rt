@@ -1,5 +1,5 @@
 // Lists of steps by chance.
-use crate::desk::Desk;
+use crate::desk::{Desk, HOT};
 use crate::dice::Dice;
 use crate::faults::{fault_at_the_end, fault_behind};
 use crate::tasks::{Task, on_desk};
@@ -184,7 +184,7 @@ fn put_letter(dice: &mut Dice, desk: &Desk, text: &mut String) -> Result<(), All
 fn begin(alloc: Global, dice: &mut Dice, desk: &mut Desk) -> Option<()> {
     let log = dice.below(6) as usize + 8;
     let nodes = dice.below(4) as u32 + 1;
-    desk.renew(alloc, nodes, log, 0)?;
+    desk.renew(alloc, nodes, log, HOT, 0)?;
     for _ in 0..dice.number(4) {
         desk.make(alloc, dice.line("stock l\nstock w\nstock e\n"))?;
     }

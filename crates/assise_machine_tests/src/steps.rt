@@ -1,5 +1,5 @@
 // Steps on a cluster, as text.
-use crate::desk::{Asked, Desk, Letter};
+use crate::desk::{Asked, Desk, HOT, Letter};
 use crate::frames::{copy_of, frame_in, put_digits};
 use crate::told::{keep, put_answer, put_told};
 use crate::words::{number_in, small_in};
@@ -11,9 +11,9 @@ use assise_machine::run::apply_event;
 use assise_rows::split_word;
 use std::alloc::Global;
 
-/// Makes a step, and appends what it comes to: a question, an event, or `cluster NODES LOG`, `stock KINDS`, `times COUNT STEP`,
-/// `frame NUMBER`, `frame of DIGITS`, and `deliver` for a frame that is given away. None where there is no such step, or no memory
-/// to read or to answer it.
+/// Makes a step, and appends what it comes to: a question, an event, or `cluster NODES LOG HOT`, `stock KINDS`,
+/// `times COUNT STEP`, `frame NUMBER`, `frame of DIGITS`, and `deliver` for a frame that is given away. None where there is no such
+/// step, or no memory to read or to answer it.
 pub(crate) fn put_step(
     alloc: Global,
     desk: &mut Desk,
@@ -22,20 +22,29 @@ pub(crate) fn put_step(
 ) -> Option<()> {
     let (word, rest) = split_word(step);
     match word {
-        "acked" | "log" | "inode" | "tree" | "history" => {
+        "acked" | "log" | "inode" | "hot" | "capacity" | "tree" | "history" => {
             put_answer(alloc, &desk.cluster, word, rest, text)
         }
-        "cluster" => {
-            let (nodes, log) = split_word(rest);
-            desk.renew(alloc, small_in(nodes)?, number_in(log)? as usize, 0)?;
-            text.push_str("begun").ok()
-        }
+        "cluster" => put_new_cluster(alloc, desk, rest, text),
         "stock" => put_stock(desk, rest, text),
         "times" => put_repeated(alloc, desk, rest, text),
         "frame" => put_frame(alloc, desk, rest, text),
         "deliver" => put_delivery(alloc, desk, rest, text),
         _ => put_event(alloc, desk, step, text),
     }
+}
+
+/// Begins anew as `NODES LOG HOT` says, or `NODES LOG`.
+fn put_new_cluster(alloc: Global, desk: &mut Desk, rest: &str, text: &mut String) -> Option<()> {
+    let (nodes, limits) = split_word(rest);
+    let (log, hot) = split_word(limits);
+    let hot = if hot.is_empty() {
+        HOT
+    } else {
+        number_in(hot)? as usize
+    };
+    desk.renew(alloc, small_in(nodes)?, number_in(log)? as usize, hot, 0)?;
+    text.push_str("begun").ok()
 }
 
 /// Adds revokers to the stock, a letter each, and appends how many it has.

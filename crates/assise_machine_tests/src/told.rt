@@ -84,8 +84,8 @@ fn put_losses(losses: &[(u32, u64)], text: &mut String) -> Result<(), AllocError
     Ok(())
 }
 
-/// Appends what is told of a client's acknowledged records, of its log at a node, of an inode at a node, of the tree that a node
-/// has, or of the history.
+/// Appends what is told of a client's acknowledged records, of its log at a node, of an inode at a node and whether it is hot
+/// there, of how many may be hot, of the tree that a node has, or of the history.
 pub(crate) fn put_answer(
     alloc: Global,
     cluster: &Cluster,
@@ -102,6 +102,8 @@ pub(crate) fn put_answer(
         }
         "log" => put_log(cluster, small_in(first)?, node?, text),
         "inode" => put_inode(cluster, number_in(first)?, node?, text),
+        "hot" => put_warmth(cluster, number_in(first)?, node?, text),
+        "capacity" => put_capacity(cluster, small_in(place)?, text),
         "tree" => put_tree_at(alloc, cluster, small_in(place)?, text),
         _ => put_history(cluster, text).ok(),
     }
@@ -133,6 +135,18 @@ pub(crate) fn put_inode(cluster: &Cluster, inode: u64, node: u32, text: &mut Str
         }
         None => text.push_str("none").ok(),
     }
+}
+
+/// Appends whether an inode is hot at a node. None where there is no such node.
+fn put_warmth(cluster: &Cluster, inode: u64, node: u32, text: &mut String) -> Option<()> {
+    let hot = cluster.region(node).ok()?.is_hot(inode);
+    text.push_str(if hot { "hot" } else { "cold" }).ok()
+}
+
+/// Appends how many inodes may be hot at a node. None where there is no such node.
+fn put_capacity(cluster: &Cluster, node: u32, text: &mut String) -> Option<()> {
+    let capacity = cluster.region(node).ok()?.hot_capacity();
+    write!(text, "{capacity}").ok()
 }
 
 /// Appends the entries of the history, one behind another.

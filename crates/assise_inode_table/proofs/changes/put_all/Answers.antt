@@ -18,4 +18,4 @@ put_value-requires g c =
 pub loop-change-preserved : goal.loop-change-preserved
 loop-change-preserved g c =
     next_left (g.S.Inodes.contents c.args.store.now) (g.S.Inodes.contents c.loop-change.store) (g.S.Inodes.contents c.put_value.new.store) c.args.changes.items c.loop-change.changes.items c.pop.new.self.items c.in-Some.change
-    c.loop-change.invariant c.in-Some.ensures.items c.put_value.ensures
+    c.loop-change.invariant c.in-Some.ensures.items c.put_value.ensures.value

@@ -17,13 +17,16 @@ pub loop-effect-preserved : goal.loop-effect-preserved
 loop-effect-preserved g c =
     let es : List Effect = c.args.effects.now in
     let rest : List Effect = take (length es - 1) (drop 1 es) in
-    c.take_away.ensures ∙ ap (λ m. applied m c.effect-item.result) c.loop-effect.invariant
-    ∙ sym (one_more_applied (g.S.Inodes.contents c.apply.new.self) rest c.loop-effect.effect-index c.effect-item.result c.loop-effect-test.true c.effect-item.is)
+    record {
+      made = c.take_away.ensures.applied ∙ ap (λ m. applied m c.effect-item.result) c.loop-effect.invariant.made
+          ∙ sym (one_more_applied (g.S.Inodes.contents c.apply.new.self) rest c.loop-effect.effect-index c.effect-item.result c.loop-effect-test.true c.effect-item.is);
+      setting = c.take_away.ensures.setting ∙ c.loop-effect.invariant.setting;
+    }
 
 pub returns-clause-ok : goal.returns-clause-ok
 returns-clause-ok g c =
     let es : List Effect = c.args.effects.now in
     let rest : List Effect = take (length es - 1) (drop 1 es) in
     let are : es ≡ c.first-item.result ∷ rest = first_ahead es c.first-item.result c.in-len1-up.len_at_least c.first-item.is in
-    c.loop-effect.invariant ∙ ap (all_applied (g.S.Inodes.contents c.apply.new.self)) (take_all c.loop-effect.effect-index rest (omega (arith, c.loop-effect-test.false)))
+    c.loop-effect.invariant.made ∙ ap (all_applied (g.S.Inodes.contents c.apply.new.self)) (take_all c.loop-effect.effect-index rest (omega (arith, c.loop-effect-test.false)))
     ∙ ap (λ m. all_applied m rest) c.in_ok-apply.ensures.ok ∙ sym (ap (all_applied (g.S.Inodes.contents c.args.store.now)) are)

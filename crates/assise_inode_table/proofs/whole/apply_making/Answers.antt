@@ -11,5 +11,5 @@ put_value-requires g c =
 
 pub returns-in-Err-clause-err : goal.returns-in-Err-clause-err
 returns-in-Err-clause-err g c =
-    c.put_value.ensures ∙ ap (λ m. with_value m c.args.inode c.in_ok-had.had) (c.in-Err.ensures.err ∙ c.in_ok-had.ensures.ok)
+    c.put_value.ensures.value ∙ ap (λ m. with_value m c.args.inode c.in_ok-had.had) (c.in-Err.ensures.err ∙ c.in_ok-had.ensures.ok)
     ∙ given_back (g.S.Inodes.contents c.args.store.now) c.args.inode c.args.made c.in_ok-had.had c.in_ok-had.ensures.replaced

@@ -42,5 +42,5 @@ returns-clause-ok c =
     let next = c.in-Some.next.now in
     let is : Some next ≡ record_at x.log x.digested =
     subst (λ z. Some next ≡ record_at z.log z.digested) (same_item xs _ c.index-received.result.now x within c.index-received.ensures c.index_mut.ensures.value) c.in-Some.ensures in
-    digested_view m c.apply_all.new.self.inodes xs c.args.self.now c.args.client x c.count_digested.new.self next c.self.view_is c.requires.client c.index_mut.ensures.value here.begun is
-    (c.in_ok-apply_all.ensures.ok ∙ ap (all_applied m) c.effects.ensures.effects) c.count_digested.ensures.seen
+    digested_view m c.apply_all.new.self.inodes c.apply_all.new.self.capacity xs c.args.self.now c.args.client x c.count_digested.new.self next c.self.view_is c.requires.client c.index_mut.ensures.value here.begun is
+    (c.in_ok-apply_all.ensures.ok ∙ ap (all_applied m) c.effects.ensures.effects) c.apply_all.ensures.capacity c.count_digested.ensures.seen

@@ -8,6 +8,7 @@ returns-clause-begun g c =
     starts
     (value_of (record { nodes = c.in_ok-new.field-0; members = c.in_ok-new-2.field-0; clients = c.in_ok-new-3.field-0; leases = c.new-4.result; cuts = c.new-5.result; history = c.new-6.result; limit = c.args.limit }))
     c.args.nodes
+    c.args.hot_capacity
     c.in_ok-new.ensures.new
     c.in_ok-new-2.ensures.full
     c.in_ok-new-3.ensures.none
@@ -20,6 +21,7 @@ returns-clause-shape g c =
     starts_shaped
     (value_of (record { nodes = c.in_ok-new.field-0; members = c.in_ok-new-2.field-0; clients = c.in_ok-new-3.field-0; leases = c.new-4.result; cuts = c.new-5.result; history = c.new-6.result; limit = c.args.limit }))
     c.args.nodes
+    c.args.hot_capacity
     c.in_ok-new.ensures.new
     c.in_ok-new-2.ensures.full
     c.in_ok-new-3.ensures.none
