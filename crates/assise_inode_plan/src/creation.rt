@@ -31,7 +31,7 @@ pub(crate) fn plan_create<V: View>(
     ensures only_memory { IsOkUnless result OutOfMemory }
 {
     let new = Effect::NewFile { inode: fresh };
-    plan_new(alloc, view, names, new, fresh)
+    plan_new(alloc, view, names, &new, fresh)
 }
 
 /// Makes a directory without entries, the inode `fresh`.
@@ -46,7 +46,7 @@ pub(crate) fn plan_mkdir<V: View>(
     ensures only_memory { IsOkUnless result OutOfMemory }
 {
     let new = Effect::NewDir { inode: fresh };
-    plan_new(alloc, view, names, new, fresh)
+    plan_new(alloc, view, names, &new, fresh)
 }
 
 /// Makes an inode, `fresh`, by the effect that makes it new, and its entry.
@@ -54,11 +54,11 @@ fn plan_new<V: View>(
     alloc: Global,
     view: &V,
     names: &[Name],
-    new: Effect,
+    new: &Effect,
     fresh: u64,
 ) -> Result<Planned, Refusal>
-    ensures exact { IfOk result (λ p. shown p ≡ plan_from (V.leased view.now) (values (V.contents view.now)) [] (make_call new names.now fresh)) }
-    ensures asked { OnErr result (NotesAVisit (V.leased view.now) (visits_of (values (V.contents view.now)) (make_call new names.now fresh))) }
+    ensures exact { IfOk result (λ p. shown p ≡ plan_from (V.leased view.now) (values (V.contents view.now)) [] (make_call new.now names.now fresh)) }
+    ensures asked { OnErr result (NotesAVisit (V.leased view.now) (visits_of (values (V.contents view.now)) (make_call new.now names.now fresh))) }
     ensures only_memory { IsOkUnless result OutOfMemory }
 {
     let mut reads = Vec::new(alloc);
@@ -83,16 +83,16 @@ fn plan_new<V: View>(
 /// A new inode, and its entry in a directory.
 fn new_inode_effects(
     alloc: Global,
-    new: Effect,
+    new: &Effect,
     directory: u64,
     name: &Name,
     fresh: u64,
 ) -> Result<Vec<Effect>, Refusal>
-    ensures effects { IfOk result (λ effects. effects.items ≡ new ∷ Link directory name.now fresh ∷ []) }
+    ensures effects { IfOk result (λ effects. effects.items ≡ new.now ∷ Link directory name.now fresh ∷ []) }
     ensures only_memory { IsOkUnless result OutOfMemory }
 {
     let mut effects = Vec::with_capacity(alloc, 2)?;
-    effects.push(new)?;
+    effects.push(new.copy()?)?;
     effects.push(Effect::Link {
         directory,
         name: name.copy()?,
