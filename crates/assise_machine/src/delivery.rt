@@ -15,6 +15,7 @@ ghost use Rattle.assise_machine.specs.Answers.{delivery_answer};
 ghost use Rattle.assise_machine.specs.Taking.{HasRoomFor, IsNextOf, lacking, own_log};
 
 use crate::faults::node_refusal;
+use assise_chain::acceptance::is_timely;
 use assise_lease_table::revoker::Revokes;
 use assise_machine_state::sound::SoundOf;
 use assise_machine_state::state::StateOf;
@@ -45,7 +46,7 @@ pub(crate) fn deliver<C: Revokes + Drop>(
     }
     let client = frame.client();
     let received = state.nodes.region(node).log(client as usize).end();
-    if !is_timely(state, &frame, received) {
+    if !is_next(state, &frame, received) {
         return Err(Refusal::StaleMessage);
     }
     let place = frame.first() + frame.records().len() as u64;
@@ -88,7 +89,7 @@ fn frame_refusal<C: Revokes + Drop>(sound: &SoundOf<C>, frame: &Frame, node: u32
     }
     let client = frame.client();
     let received = state.nodes.region(node).log(client as usize).end();
-    if is_timely(state, frame, received) {
+    if is_next(state, frame, received) {
         None
     } else {
         Some(Refusal::StaleMessage)
@@ -114,7 +115,7 @@ pub(crate) fn delivery_refusal<C: Revokes + Drop>(
 }
 
 /// Whether a frame is of this epoch, leaves no gap behind what was received, and goes on as the client's own log does.
-fn is_timely<C: Revokes + Drop>(state: &StateOf<C>, frame: &Frame, received: u64) -> bool
+fn is_next<C: Revokes + Drop>(state: &StateOf<C>, frame: &Frame, received: u64) -> bool
     requires client { IsNumber state.now.clients frame.now.client }
     requires shape { IsShaped (value_of state.now) }
     requires begun { (own_log (value_of state.now) frame.now.client).first ≤ received }
@@ -123,7 +124,7 @@ fn is_timely<C: Revokes + Drop>(state: &StateOf<C>, frame: &Frame, received: u64
     ensures room { result ≡ true → 0 < length (lacking frame.now received) → HasRoomFor (own_log (value_of state.now) frame.now.client) received (length (lacking frame.now received)) }
     ensures whole { result ≡ true → AreWhole (lacking frame.now received) }
 {
-    if frame.epoch() != state.members.epoch() || received < frame.first() {
+    if !is_timely(frame, received, state.members.epoch()) {
         return false;
     }
     let had = received - frame.first();

@@ -12,3 +12,5 @@ pub mod laws;
 mod progress;
 pub mod run;
 mod sending;
+
+pub use assise_machine_calls::turn;

@@ -3,7 +3,7 @@ use crate::desk::{Cluster, Letter};
 use crate::reading::tree_at;
 use crate::words::{number_in, small_in};
 use assise_machine::answer::Answer;
-use assise_machine_calls::turn::Turn;
+use assise_machine::turn::Turn;
 use assise_rows::split_word;
 use std::alloc::{AllocError, Global};
 

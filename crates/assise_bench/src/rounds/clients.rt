@@ -3,7 +3,7 @@ use crate::least::Least;
 use crate::rounds::exchange::{Cluster, round};
 use crate::rounds::made::{directory, file};
 use crate::rounds::setting::{Parts, Setting};
-use assise_machine_calls::turn::Turn;
+use assise_machine::turn::Turn;
 use assise_names::call::Op;
 use assise_names::reply::Reply;
 use std::alloc::Global;

@@ -26,22 +26,22 @@ log-requires g c =
       client = subst (λ r. HasClient r c.client-client.result) (sym c.region.ensures) (subst (λ k. HasClient (region_in s.nodes c.args.node) k) (sym c.client-client.ensures.client) there.client);
     }
 
-pub is_timely-requires-clause-client : goal.is_timely-requires-clause-client
-is_timely-requires-clause-client g c = fine_client (value_of c.args.sound.now.state) c.args.frame c.args.node (sym c.delivery_refusal.ensures ∙ c.in_default.is)
+pub is_next-requires-clause-client : goal.is_next-requires-clause-client
+is_next-requires-clause-client g c = fine_client (value_of c.args.sound.now.state) c.args.frame c.args.node (sym c.delivery_refusal.ensures ∙ c.in_default.is)
 
-pub is_timely-requires-clause-begun : goal.is_timely-requires-clause-begun
-is_timely-requires-clause-begun g c =
+pub is_next-requires-clause-begun : goal.is_next-requires-clause-begun
+is_next-requires-clause-begun g c =
     let fine = sym c.delivery_refusal.ensures ∙ c.in_default.is in
     let is = received_as (value_of c.args.sound.now.state) c.args.frame c.args.node c.args.sound.now.shape c.args.sound.now.holds c.args.sound.now.state.members.lawful.some_full fine
     c.region.result.now c.log.result.now c.client-client.result c.end-received.result c.end-received.ensures.end c.log.ensures.log c.region.ensures c.client-client.ensures.client in
     begun (value_of c.args.sound.now.state) c.args.frame c.args.node c.args.sound.now.shape c.args.sound.now.holds c.args.sound.now.state.members.lawful.some_full fine c.end-received.result is
 
-pub returns-then-not-is_timely-clause-happens : goal.returns-then-not-is_timely-clause-happens
-returns-then-not-is_timely-clause-happens g c =
+pub returns-then-not-is_next-clause-happens : goal.returns-then-not-is_next-clause-happens
+returns-then-not-is_next-clause-happens g c =
     let fine = sym c.delivery_refusal.ensures ∙ c.in_default.is in
     let is = received_as (value_of c.args.sound.now.state) c.args.frame c.args.node c.args.sound.now.shape c.args.sound.now.holds c.args.sound.now.state.members.lawful.some_full fine
     c.region.result.now c.log.result.now c.client-client.result c.end-received.result c.end-received.ensures.end c.log.ensures.log c.region.ensures c.client-client.ensures.client in
-    is_stale fine (not_timely (value_of c.args.sound.now.state) c.args.frame c.args.node c.args.sound.now.shape c.args.sound.now.holds c.args.sound.now.state.members.lawful.some_full fine c.end-received.result is (c.is_timely.ensures.stale c.if-not-is_timely.true)) refl refl
+    is_stale fine (not_timely (value_of c.args.sound.now.state) c.args.frame c.args.node c.args.sound.now.shape c.args.sound.now.holds c.args.sound.now.state.members.lawful.some_full fine c.end-received.result is (c.is_next.ensures.stale c.if-not-is_next.true)) refl refl
 
 pub returns-then-place-received-clause-happens : goal.returns-then-place-received-clause-happens
 returns-then-place-received-clause-happens g c =
@@ -49,7 +49,7 @@ returns-then-place-received-clause-happens g c =
     let is = received_as (value_of c.args.sound.now.state) c.args.frame c.args.node c.args.sound.now.shape c.args.sound.now.holds c.args.sound.now.state.members.lawful.some_full fine
     c.region.result.now c.log.result.now c.client-client.result c.end-received.result c.end-received.ensures.end c.log.ensures.log c.region.ensures c.client-client.ensures.client in
     let old : c.args.frame.first + length c.args.frame.records ≤ c.end-received.result = omega (arith, c.if-place-received.true, c.first.ensures.first, ap length c.records.ensures.records) in
-    nothing_new (value_of c.args.sound.now.state) c.args.frame c.args.node c.args.sound.now.shape c.args.sound.now.holds c.args.sound.now.state.members.lawful.some_full fine c.end-received.result is (c.is_timely.ensures.timely c.if-not-is_timely.false) old
+    nothing_new (value_of c.args.sound.now.state) c.args.frame c.args.node c.args.sound.now.shape c.args.sound.now.holds c.args.sound.now.state.members.lawful.some_full fine c.end-received.result is (c.is_next.ensures.timely c.if-not-is_next.false) old
 
 pub extend-requires-clause-there : goal.extend-requires-clause-there
 extend-requires-clause-there g c =
@@ -57,7 +57,7 @@ extend-requires-clause-there g c =
     let is = received_as (value_of c.args.sound.now.state) c.args.frame c.args.node c.args.sound.now.shape c.args.sound.now.holds c.args.sound.now.state.members.lawful.some_full fine
     c.region.result.now c.log.result.now c.client-client.result c.end-received.result c.end-received.ensures.end c.log.ensures.log c.region.ensures c.client-client.ensures.client in
     let past : c.end-received.result < c.args.frame.first + length c.args.frame.records = omega (arith, c.if-place-received.false, c.first.ensures.first, ap length c.records.ensures.records) in
-    let next = c.is_timely.ensures.timely c.if-not-is_timely.false in
+    let next = c.is_next.ensures.timely c.if-not-is_next.false in
     there_as (value_of c.args.sound.now.state) c.args.frame c.args.node c.args.sound.now.shape c.args.sound.now.holds c.args.sound.now.state.members.lawful.some_full fine c.end-received.result is next past c.client-client.result c.first-2.result c.into_records.result.items c.client-client.ensures.client c.first-2.ensures.first c.into_records.ensures.records
 
 pub extend-requires-clause-elsewhere : goal.extend-requires-clause-elsewhere
@@ -66,7 +66,7 @@ extend-requires-clause-elsewhere g c =
     let is = received_as (value_of c.args.sound.now.state) c.args.frame c.args.node c.args.sound.now.shape c.args.sound.now.holds c.args.sound.now.state.members.lawful.some_full fine
     c.region.result.now c.log.result.now c.client-client.result c.end-received.result c.end-received.ensures.end c.log.ensures.log c.region.ensures c.client-client.ensures.client in
     let past : c.end-received.result < c.args.frame.first + length c.args.frame.records = omega (arith, c.if-place-received.false, c.first.ensures.first, ap length c.records.ensures.records) in
-    let next = c.is_timely.ensures.timely c.if-not-is_timely.false in
+    let next = c.is_next.ensures.timely c.if-not-is_next.false in
     elsewhere_as (value_of c.args.sound.now.state) c.args.frame c.args.node c.args.sound.now.shape c.args.sound.now.holds c.args.sound.now.state.members.lawful.some_full fine c.end-received.result is next past c.client-client.result c.first-2.result c.into_records.result.items c.client-client.ensures.client c.first-2.ensures.first c.into_records.ensures.records
 
 pub extend-requires-clause-room : goal.extend-requires-clause-room
@@ -75,9 +75,9 @@ extend-requires-clause-room g c =
     let is = received_as (value_of c.args.sound.now.state) c.args.frame c.args.node c.args.sound.now.shape c.args.sound.now.holds c.args.sound.now.state.members.lawful.some_full fine
     c.region.result.now c.log.result.now c.client-client.result c.end-received.result c.end-received.ensures.end c.log.ensures.log c.region.ensures c.client-client.ensures.client in
     let past : c.end-received.result < c.args.frame.first + length c.args.frame.records = omega (arith, c.if-place-received.false, c.first.ensures.first, ap length c.records.ensures.records) in
-    let next = c.is_timely.ensures.timely c.if-not-is_timely.false in
+    let next = c.is_next.ensures.timely c.if-not-is_next.false in
     let some = some_new (value_of c.args.sound.now.state) c.args.frame c.args.node c.args.sound.now.shape c.args.sound.now.holds c.args.sound.now.state.members.lawful.some_full fine c.end-received.result is next past in
-    room_as (value_of c.args.sound.now.state) c.args.frame c.args.node c.args.sound.now.shape c.args.sound.now.holds c.args.sound.now.state.members.lawful.some_full fine c.end-received.result is next past c.client-client.result c.first-2.result c.into_records.result.items c.client-client.ensures.client c.first-2.ensures.first c.into_records.ensures.records (c.is_timely.ensures.room c.if-not-is_timely.false some)
+    room_as (value_of c.args.sound.now.state) c.args.frame c.args.node c.args.sound.now.shape c.args.sound.now.holds c.args.sound.now.state.members.lawful.some_full fine c.end-received.result is next past c.client-client.result c.first-2.result c.into_records.result.items c.client-client.ensures.client c.first-2.ensures.first c.into_records.ensures.records (c.is_next.ensures.room c.if-not-is_next.false some)
 
 pub extend-requires-clause-whole : goal.extend-requires-clause-whole
 extend-requires-clause-whole g c =
@@ -85,8 +85,8 @@ extend-requires-clause-whole g c =
     let is = received_as (value_of c.args.sound.now.state) c.args.frame c.args.node c.args.sound.now.shape c.args.sound.now.holds c.args.sound.now.state.members.lawful.some_full fine
     c.region.result.now c.log.result.now c.client-client.result c.end-received.result c.end-received.ensures.end c.log.ensures.log c.region.ensures c.client-client.ensures.client in
     let past : c.end-received.result < c.args.frame.first + length c.args.frame.records = omega (arith, c.if-place-received.false, c.first.ensures.first, ap length c.records.ensures.records) in
-    let next = c.is_timely.ensures.timely c.if-not-is_timely.false in
-    whole_as (value_of c.args.sound.now.state) c.args.frame c.args.node c.args.sound.now.shape c.args.sound.now.holds c.args.sound.now.state.members.lawful.some_full fine c.end-received.result is next past c.client-client.result c.first-2.result c.into_records.result.items c.client-client.ensures.client c.first-2.ensures.first c.into_records.ensures.records (c.is_timely.ensures.whole c.if-not-is_timely.false)
+    let next = c.is_next.ensures.timely c.if-not-is_next.false in
+    whole_as (value_of c.args.sound.now.state) c.args.frame c.args.node c.args.sound.now.shape c.args.sound.now.holds c.args.sound.now.state.members.lawful.some_full fine c.end-received.result is next past c.client-client.result c.first-2.result c.into_records.result.items c.client-client.ensures.client c.first-2.ensures.first c.into_records.ensures.records (c.is_next.ensures.whole c.if-not-is_next.false)
 
 given_now : (g : given.Over) (c : goal.After-extend g) →
     Gives (value_of c.args.sound.now.state) c.args.frame c.args.node (c.first.result + length c.records.result.now) (record (value_of c.args.sound.now.state) { nodes = c.extend.new.self })
@@ -96,7 +96,7 @@ given_now g c =
     c.region.result.now c.log.result.now c.client-client.result c.end-received.result c.end-received.ensures.end c.log.ensures.log c.region.ensures c.client-client.ensures.client in
     let past : c.end-received.result < c.args.frame.first + length c.args.frame.records = omega (arith, c.if-place-received.false, c.first.ensures.first, ap length c.records.ensures.records) in
     let place : c.first.result + length c.records.result.now ≡ c.args.frame.first + length c.args.frame.records = omega (arith, c.first.ensures.first, ap length c.records.ensures.records) in
-    given_as (value_of c.args.sound.now.state) c.args.frame c.args.node c.args.sound.now.shape c.args.sound.now.holds c.args.sound.now.state.members.lawful.some_full fine c.end-received.result is (c.is_timely.ensures.timely c.if-not-is_timely.false) past
+    given_as (value_of c.args.sound.now.state) c.args.frame c.args.node c.args.sound.now.shape c.args.sound.now.holds c.args.sound.now.state.members.lawful.some_full fine c.end-received.result is (c.is_next.ensures.timely c.if-not-is_next.false) past
     c.client-client.result c.first-2.result c.into_records.result.items c.client-client.ensures.client c.first-2.ensures.first c.into_records.ensures.records
     c.args.sound.now.noted c.extend.new.self c.extend.ensures (c.first.result + length c.records.result.now) place
 

@@ -21,28 +21,28 @@ log-requires g c =
       client = subst (λ r. HasClient r c.client-client.result) (sym c.region.ensures) (subst (λ k. HasClient (region_in s.nodes c.args.node) k) (sym c.client-client.ensures.client) there.client);
     }
 
-pub is_timely-requires-clause-client : goal.is_timely-requires-clause-client
-is_timely-requires-clause-client g c = fine_client (value_of c.args.sound.now.state) c.args.frame.now c.args.node (sym c.delivery_refusal.ensures ∙ c.in_default.is)
+pub is_next-requires-clause-client : goal.is_next-requires-clause-client
+is_next-requires-clause-client g c = fine_client (value_of c.args.sound.now.state) c.args.frame.now c.args.node (sym c.delivery_refusal.ensures ∙ c.in_default.is)
 
-pub is_timely-requires-clause-begun : goal.is_timely-requires-clause-begun
-is_timely-requires-clause-begun g c =
+pub is_next-requires-clause-begun : goal.is_next-requires-clause-begun
+is_next-requires-clause-begun g c =
     let fine = sym c.delivery_refusal.ensures ∙ c.in_default.is in
     let is = received_as (value_of c.args.sound.now.state) c.args.frame.now c.args.node c.args.sound.now.shape c.args.sound.now.holds c.args.sound.now.state.members.lawful.some_full fine
     c.region.result.now c.log.result.now c.client-client.result c.end-received.result c.end-received.ensures.end c.log.ensures.log c.region.ensures c.client-client.ensures.client in
     begun (value_of c.args.sound.now.state) c.args.frame.now c.args.node c.args.sound.now.shape c.args.sound.now.holds c.args.sound.now.state.members.lawful.some_full fine c.end-received.result is
 
-pub returns-then-is_timely-clause-timely : goal.returns-then-is_timely-clause-timely
-returns-then-is_timely-clause-timely g c =
+pub returns-then-is_next-clause-timely : goal.returns-then-is_next-clause-timely
+returns-then-is_next-clause-timely g c =
     let fine = sym c.delivery_refusal.ensures ∙ c.in_default.is in
     let is = received_as (value_of c.args.sound.now.state) c.args.frame.now c.args.node c.args.sound.now.shape c.args.sound.now.holds c.args.sound.now.state.members.lawful.some_full fine
     c.region.result.now c.log.result.now c.client-client.result c.end-received.result c.end-received.ensures.end c.log.ensures.log c.region.ensures c.client-client.ensures.client in
     is_next (value_of c.args.sound.now.state) c.args.frame.now c.args.node c.args.sound.now.shape c.args.sound.now.holds c.args.sound.now.state.members.lawful.some_full fine c.end-received.result is
-    (c.is_timely.ensures.timely c.if-is_timely.true)
+    (c.is_next.ensures.timely c.if-is_next.true)
 
-pub returns-else-is_timely-clause-taken : goal.returns-else-is_timely-clause-taken
-returns-else-is_timely-clause-taken g c fine_now timely =
+pub returns-else-is_next-clause-taken : goal.returns-else-is_next-clause-taken
+returns-else-is_next-clause-taken g c fine_now timely =
     let fine = sym c.delivery_refusal.ensures ∙ c.in_default.is in
     let is = received_as (value_of c.args.sound.now.state) c.args.frame.now c.args.node c.args.sound.now.shape c.args.sound.now.holds c.args.sound.now.state.members.lawful.some_full fine
     c.region.result.now c.log.result.now c.client-client.result c.end-received.result c.end-received.ensures.end c.log.ensures.log c.region.ensures c.client-client.ensures.client in
     absurd (not_timely (value_of c.args.sound.now.state) c.args.frame.now c.args.node c.args.sound.now.shape c.args.sound.now.holds c.args.sound.now.state.members.lawful.some_full fine c.end-received.result is
-    (c.is_timely.ensures.stale c.if-is_timely.false) timely)
+    (c.is_next.ensures.stale c.if-is_next.false) timely)
