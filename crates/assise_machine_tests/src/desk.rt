@@ -87,17 +87,19 @@ impl Desk {
         hot: usize,
         rounds: u32,
     ) -> Option<()> {
-        if nodes == 0 || nodes > 8 || log < 8 || log > 4096 || hot == 0 || hot > 4096 {
-            return None;
-        }
+        self.cluster = cluster_of(alloc, nodes, log, hot)?;
+        self.clear(nodes, rounds);
+        Some(())
+    }
+
+    /// Lets go of what was made on the cluster before.
+    fn clear(&mut self, nodes: u32, rounds: u32) {
         self.letters.clear();
         self.stock.clear();
         self.steps.clear();
         self.outcome.clear();
         self.nodes = nodes;
         self.rounds = rounds;
-        self.cluster = Cluster::new(alloc, nodes, log, hot).ok()?;
-        Some(())
     }
 
     /// Begins anew as `NODES LOG ..` says, and serves the other lines of a script by rounds.
@@ -198,6 +200,14 @@ impl Desk {
         self.outcome = outcome;
         made
     }
+}
+
+/// A cluster on which nothing happened. None where there is no such cluster, or no memory.
+fn cluster_of(alloc: Global, nodes: u32, log: usize, hot: usize) -> Option<Cluster> {
+    if nodes == 0 || nodes > 8 || log < 8 || log > 4096 || hot == 0 || hot > 4096 {
+        return None;
+    }
+    Cluster::new(alloc, nodes, log, hot).ok()
 }
 
 /// Lines, one after another.

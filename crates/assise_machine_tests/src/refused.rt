@@ -59,21 +59,34 @@ fn digests(alloc: Global, desk: &mut Desk, node: &str, wanted: &str) -> Result<b
     let (Ok(node), Some(wanted)) = (node.parse::<u32>(), count_in(wanted)) else {
         return Ok(false);
     };
+    match left_of_digest(alloc, desk, node, wanted)? {
+        None => Ok(false),
+        Some(0) => Ok(true),
+        Some(left) => Ok(desk.cluster.digest(alloc, node)? == left),
+    }
+}
+
+/// How many of the records that a node is to digest are left once it did: all, where that is refused for want of memory and changes
+/// nothing. None, where something else comes out.
+fn left_of_digest(
+    alloc: Global,
+    desk: &mut Desk,
+    node: u32,
+    wanted: usize,
+) -> Result<Option<usize>, Refusal> {
     let before = seen(alloc, desk)?;
-    let left = match desk.cluster.digest(alloc, node) {
-        Ok(count) if count == wanted => return Ok(true),
-        Ok(count) if 0 < count && count < wanted => wanted - count,
+    match desk.cluster.digest(alloc, node) {
+        Ok(count) if count == wanted || 0 < count => Ok(wanted.checked_sub(count)),
         Err(Refusal::OutOfMemory) => {
             let after = seen(alloc, desk)?;
-            if after.as_str() != before.as_str() {
-                return Ok(false);
+            if after.as_str() == before.as_str() {
+                Ok(Some(wanted))
+            } else {
+                Ok(None)
             }
-            wanted
         }
-        _ => return Ok(false),
-    };
-    let again = desk.cluster.digest(alloc, node)?;
-    Ok(again == left)
+        _ => Ok(None),
+    }
 }
 
 /// The count of `digested COUNT`.
