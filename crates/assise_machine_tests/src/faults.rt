@@ -88,12 +88,22 @@ fn has_digested(cluster: &Cluster, nodes: u32, client: u32) -> bool {
 /// The tree of the kept calls that are replicated. None where they are no run, or memory runs out.
 fn replicated_tree(alloc: Global, cluster: &Cluster) -> Option<String> {
     let bounds = bounds(alloc, cluster)?;
-    let mut calls = kept(alloc, cluster.history()).ok()?;
-    calls.retain(|call| is_below(bounds.as_slice(), call));
-    let mut tree = replay(alloc, calls.as_slice()).ok()??;
     let mut text = String::new(alloc);
-    put_tree(alloc, &mut tree, &mut text)?;
+    put_replicated(alloc, cluster, bounds.as_slice(), &mut text)?;
     Some(text)
+}
+
+/// Appends the tree of the kept calls below their clients' bounds.
+fn put_replicated(
+    alloc: Global,
+    cluster: &Cluster,
+    bounds: &[u64],
+    text: &mut String,
+) -> Option<()> {
+    let mut calls = kept(alloc, cluster.history()).ok()?;
+    calls.retain(|call| is_below(bounds, call));
+    let mut tree = replay(alloc, calls.as_slice()).ok()??;
+    put_tree(alloc, &mut tree, text)
 }
 
 /// Whether a call's number is below its client's bound.
@@ -142,7 +152,7 @@ fn record_at(region: &Region, client: u32, number: u64) -> Option<&Record> {
 fn has_tree(alloc: Global, cluster: &Cluster, node: u32, tree: &str) -> Option<bool> {
     match tree_at(alloc, cluster, node) {
         Ok(read) => Some(read.as_str() == tree),
-        Err(Refusal::OutOfMemory) => None,
+        Err(refusal) if refusal == Refusal::OutOfMemory => None,
         Err(_) => Some(true),
     }
 }

@@ -8,6 +8,7 @@ use assise_fault_script::parse::parse;
 use assise_machine::answer::Answer;
 use assise_machine::event::Event;
 use assise_machine::run::apply_event;
+use assise_names::call::Op;
 use assise_rows::split_word;
 use std::alloc::Global;
 
@@ -90,11 +91,19 @@ fn put_frame(alloc: Global, desk: &mut Desk, rest: &str, text: &mut String) -> O
     let (word, digits) = split_word(rest);
     if word == "of" {
         desk.letters.push((frame_in(alloc, digits)?, 0)).ok()?;
-        let number = desk.letters.len();
-        return write!(text, "{number}").ok();
+        return put_number(desk.letters.len(), text);
     }
-    let (frame, _) = desk.letters.get(number_in(word)?.checked_sub(1)? as usize)?;
+    let (frame, _) = desk.letters.get(place_in(word)?)?;
     put_digits(alloc, frame, text)
+}
+
+fn put_number(number: usize, text: &mut String) -> Option<()> {
+    write!(text, "{number}").ok()
+}
+
+/// The place of the frame of a number.
+fn place_in(number: &str) -> Option<usize> {
+    Some(number_in(number)?.checked_sub(1)? as usize)
 }
 
 /// Delivers a frame, which is given away.
@@ -108,11 +117,10 @@ fn put_delivery(alloc: Global, desk: &mut Desk, rest: &str, text: &mut String) -
 fn letter_of(alloc: Global, desk: &Desk, rest: &str) -> Option<Letter> {
     let (number, rest) = split_word(rest);
     let (node, change) = split_word(rest.strip_prefix("at ")?);
-    let (frame, _) = desk
-        .letters
-        .get(number_in(number)?.checked_sub(1)? as usize)?;
     let node = small_in(node)?;
-    Some((copy_of(alloc, frame, change)?, node))
+    let (frame, _) = desk.letters.get(place_in(number)?)?;
+    let copy = copy_of(alloc, frame, change)?;
+    Some((copy, node))
 }
 
 /// The event of a step.
@@ -159,10 +167,24 @@ fn delivery(alloc: Global, desk: &Desk, rest: &str) -> Option<Event> {
 
 /// The call of a line of a script behind a cluster.
 fn call_of(alloc: Global, line: &str) -> Option<Event> {
+    match command_of(alloc, line)? {
+        Command::Call { client, op } => called(client, op),
+        _ => None,
+    }
+}
+
+/// The last command of a script that has a line behind a cluster.
+fn command_of(alloc: Global, line: &str) -> Option<Command> {
     let script = format!(in alloc; "cluster 1 8 1\n{line}").ok()?;
     let mut commands = parse(alloc, script.as_bytes()).ok()?;
-    match commands.pop()?.command {
-        Command::Call { client, op } => Some(Event::Call(u32::try_from(client).ok()?, op)),
-        _ => None,
+    let last = commands.pop()?;
+    Some(last.command)
+}
+
+/// The call of a client, if its number can be one.
+fn called(client: u64, op: Op) -> Option<Event> {
+    match u32::try_from(client) {
+        Ok(client) => Some(Event::Call(client, op)),
+        Err(_) => None,
     }
 }

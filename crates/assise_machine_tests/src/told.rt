@@ -4,8 +4,10 @@ use crate::reading::tree_at;
 use crate::words::{number_in, small_in};
 use assise_machine::answer::Answer;
 use assise_machine::turn::Turn;
+use assise_names::refusal::Refusal;
 use assise_rows::split_word;
 use std::alloc::{AllocError, Global};
+use std::fmt::Display;
 
 /// Appends an answer, where so many frames were sent before.
 pub(crate) fn put_told(
@@ -14,28 +16,47 @@ pub(crate) fn put_told(
     text: &mut String,
 ) -> Result<(), AllocError> {
     match answer {
-        Answer::Opened(Ok(client)) => write!(text, "client {client}"),
-        Answer::Called(Ok(Turn::Answered(reply))) => write!(text, "{reply}"),
-        Answer::Called(Ok(Turn::NotYet)) => text.push_str("not yet"),
+        Answer::Opened(opened) => put_count("client", opened, text),
+        Answer::Called(turn) => put_turn(turn, text),
         Answer::Sent(Ok(sent)) => put_sent(sent.as_slice(), before, text),
-        Answer::Received(Ok(place)) => write!(text, "received {place}"),
-        Answer::Digested(Ok(count)) => write!(text, "digested {count}"),
+        Answer::Received(place) => put_count("received", place, text),
+        Answer::Digested(count) => put_count("digested", count, text),
         Answer::Released(count) => write!(text, "released {count}"),
-        Answer::Crashed(Ok(())) => text.push_str("crashed"),
+        Answer::Crashed(crashed) => put_done("crashed", crashed, text),
         Answer::Failed(Ok(losses)) => put_losses(losses.as_slice(), text),
-        Answer::Began(Ok(stale)) => write!(text, "stale {stale}"),
-        Answer::Left(Ok(stale)) => write!(text, "left {stale}"),
-        Answer::Joined(Ok(())) => text.push_str("returned"),
-        Answer::Opened(Err(refusal))
-        | Answer::Called(Err(refusal))
-        | Answer::Sent(Err(refusal))
-        | Answer::Received(Err(refusal))
-        | Answer::Digested(Err(refusal))
-        | Answer::Crashed(Err(refusal))
-        | Answer::Failed(Err(refusal))
-        | Answer::Began(Err(refusal))
-        | Answer::Left(Err(refusal))
-        | Answer::Joined(Err(refusal)) => write!(text, "{refusal}"),
+        Answer::Began(stale) => put_count("stale", stale, text),
+        Answer::Left(stale) => put_count("left", stale, text),
+        Answer::Joined(joined) => put_done("returned", joined, text),
+        Answer::Sent(Err(refusal)) | Answer::Failed(Err(refusal)) => write!(text, "{refusal}"),
+    }
+}
+
+/// Appends a word and a number, or why there is none.
+fn put_count<T: Display>(
+    word: &str,
+    counted: &Result<T, Refusal>,
+    text: &mut String,
+) -> Result<(), AllocError> {
+    match counted {
+        Ok(count) => write!(text, "{word} {count}"),
+        Err(refusal) => write!(text, "{refusal}"),
+    }
+}
+
+/// Appends a word, or why it isn't so.
+fn put_done(word: &str, done: &Result<(), Refusal>, text: &mut String) -> Result<(), AllocError> {
+    match done {
+        Ok(()) => text.push_str(word),
+        Err(refusal) => write!(text, "{refusal}"),
+    }
+}
+
+/// Appends the reply of a turn, that there is none yet, or why there is none.
+fn put_turn(turn: &Result<Turn, Refusal>, text: &mut String) -> Result<(), AllocError> {
+    match turn {
+        Ok(Turn::Answered(reply)) => write!(text, "{reply}"),
+        Ok(Turn::NotYet) => text.push_str("not yet"),
+        Err(refusal) => write!(text, "{refusal}"),
     }
 }
 

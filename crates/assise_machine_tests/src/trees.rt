@@ -35,13 +35,15 @@ fn put_place(
 ) -> Option<()> {
     let shown = if place.is_empty() { "/" } else { place };
     let listed = listed(alloc, tree, shown)?;
-    match &listed {
-        Reply::Names(names) => {
-            add_entries(alloc, place, names.as_slice(), paths)?;
-            write!(text, "{shown} {listed}").ok()
-        }
-        _ => put_read(alloc, tree, shown, text),
+    if let Reply::Names(names) = &listed {
+        add_entries(alloc, place, names.as_slice(), paths)?;
+        return put_reply(shown, &listed, text);
     }
+    put_reply(shown, &read(alloc, tree, shown)?, text)
+}
+
+fn put_reply(shown: &str, reply: &Reply, text: &mut String) -> Option<()> {
+    write!(text, "{shown} {reply}").ok()
 }
 
 fn listed(alloc: Global, tree: &mut Tree, path: &str) -> Option<Reply> {
@@ -49,10 +51,9 @@ fn listed(alloc: Global, tree: &mut Tree, path: &str) -> Option<Reply> {
     answer(alloc, tree, &Op::List(path)).ok()
 }
 
-fn put_read(alloc: Global, tree: &mut Tree, shown: &str, text: &mut String) -> Option<()> {
-    let path = Path::parse(alloc, shown).ok()?;
-    let read = answer(alloc, tree, &Op::Read(path, 0, 1_048_576)).ok()?;
-    write!(text, "{shown} {read}").ok()
+fn read(alloc: Global, tree: &mut Tree, path: &str) -> Option<Reply> {
+    let path = Path::parse(alloc, path).ok()?;
+    answer(alloc, tree, &Op::Read(path, 0, 1_048_576)).ok()
 }
 
 /// Adds the paths of a directory's entries.
