@@ -85,7 +85,8 @@ refill 10 dir, capacity 1, touch 10, hot 10, hot 0, touch 0, hot 0, hot 10, peek
 refill 10 dir, capacity 2, touch 0, touch 10, hot 0, hot 10, capacity 1, capacity, hot 0, hot 10 => hot; hot; 1; cold; hot;
 refill 10 dir, capacity 2, touch 0, touch 10, touch 0, capacity 1, hot 0, hot 10, peek 10, capacity 4096, capacity, hot 0, hot 10 => hot; cold; dir 0; 4096; hot; cold;
 refill 10 dir, refill 11 dir, capacity 2, touch 0, touch 10, touch 11, hot 0, hot 10, hot 11 => cold; hot; hot;
-append 1 create 0 f 10, digest 1 1 1, hot 0, hot 10, touch 10, hot 10, append 1 write 10 0 ab, digest 1 2 1, hot 10, peek 10, lose all, hot 10, capacity, stale 10, hot 10 => 1; cold; cold; hot; 1; hot; file 2 ab; hot; 4; cold;
+append 1 create 0 f 10, digest 1 1 1, hot 0, hot 10, touch 10, hot 10, append 1 write 10 0 ab, digest 1 2 1, hot 10, peek 10, stale 10, hot 10, capacity => 1; cold; cold; hot; 1; hot; file 2 ab; cold; 4;
+touch 0, lose all, hot 0, capacity => hot; 4;
 ";
 
 #[test]
