@@ -55,8 +55,8 @@ abbrev pub with_inode : RegionValue → ℕ → Option Content → RegionValue
 with_inode r i v = record r { inodes = with_value r.inodes i v }
 
 -- another number of inodes may be hot
-abbrev pub with_capacity : RegionValue → ℕ → RegionValue
-with_capacity r capacity = record r { capacity = capacity }
+abbrev pub with_hot_capacity : RegionValue → ℕ → RegionValue
+with_hot_capacity r capacity = record r { capacity = capacity }
 
 -- what is digested is a part of what was received, of which only digested records went from the front
 pub record IsBegun (l : ReceivedLog) : Type 0 where

@@ -10,7 +10,7 @@ ghost use Rattle.assise_names.specs.declared.refusal.Refusal.TheVariants.{LogFul
 ghost use Rattle.assise_private_log.specs.NumberedLog.{end};
 ghost use Rattle.assise_seq_tree.specs.Tree.{Tree as PlainTree};
 ghost use Rattle.assise_digest.specs.Pending.{Lays};
-ghost use Rattle.assise_digest.specs.Region.{AreNotBelow, AreWhole, HasClient, HasRoom, IsBegun, IsFull, IsQuiet, TouchApart, ahead, ahead_below, all_ahead, alone, digested_by, from_number, log_of, read_by, up_to_number, with_capacity, with_client, with_inode, with_log, with_more, without_clients, without_last_client};
+ghost use Rattle.assise_digest.specs.Region.{AreNotBelow, AreWhole, HasClient, HasRoom, IsBegun, IsFull, IsQuiet, TouchApart, ahead, ahead_below, all_ahead, alone, digested_by, from_number, log_of, read_by, up_to_number, with_client, with_hot_capacity, with_inode, with_log, with_more, without_clients, without_last_client};
 ghost use Rattle.assise_digest.specs.Sound.{IsSoundLog, seen_log};
 
 use crate::overlay::Overlay;
@@ -137,7 +137,7 @@ impl Region {
     pub fn set_hot_capacity(&mut self, capacity: usize) -> Result<(), Refusal>
         requires least { 1 ≤ capacity }
         requires most { capacity ≤ 4096 }
-        ensures ok { OnOk result (self.new ≡ with_capacity self.old capacity) }
+        ensures ok { OnOk result (self.new ≡ with_hot_capacity self.old capacity) }
         ensures err { OnErr result (self.new ≡ self.old) }
         ensures asked { OnErr result (capacity < self.old.capacity) }
         ensures only_memory { IsOkUnless result OutOfMemory }
