@@ -46,7 +46,11 @@ impl Model for Region {
 
     ghost coded = { Prim.hlevel (codes, coded_inodes) };
 
-    ghost view = { λ r. record { inodes = r.area.inodes; logs = seen_logs r.logs.items; capacity = r.area.capacity } };
+    ghost view = { λ r. record {
+      inodes = r.area.inodes;
+      logs = seen_logs r.logs.items;
+      capacity = r.area.capacity;
+    } };
 
     ghost invariant = { λ r. AreSound r.area.inodes r.logs.items };
 }
@@ -57,7 +61,8 @@ impl Region {
     pub fn new(alloc: Global, hot_capacity: usize) -> Result<Region, Refusal>
         requires least { 1 ≤ hot_capacity }
         requires most { hot_capacity ≤ 4096 }
-        ensures opening { IfOk result (λ region. region ≡ record { inodes = opening; logs = []; capacity = hot_capacity }) }
+        ensures opening { IfOk result (λ region.
+            region ≡ record { inodes = opening; logs = []; capacity = hot_capacity }) }
         ensures only_memory { IsOkUnless result OutOfMemory }
     {
         let mut area = Area::new(alloc, hot_capacity)?;
@@ -115,9 +120,9 @@ impl Region {
         self.area.touch(inode);
     }
 
-    /// Whether an inode is hot. No contract of a region sees that: where there is no memory for it a use heats nothing, so
-    /// the value of a region would have to say after each use that it is the one or the other. A contract of [`Area`] says
-    /// it, and a test that a region's uses reach its area.
+    /// Whether an inode is hot. No contract of a region sees that: its value doesn't say which inodes are hot, so that a use,
+    /// for which there may be no memory, leaves it as it was. [`Area`] says which are hot, and that a region's uses reach its
+    /// area is seen by a test.
     pub fn is_hot(&self, inode: u64) -> bool {
         self.area.is_hot(inode)
     }
