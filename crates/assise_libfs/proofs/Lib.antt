@@ -1,0 +1,3 @@
+pub mod Refused
+pub mod Same
+pub mod Tries
