@@ -1,5 +1,5 @@
 -- A client stays the same over several turns.
-use Rattle.std.proofs.Common.{◌≡◌, refl, ◌∙◌}
+use Rattle.std.proofs.Common.{refl, ◌∙◌}
 use Rattle.assise_libfs.specs.declared.libfs.LibFs.{LibFs}
 use Rattle.assise_libfs.specs.Clients.{IsSameClient}
 

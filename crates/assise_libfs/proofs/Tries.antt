@@ -1,16 +1,12 @@
 -- What follows from what tries and calls make of what their caller has seen.
-use Rattle.std.proofs.Common.{◌≡◌, ℕ, ◌+◌, ◌<◌, ◌≤◌, ◌^◌, Bool, true, false, not, List, [], ◌∷◌, ◌++◌, length, sym, refl, ap, ◌∙◌, subst, arith, append_assoc, append-nil, add-zero, length-append, Option, Some, None, Result, Ok, Err}
-use Rattle.std.specs.Prelude.{filter}
-use Rattle.std.proofs.lemmas.List.Filters.{length-filter_both}
+use Rattle.std.proofs.Common.{◌≡◌, ℕ, ◌+◌, ◌≤◌, List, [], ◌∷◌, ◌++◌, length, sym, refl, ap, ◌∙◌, subst, arith, append_assoc, append-nil, add-zero, length-append, Option, Some, None, Result, Ok, Err}
 use Rattle.assise_history.proofs.Legality.{fits_in, front_in}
-use Rattle.std.proofs.Math.Logic.{∥∥₁_map, ∥∥₁_elim}
 use Rattle.assise_names.specs.declared.call.Op.{Op}
 use Rattle.assise_names.specs.declared.refusal.Refusal.{Refusal}
 use Rattle.assise_names.specs.declared.reply.Reply.{Reply}
-use Rattle.assise_history.specs.declared.call.Call.{Call}
 use Rattle.assise_history.specs.Entries.{Event, opens, calls}
-use Rattle.assise_history.specs.Legal.{IsLegal, calls_made, clients_opened, is_call_of}
-use Rattle.assise_history.proofs.Counting.{early, made_append, next_opened}
+use Rattle.assise_history.specs.Legal.{IsLegal, calls_made, clients_opened}
+use Rattle.assise_history.proofs.Counting.{early, next_opened}
 use Rattle.assise_history.proofs.Standing.{made-still}
 use Rattle.assise_keeper.specs.Clients.{calls_by, Extends, ExtendsByOne}
 use Rattle.assise_keeper.proofs.Adding.{calls-append}
@@ -96,8 +92,10 @@ try-counts c op a (Ok (Some reply)) d s = one-counts c a d (next_call c a op rep
 try-counts c op a (Ok None) d s = others-counts c a d s ∙ sym (add-zero (calls_made c a))
 try-counts c op a (Err refusal) d s = others-counts c a d s ∙ sym (add-zero (calls_made c a))
 
-pub calls_few : (c : ℕ) (h : List Event) → calls_made c h ≤ length h
-calls_few c h = let both = length-filter_both (is_call_of c) (λ e. not (is_call_of c e)) (λ e. refl) h in omega arith
+pub answers-few : (r : Result (Option Reply) Refusal) → answers r ≤ 1
+answers-few (Ok (Some reply)) = omega arith
+answers-few (Ok None) = omega arith
+answers-few (Err refusal) = omega arith
 
 -- ---- a client that was just opened
 

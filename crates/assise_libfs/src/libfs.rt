@@ -255,12 +255,15 @@ impl<'a, S: Served> LibFs<'a, S> {
         Err(Refusal::Busy)
     }
 
-    // One try of a call.
+    // One try of a call. No state has the memory for so many calls that their count ends.
     fn turn<R: Wait>(&mut self, rt: &R, alloc: Global, op: &Op) -> Result<Option<Reply>, Refusal>
         ensures same { IsSameClient self.old self.new }
         ensures sees { SeesTry (client_of self.old) op.now (seen_by self.old) result (seen_by self.new) }
         ensures refused { IfErr result (λ r. MayRefuseTry (client_of self.old) op.now (seen_by self.new) r) }
     {
+        if self.calls == u64::MAX {
+            return Err(Refusal::OutOfMemory);
+        }
         let tried = try_turn(rt, alloc, self.keeper, &mut self.pass, self.client, op);
         self.calls += answered(&tried);
         tried

@@ -1,5 +1,5 @@
 // A state that serves clients.
-ghost use Rattle.std.specs.Prelude.{◌≡◌, List, [], ◌∷◌, ◌++◌, IfErr, IfOk, OnErr, length};
+ghost use Rattle.std.specs.Prelude.{◌≡◌, List, [], ◌∷◌, ◌++◌, IfErr, IfOk, OnErr};
 ghost use Rattle.assise_history.specs.Entries.{Event, opens};
 ghost use Rattle.assise_history.specs.Legal.{IsLegal};
 ghost use Rattle.assise_libfs.specs.Calling.{MayRefuseTry, Tries};
@@ -36,10 +36,6 @@ pub trait Served: Growing {
     fn try_call(&mut self, alloc: Global, client: u32, op: &Op) -> Result<Option<Reply>, Refusal>
         ensures tries { Tries client op.now (Self.Growing.history self.old) result (Self.Growing.history self.new) }
         ensures refused { IfErr result (λ r. MayRefuseTry client op.now (Self.Growing.history self.old) r) };
-
-    /// How many entries its history has.
-    fn entries(&self) -> usize
-        ensures { result ≡ length (Self.Growing.history self.now) };
 
     ghost legal: { (s : Self) → ∥ IsLegal (Self.Growing.history s) ∥₁ };
 }

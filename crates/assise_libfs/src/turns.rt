@@ -1,5 +1,5 @@
 // Turns of a client: a take, one try, and the give.
-ghost use Rattle.std.specs.Prelude.{◌≡◌, ◌<◌, ◌^◌, IfErr, IfOk, None, OnErr, Some};
+ghost use Rattle.std.specs.Prelude.{◌≡◌, IfErr, IfOk, None, OnErr, Some};
 ghost use Rattle.assise_history.specs.Legal.{IsLegal, calls_made};
 ghost use Rattle.assise_keeper.specs.Clients.{Extends};
 ghost use Rattle.assise_keeper.specs.Passes.{IsPassOf, client, seen};
@@ -31,11 +31,9 @@ pub(crate) fn try_turn<S: Served, R: Wait>(
     ensures sees { SeesTry caller op.now (seen pass.old) result (seen pass.new) }
     ensures legal { ∥ IsLegal (seen pass.new) ∥₁ }
     ensures refused { IfErr result (λ r. MayRefuseTry caller op.now (seen pass.new) r) }
-    ensures few { calls_made caller (seen pass.new) < 2 ^ 64 }
 {
     let mut held = keeper.take(rt, pass);
     let tried = held.state().try_call(alloc, caller, op);
-    let _entries = held.state().entries();
     match tried {
         Ok(Some(reply)) => {
             keeper.give(pass, held);

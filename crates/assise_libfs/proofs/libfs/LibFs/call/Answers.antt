@@ -1,4 +1,4 @@
-use Rattle.std.proofs.Common.{rules, ◌≡◌, ◌∙◌, subst}
+use Rattle.std.proofs.Common.{subst}
 use Rattle.assise_libfs.specs.Calling.{MayRefuse}
 use Rattle.assise_libfs.specs.Clients.{node_of, seen_by}
 use Rattle.assise_libfs.specs.Lives.{IsOpened}
