@@ -2,6 +2,7 @@
 //! fsync for its replication, while other threads go on (Assise, OSDI 2020, section 3).
 #![tactic(auto)]
 
+pub mod cluster;
 pub mod libfs;
 mod pause;
 pub mod served;

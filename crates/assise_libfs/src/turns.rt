@@ -34,20 +34,8 @@ pub(crate) fn try_turn<S: Served, R: Wait>(
 {
     let mut held = keeper.take(rt, pass);
     let tried = held.state().try_call(alloc, caller, op);
-    match tried {
-        Ok(Some(reply)) => {
-            keeper.give(pass, held);
-            Ok(Some(reply))
-        }
-        Ok(None) => {
-            keeper.give(pass, held);
-            Ok(None)
-        }
-        Err(refusal) => {
-            keeper.give(pass, held);
-            Err(refusal)
-        }
-    }
+    keeper.give(pass, held);
+    tried
 }
 
 /// Opens a client on a node, which is the pass's from then on.
