@@ -1,6 +1,6 @@
 -- Why a cluster refuses what its clients ask, in the words of its history.
-use Rattle.std.proofs.Common.{◌≡◌, ◌≢◌, ℕ, ◌≤◌, ◌<◌, arith, Bool, true, false, List, length, Option, Some, None, refl, sym, ap, ◌∙◌, subst}
-use Rattle.std.specs.Prelude.{not, ◌&&◌, nat_le, nat_lt, Result, Ok, Err, IfErr}
+use Rattle.std.proofs.Common.{◌≡◌, ◌≢◌, ℕ, ◌≤◌, arith, Bool, true, false, Option, Some, None, refl, sym, ◌∙◌, subst}
+use Rattle.std.specs.Prelude.{not, ◌&&◌, nat_le, Result, Ok, Err, IfErr}
 use Rattle.std.specs.List.{list_any}
 use Rattle.std.proofs.Math.Logic.{∥∥₁_elim, ∥∥₁_map}
 use Rattle.std.proofs.lemmas.Bool.Decides.{nat_tests}
@@ -10,7 +10,7 @@ use Rattle.assise_names.specs.declared.reply.Reply.{Reply}
 use Rattle.assise_names.specs.declared.refusal.Refusal.{Refusal}
 use Rattle.assise_names.specs.declared.refusal.Refusal.TheVariants.{BadClient, BadNode, ClientGone, InodesSpent, LogFull, NodeDown, OutOfMemory, TooLarge}
 use Rattle.assise_history.specs.Entries.{opens}
-use Rattle.assise_history.specs.Legal.{IsDown, is_crash_of, is_failure_of}
+use Rattle.assise_history.specs.Legal.{IsDown, is_failure_of}
 use Rattle.assise_history.proofs.Counting.{next_opened, opened_within}
 use Rattle.assise_history.proofs.Legality.{fits_in}
 use Rattle.assise_inode_table.specs.Numbers.{makes_inode}
@@ -19,7 +19,7 @@ use Rattle.assise_manager.specs.Standings.{Standing, full, down, returning, stan
 use Rattle.assise_machine_laws.specs.World.{IsClient, view}
 use Rattle.assise_machine_events.specs.ClientEvents.{Opening, Calling, Syncing, call_of_client, is_answered, is_awaited, is_full, is_opened, is_refused, is_replicating, is_spent, is_synced, lacks_memory, last_world}
 use Rattle.assise_machine_events.specs.Events.{Answer, not_yet, opened, refused, replied}
-use Rattle.assise_machine_events.specs.Faults.{call_fault, client_fault, fault_if, is_client, is_too_large, open_fault, or_else, unless_full}
+use Rattle.assise_machine_events.specs.Faults.{client_fault, fault_if, is_client, is_too_large, or_else, unless_full}
 use Rattle.assise_machine_events.specs.Happenings.{Trying}
 use Rattle.assise_machine_events.specs.Machine.{Machine, Holds, most_clients}
 use Rattle.assise_machine_events.proofs.Rejoined.{stands_is_node}

@@ -1,5 +1,8 @@
 -- What follows from what tries and calls make of what their caller has seen.
 use Rattle.std.proofs.Common.{◌≡◌, ℕ, ◌+◌, ◌≤◌, List, [], ◌∷◌, ◌++◌, length, sym, refl, ap, ◌∙◌, subst, arith, append_assoc, append-nil, add-zero, length-append, Option, Some, None, Result, Ok, Err}
+use Rattle.std.specs.Prelude.{IfOk}
+use Rattle.std.proofs.Math.Bridge.{le_prop}
+use Rattle.std.proofs.Math.Logic.{∥∥₁_elim}
 use Rattle.assise_history.proofs.Legality.{fits_in, front_in}
 use Rattle.assise_names.specs.declared.call.Op.{Op}
 use Rattle.assise_names.specs.declared.refusal.Refusal.{Refusal}
@@ -103,3 +106,10 @@ pub none_yet : (h : List Event) (c n : ℕ) → IsLegal (h ++ opens c n ∷ []) 
 none_yet h c n legal =
     let next : c ≡ clients_opened h + 1 = next_opened h c n (fits_in (h ++ opens c n ∷ []) h [] (opens c n) legal refl) in
     made-still h (opens c n) c refl ∙ early h (front_in (h ++ opens c n ∷ []) h (opens c n ∷ []) legal refl) c (omega arith)
+
+-- the client that was opened, if one was, has no calls
+pub none_of_opened : {X : Type 0} (h h' : List Event) (n : ℕ) (r : Result ℕ X) → IfOk r (λ c. h' ≡ h ++ opens c n ∷ []) → ∥ IsLegal h' ∥₁ → IfOk r (λ c. calls_made c h' ≡ 0)
+none_of_opened h h' n (Ok c) e legal =
+    let few : calls_made c h' ≤ 0 = ∥∥₁_elim legal le_prop (λ l. let none = none_yet h c n (subst IsLegal e l) in let same = ap (calls_made c) e in omega arith) in
+    omega arith
+none_of_opened h h' n (Err x) e legal = tt

@@ -59,16 +59,9 @@ pub(crate) fn open_turn<S: Served, R: Wait>(
     ensures given_back { IfErr result (λ back. back.1 ≡ stored) }
 {
     let mut held = keeper.take(rt, pass);
-    match held.state().open(alloc, node, stored) {
-        Ok(client) => {
-            keeper.give(pass, held);
-            Ok(client)
-        }
-        Err(back) => {
-            keeper.give(pass, held);
-            Err(back)
-        }
-    }
+    let opened = held.state().open(alloc, node, stored);
+    keeper.give(pass, held);
+    opened
 }
 
 /// How many calls a try answered.

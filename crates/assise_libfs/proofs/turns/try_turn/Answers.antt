@@ -11,4 +11,4 @@ returns-clause-sees g c =
     let tried = c.try_call-tried.ensures.tries in
     let tries = rw c.state.ensures.value at tried in
     subst (SeesTry c.args.caller c.args.op.now (seen c.args.pass.now) c.try_call-tried.result) (sym given)
-        (sees c.args.caller (client c.args.pass.now) c.args.op.now _ _ _ _ c.requires.1 took.extends took.mine tries)
+    (sees c.args.caller (client c.args.pass.now) c.args.op.now _ _ _ _ c.requires.1 took.extends took.mine tries)
