@@ -158,6 +158,7 @@ impl<S: Growing> Keeper<S> {
         requires { IsPassOf self.now first × IsPassOf self.now second }
         ensures free { IsPassOf self.now result.0 × IsPassOf self.now result.1 }
         ensures one { seen result.0 ≡ seen result.1 }
+        ensures known { (state : S) × (seen result.0 ≡ S.history state) }
         ensures first { Extends (seen result.0) (seen first) × (client result.0 ≡ client first) }
         ensures second { Extends (seen result.1) (seen second) × (client result.1 ≡ client second) }
         ensures calls_of_first { mine result.0 ≡ mine first }
@@ -180,6 +181,7 @@ impl<S: Growing> Keeper<S> {
         ensures own { ((view pass.new).own.client ≡ (view pass.old).own.client) × Covers (view pass.new).own.seen (view pass.old).own }
         ensures guest { ((view pass.new).guest.client ≡ (view pass.old).guest.client) × Covers (view pass.new).guest.seen (view pass.old).guest }
         ensures one { (view pass.new).own.seen ≡ (view pass.new).guest.seen }
+        ensures known { (state : S) × ((view pass.new).own.seen ≡ S.history state) }
     {
         let state = self.get(rt, pass);
         self.put(pass, state);

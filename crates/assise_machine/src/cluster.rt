@@ -256,7 +256,7 @@ impl<C: Revokes + Drop> ClusterOf<C> {
     }
 }
 
-impl<C: Revokes + Drop> Growing for ClusterOf<C> {
+impl<C> Growing for ClusterOf<C> {
     ghost use Rattle.assise_machine.specs.Clusters.{machine, opened_once};
 
     ghost history = { λ cluster. (machine cluster).history };

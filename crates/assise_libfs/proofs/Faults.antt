@@ -1,0 +1,213 @@
+-- Why a cluster refuses what its clients ask, in the words of its history.
+use Rattle.std.proofs.Common.{◌≡◌, ◌≢◌, ℕ, ◌≤◌, arith, Bool, true, false, Option, Some, None, refl, sym, ◌∙◌, subst}
+use Rattle.std.specs.Prelude.{not, ◌&&◌, nat_le, Result, Ok, Err, IfErr}
+use Rattle.std.specs.List.{list_any}
+use Rattle.std.proofs.Math.Logic.{∥∥₁_elim, ∥∥₁_map}
+use Rattle.std.proofs.lemmas.Bool.Decides.{nat_tests}
+use Rattle.assise_names.specs.declared.call.Op.{Op}
+use Rattle.assise_names.specs.declared.call.Op.TheVariants.{Create, Mkdir, Read, Write, Truncate, Rename, Unlink, Rmdir, List as ListCall, Stat, Fsync}
+use Rattle.assise_names.specs.declared.reply.Reply.{Reply}
+use Rattle.assise_names.specs.declared.refusal.Refusal.{Refusal}
+use Rattle.assise_names.specs.declared.refusal.Refusal.TheVariants.{BadClient, BadNode, ClientGone, InodesSpent, LogFull, NodeDown, OutOfMemory, TooLarge}
+use Rattle.assise_history.specs.Entries.{opens}
+use Rattle.assise_history.specs.Legal.{IsDown, is_failure_of}
+use Rattle.assise_history.proofs.Counting.{next_opened, opened_within}
+use Rattle.assise_history.proofs.Legality.{fits_in}
+use Rattle.assise_inode_table.specs.Numbers.{makes_inode}
+use Rattle.assise_inode_table.proofs.CallEnds.{makes_own}
+use Rattle.assise_manager.specs.Standings.{Standing, full, down, returning, standing_of}
+use Rattle.assise_machine_laws.specs.World.{IsClient, view}
+use Rattle.assise_machine_events.specs.ClientEvents.{Opening, Calling, Syncing, call_of_client, is_answered, is_awaited, is_full, is_opened, is_refused, is_replicating, is_spent, is_synced, lacks_memory, last_world}
+use Rattle.assise_machine_events.specs.Events.{Answer, not_yet, opened, refused, replied}
+use Rattle.assise_machine_events.specs.Faults.{client_fault, fault_if, is_client, is_too_large, or_else, unless_full}
+use Rattle.assise_machine_events.specs.Happenings.{Trying}
+use Rattle.assise_machine_events.specs.Machine.{Machine, Holds, most_clients}
+use Rattle.assise_machine_events.proofs.Rejoined.{stands_is_node}
+use Rattle.assise_machine_calls.specs.Answers.{opening_answer}
+use Rattle.assise_libfs.specs.Calling.{Makes, MayRefuseTry, WritesTooMuch}
+use Rattle.assise_libfs.specs.Lives.{HasCrashed, HasLostNode, IsOpened}
+use Rattle.assise_libfs.specs.Opening.{MayRefuseOpen}
+
+-- ---- the faults of a client
+
+-- there is no such client, it crashed, or its node failed
+data ClientFault (known crashed lives : Bool) (r : Refusal) : Type 0 where
+  is_bad : known ≡ false → r ≡ BadClient → ClientFault known crashed lives r
+  is_gone : known ≡ true → crashed ≡ true → r ≡ ClientGone → ClientFault known crashed lives r
+  is_cut_off : known ≡ true → lives ≡ false → r ≡ NodeDown → ClientFault known crashed lives r
+
+which_fault : (b k l : Bool) (r : Refusal) → or_else (fault_if (not b) BadClient) (or_else (fault_if k ClientGone) (fault_if (not l) NodeDown)) ≡ Some r → ClientFault b k l r
+which_fault false k l r e = is_bad refl (let x : Some BadClient ≡ Some r = e in cc)
+which_fault true true l r e = is_gone refl refl (let x : Some ClientGone ≡ Some r = e in cc)
+which_fault true false false r e = is_cut_off refl refl (let x : Some NodeDown ≡ Some r = e in cc)
+which_fault true false true r e = absurd (cc)
+
+le_true : (a b : ℕ) → nat_le a b ≡ true → a ≤ b
+le_true a b e = grind (arith, nat_tests)
+
+true_le : (a b : ℕ) → a ≤ b → nat_le a b ≡ true
+true_le a b e = grind (arith, nat_tests)
+
+not_false : (b : Bool) → not b ≡ false → b ≡ true
+not_false true e = refl
+not_false false e = absurd (cc)
+
+&&_left : (a b : Bool) → (a && b) ≡ true → a ≡ true
+&&_left true b e = refl
+&&_left false b e = absurd (cc)
+
+&&_right : (a b : Bool) → (a && b) ≡ true → b ≡ true
+&&_right true b e = e
+&&_right false b e = absurd (cc)
+
+&&_both : (a b : Bool) → a ≡ true → b ≡ true → (a && b) ≡ true
+&&_both true b e f = f
+&&_both false b e f = absurd (cc)
+
+no_proofs : (x y : ⊥) → x ≡ y
+no_proofs x y = absurd x
+
+module _ (m : Machine) (h : Holds m) (c : ℕ) where
+  client_of : is_client m.world c ≡ true → IsClient m.world c
+  client_of e = (le_true 1 c (&&_left (nat_le 1 c) (nat_le c m.world.clients) e), le_true c m.world.clients (&&_right (nat_le 1 c) (nat_le c m.world.clients) e))
+
+  never_opened : is_client m.world c ≡ false → (n : ℕ) → IsOpened c n m.history → ⊥
+  never_opened none n o =
+      let first = next_opened o.before c n (fits_in m.history o.before o.since (opens c n) h.recorded.legal o.split) in
+      let within = opened_within m.history o.before o.since c n h.recorded.legal o.split in
+      let count = h.recorded.count in
+      let some : is_client m.world c ≡ true = &&_both (nat_le 1 c) (nat_le c m.world.clients) (true_le 1 c (omega arith)) (true_le c m.world.clients (omega arith)) in
+      cc
+
+  lost_node : is_client m.world c ≡ true → m.world.lives c ≡ false → HasLostNode c m.history
+  lost_node known over = let o = h.recorded.opened c (client_of known) in record {
+    node = m.world.home c;
+    opened = record { before = o.before; since = o.since; split = o.split };
+    failure = not_false (list_any (is_failure_of (m.world.home c)) o.since) (sym o.lives ∙ over);
+  }
+
+  has_crashed : is_client m.world c ≡ true → m.world.crashed c ≡ true → HasCrashed c m.history
+  has_crashed known over = let o = h.recorded.opened c (client_of known) in record {
+    node = m.world.home c;
+    opened = record { before = o.before; since = o.since; split = o.split };
+    crash = sym o.crashed ∙ over;
+  }
+
+-- ---- the faults of a call
+
+writes_too_much : (op : Op) → is_too_large op ≡ true → WritesTooMuch op
+writes_too_much (Create p) e = cc
+writes_too_much (Mkdir p) e = cc
+writes_too_much (Read p offset n) e = cc
+writes_too_much (Write p offset bytes) e = grind (arith, nat_tests)
+writes_too_much (Truncate p size) e = cc
+writes_too_much (Rename p q) e = cc
+writes_too_much (Unlink p) e = cc
+writes_too_much (Rmdir p) e = cc
+writes_too_much (ListCall p) e = cc
+writes_too_much (Stat p) e = cc
+writes_too_much Fsync e = cc
+
+makes_by : (op : Op) (reply : Reply) → makes_inode op reply ≡ true → Makes op
+makes_by (Create p) reply e = tt
+makes_by (Mkdir p) reply e = tt
+makes_by (Read p offset n) reply e = cc
+makes_by (Write p offset bytes) reply e = cc
+makes_by (Truncate p size) reply e = cc
+makes_by (Rename p q) reply e = cc
+makes_by (Unlink p) reply e = cc
+makes_by (Rmdir p) reply e = cc
+makes_by (ListCall p) reply e = cc
+makes_by (Stat p) reply e = cc
+makes_by Fsync reply e = cc
+
+data CallFault (fault : Option Refusal) (op : Op) (r : Refusal) : Type 0 where
+  of_client : fault ≡ Some r → CallFault fault op r
+  of_size : is_too_large op ≡ true → r ≡ TooLarge → CallFault fault op r
+
+which_call_fault : (x : Option Refusal) (b : Bool) (op : Op) (r : Refusal) → is_too_large op ≡ b → or_else x (fault_if b TooLarge) ≡ Some r → CallFault x op r
+which_call_fault (Some q) b op r size e = of_client e
+which_call_fault None true op r size e = of_size size (let x : Some TooLarge ≡ Some r = e in cc)
+which_call_fault None false op r size e = absurd (cc)
+
+same_refusal : (q r : Refusal) (a : Answer) → a ≡ refused q → a ≡ refused r → r ≡ q
+same_refusal q r a e is = let x : refused q ≡ refused r = sym e ∙ is in cc
+
+module _ (m : Machine) (holds : ∥ Holds m ∥₁) where
+  client_refused : (c : ℕ) (op : Op) (r : Refusal) → ClientFault (is_client m.world c) (m.world.crashed c) (m.world.lives c) r → MayRefuseTry c op m.history r
+  client_refused c op r (is_bad none is) = subst (MayRefuseTry c op m.history) (sym is) (λ n o. ∥∥₁_elim holds no_proofs (λ h. never_opened m h c none n o))
+  client_refused c op r (is_gone known over is) = subst (MayRefuseTry c op m.history) (sym is) (∥∥₁_map holds (λ h. has_crashed m h c known over))
+  client_refused c op r (is_cut_off known over is) = subst (MayRefuseTry c op m.history) (sym is) (∥∥₁_map holds (λ h. lost_node m h c known over))
+
+  faulty_client : (c : ℕ) (op : Op) (r : Refusal) → client_fault m c ≡ Some r → MayRefuseTry c op m.history r
+  faulty_client c op r fault = client_refused c op r (which_fault (is_client m.world c) (m.world.crashed c) (m.world.lives c) r fault)
+
+  faulty_call : (c : ℕ) (op : Op) (r : Refusal) → CallFault (client_fault m c) op r → MayRefuseTry c op m.history r
+  faulty_call c op r (of_client fault) = faulty_client c op r fault
+  faulty_call c op r (of_size size is) = subst (MayRefuseTry c op m.history) (sym is) (writes_too_much op size)
+
+  calling_refused : (m' : Machine) (c : ℕ) (op : Op) (a : Answer) (r : Refusal) → Calling m c op a m' → a ≡ refused r → MayRefuseTry c op m.history r
+  calling_refused m' c op a r (is_answered reply granted e h) is = absurd (let x : replied reply ≡ refused r = sym e ∙ is in cc)
+  calling_refused m' c op a r (is_awaited reply granted e h) is = absurd (let x : not_yet ≡ refused r = sym e ∙ is in cc)
+  calling_refused m' c op a r (is_spent reply granted e s k) is =
+      let w = last_world m.world granted in
+      let x = call_of_client m.world c op reply in
+      let own = makes_own (view w (w.home c) c) op x.fresh x.fresh s.makes in
+      subst (MayRefuseTry c op m.history) (sym (same_refusal InodesSpent r a e is)) (makes_by op _ own.1)
+  calling_refused m' c op a r (is_full reply granted e s k) is = subst (MayRefuseTry c op m.history) (sym (same_refusal LogFull r a e is)) tt
+  calling_refused m' c op a r (lacks_memory reply granted e s k) is = subst (MayRefuseTry c op m.history) (sym (same_refusal OutOfMemory r a e is)) tt
+  calling_refused m' c op a r (is_refused q fault e same) is =
+      subst (MayRefuseTry c op m.history) (sym (same_refusal q r a e is)) (faulty_call c op q (which_call_fault (client_fault m c) (is_too_large op) op q refl fault))
+
+  syncing_refused : (m' : Machine) (c : ℕ) (a : Answer) (r : Refusal) → Syncing m c a m' → a ≡ refused r → MayRefuseTry c Fsync m.history r
+  syncing_refused m' c a r (is_synced reply fine e h) is = absurd (let x : replied reply ≡ refused r = sym e ∙ is in cc)
+  syncing_refused m' c a r (is_replicating fine e h) is = absurd (let x : not_yet ≡ refused r = sym e ∙ is in cc)
+  syncing_refused m' c a r (lacks_memory fine all e same) is = subst (MayRefuseTry c Fsync m.history) (sym (same_refusal OutOfMemory r a e is)) tt
+  syncing_refused m' c a r (is_refused q fault e same) is = subst (MayRefuseTry c Fsync m.history) (sym (same_refusal q r a e is)) (faulty_client c Fsync q fault)
+
+  pub trying_refused : (m' : Machine) (c : ℕ) (op : Op) (a : Answer) (r : Refusal) → Trying m c op a m' → a ≡ refused r → MayRefuseTry c op m.history r
+  trying_refused m' c Fsync a r h is = syncing_refused m' c a r h is
+  trying_refused m' c (Create p) a r h is = calling_refused m' c (Create p) a r h is
+  trying_refused m' c (Mkdir p) a r h is = calling_refused m' c (Mkdir p) a r h is
+  trying_refused m' c (Read p o n) a r h is = calling_refused m' c (Read p o n) a r h is
+  trying_refused m' c (Write p o b) a r h is = calling_refused m' c (Write p o b) a r h is
+  trying_refused m' c (Truncate p n) a r h is = calling_refused m' c (Truncate p n) a r h is
+  trying_refused m' c (Rename p q) a r h is = calling_refused m' c (Rename p q) a r h is
+  trying_refused m' c (Unlink p) a r h is = calling_refused m' c (Unlink p) a r h is
+  trying_refused m' c (Rmdir p) a r h is = calling_refused m' c (Rmdir p) a r h is
+  trying_refused m' c (ListCall p) a r h is = calling_refused m' c (ListCall p) a r h is
+  trying_refused m' c (Stat p) a r h is = calling_refused m' c (Stat p) a r h is
+
+-- ---- the faults of an open
+
+-- there is no such node, it isn't full, or all clients were opened
+data OpenFault (s : Option Standing) (r : Refusal) : Type 0 where
+  no_node : r ≡ BadNode → OpenFault s r
+  no_client_left : r ≡ BadClient → OpenFault s r
+  not_up : (t : Standing) → s ≡ Some t → t ≢ full → r ≡ NodeDown → OpenFault s r
+
+which_open_fault : (s : Option Standing) (b : Bool) (r : Refusal) → or_else (unless_full NodeDown s) (fault_if b BadClient) ≡ Some r → OpenFault s r
+which_open_fault None b r e = no_node (let x : Some BadNode ≡ Some r = e in cc)
+which_open_fault (Some full) true r e = no_client_left (let x : Some BadClient ≡ Some r = e in cc)
+which_open_fault (Some full) false r e = absurd (cc)
+which_open_fault (Some (down since)) b r e = not_up (down since) refl (λ is. cc) (let x : Some NodeDown ≡ Some r = e in cc)
+which_open_fault (Some (returning since donor stale)) b r e = not_up (returning since donor stale) refl (λ is. cc) (let x : Some NodeDown ≡ Some r = e in cc)
+
+is_down : (m : Machine) (n : ℕ) (t : Standing) → Holds m → standing_of m.members.nodes n ≡ Some t → t ≢ full → IsDown m.history n
+is_down m n t h at other = h.recorded.down n (stands_is_node m n t at) (λ f. other (let x : Some full ≡ Some t = sym (h.members.full_nodes n f) ∙ at in cc))
+
+module _ (m : Machine) (holds : ∥ Holds m ∥₁) (n : ℕ) where
+  faulty_open : (r : Refusal) → OpenFault (standing_of m.members.nodes n) r → MayRefuseOpen n m.history r
+  faulty_open r (no_node is) = subst (MayRefuseOpen n m.history) (sym is) tt
+  faulty_open r (no_client_left is) = subst (MayRefuseOpen n m.history) (sym is) tt
+  faulty_open r (not_up t at other is) = subst (MayRefuseOpen n m.history) (sym is) (∥∥₁_map holds (λ h. is_down m n t h at other))
+
+  pub opening_refused : (m' : Machine) (a : Answer) (r : Refusal) → Opening m n a m' → a ≡ refused r → MayRefuseOpen n m.history r
+  opening_refused m' a r (is_opened fine e o) is = absurd (let x : opened _ ≡ refused r = sym e ∙ is in cc)
+  opening_refused m' a r (is_refused q fault e same) is =
+      subst (MayRefuseOpen n m.history) (sym (same_refusal q r a e is)) (faulty_open q (which_open_fault (standing_of m.members.nodes n) (nat_le most_clients m.world.clients) q fault))
+  opening_refused m' a r (lacks_memory fine e same) is = subst (MayRefuseOpen n m.history) (sym (same_refusal OutOfMemory r a e is)) tt
+
+  pub opened_or_refused : {C : Type 0} (m' : Machine) (result : Result ℕ (Refusal × C)) → Opening m n (opening_answer result) m' → IfErr result (λ back. MayRefuseOpen n m.history back.0)
+  opened_or_refused m' (Ok client) h = tt
+  opened_or_refused m' (Err back) h = opening_refused m' (refused back.0) back.0 h refl

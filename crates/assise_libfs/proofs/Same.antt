@@ -1,0 +1,11 @@
+-- A client stays the same over several turns.
+use Rattle.std.proofs.Common.{refl, ◌∙◌}
+use Rattle.assise_libfs.specs.declared.libfs.LibFs.{LibFs}
+use Rattle.assise_libfs.specs.Clients.{IsSameClient}
+
+module _ {S Stored : Type 0} where
+  pub same-itself : (l : LibFs S Stored) → IsSameClient l l
+  same-itself l = record { client = refl; node = refl; keeper = refl }
+
+  pub same-then : (a b d : LibFs S Stored) → IsSameClient a b → IsSameClient b d → IsSameClient a d
+  same-then a b d s t = record { client = t.client ∙ s.client; node = t.node ∙ s.node; keeper = t.keeper ∙ s.keeper }

@@ -1,0 +1,115 @@
+-- What follows from what tries and calls make of what their caller has seen.
+use Rattle.std.proofs.Common.{◌≡◌, ℕ, ◌+◌, ◌≤◌, List, [], ◌∷◌, ◌++◌, length, sym, refl, ap, ◌∙◌, subst, arith, append_assoc, append-nil, add-zero, length-append, Option, Some, None, Result, Ok, Err}
+use Rattle.std.specs.Prelude.{IfOk}
+use Rattle.std.proofs.Math.Bridge.{le_prop}
+use Rattle.std.proofs.Math.Logic.{∥∥₁_elim}
+use Rattle.assise_history.proofs.Legality.{fits_in, front_in}
+use Rattle.assise_names.specs.declared.call.Op.{Op}
+use Rattle.assise_names.specs.declared.refusal.Refusal.{Refusal}
+use Rattle.assise_names.specs.declared.reply.Reply.{Reply}
+use Rattle.assise_history.specs.Entries.{Event, opens, calls}
+use Rattle.assise_history.specs.Legal.{IsLegal, calls_made, clients_opened}
+use Rattle.assise_history.proofs.Counting.{early, next_opened}
+use Rattle.assise_history.proofs.Standing.{made-still}
+use Rattle.assise_keeper.specs.Clients.{calls_by, Extends, ExtendsByOne}
+use Rattle.assise_keeper.proofs.Adding.{calls-append}
+use Rattle.assise_libfs.specs.Calling.{next_call, ExtendsByOthers, SeesTry, answers}
+use Rattle.assise_libfs.specs.Lives.{IsOpened}
+
+nothing_more : (xs ys : List Event) → xs ++ ys ≡ xs → ys ≡ []
+nothing_more [] ys e = e
+nothing_more (x ∷ xs) ys e = nothing_more xs ys (cc)
+
+-- what was taken extends by others what was seen
+pub by_others : (c : ℕ) (old taken : List Event) → Extends taken old → calls_by c taken ≡ calls_by c old → ExtendsByOthers c old taken
+by_others c old taken extends same = record {
+  between = extends.0;
+  split = extends.1;
+  others = nothing_more (calls_by c old) (calls_by c extends.0) (sym (calls-append c old extends.0) ∙ (ap (calls_by c) (sym extends.1) ∙ same));
+  same = same;
+}
+
+pub others_itself : (c : ℕ) (h : List Event) → ExtendsByOthers c h h
+others_itself c h = record { between = []; split = sym (append-nil h); others = refl; same = refl }
+
+-- others, and then others
+pub others_then_others : (c : ℕ) (a b d : List Event) → ExtendsByOthers c a b → ExtendsByOthers c b d → ExtendsByOthers c a d
+others_then_others c a b d o e = record {
+  between = o.between ++ e.between;
+  split = e.split ∙ (ap (λ z. z ++ e.between) o.split ∙ append_assoc a o.between e.between);
+  others = calls-append c o.between e.between ∙ (ap (λ z. z ++ calls_by c e.between) o.others ∙ e.others);
+  same = e.same ∙ o.same;
+}
+
+told_same : (c : ℕ) (a b : List Event) (op : Op) (reply : Reply) → calls_by c b ≡ calls_by c a → next_call c b op reply ≡ next_call c a op reply
+told_same c a b op reply same = ap (λ (k : ℕ). calls (record { client = c; number = k; op = op; reply = reply })) (ap length same)
+
+-- others, and then the call
+pub others_then_one : (c : ℕ) (a b d : List Event) (op : Op) (reply : Reply) → ExtendsByOthers c a b → ExtendsByOne c b d (next_call c b op reply) → ExtendsByOne c a d (next_call c a op reply)
+others_then_one c a b d op reply o e = let call = told_same c a b op reply o.same in record {
+  between = o.between ++ e.between;
+  split = e.split ∙ (ap (λ z. (z ++ e.between) ++ next_call c b op reply ∷ []) o.split ∙ (ap (λ z. z ++ next_call c b op reply ∷ []) (append_assoc a o.between e.between) ∙ ap (λ z. (a ++ (o.between ++ e.between)) ++ z ∷ []) call));
+  others = calls-append c o.between e.between ∙ (ap (λ z. z ++ calls_by c e.between) o.others ∙ e.others);
+  grown = e.grown ∙ (ap (λ z. z ++ next_call c b op reply ∷ []) o.same ∙ ap (λ z. calls_by c a ++ z ∷ []) call);
+}
+
+others_then_own : (c : ℕ) (op : Op) (a b : List Event) (r : Result (Option Reply) Refusal) (e : List Event) → ExtendsByOthers c a b → SeesTry c op b r e → SeesTry c op a r e
+others_then_own c op a b (Ok (Some reply)) e o s = others_then_one c a b e op reply o s
+others_then_own c op a b (Ok None) e o s = others_then_others c a b e o s
+others_then_own c op a b (Err refusal) e o s = others_then_others c a b e o s
+
+-- others, and then a try
+pub others_then_try : (c d : ℕ) (op : Op) (a b : List Event) (r : Result (Option Reply) Refusal) (e : List Event) → d ≡ c → ExtendsByOthers c a b → SeesTry d op b r e → SeesTry c op a r e
+others_then_try c d op a b r e same o s = others_then_own c op a b r e o (subst (λ z. SeesTry z op b r e) same s)
+
+-- ---- what was seen goes on
+
+pub one-extends : (c : ℕ) (a d : List Event) (x : Event) → ExtendsByOne c a d x → Extends d a
+one-extends c a d x e = (e.between ++ x ∷ [], e.split ∙ append_assoc a e.between (x ∷ []))
+
+pub others-extends : (c : ℕ) (a d : List Event) → ExtendsByOthers c a d → Extends d a
+others-extends c a d o = (o.between, o.split)
+
+pub try-extends : (c : ℕ) (op : Op) (a : List Event) (r : Result (Option Reply) Refusal) (d : List Event) → SeesTry c op a r d → Extends d a
+try-extends c op a (Ok (Some reply)) d s = one-extends c a d (next_call c a op reply) s
+try-extends c op a (Ok None) d s = others-extends c a d s
+try-extends c op a (Err refusal) d s = others-extends c a d s
+
+pub opened-extends : (c n : ℕ) (a d : List Event) → Extends d a → IsOpened c n a → IsOpened c n d
+opened-extends c n a d e o = record {
+  before = o.before;
+  since = o.since ++ e.0;
+  split = e.1 ∙ (ap (λ z. z ++ e.0) o.split ∙ append_assoc o.before (opens c n ∷ o.since) e.0);
+}
+
+-- ---- counts
+
+pub one-counts : (c : ℕ) (a d : List Event) (x : Event) → ExtendsByOne c a d x → calls_made c d ≡ calls_made c a + 1
+one-counts c a d x e = ap length e.grown ∙ length-append (calls_by c a) (x ∷ [])
+
+pub others-counts : (c : ℕ) (a d : List Event) → ExtendsByOthers c a d → calls_made c d ≡ calls_made c a
+others-counts c a d o = ap length o.same
+
+pub try-counts : (c : ℕ) (op : Op) (a : List Event) (r : Result (Option Reply) Refusal) (d : List Event) → SeesTry c op a r d → calls_made c d ≡ calls_made c a + answers r
+try-counts c op a (Ok (Some reply)) d s = one-counts c a d (next_call c a op reply) s
+try-counts c op a (Ok None) d s = others-counts c a d s ∙ sym (add-zero (calls_made c a))
+try-counts c op a (Err refusal) d s = others-counts c a d s ∙ sym (add-zero (calls_made c a))
+
+pub answers-few : (r : Result (Option Reply) Refusal) → answers r ≤ 1
+answers-few (Ok (Some reply)) = omega arith
+answers-few (Ok None) = omega arith
+answers-few (Err refusal) = omega arith
+
+-- ---- a client that was just opened
+
+pub none_yet : (h : List Event) (c n : ℕ) → IsLegal (h ++ opens c n ∷ []) → calls_made c (h ++ opens c n ∷ []) ≡ 0
+none_yet h c n legal =
+    let next : c ≡ clients_opened h + 1 = next_opened h c n (fits_in (h ++ opens c n ∷ []) h [] (opens c n) legal refl) in
+    made-still h (opens c n) c refl ∙ early h (front_in (h ++ opens c n ∷ []) h (opens c n ∷ []) legal refl) c (omega arith)
+
+-- the client that was opened, if one was, has no calls
+pub none_of_opened : {X : Type 0} (h h' : List Event) (n : ℕ) (r : Result ℕ X) → IfOk r (λ c. h' ≡ h ++ opens c n ∷ []) → ∥ IsLegal h' ∥₁ → IfOk r (λ c. calls_made c h' ≡ 0)
+none_of_opened h h' n (Ok c) e legal =
+    let few : calls_made c h' ≤ 0 = ∥∥₁_elim legal le_prop (λ l. let none = none_yet h c n (subst IsLegal e l) in let same = ap (calls_made c) e in omega arith) in
+    omega arith
+none_of_opened h h' n (Err x) e legal = tt

@@ -1,0 +1,14 @@
+use Rattle.std.proofs.Common.{rules, ◌≡◌, sym, subst}
+use Rattle.assise_keeper.specs.Passes.{client, seen}
+use Rattle.assise_libfs.specs.Calling.{SeesTry}
+use Rattle.assise_libfs.proofs.Seeing.{sees}
+use Rattle.assise_libfs.proofs.turns.try_turn.Goals as goal
+
+pub returns-clause-sees : goal.returns-clause-sees
+returns-clause-sees g c =
+    let took = c.take-held.ensures in
+    let given : seen c.give.new.pass ≡ g.S.Growing.history c.try_call-tried.new.self = search rules in
+    let tried = c.try_call-tried.ensures.tries in
+    let tries = rw c.state.ensures.value at tried in
+    subst (SeesTry c.args.caller c.args.op.now (seen c.args.pass.now) c.try_call-tried.result) (sym given)
+    (sees c.args.caller (client c.args.pass.now) c.args.op.now _ _ _ _ c.requires.1 took.extends took.mine tries)

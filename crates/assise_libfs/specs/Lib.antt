@@ -1,0 +1,4 @@
+pub mod Lives
+pub mod Calling
+pub mod Opening
+pub mod Clients

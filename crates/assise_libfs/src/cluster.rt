@@ -1,0 +1,29 @@
+// A cluster serves clients.
+ghost use Rattle.std.proofs.Math.Logic.{∥∥₁_map};
+
+use crate::served::Served;
+use assise_lease_table::revoker::Revokes;
+use assise_machine::cluster::ClusterOf;
+use assise_machine_calls::turn::Turn;
+use assise_names::call::Op;
+use assise_names::refusal::Refusal;
+use assise_names::reply::Reply;
+use std::alloc::Global;
+
+impl<C: Revokes + Drop> Served for ClusterOf<C> {
+    type Stored = C;
+
+    fn open(&mut self, alloc: Global, node: u32, stored: C) -> Result<u32, (Refusal, C)> {
+        ClusterOf::open(self, alloc, node, stored)
+    }
+
+    fn try_call(&mut self, alloc: Global, client: u32, op: &Op) -> Result<Option<Reply>, Refusal> {
+        match ClusterOf::try_call(self, alloc, client, op) {
+            Ok(Turn::Answered(reply)) => Ok(Some(reply)),
+            Ok(Turn::NotYet) => Ok(None),
+            Err(refusal) => Err(refusal),
+        }
+    }
+
+    ghost legal = { λ s. ∥∥₁_map s.sound.holds (λ h. h.recorded.legal) };
+}

@@ -1,0 +1,75 @@
+// Turns of a client: a take, one try, and the give.
+ghost use Rattle.std.specs.Prelude.{◌≡◌, IfErr, IfOk, None, OnErr, Some};
+ghost use Rattle.assise_history.specs.Legal.{IsLegal, calls_made};
+ghost use Rattle.assise_keeper.specs.Clients.{Extends};
+ghost use Rattle.assise_keeper.specs.Passes.{IsPassOf, client, seen};
+ghost use Rattle.assise_libfs.specs.Calling.{MayRefuseTry, SeesTry, answers};
+ghost use Rattle.assise_libfs.specs.Lives.{IsOpened};
+ghost use Rattle.assise_libfs.specs.Opening.{MayRefuseOpen};
+
+use crate::served::Served;
+use assise_keeper::keeper::Keeper;
+use assise_keeper::pass::Pass;
+use assise_names::call::Op;
+use assise_names::refusal::Refusal;
+use assise_names::reply::Reply;
+use std::alloc::Global;
+use std::sync::Wait;
+
+/// One try of a call of the pass's client.
+pub(crate) fn try_turn<S: Served, R: Wait>(
+    rt: &R,
+    alloc: Global,
+    keeper: &Keeper<S>,
+    pass: &mut Pass<S>,
+    caller: u32,
+    op: &Op,
+) -> Result<Option<Reply>, Refusal>
+    requires { IsPassOf keeper.now pass.old × (client pass.old ≡ Some caller) }
+    ensures free { IsPassOf keeper.now pass.new }
+    ensures client { client pass.new ≡ Some caller }
+    ensures sees { SeesTry caller op.now (seen pass.old) result (seen pass.new) }
+    ensures legal { ∥ IsLegal (seen pass.new) ∥₁ }
+    ensures refused { IfErr result (λ r. MayRefuseTry caller op.now (seen pass.new) r) }
+{
+    let mut held = keeper.take(rt, pass);
+    let tried = held.state().try_call(alloc, caller, op);
+    keeper.give(pass, held);
+    tried
+}
+
+/// Opens a client on a node, which is the pass's from then on.
+pub(crate) fn open_turn<S: Served, R: Wait>(
+    rt: &R,
+    alloc: Global,
+    keeper: &Keeper<S>,
+    pass: &mut Pass<S>,
+    node: u32,
+    stored: S::Stored,
+) -> Result<u32, (Refusal, S::Stored)>
+    requires { IsPassOf keeper.now pass.old × (client pass.old ≡ None) }
+    ensures free { IsPassOf keeper.now pass.new }
+    ensures seen { Extends (seen pass.new) (seen pass.old) }
+    ensures legal { ∥ IsLegal (seen pass.new) ∥₁ }
+    ensures own { IfOk result (λ c. client pass.new ≡ Some c) }
+    ensures opened { IfOk result (λ c. IsOpened c node (seen pass.new)) }
+    ensures no_calls { IfOk result (λ c. calls_made c (seen pass.new) ≡ 0) }
+    ensures no_client { OnErr result (client pass.new ≡ None) }
+    ensures refused { IfErr result (λ back. MayRefuseOpen node (seen pass.new) back.0) }
+    ensures given_back { IfErr result (λ back. back.1 ≡ stored) }
+{
+    let mut held = keeper.take(rt, pass);
+    let opened = held.state().open(alloc, node, stored);
+    keeper.give(pass, held);
+    opened
+}
+
+/// How many calls a try answered.
+pub(crate) fn answered(tried: &Result<Option<Reply>, Refusal>) -> u64
+    ensures { result ≡ answers tried.now }
+{
+    match tried {
+        Ok(Some(_)) => 1,
+        Ok(None) | Err(_) => 0,
+    }
+}

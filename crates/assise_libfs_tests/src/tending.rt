@@ -1,0 +1,99 @@
+// What the nodes of a cluster do beside its clients.
+ghost use Rattle.std.specs.Prelude.{◌≡◌};
+ghost use Rattle.assise_keeper.specs.Passes.{IsPassOf};
+ghost use Rattle.assise_keeper.specs.Working.{pass_of};
+ghost use Rattle.assise_machine.specs.Headline.{history_of};
+
+use assise_keeper::keeper::Keeper;
+use assise_keeper::worker_pass::WorkerPass;
+use assise_lease_table::revoker::Revokes;
+use assise_machine::cluster::ClusterOf;
+use assise_private_log::log_view::LogView;
+use assise_revokers::kinds::whole;
+use std::alloc::Global;
+use std::sync::Wait;
+use std::sync::atomic::{AtomicU32, Ordering};
+use std::thread;
+
+/// A client that hands all of its log over where a lease is asked for.
+#[derive(Clone, Copy)]
+pub struct Whole;
+
+impl Revokes for Whole {
+    ghost use Rattle.assise_private_log.specs.Touches.{Covers};
+
+    ghost answers = { λ _ view inode cut. Covers view inode cut };
+
+    fn cut(&self, view: &LogView, inode: u64) -> u64 {
+        whole(view, inode)
+    }
+}
+
+/// A cluster of such clients.
+pub type Cluster = ClusterOf<Whole>;
+
+/// What a node sends comes where it is for.
+fn carry(alloc: Global, cluster: &mut Cluster, node: u32)
+    ensures { history_of cluster.new ≡ history_of cluster.old }
+{
+    let Ok(letters) = cluster.outgoing(alloc, node) else {
+        return;
+    };
+    for (frame, to) in letters {
+        let _ = cluster.deliver(frame, to);
+    }
+}
+
+/// What the nodes send comes where it is for, all digest, and leases go.
+fn tend(alloc: Global, cluster: &mut Cluster, nodes: u32)
+    ensures { history_of cluster.new ≡ history_of cluster.old }
+{
+    for node in 1..=nodes {
+        carry(alloc, cluster, node);
+        let _ = cluster.digest(alloc, node);
+    }
+    cluster.release_ready();
+}
+
+/// Tends a cluster.
+#[derive(Drop)]
+pub struct Tender<'a> {
+    keeper: &'a Keeper<Cluster>,
+    worker: WorkerPass<Cluster>,
+    nodes: u32,
+    ghost ours: { IsPassOf keeper.now (pass_of worker) },
+}
+
+impl<'a> Tender<'a> {
+    ghost use Rattle.assise_keeper.specs.Passes.{IsPassOf};
+    ghost use Rattle.assise_keeper.specs.Working.{pass_of};
+
+    /// Tends a cluster of so many nodes.
+    pub fn new(keeper: &'a Keeper<Cluster>, worker: WorkerPass<Cluster>, nodes: u32) -> Tender<'a>
+        requires { IsPassOf keeper.now (pass_of worker) }
+    {
+        Tender {
+            keeper,
+            worker,
+            nodes,
+        }
+    }
+
+    /// Does what the nodes do, once.
+    fn turn<R: Wait>(&mut self, rt: &R, alloc: Global) {
+        let mut held = self.worker.take(rt, self.keeper);
+        tend(alloc, held.state(), self.nodes);
+        self.worker.give(self.keeper, held);
+    }
+
+    /// Does it over and over, until so many clients are done.
+    pub fn tend_until<R: Wait>(&mut self, rt: &R, alloc: Global, done: &AtomicU32, clients: u32) {
+        for _ in rt.forever() {
+            if done.load(Ordering::SeqCst) >= clients {
+                return;
+            }
+            self.turn(rt, alloc);
+            thread::yield_now();
+        }
+    }
+}

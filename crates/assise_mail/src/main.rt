@@ -1,0 +1,16 @@
+//! A mail store on two nodes: one thread delivers a letter, another reads it, and a third does what the nodes do.
+#![tactic(auto)]
+
+mod clients;
+mod mail;
+mod tending;
+
+use crate::clients::on_cluster;
+use std::io;
+
+fn main(rt: HostRuntime) -> io::Result<()> {
+    match on_cluster(&rt, rt.alloc()) {
+        Ok(reply) => println!(rt; "{reply}"),
+        Err(refusal) => println!(rt; "{refusal}"),
+    }
+}
