@@ -84,7 +84,8 @@ impl<'a, S: Served> LibFs<'a, S> {
         ensures opened { IfOk result (λ it. ∥ IsOpened (client_of it) node (seen_by it) ∥₁) }
         ensures no_calls { IfOk result (λ it. calls_made (client_of it) (seen_by it) ≡ 0) }
         ensures refused { IfErr result (λ back. MayRefuseOpen node (seen back.1) back.0) }
-        ensures pass_back { IfErr result (λ back. IsPassOf keeper.now back.1 × (client_of_pass back.1 ≡ None)) }
+        ensures pass_back { IfErr result (λ back.
+            IsPassOf keeper.now back.1 × (client_of_pass back.1 ≡ None)) }
         ensures seen_back { IfErr result (λ back. Extends (seen back.1) (seen pass)) }
         ensures given_back { IfErr result (λ back. back.2 ≡ stored) }
     {
@@ -105,9 +106,11 @@ impl<'a, S: Served> LibFs<'a, S> {
     /// Makes a file without bytes at a path where nothing is.
     pub fn create<R: Wait>(&mut self, rt: &R, alloc: Global, path: Path) -> Result<Reply, Refusal>
         ensures same { IsSameClient self.old self.new }
-        ensures sees { SeesCall (client_of self.old) (Create path) (seen_by self.old) result (seen_by self.new) }
+        ensures sees { SeesCall (client_of self.old) (Create path)
+            (seen_by self.old) result (seen_by self.new) }
         ensures legal { ∥ IsLegal (seen_by self.new) ∥₁ }
-        ensures refused { IfErr result (λ r. MayRefuse (client_of self.old) (Create path) (seen_by self.new) r) }
+        ensures refused { IfErr result (λ r. MayRefuse (client_of self.old) (Create path)
+            (seen_by self.new) r) }
     {
         self.call(rt, alloc, &Op::Create(path))
     }
@@ -115,9 +118,11 @@ impl<'a, S: Served> LibFs<'a, S> {
     /// Makes a directory without entries at a path where nothing is.
     pub fn mkdir<R: Wait>(&mut self, rt: &R, alloc: Global, path: Path) -> Result<Reply, Refusal>
         ensures same { IsSameClient self.old self.new }
-        ensures sees { SeesCall (client_of self.old) (Mkdir path) (seen_by self.old) result (seen_by self.new) }
+        ensures sees { SeesCall (client_of self.old) (Mkdir path)
+            (seen_by self.old) result (seen_by self.new) }
         ensures legal { ∥ IsLegal (seen_by self.new) ∥₁ }
-        ensures refused { IfErr result (λ r. MayRefuse (client_of self.old) (Mkdir path) (seen_by self.new) r) }
+        ensures refused { IfErr result (λ r. MayRefuse (client_of self.old) (Mkdir path)
+            (seen_by self.new) r) }
     {
         self.call(rt, alloc, &Op::Mkdir(path))
     }
@@ -132,9 +137,11 @@ impl<'a, S: Served> LibFs<'a, S> {
         most: u64,
     ) -> Result<Reply, Refusal>
         ensures same { IsSameClient self.old self.new }
-        ensures sees { SeesCall (client_of self.old) (Read path offset most) (seen_by self.old) result (seen_by self.new) }
+        ensures sees { SeesCall (client_of self.old) (Read path offset most)
+            (seen_by self.old) result (seen_by self.new) }
         ensures legal { ∥ IsLegal (seen_by self.new) ∥₁ }
-        ensures refused { IfErr result (λ r. MayRefuse (client_of self.old) (Read path offset most) (seen_by self.new) r) }
+        ensures refused { IfErr result (λ r. MayRefuse (client_of self.old) (Read path offset most)
+            (seen_by self.new) r) }
     {
         self.call(rt, alloc, &Op::Read(path, offset, most))
     }
@@ -149,9 +156,11 @@ impl<'a, S: Served> LibFs<'a, S> {
         bytes: ByteString,
     ) -> Result<Reply, Refusal>
         ensures same { IsSameClient self.old self.new }
-        ensures sees { SeesCall (client_of self.old) (Write path offset bytes) (seen_by self.old) result (seen_by self.new) }
+        ensures sees { SeesCall (client_of self.old) (Write path offset bytes)
+            (seen_by self.old) result (seen_by self.new) }
         ensures legal { ∥ IsLegal (seen_by self.new) ∥₁ }
-        ensures refused { IfErr result (λ r. MayRefuse (client_of self.old) (Write path offset bytes) (seen_by self.new) r) }
+        ensures refused { IfErr result (λ r. MayRefuse
+            (client_of self.old) (Write path offset bytes) (seen_by self.new) r) }
     {
         self.call(rt, alloc, &Op::Write(path, offset, bytes))
     }
@@ -165,9 +174,11 @@ impl<'a, S: Served> LibFs<'a, S> {
         size: u64,
     ) -> Result<Reply, Refusal>
         ensures same { IsSameClient self.old self.new }
-        ensures sees { SeesCall (client_of self.old) (Truncate path size) (seen_by self.old) result (seen_by self.new) }
+        ensures sees { SeesCall (client_of self.old) (Truncate path size)
+            (seen_by self.old) result (seen_by self.new) }
         ensures legal { ∥ IsLegal (seen_by self.new) ∥₁ }
-        ensures refused { IfErr result (λ r. MayRefuse (client_of self.old) (Truncate path size) (seen_by self.new) r) }
+        ensures refused { IfErr result (λ r. MayRefuse (client_of self.old) (Truncate path size)
+            (seen_by self.new) r) }
     {
         self.call(rt, alloc, &Op::Truncate(path, size))
     }
@@ -181,9 +192,11 @@ impl<'a, S: Served> LibFs<'a, S> {
         to: Path,
     ) -> Result<Reply, Refusal>
         ensures same { IsSameClient self.old self.new }
-        ensures sees { SeesCall (client_of self.old) (Rename from to) (seen_by self.old) result (seen_by self.new) }
+        ensures sees { SeesCall (client_of self.old) (Rename from to)
+            (seen_by self.old) result (seen_by self.new) }
         ensures legal { ∥ IsLegal (seen_by self.new) ∥₁ }
-        ensures refused { IfErr result (λ r. MayRefuse (client_of self.old) (Rename from to) (seen_by self.new) r) }
+        ensures refused { IfErr result (λ r. MayRefuse (client_of self.old) (Rename from to)
+            (seen_by self.new) r) }
     {
         self.call(rt, alloc, &Op::Rename(from, to))
     }
@@ -191,9 +204,11 @@ impl<'a, S: Served> LibFs<'a, S> {
     /// Removes a file.
     pub fn unlink<R: Wait>(&mut self, rt: &R, alloc: Global, path: Path) -> Result<Reply, Refusal>
         ensures same { IsSameClient self.old self.new }
-        ensures sees { SeesCall (client_of self.old) (Unlink path) (seen_by self.old) result (seen_by self.new) }
+        ensures sees { SeesCall (client_of self.old) (Unlink path)
+            (seen_by self.old) result (seen_by self.new) }
         ensures legal { ∥ IsLegal (seen_by self.new) ∥₁ }
-        ensures refused { IfErr result (λ r. MayRefuse (client_of self.old) (Unlink path) (seen_by self.new) r) }
+        ensures refused { IfErr result (λ r. MayRefuse (client_of self.old) (Unlink path)
+            (seen_by self.new) r) }
     {
         self.call(rt, alloc, &Op::Unlink(path))
     }
@@ -201,9 +216,11 @@ impl<'a, S: Served> LibFs<'a, S> {
     /// Removes a directory without entries.
     pub fn rmdir<R: Wait>(&mut self, rt: &R, alloc: Global, path: Path) -> Result<Reply, Refusal>
         ensures same { IsSameClient self.old self.new }
-        ensures sees { SeesCall (client_of self.old) (Rmdir path) (seen_by self.old) result (seen_by self.new) }
+        ensures sees { SeesCall (client_of self.old) (Rmdir path)
+            (seen_by self.old) result (seen_by self.new) }
         ensures legal { ∥ IsLegal (seen_by self.new) ∥₁ }
-        ensures refused { IfErr result (λ r. MayRefuse (client_of self.old) (Rmdir path) (seen_by self.new) r) }
+        ensures refused { IfErr result (λ r. MayRefuse (client_of self.old) (Rmdir path)
+            (seen_by self.new) r) }
     {
         self.call(rt, alloc, &Op::Rmdir(path))
     }
@@ -211,9 +228,11 @@ impl<'a, S: Served> LibFs<'a, S> {
     /// Lists the names of a directory's entries, in rising order of their bytes.
     pub fn list<R: Wait>(&mut self, rt: &R, alloc: Global, path: Path) -> Result<Reply, Refusal>
         ensures same { IsSameClient self.old self.new }
-        ensures sees { SeesCall (client_of self.old) (Lists path) (seen_by self.old) result (seen_by self.new) }
+        ensures sees { SeesCall (client_of self.old) (Lists path)
+            (seen_by self.old) result (seen_by self.new) }
         ensures legal { ∥ IsLegal (seen_by self.new) ∥₁ }
-        ensures refused { IfErr result (λ r. MayRefuse (client_of self.old) (Lists path) (seen_by self.new) r) }
+        ensures refused { IfErr result (λ r. MayRefuse (client_of self.old) (Lists path)
+            (seen_by self.new) r) }
     {
         self.call(rt, alloc, &Op::List(path))
     }
@@ -221,9 +240,11 @@ impl<'a, S: Served> LibFs<'a, S> {
     /// Says what stands at a path, with its count of bytes or entries.
     pub fn stat<R: Wait>(&mut self, rt: &R, alloc: Global, path: Path) -> Result<Reply, Refusal>
         ensures same { IsSameClient self.old self.new }
-        ensures sees { SeesCall (client_of self.old) (Stat path) (seen_by self.old) result (seen_by self.new) }
+        ensures sees { SeesCall (client_of self.old) (Stat path)
+            (seen_by self.old) result (seen_by self.new) }
         ensures legal { ∥ IsLegal (seen_by self.new) ∥₁ }
-        ensures refused { IfErr result (λ r. MayRefuse (client_of self.old) (Stat path) (seen_by self.new) r) }
+        ensures refused { IfErr result (λ r. MayRefuse (client_of self.old) (Stat path)
+            (seen_by self.new) r) }
     {
         self.call(rt, alloc, &Op::Stat(path))
     }
@@ -231,9 +252,11 @@ impl<'a, S: Served> LibFs<'a, S> {
     /// Is answered once all full nodes have all that the client has written.
     pub fn fsync<R: Wait>(&mut self, rt: &R, alloc: Global) -> Result<Reply, Refusal>
         ensures same { IsSameClient self.old self.new }
-        ensures sees { SeesCall (client_of self.old) Fsync (seen_by self.old) result (seen_by self.new) }
+        ensures sees { SeesCall (client_of self.old) Fsync
+            (seen_by self.old) result (seen_by self.new) }
         ensures legal { ∥ IsLegal (seen_by self.new) ∥₁ }
-        ensures refused { IfErr result (λ r. MayRefuse (client_of self.old) Fsync (seen_by self.new) r) }
+        ensures refused { IfErr result (λ r. MayRefuse (client_of self.old) Fsync
+            (seen_by self.new) r) }
     {
         self.call(rt, alloc, &Op::Fsync)
     }
@@ -241,9 +264,11 @@ impl<'a, S: Served> LibFs<'a, S> {
     /// Makes a call: it is tried in turns until a try is answered or refused, or all turns are spent.
     pub fn call<R: Wait>(&mut self, rt: &R, alloc: Global, op: &Op) -> Result<Reply, Refusal>
         ensures same { IsSameClient self.old self.new }
-        ensures sees { SeesCall (client_of self.old) op.now (seen_by self.old) result (seen_by self.new) }
+        ensures sees { SeesCall (client_of self.old) op.now
+            (seen_by self.old) result (seen_by self.new) }
         ensures legal { ∥ IsLegal (seen_by self.new) ∥₁ }
-        ensures refused { IfErr result (λ r. MayRefuse (client_of self.old) op.now (seen_by self.new) r) }
+        ensures refused { IfErr result (λ r. MayRefuse (client_of self.old) op.now
+            (seen_by self.new) r) }
     {
         for turn in 0..self.limit {
             match self.turn(rt, alloc, op) {
@@ -258,8 +283,10 @@ impl<'a, S: Served> LibFs<'a, S> {
     // One try of a call. No state has the memory for so many calls that their count ends.
     fn turn<R: Wait>(&mut self, rt: &R, alloc: Global, op: &Op) -> Result<Option<Reply>, Refusal>
         ensures same { IsSameClient self.old self.new }
-        ensures sees { SeesTry (client_of self.old) op.now (seen_by self.old) result (seen_by self.new) }
-        ensures refused { IfErr result (λ r. MayRefuseTry (client_of self.old) op.now (seen_by self.new) r) }
+        ensures sees { SeesTry (client_of self.old) op.now
+            (seen_by self.old) result (seen_by self.new) }
+        ensures refused { IfErr result (λ r. MayRefuseTry (client_of self.old) op.now
+            (seen_by self.new) r) }
     {
         if self.calls == u64::MAX {
             return Err(Refusal::OutOfMemory);

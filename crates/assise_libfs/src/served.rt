@@ -25,17 +25,22 @@ pub trait Served: Growing {
         node: u32,
         stored: Self::Stored,
     ) -> Result<u32, (Refusal, Self::Stored)>
-        ensures opened { IfOk result (λ c. Self.Growing.history self.new ≡ Self.Growing.history self.old ++ opens c node ∷ []) }
-        ensures unchanged { OnErr result (Self.Growing.history self.new ≡ Self.Growing.history self.old) }
-        ensures refused { IfErr result (λ back. MayRefuseOpen node (Self.Growing.history self.old) back.0) }
+        ensures opened { IfOk result (λ c.
+            Self.Growing.history self.new ≡ Self.Growing.history self.old ++ opens c node ∷ []) }
+        ensures unchanged { OnErr result
+            (Self.Growing.history self.new ≡ Self.Growing.history self.old) }
+        ensures refused { IfErr result (λ back.
+            MayRefuseOpen node (Self.Growing.history self.old) back.0) }
         ensures given_back { IfErr result (λ back. back.1 ≡ stored) };
 
     /// Tries a client's call once: its reply, or `None` where a lease or a replication is awaited. A call that isn't answered adds
     /// nothing to the history. It is refused as [`LibFs::call`](crate::libfs::LibFs::call) says, but never with [`Refusal::Busy`],
     /// and with [`Refusal::BadClient`] where there is no such client.
     fn try_call(&mut self, alloc: Global, client: u32, op: &Op) -> Result<Option<Reply>, Refusal>
-        ensures tries { Tries client op.now (Self.Growing.history self.old) result (Self.Growing.history self.new) }
-        ensures refused { IfErr result (λ r. MayRefuseTry client op.now (Self.Growing.history self.old) r) };
+        ensures tries { Tries client op.now
+            (Self.Growing.history self.old) result (Self.Growing.history self.new) }
+        ensures refused { IfErr result (λ r. MayRefuseTry client op.now
+            (Self.Growing.history self.old) r) };
 
     ghost legal: { (s : Self) → ∥ IsLegal (Self.Growing.history s) ∥₁ };
 }
