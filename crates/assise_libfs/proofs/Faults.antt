@@ -24,8 +24,8 @@ use Rattle.assise_machine_events.specs.Happenings.{Trying}
 use Rattle.assise_machine_events.specs.Machine.{Machine, Holds, most_clients}
 use Rattle.assise_machine_events.proofs.Rejoined.{stands_is_node}
 use Rattle.assise_machine_calls.specs.Answers.{opening_answer}
-use Rattle.assise_libfs.specs.Calling.{Makes, MayRefuseTry, WritesTooMuch}
-use Rattle.assise_libfs.specs.Lives.{HasCrashed, HasLostNode, IsOpened}
+use Rattle.assise_libfs.specs.Calling.{MakesInode, MayRefuseTry, WritesTooMuch}
+use Rattle.assise_libfs.specs.Lives.{HasCrashed, HasLostNode, IsOpenedOn}
 use Rattle.assise_libfs.specs.Opening.{MayRefuseOpen}
 
 -- ---- the faults of a client
@@ -71,7 +71,7 @@ module _ (m : Machine) (h : Holds m) (c : ℕ) where
   client_of : is_client m.world c ≡ true → IsClient m.world c
   client_of e = (le_true 1 c (&&_left (nat_le 1 c) (nat_le c m.world.clients) e), le_true c m.world.clients (&&_right (nat_le 1 c) (nat_le c m.world.clients) e))
 
-  never_opened : is_client m.world c ≡ false → (n : ℕ) → IsOpened c n m.history → ⊥
+  never_opened : is_client m.world c ≡ false → (n : ℕ) → IsOpenedOn c n m.history → ⊥
   never_opened none n o =
       let first = next_opened o.before c n (fits_in m.history o.before o.since (opens c n) h.recorded.legal o.split) in
       let within = opened_within m.history o.before o.since c n h.recorded.legal o.split in
@@ -108,7 +108,7 @@ writes_too_much (ListCall p) e = cc
 writes_too_much (Stat p) e = cc
 writes_too_much Fsync e = cc
 
-makes_by : (op : Op) (reply : Reply) → makes_inode op reply ≡ true → Makes op
+makes_by : (op : Op) (reply : Reply) → makes_inode op reply ≡ true → MakesInode op
 makes_by (Create p) reply e = tt
 makes_by (Mkdir p) reply e = tt
 makes_by (Read p offset n) reply e = cc

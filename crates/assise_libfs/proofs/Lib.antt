@@ -1,5 +1,5 @@
 pub mod Faults
 pub mod Refused
 pub mod Same
-pub mod Seeing
+pub mod Sights
 pub mod Tries

@@ -13,8 +13,8 @@ use Rattle.assise_history.proofs.Counting.{early, next_opened}
 use Rattle.assise_history.proofs.Standing.{made-still}
 use Rattle.assise_keeper.specs.Clients.{calls_by, Extends, ExtendsByOne}
 use Rattle.assise_keeper.proofs.Adding.{calls-append}
-use Rattle.assise_libfs.specs.Calling.{next_call, ExtendsByOthers, SeesTry, answers}
-use Rattle.assise_libfs.specs.Lives.{IsOpened}
+use Rattle.assise_libfs.specs.Calling.{told_call, ExtendsByOthers, SeesTry, answers}
+use Rattle.assise_libfs.specs.Lives.{IsOpenedOn}
 
 nothing_more : (xs ys : List Event) → xs ++ ys ≡ xs → ys ≡ []
 nothing_more [] ys e = e
@@ -41,16 +41,16 @@ others_then_others c a b d o e = record {
   same = e.same ∙ o.same;
 }
 
-told_same : (c : ℕ) (a b : List Event) (op : Op) (reply : Reply) → calls_by c b ≡ calls_by c a → next_call c b op reply ≡ next_call c a op reply
+told_same : (c : ℕ) (a b : List Event) (op : Op) (reply : Reply) → calls_by c b ≡ calls_by c a → told_call c b op reply ≡ told_call c a op reply
 told_same c a b op reply same = ap (λ (k : ℕ). calls (record { client = c; number = k; op = op; reply = reply })) (ap length same)
 
 -- others, and then the call
-pub others_then_one : (c : ℕ) (a b d : List Event) (op : Op) (reply : Reply) → ExtendsByOthers c a b → ExtendsByOne c b d (next_call c b op reply) → ExtendsByOne c a d (next_call c a op reply)
+pub others_then_one : (c : ℕ) (a b d : List Event) (op : Op) (reply : Reply) → ExtendsByOthers c a b → ExtendsByOne c b d (told_call c b op reply) → ExtendsByOne c a d (told_call c a op reply)
 others_then_one c a b d op reply o e = let call = told_same c a b op reply o.same in record {
   between = o.between ++ e.between;
-  split = e.split ∙ (ap (λ z. (z ++ e.between) ++ next_call c b op reply ∷ []) o.split ∙ (ap (λ z. z ++ next_call c b op reply ∷ []) (append_assoc a o.between e.between) ∙ ap (λ z. (a ++ (o.between ++ e.between)) ++ z ∷ []) call));
+  split = e.split ∙ (ap (λ z. (z ++ e.between) ++ told_call c b op reply ∷ []) o.split ∙ (ap (λ z. z ++ told_call c b op reply ∷ []) (append_assoc a o.between e.between) ∙ ap (λ z. (a ++ (o.between ++ e.between)) ++ z ∷ []) call));
   others = calls-append c o.between e.between ∙ (ap (λ z. z ++ calls_by c e.between) o.others ∙ e.others);
-  grown = e.grown ∙ (ap (λ z. z ++ next_call c b op reply ∷ []) o.same ∙ ap (λ z. calls_by c a ++ z ∷ []) call);
+  grown = e.grown ∙ (ap (λ z. z ++ told_call c b op reply ∷ []) o.same ∙ ap (λ z. calls_by c a ++ z ∷ []) call);
 }
 
 others_then_own : (c : ℕ) (op : Op) (a b : List Event) (r : Result (Option Reply) Refusal) (e : List Event) → ExtendsByOthers c a b → SeesTry c op b r e → SeesTry c op a r e
@@ -71,11 +71,11 @@ pub others-extends : (c : ℕ) (a d : List Event) → ExtendsByOthers c a d → 
 others-extends c a d o = (o.between, o.split)
 
 pub try-extends : (c : ℕ) (op : Op) (a : List Event) (r : Result (Option Reply) Refusal) (d : List Event) → SeesTry c op a r d → Extends d a
-try-extends c op a (Ok (Some reply)) d s = one-extends c a d (next_call c a op reply) s
+try-extends c op a (Ok (Some reply)) d s = one-extends c a d (told_call c a op reply) s
 try-extends c op a (Ok None) d s = others-extends c a d s
 try-extends c op a (Err refusal) d s = others-extends c a d s
 
-pub opened-extends : (c n : ℕ) (a d : List Event) → Extends d a → IsOpened c n a → IsOpened c n d
+pub opened-extends : (c n : ℕ) (a d : List Event) → Extends d a → IsOpenedOn c n a → IsOpenedOn c n d
 opened-extends c n a d e o = record {
   before = o.before;
   since = o.since ++ e.0;
@@ -91,7 +91,7 @@ pub others-counts : (c : ℕ) (a d : List Event) → ExtendsByOthers c a d → c
 others-counts c a d o = ap length o.same
 
 pub try-counts : (c : ℕ) (op : Op) (a : List Event) (r : Result (Option Reply) Refusal) (d : List Event) → SeesTry c op a r d → calls_made c d ≡ calls_made c a + answers r
-try-counts c op a (Ok (Some reply)) d s = one-counts c a d (next_call c a op reply) s
+try-counts c op a (Ok (Some reply)) d s = one-counts c a d (told_call c a op reply) s
 try-counts c op a (Ok None) d s = others-counts c a d s ∙ sym (add-zero (calls_made c a))
 try-counts c op a (Err refusal) d s = others-counts c a d s ∙ sym (add-zero (calls_made c a))
 

@@ -9,11 +9,11 @@ use Rattle.assise_names.specs.declared.reply.Reply.{Reply}
 use Rattle.assise_history.specs.Entries.{Event, calls}
 use Rattle.assise_history.specs.Legal.{calls_made}
 use Rattle.assise_keeper.specs.Clients.{calls_by, ExtendsByOne}
-use Rattle.assise_libfs.specs.Lives.{IsOpened, HasLostNode, HasCrashed}
+use Rattle.assise_libfs.specs.Lives.{IsOpenedOn, HasLostNode, HasCrashed}
 
 -- the client's next call after this history, with its reply
-abbrev pub next_call : ℕ → List Event → Op → Reply → Event
-next_call c h op reply = calls (record { client = c; number = calls_made c h; op = op; reply = reply })
+abbrev pub told_call : ℕ → List Event → Op → Reply → Event
+told_call c h op reply = calls (record { client = c; number = calls_made c h; op = op; reply = reply })
 
 -- what was seen goes on by entries that aren't calls of the client
 pub record ExtendsByOthers (c : ℕ) (old new : List Event) : Type 0 where
@@ -26,13 +26,13 @@ pub record ExtendsByOthers (c : ℕ) (old new : List Event) : Type 0 where
 
 -- what it adds to a history: the call where it is answered, else nothing
 abbrev pub Tries : ℕ → Op → List Event → Result (Option Reply) Refusal → List Event → Type 0
-Tries c op h (Ok (Some reply)) h' = h' ≡ h ++ next_call c h op reply ∷ []
+Tries c op h (Ok (Some reply)) h' = h' ≡ h ++ told_call c h op reply ∷ []
 Tries c op h (Ok None) h' = h' ≡ h
 Tries c op h (Err refusal) h' = h' ≡ h
 
 -- what its caller has seen then
 abbrev pub SeesTry : ℕ → Op → List Event → Result (Option Reply) Refusal → List Event → Type 0
-SeesTry c op old (Ok (Some reply)) new = ExtendsByOne c old new (next_call c old op reply)
+SeesTry c op old (Ok (Some reply)) new = ExtendsByOne c old new (told_call c old op reply)
 SeesTry c op old (Ok None) new = ExtendsByOthers c old new
 SeesTry c op old (Err refusal) new = ExtendsByOthers c old new
 
@@ -47,24 +47,24 @@ answers (Err refusal) = 0
 -- Where it is answered, what was seen goes on by entries that aren't the client's calls, and then by this call with its reply; its
 -- number is the count of the client's calls before. Where it is refused, what was seen has no call of the client more.
 abbrev pub SeesCall : ℕ → Op → List Event → Result Reply Refusal → List Event → Type 0
-SeesCall c op old (Ok reply) new = ExtendsByOne c old new (next_call c old op reply)
+SeesCall c op old (Ok reply) new = ExtendsByOne c old new (told_call c old op reply)
 SeesCall c op old (Err refusal) new = ExtendsByOthers c old new
 
 -- ---- why a call is refused
 
 -- it makes a file or a directory
-abbrev pub Makes : Op → Type 0
-Makes (Create p) = Unit {0}
-Makes (Mkdir p) = Unit {0}
-Makes (Read p offset most) = ⊥
-Makes (Write p offset bytes) = ⊥
-Makes (Truncate p size) = ⊥
-Makes (Rename p q) = ⊥
-Makes (Unlink p) = ⊥
-Makes (Rmdir p) = ⊥
-Makes (ListCall p) = ⊥
-Makes (Stat p) = ⊥
-Makes Fsync = ⊥
+abbrev pub MakesInode : Op → Type 0
+MakesInode (Create p) = Unit {0}
+MakesInode (Mkdir p) = Unit {0}
+MakesInode (Read p offset most) = ⊥
+MakesInode (Write p offset bytes) = ⊥
+MakesInode (Truncate p size) = ⊥
+MakesInode (Rename p q) = ⊥
+MakesInode (Unlink p) = ⊥
+MakesInode (Rmdir p) = ⊥
+MakesInode (ListCall p) = ⊥
+MakesInode (Stat p) = ⊥
+MakesInode Fsync = ⊥
 
 -- it writes more than 65,536 bytes
 abbrev pub WritesTooMuch : Op → Type 0
@@ -86,11 +86,11 @@ MayRefuseTry c op h OutOfMemory = Unit {0}
 MayRefuseTry c op h Busy = ⊥
 MayRefuseTry c op h NodeDown = ∥ HasLostNode c h ∥₁
 MayRefuseTry c op h ClientGone = ∥ HasCrashed c h ∥₁
-MayRefuseTry c op h InodesSpent = Makes op
+MayRefuseTry c op h InodesSpent = MakesInode op
 MayRefuseTry c op h TooLarge = WritesTooMuch op
 MayRefuseTry c op h LastNode = ⊥
 MayRefuseTry c op h BadNode = ⊥
-MayRefuseTry c op h BadClient = (n : ℕ) → IsOpened c n h → ⊥
+MayRefuseTry c op h BadClient = (n : ℕ) → IsOpenedOn c n h → ⊥
 MayRefuseTry c op h WrongPhase = ⊥
 MayRefuseTry c op h StaleMessage = ⊥
 MayRefuseTry c op h LogFull = Unit {0}
@@ -101,7 +101,7 @@ MayRefuse c op h OutOfMemory = Unit {0}
 MayRefuse c op h Busy = Unit {0}
 MayRefuse c op h NodeDown = ∥ HasLostNode c h ∥₁
 MayRefuse c op h ClientGone = ∥ HasCrashed c h ∥₁
-MayRefuse c op h InodesSpent = Makes op
+MayRefuse c op h InodesSpent = MakesInode op
 MayRefuse c op h TooLarge = WritesTooMuch op
 MayRefuse c op h LastNode = ⊥
 MayRefuse c op h BadNode = ⊥

@@ -6,7 +6,7 @@ use Rattle.assise_history.specs.Entries.{Event, opens}
 use Rattle.assise_history.specs.Legal.{is_crash_of, is_failure_of}
 
 -- the client was opened on the node
-pub record IsOpened (c n : ℕ) (h : List Event) : Type 0 where
+pub record IsOpenedOn (c n : ℕ) (h : List Event) : Type 0 where
   pub before : List Event
   pub since : List Event
   pub split : h ≡ before ++ opens c n ∷ since
@@ -14,11 +14,11 @@ pub record IsOpened (c n : ℕ) (h : List Event) : Type 0 where
 -- the client's node has failed since the client was opened
 pub record HasLostNode (c : ℕ) (h : List Event) : Type 0 where
   pub node : ℕ
-  pub opened : IsOpened c node h
+  pub opened : IsOpenedOn c node h
   pub failure : list_any (is_failure_of node) opened.since ≡ true
 
 -- the client has crashed since it was opened
 pub record HasCrashed (c : ℕ) (h : List Event) : Type 0 where
   pub node : ℕ
-  pub opened : IsOpened c node h
+  pub opened : IsOpenedOn c node h
   pub crash : list_any (is_crash_of c) opened.since ≡ true

@@ -2,7 +2,7 @@
 ghost use Rattle.std.specs.Prelude.{◌≡◌, ◌≤◌, Some};
 ghost use Rattle.assise_history.specs.Legal.{IsLegal, calls_made};
 ghost use Rattle.assise_keeper.specs.Passes.{IsPassOf, client as client_of_pass, seen};
-ghost use Rattle.assise_libfs.specs.Lives.{IsOpened};
+ghost use Rattle.assise_libfs.specs.Lives.{IsOpenedOn};
 
 use crate::pause::pause;
 use crate::served::Served;
@@ -43,7 +43,7 @@ pub struct LibFs<'a, S: Served> {
     calls: u64,
     ghost ours: { IsPassOf keeper.now pass },
     ghost its: { client_of_pass pass ≡ Some client },
-    ghost opened: { ∥ IsOpened client node (seen pass) ∥₁ },
+    ghost opened: { ∥ IsOpenedOn client node (seen pass) ∥₁ },
     ghost legal: { ∥ IsLegal (seen pass) ∥₁ },
     ghost counted: { calls ≡ calls_made client (seen pass) },
     ghost some_turns: { 1 ≤ limit },
@@ -57,7 +57,7 @@ impl<'a, S: Served> LibFs<'a, S> {
     ghost use Rattle.assise_keeper.specs.Passes.{AreOfOneKeeper, IsPassOf, client as client_of_pass, mine, seen};
     ghost use Rattle.assise_libfs.specs.Calling.{MayRefuse, MayRefuseTry, SeesCall, SeesTry};
     ghost use Rattle.assise_libfs.specs.Clients.{IsSameClient, client_of, keeper_of, node_of, pass_of, seen_by};
-    ghost use Rattle.assise_libfs.specs.Lives.{IsOpened};
+    ghost use Rattle.assise_libfs.specs.Lives.{IsOpenedOn};
     ghost use Rattle.assise_libfs.specs.Opening.{MayRefuseOpen};
 
     /// Opens a client on a node, for calls of 1 to 1,000,000 turns. The client is the pass's from then on; what is stored with it serves
@@ -81,7 +81,7 @@ impl<'a, S: Served> LibFs<'a, S> {
         ensures keeper { IfOk result (λ it. keeper_of it ≡ keeper.now) }
         ensures node { IfOk result (λ it. node_of it ≡ node) }
         ensures seen { IfOk result (λ it. Extends (seen_by it) (seen pass)) }
-        ensures opened { IfOk result (λ it. ∥ IsOpened (client_of it) node (seen_by it) ∥₁) }
+        ensures opened { IfOk result (λ it. ∥ IsOpenedOn (client_of it) node (seen_by it) ∥₁) }
         ensures no_calls { IfOk result (λ it. calls_made (client_of it) (seen_by it) ≡ 0) }
         ensures refused { IfErr result (λ back. MayRefuseOpen node (seen back.1) back.0) }
         ensures pass_back { IfErr result (λ back.

@@ -4,7 +4,7 @@ ghost use Rattle.assise_history.specs.Legal.{IsLegal, calls_made};
 ghost use Rattle.assise_keeper.specs.Clients.{Extends};
 ghost use Rattle.assise_keeper.specs.Passes.{IsPassOf, client, seen};
 ghost use Rattle.assise_libfs.specs.Calling.{MayRefuseTry, SeesTry, answers};
-ghost use Rattle.assise_libfs.specs.Lives.{IsOpened};
+ghost use Rattle.assise_libfs.specs.Lives.{IsOpenedOn};
 ghost use Rattle.assise_libfs.specs.Opening.{MayRefuseOpen};
 
 use crate::served::Served;
@@ -52,7 +52,7 @@ pub(crate) fn open_turn<S: Served, R: Wait>(
     ensures seen { Extends (seen pass.new) (seen pass.old) }
     ensures legal { ∥ IsLegal (seen pass.new) ∥₁ }
     ensures own { IfOk result (λ c. client pass.new ≡ Some c) }
-    ensures opened { IfOk result (λ c. IsOpened c node (seen pass.new)) }
+    ensures opened { IfOk result (λ c. IsOpenedOn c node (seen pass.new)) }
     ensures no_calls { IfOk result (λ c. calls_made c (seen pass.new) ≡ 0) }
     ensures no_client { OnErr result (client pass.new ≡ None) }
     ensures refused { IfErr result (λ back. MayRefuseOpen node (seen pass.new) back.0) }

@@ -11,8 +11,8 @@ use Rattle.assise_history.proofs.Counting.{next_opened, opened_within}
 use Rattle.assise_history.proofs.Legality.{fits_in, legal-nil}
 use Rattle.assise_history.proofs.OneMore.{legal-call, legal-open}
 use Rattle.assise_history.proofs.Standing.{down-last, down-nil, may_call-opened, may_call-push, opened-push, opened-still}
-use Rattle.assise_libfs.specs.Calling.{next_call}
-use Rattle.assise_libfs.specs.Lives.{IsOpened}
+use Rattle.assise_libfs.specs.Calling.{told_call}
+use Rattle.assise_libfs.specs.Lives.{IsOpenedOn}
 use Rattle.assise_libfs_tests.specs.Ledgers.{IsLedger}
 
 ledger-nil : IsLedger 0 []
@@ -34,12 +34,12 @@ ledger-open n h k = record {
   up = still_up h (opens (n + 1) 1) (λ m losses e. cc) k.up;
 }
 
-ledger-call : (n : ℕ) (h : List Event) (c : ℕ) → 1 ≤ c → c ≤ n → IsLedger n h → IsLedger n (h ++ next_call c h Fsync Done ∷ [])
+ledger-call : (n : ℕ) (h : List Event) (c : ℕ) → 1 ≤ c → c ≤ n → IsLedger n h → IsLedger n (h ++ told_call c h Fsync Done ∷ [])
 ledger-call n h c lo hi k = record {
   legal = legal-call h (record { client = c; number = calls_made c h; op = Fsync; reply = Done }) k.legal (record { ready = k.calls c lo hi; number = refl }) refl;
-  count = k.count ∙ sym (opened-still h (next_call c h Fsync Done) refl);
-  calls = λ d lo' hi'. may_call-push h (next_call c h Fsync Done) d (k.calls d lo' hi') refl refl;
-  up = still_up h (next_call c h Fsync Done) (λ m losses e. cc) k.up;
+  count = k.count ∙ sym (opened-still h (told_call c h Fsync Done) refl);
+  calls = λ d lo' hi'. may_call-push h (told_call c h Fsync Done) d (k.calls d lo' hi') refl refl;
+  up = still_up h (told_call c h Fsync Done) (λ m losses e. cc) k.up;
 }
 
 pub begun : ∥ IsLedger 0 [] ∥₁
@@ -48,7 +48,7 @@ begun = ∣ ledger-nil ∣₁
 pub opened : (n : ℕ) (h h' : List Event) → ∥ IsLedger n h ∥₁ → h' ≡ h ++ opens (n + 1) 1 ∷ [] → ∥ IsLedger (n + 1) h' ∥₁
 opened n h h' k e = ∥∥₁_map k (λ l. subst (IsLedger (n + 1)) (sym e) (ledger-open n h l))
 
-pub called : (n : ℕ) (h h' : List Event) (c : ℕ) → 1 ≤ c → c ≤ n → ∥ IsLedger n h ∥₁ → h' ≡ h ++ next_call c h Fsync Done ∷ [] → ∥ IsLedger n h' ∥₁
+pub called : (n : ℕ) (h h' : List Event) (c : ℕ) → 1 ≤ c → c ≤ n → ∥ IsLedger n h ∥₁ → h' ≡ h ++ told_call c h Fsync Done ∷ [] → ∥ IsLedger n h' ∥₁
 called n h h' c lo hi k e = ∥∥₁_map k (λ l. subst (IsLedger n) (sym e) (ledger-call n h c lo hi l))
 
 pub unchanged : (n : ℕ) (h h' : List Event) → ∥ IsLedger n h ∥₁ → h' ≡ h → ∥ IsLedger n h' ∥₁
@@ -58,7 +58,7 @@ no_proofs : (x y : ⊥) → x ≡ y
 no_proofs x y = absurd x
 
 -- no other client was ever opened
-pub no_other : (n : ℕ) (h : List Event) (c : ℕ) → ∥ IsLedger n h ∥₁ → (1 ≤ c → c ≤ n → ⊥) → (m : ℕ) → IsOpened c m h → ⊥
+pub no_other : (n : ℕ) (h : List Event) (c : ℕ) → ∥ IsLedger n h ∥₁ → (1 ≤ c → c ≤ n → ⊥) → (m : ℕ) → IsOpenedOn c m h → ⊥
 no_other n h c k other m o = ∥∥₁_elim k no_proofs (λ l.
     let first = next_opened o.before c m (fits_in h o.before o.since (opens c m) l.legal o.split) in
     let within = opened_within h o.before o.since c m l.legal o.split in

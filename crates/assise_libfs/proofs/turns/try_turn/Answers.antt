@@ -1,7 +1,7 @@
 use Rattle.std.proofs.Common.{rules, ◌≡◌, sym, subst}
 use Rattle.assise_keeper.specs.Passes.{client, seen}
 use Rattle.assise_libfs.specs.Calling.{SeesTry}
-use Rattle.assise_libfs.proofs.Seeing.{sees}
+use Rattle.assise_libfs.proofs.Sights.{sees}
 use Rattle.assise_libfs.proofs.turns.try_turn.Goals as goal
 
 pub returns-clause-sees : goal.returns-clause-sees
