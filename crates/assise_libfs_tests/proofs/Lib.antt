@@ -1,1 +1,1 @@
-pub mod Ledgers
+pub mod Keeping

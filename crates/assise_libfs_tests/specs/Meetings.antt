@@ -1,6 +1,5 @@
 -- What a client that met another has seen of it.
-use Rattle.std.specs.Prelude.{ℕ, List, [], ◌∷◌, Contains}
-use Rattle.std.specs.Text.{codes}
+use Rattle.std.specs.Prelude.{ℕ, List, [], ◌∷◌, Contains, codes}
 use Rattle.assise_names.specs.declared.call.Op.TheVariants.{Create}
 use Rattle.assise_names.specs.declared.reply.Reply.{Reply}
 use Rattle.assise_history.specs.Entries.{Event, calls}

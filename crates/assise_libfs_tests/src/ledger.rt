@@ -87,12 +87,7 @@ fn calls_made(client: u32, entries: &[Entry]) -> u64
 impl Served for Ledger {
     type Stored = u32;
 
-    fn open(
-        &mut self,
-        _alloc: Global,
-        node: u32,
-        stored: u32,
-    ) -> Result<u32, (Refusal, u32)> {
+    fn open(&mut self, _alloc: Global, node: u32, stored: u32) -> Result<u32, (Refusal, u32)> {
         if node != 1 {
             return Err((Refusal::BadNode, stored));
         }
@@ -107,12 +102,7 @@ impl Served for Ledger {
         Ok(client)
     }
 
-    fn try_call(
-        &mut self,
-        _alloc: Global,
-        client: u32,
-        op: &Op,
-    ) -> Result<Option<Reply>, Refusal> {
+    fn try_call(&mut self, _alloc: Global, client: u32, op: &Op) -> Result<Option<Reply>, Refusal> {
         self.tries = self.tries.saturating_add(1);
         if client == 0 || client > self.clients {
             return Err(Refusal::BadClient);

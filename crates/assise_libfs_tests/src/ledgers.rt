@@ -13,12 +13,7 @@ use std::sync::Wait;
 use std::thread::{Threads, join};
 
 /// A client of a ledger makes an fsync of so many turns: what it came to, and how often it was tried.
-pub fn sync_once<R: Wait>(
-    rt: &R,
-    alloc: Global,
-    ledger: Ledger,
-    turns: u32,
-) -> Option<String>
+pub fn sync_once<R: Wait>(rt: &R, alloc: Global, ledger: Ledger, turns: u32) -> Option<String>
     requires some { 1 ≤ turns }
     requires few { turns ≤ 1000000 }
 {

@@ -2,13 +2,14 @@
 ghost use Rattle.std.specs.Prelude.{◌≡◌};
 ghost use Rattle.assise_keeper.specs.Passes.{IsPassOf};
 ghost use Rattle.assise_keeper.specs.Working.{pass_of};
-ghost use Rattle.assise_machine.specs.Headline.{history_of};
+ghost use Rattle.assise_machine.specs.Clusters.{machine};
 
 use assise_keeper::keeper::Keeper;
 use assise_keeper::worker_pass::WorkerPass;
 use assise_lease_table::revoker::Revokes;
 use assise_machine::cluster::ClusterOf;
 use assise_private_log::log_view::LogView;
+use assise_record::frame::Frame;
 use assise_revokers::kinds::whole;
 use std::alloc::Global;
 use std::sync::Wait;
@@ -32,27 +33,48 @@ impl Revokes for Whole {
 /// A cluster of such clients.
 pub type Cluster = ClusterOf<Whole>;
 
+/// A frame comes to a node, which may take it.
+fn arrive(cluster: &mut Cluster, frame: Frame, node: u32)
+    ensures { (machine cluster.new).history ≡ (machine cluster.old).history }
+{
+    let _ = cluster.deliver(frame, node);
+}
+
 /// What a node sends comes where it is for.
 fn carry(alloc: Global, cluster: &mut Cluster, node: u32)
-    ensures { history_of cluster.new ≡ history_of cluster.old }
+    ensures { (machine cluster.new).history ≡ (machine cluster.old).history }
 {
     let Ok(letters) = cluster.outgoing(alloc, node) else {
         return;
     };
     for (frame, to) in letters {
-        let _ = cluster.deliver(frame, to);
+        arrive(cluster, frame, to);
     }
+}
+
+/// A node digests what all have.
+fn digest(alloc: Global, cluster: &mut Cluster, node: u32)
+    ensures { (machine cluster.new).history ≡ (machine cluster.old).history }
+{
+    let _ = cluster.digest(alloc, node);
+}
+
+/// Leases go that may.
+fn release(cluster: &mut Cluster)
+    ensures { (machine cluster.new).history ≡ (machine cluster.old).history }
+{
+    cluster.release_ready();
 }
 
 /// What the nodes send comes where it is for, all digest, and leases go.
 fn tend(alloc: Global, cluster: &mut Cluster, nodes: u32)
-    ensures { history_of cluster.new ≡ history_of cluster.old }
+    ensures { (machine cluster.new).history ≡ (machine cluster.old).history }
 {
     for node in 1..=nodes {
         carry(alloc, cluster, node);
-        let _ = cluster.digest(alloc, node);
+        digest(alloc, cluster, node);
     }
-    cluster.release_ready();
+    release(cluster);
 }
 
 /// Tends a cluster.

@@ -20,20 +20,15 @@ use std::sync::Wait;
 use std::sync::atomic::{AtomicU32, Ordering};
 use std::thread::{Threads, join};
 
-/// Opens a client on a node. All of its log is to be safe before a lease of it goes to another client.
-fn open<'a, R: Wait>(
-    rt: &R,
-    alloc: Global,
-    keeper: &'a Keeper<Cluster>,
-    pass: Pass<Cluster>,
-    node: u32,
-) -> Result<LibFs<'a, Cluster>, Refusal>
-    requires { IsPassOf keeper.now pass × (client pass ≡ None) }
-{
-    let cut: Box<dyn Fn(&LogView, u64) -> u64 + Send> =
-        Box::new(alloc, whole).map_err(AllocError::from)?;
-    LibFs::open(rt, alloc, keeper, pass, node, Revoker::new(cut), 1_000_000)
-        .map_err(|refused| refused.0)
+/// The turns of a call.
+const TURNS: u32 = 1_000_000;
+
+/// A client's answer to who asks it for a lease: all of its log is to be safe first.
+fn revoker(alloc: Global) -> Result<Revoker, Refusal> {
+    let cut: Box<dyn Fn(&LogView, u64) -> u64 + Send> = Box::new(alloc, whole).map_err(
+        AllocError::from,
+    )?;
+    Ok(Revoker::new(cut))
 }
 
 /// Delivers the letter, and counts as done.
@@ -41,10 +36,9 @@ fn deliver_once<R: Wait>(
     rt: &R,
     alloc: Global,
     files: &mut LibFs<'_, Cluster>,
-    letter: Vec<u8>,
     done: &AtomicU32,
 ) -> Result<(), Refusal> {
-    let delivered = deliver(rt, alloc, files, letter);
+    let delivered = deliver(rt, alloc, files);
     done.fetch_add(1, Ordering::SeqCst);
     delivered
 }
@@ -84,19 +78,23 @@ fn with_clients<R: Threads + Wait + Sync>(
     keeper: &Keeper<Cluster>,
     passes: (Pass<Cluster>, Pass<Cluster>),
     worker: WorkerPass<Cluster>,
+    revokers: (Revoker, Revoker),
 ) -> Result<Reply, Refusal>
     requires first { IsPassOf keeper.now passes.0 × (client passes.0 ≡ None) }
     requires second { IsPassOf keeper.now passes.1 × (client passes.1 ≡ None) }
     requires worker { IsPassOf keeper.now (pass_of worker) }
 {
-    let mut writer = open(rt, alloc, keeper, passes.0, 1)?;
-    let mut reader = open(rt, alloc, keeper, passes.1, 2)?;
+    let mut writer = LibFs::open(rt, alloc, keeper, passes.0, 1, revokers.0, TURNS).map_err(
+        |refused| refused.0,
+    )?;
+    let mut reader = LibFs::open(rt, alloc, keeper, passes.1, 2, revokers.1, TURNS).map_err(
+        |refused| refused.0,
+    )?;
     let mut tender = Tender::new(keeper, worker);
-    let letter = vec![in alloc; b'D', b'e', b'a', b'r']?;
     let done = AtomicU32::new(0);
     let (delivered, reply) = join(
         rt,
-        || deliver_once(rt, alloc, &mut writer, letter, &done),
+        || deliver_once(rt, alloc, &mut writer, &done),
         || fetch_tended(rt, alloc, &mut reader, &mut tender, &done),
     );
     delivered?;
@@ -105,11 +103,12 @@ fn with_clients<R: Threads + Wait + Sync>(
 
 /// Makes a cluster of two nodes, whose clients' logs have 64 records at most, and two clients on it.
 pub fn on_cluster<R: Threads + Wait + Sync>(rt: &R, alloc: Global) -> Result<Reply, Refusal> {
+    let revokers = (revoker(alloc)?, revoker(alloc)?);
     let cluster = Cluster::new(alloc, 2, 64, 16)?;
     let (keeper, mut first) = Keeper::new(alloc, cluster).map_err(|refused| refused.0)?;
     let second = keeper.split(&mut first);
     let worker = WorkerPass::new(keeper.split(&mut first));
-    let reply = with_clients(rt, alloc, &keeper, (first, second), worker);
+    let reply = with_clients(rt, alloc, &keeper, (first, second), worker, revokers);
     keeper.close();
     reply
 }

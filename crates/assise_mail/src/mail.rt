@@ -23,9 +23,8 @@ pub fn deliver<R: Wait>(
     rt: &R,
     alloc: Global,
     files: &mut LibFs<'_, Cluster>,
-    letter: Vec<u8>,
 ) -> Result<(), Refusal> {
-    let letter = ByteString::from_vec(letter)?;
+    let letter = ByteString::from_vec(vec![in alloc; b'D', b'e', b'a', b'r']?)?;
     files.create(rt, alloc, path(alloc, "/draft")?)?;
     files.write(rt, alloc, path(alloc, "/draft")?, 0, letter)?;
     files.fsync(rt, alloc)?;
