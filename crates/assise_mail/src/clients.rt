@@ -23,13 +23,8 @@ use std::thread::{Threads, join};
 /// The turns of a call.
 const TURNS: u32 = 1_000_000;
 
-/// A client's answer to who asks it for a lease: all of its log is to be safe first.
-fn revoker(alloc: Global) -> Result<Revoker, Refusal> {
-    let cut: Box<dyn Fn(&LogView, u64) -> u64 + Send> = Box::new(alloc, whole).map_err(
-        AllocError::from,
-    )?;
-    Ok(Revoker::new(cut))
-}
+/// What a client's revoker answers.
+type Cut = Box<dyn Fn(&LogView, u64) -> u64 + Send>;
 
 /// Delivers the letter, and counts as done.
 fn deliver_once<R: Wait>(
@@ -101,9 +96,12 @@ fn with_clients<R: Threads + Wait + Sync>(
     reply
 }
 
-/// Makes a cluster of two nodes, whose clients' logs have 64 records at most, and two clients on it.
+/// Makes a cluster of two nodes, whose clients' logs have 64 records at most, and two clients on it. All of a client's log is safe
+/// before a lease of it goes to the other.
 pub fn on_cluster<R: Threads + Wait + Sync>(rt: &R, alloc: Global) -> Result<Reply, Refusal> {
-    let revokers = (revoker(alloc)?, revoker(alloc)?);
+    let writers: Cut = Box::new(alloc, whole).map_err(AllocError::from)?;
+    let readers: Cut = Box::new(alloc, whole).map_err(AllocError::from)?;
+    let revokers = (Revoker::new(writers), Revoker::new(readers));
     let cluster = Cluster::new(alloc, 2, 64, 16)?;
     let (keeper, mut first) = Keeper::new(alloc, cluster).map_err(|refused| refused.0)?;
     let second = keeper.split(&mut first);
