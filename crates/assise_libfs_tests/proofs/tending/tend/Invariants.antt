@@ -3,4 +3,4 @@ use Rattle.assise_machine.specs.Clusters.{machine}
 use Rattle.assise_libfs_tests.proofs.tending.tend.Given as goal
 
 abbrev pub invariant-loop-node : goal.invariant-loop-node
-invariant-loop-node g l = (machine l.cluster).history ≡ (machine l.fn.cluster).history
+invariant-loop-node l = (machine l.cluster).history ≡ (machine l.fn.cluster).history
