@@ -1,12 +1,12 @@
 -- A ledger with an entry more.
-use Rattle.std.proofs.Common.{◌≡◌, ◌≢◌, ℕ, ◌+◌, ◌≤◌, ◌<◌, arith, List, [], ◌∷◌, ◌++◌, refl, sym, ap, subst, ◌∙◌, inl, inr}
+use Rattle.std.proofs.Common.{◌≡◌, ◌≢◌, ℕ, ◌+◌, ◌≤◌, arith, List, [], ◌∷◌, ◌++◌, refl, sym, ap, subst, ◌∙◌, inl, inr}
 use mathlib.Core.Logic.{dite}
 use native.Mathlib.Decide.{ℕ_discrete}
 use Rattle.std.proofs.Math.Logic.{∥∥₁_elim, ∥∥₁_map}
 use Rattle.assise_names.specs.declared.call.Op.TheVariants.{Fsync}
 use Rattle.assise_names.specs.declared.reply.Reply.TheVariants.{Done}
 use Rattle.assise_history.specs.Entries.{Event, opens, calls}
-use Rattle.assise_history.specs.Legal.{IsDown, IsLegal, MayCall, calls_made, clients_opened}
+use Rattle.assise_history.specs.Legal.{IsDown, MayCall, calls_made}
 use Rattle.assise_history.proofs.Counting.{next_opened, opened_within}
 use Rattle.assise_history.proofs.Legality.{fits_in, legal-nil}
 use Rattle.assise_history.proofs.OneMore.{legal-call, legal-open}

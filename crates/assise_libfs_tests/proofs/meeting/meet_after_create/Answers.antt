@@ -2,7 +2,7 @@ use Rattle.std.proofs.Common.{rules, ◌≡◌, [], ◌∷◌, ap}
 use Rattle.std.specs.Prelude.{codes}
 use Rattle.assise_names.specs.declared.call.Op.TheVariants.{Create}
 use Rattle.assise_history.specs.Legal.{calls_made}
-use Rattle.assise_keeper.specs.Clients.{Extends, ExtendsByOne}
+use Rattle.assise_keeper.specs.Clients.{ExtendsByOne}
 use Rattle.assise_libfs.specs.Calling.{next_call}
 use Rattle.assise_libfs.specs.Clients.{client_of, seen_by}
 use Rattle.assise_libfs_tests.proofs.Having.{has_first}

@@ -1,4 +1,4 @@
-use Rattle.std.proofs.Common.{rules, arith, ◌≡◌, ℕ, ◌≤◌, [], ◌∷◌, ◌++◌}
+use Rattle.std.proofs.Common.{rules, arith, ◌≡◌, [], ◌∷◌, ◌++◌}
 use Rattle.assise_names.specs.declared.call.Op.TheVariants.{Fsync}
 use Rattle.assise_names.specs.declared.reply.Reply.TheVariants.{Done}
 use Rattle.assise_libfs.specs.Calling.{next_call}
