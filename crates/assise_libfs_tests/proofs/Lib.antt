@@ -1,2 +1,2 @@
-pub mod Having
-pub mod Keeping
+pub mod Grown
+pub mod SeenCalls

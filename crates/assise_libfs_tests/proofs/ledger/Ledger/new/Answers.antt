@@ -1,4 +1,4 @@
-use Rattle.assise_libfs_tests.proofs.Keeping.{begun, unchanged}
+use Rattle.assise_libfs_tests.proofs.Grown.{begun, unchanged}
 use Rattle.assise_libfs_tests.proofs.ledger.Ledger.new.Goals as goal
 
 pub invariant_of-result : goal.invariant_of-result

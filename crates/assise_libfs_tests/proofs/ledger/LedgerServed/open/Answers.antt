@@ -1,7 +1,7 @@
 use Rattle.std.proofs.Common.{rules, ◌≡◌, ℕ, ◌+◌, [], ◌∷◌, ◌++◌, sym, ap, subst, ◌∙◌}
 use Rattle.assise_history.specs.Entries.{opens}
 use Rattle.assise_libfs_tests.specs.Ledgers.{IsLedger}
-use Rattle.assise_libfs_tests.proofs.Keeping.{opened}
+use Rattle.assise_libfs_tests.proofs.Grown.{opened}
 use Rattle.assise_libfs_tests.proofs.ledger.LedgerServed.open.Goals as goal
 
 pub invariant_of-self-2 : goal.invariant_of-self-2
