@@ -58,13 +58,13 @@ pub(crate) struct Refused {
 
 /// Appends three records of a client that lives on the node, and digests them. What is refused is tried once more.
 pub(crate) fn refusals(alloc: Global) -> Result<Refused, Fault> {
-    let log = Log::new(alloc, 8)?;
     let mut region = Region::new(alloc, 4)?;
-    refusals_on(alloc, &mut region, log)
+    refusals_on(alloc, &mut region)
 }
 
 /// How many appends and digests were refused on a new region.
-fn refusals_on(alloc: Global, region: &mut Region, log: Log) -> Result<Refused, Fault> {
+fn refusals_on(alloc: Global, region: &mut Region) -> Result<Refused, Fault> {
+    let log = Log::new(alloc, 8)?;
     region.add_own_client(log).map_err(|_| Fault::NoMemory)?;
     let mut appends = 0usize;
     for number in 0..3 {
