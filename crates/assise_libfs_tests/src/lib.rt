@@ -1,11 +1,17 @@
 //! Tests of `assise_libfs`, over a small state and over a cluster.
 #![tactic(auto)]
 
-pub mod calls;
-pub mod clusters;
-pub mod ledger;
-pub mod ledgers;
-pub mod meeting;
-pub mod tending;
+#[cfg(test)]
+mod calls;
+#[cfg(test)]
+mod clusters;
+#[cfg(test)]
+mod ledger;
+#[cfg(test)]
+mod ledgers;
+#[cfg(test)]
+mod meeting;
+#[cfg(test)]
+mod tending;
 #[cfg(test)]
 mod tests;
