@@ -15,7 +15,8 @@ use std::alloc::Global;
 
 type Cut = Box<dyn Fn(&LogView, u64) -> u64 + Send>;
 
-/// How often the inode was held.
+/// How often the inode was held. It makes the tree and the revokers here, since a function that gives them away would hide what they
+/// were proved for.
 pub(crate) fn held(alloc: Global, words: &[String]) -> Option<u64> {
     let [inodes, clients, turns, call] = words else {
         return None;
@@ -25,42 +26,6 @@ pub(crate) fn held(alloc: Global, words: &[String]) -> Option<u64> {
     let turns: u64 = turns.parse().ok()?;
     let logs = Logs::new(alloc)?;
     let mut tree: LeaseTree = LeaseTreeOf::new(alloc);
-    held_in(
-        alloc,
-        &mut tree,
-        &logs,
-        (inodes, clients, turns),
-        call.as_str(),
-    )
-}
-
-/// How often the inode was held in a new tree, with so many inodes, clients and turns.
-fn held_in(
-    alloc: Global,
-    tree: &mut LeaseTree,
-    logs: &Logs,
-    counts: (u64, u32, u64),
-    call: &str,
-) -> Option<u64> {
-    let (inodes, clients, turns) = counts;
-    begin(alloc, tree, logs, inodes, clients)?;
-    let mut held: u64 = 0;
-    for _ in 0..turns {
-        if turn(tree, logs, inodes, clients, call)? {
-            held = held.wrapping_add(1);
-        }
-    }
-    Some(held)
-}
-
-/// All clients get a lease of the first inode, and client 1 those of the others.
-fn begin(
-    alloc: Global,
-    tree: &mut LeaseTree,
-    logs: &Logs,
-    inodes: u64,
-    clients: u32,
-) -> Option<()> {
     for number in 0..clients {
         let client = number.checked_add(1)?;
         if tree.node_of(client).is_some() {
@@ -68,12 +33,18 @@ fn begin(
         }
         let cut: Cut = Box::new(alloc, least).ok()?;
         tree.enrol(client, client, Revoker::new(cut)).ok()?;
-        acquire(tree, logs, client, 0)?;
+        acquire(&mut tree, &logs, client, 0)?;
     }
     for inode in 1..inodes {
-        acquire(tree, logs, 1, inode)?;
+        acquire(&mut tree, &logs, 1, inode)?;
     }
-    Some(())
+    let mut held: u64 = 0;
+    for _ in 0..turns {
+        if turn(&mut tree, &logs, inodes, clients, call.as_str())? {
+            held = held.wrapping_add(1);
+        }
+    }
+    Some(held)
 }
 
 /// Acquires an inode for reading, which is granted.
