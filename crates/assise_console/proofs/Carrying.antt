@@ -1,9 +1,7 @@
 -- Frames that are carried, one after another.
-use Rattle.std.proofs.Common.{◌≡◌, ℕ, ◌+◌, Bool, true, false, List, [], ◌∷◌, ◌++◌, map, None, Some, Result, Ok, Err, is_ok, refl, ap, sym, subst, ◌∙◌, append_assoc, append-nil, arith, inl, inr, ◌⊎◌}
+use Rattle.std.proofs.Common.{◌≡◌, ℕ, ◌+◌, Bool, true, false, List, [], ◌∷◌, ◌++◌, map, None, Some, Result, Ok, Err, is_ok, refl, ap, sym, subst, ◌∙◌, append_assoc, append-nil, arith}
 use Rattle.assise_names.specs.declared.refusal.Refusal.{Refusal}
 use Rattle.assise_record.specs.LogFrame.{LogFrame}
-use Rattle.assise_record.specs.declared.fault.FrameFault.{FrameFault}
-use Rattle.assise_record.specs.declared.fault.FrameFault.TheVariants.{Memory}
 use Rattle.assise_machine_events.specs.Events.{received, refused, sent}
 use Rattle.assise_machine_events.specs.Happenings.{AllHappen}
 use Rattle.assise_machine_events.specs.Machine.{Machine}
@@ -79,18 +77,6 @@ all_carried m v n count frames sends h =
     (_, record { carried = h.carried; counts = h.counts; told = refl; happen = (m, (first, h.happen)) })
 
 -- ---- one frame
-
-abbrev frame_in : LogFrame → Result (LogFrame × ℕ) FrameFault → LogFrame
-frame_in f (Ok x) = x.0
-frame_in f (Err e) = f
-
-not_memory : (x : LogFrame × ℕ) → Ok x ≡ Err Memory → ⊥
-not_memory x is = cc
-
--- what bytes are read as is the frame that they spell
-pub read_so : (r : Result (LogFrame × ℕ) FrameFault) (came f : LogFrame) (k n : ℕ) → r ≡ Ok (came, k) → (r ≡ Ok (f, n)) ⊎ (r ≡ Err Memory) → came ≡ f
-read_so r came f k n is (inl h) = ap (frame_in came) (sym is ∙ h)
-read_so r came f k n is (inr h) = absurd (not_memory (came, k) (sym is ∙ h))
 
 pub is_delivered : (m m' : Machine) (f g : LogFrame) (n : ℕ) (r : Result ℕ Refusal) → g ≡ f → Delivering m g n (delivery_answer r) m' → Delivers f n (is_ok r) m m'
 is_delivered m m' f g n (Ok place) same h = record { answer = Some (received place); taken = refl; happen = (m', (subst (λ x. Delivering m x n (received place) m') same h, refl)) }

@@ -6,7 +6,6 @@ pub mod console;
 pub mod engine;
 pub mod fault;
 pub mod laws;
-mod link;
 pub mod options;
 mod returning;
 mod rounds;

@@ -7,8 +7,9 @@ ghost use Rattle.assise_machine.specs.Clusters.{machine};
 ghost use Rattle.assise_console.specs.Courses.{Told};
 ghost use Rattle.assise_console.specs.Rounds.{AreCarried, Delivers, DigestsOnce, EachFull, IsRound, Replicates, TakesTurn, most_nodes};
 
-use crate::link::carry;
 use assise_lease_table::revoker::Revokes;
+use assise_link::carrying::carry_frame;
+use assise_link::link::PerfectLink;
 use assise_machine::cluster::ClusterOf;
 use assise_names::refusal::Refusal;
 use assise_record::frame::Frame;
@@ -41,27 +42,29 @@ fn deliver_all<C: Revokes + Drop>(
 ) -> u64
     ensures { AreCarried frames.items result (machine cluster.old) (machine cluster.new) }
 {
+    let mut link = PerfectLink::new();
     let mut taken = 0;
     for (frame, next) in frames {
-        if deliver(alloc, cluster, &frame, next) {
+        if deliver(alloc, cluster, &mut link, &frame, next) {
             taken += 1;
         }
     }
     taken
 }
 
-/// A frame goes over the link to a node. Whether the node took it in.
+/// A frame goes over a link to a node. Whether the node took it in.
 fn deliver<C: Revokes + Drop>(
     alloc: Global,
     cluster: &mut ClusterOf<C>,
+    link: &mut PerfectLink,
     frame: &Frame,
     node: u32,
 ) -> bool
     ensures { Delivers frame.now node result (machine cluster.old) (machine cluster.new) }
 {
-    match carry(alloc, frame) {
-        Ok(came) => cluster.deliver(came, node).is_ok(),
-        Err(_) => false,
+    match carry_frame(alloc, link, frame) {
+        Some(came) => cluster.deliver(came, node).is_ok(),
+        None => false,
     }
 }
 

@@ -14,7 +14,7 @@ use std::alloc::Global;
 /// A state that opens clients and tries their calls, with a history that is legal. A cluster is one.
 pub trait Served: Growing {
     /// What a client is opened with, and the state stores: of a cluster, a revoker.
-    type Stored: Drop;
+    type Stored;
 
     /// Opens a client on a node, and answers its number. Refused with [`Refusal::BadNode`] where there is no such node,
     /// [`Refusal::NodeDown`] where it is down or comes back, [`Refusal::BadClient`] where no client can be opened any more, and

@@ -1,13 +1,10 @@
 // Two clients of a cluster, each in a thread of its own.
-ghost use Rattle.std.specs.Prelude.{◌≡◌, None};
-ghost use Rattle.assise_keeper.specs.Passes.{IsPassOf, client};
-ghost use Rattle.assise_keeper.specs.Working.{pass_of};
+ghost use Rattle.std.specs.Prelude.{◌≡◌};
+ghost use Rattle.assise_keeper.specs.Passes.{IsPassOf};
 
 use crate::mail::{deliver, fetch};
-use crate::tending::Tender;
 use assise_keeper::keeper::Keeper;
 use assise_keeper::pass::Pass;
-use assise_keeper::worker_pass::WorkerPass;
 use assise_lease_table::revoker::Revoker;
 use assise_libfs::libfs::LibFs;
 use assise_machine::cluster::Cluster;
@@ -15,10 +12,15 @@ use assise_names::refusal::Refusal;
 use assise_names::reply::Reply;
 use assise_private_log::log_view::LogView;
 use assise_revokers::kinds::whole;
+use assise_workers::gate::{Gate, Point};
+use assise_workers::nodes::{NodeWorkers, tend, workers_up_to};
 use std::alloc::{AllocError, Global};
 use std::sync::Wait;
 use std::sync::atomic::{AtomicU32, Ordering};
 use std::thread::{Threads, join};
+
+/// The nodes of the cluster.
+const NODES: u32 = 2;
 
 /// The turns of a call.
 const TURNS: u32 = 1_000_000;
@@ -26,42 +28,59 @@ const TURNS: u32 = 1_000_000;
 /// What a client's revoker answers.
 type Cut = Box<dyn Fn(&LogView, u64) -> u64 + Send>;
 
-/// Delivers the letter, and counts as done.
+/// The clients that aren't done yet: what nodes do goes on until there are none.
+struct Clients {
+    left: AtomicU32,
+}
+
+impl Clients {
+    fn one_is_done(&self) {
+        self.left.fetch_sub(1, Ordering::SeqCst);
+    }
+}
+
+impl Gate for Clients {
+    fn pass(&self, _point: Point) -> bool {
+        self.left.load(Ordering::SeqCst) > 0
+    }
+}
+
+/// Delivers the letter.
 fn deliver_once<R: Wait>(
     rt: &R,
     alloc: Global,
     files: &mut LibFs<'_, Cluster>,
-    done: &AtomicU32,
+    clients: &Clients,
 ) -> Result<(), Refusal> {
     let delivered = deliver(rt, alloc, files);
-    done.fetch_add(1, Ordering::SeqCst);
+    clients.one_is_done();
     delivered
 }
 
-/// Reads the letter, and counts as done.
+/// Reads the letter.
 fn fetch_once<R: Wait>(
     rt: &R,
     alloc: Global,
     files: &mut LibFs<'_, Cluster>,
-    done: &AtomicU32,
+    clients: &Clients,
 ) -> Result<Reply, Refusal> {
     let reply = fetch(rt, alloc, files);
-    done.fetch_add(1, Ordering::SeqCst);
+    clients.one_is_done();
     reply
 }
 
-/// Reads the letter, while another thread does what the nodes do until both clients are done.
+/// Reads the letter, while another thread does what the nodes do.
 fn fetch_tended<R: Threads + Wait + Sync>(
     rt: &R,
     alloc: Global,
     files: &mut LibFs<'_, Cluster>,
-    tender: &mut Tender<'_>,
-    done: &AtomicU32,
+    nodes: &mut [NodeWorkers<'_, Cluster>],
+    clients: &Clients,
 ) -> Result<Reply, Refusal> {
     let (reply, ()) = join(
         rt,
-        || fetch_once(rt, alloc, files, done),
-        || tender.tend_until(rt, alloc, done, 2),
+        || fetch_once(rt, alloc, files, clients),
+        || tend(rt, alloc, nodes, clients),
     );
     reply
 }
@@ -71,26 +90,26 @@ fn with_clients<R: Threads + Wait + Sync>(
     rt: &R,
     alloc: Global,
     keeper: &Keeper<Cluster>,
-    passes: (Pass<Cluster>, Pass<Cluster>),
-    worker: WorkerPass<Cluster>,
+    main: &mut Pass<Cluster>,
     revokers: (Revoker, Revoker),
 ) -> Result<Reply, Refusal>
-    requires first { IsPassOf keeper.now passes.0 × (client passes.0 ≡ None) }
-    requires second { IsPassOf keeper.now passes.1 × (client passes.1 ≡ None) }
-    requires worker { IsPassOf keeper.now (pass_of worker) }
+    requires { IsPassOf keeper.now main.old }
 {
-    let mut writer = LibFs::open(rt, alloc, keeper, passes.0, 1, revokers.0, TURNS).map_err(
+    let mut nodes = workers_up_to(alloc, keeper, main, NODES)?;
+    let (first, second) = (keeper.split(main), keeper.split(main));
+    let mut writer = LibFs::open(rt, alloc, keeper, first, 1, revokers.0, TURNS).map_err(
         |refused| refused.0,
     )?;
-    let mut reader = LibFs::open(rt, alloc, keeper, passes.1, 2, revokers.1, TURNS).map_err(
+    let mut reader = LibFs::open(rt, alloc, keeper, second, 2, revokers.1, TURNS).map_err(
         |refused| refused.0,
     )?;
-    let mut tender = Tender::new(keeper, worker);
-    let done = AtomicU32::new(0);
+    let clients = Clients {
+        left: AtomicU32::new(2),
+    };
     let (delivered, reply) = join(
         rt,
-        || deliver_once(rt, alloc, &mut writer, &done),
-        || fetch_tended(rt, alloc, &mut reader, &mut tender, &done),
+        || deliver_once(rt, alloc, &mut writer, &clients),
+        || fetch_tended(rt, alloc, &mut reader, nodes.as_mut_slice(), &clients),
     );
     delivered?;
     reply
@@ -102,11 +121,9 @@ pub fn on_cluster<R: Threads + Wait + Sync>(rt: &R, alloc: Global) -> Result<Rep
     let writers: Cut = Box::new(alloc, whole).map_err(AllocError::from)?;
     let readers: Cut = Box::new(alloc, whole).map_err(AllocError::from)?;
     let revokers = (Revoker::new(writers), Revoker::new(readers));
-    let cluster = Cluster::new(alloc, 2, 64, 16)?;
-    let (keeper, mut first) = Keeper::new(alloc, cluster).map_err(|refused| refused.0)?;
-    let second = keeper.split(&mut first);
-    let worker = WorkerPass::new(keeper.split(&mut first));
-    let reply = with_clients(rt, alloc, &keeper, (first, second), worker, revokers);
+    let cluster = Cluster::new(alloc, NODES, 64, 16)?;
+    let (keeper, mut main) = Keeper::new(alloc, cluster).map_err(|refused| refused.0)?;
+    let reply = with_clients(rt, alloc, &keeper, &mut main, revokers);
     keeper.close();
     reply
 }

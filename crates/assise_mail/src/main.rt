@@ -3,7 +3,6 @@
 
 mod clients;
 mod mail;
-mod tending;
 
 use crate::clients::on_cluster;
 use std::io;

@@ -1,0 +1,6 @@
+//! What carries frames from node to node: links, and the way of a frame over one (van Renesse and Schneider, chain replication,
+//! OSDI 2004, section 2).
+#![tactic(auto)]
+
+pub mod carrying;
+pub mod link;

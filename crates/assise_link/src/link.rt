@@ -1,0 +1,99 @@
+// What carries bytes from node to node.
+ghost use Rattle.std.specs.Prelude.{◌≡◌, ◌+◌, ◌⊎◌, ℕ, Contains, IfOk, IfSome, List, OnErr, OnOk};
+ghost use Rattle.assise_link.specs.Links.{IsFrontOf};
+
+use std::alloc::Global;
+
+/// Why a link carried nothing.
+#[derive(Clone, Copy, PartialEq, Eq, Debug)]
+pub enum LinkFault {
+    /// A growth was refused.
+    Memory,
+    /// The device failed.
+    Device,
+}
+
+/// What carries bytes from one node to another. What comes at the other end is a front of the bytes that it is handed, or of bytes that
+/// it was handed before and stores; it may lose bytes, or keep them for later.
+pub trait Link: Send {
+    /// The byte lists that it stores.
+    ghost stored: { Self → List (List ℕ) };
+
+    /// How many faults it has had.
+    ghost count: { Self → ℕ };
+
+    /// What it may answer where it is handed bytes: these first, then what comes.
+    ghost gives: { Self → List ℕ → List ℕ → Type 0 };
+
+    /// Carries bytes, and answers what comes at the other end; `None` is a loss or a delay.
+    ///
+    /// Refused with [`LinkFault::Memory`] or [`LinkFault::Device`], and the count of faults has risen by one. A link that has had
+    /// 2^64 - 1 faults answers `None` instead.
+    fn carry(&mut self, alloc: Global, bytes: &[u8]) -> Result<Option<Vec<u8>>, LinkFault>
+        ensures gives { IfOk result (λ came. IfSome came (λ v.
+            gives self.old bytes.now v.items)) }
+        ensures stores { (x : List ℕ) → Contains (stored self.new) x
+            → (x ≡ bytes.now) ⊎ Contains (stored self.old) x }
+        ensures fault { OnErr result (count self.new ≡ count self.old + 1) }
+        ensures no_fault { OnOk result (count self.new ≡ count self.old) };
+
+    /// How many faults it has had.
+    fn faults(&self) -> u64
+        ensures { result ≡ count self.now };
+
+    ghost fronts: { (l : Self) (bytes came : List ℕ) → gives l bytes came
+        → IsFrontOf bytes (stored l) came };
+}
+
+/// A link that answers what it is handed, and stores nothing.
+#[derive(Drop)]
+pub struct PerfectLink {
+    faults: u64,
+}
+
+impl PerfectLink {
+    ghost use Rattle.std.specs.Prelude.{◌≡◌, ◌+◌, IfOk, None, OnErr, OnOk};
+
+    /// A link that had no faults.
+    pub fn new() -> PerfectLink {
+        PerfectLink { faults: 0 }
+    }
+
+    // What it answers where there is no memory.
+    fn fail(&mut self) -> Result<Option<Vec<u8>>, LinkFault>
+        ensures lost { IfOk result (λ came. came ≡ None) }
+        ensures fault { OnErr result (self.new.faults ≡ self.old.faults + 1) }
+        ensures no_fault { OnOk result (self.new.faults ≡ self.old.faults) }
+    {
+        if self.faults == u64::MAX {
+            return Ok(None);
+        }
+        self.faults += 1;
+        Err(LinkFault::Memory)
+    }
+}
+
+impl Link for PerfectLink {
+    ghost use Rattle.std.specs.Prelude.{◌≡◌, [], refl};
+    ghost use Rattle.std.proofs.Common.{inl, sym, append-nil, ◌∙◌};
+
+    ghost stored = { λ _. [] };
+
+    ghost count = { λ l. l.faults };
+
+    ghost gives = { λ _ bytes came. came ≡ bytes };
+
+    fn carry(&mut self, alloc: Global, bytes: &[u8]) -> Result<Option<Vec<u8>>, LinkFault> {
+        let mut came = Vec::new(alloc);
+        match came.extend_from_slice(bytes) {
+            Ok(()) => Ok(Some(came)),
+            Err(_) => self.fail(),
+        }
+    }
+
+    fn faults(&self) -> u64 {
+        self.faults
+    }
+
+    ghost fronts = { λ _ bytes came is. record { whole = bytes; known = inl refl; rest = []; front = sym is ∙ sym (append-nil came) } };
+}

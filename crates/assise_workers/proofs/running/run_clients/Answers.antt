@@ -1,0 +1,12 @@
+use Rattle.std.proofs.Common.{◌≡◌, arith, length}
+use Rattle.assise_workers.specs.Serving.{HasServed}
+use Rattle.assise_workers.proofs.Pairs.{zip_of_all}
+use Rattle.assise_workers.proofs.running.run_clients.Goals as goal
+
+pub returns : goal.returns
+returns g c =
+    let before = c.loop-list.invariant in
+    let rest = c.loop-list.list-iterator.rest in
+    let ok = rest.ok in
+    let none : length rest.items ≡ 0 = omega (arith, ok.0, c.in-None.ensures.steps.0) in
+    zip_of_all (λ h. h.promise.0.value) (λ list end. HasServed list end) c.loop-list.handles.items rest.items c.args.lists.items c.join_clients-2.result.items before.given none c.join_clients-2.ensures

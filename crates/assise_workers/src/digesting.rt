@@ -1,0 +1,48 @@
+// What a node's digester does.
+
+use crate::gate::{Gate, Point};
+use crate::idle::rest;
+use crate::replicated::Replicated;
+use crate::worker::{TurnEnd, Worker};
+use std::alloc::Global;
+use std::sync::Wait;
+
+impl<'a, S: Replicated> Worker<'a, S> {
+    ghost use Rattle.assise_workers.specs.Working.{GoesOn};
+
+    /// One turn: the node digests, and leases go that may. It answers how many records were digested and leases let go of. A digest
+    /// that is refused ends nothing.
+    pub fn digest_turn<G: Gate, R: Wait>(
+        &mut self,
+        rt: &R,
+        alloc: Global,
+        node: u32,
+        gate: &G,
+    ) -> TurnEnd
+        ensures { GoesOn self.old self.new }
+    {
+        if !gate.pass(Point::BeforeDigest) {
+            return TurnEnd::Stopped;
+        }
+        let mut held = self.pass.take(rt, self.keeper);
+        let digested = held.state().digest(alloc, node).unwrap_or(0);
+        let released = held.state().release_ready();
+        self.pass.give(self.keeper, held);
+        TurnEnd::Did(digested.saturating_add(released) as u64)
+    }
+
+    /// Digests for a node, turn after turn, until the gate ends it.
+    pub fn digest_loop<G: Gate, R: Wait>(&mut self, rt: &R, alloc: Global, node: u32, gate: &G)
+        ensures { GoesOn self.old self.new }
+    {
+        for _ in rt.forever() {
+            if !gate.pass(Point::Turn) {
+                return;
+            }
+            let end = self.digest_turn(rt, alloc, node, gate);
+            if !rest(rt, end) {
+                return;
+            }
+        }
+    }
+}

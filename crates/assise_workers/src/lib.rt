@@ -1,0 +1,13 @@
+//! What goes on at the nodes while clients make calls: each node replicates and digests on threads of its own (Assise, OSDI 2020,
+//! section 3; Strata, SOSP 2017, section 3.3), and lists of calls run to their end beside that.
+#![tactic(auto)]
+
+pub mod digesting;
+pub mod gate;
+mod idle;
+pub mod nodes;
+pub mod replicated;
+pub mod replicating;
+pub mod running;
+pub mod serving;
+pub mod worker;

@@ -1,0 +1,106 @@
+// The workers of nodes.
+ghost use Rattle.std.specs.Prelude.{◌≡◌};
+ghost use Rattle.assise_keeper.specs.Passes.{IsPassOf, client, seen};
+
+use crate::gate::{Gate, Point};
+use crate::idle::rest;
+use crate::replicated::Replicated;
+use crate::worker::{TurnEnd, Worker};
+use assise_keeper::keeper::Keeper;
+use assise_keeper::pass::Pass;
+use assise_link::link::PerfectLink;
+use assise_names::refusal::Refusal;
+use std::alloc::Global;
+use std::sync::Wait;
+
+/// The two workers of a node, and the link over which it sends.
+#[derive(Drop)]
+pub struct NodeWorkers<'a, S: Replicated> {
+    pub(crate) node: u32,
+    pub(crate) replicator: Worker<'a, S>,
+    pub(crate) digester: Worker<'a, S>,
+    pub(crate) link: PerfectLink,
+}
+
+impl<'a, S: Replicated> NodeWorkers<'a, S> {
+    ghost use Rattle.std.specs.Prelude.{◌≡◌};
+    ghost use Rattle.assise_keeper.specs.Passes.{IsPassOf, client, seen};
+
+    /// The workers of a node, whose passes are split from another.
+    pub fn new(keeper: &'a Keeper<S>, pass: &mut Pass<S>, node: u32) -> NodeWorkers<'a, S>
+        requires { IsPassOf keeper.now pass.old }
+        ensures free { IsPassOf keeper.now pass.new }
+        ensures same { (seen pass.new ≡ seen pass.old) × (client pass.new ≡ client pass.old) }
+    {
+        let replicator = Worker::new(keeper, pass);
+        let digester = Worker::new(keeper, pass);
+        NodeWorkers {
+            node,
+            replicator,
+            digester,
+            link: PerfectLink::new(),
+        }
+    }
+
+    // One turn of each.
+    fn turn<G: Gate, R: Wait>(&mut self, rt: &R, alloc: Global, gate: &G) -> TurnEnd {
+        if !gate.pass(Point::Turn) {
+            return TurnEnd::Stopped;
+        }
+        let sent = self
+            .replicator
+            .replicate_turn(rt, alloc, self.node, &mut self.link, gate);
+        if sent == TurnEnd::Stopped {
+            return sent;
+        }
+        sent.and(self.digester.digest_turn(rt, alloc, self.node, gate))
+    }
+}
+
+/// The workers of nodes 1 to this, whose passes are split from another. Refused with [`Refusal::OutOfMemory`].
+pub fn workers_up_to<'a, S: Replicated>(
+    alloc: Global,
+    keeper: &'a Keeper<S>,
+    pass: &mut Pass<S>,
+    last: u32,
+) -> Result<Vec<NodeWorkers<'a, S>>, Refusal>
+    requires { IsPassOf keeper.now pass.old }
+    ensures free { IsPassOf keeper.now pass.new }
+    ensures same { (seen pass.new ≡ seen pass.old) × (client pass.new ≡ client pass.old) }
+{
+    let mut nodes = Vec::new(alloc);
+    for node in 1..=last {
+        nodes.push(NodeWorkers::new(keeper, pass, node))?;
+    }
+    Ok(nodes)
+}
+
+/// Does what the workers of these nodes do on one thread, a turn of each in turn, until the gate ends one: for a program that has no
+/// thread to spare for each worker.
+pub fn tend<S: Replicated, G: Gate, R: Wait>(
+    rt: &R,
+    alloc: Global,
+    nodes: &mut [NodeWorkers<'_, S>],
+    gate: &G,
+) {
+    for _ in rt.forever() {
+        let end = turn_of_each(rt, alloc, nodes, gate);
+        if !rest(rt, end) {
+            return;
+        }
+    }
+}
+
+// One turn of each node's workers, and what all came to.
+fn turn_of_each<S: Replicated, G: Gate, R: Wait>(
+    rt: &R,
+    alloc: Global,
+    nodes: &mut [NodeWorkers<'_, S>],
+    gate: &G,
+) -> TurnEnd {
+    let mut end = TurnEnd::Did(0);
+    for workers in nodes.iter_mut() {
+        end = end.and(workers.turn(rt, alloc, gate));
+    }
+    end
+}

@@ -1,0 +1,126 @@
+// What a node's replicator does.
+
+use crate::gate::{Gate, Point};
+use crate::idle::rest;
+use crate::replicated::Replicated;
+use crate::worker::{TurnEnd, Worker};
+use assise_link::carrying::carry_frame;
+use assise_link::link::Link;
+use assise_names::refusal::Refusal;
+use assise_record::frame::Frame;
+use std::alloc::Global;
+use std::sync::Wait;
+
+impl<'a, S: Replicated> Worker<'a, S> {
+    ghost use Rattle.assise_workers.specs.Working.{GoesOn};
+
+    /// One turn: what the node has for others is taken out of the state, carried while the state is free, and brought in. It answers
+    /// how many frames were taken in, or why nothing is sent. What a link loses or spoils, and what is refused where it comes, ends
+    /// nothing.
+    pub fn replicate_turn<L: Link, G: Gate, R: Wait>(
+        &mut self,
+        rt: &R,
+        alloc: Global,
+        node: u32,
+        link: &mut L,
+        gate: &G,
+    ) -> TurnEnd
+        ensures { GoesOn self.old self.new }
+    {
+        match self.take_outgoing(rt, alloc, node) {
+            Ok(frames) => self.send_all(rt, alloc, frames, link, gate),
+            Err(refusal) => TurnEnd::Refused(refusal),
+        }
+    }
+
+    /// Replicates for a node, turn after turn, until the gate ends it.
+    pub fn replicate_loop<L: Link, G: Gate, R: Wait>(
+        &mut self,
+        rt: &R,
+        alloc: Global,
+        node: u32,
+        link: &mut L,
+        gate: &G,
+    )
+        ensures { GoesOn self.old self.new }
+    {
+        for _ in rt.forever() {
+            if !gate.pass(Point::Turn) {
+                return;
+            }
+            let end = self.replicate_turn(rt, alloc, node, link, gate);
+            if !rest(rt, end) {
+                return;
+            }
+        }
+    }
+
+    // What the node has for others.
+    fn take_outgoing<R: Wait>(
+        &mut self,
+        rt: &R,
+        alloc: Global,
+        node: u32,
+    ) -> Result<Vec<(Frame, u32)>, Refusal>
+        ensures { GoesOn self.old self.new }
+    {
+        let mut held = self.pass.take(rt, self.keeper);
+        let frames = held.state().outgoing(alloc, node);
+        self.pass.give(self.keeper, held);
+        frames
+    }
+
+    fn send_all<L: Link, G: Gate, R: Wait>(
+        &mut self,
+        rt: &R,
+        alloc: Global,
+        frames: Vec<(Frame, u32)>,
+        link: &mut L,
+        gate: &G,
+    ) -> TurnEnd
+        ensures { GoesOn self.old self.new }
+    {
+        let mut taken = 0u64;
+        for (frame, next) in frames {
+            match self.send(rt, alloc, &frame, next, link, gate) {
+                Some(one) => taken = taken.saturating_add(one),
+                None => return TurnEnd::Stopped,
+            }
+        }
+        TurnEnd::Did(taken)
+    }
+
+    // Carries a frame to a node, and answers how many were taken in there; `None` where the gate ends the loop.
+    fn send<L: Link, G: Gate, R: Wait>(
+        &mut self,
+        rt: &R,
+        alloc: Global,
+        frame: &Frame,
+        next: u32,
+        link: &mut L,
+        gate: &G,
+    ) -> Option<u64>
+        ensures { GoesOn self.old self.new }
+    {
+        if !gate.pass(Point::BeforeCarry) {
+            return None;
+        }
+        let Some(came) = carry_frame(alloc, link, frame) else {
+            return Some(0);
+        };
+        if !gate.pass(Point::BeforeDeliver) {
+            return None;
+        }
+        Some(self.bring_in(rt, came, next))
+    }
+
+    // A frame comes to a node; how many were taken in.
+    fn bring_in<R: Wait>(&mut self, rt: &R, frame: Frame, node: u32) -> u64
+        ensures { GoesOn self.old self.new }
+    {
+        let mut held = self.pass.take(rt, self.keeper);
+        let delivered = held.state().deliver(frame, node);
+        self.pass.give(self.keeper, held);
+        u64::from(delivered.is_ok())
+    }
+}

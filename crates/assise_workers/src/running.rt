@@ -1,0 +1,198 @@
+// Workers and clients in the threads of a scope.
+ghost use Rattle.std.specs.Prelude.{◌≡◌, ◌≤◌, [], IfOk, IfSome, vec_capacity, vec_len};
+ghost use Rattle.std.specs.List.{AllZip};
+ghost use Rattle.assise_workers.specs.Serving.{HasServed};
+
+use crate::gate::{Gate, UntilDone};
+use crate::nodes::NodeWorkers;
+use crate::replicated::Replicated;
+use crate::serving::{ClientEnd, ClientList};
+use assise_libfs::served::Served;
+use assise_machine::cluster::Cluster;
+use std::alloc::Global;
+use std::snapshot::Snapshot;
+use std::sync::atomic::{AtomicBool, Ordering};
+use std::sync::{Arc, Wait};
+use std::thread;
+use std::thread::{Promise, PromisedHandle, Scope, Threads};
+
+/// Why a run isn't whole.
+#[derive(Clone, Copy, PartialEq, Eq, Debug)]
+pub enum RunFault {
+    /// A growth was refused, before the first call.
+    Memory,
+    /// A thread couldn't be made. What the others were answered stands.
+    NoThread,
+}
+
+/// What a client's thread promises: it makes all calls of its list.
+#[derive(Drop)]
+struct ServesAll<'a, S: Served>(Snapshot<ClientList<'a, S>>);
+
+impl<'a, S: Served> Promise<ClientEnd<'a, S>> for ServesAll<'a, S> {
+    ghost use Rattle.assise_workers.specs.Serving.{HasServed};
+
+    ghost kept_by = { λ p end. HasServed p.0.value end };
+}
+
+/// Makes a client's calls in a thread of its own.
+fn start_client<'s, 'e: 's, S: Served + Send, R: Threads + Wait + Sync>(
+    scope: &Scope<'s, &'e ()>,
+    rt: &'e R,
+    alloc: Global,
+    list: ClientList<'e, S>,
+) -> Option<PromisedHandle<ClientEnd<'e, S>, ServesAll<'e, S>>>
+    ensures { IfSome result (λ h. h.promise.0.value ≡ list.entry) }
+{
+    let promise = ServesAll(Snapshot::of(&list));
+    scope
+        .spawn_with(
+            promise,
+            move || -> ClientEnd<S>
+                ensures { HasServed list.entry result }
+            { list.serve(rt, alloc) },
+        )
+        .ok()
+}
+
+/// Makes the calls of clients, each in a thread of its own, and waits for them. Where a thread can't be made, those that were made are
+/// waited for.
+fn run_clients<'s, 'e: 's, S: Served + Send, R: Threads + Wait + Sync>(
+    scope: &Scope<'s, &'e ()>,
+    rt: &'e R,
+    alloc: Global,
+    lists: Vec<ClientList<'e, S>>,
+) -> Result<Vec<ClientEnd<'e, S>>, RunFault>
+    ensures { IfOk result (λ ends. AllZip HasServed lists.entry.items ends.items) }
+{
+    let Ok(mut handles) = Vec::with_capacity(alloc, lists.len()) else {
+        return Err(RunFault::Memory);
+    };
+    let Ok(ends) = Vec::with_capacity(alloc, lists.len()) else {
+        return Err(RunFault::Memory);
+    };
+    for list in lists {
+        let Some(handle) = start_client(scope, rt, alloc, list) else {
+            let _ = join_clients(rt, handles, ends);
+            return Err(RunFault::NoThread);
+        };
+        handles.push_reserved(handle);
+    }
+    Ok(join_clients(rt, handles, ends))
+}
+
+/// Waits for clients, one after another. There is room for what comes of them.
+fn join_clients<'e, S: Served, R: Threads>(
+    rt: &R,
+    handles: Vec<PromisedHandle<ClientEnd<'e, S>, ServesAll<'e, S>>>,
+    mut ends: Vec<ClientEnd<'e, S>>,
+) -> Vec<ClientEnd<'e, S>>
+    requires empty { ends.items ≡ [] }
+    requires room { vec_len handles ≤ vec_capacity ends }
+    ensures { AllZip (λ h end. HasServed h.promise.0.value end) handles.entry.items result.items }
+{
+    for handle in handles {
+        ends.push_reserved(handle.join(rt));
+    }
+    ends
+}
+
+/// Starts the two workers of a node.
+fn start_workers<'s, 'e: 's, S: Replicated + Send, G: Gate, R: Threads + Wait + Sync>(
+    scope: &Scope<'s, &'e ()>,
+    rt: &'e R,
+    alloc: Global,
+    workers: NodeWorkers<'e, S>,
+    gate: &'e G,
+    done: &Arc<AtomicBool, Global>,
+) -> Result<(), RunFault> {
+    let NodeWorkers {
+        node,
+        mut replicator,
+        mut digester,
+        mut link,
+    } = workers;
+    let Ok(one) = Arc::try_clone(done) else {
+        return Err(RunFault::Memory);
+    };
+    let Ok(other) = Arc::try_clone(done) else {
+        return Err(RunFault::Memory);
+    };
+    let one = UntilDone { gate, done: one };
+    let other = UntilDone { gate, done: other };
+    if scope
+        .spawn(move || replicator.replicate_loop(rt, alloc, node, &mut link, &one))
+        .is_err()
+    {
+        return Err(RunFault::NoThread);
+    }
+    if scope
+        .spawn(move || digester.digest_loop(rt, alloc, node, &other))
+        .is_err()
+    {
+        return Err(RunFault::NoThread);
+    }
+    Ok(())
+}
+
+/// Starts the workers of all nodes.
+fn start_all_workers<'s, 'e: 's, S: Replicated + Send, G: Gate, R: Threads + Wait + Sync>(
+    scope: &Scope<'s, &'e ()>,
+    rt: &'e R,
+    alloc: Global,
+    nodes: Vec<NodeWorkers<'e, S>>,
+    gate: &'e G,
+    done: &Arc<AtomicBool, Global>,
+) -> Result<(), RunFault> {
+    for workers in nodes {
+        start_workers(scope, rt, alloc, workers, gate, done)?;
+    }
+    Ok(())
+}
+
+/// Makes the calls of clients' lists to their end, beside the workers of nodes: each client and each worker is a thread. The workers end
+/// once all lists are done.
+///
+/// [`RunFault::Memory`] comes before the first call; on [`RunFault::NoThread`] the threads that were made are ended and waited for, and
+/// what was answered stands in the history.
+pub fn run_cluster<'a, G: Gate, R: Threads + Wait + Sync>(
+    rt: &'a R,
+    alloc: Global,
+    nodes: Vec<NodeWorkers<'a, Cluster>>,
+    gate: &'a G,
+    lists: Vec<ClientList<'a, Cluster>>,
+) -> Result<Vec<ClientEnd<'a, Cluster>>, RunFault>
+    ensures served { IfOk result (λ ends. AllZip HasServed lists.entry.items ends.items) }
+{
+    match Arc::new(alloc, AtomicBool::new(false)) {
+        Ok(done) => run_until(rt, alloc, nodes, gate, lists, done),
+        Err(_) => Err(RunFault::Memory),
+    }
+}
+
+/// The same, with the flag by which the workers end.
+fn run_until<'a, G: Gate, R: Threads + Wait + Sync>(
+    rt: &'a R,
+    alloc: Global,
+    nodes: Vec<NodeWorkers<'a, Cluster>>,
+    gate: &'a G,
+    lists: Vec<ClientList<'a, Cluster>>,
+    done: Arc<AtomicBool, Global>,
+) -> Result<Vec<ClientEnd<'a, Cluster>>, RunFault>
+    ensures { IfOk result (λ ends. AllZip HasServed lists.entry.items ends.items) }
+{
+    thread::scope(
+        thread::scope_env(),
+        rt,
+        move |scope| -> Result<Vec<ClientEnd<Cluster>>, RunFault>
+            ensures { IfOk result (λ ends. AllZip HasServed lists.entry.items ends.items) }
+        {
+            let ended = match start_all_workers(scope, rt, alloc, nodes, gate, &done) {
+                Ok(()) => run_clients(scope, rt, alloc, lists),
+                Err(fault) => Err(fault),
+            };
+            done.store(true, Ordering::SeqCst);
+            ended
+        },
+    )
+}

@@ -1,0 +1,88 @@
+// A client's list of calls.
+ghost use Rattle.std.specs.Prelude.{◌≡◌, ◌≤◌, [], length, vec_capacity, vec_len};
+ghost use Rattle.assise_libfs.specs.Clients.{IsSameClient, client_of, seen_by};
+ghost use Rattle.assise_workers.specs.Told.{SeesAll};
+
+use assise_libfs::libfs::LibFs;
+use assise_libfs::served::Served;
+use assise_names::call::Op;
+use assise_names::refusal::Refusal;
+use assise_names::reply::Reply;
+use std::alloc::Global;
+use std::sync::Wait;
+
+/// A client with the calls that it is to make, and room for what comes of them.
+#[derive(Drop)]
+pub struct ClientList<'a, S: Served> {
+    /// The client.
+    pub libfs: LibFs<'a, S>,
+    /// Its calls, in order.
+    pub calls: Vec<Op>,
+    room: Vec<Result<Reply, Refusal>>,
+    ghost empty: { room.items ≡ [] },
+    ghost enough: { vec_len calls ≤ vec_capacity room },
+}
+
+/// A client that made its calls, with what came of each.
+#[derive(Drop)]
+pub struct ClientEnd<'a, S: Served> {
+    /// The client.
+    pub libfs: LibFs<'a, S>,
+    /// What came of each call of its list, in order.
+    pub replies: Vec<Result<Reply, Refusal>>,
+}
+
+impl<'a, S: Served> ClientList<'a, S> {
+    ghost use Rattle.std.specs.Prelude.{◌≡◌, IfErr, IfOk};
+    ghost use Rattle.assise_names.specs.declared.refusal.Refusal.TheVariants.{OutOfMemory};
+    ghost use Rattle.assise_workers.specs.Serving.{HasServed};
+
+    /// A client's calls, with room for what comes of them. Where there is none, both come back with [`Refusal::OutOfMemory`].
+    pub fn new(
+        alloc: Global,
+        libfs: LibFs<'a, S>,
+        calls: Vec<Op>,
+    ) -> Result<ClientList<'a, S>, (Refusal, LibFs<'a, S>, Vec<Op>)>
+        ensures libfs { IfOk result (λ list. list.libfs ≡ libfs.entry) }
+        ensures calls { IfOk result (λ list. list.calls ≡ calls) }
+        ensures refused { IfErr result (λ back. back ≡ (OutOfMemory, libfs.entry, calls)) }
+    {
+        match Vec::with_capacity(alloc, calls.len()) {
+            Ok(room) => Ok(ClientList { libfs, calls, room }),
+            Err(_) => Err((Refusal::OutOfMemory, libfs, calls)),
+        }
+    }
+
+    /// Makes all calls of the list, one after another; a call that is refused ends nothing. It takes no memory but that of its calls.
+    pub fn serve<R: Wait>(self, rt: &R, alloc: Global) -> ClientEnd<'a, S>
+        ensures { HasServed self.entry result }
+    {
+        let ClientList {
+            mut libfs,
+            calls,
+            room,
+        } = self;
+        let replies = make_calls(rt, alloc, &mut libfs, calls.as_slice(), room);
+        ClientEnd { libfs, replies }
+    }
+}
+
+/// Makes a client's calls one after another, and answers what came of each. There is room for that.
+fn make_calls<S: Served, R: Wait>(
+    rt: &R,
+    alloc: Global,
+    libfs: &mut LibFs<'_, S>,
+    calls: &[Op],
+    mut replies: Vec<Result<Reply, Refusal>>,
+) -> Vec<Result<Reply, Refusal>>
+    requires empty { replies.items ≡ [] }
+    requires room { length calls.now ≤ vec_capacity replies }
+    ensures same { IsSameClient libfs.old libfs.new }
+    ensures sees { SeesAll (client_of libfs.old) calls.now (seen_by libfs.old) result.items (seen_by libfs.new) }
+{
+    for op in calls {
+        let reply = libfs.call(rt, alloc, op);
+        replies.push_reserved(reply);
+    }
+    replies
+}

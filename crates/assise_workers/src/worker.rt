@@ -1,0 +1,60 @@
+// A worker: a lent keeper, and a pass through which no entry is added.
+ghost use Rattle.assise_keeper.specs.Passes.{IsPassOf};
+ghost use Rattle.assise_keeper.specs.Working.{pass_of};
+
+use crate::replicated::Replicated;
+use assise_keeper::keeper::Keeper;
+use assise_keeper::pass::Pass;
+use assise_keeper::worker_pass::WorkerPass;
+use assise_names::refusal::Refusal;
+
+/// What a turn of a worker came to.
+#[derive(Clone, Copy, PartialEq, Eq, Debug)]
+pub enum TurnEnd {
+    /// So much was done: frames were taken in, or records digested and leases let go of.
+    Did(u64),
+    /// The state refused it.
+    Refused(Refusal),
+    /// The gate ends the worker's loop.
+    Stopped,
+}
+
+impl TurnEnd {
+    /// What two turns came to, one after the other.
+    pub(crate) fn and(self, next: TurnEnd) -> TurnEnd {
+        match (self, next) {
+            (TurnEnd::Stopped, _) | (_, TurnEnd::Stopped) => TurnEnd::Stopped,
+            (TurnEnd::Refused(_), _) => next,
+            (_, TurnEnd::Refused(_)) => self,
+            (TurnEnd::Did(first), TurnEnd::Did(second)) => {
+                TurnEnd::Did(first.saturating_add(second))
+            }
+        }
+    }
+}
+
+/// A worker of a state that threads take in turn. It adds no entry to the state's history.
+#[derive(Drop)]
+pub struct Worker<'a, S: Replicated> {
+    pub(crate) keeper: &'a Keeper<S>,
+    pub(crate) pass: WorkerPass<S>,
+    ghost ours: { IsPassOf keeper.now (pass_of pass) },
+}
+
+impl<'a, S: Replicated> Worker<'a, S> {
+    ghost use Rattle.std.specs.Prelude.{◌≡◌};
+    ghost use Rattle.assise_keeper.specs.Passes.{IsPassOf, client, seen};
+    ghost use Rattle.assise_workers.specs.Working.{keeper_at, seen_at};
+
+    /// A worker with a pass that is split from another.
+    pub fn new(keeper: &'a Keeper<S>, pass: &mut Pass<S>) -> Worker<'a, S>
+        requires { IsPassOf keeper.now pass.old }
+        ensures free { IsPassOf keeper.now pass.new }
+        ensures same { (seen pass.new ≡ seen pass.old) × (client pass.new ≡ client pass.old) }
+        ensures keeper { keeper_at result ≡ keeper.now }
+        ensures seen { seen_at result ≡ seen pass.old }
+    {
+        let own = WorkerPass::new(keeper.split(pass));
+        Worker { keeper, pass: own }
+    }
+}

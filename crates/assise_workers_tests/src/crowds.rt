@@ -1,0 +1,173 @@
+// Clients in threads of their own, beside the workers of all nodes.
+ghost use Rattle.std.specs.Prelude.{◌≡◌};
+ghost use Rattle.assise_keeper.specs.Passes.{IsPassOf};
+
+use crate::scripts::{TURNS, calls_in, revoker};
+use assise_history::check::check;
+use assise_history::entry::EntryKind;
+use assise_history::history::History;
+use assise_keeper::keeper::Keeper;
+use assise_keeper::pass::Pass;
+use assise_libfs::libfs::LibFs;
+use assise_machine::cluster::Cluster;
+use assise_names::refusal::Refusal;
+use assise_names::reply::Reply;
+use assise_workers::gate::OpenGate;
+use assise_workers::nodes::workers_up_to;
+use assise_workers::running::run_cluster;
+use assise_workers::serving::{ClientEnd, ClientList};
+use std::alloc::Global;
+use std::sync::Wait;
+use std::thread::Threads;
+
+/// How many clients there are, and what each does.
+#[derive(Clone, Copy)]
+pub struct Crowd {
+    /// The nodes, from 1 to 8.
+    pub nodes: u32,
+    /// The clients, on the nodes in turn.
+    pub clients: u32,
+    /// How often each writes its file and reads it.
+    pub pairs: u32,
+    /// Behind how many such pairs it syncs.
+    pub every: u32,
+    /// Whether all use one file, and move it away and back before they sync.
+    pub shared: bool,
+}
+
+/// What a client does behind a pair: lines of calls.
+fn put_sync(text: &mut String, client: u32, shared: bool) -> Option<()> {
+    if shared {
+        write!(text, "1 rename /s /r{client}\n1 rename /r{client} /s\n").ok()?;
+    }
+    text.push_str("1 fsync\n").ok()
+}
+
+/// A write and a read of a client: lines of calls.
+fn put_pair(text: &mut String, client: u32, pair: u32, shared: bool) -> Option<()> {
+    if shared {
+        write!(text, "1 write /s 0 t{client}x{pair}\n1 read /s 0 99\n").ok()
+    } else {
+        write!(
+            text,
+            "1 write /f{client} 0 t{client}x{pair}\n1 read /f{client} 0 99\n"
+        )
+        .ok()
+    }
+}
+
+/// The calls of a client as lines.
+fn script_of(alloc: Global, crowd: &Crowd, client: u32) -> Option<String> {
+    let mut text = format!(in alloc; "1 create /f{client}\n1 create /s\n").ok()?;
+    for pair in 1..=crowd.pairs {
+        put_pair(&mut text, client, pair, crowd.shared)?;
+        if pair % crowd.every.max(1) == 0 {
+            put_sync(&mut text, client, crowd.shared)?;
+        }
+    }
+    Some(text)
+}
+
+/// Opens a client of the crowd, with its calls.
+fn list_of<'a, R: Wait>(
+    rt: &R,
+    alloc: Global,
+    keeper: &'a Keeper<Cluster>,
+    main: &mut Pass<Cluster>,
+    crowd: &Crowd,
+    client: u32,
+) -> Option<ClientList<'a, Cluster>>
+    requires { IsPassOf keeper.now main.old }
+    ensures { IsPassOf keeper.now main.new }
+{
+    let node = client % crowd.nodes.max(1) + 1;
+    let pass = keeper.split(main);
+    let calls = calls_in(alloc, script_of(alloc, crowd, client)?.as_str())?;
+    let libfs = LibFs::open(rt, alloc, keeper, pass, node, revoker(alloc)?, TURNS).ok()?;
+    ClientList::new(alloc, libfs, calls).ok()
+}
+
+/// Opens all clients of the crowd.
+fn lists_of<'a, R: Wait>(
+    rt: &R,
+    alloc: Global,
+    keeper: &'a Keeper<Cluster>,
+    main: &mut Pass<Cluster>,
+    crowd: &Crowd,
+) -> Option<Vec<ClientList<'a, Cluster>>>
+    requires { IsPassOf keeper.now main.old }
+    ensures { IsPassOf keeper.now main.new }
+{
+    let mut lists = Vec::new(alloc);
+    for client in 0..crowd.clients {
+        lists
+            .push(list_of(rt, alloc, keeper, main, crowd, client)?)
+            .ok()?;
+    }
+    Some(lists)
+}
+
+/// Whether a client was told what its calls in the history answer, in order.
+fn is_as_told(history: &History, client: u32, replies: &[Result<Reply, Refusal>]) -> bool {
+    let mut rest = replies;
+    for entry in history.entries() {
+        if let EntryKind::Call(call) = entry.kind() {
+            if call.client == client {
+                match rest.split_first() {
+                    Some((Ok(reply), more)) if *reply == call.reply => rest = more,
+                    _ => return false,
+                }
+            }
+        }
+    }
+    rest.is_empty()
+}
+
+/// What came of the clients' calls: how many were answered, or what is wrong.
+fn judge(alloc: Global, history: &History, ends: &[ClientEnd<'_, Cluster>]) -> Option<String> {
+    let mut answered = 0;
+    for end in ends {
+        let client = end.libfs.client();
+        if !is_as_told(history, client, end.replies.as_slice()) {
+            return format!(in alloc; "client {client} was told otherwise").ok();
+        }
+        answered += end.replies.len();
+    }
+    if check(alloc, history).ok()? {
+        format!(in alloc; "{answered} answered").ok()
+    } else {
+        format!(in alloc; "not legal").ok()
+    }
+}
+
+/// Runs the crowd's calls, and judges them.
+fn run_on<R: Threads + Wait + Sync>(
+    rt: &R,
+    alloc: Global,
+    keeper: &Keeper<Cluster>,
+    main: &mut Pass<Cluster>,
+    gate: &OpenGate,
+    crowd: &Crowd,
+) -> Option<String>
+    requires { IsPassOf keeper.now main.old }
+{
+    let nodes = workers_up_to(alloc, keeper, main, crowd.nodes).ok()?;
+    let lists = lists_of(rt, alloc, keeper, main, crowd)?;
+    let ends = run_cluster(rt, alloc, nodes, gate, lists).ok()?;
+    let mut held = keeper.take(rt, main);
+    let text = judge(alloc, held.state().history(), ends.as_slice());
+    keeper.give(main, held);
+    text
+}
+
+/// Runs the crowd's calls on a new cluster, whose clients' logs have 64 records.
+pub fn run_crowd<R: Threads + Wait + Sync>(rt: &R, alloc: Global, crowd: &Crowd) -> Option<String> {
+    if crowd.nodes < 1 || crowd.nodes > 8 {
+        return None;
+    }
+    let cluster = Cluster::new(alloc, crowd.nodes, 64, 64).ok()?;
+    let (keeper, mut main) = Keeper::new(alloc, cluster).ok()?;
+    let text = run_on(rt, alloc, &keeper, &mut main, &OpenGate, crowd);
+    keeper.close()?;
+    text
+}
