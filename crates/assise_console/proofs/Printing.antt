@@ -4,7 +4,7 @@ use Rattle.std.specs.Io.KnownBytes.{Appends, Keeps}
 use Rattle.assise_fault_script.specs.declared.parse.NumberedCommand.{NumberedCommand}
 use Rattle.assise_console.specs.declared.answer.Answer.{Answer}
 use Rattle.assise_console.specs.declared.fault.EngineFault.{EngineFault}
-use Rattle.assise_console.specs.declared.fault.EngineFault.TheVariants.{Read, Script, Memory, Write}
+use Rattle.assise_console.specs.declared.fault.EngineFault.TheVariants.{Read, Script, Memory, Write, NeedsSerial, NoThread}
 use Rattle.assise_console.specs.Engines.{FaultFrom, FaultOf, IsInput, IsReadFault}
 use Rattle.assise_console.specs.Courses.{Told}
 use Rattle.assise_console.specs.Lines.{Prints, line_text}
@@ -61,6 +61,8 @@ read_failed Read known old h = refl
 read_failed Memory known old h = refl
 read_failed (Script line fault) known old h = absurd h
 read_failed Write known old h = absurd h
+read_failed (NeedsSerial line) known old h = absurd h
+read_failed NoThread known old h = absurd h
 
 -- a fault of the bytes that were read is one of what the reader gave
 pub fault_from : (e : EngineFault) (known old new : Option (List ℕ)) (input : List ℕ) → IsInput known input → FaultOf e input old new → FaultFrom e known old new
@@ -68,3 +70,5 @@ fault_from Read known old new input read h = absurd h
 fault_from Memory known old new input read h = h.1
 fault_from (Script line fault) known old new input read h = (input, (read, h))
 fault_from Write known old new input read h = (input, (read, h))
+fault_from (NeedsSerial line) known old new input read h = absurd h
+fault_from NoThread known old new input read h = absurd h

@@ -12,7 +12,7 @@ use Rattle.assise_fault_script.specs.declared.fault.ScriptFault.{ScriptFault}
 use Rattle.assise_fault_script.specs.declared.fault.ScriptFault.TheVariants.{Memory as no_memory}
 use Rattle.assise_fault_script.specs.declared.parse.NumberedCommand.{NumberedCommand}
 use Rattle.assise_console.specs.declared.fault.EngineFault.{EngineFault}
-use Rattle.assise_console.specs.declared.fault.EngineFault.TheVariants.{Read, Script, Memory, Write}
+use Rattle.assise_console.specs.declared.fault.EngineFault.TheVariants.{Read, Script, Memory, Write, NeedsSerial, NoThread}
 use Rattle.assise_console.specs.Courses.{IsCourse, Told}
 use Rattle.assise_console.specs.Lines.{Prints, PrintsAll}
 use Rattle.assise_console.specs.State.{State, Stocks, begun}
@@ -60,6 +60,8 @@ IsRunFault Memory old new = new ≡ old
 IsRunFault Write old new = Unit {0}
 IsRunFault Read old new = ⊥
 IsRunFault (Script line fault) old new = ⊥
+IsRunFault (NeedsSerial line) old new = ⊥
+IsRunFault NoThread old new = ⊥
 
 -- the bytes are a script, and it was run
 abbrev pub Printed : Stocks → ℕ → List ℕ → Option (List ℕ) → Option (List ℕ) → Type 0
@@ -75,6 +77,8 @@ FaultOf (Script line fault) input old new = IsScriptFault input line fault × (n
 FaultOf Memory input old new = ((commands : List NumberedCommand) × IsScript input commands) × (new ≡ old)
 FaultOf Write input old new = (commands : List NumberedCommand) × IsScript input commands
 FaultOf Read input old new = ⊥
+FaultOf (NeedsSerial line) input old new = ⊥
+FaultOf NoThread input old new = ⊥
 
 -- ---- what a reader gave
 
@@ -92,6 +96,8 @@ FaultFrom Read known old new = new ≡ old
 FaultFrom Memory known old new = new ≡ old
 FaultFrom (Script line fault) known old new = (input : List ℕ) × (IsInput known input × FaultOf (Script line fault) input old new)
 FaultFrom Write known old new = (input : List ℕ) × (IsInput known input × FaultOf Write input old new)
+FaultFrom (NeedsSerial line) known old new = ⊥
+FaultFrom NoThread known old new = ⊥
 
 -- a reader's failure is its own, unless memory was wanting for what it gave
 abbrev pub read_fault : ErrorKind → EngineFault
@@ -104,3 +110,5 @@ IsReadFault Read = Unit {0}
 IsReadFault Memory = Unit {0}
 IsReadFault (Script line fault) = ⊥
 IsReadFault Write = ⊥
+IsReadFault (NeedsSerial line) = ⊥
+IsReadFault NoThread = ⊥

@@ -20,6 +20,10 @@ pub enum EngineFault {
     Memory,
     /// The writer failed.
     Write,
+    /// A line of the script, numbered from 1, whose command only the serial mode runs.
+    NeedsSerial(u64),
+    /// A thread couldn't be made.
+    NoThread,
 }
 
 impl From<AllocError> for EngineFault {
@@ -41,8 +45,8 @@ pub fn fault_line(alloc: Global, fault: &EngineFault, script: &str) -> Result<St
     Ok(format!(in alloc; "{line}")?)
 }
 
-/// The exit status: 1 where memory is wanting or the writer failed, 2 for a faulty script, 3 where it can't be
-/// read.
+/// The exit status: 1 where memory or a thread is wanting or the writer failed, 2 for a faulty script and for one that needs the
+/// serial mode, 3 where it can't be read.
 pub fn status(fault: &EngineFault) -> u8
     ensures { result ≡ status fault.now }
 {
@@ -51,6 +55,8 @@ pub fn status(fault: &EngineFault) -> u8
         EngineFault::Script(_, _) => 2,
         EngineFault::Memory => 1,
         EngineFault::Write => 1,
+        EngineFault::NeedsSerial(_) => 2,
+        EngineFault::NoThread => 1,
     }
 }
 
@@ -72,6 +78,13 @@ impl Display for FaultLine<'_> {
             EngineFault::Script(line, fault) => write!(f, "assise: script line {line}: {fault}"),
             EngineFault::Memory => write!(f, "assise: out of memory"),
             EngineFault::Write => write!(f, "assise: cannot write"),
+            EngineFault::NeedsSerial(line) => {
+                write!(
+                    f,
+                    "assise: script line {line}: manual needs the serial mode"
+                )
+            }
+            EngineFault::NoThread => write!(f, "assise: cannot start a thread"),
         }
     }
 }
