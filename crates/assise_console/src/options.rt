@@ -1,7 +1,7 @@
 // The command line.
 ghost use Rattle.std.specs.Prelude.{◌≡◌, ◌≤◌, IfErr, IfOk, IsTrue, Some, [], false, map};
 ghost use Rattle.clap.specs.Words.{HasKind, app_of, kind_of, rule_of};
-ghost use Rattle.assise_console.specs.CommandLine.{faults_of, is_taken, program, script_of, script_rule, turns_of, turns_rule};
+ghost use Rattle.assise_console.specs.CommandLine.{faults_of, is_taken, program, script_of, script_rule, threads_of, threads_rule, turns_of, turns_rule};
 
 use clap::error::ErrorKind;
 use clap::{Arg, ArgAction, Command, Error, value_parser};
@@ -15,6 +15,8 @@ pub struct CommandLine<'a> {
     pub script: &'a str,
     /// The most tries of a call before it is refused as busy, 1 to 1,000,000.
     pub turns: u32,
+    /// A thread for each client.
+    pub threads: bool,
 }
 
 /// The version that `assise --version` prints.
@@ -29,6 +31,7 @@ Arguments:
   <SCRIPT>  A file, or - for standard input
 
 Options:
+      --threads    A thread for each client; what clients do at once may come in another order
       --turns <N>  Tries of a call before it is refused as F2 Busy, 1 to 1000000 [default: 100000]
   -h, --help       Print help
   -V, --version    Print version
@@ -64,14 +67,15 @@ Example:  printf 'cluster 1 8 4\nopen 1 least\n1 create /f\n1 stat /f\n' | ./ass
 Exit status: 0 the script ran to its end, whatever was refused; 1 no memory, or no output;
 2 a fault of the words or the script; 3 an unreadable script. More: docs/SCRIPT.md";
 
-/// Reads the command line `assise SCRIPT [--turns N]`, of which `words` are all words, the program's own first. An
-/// error has the text and the exit status of `clap`: `--help` and `--version` are errors of their own kinds, and so
-/// is want of memory.
+/// Reads the command line `assise SCRIPT [--turns N] [--threads]`, of which `words` are all words, the program's own first. An
+/// error has the text and the exit status of `clap`: `--help` and `--version` are errors of their own kinds, and so is want of
+/// memory.
 pub fn options<'a, S: AsStr>(alloc: Global, words: &'a [S]) -> Result<CommandLine<'a>, Error>
     ensures script { IfOk result (λ line. script_of (map S.text words.entry.now) ≡ Some line.script.now) }
     ensures turns { IfOk result (λ line. turns_of (map S.text words.entry.now) ≡ Some line.turns) }
     ensures some_turns { IfOk result (λ line. 1 ≤ line.turns) }
     ensures few_turns { IfOk result (λ line. line.turns ≤ 1000000) }
+    ensures threads { IfOk result (λ line. line.threads ≡ threads_of (map S.text words.entry.now)) }
     ensures faultless { IfOk result (λ line. faults_of (map S.text words.entry.now) ≡ []) }
     ensures fault { IfErr result (λ error. HasKind (faults_of (map S.text words.entry.now)) error) }
     ensures taken { IfErr result (λ error. IsTrue (is_taken (map S.text words.entry.now)) → kind_of error ≡ ErrorKind.OutOfMemory) }
@@ -84,7 +88,11 @@ pub fn options<'a, S: AsStr>(alloc: Global, words: &'a [S]) -> Result<CommandLin
     let Some(turns) = matches.get_one::<u32>("turns") else {
         unreachable!();
     };
-    Ok(CommandLine { script, turns })
+    Ok(CommandLine {
+        script,
+        turns,
+        threads: matches.get_flag("threads"),
+    })
 }
 
 /// The program's name, version, help and arguments.
@@ -95,7 +103,8 @@ fn command<'a>(alloc: Global) -> Result<Command<'a>, AllocError>
         .version(VERSION)
         .override_help(HELP)
         .arg(script_argument(alloc))?
-        .arg(turns_option(alloc))
+        .arg(turns_option(alloc))?
+        .arg(threads_flag(alloc))
 }
 
 fn script_argument<'a>(alloc: Global) -> Arg<'a>
@@ -117,4 +126,14 @@ fn turns_option<'a>(alloc: Global) -> Arg<'a>
         .action(ArgAction::Set)
         .value_parser(value_parser!(u32).range(1..=1_000_000))
         .default_value("100000")
+}
+
+fn threads_flag<'a>(alloc: Global) -> Arg<'a>
+    ensures rule { rule_of result ≡ threads_rule }
+    ensures local { result.global ≡ false }
+{
+    Arg::new(alloc, "threads")
+        .long("threads")
+        .action(ArgAction::SetTrue)
+        .value_parser(value_parser!(bool))
 }

@@ -3,13 +3,14 @@ use assise_console::options::{CommandLine, options};
 use clap::Error;
 use std::test::Fail;
 
-/// The script and the turns that the words name, or the kind of their fault, where its text goes, and the exit status.
+/// The script, the turns and the threads that the words ask for, or the kind of their fault, where its text goes, and the exit status.
 fn described(rt: &HostRuntime, found: &Result<CommandLine<'_>, Error>) -> Result<String, Fail> {
     match found {
         Ok(line) => {
             let script = line.script;
             let turns = line.turns;
-            Ok(format!(in rt.alloc(); "script {script}, {turns} turns\n")?)
+            let threads = if line.threads { ", threads" } else { "" };
+            Ok(format!(in rt.alloc(); "script {script}, {turns} turns{threads}\n")?)
         }
         Err(error) => {
             let kind = error.kind();
@@ -35,12 +36,11 @@ fn add_line(rt: &HostRuntime, text: &mut String, words: &[&str]) -> Result<(), F
 #[test]
 fn the_command_line_is_one_script(rt: HostRuntime) -> Result<(), Fail> {
     let mut text = String::new(rt.alloc());
-    let lines: [&[&str]; 8] = [
+    let lines: [&[&str]; 7] = [
         &["assise", "a.script"],
         &["assise", "-"],
         &["assise"],
         &["assise", "a", "b"],
-        &["assise", "--threads", "a"],
         &["assise", "--none", "a"],
         &["assise", "--help"],
         &["assise", "--version"],
@@ -51,7 +51,6 @@ fn the_command_line_is_one_script(rt: HostRuntime) -> Result<(), Fail> {
     let wanted = "script a.script, 100000 turns\n\
         script -, 100000 turns\n\
         MissingRequiredArgument, standard error, status 2\n\
-        UnknownArgument, standard error, status 2\n\
         UnknownArgument, standard error, status 2\n\
         UnknownArgument, standard error, status 2\n\
         DisplayHelp, standard output, status 0\n\

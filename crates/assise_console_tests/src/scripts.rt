@@ -12,6 +12,7 @@ use std::test::Fail;
 pub(crate) const NOWHERE: CommandLine = CommandLine {
     script: "some.script",
     turns: 1000,
+    threads: false,
 };
 
 /// A script, and what it prints.

@@ -1,4 +1,4 @@
-use Rattle.std.proofs.Common.{◌≡◌, ◌∙◌, ◌<◌, ◌≤◌, ◌&&◌, ap, subst, sym, refl, inl, inr, arith, zero, suc, ℕ, Bool, true, not, List, [], ◌∷◌, length, map, codes, Option, Some, None, is_some, true≢false, slice_index}
+use Rattle.std.proofs.Common.{◌≡◌, ◌∙◌, ◌<◌, ◌≤◌, ◌&&◌, ◌||◌, ap, subst, sym, refl, inl, inr, arith, zero, suc, ℕ, Bool, true, false, not, List, [], ◌∷◌, length, map, codes, Option, Some, None, is_some, true≢false, slice_index}
 use Rattle.std.specs.Prelude.{Result, option_map, pos}
 use Rattle.std.specs.List.{list_all, slice_index_or}
 use Rattle.std.specs.Str.{bytes_eq}
@@ -6,6 +6,7 @@ use Rattle.std.specs.Str.Parse.{ParsesUnsigned, ExplainsUnsignedError, HasUnsign
 use Rattle.std.specs.declared.num.ParseIntError.{ParseIntError}
 use Rattle.std.proofs.lemmas.List.{get_or-map, length-map}
 use Rattle.std.proofs.lemmas.Result.{err_from_is_err_and}
+use Rattle.std.proofs.lemmas.Slice.Eq.{bytes_eq-Decides}
 use Rattle.clap.proofs.CallerLemmas.{required_has_value, some_of_text}
 use Rattle.clap.proofs.CallerReads.{signed_reads}
 use Rattle.clap.proofs.OnLiterals.{clap_on_literals}
@@ -24,8 +25,8 @@ use Rattle.clap.specs.declared.builder.command.Command.{Command}
 use Rattle.clap.specs.declared.builder.value_parser.ValueParser.TheVariants as vp
 use Rattle.clap.specs.declared.parser.matches.ArgMatches.{ArgMatches}
 use Rattle.clap.specs.Texts.{items_of}
-use Rattle.assise_console.proofs.Defaults.{default_read}
-use Rattle.assise_console.specs.CommandLine.{faults_of, is_taken, number_written, program, script_rule, turns_rule}
+use Rattle.assise_console.proofs.Defaults.{default_read, parsed_read}
+use Rattle.assise_console.specs.CommandLine.{faults_of, is_taken, number_written, program, reads_true, script_rule, threads_rule, turns_rule}
 use Rattle.assise_console.proofs.options.options.Goals as goal
 
 -- ---- a command with the program's rules
@@ -52,7 +53,7 @@ plain c is =
       facts.groups,
     )
 
-rules_are : (c : Command) → app_of c ≡ program → map rule_of (args_of c) ≡ script_rule ∷ turns_rule ∷ []
+rules_are : (c : Command) → app_of c ≡ program → map rule_of (args_of c) ≡ script_rule ∷ turns_rule ∷ threads_rule ∷ []
 rules_are c is = ap (λ (a : App). a.top.rules) is
 
 -- no argument but the k-th has the id
@@ -78,11 +79,11 @@ only_place (x ∷ xs) (suc k) id h (suc j) e lt same = ap suc (only_place xs k i
 -- ---- what a parse finds
 
 rule_at : (c : Command) → app_of c ≡ program → (k : ℕ) (d : Arg) → k < length (args_of c)
-    → rule_of (slice_index_or (args_of c) k d) ≡ slice_index_or (script_rule ∷ turns_rule ∷ []) k (rule_of d)
+    → rule_of (slice_index_or (args_of c) k d) ≡ slice_index_or (script_rule ∷ turns_rule ∷ threads_rule ∷ []) k (rule_of d)
 rule_at c is k d lt = sym (get_or-map rule_of (args_of c) k d (rule_of d) lt) ∙ ap (λ rules. slice_index_or rules k (rule_of d)) (rules_are c is)
 
-two : (c : Command) → app_of c ≡ program → length (args_of c) ≡ 2
-two c is = sym (length-map (args_of c) rule_of) ∙ ap length (rules_are c is)
+three : (c : Command) → app_of c ≡ program → length (args_of c) ≡ 3
+three c is = sym (length-map (args_of c) rule_of) ∙ ap length (rules_are c is)
 
 not_empty : (first : ℕ) (rest t : Text) → t ≡ first ∷ rest → t ≡ [] → ⊥
 not_empty first rest t is empty = cc
@@ -100,7 +101,7 @@ first_of_args (x ∷ rest) some = x
 script_found : (c : Command) (m : ArgMatches) → app_of c ≡ program → IsParsedFrom c m
     → is_some (first_value (found_of m) (codes "SCRIPT")) ≡ true
 script_found c m is p =
-    let lt : 0 < length (args_of c) = rw (two c is) (omega arith) in
+    let lt : 0 < length (args_of c) = rw (three c is) (omega arith) in
     let d = first_of_args (args_of c) lt in
     let a = slice_index_or (args_of c) 0 d in
     let rule : rule_of a ≡ script_rule = rule_at c is 0 d lt in
@@ -118,7 +119,7 @@ script_found c m is p =
 turns_found : (c : Command) (m : ArgMatches) → app_of c ≡ program → IsParsedFrom c m
     → (t : Text) × (one_text (found_of m) (codes "turns") ≡ Some (without_minus t)) × IsSignedIn (pos 1) (pos 1000000) t
 turns_found c m is p =
-    let lt : 1 < length (args_of c) = rw (two c is) (omega arith) in
+    let lt : 1 < length (args_of c) = rw (three c is) (omega arith) in
     let d = first_of_args (args_of c) (omega arith) in
     let a = slice_index_or (args_of c) 1 d in
     let rule : rule_of a ≡ turns_rule = rule_at c is 1 d lt in
@@ -147,6 +148,36 @@ turns_read c m read is p reads =
     let got = signed_reads ParseIntError Reads 32 1 1000000 found.0 read one (λ u x h. h.0) (omega arith) found.2 in
     let as_read : ReadsOne Reads (without_minus found.0) (Some got.0) = subst (ReadsOne Reads (without_minus found.0)) got.1 one in
     (got.0, got.1, got.2, got.3, ap (option_map number_written) found.1 ∙ ap (λ n. Some n) (sym as_read.0.1))
+
+-- and a flag that reads `true` or `false`
+threads_found : (c : Command) (m : ArgMatches) → app_of c ≡ program → IsParsedFrom c m
+    → (t : Text) → one_text (found_of m) (codes "threads") ≡ Some t → (bytes_eq t (codes "true") || bytes_eq t (codes "false")) ≡ true
+threads_found c m is p t found =
+    let lt : 2 < length (args_of c) = rw (three c is) (omega arith) in
+    let d = first_of_args (args_of c) (omega arith) in
+    let a = slice_index_or (args_of c) 2 d in
+    let rule : rule_of a ≡ threads_rule = rule_at c is 2 d lt in
+    let id : a.id.now ≡ codes "threads" = ap (λ (r : Rule). r.id) rule in
+    let read = parsed_read c m p (plain c is) (simple c is).globals
+    2 d lt
+    (only_place (args_of c) 2 a.id.now (rw (id, rules_are c is) refl))
+    (not_empty _ _ a.id.now id)
+    (not_auto a 116 (ap (λ t. slice_index t 0) id) (λ e. absurd (omega arith)) (λ e. absurd (omega arith)))
+    vp.Bool (ap (λ (r : Rule). r.parser) rule)
+    t (subst (λ (u : Text). one_text (found_of m) u ≡ Some t) (sym id) found) in
+    subst (λ (u : Text). (bytes_eq u (codes "true") || bytes_eq u (codes "false")) ≡ true) (sym read.1) read.2
+
+-- which says whether it is used
+flag_read : (o : Option Text) (flag : Bool) → ((t : Text) → o ≡ Some t → (bytes_eq t (codes "true") || bytes_eq t (codes "false")) ≡ true)
+    → (o ≡ None → flag ≡ false) → (o ≡ Some (codes "true") → flag ≡ true) → (o ≡ Some (codes "false") → flag ≡ false) → flag ≡ reads_true o
+flag_read None flag only none used unused = none refl
+flag_read (Some t) flag only none used unused = go (bytes_eq t (codes "true")) refl
+  where
+    go : (b : Bool) → bytes_eq t (codes "true") ≡ b → flag ≡ bytes_eq t (codes "true")
+    go true e = used (ap (λ u. Some u) ((bytes_eq-Decides t (codes "true")).0 e)) ∙ sym e
+    go false e =
+        let other : bytes_eq t (codes "false") ≡ true = rw e at (only t refl) in
+        unused (ap (λ u. Some u) ((bytes_eq-Decides t (codes "false")).0 other)) ∙ sym e
 
 -- ---- the clauses
 
@@ -218,3 +249,13 @@ returns-clause-few_turns g c =
     let same : Some read.0 ≡ Some c.in-Some-get_one.turns = sym read.1 ∙ c.in-Some-get_one.is in
     let number : read.0 ≡ c.in-Some-get_one.turns = cc in
     omega arith
+
+pub returns-clause-threads : goal.returns-clause-threads
+returns-clause-threads g c =
+    let words = map g.S.AsStr.text c.args.words.now in
+    let is = c.in_ok-command.ensures in
+    let m = c.in_ok-matches.matches in
+    let rows = (c.in_ok-matches.ensures.matches (ap is_simple is ∙ is_simple_program)).0 ∙ ap (λ (a : App). matches_of a words) is in
+    let only = threads_found c.in_ok-command.command m is c.in_ok-matches.ensures.parsed in
+    let flag = flag_read (one_text (found_of m) (codes "threads")) c.get_flag.result only c.get_flag.ensures.none c.get_flag.ensures.value c.get_flag.ensures.other in
+    flag ∙ ap reads_true (one_text-rows (found_of m) (codes "threads") ∙ ap (one_of (codes "threads")) rows)
