@@ -1,6 +1,6 @@
 -- Whose revokers are stored where a script opens clients.
 -- Assise (OSDI 2020), section 3 (CC-NVM: a holder whose lease is revoked says what has to be replicated before).
-use Rattle.std.specs.Prelude.{◌≡◌, ℕ, ⊤, List, ◌++◌}
+use Rattle.std.specs.Prelude.{◌≡◌, ◌<◌, ℕ, ⊤, List, ◌++◌, vec_capacity, vec_len}
 use Rattle.std.specs.Option.{option_to_list}
 use Rattle.assise_fault_script.specs.declared.command.Command.{Command}
 use Rattle.assise_fault_script.specs.declared.command.Command.TheVariants.{Cluster, Manual, Open, Call, Carry, Digest, Release, Crash, Fail, Back, Refill, Join, Tree as TreeOf, History}
@@ -17,6 +17,12 @@ abbrev pub left_of : {C : Type 0} → RevokerKind → Stock C → List C
 left_of Least s = s.least.items
 left_of Whole s = s.whole.items
 left_of Eights s = s.eights.items
+
+-- there is memory for one revoker of a kind more
+abbrev pub HasSpare : {C : Type 0} → RevokerKind → Stock C → Type 0
+HasSpare Least s = vec_len s.least < vec_capacity s.least
+HasSpare Whole s = vec_len s.whole < vec_capacity s.whole
+HasSpare Eights s = vec_len s.eights < vec_capacity s.eights
 
 -- a client that is opened stores the last revoker of this kind; where none is opened that stays, and all else stays anyhow
 pub record StoresLast {C : Type 0} (kind : RevokerKind) (a : Answer) (old new : ConsoleOf C) : Type 0 where

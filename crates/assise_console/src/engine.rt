@@ -60,8 +60,9 @@ pub fn run_script<W: Write, C: Revokes + Drop>(
     }
 }
 
-/// All bytes that the reader has.
-fn read_all<R: Read>(alloc: Global, reader: &mut R) -> Result<Vec<u8>, EngineFault>
+/// All bytes that the reader has. [`EngineFault::Read`] is the reader's failure, and [`EngineFault::Memory`] want of memory for what it
+/// gave.
+pub fn read_all<R: Read>(alloc: Global, reader: &mut R) -> Result<Vec<u8>, EngineFault>
     ensures bytes { IfOk result (λ bytes. IsInput (R.remaining reader.old) bytes.items) }
     ensures fault { IfErr result IsReadFault }
 {
@@ -176,8 +177,11 @@ fn run_line<W: Write, C: Revokes + Drop>(
     print(writer, number, console.history(), &answer)
 }
 
-/// Writes the line of an answer, if it prints one, where the history so far is this.
-fn print<W: Write>(
+/// Writes the line of an answer to the command at this line, numbered from 1, where the history so far is this. The one fault is
+/// [`EngineFault::Write`].
+///
+/// Nothing is written of [`Answer::Quiet`].
+pub fn print<W: Write>(
     writer: &mut W,
     number: u64,
     history: &History,
@@ -208,8 +212,8 @@ fn print_line<W: Write>(
     }
 }
 
-/// Hands on what the writer keeps back.
-fn flush<W: Write>(writer: &mut W) -> Result<(), EngineFault>
+/// Hands on what the writer keeps back. The one fault is [`EngineFault::Write`].
+pub fn flush<W: Write>(writer: &mut W) -> Result<(), EngineFault>
     ensures done { OnOk result (Keeps (W.contents writer.old) (W.contents writer.new)) }
     ensures only_write { IsOkUnless result EngineFault.Write }
 {

@@ -11,5 +11,5 @@ mod returning;
 mod rounds;
 pub mod stock;
 mod text;
-mod trees;
+pub mod trees;
 mod trying;

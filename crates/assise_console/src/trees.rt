@@ -23,7 +23,7 @@ const MOST_CLIENTS: u32 = 16;
 
 /// The tree that a full node's region alone gives: that of all replicated calls. Refused with [`Refusal::BadNode`],
 /// [`Refusal::WrongPhase`] where the node isn't full, and [`Refusal::OutOfMemory`].
-pub(crate) fn tree_at<C: Revokes + Drop>(
+pub fn tree_at<C: Revokes + Drop>(
     alloc: Global,
     cluster: &ClusterOf<C>,
     node: u32,
