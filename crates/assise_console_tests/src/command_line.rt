@@ -89,6 +89,34 @@ fn turns_are_from_one_to_a_million(rt: HostRuntime) -> Result<(), Fail> {
     Ok(())
 }
 
+#[test]
+fn threads_are_asked_for_by_a_flag(rt: HostRuntime) -> Result<(), Fail> {
+    let mut text = String::new(rt.alloc());
+    let lines: [&[&str]; 8] = [
+        &["assise", "--threads", "a"],
+        &["assise", "a", "--threads"],
+        &["assise", "--turns", "3", "--threads", "-"],
+        &["assise", "a"],
+        &["assise", "a", "--threads", "--threads"],
+        &["assise", "a", "--threads=true"],
+        &["assise", "a", "--threads", "true"],
+        &["assise", "--threads"],
+    ];
+    for words in lines {
+        add_line(&rt, &mut text, words)?;
+    }
+    let wanted = "script a, 100000 turns, threads\n\
+        script a, 100000 turns, threads\n\
+        script -, 3 turns, threads\n\
+        script a, 100000 turns\n\
+        ArgumentConflict, standard error, status 2\n\
+        TooManyValues, standard error, status 2\n\
+        UnknownArgument, standard error, status 2\n\
+        MissingRequiredArgument, standard error, status 2\n";
+    assert_eq!(rt; text.as_str(), wanted);
+    Ok(())
+}
+
 /// What is printed of words that name no script.
 fn printed(rt: &HostRuntime, words: &[&str]) -> Result<String, Fail> {
     let Err(error) = options(rt.alloc(), words) else {
@@ -110,6 +138,7 @@ fn the_help_names_every_command(rt: HostRuntime) -> Result<(), Fail> {
     for part in [
         "\n\nUsage: assise [OPTIONS] <SCRIPT>\n",
         "  <SCRIPT>  ",
+        "\n      --threads    A thread for each client",
         "  --turns <N>  ",
         " 1 to 1000000 [default: 100000]\n",
         "  -h, --help  ",

@@ -37,6 +37,8 @@ fn each_fault_has_its_line_and_its_status(rt: HostRuntime) -> Result<(), Fail> {
         EngineFault::Script(3, ScriptFault::BadPath(PathFault::NameTooLong)),
         EngineFault::Memory,
         EngineFault::Write,
+        EngineFault::NeedsSerial(7),
+        EngineFault::NoThread,
     ] {
         add_fault(&rt, &mut text, &fault)?;
     }
@@ -44,7 +46,9 @@ fn each_fault_has_its_line_and_its_status(rt: HostRuntime) -> Result<(), Fail> {
         2 assise: script line 12: no cluster yet\n\
         2 assise: script line 3: bad path: name too long\n\
         1 assise: out of memory\n\
-        1 assise: cannot write\n";
+        1 assise: cannot write\n\
+        2 assise: script line 7: manual needs the serial mode\n\
+        1 assise: cannot start a thread\n";
     assert_eq!(rt; text.as_str(), wanted);
     Ok(())
 }
