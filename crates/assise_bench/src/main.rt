@@ -1,4 +1,4 @@
-//! `assise_bench WHAT ..`: makes one thing over and over, for `bench/run` and `checks/allocations`. WHAT is `calls`, `copies`, `crowd`,
+//! `assise_bench WHAT ..`: makes one thing over and over, for `bench/run` and `checks/allocations`. WHAT is `calls`, `copies`,
 //! `digest`, `keeper`, `leases`, `log` or `rounds`, each with words of its own, which the module of that name says; or `each`, which
 //! makes a little of everything. It prints what was made, and no time: `bench/run` takes that from outside, but that of a digest,
 //! which is printed on standard error. The status is 2 where the words say nothing, there is no memory, or a call went wrong; of
@@ -7,7 +7,6 @@
 
 mod calls;
 mod copies;
-mod crowd;
 mod digest;
 mod keeper;
 mod leases;
@@ -24,10 +23,9 @@ use std::sync::Wait;
 use std::thread::Threads;
 
 /// A little of everything, in words of the command line.
-const EACH: [&str; 8] = [
+const EACH: [&str; 7] = [
     "calls unlink 4096 64 2 32 100 1000",
     "copies copies 65536 100",
-    "crowd own 2 2 16",
     "digest creates home 1000 2",
     "keeper keeper 4 1000",
     "leases 64 4 1000 shared",
@@ -99,10 +97,6 @@ fn show<R: Threads + Wait + Sync>(
         "copies" => {
             let done = copies::done(alloc, words)?;
             println!(rt; "{done}").ok()
-        }
-        "crowd" => {
-            let answered = crowd::count(leave, alloc, words)?;
-            println!(rt; "{answered} answered").ok()
         }
         "digest" => {
             let times = digest::times(rt, words)?;

@@ -7,6 +7,7 @@ use assise_keeper::keeper::Keeper;
 use assise_keeper::pass::Pass;
 use assise_lease_table::revoker::Revoker;
 use assise_libfs::libfs::LibFs;
+use assise_libfs::served::Served;
 use assise_machine::cluster::Cluster;
 use assise_names::refusal::Refusal;
 use assise_names::reply::Reply;
@@ -14,6 +15,7 @@ use assise_private_log::log_view::LogView;
 use assise_revokers::kinds::whole;
 use assise_workers::gate::{Gate, Point};
 use assise_workers::nodes::{NodeWorkers, tend, workers_up_to};
+use assise_workers::replicated::Replicated;
 use std::alloc::{AllocError, Global};
 use std::sync::Wait;
 use std::sync::atomic::{AtomicU32, Ordering};
@@ -28,60 +30,73 @@ const TURNS: u32 = 1_000_000;
 /// What a client's revoker answers.
 type Cut = Box<dyn Fn(&LogView, u64) -> u64 + Send>;
 
-/// The clients that aren't done yet: what nodes do goes on until there are none.
-struct Clients {
-    left: AtomicU32,
+/// What nodes do goes on until no client is left.
+#[derive(Drop)]
+struct UntilNone<'a> {
+    left: &'a AtomicU32,
 }
 
-impl Clients {
-    fn one_is_done(&self) {
-        self.left.fetch_sub(1, Ordering::SeqCst);
-    }
-}
-
-impl Gate for Clients {
+impl Gate for UntilNone<'_> {
     fn pass(&self, _point: Point) -> bool {
         self.left.load(Ordering::SeqCst) > 0
     }
 }
 
-/// Delivers the letter.
-fn deliver_once<R: Wait>(
+/// Delivers the letter. One client less is left then.
+fn deliver_once<S: Served, R: Wait>(
     rt: &R,
     alloc: Global,
-    files: &mut LibFs<'_, Cluster>,
-    clients: &Clients,
+    files: &mut LibFs<'_, S>,
+    left: &AtomicU32,
 ) -> Result<(), Refusal> {
     let delivered = deliver(rt, alloc, files);
-    clients.one_is_done();
+    left.fetch_sub(1, Ordering::SeqCst);
     delivered
 }
 
-/// Reads the letter.
-fn fetch_once<R: Wait>(
+/// Reads the letter. One client less is left then.
+fn fetch_once<S: Served, R: Wait>(
     rt: &R,
     alloc: Global,
-    files: &mut LibFs<'_, Cluster>,
-    clients: &Clients,
+    files: &mut LibFs<'_, S>,
+    left: &AtomicU32,
 ) -> Result<Reply, Refusal> {
     let reply = fetch(rt, alloc, files);
-    clients.one_is_done();
+    left.fetch_sub(1, Ordering::SeqCst);
     reply
 }
 
-/// Reads the letter, while another thread does what the nodes do.
-fn fetch_tended<R: Threads + Wait + Sync>(
+/// Reads the letter, while this thread does what the nodes do.
+fn fetch_tended<S: Served + Replicated + Send, R: Threads + Wait + Sync>(
     rt: &R,
     alloc: Global,
-    files: &mut LibFs<'_, Cluster>,
-    nodes: &mut [NodeWorkers<'_, Cluster>],
-    clients: &Clients,
+    files: &mut LibFs<'_, S>,
+    nodes: &mut [NodeWorkers<'_, S>],
+    left: &AtomicU32,
 ) -> Result<Reply, Refusal> {
     let (reply, ()) = join(
         rt,
-        || fetch_once(rt, alloc, files, clients),
-        || tend(rt, alloc, nodes, clients),
+        || fetch_once(rt, alloc, files, left),
+        || tend(rt, alloc, nodes, &UntilNone { left }),
     );
+    reply
+}
+
+/// One client delivers a letter, and another reads it.
+fn deliver_and_fetch<S: Served + Replicated + Send, R: Threads + Wait + Sync>(
+    rt: &R,
+    alloc: Global,
+    writer: &mut LibFs<'_, S>,
+    reader: &mut LibFs<'_, S>,
+    nodes: &mut [NodeWorkers<'_, S>],
+) -> Result<Reply, Refusal> {
+    let left = AtomicU32::new(2);
+    let (delivered, reply) = join(
+        rt,
+        || deliver_once(rt, alloc, writer, &left),
+        || fetch_tended(rt, alloc, reader, nodes, &left),
+    );
+    delivered?;
     reply
 }
 
@@ -103,16 +118,7 @@ fn with_clients<R: Threads + Wait + Sync>(
     let mut reader = LibFs::open(rt, alloc, keeper, second, 2, revokers.1, TURNS).map_err(
         |refused| refused.0,
     )?;
-    let clients = Clients {
-        left: AtomicU32::new(2),
-    };
-    let (delivered, reply) = join(
-        rt,
-        || deliver_once(rt, alloc, &mut writer, &clients),
-        || fetch_tended(rt, alloc, &mut reader, nodes.as_mut_slice(), &clients),
-    );
-    delivered?;
-    reply
+    deliver_and_fetch(rt, alloc, &mut writer, &mut reader, nodes.as_mut_slice())
 }
 
 /// Makes a cluster of two nodes, whose clients' logs have 64 records at most, and two clients on it. All of a client's log is safe

@@ -1,7 +1,7 @@
 // Letters in a file system.
 
 use assise_libfs::libfs::LibFs;
-use assise_machine::cluster::Cluster;
+use assise_libfs::served::Served;
 use assise_names::byte_string::ByteString;
 use assise_names::path::Path;
 use assise_names::refusal::Refusal;
@@ -19,10 +19,10 @@ fn path(alloc: Global, text: &str) -> Result<Path, Refusal> {
 
 /// Writes a letter beside its box, and moves it there once it is safe: who looks into the box finds all of it or nothing, whatever
 /// node fails. Once this returns, the letter stays.
-pub fn deliver<R: Wait>(
+pub fn deliver<S: Served, R: Wait>(
     rt: &R,
     alloc: Global,
-    files: &mut LibFs<'_, Cluster>,
+    files: &mut LibFs<'_, S>,
 ) -> Result<(), Refusal> {
     let letter = ByteString::from_vec(vec![in alloc; b'D', b'e', b'a', b'r']?)?;
     files.create(rt, alloc, path(alloc, "/draft")?)?;
@@ -35,10 +35,10 @@ pub fn deliver<R: Wait>(
 }
 
 /// Reads the letter, once it is in its box.
-pub fn fetch<R: Wait>(
+pub fn fetch<S: Served, R: Wait>(
     rt: &R,
     alloc: Global,
-    files: &mut LibFs<'_, Cluster>,
+    files: &mut LibFs<'_, S>,
 ) -> Result<Reply, Refusal> {
     for _ in 0..LOOKS {
         match files.read(rt, alloc, path(alloc, "/box/1")?, 0, 65_536)? {

@@ -2,16 +2,19 @@
 ghost use Rattle.std.specs.Prelude.{◌≡◌};
 ghost use Rattle.assise_keeper.specs.Passes.{IsPassOf};
 
-use crate::scripts::{TURNS, calls_in, revoker};
+use crate::scripts::{Cut, TURNS, calls_in};
 use assise_history::check::check;
 use assise_history::entry::EntryKind;
 use assise_history::history::History;
 use assise_keeper::keeper::Keeper;
 use assise_keeper::pass::Pass;
+use assise_keeper::worker_pass::WorkerPass;
+use assise_lease_table::revoker::Revoker;
 use assise_libfs::libfs::LibFs;
 use assise_machine::cluster::Cluster;
 use assise_names::refusal::Refusal;
 use assise_names::reply::Reply;
+use assise_revokers::kinds::least;
 use assise_workers::gate::OpenGate;
 use assise_workers::nodes::workers_up_to;
 use assise_workers::running::run_cluster;
@@ -76,6 +79,7 @@ fn list_of<'a, R: Wait>(
     main: &mut Pass<Cluster>,
     crowd: &Crowd,
     client: u32,
+    revoker: Revoker,
 ) -> Option<ClientList<'a, Cluster>>
     requires { IsPassOf keeper.now main.old }
     ensures { IsPassOf keeper.now main.new }
@@ -83,7 +87,7 @@ fn list_of<'a, R: Wait>(
     let node = client % crowd.nodes.max(1) + 1;
     let pass = keeper.split(main);
     let calls = calls_in(alloc, script_of(alloc, crowd, client)?.as_str())?;
-    let libfs = LibFs::open(rt, alloc, keeper, pass, node, revoker(alloc)?, TURNS).ok()?;
+    let libfs = LibFs::open(rt, alloc, keeper, pass, node, revoker, TURNS).ok()?;
     ClientList::new(alloc, libfs, calls).ok()
 }
 
@@ -94,15 +98,17 @@ fn lists_of<'a, R: Wait>(
     keeper: &'a Keeper<Cluster>,
     main: &mut Pass<Cluster>,
     crowd: &Crowd,
+    revokers: Vec<Revoker>,
 ) -> Option<Vec<ClientList<'a, Cluster>>>
     requires { IsPassOf keeper.now main.old }
     ensures { IsPassOf keeper.now main.new }
 {
     let mut lists = Vec::new(alloc);
-    for client in 0..crowd.clients {
-        lists
-            .push(list_of(rt, alloc, keeper, main, crowd, client)?)
-            .ok()?;
+    let mut client = 0u32;
+    for revoker in revokers {
+        let list = list_of(rt, alloc, keeper, main, crowd, client, revoker)?;
+        lists.push(list).ok()?;
+        client = client.saturating_add(1);
     }
     Some(lists)
 }
@@ -125,13 +131,13 @@ fn is_as_told(history: &History, client: u32, replies: &[Result<Reply, Refusal>]
 
 /// What came of the clients' calls: how many were answered, or what is wrong.
 fn judge(alloc: Global, history: &History, ends: &[ClientEnd<'_, Cluster>]) -> Option<String> {
-    let mut answered = 0;
+    let mut answered = 0usize;
     for end in ends {
         let client = end.libfs.client();
         if !is_as_told(history, client, end.replies.as_slice()) {
             return format!(in alloc; "client {client} was told otherwise").ok();
         }
-        answered += end.replies.len();
+        answered = end.replies.len().saturating_add(answered);
     }
     if check(alloc, history).ok()? {
         format!(in alloc; "{answered} answered").ok()
@@ -148,16 +154,28 @@ fn run_on<R: Threads + Wait + Sync>(
     main: &mut Pass<Cluster>,
     gate: &OpenGate,
     crowd: &Crowd,
+    revokers: Vec<Revoker>,
 ) -> Option<String>
     requires { IsPassOf keeper.now main.old }
 {
     let nodes = workers_up_to(alloc, keeper, main, crowd.nodes).ok()?;
-    let lists = lists_of(rt, alloc, keeper, main, crowd)?;
+    let lists = lists_of(rt, alloc, keeper, main, crowd, revokers)?;
     let ends = run_cluster(rt, alloc, nodes, gate, lists).ok()?;
-    let mut held = keeper.take(rt, main);
+    let mut reader = WorkerPass::new(keeper.split(main));
+    let mut held = reader.take(rt, keeper);
     let text = judge(alloc, held.state().history(), ends.as_slice());
-    keeper.give(main, held);
+    reader.give(keeper, held);
     text
+}
+
+/// A revoker for each client.
+fn revokers_of(alloc: Global, clients: u32) -> Option<Vec<Revoker>> {
+    let mut revokers = Vec::new(alloc);
+    for _ in 0..clients {
+        let cut: Cut = Box::new(alloc, least).ok()?;
+        revokers.push(Revoker::new(cut)).ok()?;
+    }
+    Some(revokers)
 }
 
 /// Runs the crowd's calls on a new cluster, whose clients' logs have 64 records.
@@ -165,9 +183,10 @@ pub fn run_crowd<R: Threads + Wait + Sync>(rt: &R, alloc: Global, crowd: &Crowd)
     if crowd.nodes < 1 || crowd.nodes > 8 {
         return None;
     }
+    let revokers = revokers_of(alloc, crowd.clients)?;
     let cluster = Cluster::new(alloc, crowd.nodes, 64, 64).ok()?;
     let (keeper, mut main) = Keeper::new(alloc, cluster).ok()?;
-    let text = run_on(rt, alloc, &keeper, &mut main, &OpenGate, crowd);
+    let text = run_on(rt, alloc, &keeper, &mut main, &OpenGate, crowd, revokers);
     keeper.close()?;
     text
 }

@@ -18,7 +18,7 @@ fn wait_for(flag: &AtomicBool) -> bool {
     false
 }
 
-/// Holds the first frame until another client is answered.
+/// Holds the first frame until another client is answered, and ends workers once the first one has synced.
 #[derive(Drop)]
 pub struct UntilAnswered {
     /// A frame is held, or was.
@@ -27,6 +27,8 @@ pub struct UntilAnswered {
     pub answered: AtomicBool,
     /// It was while the frame was held.
     pub came: AtomicBool,
+    /// The first client has synced.
+    pub synced: AtomicBool,
 }
 
 impl UntilAnswered {
@@ -35,6 +37,7 @@ impl UntilAnswered {
             held: AtomicBool::new(false),
             answered: AtomicBool::new(false),
             came: AtomicBool::new(false),
+            synced: AtomicBool::new(false),
         }
     }
 }
@@ -44,7 +47,7 @@ impl Gate for UntilAnswered {
         if point == Point::BeforeCarry && !self.held.swap(true, Ordering::SeqCst) {
             self.came.store(wait_for(&self.answered), Ordering::SeqCst);
         }
-        true
+        !self.synced.load(Ordering::SeqCst)
     }
 }
 

@@ -2,23 +2,15 @@
 
 use assise_fault_script::command::Command;
 use assise_fault_script::parse::parse;
-use assise_lease_table::revoker::Revoker;
 use assise_names::call::Op;
 use assise_private_log::log_view::LogView;
-use assise_revokers::kinds::least;
 use std::alloc::Global;
 
 /// The turns of a call: more than any call of the tests takes.
 pub const TURNS: u32 = 1_000_000;
 
 /// What a client's revoker answers.
-type Cut = Box<dyn Fn(&LogView, u64) -> u64 + Send>;
-
-/// A client's revoker, or `None` where memory runs out.
-pub fn revoker(alloc: Global) -> Option<Revoker> {
-    let cut: Cut = Box::new(alloc, least).ok()?;
-    Some(Revoker::new(cut))
-}
+pub type Cut = Box<dyn Fn(&LogView, u64) -> u64 + Send>;
 
 /// The calls of lines `1 CALL`, or `None` where a line has none, or memory runs out.
 pub fn calls_in(alloc: Global, lines: &str) -> Option<Vec<Op>> {

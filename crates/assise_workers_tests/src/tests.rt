@@ -61,8 +61,8 @@ fn a_thousand_runs_come_to_their_end(rt: HostRuntime) -> Result<(), Fail> {
 #[test]
 fn fsync_waits_while_others_go_on(rt: HostRuntime) -> Result<(), Fail> {
     let gate = UntilAnswered::new();
-    let reply = stat_beside_fsync(&rt, rt.alloc(), &gate);
-    assert_eq!(rt; reply, Some(Reply::File(1)));
+    let replies = stat_beside_fsync(&rt, rt.alloc(), &gate);
+    assert_eq!(rt; replies, Some((Some(Reply::Done), Some(Reply::File(1)))));
     assert!(rt; gate.came.load(Ordering::SeqCst));
     Ok(())
 }
@@ -70,7 +70,7 @@ fn fsync_waits_while_others_go_on(rt: HostRuntime) -> Result<(), Fail> {
 #[test]
 fn all_at_once(rt: HostRuntime) -> Result<(), Fail> {
     let gate = AllAtOnce::new();
-    assert_eq!(rt; two_syncs(&rt, rt.alloc(), &gate), Some(2));
+    assert_eq!(rt; two_syncs(&rt, rt.alloc(), &gate), Some(4));
     assert_eq!(rt; gate.freed.load(Ordering::SeqCst), 2);
     Ok(())
 }

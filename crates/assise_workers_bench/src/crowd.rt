@@ -1,10 +1,8 @@
-//! `crowd FILES NODES CLIENTS CALLS`: so many clients on so many nodes, each in a thread of its own beside the workers of all nodes. Each
-//! makes a file and so many calls: it writes and reads the file in turn, with an fsync in place of each eighth call. FILES is `own`,
-//! a file for each client, or `one`, one for all. It says how many calls were answered.
+//! Clients in threads of their own. Each makes a file and so many calls: it writes and reads the file in turn, with an fsync in place of
+//! each eighth call. FILES is `own`, a file for each client, or `one`, one for all; a cluster has 1 to 8 nodes, and 16 clients at most.
 ghost use Rattle.std.specs.Prelude.{◌≡◌, ◌≤◌};
 ghost use Rattle.assise_keeper.specs.Passes.{IsPassOf};
 
-use crate::numbers::numbers_of;
 use assise_keeper::keeper::Keeper;
 use assise_keeper::pass::Pass;
 use assise_lease_table::revoker::Revoker;
@@ -93,7 +91,7 @@ fn lists_of<'a, R: Wait>(
     let mut client = 0u32;
     for revoker in revokers {
         let node = client % crowd.nodes.max(1) + 1;
-        client = client.wrapping_add(1);
+        client = client.saturating_add(1);
         let calls = calls_of(alloc, crowd, client)?;
         let pass = keeper.split(main);
         let libfs = LibFs::open(rt, alloc, keeper, pass, node, revoker, TURNS).ok()?;
@@ -146,33 +144,35 @@ fn run<R: Threads + Wait + Sync>(
     count
 }
 
-/// How many calls were answered. None where the words say none, or there is no memory.
-pub(crate) fn count<R: Threads + Wait + Sync>(
+/// The number that a word says.
+fn number(word: &String) -> Option<u32> {
+    word.parse().ok()
+}
+
+/// A revoker for each client.
+fn revokers_of(alloc: Global, clients: u32) -> Option<Vec<Revoker>> {
+    let mut revokers = Vec::new(alloc);
+    for _ in 0..clients {
+        let cut: Cut = Box::new(alloc, least).ok()?;
+        revokers.push(Revoker::new(cut)).ok()?;
+    }
+    Some(revokers)
+}
+
+/// How many calls were answered, of what the words of a command line say. None where they say nothing, or memory or threads are
+/// wanting.
+pub(crate) fn answered_of<R: Threads + Wait + Sync>(
     rt: &R,
     alloc: Global,
     words: &[String],
 ) -> Option<usize> {
-    let [files, numbers @ ..] = words else {
-        return None;
-    };
-    let one_file = match files.as_str() {
-        "own" => false,
-        "one" => true,
-        _ => return None,
-    };
-    let numbers = numbers_of(alloc, numbers)?;
-    let [nodes, clients, calls] = numbers.as_slice() else {
+    let [_, files, nodes, clients, calls] = words else {
         return None;
     };
     let crowd = Crowd {
-        one_file,
-        nodes: u32::try_from(*nodes).ok()?,
-        calls: u32::try_from(*calls).ok()?,
+        one_file: files.as_str() == "one",
+        nodes: number(nodes)?,
+        calls: number(calls)?,
     };
-    let mut revokers = Vec::new(alloc);
-    for _ in 0..*clients {
-        let cut: Cut = Box::new(alloc, least).ok()?;
-        revokers.push(Revoker::new(cut)).ok()?;
-    }
-    run(rt, alloc, crowd, revokers)
+    run(rt, alloc, crowd, revokers_of(alloc, number(clients)?)?)
 }

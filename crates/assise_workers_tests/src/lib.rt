@@ -1,0 +1,13 @@
+//! Tests of `assise_workers`, over clusters: that workers and clients get on, which no contract says.
+#![tactic(auto)]
+
+#[cfg(test)]
+mod crowds;
+#[cfg(test)]
+mod gates;
+#[cfg(test)]
+mod held_frames;
+#[cfg(test)]
+mod scripts;
+#[cfg(test)]
+mod tests;
