@@ -8,17 +8,19 @@ mod crowd;
 use crate::crowd::answered_of;
 use std::env;
 use std::process::ExitCode;
+use std::sync::Wait;
+use std::thread::Threads;
 
 fn main(rt: HostRuntime) -> ExitCode {
-    match run(&rt) {
+    match run(&rt, &rt) {
         Some(()) => ExitCode::SUCCESS,
         None => ExitCode::from(2),
     }
 }
 
-/// Runs what the command line says.
-fn run(rt: &HostRuntime) -> Option<()> {
+/// Runs what the command line says, with the leave to start threads.
+fn run<R: Threads + Wait + Sync>(rt: &HostRuntime, leave: &R) -> Option<()> {
     let words: Vec<String> = env::args(rt).ok()?.collect(rt.alloc()).ok()?;
-    let count = answered_of(rt, rt.alloc(), words.as_slice())?;
+    let count = answered_of(leave, rt.alloc(), words.as_slice())?;
     println!(rt; "{count} answered").ok()
 }
