@@ -128,9 +128,14 @@ module _ (c : ℕ) (ss : List Said) (l : NumberedCommand) (seen : List Event) (o
       → IsLeft c (ss ++ s ∷ []) rest first later
   is-told rest None None later op one (is, gone) (rs, (tells, (count, nothing))) = rw gone (
     rs ++ next_or_none outcome ∷ [],
-    (tells-one rs op one tells,
-    (omega (arith, count, ap length calls-more, ap length one, length-append rs (next_or_none outcome ∷ []), length-append (calls_in c (commands_said ss)) (call_in c l.command)),
-    λ k. refused-too k)))
+    (
+      tells-one rs op one tells,
+      (
+        omega (arith, count, ap length calls-more, ap length one, length-append rs (next_or_none outcome ∷ []), length-append (calls_in c (commands_said ss)) (call_in c l.command)),
+        λ k. refused-too k,
+      ),
+    ),
+  )
     where
       refused-too : (k : ℕ) → told_all c k (calls_in c (commands_said (ss ++ s ∷ []))) (rs ++ next_or_none outcome ∷ []) ≡ []
       refused-too k =
@@ -140,9 +145,14 @@ module _ (c : ℕ) (ss : List Said) (l : NumberedCommand) (seen : List Event) (o
   is-told rest (Some all) (Some []) later op one takes (rs, (tells, (is, count))) = absurd (let n : 0 ≡ suc (length (calls_in c rest)) = count ∙ ap (λ z. length (z ++ calls_in c rest)) one in omega arith)
   is-told rest (Some all) (Some (x ∷ xs)) later op one (is, gone) (rs, (tells, (whole, count))) = rw gone (
     rs ++ next_or_none outcome ∷ [],
-    (tells-one rs op one tells,
-    (append_assoc rs (next_or_none outcome ∷ []) xs ∙ (ap (λ o. rs ++ next_or_none o ∷ xs) is ∙ whole),
-    (let n : suc (length xs) ≡ suc (length (calls_in c rest)) = count ∙ ap (λ z. length (z ++ calls_in c rest)) one in omega arith))))
+    (
+      tells-one rs op one tells,
+      (
+        append_assoc rs (next_or_none outcome ∷ []) xs ∙ (ap (λ o. rs ++ next_or_none o ∷ xs) is ∙ whole),
+        (let n : suc (length xs) ≡ suc (length (calls_in c rest)) = count ∙ ap (λ z. length (z ++ calls_in c rest)) one in omega arith),
+      ),
+    ),
+  )
   is-told rest None (Some left) later op one takes e = absurd e
   is-told rest (Some all) None later op one takes e = absurd e
 

@@ -1,3 +1,4 @@
 pub mod Heard
 pub mod CallLines
 pub mod Ends
+pub mod Nobodys

@@ -10,20 +10,20 @@ use Rattle.assise_console.specs.Courses.{Told}
 use Rattle.assise_console.specs.Returning.{IsOneAt}
 use Rattle.assise_console.specs.Trying.{IsOne}
 use Rattle.assise_threads.specs.Answered.{ShowsTree}
-use Rattle.assise_threads.specs.declared.main_thread.MainThread.{MainThread}
+use Rattle.assise_threads.specs.declared.main_thread.MainThreadOf.{MainThreadOf}
 use Rattle.assise_threads.specs.declared.takes.Take.{Take}
 use Rattle.assise_threads.specs.declared.takes.Take.TheVariants.{Digest, Release, Crash, Fail, BeginReturn, Refill, Join, Tree}
 
 -- what the main thread's pass has seen
-abbrev pub main_seen : MainThread → List Event
+abbrev pub main_seen : {C : Type 0} → MainThreadOf C → List Event
 main_seen t = seen t.pass
 
 abbrev pub DoesTake : Take → Answer → Machine → Told → Machine → Type 0
-DoesTake (Digest n) a m es m' = IsOne (digest n) a m es m'
-DoesTake Release a m es m' = IsOne release_ready a m es m'
-DoesTake (Crash c) a m es m' = IsOneAt crash c a m es m'
-DoesTake (Fail n) a m es m' = IsOneAt fail n a m es m'
-DoesTake (BeginReturn n) a m es m' = IsOneAt back n a m es m'
-DoesTake (Refill n) a m es m' = IsOneAt refill n a m es m'
-DoesTake (Join n) a m es m' = IsOneAt join n a m es m'
-DoesTake (Tree n) a m es m' = ShowsTree n a m es m'
+DoesTake (Digest n) a = IsOne (digest n) a
+DoesTake Release a = IsOne release_ready a
+DoesTake (Crash c) a = IsOneAt crash c a
+DoesTake (Fail n) a = IsOneAt fail n a
+DoesTake (BeginReturn n) a = IsOneAt back n a
+DoesTake (Refill n) a = IsOneAt refill n a
+DoesTake (Join n) a = IsOneAt join n a
+DoesTake (Tree n) a = ShowsTree n a

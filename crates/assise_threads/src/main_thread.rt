@@ -1,6 +1,6 @@
 // The main thread: what it does with a pass of its own.
-ghost use Rattle.std.specs.Prelude.{◌≡◌, None};
-ghost use Rattle.assise_history.specs.Legal.{IsLegal};
+ghost use Rattle.std.specs.Prelude.{◌≡◌, IfOk, None, string_bytes};
+ghost use Rattle.assise_history.specs.Text.{history_text};
 ghost use Rattle.assise_keeper.specs.Passes.{IsPassOf, client as client_of_pass, seen};
 
 use crate::takes::{Take, apply};
@@ -8,10 +8,10 @@ use assise_console::answer::Answer;
 use assise_history::history::History;
 use assise_keeper::keeper::Keeper;
 use assise_keeper::pass::Pass;
-use assise_lease_table::revoker::Revoker;
+use assise_lease_table::revoker::{Revoker, Revokes};
 use assise_libfs::libfs::LibFs;
 use assise_link::link::PerfectLink;
-use assise_machine::cluster::Cluster;
+use assise_machine::cluster::ClusterOf;
 use assise_names::refusal::Refusal;
 use assise_workers::gate::OpenGate;
 use assise_workers::nodes::{NodeWorkers, workers_up_to};
@@ -21,14 +21,17 @@ use std::sync::Wait;
 
 /// The main thread, whose pass has no client.
 #[derive(Drop)]
-pub(crate) struct MainThread<'a> {
-    keeper: &'a Keeper<Cluster>,
-    pass: Pass<Cluster>,
+pub(crate) struct MainThreadOf<'a, C> {
+    keeper: &'a Keeper<ClusterOf<C>>,
+    pass: Pass<ClusterOf<C>>,
     ghost ours: { IsPassOf keeper.now pass },
     ghost nobody: { client_of_pass pass ≡ None },
 }
 
-impl<'a> MainThread<'a> {
+/// The main thread of a cluster whose clients store a [`Revoker`].
+pub(crate) type MainThread<'a> = MainThreadOf<'a, Revoker>;
+
+impl<'a, C: Revokes + Drop> MainThreadOf<'a, C> {
     ghost use Rattle.std.specs.Prelude.{◌≡◌, ◌≤◌, IfErr, IfOk, None, string_bytes};
     ghost use Rattle.assise_history.specs.Legal.{IsLegal, calls_made};
     ghost use Rattle.assise_history.specs.Text.{history_text};
@@ -41,11 +44,14 @@ impl<'a> MainThread<'a> {
     ghost use Rattle.assise_threads.specs.Threads.{DoesTake, main_seen};
 
     /// The thread that has the first pass of a keeper.
-    pub(crate) fn new(keeper: &'a Keeper<Cluster>, pass: Pass<Cluster>) -> MainThread<'a>
+    pub(crate) fn new(
+        keeper: &'a Keeper<ClusterOf<C>>,
+        pass: Pass<ClusterOf<C>>,
+    ) -> MainThreadOf<'a, C>
         requires { IsPassOf keeper.now pass × (client_of_pass pass ≡ None) }
         ensures { main_seen result ≡ seen pass }
     {
-        MainThread { keeper, pass }
+        MainThreadOf { keeper, pass }
     }
 
     /// The workers of nodes 1 to this.
@@ -53,7 +59,7 @@ impl<'a> MainThread<'a> {
         &mut self,
         alloc: Global,
         last: u32,
-    ) -> Result<Vec<NodeWorkers<'a, Cluster>>, Refusal>
+    ) -> Result<Vec<NodeWorkers<'a, ClusterOf<C>>>, Refusal>
         ensures { main_seen self.new ≡ main_seen self.old }
     {
         workers_up_to(alloc, self.keeper, &mut self.pass, last)
@@ -65,9 +71,9 @@ impl<'a> MainThread<'a> {
         rt: &R,
         alloc: Global,
         node: u32,
-        revoker: Revoker,
+        revoker: C,
         turns: u32,
-    ) -> Result<LibFs<'a, Cluster>, (Refusal, Revoker)>
+    ) -> Result<LibFs<'a, ClusterOf<C>>, (Refusal, C)>
         requires some_turns { 1 ≤ turns }
         requires few_turns { turns ≤ 1000000 }
         ensures stays { main_seen self.new ≡ main_seen self.old }
@@ -87,11 +93,7 @@ impl<'a> MainThread<'a> {
         ensures { Extends (main_seen self.new) (main_seen self.old) }
     {
         let mut held = self.keeper.take(rt, &mut self.pass);
-        let refusal = match held.state().region(node) {
-            Ok(_) => Refusal::BadClient,
-            Err(Refusal::WrongPhase) => Refusal::NodeDown,
-            Err(refusal) => refusal,
-        };
+        let refusal = refusal_without_revoker(held.state(), node);
         self.keeper.give(&mut self.pass, held);
         refusal
     }
@@ -114,7 +116,8 @@ impl<'a> MainThread<'a> {
 
     /// Does something in one take.
     pub(crate) fn in_one_take<R: Wait>(&mut self, rt: &R, alloc: Global, take: Take) -> Answer
-        ensures { InOneTake (DoesTake take result) (main_seen self.old) (main_seen self.new) }
+        ensures does { InOneTake (DoesTake take result) (main_seen self.old) (main_seen self.new) }
+        ensures extends { Extends (main_seen self.new) (main_seen self.old) }
     {
         let mut held = self.keeper.take(rt, &mut self.pass);
         let answer = apply(alloc, held.state(), take);
@@ -141,9 +144,9 @@ impl<'a> MainThread<'a> {
             if let Answer::Refused(_) = filled {
                 return filled;
             }
-            match self.in_one_take(rt, alloc, Take::Join(node)) {
-                Answer::Refused(Refusal::Busy) => (),
-                joined => return joined,
+            let joined = self.in_one_take(rt, alloc, Take::Join(node));
+            if !is_busy(&joined) {
+                return joined;
             }
         }
         Answer::Refused(Refusal::Busy)
@@ -159,6 +162,20 @@ impl<'a> MainThread<'a> {
         let text = written(alloc, held.state().history());
         self.keeper.give(&mut self.pass, held);
         text
+    }
+}
+
+/// Whether something is to be tried again.
+fn is_busy(answer: &Answer) -> bool {
+    matches!(answer, Answer::Refused(Refusal::Busy))
+}
+
+/// Why no client is opened on a node where all revokers are taken.
+fn refusal_without_revoker<C: Revokes + Drop>(cluster: &ClusterOf<C>, node: u32) -> Refusal {
+    match cluster.region(node) {
+        Ok(_) => Refusal::BadClient,
+        Err(Refusal::WrongPhase) => Refusal::NodeDown,
+        Err(refusal) => refusal,
     }
 }
 

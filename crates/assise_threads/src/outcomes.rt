@@ -44,10 +44,7 @@ fn place_of(outcomes: &[Outcomes], client: u64) -> Option<usize> {
 }
 
 /// Takes the next outcome of a client. None where it isn't there, or nothing is left.
-pub(crate) fn next_outcome(
-    outcomes: &mut [Outcomes],
-    client: u64,
-) -> Option<Result<Reply, Refusal>>
+pub(crate) fn next_outcome(outcomes: &mut [Outcomes], client: u64) -> Option<Result<Reply, Refusal>>
     ensures next { TakesFirst (outcomes_of client (untold outcomes.old)) result
         (outcomes_of client (untold outcomes.new)) }
     ensures others { (c : ℕ) → (c ≡ client → ⊥)

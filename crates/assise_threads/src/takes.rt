@@ -6,7 +6,8 @@ ghost use Rattle.assise_threads.specs.Threads.{DoesTake};
 
 use assise_console::answer::Answer;
 use assise_console::commands::{begin_return, crash, digest, fail, join, refill, release, tree};
-use assise_machine::cluster::Cluster;
+use assise_lease_table::revoker::Revokes;
+use assise_machine::cluster::ClusterOf;
 use std::alloc::Global;
 
 /// A command that opens no client and makes no call, as far as it is done in one take.
@@ -31,7 +32,11 @@ pub(crate) enum Take {
 }
 
 /// Does it.
-pub(crate) fn apply(alloc: Global, cluster: &mut Cluster, take: Take) -> Answer
+pub(crate) fn apply<C: Revokes + Drop>(
+    alloc: Global,
+    cluster: &mut ClusterOf<C>,
+    take: Take,
+) -> Answer
     ensures does { (es : Told) × DoesTake take result (machine cluster.old) es (machine cluster.new) }
     ensures nobodys { AddsNobodys (machine cluster.old).history (machine cluster.new).history }
 {
