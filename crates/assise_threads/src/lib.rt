@@ -1,0 +1,9 @@
+//! Runs a script with a thread for each client (Assise, OSDI 2020, section 3).
+#![tactic(auto)]
+
+pub mod engine;
+mod lists;
+mod main_thread;
+mod outcomes;
+mod stretch;
+mod takes;
