@@ -1,6 +1,7 @@
 -- What clients have heard so far goes on with a stretch of calls, or with a command that is no call.
-use Rattle.std.proofs.Common.{◌≡◌, ◌∙◌, ℕ, ◌+◌, Bool, true, false, List, [], ◌∷◌, ◌++◌, map, flat_map, length, Option, None, Some, Result, Ok, Err, refl, sym, ap, ap₂, subst, arith, append_assoc, append-nil, length-append, map-append}
+use Rattle.std.proofs.Common.{◌≡◌, ◌∙◌, ℕ, ◌+◌, Bool, true, false, List, [], ◌∷◌, ◌++◌, map, flat_map, length, Option, None, Some, Result, Ok, Err, refl, sym, ap, ap₂, subst, arith, append_assoc, append-nil, length-append}
 use Rattle.std.proofs.lemmas.Grind.{flat_map-append}
+use Rattle.std.proofs.lemmas.List.{map-append}
 use Rattle.assise_names.specs.declared.call.Op.{Op}
 use Rattle.assise_names.specs.declared.refusal.Refusal.{Refusal}
 use Rattle.assise_names.specs.declared.reply.Reply.{Reply}
@@ -37,7 +38,10 @@ module _ (c : ℕ) (ss ts : List Said) where
 
   goes-on : (rs came : List (Result Reply Refusal)) → length rs ≡ length before
       → told_all c 0 before rs ++ told_all c (length (told_all c 0 before rs)) behind came ≡ told_all c 0 (calls_in c (commands_said (ss ++ ts))) (rs ++ came)
-  goes-on rs came some = sym (told-append c 0 before rs behind came some) ∙ ap (λ z. told_all c 0 z (rs ++ came)) (sym (calls-said-append c ss ts))
+  goes-on rs came some =
+      let so_far = length (told_all c 0 before rs) in
+      let at : so_far ≡ 0 + so_far = omega arith in
+      ap (λ (k : ℕ). told_all c 0 before rs ++ told_all c k behind came) at ∙ sym (told-append c 0 before rs behind came some) ∙ ap (λ z. told_all c 0 z (rs ++ came)) (sym (calls-said-append c ss ts))
 
   pub heard_then : (sight now : Option (List Event)) → HasHeard c ss sight → HearsStretch c ts sight now → HasHeard c (ss ++ ts) now
   heard_then None None h (came, (tells, (count, none))) = record {

@@ -1,3 +1,3 @@
+pub mod FirstOf
 pub mod Heard
 pub mod CallLines
-pub mod Ends
