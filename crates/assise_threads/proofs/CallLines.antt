@@ -1,6 +1,7 @@
 -- The lines of a stretch of calls, one after another.
-use Rattle.std.proofs.Common.{◌≡◌, ◌∙◌, ℕ, zero, suc, ◌+◌, Bool, true, false, List, [], ◌∷◌, ◌++◌, map, flat_map, length, Option, None, Some, Result, Ok, Err, refl, sym, ap, ap₂, subst, arith, append_assoc, append-nil, length-append, map-append, nat_eq, ◌⊎◌, inl, inr}
+use Rattle.std.proofs.Common.{◌≡◌, ◌∙◌, ℕ, zero, suc, ◌+◌, Bool, true, false, List, [], ◌∷◌, ◌++◌, map, flat_map, length, take, drop, get_or, ◌<◌, ◌≤◌, take_all, drop-cons, Option, None, Some, Result, Ok, Err, refl, sym, ap, ap₂, subst, arith, append_assoc, append-nil, length-append, ◌==◌, ◌⊎◌, inl, inr}
 use Rattle.std.proofs.lemmas.Grind.{flat_map-append}
+use Rattle.std.proofs.lemmas.List.{drop_all, map-append, take_more}
 use Rattle.std.specs.Prelude.{IfSome}
 use Rattle.std.specs.Io.KnownBytes.{Appends}
 use Rattle.assise_names.specs.declared.call.Op.{Op}
@@ -34,18 +35,30 @@ pub record AreSaidSoFar (done rest : List NumberedCommand) (seen : List Event) (
   pub appends : Appends old new (said_lines said)
   pub left : (c : ℕ) → IsLeft c said rest (outcomes_of c first) (outcomes_of c now)
 
+-- ---- what is written
+
+adds_nothing : (u : Option (List ℕ)) → Appends u u []
+adds_nothing None = tt
+adds_nothing (Some xs) = sym (append-nil xs)
+
+adds_more : (u v w : Option (List ℕ)) (a b : List ℕ) → Appends u v a → Appends v w b → Appends u w (a ++ b)
+adds_more None v w a b x y = tt
+adds_more (Some xs) None w a b x y = absurd x
+adds_more (Some xs) (Some ys) None a b x y = y
+adds_more (Some xs) (Some ys) (Some zs) a b x y = y ∙ ap (λ (t : List ℕ). t ++ b) x ∙ append_assoc xs a b
+
 -- ---- before the first
 
 all_left : (c : ℕ) (stretch : List NumberedCommand) (first : Option (List (Result Reply Refusal))) → IfSome first (λ all. length all ≡ length (calls_in c stretch)) → IsLeft c [] stretch first first
 all_left c stretch None h = ([], (refl, (refl, λ k. refl)))
 all_left c stretch (Some all) h = ([], (refl, (refl, h)))
 
-pub none_said : (stretch : List NumberedCommand) (seen : List Event) (first : Untold) (old : Option (List ℕ)) → Appends old old [] → HasAllOf stretch first → AreSaidSoFar [] stretch seen first first old old
-none_said stretch seen first old same all = record {
+pub none_said : (stretch : List NumberedCommand) (seen : List Event) (first : Untold) (old : Option (List ℕ)) → HasAllOf stretch first → AreSaidSoFar [] stretch seen first first old old
+none_said stretch seen first old all = record {
   said = [];
   each = refl;
   main = refl;
-  appends = same;
+  appends = adds_nothing old;
   left = λ c. all_left c stretch (outcomes_of c first) (all c);
 }
 
@@ -164,3 +177,56 @@ module _ (done rest : List NumberedCommand) (l : NumberedCommand) (seen : List E
       by_case : (call_in c l.command ≡ []) ⊎ ((op : Op) × (call_in c l.command ≡ op ∷ [])) → IsLeft c (ss ++ said_now l seen is.outcome ∷ []) rest (outcomes_of c first) (outcomes_of c later)
       by_case (inl none) = passes-by c ss l seen is.outcome rest (outcomes_of c first) (outcomes_of c later) none (subst (IsLeft c ss (l ∷ rest) (outcomes_of c first)) (sym (is.others c none)) left)
       by_case (inr (op, one)) = is-told c ss l seen is.outcome rest (outcomes_of c first) (outcomes_of c now) (outcomes_of c later) op one (is.next c op one) left
+
+module _ (done rest : List NumberedCommand) (l : NumberedCommand) (seen : List Event) (first now later : Untold) (old mid new : Option (List ℕ)) where
+  said_next : AreSaidSoFar done (l ∷ rest) seen first now old mid → IsCall l.command → IsCallSaid l now later mid new → AreSaidSoFar (done ++ l ∷ []) rest seen first later old new
+  said_next before call is =
+      let s = said_now l seen is.outcome in
+      let line : line_text l.line [] (outcome_answer (next_or_none is.outcome)) ≡ said_lines (s ∷ []) = line_same l.line seen (next_or_none is.outcome) ∙ sym (append-nil (said_line s)) in
+      record {
+        said = before.said ++ s ∷ [];
+        each = map-append (λ x. x.command) before.said (s ∷ []) ∙ ap (λ z. z ++ l ∷ []) before.each;
+        main = said-append seen seen seen before.said (s ∷ []) before.main (is_answered l.command seen (next_or_none is.outcome) call, refl);
+        appends = subst (Appends old new) (ap (λ z. said_lines before.said ++ z) line ∙ sym (flat_map-append said_line before.said (s ∷ [])))
+            (adds_more old mid new (said_lines before.said) (line_text l.line [] (outcome_answer (next_or_none is.outcome))) before.appends is.appends);
+        left = λ c. goes_on done rest l seen first now later old mid new c before.said is (before.left c);
+      }
+
+-- ---- one more of a stretch
+
+module _ (stretch : List NumberedCommand) (i : ℕ) (l : NumberedCommand) (within : i < length stretch) (is : l ≡ get_or stretch i l) where
+  left_is : drop i stretch ≡ l ∷ drop (i + 1) stretch
+  left_is = let next : suc i ≡ i + 1 = omega arith in drop-cons stretch i l within ∙ ap₂ (λ (x : NumberedCommand) (n : ℕ). x ∷ drop n stretch) (sym is) next
+
+  pub calls_left : AreCalls (drop i stretch) → IsCall l.command × AreCalls (drop (i + 1) stretch)
+  calls_left calls = subst AreCalls left_is calls
+
+  pub line_said : (seen : List Event) (first now later : Untold) (old mid new : Option (List ℕ)) → AreSaidSoFar (take i stretch) (drop i stretch) seen first now old mid → IsCall l.command → IsCallSaid l now later mid new
+      → AreSaidSoFar (take (i + 1) stretch) (drop (i + 1) stretch) seen first later old new
+  line_said seen first now later old mid new before call one =
+      subst (λ z. AreSaidSoFar z (drop (i + 1) stretch) seen first later old new) (ap (λ x. take i stretch ++ x ∷ []) is ∙ sym (take_more stretch i l within))
+      (said_next (take i stretch) (drop (i + 1) stretch) l seen first now later old mid new (subst (λ z. AreSaidSoFar (take i stretch) z seen first now old mid) left_is before) call one)
+
+-- ---- behind the last
+
+nothing_left : (c : ℕ) (ss : List Said) (first now : Option (List (Result Reply Refusal))) → IsLeft c ss [] first now → AreTold c ss first
+nothing_left c ss None None told = told
+nothing_left c ss (Some all) (Some []) (rs, (tells, (is, count))) = subst (TellsClient c ss) (sym (append-nil rs) ∙ is) tells
+nothing_left c ss (Some all) (Some (x ∷ xs)) (rs, (tells, (is, count))) = absurd (let n : suc (length xs) ≡ 0 = count in omega arith)
+nothing_left c ss None (Some left) e = absurd e
+nothing_left c ss (Some all) None e = absurd e
+
+all_said : (stretch : List NumberedCommand) (seen : List Event) (first now : Untold) (old new : Option (List ℕ)) → AreSaidSoFar stretch [] seen first now old new → AreCallsSaid stretch seen first old new
+all_said stretch seen first now old new so_far = record {
+  said = so_far.said;
+  each = so_far.each;
+  main = so_far.main;
+  appends = so_far.appends;
+  told = λ c. nothing_left c so_far.said (outcomes_of c first) (outcomes_of c now) (so_far.left c);
+}
+
+pub stretch_said : (stretch : List NumberedCommand) (i : ℕ) (seen : List Event) (first now : Untold) (old new : Option (List ℕ)) → length stretch ≤ i → AreSaidSoFar (take i stretch) (drop i stretch) seen first now old new
+    → AreCallsSaid stretch seen first old new
+stretch_said stretch i seen first now old new done so_far =
+    all_said stretch seen first now old new
+    (subst (λ z. AreSaidSoFar z [] seen first now old new) (take_all i stretch done) (subst (λ z. AreSaidSoFar (take i stretch) z seen first now old new) (drop_all i stretch done) so_far))

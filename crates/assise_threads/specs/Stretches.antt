@@ -1,6 +1,6 @@
 -- Calls that stand together in a script, and what is left to tell of them.
 -- Assise (OSDI 2020), section 3.
-use Rattle.std.specs.Prelude.{◌≡◌, ℕ, List, [], ◌∷◌, IfSome, map, length, nat_eq, Option, None, Some, Result, Err}
+use Rattle.std.specs.Prelude.{◌≡◌, ℕ, List, [], ◌∷◌, IfSome, map, length, ◌==◌, if◌then◌else◌, Option, None, Some, Result, Err}
 use Rattle.std.specs.Io.KnownBytes.{Appends}
 use Rattle.assise_names.specs.declared.refusal.Refusal.{Refusal}
 use Rattle.assise_names.specs.declared.refusal.Refusal.TheVariants.{BadClient}

@@ -40,7 +40,10 @@ fn list_of<'a>(
     ensures only_memory { IsOkUnless result OutOfMemory }
 {
     let calls = calls_of(alloc, stretch, libfs.client())?;
-    ClientList::new(alloc, libfs, calls).map_err(|refused| refused.0)
+    match ClientList::new(alloc, libfs, calls) {
+        Ok(list) => Ok(list),
+        Err(_) => Err(Refusal::OutOfMemory),
+    }
 }
 
 /// All clients, each with its calls.

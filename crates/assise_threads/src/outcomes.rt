@@ -22,7 +22,10 @@ pub(crate) struct Outcomes {
 pub(crate) fn parted<'a>(
     alloc: Global,
     ends: Vec<ClientEnd<'a, Cluster>>,
-) -> Result<(Vec<LibFs<'a, Cluster>>, Vec<Outcomes>), AllocError> {
+) -> Result<(Vec<LibFs<'a, Cluster>>, Vec<Outcomes>), AllocError>
+    ensures clients { IfOk result (λ both. sights both.0.items ≡ map sight_at ends.entry.items) }
+    ensures outcomes { IfOk result (λ both. untold both.1.items ≡ map outcomes_at ends.entry.items) }
+{
     let mut clients = Vec::with_capacity(alloc, ends.len())?;
     let mut outcomes = Vec::with_capacity(alloc, ends.len())?;
     for end in ends {
@@ -36,13 +39,6 @@ pub(crate) fn parted<'a>(
     Ok((clients, outcomes))
 }
 
-/// Where the first client of a number stands.
-fn place_of(outcomes: &[Outcomes], client: u64) -> Option<usize> {
-    outcomes
-        .iter()
-        .position(|one| u64::from(one.client) == client)
-}
-
 /// Takes the next outcome of a client. None where it isn't there, or nothing is left.
 pub(crate) fn next_outcome(outcomes: &mut [Outcomes], client: u64) -> Option<Result<Reply, Refusal>>
     ensures next { TakesFirst (outcomes_of client (untold outcomes.old)) result
@@ -50,6 +46,10 @@ pub(crate) fn next_outcome(outcomes: &mut [Outcomes], client: u64) -> Option<Res
     ensures others { (c : ℕ) → (c ≡ client → ⊥)
         → outcomes_of c (untold outcomes.new) ≡ outcomes_of c (untold outcomes.old) }
 {
-    let place = place_of(outcomes, client)?;
-    outcomes[place].left.next()
+    for one in outcomes.iter_mut() {
+        if u64::from(one.client) == client {
+            return one.left.next();
+        }
+    }
+    None
 }
