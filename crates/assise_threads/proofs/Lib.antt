@@ -1,3 +1,4 @@
 pub mod FirstOf
 pub mod Heard
 pub mod CallLines
+pub mod Ends
