@@ -1,4 +1,5 @@
 pub mod FirstOf
 pub mod Heard
 pub mod CallLines
+pub mod Ends
 pub mod Nobodys

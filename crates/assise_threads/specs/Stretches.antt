@@ -11,12 +11,12 @@ use Rattle.assise_fault_script.specs.declared.command.Command.{Command}
 use Rattle.assise_fault_script.specs.declared.command.Command.TheVariants.{Cluster, Manual, Open, Call, Carry, Digest, Release, Crash, Fail, Back, Refill, Join, Tree, History}
 use Rattle.assise_fault_script.specs.declared.parse.NumberedCommand.{NumberedCommand}
 use Rattle.assise_console.specs.Lines.{line_text}
-use Rattle.assise_libfs.specs.Clients.{client_of, seen_by}
+use Rattle.assise_libfs.specs.Clients.{IsSameClient, client_of, seen_by}
 use Rattle.assise_libfs.specs.declared.libfs.LibFs.{LibFs}
 use Rattle.assise_workers.specs.declared.serving.ClientEnd.{ClientEnd}
 use Rattle.assise_workers.specs.declared.serving.ClientList.{ClientList}
 use Rattle.assise_threads.specs.declared.outcomes.Outcomes.{Outcomes}
-use Rattle.assise_workers.specs.Told.{told_all}
+use Rattle.assise_workers.specs.Told.{SeesAll, told_all}
 use Rattle.assise_threads.specs.Runs.{IsSaid}
 use Rattle.assise_threads.specs.Said.{Said, TellsClient, call_in, calls_in, commands_said, outcome_answer, said_lines}
 
@@ -45,6 +45,11 @@ AreCalls (l ∷ ls) = IsCall l.command × AreCalls ls
 pub record HasCalls {S Stored : Type 0} (stretch : List NumberedCommand) (libfs : LibFs S Stored) (list : ClientList S Stored) : Type 0 where
   pub same : list.libfs ≡ libfs
   pub calls : list.calls.items ≡ calls_in (client_of libfs) stretch
+
+-- the client made its calls of the stretch, in order, and the end has what came of each
+pub record MakesCalls {S Stored : Type 0} (stretch : List NumberedCommand) (libfs : LibFs S Stored) (end : ClientEnd S Stored) : Type 0 where
+  pub client : IsSameClient libfs end.libfs
+  pub sees : SeesAll (client_of libfs) (calls_in (client_of libfs) stretch) (seen_by libfs) end.replies.items (seen_by end.libfs)
 
 -- ---- what came of the clients' calls
 

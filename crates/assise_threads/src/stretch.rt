@@ -91,9 +91,16 @@ pub(crate) fn serve<'a, W: Write, R: Threads + Wait + Sync>(
         (sights clients.entry.items) (sights after.items)
         (W.contents writer.old) (W.contents writer.new)) }
 {
-    let nodes = main.workers(alloc, last).map_err(|_| EngineFault::Memory)?;
-    let lists = lists_of(alloc, clients, stretch).map_err(|_| EngineFault::Memory)?;
-    let ends = run_cluster(rt, alloc, nodes, gate, lists).map_err(fault_of)?;
+    let Ok(nodes) = main.workers(alloc, last) else {
+        return Err(EngineFault::Memory);
+    };
+    let Ok(lists) = lists_of(alloc, clients, stretch) else {
+        return Err(EngineFault::Memory);
+    };
+    let ends = match run_cluster(rt, alloc, nodes, gate, lists) {
+        Ok(ends) => ends,
+        Err(fault) => return Err(fault_of(fault)),
+    };
     let (clients, mut outcomes) = parted(alloc, ends)?;
     write_calls(alloc, outcomes.as_mut_slice(), stretch, writer)?;
     Ok(clients)
