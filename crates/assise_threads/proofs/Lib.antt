@@ -3,3 +3,5 @@ pub mod Heard
 pub mod CallLines
 pub mod Ends
 pub mod Nobodys
+pub mod AllSaid
+pub mod Ahead

@@ -27,7 +27,7 @@ pub record IsSilent (a : Answer) (old new : List Event) : Type 0 where
 
 -- a client is opened on node n in a history that it has seen, and made no call; or the open is refused, and more may have been seen
 pub data OpensOne (n : ℕ) (a : Answer) (old new : List Event) : Type 0 where
-  is_opened : (c : ℕ) (h : List Event) → a ≡ Client c → Extends h old → IsOpenedOn c n h → calls_made c h ≡ 0 → new ≡ old → OpensOne n a old new
+  is_opened : (c : ℕ) (h : List Event) → a ≡ Client c → Extends h old → ∥ IsOpenedOn c n h ∥₁ → calls_made c h ≡ 0 → new ≡ old → OpensOne n a old new
   is_refused : (r : Refusal) → a ≡ Refused r → Extends new old → OpensOne n a old new
 
 -- a call is answered with a reply or a refusal, which its client's thread has seen

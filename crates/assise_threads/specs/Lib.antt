@@ -5,4 +5,5 @@ pub mod Runs
 pub mod Hearing
 pub mod Stretches
 pub mod Spoken
+pub mod CallsAhead
 pub mod Threads

@@ -23,6 +23,12 @@ pub record IsThreadRun (commands : List NumberedCommand) (ss : List Said) : Type
   pub main : IsSaid [] ss seen
   pub clients : (c : ℕ) → IsHeard c ss
 
+-- they were run, and the lines of what was said were written, and nothing else
+pub record IsRunSaid (commands : List NumberedCommand) (old new : Option (List ℕ)) : Type 0 where
+  pub said : List Said
+  pub run : IsThreadRun commands said
+  pub appends : Appends old new (said_lines said)
+
 -- the first line that only a run on one thread serves
 abbrev pub serial_from : Command → ℕ → Option ℕ → Option ℕ
 serial_from Manual line later = Some line
@@ -32,16 +38,14 @@ abbrev pub serial_line : List NumberedCommand → Option ℕ
 serial_line [] = None
 serial_line (l ∷ ls) = serial_from l.command l.line (serial_line ls)
 
--- the reader gave a script that threads can serve, it was run, and the lines of what was said were written, and nothing else
+-- the reader gave a script that threads can serve, and it was run
 pub record PrintsByThreads (known old new : Option (List ℕ)) : Type 0 where
   pub input : List ℕ
   pub commands : List NumberedCommand
-  pub said : List Said
   pub given : IsInput known input
   pub script : IsScript input commands
   pub served : serial_line commands ≡ None
-  pub run : IsThreadRun commands said
-  pub appends : Appends old new (said_lines said)
+  pub run : IsRunSaid commands old new
 
 -- the reader gave these bytes, with a first fault of the script, or with a line that only the serial mode runs; nothing was written
 abbrev pub ThreadFault : EngineFault → Option (List ℕ) → Option (List ℕ) → Option (List ℕ) → Type 0
@@ -51,3 +55,12 @@ ThreadFault (NeedsSerial line) known old new = (input : List ℕ) × (IsInput kn
 ThreadFault Memory known old new = Unit {0}
 ThreadFault Write known old new = Unit {0}
 ThreadFault NoThread known old new = Unit {0}
+
+-- what may end a run in its midst
+abbrev pub EndsRun : EngineFault → Type 0
+EndsRun Memory = Unit {0}
+EndsRun Write = Unit {0}
+EndsRun NoThread = Unit {0}
+EndsRun Read = ⊥
+EndsRun (Script line fault) = ⊥
+EndsRun (NeedsSerial line) = ⊥

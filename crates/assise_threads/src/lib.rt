@@ -1,6 +1,7 @@
 //! Runs a script with a thread for each client (Assise, OSDI 2020, section 3).
 #![tactic(auto)]
 
+mod crew;
 pub mod engine;
 mod lists;
 mod main_thread;

@@ -1,7 +1,8 @@
 // Calls that stand together: each client's are made in a thread of its own, and the lines are written in order.
-ghost use Rattle.std.specs.Prelude.{◌≡◌, IfOk, List, OnOk};
+ghost use Rattle.std.specs.Prelude.{◌≡◌, IfErr, IfOk, List, OnOk};
 ghost use Rattle.assise_history.specs.Entries.{Event};
 ghost use Rattle.assise_threads.specs.Hearing.{sights};
+ghost use Rattle.assise_threads.specs.Runs.{EndsRun};
 ghost use Rattle.assise_threads.specs.Spoken.{IsStretchSaid};
 ghost use Rattle.assise_threads.specs.Said.{outcome_answer};
 ghost use Rattle.assise_threads.specs.Stretches.{AreCalls, AreCallsSaid, HasAllOf, IsCall, IsCallSaid, next_or_none, untold};
@@ -46,8 +47,9 @@ fn write_call<W: Write>(
     writer: &mut W,
 ) -> Result<(), EngineFault>
     requires { IsCall line.now.command }
-    ensures { OnOk result (IsCallSaid line.now (untold outcomes.old) (untold outcomes.new)
+    ensures said { OnOk result (IsCallSaid line.now (untold outcomes.old) (untold outcomes.new)
         (W.contents writer.old) (W.contents writer.new)) }
+    ensures fault { IfErr result EndsRun }
 {
     let Command::Call { client, op: _ } = &line.command else {
         unreachable!();
@@ -67,6 +69,7 @@ fn write_calls<W: Write>(
     requires all { HasAllOf stretch.now (untold outcomes.old) }
     ensures said { (seen : List Event) → OnOk result (AreCallsSaid stretch.now seen
         (untold outcomes.old) (W.contents writer.old) (W.contents writer.new)) }
+    ensures fault { IfErr result EndsRun }
 {
     for line in stretch {
         write_call(alloc, outcomes, line, writer)?;
@@ -90,6 +93,7 @@ pub(crate) fn serve<'a, W: Write, R: Threads + Wait + Sync>(
     ensures said { IfOk result (λ after. IsStretchSaid stretch.now (main_seen main.old)
         (sights clients.entry.items) (sights after.items)
         (W.contents writer.old) (W.contents writer.new)) }
+    ensures fault { IfErr result EndsRun }
 {
     let Ok(nodes) = main.workers(alloc, last) else {
         return Err(EngineFault::Memory);
@@ -107,7 +111,9 @@ pub(crate) fn serve<'a, W: Write, R: Threads + Wait + Sync>(
 }
 
 /// Why the engine ends where a run isn't whole.
-fn fault_of(fault: RunFault) -> EngineFault {
+fn fault_of(fault: RunFault) -> EngineFault
+    ensures { EndsRun result }
+{
     match fault {
         RunFault::Memory => EngineFault::Memory,
         RunFault::NoThread => EngineFault::NoThread,

@@ -23,10 +23,10 @@ loop-line-preserved g c =
     let calls = calls_left stretch c.loop-line.line-index line within c.line-item.is before.calls in
     record {
       calls = calls.1;
-      said = λ seen. line_said stretch c.loop-line.line-index line within c.line-item.is seen _ _ _ _ _ _ (before.said seen) calls.0 c.in_ok-write_call.ensures;
+      said = λ seen. line_said stretch c.loop-line.line-index line within c.line-item.is seen _ _ _ _ _ _ (before.said seen) calls.0 c.in_ok-write_call.ensures.said;
     }
 
-pub returns : goal.returns
-returns g c =
+pub returns-clause-said : goal.returns-clause-said
+returns-clause-said g c =
     let done : length c.args.stretch.now ≤ c.loop-line.line-index = c.loop-line-test.false in
-    record { said = λ seen. stretch_said c.args.stretch.now c.loop-line.line-index seen _ _ _ _ done (c.loop-line.invariant.said seen) }
+    λ seen. stretch_said c.args.stretch.now c.loop-line.line-index seen _ _ _ _ done (c.loop-line.invariant.said seen)
