@@ -1,12 +1,11 @@
 -- The lines of a stretch of calls, one after another.
-use Rattle.std.proofs.Common.{◌≡◌, ◌∙◌, ℕ, zero, suc, ◌+◌, Bool, true, false, List, [], ◌∷◌, ◌++◌, map, flat_map, length, take, drop, get_or, ◌<◌, ◌≤◌, take_all, drop-cons, Option, None, Some, Result, Ok, Err, refl, sym, ap, ap₂, subst, arith, append_assoc, append-nil, length-append, ◌==◌, ◌⊎◌, inl, inr}
+use Rattle.std.proofs.Common.{◌≡◌, ◌∙◌, ℕ, suc, ◌+◌, Bool, true, false, List, [], ◌∷◌, ◌++◌, length, take, drop, get_or, ◌<◌, ◌≤◌, take_all, drop-cons, Option, None, Some, Result, Ok, Err, refl, sym, ap, ap₂, subst, arith, append_assoc, append-nil, length-append, ◌==◌, ◌⊎◌, inl, inr}
 use Rattle.std.proofs.lemmas.Grind.{flat_map-append}
 use Rattle.std.proofs.lemmas.List.{drop_all, map-append, take_more}
 use Rattle.std.specs.Prelude.{IfSome}
 use Rattle.std.specs.Io.KnownBytes.{Appends}
 use Rattle.assise_names.specs.declared.call.Op.{Op}
 use Rattle.assise_names.specs.declared.refusal.Refusal.{Refusal}
-use Rattle.assise_names.specs.declared.refusal.Refusal.TheVariants.{BadClient}
 use Rattle.assise_names.specs.declared.reply.Reply.{Reply}
 use Rattle.assise_history.specs.Entries.{Event}
 use Rattle.assise_fault_script.specs.declared.command.Command.{Command}
@@ -17,15 +16,17 @@ use Rattle.assise_workers.specs.Told.{told_all}
 use Rattle.assise_workers.proofs.Lists.{told-append}
 use Rattle.assise_threads.specs.Answered.{IsAnswered, is_replied, is_refused}
 use Rattle.assise_threads.specs.Runs.{IsSaid}
-use Rattle.assise_threads.specs.Said.{Said, TellsCall, TellsClient, call_in, calls_in, commands_said, outcome_answer, said_line, said_lines}
+use Rattle.assise_threads.specs.Said.{Said, TellsClient, call_in, calls_in, commands_said, outcome_answer, said_line, said_lines}
 use Rattle.assise_threads.specs.Stretches.{AreCalls, AreCallsSaid, AreTold, HasAllOf, IsCall, IsCallSaid, TakesFirst, Untold, next_or_none, outcomes_of}
-use Rattle.assise_threads.proofs.Heard.{tells-append}
+use Rattle.assise_threads.proofs.SaidMore.{adds_more, adds_nothing, said-append}
+use Rattle.assise_threads.proofs.Heard.{calls_more, calls_same, tells-append, tells_nothing}
 
-abbrev pub IsLeft : ℕ → List Said → List NumberedCommand → Option (List (Result Reply Refusal)) → Option (List (Result Reply Refusal)) → Type 0
-IsLeft c ss rest None None = AreTold c ss None
-IsLeft c ss rest (Some all) (Some left) = (rs : List (Result Reply Refusal)) × (TellsClient c ss rs × ((rs ++ left ≡ all) × (length left ≡ length (calls_in c rest))))
-IsLeft c ss rest None (Some left) = ⊥
-IsLeft c ss rest (Some all) None = ⊥
+-- a client that isn't there was told refusals alone so far; another was told the first of what came of its calls, and the rest is for its calls to come
+abbrev pub LeavesToTell : ℕ → List Said → List NumberedCommand → Option (List (Result Reply Refusal)) → Option (List (Result Reply Refusal)) → Type 0
+LeavesToTell c ss rest None None = AreTold c ss None
+LeavesToTell c ss rest (Some all) (Some left) = (rs : List (Result Reply Refusal)) × (TellsClient c ss rs × ((rs ++ left ≡ all) × (length left ≡ length (calls_in c rest))))
+LeavesToTell c ss rest None (Some left) = ⊥
+LeavesToTell c ss rest (Some all) None = ⊥
 
 -- the calls so far were said, and so much is left to tell of the rest
 pub record AreSaidSoFar (done rest : List NumberedCommand) (seen : List Event) (first now : Untold) (old new : Option (List ℕ)) : Type 0 where
@@ -33,23 +34,11 @@ pub record AreSaidSoFar (done rest : List NumberedCommand) (seen : List Event) (
   pub each : commands_said said ≡ done
   pub main : IsSaid seen said seen
   pub appends : Appends old new (said_lines said)
-  pub left : (c : ℕ) → IsLeft c said rest (outcomes_of c first) (outcomes_of c now)
-
--- ---- what is written
-
-adds_nothing : (u : Option (List ℕ)) → Appends u u []
-adds_nothing None = tt
-adds_nothing (Some xs) = sym (append-nil xs)
-
-adds_more : (u v w : Option (List ℕ)) (a b : List ℕ) → Appends u v a → Appends v w b → Appends u w (a ++ b)
-adds_more None v w a b x y = tt
-adds_more (Some xs) None w a b x y = absurd x
-adds_more (Some xs) (Some ys) None a b x y = y
-adds_more (Some xs) (Some ys) (Some zs) a b x y = y ∙ ap (λ (t : List ℕ). t ++ b) x ∙ append_assoc xs a b
+  pub left : (c : ℕ) → LeavesToTell c said rest (outcomes_of c first) (outcomes_of c now)
 
 -- ---- before the first
 
-all_left : (c : ℕ) (stretch : List NumberedCommand) (first : Option (List (Result Reply Refusal))) → IfSome first (λ all. length all ≡ length (calls_in c stretch)) → IsLeft c [] stretch first first
+all_left : (c : ℕ) (stretch : List NumberedCommand) (first : Option (List (Result Reply Refusal))) → IfSome first (λ all. length all ≡ length (calls_in c stretch)) → LeavesToTell c [] stretch first first
 all_left c stretch None h = ([], (refl, (refl, λ k. refl)))
 all_left c stretch (Some all) h = ([], (refl, (refl, h)))
 
@@ -84,10 +73,6 @@ is_answered (Join node) seen r is = absurd is
 is_answered (Tree node) seen r is = absurd is
 is_answered History seen r is = absurd is
 
-pub said-append : (a b d : List Event) (ss ts : List Said) → IsSaid a ss b → IsSaid b ts d → IsSaid a (ss ++ ts) d
-said-append a b d [] ts same more = subst (λ z. IsSaid z ts d) same more
-said-append a b d (s ∷ ss) ts (first, rest) more = (first, said-append s.history b d ss ts rest more)
-
 line_same : (n : ℕ) (h : List Event) (r : Result Reply Refusal) → line_text n [] (outcome_answer r) ≡ line_text n h (outcome_answer r)
 line_same n h (Ok reply) = refl
 line_same n h (Err refusal) = refl
@@ -117,34 +102,26 @@ module _ (c : ℕ) (ss : List Said) (l : NumberedCommand) (seen : List Event) (o
   abbrev s : Said
   s = said_now l seen outcome
 
-  calls-more : calls_in c (commands_said (ss ++ s ∷ [])) ≡ calls_in c (commands_said ss) ++ call_in c l.command
-  calls-more = ap (calls_in c) (map-append (λ x. x.command) ss (s ∷ []))
-      ∙ (flat_map-append (λ x. call_in c x.command) (commands_said ss) (l ∷ []) ∙ ap (λ z. calls_in c (commands_said ss) ++ z) (append-nil (call_in c l.command)))
-
-  -- a line that is no call of the client tells it nothing
-  tells-nothing : (rs : List (Result Reply Refusal)) → call_in c l.command ≡ [] → TellsClient c ss rs → TellsClient c (ss ++ s ∷ []) rs
-  tells-nothing rs none tells = subst (TellsClient c (ss ++ s ∷ [])) (append-nil rs) (tells-append c ss (s ∷ []) rs [] tells ([], ([], (rw none refl, (refl, refl)))))
-
   -- a line that is one tells it the outcome
   tells-one : (rs : List (Result Reply Refusal)) (op : Op) → call_in c l.command ≡ op ∷ [] → TellsClient c ss rs → TellsClient c (ss ++ s ∷ []) (rs ++ next_or_none outcome ∷ [])
   tells-one rs op one tells = let r = next_or_none outcome in tells-append c ss (s ∷ []) rs (r ∷ []) tells (r ∷ [], ([], (rw one (r, (refl, refl)), (refl, refl))))
 
-  passes-by : (rest : List NumberedCommand) (first now : Option (List (Result Reply Refusal))) → call_in c l.command ≡ [] → IsLeft c ss (l ∷ rest) first now → IsLeft c (ss ++ s ∷ []) rest first now
+  passes-by : (rest : List NumberedCommand) (first now : Option (List (Result Reply Refusal))) → call_in c l.command ≡ [] → LeavesToTell c ss (l ∷ rest) first now → LeavesToTell c (ss ++ s ∷ []) rest first now
   passes-by rest None None none (rs, (tells, (count, nothing))) =
-      let same : calls_in c (commands_said (ss ++ s ∷ [])) ≡ calls_in c (commands_said ss) = calls-more ∙ (ap (λ z. calls_in c (commands_said ss) ++ z) none ∙ append-nil (calls_in c (commands_said ss))) in
-      (rs, (tells-nothing rs none tells, (count ∙ ap length (sym same), λ k. ap (λ z. told_all c k z rs) same ∙ nothing k)))
-  passes-by rest (Some all) (Some left) none (rs, (tells, (is, count))) = (rs, (tells-nothing rs none tells, (is, count ∙ ap (λ z. length (z ++ calls_in c rest)) none)))
+      let same = calls_same c ss s none in
+      (rs, (tells_nothing c ss s rs none tells, (count ∙ ap length (sym same), λ k. ap (λ z. told_all c k z rs) same ∙ nothing k)))
+  passes-by rest (Some all) (Some left) none (rs, (tells, (is, count))) = (rs, (tells_nothing c ss s rs none tells, (is, count ∙ ap (λ z. length (z ++ calls_in c rest)) none)))
   passes-by rest None (Some left) none e = absurd e
   passes-by rest (Some all) None none e = absurd e
 
-  is-told : (rest : List NumberedCommand) (first now later : Option (List (Result Reply Refusal))) (op : Op) → call_in c l.command ≡ op ∷ [] → TakesFirst now outcome later → IsLeft c ss (l ∷ rest) first now
-      → IsLeft c (ss ++ s ∷ []) rest first later
+  is-told : (rest : List NumberedCommand) (first now later : Option (List (Result Reply Refusal))) (op : Op) → call_in c l.command ≡ op ∷ [] → TakesFirst now outcome later → LeavesToTell c ss (l ∷ rest) first now
+      → LeavesToTell c (ss ++ s ∷ []) rest first later
   is-told rest None None later op one (is, gone) (rs, (tells, (count, nothing))) = rw gone (
     rs ++ next_or_none outcome ∷ [],
     (
       tells-one rs op one tells,
       (
-        omega (arith, count, ap length calls-more, ap length one, length-append rs (next_or_none outcome ∷ []), length-append (calls_in c (commands_said ss)) (call_in c l.command)),
+        omega (arith, count, ap length (calls_more c ss s), ap length one, length-append rs (next_or_none outcome ∷ []), length-append (calls_in c (commands_said ss)) (call_in c l.command)),
         λ k. refused-too k,
       ),
     ),
@@ -152,7 +129,7 @@ module _ (c : ℕ) (ss : List Said) (l : NumberedCommand) (seen : List Event) (o
     where
       refused-too : (k : ℕ) → told_all c k (calls_in c (commands_said (ss ++ s ∷ []))) (rs ++ next_or_none outcome ∷ []) ≡ []
       refused-too k =
-          ap (λ z. told_all c k z (rs ++ next_or_none outcome ∷ [])) (calls-more ∙ ap (λ z. calls_in c (commands_said ss) ++ z) one)
+          ap (λ z. told_all c k z (rs ++ next_or_none outcome ∷ [])) (calls_more c ss s ∙ ap (λ z. calls_in c (commands_said ss) ++ z) one)
           ∙ (told-append c k (calls_in c (commands_said ss)) rs (op ∷ []) (next_or_none outcome ∷ []) count
           ∙ ap₂ (λ x y. x ++ y) (nothing k) (ap (λ o. told_all c (k + length (told_all c k (calls_in c (commands_said ss)) rs)) (op ∷ []) (next_or_none o ∷ [])) is))
   is-told rest (Some all) (Some []) later op one takes (rs, (tells, (is, count))) = absurd (let n : 0 ≡ suc (length (calls_in c rest)) = count ∙ ap (λ z. length (z ++ calls_in c rest)) one in omega arith)
@@ -170,15 +147,14 @@ module _ (c : ℕ) (ss : List Said) (l : NumberedCommand) (seen : List Event) (o
   is-told rest (Some all) None later op one takes e = absurd e
 
 module _ (done rest : List NumberedCommand) (l : NumberedCommand) (seen : List Event) (first now later : Untold) (old mid new : Option (List ℕ)) where
-  goes_on : (c : ℕ) (ss : List Said) (is : IsCallSaid l now later mid new) → IsLeft c ss (l ∷ rest) (outcomes_of c first) (outcomes_of c now)
-      → IsLeft c (ss ++ said_now l seen is.outcome ∷ []) rest (outcomes_of c first) (outcomes_of c later)
+  goes_on : (c : ℕ) (ss : List Said) (is : IsCallSaid l now later mid new) → LeavesToTell c ss (l ∷ rest) (outcomes_of c first) (outcomes_of c now)
+      → LeavesToTell c (ss ++ said_now l seen is.outcome ∷ []) rest (outcomes_of c first) (outcomes_of c later)
   goes_on c ss is left = by_case (one_or_none c l.command)
     where
-      by_case : (call_in c l.command ≡ []) ⊎ ((op : Op) × (call_in c l.command ≡ op ∷ [])) → IsLeft c (ss ++ said_now l seen is.outcome ∷ []) rest (outcomes_of c first) (outcomes_of c later)
-      by_case (inl none) = passes-by c ss l seen is.outcome rest (outcomes_of c first) (outcomes_of c later) none (subst (IsLeft c ss (l ∷ rest) (outcomes_of c first)) (sym (is.others c none)) left)
+      by_case : (call_in c l.command ≡ []) ⊎ ((op : Op) × (call_in c l.command ≡ op ∷ [])) → LeavesToTell c (ss ++ said_now l seen is.outcome ∷ []) rest (outcomes_of c first) (outcomes_of c later)
+      by_case (inl none) = passes-by c ss l seen is.outcome rest (outcomes_of c first) (outcomes_of c later) none (subst (LeavesToTell c ss (l ∷ rest) (outcomes_of c first)) (sym (is.others c none)) left)
       by_case (inr (op, one)) = is-told c ss l seen is.outcome rest (outcomes_of c first) (outcomes_of c now) (outcomes_of c later) op one (is.next c op one) left
 
-module _ (done rest : List NumberedCommand) (l : NumberedCommand) (seen : List Event) (first now later : Untold) (old mid new : Option (List ℕ)) where
   said_next : AreSaidSoFar done (l ∷ rest) seen first now old mid → IsCall l.command → IsCallSaid l now later mid new → AreSaidSoFar (done ++ l ∷ []) rest seen first later old new
   said_next before call is =
       let s = said_now l seen is.outcome in
@@ -189,7 +165,7 @@ module _ (done rest : List NumberedCommand) (l : NumberedCommand) (seen : List E
         main = said-append seen seen seen before.said (s ∷ []) before.main (is_answered l.command seen (next_or_none is.outcome) call, refl);
         appends = subst (Appends old new) (ap (λ z. said_lines before.said ++ z) line ∙ sym (flat_map-append said_line before.said (s ∷ [])))
             (adds_more old mid new (said_lines before.said) (line_text l.line [] (outcome_answer (next_or_none is.outcome))) before.appends is.appends);
-        left = λ c. goes_on done rest l seen first now later old mid new c before.said is (before.left c);
+        left = λ c. goes_on c before.said is (before.left c);
       }
 
 -- ---- one more of a stretch
@@ -209,7 +185,7 @@ module _ (stretch : List NumberedCommand) (i : ℕ) (l : NumberedCommand) (withi
 
 -- ---- behind the last
 
-nothing_left : (c : ℕ) (ss : List Said) (first now : Option (List (Result Reply Refusal))) → IsLeft c ss [] first now → AreTold c ss first
+nothing_left : (c : ℕ) (ss : List Said) (first now : Option (List (Result Reply Refusal))) → LeavesToTell c ss [] first now → AreTold c ss first
 nothing_left c ss None None told = told
 nothing_left c ss (Some all) (Some []) (rs, (tells, (is, count))) = subst (TellsClient c ss) (sym (append-nil rs) ∙ is) tells
 nothing_left c ss (Some all) (Some (x ∷ xs)) (rs, (tells, (is, count))) = absurd (let n : suc (length xs) ≡ 0 = count in omega arith)

@@ -1,5 +1,5 @@
 -- What the ends of clients say of a stretch of calls.
-use Rattle.std.proofs.Common.{◌≡◌, ◌≢◌, ℕ, Bool, true, false, ◌==◌, if◌then◌else◌, List, [], ◌∷◌, map, length, Option, None, Some, Result, IfSome, sym, ap, subst, ◌∙◌, ◌⊎◌, inl, inr}
+use Rattle.std.proofs.Common.{◌≡◌, ◌≢◌, ℕ, true, false, ◌==◌, if◌then◌else◌, List, [], ◌∷◌, map, length, Option, None, Some, Result, IfSome, sym, subst, ◌⊎◌, inl, inr}
 use Rattle.std.specs.List.{AllZip}
 use Rattle.std.proofs.lemmas.Bool.Decides.{eqb_tells}
 use Rattle.assise_names.specs.declared.refusal.Refusal.{Refusal}
@@ -18,35 +18,35 @@ use Rattle.assise_threads.specs.Spoken.{IsStretchSaid}
 use Rattle.assise_threads.specs.Stretches.{AreCallsSaid, AreTold, HasAllOf, HasCalls, MakesCalls, outcomes_at, outcomes_of, sight_at}
 
 -- a client isn't there, or it made its calls of the stretch, with these outcomes
-abbrev pub IsServed : ℕ → List NumberedCommand → Option (List Event) → Option (List Event) → Option (List (Result Reply Refusal)) → Type 0
-IsServed c stretch None None None = Unit {0}
-IsServed c stretch (Some old) (Some new) (Some rs) = SeesAll c (calls_in c stretch) old rs new
-IsServed c stretch None None (Some rs) = ⊥
-IsServed c stretch None (Some new) None = ⊥
-IsServed c stretch None (Some new) (Some rs) = ⊥
-IsServed c stretch (Some old) None None = ⊥
-IsServed c stretch (Some old) None (Some rs) = ⊥
-IsServed c stretch (Some old) (Some new) None = ⊥
+abbrev pub HasEnded : ℕ → List NumberedCommand → Option (List Event) → Option (List Event) → Option (List (Result Reply Refusal)) → Type 0
+HasEnded c stretch None None None = Unit {0}
+HasEnded c stretch (Some old) (Some new) (Some rs) = SeesAll c (calls_in c stretch) old rs new
+HasEnded c stretch None None (Some rs) = ⊥
+HasEnded c stretch None (Some new) None = ⊥
+HasEnded c stretch None (Some new) (Some rs) = ⊥
+HasEnded c stretch (Some old) None None = ⊥
+HasEnded c stretch (Some old) None (Some rs) = ⊥
+HasEnded c stretch (Some old) (Some new) None = ⊥
 
 -- ---- of all clients
 
 module _ (c : ℕ) (stretch : List NumberedCommand) where
-  first_or_behind : (a : ℕ) (old new : List Event) (rs : List (Result Reply Refusal)) (u v : Option (List Event)) (w : Option (List (Result Reply Refusal))) → (a ≡ c → SeesAll c (calls_in c stretch) old rs new) → IsServed c stretch u v w
-      → IsServed c stretch (if a == c then Some old else u) (if a == c then Some new else v) (if a == c then Some rs else w)
+  first_or_behind : (a : ℕ) (old new : List Event) (rs : List (Result Reply Refusal)) (u v : Option (List Event)) (w : Option (List (Result Reply Refusal))) → (a ≡ c → SeesAll c (calls_in c stretch) old rs new) → HasEnded c stretch u v w
+      → HasEnded c stretch (if a == c then Some old else u) (if a == c then Some new else v) (if a == c then Some rs else w)
   first_or_behind a old new rs u v w here behind = by_case (eqb_tells a c)
     where
-      by_case : (((a == c) ≡ true) × (a ≡ c)) ⊎ (((a == c) ≡ false) × (a ≢ c)) → IsServed c stretch (if a == c then Some old else u) (if a == c then Some new else v) (if a == c then Some rs else w)
-      by_case (inl (is, same)) = subst (λ b. IsServed c stretch (if b then Some old else u) (if b then Some new else v) (if b then Some rs else w)) (sym is) (here same)
-      by_case (inr (is, other)) = subst (λ b. IsServed c stretch (if b then Some old else u) (if b then Some new else v) (if b then Some rs else w)) (sym is) behind
+      by_case : (((a == c) ≡ true) × (a ≡ c)) ⊎ (((a == c) ≡ false) × (a ≢ c)) → HasEnded c stretch (if a == c then Some old else u) (if a == c then Some new else v) (if a == c then Some rs else w)
+      by_case (inl (is, same)) = subst (λ b. HasEnded c stretch (if b then Some old else u) (if b then Some new else v) (if b then Some rs else w)) (sym is) (here same)
+      by_case (inr (is, other)) = subst (λ b. HasEnded c stretch (if b then Some old else u) (if b then Some new else v) (if b then Some rs else w)) (sym is) behind
 
   module _ {S Stored : Type 0} where
     one_sees : (l : LibFs S Stored) (e : ClientEnd S Stored) → MakesCalls stretch l e → client_of l ≡ c → SeesAll c (calls_in c stretch) (seen_by l) e.replies.items (seen_by e.libfs)
     one_sees l e made is = subst (λ d. SeesAll d (calls_in d stretch) (seen_by l) e.replies.items (seen_by e.libfs)) is made.sees
 
-    all_served : (ls : List (LibFs S Stored)) (ends : List (ClientEnd S Stored)) → AllZip (MakesCalls stretch) ls ends → IsServed c stretch (sight_of c (sights ls)) (sight_of c (map sight_at ends)) (outcomes_of c (map outcomes_at ends))
+    all_served : (ls : List (LibFs S Stored)) (ends : List (ClientEnd S Stored)) → AllZip (MakesCalls stretch) ls ends → HasEnded c stretch (sight_of c (sights ls)) (sight_of c (map sight_at ends)) (outcomes_of c (map outcomes_at ends))
     all_served [] [] made = tt
     all_served (l ∷ ls) (e ∷ es) made =
-        subst (λ n. IsServed c stretch (sight_of c (sights (l ∷ ls))) (if n == c then Some (seen_by e.libfs) else sight_of c (map sight_at es)) (if n == c then Some e.replies.items else outcomes_of c (map outcomes_at es)))
+        subst (λ n. HasEnded c stretch (sight_of c (sights (l ∷ ls))) (if n == c then Some (seen_by e.libfs) else sight_of c (map sight_at es)) (if n == c then Some e.replies.items else outcomes_of c (map outcomes_at es)))
         (sym made.0.client.client)
         (first_or_behind (client_of l) (seen_by l) (seen_by e.libfs) e.replies.items (sight_of c (sights ls)) (sight_of c (map sight_at es)) (outcomes_of c (map outcomes_at es)) (one_sees l e made.0)
         (all_served ls es made.1))
@@ -55,7 +55,7 @@ module _ (c : ℕ) (stretch : List NumberedCommand) where
 
 -- ---- what follows
 
-as_many : (c : ℕ) (stretch : List NumberedCommand) (u v : Option (List Event)) (w : Option (List (Result Reply Refusal))) → IsServed c stretch u v w → IfSome w (λ all. length all ≡ length (calls_in c stretch))
+as_many : (c : ℕ) (stretch : List NumberedCommand) (u v : Option (List Event)) (w : Option (List (Result Reply Refusal))) → HasEnded c stretch u v w → IfSome w (λ all. length all ≡ length (calls_in c stretch))
 as_many c stretch None None None served = tt
 as_many c stretch (Some old) (Some new) (Some rs) served = served.count
 as_many c stretch None None (Some rs) served = absurd served
@@ -65,7 +65,7 @@ as_many c stretch (Some old) None None served = absurd served
 as_many c stretch (Some old) None (Some rs) served = absurd served
 as_many c stretch (Some old) (Some new) None served = absurd served
 
-hears : (c : ℕ) (stretch : List NumberedCommand) (ss : List Said) (u v : Option (List Event)) (w : Option (List (Result Reply Refusal))) → commands_said ss ≡ stretch → IsServed c stretch u v w → AreTold c ss w → HearsStretch c ss u v
+hears : (c : ℕ) (stretch : List NumberedCommand) (ss : List Said) (u v : Option (List Event)) (w : Option (List (Result Reply Refusal))) → commands_said ss ≡ stretch → HasEnded c stretch u v w → AreTold c ss w → HearsStretch c ss u v
 hears c stretch ss None None None each served told = told
 hears c stretch ss (Some old) (Some new) (Some rs) each served told = (rs, (told, subst (λ z. SeesAll c (calls_in c z) old rs new) (sym each) served))
 hears c stretch ss None None (Some rs) each served told = absurd served

@@ -1,5 +1,5 @@
 -- The first client of a number among those of which something isn't told yet.
-use Rattle.std.proofs.Common.{◌≡◌, ◌∙◌, ◌<◌, ℕ, ◌+◌, ◌==◌, eqb, Bool, true, false, if◌then◌else◌, List, [], ◌∷◌, ◌++◌, length, take, drop, get_or, slice_set, Option, None, Some, IsSome, option_to_list, ◌↔◌, Result, refl, sym, ap, ap₂, subst, arith, take-append-drop, append_assoc}
+use Rattle.std.proofs.Common.{◌≡◌, ◌∙◌, ◌<◌, ℕ, ◌+◌, ◌==◌, Bool, true, false, if◌then◌else◌, List, [], ◌∷◌, ◌++◌, length, take, drop, get_or, slice_set, Option, None, Some, IsSome, option_to_list, ◌↔◌, Result, refl, sym, ap, ap₂, subst, arith, take-append-drop}
 use Rattle.std.proofs.lemmas.List.{drop-set, set-get_or, take-set, take_more}
 use Rattle.std.proofs.lemmas.Bool.{ne_eqb}
 use Rattle.assise_names.specs.declared.refusal.Refusal.{Refusal}
@@ -10,10 +10,10 @@ use Rattle.assise_threads.specs.Stretches.{TakesFirst, outcomes_of, untold}
 -- ---- a place of a list
 
 module _ (os : List Outcomes) (i : ℕ) (within : i < length os) where
-  pub set_parts : (o : Outcomes) → slice_set os i o ≡ take i os ++ o ∷ drop (i + 1) os
+  set_parts : (o : Outcomes) → slice_set os i o ≡ take i os ++ o ∷ drop (i + 1) os
   set_parts o = sym (take-append-drop i (slice_set os i o)) ∙ ap₂ (λ a b. a ++ b) (take-set os i o) (drop-set os i o within)
 
-  pub at_parts : (o : Outcomes) → o ≡ get_or os i o → os ≡ take i os ++ o ∷ drop (i + 1) os
+  at_parts : (o : Outcomes) → o ≡ get_or os i o → os ≡ take i os ++ o ∷ drop (i + 1) os
   at_parts o is = sym (set-get_or os i o) ∙ (ap (slice_set os i) (sym is) ∙ set_parts o)
 
 -- ---- behind others
@@ -22,12 +22,12 @@ first-skips : {X : Type 0} (b : Bool) (x : X) (u v w : Option X) → (if b then 
 first-skips true x u v w e f = cc
 first-skips false x u v w e f = f e
 
-pub passed : (c : ℕ) (xs ys : List Outcomes) → outcomes_of c (untold xs) ≡ None → outcomes_of c (untold (xs ++ ys)) ≡ outcomes_of c (untold ys)
+passed : (c : ℕ) (xs ys : List Outcomes) → outcomes_of c (untold xs) ≡ None → outcomes_of c (untold (xs ++ ys)) ≡ outcomes_of c (untold ys)
 passed c [] ys none = refl
 passed c (x ∷ xs) ys none =
     first-skips (x.client == c) x.left.rest.items (outcomes_of c (untold xs)) (outcomes_of c (untold (xs ++ ys))) (outcomes_of c (untold ys)) none (λ h. passed c xs ys h)
 
-pub here : (c : ℕ) (o : Outcomes) (ys : List Outcomes) → o.client ≡ c → outcomes_of c (untold (o ∷ ys)) ≡ Some o.left.rest.items
+here : (c : ℕ) (o : Outcomes) (ys : List Outcomes) → o.client ≡ c → outcomes_of c (untold (o ∷ ys)) ≡ Some o.left.rest.items
 here c o ys is = ap (λ b. if b then Some o.left.rest.items else outcomes_of c (untold ys)) (ap (λ d. d == c) is ∙ same c)
   where
     same : (n : ℕ) → (n == n) ≡ true
@@ -36,14 +36,14 @@ here c o ys is = ap (λ b. if b then Some o.left.rest.items else outcomes_of c (
 not-here : (c : ℕ) (o : Outcomes) (ys : List Outcomes) → (o.client ≡ c → ⊥) → outcomes_of c (untold (o ∷ ys)) ≡ outcomes_of c (untold ys)
 not-here c o ys ne = ap (λ b. if b then Some o.left.rest.items else outcomes_of c (untold ys)) (ne_eqb o.client c ne)
 
-pub found : (c : ℕ) (xs ys : List Outcomes) (o : Outcomes) → outcomes_of c (untold xs) ≡ None → o.client ≡ c → outcomes_of c (untold (xs ++ o ∷ ys)) ≡ Some o.left.rest.items
+found : (c : ℕ) (xs ys : List Outcomes) (o : Outcomes) → outcomes_of c (untold xs) ≡ None → o.client ≡ c → outcomes_of c (untold (xs ++ o ∷ ys)) ≡ Some o.left.rest.items
 found c xs ys o none is = passed c xs (o ∷ ys) none ∙ here c o ys is
 
-pub none_yet : (c : ℕ) (xs : List Outcomes) (o : Outcomes) → outcomes_of c (untold xs) ≡ None → (o.client ≡ c → ⊥) → outcomes_of c (untold (xs ++ o ∷ [])) ≡ None
+none_yet : (c : ℕ) (xs : List Outcomes) (o : Outcomes) → outcomes_of c (untold xs) ≡ None → (o.client ≡ c → ⊥) → outcomes_of c (untold (xs ++ o ∷ [])) ≡ None
 none_yet c xs o none ne = passed c xs (o ∷ []) none ∙ not-here c o [] ne
 
 -- another client's stays, whatever becomes of this one
-pub other_stays : (c : ℕ) (xs ys : List Outcomes) (o p : Outcomes) → p.client ≡ o.client → (o.client ≡ c → ⊥) → outcomes_of c (untold (xs ++ p ∷ ys)) ≡ outcomes_of c (untold (xs ++ o ∷ ys))
+other_stays : (c : ℕ) (xs ys : List Outcomes) (o p : Outcomes) → p.client ≡ o.client → (o.client ≡ c → ⊥) → outcomes_of c (untold (xs ++ p ∷ ys)) ≡ outcomes_of c (untold (xs ++ o ∷ ys))
 other_stays c [] ys o p same ne = not-here c p ys (λ e. ne (sym same ∙ e)) ∙ sym (not-here c o ys ne)
 other_stays c (x ∷ xs) ys o p same ne = ap (λ z. if x.client == c then Some x.left.rest.items else z) (other_stays c xs ys o p same ne)
 

@@ -1,19 +1,23 @@
 -- What clients have heard so far goes on with a stretch of calls, or with a command that is no call.
-use Rattle.std.proofs.Common.{◌≡◌, ◌∙◌, ℕ, ◌+◌, Bool, true, false, List, [], ◌∷◌, ◌++◌, map, flat_map, length, Option, None, Some, Result, Ok, Err, refl, sym, ap, ap₂, subst, arith, append_assoc, append-nil, length-append}
+use Rattle.std.proofs.Common.{◌≡◌, ◌∙◌, ℕ, ◌+◌, Bool, true, false, List, [], ◌∷◌, ◌++◌, length, Option, None, Some, Result, refl, sym, ap, ap₂, subst, arith, append_assoc, append-nil, length-append, ◌==◌, ◌≢◌, if◌then◌else◌, ◌⊎◌, inl, inr}
 use Rattle.std.proofs.lemmas.Grind.{flat_map-append}
 use Rattle.std.proofs.lemmas.List.{map-append}
+use Rattle.std.proofs.lemmas.Bool.Decides.{eqb_tells}
 use Rattle.assise_names.specs.declared.call.Op.{Op}
 use Rattle.assise_names.specs.declared.refusal.Refusal.{Refusal}
 use Rattle.assise_names.specs.declared.reply.Reply.{Reply}
 use Rattle.assise_history.specs.Entries.{Event}
 use Rattle.assise_keeper.specs.Clients.{calls_by}
-use Rattle.assise_fault_script.specs.declared.parse.NumberedCommand.{NumberedCommand}
-use Rattle.assise_workers.specs.Told.{SeesAll, told_all}
+use Rattle.assise_fault_script.specs.declared.command.Command.{Command}
+use Rattle.assise_fault_script.specs.declared.command.Command.TheVariants.{Cluster, Manual, Open, Call, Carry, Digest, Release, Crash, Fail, Back, Refill, Join, Tree, History}
+use Rattle.assise_workers.specs.Told.{told_all}
 use Rattle.assise_workers.proofs.Lists.{told-append}
-use Rattle.assise_threads.specs.Said.{Said, TellsCall, TellsClient, call_in, calls_in, commands_said}
+use Rattle.assise_threads.specs.Said.{Said, TellsClient, call_in, calls_in, commands_said}
+use Rattle.assise_threads.specs.Spoken.{MayGain, Sights, gains, stays}
+use Rattle.assise_threads.specs.Stretches.{IsCall}
 use Rattle.assise_threads.specs.Hearing.{HasHeard, HearsStretch, calls_of_sight, sight_of}
 
-commands-append : (ss ts : List Said) → commands_said (ss ++ ts) ≡ commands_said ss ++ commands_said ts
+pub commands-append : (ss ts : List Said) → commands_said (ss ++ ts) ≡ commands_said ss ++ commands_said ts
 commands-append ss ts = map-append (λ s. s.command) ss ts
 
 calls-said-append : (c : ℕ) (ss ts : List Said) → calls_in c (commands_said (ss ++ ts)) ≡ calls_in c (commands_said ss) ++ calls_in c (commands_said ts)
@@ -59,3 +63,58 @@ module _ (c : ℕ) (ss ts : List Said) where
       }
   heard_then None (Some new) h e = absurd e
   heard_then (Some old) None h e = absurd e
+
+-- ---- a command that is no call
+
+pub no_call : (c : ℕ) (command : Command) → (IsCall command → ⊥) → call_in c command ≡ []
+no_call c (Call d op) none = absurd (none tt)
+no_call c (Cluster nodes log hot) none = refl
+no_call c Manual none = refl
+no_call c (Open node kind) none = refl
+no_call c (Carry node) none = refl
+no_call c (Digest node) none = refl
+no_call c Release none = refl
+no_call c (Crash client) none = refl
+no_call c (Fail node) none = refl
+no_call c (Back node) none = refl
+no_call c (Refill node) none = refl
+no_call c (Join node) none = refl
+no_call c (Tree node) none = refl
+no_call c History none = refl
+
+-- what is seen of client c of the first client's or, where that has another number, of those behind it
+first_keeps : (c : ℕ) (b : Bool) (h : List Event) (u v : Option (List Event)) → calls_of_sight c v ≡ calls_of_sight c u → calls_of_sight c (if b then Some h else v) ≡ calls_of_sight c (if b then Some h else u)
+first_keeps c true h u v same = refl
+first_keeps c false h u v same = same
+
+-- a client that comes last made no call
+last_made_none : (c d : ℕ) (h : List Event) (xs : List (ℕ × List Event)) → calls_by d h ≡ [] → calls_of_sight c (sight_of c (xs ++ (d, h) ∷ [])) ≡ calls_of_sight c (sight_of c xs)
+last_made_none c d h [] none = by_case (eqb_tells d c)
+  where
+    by_case : (((d == c) ≡ true) × (d ≡ c)) ⊎ (((d == c) ≡ false) × (d ≢ c)) → calls_of_sight c (if d == c then Some h else None) ≡ []
+    by_case (inl (is, same)) = ap (λ b. calls_of_sight c (if b then Some h else None)) is ∙ subst (λ n. calls_by n h ≡ []) same none
+    by_case (inr (is, other)) = ap (λ b. calls_of_sight c (if b then Some h else None)) is
+last_made_none c d h (x ∷ xs) none = first_keeps c (x.0 == c) x.1 (sight_of c xs) (sight_of c (xs ++ (d, h) ∷ [])) (last_made_none c d h xs none)
+
+calls_stay : (c : ℕ) (earlier later : Sights) → MayGain earlier later → calls_of_sight c (sight_of c later) ≡ calls_of_sight c (sight_of c earlier)
+calls_stay c earlier later (stays same) = ap (λ xs. calls_of_sight c (sight_of c xs)) same
+calls_stay c earlier later (gains d h more none legal) = ap (λ xs. calls_of_sight c (sight_of c xs)) more ∙ last_made_none c d h earlier none
+
+module _ (c : ℕ) (ss : List Said) (s : Said) where
+  pub calls_more : calls_in c (commands_said (ss ++ s ∷ [])) ≡ calls_in c (commands_said ss) ++ call_in c s.command.command
+  calls_more = calls-said-append c ss (s ∷ []) ∙ ap (λ z. calls_in c (commands_said ss) ++ z) (append-nil (call_in c s.command.command))
+
+  -- it tells the client nothing
+  pub tells_nothing : (rs : List (Result Reply Refusal)) → call_in c s.command.command ≡ [] → TellsClient c ss rs → TellsClient c (ss ++ s ∷ []) rs
+  tells_nothing rs none tells = subst (TellsClient c (ss ++ s ∷ [])) (append-nil rs) (tells-append c ss (s ∷ []) rs [] tells ([], ([], (rw none refl, (refl, refl)))))
+
+  pub calls_same : call_in c s.command.command ≡ [] → calls_in c (commands_said (ss ++ s ∷ [])) ≡ calls_in c (commands_said ss)
+  calls_same none = calls_more ∙ (ap (λ z. calls_in c (commands_said ss) ++ z) none ∙ append-nil (calls_in c (commands_said ss)))
+
+  pub heard_one : (earlier later : Sights) → HasHeard c ss (sight_of c earlier) → MayGain earlier later → call_in c s.command.command ≡ [] → HasHeard c (ss ++ s ∷ []) (sight_of c later)
+  heard_one earlier later h gain none = record {
+    outcomes = h.outcomes;
+    count = h.count ∙ ap length (sym (calls_same none));
+    tells = tells_nothing h.outcomes none h.tells;
+    calls = calls_stay c earlier later gain ∙ (h.calls ∙ ap (λ z. told_all c 0 z h.outcomes) (sym (calls_same none)));
+  }

@@ -4,7 +4,6 @@ use Rattle.std.specs.Prelude.{◌≡◌, ℕ, List, [], ◌∷◌, ◌==◌, if�
 use Rattle.assise_names.specs.declared.refusal.Refusal.{Refusal}
 use Rattle.assise_names.specs.declared.reply.Reply.{Reply}
 use Rattle.assise_history.specs.Entries.{Event}
-use Rattle.assise_history.specs.Legal.{IsLegal}
 use Rattle.assise_keeper.specs.Clients.{calls_by}
 use Rattle.assise_libfs.specs.Clients.{client_of, seen_by}
 use Rattle.assise_libfs.specs.declared.libfs.LibFs.{LibFs}

@@ -1,6 +1,6 @@
 -- What a run with threads says: the answer of each command, in the script's order.
 -- Assise (OSDI 2020), section 3 (CC-NVM: prefix crash consistency); POSIX.1-2017, section 2.9.7 (each call appears as made at once).
-use Rattle.std.specs.Prelude.{◌≡◌, ℕ, Bool, true, false, List, [], ◌∷◌, ◌++◌, ◌==◌, if◌then◌else◌, map, Result, Ok, Err}
+use Rattle.std.specs.Prelude.{◌≡◌, ℕ, List, [], ◌∷◌, ◌++◌, ◌==◌, if◌then◌else◌, map, Result, Ok, Err}
 use Rattle.std.specs.List.{flat_map}
 use Rattle.assise_names.specs.declared.call.Op.{Op}
 use Rattle.assise_names.specs.declared.refusal.Refusal.{Refusal}

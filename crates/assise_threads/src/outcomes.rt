@@ -24,7 +24,8 @@ pub(crate) fn parted<'a>(
     ends: Vec<ClientEnd<'a, Cluster>>,
 ) -> Result<(Vec<LibFs<'a, Cluster>>, Vec<Outcomes>), AllocError>
     ensures clients { IfOk result (λ both. sights both.0.items ≡ map sight_at ends.entry.items) }
-    ensures outcomes { IfOk result (λ both. untold both.1.items ≡ map outcomes_at ends.entry.items) }
+    ensures outcomes { IfOk result (λ both.
+        untold both.1.items ≡ map outcomes_at ends.entry.items) }
 {
     let mut clients = Vec::with_capacity(alloc, ends.len())?;
     let mut outcomes = Vec::with_capacity(alloc, ends.len())?;

@@ -1,4 +1,4 @@
-use Rattle.std.proofs.Common.{◌≡◌, ◌∙◌, ◌<◌, ◌+◌, ◌↔◌, IsSome, length, take, refl, sym, ap, subst, arith}
+use Rattle.std.proofs.Common.{◌∙◌, ◌<◌, ◌+◌, ◌↔◌, IsSome, length, take, sym, ap, subst, arith}
 use Rattle.std.proofs.lemmas.List.{set-get_or}
 use Rattle.assise_threads.specs.Stretches.{outcomes_of, untold}
 use Rattle.assise_threads.proofs.FirstOf.{left_there, not_yet, taken_there, takes_first}

@@ -1,4 +1,4 @@
-use Rattle.std.proofs.Common.{◌<◌, ◌≤◌, length, arith}
+use Rattle.std.proofs.Common.{◌<◌, ◌≤◌, length}
 use Rattle.assise_threads.specs.Stretches.{untold}
 use Rattle.assise_threads.proofs.CallLines.{calls_left, line_said, none_said, stretch_said}
 use Rattle.assise_threads.proofs.stretch.write_calls.Goals as goal
