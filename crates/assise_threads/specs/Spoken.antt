@@ -44,11 +44,3 @@ pub record AreAllSaid (commands : List NumberedCommand) (seen : List Event) (cli
   pub main : IsSaid [] said seen
   pub appends : Appends old new (said_lines said)
   pub heard : (c : ℕ) → HasHeard c said (sight_of c clients)
-
--- commands were answered behind others: their lines were written, and each client that had heard its own has heard these too
-pub record AreSaidNext (commands : List NumberedCommand) (seen : List Event) (before : Sights) (now : List Event) (after : Sights) (old new : Option (List ℕ)) : Type 0 where
-  pub said : List Said
-  pub each : commands_said said ≡ commands
-  pub main : IsSaid seen said now
-  pub appends : Appends old new (said_lines said)
-  pub heard : (c : ℕ) (ss : List Said) → HasHeard c ss (sight_of c before) → HasHeard c (ss ++ said) (sight_of c after)

@@ -52,15 +52,16 @@ fn calls_ahead(commands: &[NumberedCommand]) -> usize
 impl<'a> Crew<'a> {
     ghost use Rattle.std.specs.Prelude.{◌≡◌, ◌≤◌, [], IfErr, IfOk, List, OnOk, length, take};
     ghost use Rattle.std.specs.Io.KnownBytes.{Appends};
-    ghost use Rattle.assise_fault_script.specs.declared.command.Command as commands;
+    ghost use Rattle.assise_fault_script.specs.declared.command.Command.TheVariants.{History};
     ghost use Rattle.assise_history.specs.Legal.{IsLegal};
     ghost use Rattle.assise_history.specs.Text.{history_text};
     ghost use Rattle.assise_keeper.specs.Clients.{Extends};
     ghost use Rattle.assise_console.specs.Lines.{numbered};
     ghost use Rattle.assise_threads.specs.Answered.{IsAnswered, OpensOne};
+    ghost use Rattle.assise_threads.specs.CallsAhead.{AreSaidNext};
     ghost use Rattle.assise_threads.specs.Hearing.{sights};
     ghost use Rattle.assise_threads.specs.Runs.{EndsRun, IsRunSaid};
-    ghost use Rattle.assise_threads.specs.Spoken.{AreAllSaid, AreSaidNext, IsOneSaid, IsStretchSaid, MayGain};
+    ghost use Rattle.assise_threads.specs.Spoken.{AreAllSaid, IsOneSaid, IsStretchSaid, MayGain};
     ghost use Rattle.assise_threads.specs.Stretches.{AreCalls, IsCall};
     ghost use Rattle.assise_threads.specs.Threads.{main_seen};
 
@@ -74,7 +75,7 @@ impl<'a> Crew<'a> {
     ) -> Crew<'a>
         requires some_turns { 1 ≤ turns }
         requires few_turns { turns ≤ 1000000 }
-        ensures { main_seen result.main ≡ main_seen main }
+        ensures { main_seen result.main ≡ main_seen main.entry }
     {
         Crew {
             main,
@@ -212,7 +213,9 @@ impl<'a> Crew<'a> {
             (numbered line (history_text (main_seen self.new.main)))) }
         ensures fault { IfErr result EndsRun }
     {
-        let text = self.main.history(rt, alloc)?;
+        let Ok(text) = self.main.history(rt, alloc) else {
+            return Err(EngineFault::Memory);
+        };
         match writeln!(writer, "{line}: {text}") {
             Ok(()) => Ok(()),
             Err(_) => Err(EngineFault::Write),
@@ -228,7 +231,7 @@ impl<'a> Crew<'a> {
         command: &Command,
     ) -> Result<Answer, EngineFault>
         requires no_call { IsCall command.now → ⊥ }
-        requires no_history { command.now ≡ commands.TheVariants.History → ⊥ }
+        requires no_history { command.now ≡ History → ⊥ }
         ensures answered { IfOk result (λ answer. IsAnswered command.now answer
             (main_seen self.old.main) (main_seen self.new.main)) }
         ensures clients { OnOk result (MayGain (sights clients.old.items) (sights clients.new.items)) }
@@ -270,7 +273,9 @@ impl<'a> Crew<'a> {
         let Ok(node) = u32::try_from(node) else {
             return Ok(Answer::Refused(Refusal::BadNode));
         };
-        clients.reserve(1)?;
+        let Ok(()) = clients.reserve(1) else {
+            return Err(EngineFault::Memory);
+        };
         let Some(revoker) = self.stock.take(kind) else {
             return Ok(Answer::Refused(self.main.refuse_open(rt, node)));
         };

@@ -105,7 +105,9 @@ pub(crate) fn serve<'a, W: Write, R: Threads + Wait + Sync>(
         Ok(ends) => ends,
         Err(fault) => return Err(fault_of(fault)),
     };
-    let (clients, mut outcomes) = parted(alloc, ends)?;
+    let Ok((clients, mut outcomes)) = parted(alloc, ends) else {
+        return Err(EngineFault::Memory);
+    };
     write_calls(alloc, outcomes.as_mut_slice(), stretch, writer)?;
     Ok(clients)
 }
