@@ -1,6 +1,5 @@
 -- The calls in front of commands, and the first line that only a run on one thread serves.
-use Rattle.std.proofs.Common.{◌≡◌, ◌∙◌, ◌≤◌, ◌<◌, ℕ, suc, ◌+◌, List, [], ◌∷◌, ◌++◌, length, take, drop, get_or, Option, None, Some, refl, sym, ap, ap₂, subst, drop-cons, arith}
-use Rattle.std.proofs.lemmas.List.{drop_all}
+use Rattle.std.proofs.Common.{◌≡◌, ◌∙◌, ◌≤◌, ◌<◌, ℕ, suc, ◌+◌, List, [], ◌∷◌, ◌++◌, length, take, drop, get_or, Option, None, Some, refl, sym, ap, ap₂, subst, length-take-le, arith}
 use Rattle.assise_fault_script.specs.declared.command.Command.{Command}
 use Rattle.assise_fault_script.specs.declared.command.Command.TheVariants.{Cluster, Manual, Open, Call, Carry, Digest, Release, Crash, Fail, Back, Refill, Join, Tree, History}
 use Rattle.assise_fault_script.specs.declared.parse.NumberedCommand.{NumberedCommand}
@@ -50,56 +49,14 @@ none_there : (l : NumberedCommand) (ls : List NumberedCommand) → CallOrNot l.c
 none_there l ls (is_call is counts) none call = let n = counts (calls_ahead ls) in omega (arith, n, none)
 none_there l ls (is_none other counts) none call = other call
 
-pub none_in_front : (l : NumberedCommand) (ls : List NumberedCommand) → calls_ahead (l ∷ ls) ≡ 0 → IsCall l.command → ⊥
-none_in_front l ls none call = none_there l ls (call_or_not l.command) none call
+-- where none is counted, the first is no call
+pub first_is_none : (ls : List NumberedCommand) (l : NumberedCommand) → 1 ≤ length ls → l ≡ get_or ls 0 l → calls_ahead ls ≡ 0 → IsCall l.command → ⊥
+first_is_none [] l some is none call = absurd (omega (arith, some))
+first_is_none (k ∷ ls) l some is none call = none_there k ls (call_or_not k.command) none (subst (λ (x : NumberedCommand). IsCall x.command) is call)
 
--- ---- going through commands
+pub first_taken : (ls : List NumberedCommand) (l : NumberedCommand) → 1 ≤ length ls → l ≡ get_or ls 0 l → take 1 ls ≡ l ∷ []
+first_taken [] l some is = absurd (omega (arith, some))
+first_taken (k ∷ ls) l some is = ap (λ (x : NumberedCommand). x ∷ []) (sym is)
 
-module _ (ls : List NumberedCommand) (i : ℕ) (l : NumberedCommand) (within : i < length ls) (is : l ≡ get_or ls i l) where
-  left_is : drop i ls ≡ l ∷ drop (i + 1) ls
-  left_is = let next : suc i ≡ i + 1 = omega arith in drop-cons ls i l within ∙ ap₂ (λ (x : NumberedCommand) (n : ℕ). x ∷ drop n ls) (sym is) next
-
-  -- so many calls so far, and as many as are left in front
-  pub ahead_counted : (call : IsCall l.command) → calls_ahead ls ≡ i + calls_ahead (drop i ls) → calls_ahead ls ≡ (i + 1) + calls_ahead (drop (i + 1) ls)
-  ahead_counted call so_far = counted_call (call_or_not l.command)
-    where
-      counted_call : CallOrNot l.command → calls_ahead ls ≡ (i + 1) + calls_ahead (drop (i + 1) ls)
-      counted_call (is_call is_one counts) = let n = counts (calls_ahead (drop (i + 1) ls)) in let e = ap calls_ahead left_is in omega (arith, so_far, n, e)
-      counted_call (is_none other counts) = absurd (other call)
-
-  pub ahead_ends : (IsCall l.command → ⊥) → calls_ahead ls ≡ i + calls_ahead (drop i ls) → calls_ahead ls ≡ i
-  ahead_ends none so_far = ends (call_or_not l.command)
-    where
-      ends : CallOrNot l.command → calls_ahead ls ≡ i
-      ends (is_call is_one counts) = absurd (none is_one)
-      ends (is_none other counts) = let n = counts (calls_ahead (drop (i + 1) ls)) in let e = ap calls_ahead left_is in omega (arith, so_far, n, e)
-
-  pub serial_goes : (serial_from l.command l.line (serial_line (drop (i + 1) ls)) ≡ serial_line (drop (i + 1) ls)) → serial_line ls ≡ serial_line (drop i ls) → serial_line ls ≡ serial_line (drop (i + 1) ls)
-  serial_goes passes so_far = so_far ∙ (ap serial_line left_is ∙ passes)
-
-  pub serial_found : l.command ≡ Manual → serial_line ls ≡ serial_line (drop i ls) → Some l.line ≡ serial_line ls
-  serial_found manual so_far = sym (so_far ∙ (ap serial_line left_is ∙ ap (λ c. serial_from c l.line (serial_line (drop (i + 1) ls))) manual))
-
-pub serial_passes : (command : Command) (n : ℕ) (later : Option ℕ) → (command ≡ Manual → ⊥) → serial_from command n later ≡ later
-serial_passes Manual n later other = absurd (other refl)
-serial_passes (Call c op) n later other = refl
-serial_passes (Cluster nodes log hot) n later other = refl
-serial_passes (Open node kind) n later other = refl
-serial_passes (Carry node) n later other = refl
-serial_passes (Digest node) n later other = refl
-serial_passes Release n later other = refl
-serial_passes (Crash client) n later other = refl
-serial_passes (Fail node) n later other = refl
-serial_passes (Back node) n later other = refl
-serial_passes (Refill node) n later other = refl
-serial_passes (Join node) n later other = refl
-serial_passes (Tree node) n later other = refl
-serial_passes History n later other = refl
-
--- ---- behind the last
-
-pub ahead_at_end : (ls : List NumberedCommand) (i : ℕ) → length ls ≤ i → calls_ahead ls ≡ i + calls_ahead (drop i ls) → calls_ahead ls ≡ i
-ahead_at_end ls i done so_far = let e = ap calls_ahead (drop_all ls i done) in omega (arith, so_far, e)
-
-pub serial_at_end : (ls : List NumberedCommand) (i : ℕ) → length ls ≤ i → serial_line ls ≡ serial_line (drop i ls) → None ≡ serial_line ls
-serial_at_end ls i done so_far = sym (so_far ∙ ap serial_line (drop_all ls i done))
+pub taken_length : (ls : List NumberedCommand) (n : ℕ) → n ≡ calls_ahead ls → n ≡ length (take n ls)
+taken_length ls n is = let few = few_ahead ls in sym (length-take-le n ls (omega (arith, few, is)))

@@ -51,6 +51,9 @@ may_give_same client taken now is = ([], sym (append-nil taken ∙ is), tt)
 pub stays_nobody_same : (client : Option ℕ) (taken now : List Event) → client ≡ None → taken ≡ now → client_after client (added taken now) ≡ None
 stays_nobody_same client taken now nobody is = stays_nobody client taken now now nobody is record { more = []; split = sym (append-nil now); nobodys = tt }
 
+pub extends_as_it_is : (new old : List Event) → new ≡ old → Extends new old
+extends_as_it_is new old is = ([], is ∙ sym (append-nil old))
+
 -- what was seen before the take is a front of what is given
 pub given_extends : (seen before after given : List Event) → Extends before seen → AddsNobodys before after → given ≡ after → Extends given seen
 given_extends seen before after given front adds is = subst (λ h. Extends h seen) (sym is) (extends-on after before seen (adds.more, adds.split) front)

@@ -1,7 +1,11 @@
 -- A run goes on with what is said next, and is whole in the end.
-use Rattle.std.proofs.Common.{◌≡◌, ◌∙◌, ◌≤◌, ◌<◌, ℕ, suc, ◌+◌, List, [], ◌∷◌, ◌++◌, length, take, drop, get_or, Option, None, Some, refl, sym, ap, subst, arith, take-add}
+use Rattle.std.proofs.Common.{◌≡◌, ◌∙◌, ◌≤◌, ◌<◌, ℕ, suc, ◌+◌, List, [], ◌∷◌, ◌++◌, length, take, drop, get_or, Option, None, Some, refl, sym, ap, subst, arith, take-add, slice_get, Result, Ok, Err, OnOk}
+use Rattle.std.proofs.lemmas.List.{map-append, nil_from_length}
 use Rattle.std.specs.Io.KnownBytes.{Appends, Keeps}
 use Rattle.assise_history.specs.Entries.{Event}
+use Rattle.assise_history.specs.Legal.{calls_made}
+use Rattle.assise_keeper.specs.Clients.{calls_by}
+use Rattle.assise_libfs.specs.Clients.{client_of, seen_by}
 use Rattle.assise_fault_script.specs.declared.command.Command.{Command}
 use Rattle.assise_fault_script.specs.declared.command.Command.TheVariants.{Cluster, Manual, Open, Call, Carry, Digest, Release, Crash, Fail, Back, Refill, Join, Tree, History}
 use Rattle.assise_fault_script.specs.declared.parse.NumberedCommand.{NumberedCommand}
@@ -17,7 +21,7 @@ use Rattle.assise_threads.specs.CallsAhead.{AreSaidNext, is_one, is_stretch}
 use Rattle.assise_threads.specs.Hearing.{sights}
 use Rattle.assise_threads.specs.Runs.{IsRunSaid}
 use Rattle.assise_threads.specs.Said.{said_lines}
-use Rattle.assise_threads.specs.Spoken.{AreAllSaid, Sights}
+use Rattle.assise_threads.specs.Spoken.{AreAllSaid, MayGain, Sights, gains}
 use Rattle.assise_threads.specs.Stretches.{IsCall}
 use Rattle.assise_threads.proofs.AllSaid.{is_run, nothing_said, one_added, stretch_added}
 
@@ -36,6 +40,21 @@ goes_further ls i count seen now before after old mid new all more =
 
 pub is_run_said : {S Stored : Type 0} (commands : List NumberedCommand) (seen : List Event) (ls : List (LibFs S Stored)) (old new : Option (List ℕ)) → AreAllSaid commands seen (sights ls) old new → IsRunSaid commands old new
 is_run_said commands seen ls old new all = record { said = all.said; run = is_run commands seen ls old new all; appends = all.appends }
+
+pub nothing_run : (commands : List NumberedCommand) (old : Option (List ℕ)) → slice_get commands 0 ≡ None → IsRunSaid commands old old
+nothing_run [] old none = is_run_said {S = ℕ} {Stored = ℕ} [] [] [] old old (nothing_said old)
+nothing_run (l ∷ ls) old none = absurd (cc)
+
+pub on_ok : {X E : Type 0} (r : Result X E) (P Q : Type 0) → OnOk r P → (P → Q) → OnOk r Q
+on_ok (Ok x) P Q p f = f p
+on_ok (Err e) P Q p f = tt
+
+-- a client that made no call comes behind the others
+pub gains_client : {S Stored : Type 0} (before mid after : List (LibFs S Stored)) (l : LibFs S Stored) → mid ≡ before → after ≡ mid ++ l ∷ [] → calls_made (client_of l) (seen_by l) ≡ 0 → MayGain (sights before) (sights after)
+gains_client before mid after l same more none =
+    gains (client_of l) (seen_by l)
+    (ap sights more ∙ (map-append (λ x. (client_of x, seen_by x)) mid (l ∷ []) ∙ ap (λ z. sights z ++ (client_of l, seen_by l) ∷ []) same))
+    (nil_from_length (calls_by (client_of l) (seen_by l)) none) l.legal
 
 -- ---- what is handed on stays
 

@@ -52,7 +52,7 @@ fn calls_ahead(commands: &[NumberedCommand]) -> usize
 impl<'a> Crew<'a> {
     ghost use Rattle.std.specs.Prelude.{◌≡◌, ◌≤◌, [], IfErr, IfOk, List, OnOk, length, take};
     ghost use Rattle.std.specs.Io.KnownBytes.{Appends};
-    ghost use Rattle.assise_fault_script.specs.declared.command.Command.TheVariants.{History};
+    ghost use Rattle.assise_fault_script.specs.declared.command.Command.TheVariants.{History as WholeHistory};
     ghost use Rattle.assise_history.specs.Legal.{IsLegal};
     ghost use Rattle.assise_history.specs.Text.{history_text};
     ghost use Rattle.assise_keeper.specs.Clients.{Extends};
@@ -231,7 +231,7 @@ impl<'a> Crew<'a> {
         command: &Command,
     ) -> Result<Answer, EngineFault>
         requires no_call { IsCall command.now → ⊥ }
-        requires no_history { command.now ≡ History → ⊥ }
+        requires no_history { command.now ≡ WholeHistory → ⊥ }
         ensures answered { IfOk result (λ answer. IsAnswered command.now answer
             (main_seen self.old.main) (main_seen self.new.main)) }
         ensures clients { OnOk result (MayGain (sights clients.old.items) (sights clients.new.items)) }
