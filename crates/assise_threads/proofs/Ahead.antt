@@ -1,5 +1,5 @@
 -- The calls in front of commands, and the first line that only a run on one thread serves.
-use Rattle.std.proofs.Common.{◌≡◌, ◌∙◌, ◌≤◌, ◌<◌, ℕ, suc, ◌+◌, List, [], ◌∷◌, ◌++◌, length, take, drop, get_or, Option, None, Some, refl, sym, ap, ap₂, subst, length-take-le, arith}
+use Rattle.std.proofs.Common.{◌≡◌, ◌∙◌, ◌≤◌, ◌<◌, ℕ, suc, ◌+◌, List, [], ◌∷◌, ◌++◌, length, take, drop, get_or, Option, None, Some, refl, sym, ap, ap₂, subst, arith}
 use Rattle.assise_fault_script.specs.declared.command.Command.{Command}
 use Rattle.assise_fault_script.specs.declared.command.Command.TheVariants.{Cluster, Manual, Open, Call, Carry, Digest, Release, Crash, Fail, Back, Refill, Join, Tree, History}
 use Rattle.assise_fault_script.specs.declared.parse.NumberedCommand.{NumberedCommand}
@@ -57,6 +57,3 @@ first_is_none (k ∷ ls) l some is none call = none_there k ls (call_or_not k.co
 pub first_taken : (ls : List NumberedCommand) (l : NumberedCommand) → 1 ≤ length ls → l ≡ get_or ls 0 l → take 1 ls ≡ l ∷ []
 first_taken [] l some is = absurd (omega (arith, some))
 first_taken (k ∷ ls) l some is = ap (λ (x : NumberedCommand). x ∷ []) (sym is)
-
-pub taken_length : (ls : List NumberedCommand) (n : ℕ) → n ≡ calls_ahead ls → n ≡ length (take n ls)
-taken_length ls n is = let few = few_ahead ls in sym (length-take-le n ls (omega (arith, few, is)))

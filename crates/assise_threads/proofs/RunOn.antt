@@ -13,13 +13,16 @@ use Rattle.assise_console.specs.declared.answer.Answer.{Answer}
 use Rattle.assise_console.specs.declared.answer.Answer.TheVariants.{Quiet, Client, Replied, Waits, Refused, Carried, Digested, Released, Crashed, Failed, Began, Left, Returned, Tree as Shown, History as Whole}
 use Rattle.assise_names.specs.declared.refusal.Refusal.TheVariants.{Busy, OutOfMemory}
 use Rattle.assise_machine_events.specs.Machine.{Machine}
+use Rattle.assise_console.specs.declared.fault.EngineFault.{EngineFault}
+use Rattle.assise_console.specs.declared.fault.EngineFault.TheVariants.{Read, Script, Memory, Write, NeedsSerial, NoThread}
+use Rattle.assise_console.specs.Engines.{IsReadFault}
 use Rattle.assise_console.specs.Lines.{line_text}
 use Rattle.assise_console.specs.Steps.{Shows, is_shown, lacks_memory, is_refused as not_shown}
 use Rattle.assise_libfs.specs.declared.libfs.LibFs.{LibFs}
 use Rattle.assise_threads.specs.Answered.{IsAnswered, joins, stops_filling, is_refused, is_busy, is_opened, is_carried, is_replied}
 use Rattle.assise_threads.specs.CallsAhead.{AreSaidNext, is_one, is_stretch}
 use Rattle.assise_threads.specs.Hearing.{sights}
-use Rattle.assise_threads.specs.Runs.{IsRunSaid}
+use Rattle.assise_threads.specs.Runs.{EndsRun, IsRunSaid, ThreadFault}
 use Rattle.assise_threads.specs.Said.{said_lines}
 use Rattle.assise_threads.specs.Spoken.{AreAllSaid, MayGain, Sights, gains}
 use Rattle.assise_threads.specs.Stretches.{IsCall}
@@ -33,10 +36,11 @@ said_then done next seen now before after old mid new all (is_stretch same more)
 said_then done next seen now before after old mid new all (is_one l is none one) = subst (λ z. AreAllSaid (done ++ z) now after old new) (sym is) (one_added done seen before old mid all l now after new none one)
 
 -- so many more of the commands
-pub goes_further : (ls : List NumberedCommand) (i count : ℕ) (seen now : List Event) (before after : Sights) (old mid new : Option (List ℕ)) → AreAllSaid (take i ls) seen before old mid → AreSaidNext (take count (drop i ls)) seen before now after mid new
-    → AreAllSaid (take (i + count) ls) now after old new
-goes_further ls i count seen now before after old mid new all more =
-    subst (λ z. AreAllSaid z now after old new) (sym (take-add i count ls)) (said_then (take i ls) (take count (drop i ls)) seen now before after old mid new all more)
+pub goes_further : (ls rest : List NumberedCommand) (i count : ℕ) (seen now : List Event) (before after : Sights) (old mid new : Option (List ℕ)) → rest ≡ drop i ls → AreAllSaid (take i ls) seen before old mid
+    → AreSaidNext (take count rest) seen before now after mid new → AreAllSaid (take (i + count) ls) now after old new
+goes_further ls rest i count seen now before after old mid new is all more =
+    subst (λ z. AreAllSaid z now after old new) (sym (take-add i count ls))
+    (said_then (take i ls) (take count (drop i ls)) seen now before after old mid new all (subst (λ z. AreSaidNext (take count z) seen before now after mid new) is more))
 
 pub is_run_said : {S Stored : Type 0} (commands : List NumberedCommand) (seen : List Event) (ls : List (LibFs S Stored)) (old new : Option (List ℕ)) → AreAllSaid commands seen (sights ls) old new → IsRunSaid commands old new
 is_run_said commands seen ls old new all = record { said = all.said; run = is_run commands seen ls old new all; appends = all.appends }
@@ -97,19 +101,37 @@ not_whole (Tree node) old new other h = no_tree h.does.shows
 not_whole History old new other h = other refl
 
 -- so a line shows no history where another command was answered
-pub line_shows_none : (n : ℕ) (command : Command) (a : Answer) (old new : List Event) → (command ≡ History → ⊥) → IsAnswered command a old new → line_text n [] a ≡ line_text n new a
-line_shows_none n command Whole old new other h = absurd (not_whole command old new other h)
-line_shows_none n command Quiet old new other h = refl
-line_shows_none n command (Client c) old new other h = refl
-line_shows_none n command (Replied reply) old new other h = refl
-line_shows_none n command Waits old new other h = refl
-line_shows_none n command (Refused r) old new other h = refl
-line_shows_none n command (Carried k) old new other h = refl
-line_shows_none n command (Digested k) old new other h = refl
-line_shows_none n command (Released k) old new other h = refl
-line_shows_none n command (Crashed c) old new other h = refl
-line_shows_none n command (Failed node losses) old new other h = refl
-line_shows_none n command (Began node stale) old new other h = refl
-line_shows_none n command (Left stale) old new other h = refl
-line_shows_none n command (Returned node) old new other h = refl
-line_shows_none n command (Shown tree) old new other h = refl
+pub line_shows_none : (n : ℕ) (command : Command) (a : Answer) (shown old new : List Event) → (command ≡ History → ⊥) → IsAnswered command a old new → line_text n shown a ≡ line_text n new a
+line_shows_none n command Whole shown old new other h = absurd (not_whole command old new other h)
+line_shows_none n command Quiet shown old new other h = refl
+line_shows_none n command (Client c) shown old new other h = refl
+line_shows_none n command (Replied reply) shown old new other h = refl
+line_shows_none n command Waits shown old new other h = refl
+line_shows_none n command (Refused r) shown old new other h = refl
+line_shows_none n command (Carried k) shown old new other h = refl
+line_shows_none n command (Digested k) shown old new other h = refl
+line_shows_none n command (Released k) shown old new other h = refl
+line_shows_none n command (Crashed c) shown old new other h = refl
+line_shows_none n command (Failed node losses) shown old new other h = refl
+line_shows_none n command (Began node stale) shown old new other h = refl
+line_shows_none n command (Left stale) shown old new other h = refl
+line_shows_none n command (Returned node) shown old new other h = refl
+line_shows_none n command (Shown tree) shown old new other h = refl
+
+-- ---- what ends a run
+
+pub read_ends : (e : EngineFault) (known old : Option (List ℕ)) → IsReadFault e → ThreadFault e known old old
+read_ends Read known old is = refl
+read_ends Memory known old is = tt
+read_ends (Script line fault) known old is = absurd is
+read_ends Write known old is = absurd is
+read_ends (NeedsSerial line) known old is = absurd is
+read_ends NoThread known old is = absurd is
+
+pub run_ends : (e : EngineFault) (known old new : Option (List ℕ)) → EndsRun e → ThreadFault e known old new
+run_ends Memory known old new is = tt
+run_ends Write known old new is = tt
+run_ends NoThread known old new is = tt
+run_ends Read known old new is = absurd is
+run_ends (Script line fault) known old new is = absurd is
+run_ends (NeedsSerial line) known old new is = absurd is

@@ -1,6 +1,9 @@
 // Runs commands with a main thread, and a thread for each client.
-ghost use Rattle.std.specs.Prelude.{◌≡◌, ◌≤◌};
+ghost use Rattle.std.specs.Prelude.{◌≡◌, ◌≤◌, [], IfErr, OnOk};
+ghost use Rattle.std.specs.Io.KnownBytes.{Appends};
+ghost use Rattle.assise_console.specs.Lines.{line_text};
 ghost use Rattle.assise_threads.specs.CallsAhead.{calls_ahead};
+ghost use Rattle.assise_threads.specs.Runs.{EndsRun};
 
 use crate::main_thread::MainThread;
 use crate::stretch::serve;
@@ -47,6 +50,20 @@ fn calls_ahead(commands: &[NumberedCommand]) -> usize
         count += 1;
     }
     count
+}
+
+/// Writes the line of an answer that isn't the history.
+fn write_answer<W: Write>(
+    alloc: Global,
+    writer: &mut W,
+    line: u64,
+    answer: Answer,
+) -> Result<(), EngineFault>
+    ensures written { OnOk result (Appends (W.contents writer.old) (W.contents writer.new)
+        (line_text line [] answer)) }
+    ensures fault { IfErr result EndsRun }
+{
+    print(writer, line, &History::new(alloc), &answer)
 }
 
 impl<'a> Crew<'a> {
@@ -121,7 +138,8 @@ impl<'a> Crew<'a> {
     {
         let mut done = 0;
         while done < commands.len() {
-            done += self.run_next(rt, alloc, clients, &commands[done..], writer)?;
+            let (_, rest) = commands.split_at(done);
+            done += self.run_next(rt, alloc, clients, rest, writer)?;
         }
         Ok(())
     }
@@ -148,7 +166,8 @@ impl<'a> Crew<'a> {
             self.run_one(rt, alloc, clients, &commands[0], writer)?;
             return Ok(1);
         }
-        self.run_calls(rt, alloc, clients, &commands[..calls], writer)?;
+        let (stretch, _) = commands.split_at(calls);
+        self.run_calls(rt, alloc, clients, stretch, writer)?;
         Ok(calls)
     }
 
@@ -161,7 +180,7 @@ impl<'a> Crew<'a> {
         stretch: &[NumberedCommand],
         writer: &mut W,
     ) -> Result<(), EngineFault>
-        requires { AreCalls stretch.now }
+        requires calls { AreCalls stretch.now }
         ensures seen { main_seen self.new.main ≡ main_seen self.old.main }
         ensures said { OnOk result (IsStretchSaid stretch.now (main_seen self.old.main)
             (sights clients.old.items) (sights clients.new.items)
@@ -196,7 +215,7 @@ impl<'a> Crew<'a> {
             return self.write_history(rt, alloc, line.line, writer);
         }
         let answer = self.answer(rt, alloc, clients, &line.command)?;
-        print(writer, line.line, &History::new(alloc), &answer)
+        write_answer(alloc, writer, line.line, answer)
     }
 
     /// Writes the history so far.
