@@ -1,5 +1,5 @@
 // A cluster on which a script's commands are run.
-ghost use Rattle.std.specs.Prelude.{◌≡◌, ◌<◌, ◌^◌, ◌≤◌, IfOk, IfSome, IsOkUnless, None};
+ghost use Rattle.std.specs.Prelude.{◌≡◌, ◌<◌, ◌≤◌, IfOk, IsOkUnless};
 ghost use Rattle.assise_names.specs.declared.refusal.Refusal.TheVariants.{OutOfMemory};
 ghost use Rattle.assise_machine_events.specs.Events.{crash, digest, fail, join, refill};
 ghost use Rattle.assise_machine.specs.Running.{opened_answer};
@@ -12,12 +12,11 @@ ghost use Rattle.assise_console.specs.Steps.{Calls, Carries, Changes, Does, Open
 ghost use Rattle.assise_console.specs.Trying.{IsOne, Tells};
 
 use crate::answer::Answer;
-use crate::returning::{
-    begin_return, crash_client, fail_node, join_node, refill_once, return_node,
-};
+use crate::commands;
+use crate::numbered::number_of;
+use crate::returning::return_node;
 use crate::rounds::replicate;
 use crate::stock::Stock;
-use crate::trees::tree_at;
 use crate::trying::{try_often, try_once};
 use assise_fault_script::command::{Command, RevokerKind};
 use assise_history::history::History;
@@ -88,7 +87,7 @@ impl<C: Revokes + Drop> ConsoleOf<C> {
             Command::Call { client, op } => self.call(alloc, client, &op),
             Command::Carry { node } => self.carry(alloc, node),
             Command::Digest { node } => self.digest(alloc, node),
-            Command::Release => Answer::Released(self.cluster.release_ready()),
+            Command::Release => commands::release(&mut self.cluster),
             Command::Crash { client } => self.crash(client),
             Command::Fail { node } => self.fail(alloc, node),
             Command::Back { node } => self.back(alloc, node),
@@ -147,79 +146,55 @@ impl<C: Revokes + Drop> ConsoleOf<C> {
     fn digest(&mut self, alloc: Global, node: u64) -> Answer
         ensures { (es : Told) × Changes (IsOne (digest node) result) (seen self.old) es (seen self.new) }
     {
-        let Some(node) = number_of(node) else {
-            return Answer::Refused(Refusal::BadNode);
-        };
-        match self.cluster.digest(alloc, node) {
-            Ok(count) => Answer::Digested(count),
-            Err(refusal) => Answer::Refused(refusal),
-        }
+        commands::digest(alloc, &mut self.cluster, node)
     }
 
     /// A client crashes.
     fn crash(&mut self, client: u64) -> Answer
         ensures { (es : Told) × Changes (IsOneAt crash client result) (seen self.old) es (seen self.new) }
     {
-        let Some(client) = number_of(client) else {
-            return Answer::Refused(Refusal::BadClient);
-        };
-        crash_client(&mut self.cluster, client)
+        commands::crash(&mut self.cluster, client)
     }
 
     /// A node fails.
     fn fail(&mut self, alloc: Global, node: u64) -> Answer
         ensures { (es : Told) × Changes (IsOneAt fail node result) (seen self.old) es (seen self.new) }
     {
-        let Some(node) = number_of(node) else {
-            return Answer::Refused(Refusal::BadNode);
-        };
-        fail_node(alloc, &mut self.cluster, node)
+        commands::fail(alloc, &mut self.cluster, node)
     }
 
     /// A node comes back: it begins to, is filled and joins. After `manual` it begins to.
     fn back(&mut self, alloc: Global, node: u64) -> Answer
         ensures { (es : Told) × Changes (Returns (seen self.old).manual node result) (seen self.old) es (seen self.new) }
     {
+        if self.manual {
+            return commands::begin_return(&mut self.cluster, node);
+        }
         let Some(node) = number_of(node) else {
             return Answer::Refused(Refusal::BadNode);
         };
-        if !self.manual {
-            return return_node(alloc, &mut self.cluster, node);
-        }
-        begin_return(&mut self.cluster, node)
+        return_node(alloc, &mut self.cluster, node)
     }
 
     /// A node that comes back gets one inode that it may lack.
     fn refill(&mut self, alloc: Global, node: u64) -> Answer
         ensures { (es : Told) × Changes (IsOneAt refill node result) (seen self.old) es (seen self.new) }
     {
-        let Some(node) = number_of(node) else {
-            return Answer::Refused(Refusal::BadNode);
-        };
-        refill_once(alloc, &mut self.cluster, node)
+        commands::refill(alloc, &mut self.cluster, node)
     }
 
     /// A node that comes back and lacks no inode is full again.
     fn join(&mut self, alloc: Global, node: u64) -> Answer
         ensures { (es : Told) × Changes (IsOneAt join node result) (seen self.old) es (seen self.new) }
     {
-        let Some(node) = number_of(node) else {
-            return Answer::Refused(Refusal::BadNode);
-        };
-        join_node(alloc, &mut self.cluster, node)
+        commands::join(alloc, &mut self.cluster, node)
     }
 
     /// The tree that a node's region alone gives.
     fn tree(&self, alloc: Global, node: u64) -> Answer
         ensures { Shows node result (seen self.now).machine }
     {
-        let Some(node) = number_of(node) else {
-            return Answer::Refused(Refusal::BadNode);
-        };
-        match tree_at(alloc, &self.cluster, node) {
-            Ok(tree) => Answer::Tree(tree),
-            Err(refusal) => Answer::Refused(refusal),
-        }
+        commands::tree(alloc, &self.cluster, node)
     }
 }
 
@@ -231,12 +206,4 @@ fn opened(client: Result<u32, Refusal>) -> Answer
         Ok(client) => Answer::Client(client),
         Err(refusal) => Answer::Refused(refusal),
     }
-}
-
-/// The number of a node or of a client. What doesn't fit 32 bits names none.
-fn number_of(word: u64) -> Option<u32>
-    ensures some { IfSome result (λ number. number ≡ word) }
-    ensures none { result ≡ None → 2 ^ 32 ≤ word }
-{
-    u32::try_from(word).ok()
 }

@@ -2,10 +2,12 @@
 #![tactic(auto)]
 
 pub mod answer;
+pub mod commands;
 pub mod console;
 pub mod engine;
 pub mod fault;
 pub mod laws;
+mod numbered;
 pub mod options;
 mod returning;
 mod rounds;

@@ -2,7 +2,7 @@ use Rattle.std.proofs.Common.{arith}
 use Rattle.assise_machine.specs.Clusters.{machine}
 use Rattle.assise_machine.proofs.Few.{few_clients}
 use Rattle.assise_console.specs.Consoles.{seen}
-use Rattle.assise_console.proofs.Commands.{calls_none, calls_often}
+use Rattle.assise_console.proofs.OneCommand.{calls_none, calls_often}
 use Rattle.assise_console.proofs.console.ConsoleOf.call.Goals as goal
 
 pub returns-in_default : goal.returns-in_default

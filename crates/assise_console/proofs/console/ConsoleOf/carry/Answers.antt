@@ -2,7 +2,7 @@ use Rattle.std.proofs.Common.{arith}
 use Rattle.assise_machine.specs.Clusters.{machine}
 use Rattle.assise_machine.proofs.Few.{few_nodes}
 use Rattle.assise_console.specs.Consoles.{seen}
-use Rattle.assise_console.proofs.Commands.{carries_none, carries_refused, carries_some}
+use Rattle.assise_console.proofs.OneCommand.{carries_none, carries_refused, carries_some}
 use Rattle.assise_console.proofs.console.ConsoleOf.carry.Goals as goal
 
 pub returns-in_default : goal.returns-in_default

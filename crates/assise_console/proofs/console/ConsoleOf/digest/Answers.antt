@@ -1,18 +1,9 @@
-use Rattle.std.proofs.Common.{refl, arith}
+use Rattle.assise_machine_events.specs.Events.{digest}
 use Rattle.assise_machine.specs.Clusters.{machine}
-use Rattle.assise_machine.proofs.Few.{few_nodes}
 use Rattle.assise_console.specs.Consoles.{seen}
-use Rattle.assise_console.proofs.Commands.{digests_by, digests_none}
+use Rattle.assise_console.specs.Trying.{IsOne}
+use Rattle.assise_console.proofs.OneCommand.{changes}
 use Rattle.assise_console.proofs.console.ConsoleOf.digest.Goals as goal
 
-pub returns-in_default : goal.returns-in_default
-returns-in_default g c =
-    let few = few_nodes c.args.self.now.cluster in
-    let large = c.number_of.ensures.none c.in_default.is in
-    digests_none (seen c.args.self.now) c.args.node (omega (arith, few, large))
-
-pub returns-in-Ok : goal.returns-in-Ok
-returns-in-Ok g c = digests_by (seen c.args.self.now) c.args.node c.in-Some.node _ _ (machine c.digest.new.self) c.in-Some.ensures.some refl c.in-Ok.ensures.happens
-
-pub returns-in-Err : goal.returns-in-Err
-returns-in-Err g c = digests_by (seen c.args.self.now) c.args.node c.in-Some.node _ _ (machine c.digest.new.self) c.in-Some.ensures.some refl c.in-Err.ensures.happens
+pub returns : goal.returns
+returns g c = changes (IsOne (digest c.args.node) c.digest.result) (seen c.args.self.now) (machine c.digest.new.cluster) c.digest.ensures

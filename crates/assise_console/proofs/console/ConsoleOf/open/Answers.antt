@@ -4,7 +4,7 @@ use Rattle.assise_machine.proofs.Few.{few_nodes}
 use Rattle.assise_console.specs.Consoles.{seen}
 use Rattle.assise_fault_script.specs.declared.command.RevokerKind.TheVariants.{Least, Whole, Eights}
 use Rattle.assise_machine.specs.Running.{opened_answer}
-use Rattle.assise_console.proofs.Commands.{opens_by, opens_none}
+use Rattle.assise_console.proofs.OneCommand.{opens_by, opens_none}
 use Rattle.assise_console.proofs.Stored.{kept, other_kinds_eights, other_kinds_least, other_kinds_whole, others_stay, takes}
 use Rattle.assise_console.proofs.console.ConsoleOf.open.Goals as goal
 

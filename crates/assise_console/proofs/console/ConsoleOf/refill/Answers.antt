@@ -1,16 +1,9 @@
-use Rattle.std.proofs.Common.{arith}
 use Rattle.assise_machine_events.specs.Events.{refill}
 use Rattle.assise_machine.specs.Clusters.{machine}
-use Rattle.assise_machine.proofs.Few.{few_nodes}
 use Rattle.assise_console.specs.Consoles.{seen}
-use Rattle.assise_console.proofs.Commands.{does_at, refills_none}
+use Rattle.assise_console.specs.Returning.{IsOneAt}
+use Rattle.assise_console.proofs.OneCommand.{changes}
 use Rattle.assise_console.proofs.console.ConsoleOf.refill.Goals as goal
 
-pub returns-in_default : goal.returns-in_default
-returns-in_default g c =
-    let few = few_nodes c.args.self.now.cluster in
-    let large = c.number_of.ensures.none c.in_default.is in
-    refills_none (seen c.args.self.now) c.args.node (omega (arith, few, large))
-
 pub returns : goal.returns
-returns g c = does_at refill (seen c.args.self.now) c.args.node c.in-Some.node c.refill_once.result (machine c.refill_once.new.cluster) c.in-Some.ensures.some c.refill_once.ensures
+returns g c = changes (IsOneAt refill c.args.node c.refill.result) (seen c.args.self.now) (machine c.refill.new.cluster) c.refill.ensures

@@ -108,61 +108,53 @@ carries_refused s n k r m' same h = (_, record { events = is_refused r refl reco
 pub carries_none : (s : State) (n : ℕ) → length s.machine.members.nodes < n → (es : Told) × Changes (Carries n (Refused BadNode)) s es s
 carries_none s n far = (_, record { events = is_refused BadNode refl record { told = refl; happens = sends_nowhere s.machine n far }; stays = refl })
 
-pub digests_by : (s : State) (n k : ℕ) (a : Answer) (e : EventAnswer) (m' : Machine) → k ≡ n → Tells a e → Digesting s.machine k e m' → (es : Told) × Changes (IsOne (digest n) a) s es (with_machine s m')
-digests_by s n k a e m' same tells h = (
-  _,
-  record {
-    events = record { answer = e; tells = tells; event = record { told = refl; happens = subst (λ j. Digesting s.machine j e m') same h } };
-    stays = refl;
-  },
-)
+pub digests_by : (m : Machine) (n k : ℕ) (a : Answer) (e : EventAnswer) (m' : Machine) → k ≡ n → Tells a e → Digesting m k e m' → (es : Told) × IsOne (digest n) a m es m'
+digests_by m n k a e m' same tells h = (_, record { answer = e; tells = tells; event = record { told = refl; happens = subst (λ j. Digesting m j e m') same h } })
 
-pub digests_none : (s : State) (n : ℕ) → length s.machine.members.nodes < n → (es : Told) × Changes (IsOne (digest n) (Refused BadNode)) s es s
-digests_none s n far = (
-  _,
-  record {
-    events = record { answer = refused BadNode; tells = refl; event = record { told = refl; happens = digests_nowhere s.machine n far } };
-    stays = refl;
-  },
-)
+pub digests_none : (m : Machine) (n : ℕ) → length m.members.nodes < n → (es : Told) × IsOne (digest n) (Refused BadNode) m es m
+digests_none m n far = (_, record { answer = refused BadNode; tells = refl; event = record { told = refl; happens = digests_nowhere m n far } })
 
 -- ---- leases
 
-pub releases_by : (s : State) (a : Answer) (e : EventAnswer) (m' : Machine) → Tells a e → Releasing s.machine e m' → (es : Told) × Changes (IsOne release_ready a) s es (with_machine s m')
-releases_by s a e m' tells h = (_, record { events = record { answer = e; tells = tells; event = record { told = refl; happens = h } }; stays = refl })
+pub releases_by : (m : Machine) (a : Answer) (e : EventAnswer) (m' : Machine) → Tells a e → Releasing m e m' → (es : Told) × IsOne release_ready a m es m'
+releases_by m a e m' tells h = (_, record { answer = e; tells = tells; event = record { told = refl; happens = h } })
 
 -- ---- crashes, failures and returns
 
-pub does_at : (what : ℕ → ClusterEvent) (s : State) (n k : ℕ) (a : Answer) (m' : Machine) → k ≡ n → (es : Told) × IsOneAt what k a s.machine es m' → (es : Told) × Changes (IsOneAt what n a) s es (with_machine s m')
-does_at what s n k a m' same (es, h) = (es, record { events = subst (λ j. IsOneAt what j a s.machine es m') same h; stays = refl })
+pub does_at : (what : ℕ → ClusterEvent) (m : Machine) (n k : ℕ) (a : Answer) (m' : Machine) → k ≡ n → (es : Told) × IsOneAt what k a m es m' → (es : Told) × IsOneAt what n a m es m'
+does_at what m n k a m' same (es, h) = (es, subst (λ j. IsOneAt what j a m es m') same h)
 
-refuses_at : (what : ℕ → ClusterEvent) (s : State) (n : ℕ) (r : Refusal) → Happens s.machine (what n) (refused r) s.machine → (es : Told) × Changes (IsOneAt what n (Refused r)) s es s
-refuses_at what s n r h = does_at what s n n (Refused r) s.machine refl (is_told what n (Refused r) (refused r) s.machine s.machine refl h)
+refuses_at : (what : ℕ → ClusterEvent) (m : Machine) (n : ℕ) (r : Refusal) → Happens m (what n) (refused r) m → (es : Told) × IsOneAt what n (Refused r) m es m
+refuses_at what m n r h = is_told what n (Refused r) (refused r) m m refl h
 
-pub crashes_none : (s : State) (c : ℕ) → s.machine.world.clients < c → (es : Told) × Changes (IsOneAt crash c (Refused BadClient)) s es s
-crashes_none s c far = refuses_at crash s c BadClient (crashes_nobody s.machine c far)
+pub crashes_none : (m : Machine) (c : ℕ) → m.world.clients < c → (es : Told) × IsOneAt crash c (Refused BadClient) m es m
+crashes_none m c far = refuses_at crash m c BadClient (crashes_nobody m c far)
 
-pub fails_none : (s : State) (n : ℕ) → length s.machine.members.nodes < n → (es : Told) × Changes (IsOneAt fail n (Refused BadNode)) s es s
-fails_none s n far = refuses_at fail s n BadNode (fails_nowhere s.machine n far)
+pub fails_none : (m : Machine) (n : ℕ) → length m.members.nodes < n → (es : Told) × IsOneAt fail n (Refused BadNode) m es m
+fails_none m n far = refuses_at fail m n BadNode (fails_nowhere m n far)
 
-pub refills_none : (s : State) (n : ℕ) → length s.machine.members.nodes < n → (es : Told) × Changes (IsOneAt refill n (Refused BadNode)) s es s
-refills_none s n far = refuses_at refill s n BadNode (fills_nowhere s.machine n far)
+pub comes_none : (m : Machine) (n : ℕ) → length m.members.nodes < n → (es : Told) × IsOneAt back n (Refused BadNode) m es m
+comes_none m n far = refuses_at back m n BadNode (comes_nowhere m n far)
 
-pub joins_none : (s : State) (n : ℕ) → length s.machine.members.nodes < n → (es : Told) × Changes (IsOneAt join n (Refused BadNode)) s es s
-joins_none s n far = refuses_at join s n BadNode (joins_nowhere s.machine n far)
+pub refills_none : (m : Machine) (n : ℕ) → length m.members.nodes < n → (es : Told) × IsOneAt refill n (Refused BadNode) m es m
+refills_none m n far = refuses_at refill m n BadNode (fills_nowhere m n far)
 
-pub begins_return : (s : State) (n k : ℕ) (a : Answer) (m' : Machine) → k ≡ n → s.manual ≡ true → (es : Told) × IsOneAt back k a s.machine es m' → (es : Told) × Changes (Returns s.manual n a) s es (with_machine s m')
-begins_return s n k a m' same manual (es, h) = (es, record { events = rw manual (subst (λ j. IsOneAt back j a s.machine es m') same h); stays = refl })
+pub joins_none : (m : Machine) (n : ℕ) → length m.members.nodes < n → (es : Told) × IsOneAt join n (Refused BadNode) m es m
+joins_none m n far = refuses_at join m n BadNode (joins_nowhere m n far)
+
+-- ---- the same of a console, whose cluster alone changes
+
+pub changes : (What : Machine → Told → Machine → Type 0) (s : State) (m' : Machine) → (es : Told) × What s.machine es m' → (es : Told) × Changes What s es (with_machine s m')
+changes What s m' (es, h) = (es, record { events = h; stays = refl })
+
+pub begins_return : (s : State) (n : ℕ) (a : Answer) (m' : Machine) → s.manual ≡ true → (es : Told) × IsOneAt back n a s.machine es m' → (es : Told) × Changes (Returns s.manual n a) s es (with_machine s m')
+begins_return s n a m' manual (es, h) = (es, record { events = rw manual h; stays = refl })
 
 pub returns_whole : (s : State) (n k : ℕ) (a : Answer) (m' : Machine) → k ≡ n → s.manual ≡ false → (es : Told) × ComesBack k a s.machine es m' → (es : Told) × Changes (Returns s.manual n a) s es (with_machine s m')
 returns_whole s n k a m' same manual (es, h) = (es, record { events = rw manual (subst (λ j. ComesBack j a s.machine es m') same h); stays = refl })
 
-pub returns_none : (s : State) (n : ℕ) → length s.machine.members.nodes < n → (es : Told) × Changes (Returns s.manual n (Refused BadNode)) s es s
-returns_none s n far = either s.manual refl
-  where
-    either : (manual : Bool) → s.manual ≡ manual → (es : Told) × Changes (Returns s.manual n (Refused BadNode)) s es s
-    either true is = begins_return s n n (Refused BadNode) s.machine refl is (is_told back n (Refused BadNode) (refused BadNode) s.machine s.machine refl (comes_nowhere s.machine n far))
-    either false is = returns_whole s n n (Refused BadNode) s.machine refl is (comes_not n BadNode s.machine s.machine (comes_nowhere s.machine n far))
+pub returns_none : (s : State) (n : ℕ) → s.manual ≡ false → length s.machine.members.nodes < n → (es : Told) × Changes (Returns s.manual n (Refused BadNode)) s es s
+returns_none s n manual far = returns_whole s n n (Refused BadNode) s.machine refl manual (comes_not n BadNode s.machine s.machine (comes_nowhere s.machine n far))
 
 -- ---- a tree
 

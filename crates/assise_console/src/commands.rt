@@ -1,0 +1,100 @@
+// Commands that open no client and make no call, on a cluster alone.
+ghost use Rattle.assise_machine_events.specs.Events.{back, crash, digest, fail, join, refill, release_ready};
+ghost use Rattle.assise_machine.specs.Clusters.{machine};
+ghost use Rattle.assise_console.specs.Courses.{Told};
+ghost use Rattle.assise_console.specs.Returning.{IsOneAt};
+ghost use Rattle.assise_console.specs.Steps.{Shows};
+ghost use Rattle.assise_console.specs.Trying.{IsOne};
+
+use crate::answer::Answer;
+use crate::numbered::number_of;
+use crate::returning;
+use crate::returning::{crash_client, fail_node, join_node, refill_once};
+use crate::trees::tree_at;
+use assise_lease_table::revoker::Revokes;
+use assise_machine::cluster::ClusterOf;
+use assise_names::refusal::Refusal;
+use std::alloc::Global;
+
+/// One digest of a node.
+pub fn digest<C: Revokes + Drop>(alloc: Global, cluster: &mut ClusterOf<C>, node: u64) -> Answer
+    ensures { (es : Told) × IsOne (digest node) result (machine cluster.old) es (machine cluster.new) }
+{
+    let Some(node) = number_of(node) else {
+        return Answer::Refused(Refusal::BadNode);
+    };
+    match cluster.digest(alloc, node) {
+        Ok(count) => Answer::Digested(count),
+        Err(refusal) => Answer::Refused(refusal),
+    }
+}
+
+/// The leases go that may.
+pub fn release<C: Revokes + Drop>(cluster: &mut ClusterOf<C>) -> Answer
+    ensures { (es : Told) × IsOne release_ready result (machine cluster.old) es (machine cluster.new) }
+{
+    Answer::Released(cluster.release_ready())
+}
+
+/// A client crashes.
+pub fn crash<C: Revokes + Drop>(cluster: &mut ClusterOf<C>, client: u64) -> Answer
+    ensures { (es : Told) × IsOneAt crash client result (machine cluster.old) es (machine cluster.new) }
+{
+    let Some(client) = number_of(client) else {
+        return Answer::Refused(Refusal::BadClient);
+    };
+    crash_client(cluster, client)
+}
+
+/// A node fails.
+pub fn fail<C: Revokes + Drop>(alloc: Global, cluster: &mut ClusterOf<C>, node: u64) -> Answer
+    ensures { (es : Told) × IsOneAt fail node result (machine cluster.old) es (machine cluster.new) }
+{
+    let Some(node) = number_of(node) else {
+        return Answer::Refused(Refusal::BadNode);
+    };
+    fail_node(alloc, cluster, node)
+}
+
+/// A node that was down begins to come back.
+pub fn begin_return<C: Revokes + Drop>(cluster: &mut ClusterOf<C>, node: u64) -> Answer
+    ensures { (es : Told) × IsOneAt back node result (machine cluster.old) es (machine cluster.new) }
+{
+    let Some(node) = number_of(node) else {
+        return Answer::Refused(Refusal::BadNode);
+    };
+    returning::begin_return(cluster, node)
+}
+
+/// A node that comes back gets one inode that it may lack.
+pub fn refill<C: Revokes + Drop>(alloc: Global, cluster: &mut ClusterOf<C>, node: u64) -> Answer
+    ensures { (es : Told) × IsOneAt refill node result (machine cluster.old) es (machine cluster.new) }
+{
+    let Some(node) = number_of(node) else {
+        return Answer::Refused(Refusal::BadNode);
+    };
+    refill_once(alloc, cluster, node)
+}
+
+/// A node that comes back and lacks no inode is full again.
+pub fn join<C: Revokes + Drop>(alloc: Global, cluster: &mut ClusterOf<C>, node: u64) -> Answer
+    ensures { (es : Told) × IsOneAt join node result (machine cluster.old) es (machine cluster.new) }
+{
+    let Some(node) = number_of(node) else {
+        return Answer::Refused(Refusal::BadNode);
+    };
+    join_node(alloc, cluster, node)
+}
+
+/// The tree that a node's region alone gives.
+pub fn tree<C: Revokes + Drop>(alloc: Global, cluster: &ClusterOf<C>, node: u64) -> Answer
+    ensures { Shows node result (machine cluster.now) }
+{
+    let Some(node) = number_of(node) else {
+        return Answer::Refused(Refusal::BadNode);
+    };
+    match tree_at(alloc, cluster, node) {
+        Ok(tree) => Answer::Tree(tree),
+        Err(refusal) => Answer::Refused(refusal),
+    }
+}

@@ -1,0 +1,59 @@
+-- The calls in front of commands, and the first line that only a run on one thread serves.
+use Rattle.std.proofs.Common.{◌≡◌, ◌∙◌, ◌≤◌, ◌<◌, ℕ, suc, ◌+◌, List, [], ◌∷◌, ◌++◌, length, take, drop, get_or, Option, None, Some, refl, sym, ap, ap₂, subst, arith}
+use Rattle.assise_fault_script.specs.declared.command.Command.{Command}
+use Rattle.assise_fault_script.specs.declared.command.Command.TheVariants.{Cluster, Manual, Open, Call, Carry, Digest, Release, Crash, Fail, Back, Refill, Join, Tree, History}
+use Rattle.assise_fault_script.specs.declared.parse.NumberedCommand.{NumberedCommand}
+use Rattle.assise_threads.specs.CallsAhead.{calls_ahead, counts_call}
+use Rattle.assise_threads.specs.Runs.{serial_from, serial_line}
+use Rattle.assise_threads.specs.Stretches.{AreCalls, IsCall}
+
+data CallOrNot (command : Command) : Type 0 where
+  is_call : IsCall command → ((k : ℕ) → counts_call command k ≡ suc k) → CallOrNot command
+  is_none : (IsCall command → ⊥) → ((k : ℕ) → counts_call command k ≡ 0) → CallOrNot command
+
+call_or_not : (command : Command) → CallOrNot command
+call_or_not (Call c op) = is_call tt (λ k. refl)
+call_or_not (Cluster nodes log hot) = is_none (λ is. is) (λ k. refl)
+call_or_not Manual = is_none (λ is. is) (λ k. refl)
+call_or_not (Open node kind) = is_none (λ is. is) (λ k. refl)
+call_or_not (Carry node) = is_none (λ is. is) (λ k. refl)
+call_or_not (Digest node) = is_none (λ is. is) (λ k. refl)
+call_or_not Release = is_none (λ is. is) (λ k. refl)
+call_or_not (Crash client) = is_none (λ is. is) (λ k. refl)
+call_or_not (Fail node) = is_none (λ is. is) (λ k. refl)
+call_or_not (Back node) = is_none (λ is. is) (λ k. refl)
+call_or_not (Refill node) = is_none (λ is. is) (λ k. refl)
+call_or_not (Join node) = is_none (λ is. is) (λ k. refl)
+call_or_not (Tree node) = is_none (λ is. is) (λ k. refl)
+call_or_not History = is_none (λ is. is) (λ k. refl)
+
+-- ---- what is counted are calls, and behind them is none
+
+few_more : (l : NumberedCommand) (ls : List NumberedCommand) → CallOrNot l.command → calls_ahead ls ≤ length ls → calls_ahead (l ∷ ls) ≤ suc (length ls)
+few_more l ls (is_call call counts) more = let n = counts (calls_ahead ls) in omega (arith, more, n)
+few_more l ls (is_none other counts) more = let n = counts (calls_ahead ls) in omega (arith, n)
+
+pub few_ahead : (ls : List NumberedCommand) → calls_ahead ls ≤ length ls
+few_ahead [] = omega arith
+few_ahead (l ∷ ls) = few_more l ls (call_or_not l.command) (few_ahead ls)
+
+one_more : (l : NumberedCommand) (ls : List NumberedCommand) → CallOrNot l.command → AreCalls (take (calls_ahead ls) ls) → AreCalls (take (calls_ahead (l ∷ ls)) (l ∷ ls))
+one_more l ls (is_call call counts) more = rw (counts (calls_ahead ls)) (call, more)
+one_more l ls (is_none other counts) more = rw (counts (calls_ahead ls)) tt
+
+pub calls_in_front : (ls : List NumberedCommand) → AreCalls (take (calls_ahead ls) ls)
+calls_in_front [] = tt
+calls_in_front (l ∷ ls) = one_more l ls (call_or_not l.command) (calls_in_front ls)
+
+none_there : (l : NumberedCommand) (ls : List NumberedCommand) → CallOrNot l.command → calls_ahead (l ∷ ls) ≡ 0 → IsCall l.command → ⊥
+none_there l ls (is_call is counts) none call = let n = counts (calls_ahead ls) in omega (arith, n, none)
+none_there l ls (is_none other counts) none call = other call
+
+-- where none is counted, the first is no call
+pub first_is_none : (ls : List NumberedCommand) (l : NumberedCommand) → 1 ≤ length ls → l ≡ get_or ls 0 l → calls_ahead ls ≡ 0 → IsCall l.command → ⊥
+first_is_none [] l some is none call = absurd (omega (arith, some))
+first_is_none (k ∷ ls) l some is none call = none_there k ls (call_or_not k.command) none (subst (λ (x : NumberedCommand). IsCall x.command) is call)
+
+pub first_taken : (ls : List NumberedCommand) (l : NumberedCommand) → 1 ≤ length ls → l ≡ get_or ls 0 l → take 1 ls ≡ l ∷ []
+first_taken [] l some is = absurd (omega (arith, some))
+first_taken (k ∷ ls) l some is = ap (λ (x : NumberedCommand). x ∷ []) (sym is)

@@ -1,0 +1,120 @@
+-- What clients have heard so far goes on with a stretch of calls, or with a command that is no call.
+use Rattle.std.proofs.Common.{◌≡◌, ◌∙◌, ℕ, ◌+◌, Bool, true, false, List, [], ◌∷◌, ◌++◌, length, Option, None, Some, Result, refl, sym, ap, ap₂, subst, arith, append_assoc, append-nil, length-append, ◌==◌, ◌≢◌, if◌then◌else◌, ◌⊎◌, inl, inr}
+use Rattle.std.proofs.lemmas.Grind.{flat_map-append}
+use Rattle.std.proofs.lemmas.List.{map-append}
+use Rattle.std.proofs.lemmas.Bool.Decides.{eqb_tells}
+use Rattle.assise_names.specs.declared.call.Op.{Op}
+use Rattle.assise_names.specs.declared.refusal.Refusal.{Refusal}
+use Rattle.assise_names.specs.declared.reply.Reply.{Reply}
+use Rattle.assise_history.specs.Entries.{Event}
+use Rattle.assise_keeper.specs.Clients.{calls_by}
+use Rattle.assise_fault_script.specs.declared.command.Command.{Command}
+use Rattle.assise_fault_script.specs.declared.command.Command.TheVariants.{Cluster, Manual, Open, Call, Carry, Digest, Release, Crash, Fail, Back, Refill, Join, Tree, History}
+use Rattle.assise_workers.specs.Told.{told_all}
+use Rattle.assise_workers.proofs.Lists.{told-append}
+use Rattle.assise_threads.specs.Said.{Said, TellsClient, call_in, calls_in, commands_said}
+use Rattle.assise_threads.specs.Spoken.{MayGain, Sights, gains, stays}
+use Rattle.assise_threads.specs.Stretches.{IsCall}
+use Rattle.assise_threads.specs.Hearing.{HasHeard, HearsStretch, calls_of_sight, sight_of}
+
+pub commands-append : (ss ts : List Said) → commands_said (ss ++ ts) ≡ commands_said ss ++ commands_said ts
+commands-append ss ts = map-append (λ s. s.command) ss ts
+
+calls-said-append : (c : ℕ) (ss ts : List Said) → calls_in c (commands_said (ss ++ ts)) ≡ calls_in c (commands_said ss) ++ calls_in c (commands_said ts)
+calls-said-append c ss ts = ap (calls_in c) (commands-append ss ts) ∙ flat_map-append (λ l. call_in c l.command) (commands_said ss) (commands_said ts)
+
+pub tells-append : (c : ℕ) (ss ts : List Said) (rs came : List (Result Reply Refusal)) → TellsClient c ss rs → TellsClient c ts came → TellsClient c (ss ++ ts) (rs ++ came)
+tells-append c [] ts rs came none more = subst (λ z. TellsClient c ts (z ++ came)) (sym none) more
+tells-append c (s ∷ ss) ts rs came (now, (later, (first, (rest, is)))) more =
+    (now, (later ++ came, (first, (tells-append c ss ts later came rest more, ap (λ z. z ++ came) is ∙ append_assoc now later came))))
+
+-- ---- a stretch of calls
+
+module _ (c : ℕ) (ss ts : List Said) where
+  abbrev before : List Op
+  before = calls_in c (commands_said ss)
+
+  abbrev behind : List Op
+  behind = calls_in c (commands_said ts)
+
+  counts : (rs came : List (Result Reply Refusal)) → length rs ≡ length before → length came ≡ length behind → length (rs ++ came) ≡ length (calls_in c (commands_said (ss ++ ts)))
+  counts rs came some more = omega (arith, some, more, length-append rs came, length-append before behind, ap length (calls-said-append c ss ts))
+
+  goes-on : (rs came : List (Result Reply Refusal)) → length rs ≡ length before
+      → told_all c 0 before rs ++ told_all c (length (told_all c 0 before rs)) behind came ≡ told_all c 0 (calls_in c (commands_said (ss ++ ts))) (rs ++ came)
+  goes-on rs came some =
+      let so_far = length (told_all c 0 before rs) in
+      let at : so_far ≡ 0 + so_far = omega arith in
+      ap (λ (k : ℕ). told_all c 0 before rs ++ told_all c k behind came) at ∙ sym (told-append c 0 before rs behind came some) ∙ ap (λ z. told_all c 0 z (rs ++ came)) (sym (calls-said-append c ss ts))
+
+  pub heard_then : (sight now : Option (List Event)) → HasHeard c ss sight → HearsStretch c ts sight now → HasHeard c (ss ++ ts) now
+  heard_then None None h (came, (tells, (count, none))) = record {
+    outcomes = h.outcomes ++ came;
+    count = counts h.outcomes came h.count count;
+    tells = tells-append c ss ts h.outcomes came h.tells tells;
+    calls = ap₂ (λ x y. x ++ y) h.calls (sym (none (length (told_all c 0 before h.outcomes)))) ∙ goes-on h.outcomes came h.count;
+  }
+  heard_then (Some old) (Some new) h (came, (tells, sees)) =
+      let told : told_all c (length (calls_by c old)) behind came ≡ told_all c (length (told_all c 0 before h.outcomes)) behind came = ap (λ (z : List Event). told_all c (length z) behind came) h.calls in record {
+        outcomes = h.outcomes ++ came;
+        count = counts h.outcomes came h.count sees.count;
+        tells = tells-append c ss ts h.outcomes came h.tells tells;
+        calls = sees.told ∙ (ap₂ (λ x y. x ++ y) h.calls told ∙ goes-on h.outcomes came h.count);
+      }
+  heard_then None (Some new) h e = absurd e
+  heard_then (Some old) None h e = absurd e
+
+-- ---- a command that is no call
+
+pub no_call : (c : ℕ) (command : Command) → (IsCall command → ⊥) → call_in c command ≡ []
+no_call c (Call d op) none = absurd (none tt)
+no_call c (Cluster nodes log hot) none = refl
+no_call c Manual none = refl
+no_call c (Open node kind) none = refl
+no_call c (Carry node) none = refl
+no_call c (Digest node) none = refl
+no_call c Release none = refl
+no_call c (Crash client) none = refl
+no_call c (Fail node) none = refl
+no_call c (Back node) none = refl
+no_call c (Refill node) none = refl
+no_call c (Join node) none = refl
+no_call c (Tree node) none = refl
+no_call c History none = refl
+
+-- what is seen of client c of the first client's or, where that has another number, of those behind it
+first_keeps : (c : ℕ) (b : Bool) (h : List Event) (u v : Option (List Event)) → calls_of_sight c v ≡ calls_of_sight c u → calls_of_sight c (if b then Some h else v) ≡ calls_of_sight c (if b then Some h else u)
+first_keeps c true h u v same = refl
+first_keeps c false h u v same = same
+
+-- a client that comes last made no call
+last_made_none : (c d : ℕ) (h : List Event) (xs : List (ℕ × List Event)) → calls_by d h ≡ [] → calls_of_sight c (sight_of c (xs ++ (d, h) ∷ [])) ≡ calls_of_sight c (sight_of c xs)
+last_made_none c d h [] none = by_case (eqb_tells d c)
+  where
+    by_case : (((d == c) ≡ true) × (d ≡ c)) ⊎ (((d == c) ≡ false) × (d ≢ c)) → calls_of_sight c (if d == c then Some h else None) ≡ []
+    by_case (inl (is, same)) = ap (λ b. calls_of_sight c (if b then Some h else None)) is ∙ subst (λ n. calls_by n h ≡ []) same none
+    by_case (inr (is, other)) = ap (λ b. calls_of_sight c (if b then Some h else None)) is
+last_made_none c d h (x ∷ xs) none = first_keeps c (x.0 == c) x.1 (sight_of c xs) (sight_of c (xs ++ (d, h) ∷ [])) (last_made_none c d h xs none)
+
+calls_stay : (c : ℕ) (earlier later : Sights) → MayGain earlier later → calls_of_sight c (sight_of c later) ≡ calls_of_sight c (sight_of c earlier)
+calls_stay c earlier later (stays same) = ap (λ xs. calls_of_sight c (sight_of c xs)) same
+calls_stay c earlier later (gains d h more none legal) = ap (λ xs. calls_of_sight c (sight_of c xs)) more ∙ last_made_none c d h earlier none
+
+module _ (c : ℕ) (ss : List Said) (s : Said) where
+  pub calls_more : calls_in c (commands_said (ss ++ s ∷ [])) ≡ calls_in c (commands_said ss) ++ call_in c s.command.command
+  calls_more = calls-said-append c ss (s ∷ []) ∙ ap (λ z. calls_in c (commands_said ss) ++ z) (append-nil (call_in c s.command.command))
+
+  -- it tells the client nothing
+  pub tells_nothing : (rs : List (Result Reply Refusal)) → call_in c s.command.command ≡ [] → TellsClient c ss rs → TellsClient c (ss ++ s ∷ []) rs
+  tells_nothing rs none tells = subst (TellsClient c (ss ++ s ∷ [])) (append-nil rs) (tells-append c ss (s ∷ []) rs [] tells ([], ([], (rw none refl, (refl, refl)))))
+
+  pub calls_same : call_in c s.command.command ≡ [] → calls_in c (commands_said (ss ++ s ∷ [])) ≡ calls_in c (commands_said ss)
+  calls_same none = calls_more ∙ (ap (λ z. calls_in c (commands_said ss) ++ z) none ∙ append-nil (calls_in c (commands_said ss)))
+
+  pub heard_one : (earlier later : Sights) → HasHeard c ss (sight_of c earlier) → MayGain earlier later → call_in c s.command.command ≡ [] → HasHeard c (ss ++ s ∷ []) (sight_of c later)
+  heard_one earlier later h gain none = record {
+    outcomes = h.outcomes;
+    count = h.count ∙ ap length (sym (calls_same none));
+    tells = tells_nothing h.outcomes none h.tells;
+    calls = calls_stay c earlier later gain ∙ (h.calls ∙ ap (λ z. told_all c 0 z h.outcomes) (sym (calls_same none)));
+  }

@@ -1,0 +1,9 @@
+pub mod FirstOf
+pub mod SaidMore
+pub mod Heard
+pub mod CallLines
+pub mod Ends
+pub mod AllSaid
+pub mod Nobodys
+pub mod Ahead
+pub mod RunOn

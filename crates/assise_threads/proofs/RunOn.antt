@@ -1,0 +1,137 @@
+-- A run goes on with what is said next, and is whole in the end.
+use Rattle.std.proofs.Common.{◌≡◌, ◌∙◌, ◌≤◌, ◌<◌, ℕ, suc, ◌+◌, List, [], ◌∷◌, ◌++◌, length, take, drop, get_or, Option, None, Some, refl, sym, ap, subst, arith, take-add, slice_get, Result, Ok, Err, OnOk}
+use Rattle.std.proofs.lemmas.List.{map-append, nil_from_length}
+use Rattle.std.specs.Io.KnownBytes.{Appends, Keeps}
+use Rattle.assise_history.specs.Entries.{Event}
+use Rattle.assise_history.specs.Legal.{calls_made}
+use Rattle.assise_keeper.specs.Clients.{calls_by}
+use Rattle.assise_libfs.specs.Clients.{client_of, seen_by}
+use Rattle.assise_fault_script.specs.declared.command.Command.{Command}
+use Rattle.assise_fault_script.specs.declared.command.Command.TheVariants.{Cluster, Manual, Open, Call, Carry, Digest, Release, Crash, Fail, Back, Refill, Join, Tree, History}
+use Rattle.assise_fault_script.specs.declared.parse.NumberedCommand.{NumberedCommand}
+use Rattle.assise_console.specs.declared.answer.Answer.{Answer}
+use Rattle.assise_console.specs.declared.answer.Answer.TheVariants.{Quiet, Client, Replied, Waits, Refused, Carried, Digested, Released, Crashed, Failed, Began, Left, Returned, Tree as Shown, History as Whole}
+use Rattle.assise_names.specs.declared.refusal.Refusal.TheVariants.{Busy, OutOfMemory}
+use Rattle.assise_machine_events.specs.Machine.{Machine}
+use Rattle.assise_console.specs.declared.fault.EngineFault.{EngineFault}
+use Rattle.assise_console.specs.declared.fault.EngineFault.TheVariants.{Read, Script, Memory, Write, NeedsSerial, NoThread}
+use Rattle.assise_console.specs.Engines.{IsReadFault}
+use Rattle.assise_console.specs.Lines.{line_text}
+use Rattle.assise_console.specs.Steps.{Shows, is_shown, lacks_memory, is_refused as not_shown}
+use Rattle.assise_libfs.specs.declared.libfs.LibFs.{LibFs}
+use Rattle.assise_threads.specs.Answered.{IsAnswered, joins, stops_filling, is_refused, is_busy, is_opened, is_carried, is_replied}
+use Rattle.assise_threads.specs.CallsAhead.{AreSaidNext, is_one, is_stretch}
+use Rattle.assise_threads.specs.Hearing.{sights}
+use Rattle.assise_threads.specs.Runs.{EndsRun, IsRunSaid, ThreadFault}
+use Rattle.assise_threads.specs.Said.{said_lines}
+use Rattle.assise_threads.specs.Spoken.{AreAllSaid, MayGain, Sights, gains}
+use Rattle.assise_threads.specs.Stretches.{IsCall}
+use Rattle.assise_threads.proofs.AllSaid.{is_run, nothing_said, one_added, stretch_added}
+
+pub nothing_yet : (seen : List Event) (clients : Sights) (old : Option (List ℕ)) → seen ≡ [] → clients ≡ [] → AreAllSaid [] seen clients old old
+nothing_yet seen clients old none nobody = rw (none, nobody) (nothing_said old)
+
+said_then : (done next : List NumberedCommand) (seen now : List Event) (before after : Sights) (old mid new : Option (List ℕ)) → AreAllSaid done seen before old mid → AreSaidNext next seen before now after mid new → AreAllSaid (done ++ next) now after old new
+said_then done next seen now before after old mid new all (is_stretch same more) = subst (λ z. AreAllSaid (done ++ next) z after old new) (sym same) (stretch_added done seen before old mid all next after new more)
+said_then done next seen now before after old mid new all (is_one l is none one) = subst (λ z. AreAllSaid (done ++ z) now after old new) (sym is) (one_added done seen before old mid all l now after new none one)
+
+-- so many more of the commands
+pub goes_further : (ls rest : List NumberedCommand) (i count : ℕ) (seen now : List Event) (before after : Sights) (old mid new : Option (List ℕ)) → rest ≡ drop i ls → AreAllSaid (take i ls) seen before old mid
+    → AreSaidNext (take count rest) seen before now after mid new → AreAllSaid (take (i + count) ls) now after old new
+goes_further ls rest i count seen now before after old mid new is all more =
+    subst (λ z. AreAllSaid z now after old new) (sym (take-add i count ls))
+    (said_then (take i ls) (take count (drop i ls)) seen now before after old mid new all (subst (λ z. AreSaidNext (take count z) seen before now after mid new) is more))
+
+pub is_run_said : {S Stored : Type 0} (commands : List NumberedCommand) (seen : List Event) (ls : List (LibFs S Stored)) (old new : Option (List ℕ)) → AreAllSaid commands seen (sights ls) old new → IsRunSaid commands old new
+is_run_said commands seen ls old new all = record { said = all.said; run = is_run commands seen ls old new all; appends = all.appends }
+
+pub nothing_run : (commands : List NumberedCommand) (old : Option (List ℕ)) → slice_get commands 0 ≡ None → IsRunSaid commands old old
+nothing_run [] old none = is_run_said {S = ℕ} {Stored = ℕ} [] [] [] old old (nothing_said old)
+nothing_run (l ∷ ls) old none = absurd (cc)
+
+pub on_ok : {X E : Type 0} (r : Result X E) (P Q : Type 0) → OnOk r P → (P → Q) → OnOk r Q
+on_ok (Ok x) P Q p f = f p
+on_ok (Err e) P Q p f = tt
+
+-- a client that made no call comes behind the others
+pub gains_client : {S Stored : Type 0} (before mid after : List (LibFs S Stored)) (l : LibFs S Stored) → mid ≡ before → after ≡ mid ++ l ∷ [] → calls_made (client_of l) (seen_by l) ≡ 0 → MayGain (sights before) (sights after)
+gains_client before mid after l same more none =
+    gains (client_of l) (seen_by l)
+    (ap sights more ∙ (map-append (λ x. (client_of x, seen_by x)) mid (l ∷ []) ∙ ap (λ z. sights z ++ (client_of l, seen_by l) ∷ []) same))
+    (nil_from_length (calls_by (client_of l) (seen_by l)) none) l.legal
+
+-- ---- what is handed on stays
+
+appends_kept : (u v w : Option (List ℕ)) (a : List ℕ) → Appends u v a → Keeps v w → Appends u w a
+appends_kept None v w a x y = tt
+appends_kept (Some xs) None w a x y = absurd x
+appends_kept (Some xs) (Some ys) None a x y = y
+appends_kept (Some xs) (Some ys) (Some zs) a x y = y ∙ x
+
+pub run_kept : (commands : List NumberedCommand) (old mid new : Option (List ℕ)) → IsRunSaid commands old mid → Keeps mid new → IsRunSaid commands old new
+run_kept commands old mid new h keeps = record { said = h.said; run = h.run; appends = appends_kept old mid new (said_lines h.said) h.appends keeps }
+
+-- ---- the history is printed by its own command alone
+
+not_whole : (command : Command) (old new : List Event) → (command ≡ History → ⊥) → IsAnswered command Whole old new → ⊥
+not_whole (Cluster nodes log hot) old new other h = let x : Whole ≡ Quiet = h.answer in cc
+not_whole Manual old new other h = let x : Whole ≡ Quiet = h.answer in cc
+not_whole (Open node kind) old new other (is_opened c seen is e o m s) = let x : Whole ≡ Client c = is in cc
+not_whole (Open node kind) old new other (is_refused r is e) = let x : Whole ≡ Refused r = is in cc
+not_whole (Call c op) old new other (is_replied reply is e) = let x : Whole ≡ Replied reply = is in cc
+not_whole (Call c op) old new other (is_refused r is e) = let x : Whole ≡ Refused r = is in cc
+not_whole (Carry node) old new other (is_carried count is e) = let x : Whole ≡ Carried count = is in cc
+not_whole (Carry node) old new other (is_refused r is e) = let x : Whole ≡ Refused r = is in cc
+not_whole (Digest node) old new other h = h.does.tells
+not_whole Release old new other h = h.does.tells
+not_whole (Crash client) old new other h = h.does.tells
+not_whole (Fail node) old new other h = h.does.tells
+not_whole (Back node) old new other (joins between e h) = h.does.tells
+not_whole (Back node) old new other (stops_filling r between is e h) = let x : Whole ≡ Refused r = is in cc
+not_whole (Back node) old new other (is_refused r is h) = let x : Whole ≡ Refused r = is in cc
+not_whole (Back node) old new other (is_busy is e legal) = let x : Whole ≡ Refused Busy = is in cc
+not_whole (Refill node) old new other h = h.does.tells
+not_whole (Join node) old new other h = h.does.tells
+not_whole (Tree node) old new other h = no_tree h.does.shows
+  where
+    no_tree : {m : Machine} → Shows node Whole m → ⊥
+    no_tree (is_shown tree fine is spells) = let x : Whole ≡ Shown tree = is in cc
+    no_tree (lacks_memory fine is) = let x : Whole ≡ Refused OutOfMemory = is in cc
+    no_tree (not_shown r fault is) = let x : Whole ≡ Refused r = is in cc
+not_whole History old new other h = other refl
+
+-- so a line shows no history where another command was answered
+pub line_shows_none : (n : ℕ) (command : Command) (a : Answer) (shown old new : List Event) → (command ≡ History → ⊥) → IsAnswered command a old new → line_text n shown a ≡ line_text n new a
+line_shows_none n command Whole shown old new other h = absurd (not_whole command old new other h)
+line_shows_none n command Quiet shown old new other h = refl
+line_shows_none n command (Client c) shown old new other h = refl
+line_shows_none n command (Replied reply) shown old new other h = refl
+line_shows_none n command Waits shown old new other h = refl
+line_shows_none n command (Refused r) shown old new other h = refl
+line_shows_none n command (Carried k) shown old new other h = refl
+line_shows_none n command (Digested k) shown old new other h = refl
+line_shows_none n command (Released k) shown old new other h = refl
+line_shows_none n command (Crashed c) shown old new other h = refl
+line_shows_none n command (Failed node losses) shown old new other h = refl
+line_shows_none n command (Began node stale) shown old new other h = refl
+line_shows_none n command (Left stale) shown old new other h = refl
+line_shows_none n command (Returned node) shown old new other h = refl
+line_shows_none n command (Shown tree) shown old new other h = refl
+
+-- ---- what ends a run
+
+pub read_ends : (e : EngineFault) (known old : Option (List ℕ)) → IsReadFault e → ThreadFault e known old old
+read_ends Read known old is = refl
+read_ends Memory known old is = tt
+read_ends (Script line fault) known old is = absurd is
+read_ends Write known old is = absurd is
+read_ends (NeedsSerial line) known old is = absurd is
+read_ends NoThread known old is = absurd is
+
+pub run_ends : (e : EngineFault) (known old new : Option (List ℕ)) → EndsRun e → ThreadFault e known old new
+run_ends Memory known old new is = tt
+run_ends Write known old new is = tt
+run_ends NoThread known old new is = tt
+run_ends Read known old new is = absurd is
+run_ends (Script line fault) known old new is = absurd is
+run_ends (NeedsSerial line) known old new is = absurd is

@@ -1,0 +1,10 @@
+use Rattle.std.proofs.Common.{◌≡◌, ◌+◌, drop}
+use Rattle.assise_threads.specs.CallsAhead.{calls_ahead}
+use Rattle.assise_threads.proofs.crew.calls_ahead.Given as goal
+
+-- so many calls so far, and as many as are left in front
+abbrev pub invariant-loop-line : goal.invariant-loop-line
+invariant-loop-line l = record {
+  count : l.count ≡ l.line-index;
+  ahead : calls_ahead l.commands ≡ l.line-index + calls_ahead (drop l.line-index l.commands);
+}

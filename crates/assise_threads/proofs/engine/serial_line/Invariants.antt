@@ -1,0 +1,7 @@
+use Rattle.std.proofs.Common.{◌≡◌, drop}
+use Rattle.assise_threads.specs.Runs.{serial_line}
+use Rattle.assise_threads.proofs.engine.serial_line.Given as goal
+
+-- none so far
+abbrev pub invariant-loop-line : goal.invariant-loop-line
+invariant-loop-line l = serial_line l.commands ≡ serial_line (drop l.line-index l.commands)

@@ -1,0 +1,14 @@
+use Rattle.std.proofs.Common.{arith, ap, length}
+use Rattle.assise_workers.proofs.Pairs.{one_taken, zip_pushed}
+use Rattle.assise_threads.proofs.lists.lists_of.Goals as goal
+
+pub loop-libfs-preserved : goal.loop-libfs-preserved
+loop-libfs-preserved g c =
+    let before = c.loop-libfs.invariant in
+    let step = c.in-Some.ensures.steps.0 in
+    let one_less = ap length step in
+    record {
+      all = one_taken _ _ _ _ _ step before.all;
+      kept = zip_pushed _ _ _ _ _ _ c.push_reserved.ensures.items before.kept c.in_ok-list_of.ensures.list;
+      room = omega (arith, one_less, c.push_reserved.ensures.len, c.push_reserved.ensures.capacity, before.room);
+    }

@@ -1,0 +1,11 @@
+use Rattle.assise_history.specs.Legal.{IsLegal}
+use Rattle.assise_keeper.specs.Clients.{Extends}
+use Rattle.assise_threads.specs.Threads.{main_seen}
+use Rattle.assise_threads.proofs.main_thread.MainThreadOf.bring_back.Given as goal
+
+-- what is seen goes on, and is legal
+abbrev pub invariant-loop : goal.invariant-loop
+invariant-loop g l = record {
+  extends : Extends (main_seen l.self) (main_seen l.fn.self);
+  legal : ∥ IsLegal (main_seen l.self) ∥₁;
+}

@@ -1,0 +1,9 @@
+pub mod Said
+pub mod Takes
+pub mod Answered
+pub mod Runs
+pub mod Hearing
+pub mod Stretches
+pub mod Spoken
+pub mod CallsAhead
+pub mod Threads

@@ -1,0 +1,66 @@
+-- What a run with threads writes for a script, and what its faults say.
+use Rattle.std.specs.Prelude.{◌≡◌, ℕ, List, [], ◌∷◌, Option, None, Some}
+use Rattle.std.specs.Io.KnownBytes.{Appends}
+use Rattle.assise_history.specs.Entries.{Event}
+use Rattle.assise_fault_script.specs.declared.command.Command.{Command}
+use Rattle.assise_fault_script.specs.declared.command.Command.TheVariants.{Manual}
+use Rattle.assise_fault_script.specs.declared.parse.NumberedCommand.{NumberedCommand}
+use Rattle.assise_console.specs.Engines.{IsInput, IsScript, IsScriptFault}
+use Rattle.assise_console.specs.declared.fault.EngineFault.{EngineFault}
+use Rattle.assise_console.specs.declared.fault.EngineFault.TheVariants.{Read, Script, Memory, Write, NeedsSerial, NoThread}
+use Rattle.assise_threads.specs.Answered.{IsAnswered}
+use Rattle.assise_threads.specs.Said.{IsHeard, Said, commands_said, said_lines}
+
+-- each command is answered behind those before it: what the main thread has seen goes on from command to command
+abbrev pub IsSaid : List Event → List Said → List Event → Type 0
+IsSaid old [] new = new ≡ old
+IsSaid old (s ∷ ss) new = IsAnswered s.command.command s.answer old s.history × IsSaid s.history ss new
+
+-- these commands were run with threads, and this was said
+pub record IsThreadRun (commands : List NumberedCommand) (ss : List Said) : Type 0 where
+  pub each : commands_said ss ≡ commands
+  pub seen : List Event
+  pub main : IsSaid [] ss seen
+  pub clients : (c : ℕ) → IsHeard c ss
+
+-- they were run, and the lines of what was said were written, and nothing else
+pub record IsRunSaid (commands : List NumberedCommand) (old new : Option (List ℕ)) : Type 0 where
+  pub said : List Said
+  pub run : IsThreadRun commands said
+  pub appends : Appends old new (said_lines said)
+
+-- the first line that only a run on one thread serves
+abbrev pub serial_from : Command → ℕ → Option ℕ → Option ℕ
+serial_from Manual line later = Some line
+serial_from command line later = later
+
+abbrev pub serial_line : List NumberedCommand → Option ℕ
+serial_line [] = None
+serial_line (l ∷ ls) = serial_from l.command l.line (serial_line ls)
+
+-- the reader gave a script that threads can serve, and it was run
+pub record PrintsByThreads (known old new : Option (List ℕ)) : Type 0 where
+  pub input : List ℕ
+  pub commands : List NumberedCommand
+  pub given : IsInput known input
+  pub script : IsScript input commands
+  pub served : serial_line commands ≡ None
+  pub run : IsRunSaid commands old new
+
+-- the reader gave these bytes, with a first fault of the script, or with a line that only the serial mode runs; nothing was written
+abbrev pub ThreadFault : EngineFault → Option (List ℕ) → Option (List ℕ) → Option (List ℕ) → Type 0
+ThreadFault Read known old new = new ≡ old
+ThreadFault (Script line fault) known old new = (input : List ℕ) × (IsInput known input × (IsScriptFault input line fault × (new ≡ old)))
+ThreadFault (NeedsSerial line) known old new = (input : List ℕ) × (IsInput known input × ((commands : List NumberedCommand) × (IsScript input commands × ((serial_line commands ≡ Some line) × (new ≡ old)))))
+ThreadFault Memory known old new = Unit {0}
+ThreadFault Write known old new = Unit {0}
+ThreadFault NoThread known old new = Unit {0}
+
+-- what may end a run in its midst
+abbrev pub EndsRun : EngineFault → Type 0
+EndsRun Memory = Unit {0}
+EndsRun Write = Unit {0}
+EndsRun NoThread = Unit {0}
+EndsRun Read = ⊥
+EndsRun (Script line fault) = ⊥
+EndsRun (NeedsSerial line) = ⊥

@@ -1,0 +1,33 @@
+-- What the main thread does with the cluster between a take and its give.
+-- Assise (OSDI 2020), section 3 (digests, process crash, fail-over, recovery).
+use Rattle.std.specs.Prelude.{◌≡◌, ℕ, List, [], ◌∷◌, ◌++◌}
+use Rattle.assise_history.specs.Entries.{Event, opens, calls, crashes, fails, returns}
+use Rattle.assise_history.specs.Legal.{IsLegal}
+use Rattle.assise_keeper.specs.Clients.{Extends}
+use Rattle.assise_machine_events.specs.Machine.{Machine}
+use Rattle.assise_console.specs.Courses.{Told}
+
+-- in one take of a cluster whose history extends what was seen this was done, and this history was given back, which is legal
+pub record InOneTake (Does : Machine → Told → Machine → Type 0) (old new : List Event) : Type 0 where
+  pub before : Machine
+  pub after : Machine
+  pub told : Told
+  pub extends : Extends before.history old
+  pub does : Does before told after
+  pub given : new ≡ after.history
+  pub legal : ∥ IsLegal new ∥₁
+
+-- no client is opened and no call answered by these entries
+abbrev pub AreNobodys : List Event → Type 0
+AreNobodys [] = Unit {0}
+AreNobodys (opens c n ∷ es) = ⊥
+AreNobodys (calls x ∷ es) = ⊥
+AreNobodys (crashes c ∷ es) = AreNobodys es
+AreNobodys (fails n losses ∷ es) = AreNobodys es
+AreNobodys (returns n ∷ es) = AreNobodys es
+
+-- the history goes on by such entries
+pub record AddsNobodys (old new : List Event) : Type 0 where
+  pub more : List Event
+  pub split : new ≡ old ++ more
+  pub nobodys : AreNobodys more

@@ -1,0 +1,29 @@
+-- What is seen of the main thread, and what it does in one take.
+-- Assise (OSDI 2020), section 3 (digests, process crash, fail-over, recovery).
+use Rattle.std.specs.Prelude.{List}
+use Rattle.assise_history.specs.Entries.{Event}
+use Rattle.assise_keeper.specs.Passes.{seen}
+use Rattle.assise_machine_events.specs.Events.{back, crash, digest, fail, join, refill, release_ready}
+use Rattle.assise_machine_events.specs.Machine.{Machine}
+use Rattle.assise_console.specs.declared.answer.Answer.{Answer}
+use Rattle.assise_console.specs.Courses.{Told}
+use Rattle.assise_console.specs.Returning.{IsOneAt}
+use Rattle.assise_console.specs.Trying.{IsOne}
+use Rattle.assise_threads.specs.Answered.{ShowsTree}
+use Rattle.assise_threads.specs.declared.main_thread.MainThreadOf.{MainThreadOf}
+use Rattle.assise_threads.specs.declared.takes.Take.{Take}
+use Rattle.assise_threads.specs.declared.takes.Take.TheVariants.{Digest, Release, Crash, Fail, BeginReturn, Refill, Join, Tree}
+
+-- what the main thread's pass has seen
+abbrev pub main_seen : {C : Type 0} → MainThreadOf C → List Event
+main_seen t = seen t.pass
+
+abbrev pub DoesTake : Take → Answer → Machine → Told → Machine → Type 0
+DoesTake (Digest n) a = IsOne (digest n) a
+DoesTake Release a = IsOne release_ready a
+DoesTake (Crash c) a = IsOneAt crash c a
+DoesTake (Fail n) a = IsOneAt fail n a
+DoesTake (BeginReturn n) a = IsOneAt back n a
+DoesTake (Refill n) a = IsOneAt refill n a
+DoesTake (Join n) a = IsOneAt join n a
+DoesTake (Tree n) a = ShowsTree n a

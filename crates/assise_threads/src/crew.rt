@@ -1,0 +1,313 @@
+// Runs commands with a main thread, and a thread for each client.
+ghost use Rattle.std.specs.Prelude.{◌≡◌, ◌≤◌, [], IfErr, OnOk};
+ghost use Rattle.std.specs.Io.KnownBytes.{Appends};
+ghost use Rattle.assise_console.specs.Lines.{line_text};
+ghost use Rattle.assise_threads.specs.CallsAhead.{calls_ahead};
+ghost use Rattle.assise_threads.specs.Runs.{EndsRun};
+
+use crate::main_thread::MainThread;
+use crate::stretch::serve;
+use crate::takes::Take;
+use assise_console::answer::Answer;
+use assise_console::engine::print;
+use assise_console::fault::EngineFault;
+use assise_console::stock::Stock;
+use assise_fault_script::command::{Command, RevokerKind};
+use assise_fault_script::parse::NumberedCommand;
+use assise_history::history::History;
+use assise_lease_table::revoker::Revoker;
+use assise_libfs::libfs::LibFs;
+use assise_machine::cluster::Cluster;
+use assise_names::refusal::Refusal;
+use assise_workers::gate::OpenGate;
+use std::alloc::Global;
+use std::io::Write;
+use std::mem;
+use std::sync::Wait;
+use std::thread::Threads;
+
+/// What the main thread runs commands with.
+#[derive(Drop)]
+pub(crate) struct Crew<'a> {
+    main: MainThread<'a>,
+    gate: &'a OpenGate,
+    stock: Stock<Revoker>,
+    nodes: u32,
+    turns: u32,
+    ghost some_turns: { 1 ≤ turns },
+    ghost few_turns: { turns ≤ 1000000 },
+}
+
+/// How many of the first commands are calls.
+fn calls_ahead(commands: &[NumberedCommand]) -> usize
+    ensures { result ≡ calls_ahead commands.now }
+{
+    let mut count = 0;
+    for line in commands {
+        let Command::Call { .. } = line.command else {
+            return count;
+        };
+        count += 1;
+    }
+    count
+}
+
+/// Writes the line of an answer that isn't the history.
+fn write_answer<W: Write>(
+    alloc: Global,
+    writer: &mut W,
+    line: u64,
+    answer: Answer,
+) -> Result<(), EngineFault>
+    ensures written { OnOk result (Appends (W.contents writer.old) (W.contents writer.new)
+        (line_text line [] answer)) }
+    ensures fault { IfErr result EndsRun }
+{
+    print(writer, line, &History::new(alloc), &answer)
+}
+
+impl<'a> Crew<'a> {
+    ghost use Rattle.std.specs.Prelude.{◌≡◌, ◌≤◌, [], IfErr, IfOk, List, OnOk, length, take};
+    ghost use Rattle.std.specs.Io.KnownBytes.{Appends};
+    ghost use Rattle.assise_fault_script.specs.declared.command.Command.TheVariants.{History as WholeHistory};
+    ghost use Rattle.assise_history.specs.Legal.{IsLegal};
+    ghost use Rattle.assise_history.specs.Text.{history_text};
+    ghost use Rattle.assise_keeper.specs.Clients.{Extends};
+    ghost use Rattle.assise_console.specs.Lines.{numbered};
+    ghost use Rattle.assise_threads.specs.Answered.{IsAnswered, OpensOne};
+    ghost use Rattle.assise_threads.specs.CallsAhead.{AreSaidNext};
+    ghost use Rattle.assise_threads.specs.Hearing.{sights};
+    ghost use Rattle.assise_threads.specs.Runs.{EndsRun, IsRunSaid};
+    ghost use Rattle.assise_threads.specs.Spoken.{AreAllSaid, IsOneSaid, IsStretchSaid, MayGain};
+    ghost use Rattle.assise_threads.specs.Stretches.{AreCalls, IsCall};
+    ghost use Rattle.assise_threads.specs.Threads.{main_seen};
+
+    /// A main thread of a cluster of so many nodes, with revokers for clients, each call of which is tried so many times at most.
+    pub(crate) fn new(
+        main: MainThread<'a>,
+        gate: &'a OpenGate,
+        stock: Stock<Revoker>,
+        nodes: u32,
+        turns: u32,
+    ) -> Crew<'a>
+        requires some_turns { 1 ≤ turns }
+        requires few_turns { turns ≤ 1000000 }
+        ensures { main_seen result.main ≡ main_seen main.entry }
+    {
+        Crew {
+            main,
+            gate,
+            stock,
+            nodes,
+            turns,
+        }
+    }
+
+    /// Runs the commands of a script, and writes the line of each answer.
+    pub(crate) fn run<W: Write, R: Threads + Wait + Sync>(
+        mut self,
+        rt: &'a R,
+        alloc: Global,
+        commands: &[NumberedCommand],
+        writer: &mut W,
+    ) -> Result<(), EngineFault>
+        requires { main_seen self.main ≡ [] }
+        ensures done { OnOk result (IsRunSaid commands.now
+            (W.contents writer.old) (W.contents writer.new)) }
+        ensures fault { IfErr result EndsRun }
+    {
+        let mut clients = Vec::new(alloc);
+        self.run_all(rt, alloc, &mut clients, commands, writer)
+    }
+
+    /// Runs commands in order, and writes the line of each answer.
+    fn run_all<W: Write, R: Threads + Wait + Sync>(
+        &mut self,
+        rt: &'a R,
+        alloc: Global,
+        clients: &mut Vec<LibFs<'a, Cluster>>,
+        commands: &[NumberedCommand],
+        writer: &mut W,
+    ) -> Result<(), EngineFault>
+        requires nothing_seen { main_seen self.old.main ≡ [] }
+        requires no_clients { sights clients.old.items ≡ [] }
+        ensures done { OnOk result (AreAllSaid commands.now
+            (main_seen self.new.main) (sights clients.new.items)
+            (W.contents writer.old) (W.contents writer.new)) }
+        ensures fault { IfErr result EndsRun }
+    {
+        let mut done = 0;
+        while done < commands.len() {
+            let (_, rest) = commands.split_at(done);
+            done += self.run_next(rt, alloc, clients, rest, writer)?;
+        }
+        Ok(())
+    }
+
+    /// Runs the calls in front of these commands, or else the first command, and answers how many it ran.
+    fn run_next<W: Write, R: Threads + Wait + Sync>(
+        &mut self,
+        rt: &'a R,
+        alloc: Global,
+        clients: &mut Vec<LibFs<'a, Cluster>>,
+        commands: &[NumberedCommand],
+        writer: &mut W,
+    ) -> Result<usize, EngineFault>
+        requires { 1 ≤ length commands.now }
+        ensures some { IfOk result (λ count. (1 ≤ count) × (count ≤ length commands.now)) }
+        ensures said { IfOk result (λ count. AreSaidNext (take count commands.now)
+            (main_seen self.old.main) (sights clients.old.items)
+            (main_seen self.new.main) (sights clients.new.items)
+            (W.contents writer.old) (W.contents writer.new)) }
+        ensures fault { IfErr result EndsRun }
+    {
+        let calls = calls_ahead(commands);
+        if calls == 0 {
+            self.run_one(rt, alloc, clients, &commands[0], writer)?;
+            return Ok(1);
+        }
+        let (stretch, _) = commands.split_at(calls);
+        self.run_calls(rt, alloc, clients, stretch, writer)?;
+        Ok(calls)
+    }
+
+    /// Runs calls that stand together, and writes their lines.
+    fn run_calls<W: Write, R: Threads + Wait + Sync>(
+        &mut self,
+        rt: &'a R,
+        alloc: Global,
+        clients: &mut Vec<LibFs<'a, Cluster>>,
+        stretch: &[NumberedCommand],
+        writer: &mut W,
+    ) -> Result<(), EngineFault>
+        requires calls { AreCalls stretch.now }
+        ensures seen { main_seen self.new.main ≡ main_seen self.old.main }
+        ensures said { OnOk result (IsStretchSaid stretch.now (main_seen self.old.main)
+            (sights clients.old.items) (sights clients.new.items)
+            (W.contents writer.old) (W.contents writer.new)) }
+        ensures fault { IfErr result EndsRun }
+    {
+        let before = mem::replace(clients, Vec::new(alloc));
+        let main = &mut self.main;
+        *clients = serve(
+            rt, alloc, main, self.nodes, self.gate, before, stretch, writer,
+        )?;
+        Ok(())
+    }
+
+    /// Runs a command that is no call, and writes the line of its answer.
+    fn run_one<W: Write, R: Wait>(
+        &mut self,
+        rt: &R,
+        alloc: Global,
+        clients: &mut Vec<LibFs<'a, Cluster>>,
+        line: &NumberedCommand,
+        writer: &mut W,
+    ) -> Result<(), EngineFault>
+        requires { IsCall line.now.command → ⊥ }
+        ensures said { OnOk result (IsOneSaid line.now
+            (main_seen self.old.main) (sights clients.old.items)
+            (main_seen self.new.main) (sights clients.new.items)
+            (W.contents writer.old) (W.contents writer.new)) }
+        ensures fault { IfErr result EndsRun }
+    {
+        if let Command::History = line.command {
+            return self.write_history(rt, alloc, line.line, writer);
+        }
+        let answer = self.answer(rt, alloc, clients, &line.command)?;
+        write_answer(alloc, writer, line.line, answer)
+    }
+
+    /// Writes the history so far.
+    fn write_history<W: Write, R: Wait>(
+        &mut self,
+        rt: &R,
+        alloc: Global,
+        line: u64,
+        writer: &mut W,
+    ) -> Result<(), EngineFault>
+        ensures extends { Extends (main_seen self.new.main) (main_seen self.old.main) }
+        ensures legal { ∥ IsLegal (main_seen self.new.main) ∥₁ }
+        ensures text { OnOk result (Appends (W.contents writer.old) (W.contents writer.new)
+            (numbered line (history_text (main_seen self.new.main)))) }
+        ensures fault { IfErr result EndsRun }
+    {
+        let Ok(text) = self.main.history(rt, alloc) else {
+            return Err(EngineFault::Memory);
+        };
+        match writeln!(writer, "{line}: {text}") {
+            Ok(()) => Ok(()),
+            Err(_) => Err(EngineFault::Write),
+        }
+    }
+
+    /// What a command is answered that is neither a call nor the history.
+    fn answer<R: Wait>(
+        &mut self,
+        rt: &R,
+        alloc: Global,
+        clients: &mut Vec<LibFs<'a, Cluster>>,
+        command: &Command,
+    ) -> Result<Answer, EngineFault>
+        requires no_call { IsCall command.now → ⊥ }
+        requires no_history { command.now ≡ WholeHistory → ⊥ }
+        ensures answered { IfOk result (λ answer. IsAnswered command.now answer
+            (main_seen self.old.main) (main_seen self.new.main)) }
+        ensures clients { OnOk result (MayGain (sights clients.old.items) (sights clients.new.items)) }
+        ensures fault { IfErr result EndsRun }
+    {
+        let main = &mut self.main;
+        match command {
+            Command::Open { node, kind } => self.open(rt, alloc, clients, *node, *kind),
+            Command::Carry { node } => Ok(main.carry(rt, alloc, *node)),
+            Command::Back { node } => Ok(main.bring_back(rt, alloc, *node, self.turns)),
+            Command::Digest { node } => Ok(main.in_one_take(rt, alloc, Take::Digest(*node))),
+            Command::Release => Ok(main.in_one_take(rt, alloc, Take::Release)),
+            Command::Crash { client } => Ok(main.in_one_take(rt, alloc, Take::Crash(*client))),
+            Command::Fail { node } => Ok(main.in_one_take(rt, alloc, Take::Fail(*node))),
+            Command::Refill { node } => Ok(main.in_one_take(rt, alloc, Take::Refill(*node))),
+            Command::Join { node } => Ok(main.in_one_take(rt, alloc, Take::Join(*node))),
+            Command::Tree { node } => Ok(main.in_one_take(rt, alloc, Take::Tree(*node))),
+            Command::Cluster { .. } => Ok(Answer::Quiet),
+            Command::Manual => Ok(Answer::Quiet),
+            Command::Call { .. } => unreachable!(),
+            Command::History => unreachable!(),
+        }
+    }
+
+    /// Opens a client on a node, with a revoker of a kind.
+    fn open<R: Wait>(
+        &mut self,
+        rt: &R,
+        alloc: Global,
+        clients: &mut Vec<LibFs<'a, Cluster>>,
+        node: u64,
+        kind: RevokerKind,
+    ) -> Result<Answer, EngineFault>
+        ensures opens { IfOk result (λ answer. OpensOne node answer
+            (main_seen self.old.main) (main_seen self.new.main)) }
+        ensures clients { OnOk result (MayGain (sights clients.old.items) (sights clients.new.items)) }
+        ensures fault { IfErr result EndsRun }
+    {
+        let Ok(node) = u32::try_from(node) else {
+            return Ok(Answer::Refused(Refusal::BadNode));
+        };
+        let Ok(()) = clients.reserve(1) else {
+            return Err(EngineFault::Memory);
+        };
+        let Some(revoker) = self.stock.take(kind) else {
+            return Ok(Answer::Refused(self.main.refuse_open(rt, node)));
+        };
+        match self.main.open(rt, alloc, node, revoker, self.turns) {
+            Ok(libfs) => {
+                let client = libfs.client();
+                clients.push_reserved(libfs);
+                Ok(Answer::Client(client))
+            }
+            Err((refusal, revoker)) => {
+                let _ = self.stock.put_back(kind, revoker);
+                Ok(Answer::Refused(refusal))
+            }
+        }
+    }
+}

@@ -1,0 +1,10 @@
+//! Runs a script with a thread for each client (Assise, OSDI 2020, section 3).
+#![tactic(auto)]
+
+mod crew;
+pub mod engine;
+mod lists;
+mod main_thread;
+mod outcomes;
+mod stretch;
+mod takes;

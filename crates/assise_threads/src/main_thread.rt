@@ -1,0 +1,187 @@
+// The main thread: what it does with a pass of its own.
+ghost use Rattle.std.specs.Prelude.{◌≡◌, IfOk, None, string_bytes};
+ghost use Rattle.assise_history.specs.Text.{history_text};
+ghost use Rattle.assise_keeper.specs.Passes.{IsPassOf, client as client_of_pass, seen};
+
+use crate::takes::{Take, apply};
+use assise_console::answer::Answer;
+use assise_history::history::History;
+use assise_keeper::keeper::Keeper;
+use assise_keeper::pass::Pass;
+use assise_lease_table::revoker::{Revoker, Revokes};
+use assise_libfs::libfs::LibFs;
+use assise_link::link::PerfectLink;
+use assise_machine::cluster::ClusterOf;
+use assise_names::refusal::Refusal;
+use assise_workers::gate::OpenGate;
+use assise_workers::nodes::{NodeWorkers, workers_up_to};
+use assise_workers::worker::{TurnEnd, Worker};
+use std::alloc::{AllocError, Global};
+use std::sync::Wait;
+
+/// The main thread, whose pass has no client.
+#[derive(Drop)]
+pub(crate) struct MainThreadOf<'a, C> {
+    keeper: &'a Keeper<ClusterOf<C>>,
+    pass: Pass<ClusterOf<C>>,
+    ghost ours: { IsPassOf keeper.now pass },
+    ghost nobody: { client_of_pass pass ≡ None },
+}
+
+/// The main thread of a cluster whose clients store a [`Revoker`].
+pub(crate) type MainThread<'a> = MainThreadOf<'a, Revoker>;
+
+impl<'a, C: Revokes + Drop> MainThreadOf<'a, C> {
+    ghost use Rattle.std.specs.Prelude.{◌≡◌, ◌≤◌, IfErr, IfOk, None, string_bytes};
+    ghost use Rattle.assise_history.specs.Legal.{IsLegal, calls_made};
+    ghost use Rattle.assise_history.specs.Text.{history_text};
+    ghost use Rattle.assise_keeper.specs.Clients.{Extends};
+    ghost use Rattle.assise_keeper.specs.Passes.{IsPassOf, client as client_of_pass, seen};
+    ghost use Rattle.assise_libfs.specs.Clients.{client_of, seen_by};
+    ghost use Rattle.assise_libfs.specs.Lives.{IsOpenedOn};
+    ghost use Rattle.assise_threads.specs.Answered.{CarriesSome, ComesBackInTakes};
+    ghost use Rattle.assise_threads.specs.Takes.{InOneTake};
+    ghost use Rattle.assise_threads.specs.Threads.{DoesTake, main_seen};
+
+    /// The thread that has the first pass of a keeper.
+    pub(crate) fn new(
+        keeper: &'a Keeper<ClusterOf<C>>,
+        pass: Pass<ClusterOf<C>>,
+    ) -> MainThreadOf<'a, C>
+        requires { IsPassOf keeper.now pass × (client_of_pass pass ≡ None) }
+        ensures { main_seen result ≡ seen pass }
+    {
+        MainThreadOf { keeper, pass }
+    }
+
+    /// The workers of nodes 1 to this.
+    pub(crate) fn workers(
+        &mut self,
+        alloc: Global,
+        last: u32,
+    ) -> Result<Vec<NodeWorkers<'a, ClusterOf<C>>>, Refusal>
+        ensures { main_seen self.new ≡ main_seen self.old }
+    {
+        workers_up_to(alloc, self.keeper, &mut self.pass, last)
+    }
+
+    /// Opens a client on a node. Refused, the revoker comes back.
+    pub(crate) fn open<R: Wait>(
+        &mut self,
+        rt: &R,
+        alloc: Global,
+        node: u32,
+        revoker: C,
+        turns: u32,
+    ) -> Result<LibFs<'a, ClusterOf<C>>, (Refusal, C)>
+        requires some_turns { 1 ≤ turns }
+        requires few_turns { turns ≤ 1000000 }
+        ensures stays { main_seen self.new ≡ main_seen self.old }
+        ensures extends { IfOk result (λ it. Extends (seen_by it) (main_seen self.old)) }
+        ensures opened { IfOk result (λ it. ∥ IsOpenedOn (client_of it) node (seen_by it) ∥₁) }
+        ensures no_calls { IfOk result (λ it. calls_made (client_of it) (seen_by it) ≡ 0) }
+    {
+        let pass = self.keeper.split(&mut self.pass);
+        match LibFs::open(rt, alloc, self.keeper, pass, node, revoker, turns) {
+            Ok(libfs) => Ok(libfs),
+            Err((refusal, _, revoker)) => Err((refusal, revoker)),
+        }
+    }
+
+    /// Why no client can be opened on a node where there is no revoker for one.
+    pub(crate) fn refuse_open<R: Wait>(&mut self, rt: &R, node: u32) -> Refusal
+        ensures { Extends (main_seen self.new) (main_seen self.old) }
+    {
+        let mut held = self.keeper.take(rt, &mut self.pass);
+        let refusal = refusal_without_revoker(held.state(), node);
+        self.keeper.give(&mut self.pass, held);
+        refusal
+    }
+
+    /// One replicate turn of a node, over a perfect link: how many frames were taken in.
+    pub(crate) fn carry<R: Wait>(&mut self, rt: &R, alloc: Global, node: u64) -> Answer
+        ensures { CarriesSome result (main_seen self.old) (main_seen self.new) }
+    {
+        let Ok(node) = u32::try_from(node) else {
+            return Answer::Refused(Refusal::BadNode);
+        };
+        let mut worker = Worker::new(self.keeper, &mut self.pass);
+        let mut link = PerfectLink::new();
+        match worker.replicate_turn(rt, alloc, node, &mut link, &OpenGate) {
+            TurnEnd::Did(count) => Answer::Carried(count),
+            TurnEnd::Refused(refusal) => Answer::Refused(refusal),
+            TurnEnd::Stopped => Answer::Carried(0),
+        }
+    }
+
+    /// Does something in one take.
+    pub(crate) fn in_one_take<R: Wait>(&mut self, rt: &R, alloc: Global, take: Take) -> Answer
+        ensures does { InOneTake (DoesTake take result) (main_seen self.old) (main_seen self.new) }
+        ensures extends { Extends (main_seen self.new) (main_seen self.old) }
+    {
+        let mut held = self.keeper.take(rt, &mut self.pass);
+        let answer = apply(alloc, held.state(), take);
+        self.keeper.give(&mut self.pass, held);
+        answer
+    }
+
+    /// A node comes back: it begins to, and then gets an inode and tries to join until it is full, so many times at most.
+    pub(crate) fn bring_back<R: Wait>(
+        &mut self,
+        rt: &R,
+        alloc: Global,
+        node: u64,
+        turns: u32,
+    ) -> Answer
+        ensures { ComesBackInTakes node result (main_seen self.old) (main_seen self.new) }
+    {
+        let begun = self.in_one_take(rt, alloc, Take::BeginReturn(node));
+        if let Answer::Refused(_) = begun {
+            return begun;
+        }
+        for _ in 0..turns {
+            let filled = self.in_one_take(rt, alloc, Take::Refill(node));
+            if let Answer::Refused(_) = filled {
+                return filled;
+            }
+            let joined = self.in_one_take(rt, alloc, Take::Join(node));
+            if !is_busy(&joined) {
+                return joined;
+            }
+        }
+        Answer::Refused(Refusal::Busy)
+    }
+
+    /// The text of the history so far.
+    pub(crate) fn history<R: Wait>(&mut self, rt: &R, alloc: Global) -> Result<String, AllocError>
+        ensures extends { Extends (main_seen self.new) (main_seen self.old) }
+        ensures legal { ∥ IsLegal (main_seen self.new) ∥₁ }
+        ensures text { IfOk result (λ text. string_bytes text ≡ history_text (main_seen self.new)) }
+    {
+        let mut held = self.keeper.take(rt, &mut self.pass);
+        let text = written(alloc, held.state().history());
+        self.keeper.give(&mut self.pass, held);
+        text
+    }
+}
+
+/// Whether something is to be tried again.
+fn is_busy(answer: &Answer) -> bool {
+    matches!(answer, Answer::Refused(Refusal::Busy))
+}
+
+/// Why no client is opened on a node where all revokers are taken.
+fn refusal_without_revoker<C: Revokes + Drop>(cluster: &ClusterOf<C>, node: u32) -> Refusal {
+    match cluster.region(node) {
+        Ok(_) => Refusal::BadClient,
+        Err(Refusal::WrongPhase) => Refusal::NodeDown,
+        Err(refusal) => refusal,
+    }
+}
+
+/// The text of a history.
+fn written(alloc: Global, history: &History) -> Result<String, AllocError>
+    ensures { IfOk result (λ text. string_bytes text ≡ history_text history.now.events) }
+{
+    format!(in alloc; "{history}")
+}
