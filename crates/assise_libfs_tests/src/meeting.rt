@@ -37,6 +37,8 @@ pub fn meet_after_create<'a, S: Served, R: Wait>(
     passes: (Pass<S>, Pass<S>),
     stored: (S::Stored, S::Stored),
 ) -> Option<Met<'a, S>>
+where
+    S::Stored: Drop,
     requires first { IsPassOf keeper.now passes.0 × (client passes.0 ≡ None) }
     requires second { IsPassOf keeper.now passes.1 × (client passes.1 ≡ None) }
     ensures no_calls { IfSome result (λ met. calls_made (client_of met.second) (seen_by met.second) ≡ 0) }
