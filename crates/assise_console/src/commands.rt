@@ -18,7 +18,8 @@ use std::alloc::Global;
 
 /// One digest of a node.
 pub fn digest<C: Revokes + Drop>(alloc: Global, cluster: &mut ClusterOf<C>, node: u64) -> Answer
-    ensures { (es : Told) × IsOne (digest node) result (machine cluster.old) es (machine cluster.new) }
+    ensures { (es : Told) × IsOne (digest node) result (machine cluster.old) es (machine
+        cluster.new) }
 {
     let Some(node) = number_of(node) else {
         return Answer::Refused(Refusal::BadNode);
@@ -31,14 +32,16 @@ pub fn digest<C: Revokes + Drop>(alloc: Global, cluster: &mut ClusterOf<C>, node
 
 /// The leases go that may.
 pub fn release<C: Revokes + Drop>(cluster: &mut ClusterOf<C>) -> Answer
-    ensures { (es : Told) × IsOne release_ready result (machine cluster.old) es (machine cluster.new) }
+    ensures { (es : Told) × IsOne release_ready result (machine cluster.old) es (machine
+        cluster.new) }
 {
     Answer::Released(cluster.release_ready())
 }
 
 /// A client crashes.
 pub fn crash<C: Revokes + Drop>(cluster: &mut ClusterOf<C>, client: u64) -> Answer
-    ensures { (es : Told) × IsOneAt crash client result (machine cluster.old) es (machine cluster.new) }
+    ensures { (es : Told) × IsOneAt crash client result (machine cluster.old) es (machine
+        cluster.new) }
 {
     let Some(client) = number_of(client) else {
         return Answer::Refused(Refusal::BadClient);
@@ -48,7 +51,8 @@ pub fn crash<C: Revokes + Drop>(cluster: &mut ClusterOf<C>, client: u64) -> Answ
 
 /// A node fails.
 pub fn fail<C: Revokes + Drop>(alloc: Global, cluster: &mut ClusterOf<C>, node: u64) -> Answer
-    ensures { (es : Told) × IsOneAt fail node result (machine cluster.old) es (machine cluster.new) }
+    ensures { (es : Told) × IsOneAt fail node result (machine cluster.old) es (machine
+        cluster.new) }
 {
     let Some(node) = number_of(node) else {
         return Answer::Refused(Refusal::BadNode);
@@ -58,7 +62,8 @@ pub fn fail<C: Revokes + Drop>(alloc: Global, cluster: &mut ClusterOf<C>, node: 
 
 /// A node that was down begins to come back.
 pub fn begin_return<C: Revokes + Drop>(cluster: &mut ClusterOf<C>, node: u64) -> Answer
-    ensures { (es : Told) × IsOneAt back node result (machine cluster.old) es (machine cluster.new) }
+    ensures { (es : Told) × IsOneAt back node result (machine cluster.old) es (machine
+        cluster.new) }
 {
     let Some(node) = number_of(node) else {
         return Answer::Refused(Refusal::BadNode);
@@ -68,7 +73,8 @@ pub fn begin_return<C: Revokes + Drop>(cluster: &mut ClusterOf<C>, node: u64) ->
 
 /// A node that comes back gets one inode that it may lack.
 pub fn refill<C: Revokes + Drop>(alloc: Global, cluster: &mut ClusterOf<C>, node: u64) -> Answer
-    ensures { (es : Told) × IsOneAt refill node result (machine cluster.old) es (machine cluster.new) }
+    ensures { (es : Told) × IsOneAt refill node result (machine cluster.old) es (machine
+        cluster.new) }
 {
     let Some(node) = number_of(node) else {
         return Answer::Refused(Refusal::BadNode);
@@ -78,7 +84,8 @@ pub fn refill<C: Revokes + Drop>(alloc: Global, cluster: &mut ClusterOf<C>, node
 
 /// A node that comes back and lacks no inode is full again.
 pub fn join<C: Revokes + Drop>(alloc: Global, cluster: &mut ClusterOf<C>, node: u64) -> Answer
-    ensures { (es : Told) × IsOneAt join node result (machine cluster.old) es (machine cluster.new) }
+    ensures { (es : Told) × IsOneAt join node result (machine cluster.old) es (machine
+        cluster.new) }
 {
     let Some(node) = number_of(node) else {
         return Answer::Refused(Refusal::BadNode);

@@ -48,7 +48,8 @@ impl<C> Stock<C> {
 
     /// Puts a revoker behind those of its kind. Where there is no memory for it, it comes back, and the stock is as it was.
     pub fn put_back(&mut self, kind: RevokerKind, revoker: C) -> Result<(), C>
-        ensures added { OnOk result (left_of kind self.new ≡ left_of kind self.old ++ revoker ∷ []) }
+        ensures added { OnOk result (left_of kind self.new ≡ left_of kind self.old ++ revoker ∷
+            []) }
         ensures kept { OnErr result (left_of kind self.new ≡ left_of kind self.old) }
         ensures returned { IfErr result (λ back. back ≡ revoker) }
         ensures kinds { (k : Kind) → (k ≡ kind → ⊥) → left_of k self.new ≡ left_of k self.old }

@@ -5,7 +5,7 @@ use Rattle.assise_record.specs.LogFrame.{LogFrame}
 use Rattle.assise_record.specs.Spelling.{BeginsWith, spelling}
 
 -- what came is a front of the bytes that were handed in, or of bytes that were stored
-pub record IsFrontOf (bytes : List ℕ) (stored : List (List ℕ)) (came : List ℕ) : Type 0 where
+pub record IsFrontOnLink (bytes : List ℕ) (stored : List (List ℕ)) (came : List ℕ) : Type 0 where
   pub whole : List ℕ
   pub known : (whole ≡ bytes) ⊎ Contains stored whole
   pub rest : List ℕ
@@ -16,7 +16,7 @@ abbrev pub IsFaithful : (List ℕ → List ℕ → Type 0) → Type 0
 IsFaithful gives = (bytes came : List ℕ) → gives bytes came → came ≡ bytes
 
 -- for the frame that was sent a link that gives so gave bytes that begin with the frame that came
-pub record Comes (gives : List ℕ → List ℕ → Type 0) (sent came : LogFrame) : Type 0 where
+pub record ComesOver (gives : List ℕ → List ℕ → Type 0) (sent came : LogFrame) : Type 0 where
   pub bytes : List ℕ
   pub given : gives (spelling sent) bytes
   pub used : ℕ

@@ -1,6 +1,6 @@
 // The way of a frame over a link.
 ghost use Rattle.std.specs.Prelude.{◌≡◌, IfSome};
-ghost use Rattle.assise_link.specs.Links.{Comes, IsFaithful};
+ghost use Rattle.assise_link.specs.Links.{ComesOver, IsFaithful};
 
 use crate::link::Link;
 use assise_record::decode::decode_up_to;
@@ -11,7 +11,7 @@ use std::alloc::Global;
 /// Sends a frame over a link as its bytes, and answers the frame that comes at the other end: `None` where it is lost or late, where the
 /// link has a fault, where what comes begins with no frame, or where memory is refused.
 pub fn carry_frame<L: Link>(alloc: Global, link: &mut L, frame: &Frame) -> Option<Frame>
-    ensures came { IfSome result (λ came. Comes (L.gives link.old) frame.now came) }
+    ensures came { IfSome result (λ came. ComesOver (L.gives link.old) frame.now came) }
     ensures same { IsFaithful (L.gives link.old) → IfSome result (λ came. came ≡ frame.now) }
 {
     let mut bytes = Vec::new(alloc);

@@ -1,6 +1,6 @@
 // What carries bytes from node to node.
 ghost use Rattle.std.specs.Prelude.{◌≡◌, ◌+◌, ◌⊎◌, ℕ, Contains, IfOk, IfSome, List, OnErr, OnOk};
-ghost use Rattle.assise_link.specs.Links.{IsFrontOf};
+ghost use Rattle.assise_link.specs.Links.{IsFrontOnLink};
 
 use std::alloc::Global;
 
@@ -42,7 +42,7 @@ pub trait Link: Send {
         ensures { result ≡ count self.now };
 
     ghost fronts: { (l : Self) (bytes came : List ℕ) → gives l bytes came
-        → IsFrontOf bytes (stored l) came };
+        → IsFrontOnLink bytes (stored l) came };
 }
 
 /// A link that answers what it is handed, and stores nothing.

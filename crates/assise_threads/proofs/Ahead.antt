@@ -5,11 +5,11 @@ use Rattle.assise_fault_script.specs.declared.command.Command.TheVariants.{Clust
 use Rattle.assise_fault_script.specs.declared.parse.NumberedCommand.{NumberedCommand}
 use Rattle.assise_threads.specs.CallsAhead.{calls_ahead, counts_call}
 use Rattle.assise_threads.specs.Runs.{serial_from, serial_line}
-use Rattle.assise_threads.specs.Stretches.{AreCalls, IsCall}
+use Rattle.assise_threads.specs.Stretches.{AreCalls, IsClientCall}
 
 data CallOrNot (command : Command) : Type 0 where
-  is_call : IsCall command → ((k : ℕ) → counts_call command k ≡ suc k) → CallOrNot command
-  is_none : (IsCall command → ⊥) → ((k : ℕ) → counts_call command k ≡ 0) → CallOrNot command
+  is_call : IsClientCall command → ((k : ℕ) → counts_call command k ≡ suc k) → CallOrNot command
+  is_none : (IsClientCall command → ⊥) → ((k : ℕ) → counts_call command k ≡ 0) → CallOrNot command
 
 call_or_not : (command : Command) → CallOrNot command
 call_or_not (Call c op) = is_call tt (λ k. refl)
@@ -45,14 +45,14 @@ pub calls_in_front : (ls : List NumberedCommand) → AreCalls (take (calls_ahead
 calls_in_front [] = tt
 calls_in_front (l ∷ ls) = one_more l ls (call_or_not l.command) (calls_in_front ls)
 
-none_there : (l : NumberedCommand) (ls : List NumberedCommand) → CallOrNot l.command → calls_ahead (l ∷ ls) ≡ 0 → IsCall l.command → ⊥
+none_there : (l : NumberedCommand) (ls : List NumberedCommand) → CallOrNot l.command → calls_ahead (l ∷ ls) ≡ 0 → IsClientCall l.command → ⊥
 none_there l ls (is_call is counts) none call = let n = counts (calls_ahead ls) in omega (arith, n, none)
 none_there l ls (is_none other counts) none call = other call
 
 -- where none is counted, the first is no call
-pub first_is_none : (ls : List NumberedCommand) (l : NumberedCommand) → 1 ≤ length ls → l ≡ get_or ls 0 l → calls_ahead ls ≡ 0 → IsCall l.command → ⊥
+pub first_is_none : (ls : List NumberedCommand) (l : NumberedCommand) → 1 ≤ length ls → l ≡ get_or ls 0 l → calls_ahead ls ≡ 0 → IsClientCall l.command → ⊥
 first_is_none [] l some is none call = absurd (omega (arith, some))
-first_is_none (k ∷ ls) l some is none call = none_there k ls (call_or_not k.command) none (subst (λ (x : NumberedCommand). IsCall x.command) is call)
+first_is_none (k ∷ ls) l some is none call = none_there k ls (call_or_not k.command) none (subst (λ (x : NumberedCommand). IsClientCall x.command) is call)
 
 pub first_taken : (ls : List NumberedCommand) (l : NumberedCommand) → 1 ≤ length ls → l ≡ get_or ls 0 l → take 1 ls ≡ l ∷ []
 first_taken [] l some is = absurd (omega (arith, some))

@@ -13,7 +13,7 @@ use Rattle.assise_threads.specs.Hearing.{HasHeard, sight_of, sights}
 use Rattle.assise_threads.specs.Runs.{IsThreadRun}
 use Rattle.assise_threads.specs.Said.{IsHeard, Said, said_line, said_lines}
 use Rattle.assise_threads.specs.Spoken.{AreAllSaid, IsOneSaid, IsStretchSaid, Sights}
-use Rattle.assise_threads.specs.Stretches.{IsCall}
+use Rattle.assise_threads.specs.Stretches.{IsClientCall}
 use Rattle.assise_threads.proofs.Heard.{commands-append, heard_one, heard_then, no_call}
 use Rattle.assise_threads.proofs.SaidMore.{adds_more, adds_nothing, said-append}
 
@@ -39,7 +39,7 @@ module _ (done : List NumberedCommand) (seen : List Event) (before : Sights) (ol
     heard = λ c. heard_then c all.said more.said (sight_of c before) (sight_of c after) (all.heard c) (more.clients c);
   }
 
-  pub one_added : (l : NumberedCommand) (now : List Event) (after : Sights) (new : Option (List ℕ)) → (IsCall l.command → ⊥) → IsOneSaid l seen before now after mid new → AreAllSaid (done ++ l ∷ []) now after old new
+  pub one_added : (l : NumberedCommand) (now : List Event) (after : Sights) (new : Option (List ℕ)) → (IsClientCall l.command → ⊥) → IsOneSaid l seen before now after mid new → AreAllSaid (done ++ l ∷ []) now after old new
   one_added l now after new none one =
       let s : Said = record { command = l; answer = one.answer; history = now } in
       record {

@@ -14,10 +14,10 @@ use Rattle.assise_fault_script.specs.declared.parse.NumberedCommand.{NumberedCom
 use Rattle.assise_console.specs.Lines.{line_text}
 use Rattle.assise_workers.specs.Told.{told_all}
 use Rattle.assise_workers.proofs.Lists.{told-append}
-use Rattle.assise_threads.specs.Answered.{IsAnswered, is_replied, is_refused}
+use Rattle.assise_threads.specs.Answered.{AnswersCommand, is_replied, is_refused}
 use Rattle.assise_threads.specs.Runs.{IsSaid}
 use Rattle.assise_threads.specs.Said.{Said, TellsClient, call_in, calls_in, commands_said, outcome_answer, said_line, said_lines}
-use Rattle.assise_threads.specs.Stretches.{AreCalls, AreCallsSaid, AreTold, HasAllOf, IsCall, IsCallSaid, TakesFirst, Untold, next_or_none, outcomes_of}
+use Rattle.assise_threads.specs.Stretches.{AreCalls, AreCallsSaid, AreTold, HasAllOf, IsClientCall, IsCallSaid, TakesFirst, Untold, next_or_none, outcomes_of}
 use Rattle.assise_threads.proofs.SaidMore.{adds_more, adds_nothing, said-append}
 use Rattle.assise_threads.proofs.Heard.{calls_more, calls_same, tells-append, tells_nothing}
 
@@ -56,7 +56,7 @@ none_said stretch seen first old all = record {
 abbrev said_now : NumberedCommand → List Event → Option (Result Reply Refusal) → Said
 said_now l seen outcome = record { command = l; answer = outcome_answer (next_or_none outcome); history = seen }
 
-is_answered : (command : Command) (seen : List Event) (r : Result Reply Refusal) → IsCall command → IsAnswered command (outcome_answer r) seen seen
+is_answered : (command : Command) (seen : List Event) (r : Result Reply Refusal) → IsClientCall command → AnswersCommand command (outcome_answer r) seen seen
 is_answered (Call c op) seen (Ok reply) is = is_replied reply refl refl
 is_answered (Call c op) seen (Err refusal) is = is_refused refusal refl refl
 is_answered (Cluster nodes log hot) seen r is = absurd is
@@ -155,7 +155,7 @@ module _ (done rest : List NumberedCommand) (l : NumberedCommand) (seen : List E
       by_case (inl none) = passes-by c ss l seen is.outcome rest (outcomes_of c first) (outcomes_of c later) none (subst (LeavesToTell c ss (l ∷ rest) (outcomes_of c first)) (sym (is.others c none)) left)
       by_case (inr (op, one)) = is-told c ss l seen is.outcome rest (outcomes_of c first) (outcomes_of c now) (outcomes_of c later) op one (is.next c op one) left
 
-  said_next : AreSaidSoFar done (l ∷ rest) seen first now old mid → IsCall l.command → IsCallSaid l now later mid new → AreSaidSoFar (done ++ l ∷ []) rest seen first later old new
+  said_next : AreSaidSoFar done (l ∷ rest) seen first now old mid → IsClientCall l.command → IsCallSaid l now later mid new → AreSaidSoFar (done ++ l ∷ []) rest seen first later old new
   said_next before call is =
       let s = said_now l seen is.outcome in
       let line : line_text l.line [] (outcome_answer (next_or_none is.outcome)) ≡ said_lines (s ∷ []) = line_same l.line seen (next_or_none is.outcome) ∙ sym (append-nil (said_line s)) in
@@ -174,10 +174,10 @@ module _ (stretch : List NumberedCommand) (i : ℕ) (l : NumberedCommand) (withi
   left_is : drop i stretch ≡ l ∷ drop (i + 1) stretch
   left_is = let next : suc i ≡ i + 1 = omega arith in drop-cons stretch i l within ∙ ap₂ (λ (x : NumberedCommand) (n : ℕ). x ∷ drop n stretch) (sym is) next
 
-  pub calls_left : AreCalls (drop i stretch) → IsCall l.command × AreCalls (drop (i + 1) stretch)
+  pub calls_left : AreCalls (drop i stretch) → IsClientCall l.command × AreCalls (drop (i + 1) stretch)
   calls_left calls = subst AreCalls left_is calls
 
-  pub line_said : (seen : List Event) (first now later : Untold) (old mid new : Option (List ℕ)) → AreSaidSoFar (take i stretch) (drop i stretch) seen first now old mid → IsCall l.command → IsCallSaid l now later mid new
+  pub line_said : (seen : List Event) (first now later : Untold) (old mid new : Option (List ℕ)) → AreSaidSoFar (take i stretch) (drop i stretch) seen first now old mid → IsClientCall l.command → IsCallSaid l now later mid new
       → AreSaidSoFar (take (i + 1) stretch) (drop (i + 1) stretch) seen first later old new
   line_said seen first now later old mid new before call one =
       subst (λ z. AreSaidSoFar z (drop (i + 1) stretch) seen first later old new) (ap (λ x. take i stretch ++ x ∷ []) is ∙ sym (take_more stretch i l within))

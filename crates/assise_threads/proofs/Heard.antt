@@ -14,7 +14,7 @@ use Rattle.assise_workers.specs.Told.{told_all}
 use Rattle.assise_workers.proofs.Lists.{told-append}
 use Rattle.assise_threads.specs.Said.{Said, TellsClient, call_in, calls_in, commands_said}
 use Rattle.assise_threads.specs.Spoken.{MayGain, Sights, gains, stays}
-use Rattle.assise_threads.specs.Stretches.{IsCall}
+use Rattle.assise_threads.specs.Stretches.{IsClientCall}
 use Rattle.assise_threads.specs.Hearing.{HasHeard, HearsStretch, calls_of_sight, sight_of}
 
 pub commands-append : (ss ts : List Said) → commands_said (ss ++ ts) ≡ commands_said ss ++ commands_said ts
@@ -66,7 +66,7 @@ module _ (c : ℕ) (ss ts : List Said) where
 
 -- ---- a command that is no call
 
-pub no_call : (c : ℕ) (command : Command) → (IsCall command → ⊥) → call_in c command ≡ []
+pub no_call : (c : ℕ) (command : Command) → (IsClientCall command → ⊥) → call_in c command ≡ []
 no_call c (Call d op) none = absurd (none tt)
 no_call c (Cluster nodes log hot) none = refl
 no_call c Manual none = refl

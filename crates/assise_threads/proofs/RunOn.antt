@@ -19,13 +19,13 @@ use Rattle.assise_console.specs.Engines.{IsReadFault}
 use Rattle.assise_console.specs.Lines.{line_text}
 use Rattle.assise_console.specs.Steps.{Shows, is_shown, lacks_memory, is_refused as not_shown}
 use Rattle.assise_libfs.specs.declared.libfs.LibFs.{LibFs}
-use Rattle.assise_threads.specs.Answered.{IsAnswered, joins, stops_filling, is_refused, is_busy, is_opened, is_carried, is_replied}
+use Rattle.assise_threads.specs.Answered.{AnswersCommand, joins, stops_filling, is_refused, is_busy, is_opened, is_carried, is_replied}
 use Rattle.assise_threads.specs.CallsAhead.{AreSaidNext, is_one, is_stretch}
 use Rattle.assise_threads.specs.Hearing.{sights}
 use Rattle.assise_threads.specs.Runs.{EndsRun, IsRunSaid, ThreadFault}
 use Rattle.assise_threads.specs.Said.{said_lines}
 use Rattle.assise_threads.specs.Spoken.{AreAllSaid, MayGain, Sights, gains}
-use Rattle.assise_threads.specs.Stretches.{IsCall}
+use Rattle.assise_threads.specs.Stretches.{IsClientCall}
 use Rattle.assise_threads.proofs.AllSaid.{is_run, nothing_said, one_added, stretch_added}
 
 pub nothing_yet : (seen : List Event) (clients : Sights) (old : Option (List ℕ)) → seen ≡ [] → clients ≡ [] → AreAllSaid [] seen clients old old
@@ -73,7 +73,7 @@ run_kept commands old mid new h keeps = record { said = h.said; run = h.run; app
 
 -- ---- the history is printed by its own command alone
 
-not_whole : (command : Command) (old new : List Event) → (command ≡ History → ⊥) → IsAnswered command Whole old new → ⊥
+not_whole : (command : Command) (old new : List Event) → (command ≡ History → ⊥) → AnswersCommand command Whole old new → ⊥
 not_whole (Cluster nodes log hot) old new other h = let x : Whole ≡ Quiet = h.answer in cc
 not_whole Manual old new other h = let x : Whole ≡ Quiet = h.answer in cc
 not_whole (Open node kind) old new other (is_opened c seen is e o m s) = let x : Whole ≡ Client c = is in cc
@@ -101,7 +101,7 @@ not_whole (Tree node) old new other h = no_tree h.does.shows
 not_whole History old new other h = other refl
 
 -- so a line shows no history where another command was answered
-pub line_shows_none : (n : ℕ) (command : Command) (a : Answer) (shown old new : List Event) → (command ≡ History → ⊥) → IsAnswered command a old new → line_text n shown a ≡ line_text n new a
+pub line_shows_none : (n : ℕ) (command : Command) (a : Answer) (shown old new : List Event) → (command ≡ History → ⊥) → AnswersCommand command a old new → line_text n shown a ≡ line_text n new a
 line_shows_none n command Whole shown old new other h = absurd (not_whole command old new other h)
 line_shows_none n command Quiet shown old new other h = refl
 line_shows_none n command (Client c) shown old new other h = refl

@@ -59,18 +59,18 @@ pub record PrintsHistory (a : Answer) (old new : List Event) : Type 0 where
   pub legal : ∥ IsLegal new ∥₁
 
 -- the command is answered so, where the main thread had seen the first history before and has seen the second then
-abbrev pub IsAnswered : Command → Answer → List Event → List Event → Type 0
-IsAnswered (Cluster nodes log hot) a old new = IsSilent a old new
-IsAnswered Manual a old new = IsSilent a old new
-IsAnswered (Open n kind) a old new = OpensOne n a old new
-IsAnswered (Call c op) a old new = IsCallAnswered a old new
-IsAnswered (Carry n) a old new = CarriesSome a old new
-IsAnswered (Digest n) a old new = InOneTake (IsOne (digest n) a) old new
-IsAnswered Release a old new = InOneTake (IsOne release_ready a) old new
-IsAnswered (Crash c) a old new = InOneTake (IsOneAt crash c a) old new
-IsAnswered (Fail n) a old new = InOneTake (IsOneAt fail n a) old new
-IsAnswered (Back n) a old new = ComesBackInTakes n a old new
-IsAnswered (Refill n) a old new = InOneTake (IsOneAt refill n a) old new
-IsAnswered (Join n) a old new = InOneTake (IsOneAt join n a) old new
-IsAnswered (TreeOf n) a old new = InOneTake (ShowsTree n a) old new
-IsAnswered History a old new = PrintsHistory a old new
+abbrev pub AnswersCommand : Command → Answer → List Event → List Event → Type 0
+AnswersCommand (Cluster nodes log hot) a old new = IsSilent a old new
+AnswersCommand Manual a old new = IsSilent a old new
+AnswersCommand (Open n kind) a old new = OpensOne n a old new
+AnswersCommand (Call c op) a old new = IsCallAnswered a old new
+AnswersCommand (Carry n) a old new = CarriesSome a old new
+AnswersCommand (Digest n) a old new = InOneTake (IsOne (digest n) a) old new
+AnswersCommand Release a old new = InOneTake (IsOne release_ready a) old new
+AnswersCommand (Crash c) a old new = InOneTake (IsOneAt crash c a) old new
+AnswersCommand (Fail n) a old new = InOneTake (IsOneAt fail n a) old new
+AnswersCommand (Back n) a old new = ComesBackInTakes n a old new
+AnswersCommand (Refill n) a old new = InOneTake (IsOneAt refill n a) old new
+AnswersCommand (Join n) a old new = InOneTake (IsOneAt join n a) old new
+AnswersCommand (TreeOf n) a old new = InOneTake (ShowsTree n a) old new
+AnswersCommand History a old new = PrintsHistory a old new

@@ -5,7 +5,7 @@ use Rattle.assise_fault_script.specs.declared.command.Command.{Command}
 use Rattle.assise_fault_script.specs.declared.command.Command.TheVariants.{Call}
 use Rattle.assise_fault_script.specs.declared.parse.NumberedCommand.{NumberedCommand}
 use Rattle.assise_threads.specs.Spoken.{IsOneSaid, IsStretchSaid, Sights}
-use Rattle.assise_threads.specs.Stretches.{IsCall}
+use Rattle.assise_threads.specs.Stretches.{IsClientCall}
 
 -- one more than behind it, or none
 abbrev pub counts_call : Command → ℕ → ℕ
@@ -19,4 +19,4 @@ calls_ahead (l ∷ ls) = counts_call l.command (calls_ahead ls)
 -- a stretch of calls was served, or one command that is no call was answered
 pub data AreSaidNext (ls : List NumberedCommand) (seen : List Event) (before : Sights) (now : List Event) (after : Sights) (old new : Option (List ℕ)) : Type 0 where
   is_stretch : now ≡ seen → IsStretchSaid ls seen before after old new → AreSaidNext ls seen before now after old new
-  is_one : (l : NumberedCommand) → ls ≡ l ∷ [] → (IsCall l.command → ⊥) → IsOneSaid l seen before now after old new → AreSaidNext ls seen before now after old new
+  is_one : (l : NumberedCommand) → ls ≡ l ∷ [] → (IsClientCall l.command → ⊥) → IsOneSaid l seen before now after old new → AreSaidNext ls seen before now after old new

@@ -8,13 +8,13 @@ use Rattle.assise_fault_script.specs.declared.parse.NumberedCommand.{NumberedCom
 use Rattle.assise_console.specs.Engines.{IsInput, IsScript, IsScriptFault}
 use Rattle.assise_console.specs.declared.fault.EngineFault.{EngineFault}
 use Rattle.assise_console.specs.declared.fault.EngineFault.TheVariants.{Read, Script, Memory, Write, NeedsSerial, NoThread}
-use Rattle.assise_threads.specs.Answered.{IsAnswered}
+use Rattle.assise_threads.specs.Answered.{AnswersCommand}
 use Rattle.assise_threads.specs.Said.{IsHeard, Said, commands_said, said_lines}
 
 -- each command is answered behind those before it: what the main thread has seen goes on from command to command
 abbrev pub IsSaid : List Event → List Said → List Event → Type 0
 IsSaid old [] new = new ≡ old
-IsSaid old (s ∷ ss) new = IsAnswered s.command.command s.answer old s.history × IsSaid s.history ss new
+IsSaid old (s ∷ ss) new = AnswersCommand s.command.command s.answer old s.history × IsSaid s.history ss new
 
 -- these commands were run with threads, and this was said
 pub record IsThreadRun (commands : List NumberedCommand) (ss : List Said) : Type 0 where

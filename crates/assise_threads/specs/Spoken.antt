@@ -8,7 +8,7 @@ use Rattle.assise_keeper.specs.Clients.{calls_by}
 use Rattle.assise_fault_script.specs.declared.parse.NumberedCommand.{NumberedCommand}
 use Rattle.assise_console.specs.declared.answer.Answer.{Answer}
 use Rattle.assise_console.specs.Lines.{line_text}
-use Rattle.assise_threads.specs.Answered.{IsAnswered}
+use Rattle.assise_threads.specs.Answered.{AnswersCommand}
 use Rattle.assise_threads.specs.Hearing.{HasHeard, HearsStretch, sight_of}
 use Rattle.assise_threads.specs.Runs.{IsSaid}
 use Rattle.assise_threads.specs.Said.{Said, commands_said, said_lines}
@@ -33,7 +33,7 @@ pub data MayGain (before after : Sights) : Type 0 where
 -- a command of the main thread was answered, and its line was written
 pub record IsOneSaid (l : NumberedCommand) (seen : List Event) (before : Sights) (now : List Event) (after : Sights) (old new : Option (List ℕ)) : Type 0 where
   pub answer : Answer
-  pub answered : IsAnswered l.command answer seen now
+  pub answered : AnswersCommand l.command answer seen now
   pub appends : Appends old new (line_text l.line now answer)
   pub clients : MayGain before after
 

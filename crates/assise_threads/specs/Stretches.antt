@@ -21,25 +21,25 @@ use Rattle.assise_threads.specs.Runs.{IsSaid}
 use Rattle.assise_threads.specs.Said.{Said, TellsClient, call_in, calls_in, commands_said, outcome_answer, said_lines}
 
 -- it is a client's call
-abbrev pub IsCall : Command → Type 0
-IsCall (Call c op) = Unit {0}
-IsCall (Cluster nodes log hot) = ⊥
-IsCall Manual = ⊥
-IsCall (Open node kind) = ⊥
-IsCall (Carry node) = ⊥
-IsCall (Digest node) = ⊥
-IsCall Release = ⊥
-IsCall (Crash client) = ⊥
-IsCall (Fail node) = ⊥
-IsCall (Back node) = ⊥
-IsCall (Refill node) = ⊥
-IsCall (Join node) = ⊥
-IsCall (Tree node) = ⊥
-IsCall History = ⊥
+abbrev pub IsClientCall : Command → Type 0
+IsClientCall (Call c op) = Unit {0}
+IsClientCall (Cluster nodes log hot) = ⊥
+IsClientCall Manual = ⊥
+IsClientCall (Open node kind) = ⊥
+IsClientCall (Carry node) = ⊥
+IsClientCall (Digest node) = ⊥
+IsClientCall Release = ⊥
+IsClientCall (Crash client) = ⊥
+IsClientCall (Fail node) = ⊥
+IsClientCall (Back node) = ⊥
+IsClientCall (Refill node) = ⊥
+IsClientCall (Join node) = ⊥
+IsClientCall (Tree node) = ⊥
+IsClientCall History = ⊥
 
 abbrev pub AreCalls : List NumberedCommand → Type 0
 AreCalls [] = Unit {0}
-AreCalls (l ∷ ls) = IsCall l.command × AreCalls ls
+AreCalls (l ∷ ls) = IsClientCall l.command × AreCalls ls
 
 -- the list is this client with its calls of the stretch
 pub record HasCalls {S Stored : Type 0} (stretch : List NumberedCommand) (libfs : LibFs S Stored) (list : ClientList S Stored) : Type 0 where

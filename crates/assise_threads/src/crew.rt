@@ -74,12 +74,12 @@ impl<'a> Crew<'a> {
     ghost use Rattle.assise_history.specs.Text.{history_text};
     ghost use Rattle.assise_keeper.specs.Clients.{Extends};
     ghost use Rattle.assise_console.specs.Lines.{numbered};
-    ghost use Rattle.assise_threads.specs.Answered.{IsAnswered, OpensOne};
+    ghost use Rattle.assise_threads.specs.Answered.{AnswersCommand, OpensOne};
     ghost use Rattle.assise_threads.specs.CallsAhead.{AreSaidNext};
     ghost use Rattle.assise_threads.specs.Hearing.{sights};
     ghost use Rattle.assise_threads.specs.Runs.{EndsRun, IsRunSaid};
     ghost use Rattle.assise_threads.specs.Spoken.{AreAllSaid, IsOneSaid, IsStretchSaid, MayGain};
-    ghost use Rattle.assise_threads.specs.Stretches.{AreCalls, IsCall};
+    ghost use Rattle.assise_threads.specs.Stretches.{AreCalls, IsClientCall};
     ghost use Rattle.assise_threads.specs.Threads.{main_seen};
 
     /// A main thread of a cluster of so many nodes, with revokers for clients, each call of which is tried so many times at most.
@@ -204,7 +204,7 @@ impl<'a> Crew<'a> {
         line: &NumberedCommand,
         writer: &mut W,
     ) -> Result<(), EngineFault>
-        requires { IsCall line.now.command → ⊥ }
+        requires { IsClientCall line.now.command → ⊥ }
         ensures said { OnOk result (IsOneSaid line.now
             (main_seen self.old.main) (sights clients.old.items)
             (main_seen self.new.main) (sights clients.new.items)
@@ -249,11 +249,12 @@ impl<'a> Crew<'a> {
         clients: &mut Vec<LibFs<'a, Cluster>>,
         command: &Command,
     ) -> Result<Answer, EngineFault>
-        requires no_call { IsCall command.now → ⊥ }
+        requires no_call { IsClientCall command.now → ⊥ }
         requires no_history { command.now ≡ WholeHistory → ⊥ }
-        ensures answered { IfOk result (λ answer. IsAnswered command.now answer
+        ensures answered { IfOk result (λ answer. AnswersCommand command.now answer
             (main_seen self.old.main) (main_seen self.new.main)) }
-        ensures clients { OnOk result (MayGain (sights clients.old.items) (sights clients.new.items)) }
+        ensures clients { OnOk result (MayGain (sights clients.old.items) (sights
+            clients.new.items)) }
         ensures fault { IfErr result EndsRun }
     {
         let main = &mut self.main;
@@ -286,7 +287,8 @@ impl<'a> Crew<'a> {
     ) -> Result<Answer, EngineFault>
         ensures opens { IfOk result (λ answer. OpensOne node answer
             (main_seen self.old.main) (main_seen self.new.main)) }
-        ensures clients { OnOk result (MayGain (sights clients.old.items) (sights clients.new.items)) }
+        ensures clients { OnOk result (MayGain (sights clients.old.items) (sights
+            clients.new.items)) }
         ensures fault { IfErr result EndsRun }
     {
         let Ok(node) = u32::try_from(node) else {

@@ -5,7 +5,7 @@ ghost use Rattle.assise_threads.specs.Hearing.{sights};
 ghost use Rattle.assise_threads.specs.Runs.{EndsRun};
 ghost use Rattle.assise_threads.specs.Spoken.{IsStretchSaid};
 ghost use Rattle.assise_threads.specs.Said.{outcome_answer};
-ghost use Rattle.assise_threads.specs.Stretches.{AreCalls, AreCallsSaid, HasAllOf, IsCall, IsCallSaid, next_or_none, untold};
+ghost use Rattle.assise_threads.specs.Stretches.{AreCalls, AreCallsSaid, HasAllOf, IsClientCall, IsCallSaid, next_or_none, untold};
 ghost use Rattle.assise_threads.specs.Threads.{main_seen};
 
 use crate::lists::lists_of;
@@ -46,7 +46,7 @@ fn write_call<W: Write>(
     line: &NumberedCommand,
     writer: &mut W,
 ) -> Result<(), EngineFault>
-    requires { IsCall line.now.command }
+    requires { IsClientCall line.now.command }
     ensures said { OnOk result (IsCallSaid line.now (untold outcomes.old) (untold outcomes.new)
         (W.contents writer.old) (W.contents writer.new)) }
     ensures fault { IfErr result EndsRun }

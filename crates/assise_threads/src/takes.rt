@@ -37,7 +37,8 @@ pub(crate) fn apply<C: Revokes + Drop>(
     cluster: &mut ClusterOf<C>,
     take: Take,
 ) -> Answer
-    ensures does { (es : Told) × DoesTake take result (machine cluster.old) es (machine cluster.new) }
+    ensures does { (es : Told) × DoesTake take result (machine cluster.old) es (machine
+        cluster.new) }
     ensures nobodys { AddsNobodys (machine cluster.old).history (machine cluster.new).history }
 {
     match take {

@@ -78,7 +78,8 @@ fn make_calls<S: Served, R: Wait>(
     requires empty { replies.items ≡ [] }
     requires room { length calls.now ≤ vec_capacity replies }
     ensures same { IsSameClient libfs.old libfs.new }
-    ensures sees { SeesAll (client_of libfs.old) calls.now (seen_by libfs.old) result.items (seen_by libfs.new) }
+    ensures sees { SeesAll (client_of libfs.old) calls.now (seen_by libfs.old) result.items
+        (seen_by libfs.new) }
 {
     for op in calls {
         let reply = libfs.call(rt, alloc, op);

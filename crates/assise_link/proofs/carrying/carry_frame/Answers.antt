@@ -1,6 +1,6 @@
 use Rattle.std.proofs.Common.{◌≡◌, ◌∙◌, length, sym, subst, IfSome}
 use Rattle.assise_record.specs.Spelling.{BeginsWith, Spells, spelling}
-use Rattle.assise_link.proofs.Reading.{read_so, whole_begins}
+use Rattle.assise_link.proofs.WholeFrames.{read_so, whole_begins}
 use Rattle.assise_link.proofs.carrying.carry_frame.Goals as goal
 
 pub returns-in-Ok-decode_up_to-clause-came : goal.returns-in-Ok-decode_up_to-clause-came
