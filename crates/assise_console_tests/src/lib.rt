@@ -1,6 +1,8 @@
-//! Tests of `assise_console`: scripts over memory, readers and writers that fail, and the command line.
+//! Tests of `assise_console` and `assise_threads`: scripts over memory, readers and writers that fail, and the command line.
 #![tactic(auto)]
 
+#[cfg(test)]
+mod by_threads;
 #[cfg(test)]
 mod command_line;
 #[cfg(test)]

@@ -98,8 +98,8 @@ pub(crate) const PRINTED: &str = "2: client 1\n\
     call 1 3 write /f 9 0 = done\n\
     call 1 4 stat /f = file 0\n";
 
-/// Scripts on one node.
-const RUNS: &[Run<'_>] = &[
+/// Scripts of one client on one node.
+pub(crate) const RUNS: &[Run<'_>] = &[
     // A gap is filled with zeros.
     // A write behind the end of a file.
     (
