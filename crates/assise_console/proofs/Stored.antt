@@ -2,13 +2,13 @@
 use Rattle.std.proofs.Common.{◌≡◌, ℕ, List, ◌++◌, Option, Result, Ok, Err, OnErr, refl, ap, sym, subst}
 use Rattle.std.specs.Option.{option_to_list}
 use Rattle.assise_names.specs.declared.refusal.Refusal.{Refusal}
-use Rattle.assise_machine_events.specs.Events.{Answer as EventAnswer, digested, not_yet, opened, refused, released, replied}
+use Rattle.assise_machine_events.specs.Events.{digested, not_yet, opened, refused, released, replied}
 use Rattle.assise_machine.specs.Running.{opened_answer}
 use Rattle.assise_console.specs.declared.answer.Answer.{Answer}
 use Rattle.assise_console.specs.declared.answer.Answer.TheVariants.{Quiet, Client, Replied, Waits, Refused, Carried, Digested, Released, Crashed, Failed, Began, Left, Returned, Tree, History}
 use Rattle.assise_console.specs.declared.stock.Stock.{Stock}
 use Rattle.assise_console.specs.Stored.{left_of}
-use Rattle.assise_console.specs.Trying.{Tells}
+use Rattle.assise_console.specs.OneEvent.{Tells}
 use Rattle.assise_fault_script.specs.declared.command.RevokerKind.{RevokerKind}
 use Rattle.assise_fault_script.specs.declared.command.RevokerKind.TheVariants.{Least, Whole, Eights}
 use Rattle.std.specs.Global.{Vec}
