@@ -1,0 +1,2 @@
+mod PathFaults
+mod TwoPieces

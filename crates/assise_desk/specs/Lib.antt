@@ -1,0 +1,5 @@
+pub mod Codes
+pub mod CallNumbers
+pub mod RequestedOps
+pub mod Pages
+pub mod DeskAnswers
