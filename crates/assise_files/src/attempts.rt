@@ -1,7 +1,7 @@
 // A call is tried until it is settled.
 ghost use Rattle.assise_machine.specs.Clusters.{machine};
 ghost use Rattle.assise_rounds.specs.Courses.{Told};
-ghost use Rattle.assise_files.specs.CallTries.{IsTriedOut, RoomIsMade};
+ghost use Rattle.assise_files.specs.CallTries.{IsTriedOut, MakesRoom};
 
 use assise_lease_table::revoker::Revokes;
 use assise_machine::cluster::ClusterOf;
@@ -46,7 +46,7 @@ pub(crate) fn settle_call<C: Revokes + Drop>(
 /// What is done where a client's log is full: a round alone sends nothing that no fsync, crash or lease asks for, so an fsync is tried
 /// first. Whether the round had anything to do.
 fn make_room<C: Revokes + Drop>(alloc: Global, cluster: &mut ClusterOf<C>, client: u32) -> bool
-    ensures { (es : Told) × RoomIsMade result client (machine cluster.old) es (machine cluster.new) }
+    ensures { (es : Told) × MakesRoom result client (machine cluster.old) es (machine cluster.new) }
 {
     let _ = cluster.try_fsync(client);
     round(alloc, cluster)

@@ -30,7 +30,7 @@ impl Files {
     ghost use Rattle.assise_machine.specs.Running.{opened_answer};
     ghost use Rattle.assise_rounds.specs.Courses.{Told};
     ghost use Rattle.assise_rounds.specs.Returning.{ComesBack};
-    ghost use Rattle.assise_rounds.specs.Rounds.{IsRound};
+    ghost use Rattle.assise_rounds.specs.Rounds.{RoundsOnce};
     ghost use Rattle.assise_files.specs.FilesSeen.{KeepsHot, cluster_seen, kinds_seen, most_tries};
     ghost use Rattle.assise_files.specs.CallTries.{IsTriedOut};
 
@@ -86,7 +86,7 @@ impl Files {
 
     /// One round of all nodes, as [`round`](fn@round) says. Whether there was anything to do.
     pub fn round(&mut self, alloc: Global) -> bool
-        ensures round { (es : Told) × IsRound (cluster_seen self.old) es (cluster_seen self.new) }
+        ensures round { (es : Told) × RoundsOnce result (cluster_seen self.old) es (cluster_seen self.new) }
         ensures turns { most_tries self.new ≡ most_tries self.old }
     {
         round(alloc, &mut self.cluster)
