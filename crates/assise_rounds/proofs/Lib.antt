@@ -1,0 +1,4 @@
+pub mod Courses
+pub mod Coming
+mod Carrying
+mod Rounding
