@@ -13,7 +13,7 @@ use Rattle.assise_machine_failures.specs.Answers.{failing_answer}
 use Rattle.assise_machine.specs.Running.{opened_answer}
 use Rattle.assise_rounds.specs.Courses.{IsEvent, Nothing, Told}
 use Rattle.assise_rounds.specs.Returning.{ComesBack}
-use Rattle.assise_rounds.specs.Rounds.{IsRound}
+use Rattle.assise_rounds.specs.Rounds.{RoundsOnce}
 use Rattle.assise_files.specs.CallTries.{IsTriedOut}
 use Rattle.assise_files.specs.FilesSeen.{KeepsHot, cluster_seen, most_tries}
 use Rattle.assise_files.specs.declared.files.Files.{Files}
@@ -94,9 +94,9 @@ pub record TellsReturn (n : ℕ) (result : Result ℕ DeskFault) (m : Machine) (
   pub comes_back : ComesBack n returned m es m'
 
 pub record TellsRound (result : Result ℕ DeskFault) (m : Machine) (es : Told) (m' : Machine) : Type 0 where
-  pub moved : Bool
-  pub result_is : result ≡ Ok (yes_counted moved)
-  pub round : IsRound m es m'
+  pub busy : Bool
+  pub result_is : result ≡ Ok (yes_counted busy)
+  pub round : RoundsOnce busy m es m'
 
 -- the history is legal, unless there is no memory to check it
 pub record TellsLegal (result : Result ℕ DeskFault) (m : Machine) (es : Told) (m' : Machine) : Type 0 where
@@ -184,20 +184,24 @@ pub record IsServedTo (call : ClientCall) (r : DeskRequest) (bytes : List ℕ) (
 
 -- ---- a desk
 
--- what the laws observe of its cluster, if it has one
+-- its cluster, if it has one
+abbrev pub files_at : CallerDesk → Option Files
+files_at desk = option_map (λ owner. owner.value) desk.files
+
+-- what the laws observe of it
 abbrev pub cluster_at : CallerDesk → Option Machine
-cluster_at desk = option_map cluster_seen desk.files
+cluster_at desk = option_map cluster_seen (files_at desk)
 
 -- the answer of a request of a desk with this cluster
 pub data IsAnswered (d : CallerDesk) (result : Result ℕ DeskFault) (d' : CallerDesk) : Type 0 where
-  is_no_request : ((call : DeskCall) → call_number call ≢ d.request.call) → result ≡ Err BadRequest → d'.files ≡ d.files → IsAnswered d result d'
-  makes : (files : Files) → call_number Make ≡ d.request.call → IsMade d.request files → d'.files ≡ Some files → result ≡ Ok 0 → IsAnswered d result d'
-  makes_none : (fault : DeskFault) → call_number Make ≡ d.request.call → MayNotMake d.request fault → d'.files ≡ d.files → result ≡ Err fault → IsAnswered d result d'
-  frees : call_number Free ≡ d.request.call → d'.files ≡ None → result ≡ Ok 0 → IsAnswered d result d'
-  has_no_cluster : d.files ≡ None → d'.files ≡ None → result ≡ Err NoCluster → IsAnswered d result d'
-  manages : (call : ClusterCall) (files left : Files) → call_number (Cluster call) ≡ d.request.call → d.files ≡ Some files → d'.files ≡ Some left →
+  is_no_request : ((call : DeskCall) → call_number call ≢ d.request.call) → result ≡ Err BadRequest → files_at d' ≡ files_at d → IsAnswered d result d'
+  makes : (files : Files) → call_number Make ≡ d.request.call → IsMade d.request files → files_at d' ≡ Some files → result ≡ Ok 0 → IsAnswered d result d'
+  makes_none : (fault : DeskFault) → call_number Make ≡ d.request.call → MayNotMake d.request fault → files_at d' ≡ files_at d → result ≡ Err fault → IsAnswered d result d'
+  frees : call_number Free ≡ d.request.call → files_at d' ≡ None → result ≡ Ok 0 → IsAnswered d result d'
+  has_no_cluster : files_at d ≡ None → files_at d' ≡ None → result ≡ Err NoCluster → IsAnswered d result d'
+  manages : (call : ClusterCall) (files left : Files) → call_number (Cluster call) ≡ d.request.call → files_at d ≡ Some files → files_at d' ≡ Some left →
       (es : Told) × DoesAt call d.request result d'.bytes (cluster_seen files) es (cluster_seen left) → IsAnswered d result d'
-  calls : (call : ClientCall) (files left : Files) → call_number (Client call) ≡ d.request.call → d.files ≡ Some files → d'.files ≡ Some left →
+  calls : (call : ClientCall) (files left : Files) → call_number (Client call) ≡ d.request.call → files_at d ≡ Some files → files_at d' ≡ Some left →
       IsServedTo call d.request d.bytes files result d'.bytes d'.stands left → IsAnswered d result d'
 
 -- a desk, and what it is when its request is served

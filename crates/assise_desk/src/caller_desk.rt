@@ -105,7 +105,7 @@ fn answer(alloc: Global, desk: &mut CallerDesk) -> Result<u64, DeskFault>
 
 /// The cluster that a request asks for.
 fn make(alloc: Global, request: &DeskRequest) -> Result<Box<Files>, DeskFault>
-    ensures made { IfOk result (λ files. IsMade request.now files) }
+    ensures made { IfOk result (λ owner. IsMade request.now owner.value) }
     ensures fault { IfErr result (MayNotMake request.now) }
 {
     let (nodes, log, hot) = (request.node, request.first, request.second);
