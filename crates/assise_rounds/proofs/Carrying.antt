@@ -2,7 +2,7 @@
 use Rattle.std.proofs.Common.{◌≡◌, ℕ, ◌+◌, Bool, true, false, List, [], ◌∷◌, ◌++◌, map, None, Some, Result, Ok, Err, is_ok, refl, ap, sym, subst, ◌∙◌, append_assoc, append-nil, arith}
 use Rattle.assise_names.specs.declared.refusal.Refusal.{Refusal}
 use Rattle.assise_record.specs.LogFrame.{LogFrame}
-use Rattle.assise_machine_events.specs.Events.{received, refused, sent}
+use Rattle.assise_machine_events.specs.Events.{outgoing, received, refused, sent}
 use Rattle.assise_machine_events.specs.Happenings.{AllHappen}
 use Rattle.assise_machine_events.specs.Machine.{Machine}
 use Rattle.assise_machine_events.specs.NodeEvents.{Delivering, Sending}
@@ -71,10 +71,13 @@ module _ (m v m' : Machine) (frames : List (LogFrame × ℕ)) (count : ℕ) (f :
   }
 
 -- what a node sent was carried
-pub all_carried : (m v : Machine) (n count : ℕ) (frames : List (LogFrame × ℕ)) → Sending m n (sent frames) m → AreCarried frames count m v → (es : Told) × Replicates n count m es v
-all_carried m v n count frames sends h =
+pub carried_turn : (m v : Machine) (n count : ℕ) (frames : List (LogFrame × ℕ)) → Sending m n (sent frames) m → (h : AreCarried frames count m v) → Replicates n count m ((outgoing n, sent (map letter h.carried)) ∷ deliveries h.carried) v
+carried_turn m v n count frames sends h =
     let first : Sending m n (sent (map letter h.carried)) m = subst (λ fs. Sending m n (sent fs) m) (sym h.letters) sends in
-    (_, record { carried = h.carried; counts = h.counts; told = refl; happen = (m, (first, h.happen)) })
+    record { carried = h.carried; counts = h.counts; told = refl; happen = (m, (first, h.happen)) }
+
+pub all_carried : (m v : Machine) (n count : ℕ) (frames : List (LogFrame × ℕ)) → Sending m n (sent frames) m → AreCarried frames count m v → (es : Told) × Replicates n count m es v
+all_carried m v n count frames sends h = (_, carried_turn m v n count frames sends h)
 
 -- ---- one frame
 

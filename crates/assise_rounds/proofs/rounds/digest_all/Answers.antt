@@ -1,12 +1,13 @@
-use Rattle.std.proofs.Common.{◌≡◌, ◌-◌, sym, subst, ◌∙◌, arith}
-use Rattle.assise_machine_events.specs.Faults.{node_fault}
-use Rattle.assise_machine.specs.Answers.{digesting_answer}
+use Rattle.std.proofs.Common.{◌≡◌, ◌-◌, [], refl, sym, subst, ◌∙◌, arith}
 use Rattle.assise_machine.specs.Clusters.{machine}
 use Rattle.assise_rounds.specs.Courses.{Told}
-use Rattle.assise_rounds.specs.Rounds.{EachFull, DigestsOnce}
-use Rattle.assise_rounds.proofs.Rounding.{faulty_does, full_does, next_does, digests_once}
+use Rattle.assise_rounds.specs.Rounds.{EachFull, DigestsOnce, WithWork}
+use Rattle.assise_rounds.proofs.Rounding.{faulty_next, full_next}
 use Rattle.assise_rounds.proofs.rounds.digest_all.Goals as goal
 use Rattle.assise_rounds.proofs.rounds.digest_all.Goals.{else-is_full, then-is_full}
+
+pub loop-node-init : goal.loop-node-init
+loop-node-init g c = ([], record { does = record { told = refl; stays = refl }; work = refl })
 
 pub loop-node-preserved : goal.loop-node-preserved
 loop-node-preserved g c =
@@ -15,15 +16,15 @@ loop-node-preserved g c =
     let k = c.loop-node.node in
     elim c.if-is_full.branch [
       | then-is_full w ↦
-          let does = digests_once k v (machine w.digest.new.self) (digesting_answer w.digest.result) w.digest.ensures.happens in
+          let u = machine w.digest-busy.new.cluster in
           let full = sym c.is_full.ensures ∙ w.if-is_full.true in
-          rw w.cluster-is (next_does DigestsOnce k m v (machine w.digest.new.self) c.loop-node.auto.node c.loop-node.invariant (does.0, full_does (node_fault v k) (DigestsOnce k) v does.0 (machine w.digest.new.self) full does.1))
+          rw w.cluster-is (rw w.busy-is (full_next DigestsOnce k m v u c.loop-node.busy w.digest-busy.result c.loop-node.auto.node full c.loop-node.invariant w.digest-busy.ensures))
       | else-is_full w ↦
           let faulty = sym c.is_full.ensures ∙ w.if-is_full.false in
-          rw w.cluster-is (next_does DigestsOnce k m v v c.loop-node.auto.node c.loop-node.invariant (_, faulty_does (node_fault v k) (DigestsOnce k) v faulty))
+          rw w.cluster-is (rw w.busy-is (faulty_next DigestsOnce k m v c.loop-node.busy c.loop-node.auto.node faulty c.loop-node.invariant))
     ]
 
 pub returns : goal.returns
 returns g c =
     let last : c.loop-node.node - 1 ≡ 8 = omega (arith, c.loop-node-test.false, c.loop-node.auto.node-end) in
-    subst (λ n. (es : Told) × EachFull DigestsOnce n (machine c.args.cluster.now) es (machine c.loop-node.cluster)) last c.loop-node.invariant
+    subst (λ n. (es : Told) × WithWork (EachFull DigestsOnce n) c.loop-node.busy (machine c.args.cluster.now) es (machine c.loop-node.cluster)) last c.loop-node.invariant
