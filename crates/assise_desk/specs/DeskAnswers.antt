@@ -119,22 +119,6 @@ DoesAt History r result out m es m' = TellsLength result m es m'
 
 -- ---- a call of a client
 
-abbrev pub path_asked : DeskRequest → List ℕ → List ℕ
-path_asked r bytes = take r.path_bytes bytes
-
-abbrev pub other_asked : DeskRequest → List ℕ → List ℕ
-other_asked r bytes = take r.other_bytes (drop r.path_bytes bytes)
-
--- the call that the request asks for, with its path and the bytes behind it
-abbrev pub IsRequestedAt : ClientCall → DeskRequest → List ℕ → Op → Type 0
-IsRequestedAt call r bytes op = RequestsOp call r (path_asked r bytes) (other_asked r bytes) op
-
--- it asks for none: its bytes are more than a desk has, or spell no path, or there is no memory for it
-pub data MayAskForNone (call : ClientCall) (r : DeskRequest) (bytes : List ℕ) (fault : DeskFault) : Type 0 where
-  has_too_many_bytes : (DESK_BYTES < r.path_bytes) ⊎ (DESK_BYTES - r.path_bytes < r.other_bytes) → fault ≡ BadRequest → MayAskForNone call r bytes fault
-  has_no_call : MayFault call (path_asked r bytes) (other_asked r bytes) fault → MayAskForNone call r bytes fault
-  lacks_memory_for_it : fault ≡ no_memory → MayAskForNone call r bytes fault
-
 -- the reply, or why there is none
 abbrev pub replied_at : Result Reply Refusal → Result Reply DeskFault
 replied_at (Ok reply) = Ok reply
@@ -147,30 +131,6 @@ pub data CallsAt (turns : ℕ) (call : ClientCall) (r : DeskRequest) (bytes : Li
   asks_for_none : (fault : DeskFault) → MayAskForNone call r bytes fault → result ≡ Err fault → Nothing m es m' → CallsAt turns call r bytes result m es m'
 
 -- ---- a reply
-
-pub record ShowsPage (names : List (List ℕ)) (first : ℕ) (result : Result ℕ DeskFault) (stands : ℕ) (out : List ℕ) : Type 0 where
-  pub count : ℕ
-  pub result_is : result ≡ Ok count
-  pub page : IsPage DESK_BYTES (drop first names) (take count out)
-  pub progress : first < length names → 0 < count
-  pub all : stands ≡ length names
-
-pub record ShowsKind (kind number : ℕ) (result : Result ℕ DeskFault) (stands : ℕ) : Type 0 where
-  pub result_is : result ≡ Ok number
-  pub kind_is : stands ≡ kind
-
-pub data ShowsBytes (bytes : List ℕ) (result : Result ℕ DeskFault) (out : List ℕ) : Type 0 where
-  fit : result ≡ Ok (length bytes) → take (length bytes) out ≡ bytes → ShowsBytes bytes result out
-  are_too_many : DESK_BYTES < length bytes → result ≡ Err NoRoom → ShowsBytes bytes result out
-
--- a reply as a number, with what stands at the path and what is in the bytes then
-abbrev pub Shows : Reply → ℕ → Result ℕ DeskFault → ℕ → List ℕ → Type 0
-Shows Done first result stands out = result ≡ Ok 0
-Shows (Bytes bytes) first result stands out = ShowsBytes bytes result out
-Shows (Names names) first result stands out = ShowsPage names first result stands out
-Shows (File size) first result stands out = ShowsKind 1 size result stands
-Shows (Dir entries) first result stands out = ShowsKind 2 entries result stands
-Shows (Error error) first result stands out = result ≡ Err (Tree error)
 
 abbrev pub ShowsIfOk : Result Reply DeskFault → ℕ → Result ℕ DeskFault → ℕ → List ℕ → Type 0
 ShowsIfOk (Ok reply) first result stands out = Shows reply first result stands out

@@ -1,5 +1,5 @@
 -- The call of a client that a request asks for.
-use Rattle.std.specs.Prelude.{◌≡◌, ◌⊎◌, ℕ, min, List, Ok, Err}
+use Rattle.std.specs.Prelude.{◌≡◌, ◌⊎◌, ℕ, ◌-◌, ◌<◌, min, List, take, drop, Ok, Err}
 use Rattle.std.specs.Str.{IsUtf8}
 use Rattle.assise_names.specs.Path.{path_of}
 use Rattle.assise_names.specs.declared.call.Op.{Op}
@@ -69,3 +69,20 @@ MayFault Rmdir bytes others fault = MayFaultPath bytes fault
 MayFault Listing bytes others fault = MayFaultPath bytes fault
 MayFault Stat bytes others fault = MayFaultPath bytes fault
 MayFault Fsync bytes others fault = ⊥
+
+-- ---- in the bytes of a desk
+
+abbrev pub path_asked : DeskRequest → List ℕ → List ℕ
+path_asked r bytes = take r.path_bytes bytes
+
+abbrev pub other_asked : DeskRequest → List ℕ → List ℕ
+other_asked r bytes = take r.other_bytes (drop r.path_bytes bytes)
+
+-- the call that the request asks for, with its path and the bytes behind it
+abbrev pub IsRequestedAt : ClientCall → DeskRequest → List ℕ → Op → Type 0
+IsRequestedAt call r bytes op = RequestsOp call r (path_asked r bytes) (other_asked r bytes) op
+
+-- it asks for none: its bytes are more than a desk has, or spell no path, or there is no memory for it
+pub data MayAskForNone (call : ClientCall) (r : DeskRequest) (bytes : List ℕ) (fault : DeskFault) : Type 0 where
+  has_too_many_bytes : (DESK_BYTES < r.path_bytes) ⊎ (DESK_BYTES - r.path_bytes < r.other_bytes) → fault ≡ faults.BadRequest → MayAskForNone call r bytes fault
+  has_no_call : MayFault call (path_asked r bytes) (other_asked r bytes) fault → MayAskForNone call r bytes fault

@@ -7,10 +7,10 @@ ghost use Rattle.assise_desk.specs.DeskAnswers.{CallsAt, DoesAt, IsAnswered, IsM
 use crate::desk_call::{ClientCall, ClusterCall, DeskCall};
 use crate::desk_fault::DeskFault;
 use crate::desk_request::{DESK_BYTES, DeskRequest};
-use crate::page::{put_bytes, put_losses, put_page};
+use crate::page::put_losses;
+use crate::reply_shown::show_reply;
 use assise_files::cut_kind::CutKind;
 use assise_files::files::Files;
-use assise_names::call::Op;
 use assise_names::reply::Reply;
 use std::alloc::Global;
 
@@ -168,27 +168,8 @@ fn call_of(
 ) -> Result<Reply, DeskFault>
     ensures { (es : Told) × CallsAt (most_tries files.old) call request.now bytes.now result (cluster_seen files.old) es (cluster_seen files.new) }
 {
-    let op = op_at(alloc, call, request, bytes)?;
+    let op = request.op_at(alloc, call, bytes)?;
     Ok(files.call(alloc, request.client, &op)?)
-}
-
-/// The call that a request asks for.
-fn op_at(
-    alloc: Global,
-    call: ClientCall,
-    request: &DeskRequest,
-    bytes: &[u8; DESK_BYTES],
-) -> Result<Op, DeskFault>
-    ensures ok { IfOk result (IsRequestedAt call request.now bytes.now) }
-    ensures err { IfErr result (MayAskForNone call request.now bytes.now) }
-{
-    let (path_bytes, other_bytes) = (request.path_bytes as usize, request.other_bytes as usize);
-    if path_bytes > DESK_BYTES || other_bytes > DESK_BYTES - path_bytes {
-        return Err(DeskFault::BadRequest);
-    }
-    let (path, rest) = bytes.split_at(path_bytes);
-    let (other, _) = rest.split_at(other_bytes);
-    request.op(alloc, call, path, other)
 }
 
 /// A call of a client is served, and its reply shown.
@@ -203,34 +184,5 @@ fn serve_client(
     ensures { IsServedTo call request.now bytes.old files.old result bytes.new stands.new files.new }
 {
     let reply = call_of(alloc, files, call, request, bytes)?;
-    show(&reply, request.first, bytes, stands)
-}
-
-/// A reply in numbers and bytes. Of names it is a page, behind the first so many.
-fn show(
-    reply: &Reply,
-    first: u64,
-    out: &mut [u8; DESK_BYTES],
-    stands: &mut u64,
-) -> Result<u64, DeskFault>
-    ensures { Shows reply.now first result stands.new out.new }
-{
-    match reply {
-        Reply::Done => Ok(0),
-        Reply::Bytes(bytes) => Ok(put_bytes(bytes.as_slice(), out)? as u64),
-        Reply::Names(names) => {
-            let names = names.as_slice();
-            *stands = names.len() as u64;
-            Ok(put_page(names, first, out) as u64)
-        }
-        Reply::File(size) => {
-            *stands = 1;
-            Ok(*size)
-        }
-        Reply::Dir(entries) => {
-            *stands = 2;
-            Ok(*entries)
-        }
-        Reply::Error(error) => Err(DeskFault::Tree(*error)),
-    }
+    show_reply(&reply, request.first, bytes, stands)
 }

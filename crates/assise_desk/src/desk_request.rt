@@ -1,6 +1,6 @@
 // What a caller asks for.
 ghost use Rattle.std.specs.Prelude.{◌≡◌, IfErr, IfOk};
-ghost use Rattle.assise_desk.specs.RequestedOps.{RequestsOp, MayFault, MayFaultPath, PathIs};
+ghost use Rattle.assise_desk.specs.RequestedOps.{IsRequestedAt, MayAskForNone, MayFault, MayFaultPath, PathIs, RequestsOp};
 ghost use Rattle.assise_desk.specs.Codes.{no_memory};
 
 use crate::desk_call::ClientCall;
@@ -38,6 +38,25 @@ pub struct DeskRequest {
 }
 
 impl DeskRequest {
+    /// The call of a client that is asked for, with its path and the bytes behind it at the front of a desk's.
+    pub(crate) fn op_at(
+        &self,
+        alloc: Global,
+        call: ClientCall,
+        bytes: &[u8; DESK_BYTES],
+    ) -> Result<Op, DeskFault>
+        ensures ok { IfOk result (IsRequestedAt call self.now bytes.now) }
+        ensures err { IfErr result (MayAskForNone call self.now bytes.now) }
+    {
+        let (path_bytes, other_bytes) = (self.path_bytes as usize, self.other_bytes as usize);
+        if path_bytes > DESK_BYTES || other_bytes > DESK_BYTES - path_bytes {
+            return Err(DeskFault::BadRequest);
+        }
+        let (path, rest) = bytes.split_at(path_bytes);
+        let (other, _) = rest.split_at(other_bytes);
+        self.op(alloc, call, path, other)
+    }
+
     /// The call of a client that is asked for, with its path and the bytes behind it. A read asks for no more bytes than a desk has.
     pub fn op(
         &self,

@@ -7,3 +7,4 @@ pub mod desk_call;
 pub mod desk_fault;
 pub mod desk_request;
 mod page;
+mod reply_shown;
