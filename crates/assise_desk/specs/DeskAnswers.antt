@@ -1,11 +1,10 @@
 -- What the request of a desk does to its cluster, and what it is answered with.
-use Rattle.std.specs.Prelude.{◌≡◌, ◌≢◌, ℕ, ℤ, pos, min, ◌-◌, ◌^◌, ◌<◌, ◌⊎◌, Bool, true, false, List, length, take, drop, Option, None, Some, Result, Ok, Err, ⊤}
-use Rattle.std.specs.Global.{Vec}
+use Rattle.std.specs.Prelude.{◌≡◌, ◌≢◌, ℕ, ℤ, pos, min, ◌-◌, ◌^◌, ◌<◌, ◌⊎◌, Bool, true, false, List, length, take, Option, None, Some, Result, Ok, Err, ⊤}
+use Rattle.std.specs.Global.{Box, Vec}
 use Rattle.std.specs.Option.{option_map}
 use Rattle.assise_names.specs.declared.call.Op.{Op}
 use Rattle.assise_names.specs.declared.refusal.Refusal.{Refusal}
 use Rattle.assise_names.specs.declared.reply.Reply.{Reply}
-use Rattle.assise_names.specs.declared.reply.Reply.TheVariants.{Done, Bytes, Names, File, Dir, Error}
 use Rattle.assise_machine_calls.specs.Answers.{crashing_answer}
 use Rattle.assise_machine_events.specs.Events.{Answer, ClusterEvent, crash, fail, open_client}
 use Rattle.assise_machine_events.specs.Machine.{Machine, begun_as}
@@ -25,13 +24,13 @@ use Rattle.assise_desk.specs.declared.desk_call.ClusterCall.TheVariants.{Open, C
 use Rattle.assise_desk.specs.declared.desk_call.DeskCall.{DeskCall}
 use Rattle.assise_desk.specs.declared.desk_call.DeskCall.TheVariants.{Make, Free, Cluster, Client}
 use Rattle.assise_desk.specs.declared.desk_fault.DeskFault.{DeskFault}
-use Rattle.assise_desk.specs.declared.desk_fault.DeskFault.TheVariants.{Tree, Refused, NoCluster, BadRequest, NoRoom}
+use Rattle.assise_desk.specs.declared.desk_fault.DeskFault.TheVariants.{Refused, NoCluster, BadRequest, NoRoom}
 use Rattle.assise_desk.specs.declared.desk_request.DeskRequest.{DeskRequest}
-use Rattle.assise_desk.specs.declared.desk_request.TheConstants.{DESK_BYTES}
 use Rattle.assise_desk.specs.CallNumbers.{call_number}
 use Rattle.assise_desk.specs.Codes.{fault_code, no_memory}
-use Rattle.assise_desk.specs.Pages.{IsPage, losses_bytes}
-use Rattle.assise_desk.specs.RequestedOps.{MayFault, RequestsOp}
+use Rattle.assise_desk.specs.Pages.{losses_bytes}
+use Rattle.assise_desk.specs.Replies.{Shows}
+use Rattle.assise_desk.specs.RequestedOps.{IsRequestedAt, MayAskForNone}
 
 -- ---- numbers
 
@@ -145,20 +144,30 @@ pub record IsServedTo (call : ClientCall) (r : DeskRequest) (bytes : List ℕ) (
 -- ---- a desk
 
 -- its cluster, if it has one
+abbrev pub owned : Option (Box Files) → Option Files
+owned files = option_map (λ owner. owner.value) files
+
 abbrev pub files_at : CallerDesk → Option Files
-files_at desk = option_map (λ owner. owner.value) desk.files
+files_at desk = owned desk.files
 
 -- what the laws observe of it
 abbrev pub cluster_at : CallerDesk → Option Machine
 cluster_at desk = option_map cluster_seen (files_at desk)
 
--- the answer of a request of a desk with this cluster
+-- it is served by a cluster
+abbrev pub NeedsCluster : DeskCall → Type 0
+NeedsCluster Make = ⊥
+NeedsCluster Free = ⊥
+NeedsCluster (Cluster call) = Unit {0}
+NeedsCluster (Client call) = Unit {0}
+
+-- what a desk's request is answered with, and what is left of the desk
 pub data IsAnswered (d : CallerDesk) (result : Result ℕ DeskFault) (d' : CallerDesk) : Type 0 where
   is_no_request : ((call : DeskCall) → call_number call ≢ d.request.call) → result ≡ Err BadRequest → files_at d' ≡ files_at d → IsAnswered d result d'
   makes : (files : Files) → call_number Make ≡ d.request.call → IsMade d.request files → files_at d' ≡ Some files → result ≡ Ok 0 → IsAnswered d result d'
   makes_none : (fault : DeskFault) → call_number Make ≡ d.request.call → MayNotMake d.request fault → files_at d' ≡ files_at d → result ≡ Err fault → IsAnswered d result d'
   frees : call_number Free ≡ d.request.call → files_at d' ≡ None → result ≡ Ok 0 → IsAnswered d result d'
-  has_no_cluster : files_at d ≡ None → files_at d' ≡ None → result ≡ Err NoCluster → IsAnswered d result d'
+  has_no_cluster : (call : DeskCall) → call_number call ≡ d.request.call → NeedsCluster call → files_at d ≡ None → files_at d' ≡ None → result ≡ Err NoCluster → IsAnswered d result d'
   manages : (call : ClusterCall) (files left : Files) → call_number (Cluster call) ≡ d.request.call → files_at d ≡ Some files → files_at d' ≡ Some left →
       (es : Told) × DoesAt call d.request result d'.bytes (cluster_seen files) es (cluster_seen left) → IsAnswered d result d'
   calls : (call : ClientCall) (files left : Files) → call_number (Client call) ≡ d.request.call → files_at d ≡ Some files → files_at d' ≡ Some left →

@@ -2,7 +2,7 @@
 ghost use Rattle.std.specs.Prelude.{◌≡◌, IfErr, IfOk, None};
 ghost use Rattle.assise_files.specs.FilesSeen.{cluster_seen, most_tries};
 ghost use Rattle.assise_rounds.specs.Courses.{Told};
-ghost use Rattle.assise_desk.specs.DeskAnswers.{CallsAt, DoesAt, IsAnswered, IsMade, IsRequestedAt, IsServedAt, IsServedTo, MayAskForNone, MayNotMake, Shows, cluster_at};
+ghost use Rattle.assise_desk.specs.DeskAnswers.{CallsAt, DoesAt, IsAnswered, IsMade, IsServedAt, IsServedTo, MayNotMake, ShowsLosses, cluster_at, counted, nothing_counted, replied_at, result_shown};
 
 use crate::desk_call::{ClientCall, ClusterCall, DeskCall};
 use crate::desk_fault::DeskFault;
@@ -11,6 +11,7 @@ use crate::page::put_losses;
 use crate::reply_shown::show_reply;
 use assise_files::cut_kind::CutKind;
 use assise_files::files::Files;
+use assise_names::refusal::Refusal;
 use assise_names::reply::Reply;
 use std::alloc::Global;
 
@@ -56,40 +57,49 @@ impl CallerDesk {
     }
 }
 
-/// Serves the request of a desk. A fault leaves its cluster as it was, but for what a call's tries did.
+/// Serves the request of a desk. What is refused leaves its cluster as it was, but for what a call's tries did.
 pub fn serve(alloc: Global, desk: &mut CallerDesk)
     ensures { IsServedAt desk.old desk.new }
 {
-    desk.result = match answer(alloc, desk) {
-        Ok(number) => i64::try_from(number).unwrap_or(i64::MAX),
+    desk.result = shown(answer(alloc, desk));
+}
+
+/// The number that a desk shows.
+fn shown(answer: Result<u64, DeskFault>) -> i64
+    ensures { result ≡ result_shown answer }
+{
+    match answer {
+        Ok(number) => number.min(i64::MAX as u64) as i64,
         Err(fault) => fault.code(),
-    };
+    }
 }
 
 /// The answer of the request of a desk.
 fn answer(alloc: Global, desk: &mut CallerDesk) -> Result<u64, DeskFault>
-    ensures { IsAnswered desk.old result desk.new }
+    ensures answered { IsAnswered desk.old result desk.new }
+    ensures request { desk.new.request ≡ desk.old.request }
 {
-    match DeskCall::of_number(desk.request.call).ok_or(DeskFault::BadRequest)? {
-        DeskCall::Make => {
-            desk.files = Some(make(alloc, &desk.request)?);
-            Ok(0)
-        }
-        DeskCall::Free => {
+    let request = desk.request;
+    match DeskCall::of_number(request.call) {
+        None => Err(DeskFault::BadRequest),
+        Some(DeskCall::Make) => match make(alloc, &request) {
+            Ok(files) => {
+                desk.files = Some(files);
+                Ok(0)
+            }
+            Err(fault) => Err(fault),
+        },
+        Some(DeskCall::Free) => {
             desk.files = None;
             Ok(0)
         }
-        DeskCall::Cluster(call) => match &mut desk.files {
+        Some(DeskCall::Cluster(call)) => match &mut desk.files {
             None => Err(DeskFault::NoCluster),
-            Some(files) => {
-                let request = desk.request;
-                manage(alloc, files, call, &request, &mut desk.bytes)
-            }
+            Some(files) => manage(alloc, files, call, &request, &mut desk.bytes),
         },
-        DeskCall::Client(call) => match &mut desk.files {
+        Some(DeskCall::Client(call)) => match &mut desk.files {
             None => Err(DeskFault::NoCluster),
             Some(files) => {
-                let request = desk.request;
                 serve_client(
                     alloc,
                     files,
@@ -127,25 +137,49 @@ fn manage(
     ensures { (es : Told) × DoesAt call request.now result out.new (cluster_seen files.old) es (cluster_seen files.new) }
 {
     match call {
-        ClusterCall::Open => {
-            let client = files.open(alloc, request.node, kind_of(request.kind))?;
-            Ok(u64::from(client))
-        }
-        ClusterCall::Crash => {
-            files.crash(request.client)?;
-            Ok(0)
-        }
-        ClusterCall::Fail => {
-            let losses = files.fail(alloc, request.node)?;
-            Ok(put_losses(losses.as_slice(), out)? as u64)
-        }
-        ClusterCall::Back => {
-            files.back(alloc, request.node)?;
-            Ok(0)
-        }
+        ClusterCall::Open => counted(files.open(alloc, request.node, kind_of(request.kind))),
+        ClusterCall::Crash => done(files.crash(request.client)),
+        ClusterCall::Fail => show_losses(files.fail(alloc, request.node), out),
+        ClusterCall::Back => done(files.back(alloc, request.node)),
         ClusterCall::Legal => Ok(u64::from(files.is_legal(alloc)?)),
         ClusterCall::Round => Ok(u64::from(files.round(alloc))),
         ClusterCall::History => Ok(files.history_length() as u64),
+    }
+}
+
+/// The number of a client, or why there is none.
+fn counted(client: Result<u32, Refusal>) -> Result<u64, DeskFault>
+    ensures { result ≡ counted client }
+{
+    match client {
+        Ok(client) => Ok(u64::from(client)),
+        Err(refusal) => Err(DeskFault::Refused(refusal)),
+    }
+}
+
+/// Zero for what is done, or why it isn't.
+fn done(what: Result<(), Refusal>) -> Result<u64, DeskFault>
+    ensures { result ≡ nothing_counted what }
+{
+    match what {
+        Ok(()) => Ok(0),
+        Err(refusal) => Err(DeskFault::Refused(refusal)),
+    }
+}
+
+/// Who lost calls, in a desk's bytes, and how many bytes these are.
+fn show_losses(
+    losses: Result<Vec<(u32, u64)>, Refusal>,
+    out: &mut [u8; DESK_BYTES],
+) -> Result<u64, DeskFault>
+    ensures { ShowsLosses losses result out.new }
+{
+    match losses {
+        Ok(losses) => match put_losses(losses.as_slice(), out) {
+            Ok(count) => Ok(count as u64),
+            Err(fault) => Err(fault),
+        },
+        Err(refusal) => Err(DeskFault::Refused(refusal)),
     }
 }
 
@@ -168,8 +202,20 @@ fn call_of(
 ) -> Result<Reply, DeskFault>
     ensures { (es : Told) × CallsAt (most_tries files.old) call request.now bytes.now result (cluster_seen files.old) es (cluster_seen files.new) }
 {
-    let op = request.op_at(alloc, call, bytes)?;
-    Ok(files.call(alloc, request.client, &op)?)
+    match request.op_at(alloc, call, bytes) {
+        Ok(op) => replied(files.call(alloc, request.client, &op)),
+        Err(fault) => Err(fault),
+    }
+}
+
+/// The reply of a call, or why there is none.
+fn replied(reply: Result<Reply, Refusal>) -> Result<Reply, DeskFault>
+    ensures { result ≡ replied_at reply }
+{
+    match reply {
+        Ok(reply) => Ok(reply),
+        Err(refusal) => Err(DeskFault::Refused(refusal)),
+    }
 }
 
 /// A call of a client is served, and its reply shown.
@@ -183,6 +229,8 @@ fn serve_client(
 ) -> Result<u64, DeskFault>
     ensures { IsServedTo call request.now bytes.old files.old result bytes.new stands.new files.new }
 {
-    let reply = call_of(alloc, files, call, request, bytes)?;
-    show_reply(&reply, request.first, bytes, stands)
+    match call_of(alloc, files, call, request, bytes) {
+        Ok(reply) => show_reply(&reply, request.first, bytes, stands),
+        Err(fault) => Err(fault),
+    }
 }
