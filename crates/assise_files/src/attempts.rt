@@ -32,12 +32,14 @@ pub(crate) fn settle_call<C: Revokes + Drop>(
                     return Err(Refusal::Busy);
                 }
             }
-            Err(Refusal::LogFull) => {
+            Err(refusal) => {
+                if refusal != Refusal::LogFull {
+                    return Err(refusal);
+                }
                 if !make_room(alloc, cluster, client) {
                     return Err(Refusal::LogFull);
                 }
             }
-            Err(refusal) => return Err(refusal),
         }
     }
     Err(Refusal::Busy)
