@@ -22,7 +22,8 @@ pub(crate) fn settle_call<C: Revokes + Drop>(
     op: &Op,
     turns: u32,
 ) -> Result<Reply, Refusal>
-    ensures { (es : Told) × IsTriedOut turns client op.now result (machine cluster.old) es (machine cluster.new) }
+    ensures { (es : Told) × IsTriedOut turns client op.now result
+        (machine cluster.old) es (machine cluster.new) }
 {
     for _ in 0..turns {
         match cluster.try_call(alloc, client, op) {
