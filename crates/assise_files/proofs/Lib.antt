@@ -1,0 +1,3 @@
+mod AlwaysLegal
+mod VainTries
+mod TriesCourse
