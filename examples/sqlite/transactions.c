@@ -1,0 +1,115 @@
+/* transactions [COUNT [FOLDER]]: what a transfer costs, by SQLite on a memory file system at FOLDER (/dev/shm) and by SQLite on clusters
+ * of 1, 2, 3 and 8 nodes. COUNT transfers are made for each row (2,000), in three passes over all rows; a row has its best pass.
+ *
+ * Prints the rows of a table: microseconds of processor time a transfer, transfers a second of processor time and a second of wall time,
+ * changes of files a transfer, and entries of the history a transfer. Each transfer changes three pages of 4,096 bytes. */
+#include "bank.h"
+#include "vfs.h"
+#include <stdio.h>
+#include <stdlib.h>
+#include <time.h>
+#include <unistd.h>
+
+#define PASSES 3
+#define EXTRA "PRAGMA journal_mode=DELETE; PRAGMA synchronous=EXTRA"
+#define OFF "PRAGMA journal_mode=DELETE; PRAGMA synchronous=OFF"
+
+/* What is measured: without nodes, the memory file system. */
+struct row {
+    const char *says;
+    uint32_t nodes;
+    const char *pragmas;
+    unsigned options;
+    double processor, wall; /* the best seconds of all transfers; 0 before the first pass */
+    long changes, entries;  /* of all transfers */
+};
+
+static struct row rows[] = {
+    {.says = "memory file system, EXTRA", .pragmas = EXTRA},
+    {.says = "memory file system, OFF", .pragmas = OFF},
+    {.says = "1 node, EXTRA", .nodes = 1, .pragmas = EXTRA},
+    {.says = "2 nodes, EXTRA", .nodes = 2, .pragmas = EXTRA},
+    {.says = "3 nodes, EXTRA", .nodes = 3, .pragmas = EXTRA},
+    {.says = "8 nodes, EXTRA", .nodes = 8, .pragmas = EXTRA},
+    {.says = "2 nodes, EXTRA, writes in order", .nodes = 2, .pragmas = EXTRA, .options = VFS_IN_ORDER},
+    {.says = "2 nodes, OFF and one fsync", .nodes = 2, .pragmas = OFF, .options = VFS_FSYNC_AT_UNLINK},
+};
+
+#define ROWS (sizeof rows / sizeof *rows)
+
+static double seconds(clockid_t clock) {
+    struct timespec now;
+    clock_gettime(clock, &now);
+    return (double)now.tv_sec + (double)now.tv_nsec * 1e-9;
+}
+
+static void count_change(void *watcher) {
+    ++*(long *)watcher;
+}
+
+/* Makes the transfers on an open database, and keeps the times where they are the best: whether all were made. */
+static int time_transfers(sqlite3 *bank, struct row *row, long count) {
+    double processor = seconds(CLOCK_PROCESS_CPUTIME_ID), wall = seconds(CLOCK_MONOTONIC);
+    if (bank_transfers(bank, 0, count) != count)
+        return 0;
+    processor = seconds(CLOCK_PROCESS_CPUTIME_ID) - processor;
+    wall = seconds(CLOCK_MONOTONIC) - wall;
+    if (row->processor == 0 || processor < row->processor)
+        row->processor = processor;
+    if (row->wall == 0 || wall < row->wall)
+        row->wall = wall;
+    return 1;
+}
+
+static int run_on_memory(struct row *row, const char *folder, long count) {
+    char path[512];
+    snprintf(path, sizeof path, "%s/assise_transactions_%ld.db", folder, (long)getpid());
+    sqlite3 *bank = bank_open(NULL, path, row->pragmas);
+    int is_done = bank && bank_fill(bank) == SQLITE_OK && time_transfers(bank, row, count);
+    sqlite3_close(bank);
+    unlink(path);
+    return is_done;
+}
+
+static int run_on_cluster(struct row *row, long count) {
+    static struct vfs_cluster cluster;
+    static struct vfs_client client;
+    if (vfs_cluster_begin(&cluster, row->nodes, 4096, 4096) < 0 || vfs_client_open(&client, &cluster, 1, "cluster", row->options) < 0)
+        return 0;
+    sqlite3 *bank = bank_open("cluster", "/bank.db", row->pragmas);
+    int is_done = bank && bank_fill(bank) == SQLITE_OK;
+    row->changes = 0;
+    row->entries = -(long)assise_history(&cluster.desk);
+    cluster.before_change = count_change;
+    cluster.watcher = &row->changes;
+    is_done = is_done && time_transfers(bank, row, count);
+    row->entries += (long)assise_history(&cluster.desk);
+    sqlite3_close(bank);
+    vfs_client_forget(&client);
+    vfs_cluster_end(&cluster);
+    return is_done;
+}
+
+static void print(const struct row *row, long count) {
+    double each = row->processor / (double)count;
+    printf("| %s | %.0f | %.0f | %.0f |", row->says, each * 1e6, 1 / each, (double)count / row->wall);
+    if (row->nodes)
+        printf(" %.1f | %.1f |\n", (double)row->changes / (double)count, (double)row->entries / (double)count);
+    else
+        printf("  |  |\n");
+}
+
+int main(int words, char **word) {
+    long count = words > 1 ? atol(word[1]) : 2000;
+    const char *folder = words > 2 ? word[2] : "/dev/shm";
+    for (int pass = 0; pass < PASSES; pass++)
+        for (size_t i = 0; i < ROWS; i++)
+            if (!(rows[i].nodes ? run_on_cluster(&rows[i], count) : run_on_memory(&rows[i], folder, count))) {
+                printf("%s: stopped\n", rows[i].says);
+                return 1;
+            }
+    printf("| SQLite on | us each | a second | by the wall clock | changes each | entries each |\n|---|---|---|---|---|---|\n");
+    for (size_t i = 0; i < ROWS; i++)
+        print(&rows[i], count);
+    return 0;
+}
