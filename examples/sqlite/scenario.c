@@ -25,7 +25,8 @@ struct setting {
 
 static const struct setting settings[] = {
     {"extra", "PRAGMA journal_mode=DELETE; PRAGMA synchronous=EXTRA", 0, 0, "synchronous=EXTRA"},
-    {"one_fsync", "PRAGMA journal_mode=DELETE; PRAGMA synchronous=OFF", VFS_FSYNC_AT_UNLINK, 0, "synchronous=OFF and one fsync at the commit"},
+    {"one_fsync", "PRAGMA journal_mode=DELETE; PRAGMA synchronous=OFF", VFS_FSYNC_AT_UNLINK, 0,
+     "synchronous=OFF and one fsync at the commit"},
     {"in_order", "PRAGMA journal_mode=DELETE; PRAGMA synchronous=EXTRA", VFS_IN_ORDER, 0, "synchronous=EXTRA, writes in order"},
     {"log", "PRAGMA locking_mode=EXCLUSIVE; PRAGMA journal_mode=WAL; PRAGMA wal_autocheckpoint=20; PRAGMA synchronous=FULL", 0, 0,
      "a write-ahead log, synchronous=FULL"},
