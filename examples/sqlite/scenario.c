@@ -51,8 +51,9 @@ static void fail_now(struct failure *failure) {
     failure->result = assise_fail(&failure->cluster->desk, failure->node);
 }
 
-static void fail_in_time(void *watcher) {
+static void fail_in_time(void *watcher, enum vfs_change change) {
     struct failure *failure = watcher;
+    (void)change;
     if (++failure->changes == failure->at)
         fail_now(failure);
 }

@@ -2,7 +2,7 @@
  * of 1, 2, 3 and 8 nodes. COUNT transfers are made for each row (2,000), in three passes over all rows; a row has its best pass.
  *
  * Prints the rows of a table: microseconds of processor time a transfer, transfers a second of processor time and a second of wall time,
- * changes of files a transfer, and entries of the history a transfer. Each transfer changes three pages of 4,096 bytes. */
+ * fsyncs a transfer, and entries of the history a transfer. Each transfer changes three pages of 4,096 bytes. */
 #include "bank.h"
 #include "vfs.h"
 #include <stdio.h>
@@ -21,7 +21,7 @@ struct row {
     const char *pragmas;
     unsigned options;
     double processor, wall; /* the best seconds of all transfers; 0 before the first pass */
-    long changes, entries;  /* of all transfers */
+    long fsyncs, entries;   /* of all transfers */
 };
 
 static struct row rows[] = {
@@ -43,8 +43,8 @@ static double seconds(clockid_t clock) {
     return (double)now.tv_sec + (double)now.tv_nsec * 1e-9;
 }
 
-static void count_change(void *watcher) {
-    ++*(long *)watcher;
+static void count_fsync(void *watcher, enum vfs_change change) {
+    *(long *)watcher += change == VFS_FSYNC;
 }
 
 /* Makes the transfers on an open database, and keeps the times where they are the best: whether all were made. */
@@ -78,10 +78,10 @@ static int run_on_cluster(struct row *row, long count) {
         return 0;
     sqlite3 *bank = bank_open("cluster", "/bank.db", row->pragmas);
     int is_done = bank && bank_fill(bank) == SQLITE_OK;
-    row->changes = 0;
+    row->fsyncs = 0;
     row->entries = -(long)assise_history(&cluster.desk);
-    cluster.before_change = count_change;
-    cluster.watcher = &row->changes;
+    cluster.before_change = count_fsync;
+    cluster.watcher = &row->fsyncs;
     is_done = is_done && time_transfers(bank, row, count);
     row->entries += (long)assise_history(&cluster.desk);
     sqlite3_close(bank);
@@ -94,7 +94,7 @@ static void print(const struct row *row, long count) {
     double each = row->processor / (double)count;
     printf("| %s | %.0f | %.0f | %.0f |", row->says, each * 1e6, 1 / each, (double)count / row->wall);
     if (row->nodes)
-        printf(" %.1f | %.1f |\n", (double)row->changes / (double)count, (double)row->entries / (double)count);
+        printf(" %.1f | %.1f |\n", (double)row->fsyncs / (double)count, (double)row->entries / (double)count);
     else
         printf("  |  |\n");
 }
@@ -108,7 +108,7 @@ int main(int words, char **word) {
                 printf("%s: stopped\n", rows[i].says);
                 return 1;
             }
-    printf("| SQLite on | us each | a second | by the wall clock | changes each | entries each |\n|---|---|---|---|---|---|\n");
+    printf("| SQLite on | us each | a second | by the wall clock | fsyncs each | entries each |\n|---|---|---|---|---|---|\n");
     for (size_t i = 0; i < ROWS; i++)
         print(&rows[i], count);
     return 0;

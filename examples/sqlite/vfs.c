@@ -35,9 +35,9 @@ static void end_turn(struct vfs_client *client) {
     pthread_mutex_unlock(&client->cluster->turn);
 }
 
-static void tell_of_change(struct vfs_client *client) {
+static void tell_of(struct vfs_client *client, enum vfs_change change) {
     if (client->cluster->before_change)
-        client->cluster->before_change(client->cluster->watcher);
+        client->cluster->before_change(client->cluster->watcher, change);
 }
 
 /* SQLite's code for a result: that of the method that failed, unless it is for want of memory, or the file would be too big. */
@@ -145,7 +145,7 @@ static int file_close(sqlite3_file *base) {
     lower_lock(file, SQLITE_LOCK_NONE);
     drop_lock(client->cluster, file->lock);
     if (file->is_deleted_on_close) {
-        tell_of_change(client);
+        tell_of(client, VFS_UNLINK);
         result = assise_unlink(desk, client->number, file->path);
     }
     end_turn(client);
@@ -171,7 +171,7 @@ static int file_write(sqlite3_file *base, const void *data, int count, sqlite3_i
     struct vfs_file *file = (struct vfs_file *)base;
     struct vfs_client *client = file->client;
     struct assise_desk *desk = take_turn(client);
-    tell_of_change(client);
+    tell_of(client, VFS_WRITE);
     int64_t result = assise_write(desk, client->number, file->path, data, (uint64_t)count, (uint64_t)offset);
     end_turn(client);
     return code_of(client, result, SQLITE_IOERR_WRITE);
@@ -181,7 +181,7 @@ static int file_truncate(sqlite3_file *base, sqlite3_int64 size) {
     struct vfs_file *file = (struct vfs_file *)base;
     struct vfs_client *client = file->client;
     struct assise_desk *desk = take_turn(client);
-    tell_of_change(client);
+    tell_of(client, VFS_TRUNCATE);
     int64_t result = assise_truncate(desk, client->number, file->path, (uint64_t)size);
     end_turn(client);
     return code_of(client, result, SQLITE_IOERR_TRUNCATE);
@@ -192,7 +192,7 @@ static int file_sync(sqlite3_file *base, int flags) {
     struct vfs_client *client = ((struct vfs_file *)base)->client;
     struct assise_desk *desk = take_turn(client);
     (void)flags;
-    tell_of_change(client);
+    tell_of(client, VFS_FSYNC);
     int64_t result = assise_fsync(desk, client->number);
     end_turn(client);
     return code_of(client, result, SQLITE_IOERR_FSYNC);
@@ -273,7 +273,7 @@ static const sqlite3_io_methods file_methods = {
 static int64_t find_or_create(struct vfs_client *client, struct assise_desk *desk, const char *path, int flags) {
     int64_t found = assise_stat(desk, client->number, path);
     if (found == ASSISE_NO_ENT && flags & SQLITE_OPEN_CREATE) {
-        tell_of_change(client);
+        tell_of(client, VFS_CREATE);
         return assise_create(desk, client->number, path);
     }
     if (found >= 0 && desk->stands == ASSISE_DIR)
@@ -311,10 +311,10 @@ static int client_open_file(sqlite3_vfs *base, const char *path, sqlite3_file *p
 static int client_delete(sqlite3_vfs *base, const char *path, int is_synced) {
     struct vfs_client *client = (struct vfs_client *)base;
     struct assise_desk *desk = take_turn(client);
-    tell_of_change(client);
+    tell_of(client, VFS_UNLINK);
     int64_t removed = assise_unlink(desk, client->number, path), synced = 0;
     if (removed >= 0 && (is_synced || client->options & VFS_FSYNC_AT_UNLINK)) {
-        tell_of_change(client);
+        tell_of(client, VFS_FSYNC);
         synced = assise_fsync(desk, client->number);
     }
     end_turn(client);

@@ -18,14 +18,17 @@
 
 struct vfs_lock;
 
+/* A change of a file, or an fsync. */
+enum vfs_change { VFS_CREATE, VFS_WRITE, VFS_TRUNCATE, VFS_UNLINK, VFS_FSYNC };
+
 /* A cluster, and the locks on its files. They are locks of this process: no node knows of them. */
 struct vfs_cluster {
     struct assise_desk desk;
     pthread_mutex_t turn;   /* who holds it uses the desk and the locks */
     struct vfs_lock *locks; /* of each file that is open */
 
-    /* Called, where it is set, before each create, write, truncate, unlink and fsync, by who holds `turn`. */
-    void (*before_change)(void *watcher);
+    /* Called, where it is set, before each change, by who holds `turn`. */
+    void (*before_change)(void *watcher, enum vfs_change change);
     void *watcher;
 };
 

@@ -99,14 +99,14 @@ impl Cluster {
         self.ask(Request { node, ..Request::new(Call::Back) }).map(drop)
     }
 
-    /// One round of all nodes: each sends what is to be replicated and digests what all have, and leases go that may. Calls make rounds
-    /// themselves where they wait.
+    /// One round of all nodes: each sends what is to be replicated and digests what all have, and leases go that may. Says whether there
+    /// was anything to do. Calls make rounds themselves where they wait.
     ///
     /// # Errors
     ///
     /// None is known.
-    pub fn round(&self) -> io::Result<()> {
-        self.ask(Request::new(Call::Round)).map(drop)
+    pub fn round(&self) -> io::Result<bool> {
+        Ok(self.ask(Request::new(Call::Round))? == 1)
     }
 
     /// How many entries the history has: each call, each client that was opened or crashed, each failure and return of a node.

@@ -97,8 +97,9 @@ fn a_log_that_is_full_is_synced() {
     for number in 0..200_u8 {
         client.write("/file", &[number], u64::from(number)).unwrap();
     }
-    cluster.round().unwrap();
     assert_eq!(client.stat("/file").unwrap(), Stat::File { bytes: 200 });
+    client.fsync().unwrap();
+    while cluster.round().unwrap() {}
 }
 
 #[test]
