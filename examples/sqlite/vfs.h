@@ -8,13 +8,24 @@
  *     sqlite3_open_v2("/bank.db", &database, SQLITE_OPEN_READWRITE | SQLITE_OPEN_CREATE, "on node 1");
  *
  * A connection keeps its temporary files in memory (`PRAGMA temp_store=memory`): a file without a name can't be opened here. Where its
- * client's node has failed, each call of SQLite answers SQLITE_IOERR or SQLITE_CANTOPEN, and sqlite3_system_errno() ASSISE_NODE_DOWN.
+ * client's node has failed, each call of SQLite answers SQLITE_IOERR or SQLITE_CANTOPEN, and sqlite3_system_errno() VFS_NODE_DOWN.
  * Close it then, and open it again through a client of another node. */
 #ifndef ASSISE_VFS_H
 #define ASSISE_VFS_H
 #include "assise.h"
 #include <pthread.h>
 #include <sqlite3.h>
+
+/* The faults of the library that a VFS tells apart. */
+enum vfs_fault {
+    VFS_NO_ENT = -1,
+    VFS_EXISTS = -2,
+    VFS_NOT_DIR = -3,
+    VFS_IS_DIR = -4,
+    VFS_TOO_BIG = -7,
+    VFS_OUT_OF_MEMORY = -101,
+    VFS_NODE_DOWN = -103
+};
 
 struct vfs_lock;
 
@@ -46,16 +57,16 @@ struct vfs_client {
     struct vfs_cluster *cluster;
     uint32_t number;
     unsigned options;
-    int last_error; /* the last result below 0 that a method failed with */
+    int last_error; /* the last fault that a method failed with */
 };
 
-/* Makes a cluster, and answers 0; or a result below 0, and nothing is to be let go. */
+/* Makes a cluster, and answers 0; or a fault, and nothing is to be let go. */
 int64_t vfs_cluster_begin(struct vfs_cluster *cluster, uint32_t nodes, uint64_t log, uint64_t hot);
 
 /* Lets a cluster go, whose databases are closed and whose clients are forgotten. */
 void vfs_cluster_end(struct vfs_cluster *cluster);
 
-/* Opens a client on a node, registers it under a name that outlives it, and answers the client's number or a result below 0. */
+/* Opens a client on a node, registers it under a name that outlives it, and answers the client's number or a fault. */
 int64_t vfs_client_open(struct vfs_client *client, struct vfs_cluster *cluster, uint32_t node, const char *name, unsigned options);
 
 /* Takes a client's name from SQLite. Its databases are closed. */

@@ -146,3 +146,47 @@ pub(crate) type Shared = Arc<Mutex<Desk>>;
 pub(crate) fn turn(desk: &Shared) -> MutexGuard<'_, Desk> {
     desk.lock().unwrap_or_else(PoisonError::into_inner)
 }
+
+#[cfg(test)]
+mod tests {
+    use super::*;
+    use std::mem::{align_of, size_of};
+
+    const CALLS: [(Call, &str); 20] = [
+        (Call::Make, "MAKE"),
+        (Call::Free, "FREE"),
+        (Call::Open, "OPEN"),
+        (Call::Crash, "CRASH"),
+        (Call::Fail, "FAIL"),
+        (Call::Back, "BACK"),
+        (Call::Legal, "LEGAL"),
+        (Call::Round, "ROUND"),
+        (Call::History, "HISTORY"),
+        (Call::Create, "CREATE"),
+        (Call::Mkdir, "MKDIR"),
+        (Call::Read, "READ"),
+        (Call::Write, "WRITE"),
+        (Call::Truncate, "TRUNCATE"),
+        (Call::Rename, "RENAME"),
+        (Call::Unlink, "UNLINK"),
+        (Call::Rmdir, "RMDIR"),
+        (Call::List, "LIST"),
+        (Call::Stat, "STAT"),
+        (Call::Fsync, "FSYNC"),
+    ];
+
+    #[test]
+    fn the_header_has_each_call() {
+        let header = include_str!("../../../include/assise.h");
+        for (call, name) in CALLS {
+            assert!(header.contains(&format!("ASSISE_{name} = {}", call as u32)), "no {name}");
+        }
+        assert!(header.contains(&format!("#define ASSISE_BYTES {BYTES}\n")));
+    }
+
+    #[test]
+    fn a_desk_lies_as_in_c() {
+        assert_eq!((size_of::<Request>(), align_of::<Request>()), (40, 8));
+        assert_eq!((size_of::<Place>(), align_of::<Place>()), (40 + 16 + BYTES + 16, 8));
+    }
+}

@@ -105,3 +105,31 @@ pub(crate) fn error_of(result: i64) -> io::Error {
         None => io::Error::new(ErrorKind::Other, format!("result {result}")),
     }
 }
+
+#[cfg(test)]
+mod tests {
+    use super::*;
+
+    #[test]
+    fn each_result_has_its_error() {
+        for (result, refusal, kind, text) in REFUSALS {
+            let error = error_of(result);
+            assert_eq!((Refusal::of(&error), error.kind()), (Some(refusal), kind));
+            assert_eq!(error.to_string(), text);
+        }
+        for (at, number) in TREE_ERRORS.iter().enumerate() {
+            let error = error_of(-1 - at as i64);
+            assert_eq!((error.raw_os_error(), Refusal::of(&error)), (Some(*number), None));
+        }
+        assert_eq!(error_of(-999).to_string(), "result -999");
+    }
+
+    #[test]
+    fn the_header_has_each_result() {
+        let header = include_str!("../../../include/assise.h");
+        let results = REFUSALS.iter().map(|row| row.0).chain(-(TREE_ERRORS.len() as i64)..0);
+        for result in results {
+            assert!(header.contains(&format!(" {result} ")), "no {result}");
+        }
+    }
+}
