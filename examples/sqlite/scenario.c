@@ -28,6 +28,7 @@ static const struct setting settings[] = {
     {"one_fsync", "PRAGMA journal_mode=DELETE; PRAGMA synchronous=OFF", VFS_FSYNC_AT_UNLINK, 0,
      "synchronous=OFF and one fsync at the commit"},
     {"in_order", "PRAGMA journal_mode=DELETE; PRAGMA synchronous=EXTRA", VFS_IN_ORDER, 0, "synchronous=EXTRA, writes in order"},
+    {"truncate", "PRAGMA journal_mode=TRUNCATE; PRAGMA synchronous=FULL", 0, 0, "a journal that is truncated, synchronous=FULL"},
     {"log", "PRAGMA locking_mode=EXCLUSIVE; PRAGMA journal_mode=WAL; PRAGMA wal_autocheckpoint=20; PRAGMA synchronous=FULL", 0, 0,
      "a write-ahead log, synchronous=FULL"},
     {"full", "PRAGMA journal_mode=DELETE; PRAGMA synchronous=FULL", 0, 1, "synchronous=FULL"},
