@@ -82,15 +82,26 @@ static int is_whole(sqlite3 *bank) {
     return is_ok;
 }
 
+static long unbalanced(sqlite3 *bank) {
+    char sql[SQL_BYTES];
+    snprintf(sql, sizeof sql,
+             "SELECT count(*) FROM account WHERE balance IS NOT %d"
+             " + (SELECT coalesce(sum(amount), 0) FROM transfer WHERE target = account.id)"
+             " - (SELECT coalesce(sum(amount), 0) FROM transfer WHERE source = account.id)",
+             BANK_START);
+    return number_of(bank, sql);
+}
+
 struct bank_state bank_look(sqlite3 *bank) {
     return (struct bank_state){
         .is_whole = is_whole(bank),
         .sum = number_of(bank, "SELECT sum(balance) FROM account"),
+        .unbalanced = unbalanced(bank),
         .transfers = number_of(bank, "SELECT count(*) FROM transfer"),
         .has_no_gap = number_of(bank, "SELECT coalesce(max(id) + 1, 0) = count(*) FROM transfer") == 1,
     };
 }
 
 int bank_is_sound(const struct bank_state *state) {
-    return state->is_whole && state->sum == BANK_ACCOUNTS * BANK_START && state->has_no_gap;
+    return state->is_whole && state->sum == BANK_ACCOUNTS * BANK_START && state->unbalanced == 0 && state->has_no_gap;
 }

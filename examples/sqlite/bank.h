@@ -1,5 +1,5 @@
 /* Accounts and transfers between them. A transfer leaves the sum of all balances as it is, and leaves a row of its own: so what a database
- * still has can be counted. */
+ * still has can be counted, and each balance has to be what its transfers make of it. */
 #ifndef ASSISE_BANK_H
 #define ASSISE_BANK_H
 #include <sqlite3.h>
@@ -9,10 +9,11 @@
 
 /* What a database has. */
 struct bank_state {
-    int is_whole;   /* `PRAGMA integrity_check` answers ok */
-    long sum;       /* of all balances */
-    long transfers; /* how many rows transfers left */
-    int has_no_gap; /* they are numbered from 0 on */
+    int is_whole;    /* `PRAGMA integrity_check` answers ok */
+    long sum;        /* of all balances */
+    long unbalanced; /* accounts whose balance isn't what their transfers make of it */
+    long transfers;  /* how many rows transfers left */
+    int has_no_gap;  /* they are numbered from 0 on */
 };
 
 /* Opens a database of a VFS with these pragmas, or answers NULL. */
@@ -30,7 +31,7 @@ long bank_transfers(sqlite3 *bank, long first, long count);
 /* Reads what a database has; numbers are -1 where it can't be read. */
 struct bank_state bank_look(sqlite3 *bank);
 
-/* Whether a database is whole and no transfer is there in part. */
+/* Whether a database is whole, with the sum, and no transfer is there in part. */
 int bank_is_sound(const struct bank_state *state);
 
 #endif

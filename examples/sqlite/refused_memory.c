@@ -92,8 +92,8 @@ static int has_all(sqlite3 *bank, long answered, const char *where) {
     struct bank_state found = bank_look(bank);
     if (bank_is_sound(&found) && found.transfers == answered)
         return 1;
-    printf("allocation %ld, %s: %s, sum %ld, %ld transfers, %ld were answered\n", allocations.refused, where,
-           found.is_whole ? "whole" : "not whole", found.sum, found.transfers, answered);
+    printf("allocation %ld, %s: %s, sum %ld, %ld accounts wrong, %ld transfers, %ld were answered\n", allocations.refused, where,
+           found.is_whole ? "whole" : "not whole", found.sum, found.unbalanced, found.transfers, answered);
     return 0;
 }
 

@@ -3,9 +3,9 @@
  * For each number of a change: client 1, on node 1, makes transfers, and node 1 fails before that change. Client 2, on node 2, looks what
  * the database has, and goes on; node 1 comes back; node 2 fails in the midst of a transfer. Client 3, on node 1, looks again.
  *
- * Each look has to find a whole database, the sum of all balances, and each transfer that was answered, but for those that the setting
- * may lose; one more may be there, which was on the way. Each eighth history is checked to be legal. Prints a line, and ends with status
- * 1 where a look found anything else. */
+ * Each look has to find a whole database, the sum of all balances, each balance as its transfers make it, and each transfer that was
+ * answered, but for those that the setting may lose; one more may be there, which was on the way. Each eighth history is checked to be
+ * legal. Prints a line, and ends with status 1 where a look found anything else. */
 #include "bank.h"
 #include "vfs.h"
 #include <stdio.h>
@@ -84,8 +84,8 @@ static void look(sqlite3 *bank, long answered, const struct setting *setting, st
     if (bank_is_sound(&found) && -1 <= lost && lost <= setting->most_lost)
         return;
     tally->wrong++;
-    printf("failure %ld, %s: %s, sum %ld, %ld transfers, %ld were answered\n", tally->failures, where,
-           found.is_whole ? "whole" : "not whole", found.sum, found.transfers, answered);
+    printf("failure %ld, %s: %s, sum %ld, %ld accounts wrong, %ld transfers, %ld were answered\n", tally->failures, where,
+           found.is_whole ? "whole" : "not whole", found.sum, found.unbalanced, found.transfers, answered);
 }
 
 /* Opens the database by a new client on a node; NULL where that can't be. */
