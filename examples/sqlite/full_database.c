@@ -33,7 +33,7 @@ static long fill(sqlite3 *database) {
 }
 
 static int see(const char *what, int code) {
-    printf("%s: %s\n", what, sqlite3_errstr(code));
+    printf("%s: %s\n", what, code == SQLITE_OK ? "done" : sqlite3_errstr(code));
     return code == SQLITE_OK;
 }
 

@@ -7,33 +7,12 @@
  * answered, but for those that the setting may lose; one more may be there, which was on the way. Each eighth history is checked to be
  * legal. Prints a line, and ends with status 1 where a look found anything else. */
 #include "bank.h"
+#include "settings.h"
 #include "vfs.h"
 #include <stdio.h>
 #include <stdlib.h>
 
 #define PATH "/bank.db"
-#define ANY 1000000
-
-/* A way to use SQLite: what it asks for, what the VFS adds, and how many answered transfers a failure may take. */
-struct setting {
-    const char *name;
-    const char *pragmas;
-    unsigned options;
-    long most_lost;
-    const char *says;
-};
-
-static const struct setting settings[] = {
-    {"extra", "PRAGMA journal_mode=DELETE; PRAGMA synchronous=EXTRA", 0, 0, "synchronous=EXTRA"},
-    {"one_fsync", "PRAGMA journal_mode=DELETE; PRAGMA synchronous=OFF", VFS_FSYNC_AT_UNLINK, 0,
-     "synchronous=OFF and one fsync at the commit"},
-    {"in_order", "PRAGMA journal_mode=DELETE; PRAGMA synchronous=EXTRA", VFS_IN_ORDER, 0, "synchronous=EXTRA, writes in order"},
-    {"truncate", "PRAGMA journal_mode=TRUNCATE; PRAGMA synchronous=FULL", 0, 0, "a journal that is truncated, synchronous=FULL"},
-    {"log", "PRAGMA locking_mode=EXCLUSIVE; PRAGMA journal_mode=WAL; PRAGMA wal_autocheckpoint=20; PRAGMA synchronous=FULL", 0, 0,
-     "a write-ahead log, synchronous=FULL"},
-    {"full", "PRAGMA journal_mode=DELETE; PRAGMA synchronous=FULL", 0, 1, "synchronous=FULL"},
-    {"off", "PRAGMA journal_mode=DELETE; PRAGMA synchronous=OFF", 0, ANY, "synchronous=OFF and no fsync"},
-};
 
 /* What was seen at all failures. */
 struct tally {
@@ -178,13 +157,6 @@ static long run(uint32_t nodes, uint64_t log, const struct setting *setting, lon
         check_history(&cluster, tally);
     vfs_cluster_end(&cluster);
     return failure.changes;
-}
-
-static const struct setting *setting_of(const char *name) {
-    for (size_t i = 0; i < sizeof settings / sizeof *settings; i++)
-        if (strcmp(settings[i].name, name) == 0)
-            return &settings[i];
-    return NULL;
 }
 
 static void print_tally(uint32_t nodes, uint64_t log, const struct setting *setting, const struct tally *tally) {

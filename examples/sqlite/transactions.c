@@ -4,6 +4,7 @@
  * Prints the rows of a table: microseconds of processor time a transfer, transfers a second of processor time and a second of wall time,
  * fsyncs a transfer, and entries of the history a transfer. Each transfer changes three pages of 4,096 bytes. */
 #include "bank.h"
+#include "settings.h"
 #include "vfs.h"
 #include <stdio.h>
 #include <stdlib.h>
@@ -11,28 +12,27 @@
 #include <unistd.h>
 
 #define PASSES 3
-#define EXTRA "PRAGMA journal_mode=DELETE; PRAGMA synchronous=EXTRA"
-#define OFF "PRAGMA journal_mode=DELETE; PRAGMA synchronous=OFF"
 
 /* What is measured: without nodes, the memory file system. */
 struct row {
-    const char *says;
     uint32_t nodes;
-    const char *pragmas;
-    unsigned options;
+    const char *setting;
     double processor, wall; /* the best seconds of all transfers; 0 before the first pass */
     long fsyncs, entries;   /* of all transfers */
 };
 
 static struct row rows[] = {
-    {.says = "memory file system, EXTRA", .pragmas = EXTRA},
-    {.says = "memory file system, OFF", .pragmas = OFF},
-    {.says = "1 node, EXTRA", .nodes = 1, .pragmas = EXTRA},
-    {.says = "2 nodes, EXTRA", .nodes = 2, .pragmas = EXTRA},
-    {.says = "3 nodes, EXTRA", .nodes = 3, .pragmas = EXTRA},
-    {.says = "8 nodes, EXTRA", .nodes = 8, .pragmas = EXTRA},
-    {.says = "2 nodes, EXTRA, writes in order", .nodes = 2, .pragmas = EXTRA, .options = VFS_IN_ORDER},
-    {.says = "2 nodes, OFF and one fsync", .nodes = 2, .pragmas = OFF, .options = VFS_FSYNC_AT_UNLINK},
+    {.setting = "extra"},
+    {.setting = "off"},
+    {.setting = "log"},
+    {.nodes = 1, .setting = "extra"},
+    {.nodes = 2, .setting = "extra"},
+    {.nodes = 3, .setting = "extra"},
+    {.nodes = 8, .setting = "extra"},
+    {.nodes = 2, .setting = "truncate"},
+    {.nodes = 2, .setting = "in_order"},
+    {.nodes = 2, .setting = "one_fsync"},
+    {.nodes = 2, .setting = "log"},
 };
 
 #define ROWS (sizeof rows / sizeof *rows)
@@ -64,7 +64,7 @@ static int time_transfers(sqlite3 *bank, struct row *row, long count) {
 static int run_on_memory(struct row *row, const char *folder, long count) {
     char path[512];
     snprintf(path, sizeof path, "%s/assise_transactions_%ld.db", folder, (long)getpid());
-    sqlite3 *bank = bank_open(NULL, path, row->pragmas);
+    sqlite3 *bank = bank_open(NULL, path, setting_of(row->setting)->pragmas);
     int is_done = bank && bank_fill(bank) == SQLITE_OK && time_transfers(bank, row, count);
     sqlite3_close(bank);
     unlink(path);
@@ -74,9 +74,10 @@ static int run_on_memory(struct row *row, const char *folder, long count) {
 static int run_on_cluster(struct row *row, long count) {
     static struct vfs_cluster cluster;
     static struct vfs_client client;
-    if (vfs_cluster_begin(&cluster, row->nodes, 4096, 4096) < 0 || vfs_client_open(&client, &cluster, 1, "cluster", row->options) < 0)
+    const struct setting *setting = setting_of(row->setting);
+    if (vfs_cluster_begin(&cluster, row->nodes, 4096, 4096) < 0 || vfs_client_open(&client, &cluster, 1, "cluster", setting->options) < 0)
         return 0;
-    sqlite3 *bank = bank_open("cluster", "/bank.db", row->pragmas);
+    sqlite3 *bank = bank_open("cluster", "/bank.db", setting->pragmas);
     int is_done = bank && bank_fill(bank) == SQLITE_OK;
     row->fsyncs = 0;
     row->entries = -(long)assise_history(&cluster.desk);
@@ -92,7 +93,11 @@ static int run_on_cluster(struct row *row, long count) {
 
 static void print(const struct row *row, long count) {
     double each = row->processor / (double)count;
-    printf("| %s | %.0f | %.0f | %.0f |", row->says, each * 1e6, 1 / each, (double)count / row->wall);
+    if (row->nodes)
+        printf("| %u node%s, %s |", row->nodes, row->nodes == 1 ? "" : "s", setting_of(row->setting)->says);
+    else
+        printf("| memory file system, %s |", setting_of(row->setting)->says);
+    printf(" %.0f | %.0f | %.0f |", each * 1e6, 1 / each, (double)count / row->wall);
     if (row->nodes)
         printf(" %.1f | %.1f |\n", (double)row->fsyncs / (double)count, (double)row->entries / (double)count);
     else
@@ -105,7 +110,7 @@ int main(int words, char **word) {
     for (int pass = 0; pass < PASSES; pass++)
         for (size_t i = 0; i < ROWS; i++)
             if (!(rows[i].nodes ? run_on_cluster(&rows[i], count) : run_on_memory(&rows[i], folder, count))) {
-                printf("%s: stopped\n", rows[i].says);
+                printf("%u nodes, %s: stopped\n", rows[i].nodes, rows[i].setting);
                 return 1;
             }
     printf("| SQLite on | us each | a second | by the wall clock | fsyncs each | entries each |\n|---|---|---|---|---|---|\n");
