@@ -57,7 +57,7 @@ struct vfs_client {
     struct vfs_cluster *cluster;
     uint32_t number;
     unsigned options;
-    int last_error; /* the last fault that a method failed with */
+    _Atomic int last_error; /* the last fault that a method failed with; connections of several threads may write it */
 };
 
 /* Makes a cluster, and answers 0; or a fault, and nothing is to be let go. */
