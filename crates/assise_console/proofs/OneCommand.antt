@@ -1,8 +1,10 @@
 -- What commands make happen: one event, or some, which their answers tell.
+use Rattle.std.specs.Prelude.{⊤}
 use Rattle.std.proofs.Common.{◌≡◌, ◌<◌, ℕ, Bool, true, false, [], ◌∷◌, Option, Some, None, Result, Ok, Err, length, refl, ap, sym, subst, ◌∙◌, arith}
 use Rattle.assise_names.specs.declared.call.Op.{Op}
 use Rattle.assise_names.specs.declared.refusal.Refusal.{Refusal}
 use Rattle.assise_names.specs.declared.refusal.Refusal.TheVariants.{BadClient, BadNode, OutOfMemory}
+use Rattle.assise_names.specs.declared.reply.Reply.{Reply}
 use Rattle.assise_seq_tree.specs.Tree.{Tree as PlainTree}
 use Rattle.assise_inode_table.specs.Spelled.{Spells}
 use Rattle.assise_machine_laws.specs.World.{alone}
@@ -16,14 +18,14 @@ use Rattle.assise_machine_events.specs.NodeEvents.{Digesting, Releasing, Sending
 use Rattle.assise_machine.specs.Running.{IsServed, happens, stock_after}
 use Rattle.assise_console.specs.declared.answer.Answer.{Answer}
 use Rattle.assise_console.specs.declared.answer.Answer.TheVariants.{Carried, Refused, Tree as Shown}
-use Rattle.assise_console.specs.Courses.{Told}
-use Rattle.assise_console.specs.Returning.{ComesBack, IsOneAt}
-use Rattle.assise_console.specs.Rounds.{Replicates}
+use Rattle.assise_rounds.specs.Courses.{Told}
+use Rattle.assise_rounds.specs.Returning.{ComesBack, is_refused as comes_not}
+use Rattle.assise_rounds.specs.Rounds.{Replicates}
+use Rattle.assise_rounds.specs.Trying.{TriesOften, is_settled}
+use Rattle.assise_console.specs.OneEvent.{IsOne, IsOneAt, Tells, TellsAt}
 use Rattle.assise_console.specs.State.{State, stock_of, with_machine, with_stock}
-use Rattle.assise_console.specs.Steps.{Calls, Carries, Changes, Opens, Returns, Shows, is_carried, is_refused, is_shown, lacks_memory}
-use Rattle.assise_console.specs.Trying.{IsOne, Tells, TriesOften, is_settled}
+use Rattle.assise_console.specs.Steps.{Calls, CallsOften, Carries, Changes, Opens, Returns, ReturnsWhole, Shows, call_answer, is_carried, is_refused, is_shown, lacks_memory, return_answer}
 use Rattle.assise_console.proofs.Numbers.{comes_nowhere, crashes_nobody, digests_nowhere, fails_nowhere, fills_nowhere, joins_nowhere, no_node, opens_nowhere, sends_nowhere, tries_nobody}
-use Rattle.assise_console.proofs.Coming.{comes_not, is_told}
 
 -- ---- an open
 
@@ -63,39 +65,46 @@ opens_none s n kind far = (
 
 -- ---- a call
 
-pub calls_once : (s : State) (n k : ℕ) (op : Op) (a : Answer) (m' : Machine) → k ≡ n → s.manual ≡ true → (es : Told) × IsOne (try_call k op) a s.machine es m' → (es : Told) × Changes (Calls s.manual s.turns n op a) s es (with_machine s m')
-calls_once s n k op a m' same manual (es, h) = (
-  es,
-  record {
-    events = rw manual (subst (λ j. IsOne (try_call j op) a s.machine es m') same h);
-    stays = refl;
-  },
-)
+pub calls_once : (s : State) (n k : ℕ) (op : Op) (a : Answer) (e : EventAnswer) (m' : Machine) → k ≡ n → s.manual ≡ true → Tells a e → Happens s.machine (try_call k op) e m' → (es : Told) × Changes (Calls s.manual s.turns n op a) s es (with_machine s m')
+calls_once s n k op a e m' same manual tells h =
+    let once : IsOne (try_call k op) a s.machine ((try_call k op, e) ∷ []) m' = record { answer = e; tells = tells; event = record { told = refl; happens = h } } in (
+      (try_call k op, e) ∷ [],
+      record {
+        events = rw manual (subst (λ j. IsOne (try_call j op) a s.machine ((try_call k op, e) ∷ []) m') same once);
+        stays = refl;
+      },
+    )
 
-pub calls_often : (s : State) (n k : ℕ) (op : Op) (a : Answer) (m' : Machine) → k ≡ n → s.manual ≡ false → (es : Told) × TriesOften s.turns k op a s.machine es m' → (es : Told) × Changes (Calls s.manual s.turns n op a) s es (with_machine s m')
-calls_often s n k op a m' same manual (es, h) = (
-  es,
-  record {
-    events = rw manual (subst (λ j. TriesOften s.turns j op a s.machine es m') same h);
-    stays = refl;
-  },
-)
+pub calls_often : (s : State) (n k : ℕ) (op : Op) (a : Answer) (r : Result Reply Refusal) (m' : Machine) → k ≡ n → s.manual ≡ false → a ≡ call_answer r → (es : Told) × TriesOften s.turns k op r s.machine es m' → (es : Told) × Changes (Calls s.manual s.turns n op a) s es (with_machine s m')
+calls_often s n k op a r m' same manual tells (es, h) =
+    let often : CallsOften s.turns n op a s.machine es m' = record { result = r; answer = tells; tries = subst (λ j. TriesOften s.turns j op r s.machine es m') same h } in (es, record { events = rw manual often; stays = refl })
 
 pub calls_none : (s : State) (n : ℕ) (op : Op) → s.machine.world.clients < n → (es : Told) × Changes (Calls s.manual s.turns n op (Refused BadClient)) s es s
 calls_none s n op far = either s.manual refl
   where
+    nobody : Happens s.machine (try_call n op) (refused BadClient) s.machine
+    nobody = tries_nobody s.machine n op far
+
     once : IsOne (try_call n op) (Refused BadClient) s.machine ((try_call n op, refused BadClient) ∷ []) s.machine
-    once = record { answer = refused BadClient; tells = refl; event = record { told = refl; happens = tries_nobody s.machine n op far } }
+    once = record { answer = refused BadClient; tells = refl; event = record { told = refl; happens = nobody } }
+
+    often : CallsOften s.turns n op (Refused BadClient) s.machine ((try_call n op, refused BadClient) ∷ []) s.machine
+    often = record {
+      result = Err BadClient;
+      answer = refl;
+      tries = is_settled 0 (omega arith) record {
+        between = s.machine;
+        before = [];
+        after = (try_call n op, refused BadClient) ∷ [];
+        told = refl;
+        first = record { told = refl; stays = refl };
+        second = record { told = refl; happens = nobody };
+      };
+    }
 
     either : (manual : Bool) → s.manual ≡ manual → (es : Told) × Changes (Calls s.manual s.turns n op (Refused BadClient)) s es s
     either true is = ((try_call n op, refused BadClient) ∷ [], record { events = rw is once; stays = refl })
-    either false is = (
-      (try_call n op, refused BadClient) ∷ [],
-      record {
-        events = rw is (is_settled 0 (omega arith) (λ waits. cc) record { between = s.machine; before = []; after = (try_call n op, refused BadClient) ∷ []; told = refl; first = record { told = refl; stays = refl }; second = once });
-        stays = refl;
-      },
-    )
+    either false is = ((try_call n op, refused BadClient) ∷ [], record { events = rw is often; stays = refl })
 
 -- ---- a replicate turn, and a digest
 
@@ -121,11 +130,12 @@ releases_by m a e m' tells h = (_, record { answer = e; tells = tells; event = r
 
 -- ---- crashes, failures and returns
 
-pub does_at : (what : ℕ → ClusterEvent) (m : Machine) (n k : ℕ) (a : Answer) (m' : Machine) → k ≡ n → (es : Told) × IsOneAt what k a m es m' → (es : Told) × IsOneAt what n a m es m'
-does_at what m n k a m' same (es, h) = (es, subst (λ j. IsOneAt what j a m es m') same h)
+pub does_at : (what : ℕ → ClusterEvent) (m : Machine) (n k : ℕ) (a : Answer) (e : EventAnswer) (m' : Machine) → k ≡ n → TellsAt k a e → Happens m (what k) e m' → (es : Told) × IsOneAt what n a m es m'
+does_at what m n k a e m' same tells h =
+    let there : IsOneAt what k a m ((what k, e) ∷ []) m' = record { answer = e; tells = tells; event = record { told = refl; happens = h } } in ((what k, e) ∷ [], subst (λ j. IsOneAt what j a m ((what k, e) ∷ []) m') same there)
 
 refuses_at : (what : ℕ → ClusterEvent) (m : Machine) (n : ℕ) (r : Refusal) → Happens m (what n) (refused r) m → (es : Told) × IsOneAt what n (Refused r) m es m
-refuses_at what m n r h = is_told what n (Refused r) (refused r) m m refl h
+refuses_at what m n r h = does_at what m n n (Refused r) (refused r) m refl refl h
 
 pub crashes_none : (m : Machine) (c : ℕ) → m.world.clients < c → (es : Told) × IsOneAt crash c (Refused BadClient) m es m
 crashes_none m c far = refuses_at crash m c BadClient (crashes_nobody m c far)
@@ -150,11 +160,13 @@ changes What s m' (es, h) = (es, record { events = h; stays = refl })
 pub begins_return : (s : State) (n : ℕ) (a : Answer) (m' : Machine) → s.manual ≡ true → (es : Told) × IsOneAt back n a s.machine es m' → (es : Told) × Changes (Returns s.manual n a) s es (with_machine s m')
 begins_return s n a m' manual (es, h) = (es, record { events = rw manual h; stays = refl })
 
-pub returns_whole : (s : State) (n k : ℕ) (a : Answer) (m' : Machine) → k ≡ n → s.manual ≡ false → (es : Told) × ComesBack k a s.machine es m' → (es : Told) × Changes (Returns s.manual n a) s es (with_machine s m')
-returns_whole s n k a m' same manual (es, h) = (es, record { events = rw manual (subst (λ j. ComesBack j a s.machine es m') same h); stays = refl })
+pub returns_whole : (s : State) (n k : ℕ) (a : Answer) (r : Result ⊤ Refusal) (m' : Machine) → k ≡ n → s.manual ≡ false → a ≡ return_answer k r → (es : Told) × ComesBack k r s.machine es m' → (es : Told) × Changes (Returns s.manual n a) s es (with_machine s m')
+returns_whole s n k a r m' same manual tells (es, h) =
+    let whole : ReturnsWhole k a s.machine es m' = record { result = r; answer = tells; comes = h } in (es, record { events = rw manual (subst (λ j. ReturnsWhole j a s.machine es m') same whole); stays = refl })
 
 pub returns_none : (s : State) (n : ℕ) → s.manual ≡ false → length s.machine.members.nodes < n → (es : Told) × Changes (Returns s.manual n (Refused BadNode)) s es s
-returns_none s n manual far = returns_whole s n n (Refused BadNode) s.machine refl manual (comes_not n BadNode s.machine s.machine (comes_nowhere s.machine n far))
+returns_none s n manual far =
+    let nowhere = comes_nowhere s.machine n far in returns_whole s n n (Refused BadNode) (Err BadNode) s.machine refl manual refl ((back n, refused BadNode) ∷ [], comes_not BadNode refl record { told = refl; happens = nowhere })
 
 -- ---- a tree
 

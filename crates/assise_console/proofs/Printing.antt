@@ -6,7 +6,7 @@ use Rattle.assise_console.specs.declared.answer.Answer.{Answer}
 use Rattle.assise_console.specs.declared.fault.EngineFault.{EngineFault}
 use Rattle.assise_console.specs.declared.fault.EngineFault.TheVariants.{Read, Script, Memory, Write, NeedsSerial, NoThread}
 use Rattle.assise_console.specs.Engines.{FaultFrom, FaultOf, IsInput, IsReadFault}
-use Rattle.assise_console.specs.Courses.{Told}
+use Rattle.assise_rounds.specs.Courses.{Told}
 use Rattle.assise_console.specs.Lines.{Prints, line_text}
 use Rattle.assise_console.specs.State.{State}
 use Rattle.assise_console.specs.Steps.{Serves}

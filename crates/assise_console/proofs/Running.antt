@@ -4,7 +4,7 @@ use Rattle.assise_fault_script.specs.Script.{ClusterFirst, IsCluster}
 use Rattle.assise_fault_script.specs.declared.command.Command.{Command}
 use Rattle.assise_fault_script.specs.declared.parse.NumberedCommand.{NumberedCommand}
 use Rattle.assise_machine_events.specs.Events.{all_entries}
-use Rattle.assise_console.specs.Courses.{IsCourse}
+use Rattle.assise_rounds.specs.Courses.{IsCourse}
 use Rattle.assise_console.specs.Engines.{IsBegun, Ran, Runs, RunsFrom}
 use Rattle.assise_console.specs.State.{State, Stocks, begun}
 use Rattle.assise_console.proofs.Serving.{run_course, run_legal, run_told}

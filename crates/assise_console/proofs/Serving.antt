@@ -6,31 +6,28 @@ use Rattle.assise_fault_script.specs.declared.command.Command as commands
 use Rattle.assise_fault_script.specs.declared.command.Command.TheVariants.{Cluster, Manual, Open, Call, Carry, Digest, Release, Crash, Fail, Back, Refill, Join, Tree, History}
 use Rattle.assise_fault_script.specs.declared.parse.NumberedCommand.{NumberedCommand}
 use Rattle.assise_machine_events.specs.Events.{ClusterEvent, all_entries, back, crash, fail, join, refill, try_call}
-use Rattle.assise_machine_events.specs.Machine.{Holds, Machine}
+use Rattle.assise_machine_events.specs.Machine.{Machine}
 use Rattle.assise_machine_events.proofs.Beginning.{begun_holds}
 use Rattle.assise_console.specs.declared.answer.Answer.{Answer}
-use Rattle.assise_console.specs.Courses.{IsCourse, IsEvent, Told}
+use Rattle.assise_rounds.specs.Courses.{IsCourse, Told}
+use Rattle.assise_console.specs.OneEvent.{IsOne, IsOneAt}
 use Rattle.assise_console.specs.Lines.{Prints}
 use Rattle.assise_console.specs.State.{State, Stocks, begun}
 use Rattle.assise_console.specs.Steps.{Calls, Carries, Returns, Serves, is_carried, is_refused}
-use Rattle.assise_console.specs.Trying.{Awaits, IsOne, TriesOften, is_busy, is_settled}
-use Rattle.assise_console.proofs.Courses.{awaits_course, course_keeps, course_of, course_then, course_told, event_course, then_course}
-use Rattle.assise_console.proofs.Coming.{return_course, told_course}
+use Rattle.assise_rounds.proofs.Coming.{return_course}
+use Rattle.assise_rounds.proofs.Courses.{course_legal, course_of, course_then, course_told, event_course, tries_course}
 
 -- ---- one command
 
 one_course : (e : ClusterEvent) (a : Answer) (m : Machine) (es : Told) (m' : Machine) → IsOne e a m es m' → IsCourse m es m'
 one_course e a m es m' h = event_course e h.answer m es m' h.event
 
-tries_course : (turns c : ℕ) (op : Op) (a : Answer) (m : Machine) (es : Told) (m' : Machine) → TriesOften turns c op a m es m' → IsCourse m es m'
-tries_course turns c op a m es m' (is_settled k few settled h) =
-    then_course (Awaits c op k) (IsOne (try_call c op) a) (awaits_course c op k) (one_course (try_call c op) a) m es m' h
-tries_course turns c op a m es m' (is_busy busy h) =
-    then_course (Awaits c op _) (IsEvent (try_call c op) _) (awaits_course c op _) (event_course (try_call c op) _) m es m' h
+told_course : (what : ℕ → ClusterEvent) (n : ℕ) (a : Answer) (m : Machine) (es : Told) (m' : Machine) → IsOneAt what n a m es m' → IsCourse m es m'
+told_course what n a m es m' h = event_course (what n) h.answer m es m' h.event
 
 calls_course : (manual : Bool) (turns c : ℕ) (op : Op) (a : Answer) (m : Machine) (es : Told) (m' : Machine) → Calls manual turns c op a m es m' → IsCourse m es m'
 calls_course true turns c op a m es m' h = one_course (try_call c op) a m es m' h
-calls_course false turns c op a m es m' h = tries_course turns c op a m es m' h
+calls_course false turns c op a m es m' h = tries_course turns c op h.result m es m' h.tries
 
 carries_course : (n : ℕ) (a : Answer) (m : Machine) (es : Told) (m' : Machine) → Carries n a m es m' → IsCourse m es m'
 carries_course n a m es m' (is_carried count is h) = course_of m m' es h.happen
@@ -38,7 +35,7 @@ carries_course n a m es m' (is_refused r is h) = event_course _ _ m es m' h
 
 returns_course : (manual : Bool) (n : ℕ) (a : Answer) (m : Machine) (es : Told) (m' : Machine) → Returns manual n a m es m' → IsCourse m es m'
 returns_course true n a m es m' h = told_course back n a m es m' h
-returns_course false n a m es m' h = return_course n a m es m' h
+returns_course false n a m es m' h = return_course n h.result m es m' h.comes
 
 quiet_course : (m m' : Machine) (es : Told) → es ≡ [] → m' ≡ m → IsCourse m es m'
 quiet_course m m' es none same = subst (λ x. IsCourse m x m') (sym none) same
@@ -71,6 +68,4 @@ pub run_told : (s t : State) (cs : List NumberedCommand) (es : Told) (text : Lis
 run_told s t cs es text h = course_told s.machine t.machine es (run_course s t cs es text h)
 
 pub run_legal : (nodes log turns : ℕ) (stock : Stocks) (t : State) (es : Told) → 0 < nodes → IsCourse (begun nodes log stock turns).machine es t.machine → IsLegal t.machine.history
-run_legal nodes log turns stock t es some h =
-    let holds : Holds t.machine = course_keeps _ t.machine es (begun_holds nodes log some) h in
-    holds.recorded.legal
+run_legal nodes log turns stock t es some h = course_legal _ t.machine es (begun_holds nodes log some) h

@@ -13,7 +13,7 @@ use Rattle.assise_fault_script.specs.declared.fault.ScriptFault.TheVariants.{Mem
 use Rattle.assise_fault_script.specs.declared.parse.NumberedCommand.{NumberedCommand}
 use Rattle.assise_console.specs.declared.fault.EngineFault.{EngineFault}
 use Rattle.assise_console.specs.declared.fault.EngineFault.TheVariants.{Read, Script, Memory, Write, NeedsSerial, NoThread}
-use Rattle.assise_console.specs.Courses.{IsCourse, Told}
+use Rattle.assise_rounds.specs.Courses.{IsCourse, Told}
 use Rattle.assise_console.specs.Lines.{Prints, PrintsAll}
 use Rattle.assise_console.specs.State.{State, Stocks, begun}
 

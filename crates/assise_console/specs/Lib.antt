@@ -1,9 +1,6 @@
 pub mod CommandLine
 pub mod State
-pub mod Courses
-pub mod Rounds
-pub mod Trying
-pub mod Returning
+pub mod OneEvent
 pub mod Steps
 pub mod Consoles
 pub mod Stored

@@ -10,7 +10,7 @@ use Rattle.assise_history.specs.Text.{history_text}
 use Rattle.assise_fault_script.specs.declared.parse.NumberedCommand.{NumberedCommand}
 use Rattle.assise_console.specs.declared.answer.Answer.{Answer}
 use Rattle.assise_console.specs.declared.answer.Answer.TheVariants.{Quiet, Client, Replied, Waits, Refused, Carried, Digested, Released, Crashed, Failed, Began, Left, Returned, Tree, History}
-use Rattle.assise_console.specs.Courses.{Told}
+use Rattle.assise_rounds.specs.Courses.{Told}
 use Rattle.assise_console.specs.State.{State}
 use Rattle.assise_console.specs.Steps.{Serves}
 

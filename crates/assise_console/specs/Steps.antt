@@ -1,8 +1,9 @@
 -- What each command makes happen, what it answers, and the state after it.
-use Rattle.std.specs.Prelude.{◌≡◌, ℕ, Bool, true, false, [], ◌∷◌, None, Some}
+use Rattle.std.specs.Prelude.{◌≡◌, ℕ, Bool, true, false, [], ◌∷◌, None, Some, ⊤, Result, Ok, Err}
 use Rattle.assise_names.specs.declared.call.Op.{Op}
 use Rattle.assise_names.specs.declared.refusal.Refusal.{Refusal}
 use Rattle.assise_names.specs.declared.refusal.Refusal.TheVariants.{OutOfMemory}
+use Rattle.assise_names.specs.declared.reply.Reply.{Reply}
 use Rattle.assise_seq_tree.specs.Tree.{Tree as PlainTree}
 use Rattle.assise_inode_table.specs.Spelled.{Spells}
 use Rattle.assise_fault_script.specs.declared.command.Command as commands
@@ -14,12 +15,13 @@ use Rattle.assise_machine_events.specs.Faults.{node_fault}
 use Rattle.assise_machine_events.specs.Machine.{Machine}
 use Rattle.assise_machine.specs.Running.{IsServed, stock_after}
 use Rattle.assise_console.specs.declared.answer.Answer as answers
-use Rattle.assise_console.specs.declared.answer.Answer.TheVariants.{Quiet, Refused, Carried, Tree as Shown, History as Whole}
-use Rattle.assise_console.specs.Courses.{IsEvent, Told}
-use Rattle.assise_console.specs.Returning.{ComesBack, IsOneAt}
-use Rattle.assise_console.specs.Rounds.{Replicates}
+use Rattle.assise_console.specs.declared.answer.Answer.TheVariants.{Quiet, Replied, Refused, Carried, Returned, Tree as Shown, History as Whole}
+use Rattle.assise_console.specs.OneEvent.{IsOne, IsOneAt, Tells}
 use Rattle.assise_console.specs.State.{State, stock_of, with_machine, with_stock}
-use Rattle.assise_console.specs.Trying.{IsOne, Tells, TriesOften}
+use Rattle.assise_rounds.specs.Courses.{IsEvent, Told}
+use Rattle.assise_rounds.specs.Returning.{ComesBack}
+use Rattle.assise_rounds.specs.Rounds.{Replicates}
+use Rattle.assise_rounds.specs.Trying.{TriesOften}
 
 -- nothing happens
 pub record IsQuiet (a : answers.Answer) (es : Told) (t next : State) : Type 0 where
@@ -37,20 +39,42 @@ pub record Opens (s : State) (n : ℕ) (kind : RevokerKind) (es : Told) (a : ans
   pub turns : t.turns ≡ s.turns
   pub manual : t.manual ≡ s.manual
 
+-- what is answered where a call isn't awaited any more
+abbrev pub call_answer : Result Reply Refusal → answers.Answer
+call_answer (Ok reply) = Replied reply
+call_answer (Err refusal) = Refused refusal
+
+-- a call is tried as often as it is awaited, which the answer tells
+pub record CallsOften (turns c : ℕ) (op : Op) (a : answers.Answer) (m : Machine) (es : Told) (m' : Machine) : Type 0 where
+  pub result : Result Reply Refusal
+  pub answer : a ≡ call_answer result
+  pub tries : TriesOften turns c op result m es m'
+
 -- a call is tried once after `manual`, and else as often as it is awaited
 abbrev pub Calls : Bool → (turns c : ℕ) → Op → answers.Answer → Machine → Told → Machine → Type 0
 Calls true turns c op a m es m' = IsOne (try_call c op) a m es m'
-Calls false turns c op a m es m' = TriesOften turns c op a m es m'
+Calls false turns c op a m es m' = CallsOften turns c op a m es m'
 
 -- node n makes a replicate turn
 pub data Carries (n : ℕ) (a : answers.Answer) (m : Machine) (es : Told) (m' : Machine) : Type 0 where
   is_carried : (count : ℕ) → a ≡ Carried count → Replicates n count m es m' → Carries n a m es m'
   is_refused : (r : Refusal) → a ≡ Refused r → IsEvent (outgoing n) (refused r) m es m' → Carries n a m es m'
 
+-- what is answered where node n comes back
+abbrev pub return_answer : ℕ → Result ⊤ Refusal → answers.Answer
+return_answer n (Ok _) = Returned n
+return_answer n (Err refusal) = Refused refusal
+
+-- node n comes back, which the answer tells
+pub record ReturnsWhole (n : ℕ) (a : answers.Answer) (m : Machine) (es : Told) (m' : Machine) : Type 0 where
+  pub result : Result ⊤ Refusal
+  pub answer : a ≡ return_answer n result
+  pub comes : ComesBack n result m es m'
+
 -- node n begins to come back after `manual`, and else is filled and joins too
 abbrev pub Returns : Bool → ℕ → answers.Answer → Machine → Told → Machine → Type 0
 Returns true n a m es m' = IsOneAt back n a m es m'
-Returns false n a m es m' = ComesBack n a m es m'
+Returns false n a m es m' = ReturnsWhole n a m es m'
 
 -- the tree that node n's region alone spells, with the records that are acknowledged
 pub data Shows (n : ℕ) (a : answers.Answer) (m : Machine) : Type 0 where

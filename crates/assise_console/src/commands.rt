@@ -1,15 +1,12 @@
 // Commands that open no client and make no call, on a cluster alone.
 ghost use Rattle.assise_machine_events.specs.Events.{back, crash, digest, fail, join, refill, release_ready};
 ghost use Rattle.assise_machine.specs.Clusters.{machine};
-ghost use Rattle.assise_console.specs.Courses.{Told};
-ghost use Rattle.assise_console.specs.Returning.{IsOneAt};
+ghost use Rattle.assise_rounds.specs.Courses.{Told};
 ghost use Rattle.assise_console.specs.Steps.{Shows};
-ghost use Rattle.assise_console.specs.Trying.{IsOne};
+ghost use Rattle.assise_console.specs.OneEvent.{IsOne, IsOneAt};
 
 use crate::answer::Answer;
 use crate::numbered::number_of;
-use crate::returning;
-use crate::returning::{crash_client, fail_node, join_node, refill_once};
 use crate::trees::tree_at;
 use assise_lease_table::revoker::Revokes;
 use assise_machine::cluster::ClusterOf;
@@ -46,7 +43,10 @@ pub fn crash<C: Revokes + Drop>(cluster: &mut ClusterOf<C>, client: u64) -> Answ
     let Some(client) = number_of(client) else {
         return Answer::Refused(Refusal::BadClient);
     };
-    crash_client(cluster, client)
+    match cluster.crash(client) {
+        Ok(()) => Answer::Crashed(client),
+        Err(refusal) => Answer::Refused(refusal),
+    }
 }
 
 /// A node fails.
@@ -57,7 +57,10 @@ pub fn fail<C: Revokes + Drop>(alloc: Global, cluster: &mut ClusterOf<C>, node: 
     let Some(node) = number_of(node) else {
         return Answer::Refused(Refusal::BadNode);
     };
-    fail_node(alloc, cluster, node)
+    match cluster.fail(alloc, node) {
+        Ok(losses) => Answer::Failed(node, losses),
+        Err(refusal) => Answer::Refused(refusal),
+    }
 }
 
 /// A node that was down begins to come back.
@@ -68,7 +71,10 @@ pub fn begin_return<C: Revokes + Drop>(cluster: &mut ClusterOf<C>, node: u64) ->
     let Some(node) = number_of(node) else {
         return Answer::Refused(Refusal::BadNode);
     };
-    returning::begin_return(cluster, node)
+    match cluster.back(node) {
+        Ok(stale) => Answer::Began(node, stale),
+        Err(refusal) => Answer::Refused(refusal),
+    }
 }
 
 /// A node that comes back gets one inode that it may lack.
@@ -79,7 +85,10 @@ pub fn refill<C: Revokes + Drop>(alloc: Global, cluster: &mut ClusterOf<C>, node
     let Some(node) = number_of(node) else {
         return Answer::Refused(Refusal::BadNode);
     };
-    refill_once(alloc, cluster, node)
+    match cluster.refill(alloc, node) {
+        Ok(stale) => Answer::Left(stale),
+        Err(refusal) => Answer::Refused(refusal),
+    }
 }
 
 /// A node that comes back and lacks no inode is full again.
@@ -90,7 +99,10 @@ pub fn join<C: Revokes + Drop>(alloc: Global, cluster: &mut ClusterOf<C>, node: 
     let Some(node) = number_of(node) else {
         return Answer::Refused(Refusal::BadNode);
     };
-    join_node(alloc, cluster, node)
+    match cluster.join(alloc, node) {
+        Ok(()) => Answer::Returned(node),
+        Err(refusal) => Answer::Refused(refusal),
+    }
 }
 
 /// The tree that a node's region alone gives.

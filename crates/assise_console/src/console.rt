@@ -2,29 +2,31 @@
 ghost use Rattle.std.specs.Prelude.{◌≡◌, ◌<◌, ◌≤◌, IfOk, IsOkUnless};
 ghost use Rattle.assise_names.specs.declared.refusal.Refusal.TheVariants.{OutOfMemory};
 ghost use Rattle.assise_machine_events.specs.Events.{crash, digest, fail, join, refill};
+ghost use Rattle.assise_machine_calls.specs.Answers.{turn_answer};
 ghost use Rattle.assise_machine.specs.Running.{opened_answer};
 ghost use Rattle.assise_console.specs.Consoles.{seen, stocks};
-ghost use Rattle.assise_console.specs.Courses.{Told};
-ghost use Rattle.assise_console.specs.Returning.{IsOneAt};
+ghost use Rattle.assise_rounds.specs.Courses.{Told};
 ghost use Rattle.assise_console.specs.State.{begun};
 ghost use Rattle.assise_console.specs.Stored.{Stores, StoresLast};
-ghost use Rattle.assise_console.specs.Steps.{Calls, Carries, Changes, Does, Opens, Returns, Shows};
-ghost use Rattle.assise_console.specs.Trying.{IsOne, Tells};
+ghost use Rattle.assise_console.specs.Steps.{Calls, Carries, Changes, Does, Opens, Returns, Shows, call_answer, return_answer};
+ghost use Rattle.assise_console.specs.OneEvent.{IsOne, IsOneAt, Tells};
 
 use crate::answer::Answer;
 use crate::commands;
 use crate::numbered::number_of;
-use crate::returning::return_node;
-use crate::rounds::replicate;
 use crate::stock::Stock;
-use crate::trying::{try_often, try_once};
 use assise_fault_script::command::{Command, RevokerKind};
 use assise_history::history::History;
 use assise_lease_table::revoker::Revokes;
 use assise_machine::cluster::ClusterOf;
 use assise_machine::run::open_next;
+use assise_machine_calls::turn::Turn;
 use assise_names::call::Op;
 use assise_names::refusal::Refusal;
+use assise_names::reply::Reply;
+use assise_rounds::returning::return_node;
+use assise_rounds::rounds::replicate;
+use assise_rounds::trying::try_often;
 use std::alloc::Global;
 
 /// A cluster that is run on one thread: a call that is awaited is tried again, with a round of all nodes behind each try.
@@ -114,8 +116,8 @@ impl<C: Revokes + Drop> ConsoleOf<C> {
         }
     }
 
-    /// A call of a client: it is tried until it isn't awaited any more, with a round behind each try. After `manual` it is tried
-    /// once.
+    /// A call of a client: it is tried until it isn't awaited any more, with a round behind each try, or until there is nothing to do
+    /// in a round. After `manual` it is tried once.
     fn call(&mut self, alloc: Global, client: u64, op: &Op) -> Answer
         ensures { (es : Told) × Changes (Calls (seen self.old).manual (seen self.old).turns client op.now result) (seen self.old) es (seen self.new) }
     {
@@ -123,9 +125,9 @@ impl<C: Revokes + Drop> ConsoleOf<C> {
             return Answer::Refused(Refusal::BadClient);
         };
         if self.manual {
-            try_once(alloc, &mut self.cluster, client, op)
+            turned(self.cluster.try_call(alloc, client, op))
         } else {
-            try_often(alloc, &mut self.cluster, client, op, self.turns)
+            answered(try_often(alloc, &mut self.cluster, client, op, self.turns))
         }
     }
 
@@ -173,7 +175,7 @@ impl<C: Revokes + Drop> ConsoleOf<C> {
         let Some(node) = number_of(node) else {
             return Answer::Refused(Refusal::BadNode);
         };
-        return_node(alloc, &mut self.cluster, node)
+        returned(node, return_node(alloc, &mut self.cluster, node))
     }
 
     /// A node that comes back gets one inode that it may lack.
@@ -204,6 +206,37 @@ fn opened(client: Result<u32, Refusal>) -> Answer
 {
     match client {
         Ok(client) => Answer::Client(client),
+        Err(refusal) => Answer::Refused(refusal),
+    }
+}
+
+/// What a try is answered with.
+fn turned(turn: Result<Turn, Refusal>) -> Answer
+    ensures { Tells result (turn_answer turn) }
+{
+    match turn {
+        Ok(Turn::Answered(reply)) => Answer::Replied(reply),
+        Ok(Turn::NotYet) => Answer::Waits,
+        Err(refusal) => Answer::Refused(refusal),
+    }
+}
+
+/// What a call is answered with that isn't awaited any more.
+fn answered(reply: Result<Reply, Refusal>) -> Answer
+    ensures { result ≡ call_answer reply }
+{
+    match reply {
+        Ok(reply) => Answer::Replied(reply),
+        Err(refusal) => Answer::Refused(refusal),
+    }
+}
+
+/// What the return of a node is answered with.
+fn returned(node: u32, joined: Result<(), Refusal>) -> Answer
+    ensures { result ≡ return_answer node joined }
+{
+    match joined {
+        Ok(()) => Answer::Returned(node),
         Err(refusal) => Answer::Refused(refusal),
     }
 }

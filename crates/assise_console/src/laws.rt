@@ -5,7 +5,7 @@ ghost use Rattle.assise_fault_script.specs.declared.command.Command as commands;
 ghost use Rattle.assise_fault_script.specs.declared.parse.NumberedCommand.{NumberedCommand};
 ghost use Rattle.assise_machine_events.specs.Events.{all_entries};
 ghost use Rattle.assise_console.specs.declared.answer.Answer.{Answer};
-ghost use Rattle.assise_console.specs.Courses.{IsCourse, Told};
+ghost use Rattle.assise_rounds.specs.Courses.{IsCourse, Told};
 ghost use Rattle.assise_console.specs.Lines.{Prints};
 ghost use Rattle.assise_console.specs.State.{State, Stocks, begun};
 ghost use Rattle.assise_console.specs.Steps.{Serves};

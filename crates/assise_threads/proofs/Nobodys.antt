@@ -14,9 +14,8 @@ use Rattle.assise_machine.specs.Clusters.{machine}
 use Rattle.assise_machine.specs.declared.cluster.ClusterOf.{ClusterOf}
 use Rattle.assise_workers.proofs.Lists.{extends-on}
 use Rattle.assise_console.specs.declared.answer.Answer.{Answer}
-use Rattle.assise_console.specs.Courses.{Told}
-use Rattle.assise_console.specs.Returning.{IsOneAt}
-use Rattle.assise_console.specs.Trying.{IsOne}
+use Rattle.assise_rounds.specs.Courses.{Told}
+use Rattle.assise_console.specs.OneEvent.{IsOne, IsOneAt}
 use Rattle.assise_threads.specs.Takes.{AddsNobodys, AreNobodys}
 
 -- ---- a pass without a client may give such entries

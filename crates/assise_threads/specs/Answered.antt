@@ -14,10 +14,9 @@ use Rattle.assise_machine_events.specs.Events.{back, crash, digest, fail, join, 
 use Rattle.assise_machine_events.specs.Machine.{Machine}
 use Rattle.assise_console.specs.declared.answer.Answer.{Answer}
 use Rattle.assise_console.specs.declared.answer.Answer.TheVariants.{Quiet, Client, Replied, Refused, Carried, History as Whole}
-use Rattle.assise_console.specs.Courses.{Told}
-use Rattle.assise_console.specs.Returning.{IsOneAt}
+use Rattle.assise_rounds.specs.Courses.{Told}
 use Rattle.assise_console.specs.Steps.{Shows}
-use Rattle.assise_console.specs.Trying.{IsOne}
+use Rattle.assise_console.specs.OneEvent.{IsOne, IsOneAt}
 use Rattle.assise_threads.specs.Takes.{InOneTake}
 
 -- nothing is printed

@@ -5,7 +5,7 @@ use Rattle.assise_history.specs.Entries.{Event, opens, calls, crashes, fails, re
 use Rattle.assise_history.specs.Legal.{IsLegal}
 use Rattle.assise_keeper.specs.Clients.{Extends}
 use Rattle.assise_machine_events.specs.Machine.{Machine}
-use Rattle.assise_console.specs.Courses.{Told}
+use Rattle.assise_rounds.specs.Courses.{Told}
 
 -- in one take of a cluster whose history extends what was seen this was done, and this history was given back, which is legal
 pub record InOneTake (Does : Machine → Told → Machine → Type 0) (old new : List Event) : Type 0 where

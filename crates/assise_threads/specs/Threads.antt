@@ -6,9 +6,8 @@ use Rattle.assise_keeper.specs.Passes.{seen}
 use Rattle.assise_machine_events.specs.Events.{back, crash, digest, fail, join, refill, release_ready}
 use Rattle.assise_machine_events.specs.Machine.{Machine}
 use Rattle.assise_console.specs.declared.answer.Answer.{Answer}
-use Rattle.assise_console.specs.Courses.{Told}
-use Rattle.assise_console.specs.Returning.{IsOneAt}
-use Rattle.assise_console.specs.Trying.{IsOne}
+use Rattle.assise_rounds.specs.Courses.{Told}
+use Rattle.assise_console.specs.OneEvent.{IsOne, IsOneAt}
 use Rattle.assise_threads.specs.Answered.{ShowsTree}
 use Rattle.assise_threads.specs.declared.main_thread.MainThreadOf.{MainThreadOf}
 use Rattle.assise_threads.specs.declared.takes.Take.{Take}

@@ -1,6 +1,6 @@
 // What the main thread does to the cluster in one take.
 ghost use Rattle.assise_machine.specs.Clusters.{machine};
-ghost use Rattle.assise_console.specs.Courses.{Told};
+ghost use Rattle.assise_rounds.specs.Courses.{Told};
 ghost use Rattle.assise_threads.specs.Takes.{AddsNobodys};
 ghost use Rattle.assise_threads.specs.Threads.{DoesTake};
 

@@ -1,8 +1,8 @@
-use Rattle.std.proofs.Common.{arith}
+use Rattle.std.proofs.Common.{refl, arith}
 use Rattle.assise_machine_events.specs.Events.{crash}
 use Rattle.assise_machine.specs.Clusters.{machine}
 use Rattle.assise_machine.proofs.Few.{few_clients}
-use Rattle.assise_console.proofs.OneCommand.{does_at, crashes_none}
+use Rattle.assise_console.proofs.OneCommand.{crashes_none, does_at}
 use Rattle.assise_console.proofs.commands.crash.Goals as goal
 
 pub returns-in_default : goal.returns-in_default
@@ -11,5 +11,8 @@ returns-in_default g c =
     let large = c.number_of.ensures.none c.in_default.is in
     crashes_none (machine c.args.cluster.now) c.args.client (omega (arith, few, large))
 
-pub returns : goal.returns
-returns g c = does_at crash (machine c.args.cluster.now) c.args.client c.in-Some.client c.crash_client.result (machine c.crash_client.new.cluster) c.in-Some.ensures.some c.crash_client.ensures
+pub returns-in-Ok : goal.returns-in-Ok
+returns-in-Ok g c = does_at crash (machine c.args.cluster.now) c.args.client c.in-Some.client _ _ (machine c.crash.new.self) c.in-Some.ensures.some (refl, refl) c.in-Ok.ensures.happens
+
+pub returns-in-Err : goal.returns-in-Err
+returns-in-Err g c = does_at crash (machine c.args.cluster.now) c.args.client c.in-Some.client _ _ (machine c.crash.new.self) c.in-Some.ensures.some refl c.in-Err.ensures.happens

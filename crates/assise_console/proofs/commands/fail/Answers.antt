@@ -1,8 +1,8 @@
-use Rattle.std.proofs.Common.{arith}
+use Rattle.std.proofs.Common.{refl, arith}
 use Rattle.assise_machine_events.specs.Events.{fail}
 use Rattle.assise_machine.specs.Clusters.{machine}
 use Rattle.assise_machine.proofs.Few.{few_nodes}
-use Rattle.assise_console.proofs.OneCommand.{does_at, fails_none}
+use Rattle.assise_console.proofs.OneCommand.{fails_none, does_at}
 use Rattle.assise_console.proofs.commands.fail.Goals as goal
 
 pub returns-in_default : goal.returns-in_default
@@ -11,5 +11,8 @@ returns-in_default g c =
     let large = c.number_of.ensures.none c.in_default.is in
     fails_none (machine c.args.cluster.now) c.args.node (omega (arith, few, large))
 
-pub returns : goal.returns
-returns g c = does_at fail (machine c.args.cluster.now) c.args.node c.in-Some.node c.fail_node.result (machine c.fail_node.new.cluster) c.in-Some.ensures.some c.fail_node.ensures
+pub returns-in-Ok : goal.returns-in-Ok
+returns-in-Ok g c = does_at fail (machine c.args.cluster.now) c.args.node c.in-Some.node _ _ (machine c.fail.new.self) c.in-Some.ensures.some (refl, refl) c.in-Ok.ensures.happens
+
+pub returns-in-Err : goal.returns-in-Err
+returns-in-Err g c = does_at fail (machine c.args.cluster.now) c.args.node c.in-Some.node _ _ (machine c.fail.new.self) c.in-Some.ensures.some refl c.in-Err.ensures.happens

@@ -1,8 +1,8 @@
-use Rattle.std.proofs.Common.{arith}
+use Rattle.std.proofs.Common.{refl, arith}
 use Rattle.assise_machine_events.specs.Events.{join}
 use Rattle.assise_machine.specs.Clusters.{machine}
 use Rattle.assise_machine.proofs.Few.{few_nodes}
-use Rattle.assise_console.proofs.OneCommand.{does_at, joins_none}
+use Rattle.assise_console.proofs.OneCommand.{joins_none, does_at}
 use Rattle.assise_console.proofs.commands.join.Goals as goal
 
 pub returns-in_default : goal.returns-in_default
@@ -11,5 +11,8 @@ returns-in_default g c =
     let large = c.number_of.ensures.none c.in_default.is in
     joins_none (machine c.args.cluster.now) c.args.node (omega (arith, few, large))
 
-pub returns : goal.returns
-returns g c = does_at join (machine c.args.cluster.now) c.args.node c.in-Some.node c.join_node.result (machine c.join_node.new.cluster) c.in-Some.ensures.some c.join_node.ensures
+pub returns-in-Ok : goal.returns-in-Ok
+returns-in-Ok g c = does_at join (machine c.args.cluster.now) c.args.node c.in-Some.node _ _ (machine c.join.new.self) c.in-Some.ensures.some (refl, refl) c.in-Ok.ensures.happens
+
+pub returns-in-Err : goal.returns-in-Err
+returns-in-Err g c = does_at join (machine c.args.cluster.now) c.args.node c.in-Some.node _ _ (machine c.join.new.self) c.in-Some.ensures.some refl c.in-Err.ensures.happens

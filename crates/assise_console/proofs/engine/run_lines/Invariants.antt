@@ -1,7 +1,7 @@
 use Rattle.std.proofs.Common.{ℕ, List}
 use Rattle.std.specs.Io.KnownBytes.{Appends}
 use Rattle.assise_console.specs.Consoles.{seen}
-use Rattle.assise_console.specs.Courses.{Told}
+use Rattle.assise_rounds.specs.Courses.{Told}
 use Rattle.assise_console.specs.Lines.{Prints}
 use Rattle.assise_console.proofs.engine.run_lines.Given as goal
 

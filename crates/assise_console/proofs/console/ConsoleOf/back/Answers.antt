@@ -16,4 +16,5 @@ returns-in_default g c =
 
 pub returns : goal.returns
 returns g c =
-    returns_whole (seen c.args.self.now) c.args.node c.in-Some.node c.return_node.result (machine c.return_node.new.cluster) c.in-Some.ensures.some c.if-self.false c.return_node.ensures
+    returns_whole (seen c.args.self.now) c.args.node c.in-Some.node c.returned.result c.return_node.result (machine c.return_node.new.cluster)
+    c.in-Some.ensures.some c.if-self.false c.returned.ensures c.return_node.ensures

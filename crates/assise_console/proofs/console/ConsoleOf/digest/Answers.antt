@@ -1,7 +1,7 @@
 use Rattle.assise_machine_events.specs.Events.{digest}
 use Rattle.assise_machine.specs.Clusters.{machine}
 use Rattle.assise_console.specs.Consoles.{seen}
-use Rattle.assise_console.specs.Trying.{IsOne}
+use Rattle.assise_console.specs.OneEvent.{IsOne}
 use Rattle.assise_console.proofs.OneCommand.{changes}
 use Rattle.assise_console.proofs.console.ConsoleOf.digest.Goals as goal
 

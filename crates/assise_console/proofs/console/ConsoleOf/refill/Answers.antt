@@ -1,7 +1,7 @@
 use Rattle.assise_machine_events.specs.Events.{refill}
 use Rattle.assise_machine.specs.Clusters.{machine}
 use Rattle.assise_console.specs.Consoles.{seen}
-use Rattle.assise_console.specs.Returning.{IsOneAt}
+use Rattle.assise_console.specs.OneEvent.{IsOneAt}
 use Rattle.assise_console.proofs.OneCommand.{changes}
 use Rattle.assise_console.proofs.console.ConsoleOf.refill.Goals as goal
 

@@ -2,7 +2,7 @@ use Rattle.std.proofs.Common.{[], refl}
 use Rattle.assise_machine_events.specs.Events.{release_ready}
 use Rattle.assise_machine.specs.Clusters.{machine}
 use Rattle.assise_console.specs.Consoles.{seen}
-use Rattle.assise_console.specs.Trying.{IsOne}
+use Rattle.assise_console.specs.OneEvent.{IsOne}
 use Rattle.assise_console.proofs.OneCommand.{changes}
 use Rattle.assise_console.proofs.console.ConsoleOf.step.Goals as goal
 

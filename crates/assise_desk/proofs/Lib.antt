@@ -1,0 +1,3 @@
+mod DeskSteps
+mod PathFaults
+mod TwoPieces

@@ -1,0 +1,181 @@
+-- What the request of a desk does to its cluster, and what it is answered with.
+use Rattle.std.specs.Prelude.{◌≡◌, ◌≢◌, ℕ, ℤ, pos, min, ◌-◌, ◌^◌, ◌<◌, ◌⊎◌, Bool, true, false, List, length, take, Option, None, Some, Result, Ok, Err, ⊤}
+use Rattle.std.specs.Global.{Box, Vec}
+use Rattle.std.specs.Option.{option_map}
+use Rattle.assise_names.specs.declared.call.Op.{Op}
+use Rattle.assise_names.specs.declared.refusal.Refusal.{Refusal}
+use Rattle.assise_names.specs.declared.reply.Reply.{Reply}
+use Rattle.assise_machine_calls.specs.Answers.{crashing_answer}
+use Rattle.assise_machine_events.specs.Events.{Answer, ClusterEvent, crash, fail, open_client}
+use Rattle.assise_machine_events.specs.Machine.{Machine, begun_as}
+use Rattle.assise_machine_failures.specs.Answers.{failing_answer}
+use Rattle.assise_machine.specs.Running.{opened_answer}
+use Rattle.assise_rounds.specs.Courses.{IsEvent, Nothing, Told}
+use Rattle.assise_rounds.specs.Returning.{ComesBack}
+use Rattle.assise_rounds.specs.Rounds.{RoundsOnce}
+use Rattle.assise_files.specs.CallTries.{IsTriedOut}
+use Rattle.assise_files.specs.FilesSeen.{KeepsHot, cluster_seen, most_tries}
+use Rattle.assise_files.specs.declared.files.Files.{Files}
+use Rattle.assise_desk.specs.declared.caller_desk.CallerDesk.{CallerDesk}
+use Rattle.assise_desk.specs.declared.caller_desk.TheConstants.{TURNS}
+use Rattle.assise_desk.specs.declared.desk_call.ClientCall.{ClientCall}
+use Rattle.assise_desk.specs.declared.desk_call.ClusterCall.{ClusterCall}
+use Rattle.assise_desk.specs.declared.desk_call.ClusterCall.TheVariants.{Open, Crash, Fail, Back, Legal, Round, History}
+use Rattle.assise_desk.specs.declared.desk_call.DeskCall.{DeskCall}
+use Rattle.assise_desk.specs.declared.desk_call.DeskCall.TheVariants.{Make, Free, Cluster, Client}
+use Rattle.assise_desk.specs.declared.desk_fault.DeskFault.{DeskFault}
+use Rattle.assise_desk.specs.declared.desk_fault.DeskFault.TheVariants.{Refused, NoCluster, BadRequest, NoRoom}
+use Rattle.assise_desk.specs.declared.desk_request.DeskRequest.{DeskRequest}
+use Rattle.assise_desk.specs.CallNumbers.{call_number}
+use Rattle.assise_desk.specs.Codes.{fault_code, no_memory}
+use Rattle.assise_desk.specs.Pages.{losses_bytes}
+use Rattle.assise_desk.specs.Replies.{Shows}
+use Rattle.assise_desk.specs.RequestedOps.{IsRequestedAt, MayAskForNone}
+
+-- ---- numbers
+
+-- a count, or 0 for what is done, or why there is none
+abbrev pub counted : Result ℕ Refusal → Result ℕ DeskFault
+counted (Ok n) = Ok n
+counted (Err refusal) = Err (Refused refusal)
+
+abbrev pub nothing_counted : Result ⊤ Refusal → Result ℕ DeskFault
+nothing_counted (Ok done) = Ok 0
+nothing_counted (Err refusal) = Err (Refused refusal)
+
+-- 1 for yes
+abbrev pub yes_counted : Bool → ℕ
+yes_counted true = 1
+yes_counted false = 0
+
+-- the number that a desk shows
+abbrev pub result_shown : Result ℕ DeskFault → ℤ
+result_shown (Ok n) = pos (min n (2 ^ 63 - 1))
+result_shown (Err fault) = fault_code fault
+
+-- ---- a cluster is made
+
+pub record IsMade (r : DeskRequest) (files : Files) : Type 0 where
+  pub begun : cluster_seen files ≡ begun_as r.node r.first
+  pub hot : KeepsHot files r.second
+  pub turns : most_tries files ≡ TURNS
+
+-- 1 to 8 nodes, logs of 8 to 4,096 records, 1 to 4,096 hot inodes
+abbrev pub IsOutOfRange : DeskRequest → Type 0
+IsOutOfRange r = (r.node < 1) ⊎ (8 < r.node) ⊎ (r.first < 8) ⊎ (4096 < r.first) ⊎ (r.second < 1) ⊎ (4096 < r.second)
+
+pub data MayNotMake (r : DeskRequest) (fault : DeskFault) : Type 0 where
+  is_out_of_range : IsOutOfRange r → fault ≡ BadRequest → MayNotMake r fault
+  lacks_memory : fault ≡ no_memory → MayNotMake r fault
+
+-- ---- what a cluster does that no client calls
+
+-- one event, whose answer is told in numbers
+pub record TellsEvent {X : Type 0} (number : X → Result ℕ DeskFault) (answer : X → Answer) (e : ClusterEvent) (result : Result ℕ DeskFault) (m : Machine) (es : Told) (m' : Machine) : Type 0 where
+  pub told : X
+  pub result_is : result ≡ number told
+  pub event : IsEvent e (answer told) m es m'
+
+-- who lost calls stands in the bytes, if there is room
+abbrev pub ShowsLosses : Result (Vec (ℕ × ℕ)) Refusal → Result ℕ DeskFault → List ℕ → Type 0
+ShowsLosses (Ok losses) (Ok count) out = take count out ≡ losses_bytes losses.items
+ShowsLosses (Ok losses) (Err fault) out = fault ≡ NoRoom
+ShowsLosses (Err refusal) result out = result ≡ Err (Refused refusal)
+
+pub record TellsFailure (n : ℕ) (result : Result ℕ DeskFault) (out : List ℕ) (m : Machine) (es : Told) (m' : Machine) : Type 0 where
+  pub failed : Result (Vec (ℕ × ℕ)) Refusal
+  pub shown : ShowsLosses failed result out
+  pub event : IsEvent (fail n) (failing_answer failed) m es m'
+
+pub record TellsReturn (n : ℕ) (result : Result ℕ DeskFault) (m : Machine) (es : Told) (m' : Machine) : Type 0 where
+  pub returned : Result ⊤ Refusal
+  pub result_is : result ≡ nothing_counted returned
+  pub comes_back : ComesBack n returned m es m'
+
+pub record TellsRound (result : Result ℕ DeskFault) (m : Machine) (es : Told) (m' : Machine) : Type 0 where
+  pub busy : Bool
+  pub result_is : result ≡ Ok (yes_counted busy)
+  pub round : RoundsOnce busy m es m'
+
+-- the history is legal, unless there is no memory to check it
+pub record TellsLegal (result : Result ℕ DeskFault) (m : Machine) (es : Told) (m' : Machine) : Type 0 where
+  pub result_is : (result ≡ Ok 1) ⊎ (result ≡ Err no_memory)
+  pub nothing : Nothing m es m'
+
+pub record TellsLength (result : Result ℕ DeskFault) (m : Machine) (es : Told) (m' : Machine) : Type 0 where
+  pub result_is : result ≡ Ok (length m.history)
+  pub nothing : Nothing m es m'
+
+-- what it does, with its result, and with what stands in the bytes then
+abbrev pub DoesAt : ClusterCall → DeskRequest → Result ℕ DeskFault → List ℕ → Machine → Told → Machine → Type 0
+DoesAt Open r result out m es m' = TellsEvent counted opened_answer (open_client r.node) result m es m'
+DoesAt Crash r result out m es m' = TellsEvent nothing_counted crashing_answer (crash r.client) result m es m'
+DoesAt Fail r result out m es m' = TellsFailure r.node result out m es m'
+DoesAt Back r result out m es m' = TellsReturn r.node result m es m'
+DoesAt Legal r result out m es m' = TellsLegal result m es m'
+DoesAt Round r result out m es m' = TellsRound result m es m'
+DoesAt History r result out m es m' = TellsLength result m es m'
+
+-- ---- a call of a client
+
+-- the reply, or why there is none
+abbrev pub replied_at : Result Reply Refusal → Result Reply DeskFault
+replied_at (Ok reply) = Ok reply
+replied_at (Err refusal) = Err (Refused refusal)
+
+-- the call is tried out; or there is none
+pub data CallsAt (turns : ℕ) (call : ClientCall) (r : DeskRequest) (bytes : List ℕ) (result : Result Reply DeskFault) (m : Machine) (es : Told) (m' : Machine) : Type 0 where
+  is_called : (op : Op) (answer : Result Reply Refusal) → IsRequestedAt call r bytes op → IsTriedOut turns r.client op answer m es m' → result ≡ replied_at answer →
+      CallsAt turns call r bytes result m es m'
+  asks_for_none : (fault : DeskFault) → MayAskForNone call r bytes fault → result ≡ Err fault → Nothing m es m' → CallsAt turns call r bytes result m es m'
+
+-- ---- a reply
+
+abbrev pub ShowsIfOk : Result Reply DeskFault → ℕ → Result ℕ DeskFault → ℕ → List ℕ → Type 0
+ShowsIfOk (Ok reply) first result stands out = Shows reply first result stands out
+ShowsIfOk (Err fault) first result stands out = result ≡ Err fault
+
+-- a client's call is made, and its reply shown
+pub record IsServedTo (call : ClientCall) (r : DeskRequest) (bytes : List ℕ) (files : Files) (result : Result ℕ DeskFault) (out : List ℕ) (stands : ℕ) (left : Files) : Type 0 where
+  pub reply : Result Reply DeskFault
+  pub made : (es : Told) × CallsAt (most_tries files) call r bytes reply (cluster_seen files) es (cluster_seen left)
+  pub shown : ShowsIfOk reply r.first result stands out
+
+-- ---- a desk
+
+-- its cluster, if it has one
+abbrev pub owned : Option (Box Files) → Option Files
+owned files = option_map (λ owner. owner.value) files
+
+abbrev pub files_at : CallerDesk → Option Files
+files_at desk = owned desk.files
+
+-- what the laws observe of it
+abbrev pub cluster_at : CallerDesk → Option Machine
+cluster_at desk = option_map cluster_seen (files_at desk)
+
+-- it is served by a cluster
+abbrev pub NeedsCluster : DeskCall → Type 0
+NeedsCluster Make = ⊥
+NeedsCluster Free = ⊥
+NeedsCluster (Cluster call) = Unit {0}
+NeedsCluster (Client call) = Unit {0}
+
+-- what a desk's request is answered with, and what is left of the desk
+pub data IsAnswered (d : CallerDesk) (result : Result ℕ DeskFault) (d' : CallerDesk) : Type 0 where
+  is_no_request : ((call : DeskCall) → call_number call ≢ d.request.call) → result ≡ Err BadRequest → files_at d' ≡ files_at d → IsAnswered d result d'
+  makes : (files : Files) → call_number Make ≡ d.request.call → IsMade d.request files → files_at d' ≡ Some files → result ≡ Ok 0 → IsAnswered d result d'
+  makes_none : (fault : DeskFault) → call_number Make ≡ d.request.call → MayNotMake d.request fault → files_at d' ≡ files_at d → result ≡ Err fault → IsAnswered d result d'
+  frees : call_number Free ≡ d.request.call → files_at d' ≡ None → result ≡ Ok 0 → IsAnswered d result d'
+  has_no_cluster : (call : DeskCall) → call_number call ≡ d.request.call → NeedsCluster call → files_at d ≡ None → files_at d' ≡ None → result ≡ Err NoCluster → IsAnswered d result d'
+  manages : (call : ClusterCall) (files left : Files) → call_number (Cluster call) ≡ d.request.call → files_at d ≡ Some files → files_at d' ≡ Some left →
+      (es : Told) × DoesAt call d.request result d'.bytes (cluster_seen files) es (cluster_seen left) → IsAnswered d result d'
+  calls : (call : ClientCall) (files left : Files) → call_number (Client call) ≡ d.request.call → files_at d ≡ Some files → files_at d' ≡ Some left →
+      IsServedTo call d.request d.bytes files result d'.bytes d'.stands left → IsAnswered d result d'
+
+-- a desk, and what it is when its request is served
+pub record IsServedAt (d d' : CallerDesk) : Type 0 where
+  pub result : Result ℕ DeskFault
+  pub shown : d'.result ≡ result_shown result
+  pub answered : IsAnswered d result d'
+  pub request : d'.request ≡ d.request

@@ -1,0 +1,236 @@
+// A place in a caller's memory at which requests are served.
+ghost use Rattle.std.specs.Prelude.{◌≡◌, IfErr, IfOk, None};
+ghost use Rattle.assise_files.specs.FilesSeen.{cluster_seen, most_tries};
+ghost use Rattle.assise_rounds.specs.Courses.{Told};
+ghost use Rattle.assise_desk.specs.DeskAnswers.{CallsAt, DoesAt, IsAnswered, IsMade, IsServedAt, IsServedTo, MayNotMake, ShowsLosses, cluster_at, counted, nothing_counted, replied_at, result_shown};
+
+use crate::desk_call::{ClientCall, ClusterCall, DeskCall};
+use crate::desk_fault::DeskFault;
+use crate::desk_request::{DESK_BYTES, DeskRequest};
+use crate::page::put_losses;
+use crate::reply_shown::show_reply;
+use assise_files::cut_kind::CutKind;
+use assise_files::files::Files;
+use assise_names::refusal::Refusal;
+use assise_names::reply::Reply;
+use std::alloc::Global;
+
+/// How often a call is tried at most.
+pub const TURNS: u32 = 100_000;
+
+/// A request, its answer, and the cluster that serves it. It lies in its caller's memory, who writes all but the cluster.
+#[repr(C)]
+#[derive(Drop)]
+pub struct CallerDesk {
+    /// What is asked for.
+    pub request: DeskRequest,
+    /// What it is answered with: a number from 0 on, or the code of a fault, which is below 0.
+    pub result: i64,
+    /// Of a stat, what stands at the path: 1 is a file, 2 a directory. Of a listing, how many entries the directory has.
+    pub stands: u64,
+    /// A path, and then another path or what is written. Then what is read, a page of names, or who lost calls.
+    pub bytes: [u8; DESK_BYTES],
+    files: Option<Box<Files>>,
+}
+
+impl CallerDesk {
+    /// A desk without a cluster.
+    pub fn empty() -> CallerDesk
+        ensures { cluster_at result ≡ None }
+    {
+        CallerDesk {
+            request: DeskRequest {
+                call: 0,
+                client: 0,
+                node: 0,
+                path_bytes: 0,
+                other_bytes: 0,
+                kind: 0,
+                first: 0,
+                second: 0,
+            },
+            result: 0,
+            stands: 0,
+            bytes: [0; DESK_BYTES],
+            files: None,
+        }
+    }
+}
+
+/// Serves the request of a desk. What is refused leaves its cluster as it was, but for what a call's tries did.
+pub fn serve(alloc: Global, desk: &mut CallerDesk)
+    ensures { IsServedAt desk.old desk.new }
+{
+    desk.result = shown(answer(alloc, desk));
+}
+
+/// The number that a desk shows.
+fn shown(answer: Result<u64, DeskFault>) -> i64
+    ensures { result ≡ result_shown answer }
+{
+    match answer {
+        Ok(number) => number.min(i64::MAX as u64) as i64,
+        Err(fault) => fault.code(),
+    }
+}
+
+/// The answer of the request of a desk.
+fn answer(alloc: Global, desk: &mut CallerDesk) -> Result<u64, DeskFault>
+    ensures answered { IsAnswered desk.old result desk.new }
+    ensures request { desk.new.request ≡ desk.old.request }
+{
+    let request = desk.request;
+    match DeskCall::of_number(request.call) {
+        None => Err(DeskFault::BadRequest),
+        Some(DeskCall::Make) => match make(alloc, &request) {
+            Ok(files) => {
+                desk.files = Some(files);
+                Ok(0)
+            }
+            Err(fault) => Err(fault),
+        },
+        Some(DeskCall::Free) => {
+            desk.files = None;
+            Ok(0)
+        }
+        Some(DeskCall::Cluster(call)) => match &mut desk.files {
+            None => Err(DeskFault::NoCluster),
+            Some(files) => manage(alloc, files, call, &request, &mut desk.bytes),
+        },
+        Some(DeskCall::Client(call)) => match &mut desk.files {
+            None => Err(DeskFault::NoCluster),
+            Some(files) => {
+                serve_client(
+                    alloc,
+                    files,
+                    call,
+                    &request,
+                    &mut desk.bytes,
+                    &mut desk.stands,
+                )
+            }
+        },
+    }
+}
+
+/// The cluster that a request asks for.
+fn make(alloc: Global, request: &DeskRequest) -> Result<Box<Files>, DeskFault>
+    ensures made { IfOk result (λ owner. IsMade request.now owner.value) }
+    ensures fault { IfErr result (MayNotMake request.now) }
+{
+    let (nodes, log, hot) = (request.node, request.first, request.second);
+    if nodes == 0 || nodes > 8 || log < 8 || log > 4096 || hot < 1 || hot > 4096 {
+        return Err(DeskFault::BadRequest);
+    }
+    let files = Files::new(alloc, nodes, log as usize, hot as usize, TURNS)?;
+    Ok(Box::new(alloc, files)?)
+}
+
+/// What a cluster does that no client calls.
+fn manage(
+    alloc: Global,
+    files: &mut Files,
+    call: ClusterCall,
+    request: &DeskRequest,
+    out: &mut [u8; DESK_BYTES],
+) -> Result<u64, DeskFault>
+    ensures { (es : Told) × DoesAt call request.now result out.new (cluster_seen files.old) es (cluster_seen files.new) }
+{
+    match call {
+        ClusterCall::Open => counted(files.open(alloc, request.node, kind_of(request.kind))),
+        ClusterCall::Crash => done(files.crash(request.client)),
+        ClusterCall::Fail => show_losses(files.fail(alloc, request.node), out),
+        ClusterCall::Back => done(files.back(alloc, request.node)),
+        ClusterCall::Legal => Ok(u64::from(files.is_legal(alloc)?)),
+        ClusterCall::Round => Ok(u64::from(files.round(alloc))),
+        ClusterCall::History => Ok(files.history_length() as u64),
+    }
+}
+
+/// The number of a client, or why there is none.
+fn counted(client: Result<u32, Refusal>) -> Result<u64, DeskFault>
+    ensures { result ≡ counted client }
+{
+    match client {
+        Ok(client) => Ok(u64::from(client)),
+        Err(refusal) => Err(DeskFault::Refused(refusal)),
+    }
+}
+
+/// Zero for what is done, or why it isn't.
+fn done(what: Result<(), Refusal>) -> Result<u64, DeskFault>
+    ensures { result ≡ nothing_counted what }
+{
+    match what {
+        Ok(()) => Ok(0),
+        Err(refusal) => Err(DeskFault::Refused(refusal)),
+    }
+}
+
+/// Who lost calls, in a desk's bytes, and how many bytes these are.
+fn show_losses(
+    losses: Result<Vec<(u32, u64)>, Refusal>,
+    out: &mut [u8; DESK_BYTES],
+) -> Result<u64, DeskFault>
+    ensures { ShowsLosses losses result out.new }
+{
+    match losses {
+        Ok(losses) => match put_losses(losses.as_slice(), out) {
+            Ok(count) => Ok(count as u64),
+            Err(fault) => Err(fault),
+        },
+        Err(refusal) => Err(DeskFault::Refused(refusal)),
+    }
+}
+
+/// The kind of revoker that a number names.
+fn kind_of(number: u32) -> CutKind {
+    match number {
+        1 => CutKind::Whole,
+        2 => CutKind::Eights,
+        _ => CutKind::Least,
+    }
+}
+
+/// A call of a client, with its path and the bytes behind it in a desk's.
+fn call_of(
+    alloc: Global,
+    files: &mut Files,
+    call: ClientCall,
+    request: &DeskRequest,
+    bytes: &[u8; DESK_BYTES],
+) -> Result<Reply, DeskFault>
+    ensures { (es : Told) × CallsAt (most_tries files.old) call request.now bytes.now result (cluster_seen files.old) es (cluster_seen files.new) }
+{
+    match request.op_at(alloc, call, bytes) {
+        Ok(op) => replied(files.call(alloc, request.client, &op)),
+        Err(fault) => Err(fault),
+    }
+}
+
+/// The reply of a call, or why there is none.
+fn replied(reply: Result<Reply, Refusal>) -> Result<Reply, DeskFault>
+    ensures { result ≡ replied_at reply }
+{
+    match reply {
+        Ok(reply) => Ok(reply),
+        Err(refusal) => Err(DeskFault::Refused(refusal)),
+    }
+}
+
+/// A call of a client is served, and its reply shown.
+fn serve_client(
+    alloc: Global,
+    files: &mut Files,
+    call: ClientCall,
+    request: &DeskRequest,
+    bytes: &mut [u8; DESK_BYTES],
+    stands: &mut u64,
+) -> Result<u64, DeskFault>
+    ensures { IsServedTo call request.now bytes.old files.old result bytes.new stands.new files.new }
+{
+    match call_of(alloc, files, call, request, bytes) {
+        Ok(reply) => show_reply(&reply, request.first, bytes, stands),
+        Err(fault) => Err(fault),
+    }
+}

@@ -1,0 +1,94 @@
+// What a request's number asks for.
+ghost use Rattle.std.specs.Prelude.{◌≡◌, ◌≢◌, MatchOption};
+ghost use Rattle.assise_desk.specs.CallNumbers.{call_number};
+ghost use Rattle.assise_desk.specs.declared.desk_call.DeskCall.{DeskCall as AnyCall};
+
+/// What a desk serves.
+#[derive(Clone, Copy, PartialEq, Eq, Debug)]
+pub enum DeskCall {
+    /// A cluster is made, in place of the desk's own if it has one (1).
+    Make,
+    /// The desk's cluster goes (2).
+    Free,
+    /// What the desk's cluster does.
+    Cluster(ClusterCall),
+    /// What a client of the desk's cluster calls.
+    Client(ClientCall),
+}
+
+/// What a cluster does that no client calls.
+#[derive(Clone, Copy, PartialEq, Eq, Debug)]
+pub enum ClusterCall {
+    /// A client is opened on a node (3).
+    Open,
+    /// A client crashes (4).
+    Crash,
+    /// A node fails (5).
+    Fail,
+    /// A node comes back (6).
+    Back,
+    /// Whether the history is legal is checked anew (7).
+    Legal,
+    /// One round of all nodes (8).
+    Round,
+    /// How many entries the history has (9).
+    History,
+}
+
+/// What a client calls.
+#[derive(Clone, Copy, PartialEq, Eq, Debug)]
+pub enum ClientCall {
+    /// A file is made (16).
+    Create,
+    /// A directory is made (17).
+    Mkdir,
+    /// Bytes of a file are read (18).
+    Read,
+    /// Bytes of a file are written (19).
+    Write,
+    /// A file gets another size (20).
+    Truncate,
+    /// What stands at a path is moved to another (21).
+    Rename,
+    /// A file is removed (22).
+    Unlink,
+    /// A directory without entries is removed (23).
+    Rmdir,
+    /// The names of a directory's entries are listed (24).
+    List,
+    /// What stands at a path is told (25).
+    Stat,
+    /// All calls so far are replicated (26).
+    Fsync,
+}
+
+impl DeskCall {
+    /// What a number asks for, if it asks for anything.
+    pub fn of_number(number: u32) -> Option<DeskCall>
+        ensures { MatchOption result ((call : AnyCall) → call_number call ≢ number) (λ call. call_number call ≡ number) }
+    {
+        match number {
+            1 => Some(DeskCall::Make),
+            2 => Some(DeskCall::Free),
+            3 => Some(DeskCall::Cluster(ClusterCall::Open)),
+            4 => Some(DeskCall::Cluster(ClusterCall::Crash)),
+            5 => Some(DeskCall::Cluster(ClusterCall::Fail)),
+            6 => Some(DeskCall::Cluster(ClusterCall::Back)),
+            7 => Some(DeskCall::Cluster(ClusterCall::Legal)),
+            8 => Some(DeskCall::Cluster(ClusterCall::Round)),
+            9 => Some(DeskCall::Cluster(ClusterCall::History)),
+            16 => Some(DeskCall::Client(ClientCall::Create)),
+            17 => Some(DeskCall::Client(ClientCall::Mkdir)),
+            18 => Some(DeskCall::Client(ClientCall::Read)),
+            19 => Some(DeskCall::Client(ClientCall::Write)),
+            20 => Some(DeskCall::Client(ClientCall::Truncate)),
+            21 => Some(DeskCall::Client(ClientCall::Rename)),
+            22 => Some(DeskCall::Client(ClientCall::Unlink)),
+            23 => Some(DeskCall::Client(ClientCall::Rmdir)),
+            24 => Some(DeskCall::Client(ClientCall::List)),
+            25 => Some(DeskCall::Client(ClientCall::Stat)),
+            26 => Some(DeskCall::Client(ClientCall::Fsync)),
+            _ => None,
+        }
+    }
+}

@@ -1,0 +1,2 @@
+mod VainTries
+mod TriesCourse

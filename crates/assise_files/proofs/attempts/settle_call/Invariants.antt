@@ -1,0 +1,12 @@
+use Rattle.std.proofs.Common.{◌≤◌}
+use Rattle.assise_machine.specs.Clusters.{machine}
+use Rattle.assise_rounds.specs.Courses.{Told}
+use Rattle.assise_files.specs.CallTries.{InVain}
+use Rattle.assise_files.proofs.attempts.settle_call.Given as goal
+
+-- so many tries were in vain
+abbrev pub invariant-loop : goal.invariant-loop
+invariant-loop g l = record {
+  tries : (es : Told) × InVain l.client l.op l.counter (machine l.fn.cluster) es (machine l.cluster);
+  few : l.counter ≤ l.turns;
+}

@@ -1,0 +1,22 @@
+-- What is seen of a cluster that one caller uses.
+use Rattle.std.specs.Prelude.{ℕ, Option}
+use Rattle.assise_machine.specs.Clusters.{HaveCapacity, machine, revokers}
+use Rattle.assise_machine_events.specs.Machine.{Machine}
+use Rattle.assise_files.specs.declared.cut_kind.CutKind.{CutKind}
+use Rattle.assise_files.specs.declared.files.Files.{Files}
+
+-- what the laws observe of it
+abbrev pub cluster_seen : Files → Machine
+cluster_seen files = machine files.cluster
+
+-- how often a call is tried at most
+abbrev pub most_tries : Files → ℕ
+most_tries files = files.turns
+
+-- the revoker of each client
+abbrev pub kinds_seen : Files → ℕ → Option CutKind
+kinds_seen files = revokers files.cluster
+
+-- at each node so many inodes may be hot
+abbrev pub KeepsHot : Files → ℕ → Type 0
+KeepsHot files hot = HaveCapacity files.cluster hot

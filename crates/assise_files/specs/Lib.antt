@@ -1,0 +1,3 @@
+pub mod CutKinds
+pub mod FilesSeen
+pub mod CallTries

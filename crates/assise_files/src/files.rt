@@ -1,0 +1,137 @@
+// A cluster that one caller uses.
+use crate::attempts::settle_call;
+use crate::cut_kind::CutKind;
+use assise_history::check::check;
+use assise_machine::cluster::ClusterOf;
+use assise_names::call::Op;
+use assise_names::refusal::Refusal;
+use assise_names::reply::Reply;
+use assise_rounds::returning::return_node;
+use assise_rounds::rounds::round;
+use std::alloc::Global;
+
+/// A cluster that one caller uses, with how often a call is tried. Nodes and clients are numbered from 1.
+#[derive(Drop)]
+pub struct Files {
+    cluster: ClusterOf<CutKind>,
+    turns: u32,
+}
+
+impl Files {
+    ghost use Rattle.std.specs.Prelude.{◌≡◌, ◌↔◌, ◌+◌, ◌<◌, ◌≤◌, IfOk, IsOkUnless, IsTrue, OnErr, OnOk, length};
+    ghost use Rattle.assise_names.specs.declared.refusal.Refusal.TheVariants.{OutOfMemory};
+    ghost use Rattle.assise_history.specs.Legal.{IsLegal};
+    ghost use Rattle.assise_lease_table.specs.Tables.{Enrols, SameRevokers};
+    ghost use Rattle.assise_machine_events.specs.ClientEvents.{Crashing, Opening};
+    ghost use Rattle.assise_machine_events.specs.Machine.{begun_as};
+    ghost use Rattle.assise_machine_events.specs.MemberEvents.{Failing};
+    ghost use Rattle.assise_machine_calls.specs.Answers.{crashing_answer};
+    ghost use Rattle.assise_machine_failures.specs.Answers.{failing_answer};
+    ghost use Rattle.assise_machine.specs.Running.{opened_answer};
+    ghost use Rattle.assise_rounds.specs.Courses.{Told};
+    ghost use Rattle.assise_rounds.specs.Returning.{ComesBack};
+    ghost use Rattle.assise_rounds.specs.Rounds.{RoundsOnce};
+    ghost use Rattle.assise_files.specs.FilesSeen.{KeepsHot, cluster_seen, kinds_seen, most_tries};
+    ghost use Rattle.assise_files.specs.CallTries.{IsTriedOut};
+
+    /// A cluster in which nothing happened: 1 to 8 nodes, logs of 8 to 4,096 records, and 1 to 4,096 inodes that a node keeps hot. A
+    /// call is tried so many times at most. The one refusal is [`Refusal::OutOfMemory`].
+    pub fn new(
+        alloc: Global,
+        nodes: u32,
+        log: usize,
+        hot: usize,
+        turns: u32,
+    ) -> Result<Files, Refusal>
+        requires some_nodes { 0 < nodes }
+        requires few_nodes { nodes ≤ 8 }
+        requires least_log { 8 ≤ log }
+        requires most_log { log ≤ 4096 }
+        requires least_hot { 1 ≤ hot }
+        requires most_hot { hot ≤ 4096 }
+        ensures begun { IfOk result (λ files. cluster_seen files ≡ begun_as nodes log) }
+        ensures hot { IfOk result (λ files. KeepsHot files hot) }
+        ensures turns { IfOk result (λ files. most_tries files ≡ turns) }
+        ensures only_memory { IsOkUnless result OutOfMemory }
+    {
+        Ok(Files {
+            cluster: ClusterOf::new(alloc, nodes, log, hot)?,
+            turns,
+        })
+    }
+
+    /// Opens a client on a node, with a revoker of a kind, and answers its number. Refused as
+    /// [`ClusterOf::open`](ClusterOf::open).
+    pub fn open(&mut self, alloc: Global, node: u32, kind: CutKind) -> Result<u32, Refusal>
+        ensures happens { Opening (cluster_seen self.old) node (opened_answer result) (cluster_seen self.new) }
+        ensures stored { OnOk result (Enrols (kinds_seen self.old) (kinds_seen self.new) ((cluster_seen self.old).world.clients + 1) kind) }
+        ensures turns { most_tries self.new ≡ most_tries self.old }
+    {
+        self.cluster
+            .open(alloc, node, kind)
+            .map_err(|refused| refused.0)
+    }
+
+    /// A call of a client: it is tried until it is answered or refused, with a round of all nodes behind each try that waits or finds
+    /// the client's log full. Where such a round has nothing to do, or no try settles it, it is [`Refusal::Busy`], or
+    /// [`Refusal::LogFull`] where the log stays full. It may be called again then. Else it is refused as
+    /// [`ClusterOf::try_call`](ClusterOf::try_call).
+    pub fn call(&mut self, alloc: Global, client: u32, op: &Op) -> Result<Reply, Refusal>
+        ensures tried { (es : Told) × IsTriedOut (most_tries self.old) client op.now result (cluster_seen self.old) es (cluster_seen self.new) }
+        ensures turns { most_tries self.new ≡ most_tries self.old }
+    {
+        let turns = self.turns;
+        settle_call(alloc, &mut self.cluster, client, op, turns)
+    }
+
+    /// One round of all nodes, as [`round`](fn@round) says. Whether there was anything to do.
+    pub fn round(&mut self, alloc: Global) -> bool
+        ensures round { (es : Told) × RoundsOnce result (cluster_seen self.old) es (cluster_seen self.new) }
+        ensures turns { most_tries self.new ≡ most_tries self.old }
+    {
+        round(alloc, &mut self.cluster)
+    }
+
+    /// A client crashes. Refused as [`ClusterOf::crash`](ClusterOf::crash).
+    pub fn crash(&mut self, client: u32) -> Result<(), Refusal>
+        ensures happens { Crashing (cluster_seen self.old) client (crashing_answer result) (cluster_seen self.new) }
+        ensures turns { most_tries self.new ≡ most_tries self.old }
+    {
+        self.cluster.crash(client)
+    }
+
+    /// A node fails. It answers each client that lost a call, by rising number, with the number of its first lost call. Refused as
+    /// [`ClusterOf::fail`](ClusterOf::fail).
+    pub fn fail(&mut self, alloc: Global, node: u32) -> Result<Vec<(u32, u64)>, Refusal>
+        ensures happens { Failing (cluster_seen self.old) node (failing_answer result) (cluster_seen self.new) }
+        ensures turns { most_tries self.new ≡ most_tries self.old }
+    {
+        self.cluster.fail(alloc, node)
+    }
+
+    /// A node that was down comes back, is filled and joins. Refused as [`return_node`](fn@return_node): where it began to come back it
+    /// stays as it is then, and has to fail before it may come back again.
+    pub fn back(&mut self, alloc: Global, node: u32) -> Result<(), Refusal>
+        ensures comes_back { (es : Told) × ComesBack node result (cluster_seen self.old) es (cluster_seen self.new) }
+        ensures turns { most_tries self.new ≡ most_tries self.old }
+    {
+        return_node(alloc, &mut self.cluster, node)
+    }
+
+    /// How many entries the history has.
+    pub fn history_length(&self) -> usize
+        ensures { result ≡ length (cluster_seen self.now).history }
+    {
+        self.cluster.history().entries().len()
+    }
+
+    /// Whether the history is legal, checked anew: it always is. The one refusal is [`Refusal::OutOfMemory`]. It costs as
+    /// [`check`](fn@check).
+    pub fn is_legal(&self, alloc: Global) -> Result<bool, Refusal>
+        ensures decided { IfOk result (λ yes. IsTrue yes ↔ IsLegal (cluster_seen self.now).history) }
+        ensures legal { IfOk result (λ yes. IsTrue yes) }
+        ensures only_memory { IsOkUnless result OutOfMemory }
+    {
+        check(alloc, self.cluster.history())
+    }
+}

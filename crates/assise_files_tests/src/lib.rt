@@ -1,0 +1,11 @@
+//! Tests of `assise_files` and `assise_desk`: requests as text, served at one desk.
+#![tactic(auto)]
+
+#[cfg(test)]
+mod codes;
+#[cfg(test)]
+mod requests;
+#[cfg(test)]
+mod shown;
+#[cfg(test)]
+mod tests;

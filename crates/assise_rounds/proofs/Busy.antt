@@ -1,0 +1,27 @@
+-- Whether there was anything to do: of one event, of a replicate turn, and of some events and then others.
+use Rattle.std.specs.Prelude.{◌==◌, ◌||◌}
+use Rattle.std.proofs.Common.{◌≡◌, Bool, true, false, not, List, [], ◌∷◌, ◌++◌, map, length, refl, ap, sym, ◌∙◌, append-nil}
+use Rattle.std.proofs.lemmas.List.Folds.{list_any-append}
+use Rattle.std.proofs.Math.Bool.{or-false}
+use Rattle.std.proofs.Math.Dec.{eqb-suc-zero}
+use Rattle.assise_machine_events.specs.Events.{Answer, ClusterEvent, sent}
+use Rattle.assise_rounds.specs.Courses.{Told}
+use Rattle.assise_rounds.specs.Rounds.{Carried, deliveries, did_work, is_work, letter}
+
+pub one_work : (e : ClusterEvent) (a : Answer) → is_work a ≡ did_work ((e, a) ∷ [])
+one_work e a = sym (or-false (is_work a))
+
+pub both_work : (before now : Bool) (es fs : Told) → before ≡ did_work es → now ≡ did_work fs → (before || now) ≡ did_work (es ++ fs)
+both_work before now es fs first second =
+    ap (λ b. b || now) first ∙ ap (λ b. did_work es || b) second ∙ sym (list_any-append (λ e. is_work e.1) es fs)
+
+pub no_more_work : (before : Bool) (es : Told) → before ≡ did_work es → before ≡ did_work (es ++ [])
+no_more_work before es first = first ∙ ap did_work (sym (append-nil es))
+
+-- what a node sends is work, whatever comes of it
+pub turn_work : (e : ClusterEvent) (cs : List Carried) → not (length (map letter cs) == 0) ≡ did_work ((e, sent (map letter cs)) ∷ deliveries cs)
+turn_work e [] = refl
+turn_work e (c ∷ cs) =
+    let some : (length (map letter (c ∷ cs)) == 0) ≡ false = eqb-suc-zero (length (map letter cs)) in
+    let rest = did_work (deliveries (c ∷ cs)) in
+    ap not some ∙ sym (ap (λ none. not none || rest) some)

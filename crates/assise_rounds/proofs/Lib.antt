@@ -1,0 +1,5 @@
+pub mod Courses
+pub mod Coming
+mod Busy
+mod Carrying
+mod Rounding

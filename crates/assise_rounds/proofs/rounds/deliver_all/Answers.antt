@@ -1,0 +1,46 @@
+use Rattle.std.proofs.Common.{length, ap, arith}
+use Rattle.assise_machine.specs.Clusters.{machine}
+use Rattle.assise_rounds.proofs.Carrying.{one_lost, one_taken}
+use Rattle.assise_rounds.proofs.rounds.deliver_all.Goals as goal
+use Rattle.assise_rounds.proofs.rounds.deliver_all.Goals.{then-deliver, else-deliver}
+
+pub overflow_add-taken : goal.overflow_add-taken
+overflow_add-taken g c =
+    let rest = ap length c.in-Some.ensures.steps.0 in
+    omega (arith, rest, c.loop-frame.invariant.few)
+
+pub loop-frame-preserved : goal.loop-frame-preserved
+loop-frame-preserved g c =
+    let m = machine c.args.cluster.now in
+    let v = machine c.loop-frame.cluster in
+    let u = machine c.deliver.new.cluster in
+    let before = c.loop-frame.invariant in
+    let rest = ap length c.in-Some.ensures.steps.0 in
+    elim c.if-deliver.branch [
+      | then-deliver w ↦ rw w.taken-is (record {
+        carried = one_taken m v u c.loop-frame.yielded c.loop-frame.taken c.in-Some.frame c.in-Some.next c.deliver.result before.carried c.deliver.ensures w.if-deliver.true;
+        few = omega (arith, rest, before.few);
+      })
+      | else-deliver w ↦ rw w.taken-is (record {
+        carried = one_lost m v u c.loop-frame.yielded c.loop-frame.taken c.in-Some.frame c.in-Some.next c.deliver.result before.carried c.deliver.ensures w.if-deliver.false;
+        few = omega (arith, rest, before.few);
+      })
+    ]
+
+pub loop-frame-preserved-after-deliver : goal.loop-frame-preserved-after-deliver
+loop-frame-preserved-after-deliver g c =
+    let m = machine c.args.cluster.now in
+    let v = machine c.loop-frame.cluster in
+    let u = machine c.deliver.new.cluster in
+    let before = c.loop-frame.invariant in
+    let rest = ap length c.in-Some.ensures.steps.0 in
+    elim c.if-deliver.branch [
+      | then-deliver w ↦ rw w.taken-is (record {
+        carried = one_taken m v u c.loop-frame.yielded c.loop-frame.taken c.in-Some.frame c.in-Some.next c.deliver.result before.carried c.deliver.ensures w.if-deliver.true;
+        few = omega (arith, rest, before.few);
+      })
+      | else-deliver w ↦ rw w.taken-is (record {
+        carried = one_lost m v u c.loop-frame.yielded c.loop-frame.taken c.in-Some.frame c.in-Some.next c.deliver.result before.carried c.deliver.ensures w.if-deliver.false;
+        few = omega (arith, rest, before.few);
+      })
+    ]

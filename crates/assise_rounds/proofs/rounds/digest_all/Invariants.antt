@@ -1,0 +1,9 @@
+use Rattle.std.proofs.Common.{◌-◌}
+use Rattle.assise_machine.specs.Clusters.{machine}
+use Rattle.assise_rounds.specs.Courses.{Told}
+use Rattle.assise_rounds.specs.Rounds.{EachFull, DigestsOnce, WithWork}
+use Rattle.assise_rounds.proofs.rounds.digest_all.Given as goal
+
+-- what the nodes before did
+abbrev pub invariant-loop-node : goal.invariant-loop-node
+invariant-loop-node g l = (es : Told) × WithWork (EachFull DigestsOnce (l.node - 1)) l.busy (machine l.fn.cluster) es (machine l.cluster)

@@ -1,0 +1,30 @@
+use Rattle.std.proofs.Common.{◌≡◌, ◌-◌, [], refl, sym, subst, ◌∙◌, arith}
+use Rattle.assise_machine.specs.Clusters.{machine}
+use Rattle.assise_rounds.specs.Courses.{Told}
+use Rattle.assise_rounds.specs.Rounds.{EachFull, TakesTurn, WithWork}
+use Rattle.assise_rounds.proofs.Rounding.{faulty_next, full_next}
+use Rattle.assise_rounds.proofs.rounds.replicate_all.Goals as goal
+use Rattle.assise_rounds.proofs.rounds.replicate_all.Goals.{else-is_full, then-is_full}
+
+pub loop-node-init : goal.loop-node-init
+loop-node-init g c = ([], record { does = record { told = refl; stays = refl }; work = refl })
+
+pub loop-node-preserved : goal.loop-node-preserved
+loop-node-preserved g c =
+    let m = machine c.args.cluster.now in
+    let v = machine c.loop-node.cluster in
+    let k = c.loop-node.node in
+    elim c.if-is_full.branch [
+      | then-is_full w ↦
+          let u = machine w.take_turn-busy.new.cluster in
+          let full = sym c.is_full.ensures ∙ w.if-is_full.true in
+          rw w.cluster-is (rw w.busy-is (full_next TakesTurn k m v u c.loop-node.busy w.take_turn-busy.result c.loop-node.auto.node full c.loop-node.invariant w.take_turn-busy.ensures))
+      | else-is_full w ↦
+          let faulty = sym c.is_full.ensures ∙ w.if-is_full.false in
+          rw w.cluster-is (rw w.busy-is (faulty_next TakesTurn k m v c.loop-node.busy c.loop-node.auto.node faulty c.loop-node.invariant))
+    ]
+
+pub returns : goal.returns
+returns g c =
+    let last : c.loop-node.node - 1 ≡ 8 = omega (arith, c.loop-node-test.false, c.loop-node.auto.node-end) in
+    subst (λ n. (es : Told) × WithWork (EachFull TakesTurn n) c.loop-node.busy (machine c.args.cluster.now) es (machine c.loop-node.cluster)) last c.loop-node.invariant

@@ -1,0 +1,32 @@
+// Laws of rounds, tries and returns. Each function does nothing: its contract is the law.
+ghost use Rattle.std.specs.Prelude.{◌≡◌, ◌++◌, ⊤, Result, ℕ};
+ghost use Rattle.assise_names.specs.declared.call.Op.{Op};
+ghost use Rattle.assise_names.specs.declared.refusal.Refusal.{Refusal};
+ghost use Rattle.assise_names.specs.declared.reply.Reply.{Reply};
+ghost use Rattle.assise_history.specs.Legal.{IsLegal};
+ghost use Rattle.assise_machine_events.specs.Events.{all_entries};
+ghost use Rattle.assise_machine_events.specs.Machine.{Holds, Machine};
+ghost use Rattle.assise_rounds.specs.Courses.{IsCourse, Told};
+ghost use Rattle.assise_rounds.specs.Returning.{ComesBack};
+ghost use Rattle.assise_rounds.specs.Rounds.{IsRound, Replicates};
+ghost use Rattle.assise_rounds.specs.Trying.{TriesOften};
+
+/// A replicate turn, a round, the tries of a call and the return of a node are courses of events.
+pub fn what_is_done_is_a_course_of_events()
+    ensures turn { (n count : ℕ) (m : Machine) (es : Told) (m' : Machine) →
+        Replicates n count m es m' → IsCourse m es m' }
+    ensures round { (m : Machine) (es : Told) (m' : Machine) → IsRound m es m' → IsCourse m es m' }
+    ensures tries { (turns c : ℕ) (op : Op) (r : Result Reply Refusal)
+        (m : Machine) (es : Told) (m' : Machine) →
+        TriesOften turns c op r m es m' → IsCourse m es m' }
+    ensures comes_back { (n : ℕ) (r : Result ⊤ Refusal) (m : Machine) (es : Told) (m' : Machine) →
+        ComesBack n r m es m' → IsCourse m es m' }
+{}
+
+/// Over a course of events what holds of a cluster still holds, so its history is legal, and it gets exactly the entries of the events.
+pub fn a_course_keeps_the_history_legal()
+    ensures keeps { (m m' : Machine) (es : Told) → Holds m → IsCourse m es m' → Holds m' }
+    ensures legal { (m m' : Machine) (es : Told) → Holds m → IsCourse m es m' → IsLegal m'.history }
+    ensures entries { (m m' : Machine) (es : Told) → IsCourse m es m' →
+        m'.history ≡ m.history ++ all_entries m.history es }
+{}

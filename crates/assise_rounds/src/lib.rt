@@ -1,0 +1,8 @@
+//! What a cluster that nobody else works on does between the tries of a call: rounds of all its nodes, calls that are tried until they
+//! are answered, and nodes that come back (Assise, OSDI 2020, section 3).
+#![tactic(auto)]
+
+pub mod laws;
+pub mod returning;
+pub mod rounds;
+pub mod trying;

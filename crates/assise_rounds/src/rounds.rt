@@ -1,0 +1,151 @@
+// What a cluster does between the tries of a call: replicate turns, and rounds.
+ghost use Rattle.std.specs.Prelude.{◌≡◌, IfErr, IfOk, is_none};
+ghost use Rattle.assise_machine_events.specs.Events.{refused};
+ghost use Rattle.assise_machine_events.specs.Faults.{node_fault};
+ghost use Rattle.assise_machine_events.specs.NodeEvents.{Sending};
+ghost use Rattle.assise_machine.specs.Clusters.{machine};
+ghost use Rattle.assise_rounds.specs.Courses.{Told};
+ghost use Rattle.assise_rounds.specs.Rounds.{AreCarried, Delivers, DigestsOnce, EachFull, ReleasesOnce, Replicates, RoundsOnce, TakesTurn, WithWork, most_nodes};
+
+use assise_lease_table::revoker::Revokes;
+use assise_link::carrying::carry_frame;
+use assise_link::link::PerfectLink;
+use assise_machine::cluster::ClusterOf;
+use assise_names::refusal::Refusal;
+use assise_record::frame::Frame;
+use std::alloc::Global;
+
+/// The most nodes of a cluster.
+const MOST_NODES: u32 = 8;
+
+/// One replicate turn of a node: what it sends comes to the nodes that it is for. It answers how many frames were taken in. What
+/// finds no memory on its way is lost. Refused as [`ClusterOf::outgoing`], and nothing is sent then.
+pub fn replicate<C: Revokes + Drop>(
+    alloc: Global,
+    cluster: &mut ClusterOf<C>,
+    node: u32,
+) -> Result<u64, Refusal>
+    ensures ok { IfOk result (λ count. (es : Told) ×
+        Replicates node count (machine cluster.old) es (machine cluster.new)) }
+    ensures err { IfErr result (λ refusal.
+        Sending (machine cluster.old) node (refused refusal) (machine cluster.new)) }
+{
+    match cluster.outgoing(alloc, node) {
+        Ok(frames) => Ok(deliver_all(alloc, cluster, frames)),
+        Err(refusal) => Err(refusal),
+    }
+}
+
+/// Frames come to the nodes that they are for, one after another. It answers how many were taken in.
+fn deliver_all<C: Revokes + Drop>(
+    alloc: Global,
+    cluster: &mut ClusterOf<C>,
+    frames: Vec<(Frame, u32)>,
+) -> u64
+    ensures { AreCarried frames.items result (machine cluster.old) (machine cluster.new) }
+{
+    let mut link = PerfectLink::new();
+    let mut taken = 0;
+    for (frame, next) in frames {
+        if deliver(alloc, cluster, &mut link, &frame, next) {
+            taken += 1;
+        }
+    }
+    taken
+}
+
+/// A frame goes over a link to a node. Whether the node took it in.
+fn deliver<C: Revokes + Drop>(
+    alloc: Global,
+    cluster: &mut ClusterOf<C>,
+    link: &mut PerfectLink,
+    frame: &Frame,
+    node: u32,
+) -> bool
+    ensures { Delivers frame.now node result (machine cluster.old) (machine cluster.new) }
+{
+    match carry_frame(alloc, link, frame) {
+        Some(came) => cluster.deliver(came, node).is_ok(),
+        None => false,
+    }
+}
+
+/// One round: each full node sends what it has for others, each digests, and leases go that may. What finds no memory in it
+/// ends nothing. It answers whether there was anything to do: a frame to send, a record to digest, a lease to let go of, or something
+/// that found no memory.
+pub fn round<C: Revokes + Drop>(alloc: Global, cluster: &mut ClusterOf<C>) -> bool
+    ensures { (es : Told) × RoundsOnce result (machine cluster.old) es (machine cluster.new) }
+{
+    let mut busy = replicate_all(alloc, cluster);
+    busy |= digest_all(alloc, cluster);
+    busy |= release(cluster);
+    busy
+}
+
+/// Each full node makes a replicate turn, by rising number. Whether there was anything to send.
+fn replicate_all<C: Revokes + Drop>(alloc: Global, cluster: &mut ClusterOf<C>) -> bool
+    ensures { (es : Told) × WithWork (EachFull TakesTurn most_nodes) result
+        (machine cluster.old) es (machine cluster.new) }
+{
+    let mut busy = false;
+    for node in 1..=MOST_NODES {
+        if is_full(cluster, node) {
+            busy |= take_turn(alloc, cluster, node);
+        }
+    }
+    busy
+}
+
+/// A node makes a replicate turn. Whether there was anything to send, or no memory for it.
+fn take_turn<C: Revokes + Drop>(alloc: Global, cluster: &mut ClusterOf<C>, node: u32) -> bool
+    ensures { (es : Told) × WithWork (TakesTurn node) result
+        (machine cluster.old) es (machine cluster.new) }
+{
+    match cluster.outgoing(alloc, node) {
+        Ok(frames) => {
+            let busy = !frames.is_empty();
+            deliver_all(alloc, cluster, frames);
+            busy
+        }
+        Err(_) => true,
+    }
+}
+
+/// Each full node digests once, by rising number. Whether there was anything to digest.
+fn digest_all<C: Revokes + Drop>(alloc: Global, cluster: &mut ClusterOf<C>) -> bool
+    ensures { (es : Told) × WithWork (EachFull DigestsOnce most_nodes) result
+        (machine cluster.old) es (machine cluster.new) }
+{
+    let mut busy = false;
+    for node in 1..=MOST_NODES {
+        if is_full(cluster, node) {
+            busy |= digest(alloc, cluster, node);
+        }
+    }
+    busy
+}
+
+/// A node digests once. Whether there was anything to digest, or no memory for it.
+fn digest<C: Revokes + Drop>(alloc: Global, cluster: &mut ClusterOf<C>, node: u32) -> bool
+    ensures { (es : Told) × WithWork (DigestsOnce node) result
+        (machine cluster.old) es (machine cluster.new) }
+{
+    match cluster.digest(alloc, node) {
+        Ok(count) => count != 0,
+        Err(_) => true,
+    }
+}
+
+/// Leases go that may. Whether any did.
+fn release<C: Revokes + Drop>(cluster: &mut ClusterOf<C>) -> bool
+    ensures { (es : Told) × WithWork ReleasesOnce result
+        (machine cluster.old) es (machine cluster.new) }
+{
+    cluster.release_ready() != 0
+}
+
+fn is_full<C: Revokes + Drop>(cluster: &ClusterOf<C>, node: u32) -> bool
+    ensures { result ≡ is_none (node_fault (machine cluster.now) node) }
+{
+    cluster.region(node).is_ok()
+}
