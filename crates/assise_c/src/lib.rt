@@ -25,7 +25,8 @@ fn served(alloc: Global, desk: CallerDesk) -> CallerDesk
 pub unsafe extern "C" fn assise_serve(alloc: Global, at: *mut u8)
     ghost desk: { CallerDesk }
     requires* { sem 𝓛 (points_to desk_row at desk) }
-    ensures* { ∃ₛ (λ (left : CallerDesk). sem 𝓛 (points_to desk_row at left) ∗ ⌜ IsServedAt desk left ⌝) }
+    ensures* { ∃ₛ (λ (left : CallerDesk).
+        sem 𝓛 (points_to desk_row at left) ∗ ⌜ IsServedAt desk left ⌝) }
 {
     let place = at as *mut CallerDesk;
     let desk = served(alloc, unsafe { std::ptr::read(place) });
@@ -43,7 +44,8 @@ fn empty() -> CallerDesk
 #[unsafe(no_mangle)]
 pub unsafe extern "C" fn assise_begin(at: *mut u8)
     requires* { sem 𝓛 (uninit_at desk_row at) }
-    ensures* { ∃ₛ (λ (left : CallerDesk). sem 𝓛 (points_to desk_row at left) ∗ ⌜ cluster_at left ≡ None ⌝) }
+    ensures* { ∃ₛ (λ (left : CallerDesk).
+        sem 𝓛 (points_to desk_row at left) ∗ ⌜ cluster_at left ≡ None ⌝) }
 {
     let place = at as *mut CallerDesk;
     let desk = empty();

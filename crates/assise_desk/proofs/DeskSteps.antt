@@ -1,5 +1,5 @@
 -- What the request of a desk does to its cluster.
-use Rattle.std.proofs.Common.{◌≡◌, ℕ, ℤ, List, [], Option, Some, Result, Err, refl, sym, ap, subst, ◌∙◌}
+use Rattle.std.proofs.Common.{◌≡◌, ℕ, ℤ, List, Option, Some, Result, refl, sym, ap, subst, ◌∙◌}
 use Rattle.std.specs.Global.{Box, Vec}
 use Rattle.std.specs.Prelude.{⊤}
 use Rattle.assise_names.specs.declared.refusal.Refusal.{Refusal}

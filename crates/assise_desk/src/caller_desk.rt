@@ -134,7 +134,8 @@ fn manage(
     request: &DeskRequest,
     out: &mut [u8; DESK_BYTES],
 ) -> Result<u64, DeskFault>
-    ensures { (es : Told) × DoesAt call request.now result out.new (cluster_seen files.old) es (cluster_seen files.new) }
+    ensures { (es : Told) × DoesAt call request.now result out.new
+        (cluster_seen files.old) es (cluster_seen files.new) }
 {
     match call {
         ClusterCall::Open => counted(files.open(alloc, request.node, kind_of(request.kind))),
@@ -200,7 +201,8 @@ fn call_of(
     request: &DeskRequest,
     bytes: &[u8; DESK_BYTES],
 ) -> Result<Reply, DeskFault>
-    ensures { (es : Told) × CallsAt (most_tries files.old) call request.now bytes.now result (cluster_seen files.old) es (cluster_seen files.new) }
+    ensures { (es : Told) × CallsAt (most_tries files.old) call request.now bytes.now result
+        (cluster_seen files.old) es (cluster_seen files.new) }
 {
     match request.op_at(alloc, call, bytes) {
         Ok(op) => replied(files.call(alloc, request.client, &op)),
@@ -227,7 +229,8 @@ fn serve_client(
     bytes: &mut [u8; DESK_BYTES],
     stands: &mut u64,
 ) -> Result<u64, DeskFault>
-    ensures { IsServedTo call request.now bytes.old files.old result bytes.new stands.new files.new }
+    ensures { IsServedTo call request.now bytes.old files.old
+        result bytes.new stands.new files.new }
 {
     match call_of(alloc, files, call, request, bytes) {
         Ok(reply) => show_reply(&reply, request.first, bytes, stands),

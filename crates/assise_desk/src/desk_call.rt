@@ -65,7 +65,8 @@ pub enum ClientCall {
 impl DeskCall {
     /// What a number asks for, if it asks for anything.
     pub fn of_number(number: u32) -> Option<DeskCall>
-        ensures { MatchOption result ((call : AnyCall) → call_number call ≢ number) (λ call. call_number call ≡ number) }
+        ensures { MatchOption result ((call : AnyCall) → call_number call ≢ number)
+            (λ call. call_number call ≡ number) }
     {
         match number {
             1 => Some(DeskCall::Make),

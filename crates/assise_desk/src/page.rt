@@ -42,10 +42,12 @@ pub(crate) fn put_page(names: &[Name], first: u64, out: &mut [u8; DESK_BYTES]) -
 /// nothing before the place is changed.
 fn put_name(name: &Name, out: &mut [u8; DESK_BYTES], at: usize) -> Option<usize>
     requires { at ≤ DESK_BYTES }
-    ensures place { MatchOption result (DESK_BYTES < at + length name.now + 1) (λ next. next ≡ at + length name.now + 1) }
+    ensures place { MatchOption result (DESK_BYTES < at + length name.now + 1)
+        (λ next. next ≡ at + length name.now + 1) }
     ensures room { at + 256 ≤ DESK_BYTES → IsSome result }
     ensures few { IfSome result (λ next. next ≤ DESK_BYTES) }
-    ensures written { MatchOption result (take at out.new ≡ take at out.old) (λ next. take next out.new ≡ take at out.old ++ (name.now ++ 0 ∷ [])) }
+    ensures written { MatchOption result (take at out.new ≡ take at out.old)
+        (λ next. take next out.new ≡ take at out.old ++ (name.now ++ 0 ∷ [])) }
 {
     let end = put_at(name.as_str().as_bytes(), out, at)?;
     put_at(&[0], out, end)
@@ -74,7 +76,8 @@ pub(crate) fn put_losses(
 fn put_loss(client: u32, call: u64, out: &mut [u8; DESK_BYTES], at: usize) -> Option<usize>
     requires { at ≤ DESK_BYTES }
     ensures few { IfSome result (λ next. next ≤ DESK_BYTES) }
-    ensures written { IfSome result (λ next. take next out.new ≡ take at out.old ++ loss_bytes (client, call)) }
+    ensures written { IfSome result (λ next.
+        take next out.new ≡ take at out.old ++ loss_bytes (client, call)) }
 {
     let end = put_at(&client.to_le_bytes(), out, at)?;
     put_at(&call.to_le_bytes(), out, end)
@@ -83,9 +86,11 @@ fn put_loss(client: u32, call: u64, out: &mut [u8; DESK_BYTES], at: usize) -> Op
 /// Puts bytes at a place of a desk's, and answers the place behind them, or nothing where there is no room.
 fn put_at(bytes: &[u8], out: &mut [u8; DESK_BYTES], at: usize) -> Option<usize>
     requires { at ≤ DESK_BYTES }
-    ensures place { MatchOption result (DESK_BYTES < at + length bytes.now) (λ next. next ≡ at + length bytes.now) }
+    ensures place { MatchOption result (DESK_BYTES < at + length bytes.now)
+        (λ next. next ≡ at + length bytes.now) }
     ensures few { IfSome result (λ next. next ≤ DESK_BYTES) }
-    ensures written { MatchOption result (out.new ≡ out.old) (λ next. take next out.new ≡ take at out.old ++ bytes.now) }
+    ensures written { MatchOption result (out.new ≡ out.old)
+        (λ next. take next out.new ≡ take at out.old ++ bytes.now) }
 {
     if bytes.len() > DESK_BYTES - at {
         return None;

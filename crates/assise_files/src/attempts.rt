@@ -22,7 +22,8 @@ pub(crate) fn settle_call<C: Revokes + Drop>(
     op: &Op,
     turns: u32,
 ) -> Result<Reply, Refusal>
-    ensures { (es : Told) × IsTriedOut turns client op.now result (machine cluster.old) es (machine cluster.new) }
+    ensures { (es : Told) × IsTriedOut turns client op.now result
+        (machine cluster.old) es (machine cluster.new) }
 {
     for _ in 0..turns {
         match cluster.try_call(alloc, client, op) {
@@ -32,12 +33,14 @@ pub(crate) fn settle_call<C: Revokes + Drop>(
                     return Err(Refusal::Busy);
                 }
             }
-            Err(Refusal::LogFull) => {
+            Err(refusal) => {
+                if refusal != Refusal::LogFull {
+                    return Err(refusal);
+                }
                 if !make_room(alloc, cluster, client) {
                     return Err(Refusal::LogFull);
                 }
             }
-            Err(refusal) => return Err(refusal),
         }
     }
     Err(Refusal::Busy)

@@ -63,8 +63,10 @@ impl Files {
     /// Opens a client on a node, with a revoker of a kind, and answers its number. Refused as
     /// [`ClusterOf::open`](ClusterOf::open).
     pub fn open(&mut self, alloc: Global, node: u32, kind: CutKind) -> Result<u32, Refusal>
-        ensures happens { Opening (cluster_seen self.old) node (opened_answer result) (cluster_seen self.new) }
-        ensures stored { OnOk result (Enrols (kinds_seen self.old) (kinds_seen self.new) ((cluster_seen self.old).world.clients + 1) kind) }
+        ensures happens { Opening (cluster_seen self.old) node
+            (opened_answer result) (cluster_seen self.new) }
+        ensures stored { OnOk result (Enrols (kinds_seen self.old) (kinds_seen self.new)
+            ((cluster_seen self.old).world.clients + 1) kind) }
         ensures turns { most_tries self.new ≡ most_tries self.old }
     {
         self.cluster
@@ -77,7 +79,8 @@ impl Files {
     /// [`Refusal::LogFull`] where the log stays full. It may be called again then. Else it is refused as
     /// [`ClusterOf::try_call`](ClusterOf::try_call).
     pub fn call(&mut self, alloc: Global, client: u32, op: &Op) -> Result<Reply, Refusal>
-        ensures tried { (es : Told) × IsTriedOut (most_tries self.old) client op.now result (cluster_seen self.old) es (cluster_seen self.new) }
+        ensures tried { (es : Told) × IsTriedOut (most_tries self.old) client op.now result
+            (cluster_seen self.old) es (cluster_seen self.new) }
         ensures turns { most_tries self.new ≡ most_tries self.old }
     {
         let turns = self.turns;
@@ -86,7 +89,8 @@ impl Files {
 
     /// One round of all nodes, as [`round`](fn@round) says. Whether there was anything to do.
     pub fn round(&mut self, alloc: Global) -> bool
-        ensures round { (es : Told) × RoundsOnce result (cluster_seen self.old) es (cluster_seen self.new) }
+        ensures round { (es : Told) × RoundsOnce result
+            (cluster_seen self.old) es (cluster_seen self.new) }
         ensures turns { most_tries self.new ≡ most_tries self.old }
     {
         round(alloc, &mut self.cluster)
@@ -94,7 +98,8 @@ impl Files {
 
     /// A client crashes. Refused as [`ClusterOf::crash`](ClusterOf::crash).
     pub fn crash(&mut self, client: u32) -> Result<(), Refusal>
-        ensures happens { Crashing (cluster_seen self.old) client (crashing_answer result) (cluster_seen self.new) }
+        ensures happens { Crashing (cluster_seen self.old) client
+            (crashing_answer result) (cluster_seen self.new) }
         ensures turns { most_tries self.new ≡ most_tries self.old }
     {
         self.cluster.crash(client)
@@ -103,7 +108,8 @@ impl Files {
     /// A node fails. It answers each client that lost a call, by rising number, with the number of its first lost call. Refused as
     /// [`ClusterOf::fail`](ClusterOf::fail).
     pub fn fail(&mut self, alloc: Global, node: u32) -> Result<Vec<(u32, u64)>, Refusal>
-        ensures happens { Failing (cluster_seen self.old) node (failing_answer result) (cluster_seen self.new) }
+        ensures happens { Failing (cluster_seen self.old) node
+            (failing_answer result) (cluster_seen self.new) }
         ensures turns { most_tries self.new ≡ most_tries self.old }
     {
         self.cluster.fail(alloc, node)
@@ -112,7 +118,8 @@ impl Files {
     /// A node that was down comes back, is filled and joins. Refused as [`return_node`](fn@return_node): where it began to come back it
     /// stays as it is then, and has to fail before it may come back again.
     pub fn back(&mut self, alloc: Global, node: u32) -> Result<(), Refusal>
-        ensures comes_back { (es : Told) × ComesBack node result (cluster_seen self.old) es (cluster_seen self.new) }
+        ensures comes_back { (es : Told) × ComesBack node result
+            (cluster_seen self.old) es (cluster_seen self.new) }
         ensures turns { most_tries self.new ≡ most_tries self.old }
     {
         return_node(alloc, &mut self.cluster, node)
@@ -128,7 +135,8 @@ impl Files {
     /// Whether the history is legal, checked anew: it always is. The one refusal is [`Refusal::OutOfMemory`]. It costs as
     /// [`check`](fn@check).
     pub fn is_legal(&self, alloc: Global) -> Result<bool, Refusal>
-        ensures decided { IfOk result (λ yes. IsTrue yes ↔ IsLegal (cluster_seen self.now).history) }
+        ensures decided { IfOk result (λ yes.
+            IsTrue yes ↔ IsLegal (cluster_seen self.now).history) }
         ensures legal { IfOk result (λ yes. IsTrue yes) }
         ensures only_memory { IsOkUnless result OutOfMemory }
     {

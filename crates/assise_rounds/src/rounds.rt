@@ -1,11 +1,11 @@
 // What a cluster does between the tries of a call: replicate turns, and rounds.
 ghost use Rattle.std.specs.Prelude.{◌≡◌, IfErr, IfOk, is_none};
-ghost use Rattle.assise_machine_events.specs.Events.{refused};
+ghost use Rattle.assise_machine_events.specs.Events.{refused, released};
 ghost use Rattle.assise_machine_events.specs.Faults.{node_fault};
-ghost use Rattle.assise_machine_events.specs.NodeEvents.{Sending};
+ghost use Rattle.assise_machine_events.specs.NodeEvents.{Releasing, Sending};
 ghost use Rattle.assise_machine.specs.Clusters.{machine};
 ghost use Rattle.assise_rounds.specs.Courses.{Told};
-ghost use Rattle.assise_rounds.specs.Rounds.{AreCarried, Delivers, DigestsOnce, EachFull, ReleasesOnce, Replicates, RoundsOnce, TakesTurn, WithWork, most_nodes};
+ghost use Rattle.assise_rounds.specs.Rounds.{AreCarried, Delivers, DigestsOnce, EachFull, Replicates, RoundsOnce, TakesTurn, WithWork, most_nodes};
 
 use assise_lease_table::revoker::Revokes;
 use assise_link::carrying::carry_frame;
@@ -78,7 +78,7 @@ pub fn round<C: Revokes + Drop>(alloc: Global, cluster: &mut ClusterOf<C>) -> bo
 {
     let mut busy = replicate_all(alloc, cluster);
     busy |= digest_all(alloc, cluster);
-    busy |= release(cluster);
+    busy |= release(cluster) != 0;
     busy
 }
 
@@ -136,12 +136,11 @@ fn digest<C: Revokes + Drop>(alloc: Global, cluster: &mut ClusterOf<C>, node: u3
     }
 }
 
-/// Leases go that may. Whether any did.
-fn release<C: Revokes + Drop>(cluster: &mut ClusterOf<C>) -> bool
-    ensures { (es : Told) × WithWork ReleasesOnce result
-        (machine cluster.old) es (machine cluster.new) }
+/// Leases go that may. It answers how many.
+fn release<C: Revokes + Drop>(cluster: &mut ClusterOf<C>) -> usize
+    ensures { Releasing (machine cluster.old) (released result) (machine cluster.new) }
 {
-    cluster.release_ready() != 0
+    cluster.release_ready()
 }
 
 fn is_full<C: Revokes + Drop>(cluster: &ClusterOf<C>, node: u32) -> bool

@@ -3,7 +3,6 @@ use Rattle.std.proofs.Common.{◌≡◌, List, None, [], ◌∷◌, ◌++◌, re
 use base.Fraction.{full_share}
 use mir.Val.{Val, vptr, vunit}
 use base.Logic.{SProp, emp, sep, never, id⊢, ex, ex_i}
-use base.Fml.{ftrue, froom}
 use prog.Wp.{WpFn}
 use types.Logic.{sem}
 use types.Kit.{‵, raw, ◌⊛◌, some, later, prop, at_ret, ◌$◌, ◌∵◌, !, qed, by, move, keep, drop, use0, use1, use2, split, join, fsplit, fjoin, feq_i, pick, await, rewrite, regoal}

@@ -2,22 +2,22 @@
 use Rattle.std.proofs.Common.{◌≡◌, List, [], ◌∷◌, ◌++◌, refl, sym, ap, ◌∙◌, subst}
 use base.Fraction.{full_share}
 use mir.Val.{Val, vptr, vunit}
-use base.Logic.{SProp, ent, emp, sep, never, id⊢, ex, ex_i}
+use base.Logic.{SProp, emp, sep, never, id⊢, ex, ex_i}
 use contract.Monad.{fact, fact_i}
-use base.Fml.{fat, ftrue}
+use base.Fml.{fat}
 use prog.Wp.{WpFn}
 use types.Logic.{sem}
 use types.Kit.{‵, raw, ◌⊛◌, some, later, prop, at_ret, ◌$◌, ◌∵◌, !, qed, by, move, keep, drop, use0, use1, use2, split, join, fsplit, fjoin, feq_i, pick, await, rewrite, regoal}
 use types.Run.{stop, unit_lit, load, look, store, of_opd, no_more, and_then, first, blocks, assigns_last, exec, returns, enter}
 use types.ByLocal.{alloc_all, pass_all, free_all, look_at, get, through, sets, sets_last, lands_as, env}
 use contract.Running.{tables}
-use denote.Exit.{yes, no}
+use denote.Exit.{yes}
 use denote.RattleType.{RattleType, owns}
 use denote.Laws.{Is, shows, Typed}
 use denote.Memory.{lone, part_at}
 use denote.Signature.{types_at, plain}
 use denote.Builtin.{RawPtr}
-use denote.RawPtr.{Ptr, block_ptr, ptr_val, lies_at, in_a_block}
+use denote.RawPtr.{Ptr, ptr_val, lies_at, in_a_block}
 use denote.Steps.{nothing, heard, peeks, only}
 use denote.Struct.Members.{Lone}
 use denote.Triple.Clauses.{Lasts, lasts}
