@@ -155,7 +155,8 @@ static inline int64_t assise_crash(struct assise_desk *desk, uint32_t client) {
 }
 
 /* A node fails, and its clients are over: how many bytes are in `bytes` then. For each client that lost calls they have its number (4
- * bytes, the lowest first) and the number of its first lost call (8 bytes): behind its last answered fsync. */
+ * bytes, the lowest first) and the number of its first lost call (8 bytes): behind its last answered fsync. Its calls are counted from 0;
+ * a call that found its log full asked for an fsync, which is one of them if it was answered. */
 static inline int64_t assise_fail(struct assise_desk *desk, uint32_t node) {
     return assise_manage(desk, ASSISE_FAIL, 0, node, 0, 0, 0);
 }

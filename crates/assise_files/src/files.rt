@@ -18,10 +18,10 @@ pub struct Files {
 }
 
 impl Files {
-    ghost use Rattle.std.specs.Prelude.{◌≡◌, ◌↔◌, ◌+◌, ◌<◌, ◌≤◌, IfOk, IsOkUnless, IsTrue, OnErr, OnOk, length};
+    ghost use Rattle.std.specs.Prelude.{◌≡◌, ◌↔◌, ◌+◌, ◌<◌, ◌≤◌, IfOk, IsOkUnless, IsTrue, OnOk, length};
     ghost use Rattle.assise_names.specs.declared.refusal.Refusal.TheVariants.{OutOfMemory};
     ghost use Rattle.assise_history.specs.Legal.{IsLegal};
-    ghost use Rattle.assise_lease_table.specs.Tables.{Enrols, SameRevokers};
+    ghost use Rattle.assise_lease_table.specs.Tables.{Enrols};
     ghost use Rattle.assise_machine_events.specs.ClientEvents.{Crashing, Opening};
     ghost use Rattle.assise_machine_events.specs.Machine.{begun_as};
     ghost use Rattle.assise_machine_events.specs.MemberEvents.{Failing};

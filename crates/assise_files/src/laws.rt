@@ -1,5 +1,5 @@
 // A law of what one caller does. The function does nothing: its contract is the law.
-ghost use Rattle.std.specs.Prelude.{◌≡◌, Result, ℕ};
+ghost use Rattle.std.specs.Prelude.{Result, ℕ};
 ghost use Rattle.assise_names.specs.declared.call.Op.{Op};
 ghost use Rattle.assise_names.specs.declared.refusal.Refusal.{Refusal};
 ghost use Rattle.assise_names.specs.declared.reply.Reply.{Reply};

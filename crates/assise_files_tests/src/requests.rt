@@ -19,8 +19,19 @@ impl Requests {
         }
     }
 
+    /// The number that the last request was answered with.
+    pub(crate) fn result(&self) -> i64 {
+        self.desk.result
+    }
+
     /// Has a request served, with a path and what stands behind it.
-    fn ask(&mut self, alloc: Global, asked: DeskRequest, path: &str, other: &str) -> Option<()> {
+    pub(crate) fn ask(
+        &mut self,
+        alloc: Global,
+        asked: DeskRequest,
+        path: &str,
+        other: &str,
+    ) -> Option<()> {
         let mut request = asked;
         let bytes = path.len();
         let end = bytes.checked_add(other.len())?;
@@ -117,7 +128,7 @@ impl Subject for Requests {
 }
 
 /// A request with nothing but a number and a client.
-fn request(call: u32, client: u32) -> DeskRequest {
+pub(crate) fn request(call: u32, client: u32) -> DeskRequest {
     DeskRequest {
         call,
         client,
