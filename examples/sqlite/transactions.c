@@ -2,10 +2,12 @@
  * of 1, 2, 3 and 8 nodes. COUNT transfers are made for each row (2,000), in three passes over all rows; a row has its best pass.
  *
  * Prints the rows of a table: microseconds of processor time a transfer, transfers a second of processor time and a second of wall time,
- * fsyncs a transfer, and entries of the history a transfer. Each transfer changes three pages of 4,096 bytes. */
+ * and for each transfer the fsyncs, the entries of the history, and the memory in kilobytes that is kept for them. Each transfer changes
+ * three pages of 4,096 bytes. */
 #include "bank.h"
 #include "settings.h"
 #include "vfs.h"
+#include <malloc.h>
 #include <stdio.h>
 #include <stdlib.h>
 #include <time.h>
@@ -19,6 +21,7 @@ struct row {
     const char *setting;
     double processor, wall; /* the best seconds of all transfers; 0 before the first pass */
     long fsyncs, entries;   /* of all transfers */
+    double bytes;           /* that are kept for all transfers */
 };
 
 static struct row rows[] = {
@@ -41,6 +44,12 @@ static double seconds(clockid_t clock) {
     struct timespec now;
     clock_gettime(clock, &now);
     return (double)now.tv_sec + (double)now.tv_nsec * 1e-9;
+}
+
+/* The bytes that malloc has given out. */
+static double memory(void) {
+    struct mallinfo2 memory = mallinfo2();
+    return (double)memory.uordblks + (double)memory.hblkhd;
 }
 
 static void count_fsync(void *watcher, enum vfs_change change) {
@@ -81,10 +90,12 @@ static int run_on_cluster(struct row *row, long count) {
     int is_done = bank && bank_fill(bank) == SQLITE_OK;
     row->fsyncs = 0;
     row->entries = -(long)assise_history(&cluster.desk);
+    row->bytes = -memory();
     cluster.before_change = count_fsync;
     cluster.watcher = &row->fsyncs;
     is_done = is_done && time_transfers(bank, row, count);
     row->entries += (long)assise_history(&cluster.desk);
+    row->bytes += memory();
     sqlite3_close(bank);
     vfs_client_forget(&client);
     vfs_cluster_end(&cluster);
@@ -99,9 +110,10 @@ static void print(const struct row *row, long count) {
         printf("| memory file system, %s |", setting_of(row->setting)->says);
     printf(" %.0f | %.0f | %.0f |", each * 1e6, 1 / each, (double)count / row->wall);
     if (row->nodes)
-        printf(" %.1f | %.1f |\n", (double)row->fsyncs / (double)count, (double)row->entries / (double)count);
+        printf(" %.1f | %.1f | %.1f |\n", (double)row->fsyncs / (double)count, (double)row->entries / (double)count,
+               row->bytes / 1000 / (double)count);
     else
-        printf("  |  |\n");
+        printf("  |  |  |\n");
 }
 
 int main(int words, char **word) {
@@ -113,7 +125,8 @@ int main(int words, char **word) {
                 printf("%u nodes, %s: stopped\n", rows[i].nodes, rows[i].setting);
                 return 1;
             }
-    printf("| SQLite on | us each | a second | by the wall clock | fsyncs each | entries each |\n|---|---|---|---|---|---|\n");
+    printf("| SQLite on | us each | a second | by the wall clock | fsyncs each | entries each | KB kept each |\n");
+    printf("|---|---|---|---|---|---|---|\n");
     for (size_t i = 0; i < ROWS; i++)
         print(&rows[i], count);
     return 0;

@@ -10,10 +10,11 @@ use Rattle.assise_machine_events.specs.MemberEvents.{Failing}
 use Rattle.assise_machine_failures.specs.Answers.{failing_answer}
 use Rattle.assise_machine.specs.Running.{opened_answer}
 use Rattle.assise_rounds.specs.Courses.{Told}
+use Rattle.assise_rounds.specs.Returning.{ComesBack}
 use Rattle.assise_files.specs.declared.files.Files.{Files}
 use Rattle.assise_desk.specs.declared.caller_desk.CallerDesk.{CallerDesk}
 use Rattle.assise_desk.specs.declared.desk_call.ClusterCall.{ClusterCall}
-use Rattle.assise_desk.specs.declared.desk_call.ClusterCall.TheVariants.{Open, Crash, Fail}
+use Rattle.assise_desk.specs.declared.desk_call.ClusterCall.TheVariants.{Open, Crash, Fail, Back}
 use Rattle.assise_desk.specs.declared.desk_call.DeskCall.{DeskCall}
 use Rattle.assise_desk.specs.declared.desk_fault.DeskFault.{DeskFault}
 use Rattle.assise_desk.specs.declared.desk_request.DeskRequest.{DeskRequest}
@@ -33,6 +34,10 @@ crashes call r result out told m m' is result_is h = rw is (_, record { told = t
 pub fails : (call : ClusterCall) (r : DeskRequest) (result : Result ℕ DeskFault) (out : List ℕ) (told : Result (Vec (ℕ × ℕ)) Refusal) (m m' : Machine) → call ≡ Fail → ShowsLosses told result out →
     Failing m r.node (failing_answer told) m' → (es : Told) × DoesAt call r result out m es m'
 fails call r result out told m m' is shown h = rw is (_, record { failed = told; shown = shown; event = record { told = refl; happens = h } })
+
+pub returns_at : (call : ClusterCall) (r : DeskRequest) (result : Result ℕ DeskFault) (out : List ℕ) (told : Result ⊤ Refusal) (m m' : Machine) → call ≡ Back → result ≡ nothing_counted told →
+    (es : Told) × ComesBack r.node told m es m' → (es : Told) × DoesAt call r result out m es m'
+returns_at call r result out told m m' is result_is (es, h) = rw is (es, record { returned = told; result_is = result_is; comes_back = h })
 
 -- ---- a desk
 

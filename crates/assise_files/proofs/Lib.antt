@@ -1,2 +1,3 @@
+mod AlwaysLegal
 mod VainTries
 mod TriesCourse

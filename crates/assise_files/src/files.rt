@@ -69,9 +69,10 @@ impl Files {
             ((cluster_seen self.old).world.clients + 1) kind) }
         ensures turns { most_tries self.new ≡ most_tries self.old }
     {
-        self.cluster
-            .open(alloc, node, kind)
-            .map_err(|refused| refused.0)
+        match self.cluster.open(alloc, node, kind) {
+            Ok(client) => Ok(client),
+            Err(refused) => Err(refused.0),
+        }
     }
 
     /// A call of a client: it is tried until it is answered or refused, with a round of all nodes behind each try that waits or finds

@@ -1,5 +1,5 @@
 use Rattle.assise_files.specs.FilesSeen.{cluster_seen}
-use Rattle.assise_desk.proofs.DeskSteps.{crashes, fails, opens}
+use Rattle.assise_desk.proofs.DeskSteps.{crashes, fails, opens, returns_at}
 use Rattle.assise_desk.proofs.caller_desk.manage.Goals as goal
 
 pub returns-in-Open : goal.returns-in-Open
@@ -16,3 +16,8 @@ pub returns-in-Fail : goal.returns-in-Fail
 returns-in-Fail c =
     fails c.args.call c.args.request.now c.show_losses.result c.show_losses.new.out c.fail.result (cluster_seen c.args.files.now) (cluster_seen c.fail.new.self) c.in-Fail.is
     c.show_losses.ensures c.fail.ensures.happens
+
+pub returns-in-Back : goal.returns-in-Back
+returns-in-Back c =
+    returns_at c.args.call c.args.request.now c.done-in-Back.result c.args.out.now c.back.result (cluster_seen c.args.files.now) (cluster_seen c.back.new.self) c.in-Back.is
+    c.done-in-Back.ensures c.back.ensures.comes_back
