@@ -1,8 +1,8 @@
 /* The file system as a library for C: C99, or C++.
  *
  * A cluster of one to eight nodes lives behind a desk, a struct in the caller's memory. Each function here writes a request into the desk,
- * has it served, and gives the desk's result: a number from 0 on, or a fault's, below 0. The library has two functions of its own,
- * assise_begin and assise_serve; all others are written over them here.
+ * has it served, and gives the desk's result: a number from 0 on, or one of `enum assise_fault`, below 0. The library has two functions
+ * of its own, assise_begin and assise_serve; all others are written over them here.
  *
  *     struct assise_desk desk;
  *     assise_begin(&desk);
@@ -17,28 +17,6 @@
  * from the forked child of a process with threads; a desk stays where it is, or is moved by memcpy, and then only the copy counts; its
  * last field, `cluster`, is never written; assise_free before the desk goes, else its memory is lost. The program is linked with
  * libassise_c.a and with the C library's allocator (rattle_alloc, rattle_dealloc and rattle_realloc over malloc, free and realloc).
- *
- * Faults:
- *
- *     The tree doesn't do it; it is an answer, and stands in the history.
- *       -1 a name on the way isn't there     -2 something is there already    -3 a file where a directory is wanted
- *       -4 a directory where a file is wanted                                 -5 the directory has entries
- *       -6 the root, or a directory into itself                               -7 a file over 1,048,576 bytes
- *       -8 the directory has 4,096 entries
- *     It is refused; it stands in no history, and changes no file.
- *     -101 no memory                       -102 it waits, and nothing goes on: call again, or bring a node back
- *     -103 the client's node failed, or the node isn't full: open another client
- *     -104 the client crashed              -105 the client made 1,048,576 inodes
- *     -106 a write over 65,536 bytes       -107 the only full node can't fail
- *     -108 no such node                    -109 no such client, or all 16 were opened
- *     -110 the node is down, or isn't      -111 (never: a message of an earlier epoch)
- *     -112 the client's log is full, and nothing goes on
- *     The bytes spell no path.
- *     -201 it begins with no slash         -202 a name without bytes        -203 a name that is none, or no UTF-8
- *     -204 a name over 255 bytes           -205 more than 32 names
- *     The desk can't serve it.
- *     -301 it has no cluster               -302 a number out of range, or more bytes than a desk has
- *     -303 the answer has more bytes than a desk
  */
 #ifndef ASSISE_H
 #define ASSISE_H
@@ -106,11 +84,50 @@ enum assise_call {
  * next record whose number 8 divides. */
 enum assise_kind { ASSISE_LEAST = 0, ASSISE_WHOLE = 1, ASSISE_EIGHTS = 2 };
 
+/* Results below 0. */
+enum assise_fault {
+    /* The tree doesn't do it; it is an answer, and stands in the history. */
+    ASSISE_NO_ENT = -1,    /* a name on the way isn't there */
+    ASSISE_EXISTS = -2,    /* something is there already */
+    ASSISE_NOT_DIR = -3,   /* a file where a directory is wanted */
+    ASSISE_IS_DIR = -4,    /* a directory where a file is wanted */
+    ASSISE_NOT_EMPTY = -5, /* the directory has entries */
+    ASSISE_INVALID = -6,   /* the root, or a directory into itself */
+    ASSISE_TOO_BIG = -7,   /* a file over 1,048,576 bytes */
+    ASSISE_DIR_FULL = -8,  /* the directory has 4,096 entries */
+    /* It is refused; it stands in no history, and changes no file. */
+    ASSISE_OUT_OF_MEMORY = -101,
+    ASSISE_BUSY = -102,          /* it waits, and nothing goes on: call again, or bring a node back */
+    ASSISE_NODE_DOWN = -103,     /* the client's node failed, or the node isn't full: open another client */
+    ASSISE_CLIENT_GONE = -104,   /* the client crashed */
+    ASSISE_INODES_SPENT = -105,  /* the client made 1,048,576 inodes */
+    ASSISE_TOO_LARGE = -106,     /* a write over 65,536 bytes */
+    ASSISE_LAST_NODE = -107,     /* the only full node can't fail */
+    ASSISE_BAD_NODE = -108,      /* no such node */
+    ASSISE_BAD_CLIENT = -109,    /* no such client, or all 16 were opened */
+    ASSISE_WRONG_PHASE = -110,   /* the node is down, or isn't */
+    ASSISE_STALE_MESSAGE = -111, /* never: a message of an earlier epoch */
+    ASSISE_LOG_FULL = -112,      /* the client's log is full, and nothing goes on */
+    /* The bytes spell no path. */
+    ASSISE_NOT_ABSOLUTE = -201,  /* it begins with no slash */
+    ASSISE_EMPTY_NAME = -202,    /* a name without bytes */
+    ASSISE_BAD_NAME = -203,      /* a name that is none, or no UTF-8 */
+    ASSISE_NAME_TOO_LONG = -204, /* a name over 255 bytes */
+    ASSISE_TOO_DEEP = -205,      /* more than 32 names */
+    /* The desk can't serve it. */
+    ASSISE_NO_CLUSTER = -301,
+    ASSISE_BAD_REQUEST = -302, /* a number out of range, or more bytes than a desk has */
+    ASSISE_NO_ROOM = -303      /* the answer has more bytes than a desk */
+};
+
+/* What stands at a path, by a stat. */
+enum assise_stands { ASSISE_FILE = 1, ASSISE_DIR = 2 };
+
 /* A request of any call. */
 static inline int64_t assise_ask(struct assise_desk *desk, struct assise_request request, const char *path, const void *other,
                                  size_t other_bytes) {
     size_t path_bytes = path ? strlen(path) : 0;
-    if (path_bytes > ASSISE_BYTES || other_bytes > ASSISE_BYTES - path_bytes) return -302;
+    if (path_bytes > ASSISE_BYTES || other_bytes > ASSISE_BYTES - path_bytes) return ASSISE_BAD_REQUEST;
     if (path_bytes) memcpy(desk->bytes, path, path_bytes);
     if (other_bytes) memcpy(desk->bytes + path_bytes, other, other_bytes);
     request.path_bytes = (uint32_t)path_bytes;
@@ -208,7 +225,7 @@ static inline int64_t assise_write(struct assise_desk *desk, uint32_t client, co
                                    uint64_t offset) {
     size_t path_bytes = strlen(path);
     uint64_t done = 0, most;
-    if (path_bytes >= ASSISE_BYTES) return -302;
+    if (path_bytes >= ASSISE_BYTES) return ASSISE_BAD_REQUEST;
     most = ASSISE_BYTES - path_bytes;
     do {
         uint64_t some = count - done < most ? count - done : most;

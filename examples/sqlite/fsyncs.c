@@ -9,7 +9,7 @@
 
 #define PAGE_BYTES 4096
 #define PAGES 250
-#define TRIES 10
+#define TRIES 20
 
 static const uint32_t nodes[] = {1, 2, 3, 8};
 static const long writes[] = {0, 1, 10, 100, 1000};

@@ -90,7 +90,7 @@ static int are_locks_right(sqlite3 *writer, sqlite3 *reader) {
 /* Node 2 fails: a transfer of its client is refused, one of the other is made. */
 static int outlives_node_2(struct vfs_cluster *cluster, struct teller *one, struct teller *other) {
     int64_t failed = assise_fail(&cluster->desk, 2);
-    int is_over = bank_transfer(other->bank, 2 * TRANSFERS) != SQLITE_OK && sqlite3_system_errno(other->bank) == VFS_NODE_DOWN;
+    int is_over = bank_transfer(other->bank, 2 * TRANSFERS) != SQLITE_OK && sqlite3_system_errno(other->bank) == ASSISE_NODE_DOWN;
     sqlite3_close(other->bank); /* so its locks go */
     int goes_on = bank_transfer(one->bank, 2 * TRANSFERS) == SQLITE_OK;
     printf("node 2 fails: its client is %s, the other %s\n", is_over ? "over" : "not over", goes_on ? "goes on" : "doesn't go on");

@@ -4,9 +4,6 @@
 #define MOST_PATH_BYTES 1000
 #define SECTOR_BYTES 512
 
-/* What stands at a path, as a desk says it. */
-#define DIRECTORY 2
-
 /* An open file: SQLite keeps its path as long as it is open. */
 struct vfs_file {
     sqlite3_file base; /* the first member: SQLite hands out pointers to it */
@@ -48,9 +45,9 @@ static int code_of(struct vfs_client *client, int64_t result, int failed) {
     if (result >= 0)
         return SQLITE_OK;
     client->last_error = (int)result;
-    if (result == VFS_OUT_OF_MEMORY)
+    if (result == ASSISE_OUT_OF_MEMORY)
         return SQLITE_IOERR_NOMEM;
-    return result == VFS_TOO_BIG ? SQLITE_FULL : failed;
+    return result == ASSISE_TOO_BIG ? SQLITE_FULL : failed;
 }
 
 /* ---- locks; who calls has the turn */
@@ -275,14 +272,14 @@ static const sqlite3_io_methods file_methods = {
 /* Finds the file at a path, or creates it where SQLite asks for that. */
 static int64_t find_or_create(struct vfs_client *client, struct assise_desk *desk, const char *path, int flags) {
     int64_t found = assise_stat(desk, client->number, path);
-    if (found == VFS_NO_ENT && flags & SQLITE_OPEN_CREATE) {
+    if (found == ASSISE_NO_ENT && flags & SQLITE_OPEN_CREATE) {
         tell_of(client, VFS_CREATE);
         return assise_create(desk, client->number, path);
     }
-    if (found >= 0 && desk->stands == DIRECTORY)
-        return VFS_IS_DIR;
+    if (found >= 0 && desk->stands == ASSISE_DIR)
+        return ASSISE_IS_DIR;
     if (found >= 0 && flags & SQLITE_OPEN_EXCLUSIVE)
-        return VFS_EXISTS;
+        return ASSISE_EXISTS;
     return found;
 }
 
@@ -321,7 +318,7 @@ static int client_delete(sqlite3_vfs *base, const char *path, int is_synced) {
         synced = assise_fsync(desk, client->number);
     }
     end_turn(client);
-    if (removed == VFS_NO_ENT)
+    if (removed == ASSISE_NO_ENT)
         return SQLITE_IOERR_DELETE_NOENT;
     if (removed < 0)
         return code_of(client, removed, SQLITE_IOERR_DELETE);
@@ -335,7 +332,7 @@ static int client_access(sqlite3_vfs *base, const char *path, int flags, int *is
     end_turn(client);
     (void)flags;
     *is_there = found >= 0;
-    if (found == VFS_NO_ENT || found == VFS_NOT_DIR)
+    if (found == ASSISE_NO_ENT || found == ASSISE_NOT_DIR)
         return SQLITE_OK;
     return code_of(client, found, SQLITE_IOERR_ACCESS);
 }
@@ -389,7 +386,7 @@ int64_t vfs_client_open(struct vfs_client *client, struct vfs_cluster *cluster, 
     if (number < 0)
         return number;
     client->number = (uint32_t)number;
-    return sqlite3_vfs_register(&client->base, 0) == SQLITE_OK ? number : VFS_OUT_OF_MEMORY;
+    return sqlite3_vfs_register(&client->base, 0) == SQLITE_OK ? number : ASSISE_OUT_OF_MEMORY;
 }
 
 void vfs_client_forget(struct vfs_client *client) {

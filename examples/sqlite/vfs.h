@@ -8,24 +8,13 @@
  *     sqlite3_open_v2("/bank.db", &database, SQLITE_OPEN_READWRITE | SQLITE_OPEN_CREATE, "on node 1");
  *
  * A connection keeps its temporary files in memory (`PRAGMA temp_store=memory`): a file without a name can't be opened here. Where its
- * client's node has failed, each call of SQLite answers SQLITE_IOERR or SQLITE_CANTOPEN, and sqlite3_system_errno() VFS_NODE_DOWN.
+ * client's node has failed, each call of SQLite answers SQLITE_IOERR or SQLITE_CANTOPEN, and sqlite3_system_errno() ASSISE_NODE_DOWN.
  * Close it then, and open it again through a client of another node. */
 #ifndef ASSISE_VFS_H
 #define ASSISE_VFS_H
 #include "assise.h"
 #include <pthread.h>
 #include <sqlite3.h>
-
-/* The faults of the library that a VFS tells apart. */
-enum vfs_fault {
-    VFS_NO_ENT = -1,
-    VFS_EXISTS = -2,
-    VFS_NOT_DIR = -3,
-    VFS_IS_DIR = -4,
-    VFS_TOO_BIG = -7,
-    VFS_OUT_OF_MEMORY = -101,
-    VFS_NODE_DOWN = -103
-};
 
 struct vfs_lock;
 

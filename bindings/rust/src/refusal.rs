@@ -129,7 +129,8 @@ mod tests {
         let header = include_str!("../../../include/assise.h");
         let results = REFUSALS.iter().map(|row| row.0).chain(-(TREE_ERRORS.len() as i64)..0);
         for result in results {
-            assert!(header.contains(&format!(" {result} ")), "no {result}");
+            let has_it = [",", " "].iter().any(|end| header.contains(&format!(" = {result}{end}")));
+            assert!(has_it, "no {result}");
         }
     }
 }
