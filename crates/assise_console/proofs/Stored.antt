@@ -2,7 +2,7 @@
 use Rattle.std.proofs.Common.{◌≡◌, ℕ, List, ◌++◌, Option, Result, Ok, Err, OnErr, refl, ap, sym, subst}
 use Rattle.std.specs.Option.{option_to_list}
 use Rattle.assise_names.specs.declared.refusal.Refusal.{Refusal}
-use Rattle.assise_machine_events.specs.Events.{Answer as EventAnswer, digested, not_yet, opened, refused, released, replied}
+use Rattle.assise_machine_events.specs.Events.{digested, not_yet, opened, refused, released, replied}
 use Rattle.assise_machine.specs.Running.{opened_answer}
 use Rattle.assise_console.specs.declared.answer.Answer.{Answer}
 use Rattle.assise_console.specs.declared.answer.Answer.TheVariants.{Quiet, Client, Replied, Waits, Refused, Carried, Digested, Released, Crashed, Failed, Began, Left, Returned, Tree, History}

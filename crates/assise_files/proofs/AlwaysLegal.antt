@@ -1,5 +1,5 @@
 -- A history that is known to be legal is found legal.
-use Rattle.std.proofs.Common.{◌≡◌, ◌↔◌, Bool, true, IsTrue, Result, Ok, Err, IfOk}
+use Rattle.std.proofs.Common.{◌↔◌, Bool, true, IsTrue, Result, Ok, Err, IfOk}
 use Rattle.std.proofs.Math.Bool.{Bool-set}
 use Rattle.std.proofs.Math.Logic.{∥∥₁_elim}
 use Rattle.assise_names.specs.declared.refusal.Refusal.{Refusal}

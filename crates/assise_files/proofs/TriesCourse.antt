@@ -4,7 +4,7 @@ use Rattle.assise_names.specs.declared.call.Op.{Op}
 use Rattle.assise_names.specs.declared.refusal.Refusal.{Refusal}
 use Rattle.assise_names.specs.declared.reply.Reply.{Reply}
 use Rattle.assise_machine_events.specs.Machine.{Machine}
-use Rattle.assise_rounds.specs.Courses.{IsCourse, IsEvent, Then, Told}
+use Rattle.assise_rounds.specs.Courses.{IsCourse, IsEvent, Told}
 use Rattle.assise_rounds.specs.Rounds.{RoundsOnce}
 use Rattle.assise_rounds.proofs.Courses.{event_course, nothing_course, round_course, then_course}
 use Rattle.assise_files.specs.CallTries.{FindsFull, InVain, IsTriedOut, MakesRoom, TriesInVain, WaitsOnce, is_awaited, is_full, is_settled, is_spent, stays_full, waits_on}

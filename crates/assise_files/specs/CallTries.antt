@@ -1,6 +1,6 @@
 -- How a call is tried where nobody else works on the cluster: with a round of all nodes behind each try that doesn't settle it.
 -- Assise (OSDI 2020), section 3 (a process waits for a lease, or for its log to be replicated and digested).
-use Rattle.std.specs.Prelude.{◌≡◌, ℕ, zero, suc, ◌<◌, Bool, true, false, Result, Ok, Err}
+use Rattle.std.specs.Prelude.{◌≡◌, ℕ, zero, suc, ◌<◌, Bool, true, false, Result, Err}
 use Rattle.assise_names.specs.declared.call.Op.{Op}
 use Rattle.assise_names.specs.declared.refusal.Refusal.{Refusal}
 use Rattle.assise_names.specs.declared.refusal.Refusal.TheVariants.{Busy, LogFull}

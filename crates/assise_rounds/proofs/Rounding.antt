@@ -13,7 +13,7 @@ use Rattle.assise_machine_events.specs.Happenings.{Trying}
 use Rattle.assise_machine_events.specs.Machine.{Machine}
 use Rattle.assise_machine_events.specs.NodeEvents.{Digesting, Releasing, Sending}
 use Rattle.assise_rounds.specs.Courses.{Told}
-use Rattle.assise_rounds.specs.Rounds.{AreCarried, DigestsOnce, EachFull, IfFull, IsRound, ReleasesOnce, RoundsOnce, TakesTurn, UnlessAtFault, WithWork, deliveries, is_refused, is_work, letter, most_nodes, replicates}
+use Rattle.assise_rounds.specs.Rounds.{AreCarried, DigestsOnce, EachFull, IfFull, ReleasesOnce, RoundsOnce, TakesTurn, UnlessAtFault, WithWork, deliveries, is_refused, is_work, letter, most_nodes, replicates}
 use Rattle.assise_rounds.specs.Trying.{Awaits, TriesOften, is_busy, is_settled, is_stuck, settled_answer}
 use Rattle.assise_rounds.proofs.Busy.{both_work, no_more_work, one_work, turn_work}
 use Rattle.assise_rounds.proofs.Carrying.{carried_turn}
