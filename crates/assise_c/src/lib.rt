@@ -8,7 +8,7 @@ ghost use Rattle.std.specs.Ptr.{points_to, uninit_at};
 ghost use Rattle.assise_desk.specs.DeskAnswers.{IsServedAt, cluster_at};
 ghost use Rattle.assise_desk.specs.contracts.caller_desk.CallerDesk.{the_row as desk_row};
 
-use assise_desk::caller_desk::{CallerDesk, serve};
+use assise_desk::caller_desk::{CallerDesk, serve_desk};
 use std::alloc::Global;
 
 /// The desk when its request is served.
@@ -16,7 +16,7 @@ fn served(alloc: Global, desk: CallerDesk) -> CallerDesk
     ensures { IsServedAt desk result }
 {
     let mut desk = desk;
-    serve(alloc, &mut desk);
+    serve_desk(alloc, &mut desk);
     desk
 }
 

@@ -1,3 +1,4 @@
+mod DeskCourses
 mod DeskSteps
 mod PathFaults
 mod TwoPieces

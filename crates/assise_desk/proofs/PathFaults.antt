@@ -6,13 +6,13 @@ use Rattle.assise_names.specs.declared.path.PathFault.TheVariants.{Memory}
 use Rattle.assise_desk.specs.declared.desk_call.ClientCall.{ClientCall}
 use Rattle.assise_desk.specs.declared.desk_call.ClientCall.TheVariants.{Create, Mkdir, Read, Write, Truncate, Rename, Unlink, Rmdir, List as Listing, Stat, Fsync}
 use Rattle.assise_desk.specs.declared.desk_fault.DeskFault.{DeskFault}
-use Rattle.assise_desk.specs.Codes.{of_path_fault}
-use Rattle.assise_desk.specs.RequestedOps.{MayFault, MayFaultPath, has_fault, lacks_memory}
+use Rattle.assise_desk.specs.FaultCodes.{of_path_fault}
+use Rattle.assise_desk.specs.RequestedOps.{MayFault, MayFaultPath, has_fault, path_lacks_memory}
 
 -- the text that the bytes are has this fault, or there is no memory for its path
 pub fault_of_text : (bytes text : List ℕ) (found : PathFault) (fault : DeskFault) → text ≡ bytes → (found ≡ Memory) ⊎ (path_of text ≡ Err found) → fault ≡ of_path_fault found
     → MayFaultPath bytes fault
-fault_of_text bytes text found fault same (inl memory) is = lacks_memory (is ∙ ap of_path_fault memory)
+fault_of_text bytes text found fault same (inl memory) is = path_lacks_memory (is ∙ ap of_path_fault memory)
 fault_of_text bytes text found fault same (inr spelled) is = has_fault found (subst (λ x. path_of x ≡ Err found) same spelled) is
 
 -- each call but an fsync has a path

@@ -7,30 +7,30 @@ use Rattle.assise_desk.specs.declared.desk_call.ClusterCall.TheVariants.{Open, C
 use Rattle.assise_desk.specs.declared.desk_call.DeskCall.{DeskCall}
 use Rattle.assise_desk.specs.declared.desk_call.DeskCall.TheVariants.{Make, Free, Cluster, Client}
 
-abbrev pub cluster_number : ClusterCall → ℕ
-cluster_number Open = 3
-cluster_number Crash = 4
-cluster_number Fail = 5
-cluster_number Back = 6
-cluster_number Legal = 7
-cluster_number Round = 8
-cluster_number History = 9
+abbrev pub cluster_call_number : ClusterCall → ℕ
+cluster_call_number Open = 3
+cluster_call_number Crash = 4
+cluster_call_number Fail = 5
+cluster_call_number Back = 6
+cluster_call_number Legal = 7
+cluster_call_number Round = 8
+cluster_call_number History = 9
 
-abbrev pub client_number : ClientCall → ℕ
-client_number Create = 16
-client_number Mkdir = 17
-client_number Read = 18
-client_number Write = 19
-client_number Truncate = 20
-client_number Rename = 21
-client_number Unlink = 22
-client_number Rmdir = 23
-client_number List = 24
-client_number Stat = 25
-client_number Fsync = 26
+abbrev pub client_call_number : ClientCall → ℕ
+client_call_number Create = 16
+client_call_number Mkdir = 17
+client_call_number Read = 18
+client_call_number Write = 19
+client_call_number Truncate = 20
+client_call_number Rename = 21
+client_call_number Unlink = 22
+client_call_number Rmdir = 23
+client_call_number List = 24
+client_call_number Stat = 25
+client_call_number Fsync = 26
 
-abbrev pub call_number : DeskCall → ℕ
-call_number Make = 1
-call_number Free = 2
-call_number (Cluster call) = cluster_number call
-call_number (Client call) = client_number call
+abbrev pub desk_call_number : DeskCall → ℕ
+desk_call_number Make = 1
+desk_call_number Free = 2
+desk_call_number (Cluster call) = cluster_call_number call
+desk_call_number (Client call) = client_call_number call

@@ -17,7 +17,7 @@ use Rattle.assise_files.specs.CallTries.{IsTriedOut}
 use Rattle.assise_files.specs.FilesSeen.{KeepsHot, cluster_seen, most_tries}
 use Rattle.assise_files.specs.declared.files.Files.{Files}
 use Rattle.assise_desk.specs.declared.caller_desk.CallerDesk.{CallerDesk}
-use Rattle.assise_desk.specs.declared.caller_desk.TheConstants.{TURNS}
+use Rattle.assise_desk.specs.declared.caller_desk.TheConstants.{MOST_TRIES}
 use Rattle.assise_desk.specs.declared.desk_call.ClientCall.{ClientCall}
 use Rattle.assise_desk.specs.declared.desk_call.ClusterCall.{ClusterCall}
 use Rattle.assise_desk.specs.declared.desk_call.ClusterCall.TheVariants.{Open, Crash, Fail, Back, Legal, Round, History}
@@ -26,27 +26,27 @@ use Rattle.assise_desk.specs.declared.desk_call.DeskCall.TheVariants.{Make, Free
 use Rattle.assise_desk.specs.declared.desk_fault.DeskFault.{DeskFault}
 use Rattle.assise_desk.specs.declared.desk_fault.DeskFault.TheVariants.{Refused, NoCluster, BadRequest, NoRoom}
 use Rattle.assise_desk.specs.declared.desk_request.DeskRequest.{DeskRequest}
-use Rattle.assise_desk.specs.CallNumbers.{call_number}
-use Rattle.assise_desk.specs.Codes.{fault_code, no_memory}
+use Rattle.assise_desk.specs.CallNumbers.{desk_call_number}
+use Rattle.assise_desk.specs.FaultCodes.{fault_code, no_memory}
 use Rattle.assise_desk.specs.Pages.{losses_bytes}
-use Rattle.assise_desk.specs.Replies.{Shows}
+use Rattle.assise_desk.specs.ShownReplies.{ShowsReply}
 use Rattle.assise_desk.specs.RequestedOps.{IsRequestedAt, MayAskForNone}
 
 -- ---- numbers
 
 -- a count, or 0 for what is done, or why there is none
-abbrev pub counted : Result ℕ Refusal → Result ℕ DeskFault
-counted (Ok n) = Ok n
-counted (Err refusal) = Err (Refused refusal)
+abbrev pub number_told : Result ℕ Refusal → Result ℕ DeskFault
+number_told (Ok n) = Ok n
+number_told (Err refusal) = Err (Refused refusal)
 
-abbrev pub nothing_counted : Result ⊤ Refusal → Result ℕ DeskFault
-nothing_counted (Ok done) = Ok 0
-nothing_counted (Err refusal) = Err (Refused refusal)
+abbrev pub done_told : Result ⊤ Refusal → Result ℕ DeskFault
+done_told (Ok done) = Ok 0
+done_told (Err refusal) = Err (Refused refusal)
 
 -- 1 for yes
-abbrev pub yes_counted : Bool → ℕ
-yes_counted true = 1
-yes_counted false = 0
+abbrev pub yes_told : Bool → ℕ
+yes_told true = 1
+yes_told false = 0
 
 -- the number that a desk shows
 abbrev pub result_shown : Result ℕ DeskFault → ℤ
@@ -55,10 +55,10 @@ result_shown (Err fault) = fault_code fault
 
 -- ---- a cluster is made
 
-pub record IsMade (r : DeskRequest) (files : Files) : Type 0 where
+pub record IsClusterMade (r : DeskRequest) (files : Files) : Type 0 where
   pub begun : cluster_seen files ≡ begun_as r.node r.first
   pub hot : KeepsHot files r.second
-  pub turns : most_tries files ≡ TURNS
+  pub turns : most_tries files ≡ MOST_TRIES
 
 -- 1 to 8 nodes, logs of 8 to 4,096 records, 1 to 4,096 hot inodes
 abbrev pub IsOutOfRange : DeskRequest → Type 0
@@ -66,7 +66,7 @@ IsOutOfRange r = (r.node < 1) ⊎ (8 < r.node) ⊎ (r.first < 8) ⊎ (4096 < r.f
 
 pub data MayNotMake (r : DeskRequest) (fault : DeskFault) : Type 0 where
   is_out_of_range : IsOutOfRange r → fault ≡ BadRequest → MayNotMake r fault
-  lacks_memory : fault ≡ no_memory → MayNotMake r fault
+  cluster_lacks_memory : fault ≡ no_memory → MayNotMake r fault
 
 -- ---- what a cluster does that no client calls
 
@@ -89,12 +89,12 @@ pub record TellsFailure (n : ℕ) (result : Result ℕ DeskFault) (out : List �
 
 pub record TellsReturn (n : ℕ) (result : Result ℕ DeskFault) (m : Machine) (es : Told) (m' : Machine) : Type 0 where
   pub returned : Result ⊤ Refusal
-  pub result_is : result ≡ nothing_counted returned
+  pub result_is : result ≡ done_told returned
   pub comes_back : ComesBack n returned m es m'
 
 pub record TellsRound (result : Result ℕ DeskFault) (m : Machine) (es : Told) (m' : Machine) : Type 0 where
   pub busy : Bool
-  pub result_is : result ≡ Ok (yes_counted busy)
+  pub result_is : result ≡ Ok (yes_told busy)
   pub round : RoundsOnce busy m es m'
 
 -- the history is legal, unless there is no memory to check it
@@ -108,8 +108,8 @@ pub record TellsLength (result : Result ℕ DeskFault) (m : Machine) (es : Told)
 
 -- what it does, with its result, and with what stands in the bytes then
 abbrev pub DoesAt : ClusterCall → DeskRequest → Result ℕ DeskFault → List ℕ → Machine → Told → Machine → Type 0
-DoesAt Open r result out m es m' = TellsEvent counted opened_answer (open_client r.node) result m es m'
-DoesAt Crash r result out m es m' = TellsEvent nothing_counted crashing_answer (crash r.client) result m es m'
+DoesAt Open r result out m es m' = TellsEvent number_told opened_answer (open_client r.node) result m es m'
+DoesAt Crash r result out m es m' = TellsEvent done_told crashing_answer (crash r.client) result m es m'
 DoesAt Fail r result out m es m' = TellsFailure r.node result out m es m'
 DoesAt Back r result out m es m' = TellsReturn r.node result m es m'
 DoesAt Legal r result out m es m' = TellsLegal result m es m'
@@ -132,7 +132,7 @@ pub data CallsAt (turns : ℕ) (call : ClientCall) (r : DeskRequest) (bytes : Li
 -- ---- a reply
 
 abbrev pub ShowsIfOk : Result Reply DeskFault → ℕ → Result ℕ DeskFault → ℕ → List ℕ → Type 0
-ShowsIfOk (Ok reply) first result stands out = Shows reply first result stands out
+ShowsIfOk (Ok reply) first result stands out = ShowsReply reply first result stands out
 ShowsIfOk (Err fault) first result stands out = result ≡ Err fault
 
 -- a client's call is made, and its reply shown
@@ -162,20 +162,20 @@ NeedsCluster (Cluster call) = Unit {0}
 NeedsCluster (Client call) = Unit {0}
 
 -- what a desk's request is answered with, and what is left of the desk
-pub data IsAnswered (d : CallerDesk) (result : Result ℕ DeskFault) (d' : CallerDesk) : Type 0 where
-  is_no_request : ((call : DeskCall) → call_number call ≢ d.request.call) → result ≡ Err BadRequest → files_at d' ≡ files_at d → IsAnswered d result d'
-  makes : (files : Files) → call_number Make ≡ d.request.call → IsMade d.request files → files_at d' ≡ Some files → result ≡ Ok 0 → IsAnswered d result d'
-  makes_none : (fault : DeskFault) → call_number Make ≡ d.request.call → MayNotMake d.request fault → files_at d' ≡ files_at d → result ≡ Err fault → IsAnswered d result d'
-  frees : call_number Free ≡ d.request.call → files_at d' ≡ None → result ≡ Ok 0 → IsAnswered d result d'
-  has_no_cluster : (call : DeskCall) → call_number call ≡ d.request.call → NeedsCluster call → files_at d ≡ None → files_at d' ≡ None → result ≡ Err NoCluster → IsAnswered d result d'
-  manages : (call : ClusterCall) (files left : Files) → call_number (Cluster call) ≡ d.request.call → files_at d ≡ Some files → files_at d' ≡ Some left →
-      (es : Told) × DoesAt call d.request result d'.bytes (cluster_seen files) es (cluster_seen left) → IsAnswered d result d'
-  calls : (call : ClientCall) (files left : Files) → call_number (Client call) ≡ d.request.call → files_at d ≡ Some files → files_at d' ≡ Some left →
-      IsServedTo call d.request d.bytes files result d'.bytes d'.stands left → IsAnswered d result d'
+pub data AnswersRequest (d : CallerDesk) (result : Result ℕ DeskFault) (d' : CallerDesk) : Type 0 where
+  is_no_request : ((call : DeskCall) → desk_call_number call ≢ d.request.call) → result ≡ Err BadRequest → files_at d' ≡ files_at d → AnswersRequest d result d'
+  request_makes : (files : Files) → desk_call_number Make ≡ d.request.call → IsClusterMade d.request files → files_at d' ≡ Some files → result ≡ Ok 0 → AnswersRequest d result d'
+  request_makes_none : (fault : DeskFault) → desk_call_number Make ≡ d.request.call → MayNotMake d.request fault → files_at d' ≡ files_at d → result ≡ Err fault → AnswersRequest d result d'
+  request_frees : desk_call_number Free ≡ d.request.call → files_at d' ≡ None → result ≡ Ok 0 → AnswersRequest d result d'
+  has_no_cluster : (call : DeskCall) → desk_call_number call ≡ d.request.call → NeedsCluster call → files_at d ≡ None → files_at d' ≡ None → result ≡ Err NoCluster → AnswersRequest d result d'
+  request_manages : (call : ClusterCall) (files left : Files) → desk_call_number (Cluster call) ≡ d.request.call → files_at d ≡ Some files → files_at d' ≡ Some left →
+      (es : Told) × DoesAt call d.request result d'.bytes (cluster_seen files) es (cluster_seen left) → AnswersRequest d result d'
+  request_calls : (call : ClientCall) (files left : Files) → desk_call_number (Client call) ≡ d.request.call → files_at d ≡ Some files → files_at d' ≡ Some left →
+      IsServedTo call d.request d.bytes files result d'.bytes d'.stands left → AnswersRequest d result d'
 
 -- a desk, and what it is when its request is served
 pub record IsServedAt (d d' : CallerDesk) : Type 0 where
   pub result : Result ℕ DeskFault
   pub shown : d'.result ≡ result_shown result
-  pub answered : IsAnswered d result d'
+  pub answered : AnswersRequest d result d'
   pub request : d'.request ≡ d.request

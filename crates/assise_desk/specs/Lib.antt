@@ -1,6 +1,6 @@
-pub mod Codes
+pub mod FaultCodes
 pub mod CallNumbers
 pub mod RequestedOps
 pub mod Pages
-pub mod Replies
+pub mod ShownReplies
 pub mod DeskAnswers

@@ -12,7 +12,7 @@ use Rattle.assise_desk.specs.declared.desk_call.ClientCall.TheVariants.{Create, 
 use Rattle.assise_desk.specs.declared.desk_fault.DeskFault.{DeskFault}
 use Rattle.assise_desk.specs.declared.desk_fault.DeskFault.TheVariants as faults
 use Rattle.assise_desk.specs.declared.desk_request.DeskRequest.{DeskRequest}
-use Rattle.assise_desk.specs.Codes.{no_memory, of_path_fault}
+use Rattle.assise_desk.specs.FaultCodes.{no_memory, of_path_fault}
 
 -- ---- a path
 
@@ -24,7 +24,7 @@ PathIs bytes path = path_of bytes ≡ Ok path
 pub data MayFaultPath (bytes : List ℕ) (fault : DeskFault) : Type 0 where
   is_no_text : (IsUtf8 bytes → ⊥) → fault ≡ faults.Path BadName → MayFaultPath bytes fault
   has_fault : (found : PathFault) → path_of bytes ≡ Err found → fault ≡ of_path_fault found → MayFaultPath bytes fault
-  lacks_memory : fault ≡ no_memory → MayFaultPath bytes fault
+  path_lacks_memory : fault ≡ no_memory → MayFaultPath bytes fault
 
 -- ---- a call
 

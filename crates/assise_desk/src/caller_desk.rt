@@ -2,12 +2,12 @@
 ghost use Rattle.std.specs.Prelude.{◌≡◌, IfErr, IfOk, None};
 ghost use Rattle.assise_files.specs.FilesSeen.{cluster_seen, most_tries};
 ghost use Rattle.assise_rounds.specs.Courses.{Told};
-ghost use Rattle.assise_desk.specs.DeskAnswers.{CallsAt, DoesAt, IsAnswered, IsMade, IsServedAt, IsServedTo, MayNotMake, ShowsLosses, cluster_at, counted, nothing_counted, replied_at, result_shown};
+ghost use Rattle.assise_desk.specs.DeskAnswers.{CallsAt, DoesAt, AnswersRequest, IsClusterMade, IsServedAt, IsServedTo, MayNotMake, ShowsLosses, cluster_at, number_told, done_told, replied_at, result_shown};
 
 use crate::desk_call::{ClientCall, ClusterCall, DeskCall};
 use crate::desk_fault::DeskFault;
 use crate::desk_request::{DESK_BYTES, DeskRequest};
-use crate::page::put_losses;
+use crate::page::place_losses;
 use crate::reply_shown::show_reply;
 use assise_files::cut_kind::CutKind;
 use assise_files::files::Files;
@@ -16,7 +16,7 @@ use assise_names::reply::Reply;
 use std::alloc::Global;
 
 /// How often a call is tried at most.
-pub const TURNS: u32 = 100_000;
+pub const MOST_TRIES: u32 = 100_000;
 
 /// A request, its answer, and the cluster that serves it. It lies in its caller's memory, who writes all but the cluster.
 #[repr(C)]
@@ -58,14 +58,14 @@ impl CallerDesk {
 }
 
 /// Serves the request of a desk. What is refused leaves its cluster as it was, but for what a call's tries did.
-pub fn serve(alloc: Global, desk: &mut CallerDesk)
+pub fn serve_desk(alloc: Global, desk: &mut CallerDesk)
     ensures { IsServedAt desk.old desk.new }
 {
-    desk.result = shown(answer(alloc, desk));
+    desk.result = result_shown(answer_request(alloc, desk));
 }
 
 /// The number that a desk shows.
-fn shown(answer: Result<u64, DeskFault>) -> i64
+fn result_shown(answer: Result<u64, DeskFault>) -> i64
     ensures { result ≡ result_shown answer }
 {
     match answer {
@@ -75,14 +75,14 @@ fn shown(answer: Result<u64, DeskFault>) -> i64
 }
 
 /// The answer of the request of a desk.
-fn answer(alloc: Global, desk: &mut CallerDesk) -> Result<u64, DeskFault>
-    ensures answered { IsAnswered desk.old result desk.new }
+fn answer_request(alloc: Global, desk: &mut CallerDesk) -> Result<u64, DeskFault>
+    ensures answered { AnswersRequest desk.old result desk.new }
     ensures request { desk.new.request ≡ desk.old.request }
 {
     let request = desk.request;
     match DeskCall::of_number(request.call) {
         None => Err(DeskFault::BadRequest),
-        Some(DeskCall::Make) => match make(alloc, &request) {
+        Some(DeskCall::Make) => match make_cluster(alloc, &request) {
             Ok(files) => {
                 desk.files = Some(files);
                 Ok(0)
@@ -114,15 +114,15 @@ fn answer(alloc: Global, desk: &mut CallerDesk) -> Result<u64, DeskFault>
 }
 
 /// The cluster that a request asks for.
-fn make(alloc: Global, request: &DeskRequest) -> Result<Box<Files>, DeskFault>
-    ensures made { IfOk result (λ owner. IsMade request.now owner.value) }
+fn make_cluster(alloc: Global, request: &DeskRequest) -> Result<Box<Files>, DeskFault>
+    ensures made { IfOk result (λ owner. IsClusterMade request.now owner.value) }
     ensures fault { IfErr result (MayNotMake request.now) }
 {
     let (nodes, log, hot) = (request.node, request.first, request.second);
     if nodes == 0 || nodes > 8 || log < 8 || log > 4096 || hot < 1 || hot > 4096 {
         return Err(DeskFault::BadRequest);
     }
-    let files = Files::new(alloc, nodes, log as usize, hot as usize, TURNS)?;
+    let files = Files::new(alloc, nodes, log as usize, hot as usize, MOST_TRIES)?;
     Ok(Box::new(alloc, files)?)
 }
 
@@ -138,10 +138,14 @@ fn manage(
         (cluster_seen files.old) es (cluster_seen files.new) }
 {
     match call {
-        ClusterCall::Open => counted(files.open(alloc, request.node, kind_of(request.kind))),
-        ClusterCall::Crash => done(files.crash(request.client)),
+        ClusterCall::Open => number_told(files.open(
+            alloc,
+            request.node,
+            cut_kind_of(request.kind),
+        )),
+        ClusterCall::Crash => done_told(files.crash(request.client)),
         ClusterCall::Fail => show_losses(files.fail(alloc, request.node), out),
-        ClusterCall::Back => done(files.back(alloc, request.node)),
+        ClusterCall::Back => done_told(files.back(alloc, request.node)),
         ClusterCall::Legal => Ok(u64::from(files.is_legal(alloc)?)),
         ClusterCall::Round => Ok(u64::from(files.round(alloc))),
         ClusterCall::History => Ok(files.history_length() as u64),
@@ -149,8 +153,8 @@ fn manage(
 }
 
 /// The number of a client, or why there is none.
-fn counted(client: Result<u32, Refusal>) -> Result<u64, DeskFault>
-    ensures { result ≡ counted client }
+fn number_told(client: Result<u32, Refusal>) -> Result<u64, DeskFault>
+    ensures { result ≡ number_told client }
 {
     match client {
         Ok(client) => Ok(u64::from(client)),
@@ -159,8 +163,8 @@ fn counted(client: Result<u32, Refusal>) -> Result<u64, DeskFault>
 }
 
 /// Zero for what is done, or why it isn't.
-fn done(what: Result<(), Refusal>) -> Result<u64, DeskFault>
-    ensures { result ≡ nothing_counted what }
+fn done_told(what: Result<(), Refusal>) -> Result<u64, DeskFault>
+    ensures { result ≡ done_told what }
 {
     match what {
         Ok(()) => Ok(0),
@@ -176,7 +180,7 @@ fn show_losses(
     ensures { ShowsLosses losses result out.new }
 {
     match losses {
-        Ok(losses) => match put_losses(losses.as_slice(), out) {
+        Ok(losses) => match place_losses(losses.as_slice(), out) {
             Ok(count) => Ok(count as u64),
             Err(fault) => Err(fault),
         },
@@ -185,7 +189,7 @@ fn show_losses(
 }
 
 /// The kind of revoker that a number names.
-fn kind_of(number: u32) -> CutKind {
+fn cut_kind_of(number: u32) -> CutKind {
     match number {
         1 => CutKind::Whole,
         2 => CutKind::Eights,
@@ -194,7 +198,7 @@ fn kind_of(number: u32) -> CutKind {
 }
 
 /// A call of a client, with its path and the bytes behind it in a desk's.
-fn call_of(
+fn make_call(
     alloc: Global,
     files: &mut Files,
     call: ClientCall,
@@ -205,13 +209,13 @@ fn call_of(
         (cluster_seen files.old) es (cluster_seen files.new) }
 {
     match request.op_at(alloc, call, bytes) {
-        Ok(op) => replied(files.call(alloc, request.client, &op)),
+        Ok(op) => replied_at(files.call(alloc, request.client, &op)),
         Err(fault) => Err(fault),
     }
 }
 
 /// The reply of a call, or why there is none.
-fn replied(reply: Result<Reply, Refusal>) -> Result<Reply, DeskFault>
+fn replied_at(reply: Result<Reply, Refusal>) -> Result<Reply, DeskFault>
     ensures { result ≡ replied_at reply }
 {
     match reply {
@@ -232,7 +236,7 @@ fn serve_client(
     ensures { IsServedTo call request.now bytes.old files.old
         result bytes.new stands.new files.new }
 {
-    match call_of(alloc, files, call, request, bytes) {
+    match make_call(alloc, files, call, request, bytes) {
         Ok(reply) => show_reply(&reply, request.first, bytes, stands),
         Err(fault) => Err(fault),
     }

@@ -1,6 +1,6 @@
 // What a request's number asks for.
 ghost use Rattle.std.specs.Prelude.{◌≡◌, ◌≢◌, MatchOption};
-ghost use Rattle.assise_desk.specs.CallNumbers.{call_number};
+ghost use Rattle.assise_desk.specs.CallNumbers.{desk_call_number};
 ghost use Rattle.assise_desk.specs.declared.desk_call.DeskCall.{DeskCall as AnyCall};
 
 /// What a desk serves.
@@ -65,8 +65,8 @@ pub enum ClientCall {
 impl DeskCall {
     /// What a number asks for, if it asks for anything.
     pub fn of_number(number: u32) -> Option<DeskCall>
-        ensures { MatchOption result ((call : AnyCall) → call_number call ≢ number)
-            (λ call. call_number call ≡ number) }
+        ensures { MatchOption result ((call : AnyCall) → desk_call_number call ≢ number)
+            (λ call. desk_call_number call ≡ number) }
     {
         match number {
             1 => Some(DeskCall::Make),

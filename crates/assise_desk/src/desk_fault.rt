@@ -1,6 +1,6 @@
 // Why a request has no answer, as a number.
 ghost use Rattle.std.specs.Prelude.{◌≡◌};
-ghost use Rattle.assise_desk.specs.Codes.{fault_code, path_code, refusal_code, tree_code};
+ghost use Rattle.assise_desk.specs.FaultCodes.{fault_code, path_code, refusal_code, tree_error_code};
 
 use assise_names::path::PathFault;
 use assise_names::refusal::Refusal;
@@ -37,7 +37,7 @@ impl From<Refusal> for DeskFault {
 
 impl From<PathFault> for DeskFault {
     ghost use Rattle.std.specs.Prelude.{◌≡◌};
-    ghost use Rattle.assise_desk.specs.Codes.{of_path_fault};
+    ghost use Rattle.assise_desk.specs.FaultCodes.{of_path_fault};
 
     ghost from_gives = { λ found fault. fault ≡ of_path_fault found };
 
@@ -51,7 +51,7 @@ impl From<PathFault> for DeskFault {
 
 impl From<AllocError> for DeskFault {
     ghost use Rattle.std.specs.Prelude.{◌≡◌};
-    ghost use Rattle.assise_desk.specs.Codes.{no_memory};
+    ghost use Rattle.assise_desk.specs.FaultCodes.{no_memory};
 
     ghost from_gives = { λ _ fault. fault ≡ no_memory };
 
@@ -62,7 +62,7 @@ impl From<AllocError> for DeskFault {
 
 impl<T: Drop> From<AllocFailed<T>> for DeskFault {
     ghost use Rattle.std.specs.Prelude.{◌≡◌};
-    ghost use Rattle.assise_desk.specs.Codes.{no_memory};
+    ghost use Rattle.assise_desk.specs.FaultCodes.{no_memory};
 
     ghost from_gives = { λ _ fault. fault ≡ no_memory };
 
@@ -77,7 +77,7 @@ impl DeskFault {
         ensures { result ≡ fault_code self }
     {
         match self {
-            DeskFault::Tree(error) => tree_code(error),
+            DeskFault::Tree(error) => tree_error_code(error),
             DeskFault::Refused(refusal) => refusal_code(refusal),
             DeskFault::Path(fault) => path_code(fault),
             DeskFault::NoCluster => -301,
@@ -88,8 +88,8 @@ impl DeskFault {
 }
 
 /// The number of what the tree doesn't do.
-fn tree_code(error: TreeError) -> i64
-    ensures { result ≡ tree_code error }
+fn tree_error_code(error: TreeError) -> i64
+    ensures { result ≡ tree_error_code error }
 {
     match error {
         TreeError::NoEnt => -1,

@@ -1,7 +1,7 @@
 // What a caller asks for.
 ghost use Rattle.std.specs.Prelude.{◌≡◌, IfErr, IfOk};
 ghost use Rattle.assise_desk.specs.RequestedOps.{IsRequestedAt, MayAskForNone, MayFault, MayFaultPath, PathIs, RequestsOp};
-ghost use Rattle.assise_desk.specs.Codes.{no_memory};
+ghost use Rattle.assise_desk.specs.FaultCodes.{no_memory};
 
 use crate::desk_call::ClientCall;
 use crate::desk_fault::DeskFault;

@@ -6,5 +6,6 @@ pub mod caller_desk;
 pub mod desk_call;
 pub mod desk_fault;
 pub mod desk_request;
+pub mod laws;
 mod page;
 mod reply_shown;

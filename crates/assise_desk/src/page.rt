@@ -8,19 +8,19 @@ use crate::desk_request::DESK_BYTES;
 use assise_names::name::Name;
 
 /// Puts bytes at the front of a desk's, and answers how many. Where there is no room for them it is [`DeskFault::NoRoom`].
-pub(crate) fn put_bytes(bytes: &[u8], out: &mut [u8; DESK_BYTES]) -> Result<usize, DeskFault>
+pub(crate) fn place_bytes(bytes: &[u8], out: &mut [u8; DESK_BYTES]) -> Result<usize, DeskFault>
     ensures count { IfOk result (λ count. count ≡ length bytes.now) }
     ensures written { IfOk result (λ count. take count out.new ≡ bytes.now) }
     ensures few { IfOk result (λ count. count ≤ DESK_BYTES) }
     ensures no_room { IfErr result (λ fault. fault ≡ NoRoom) }
     ensures too_many { IfErr result (λ fault. DESK_BYTES < length bytes.now) }
 {
-    put_at(bytes, out, 0).ok_or(DeskFault::NoRoom)
+    place_at(bytes, out, 0).ok_or(DeskFault::NoRoom)
 }
 
 /// Puts a page of names at the front of a desk's bytes: those behind the first so many, each with a zero byte behind it, as many as
 /// there is room for. It answers how many bytes they have: where a name is left there is room for one.
-pub(crate) fn put_page(names: &[Name], first: u64, out: &mut [u8; DESK_BYTES]) -> usize
+pub(crate) fn place_page(names: &[Name], first: u64, out: &mut [u8; DESK_BYTES]) -> usize
     ensures page { IsPage DESK_BYTES (drop first names.now) (take result out.new) }
     ensures progress { first < length names.now → 0 < result }
     ensures few { result ≤ DESK_BYTES }
@@ -30,7 +30,7 @@ pub(crate) fn put_page(names: &[Name], first: u64, out: &mut [u8; DESK_BYTES]) -
     };
     let mut end = 0;
     for name in left {
-        match put_name(name, out, end) {
+        match place_name(name, out, end) {
             Some(next) => end = next,
             None => return end,
         }
@@ -40,7 +40,7 @@ pub(crate) fn put_page(names: &[Name], first: u64, out: &mut [u8; DESK_BYTES]) -
 
 /// Puts a name with a zero byte behind it at a place of a desk's bytes, and answers the place behind it. Where there is no room
 /// nothing before the place is changed.
-fn put_name(name: &Name, out: &mut [u8; DESK_BYTES], at: usize) -> Option<usize>
+fn place_name(name: &Name, out: &mut [u8; DESK_BYTES], at: usize) -> Option<usize>
     requires { at ≤ DESK_BYTES }
     ensures place { MatchOption result (DESK_BYTES < at + length name.now + 1)
         (λ next. next ≡ at + length name.now + 1) }
@@ -49,13 +49,13 @@ fn put_name(name: &Name, out: &mut [u8; DESK_BYTES], at: usize) -> Option<usize>
     ensures written { MatchOption result (take at out.new ≡ take at out.old)
         (λ next. take next out.new ≡ take at out.old ++ (name.now ++ 0 ∷ [])) }
 {
-    let end = put_at(name.as_str().as_bytes(), out, at)?;
-    put_at(&[0], out, end)
+    let end = place_at(name.as_str().as_bytes(), out, at)?;
+    place_at(&[0], out, end)
 }
 
 /// Puts each client that lost a call, with the number of its first lost call, at the front of a desk's bytes, and answers how many
 /// bytes they have. Where there is no room for them it is [`DeskFault::NoRoom`].
-pub(crate) fn put_losses(
+pub(crate) fn place_losses(
     losses: &[(u32, u64)],
     out: &mut [u8; DESK_BYTES],
 ) -> Result<usize, DeskFault>
@@ -65,7 +65,7 @@ pub(crate) fn put_losses(
 {
     let mut end = 0;
     for (client, call) in losses {
-        let next = put_loss(*client, *call, out, end).ok_or(DeskFault::NoRoom)?;
+        let next = place_loss(*client, *call, out, end).ok_or(DeskFault::NoRoom)?;
         end = next;
     }
     Ok(end)
@@ -73,18 +73,18 @@ pub(crate) fn put_losses(
 
 /// Puts a client with the number of its first lost call at a place of a desk's bytes, and answers the place behind it, or nothing where
 /// there is no room.
-fn put_loss(client: u32, call: u64, out: &mut [u8; DESK_BYTES], at: usize) -> Option<usize>
+fn place_loss(client: u32, call: u64, out: &mut [u8; DESK_BYTES], at: usize) -> Option<usize>
     requires { at ≤ DESK_BYTES }
     ensures few { IfSome result (λ next. next ≤ DESK_BYTES) }
     ensures written { IfSome result (λ next.
         take next out.new ≡ take at out.old ++ loss_bytes (client, call)) }
 {
-    let end = put_at(&client.to_le_bytes(), out, at)?;
-    put_at(&call.to_le_bytes(), out, end)
+    let end = place_at(&client.to_le_bytes(), out, at)?;
+    place_at(&call.to_le_bytes(), out, end)
 }
 
 /// Puts bytes at a place of a desk's, and answers the place behind them, or nothing where there is no room.
-fn put_at(bytes: &[u8], out: &mut [u8; DESK_BYTES], at: usize) -> Option<usize>
+fn place_at(bytes: &[u8], out: &mut [u8; DESK_BYTES], at: usize) -> Option<usize>
     requires { at ≤ DESK_BYTES }
     ensures place { MatchOption result (DESK_BYTES < at + length bytes.now)
         (λ next. next ≡ at + length bytes.now) }

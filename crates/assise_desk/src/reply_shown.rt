@@ -1,9 +1,9 @@
 // Replies as numbers and bytes.
-ghost use Rattle.assise_desk.specs.Replies.{Shows};
+ghost use Rattle.assise_desk.specs.ShownReplies.{ShowsReply};
 
 use crate::desk_fault::DeskFault;
 use crate::desk_request::DESK_BYTES;
-use crate::page::{put_bytes, put_page};
+use crate::page::{place_bytes, place_page};
 use assise_names::reply::Reply;
 
 /// A reply in numbers and bytes. Of names it is a page, behind the first so many.
@@ -13,15 +13,15 @@ pub(crate) fn show_reply(
     out: &mut [u8; DESK_BYTES],
     stands: &mut u64,
 ) -> Result<u64, DeskFault>
-    ensures { Shows reply.now first result stands.new out.new }
+    ensures { ShowsReply reply.now first result stands.new out.new }
 {
     match reply {
         Reply::Done => Ok(0),
-        Reply::Bytes(bytes) => Ok(put_bytes(bytes.as_slice(), out)? as u64),
+        Reply::Bytes(bytes) => Ok(place_bytes(bytes.as_slice(), out)? as u64),
         Reply::Names(names) => {
             let names = names.as_slice();
             *stands = names.len() as u64;
-            Ok(put_page(names, first, out) as u64)
+            Ok(place_page(names, first, out) as u64)
         }
         Reply::File(size) => {
             *stands = 1;

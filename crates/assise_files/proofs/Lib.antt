@@ -1,3 +1,3 @@
 mod AlwaysLegal
 mod VainTries
-mod TriesCourse
+pub mod TriesCourse

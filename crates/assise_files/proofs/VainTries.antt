@@ -11,10 +11,10 @@ use Rattle.assise_machine_events.specs.Machine.{Machine}
 use Rattle.assise_rounds.specs.Courses.{Told}
 use Rattle.assise_rounds.specs.Rounds.{RoundsOnce}
 use Rattle.assise_rounds.specs.Trying.{settled_answer}
-use Rattle.assise_files.specs.CallTries.{FindsFull, InVain, IsTriedOut, MakesRoom, TriesInVain, WaitsOnce, is_awaited, is_full, is_settled, is_spent, stays_full, waits_on}
+use Rattle.assise_files.specs.CallTries.{FindsFull, InVain, IsTriedOut, MakesRoom, TriesInVain, WaitsOnce, waits_in_vain, full_in_vain, settles_at_last, spends_all, ends_full, ends_waiting}
 
-pub makes_room : (busy : Bool) (c : ℕ) (a : Answer) (m v m' : Machine) → Syncing m c a v → (es : Told) × RoundsOnce busy v es m' → (gs : Told) × MakesRoom busy c m gs m'
-makes_room busy c a m v m' h (es, round) =
+pub room_made : (busy : Bool) (c : ℕ) (a : Answer) (m v m' : Machine) → Syncing m c a v → (es : Told) × RoundsOnce busy v es m' → (gs : Told) × MakesRoom busy c m gs m'
+room_made busy c a m v m' h (es, round) =
     (_, record { answer = a; course = record { between = v; before = _; after = es; told = refl; first = record { told = refl; happens = h }; second = round } })
 
 -- ---- one try
@@ -31,39 +31,39 @@ pub none_yet : (c : ℕ) (op : Op) (k : ℕ) (m : Machine) → k ≡ 0 → (es :
 none_yet c op zero m is = ([], record { told = refl; stays = refl })
 none_yet c op (suc k) m is = absurd (omega (arith, is))
 
-one_more : (c : ℕ) (op : Op) (k j : ℕ) (m u m' : Machine) → j ≡ suc k → (es : Told) × InVain c op k m es u → (fs : Told) × TriesInVain c op u fs m' → (gs : Told) × InVain c op j m gs m'
-one_more c op k j m u m' is (es, before) (fs, h) = rw is (_, record { between = u; before = es; after = fs; told = refl; first = before; second = h })
+one_more_in_vain : (c : ℕ) (op : Op) (k j : ℕ) (m u m' : Machine) → j ≡ suc k → (es : Told) × InVain c op k m es u → (fs : Told) × TriesInVain c op u fs m' → (gs : Told) × InVain c op j m gs m'
+one_more_in_vain c op k j m u m' is (es, before) (fs, h) = rw is (_, record { between = u; before = es; after = fs; told = refl; first = before; second = h })
 
-pub awaited : (busy : Bool) (c : ℕ) (op : Op) (k j : ℕ) (m u v m' : Machine) → busy ≡ true → j ≡ suc k → (es : Told) × InVain c op k m es u → Trying u c op not_yet v →
+pub awaited_in_vain : (busy : Bool) (c : ℕ) (op : Op) (k j : ℕ) (m u v m' : Machine) → busy ≡ true → j ≡ suc k → (es : Told) × InVain c op k m es u → Trying u c op not_yet v →
     (fs : Told) × RoundsOnce busy v fs m' → (gs : Told) × InVain c op j m gs m'
-awaited busy c op k j m u v m' work is before h round =
+awaited_in_vain busy c op k j m u v m' work is before h round =
     let w = awaited_once busy c op u v m' h round in
-    one_more c op k j m u m' is before (w.0, is_awaited (subst (λ b. WaitsOnce b c op u w.0 m') work w.1))
+    one_more_in_vain c op k j m u m' is before (w.0, waits_in_vain (subst (λ b. WaitsOnce b c op u w.0 m') work w.1))
 
-pub full : (busy : Bool) (c : ℕ) (op : Op) (k j : ℕ) (m u v m' : Machine) → busy ≡ true → j ≡ suc k → (es : Told) × InVain c op k m es u → Trying u c op (refused LogFull) v →
+pub found_full : (busy : Bool) (c : ℕ) (op : Op) (k j : ℕ) (m u v m' : Machine) → busy ≡ true → j ≡ suc k → (es : Told) × InVain c op k m es u → Trying u c op (refused LogFull) v →
     (fs : Told) × MakesRoom busy c v fs m' → (gs : Told) × InVain c op j m gs m'
-full busy c op k j m u v m' work is before h room =
+found_full busy c op k j m u v m' work is before h room =
     let w = full_once busy c op u v m' h room in
-    one_more c op k j m u m' is before (w.0, is_full (subst (λ b. FindsFull b c op u w.0 m') work w.1))
+    one_more_in_vain c op k j m u m' is before (w.0, full_in_vain (subst (λ b. FindsFull b c op u w.0 m') work w.1))
 
 -- ---- how it ends
 
-pub settled : (turns c : ℕ) (op : Op) (r : Result Reply Refusal) (k : ℕ) (m v m' : Machine) → k < turns → (r ≡ Err LogFull → ⊥) → (es : Told) × InVain c op k m es v →
+pub tried_settled : (turns c : ℕ) (op : Op) (r : Result Reply Refusal) (k : ℕ) (m v m' : Machine) → k < turns → (r ≡ Err LogFull → ⊥) → (es : Told) × InVain c op k m es v →
     Trying v c op (settled_answer r) m' → (gs : Told) × IsTriedOut turns c op r m gs m'
-settled turns c op r k m v m' few other (es, before) h =
-    (_, is_settled k few other record { between = v; before = es; after = _; told = refl; first = before; second = record { told = refl; happens = h } })
+tried_settled turns c op r k m v m' few other (es, before) h =
+    (_, settles_at_last k few other record { between = v; before = es; after = _; told = refl; first = before; second = record { told = refl; happens = h } })
 
-pub idle : (turns c : ℕ) (op : Op) (busy : Bool) (k : ℕ) (m u v m' : Machine) → k < turns → busy ≡ false → (es : Told) × InVain c op k m es u → Trying u c op not_yet v →
+pub tried_idle : (turns c : ℕ) (op : Op) (busy : Bool) (k : ℕ) (m u v m' : Machine) → k < turns → busy ≡ false → (es : Told) × InVain c op k m es u → Trying u c op not_yet v →
     (fs : Told) × RoundsOnce busy v fs m' → (gs : Told) × IsTriedOut turns c op (Err Busy) m gs m'
-idle turns c op busy k m u v m' few work (es, before) h round =
+tried_idle turns c op busy k m u v m' few work (es, before) h round =
     let w = awaited_once busy c op u v m' h round in
-    (_, waits_on k few refl record { between = u; before = es; after = w.0; told = refl; first = before; second = subst (λ b. WaitsOnce b c op u w.0 m') work w.1 })
+    (_, ends_waiting k few refl record { between = u; before = es; after = w.0; told = refl; first = before; second = subst (λ b. WaitsOnce b c op u w.0 m') work w.1 })
 
-pub still_full : (turns c : ℕ) (op : Op) (busy : Bool) (k : ℕ) (m u v m' : Machine) → k < turns → busy ≡ false → (es : Told) × InVain c op k m es u →
+pub tried_full : (turns c : ℕ) (op : Op) (busy : Bool) (k : ℕ) (m u v m' : Machine) → k < turns → busy ≡ false → (es : Told) × InVain c op k m es u →
     Trying u c op (refused LogFull) v → (fs : Told) × MakesRoom busy c v fs m' → (gs : Told) × IsTriedOut turns c op (Err LogFull) m gs m'
-still_full turns c op busy k m u v m' few work (es, before) h room =
+tried_full turns c op busy k m u v m' few work (es, before) h room =
     let w = full_once busy c op u v m' h room in
-    (_, stays_full k few refl record { between = u; before = es; after = w.0; told = refl; first = before; second = subst (λ b. FindsFull b c op u w.0 m') work w.1 })
+    (_, ends_full k few refl record { between = u; before = es; after = w.0; told = refl; first = before; second = subst (λ b. FindsFull b c op u w.0 m') work w.1 })
 
 pub spent : (turns c : ℕ) (op : Op) (k : ℕ) (m m' : Machine) → k ≡ turns → (es : Told) × InVain c op k m es m' → (gs : Told) × IsTriedOut turns c op (Err Busy) m gs m'
-spent turns c op k m m' is (es, before) = (es, is_spent refl (subst (λ j. InVain c op j m es m') is before))
+spent turns c op k m m' is (es, before) = (es, spends_all refl (subst (λ j. InVain c op j m es m') is before))

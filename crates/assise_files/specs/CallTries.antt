@@ -27,8 +27,8 @@ abbrev pub FindsFull : Bool → ℕ → Op → Machine → Told → Machine → 
 FindsFull busy c op m es m' = Then (IsEvent (try_call c op) (refused LogFull)) (MakesRoom busy c) m es m'
 
 pub data TriesInVain (c : ℕ) (op : Op) (m : Machine) (es : Told) (m' : Machine) : Type 0 where
-  is_awaited : WaitsOnce true c op m es m' → TriesInVain c op m es m'
-  is_full : FindsFull true c op m es m' → TriesInVain c op m es m'
+  waits_in_vain : WaitsOnce true c op m es m' → TriesInVain c op m es m'
+  full_in_vain : FindsFull true c op m es m' → TriesInVain c op m es m'
 
 -- so often, one after another
 abbrev pub InVain : ℕ → Op → ℕ → Machine → Told → Machine → Type 0
@@ -40,7 +40,7 @@ InVain c op (suc k) m es m' = Then (InVain c op k) (TriesInVain c op) m es m'
 -- After fewer than so many tries in vain one settles the call; or one waits, and there is nothing to do in the round behind it; or the
 -- same of one that finds the log full; or so many tries are in vain.
 pub data IsTriedOut (turns c : ℕ) (op : Op) (r : Result Reply Refusal) (m : Machine) (es : Told) (m' : Machine) : Type 0 where
-  is_settled : (k : ℕ) → k < turns → (r ≡ Err LogFull → ⊥) → Then (InVain c op k) (IsEvent (try_call c op) (settled_answer r)) m es m' → IsTriedOut turns c op r m es m'
-  waits_on : (k : ℕ) → k < turns → r ≡ Err Busy → Then (InVain c op k) (WaitsOnce false c op) m es m' → IsTriedOut turns c op r m es m'
-  stays_full : (k : ℕ) → k < turns → r ≡ Err LogFull → Then (InVain c op k) (FindsFull false c op) m es m' → IsTriedOut turns c op r m es m'
-  is_spent : r ≡ Err Busy → InVain c op turns m es m' → IsTriedOut turns c op r m es m'
+  settles_at_last : (k : ℕ) → k < turns → (r ≡ Err LogFull → ⊥) → Then (InVain c op k) (IsEvent (try_call c op) (settled_answer r)) m es m' → IsTriedOut turns c op r m es m'
+  ends_waiting : (k : ℕ) → k < turns → r ≡ Err Busy → Then (InVain c op k) (WaitsOnce false c op) m es m' → IsTriedOut turns c op r m es m'
+  ends_full : (k : ℕ) → k < turns → r ≡ Err LogFull → Then (InVain c op k) (FindsFull false c op) m es m' → IsTriedOut turns c op r m es m'
+  spends_all : r ≡ Err Busy → InVain c op turns m es m' → IsTriedOut turns c op r m es m'

@@ -1,6 +1,6 @@
 // Requests as text, one behind another at one desk.
 use crate::shown::put_answer;
-use assise_desk::caller_desk::{CallerDesk, serve};
+use assise_desk::caller_desk::{CallerDesk, serve_desk};
 use assise_desk::desk_request::DeskRequest;
 use assise_rows::{Subject, split_word};
 use std::alloc::Global;
@@ -42,7 +42,7 @@ impl Requests {
         request.path_bytes = u32::try_from(bytes).ok()?;
         request.other_bytes = u32::try_from(other.len()).ok()?;
         self.desk.request = request;
-        serve(alloc, &mut self.desk);
+        serve_desk(alloc, &mut self.desk);
         Some(())
     }
 

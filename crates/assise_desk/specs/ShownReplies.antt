@@ -23,10 +23,10 @@ pub data ShowsBytes (bytes : List ℕ) (result : Result ℕ DeskFault) (out : Li
   are_too_many : DESK_BYTES < length bytes → result ≡ Err NoRoom → ShowsBytes bytes result out
 
 -- a reply as a number, with what stands at the path and what is in the bytes then
-abbrev pub Shows : Reply → ℕ → Result ℕ DeskFault → ℕ → List ℕ → Type 0
-Shows Done first result stands out = result ≡ Ok 0
-Shows (Bytes bytes) first result stands out = ShowsBytes bytes result out
-Shows (Names names) first result stands out = ShowsPage names first result stands out
-Shows (File size) first result stands out = ShowsKind 1 size result stands
-Shows (Dir entries) first result stands out = ShowsKind 2 entries result stands
-Shows (Error error) first result stands out = result ≡ Err (Tree error)
+abbrev pub ShowsReply : Reply → ℕ → Result ℕ DeskFault → ℕ → List ℕ → Type 0
+ShowsReply Done first result stands out = result ≡ Ok 0
+ShowsReply (Bytes bytes) first result stands out = ShowsBytes bytes result out
+ShowsReply (Names names) first result stands out = ShowsPage names first result stands out
+ShowsReply (File size) first result stands out = ShowsKind 1 size result stands
+ShowsReply (Dir entries) first result stands out = ShowsKind 2 entries result stands
+ShowsReply (Error error) first result stands out = result ≡ Err (Tree error)

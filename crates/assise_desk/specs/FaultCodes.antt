@@ -13,15 +13,15 @@ abbrev pub below_zero : ℕ → ℤ
 below_zero n = neg_ℤ (pos n)
 
 -- 1 to 8: the tree doesn't do it (E1 to E8)
-abbrev pub tree_code : TreeError → ℤ
-tree_code NoEnt = below_zero 1
-tree_code Exists = below_zero 2
-tree_code NotDir = below_zero 3
-tree_code IsDir = below_zero 4
-tree_code NotEmpty = below_zero 5
-tree_code Invalid = below_zero 6
-tree_code TooBig = below_zero 7
-tree_code DirFull = below_zero 8
+abbrev pub tree_error_code : TreeError → ℤ
+tree_error_code NoEnt = below_zero 1
+tree_error_code Exists = below_zero 2
+tree_error_code NotDir = below_zero 3
+tree_error_code IsDir = below_zero 4
+tree_error_code NotEmpty = below_zero 5
+tree_error_code Invalid = below_zero 6
+tree_error_code TooBig = below_zero 7
+tree_error_code DirFull = below_zero 8
 
 -- 101 to 112: it is refused (F1 to F12)
 abbrev pub refusal_code : Refusal → ℤ
@@ -49,7 +49,7 @@ path_code Memory = below_zero 206
 
 -- 301 to 303: the desk can't serve it
 abbrev pub fault_code : DeskFault → ℤ
-fault_code (Tree error) = tree_code error
+fault_code (Tree error) = tree_error_code error
 fault_code (Refused refusal) = refusal_code refusal
 fault_code (Path fault) = path_code fault
 fault_code NoCluster = below_zero 301

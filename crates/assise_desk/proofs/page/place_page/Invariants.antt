@@ -1,12 +1,12 @@
 use Rattle.std.proofs.Common.{◌≡◌, ◌<◌, ◌≤◌, take}
-use Rattle.assise_desk.specs.Pages.{ended}
+use Rattle.assise_desk.specs.Pages.{zero_ended}
 use Rattle.assise_desk.specs.declared.desk_request.TheConstants.{DESK_BYTES}
-use Rattle.assise_desk.proofs.page.put_page.Given as goal
+use Rattle.assise_desk.proofs.page.place_page.Given as goal
 
 -- so many names are written
 abbrev pub invariant-loop-name : goal.invariant-loop-name
 invariant-loop-name l = record {
-  written : take l.end l.out ≡ ended (take l.name-index l.left);
+  written : take l.end l.out ≡ zero_ended (take l.name-index l.left);
   few : l.end ≤ DESK_BYTES;
   begins : l.name-index ≡ 0 → l.end ≡ 0;
   goes_on : 0 < l.name-index → 0 < l.end;

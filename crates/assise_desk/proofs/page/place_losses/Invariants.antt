@@ -1,7 +1,7 @@
 use Rattle.std.proofs.Common.{◌≡◌, ◌≤◌, take}
 use Rattle.assise_desk.specs.Pages.{losses_bytes}
 use Rattle.assise_desk.specs.declared.desk_request.TheConstants.{DESK_BYTES}
-use Rattle.assise_desk.proofs.page.put_losses.Given as goal
+use Rattle.assise_desk.proofs.page.place_losses.Given as goal
 
 -- so many lost calls are written
 abbrev pub invariant-loop-client : goal.invariant-loop-client
