@@ -8,7 +8,7 @@ use Rattle.assise_machine_events.specs.Machine.{Machine}
 use Rattle.assise_machine_events.specs.NodeEvents.{Delivering, Sending}
 use Rattle.assise_machine.specs.Answers.{delivery_answer}
 use Rattle.assise_rounds.specs.Courses.{Told}
-use Rattle.assise_rounds.specs.Rounds.{AreCarried, Carried, Delivers, Replicates, deliveries, delivery, is_taken, letter, taken}
+use Rattle.assise_rounds.specs.Rounds.{AreCarried, Carried, Delivers, Replicates, deliveries, delivery, is_taken_in, letter, taken}
 
 happen_then : (m v m' : Machine) (es fs : Told) → AllHappen m es v → AllHappen v fs m' → AllHappen m (es ++ fs) m'
 happen_then m v m' [] fs same h = subst (λ u. AllHappen u fs m') same h
@@ -22,19 +22,19 @@ letters-more : (cs : List Carried) (c : Carried) → map letter (cs ++ c ∷ [])
 letters-more [] c = refl
 letters-more (b ∷ cs) c = ap (λ fs. letter b ∷ fs) (letters-more cs c)
 
-taken-in : (cs : List Carried) (c : Carried) → is_taken c.answer ≡ true → taken (cs ++ c ∷ []) ≡ taken cs + 1
+taken-in : (cs : List Carried) (c : Carried) → is_taken_in c.answer ≡ true → taken (cs ++ c ∷ []) ≡ taken cs + 1
 taken-in [] c is = rw is refl
-taken-in (b ∷ cs) c is = by_case (taken-in cs c is) (is_taken b.answer) refl
+taken-in (b ∷ cs) c is = by_case (taken-in cs c is) (is_taken_in b.answer) refl
   where
-    by_case : taken (cs ++ c ∷ []) ≡ taken cs + 1 → (t : Bool) → is_taken b.answer ≡ t → taken (b ∷ cs ++ c ∷ []) ≡ taken (b ∷ cs) + 1
+    by_case : taken (cs ++ c ∷ []) ≡ taken cs + 1 → (t : Bool) → is_taken_in b.answer ≡ t → taken (b ∷ cs ++ c ∷ []) ≡ taken (b ∷ cs) + 1
     by_case rest true e = rw e (omega (arith, rest))
     by_case rest false e = rw e rest
 
-taken-out : (cs : List Carried) (c : Carried) → is_taken c.answer ≡ false → taken (cs ++ c ∷ []) ≡ taken cs
+taken-out : (cs : List Carried) (c : Carried) → is_taken_in c.answer ≡ false → taken (cs ++ c ∷ []) ≡ taken cs
 taken-out [] c is = rw is refl
-taken-out (b ∷ cs) c is = by_case (taken-out cs c is) (is_taken b.answer) refl
+taken-out (b ∷ cs) c is = by_case (taken-out cs c is) (is_taken_in b.answer) refl
   where
-    by_case : taken (cs ++ c ∷ []) ≡ taken cs → (t : Bool) → is_taken b.answer ≡ t → taken (b ∷ cs ++ c ∷ []) ≡ taken (b ∷ cs)
+    by_case : taken (cs ++ c ∷ []) ≡ taken cs → (t : Bool) → is_taken_in b.answer ≡ t → taken (b ∷ cs ++ c ∷ []) ≡ taken (b ∷ cs)
     by_case rest true e = rw e (omega (arith, rest))
     by_case rest false e = rw e rest
 

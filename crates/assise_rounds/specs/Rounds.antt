@@ -32,17 +32,17 @@ deliveries [] = []
 deliveries (c ∷ cs) = delivery c.frame c.node c.answer ++ deliveries cs
 
 -- the node took the frame in
-abbrev pub is_taken : Option Answer → Bool
-is_taken (Some (received place)) = true
-is_taken _ = false
+abbrev pub is_taken_in : Option Answer → Bool
+is_taken_in (Some (received place)) = true
+is_taken_in _ = false
 
 abbrev pub taken : List Carried → ℕ
-taken cs = length (filter (λ c. is_taken c.answer) cs)
+taken cs = length (filter (λ c. is_taken_in c.answer) cs)
 
 -- a frame goes to node n, which takes it in or doesn't
 pub record Delivers (f : LogFrame) (n : ℕ) (is_in : Bool) (m m' : Machine) : Type 0 where
   pub answer : Option Answer
-  pub taken : is_in ≡ is_taken answer
+  pub taken : is_in ≡ is_taken_in answer
   pub happen : AllHappen m (delivery f n answer) m'
 
 -- these frames go to the nodes that they are for, one after another, and so many are taken in
