@@ -1,10 +1,9 @@
 -- The calls in front of commands, and the first line that only a run on one thread serves.
-use Rattle.std.proofs.Common.{◌≡◌, ◌∙◌, ◌≤◌, ◌<◌, ℕ, suc, ◌+◌, List, [], ◌∷◌, ◌++◌, length, take, drop, get_or, Option, None, Some, refl, sym, ap, ap₂, subst, arith}
+use Rattle.std.proofs.Common.{◌≡◌, ◌≤◌, ℕ, suc, List, [], ◌∷◌, length, take, get_or, refl, sym, ap, subst, arith}
 use Rattle.assise_fault_script.specs.declared.command.Command.{Command}
 use Rattle.assise_fault_script.specs.declared.command.Command.TheVariants.{Cluster, Manual, Open, Call, Carry, Digest, Release, Crash, Fail, Back, Refill, Join, Tree, History}
 use Rattle.assise_fault_script.specs.declared.parse.NumberedCommand.{NumberedCommand}
 use Rattle.assise_threads.specs.CallsAhead.{calls_ahead, counts_call}
-use Rattle.assise_threads.specs.Runs.{serial_from, serial_line}
 use Rattle.assise_threads.specs.Stretches.{AreCalls, IsClientCall}
 
 data CallOrNot (command : Command) : Type 0 where

@@ -1,5 +1,5 @@
 -- What the main thread does in one take opens no client and answers no call.
-use Rattle.std.proofs.Common.{◌≡◌, ◌∙◌, ℕ, List, [], ◌∷◌, ◌++◌, refl, sym, ap, subst, append-nil, drop, length, Option, None}
+use Rattle.std.proofs.Common.{◌≡◌, ◌∙◌, ℕ, List, [], ◌∷◌, refl, sym, ap, subst, append-nil, drop, length, Option, None}
 use Rattle.std.proofs.Math.Logic.{∥∥₁_map}
 use Rattle.assise_history.specs.Entries.{Event, opens, calls, crashes, fails, returns}
 use Rattle.assise_history.specs.Legal.{IsLegal}

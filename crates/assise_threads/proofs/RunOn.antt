@@ -1,5 +1,5 @@
 -- A run goes on with what is said next, and is whole in the end.
-use Rattle.std.proofs.Common.{◌≡◌, ◌∙◌, ◌≤◌, ◌<◌, ℕ, suc, ◌+◌, List, [], ◌∷◌, ◌++◌, length, take, drop, get_or, Option, None, Some, refl, sym, ap, subst, arith, take-add, slice_get, Result, Ok, Err, OnOk}
+use Rattle.std.proofs.Common.{◌≡◌, ◌∙◌, ℕ, ◌+◌, List, [], ◌∷◌, ◌++◌, take, drop, Option, None, Some, refl, sym, ap, subst, take-add, slice_get, Result, Ok, Err, OnOk}
 use Rattle.std.proofs.lemmas.List.{map-append, nil_from_length}
 use Rattle.std.specs.Io.KnownBytes.{Appends, Keeps}
 use Rattle.assise_history.specs.Entries.{Event}
@@ -25,7 +25,6 @@ use Rattle.assise_threads.specs.Hearing.{sights}
 use Rattle.assise_threads.specs.Runs.{EndsRun, IsRunSaid, ThreadFault}
 use Rattle.assise_threads.specs.Said.{said_lines}
 use Rattle.assise_threads.specs.Spoken.{AreAllSaid, MayGain, Sights, gains}
-use Rattle.assise_threads.specs.Stretches.{IsClientCall}
 use Rattle.assise_threads.proofs.AllSaid.{is_run, nothing_said, one_added, stretch_added}
 
 pub nothing_yet : (seen : List Event) (clients : Sights) (old : Option (List ℕ)) → seen ≡ [] → clients ≡ [] → AreAllSaid [] seen clients old old
