@@ -1,5 +1,5 @@
 -- Tries of a call, until it is settled.
-use Rattle.std.proofs.Common.{◌≡◌, ◌<◌, ℕ, zero, suc, Bool, true, false, [], Result, Err, refl, subst, arith}
+use Rattle.std.proofs.Common.{◌≡◌, ◌<◌, ℕ, suc, Bool, true, false, Result, Err, refl, subst}
 use Rattle.assise_names.specs.declared.call.Op.{Op}
 use Rattle.assise_names.specs.declared.refusal.Refusal.{Refusal}
 use Rattle.assise_names.specs.declared.refusal.Refusal.TheVariants.{Busy, LogFull}
@@ -11,7 +11,7 @@ use Rattle.assise_machine_events.specs.Machine.{Machine}
 use Rattle.assise_rounds.specs.Courses.{Told}
 use Rattle.assise_rounds.specs.Rounds.{RoundsOnce}
 use Rattle.assise_rounds.specs.Trying.{settled_answer}
-use Rattle.assise_files.specs.CallTries.{FindsFull, InVain, IsTriedOut, MakesRoom, TriesInVain, WaitsOnce, waits_in_vain, full_in_vain, settles_at_last, spends_all, ends_full, ends_waiting}
+use Rattle.assise_files.specs.CallTries.{FindsFull, InVain, IsTriedOut, MakesRoom, TriesInVain, WaitsOnce, waits_in_vain, full_in_vain, settles_at_last, ends_full, ends_waiting}
 
 pub room_made : (busy : Bool) (c : ℕ) (a : Answer) (m v m' : Machine) → Syncing m c a v → (es : Told) × RoundsOnce busy v es m' → (gs : Told) × MakesRoom busy c m gs m'
 room_made busy c a m v m' h (es, round) =
@@ -26,10 +26,6 @@ full_once : (busy : Bool) (c : ℕ) (op : Op) (u v m' : Machine) → Trying u c 
 full_once busy c op u v m' h (fs, room) = (_, record { between = v; before = _; after = fs; told = refl; first = record { told = refl; happens = h }; second = room })
 
 -- ---- tries in vain
-
-pub none_yet : (c : ℕ) (op : Op) (k : ℕ) (m : Machine) → k ≡ 0 → (es : Told) × InVain c op k m es m
-none_yet c op zero m is = ([], record { told = refl; stays = refl })
-none_yet c op (suc k) m is = absurd (omega (arith, is))
 
 one_more_in_vain : (c : ℕ) (op : Op) (k j : ℕ) (m u m' : Machine) → j ≡ suc k → (es : Told) × InVain c op k m es u → (fs : Told) × TriesInVain c op u fs m' → (gs : Told) × InVain c op j m gs m'
 one_more_in_vain c op k j m u m' is (es, before) (fs, h) = rw is (_, record { between = u; before = es; after = fs; told = refl; first = before; second = h })
@@ -64,6 +60,3 @@ pub tried_full : (turns c : ℕ) (op : Op) (busy : Bool) (k : ℕ) (m u v m' : M
 tried_full turns c op busy k m u v m' few work (es, before) h room =
     let w = full_once busy c op u v m' h room in
     (_, ends_full k few refl record { between = u; before = es; after = w.0; told = refl; first = before; second = subst (λ b. FindsFull b c op u w.0 m') work w.1 })
-
-pub spent : (turns c : ℕ) (op : Op) (k : ℕ) (m m' : Machine) → k ≡ turns → (es : Told) × InVain c op k m es m' → (gs : Told) × IsTriedOut turns c op (Err Busy) m gs m'
-spent turns c op k m m' is (es, before) = (es, spends_all refl (subst (λ j. InVain c op j m es m') is before))
