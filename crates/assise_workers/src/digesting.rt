@@ -1,7 +1,7 @@
 // What a node's digester does.
 
 use crate::gate::{Gate, Point};
-use crate::idle::rest;
+use crate::idle::Idle;
 use crate::replicated::Replicated;
 use crate::worker::{TurnEnd, Worker};
 use std::alloc::Global;
@@ -35,12 +35,13 @@ impl<'a, S: Replicated> Worker<'a, S> {
     pub fn digest_loop<G: Gate, R: Wait>(&mut self, rt: &R, alloc: Global, node: u32, gate: &G)
         ensures { GoesOn self.old self.new }
     {
+        let mut idle = Idle::new();
         for _ in rt.forever() {
             if !gate.pass(Point::Turn) {
                 return;
             }
             let end = self.digest_turn(rt, alloc, node, gate);
-            if !rest(rt, end) {
+            if !idle.rest(rt, end) {
                 return;
             }
         }

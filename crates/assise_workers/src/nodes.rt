@@ -3,7 +3,7 @@ ghost use Rattle.std.specs.Prelude.{◌≡◌};
 ghost use Rattle.assise_keeper.specs.Passes.{IsPassOf, client, seen};
 
 use crate::gate::{Gate, Point};
-use crate::idle::rest;
+use crate::idle::Idle;
 use crate::replicated::Replicated;
 use crate::worker::{TurnEnd, Worker};
 use assise_keeper::keeper::Keeper;
@@ -83,9 +83,10 @@ pub fn tend<S: Replicated, G: Gate, R: Wait>(
     nodes: &mut [NodeWorkers<'_, S>],
     gate: &G,
 ) {
+    let mut idle = Idle::new();
     for _ in rt.forever() {
         let end = turn_of_each(rt, alloc, nodes, gate);
-        if !rest(rt, end) {
+        if !idle.rest(rt, end) {
             return;
         }
     }

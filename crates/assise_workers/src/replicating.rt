@@ -1,7 +1,7 @@
 // What a node's replicator does.
 
 use crate::gate::{Gate, Point};
-use crate::idle::rest;
+use crate::idle::Idle;
 use crate::replicated::Replicated;
 use crate::worker::{TurnEnd, Worker};
 use assise_link::carrying::carry_frame;
@@ -44,12 +44,13 @@ impl<'a, S: Replicated> Worker<'a, S> {
     )
         ensures { GoesOn self.old self.new }
     {
+        let mut idle = Idle::new();
         for _ in rt.forever() {
             if !gate.pass(Point::Turn) {
                 return;
             }
             let end = self.replicate_turn(rt, alloc, node, link, gate);
-            if !rest(rt, end) {
+            if !idle.rest(rt, end) {
                 return;
             }
         }
