@@ -3,4 +3,7 @@
 #![tactic(auto)]
 
 pub mod carrying;
+mod faults;
+pub mod hostile;
 pub mod link;
+pub mod test_link;

@@ -2,6 +2,7 @@
 ghost use Rattle.std.specs.Prelude.{◌≡◌, ◌+◌, ◌⊎◌, ℕ, Contains, IfOk, IfSome, List, OnErr, OnOk};
 ghost use Rattle.assise_link.specs.Links.{IsFrontOnLink};
 
+use crate::faults::Faults;
 use std::alloc::Global;
 
 /// Why a link carried nothing.
@@ -11,6 +12,15 @@ pub enum LinkFault {
     Memory,
     /// The device failed.
     Device,
+}
+
+/// A copy of bytes, if there is memory.
+pub(crate) fn copied(alloc: Global, bytes: &[u8]) -> Option<Vec<u8>>
+    ensures { IfSome result (λ copy. copy.items ≡ bytes.now) }
+{
+    let mut copy = Vec::new(alloc);
+    copy.extend_from_slice(bytes).ok()?;
+    Some(copy)
 }
 
 /// What carries bytes from one node to another. What comes at the other end is a front of the bytes that it is handed, or of bytes that
@@ -48,52 +58,38 @@ pub trait Link: Send {
 /// A link that answers what it is handed, and stores nothing.
 #[derive(Drop)]
 pub struct PerfectLink {
-    faults: u64,
+    faults: Faults,
 }
 
 impl PerfectLink {
-    ghost use Rattle.std.specs.Prelude.{◌≡◌, ◌+◌, IfOk, None, OnErr, OnOk};
-
     /// A link that had no faults.
     pub fn new() -> PerfectLink {
-        PerfectLink { faults: 0 }
-    }
-
-    // What it answers where there is no memory.
-    fn fail(&mut self) -> Result<Option<Vec<u8>>, LinkFault>
-        ensures lost { IfOk result (λ came. came ≡ None) }
-        ensures fault { OnErr result (self.new.faults ≡ self.old.faults + 1) }
-        ensures no_fault { OnOk result (self.new.faults ≡ self.old.faults) }
-    {
-        if self.faults == u64::MAX {
-            return Ok(None);
+        PerfectLink {
+            faults: Faults::none(),
         }
-        self.faults += 1;
-        Err(LinkFault::Memory)
     }
 }
 
 impl Link for PerfectLink {
-    ghost use Rattle.std.specs.Prelude.{◌≡◌, [], refl};
-    ghost use Rattle.std.proofs.Common.{inl, sym, append-nil, ◌∙◌};
+    ghost use Rattle.std.specs.Prelude.{◌≡◌, []};
+    ghost use Rattle.assise_link.specs.Fronts.{whole};
 
     ghost stored = { λ _. [] };
 
-    ghost count = { λ l. l.faults };
+    ghost count = { λ l. l.faults.count };
 
     ghost gives = { λ _ bytes came. came ≡ bytes };
 
     fn carry(&mut self, alloc: Global, bytes: &[u8]) -> Result<Option<Vec<u8>>, LinkFault> {
-        let mut came = Vec::new(alloc);
-        match came.extend_from_slice(bytes) {
-            Ok(()) => Ok(Some(came)),
-            Err(_) => self.fail(),
+        match copied(alloc, bytes) {
+            Some(came) => Ok(Some(came)),
+            None => self.faults.add(LinkFault::Memory),
         }
     }
 
     fn faults(&self) -> u64 {
-        self.faults
+        self.faults.count
     }
 
-    ghost fronts = { λ _ bytes came is. record { whole = bytes; known = inl refl; rest = []; front = sym is ∙ sym (append-nil came) } };
+    ghost fronts = { λ _ bytes came is. whole bytes came [] is };
 }

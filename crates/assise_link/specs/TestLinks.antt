@@ -1,0 +1,47 @@
+-- What links of tests keep, and what they give.
+-- van Renesse and Schneider, chain replication (OSDI 2004), section 2 (the channels between servers).
+use Rattle.std.specs.Prelude.{◌≡◌, ℕ, List, [], ◌∷◌, Option, None, Some, take}
+use Rattle.std.specs.Global.{Vec}
+use Rattle.assise_link.specs.declared.test_link.TestLink.{TestLink}
+use Rattle.assise_link.specs.declared.test_link.TestLink.TheVariants.{Perfect, Lose, Repeat, Delay, Cut, Fault}
+
+-- what the carry before was handed, where it is kept
+abbrev pub kept_bytes : Option (Vec ℕ) → List (List ℕ)
+kept_bytes None = []
+kept_bytes (Some v) = v.items ∷ []
+
+-- what is handed in, and what the carry before was handed where that is kept
+abbrev pub Repeats : Option (Vec ℕ) → List ℕ → List ℕ → Type 0
+Repeats None bytes came = came ≡ bytes
+Repeats (Some v) bytes came = came ≡ v.items
+
+-- what the carry before was handed
+abbrev pub Delays : Option (Vec ℕ) → List ℕ → List ℕ → Type 0
+Delays None bytes came = ⊥
+Delays (Some v) bytes came = came ≡ v.items
+
+-- ---- by kind
+
+abbrev pub kept_by : TestLink → List (List ℕ)
+kept_by (Perfect l) = []
+kept_by (Lose l) = []
+kept_by (Repeat l) = kept_bytes l.before
+kept_by (Delay l) = kept_bytes l.before
+kept_by (Cut l) = []
+kept_by (Fault l) = []
+
+abbrev pub faults_of : TestLink → ℕ
+faults_of (Perfect l) = l.faults.count
+faults_of (Lose l) = 0
+faults_of (Repeat l) = l.faults.count
+faults_of (Delay l) = l.faults.count
+faults_of (Cut l) = l.faults.count
+faults_of (Fault l) = l.faults.count
+
+abbrev pub Gives : TestLink → List ℕ → List ℕ → Type 0
+Gives (Perfect l) bytes came = came ≡ bytes
+Gives (Lose l) bytes came = ⊥
+Gives (Repeat l) bytes came = Repeats l.before bytes came
+Gives (Delay l) bytes came = Delays l.before bytes came
+Gives (Cut l) bytes came = came ≡ take l.most bytes
+Gives (Fault l) bytes came = ⊥

@@ -1,0 +1,32 @@
+// Faults that a link counts.
+ghost use Rattle.std.specs.Prelude.{◌≡◌, ◌+◌, IfOk, None, OnErr, OnOk};
+
+use crate::link::LinkFault;
+
+/// How many faults a link has had, up to 2^64 - 1.
+#[derive(Drop)]
+pub(crate) struct Faults {
+    pub(crate) count: u64,
+}
+
+impl Faults {
+    /// None.
+    pub(crate) fn none() -> Faults
+        ensures { result.count ≡ 0 }
+    {
+        Faults { count: 0 }
+    }
+
+    /// What a carry answers that has a fault: it is counted. Where no more can be counted, what was handed in is lost.
+    pub(crate) fn add(&mut self, fault: LinkFault) -> Result<Option<Vec<u8>>, LinkFault>
+        ensures lost { IfOk result (λ came. came ≡ None) }
+        ensures fault { OnErr result (self.new.count ≡ self.old.count + 1) }
+        ensures no_fault { OnOk result (self.new.count ≡ self.old.count) }
+    {
+        if self.count == u64::MAX {
+            return Ok(None);
+        }
+        self.count += 1;
+        Err(fault)
+    }
+}

@@ -1,0 +1,193 @@
+// Links that lose, repeat, delay and cut what they carry.
+
+use crate::faults::Faults;
+use crate::link::{Link, LinkFault, copied};
+use std::alloc::Global;
+use std::mem;
+
+/// A link that answers nothing.
+#[derive(Drop)]
+pub struct LosingLink;
+
+impl Link for LosingLink {
+    ghost use Rattle.std.specs.Prelude.{◌≡◌, []};
+
+    ghost stored = { λ _. [] };
+
+    ghost count = { λ _. 0 };
+
+    ghost gives = { λ _ bytes came. ⊥ };
+
+    fn carry(&mut self, _alloc: Global, _bytes: &[u8]) -> Result<Option<Vec<u8>>, LinkFault> {
+        Ok(None)
+    }
+
+    fn faults(&self) -> u64 {
+        0
+    }
+
+    ghost fronts = { λ _ bytes came is. absurd is };
+}
+
+/// A link that answers what it is handed at odd carries, counted from 1, and at even ones what the carry before was handed.
+#[derive(Drop)]
+pub struct RepeatingLink {
+    before: Option<Vec<u8>>,
+    faults: Faults,
+}
+
+impl RepeatingLink {
+    /// A link that carried nothing.
+    pub fn new() -> RepeatingLink {
+        RepeatingLink {
+            before: None,
+            faults: Faults::none(),
+        }
+    }
+}
+
+impl Link for RepeatingLink {
+    ghost use Rattle.assise_link.specs.TestLinks.{Repeats, kept_bytes};
+    ghost use Rattle.assise_link.specs.Fronts.{repeated};
+
+    ghost stored = { λ l. kept_bytes l.before };
+
+    ghost count = { λ l. l.faults.count };
+
+    ghost gives = { λ l bytes came. Repeats l.before bytes came };
+
+    fn carry(&mut self, alloc: Global, bytes: &[u8]) -> Result<Option<Vec<u8>>, LinkFault> {
+        if let Some(before) = self.before.take() {
+            return Ok(Some(before));
+        }
+        let (Some(came), Some(kept)) = (copied(alloc, bytes), copied(alloc, bytes)) else {
+            return self.faults.add(LinkFault::Memory);
+        };
+        self.before = Some(kept);
+        Ok(Some(came))
+    }
+
+    fn faults(&self) -> u64 {
+        self.faults.count
+    }
+
+    ghost fronts = { λ l bytes came is. repeated l.before bytes came is };
+}
+
+/// A link that answers what the carry before was handed, and nothing the first time.
+#[derive(Drop)]
+pub struct DelayingLink {
+    before: Option<Vec<u8>>,
+    faults: Faults,
+}
+
+impl DelayingLink {
+    /// A link that carried nothing.
+    pub fn new() -> DelayingLink {
+        DelayingLink {
+            before: None,
+            faults: Faults::none(),
+        }
+    }
+}
+
+impl Link for DelayingLink {
+    ghost use Rattle.assise_link.specs.TestLinks.{Delays, kept_bytes};
+    ghost use Rattle.assise_link.specs.Fronts.{delayed};
+
+    ghost stored = { λ l. kept_bytes l.before };
+
+    ghost count = { λ l. l.faults.count };
+
+    ghost gives = { λ l bytes came. Delays l.before bytes came };
+
+    fn carry(&mut self, alloc: Global, bytes: &[u8]) -> Result<Option<Vec<u8>>, LinkFault> {
+        let Some(kept) = copied(alloc, bytes) else {
+            return self.faults.add(LinkFault::Memory);
+        };
+        Ok(mem::replace(&mut self.before, Some(kept)))
+    }
+
+    fn faults(&self) -> u64 {
+        self.faults.count
+    }
+
+    ghost fronts = { λ l bytes came is. delayed l.before bytes came is };
+}
+
+/// A link that answers the first bytes of what it is handed, so many at most.
+#[derive(Drop)]
+pub struct CuttingLink {
+    most: usize,
+    faults: Faults,
+}
+
+impl CuttingLink {
+    /// A link that lets so many bytes through.
+    pub fn new(most: usize) -> CuttingLink {
+        CuttingLink {
+            most,
+            faults: Faults::none(),
+        }
+    }
+}
+
+impl Link for CuttingLink {
+    ghost use Rattle.std.specs.Prelude.{◌≡◌, [], take};
+    ghost use Rattle.assise_link.specs.Fronts.{cut};
+
+    ghost stored = { λ _. [] };
+
+    ghost count = { λ l. l.faults.count };
+
+    ghost gives = { λ l bytes came. came ≡ take l.most bytes };
+
+    fn carry(&mut self, alloc: Global, bytes: &[u8]) -> Result<Option<Vec<u8>>, LinkFault> {
+        let (front, _) = bytes.split_at(self.most.min(bytes.len()));
+        match copied(alloc, front) {
+            Some(came) => Ok(Some(came)),
+            None => self.faults.add(LinkFault::Memory),
+        }
+    }
+
+    fn faults(&self) -> u64 {
+        self.faults.count
+    }
+
+    ghost fronts = { λ l bytes came is. cut l.most bytes came is };
+}
+
+/// A link that has a fault at each carry.
+#[derive(Drop)]
+pub struct FaultyLink {
+    faults: Faults,
+}
+
+impl FaultyLink {
+    /// A link that carried nothing.
+    pub fn new() -> FaultyLink {
+        FaultyLink {
+            faults: Faults::none(),
+        }
+    }
+}
+
+impl Link for FaultyLink {
+    ghost use Rattle.std.specs.Prelude.{◌≡◌, []};
+
+    ghost stored = { λ _. [] };
+
+    ghost count = { λ l. l.faults.count };
+
+    ghost gives = { λ _ bytes came. ⊥ };
+
+    fn carry(&mut self, _alloc: Global, _bytes: &[u8]) -> Result<Option<Vec<u8>>, LinkFault> {
+        self.faults.add(LinkFault::Device)
+    }
+
+    fn faults(&self) -> u64 {
+        self.faults.count
+    }
+
+    ghost fronts = { λ _ bytes came is. absurd is };
+}

@@ -1,0 +1,57 @@
+// A link of any kind.
+
+use crate::hostile::{CuttingLink, DelayingLink, FaultyLink, LosingLink, RepeatingLink};
+use crate::link::{Link, LinkFault, PerfectLink};
+use std::alloc::Global;
+
+/// A link that does one of what links may do: what a script, or a test, sets between two nodes.
+#[derive(Drop)]
+pub enum TestLink {
+    /// It answers what it is handed.
+    Perfect(PerfectLink),
+    /// It answers nothing.
+    Lose(LosingLink),
+    /// At odd carries, counted from 1, it answers what it is handed, at even ones what the carry before was handed.
+    Repeat(RepeatingLink),
+    /// It answers what the carry before was handed, and nothing the first time.
+    Delay(DelayingLink),
+    /// It answers the first bytes of what it is handed.
+    Cut(CuttingLink),
+    /// It has a fault at each carry.
+    Fault(FaultyLink),
+}
+
+impl Link for TestLink {
+    ghost use Rattle.assise_link.specs.TestLinks.{Gives, faults_of, kept_by};
+    ghost use Rattle.assise_link.specs.Fronts.{by_kind};
+
+    ghost stored = { kept_by };
+
+    ghost count = { faults_of };
+
+    ghost gives = { Gives };
+
+    fn carry(&mut self, alloc: Global, bytes: &[u8]) -> Result<Option<Vec<u8>>, LinkFault> {
+        match self {
+            TestLink::Perfect(link) => link.carry(alloc, bytes),
+            TestLink::Lose(link) => link.carry(alloc, bytes),
+            TestLink::Repeat(link) => link.carry(alloc, bytes),
+            TestLink::Delay(link) => link.carry(alloc, bytes),
+            TestLink::Cut(link) => link.carry(alloc, bytes),
+            TestLink::Fault(link) => link.carry(alloc, bytes),
+        }
+    }
+
+    fn faults(&self) -> u64 {
+        match self {
+            TestLink::Perfect(link) => link.faults(),
+            TestLink::Lose(link) => link.faults(),
+            TestLink::Repeat(link) => link.faults(),
+            TestLink::Delay(link) => link.faults(),
+            TestLink::Cut(link) => link.faults(),
+            TestLink::Fault(link) => link.faults(),
+        }
+    }
+
+    ghost fronts = { by_kind };
+}
