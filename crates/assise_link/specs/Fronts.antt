@@ -3,7 +3,7 @@ use Rattle.std.proofs.Common.{◌≡◌, ◌∙◌, ◌⊎◌, ℕ, List, [], �
 use Rattle.std.proofs.lemmas.List.{take-append-drop}
 use Rattle.std.specs.Global.{Vec}
 use Rattle.assise_link.specs.Links.{IsFrontOnLink}
-use Rattle.assise_link.specs.TestLinks.{Delays, Gives, Repeats, kept_by, kept_bytes}
+use Rattle.assise_link.specs.TestLinks.{Delays, GivesByKind, Repeats, kept_by, kept_bytes}
 use Rattle.assise_link.specs.declared.test_link.TestLink.{TestLink}
 use Rattle.assise_link.specs.declared.test_link.TestLink.TheVariants.{Perfect, Lose, Repeat, Delay, Cut, Fault}
 
@@ -24,7 +24,7 @@ delayed (Some v) bytes came is = kept_whole bytes came v.items is
 pub cut : (most : ℕ) (bytes came : List ℕ) → came ≡ take most bytes → IsFrontOnLink bytes [] came
 cut most bytes came is = record { whole = bytes; known = inl refl; rest = drop most bytes; front = sym (ap (λ x. x ++ drop most bytes) is ∙ take-append-drop most bytes) }
 
-pub by_kind : (l : TestLink) (bytes came : List ℕ) → Gives l bytes came → IsFrontOnLink bytes (kept_by l) came
+pub by_kind : (l : TestLink) (bytes came : List ℕ) → GivesByKind l bytes came → IsFrontOnLink bytes (kept_by l) came
 by_kind (Perfect l) bytes came is = whole bytes came [] is
 by_kind (Lose l) bytes came is = absurd is
 by_kind (Repeat l) bytes came is = repeated l.before bytes came is

@@ -30,18 +30,18 @@ kept_by (Delay l) = kept_bytes l.before
 kept_by (Cut l) = []
 kept_by (Fault l) = []
 
-abbrev pub faults_of : TestLink → ℕ
-faults_of (Perfect l) = l.faults.count
-faults_of (Lose l) = 0
-faults_of (Repeat l) = l.faults.count
-faults_of (Delay l) = l.faults.count
-faults_of (Cut l) = l.faults.count
-faults_of (Fault l) = l.faults.count
+abbrev pub fault_count : TestLink → ℕ
+fault_count (Perfect l) = l.faults.count
+fault_count (Lose l) = 0
+fault_count (Repeat l) = l.faults.count
+fault_count (Delay l) = l.faults.count
+fault_count (Cut l) = l.faults.count
+fault_count (Fault l) = l.faults.count
 
-abbrev pub Gives : TestLink → List ℕ → List ℕ → Type 0
-Gives (Perfect l) bytes came = came ≡ bytes
-Gives (Lose l) bytes came = ⊥
-Gives (Repeat l) bytes came = Repeats l.before bytes came
-Gives (Delay l) bytes came = Delays l.before bytes came
-Gives (Cut l) bytes came = came ≡ take l.most bytes
-Gives (Fault l) bytes came = ⊥
+abbrev pub GivesByKind : TestLink → List ℕ → List ℕ → Type 0
+GivesByKind (Perfect l) bytes came = came ≡ bytes
+GivesByKind (Lose l) bytes came = ⊥
+GivesByKind (Repeat l) bytes came = Repeats l.before bytes came
+GivesByKind (Delay l) bytes came = Delays l.before bytes came
+GivesByKind (Cut l) bytes came = came ≡ take l.most bytes
+GivesByKind (Fault l) bytes came = ⊥

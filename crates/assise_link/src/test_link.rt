@@ -22,14 +22,14 @@ pub enum TestLink {
 }
 
 impl Link for TestLink {
-    ghost use Rattle.assise_link.specs.TestLinks.{Gives, faults_of, kept_by};
+    ghost use Rattle.assise_link.specs.TestLinks.{GivesByKind, fault_count, kept_by};
     ghost use Rattle.assise_link.specs.Fronts.{by_kind};
 
     ghost stored = { kept_by };
 
-    ghost count = { faults_of };
+    ghost count = { fault_count };
 
-    ghost gives = { Gives };
+    ghost gives = { GivesByKind };
 
     fn carry(&mut self, alloc: Global, bytes: &[u8]) -> Result<Option<Vec<u8>>, LinkFault> {
         match self {
