@@ -2,14 +2,14 @@
 use Rattle.std.proofs.Common.{◌≡◌, ◌≢◌, ℕ, Some, List, ap, sym}
 use Rattle.assise_history.specs.declared.call.Loss.{Loss}
 use Rattle.assise_machine_laws.specs.World.{Full, ahead}
-use Rattle.assise_machine_events.specs.Events.{Answer, ClusterEvent, open_client, try_call, try_fsync, outgoing, deliver, digest, release_ready, crash, fail, back, refill, join, failed}
+use Rattle.assise_machine_events.specs.Events.{Answer, ClusterEvent, open_client, try_call, try_fsync, outgoing, deliver, digest, release_ready, set_hot, crash, fail, back, refill, join, failed}
 use Rattle.assise_machine_events.specs.Happenings.{Happens}
 use Rattle.assise_machine_events.specs.Machine.{Machine}
 use Rattle.assise_machine_events.specs.MemberEvents as member
 use Rattle.assise_machine_events.specs.MemberEvents.{Failing}
 use Rattle.assise_machine.specs.EventNodes.{node_of}
 use Rattle.assise_machine.proofs.KeptFronts.{failing_area}
-use Rattle.assise_machine.proofs.Others.{crashing_leaves, delivering_leaves, digesting_leaves, joining_leaves, leaves_all, opening_leaves, refilling_leaves, releasing_leaves, returning_leaves, sending_leaves, syncing_leaves, trying_leaves}
+use Rattle.assise_machine.proofs.Others.{crashing_leaves, delivering_leaves, digesting_leaves, joining_leaves, leaves_all, opening_leaves, refilling_leaves, releasing_leaves, returning_leaves, sending_leaves, setting_leaves, syncing_leaves, trying_leaves}
 
 pub event_area : (m m' : Machine) (e : ClusterEvent) (a : Answer) → Happens m e a m' → (j i : ℕ) → Full m.world j → e ≢ digest j → m'.world.area j i ≡ m.world.area j i
 event_area m m' (open_client n) a s j i there other = (opening_leaves m m' n a s j there).area i
@@ -19,6 +19,7 @@ event_area m m' (outgoing n) a s j i there other = (sending_leaves m m' n a s j)
 event_area m m' (deliver f n) a s j i there other = (delivering_leaves m m' f n a s j there).area i
 event_area m m' (digest n) a s j i there other = (digesting_leaves m m' n a s j there (λ here. other (ap digest (sym here)))).area i
 event_area m m' release_ready a s j i there other = (releasing_leaves m m' a s j there).area i
+event_area m m' (set_hot n capacity) a s j i there other = (setting_leaves m m' n a s j).area i
 event_area m m' (crash c) a s j i there other = (crashing_leaves m m' c a s j there).area i
 event_area m m' (fail n) a s j i there other = failing_area m m' n a s j i there
 event_area m m' (back n) a s j i there other = (returning_leaves m m' n a s j there).area i
@@ -41,6 +42,7 @@ event_ahead m m' (outgoing n) a s none j c there other = (sending_leaves m m' n 
 event_ahead m m' (deliver f n) a s none j c there other = (delivering_leaves m m' f n a s j there).ahead (λ here. other (ap Some (sym here))) c
 event_ahead m m' (digest n) a s none j c there other = (digesting_leaves m m' n a s j there (λ here. other (ap Some (sym here)))).ahead c
 event_ahead m m' release_ready a s none j c there other = (releasing_leaves m m' a s j there).ahead c
+event_ahead m m' (set_hot n capacity) a s none j c there other = (setting_leaves m m' n a s j).ahead c
 event_ahead m m' (crash d) a s none j c there other = (crashing_leaves m m' d a s j there).ahead c
 event_ahead m m' (fail n) a s none j c there other = (leaves_all m m' j (unfailed m m' n a s none)).ahead c
 event_ahead m m' (back n) a s none j c there other = (returning_leaves m m' n a s j there).ahead c

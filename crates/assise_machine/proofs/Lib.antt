@@ -23,3 +23,4 @@ pub mod Telling
 pub mod Replicated
 pub mod Decided
 pub mod Capacities
+pub mod HotSet

@@ -10,7 +10,7 @@ use Rattle.assise_history.specs.Legal.{clients_opened}
 use Rattle.assise_history.proofs.Counting.{opened_append}
 use Rattle.assise_machine_events.specs.ClientEvents as client
 use Rattle.assise_machine_events.specs.ClientEvents.{Calling, Crashing, Opening, Syncing}
-use Rattle.assise_machine_events.specs.Events.{Answer, ClusterEvent, open_client, try_call, try_fsync, outgoing, deliver, digest, release_ready, crash, fail, back, refill, join, refused, opened, replied, not_yet, sent, received, digested, released, crashed, failed, began, left, joined, entries_of}
+use Rattle.assise_machine_events.specs.Events.{Answer, ClusterEvent, open_client, try_call, try_fsync, outgoing, deliver, digest, release_ready, set_hot, crash, fail, back, refill, join, refused, opened, replied, not_yet, sent, received, digested, released, hot_set, crashed, failed, began, left, joined, entries_of}
 use Rattle.assise_machine_events.specs.Happenings.{Happens, Trying}
 use Rattle.assise_machine_events.specs.Machine.{Holds, Machine}
 use Rattle.assise_machine_events.specs.MemberEvents as member
@@ -37,6 +37,7 @@ opens_or (sent frames) = inr (record { never = λ c is. cc; none = refl; stock =
 opens_or (received place) = inr (record { never = λ c is. cc; none = refl; stock = λ k. refl })
 opens_or (digested count) = inr (record { never = λ c is. cc; none = refl; stock = λ k. refl })
 opens_or (released count) = inr (record { never = λ c is. cc; none = refl; stock = λ k. refl })
+opens_or hot_set = inr (record { never = λ c is. cc; none = refl; stock = λ k. refl })
 opens_or crashed = inr (record { never = λ c is. cc; none = refl; stock = λ k. refl })
 opens_or (failed losses) = inr (record { never = λ c is. cc; none = refl; stock = λ k. refl })
 opens_or (began stale) = inr (record { never = λ c is. cc; none = refl; stock = λ k. refl })
@@ -121,6 +122,9 @@ event_next m m' (digest n) c (node.is_digested count fine is e) = cc
 event_next m m' (digest n) c (node.lacks_memory fine some is same) = cc
 event_next m m' (digest n) c (node.is_refused r fault is same) = cc
 event_next m m' release_ready c (node.is_released gone freed is e) = cc
+event_next m m' (set_hot n capacity) c (node.is_set fine is same) = cc
+event_next m m' (set_hot n capacity) c (node.lacks_memory fine is same) = cc
+event_next m m' (set_hot n capacity) c (node.is_refused r fault is same) = cc
 event_next m m' (crash d) c s = absurd (crashing_none m m' d c s)
 event_next m m' (fail n) c (member.is_failed fine is e) = cc
 event_next m m' (fail n) c (member.is_failed_again fine is e) = cc

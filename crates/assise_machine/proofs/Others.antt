@@ -21,7 +21,7 @@ use Rattle.assise_machine_events.specs.Machine.{Machine}
 use Rattle.assise_machine_events.specs.MemberEvents as member
 use Rattle.assise_machine_events.specs.MemberEvents.{Failing, Joining, Refilling, Returning}
 use Rattle.assise_machine_events.specs.NodeEvents as node
-use Rattle.assise_machine_events.specs.NodeEvents.{Delivering, Digesting, DigestsTo, Gone, LetsGo, Releasing, Sending, world_after}
+use Rattle.assise_machine_events.specs.NodeEvents.{Delivering, Digesting, DigestsTo, Gone, LetsGo, Releasing, Sending, SettingHot, world_after}
 use Rattle.assise_machine_events.proofs.Granting.{clients_after, full_after, logs_after, nodes_after}
 
 -- ---- what one node has
@@ -58,6 +58,11 @@ pub sending_leaves : (m m' : Machine) (n : ℕ) (a : Answer) → Sending m n a m
 sending_leaves m m' n a (node.is_sent fine is same) j = leaves_all m m' j same
 sending_leaves m m' n a (node.lacks_memory fine some is same) j = leaves_all m m' j same
 sending_leaves m m' n a (node.is_refused r fault is same) j = leaves_all m m' j same
+
+pub setting_leaves : (m m' : Machine) (n : ℕ) (a : Answer) → SettingHot m n a m' → (j : ℕ) → Leaves m.world m'.world j
+setting_leaves m m' n a (node.is_set fine is same) j = leaves_all m m' j same
+setting_leaves m m' n a (node.lacks_memory fine is same) j = leaves_all m m' j same
+setting_leaves m m' n a (node.is_refused r fault is same) j = leaves_all m m' j same
 
 pub crashing_leaves : (m m' : Machine) (c : ℕ) (a : Answer) → Crashing m c a m' → (j : ℕ) → Full m.world j → Leaves m.world m'.world j
 crashing_leaves m m' c a (client.is_crashed fine is e) j there = leaves_nodes m.world m'.world j e.crash.crash.logs e.crash.crash.nodes there

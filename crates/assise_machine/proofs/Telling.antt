@@ -4,7 +4,7 @@ use Rattle.assise_history.specs.Entries.{Event as Entry}
 use Rattle.assise_machine_events.specs.Events.{all_entries, entries_of}
 use Rattle.assise_machine.specs.declared.answer.Answer.{Answer}
 use Rattle.assise_machine.specs.declared.event.Event.{Event}
-use Rattle.assise_machine.specs.declared.event.Event.TheVariants.{Open, Call, Fsync, Outgoing, Deliver, Digest, ReleaseReady, Crash, Fail, Back, Refill, Join}
+use Rattle.assise_machine.specs.declared.event.Event.TheVariants.{Open, Call, Fsync, Outgoing, Deliver, Digest, ReleaseReady, SetHot, Crash, Fail, Back, Refill, Join}
 use Rattle.assise_machine.specs.Headline.{entry_of, history_after}
 use Rattle.assise_machine.specs.Running.{answer_seen, event_seen, told}
 
@@ -16,6 +16,7 @@ same_entry h (Outgoing n) a = refl
 same_entry h (Deliver f n) a = refl
 same_entry h (Digest n) a = refl
 same_entry h ReleaseReady a = refl
+same_entry h (SetHot n capacity) a = refl
 same_entry h (Crash c) a = search rules
 same_entry h (Fail n) a = search rules
 same_entry h (Back n) a = refl

@@ -1,8 +1,8 @@
 -- What the events of nodes answer, in the words of the laws.
-use Rattle.std.specs.Prelude.{ℕ, Result, Ok, Err}
+use Rattle.std.specs.Prelude.{ℕ, ⊤, Result, Ok, Err}
 use Rattle.std.specs.Global.{Vec}
 use Rattle.assise_names.specs.declared.refusal.Refusal.{Refusal}
-use Rattle.assise_machine_events.specs.Events.{Answer, digested, received, refused, sent}
+use Rattle.assise_machine_events.specs.Events.{Answer, digested, hot_set, received, refused, sent}
 use Rattle.assise_record.specs.LogFrame.{LogFrame}
 
 abbrev pub delivery_answer : Result ℕ Refusal → Answer
@@ -16,3 +16,7 @@ sending_answer (Err refusal) = refused refusal
 abbrev pub digesting_answer : Result ℕ Refusal → Answer
 digesting_answer (Ok count) = digested count
 digesting_answer (Err refusal) = refused refusal
+
+abbrev pub setting_answer : Result ⊤ Refusal → Answer
+setting_answer (Ok _) = hot_set
+setting_answer (Err refusal) = refused refusal

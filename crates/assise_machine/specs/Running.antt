@@ -7,17 +7,17 @@ use Rattle.assise_names.specs.declared.refusal.Refusal.TheVariants.{BadClient}
 use Rattle.assise_private_log.specs.NumberedLog.{NumberedLog}
 use Rattle.assise_machine_calls.specs.Answers.{crashing_answer, turn_answer}
 use Rattle.assise_machine_calls.specs.Asked.{CutsAreAnswers}
-use Rattle.assise_machine_events.specs.Events.{Answer, ClusterEvent, back, crash, deliver, digest, fail, join, open_client, opened, outgoing, refill, refused, release_ready, released, try_call, try_fsync}
+use Rattle.assise_machine_events.specs.Events.{Answer, ClusterEvent, back, crash, deliver, digest, fail, join, open_client, opened, outgoing, refill, refused, release_ready, released, set_hot, try_call, try_fsync}
 use Rattle.assise_machine_events.specs.Faults.{open_fault}
 use Rattle.assise_machine_events.specs.Happenings.{Happens}
 use Rattle.assise_machine_events.specs.Machine.{Machine}
 use Rattle.assise_machine_failures.specs.Answers.{failing_answer, joining_answer, refilling_answer, returning_answer}
 use Rattle.assise_machine.specs.declared.answer.Answer.{Answer as Answered}
-use Rattle.assise_machine.specs.declared.answer.Answer.TheVariants.{Opened, Called, Sent, Received, Digested, Released, Crashed, Failed, Began, Left, Joined}
+use Rattle.assise_machine.specs.declared.answer.Answer.TheVariants.{Opened, Called, Sent, Received, Digested, Released, HotSet, Crashed, Failed, Began, Left, Joined}
 use Rattle.assise_machine.specs.declared.cluster.ClusterOf.{ClusterOf}
 use Rattle.assise_machine.specs.declared.event.Event.{Event}
-use Rattle.assise_machine.specs.declared.event.Event.TheVariants.{Open, Call, Fsync, Outgoing, Deliver, Digest, ReleaseReady, Crash, Fail, Back, Refill, Join}
-use Rattle.assise_machine.specs.Answers.{delivery_answer, digesting_answer, sending_answer}
+use Rattle.assise_machine.specs.declared.event.Event.TheVariants.{Open, Call, Fsync, Outgoing, Deliver, Digest, ReleaseReady, SetHot, Crash, Fail, Back, Refill, Join}
+use Rattle.assise_machine.specs.Answers.{delivery_answer, digesting_answer, sending_answer, setting_answer}
 use Rattle.assise_machine.specs.Clusters.{machine, revokers}
 
 abbrev pub event_seen : Event → ClusterEvent
@@ -28,6 +28,7 @@ event_seen (Outgoing n) = outgoing n
 event_seen (Deliver f n) = deliver f n
 event_seen (Digest n) = digest n
 event_seen ReleaseReady = release_ready
+event_seen (SetHot n capacity) = set_hot n capacity.inodes
 event_seen (Crash c) = crash c
 event_seen (Fail n) = fail n
 event_seen (Back n) = back n
@@ -45,6 +46,7 @@ answer_seen (Sent result) = sending_answer result
 answer_seen (Received result) = delivery_answer result
 answer_seen (Digested result) = digesting_answer result
 answer_seen (Released count) = released count
+answer_seen (HotSet result) = setting_answer result
 answer_seen (Crashed result) = crashing_answer result
 answer_seen (Failed result) = failing_answer result
 answer_seen (Began result) = returning_answer result

@@ -18,6 +18,8 @@ pub enum Answer {
     Digested(Result<usize, Refusal>),
     /// How many leases of clients went.
     Released(usize),
+    /// Whether so many inodes may be hot.
+    HotSet(Result<(), Refusal>),
     /// Whether a client crashed.
     Crashed(Result<(), Refusal>),
     /// Each client that lost a record, with its first lost call.

@@ -1,6 +1,7 @@
 // A cluster.
 use crate::delivery::{deliver, deliver_copy};
 use crate::digesting::digest;
+use crate::hot::set_hot;
 use crate::sending::outgoing;
 use assise_digest::region::Region;
 use assise_history::growing::Growing;
@@ -52,11 +53,12 @@ impl<C: Revokes + Drop> ClusterOf<C> {
     ghost use Rattle.assise_machine_events.specs.Happenings.{Trying};
     ghost use Rattle.assise_machine_events.specs.Machine.{begun_as, state_of};
     ghost use Rattle.assise_machine_events.specs.MemberEvents.{Failing, Joining, Refilling, Returning};
-    ghost use Rattle.assise_machine_events.specs.NodeEvents.{Delivering, Digesting, Releasing, Sending};
+    ghost use Rattle.assise_machine_events.specs.NodeEvents.{Delivering, Digesting, Releasing, Sending, SettingHot};
     ghost use Rattle.assise_machine_calls.specs.Answers.{crashing_answer, opening_answer, turn_answer};
     ghost use Rattle.assise_machine_calls.specs.Asked.{CutsAreAnswers};
     ghost use Rattle.assise_machine_failures.specs.Answers.{failing_answer, joining_answer, refilling_answer, returning_answer};
-    ghost use Rattle.assise_machine.specs.Answers.{delivery_answer, digesting_answer, sending_answer};
+    ghost use Rattle.assise_machine_state.specs.NodeValues.{with_hot_in};
+    ghost use Rattle.assise_machine.specs.Answers.{delivery_answer, digesting_answer, sending_answer, setting_answer};
     ghost use Rattle.assise_machine.specs.Clusters.{AreAcked, HaveCapacity, machine, region_of, revokers};
     ghost use Rattle.assise_machine.specs.Headline.{IsUp, acked_to, history_of, regions_of};
 
@@ -167,6 +169,24 @@ impl<C: Revokes + Drop> ClusterOf<C> {
         ensures revokers { SameRevokers (revokers self.old) (revokers self.new) }
     {
         release_ready(&mut self.sound)
+    }
+
+    /// Sets how many inodes may be hot at a node, 1 to 4,096: of more than that the longest unused ones are cold then. Refused with
+    /// [`Refusal::BadNode`], [`Refusal::WrongPhase`] where the node isn't full, and [`Refusal::OutOfMemory`] where fewer may be hot than
+    /// before and some have to cool; what is refused leaves all as it was, and as many hot.
+    pub fn set_hot(&mut self, node: u32, capacity: usize) -> Result<(), Refusal>
+        requires least { 1 ≤ capacity }
+        requires most { capacity ≤ 4096 }
+        ensures happens { SettingHot (machine self.old) node (setting_answer result)
+            (machine self.new) }
+        ensures set { OnOk result
+            (regions_of self.new ≡ with_hot_in (regions_of self.old) node capacity) }
+        ensures kept { OnErr result (regions_of self.new ≡ regions_of self.old) }
+        ensures asked { result ≡ Err OutOfMemory →
+            capacity < (region_of self.old node).capacity }
+        ensures revokers { SameRevokers (revokers self.old) (revokers self.new) }
+    {
+        set_hot(&mut self.sound, node, capacity)
     }
 
     /// A client crashes: nothing of its log is lost, all of it is to be replicated, and its leases go once all of it is digested.

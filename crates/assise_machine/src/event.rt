@@ -1,4 +1,5 @@
 // What may happen to a cluster.
+use crate::hot::HotCapacity;
 use assise_names::call::Op;
 use assise_record::frame::Frame;
 
@@ -19,6 +20,8 @@ pub enum Event {
     Digest(u32),
     /// Leases that were asked for go, where they may.
     ReleaseReady,
+    /// So many inodes may be hot at a node.
+    SetHot(u32, HotCapacity),
     /// A client crashes.
     Crash(u32),
     /// A node fails.

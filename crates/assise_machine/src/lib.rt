@@ -8,6 +8,7 @@ mod digesting;
 pub mod event;
 mod faults;
 pub mod headline;
+pub mod hot;
 pub mod laws;
 mod progress;
 pub mod run;

@@ -91,6 +91,7 @@ pub fn apply_event<C: Revokes + Drop>(
         Event::Deliver(frame, node) => Answer::Received(cluster.deliver_copy(alloc, frame, *node)),
         Event::Digest(node) => Answer::Digested(cluster.digest(alloc, *node)),
         Event::ReleaseReady => Answer::Released(cluster.release_ready()),
+        Event::SetHot(node, capacity) => Answer::HotSet(cluster.set_hot(*node, capacity.get())),
         Event::Crash(client) => Answer::Crashed(cluster.crash(*client)),
         Event::Fail(node) => Answer::Failed(cluster.fail(alloc, *node)),
         Event::Back(node) => Answer::Began(cluster.back(*node)),

@@ -2,10 +2,10 @@
 use Rattle.std.proofs.Common.{◌≡◌, ◌++◌, ℕ, refl}
 use Rattle.assise_names.specs.declared.call.Op.{Op}
 use Rattle.assise_names.specs.declared.call.Op.TheVariants.{Create, Mkdir, Read, Write, Truncate, Rename, Unlink, Rmdir, List as ListCall, Stat, Fsync}
-use Rattle.assise_machine_events.specs.Events.{Answer, ClusterEvent, open_client, try_call, try_fsync, outgoing, deliver, digest, release_ready, crash, fail, back, refill, join, entries_of}
+use Rattle.assise_machine_events.specs.Events.{Answer, ClusterEvent, open_client, try_call, try_fsync, outgoing, deliver, digest, release_ready, set_hot, crash, fail, back, refill, join, entries_of}
 use Rattle.assise_machine_events.specs.Happenings.{Happens, Leads, Trying}
 use Rattle.assise_machine_events.specs.Machine.{Machine, Holds}
-use Rattle.assise_machine_events.specs.NodeEvents.{Sending, is_sent, is_refused, lacks_memory}
+use Rattle.assise_machine_events.specs.NodeEvents.{Sending, SettingHot, is_sent, is_set, is_refused, lacks_memory}
 use Rattle.assise_machine_events.proofs.Calling.{calling_leads, calling_keeps}
 use Rattle.assise_machine_events.proofs.Crashing.{opening_leads, opening_keeps, crashing_leads, crashing_keeps}
 use Rattle.assise_machine_events.proofs.Digested.{digesting_leads, digesting_holds}
@@ -16,7 +16,7 @@ use Rattle.assise_machine_events.proofs.Noding.{delivery_leads, delivery_keeps}
 use Rattle.assise_machine_events.proofs.Rejoined.{join_leads, join_holds}
 use Rattle.assise_machine_events.proofs.Resting.{return_leads, return_holds, refill_leads, refill_holds}
 use Rattle.assise_machine_events.proofs.Syncing.{syncing_leads, syncing_keeps}
-use Rattle.assise_machine_events.proofs.Telling.{opening_told, trying_told, syncing_told, sending_told, delivering_told, digesting_told, releasing_told, crashing_told, failing_told, returning_told, refilling_told, joining_told}
+use Rattle.assise_machine_events.proofs.Telling.{opening_told, trying_told, syncing_told, sending_told, delivering_told, digesting_told, releasing_told, hot_told, crashing_told, failing_told, returning_told, refilling_told, joining_told}
 
 -- ---- what is told
 
@@ -28,13 +28,14 @@ event_told m m' (outgoing n) a h = sending_told m m' n a h
 event_told m m' (deliver f n) a h = delivering_told m m' f n a h
 event_told m m' (digest n) a h = digesting_told m m' n a h
 event_told m m' release_ready a h = releasing_told m m' a h
+event_told m m' (set_hot n capacity) a h = hot_told m m' n capacity a h
 event_told m m' (crash c) a h = crashing_told m m' c a h
 event_told m m' (fail n) a h = failing_told m m' n a h
 event_told m m' (back n) a h = returning_told m m' n a h
 event_told m m' (refill n) a h = refilling_told m m' n a h
 event_told m m' (join n) a h = joining_told m m' n a h
 
--- ---- frames that go out, and calls that are fsyncs
+-- ---- frames that go out, what may be hot, and calls that are fsyncs
 
 sending_leads : (m m' : Machine) (n : ℕ) (a : Answer) → Sending m n a m' → Leads m m'
 sending_leads m m' n a (is_sent fine is same) = same_leads m m' same
@@ -45,6 +46,16 @@ sending_holds : (m m' : Machine) (n : ℕ) (a : Answer) → Holds m → Sending 
 sending_holds m m' n a h (is_sent fine is same) = same_holds m m' same h
 sending_holds m m' n a h (lacks_memory fine some is same) = same_holds m m' same h
 sending_holds m m' n a h (is_refused r fault is same) = same_holds m m' same h
+
+pub hot_leads : (m m' : Machine) (n : ℕ) (a : Answer) → SettingHot m n a m' → Leads m m'
+hot_leads m m' n a (is_set fine is same) = same_leads m m' same
+hot_leads m m' n a (lacks_memory fine is same) = same_leads m m' same
+hot_leads m m' n a (is_refused r fault is same) = same_leads m m' same
+
+pub hot_holds : (m m' : Machine) (n : ℕ) (a : Answer) → Holds m → SettingHot m n a m' → Holds m'
+hot_holds m m' n a h (is_set fine is same) = same_holds m m' same h
+hot_holds m m' n a h (lacks_memory fine is same) = same_holds m m' same h
+hot_holds m m' n a h (is_refused r fault is same) = same_holds m m' same h
 
 trying_leads : (m m' : Machine) (c : ℕ) (op : Op) (a : Answer) → Holds m → Trying m c op a m' → Leads m m'
 trying_leads m m' c (Create p) a h s = calling_leads m m' c (Create p) a h refl s
@@ -82,6 +93,7 @@ event_leads m m' (outgoing n) a h s = sending_leads m m' n a s
 event_leads m m' (deliver f n) a h s = delivery_leads m m' f n a h s
 event_leads m m' (digest n) a h s = digesting_leads m m' n a h s
 event_leads m m' release_ready a h s = release_leads m m' a h s
+event_leads m m' (set_hot n capacity) a h s = hot_leads m m' n a s
 event_leads m m' (crash c) a h s = crashing_leads m m' c a h s
 event_leads m m' (fail n) a h s = fail_leads m m' n a h s
 event_leads m m' (back n) a h s = return_leads m m' n a h s
@@ -96,6 +108,7 @@ event_keeps m m' (outgoing n) a h s = sending_holds m m' n a h s
 event_keeps m m' (deliver f n) a h s = delivery_keeps m m' f n a h s
 event_keeps m m' (digest n) a h s = digesting_holds m m' n a h s
 event_keeps m m' release_ready a h s = release_holds m m' a h s
+event_keeps m m' (set_hot n capacity) a h s = hot_holds m m' n a h s
 event_keeps m m' (crash c) a h s = crashing_keeps m m' c a h s
 event_keeps m m' (fail n) a h s = fail_holds m m' n a h s
 event_keeps m m' (back n) a h s = return_holds m m' n a h s

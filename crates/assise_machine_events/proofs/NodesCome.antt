@@ -7,11 +7,11 @@ use Rattle.assise_machine_laws.specs.World.{end, received_by_all}
 use Rattle.assise_machine_laws.proofs.Observing.{received_by_all-below}
 use Rattle.assise_machine_laws.proofs.Staying.{end-same}
 use Rattle.assise_machine_events.specs.ClientEvents.{Syncing, is_refused, is_replicating, is_synced, lacks_memory}
-use Rattle.assise_machine_events.specs.Events.{deliver, digested, not_yet, received, refused, sent, try_fsync}
+use Rattle.assise_machine_events.specs.Events.{deliver, digested, hot_set, not_yet, received, refused, sent, try_fsync}
 use Rattle.assise_machine_events.specs.Faults.{IsTimely, client_fault, delivery_fault, node_fault}
 use Rattle.assise_machine_events.specs.Machine.{Holds, Machine}
 use Rattle.assise_machine_events.specs.MemberEvents.{is_refused, lacks_memory}
-use Rattle.assise_machine_events.specs.NodeEvents.{Delivering, Digesting, IsDelivered, Sending, frames_to, is_delivered, is_refused, is_sent, is_stale, lacks_memory, place_after, undigested_to}
+use Rattle.assise_machine_events.specs.NodeEvents.{Delivering, Digesting, IsDelivered, Sending, SettingHot, frames_to, is_delivered, is_refused, is_sent, is_set, is_stale, lacks_memory, place_after, undigested_to}
 use Rattle.assise_machine_events.specs.Reached.{Comes, IsReached}
 use Rattle.assise_machine_events.proofs.Answerable.{replicating_can}
 use Rattle.assise_machine_events.proofs.Course.{reaches, start, start_holds, start_reached}
@@ -33,6 +33,11 @@ not_digested =
     let (m, (inodes, o)) = falls 1 (start 1) (start_reached 1) (start_holds 1) refl in
     record { limit = 1; before = m; reached = o.reached; after = m; outcome = is_refused WrongPhase (rw o.members refl) refl refl }
 
+pub hot_not_set : Comes (λ m m'. SettingHot m 2 (refused WrongPhase) m')
+hot_not_set =
+    let (m, (inodes, o)) = falls 1 (start 1) (start_reached 1) (start_holds 1) refl in
+    record { limit = 1; before = m; reached = o.reached; after = m; outcome = is_refused WrongPhase (rw o.members refl) refl refl }
+
 -- the frame of the file's record, in some epoch
 abbrev pub file_frame : ℕ → LogFrame
 file_frame epoch = record { version = 1; epoch = epoch; client = 1; first = 0; records = file_record ∷ []; last = [] }
@@ -43,6 +48,14 @@ not_delivered =
       file_frame 1,
       record { limit = 1; before = m; reached = o.reached; after = m; outcome = is_refused WrongPhase (rw o.members refl) refl refl },
     )
+
+-- ---- what may be hot is changed at the beginning
+
+pub hot_is_set : Comes (λ m m'. SettingHot m 1 hot_set m')
+hot_is_set = record { limit = 1; before = start 1; reached = start_reached 1; after = start 1; outcome = is_set refl refl refl }
+
+pub hot_not_set_for_memory : Comes (λ m m'. SettingHot m 1 (refused OutOfMemory) m')
+hot_not_set_for_memory = record { limit = 1; before = start 1; reached = start_reached 1; after = start 1; outcome = lacks_memory refl refl refl }
 
 -- ---- the file's record comes to node 2
 

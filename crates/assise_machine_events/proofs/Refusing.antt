@@ -3,11 +3,11 @@ use Rattle.std.proofs.Common.{◌≡◌, ℕ, false, ap, ◌∙◌, append-nil}
 use Rattle.assise_names.specs.declared.call.Op.{Op}
 use Rattle.assise_names.specs.declared.refusal.Refusal.{Refusal}
 use Rattle.assise_record.specs.LogFrame.{LogFrame}
-use Rattle.assise_machine_events.specs.Events.{refused, ClusterEvent, open_client, try_call, try_fsync, outgoing, deliver, digest, release_ready, crash, fail, back, refill, join, is_call}
+use Rattle.assise_machine_events.specs.Events.{refused, ClusterEvent, open_client, try_call, try_fsync, outgoing, deliver, digest, release_ready, set_hot, crash, fail, back, refill, join, is_call}
 use Rattle.assise_machine_events.specs.Happenings.{Happens}
 use Rattle.assise_machine_events.specs.Machine.{Machine}
 use Rattle.assise_machine_events.specs.ClientEvents.{Opening, Syncing, Crashing, Calling, is_answered, is_awaited, is_crashed, is_full, is_opened, is_refused, is_replicating, is_spent, is_synced, lacks_memory}
-use Rattle.assise_machine_events.specs.NodeEvents.{Sending, Delivering, Digesting, Releasing, is_delivered, is_digested, is_refused, is_released, is_sent, is_stale, lacks_memory}
+use Rattle.assise_machine_events.specs.NodeEvents.{Sending, Delivering, Digesting, Releasing, SettingHot, is_delivered, is_digested, is_refused, is_released, is_sent, is_set, is_stale, lacks_memory}
 use Rattle.assise_machine_events.specs.MemberEvents.{Failing, Returning, Refilling, Joining, is_back, is_failed, is_failed_again, is_joined, is_refilled, is_refused, is_whole, lacks_memory}
 
 opening_same : (m m' : Machine) (n : ℕ) (r : Refusal) → Opening m n (refused r) m' → m' ≡ m
@@ -45,6 +45,11 @@ digesting_same m m' n r (is_refused other fault is same) = same
 releasing_same : (m m' : Machine) (r : Refusal) → Releasing m (refused r) m' → m' ≡ m
 releasing_same m m' r (is_released gone freed is e) = cc
 
+setting_same : (m m' : Machine) (n : ℕ) (r : Refusal) → SettingHot m n (refused r) m' → m' ≡ m
+setting_same m m' n r (is_set fine is same) = same
+setting_same m m' n r (lacks_memory fine is same) = same
+setting_same m m' n r (is_refused other fault is same) = same
+
 failing_same : (m m' : Machine) (n : ℕ) (r : Refusal) → Failing m n (refused r) m' → m' ≡ m
 failing_same m m' n r (is_failed fine is e) = cc
 failing_same m m' n r (is_failed_again fine is e) = cc
@@ -76,6 +81,7 @@ refused_same m m' (outgoing n) r own h = sending_same m m' n r h
 refused_same m m' (deliver f n) r own h = delivering_same m m' f n r h
 refused_same m m' (digest n) r own h = digesting_same m m' n r h
 refused_same m m' release_ready r own h = releasing_same m m' r h
+refused_same m m' (set_hot n capacity) r own h = setting_same m m' n r h
 refused_same m m' (fail n) r own h = failing_same m m' n r h
 refused_same m m' (back n) r own h = returning_same m m' n r h
 refused_same m m' (refill n) r own h = refilling_same m m' n r h

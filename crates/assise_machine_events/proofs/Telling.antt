@@ -3,11 +3,11 @@ use Rattle.std.proofs.Common.{◌≡◌, ℕ, ◌++◌, ap, sym, ◌∙◌}
 use Rattle.assise_names.specs.declared.call.Op.{Op}
 use Rattle.assise_names.specs.declared.call.Op.TheVariants.{Create, Mkdir, Read, Write, Truncate, Rename, Unlink, Rmdir, List as ListCall, Stat, Fsync}
 use Rattle.assise_record.specs.LogFrame.{LogFrame}
-use Rattle.assise_machine_events.specs.Events.{Answer, ClusterEvent, open_client, try_call, try_fsync, outgoing, deliver, digest, release_ready, crash, fail, back, refill, join, entries_of}
+use Rattle.assise_machine_events.specs.Events.{Answer, ClusterEvent, open_client, try_call, try_fsync, outgoing, deliver, digest, release_ready, set_hot, crash, fail, back, refill, join, entries_of}
 use Rattle.assise_machine_events.specs.Happenings.{Trying}
 use Rattle.assise_machine_events.specs.Machine.{Machine}
 use Rattle.assise_machine_events.specs.ClientEvents.{Opening, Calling, Syncing, Crashing, is_answered, is_awaited, is_crashed, is_full, is_opened, is_refused, is_replicating, is_spent, is_synced, lacks_memory}
-use Rattle.assise_machine_events.specs.NodeEvents.{Sending, Delivering, Digesting, Releasing, is_delivered, is_digested, is_refused, is_released, is_sent, is_stale, lacks_memory}
+use Rattle.assise_machine_events.specs.NodeEvents.{Sending, Delivering, Digesting, Releasing, SettingHot, is_delivered, is_digested, is_refused, is_released, is_sent, is_set, is_stale, lacks_memory}
 use Rattle.assise_machine_events.specs.MemberEvents.{Failing, Returning, Refilling, Joining, is_back, is_failed, is_failed_again, is_joined, is_refilled, is_refused, is_whole, lacks_memory}
 use Rattle.assise_machine_events.proofs.Leading.{same_told}
 
@@ -57,6 +57,11 @@ digesting_told m m' n a (is_refused r fault is same) = told_as m m' (digest n) a
 
 pub releasing_told : (m m' : Machine) (a : Answer) → Releasing m a m' → m'.history ≡ m.history ++ entries_of m.history release_ready a
 releasing_told m m' a (is_released gone freed is e) = told_as m m' release_ready a _ is e.adds.history
+
+pub hot_told : (m m' : Machine) (n capacity : ℕ) (a : Answer) → SettingHot m n a m' → m'.history ≡ m.history ++ entries_of m.history (set_hot n capacity) a
+hot_told m m' n capacity a (is_set fine is same) = told_as m m' (set_hot n capacity) a _ is (same_told m m' same)
+hot_told m m' n capacity a (lacks_memory fine is same) = told_as m m' (set_hot n capacity) a _ is (same_told m m' same)
+hot_told m m' n capacity a (is_refused r fault is same) = told_as m m' (set_hot n capacity) a _ is (same_told m m' same)
 
 pub failing_told : (m m' : Machine) (n : ℕ) (a : Answer) → Failing m n a m' → m'.history ≡ m.history ++ entries_of m.history (fail n) a
 failing_told m m' n a (is_failed fine is e) = told_as m m' (fail n) a _ is e.adds.history

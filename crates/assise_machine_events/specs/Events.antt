@@ -24,6 +24,8 @@ pub data ClusterEvent : Type 0 where
   digest : (node : ℕ) → ClusterEvent
   -- leases that were asked for go, where they may
   release_ready : ClusterEvent
+  -- so many inodes may be hot at a node
+  set_hot : (node capacity : ℕ) → ClusterEvent
   -- a client crashes
   crash : (client : ℕ) → ClusterEvent
   -- a node fails
@@ -42,6 +44,7 @@ is_call (outgoing n) = false
 is_call (deliver f n) = false
 is_call (digest n) = false
 is_call release_ready = false
+is_call (set_hot n capacity) = false
 is_call (crash c) = false
 is_call (fail n) = false
 is_call (back n) = false
@@ -62,6 +65,7 @@ pub data Answer : Type 0 where
   -- how many records were digested, and how many clients' leases released
   digested : (count : ℕ) → Answer
   released : (count : ℕ) → Answer
+  hot_set : Answer
   crashed : Answer
   -- the first lost call of each client that lost any
   failed : List Loss → Answer

@@ -4,10 +4,10 @@ use Rattle.std.specs.Prelude.{◌≡◌, ℕ, List, [], ◌∷◌}
 use Rattle.assise_machine_history.specs.Courses.{IsCourse, last_of}
 use Rattle.assise_machine_history.specs.State.{State}
 use Rattle.assise_machine_events.specs.ClientEvents.{Opening, Calling, Syncing, Crashing}
-use Rattle.assise_machine_events.specs.Events.{ClusterEvent, open_client, try_call, try_fsync, outgoing, deliver, digest, release_ready, crash, fail, back, refill, join, Answer}
+use Rattle.assise_machine_events.specs.Events.{ClusterEvent, open_client, try_call, try_fsync, outgoing, deliver, digest, release_ready, set_hot, crash, fail, back, refill, join, Answer}
 use Rattle.assise_machine_events.specs.Machine.{Machine, state_of}
 use Rattle.assise_machine_events.specs.MemberEvents.{Failing, Returning, Refilling, Joining}
-use Rattle.assise_machine_events.specs.NodeEvents.{Sending, Delivering, Digesting, Releasing}
+use Rattle.assise_machine_events.specs.NodeEvents.{Sending, Delivering, Digesting, Releasing, SettingHot}
 use Rattle.assise_names.specs.declared.call.Op.{Op}
 use Rattle.assise_names.specs.declared.call.Op.TheVariants.{Create, Mkdir, Read, Write, Truncate, Rename, Unlink, Rmdir, List as ListCall, Stat, Fsync}
 
@@ -34,6 +34,7 @@ Happens m (outgoing n) a m' = Sending m n a m'
 Happens m (deliver f n) a m' = Delivering m f n a m'
 Happens m (digest n) a m' = Digesting m n a m'
 Happens m release_ready a m' = Releasing m a m'
+Happens m (set_hot n capacity) a m' = SettingHot m n a m'
 Happens m (crash c) a m' = Crashing m c a m'
 Happens m (fail n) a m' = Failing m n a m'
 Happens m (back n) a m' = Returning m n a m'

@@ -22,7 +22,7 @@ use Rattle.assise_machine_leases.specs.Leases.{Leases, client_lease}
 use Rattle.assise_machine_returns.specs.Returns.{OtherAreasStay, DigestsNoted}
 use Rattle.assise_machine_history.specs.State.{IsNode}
 use Rattle.assise_machine_events.specs.ClientEvents.{KeepsMembers}
-use Rattle.assise_machine_events.specs.Events.{Answer, refused, sent, received, digested, released}
+use Rattle.assise_machine_events.specs.Events.{Answer, refused, sent, received, digested, released, hot_set}
 use Rattle.assise_machine_events.specs.Faults.{node_fault, delivery_fault, IsTimely}
 use Rattle.assise_machine_events.specs.Machine.{Machine, Adds, state_of}
 
@@ -176,3 +176,11 @@ pub record IsReleased (m : Machine) (gone : List Gone) (freed : List Freed) (m' 
 -- it is never refused, and takes no memory
 pub data Releasing (m : Machine) (a : Answer) (m' : Machine) : Type 0 where
   is_released : (gone : List Gone) (freed : List Freed) → a ≡ released (length gone) → IsReleased m gone freed m' → Releasing m a m'
+
+-- ---- how many inodes may be hot
+
+-- what is hot changes no answer, so nothing of it is observed
+pub data SettingHot (m : Machine) (n : ℕ) (a : Answer) (m' : Machine) : Type 0 where
+  is_set : node_fault m n ≡ None → a ≡ hot_set → m' ≡ m → SettingHot m n a m'
+  lacks_memory : node_fault m n ≡ None → a ≡ refused OutOfMemory → m' ≡ m → SettingHot m n a m'
+  is_refused : (r : Refusal) → node_fault m n ≡ Some r → a ≡ refused r → m' ≡ m → SettingHot m n a m'

@@ -1,7 +1,7 @@
 // What nodes do keeps what holds, and no entry tells of it.
 ghost use Rattle.std.specs.Prelude.{◌≡◌, ◌++◌, ℕ};
-ghost use Rattle.assise_machine_events.specs.NodeEvents.{Delivering, Digesting, Releasing, Sending};
-ghost use Rattle.assise_machine_events.specs.Events.{Answer, deliver, digest, outgoing, release_ready, entries_of};
+ghost use Rattle.assise_machine_events.specs.NodeEvents.{Delivering, Digesting, Releasing, Sending, SettingHot};
+ghost use Rattle.assise_machine_events.specs.Events.{Answer, deliver, digest, outgoing, release_ready, set_hot, entries_of};
 ghost use Rattle.assise_machine_events.specs.Happenings.{Leads};
 ghost use Rattle.assise_machine_events.specs.Machine.{Holds, Machine};
 ghost use Rattle.assise_record.specs.LogFrame.{LogFrame};
@@ -32,4 +32,13 @@ pub fn a_release_keeps_what_holds()
     ensures told { (m m' : Machine) (a : Answer) → Releasing m a m' → m'.history ≡ m.history ++ entries_of m.history release_ready a }
     ensures leads { (m m' : Machine) (a : Answer) → Holds m → Releasing m a m' → Leads m m' }
     ensures keeps { (m m' : Machine) (a : Answer) → Holds m → Releasing m a m' → Holds m' }
+{}
+
+/// So does a change of how many inodes may be hot.
+pub fn a_change_of_what_may_be_hot_keeps_what_holds()
+    ensures told { (m m' : Machine) (n capacity : ℕ) (a : Answer) → SettingHot m n a m'
+        → m'.history ≡ m.history ++ entries_of m.history (set_hot n capacity) a }
+    ensures leads { (m m' : Machine) (n : ℕ) (a : Answer) → SettingHot m n a m' → Leads m m' }
+    ensures keeps { (m m' : Machine) (n : ℕ) (a : Answer) →
+        Holds m → SettingHot m n a m' → Holds m' }
 {}

@@ -8,9 +8,9 @@ ghost use Rattle.assise_history.specs.declared.call.Loss.{Loss};
 ghost use Rattle.assise_manager.specs.Standings.{full, standing_of};
 ghost use Rattle.assise_record.specs.LogFrame.{LogFrame};
 ghost use Rattle.assise_machine_events.specs.ClientEvents.{Calling, Crashing, Opening, Syncing};
-ghost use Rattle.assise_machine_events.specs.Events.{began, crashed, digested, failed, joined, left, not_yet, opened, received, refused, released, replied, sent};
+ghost use Rattle.assise_machine_events.specs.Events.{began, crashed, digested, failed, hot_set, joined, left, not_yet, opened, received, refused, released, replied, sent};
 ghost use Rattle.assise_machine_events.specs.MemberEvents.{Failing, Joining, Refilling, Returning, stale_at};
-ghost use Rattle.assise_machine_events.specs.NodeEvents.{Delivering, Digesting, Releasing, Sending};
+ghost use Rattle.assise_machine_events.specs.NodeEvents.{Delivering, Digesting, Releasing, Sending, SettingHot};
 ghost use Rattle.assise_machine_events.specs.Reached.{Comes};
 
 /// What clients do is answered, is awaited and is refused in some state that two nodes can come to.
@@ -51,6 +51,9 @@ pub fn each_outcome_of_what_nodes_do_comes()
     ensures not_digested { Comes (λ m m'. Digesting m 2 (refused WrongPhase) m') }
     ensures not_digested_for_memory { Comes (λ m m'. Digesting m 1 (refused OutOfMemory) m') }
     ensures released { (count : ℕ) × Comes (λ m m'. Releasing m (released (suc count)) m') }
+    ensures hot { Comes (λ m m'. SettingHot m 1 hot_set m') }
+    ensures not_hot { Comes (λ m m'. SettingHot m 2 (refused WrongPhase) m') }
+    ensures not_hot_for_memory { Comes (λ m m'. SettingHot m 1 (refused OutOfMemory) m') }
 {}
 
 /// What happens to nodes happens and is refused in some state that two nodes can come to: a failure takes a call, and a node comes

@@ -27,3 +27,4 @@ pub mod Resting
 pub mod Returning
 pub mod Kept
 pub mod FailureSeen
+pub mod HotSeen

@@ -16,7 +16,7 @@ use Rattle.assise_machine_laws.specs.World.{World, call_makes_inode, digested_by
 use Rattle.assise_machine_history.specs.Lost.{losses_of}
 use Rattle.assise_machine_history.specs.Numbered.{plain_call}
 use Rattle.assise_machine_state.specs.ClientValues.{ClientValue, client_in, client_seen, crashed_at, failed_at, opened_on, with_call, with_client, with_goal}
-use Rattle.assise_machine_state.specs.NodeValues.{log_in, region_in, with_call_in, with_fronts_dropped, with_log_in, with_logs_begun, with_logs_of, with_records, with_region, with_tails_cut, without_logs}
+use Rattle.assise_machine_state.specs.NodeValues.{log_in, region_in, with_call_in, with_fronts_dropped, with_hot_in, with_log_in, with_logs_begun, with_logs_of, with_records, with_region, with_tails_cut, without_logs}
 use Rattle.assise_machine_state.specs.Observed.{is_full_in, world_of}
 use Rattle.assise_machine_state.specs.StateValues.{StateValue, standings}
 
@@ -93,6 +93,10 @@ after_drop s c to = record s { nodes = with_fronts_dropped s.nodes c to }
 abbrev pub drops_to : StateValue → ℕ → StateValue
 drops_to s zero = s
 drops_to s (suc c) = after_drop (drops_to s c) (suc c) (digested_by_all (world_of (drops_to s c)) (suc c))
+
+-- so many inodes may be hot at node n
+abbrev pub after_hot : StateValue → (n capacity : ℕ) → StateValue
+after_hot s n capacity = record s { nodes = with_hot_in s.nodes n capacity }
 
 -- each log's first place where one client's is another
 abbrev pub first_but : World → (c to : ℕ) → ℕ → ℕ

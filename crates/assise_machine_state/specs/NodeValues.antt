@@ -6,7 +6,7 @@ use Rattle.assise_inode_table.specs.Opening.{opening}
 use Rattle.assise_record.specs.declared.effect.Effect.{Effect}
 use Rattle.assise_record.specs.LogRecord.{LogRecord}
 use Rattle.assise_private_log.specs.NumberedLog.{NumberedLog, empty_log}
-use Rattle.assise_digest.specs.Region.{AreWhole, HasClient, IsBegun, ReceivedLog, RegionValue, from_number, log_of, no_log, up_to_number, with_client, with_log, with_more, without_clients, without_last_client}
+use Rattle.assise_digest.specs.Region.{AreWhole, HasClient, IsBegun, ReceivedLog, RegionValue, from_number, log_of, no_log, up_to_number, with_client, with_hot_capacity, with_log, with_more, without_clients, without_last_client}
 use Rattle.assise_machine_state.specs.Places.{IsNumber, at, item, put}
 
 -- a node that received nothing, of which so many inodes may be hot
@@ -49,6 +49,10 @@ with_region rs n r = put rs n r
 
 abbrev pub with_log_in : List RegionValue → ℕ → ℕ → ReceivedLog → List RegionValue
 with_log_in rs n c l = with_region rs n (with_log (region_in rs n) c l)
+
+-- so many inodes may be hot at a node
+abbrev pub with_hot_in : List RegionValue → ℕ → (capacity : ℕ) → List RegionValue
+with_hot_in rs n capacity = with_region rs n (with_hot_capacity (region_in rs n) capacity)
 
 -- the effects of a call, if it has some, are a record more of the client's log
 abbrev pub with_call_in : List RegionValue → ℕ → ℕ → ℕ → List Effect → List RegionValue

@@ -6,7 +6,7 @@ ghost use Rattle.assise_inode_table.specs.Whole.{CanBeMadeWhole};
 ghost use Rattle.assise_private_log.specs.NumberedLog.{end};
 ghost use Rattle.assise_digest.specs.Region.{AreWhole, HasClient, HasRoom, IsFull, IsQuiet, ReceivedLog, TouchApart, ahead_below, digested_by, from_number, log_of, up_to_number, with_client, with_inode, with_log, with_more, without_clients};
 ghost use Rattle.assise_manager.specs.Whole.{membership};
-ghost use Rattle.assise_machine_state.specs.NodeValues.{AreDigested, AreTaken, AreUndigested, HasLog, IsDigestedTo, IsUndigestedFrom, away, begun_log, changed_in, copied, log_in, new_regions, region_in, with_copies, with_fronts_dropped, with_log_in, with_logs_begun, with_logs_ended, with_logs_of, with_records, with_region, with_tails_cut, without_log_of, without_logs};
+ghost use Rattle.assise_machine_state.specs.NodeValues.{AreDigested, AreTaken, AreUndigested, HasLog, IsDigestedTo, IsUndigestedFrom, away, begun_log, changed_in, copied, log_in, new_regions, region_in, with_copies, with_fronts_dropped, with_hot_in, with_log_in, with_logs_begun, with_logs_ended, with_logs_of, with_records, with_region, with_tails_cut, without_log_of, without_logs};
 ghost use Rattle.assise_machine_state.specs.Observed.{is_full_in};
 ghost use Rattle.assise_machine_state.specs.Places.{IsNumber};
 
@@ -140,6 +140,20 @@ impl Nodes {
         ensures { self.new ≡ self.old }
     {
         self.regions[node as usize - 1].touch(inode);
+    }
+
+    /// Sets how many inodes may be hot at a node, 1 to 4,096. The one refusal is [`Refusal::OutOfMemory`], where fewer may be
+    /// hot than before, and it leaves all as it was, and as many hot.
+    pub fn set_hot_capacity(&mut self, node: u32, capacity: usize) -> Result<(), Refusal>
+        requires node { IsNumber self.old node }
+        requires least { 1 ≤ capacity }
+        requires most { capacity ≤ 4096 }
+        ensures ok { OnOk result (self.new ≡ with_hot_in self.old node capacity) }
+        ensures err { OnErr result (self.new ≡ self.old) }
+        ensures asked { OnErr result (capacity < (region_in self.old node).capacity) }
+        ensures only_memory { IsOkUnless result OutOfMemory }
+    {
+        self.regions[node as usize - 1].set_hot_capacity(capacity)
     }
 
     /// Takes a record of a client in at a node, behind the last, with effects that can be made all or none. It is refused

@@ -11,11 +11,11 @@ ghost use Rattle.assise_machine_laws.specs.NodeSteps.{Delivers, Drops};
 ghost use Rattle.assise_machine_laws.specs.Sound.{IsSound};
 ghost use Rattle.assise_machine_laws.specs.World.{Full, World, ahead_below, alone as alone_observed, digested_by_all, received_by_all, view};
 ghost use Rattle.assise_machine_returns.specs.Returns.{DigestsNoted, OtherAreasStay};
-ghost use Rattle.assise_machine_state.specs.Changes.{after_delivery, after_digest, after_drop, first_but};
+ghost use Rattle.assise_machine_state.specs.Changes.{after_delivery, after_digest, after_drop, after_hot, first_but};
 ghost use Rattle.assise_machine_state.specs.NodeValues.{region_seen};
-ghost use Rattle.assise_machine_state.specs.Observed.{inodes_read, world_of};
+ghost use Rattle.assise_machine_state.specs.Observed.{inodes_read, observed, world_of};
 ghost use Rattle.assise_machine_state.specs.Places.{IsNumber};
-ghost use Rattle.assise_machine_state.specs.Shape.{IsShaped};
+ghost use Rattle.assise_machine_state.specs.Shape.{AreNoted, IsShaped};
 ghost use Rattle.assise_machine_state.specs.StateValues.{StateValue};
 
 /// Records that come to a node.
@@ -47,4 +47,14 @@ pub fn what_is_read_is_observed()
     ensures client { (s : StateValue) (c i : ℕ) → IsShaped s → IsSound (world_of s) → (world_of s).lives c ≡ true → map.get (inodes_read s c) i ≡ view (world_of s) ((world_of s).home c) c i }
     ensures region { (s : StateValue) (n i : ℕ) (acked : List ℕ) → IsShaped s → IsSound (world_of s) → Full (world_of s) n → length acked ≡ length s.clients →
         ((c : ℕ) → c < length s.clients → slice_index_or acked c 0 ≡ received_by_all (world_of s) (suc c)) → alone (region_seen s.nodes n) acked i ≡ alone_observed (world_of s) n i }
+{}
+
+/// How many inodes may be hot at a node isn't observed.
+pub fn what_may_be_hot_is_not_observed()
+    ensures machine { (s : StateValue) (n capacity : ℕ) →
+        observed (after_hot s n capacity) ≡ observed s }
+    ensures shape { (s : StateValue) (n capacity : ℕ) →
+        IsShaped s → IsShaped (after_hot s n capacity) }
+    ensures noted { (s : StateValue) (n capacity : ℕ) →
+        AreNoted s → AreNoted (after_hot s n capacity) }
 {}

@@ -27,6 +27,9 @@ returns-in-Digest-clause-served g c = seen_so c.in-Digest.is (happens c.digest.e
 pub returns-in-ReleaseReady-clause-served : goal.returns-in-ReleaseReady-clause-served
 returns-in-ReleaseReady-clause-served g c = seen_so c.in-ReleaseReady.is (happens c.release_ready.ensures.happens)
 
+pub returns-in-SetHot-clause-served : goal.returns-in-SetHot-clause-served
+returns-in-SetHot-clause-served g c = seen_so c.in-SetHot.is (happens c.set_hot.ensures.happens)
+
 pub returns-in-Crash-clause-served : goal.returns-in-Crash-clause-served
 returns-in-Crash-clause-served g c = seen_so c.in-Crash.is (happens c.crash.ensures.happens)
 

@@ -1,3 +1,5 @@
+use Rattle.std.proofs.Common.{refl}
+use Rattle.assise_machine_events.specs.NodeEvents.SettingHot.{is_set}
 use Rattle.assise_machine_events.proofs.Digestible.{digested_can}
 use Rattle.assise_machine_events.proofs.Doable.{delivered_can}
 use Rattle.assise_machine_events.proofs.Freeable.{released_can}
@@ -11,3 +13,6 @@ returns-clause-digested r = λ m n count h fine few some borders. digested_can m
 
 pub returns-clause-released : goal.returns-clause-released
 returns-clause-released r = λ m most h few. released_can m most h few
+
+pub returns-clause-hot : goal.returns-clause-hot
+returns-clause-hot r = λ m n fine. (m, is_set fine refl refl)

@@ -1,5 +1,5 @@
 use Rattle.assise_machine_events.proofs.LeasesGo.{released_some}
-use Rattle.assise_machine_events.proofs.NodesCome.{delivered, digested_one, not_delivered, not_delivered_for_memory, not_digested, not_digested_for_memory, not_sent, not_sent_for_memory, sent_one, stale}
+use Rattle.assise_machine_events.proofs.NodesCome.{delivered, digested_one, hot_is_set, hot_not_set, hot_not_set_for_memory, not_delivered, not_delivered_for_memory, not_digested, not_digested_for_memory, not_sent, not_sent_for_memory, sent_one, stale}
 use Rattle.assise_machine_events.proofs.reachable.each_outcome_of_what_nodes_do_comes.Goals as goal
 
 pub returns-clause-sent : goal.returns-clause-sent
@@ -34,3 +34,12 @@ returns-clause-not_digested_for_memory r = not_digested_for_memory
 
 pub returns-clause-released : goal.returns-clause-released
 returns-clause-released r = released_some
+
+pub returns-clause-hot : goal.returns-clause-hot
+returns-clause-hot r = hot_is_set
+
+pub returns-clause-not_hot : goal.returns-clause-not_hot
+returns-clause-not_hot r = hot_not_set
+
+pub returns-clause-not_hot_for_memory : goal.returns-clause-not_hot_for_memory
+returns-clause-not_hot_for_memory r = hot_not_set_for_memory

@@ -1,0 +1,84 @@
+-- How many inodes may be hot at a node isn't observed.
+use Rattle.std.proofs.Common.{◌≡◌, ℕ, ◌-◌, List, length, not, true, refl, ap}
+use Rattle.std.proofs.lemmas.List.{length-set}
+use Rattle.assise_inode_table.specs.Contents.{InodeMap, values}
+use Rattle.assise_private_log.specs.NumberedLog.{end}
+use Rattle.assise_digest.specs.Region.{ReceivedLog, RegionValue, no_log, with_hot_capacity}
+use Rattle.assise_machine_leases.specs.Leases.{client_lease, is_held, is_written}
+use Rattle.assise_machine_history.specs.Numbered.{kept_numbered}
+use Rattle.assise_machine_events.specs.Machine.{Machine}
+use Rattle.assise_machine_state.specs.Changes.{after_hot}
+use Rattle.assise_machine_state.specs.ClientValues.{client_seen}
+use Rattle.assise_machine_state.specs.NodeValues.{log_seen, no_region, region_in, region_seen}
+use Rattle.assise_machine_state.specs.Observed.{full_in, observed, own_node, own_seen, world_of}
+use Rattle.assise_machine_state.specs.Places.{at}
+use Rattle.assise_machine_state.specs.Shape.{AreNoted, IsShaped}
+use Rattle.assise_machine_state.specs.StateValues.{StateValue, leases_of, standings}
+use Rattle.assise_machine_state.proofs.Seeing.{seen_kept}
+use Rattle.assise_machine_state.proofs.Shaping.{shaped_as}
+
+-- what is observed, by what is seen of the nodes' inodes and logs
+observed_by : StateValue → (inodes : ℕ → InodeMap) → (logs : ℕ → List ReceivedLog) → Machine
+observed_by s inodes logs = record {
+  limit = s.limit;
+  history = s.history;
+  world = record {
+    full = full_in (standings s);
+    area = λ n. values (inodes n);
+    log = λ n c. (at no_log (logs n) c).log.records;
+    received = λ n c. end (at no_log (logs n) c).log;
+    digested = λ n c. (at no_log (logs n) c).digested;
+    clients = length s.clients;
+    home = λ c. (client_seen s.clients c).home;
+    lives = λ c. not (client_seen s.clients c).failed;
+    crashed = λ c. (client_seen s.clients c).crashed;
+    records = λ c. (at no_log (logs (own_node (standings s) (client_seen s.clients c))) c).log.records;
+    first = λ c. (at no_log (logs (own_node (standings s) (client_seen s.clients c))) c).log.first;
+    border = λ c k. true;
+    goal = λ c. (client_seen s.clients c).goal;
+    next = λ c. (client_seen s.clients c).next;
+    made = λ c. (client_seen s.clients c).made;
+    holds = λ c i. is_held (client_lease (leases_of s) c i);
+    writes = λ c i. is_written (client_lease (leases_of s) c i);
+    calls = kept_numbered s.history;
+  };
+  leases = leases_of s;
+  members = s.members;
+}
+
+module _ (s : StateValue) (n capacity : ℕ) where
+  abbrev t : StateValue
+  t = after_hot s n capacity
+
+  abbrev changed : RegionValue
+  changed = with_hot_capacity (region_in s.nodes n) capacity
+
+  inodes_same : (k : ℕ) → (region_seen t.nodes k).inodes ≡ (region_seen s.nodes k).inodes
+  unfolding region_seen
+  inodes_same k = seen_kept (λ r. r.inodes) no_region changed s.nodes n k refl
+
+  logs_same : (k : ℕ) → (region_seen t.nodes k).logs ≡ (region_seen s.nodes k).logs
+  unfolding region_seen
+  logs_same k = seen_kept (λ r. r.logs) no_region changed s.nodes n k refl
+
+  pub machine_same : observed t ≡ observed s
+  unfolding observed world_of own_seen log_seen observed_by leases_of
+  machine_same = λ i. observed_by s (λ k. inodes_same k i) (λ k. logs_same k i)
+
+  pub shape_kept : IsShaped s → IsShaped t
+  unfolding log_seen
+  shape_kept shape = shaped_as s t shape record {
+    nodes = length-set s.nodes (n - 1) changed;
+    members = refl;
+    full = λ k. refl;
+    logs = λ k. ap length (logs_same k);
+    clients = refl;
+    home = λ c. refl;
+    failed = λ c. refl;
+    limit = refl;
+    limits = λ k c. ap (λ ls. (at no_log ls c).log.limit) (logs_same k);
+    at_home = λ k c. ap (λ ls. (at no_log ls c).at_home) (logs_same k);
+  }
+
+  pub notes_kept : AreNoted s → AreNoted t
+  notes_kept noted = record { once = noted.once; known = noted.known; noted = noted.noted }
