@@ -12,7 +12,7 @@ use Rattle.assise_machine_events.specs.Faults.{client_fault, fault_if, is_client
 use Rattle.assise_machine_events.specs.Happenings.{Trying}
 use Rattle.assise_machine_events.specs.Machine.{Machine, most_clients}
 use Rattle.assise_machine_events.specs.MemberEvents.{Failing, Joining, Refilling, Returning, is_refused as member_refused}
-use Rattle.assise_machine_events.specs.NodeEvents.{Digesting, Sending, is_refused as node_refused}
+use Rattle.assise_machine_events.specs.NodeEvents.{Digesting, Sending, SettingHot, is_refused as node_refused}
 use Rattle.assise_manager.specs.Changes.{failure_fault_of, filling_fault_of, join_fault_of, return_fault_of}
 use Rattle.assise_manager.specs.Standings.{Standing, standing_of}
 
@@ -39,6 +39,9 @@ opens_nowhere m n far = is_refused BadNode (no_open m n far) refl refl
 
 pub sends_nowhere : (m : Machine) (n : ℕ) → length m.members.nodes < n → Sending m n (refused BadNode) m
 sends_nowhere m n far = node_refused BadNode (no_node m n far) refl refl
+
+pub sets_nowhere : (m : Machine) (n : ℕ) → length m.members.nodes < n → SettingHot m n (refused BadNode) m
+sets_nowhere m n far = node_refused BadNode (no_node m n far) refl refl
 
 pub digests_nowhere : (m : Machine) (n : ℕ) → length m.members.nodes < n → Digesting m n (refused BadNode) m
 digests_nowhere m n far = node_refused BadNode (no_node m n far) refl refl

@@ -1,6 +1,6 @@
 -- What commands make happen: one event, or some, which their answers tell.
 use Rattle.std.specs.Prelude.{⊤}
-use Rattle.std.proofs.Common.{◌≡◌, ◌<◌, ℕ, Bool, true, false, [], ◌∷◌, Option, Some, None, Result, Ok, Err, length, refl, ap, sym, subst, ◌∙◌, arith}
+use Rattle.std.proofs.Common.{◌≡◌, ◌<◌, ◌≤◌, ℕ, Bool, true, false, List, [], ◌∷◌, Option, Some, None, Result, Ok, Err, length, refl, ap, sym, subst, ◌∙◌, arith}
 use Rattle.assise_names.specs.declared.call.Op.{Op}
 use Rattle.assise_names.specs.declared.refusal.Refusal.{Refusal}
 use Rattle.assise_names.specs.declared.refusal.Refusal.TheVariants.{BadClient, BadNode, OutOfMemory}
@@ -11,26 +11,36 @@ use Rattle.assise_machine_laws.specs.World.{alone}
 use Rattle.assise_machine_events.specs.Faults.{node_fault}
 use Rattle.assise_fault_script.specs.declared.command.RevokerKind.{RevokerKind}
 use Rattle.assise_fault_script.specs.declared.command.RevokerKind.TheVariants.{Least, Whole, Eights}
-use Rattle.assise_machine_events.specs.Events.{Answer as EventAnswer, ClusterEvent, back, crash, digest, fail, join, open_client, refill, refused, release_ready, try_call}
+use Rattle.assise_machine_events.specs.Events.{Answer as EventAnswer, ClusterEvent, back, crash, digest, fail, join, open_client, refill, refused, release_ready, set_hot, try_call}
 use Rattle.assise_machine_events.specs.Happenings.{Happens}
 use Rattle.assise_machine_events.specs.Machine.{Machine}
-use Rattle.assise_machine_events.specs.NodeEvents.{Digesting, Releasing, Sending}
+use Rattle.assise_machine_events.specs.NodeEvents.{Digesting, Releasing, Sending, SettingHot, is_refused as node_refused}
 use Rattle.assise_machine.specs.Running.{IsServed, happens, stock_after}
 use Rattle.assise_console.specs.declared.answer.Answer.{Answer}
-use Rattle.assise_console.specs.declared.answer.Answer.TheVariants.{Carried, Refused, Tree as Shown}
+use Rattle.assise_console.specs.declared.answer.Answer.TheVariants.{Quiet, Carried, Refused, Tree as Shown}
 use Rattle.assise_rounds.specs.Courses.{Told}
+use Rattle.assise_rounds.specs.NodeLinks.{FaithfulAt}
 use Rattle.assise_rounds.specs.Returning.{ComesBack, is_refused as comes_not}
 use Rattle.assise_rounds.specs.Rounds.{Replicates}
 use Rattle.assise_rounds.specs.Trying.{TriesOften, is_settled}
 use Rattle.assise_console.specs.OneEvent.{IsOne, IsOneAt, Tells, TellsAt}
 use Rattle.assise_console.specs.State.{State, stock_of, with_machine, with_stock}
-use Rattle.assise_console.specs.Steps.{Calls, CallsOften, Carries, Changes, Opens, Returns, ReturnsWhole, Shows, call_answer, is_carried, is_refused, is_shown, lacks_memory, return_answer}
-use Rattle.assise_console.proofs.Numbers.{comes_nowhere, crashes_nobody, digests_nowhere, fails_nowhere, fills_nowhere, joins_nowhere, no_node, opens_nowhere, sends_nowhere, tries_nobody}
+use Rattle.assise_console.specs.Steps.{Calls, CallsOften, Carries, Changes, Opens, Returns, ReturnsWhole, SetsHot, Shows, call_answer, is_carried, is_made, is_out, is_refused, is_shown, lacks_memory, return_answer}
+use Rattle.assise_console.proofs.Numbers.{comes_nowhere, crashes_nobody, digests_nowhere, fails_nowhere, fills_nowhere, joins_nowhere, no_node, opens_nowhere, sets_nowhere, tries_nobody}
+
+-- ---- links
+
+-- the link is as faithful as it was
+abbrev pub with_links : State → Machine → List Bool → State
+with_links s m links = record { machine = m; stock = s.stock; turns = s.turns; manual = s.manual; links = links }
+
+changes_links : (Does : Machine → Told → Machine → Type 0) (s : State) (m' : Machine) (links : List Bool) → links ≡ s.links → (es : Told) × Does s.machine es m' → (es : Told) × Changes Does s es (with_links s m' links)
+changes_links Does s m' links same (es, h) = (es, record { events = h; stays = ap (with_links s m') same })
 
 -- ---- an open
 
 pub opens_by : (s : State) (n k : ℕ) (kind : RevokerKind) (a : Answer) (e : EventAnswer) (m' : Machine) (left : ℕ) → k ≡ n → Tells a e → IsServed (stock_of kind s.stock) s.machine (open_client k) e m'
-    → left ≡ stock_after (stock_of kind s.stock) e → (es : Told) × Opens s n kind es a (record { machine = m'; stock = with_stock kind left s.stock; turns = s.turns; manual = s.manual })
+    → left ≡ stock_after (stock_of kind s.stock) e → (es : Told) × Opens s n kind es a (record { machine = m'; stock = with_stock kind left s.stock; turns = s.turns; manual = s.manual; links = s.links })
 opens_by s n k kind a e m' left same tells served stock = (
   _,
   record {
@@ -41,6 +51,7 @@ opens_by s n k kind a e m' left same tells served stock = (
     stock = ap (λ l. with_stock kind l s.stock) stock;
     turns = refl;
     manual = refl;
+    links = refl;
   },
 )
 
@@ -60,12 +71,13 @@ opens_none s n kind far = (
     stock = same_stock s kind;
     turns = refl;
     manual = refl;
+    links = refl;
   },
 )
 
 -- ---- a call
 
-pub calls_once : (s : State) (n k : ℕ) (op : Op) (a : Answer) (e : EventAnswer) (m' : Machine) → k ≡ n → s.manual ≡ true → Tells a e → Happens s.machine (try_call k op) e m' → (es : Told) × Changes (Calls s.manual s.turns n op a) s es (with_machine s m')
+pub calls_once : (s : State) (n k : ℕ) (op : Op) (a : Answer) (e : EventAnswer) (m' : Machine) → k ≡ n → s.manual ≡ true → Tells a e → Happens s.machine (try_call k op) e m' → (es : Told) × Changes (Calls s.manual s.links s.turns n op a) s es (with_machine s m')
 calls_once s n k op a e m' same manual tells h =
     let once : IsOne (try_call k op) a s.machine ((try_call k op, e) ∷ []) m' = record { answer = e; tells = tells; event = record { told = refl; happens = h } } in (
       (try_call k op, e) ∷ [],
@@ -75,11 +87,13 @@ calls_once s n k op a e m' same manual tells h =
       },
     )
 
-pub calls_often : (s : State) (n k : ℕ) (op : Op) (a : Answer) (r : Result Reply Refusal) (m' : Machine) → k ≡ n → s.manual ≡ false → a ≡ call_answer r → (es : Told) × TriesOften s.turns k op r s.machine es m' → (es : Told) × Changes (Calls s.manual s.turns n op a) s es (with_machine s m')
-calls_often s n k op a r m' same manual tells (es, h) =
-    let often : CallsOften s.turns n op a s.machine es m' = record { result = r; answer = tells; tries = subst (λ j. TriesOften s.turns j op r s.machine es m') same h } in (es, record { events = rw manual often; stays = refl })
+pub calls_often : (s : State) (n k : ℕ) (op : Op) (a : Answer) (r : Result Reply Refusal) (m' : Machine) (links : List Bool) → k ≡ n → s.manual ≡ false → a ≡ call_answer r → links ≡ s.links → (es : Told) × TriesOften (FaithfulAt s.links) s.turns k op r s.machine es m'
+    → (es : Told) × Changes (Calls s.manual s.links s.turns n op a) s es (with_links s m' links)
+calls_often s n k op a r m' links same manual tells stay (es, h) =
+    let often : CallsOften s.links s.turns n op a s.machine es m' = record { result = r; answer = tells; tries = subst (λ j. TriesOften (FaithfulAt s.links) s.turns j op r s.machine es m') same h } in
+    changes_links (Calls s.manual s.links s.turns n op a) s m' links stay (es, rw manual often)
 
-pub calls_none : (s : State) (n : ℕ) (op : Op) → s.machine.world.clients < n → (es : Told) × Changes (Calls s.manual s.turns n op (Refused BadClient)) s es s
+pub calls_none : (s : State) (n : ℕ) (op : Op) → s.machine.world.clients < n → (es : Told) × Changes (Calls s.manual s.links s.turns n op (Refused BadClient)) s es s
 calls_none s n op far = either s.manual refl
   where
     nobody : Happens s.machine (try_call n op) (refused BadClient) s.machine
@@ -88,7 +102,7 @@ calls_none s n op far = either s.manual refl
     once : IsOne (try_call n op) (Refused BadClient) s.machine ((try_call n op, refused BadClient) ∷ []) s.machine
     once = record { answer = refused BadClient; tells = refl; event = record { told = refl; happens = nobody } }
 
-    often : CallsOften s.turns n op (Refused BadClient) s.machine ((try_call n op, refused BadClient) ∷ []) s.machine
+    often : CallsOften s.links s.turns n op (Refused BadClient) s.machine ((try_call n op, refused BadClient) ∷ []) s.machine
     often = record {
       result = Err BadClient;
       answer = refl;
@@ -102,20 +116,32 @@ calls_none s n op far = either s.manual refl
       };
     }
 
-    either : (manual : Bool) → s.manual ≡ manual → (es : Told) × Changes (Calls s.manual s.turns n op (Refused BadClient)) s es s
+    either : (manual : Bool) → s.manual ≡ manual → (es : Told) × Changes (Calls s.manual s.links s.turns n op (Refused BadClient)) s es s
     either true is = ((try_call n op, refused BadClient) ∷ [], record { events = rw is once; stays = refl })
     either false is = ((try_call n op, refused BadClient) ∷ [], record { events = rw is often; stays = refl })
 
 -- ---- a replicate turn, and a digest
 
-pub carries_some : (s : State) (n k count : ℕ) (m' : Machine) → k ≡ n → (es : Told) × Replicates k count s.machine es m' → (es : Told) × Changes (Carries n (Carried count)) s es (with_machine s m')
-carries_some s n k count m' same (es, h) = (es, record { events = is_carried count refl (subst (λ j. Replicates j count s.machine es m') same h); stays = refl })
+-- what is done over a faithful link is done over one of which less is known
+replicates_less : (F G : Type 0) → (F → G) → (n count : ℕ) (m : Machine) (es : Told) (m' : Machine) → Replicates G n count m es m' → Replicates F n count m es m'
+replicates_less F G to n count m es m' h = record { carried = h.carried; same = λ f. h.same (to f); counts = h.counts; told = h.told; happen = h.happen }
 
-pub carries_refused : (s : State) (n k : ℕ) (r : Refusal) (m' : Machine) → k ≡ n → Sending s.machine k (refused r) m' → (es : Told) × Changes (Carries n (Refused r)) s es (with_machine s m')
-carries_refused s n k r m' same h = (_, record { events = is_refused r refl record { told = refl; happens = subst (λ j. Sending s.machine j (refused r) m') same h }; stays = refl })
+pub carries_some : (s : State) (n k count : ℕ) (m' : Machine) (G : Type 0) (links : List Bool) → k ≡ n → (FaithfulAt s.links k → G) → links ≡ s.links → (es : Told) × Replicates G k count s.machine es m'
+    → (es : Told) × Changes (Carries (FaithfulAt s.links n) n (Carried count)) s es (with_links s m' links)
+carries_some s n k count m' G links same to stay (es, h) =
+    let here : Carries (FaithfulAt s.links k) k (Carried count) s.machine es m' = is_carried count refl (replicates_less (FaithfulAt s.links k) G to k count s.machine es m' h) in
+    changes_links (Carries (FaithfulAt s.links n) n (Carried count)) s m' links stay (es, subst (λ j. Carries (FaithfulAt s.links j) j (Carried count) s.machine es m') same here)
 
-pub carries_none : (s : State) (n : ℕ) → length s.machine.members.nodes < n → (es : Told) × Changes (Carries n (Refused BadNode)) s es s
-carries_none s n far = (_, record { events = is_refused BadNode refl record { told = refl; happens = sends_nowhere s.machine n far }; stays = refl })
+pub carries_refused : (s : State) (n k : ℕ) (r : Refusal) (m' : Machine) (links : List Bool) → k ≡ n → links ≡ s.links → Sending s.machine k (refused r) m'
+    → (es : Told) × Changes (Carries (FaithfulAt s.links n) n (Refused r)) s es (with_links s m' links)
+carries_refused s n k r m' links same stay h =
+    changes_links (Carries (FaithfulAt s.links n) n (Refused r)) s m' links stay (_, is_refused r refl record { told = refl; happens = subst (λ j. Sending s.machine j (refused r) m') same h })
+
+pub carries_nowhere : (s : State) (n : ℕ) → node_fault s.machine n ≡ Some BadNode → (es : Told) × Changes (Carries (FaithfulAt s.links n) n (Refused BadNode)) s es s
+carries_nowhere s n none = (_, record { events = is_refused BadNode refl record { told = refl; happens = node_refused BadNode none refl refl }; stays = refl })
+
+pub carries_none : (s : State) (n : ℕ) → length s.machine.members.nodes < n → (es : Told) × Changes (Carries (FaithfulAt s.links n) n (Refused BadNode)) s es s
+carries_none s n far = carries_nowhere s n (no_node s.machine n far)
 
 pub digests_by : (m : Machine) (n k : ℕ) (a : Answer) (e : EventAnswer) (m' : Machine) → k ≡ n → Tells a e → Digesting m k e m' → (es : Told) × IsOne (digest n) a m es m'
 digests_by m n k a e m' same tells h = (_, record { answer = e; tells = tells; event = record { told = refl; happens = subst (λ j. Digesting m j e m') same h } })
@@ -151,6 +177,20 @@ refills_none m n far = refuses_at refill m n BadNode (fills_nowhere m n far)
 
 pub joins_none : (m : Machine) (n : ℕ) → length m.members.nodes < n → (es : Told) × IsOneAt join n (Refused BadNode) m es m
 joins_none m n far = refuses_at join m n BadNode (joins_nowhere m n far)
+
+-- ---- how many inodes may be hot
+
+hot_made : (n capacity : ℕ) (a : Answer) (m m' : Machine) → 1 ≤ capacity → capacity ≤ 4096 → (es : Told) × IsOneAt (λ j. set_hot j capacity) n a m es m' → (es : Told) × SetsHot n capacity a m es m'
+hot_made n capacity a m m' least most (es, h) = (es, is_made least most h)
+
+pub sets_hot : (m : Machine) (n k capacity : ℕ) (a : Answer) (e : EventAnswer) (m' : Machine) → k ≡ n → 1 ≤ capacity → capacity ≤ 4096 → TellsAt k a e → SettingHot m k e m' → (es : Told) × SetsHot n capacity a m es m'
+sets_hot m n k capacity a e m' same least most tells h = hot_made n capacity a m m' least most (does_at (λ j. set_hot j capacity) m n k a e m' same tells h)
+
+pub hot_nowhere : (m : Machine) (n capacity : ℕ) → 1 ≤ capacity → capacity ≤ 4096 → length m.members.nodes < n → (es : Told) × SetsHot n capacity (Refused BadNode) m es m
+hot_nowhere m n capacity least most far = hot_made n capacity (Refused BadNode) m m least most (refuses_at (λ j. set_hot j capacity) m n BadNode (sets_nowhere m n far))
+
+pub hot_out : (m : Machine) (n capacity : ℕ) → (1 ≤ capacity → capacity ≤ 4096 → ⊥) → (es : Told) × SetsHot n capacity Quiet m es m
+hot_out m n capacity out = ([], is_out out refl record { told = refl; stays = refl })
 
 -- ---- the same of a console, whose cluster alone changes
 

@@ -61,7 +61,7 @@ read_failed Read known old h = refl
 read_failed Memory known old h = refl
 read_failed (Script line fault) known old h = absurd h
 read_failed Write known old h = absurd h
-read_failed (NeedsSerial line) known old h = absurd h
+read_failed (NeedsSerial line command) known old h = absurd h
 read_failed NoThread known old h = absurd h
 
 -- a fault of the bytes that were read is one of what the reader gave
@@ -70,5 +70,5 @@ fault_from Read known old new input read h = absurd h
 fault_from Memory known old new input read h = h.1
 fault_from (Script line fault) known old new input read h = (input, (read, h))
 fault_from Write known old new input read h = (input, (read, h))
-fault_from (NeedsSerial line) known old new input read h = absurd h
+fault_from (NeedsSerial line command) known old new input read h = absurd h
 fault_from NoThread known old new input read h = absurd h

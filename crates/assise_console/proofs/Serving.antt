@@ -3,9 +3,10 @@ use Rattle.std.proofs.Common.{◌≡◌, ℕ, ◌<◌, Bool, true, false, List, 
 use Rattle.assise_names.specs.declared.call.Op.{Op}
 use Rattle.assise_history.specs.Legal.{IsLegal}
 use Rattle.assise_fault_script.specs.declared.command.Command as commands
-use Rattle.assise_fault_script.specs.declared.command.Command.TheVariants.{Cluster, Manual, Open, Call, Carry, Digest, Release, Crash, Fail, Back, Refill, Join, Tree, History}
+use Rattle.assise_fault_script.specs.declared.command.Command.TheVariants.{Cluster, Manual, Open, Call, Carry, Link, Hot, Digest, Release, Crash, Fail, Back, Refill, Join, Tree, History}
+use Rattle.assise_fault_script.specs.declared.command.LinkKind.{LinkKind}
 use Rattle.assise_fault_script.specs.declared.parse.NumberedCommand.{NumberedCommand}
-use Rattle.assise_machine_events.specs.Events.{ClusterEvent, all_entries, back, crash, fail, join, refill, try_call}
+use Rattle.assise_machine_events.specs.Events.{ClusterEvent, all_entries, back, crash, fail, join, refill, set_hot, try_call}
 use Rattle.assise_machine_events.specs.Machine.{Machine}
 use Rattle.assise_machine_events.proofs.Beginning.{begun_holds}
 use Rattle.assise_console.specs.declared.answer.Answer.{Answer}
@@ -13,7 +14,7 @@ use Rattle.assise_rounds.specs.Courses.{IsCourse, Told}
 use Rattle.assise_console.specs.OneEvent.{IsOne, IsOneAt}
 use Rattle.assise_console.specs.Lines.{Prints}
 use Rattle.assise_console.specs.State.{State, Stocks, begun}
-use Rattle.assise_console.specs.Steps.{Calls, Carries, Returns, Serves, is_carried, is_refused}
+use Rattle.assise_console.specs.Steps.{Calls, Carries, Returns, Serves, SetsHot, SetsLink, is_carried, is_linked, is_made, is_nowhere, is_out, is_refused}
 use Rattle.assise_rounds.proofs.Coming.{return_course}
 use Rattle.assise_rounds.proofs.Courses.{course_legal, course_of, course_then, course_told, event_course, tries_course}
 
@@ -25,13 +26,13 @@ one_course e a m es m' h = event_course e h.answer m es m' h.event
 told_course : (what : ℕ → ClusterEvent) (n : ℕ) (a : Answer) (m : Machine) (es : Told) (m' : Machine) → IsOneAt what n a m es m' → IsCourse m es m'
 told_course what n a m es m' h = event_course (what n) h.answer m es m' h.event
 
-calls_course : (manual : Bool) (turns c : ℕ) (op : Op) (a : Answer) (m : Machine) (es : Told) (m' : Machine) → Calls manual turns c op a m es m' → IsCourse m es m'
-calls_course true turns c op a m es m' h = one_course (try_call c op) a m es m' h
-calls_course false turns c op a m es m' h = tries_course turns c op h.result m es m' h.tries
+calls_course : (manual : Bool) (links : List Bool) (turns c : ℕ) (op : Op) (a : Answer) (m : Machine) (es : Told) (m' : Machine) → Calls manual links turns c op a m es m' → IsCourse m es m'
+calls_course true links turns c op a m es m' h = one_course (try_call c op) a m es m' h
+calls_course false links turns c op a m es m' h = tries_course turns c op h.result m es m' h.tries
 
-carries_course : (n : ℕ) (a : Answer) (m : Machine) (es : Told) (m' : Machine) → Carries n a m es m' → IsCourse m es m'
-carries_course n a m es m' (is_carried count is h) = course_of m m' es h.happen
-carries_course n a m es m' (is_refused r is h) = event_course _ _ m es m' h
+carries_course : (perfect : Type 0) (n : ℕ) (a : Answer) (m : Machine) (es : Told) (m' : Machine) → Carries perfect n a m es m' → IsCourse m es m'
+carries_course perfect n a m es m' (is_carried count is h) = course_of m m' es h.happen
+carries_course perfect n a m es m' (is_refused r is h) = event_course _ _ m es m' h
 
 returns_course : (manual : Bool) (n : ℕ) (a : Answer) (m : Machine) (es : Told) (m' : Machine) → Returns manual n a m es m' → IsCourse m es m'
 returns_course true n a m es m' h = told_course back n a m es m' h
@@ -40,12 +41,22 @@ returns_course false n a m es m' h = return_course n h.result m es m' h.comes
 quiet_course : (m m' : Machine) (es : Told) → es ≡ [] → m' ≡ m → IsCourse m es m'
 quiet_course m m' es none same = subst (λ x. IsCourse m x m') (sym none) same
 
+link_stays : (s t : State) (n : ℕ) (kind : LinkKind) (a : Answer) → SetsLink s n kind a t → t.machine ≡ s.machine
+link_stays s t n kind a (is_linked there answer is) = ap (λ x. x.machine) is
+link_stays s t n kind a (is_nowhere none answer is) = ap (λ x. x.machine) is
+
+hot_course : (n capacity : ℕ) (a : Answer) (m : Machine) (es : Told) (m' : Machine) → SetsHot n capacity a m es m' → IsCourse m es m'
+hot_course n capacity a m es m' (is_made least most h) = told_course (λ k. set_hot k capacity) n a m es m' h
+hot_course n capacity a m es m' (is_out out answer h) = quiet_course m m' es h.told h.stays
+
 pub command_course : (s t : State) (c : commands.Command) (es : Told) (a : Answer) → Serves s c es a t → IsCourse s.machine es t.machine
 command_course s t (Cluster n l hot) es a h = quiet_course s.machine t.machine es h.told (ap (λ x. x.machine) h.stays)
 command_course s t Manual es a h = quiet_course s.machine t.machine es h.told (ap (λ x. x.machine) h.stays)
 command_course s t (Open n kind) es a h = subst (λ x. IsCourse s.machine x t.machine) (sym h.told) (t.machine, ((_, h.served), refl))
-command_course s t (Call c op) es a h = calls_course s.manual s.turns c op a s.machine es t.machine h.events
-command_course s t (Carry n) es a h = carries_course n a s.machine es t.machine h.events
+command_course s t (Call c op) es a h = calls_course s.manual s.links s.turns c op a s.machine es t.machine h.events
+command_course s t (Carry n) es a h = carries_course _ n a s.machine es t.machine h.events
+command_course s t (Link n kind) es a h = quiet_course s.machine t.machine es h.1 (link_stays s t n kind a h.0)
+command_course s t (Hot n capacity) es a h = hot_course n capacity a s.machine es t.machine h.events
 command_course s t (Digest n) es a h = one_course _ a s.machine es t.machine h.events
 command_course s t Release es a h = one_course _ a s.machine es t.machine h.events
 command_course s t (Crash c) es a h = told_course crash c a s.machine es t.machine h.events

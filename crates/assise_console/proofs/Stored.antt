@@ -5,7 +5,7 @@ use Rattle.assise_names.specs.declared.refusal.Refusal.{Refusal}
 use Rattle.assise_machine_events.specs.Events.{digested, not_yet, opened, refused, released, replied}
 use Rattle.assise_machine.specs.Running.{opened_answer}
 use Rattle.assise_console.specs.declared.answer.Answer.{Answer}
-use Rattle.assise_console.specs.declared.answer.Answer.TheVariants.{Quiet, Client, Replied, Waits, Refused, Carried, Digested, Released, Crashed, Failed, Began, Left, Returned, Tree, History}
+use Rattle.assise_console.specs.declared.answer.Answer.TheVariants.{Quiet, Client, Replied, Waits, Refused, Carried, Digested, Released, Linked, HotSet, Crashed, Failed, Began, Left, Returned, Tree, History}
 use Rattle.assise_console.specs.declared.stock.Stock.{Stock}
 use Rattle.assise_console.specs.Stored.{left_of}
 use Rattle.assise_console.specs.OneEvent.{Tells}
@@ -26,6 +26,8 @@ tells_opened (Digested count) c tells = absurd (let bad : opened c ≡ digested 
 tells_opened (Released count) c tells = absurd (let bad : opened c ≡ released count = tells in cc)
 tells_opened Quiet c tells = absurd tells
 tells_opened (Carried count) c tells = absurd tells
+tells_opened (Linked node) c tells = absurd tells
+tells_opened (HotSet node) c tells = absurd tells
 tells_opened (Crashed client) c tells = absurd tells
 tells_opened (Failed node losses) c tells = absurd tells
 tells_opened (Began node stale) c tells = absurd tells

@@ -60,7 +60,7 @@ IsRunFault Memory old new = new ≡ old
 IsRunFault Write old new = Unit {0}
 IsRunFault Read old new = ⊥
 IsRunFault (Script line fault) old new = ⊥
-IsRunFault (NeedsSerial line) old new = ⊥
+IsRunFault (NeedsSerial line command) old new = ⊥
 IsRunFault NoThread old new = ⊥
 
 -- the bytes are a script, and it was run
@@ -77,7 +77,7 @@ FaultOf (Script line fault) input old new = IsScriptFault input line fault × (n
 FaultOf Memory input old new = ((commands : List NumberedCommand) × IsScript input commands) × (new ≡ old)
 FaultOf Write input old new = (commands : List NumberedCommand) × IsScript input commands
 FaultOf Read input old new = ⊥
-FaultOf (NeedsSerial line) input old new = ⊥
+FaultOf (NeedsSerial line command) input old new = ⊥
 FaultOf NoThread input old new = ⊥
 
 -- ---- what a reader gave
@@ -96,7 +96,7 @@ FaultFrom Read known old new = new ≡ old
 FaultFrom Memory known old new = new ≡ old
 FaultFrom (Script line fault) known old new = (input : List ℕ) × (IsInput known input × FaultOf (Script line fault) input old new)
 FaultFrom Write known old new = (input : List ℕ) × (IsInput known input × FaultOf Write input old new)
-FaultFrom (NeedsSerial line) known old new = ⊥
+FaultFrom (NeedsSerial line command) known old new = ⊥
 FaultFrom NoThread known old new = ⊥
 
 -- a reader's failure is its own, unless memory was wanting for what it gave
@@ -110,5 +110,5 @@ IsReadFault Read = Unit {0}
 IsReadFault Memory = Unit {0}
 IsReadFault (Script line fault) = ⊥
 IsReadFault Write = ⊥
-IsReadFault (NeedsSerial line) = ⊥
+IsReadFault (NeedsSerial line command) = ⊥
 IsReadFault NoThread = ⊥

@@ -9,7 +9,7 @@ use Rattle.assise_history.specs.Entries.{Event as Entry}
 use Rattle.assise_history.specs.Text.{history_text}
 use Rattle.assise_fault_script.specs.declared.parse.NumberedCommand.{NumberedCommand}
 use Rattle.assise_console.specs.declared.answer.Answer.{Answer}
-use Rattle.assise_console.specs.declared.answer.Answer.TheVariants.{Quiet, Client, Replied, Waits, Refused, Carried, Digested, Released, Crashed, Failed, Began, Left, Returned, Tree, History}
+use Rattle.assise_console.specs.declared.answer.Answer.TheVariants.{Quiet, Client, Replied, Waits, Refused, Carried, Digested, Released, Linked, HotSet, Crashed, Failed, Began, Left, Returned, Tree, History}
 use Rattle.assise_rounds.specs.Courses.{Told}
 use Rattle.assise_console.specs.State.{State}
 use Rattle.assise_console.specs.Steps.{Serves}
@@ -31,6 +31,8 @@ answer_text h (Refused refusal) = refusal_text refusal
 answer_text h (Carried count) = codes "carried " ++ decimal count
 answer_text h (Digested count) = codes "digested " ++ decimal count
 answer_text h (Released count) = codes "released " ++ decimal count
+answer_text h (Linked node) = codes "linked " ++ decimal node
+answer_text h (HotSet node) = codes "hot " ++ decimal node
 answer_text h (Crashed client) = codes "crashed " ++ decimal client
 answer_text h (Failed node losses) = codes "failed " ++ decimal node ++ lost_text losses.items
 answer_text h (Began node stale) = codes "back " ++ decimal node ++ codes " stale " ++ decimal stale

@@ -1,12 +1,12 @@
 -- Answers of commands that tell that of one event.
 -- Assise (OSDI 2020), section 3 (calls, digests, leases; process crash, fail-over, and recovery).
 use Rattle.std.specs.Prelude.{◌≡◌, ℕ, map}
-use Rattle.assise_machine_events.specs.Events.{Answer as EventAnswer, ClusterEvent, began, crashed, digested, failed, joined, left, not_yet, opened, refused, released, replied}
+use Rattle.assise_machine_events.specs.Events.{Answer as EventAnswer, ClusterEvent, began, crashed, digested, failed, hot_set, joined, left, not_yet, opened, refused, released, replied}
 use Rattle.assise_machine_events.specs.Machine.{Machine}
 use Rattle.assise_machine_failures.specs.Answers.{loss_of}
 use Rattle.assise_rounds.specs.Courses.{IsEvent, Told}
 use Rattle.assise_console.specs.declared.answer.Answer.{Answer}
-use Rattle.assise_console.specs.declared.answer.Answer.TheVariants.{Quiet, Client, Replied, Waits, Refused, Carried, Digested, Released, Crashed, Failed, Began, Left, Returned, Tree, History}
+use Rattle.assise_console.specs.declared.answer.Answer.TheVariants.{Quiet, Client, Replied, Waits, Refused, Carried, Digested, Released, Linked, HotSet, Crashed, Failed, Began, Left, Returned, Tree, History}
 
 -- a command's answer tells that of one event
 abbrev pub Tells : Answer → EventAnswer → Type 0
@@ -18,6 +18,8 @@ Tells (Digested count) e = e ≡ digested count
 Tells (Released count) e = e ≡ released count
 Tells Quiet e = ⊥
 Tells (Carried count) e = ⊥
+Tells (Linked node) e = ⊥
+Tells (HotSet node) e = ⊥
 Tells (Crashed client) e = ⊥
 Tells (Failed node losses) e = ⊥
 Tells (Began node stale) e = ⊥
@@ -34,6 +36,7 @@ pub record IsOne (e : ClusterEvent) (a : Answer) (m : Machine) (es : Told) (m' :
 
 -- the answer of a command for the client or the node of this number tells that of one event
 abbrev pub TellsAt : ℕ → Answer → EventAnswer → Type 0
+TellsAt n (HotSet node) e = (node ≡ n) × (e ≡ hot_set)
 TellsAt n (Crashed client) e = (client ≡ n) × (e ≡ crashed)
 TellsAt n (Failed node losses) e = (node ≡ n) × (e ≡ failed (map loss_of losses.items))
 TellsAt n (Began node stale) e = (node ≡ n) × (e ≡ began stale)
@@ -47,6 +50,7 @@ TellsAt n Waits e = ⊥
 TellsAt n (Carried count) e = ⊥
 TellsAt n (Digested count) e = ⊥
 TellsAt n (Released count) e = ⊥
+TellsAt n (Linked node) e = ⊥
 TellsAt n (Tree tree) e = ⊥
 TellsAt n History e = ⊥
 

@@ -1,5 +1,5 @@
 -- What a console is seen as.
-use Rattle.std.specs.Prelude.{ℕ, Bool, false}
+use Rattle.std.specs.Prelude.{ℕ, Bool, true, false, List, [], ◌∷◌}
 use Rattle.assise_fault_script.specs.declared.command.RevokerKind.{RevokerKind}
 use Rattle.assise_fault_script.specs.declared.command.RevokerKind.TheVariants.{Least, Whole, Eights}
 use Rattle.assise_machine_events.specs.Machine.{Machine, begun_as}
@@ -28,11 +28,17 @@ pub record State : Type 0 where
   pub turns : ℕ
   -- a call is tried once, and no round is made
   pub manual : Bool
+  -- of each node, from node 1 on: its link gives what it is handed, and nothing else
+  pub links : List Bool
+
+-- the links of eight nodes, all perfect
+abbrev pub perfect_links : List Bool
+perfect_links = true ∷ true ∷ true ∷ true ∷ true ∷ true ∷ true ∷ true ∷ []
 
 -- a cluster in which nothing happened
 abbrev pub begun : ℕ → ℕ → Stocks → ℕ → State
-begun nodes log stock turns = record { machine = begun_as nodes log; stock = stock; turns = turns; manual = false }
+begun nodes log stock turns = record { machine = begun_as nodes log; stock = stock; turns = turns; manual = false; links = perfect_links }
 
 -- all else is as it was
 abbrev pub with_machine : State → Machine → State
-with_machine s m = record { machine = m; stock = s.stock; turns = s.turns; manual = s.manual }
+with_machine s m = record { machine = m; stock = s.stock; turns = s.turns; manual = s.manual; links = s.links }

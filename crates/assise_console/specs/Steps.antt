@@ -1,24 +1,27 @@
 -- What each command makes happen, what it answers, and the state after it.
-use Rattle.std.specs.Prelude.{◌≡◌, ℕ, Bool, true, false, [], ◌∷◌, None, Some, ⊤, Result, Ok, Err}
+use Rattle.std.specs.Prelude.{◌≡◌, ℕ, ◌-◌, ◌≤◌, Bool, true, false, List, [], ◌∷◌, slice_set, None, Some, ⊤, Result, Ok, Err}
 use Rattle.assise_names.specs.declared.call.Op.{Op}
 use Rattle.assise_names.specs.declared.refusal.Refusal.{Refusal}
-use Rattle.assise_names.specs.declared.refusal.Refusal.TheVariants.{OutOfMemory}
+use Rattle.assise_names.specs.declared.refusal.Refusal.TheVariants.{BadNode, OutOfMemory}
 use Rattle.assise_names.specs.declared.reply.Reply.{Reply}
 use Rattle.assise_seq_tree.specs.Tree.{Tree as PlainTree}
 use Rattle.assise_inode_table.specs.Spelled.{Spells}
 use Rattle.assise_fault_script.specs.declared.command.Command as commands
-use Rattle.assise_fault_script.specs.declared.command.Command.TheVariants.{Cluster, Manual, Open, Call, Carry, Digest, Release, Crash, Fail, Back, Refill, Join, Tree as TreeOf, History}
+use Rattle.assise_fault_script.specs.declared.command.Command.TheVariants.{Cluster, Manual, Open, Call, Carry, Link, Hot, Digest, Release, Crash, Fail, Back, Refill, Join, Tree as TreeOf, History}
+use Rattle.assise_fault_script.specs.declared.command.LinkKind.{LinkKind}
+use Rattle.assise_fault_script.specs.declared.command.LinkKind.TheVariants.{Perfect, Lose, Repeat, Delay, Cut, Fault}
 use Rattle.assise_fault_script.specs.declared.command.RevokerKind.{RevokerKind}
 use Rattle.assise_machine_laws.specs.World.{alone}
-use Rattle.assise_machine_events.specs.Events.{Answer as EventAnswer, back, crash, digest, fail, join, open_client, outgoing, refill, refused, release_ready, try_call}
+use Rattle.assise_machine_events.specs.Events.{Answer as EventAnswer, back, crash, digest, fail, join, open_client, outgoing, refill, refused, release_ready, set_hot, try_call}
 use Rattle.assise_machine_events.specs.Faults.{node_fault}
 use Rattle.assise_machine_events.specs.Machine.{Machine}
 use Rattle.assise_machine.specs.Running.{IsServed, stock_after}
 use Rattle.assise_console.specs.declared.answer.Answer as answers
-use Rattle.assise_console.specs.declared.answer.Answer.TheVariants.{Quiet, Replied, Refused, Carried, Returned, Tree as Shown, History as Whole}
+use Rattle.assise_console.specs.declared.answer.Answer.TheVariants.{Quiet, Replied, Refused, Carried, Linked, Returned, Tree as Shown, History as Whole}
 use Rattle.assise_console.specs.OneEvent.{IsOne, IsOneAt, Tells}
 use Rattle.assise_console.specs.State.{State, stock_of, with_machine, with_stock}
-use Rattle.assise_rounds.specs.Courses.{IsEvent, Told}
+use Rattle.assise_rounds.specs.Courses.{IsEvent, Nothing, Told}
+use Rattle.assise_rounds.specs.NodeLinks.{FaithfulAt}
 use Rattle.assise_rounds.specs.Returning.{ComesBack}
 use Rattle.assise_rounds.specs.Rounds.{Replicates}
 use Rattle.assise_rounds.specs.Trying.{TriesOften}
@@ -38,6 +41,7 @@ pub record Opens (s : State) (n : ℕ) (kind : RevokerKind) (es : Told) (a : ans
   pub stock : t.stock ≡ with_stock kind (stock_after (stock_of kind s.stock) answer) s.stock
   pub turns : t.turns ≡ s.turns
   pub manual : t.manual ≡ s.manual
+  pub links : t.links ≡ s.links
 
 -- what is answered where a call isn't awaited any more
 abbrev pub call_answer : Result Reply Refusal → answers.Answer
@@ -45,20 +49,43 @@ call_answer (Ok reply) = Replied reply
 call_answer (Err refusal) = Refused refusal
 
 -- a call is tried as often as it is awaited, which the answer tells
-pub record CallsOften (turns c : ℕ) (op : Op) (a : answers.Answer) (m : Machine) (es : Told) (m' : Machine) : Type 0 where
+pub record CallsOften (links : List Bool) (turns c : ℕ) (op : Op) (a : answers.Answer) (m : Machine) (es : Told) (m' : Machine) : Type 0 where
   pub result : Result Reply Refusal
   pub answer : a ≡ call_answer result
-  pub tries : TriesOften turns c op result m es m'
+  pub tries : TriesOften (FaithfulAt links) turns c op result m es m'
 
 -- a call is tried once after `manual`, and else as often as it is awaited
-abbrev pub Calls : Bool → (turns c : ℕ) → Op → answers.Answer → Machine → Told → Machine → Type 0
-Calls true turns c op a m es m' = IsOne (try_call c op) a m es m'
-Calls false turns c op a m es m' = CallsOften turns c op a m es m'
+abbrev pub Calls : Bool → (links : List Bool) → (turns c : ℕ) → Op → answers.Answer → Machine → Told → Machine → Type 0
+Calls true links turns c op a m es m' = IsOne (try_call c op) a m es m'
+Calls false links turns c op a m es m' = CallsOften links turns c op a m es m'
 
--- node n makes a replicate turn
-pub data Carries (n : ℕ) (a : answers.Answer) (m : Machine) (es : Told) (m' : Machine) : Type 0 where
-  is_carried : (count : ℕ) → a ≡ Carried count → Replicates n count m es m' → Carries n a m es m'
-  is_refused : (r : Refusal) → a ≡ Refused r → IsEvent (outgoing n) (refused r) m es m' → Carries n a m es m'
+-- node n makes a replicate turn, over a link that is perfect or isn't
+pub data Carries (perfect : Type 0) (n : ℕ) (a : answers.Answer) (m : Machine) (es : Told) (m' : Machine) : Type 0 where
+  is_carried : (count : ℕ) → a ≡ Carried count → Replicates perfect n count m es m' → Carries perfect n a m es m'
+  is_refused : (r : Refusal) → a ≡ Refused r → IsEvent (outgoing n) (refused r) m es m' → Carries perfect n a m es m'
+
+-- so many inodes may be hot at node n then, which the answer tells; a number out of limits does nothing
+pub data SetsHot (n capacity : ℕ) (a : answers.Answer) (m : Machine) (es : Told) (m' : Machine) : Type 0 where
+  is_made : 1 ≤ capacity → capacity ≤ 4096 → IsOneAt (λ k. set_hot k capacity) n a m es m' → SetsHot n capacity a m es m'
+  is_out : (1 ≤ capacity → capacity ≤ 4096 → ⊥) → a ≡ Quiet → Nothing m es m' → SetsHot n capacity a m es m'
+
+-- ---- links
+
+-- a link of this kind gives what it is handed, and nothing else
+abbrev pub is_perfect_kind : LinkKind → Bool
+is_perfect_kind Perfect = true
+is_perfect_kind Lose = false
+is_perfect_kind Repeat = false
+is_perfect_kind Delay = false
+is_perfect_kind (Cut most) = false
+is_perfect_kind Fault = false
+
+-- node n's link is a new one of this kind, where there is such a node
+pub data SetsLink (s : State) (n : ℕ) (kind : LinkKind) (a : answers.Answer) (t : State) : Type 0 where
+  is_linked : (node_fault s.machine n ≡ Some BadNode → ⊥) → a ≡ Linked n → t ≡ record s { links = slice_set s.links (n - 1) (is_perfect_kind kind) } → SetsLink s n kind a t
+  is_nowhere : node_fault s.machine n ≡ Some BadNode → a ≡ Refused BadNode → t ≡ s → SetsLink s n kind a t
+
+-- ---- returns
 
 -- what is answered where node n comes back
 abbrev pub return_answer : ℕ → Result ⊤ Refusal → answers.Answer
@@ -91,8 +118,10 @@ abbrev pub Serves : State → commands.Command → Told → answers.Answer → S
 Serves s (Cluster n l h) es a t = IsQuiet a es t s
 Serves s Manual es a t = IsQuiet a es t (record s { manual = true })
 Serves s (Open n kind) es a t = Opens s n kind es a t
-Serves s (Call c op) es a t = Changes (Calls s.manual s.turns c op a) s es t
-Serves s (Carry n) es a t = Changes (Carries n a) s es t
+Serves s (Call c op) es a t = Changes (Calls s.manual s.links s.turns c op a) s es t
+Serves s (Carry n) es a t = Changes (Carries (FaithfulAt s.links n) n a) s es t
+Serves s (Link n kind) es a t = SetsLink s n kind a t × (es ≡ [])
+Serves s (Hot n capacity) es a t = Changes (SetsHot n capacity a) s es t
 Serves s (Digest n) es a t = Changes (IsOne (digest n) a) s es t
 Serves s Release es a t = Changes (IsOne release_ready a) s es t
 Serves s (Crash c) es a t = Changes (IsOneAt crash c a) s es t

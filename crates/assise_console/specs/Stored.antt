@@ -3,7 +3,7 @@
 use Rattle.std.specs.Prelude.{◌≡◌, ◌<◌, ℕ, ⊤, List, ◌++◌, vec_capacity, vec_len}
 use Rattle.std.specs.Option.{option_to_list}
 use Rattle.assise_fault_script.specs.declared.command.Command.{Command}
-use Rattle.assise_fault_script.specs.declared.command.Command.TheVariants.{Cluster, Manual, Open, Call, Carry, Digest, Release, Crash, Fail, Back, Refill, Join, Tree as TreeOf, History}
+use Rattle.assise_fault_script.specs.declared.command.Command.TheVariants.{Cluster, Manual, Open, Call, Carry, Link, Hot, Digest, Release, Crash, Fail, Back, Refill, Join, Tree as TreeOf, History}
 use Rattle.assise_fault_script.specs.declared.command.RevokerKind.{RevokerKind}
 use Rattle.assise_fault_script.specs.declared.command.RevokerKind.TheVariants.{Least, Whole, Eights}
 use Rattle.assise_machine.specs.Clusters.{revokers}
@@ -38,6 +38,8 @@ Stores (Cluster n l h) a old new = ⊤
 Stores Manual a old new = ⊤
 Stores (Call c op) a old new = ⊤
 Stores (Carry n) a old new = ⊤
+Stores (Link n kind) a old new = ⊤
+Stores (Hot n capacity) a old new = ⊤
 Stores (Digest n) a old new = ⊤
 Stores Release a old new = ⊤
 Stores (Crash c) a old new = ⊤

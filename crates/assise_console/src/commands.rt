@@ -2,7 +2,7 @@
 ghost use Rattle.assise_machine_events.specs.Events.{back, crash, digest, fail, join, refill, release_ready};
 ghost use Rattle.assise_machine.specs.Clusters.{machine};
 ghost use Rattle.assise_rounds.specs.Courses.{Told};
-ghost use Rattle.assise_console.specs.Steps.{Shows};
+ghost use Rattle.assise_console.specs.Steps.{SetsHot, Shows};
 ghost use Rattle.assise_console.specs.OneEvent.{IsOne, IsOneAt};
 
 use crate::answer::Answer;
@@ -10,6 +10,7 @@ use crate::numbered::number_of;
 use crate::trees::tree_at;
 use assise_lease_table::revoker::Revokes;
 use assise_machine::cluster::ClusterOf;
+use assise_machine::hot::HotCapacity;
 use assise_names::refusal::Refusal;
 use std::alloc::Global;
 
@@ -33,6 +34,23 @@ pub fn release<C: Revokes + Drop>(cluster: &mut ClusterOf<C>) -> Answer
         cluster.new) }
 {
     Answer::Released(cluster.release_ready())
+}
+
+/// So many inodes may be hot at a node, 1 to 4,096. Another number does nothing: no script has one.
+pub fn set_hot<C: Revokes + Drop>(cluster: &mut ClusterOf<C>, node: u64, capacity: u64) -> Answer
+    ensures { (es : Told) × SetsHot node capacity result (machine cluster.old) es (machine
+        cluster.new) }
+{
+    let Some(capacity) = HotCapacity::new(capacity as usize) else {
+        return Answer::Quiet;
+    };
+    let Some(node) = number_of(node) else {
+        return Answer::Refused(Refusal::BadNode);
+    };
+    match cluster.set_hot(node, capacity.get()) {
+        Ok(()) => Answer::HotSet(node),
+        Err(refusal) => Answer::Refused(refusal),
+    }
 }
 
 /// A client crashes.

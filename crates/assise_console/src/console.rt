@@ -1,23 +1,28 @@
 // A cluster on which a script's commands are run.
-ghost use Rattle.std.specs.Prelude.{◌≡◌, ◌<◌, ◌≤◌, IfOk, IsOkUnless};
+ghost use Rattle.std.specs.Prelude.{◌≡◌, ◌<◌, ◌≤◌, IfOk, IsOkUnless, Some, false, map, true};
 ghost use Rattle.assise_names.specs.declared.refusal.Refusal.TheVariants.{OutOfMemory};
 ghost use Rattle.assise_machine_events.specs.Events.{crash, digest, fail, join, refill};
 ghost use Rattle.assise_machine_calls.specs.Answers.{turn_answer};
 ghost use Rattle.assise_machine.specs.Running.{opened_answer};
 ghost use Rattle.assise_console.specs.Consoles.{seen, stocks};
 ghost use Rattle.assise_rounds.specs.Courses.{Told};
-ghost use Rattle.assise_console.specs.State.{begun};
+ghost use Rattle.assise_console.specs.State.{begun, perfect_links};
 ghost use Rattle.assise_console.specs.Stored.{Stores, StoresLast};
-ghost use Rattle.assise_console.specs.Steps.{Calls, Carries, Changes, Does, Opens, Returns, Shows, call_answer, return_answer};
+ghost use Rattle.assise_console.specs.Steps.{Calls, Carries, Changes, Does, Opens, Returns, SetsHot, SetsLink, Shows, call_answer, is_perfect_kind, return_answer};
 ghost use Rattle.assise_console.specs.OneEvent.{IsOne, IsOneAt, Tells};
+ghost use Rattle.assise_link.specs.TestLinks.{is_perfect};
+ghost use Rattle.assise_machine_events.specs.Faults.{node_fault};
+ghost use Rattle.assise_names.specs.declared.refusal.Refusal.TheVariants.{BadNode};
+ghost use Rattle.assise_rounds.specs.NodeLinks.{FaithfulAt};
 
 use crate::answer::Answer;
 use crate::commands;
 use crate::numbered::number_of;
 use crate::stock::Stock;
-use assise_fault_script::command::{Command, RevokerKind};
+use assise_fault_script::command::{Command, LinkKind, RevokerKind};
 use assise_history::history::History;
 use assise_lease_table::revoker::Revokes;
+use assise_link::test_link::TestLink;
 use assise_machine::cluster::ClusterOf;
 use assise_machine::run::open_next;
 use assise_machine_calls::turn::Turn;
@@ -36,6 +41,7 @@ pub struct ConsoleOf<C> {
     stock: Stock<C>,
     turns: u32,
     manual: bool,
+    links: [TestLink; 8],
 }
 
 impl<C: Revokes + Drop> ConsoleOf<C> {
@@ -64,6 +70,7 @@ impl<C: Revokes + Drop> ConsoleOf<C> {
             stock,
             turns,
             manual: false,
+            links: perfect_links(),
         })
     }
 
@@ -88,6 +95,8 @@ impl<C: Revokes + Drop> ConsoleOf<C> {
             Command::Open { node, kind } => self.open(alloc, node, kind),
             Command::Call { client, op } => self.call(alloc, client, &op),
             Command::Carry { node } => self.carry(alloc, node),
+            Command::Link { node, kind } => self.link(node, kind),
+            Command::Hot { node, capacity } => self.set_hot(node, capacity),
             Command::Digest { node } => self.digest(alloc, node),
             Command::Release => commands::release(&mut self.cluster),
             Command::Crash { client } => self.crash(client),
@@ -119,7 +128,8 @@ impl<C: Revokes + Drop> ConsoleOf<C> {
     /// A call of a client: it is tried until it isn't awaited any more, with a round behind each try, or until there is nothing to do
     /// in a round. After `manual` it is tried once.
     fn call(&mut self, alloc: Global, client: u64, op: &Op) -> Answer
-        ensures { (es : Told) × Changes (Calls (seen self.old).manual (seen self.old).turns client op.now result) (seen self.old) es (seen self.new) }
+        ensures { (es : Told) × Changes (Calls (seen self.old).manual (seen self.old).links
+            (seen self.old).turns client op.now result) (seen self.old) es (seen self.new) }
     {
         let Some(client) = number_of(client) else {
             return Answer::Refused(Refusal::BadClient);
@@ -127,21 +137,59 @@ impl<C: Revokes + Drop> ConsoleOf<C> {
         if self.manual {
             turned(self.cluster.try_call(alloc, client, op))
         } else {
-            answered(try_often(alloc, &mut self.cluster, client, op, self.turns))
+            let links = &mut self.links;
+            answered(try_often(alloc, &mut self.cluster, links, client, op, self.turns))
         }
     }
 
     /// One replicate turn of a node.
     fn carry(&mut self, alloc: Global, node: u64) -> Answer
-        ensures { (es : Told) × Changes (Carries node result) (seen self.old) es (seen self.new) }
+        ensures { (es : Told) ×
+            Changes (Carries (FaithfulAt (seen self.old).links node) node result)
+            (seen self.old) es (seen self.new) }
     {
         let Some(node) = number_of(node) else {
             return Answer::Refused(Refusal::BadNode);
         };
-        match replicate(alloc, &mut self.cluster, node) {
+        if !self.has_node(node) {
+            return Answer::Refused(Refusal::BadNode);
+        }
+        let link = &mut self.links[node as usize - 1];
+        match replicate(alloc, &mut self.cluster, link, node) {
             Ok(taken) => Answer::Carried(taken),
             Err(refusal) => Answer::Refused(refusal),
         }
+    }
+
+    /// Sets the link of a node anew: its carries are counted from 1.
+    fn link(&mut self, node: u64, kind: LinkKind) -> Answer
+        ensures { SetsLink (seen self.old) node kind result (seen self.new) }
+    {
+        let Some(node) = number_of(node) else {
+            return Answer::Refused(Refusal::BadNode);
+        };
+        if !self.has_node(node) {
+            return Answer::Refused(Refusal::BadNode);
+        }
+        self.links[node as usize - 1] = link_of(kind);
+        Answer::Linked(node)
+    }
+
+    /// Whether there is such a node, full or not.
+    fn has_node(&self, node: u32) -> bool
+        ensures no { result ≡ false → node_fault (seen self.now).machine node ≡ Some BadNode }
+        ensures yes { result ≡ true →
+            node_fault (seen self.now).machine node ≡ Some BadNode → ⊥ }
+    {
+        !matches!(self.cluster.region(node), Err(Refusal::BadNode))
+    }
+
+    /// So many inodes may be hot at a node.
+    fn set_hot(&mut self, node: u64, capacity: u64) -> Answer
+        ensures { (es : Told) ×
+            Changes (SetsHot node capacity result) (seen self.old) es (seen self.new) }
+    {
+        commands::set_hot(&mut self.cluster, node, capacity)
     }
 
     /// One digest of a node.
@@ -197,6 +245,36 @@ impl<C: Revokes + Drop> ConsoleOf<C> {
         ensures { Shows node result (seen self.now).machine }
     {
         commands::tree(alloc, &self.cluster, node)
+    }
+}
+
+/// A link for each of eight nodes, all perfect.
+fn perfect_links() -> [TestLink; 8]
+    ensures { map is_perfect result ≡ perfect_links }
+{
+    [
+        TestLink::perfect(),
+        TestLink::perfect(),
+        TestLink::perfect(),
+        TestLink::perfect(),
+        TestLink::perfect(),
+        TestLink::perfect(),
+        TestLink::perfect(),
+        TestLink::perfect(),
+    ]
+}
+
+/// A new link of a kind.
+fn link_of(kind: LinkKind) -> TestLink
+    ensures { is_perfect result ≡ is_perfect_kind kind }
+{
+    match kind {
+        LinkKind::Perfect => TestLink::perfect(),
+        LinkKind::Lose => TestLink::lose(),
+        LinkKind::Repeat => TestLink::repeat(),
+        LinkKind::Delay => TestLink::delay(),
+        LinkKind::Cut(most) => TestLink::cut(most as usize),
+        LinkKind::Fault => TestLink::fault(),
     }
 }
 

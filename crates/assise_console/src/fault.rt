@@ -9,6 +9,15 @@ use std::alloc::{AllocError, Global};
 use std::fmt;
 use std::fmt::{Display, Formatter};
 
+/// A command that only the serial mode runs.
+#[derive(Clone, Copy, Debug, PartialEq, Eq)]
+pub enum SerialCommand {
+    /// `manual`.
+    Manual,
+    /// `link`.
+    Link,
+}
+
 /// Why the engine ends early.
 #[derive(Clone, Copy, Debug, PartialEq, Eq)]
 pub enum EngineFault {
@@ -20,8 +29,8 @@ pub enum EngineFault {
     Memory,
     /// The writer failed.
     Write,
-    /// A line of the script, numbered from 1, whose command only the serial mode runs.
-    NeedsSerial(u64),
+    /// A line of the script, numbered from 1, with its command, which only the serial mode runs.
+    NeedsSerial(u64, SerialCommand),
     /// A thread couldn't be made.
     NoThread,
 }
@@ -55,7 +64,7 @@ pub fn status(fault: &EngineFault) -> u8
         EngineFault::Script(_, _) => 2,
         EngineFault::Memory => 1,
         EngineFault::Write => 1,
-        EngineFault::NeedsSerial(_) => 2,
+        EngineFault::NeedsSerial(_, _) => 2,
         EngineFault::NoThread => 1,
     }
 }
@@ -78,11 +87,14 @@ impl Display for FaultLine<'_> {
             EngineFault::Script(line, fault) => write!(f, "assise: script line {line}: {fault}"),
             EngineFault::Memory => write!(f, "assise: out of memory"),
             EngineFault::Write => write!(f, "assise: cannot write"),
-            EngineFault::NeedsSerial(line) => {
+            EngineFault::NeedsSerial(line, SerialCommand::Manual) => {
                 write!(
                     f,
                     "assise: script line {line}: manual needs the serial mode"
                 )
+            }
+            EngineFault::NeedsSerial(line, SerialCommand::Link) => {
+                write!(f, "assise: script line {line}: link needs the serial mode")
             }
             EngineFault::NoThread => write!(f, "assise: cannot start a thread"),
         }

@@ -53,6 +53,7 @@ One command a line. Spaces alone part its words. A line that begins with # is a 
   crash C                       a client stops
   fail NODE                     a node stops, and the clients on it
   back NODE                     a node comes back; after manual it only begins to
+  hot NODE CAPACITY             1-4096 inodes, those used last, are hot at a node from here on
   tree NODE                     prints what this node alone has
   history                       prints what happened so far
   manual                        from here on a call is tried once, and nodes do only what a command says
@@ -61,6 +62,7 @@ One command a line. Spaces alone part its words. A line that begins with # is a 
   release                       frees the revoked leases that may go
   refill NODE                   a node that comes back gets one inode
   join NODE                     a node that comes back and lacks nothing is full again
+  link NODE KIND                a node's new link; KIND is perfect, lose, repeat, delay, cut K or fault
 
 Example:  printf 'cluster 1 8 4\nopen 1 least\n1 create /f\n1 stat /f\n' | ./assise -
 

@@ -27,6 +27,8 @@ impl Display for AnswerText<'_> {
             Answer::Carried(frames) => write!(f, "carried {frames}"),
             Answer::Digested(records) => write!(f, "digested {records}"),
             Answer::Released(leases) => write!(f, "released {leases}"),
+            Answer::Linked(node) => write!(f, "linked {node}"),
+            Answer::HotSet(node) => write!(f, "hot {node}"),
             Answer::Crashed(client) => write!(f, "crashed {client}"),
             Answer::Failed(node, losses) => {
                 let losses = Losses(losses.as_slice());

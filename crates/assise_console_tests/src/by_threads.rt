@@ -1,7 +1,7 @@
 // What scripts print with a thread for each client.
 use crate::scripts::{NOWHERE, RUNS};
 use crate::stock::stock_of;
-use assise_console::fault::EngineFault;
+use assise_console::fault::{EngineFault, SerialCommand};
 use assise_threads::engine::engine_threads;
 use std::alloc::Global;
 use std::sync::Wait;
@@ -37,8 +37,19 @@ const BY_HAND: &str = "cluster 1 8 4\nopen 1 least\n1 create /f\nmanual\nmanual\
 
 #[test]
 fn a_run_by_hand_is_refused_with_threads(rt: HostRuntime) -> Result<(), Fail> {
-    let ending = Err(EngineFault::NeedsSerial(4));
+    let ending = Err(EngineFault::NeedsSerial(4, SerialCommand::Manual));
     let same = prints_by_threads(&rt, rt.alloc(), BY_HAND, ending, "")?;
+    assert!(rt; same);
+    Ok(())
+}
+
+/// A script whose lines before the first `link` would print something.
+const LINKED: &str = "cluster 1 8 4\nopen 1 least\nlink 1 lose\nmanual\n";
+
+#[test]
+fn a_run_with_links_is_refused_with_threads(rt: HostRuntime) -> Result<(), Fail> {
+    let ending = Err(EngineFault::NeedsSerial(3, SerialCommand::Link));
+    let same = prints_by_threads(&rt, rt.alloc(), LINKED, ending, "")?;
     assert!(rt; same);
     Ok(())
 }

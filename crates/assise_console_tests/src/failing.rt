@@ -1,8 +1,10 @@
 // Readers and writers that fail.
-use crate::scripts::{ANSWERS, NOWHERE, PRINTED};
+use crate::failures::HAS_ALL;
+use crate::scripts::NOWHERE;
 use crate::stock::stock_of;
 use assise_console::engine::engine;
 use assise_console::fault::EngineFault;
+use assise_rows::scripts::BACK_AND_ALONE;
 use std::alloc::Global;
 use std::io;
 use std::io::{ErrorKind, Read, Write};
@@ -37,7 +39,7 @@ fn read_in_part(
     left: usize,
     kind: ErrorKind,
 ) -> (Option<EngineFault>, Vec<u8>) {
-    let bytes = ANSWERS.as_bytes();
+    let bytes = BACK_AND_ALONE.as_bytes();
     let mut reader = BrokenReader { bytes, left, kind };
     let mut output = Vec::new(alloc);
     let stock = stock_of(alloc).expect(rt, "no memory");
@@ -55,7 +57,7 @@ fn a_reader_that_fails_at_any_call_prints_nothing(rt: HostRuntime) {
             assert!(rt; output.is_empty());
             failed = left + 1;
         } else {
-            assert!(rt; output.as_slice() == PRINTED.as_bytes());
+            assert!(rt; output.as_slice() == HAS_ALL.as_bytes());
         }
     }
     assert!(rt; 10 < failed && failed < 100, "{failed} reads");
@@ -114,7 +116,7 @@ impl Write for BrokenWriter {
 fn a_writer_that_fails_at_any_call_ends_the_run(rt: HostRuntime) {
     let mut failed = 0;
     for left in 0..1000 {
-        let mut reader = ANSWERS.as_bytes();
+        let mut reader = BACK_AND_ALONE.as_bytes();
         let mut writer = BrokenWriter::new(left);
         let stock = stock_of(rt.alloc()).expect(&rt, "no memory");
         if let Err(fault) = engine(rt.alloc(), &mut reader, &mut writer, stock, &NOWHERE) {
@@ -146,10 +148,10 @@ impl Write for Unflushed {
 
 #[test]
 fn a_writer_that_fails_at_the_end_alone_is_no_success(rt: HostRuntime) {
-    let mut reader = ANSWERS.as_bytes();
+    let mut reader = BACK_AND_ALONE.as_bytes();
     let mut writer = Unflushed { written: 0 };
     let stock = stock_of(rt.alloc()).expect(&rt, "no memory");
     let ended = engine(rt.alloc(), &mut reader, &mut writer, stock, &NOWHERE);
     assert_eq!(rt; ended.err(), Some(EngineFault::Write));
-    assert_eq!(rt; writer.written, PRINTED.len());
+    assert_eq!(rt; writer.written, HAS_ALL.len());
 }

@@ -1,10 +1,27 @@
 // Scripts whose clients crash and whose nodes fail and come back.
 use crate::scripts::{Run, all_print};
 use assise_rows::scripts::{
-    BACK_AND_ALONE, BACK_BY_HAND, CARRIED_IN_PART, CRASHED, CUT_AT_AN_FSYNC, FAILS_AGAIN,
-    HANDED_LEAST, HANDED_WHOLE, LOST_FILE, OUT_OF_ORDER,
+    BACK_AND_ALONE, BACK_BY_HAND, CARRIED_IN_PART, CRASHED, CUT_AT_AN_FSYNC, DONOR_FAILS,
+    FAILS_AGAIN, HANDED_LEAST, HANDED_WHOLE, LOST_FILE, OUT_OF_ORDER,
 };
 use std::test::Fail;
+
+/// What a script prints in which a node comes back, and then stands alone.
+pub(crate) const HAS_ALL: &str = "\
+2: client 1
+3: client 2
+4: done
+5: done
+6: failed 1
+7: done
+8: digested 1
+9: returned 1
+10: done
+11: done
+12: failed 2
+13: client 3
+14: bytes 4 x6e657721
+";
 
 /// Scripts with failures, returns and crashes.
 const RUNS: &[Run<'_>] = &[
@@ -83,24 +100,7 @@ const RUNS: &[Run<'_>] = &[
 ",
     ),
     // A node that came back has all.
-    (
-        BACK_AND_ALONE,
-        "\
-2: client 1
-3: client 2
-4: done
-5: done
-6: failed 1
-7: done
-8: digested 1
-9: returned 1
-10: done
-11: done
-12: failed 2
-13: client 3
-14: bytes 4 x6e657721
-",
-    ),
+    (BACK_AND_ALONE, HAS_ALL),
     // A node comes back by hand.
     (
         BACK_BY_HAND,
@@ -168,6 +168,32 @@ return 1
 fail 2
 fail 2
 return 2
+",
+    ),
+    // Another node fills the one that comes back.
+    (
+        DONOR_FAILS,
+        "\
+3: client 1
+4: failed 3
+5: done
+6: wait
+7: carried 1
+8: digested 1
+9: digested 1
+10: back 3 stale 2
+11: left 1
+12: failed 1
+13: F2 Busy
+14: left 1
+15: left 0
+16: done
+17: digested 1
+18: F2 Busy
+19: left 0
+20: returned 3
+21: tree 1
+/f file 1
 ",
     ),
     // What names nothing is refused.

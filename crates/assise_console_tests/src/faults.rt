@@ -2,7 +2,7 @@
 use crate::scripts::NOWHERE;
 use crate::stock::stock_of;
 use assise_console::engine::engine;
-use assise_console::fault::{EngineFault, fault_line, status};
+use assise_console::fault::{EngineFault, SerialCommand, fault_line, status};
 use assise_fault_script::fault::ScriptFault;
 use assise_names::path::PathFault;
 use std::alloc::Global;
@@ -37,7 +37,8 @@ fn each_fault_has_its_line_and_its_status(rt: HostRuntime) -> Result<(), Fail> {
         EngineFault::Script(3, ScriptFault::BadPath(PathFault::NameTooLong)),
         EngineFault::Memory,
         EngineFault::Write,
-        EngineFault::NeedsSerial(7),
+        EngineFault::NeedsSerial(7, SerialCommand::Manual),
+        EngineFault::NeedsSerial(8, SerialCommand::Link),
         EngineFault::NoThread,
     ] {
         add_fault(&rt, &mut text, &fault)?;
@@ -48,6 +49,7 @@ fn each_fault_has_its_line_and_its_status(rt: HostRuntime) -> Result<(), Fail> {
         1 assise: out of memory\n\
         1 assise: cannot write\n\
         2 assise: script line 7: manual needs the serial mode\n\
+        2 assise: script line 8: link needs the serial mode\n\
         1 assise: cannot start a thread\n";
     assert_eq!(rt; text.as_str(), wanted);
     Ok(())

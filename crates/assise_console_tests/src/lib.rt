@@ -12,6 +12,8 @@ mod failures;
 #[cfg(test)]
 mod faults;
 #[cfg(test)]
+mod links;
+#[cfg(test)]
 mod rows;
 #[cfg(test)]
 mod scripts;

@@ -7,16 +7,17 @@ use Rattle.std.specs.Prelude.{is_some}
 use Rattle.std.specs.Str.{is_utf8}
 use Rattle.assise_names.specs.declared.call.Op.{Op}
 use Rattle.assise_fault_script.specs.declared.command.Command.{Command}
-use Rattle.assise_fault_script.specs.declared.command.Command.TheVariants.{Cluster, Manual, Open, Call, Carry, Digest, Release, Crash, Fail, Back, Refill, Join, Tree, History}
+use Rattle.assise_fault_script.specs.declared.command.Command.TheVariants.{Cluster, Manual, Open, Call, Carry, Digest, Release, Crash, Fail, Back, Refill, Join, Link, Hot, Tree, History}
+use Rattle.assise_fault_script.specs.declared.command.LinkKind.TheVariants.{Cut}
 use Rattle.assise_fault_script.specs.declared.command.Keyword as first
-use Rattle.assise_fault_script.specs.declared.command.Keyword.TheVariants.{Cluster as for_cluster, Manual as for_manual, Open as for_open, Carry as for_carry, Digest as for_digest, Release as for_release, Crash as for_crash, Fail as for_fail, Back as for_back, Refill as for_refill, Join as for_join, Tree as for_tree, History as for_history}
+use Rattle.assise_fault_script.specs.declared.command.Keyword.TheVariants.{Cluster as for_cluster, Manual as for_manual, Open as for_open, Carry as for_carry, Digest as for_digest, Release as for_release, Crash as for_crash, Fail as for_fail, Back as for_back, Refill as for_refill, Join as for_join, Link as for_link, Hot as for_hot, Tree as for_tree, History as for_history}
 use Rattle.assise_fault_script.specs.declared.fault.LineFault.{LineFault}
 use Rattle.assise_fault_script.specs.declared.fault.ScriptFault.{ScriptFault}
 use Rattle.assise_fault_script.specs.declared.fault.ScriptFault.TheVariants.{BadLimit, UnknownCommand, WrongCount}
 use Rattle.assise_fault_script.specs.declared.parse.NumberedCommand.{NumberedCommand}
 use Rattle.assise_fault_script.specs.Calls.{call_of, call_word}
 use Rattle.assise_fault_script.specs.Fault.{◌>>=◌}
-use Rattle.assise_fault_script.specs.Keywords.{keyword_command, keyword_of, kind_of, cluster_of}
+use Rattle.assise_fault_script.specs.Keywords.{keyword_command, keyword_of, kind_of, link_kind_of, says_cut, cluster_of, cut_link_of, uncut_link_of, hot_capacity_of}
 use Rattle.assise_fault_script.specs.Line.{begins_with_digit, client_command, cluster_there, command_of, in_turn, is_comment, line_says, nameless_call, other_command}
 use Rattle.assise_fault_script.specs.Number.{in_limits, limited, number_of}
 use Rattle.assise_fault_script.specs.Script.{◌>>>◌, IsCluster, IsOther, ClusterFirst, at_line, commands_from, commands_of, numbered}
@@ -72,6 +73,51 @@ open_row [] c h = cc
 open_row (a ∷ []) c h = cc
 open_row (a ∷ b ∷ d ∷ rest) c h = cc
 
+uncut_row : (node name : List ℕ) (c : Command) → uncut_link_of node name ≡ Ok c → IsOther c
+uncut_row node name c h =
+    elim (cases_Bool (says_cut name)) [
+      | inl cut ↦ let bad : Err WrongCount ≡ Ok c = rw cut at h in cc
+      | inr other ↦
+          let made : (number_of node >>= λ n. link_kind_of name >>= λ k. Ok (Link n k)) ≡ Ok c = rw other at h in
+          let n = came_from (number_of node) (λ n. link_kind_of name >>= λ k. Ok (Link n k)) c made in
+          let k = came_from (link_kind_of name) (λ k. Ok (Link n.0 k)) c n.1.1 in
+          let is : Link n.0 k.0 ≡ c = let e = k.1.1 in cc in
+          subst IsOther is tt
+    ]
+
+cut_row : (node name bytes : List ℕ) (c : Command) → cut_link_of node name bytes ≡ Ok c → IsOther c
+cut_row node name bytes c h =
+    elim (cases_Bool (says_cut name)) [
+      | inl cut ↦
+          let made : (number_of node >>= λ n. number_of bytes >>= λ k. Ok (Link n (Cut k))) ≡ Ok c = rw cut at h in
+          let n = came_from (number_of node) (λ n. number_of bytes >>= λ k. Ok (Link n (Cut k))) c made in
+          let k = came_from (number_of bytes) (λ k. Ok (Link n.0 (Cut k))) c n.1.1 in
+          let is : Link n.0 (Cut k.0) ≡ c = let e = k.1.1 in cc in
+          subst IsOther is tt
+      | inr other ↦ let bad : Err WrongCount ≡ Ok c = rw other at h in cc
+    ]
+
+link_row : (rest : List (List ℕ)) (c : Command) → keyword_command for_link rest ≡ Ok c → IsOther c
+link_row (node ∷ name ∷ []) c h = uncut_row node name c h
+link_row (node ∷ name ∷ bytes ∷ []) c h = cut_row node name bytes c h
+link_row [] c h = cc
+link_row (a ∷ []) c h = cc
+link_row (a ∷ b ∷ d ∷ e ∷ rest) c h = cc
+
+-- what the words of `hot` make
+set : (node capacity : List ℕ) (c : Command) → hot_capacity_of node capacity ≡ Ok c → IsOther c
+set node capacity c h =
+    let n = came_from (number_of node) (λ n. limited 1 4096 capacity >>= λ m. Ok (Hot n m)) c h in
+    let m = came_from (limited 1 4096 capacity) (λ m. Ok (Hot n.0 m)) c n.1.1 in
+    let is : Hot n.0 m.0 ≡ c = let e = m.1.1 in cc in
+    subst IsOther is (limits 1 4096 m.0 capacity m.1.0)
+
+hot_row : (rest : List (List ℕ)) (c : Command) → keyword_command for_hot rest ≡ Ok c → IsOther c
+hot_row (node ∷ capacity ∷ []) c h = set node capacity c h
+hot_row [] c h = cc
+hot_row (a ∷ []) c h = cc
+hot_row (a ∷ b ∷ d ∷ rest) c h = cc
+
 -- a command without words behind its keyword
 bare_row : (k : first.Keyword) (made : Command) → IsOther made → keyword_command k [] ≡ Ok made → ((a : List ℕ) (rest : List (List ℕ)) → keyword_command k (a ∷ rest) ≡ Err WrongCount) → (rest : List (List ℕ)) (c : Command) → keyword_command k rest ≡ Ok c → IsOther c
 bare_row k made other none some [] c h = let is : made ≡ c = cc in subst IsOther is other
@@ -99,6 +145,8 @@ row for_fail u rest c later h = number_row for_fail Fail (λ n. tt) refl (λ a. 
 row for_back u rest c later h = number_row for_back Back (λ n. tt) refl (λ a. refl) (λ a b more. refl) rest c h
 row for_refill u rest c later h = number_row for_refill Refill (λ n. tt) refl (λ a. refl) (λ a b more. refl) rest c h
 row for_join u rest c later h = number_row for_join Join (λ n. tt) refl (λ a. refl) (λ a b more. refl) rest c h
+row for_link u rest c later h = link_row rest c h
+row for_hot u rest c later h = hot_row rest c h
 row for_tree u rest c later h = number_row for_tree Tree (λ n. tt) refl (λ a. refl) (λ a b more. refl) rest c h
 row for_history u rest c later h = bare_row for_history History tt refl (λ a more. refl) rest c h
 
@@ -115,6 +163,8 @@ before_cluster for_fail u h = cc
 before_cluster for_back u h = cc
 before_cluster for_refill u h = cc
 before_cluster for_join u h = cc
+before_cluster for_link u h = cc
+before_cluster for_hot u h = cc
 before_cluster for_tree u h = cc
 before_cluster for_history u h = cc
 

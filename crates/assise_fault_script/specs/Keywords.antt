@@ -1,15 +1,17 @@
 -- The commands that begin with a keyword: the word of each, and what the words behind it mean.
-use Rattle.std.specs.Prelude.{ℕ, if◌then◌else◌, List, [], ◌∷◌, Result, Ok, Err, codes}
+use Rattle.std.specs.Prelude.{ℕ, Bool, if◌then◌else◌, List, [], ◌∷◌, Result, Ok, Err, codes}
 use Rattle.std.specs.Bool.{nat_eq}
 use Rattle.std.specs.Cmp.Lexicographic.{pointwise}
 use Rattle.assise_fault_script.specs.declared.command.Command.{Command}
-use Rattle.assise_fault_script.specs.declared.command.Command.TheVariants.{Cluster, Manual, Open, Carry, Digest, Release, Crash, Fail, Back, Refill, Join, Tree, History}
+use Rattle.assise_fault_script.specs.declared.command.Command.TheVariants.{Cluster, Manual, Open, Carry, Digest, Release, Crash, Fail, Back, Refill, Join, Link, Hot, Tree, History}
 use Rattle.assise_fault_script.specs.declared.command.Keyword as first
-use Rattle.assise_fault_script.specs.declared.command.Keyword.TheVariants.{Cluster as for_cluster, Manual as for_manual, Open as for_open, Carry as for_carry, Digest as for_digest, Release as for_release, Crash as for_crash, Fail as for_fail, Back as for_back, Refill as for_refill, Join as for_join, Tree as for_tree, History as for_history}
+use Rattle.assise_fault_script.specs.declared.command.Keyword.TheVariants.{Cluster as for_cluster, Manual as for_manual, Open as for_open, Carry as for_carry, Digest as for_digest, Release as for_release, Crash as for_crash, Fail as for_fail, Back as for_back, Refill as for_refill, Join as for_join, Link as for_link, Hot as for_hot, Tree as for_tree, History as for_history}
+use Rattle.assise_fault_script.specs.declared.command.LinkKind.{LinkKind}
+use Rattle.assise_fault_script.specs.declared.command.LinkKind.TheVariants.{Perfect, Lose, Repeat, Delay, Cut, Fault}
 use Rattle.assise_fault_script.specs.declared.command.RevokerKind.{RevokerKind}
 use Rattle.assise_fault_script.specs.declared.command.RevokerKind.TheVariants.{Least, Whole, Eights}
 use Rattle.assise_fault_script.specs.declared.fault.ScriptFault.{ScriptFault}
-use Rattle.assise_fault_script.specs.declared.fault.ScriptFault.TheVariants.{UnknownCommand, WrongCount, BadKind}
+use Rattle.assise_fault_script.specs.declared.fault.ScriptFault.TheVariants.{UnknownCommand, WrongCount, BadKind, BadLink}
 use Rattle.assise_fault_script.specs.Fault.{◌>>=◌}
 use Rattle.assise_fault_script.specs.Number.{limited, number_of}
 
@@ -27,9 +29,11 @@ keyword_of word =
     else (if pointwise nat_eq word (codes "back") then Ok for_back
     else (if pointwise nat_eq word (codes "refill") then Ok for_refill
     else (if pointwise nat_eq word (codes "join") then Ok for_join
+    else (if pointwise nat_eq word (codes "link") then Ok for_link
+    else (if pointwise nat_eq word (codes "hot") then Ok for_hot
     else (if pointwise nat_eq word (codes "tree") then Ok for_tree
     else (if pointwise nat_eq word (codes "history") then Ok for_history
-    else Err UnknownCommand))))))))))))
+    else Err UnknownCommand))))))))))))))
 
 -- the revoker that a word names
 abbrev pub kind_of : List ℕ → Result RevokerKind ScriptFault
@@ -38,6 +42,19 @@ kind_of word =
     else (if pointwise nat_eq word (codes "whole") then Ok Whole
     else (if pointwise nat_eq word (codes "eights") then Ok Eights
     else Err BadKind))
+
+abbrev pub says_cut : List ℕ → Bool
+says_cut word = pointwise nat_eq word (codes "cut")
+
+-- the kind of link that a word names, but for `cut`
+abbrev pub link_kind_of : List ℕ → Result LinkKind ScriptFault
+link_kind_of word =
+    if pointwise nat_eq word (codes "perfect") then Ok Perfect
+    else (if pointwise nat_eq word (codes "lose") then Ok Lose
+    else (if pointwise nat_eq word (codes "repeat") then Ok Repeat
+    else (if pointwise nat_eq word (codes "delay") then Ok Delay
+    else (if pointwise nat_eq word (codes "fault") then Ok Fault
+    else Err BadLink))))
 
 -- 1 to 8 nodes, a log of 8 to 4,096 and 1 to 4,096 hot
 abbrev pub cluster_of : List ℕ → List ℕ → List ℕ → Result Command ScriptFault
@@ -67,6 +84,28 @@ refill_of node = number_of node >>= λ n. Ok (Refill n)
 abbrev pub join_of : List ℕ → Result Command ScriptFault
 join_of node = number_of node >>= λ n. Ok (Join n)
 
+-- any kind but `cut`, which wants one word more
+abbrev pub uncut_link_of : List ℕ → List ℕ → Result Command ScriptFault
+uncut_link_of node name = if says_cut name then Err WrongCount else (number_of node >>= λ n. link_kind_of name >>= λ k. Ok (Link n k))
+
+-- three words are right with `cut` alone
+abbrev pub cut_link_of : List ℕ → List ℕ → List ℕ → Result Command ScriptFault
+cut_link_of node name bytes = if says_cut name then (number_of node >>= λ n. number_of bytes >>= λ k. Ok (Link n (Cut k))) else Err WrongCount
+
+-- a node and its link: three words where the second is `cut`, else two
+abbrev pub node_link_of : List (List ℕ) → Result Command ScriptFault
+node_link_of (node ∷ name ∷ []) = uncut_link_of node name
+node_link_of (node ∷ name ∷ bytes ∷ []) = cut_link_of node name bytes
+node_link_of _ = Err WrongCount
+
+-- 1 to 4,096 inodes may be hot
+abbrev pub hot_capacity_of : List ℕ → List ℕ → Result Command ScriptFault
+hot_capacity_of node capacity = number_of node >>= λ n. limited 1 4096 capacity >>= λ c. Ok (Hot n c)
+
+abbrev pub hot_of : List (List ℕ) → Result Command ScriptFault
+hot_of (node ∷ capacity ∷ []) = hot_capacity_of node capacity
+hot_of _ = Err WrongCount
+
 abbrev pub tree_of : List ℕ → Result Command ScriptFault
 tree_of node = number_of node >>= λ n. Ok (Tree n)
 
@@ -83,6 +122,8 @@ keyword_command for_fail (node ∷ []) = fail_of node
 keyword_command for_back (node ∷ []) = back_of node
 keyword_command for_refill (node ∷ []) = refill_of node
 keyword_command for_join (node ∷ []) = join_of node
+keyword_command for_link words = node_link_of words
+keyword_command for_hot words = hot_of words
 keyword_command for_tree (node ∷ []) = tree_of node
 keyword_command for_history [] = Ok History
 keyword_command _ _ = Err WrongCount

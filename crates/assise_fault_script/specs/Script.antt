@@ -1,7 +1,7 @@
 -- The commands of a script, or the first fault of its first faulty line.
 use Rattle.std.specs.Prelude.{◌≡◌, ◌≤◌, ◌⊎◌, ℕ, ◌+◌, ◌-◌, Bool, true, false, ◌||◌, is_some, All, List, [], ◌∷◌, ◌++◌, length, take, IsOk, Option, Some, None, Result, Ok, Err}
 use Rattle.assise_fault_script.specs.declared.command.Command.{Command}
-use Rattle.assise_fault_script.specs.declared.command.Command.TheVariants.{Cluster}
+use Rattle.assise_fault_script.specs.declared.command.Command.TheVariants.{Cluster, Hot}
 use Rattle.assise_fault_script.specs.declared.fault.ScriptFault.{ScriptFault}
 use Rattle.assise_fault_script.specs.declared.fault.ScriptFault.TheVariants.{Memory}
 use Rattle.assise_fault_script.specs.declared.fault.LineFault.{LineFault}
@@ -57,9 +57,10 @@ abbrev pub IsCluster : Command → Type 0
 IsCluster (Cluster nodes log hot) = (1 ≤ nodes) × (nodes ≤ 8) × (8 ≤ log) × (log ≤ 4096) × (1 ≤ hot) × (hot ≤ 4096)
 IsCluster _ = ⊥
 
--- makes no cluster
+-- makes no cluster; how many inodes it lets be hot is in the limits
 abbrev pub IsOther : Command → Type 0
 IsOther (Cluster nodes log hot) = ⊥
+IsOther (Hot node capacity) = (1 ≤ capacity) × (capacity ≤ 4096)
 IsOther _ = Unit {0}
 
 -- the cluster is made by the first command and by no other

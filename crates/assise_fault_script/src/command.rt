@@ -13,6 +13,23 @@ pub enum RevokerKind {
     Eights,
 }
 
+/// What the link of a node's replicator does to what it carries. A link counts its carries from 1.
+#[derive(Clone, Copy, Debug, PartialEq, Eq)]
+pub enum LinkKind {
+    /// `perfect`: a carry brings what it was handed.
+    Perfect,
+    /// `lose`: a carry brings nothing.
+    Lose,
+    /// `repeat`: an odd carry brings what it was handed, an even one what the carry before it was handed.
+    Repeat,
+    /// `delay`: a carry brings what the carry before it was handed, and the first one nothing.
+    Delay,
+    /// `cut K`: a carry brings the first K bytes of what it was handed, or all where there are fewer.
+    Cut(u64),
+    /// `fault`: a carry fails.
+    Fault,
+}
+
 /// A command of a script. A client's or a node's number is any `u64`: whether it names one is seen when the
 /// command is run.
 #[derive(Debug, Drop)]
@@ -79,6 +96,20 @@ pub enum Command {
         /// The node.
         node: u64,
     },
+    /// Sets the link of a node's replicator anew: its carries are counted from 1 again.
+    Link {
+        /// The node.
+        node: u64,
+        /// What the link does from here on.
+        kind: LinkKind,
+    },
+    /// Sets how many inodes a node keeps hot at most.
+    Hot {
+        /// The node.
+        node: u64,
+        /// The most inodes that it keeps hot: 1 to 4,096.
+        capacity: u64,
+    },
     /// The tree, rebuilt from a node's region alone.
     Tree {
         /// The node.
@@ -113,6 +144,10 @@ pub(crate) enum Keyword {
     Refill,
     /// `join NODE`.
     Join,
+    /// `link NODE KIND`, or `link NODE cut K`.
+    Link,
+    /// `hot NODE CAPACITY`.
+    Hot,
     /// `tree NODE`.
     Tree,
     /// `history`.

@@ -29,10 +29,12 @@ pub enum ScriptFault {
     NoCluster,
     /// `cluster` stands there once more.
     SecondCluster,
-    /// A number of `cluster` is too small or too large.
+    /// A number of `cluster`, or the capacity of `hot`, is too small or too large.
     BadLimit,
     /// A growth was really refused, at a line without another fault.
     Memory,
+    /// A word names no kind of link.
+    BadLink,
 }
 
 impl Display for ScriptFault {
@@ -51,6 +53,7 @@ impl Display for ScriptFault {
             ScriptFault::SecondCluster => write!(f, "second cluster"),
             ScriptFault::BadLimit => write!(f, "out of limits"),
             ScriptFault::Memory => write!(f, "out of memory"),
+            ScriptFault::BadLink => write!(f, "unknown link"),
         }
     }
 }

@@ -1,8 +1,8 @@
 // A row for each command that begins with a keyword.
 ghost use Rattle.std.specs.Prelude.{◌≡◌, map};
-ghost use Rattle.assise_fault_script.specs.Keywords.{back_of, carry_of, cluster_of, crash_of, digest_of, fail_of, join_of, keyword_command, keyword_of, kind_of, open_of, refill_of, tree_of};
+ghost use Rattle.assise_fault_script.specs.Keywords.{back_of, carry_of, cluster_of, crash_of, cut_link_of, digest_of, fail_of, hot_capacity_of, hot_of, join_of, keyword_command, keyword_of, kind_of, link_kind_of, node_link_of, open_of, refill_of, tree_of, uncut_link_of};
 
-use crate::command::{Command, Keyword, RevokerKind};
+use crate::command::{Command, Keyword, LinkKind, RevokerKind};
 use crate::fault::ScriptFault;
 use crate::number::{number, within};
 
@@ -22,6 +22,8 @@ pub fn keyword(word: &str) -> Result<Keyword, ScriptFault>
         "back" => Ok(Keyword::Back),
         "refill" => Ok(Keyword::Refill),
         "join" => Ok(Keyword::Join),
+        "link" => Ok(Keyword::Link),
+        "hot" => Ok(Keyword::Hot),
         "tree" => Ok(Keyword::Tree),
         "history" => Ok(Keyword::History),
         _ => Err(ScriptFault::UnknownCommand),
@@ -44,6 +46,8 @@ pub fn keyword_command(keyword: Keyword, words: &[&str]) -> Result<Command, Scri
         (Keyword::Back, [node]) => back(node),
         (Keyword::Refill, [node]) => refill(node),
         (Keyword::Join, [node]) => join(node),
+        (Keyword::Link, words) => link(words),
+        (Keyword::Hot, words) => hot(words),
         (Keyword::Tree, [node]) => tree(node),
         (Keyword::History, []) => Ok(Command::History),
         _ => Err(ScriptFault::WrongCount),
@@ -116,6 +120,59 @@ fn join(node: &str) -> Result<Command, ScriptFault>
     Ok(Command::Join { node })
 }
 
+/// A node and its link: three words where the second is `cut`, else two.
+fn link(words: &[&str]) -> Result<Command, ScriptFault>
+    ensures { result ≡ node_link_of (map (λ w. w.now) words.now) }
+{
+    match words {
+        [node, name] => uncut_link(node, name),
+        [node, name, bytes] => cut_link(node, name, bytes),
+        _ => Err(ScriptFault::WrongCount),
+    }
+}
+
+/// A link of another kind than `cut`, which wants one word more.
+fn uncut_link(node: &str, name: &str) -> Result<Command, ScriptFault>
+    ensures { result ≡ uncut_link_of node.now name.now }
+{
+    if name == "cut" {
+        return Err(ScriptFault::WrongCount);
+    }
+    let node = number(node)?;
+    let kind = link_kind(name)?;
+    Ok(Command::Link { node, kind })
+}
+
+/// A link that cuts: three words are right with this kind alone.
+fn cut_link(node: &str, name: &str, bytes: &str) -> Result<Command, ScriptFault>
+    ensures { result ≡ cut_link_of node.now name.now bytes.now }
+{
+    if name != "cut" {
+        return Err(ScriptFault::WrongCount);
+    }
+    let node = number(node)?;
+    let bytes = number(bytes)?;
+    let kind = LinkKind::Cut(bytes);
+    Ok(Command::Link { node, kind })
+}
+
+fn hot(words: &[&str]) -> Result<Command, ScriptFault>
+    ensures { result ≡ hot_of (map (λ w. w.now) words.now) }
+{
+    match words {
+        [node, capacity] => hot_capacity(node, capacity),
+        _ => Err(ScriptFault::WrongCount),
+    }
+}
+
+fn hot_capacity(node: &str, capacity: &str) -> Result<Command, ScriptFault>
+    ensures { result ≡ hot_capacity_of node.now capacity.now }
+{
+    let node = number(node)?;
+    let capacity = within(1, 4096, capacity)?;
+    Ok(Command::Hot { node, capacity })
+}
+
 fn tree(node: &str) -> Result<Command, ScriptFault>
     ensures { result ≡ tree_of node.now }
 {
@@ -131,5 +188,19 @@ fn kind(word: &str) -> Result<RevokerKind, ScriptFault>
         "whole" => Ok(RevokerKind::Whole),
         "eights" => Ok(RevokerKind::Eights),
         _ => Err(ScriptFault::BadKind),
+    }
+}
+
+/// The kind of link that a word names, but for `cut`.
+fn link_kind(word: &str) -> Result<LinkKind, ScriptFault>
+    ensures { result ≡ link_kind_of word.now }
+{
+    match word {
+        "perfect" => Ok(LinkKind::Perfect),
+        "lose" => Ok(LinkKind::Lose),
+        "repeat" => Ok(LinkKind::Repeat),
+        "delay" => Ok(LinkKind::Delay),
+        "fault" => Ok(LinkKind::Fault),
+        _ => Err(ScriptFault::BadLink),
     }
 }

@@ -1,11 +1,11 @@
 // What scripts say, and the text of each fault.
-use assise_fault_script::command::{Command, RevokerKind};
+use assise_fault_script::command::{Command, LinkKind, RevokerKind};
 use assise_fault_script::fault::ScriptFault;
 use assise_fault_script::parse::{NumberedCommand, parse};
 use assise_names::byte_string::ByteString;
 use assise_names::call::Op;
 use assise_names::reply::Reply;
-use std::alloc::Global;
+use std::alloc::{AllocError, Global};
 use std::process::Abort;
 
 /// The name of a revoker.
@@ -14,6 +14,18 @@ fn revoker(kind: RevokerKind) -> &'static str {
         RevokerKind::Least => "least",
         RevokerKind::Whole => "whole",
         RevokerKind::Eights => "eights",
+    }
+}
+
+/// A node's link as a line of text.
+fn link_line(alloc: Global, node: u64, kind: LinkKind) -> Result<String, AllocError> {
+    match kind {
+        LinkKind::Perfect => format!(in alloc; "link {node} perfect"),
+        LinkKind::Lose => format!(in alloc; "link {node} lose"),
+        LinkKind::Repeat => format!(in alloc; "link {node} repeat"),
+        LinkKind::Delay => format!(in alloc; "link {node} delay"),
+        LinkKind::Cut(bytes) => format!(in alloc; "link {node} cut {bytes}"),
+        LinkKind::Fault => format!(in alloc; "link {node} fault"),
     }
 }
 
@@ -35,6 +47,8 @@ fn line_of(alloc: Global, rt: &impl Abort, command: &Command) -> String {
         Command::Back { node } => format!(in alloc; "back {node}"),
         Command::Refill { node } => format!(in alloc; "refill {node}"),
         Command::Join { node } => format!(in alloc; "join {node}"),
+        Command::Link { node, kind } => link_line(alloc, *node, *kind),
+        Command::Hot { node, capacity } => format!(in alloc; "hot {node} {capacity}"),
         Command::Tree { node } => format!(in alloc; "tree {node}"),
         Command::History => format!(in alloc; "history"),
     };
@@ -129,7 +143,17 @@ const EACH: &str = "# a file\r\n\
     fail 02\n\
     back 18446744073709551615\n\
     refill 2\r\n\
-    join  0";
+    join  0\n\
+    link 01 perfect\n\
+    link 2 lose\r\n\
+    link 18446744073709551615 repeat\n\
+    link  0  delay \n\
+    link 3 cut 065\n\
+    link 3 cut 18446744073709551615\n\
+    link 4 fault\n\
+    hot 01 1\n\
+    hot 18446744073709551615 4096\r\n\
+    \x20 hot 2 007";
 
 /// What it says.
 const EACH_SAID: &str = "2: cluster 1 4096 1\n\
@@ -157,7 +181,17 @@ const EACH_SAID: &str = "2: cluster 1 4096 1\n\
     27: fail 2\n\
     28: back 18446744073709551615\n\
     29: refill 2\n\
-    30: join 0\n";
+    30: join 0\n\
+    31: link 1 perfect\n\
+    32: link 2 lose\n\
+    33: link 18446744073709551615 repeat\n\
+    34: link 0 delay\n\
+    35: link 3 cut 65\n\
+    36: link 3 cut 18446744073709551615\n\
+    37: link 4 fault\n\
+    38: hot 1 1\n\
+    39: hot 18446744073709551615 4096\n\
+    40: hot 2 7\n";
 
 #[test]
 fn each_command_is_read(rt: HostRuntime) {
@@ -186,7 +220,7 @@ fn short_scripts_are_read(rt: HostRuntime) {
 }
 
 /// Faults of a line: the words, one by one, then of two faults the first.
-static FAULTS: [(&str, &str); 103] = [
+static FAULTS: [(&str, &str); 142] = [
     // the words, one by one
     ("fly", "2: unknown command"),
     ("Open 1 least", "2: unknown command"),
@@ -231,6 +265,18 @@ static FAULTS: [(&str, &str); 103] = [
     ("refill 1 2", "2: wrong number of words"),
     ("join", "2: wrong number of words"),
     ("join 1 2", "2: wrong number of words"),
+    ("link", "2: wrong number of words"),
+    ("link 1", "2: wrong number of words"),
+    ("link cut", "2: wrong number of words"),
+    ("link 1 cut", "2: wrong number of words"),
+    ("link 1 cut 5 6", "2: wrong number of words"),
+    ("link 1 cut 5 6 7 8", "2: wrong number of words"),
+    ("link 1 lose 5", "2: wrong number of words"),
+    ("link 1 lose cut", "2: wrong number of words"),
+    ("hot", "2: wrong number of words"),
+    ("hot 1", "2: wrong number of words"),
+    ("hot 1 2 3", "2: wrong number of words"),
+    ("hot 1 2 3 4 5 6", "2: wrong number of words"),
     ("tree", "2: wrong number of words"),
     ("tree 1 /", "2: wrong number of words"),
     ("carry x", "2: bad number"),
@@ -241,6 +287,21 @@ static FAULTS: [(&str, &str); 103] = [
     ("back 18446744073709551616", "2: bad number"),
     ("refill -1", "2: bad number"),
     ("join 1x", "2: bad number"),
+    ("link x perfect", "2: bad number"),
+    ("link cut 5", "2: bad number"),
+    ("link 18446744073709551616 cut 5", "2: bad number"),
+    ("link 1 cut x", "2: bad number"),
+    ("link 1 cut -1", "2: bad number"),
+    ("link 1 cut 18446744073709551616", "2: bad number"),
+    ("hot x 1", "2: bad number"),
+    ("hot 1 x", "2: bad number"),
+    ("hot 1 18446744073709551616", "2: bad number"),
+    ("hot 1 0", "2: out of limits"),
+    ("hot 1 4097", "2: out of limits"),
+    ("hot 1 18446744073709551615", "2: out of limits"),
+    ("1 link", "2: unknown command"),
+    ("1 hot", "2: unknown command"),
+    ("Link 1 lose", "2: unknown command"),
     ("1 carry", "2: unknown command"),
     ("1 crash", "2: unknown command"),
     ("Manual", "2: unknown command"),
@@ -279,6 +340,10 @@ static FAULTS: [(&str, &str); 103] = [
     ("1 write /f 0 ab", "2: bad data"),
     ("open 1 most", "2: unknown revoker"),
     ("open 1 leas", "2: unknown revoker"),
+    ("link 1 least", "2: unknown link"),
+    ("link 1 Lose", "2: unknown link"),
+    ("link 1 los", "2: unknown link"),
+    ("link 1 cuts", "2: unknown link"),
     ("cluster 1 8 1", "2: second cluster"),
     // of two faults the first
     ("1x fly", "2: bad number"),
@@ -286,6 +351,14 @@ static FAULTS: [(&str, &str); 103] = [
     ("cluster", "2: second cluster"),
     ("open x most", "2: bad number"),
     ("open x most 1", "2: wrong number of words"),
+    ("link x least", "2: bad number"),
+    ("link 1 least 5", "2: wrong number of words"),
+    ("link x least 5", "2: wrong number of words"),
+    ("link x cut", "2: wrong number of words"),
+    ("link x cut y 5", "2: wrong number of words"),
+    ("hot x 0", "2: bad number"),
+    ("hot x 0 1", "2: wrong number of words"),
+    ("hot 1 4097 x", "2: wrong number of words"),
     ("1 read f x y", "2: bad path: not absolute"),
     ("1 write /f x y", "2: bad number"),
     ("history\r\r\n", "2: unknown command"),
@@ -300,7 +373,7 @@ fn the_first_fault_of_a_line_is_named(rt: HostRuntime) {
 }
 
 /// Scripts whose cluster is missing, or faulty, or not the only one.
-static CLUSTERS: [(&str, &str); 28] = [
+static CLUSTERS: [(&str, &str); 32] = [
     ("history", "1: no cluster yet"),
     ("history 1", "1: no cluster yet"),
     ("\nopen x", "2: no cluster yet"),
@@ -314,6 +387,10 @@ static CLUSTERS: [(&str, &str); 28] = [
     ("back 1", "1: no cluster yet"),
     ("refill x", "1: no cluster yet"),
     ("join 1", "1: no cluster yet"),
+    ("link 1 lose", "1: no cluster yet"),
+    ("link x cut", "1: no cluster yet"),
+    ("hot 1 1", "1: no cluster yet"),
+    ("hot x 0 1", "1: no cluster yet"),
     ("1 stat", "1: no cluster yet"),
     ("1 fly", "1: unknown command"),
     ("1x stat", "1: bad number"),

@@ -1,9 +1,10 @@
--- What comes over a link of each kind is a front of what it was handed, or keeps: the law `fronts` of a link, case by case.
-use Rattle.std.proofs.Common.{◌≡◌, ◌∙◌, ◌⊎◌, ℕ, List, [], ◌∷◌, ◌++◌, Option, None, Some, take, drop, refl, ap, sym, inl, inr, arith, append-nil}
+-- What comes over a link of each kind is a front of what it was handed, or keeps, and over a perfect one what it was handed: the laws
+-- `fronts` and `same` of a link, case by case.
+use Rattle.std.proofs.Common.{◌≡◌, ◌∙◌, ℕ, true, false, List, [], ◌∷◌, ◌++◌, Option, None, Some, take, drop, refl, ap, sym, inl, inr, arith, append-nil}
 use Rattle.std.proofs.lemmas.List.{take-append-drop}
 use Rattle.std.specs.Global.{Vec}
-use Rattle.assise_link.specs.Links.{IsFrontOnLink}
-use Rattle.assise_link.specs.TestLinks.{Delays, GivesByKind, Repeats, kept_by, kept_bytes}
+use Rattle.assise_link.specs.Links.{IsFaithful, IsFrontOnLink}
+use Rattle.assise_link.specs.TestLinks.{Delays, GivesByKind, Repeats, is_perfect, kept_by, kept_bytes}
 use Rattle.assise_link.specs.declared.test_link.TestLink.{TestLink}
 use Rattle.assise_link.specs.declared.test_link.TestLink.TheVariants.{Perfect, Lose, Repeat, Delay, Cut, Fault}
 
@@ -31,3 +32,14 @@ by_kind (Repeat l) bytes came is = repeated l.before bytes came is
 by_kind (Delay l) bytes came is = delayed l.before bytes came is
 by_kind (Cut l) bytes came is = cut l.most bytes came is
 by_kind (Fault l) bytes came is = absurd is
+
+pub not_true : false ≡ true → ⊥
+not_true is = cc
+
+pub same_by_kind : (l : TestLink) → is_perfect l ≡ true → IsFaithful (GivesByKind l)
+same_by_kind (Perfect l) perfect bytes came is = is
+same_by_kind (Lose l) perfect bytes came is = absurd is
+same_by_kind (Repeat l) perfect bytes came is = absurd (not_true perfect)
+same_by_kind (Delay l) perfect bytes came is = absurd (not_true perfect)
+same_by_kind (Cut l) perfect bytes came is = absurd (not_true perfect)
+same_by_kind (Fault l) perfect bytes came is = absurd is

@@ -1,6 +1,6 @@
 // The way of a frame over a link.
-ghost use Rattle.std.specs.Prelude.{◌≡◌, IfSome};
-ghost use Rattle.assise_link.specs.Links.{ComesOver, IsFaithful};
+ghost use Rattle.std.specs.Prelude.{◌≡◌, IfSome, true};
+ghost use Rattle.assise_link.specs.Links.{ComesOver};
 
 use crate::link::Link;
 use assise_record::decode::decode_up_to;
@@ -12,7 +12,8 @@ use std::alloc::Global;
 /// link has a fault, where what comes begins with no frame, or where memory is refused.
 pub fn carry_frame<L: Link>(alloc: Global, link: &mut L, frame: &Frame) -> Option<Frame>
     ensures came { IfSome result (λ came. ComesOver (L.gives link.old) frame.now came) }
-    ensures same { IsFaithful (L.gives link.old) → IfSome result (λ came. came ≡ frame.now) }
+    ensures same { L.faithful link.old ≡ true → IfSome result (λ came. came ≡ frame.now) }
+    ensures stays { L.faithful link.new ≡ L.faithful link.old }
 {
     let mut bytes = Vec::new(alloc);
     let Ok(()) = encode(frame, &mut bytes) else {

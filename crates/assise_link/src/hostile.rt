@@ -1,4 +1,5 @@
 // Links that lose, repeat, delay and cut what they carry.
+ghost use Rattle.std.specs.Prelude.{◌≡◌, None};
 
 use crate::faults::Faults;
 use crate::link::{Link, LinkFault, copied};
@@ -10,13 +11,16 @@ use std::mem;
 pub struct LosingLink;
 
 impl Link for LosingLink {
-    ghost use Rattle.std.specs.Prelude.{◌≡◌, []};
+    ghost use Rattle.std.specs.Prelude.{◌≡◌, [], false};
+    ghost use Rattle.assise_link.specs.Fronts.{not_true};
 
     ghost stored = { λ _. [] };
 
     ghost count = { λ _. 0 };
 
     ghost gives = { λ _ bytes came. ⊥ };
+
+    ghost faithful = { λ _. false };
 
     fn carry(&mut self, _alloc: Global, _bytes: &[u8]) -> Result<Option<Vec<u8>>, LinkFault> {
         Ok(None)
@@ -27,6 +31,8 @@ impl Link for LosingLink {
     }
 
     ghost fronts = { λ _ bytes came is. absurd is };
+
+    ghost same = { λ _ is. absurd (not_true is) };
 }
 
 /// A link that answers what it is handed at odd carries, counted from 1, and at even ones what the carry before was handed.
@@ -38,7 +44,10 @@ pub struct RepeatingLink {
 
 impl RepeatingLink {
     /// A link that carried nothing.
-    pub fn new() -> RepeatingLink {
+    pub fn new() -> RepeatingLink
+        ensures before { result.before ≡ None }
+        ensures no_faults { result.faults.count ≡ 0 }
+    {
         RepeatingLink {
             before: None,
             faults: Faults::none(),
@@ -48,13 +57,16 @@ impl RepeatingLink {
 
 impl Link for RepeatingLink {
     ghost use Rattle.assise_link.specs.TestLinks.{Repeats, kept_bytes};
-    ghost use Rattle.assise_link.specs.Fronts.{repeated};
+    ghost use Rattle.std.specs.Prelude.{false};
+    ghost use Rattle.assise_link.specs.Fronts.{not_true, repeated};
 
     ghost stored = { λ l. kept_bytes l.before };
 
     ghost count = { λ l. l.faults.count };
 
     ghost gives = { λ l bytes came. Repeats l.before bytes came };
+
+    ghost faithful = { λ _. false };
 
     fn carry(&mut self, alloc: Global, bytes: &[u8]) -> Result<Option<Vec<u8>>, LinkFault> {
         if let Some(before) = self.before.take() {
@@ -72,6 +84,8 @@ impl Link for RepeatingLink {
     }
 
     ghost fronts = { λ l bytes came is. repeated l.before bytes came is };
+
+    ghost same = { λ _ is. absurd (not_true is) };
 }
 
 /// A link that answers what the carry before was handed, and nothing the first time.
@@ -83,7 +97,10 @@ pub struct DelayingLink {
 
 impl DelayingLink {
     /// A link that carried nothing.
-    pub fn new() -> DelayingLink {
+    pub fn new() -> DelayingLink
+        ensures before { result.before ≡ None }
+        ensures no_faults { result.faults.count ≡ 0 }
+    {
         DelayingLink {
             before: None,
             faults: Faults::none(),
@@ -93,13 +110,16 @@ impl DelayingLink {
 
 impl Link for DelayingLink {
     ghost use Rattle.assise_link.specs.TestLinks.{Delays, kept_bytes};
-    ghost use Rattle.assise_link.specs.Fronts.{delayed};
+    ghost use Rattle.std.specs.Prelude.{false};
+    ghost use Rattle.assise_link.specs.Fronts.{delayed, not_true};
 
     ghost stored = { λ l. kept_bytes l.before };
 
     ghost count = { λ l. l.faults.count };
 
     ghost gives = { λ l bytes came. Delays l.before bytes came };
+
+    ghost faithful = { λ _. false };
 
     fn carry(&mut self, alloc: Global, bytes: &[u8]) -> Result<Option<Vec<u8>>, LinkFault> {
         let Some(kept) = copied(alloc, bytes) else {
@@ -113,6 +133,8 @@ impl Link for DelayingLink {
     }
 
     ghost fronts = { λ l bytes came is. delayed l.before bytes came is };
+
+    ghost same = { λ _ is. absurd (not_true is) };
 }
 
 /// A link that answers the first bytes of what it is handed, so many at most.
@@ -124,7 +146,10 @@ pub struct CuttingLink {
 
 impl CuttingLink {
     /// A link that lets so many bytes through.
-    pub fn new(most: usize) -> CuttingLink {
+    pub fn new(most: usize) -> CuttingLink
+        ensures most { result.most ≡ most }
+        ensures no_faults { result.faults.count ≡ 0 }
+    {
         CuttingLink {
             most,
             faults: Faults::none(),
@@ -133,14 +158,16 @@ impl CuttingLink {
 }
 
 impl Link for CuttingLink {
-    ghost use Rattle.std.specs.Prelude.{◌≡◌, [], take};
-    ghost use Rattle.assise_link.specs.Fronts.{cut};
+    ghost use Rattle.std.specs.Prelude.{◌≡◌, [], false, take};
+    ghost use Rattle.assise_link.specs.Fronts.{cut, not_true};
 
     ghost stored = { λ _. [] };
 
     ghost count = { λ l. l.faults.count };
 
     ghost gives = { λ l bytes came. came ≡ take l.most bytes };
+
+    ghost faithful = { λ _. false };
 
     fn carry(&mut self, alloc: Global, bytes: &[u8]) -> Result<Option<Vec<u8>>, LinkFault> {
         let (front, _) = bytes.split_at(self.most.min(bytes.len()));
@@ -155,6 +182,8 @@ impl Link for CuttingLink {
     }
 
     ghost fronts = { λ l bytes came is. cut l.most bytes came is };
+
+    ghost same = { λ _ is. absurd (not_true is) };
 }
 
 /// A link that has a fault at each carry.
@@ -165,7 +194,9 @@ pub struct FaultyLink {
 
 impl FaultyLink {
     /// A link that carried nothing.
-    pub fn new() -> FaultyLink {
+    pub fn new() -> FaultyLink
+        ensures { result.faults.count ≡ 0 }
+    {
         FaultyLink {
             faults: Faults::none(),
         }
@@ -173,13 +204,16 @@ impl FaultyLink {
 }
 
 impl Link for FaultyLink {
-    ghost use Rattle.std.specs.Prelude.{◌≡◌, []};
+    ghost use Rattle.std.specs.Prelude.{◌≡◌, [], false};
+    ghost use Rattle.assise_link.specs.Fronts.{not_true};
 
     ghost stored = { λ _. [] };
 
     ghost count = { λ l. l.faults.count };
 
     ghost gives = { λ _ bytes came. ⊥ };
+
+    ghost faithful = { λ _. false };
 
     fn carry(&mut self, _alloc: Global, _bytes: &[u8]) -> Result<Option<Vec<u8>>, LinkFault> {
         self.faults.add(LinkFault::Device)
@@ -190,4 +224,6 @@ impl Link for FaultyLink {
     }
 
     ghost fronts = { λ _ bytes came is. absurd is };
+
+    ghost same = { λ _ is. absurd (not_true is) };
 }

@@ -1,6 +1,6 @@
 // What carries bytes from node to node.
-ghost use Rattle.std.specs.Prelude.{◌≡◌, ◌+◌, ◌⊎◌, ℕ, Contains, IfOk, IfSome, List, OnErr, OnOk};
-ghost use Rattle.assise_link.specs.Links.{IsFrontOnLink};
+ghost use Rattle.std.specs.Prelude.{◌≡◌, ◌+◌, ◌⊎◌, ℕ, Bool, Contains, IfOk, IfSome, List, OnErr, OnOk, true};
+ghost use Rattle.assise_link.specs.Links.{IsFaithful, IsFrontOnLink};
 
 use crate::faults::Faults;
 use std::alloc::Global;
@@ -35,6 +35,9 @@ pub trait Link: Send {
     /// What it may answer where it is handed bytes: these first, then what comes.
     ghost gives: { Self → List ℕ → List ℕ → Type 0 };
 
+    /// It gives what it is handed and nothing else. No carry changes that.
+    ghost faithful: { Self → Bool };
+
     /// Carries bytes, and answers what comes at the other end; `None` is a loss or a delay.
     ///
     /// Refused with [`LinkFault::Memory`] or [`LinkFault::Device`], and the count of faults has risen by one. A link that has had
@@ -44,6 +47,7 @@ pub trait Link: Send {
             gives self.old bytes.now v.items)) }
         ensures stores { (x : List ℕ) → Contains (stored self.new) x
             → (x ≡ bytes.now) ⊎ Contains (stored self.old) x }
+        ensures stays { faithful self.new ≡ faithful self.old }
         ensures fault { OnErr result (count self.new ≡ count self.old + 1) }
         ensures no_fault { OnOk result (count self.new ≡ count self.old) };
 
@@ -53,6 +57,8 @@ pub trait Link: Send {
 
     ghost fronts: { (l : Self) (bytes came : List ℕ) → gives l bytes came
         → IsFrontOnLink bytes (stored l) came };
+
+    ghost same: { (l : Self) → faithful l ≡ true → IsFaithful (gives l) };
 }
 
 /// A link that answers what it is handed, and stores nothing.
@@ -63,7 +69,9 @@ pub struct PerfectLink {
 
 impl PerfectLink {
     /// A link that had no faults.
-    pub fn new() -> PerfectLink {
+    pub fn new() -> PerfectLink
+        ensures { result.faults.count ≡ 0 }
+    {
         PerfectLink {
             faults: Faults::none(),
         }
@@ -71,7 +79,7 @@ impl PerfectLink {
 }
 
 impl Link for PerfectLink {
-    ghost use Rattle.std.specs.Prelude.{◌≡◌, []};
+    ghost use Rattle.std.specs.Prelude.{◌≡◌, [], true};
     ghost use Rattle.assise_link.specs.Fronts.{whole};
 
     ghost stored = { λ _. [] };
@@ -79,6 +87,8 @@ impl Link for PerfectLink {
     ghost count = { λ l. l.faults.count };
 
     ghost gives = { λ _ bytes came. came ≡ bytes };
+
+    ghost faithful = { λ _. true };
 
     fn carry(&mut self, alloc: Global, bytes: &[u8]) -> Result<Option<Vec<u8>>, LinkFault> {
         match copied(alloc, bytes) {
@@ -92,4 +102,6 @@ impl Link for PerfectLink {
     }
 
     ghost fronts = { λ _ bytes came is. whole bytes came [] is };
+
+    ghost same = { λ _ _ bytes came is. is };
 }

@@ -21,15 +21,71 @@ pub enum TestLink {
     Fault(FaultyLink),
 }
 
+impl TestLink {
+    ghost use Rattle.std.specs.Prelude.{◌≡◌, true, false};
+    ghost use Rattle.assise_link.specs.TestLinks.{IsUnusedLink, cut, delay, fault, is_perfect, lose, perfect, repeat};
+
+    /// A link that answers what it is handed.
+    pub fn perfect() -> TestLink
+        ensures new { IsUnusedLink perfect result }
+        ensures perfect { is_perfect result ≡ true }
+    {
+        TestLink::Perfect(PerfectLink::new())
+    }
+
+    /// A link that answers nothing.
+    pub fn lose() -> TestLink
+        ensures new { IsUnusedLink lose result }
+        ensures perfect { is_perfect result ≡ false }
+    {
+        TestLink::Lose(LosingLink)
+    }
+
+    /// A link that answers, at even carries, what the carry before was handed.
+    pub fn repeat() -> TestLink
+        ensures new { IsUnusedLink repeat result }
+        ensures perfect { is_perfect result ≡ false }
+    {
+        TestLink::Repeat(RepeatingLink::new())
+    }
+
+    /// A link that answers what the carry before was handed.
+    pub fn delay() -> TestLink
+        ensures new { IsUnusedLink delay result }
+        ensures perfect { is_perfect result ≡ false }
+    {
+        TestLink::Delay(DelayingLink::new())
+    }
+
+    /// A link that lets so many bytes through.
+    pub fn cut(most: usize) -> TestLink
+        ensures new { IsUnusedLink (cut most) result }
+        ensures perfect { is_perfect result ≡ false }
+    {
+        TestLink::Cut(CuttingLink::new(most))
+    }
+
+    /// A link that has a fault at each carry.
+    pub fn fault() -> TestLink
+        ensures new { IsUnusedLink fault result }
+        ensures perfect { is_perfect result ≡ false }
+    {
+        TestLink::Fault(FaultyLink::new())
+    }
+}
+
 impl Link for TestLink {
-    ghost use Rattle.assise_link.specs.TestLinks.{GivesByKind, fault_count, kept_by};
-    ghost use Rattle.assise_link.specs.Fronts.{by_kind};
+    ghost use Rattle.std.specs.Prelude.{◌≡◌, true};
+    ghost use Rattle.assise_link.specs.TestLinks.{GivesByKind, fault_count, is_perfect, kept_by};
+    ghost use Rattle.assise_link.specs.Fronts.{by_kind, same_by_kind};
 
     ghost stored = { kept_by };
 
     ghost count = { fault_count };
 
     ghost gives = { GivesByKind };
+
+    ghost faithful = { is_perfect };
 
     fn carry(&mut self, alloc: Global, bytes: &[u8]) -> Result<Option<Vec<u8>>, LinkFault> {
         match self {
@@ -54,4 +110,6 @@ impl Link for TestLink {
     }
 
     ghost fronts = { by_kind };
+
+    ghost same = { same_by_kind };
 }

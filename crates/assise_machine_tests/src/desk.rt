@@ -1,8 +1,10 @@
 // A cluster, the frames that its nodes sent, and lines that are served on it.
+use crate::linked::perfect_links;
 use crate::steps::put_step;
 use crate::words::small_in;
 use assise_fault_script::command::RevokerKind;
 use assise_lease_table::revoker::Revokes;
+use assise_link::test_link::TestLink;
 use assise_machine::cluster::ClusterOf;
 use assise_names::refusal::Refusal;
 use assise_private_log::log_view::LogView;
@@ -46,13 +48,14 @@ const MANY: u32 = 1000;
 /// How many inodes may be hot where a test doesn't say.
 pub(crate) const HOT: usize = 2;
 
-/// A cluster; the frames that its nodes sent, numbered from 1; the revokers of clients that are opened, the last first; how many
+/// A cluster; the frames that its nodes sent, numbered from 1; the link of each node from node 1 on; the revokers of clients that are opened, the last first; how many
 /// nodes there are, and rounds are made where a line waits; and the steps that were made, one in a line, with what the last of
 /// them came to.
 #[derive(Drop)]
 pub(crate) struct Desk {
     pub(crate) cluster: Cluster,
     pub(crate) letters: Vec<Letter>,
+    pub(crate) links: [TestLink; 8],
     pub(crate) stock: Vec<Asked>,
     pub(crate) nodes: u32,
     pub(crate) rounds: u32,
@@ -69,6 +72,7 @@ impl Desk {
         Ok(Desk {
             cluster,
             letters,
+            links: perfect_links(),
             stock,
             nodes: 1,
             rounds: 0,
@@ -95,6 +99,7 @@ impl Desk {
     /// Lets go of what was made on the cluster before.
     fn clear(&mut self, nodes: u32, rounds: u32) {
         self.letters.clear();
+        self.links = perfect_links();
         self.stock.clear();
         self.steps.clear();
         self.outcome.clear();

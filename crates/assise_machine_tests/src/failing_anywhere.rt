@@ -3,8 +3,8 @@ use crate::desk::{Desk, HOT};
 use crate::faults::{fault_at_the_end, fault_behind};
 use crate::tasks::{Task, on_desk};
 use assise_rows::scripts::{
-    BACK_AND_ALONE, BACK_BY_HAND, CARRIED_IN_PART, CRASHED, CROSSING, CUT_AT_AN_FSYNC, FAILS_AGAIN,
-    HANDED_BY_HAND, HANDED_LEAST, HANDED_WHOLE, LOST_FILE, OUT_OF_ORDER, SHARED_FILE,
+    BACK_AND_ALONE, BACK_BY_HAND, CARRIED_IN_PART, CRASHED, CROSSING, CUT_AT_AN_FSYNC, DONOR_FAILS,
+    FAILS_AGAIN, HANDED_BY_HAND, HANDED_LEAST, HANDED_WHOLE, LOST_FILE, OUT_OF_ORDER, SHARED_FILE,
 };
 use std::alloc::Global;
 use std::process::Abort;
@@ -108,6 +108,7 @@ const SHORT: &[&str] = &[
     HANDED_WHOLE,
     BACK_AND_ALONE,
     BACK_BY_HAND,
+    DONOR_FAILS,
     OUT_OF_ORDER,
     FAILS_AGAIN,
     CRASHED,

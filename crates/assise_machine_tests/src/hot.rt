@@ -38,7 +38,45 @@ hot 4294967296 at 1 => cold
 hot 0 at 1 => hot
 ";
 
+/// Where fewer may be hot the longest unused ones are cold, and where more may be hot all stay hot.
+const KEPT: &str = "\
+cluster 2 8 3 => begun
+open 1 least => client 1
+1 create /a => done
+1 create /b => done
+fsync 1 => not yet
+send 1 => 1 for 2: client 1, 0..2
+deliver 1 at 2 => received 2
+digest 1 => digested 2
+1 stat /a => file 0
+1 stat /b => file 0
+hot 4294967296 at 1 => hot
+hot 4294967297 at 1 => hot
+hot 0 at 1 => hot
+keep 2 hot at 1 => set
+capacity at 1 => 2
+capacity at 2 => 3
+hot 4294967296 at 1 => cold
+hot 4294967297 at 1 => hot
+hot 0 at 1 => hot
+1 stat /a => file 0
+hot 4294967296 at 1 => hot
+hot 4294967297 at 1 => cold
+hot 0 at 1 => hot
+keep 4096 hot at 1 => set
+hot 4294967296 at 1 => hot
+hot 0 at 1 => hot
+1 stat /b => file 0
+hot 4294967296 at 1 => hot
+hot 4294967297 at 1 => hot
+hot 0 at 1 => hot
+keep 1 hot at 3 => F8 BadNode
+fail 2 => failed
+keep 1 hot at 2 => F10 WrongPhase
+capacity at 1 => 4096
+";
+
 #[test]
 fn what_a_call_visits_is_hot(rt: HostRuntime) {
-    show(rt.alloc(), &rt, &[USED, LAST_USED]);
+    show(rt.alloc(), &rt, &[USED, LAST_USED, KEPT]);
 }

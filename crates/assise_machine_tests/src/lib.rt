@@ -18,6 +18,8 @@ mod frames;
 #[cfg(test)]
 mod hot;
 #[cfg(test)]
+mod linked;
+#[cfg(test)]
 mod lists;
 #[cfg(test)]
 mod reading;

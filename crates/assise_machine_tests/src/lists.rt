@@ -59,9 +59,20 @@ send S
 send S
 send S
 send S
-send S
-send S
-send S
+over S
+over S
+over S
+over S
+over S
+over S
+link S perfect
+link S lose
+link S repeat
+link S delay
+link S cut 65
+link S cut N
+link S fault
+keep N hot at S
 send S
 open S
 open S
@@ -110,6 +121,10 @@ not yet
 received
 digested 1
 released 1
+set
+linked
+carried 0
+carried 1
 crashed
 failed
 stale
@@ -180,10 +195,10 @@ fn put_letter(dice: &mut Dice, desk: &Desk, text: &mut String) -> Result<(), All
     }
 }
 
-/// Begins anew with 1 to 4 nodes, revokers for 1 to 4 clients, and logs of 8 to 13 records.
+/// Begins anew with 2 to 4 nodes, revokers for 1 to 4 clients, and logs of 8 to 13 records.
 fn begin(alloc: Global, dice: &mut Dice, desk: &mut Desk) -> Option<()> {
     let log = dice.below(6) as usize + 8;
-    let nodes = dice.below(4) as u32 + 1;
+    let nodes = dice.below(3) as u32 + 2;
     desk.renew(alloc, nodes, log, HOT, 0)?;
     for _ in 0..dice.number(4) {
         desk.make(alloc, dice.line("stock l\nstock w\nstock e\n"))?;
@@ -191,19 +206,19 @@ fn begin(alloc: Global, dice: &mut Dice, desk: &mut Desk) -> Option<()> {
     Some(())
 }
 
-/// What is wrong behind a step of a list of so many, or once all nodes are back, and all is digested. What comes out is struck from
-/// the outcomes that are missing. None where memory runs out.
+/// What is wrong behind a step of a list, or once all nodes are back, and all is digested. What comes out is struck from the outcomes that are missing. None where memory runs out.
 fn fault_of(
     alloc: Global,
     dice: &mut Dice,
     desk: &mut Desk,
-    steps: u32,
+    lists: Lists,
     missing: &mut Vec<&str>,
 ) -> Option<&'static str> {
     begin(alloc, dice, desk)?;
     let mut clients = 0_u64;
+    let mut unseen = 0_u32;
     let mut step = String::new(alloc);
-    for _ in 0..steps {
+    for _ in 0..lists.steps {
         step.clear();
         put_step_by_chance(dice, desk, clients, &mut step).ok()?;
         desk.make(alloc, step.as_str())?;
@@ -211,6 +226,11 @@ fn fault_of(
             clients = clients.saturating_add(1);
         }
         strike(missing, desk.outcome.as_str());
+        unseen = unseen.saturating_add(1);
+        if unseen < lists.apart {
+            continue;
+        }
+        unseen = 0;
         let fault = fault_behind(alloc, &desk.cluster, desk.outcome.as_str())?;
         if !fault.is_empty() {
             return Some(fault);
@@ -224,12 +244,24 @@ fn strike(missing: &mut Vec<&str>, outcome: &str) {
     missing.retain(|kind| !outcome.contains(*kind));
 }
 
-/// Sees so many lists of so many steps each, and that they have each outcome.
-pub(crate) fn see_lists(alloc: Global, rt: &impl Abort, desk: &mut Desk, lists: u32, steps: u32) {
-    let mut dice = Dice::new(1);
+/// Lists of steps by chance.
+#[derive(Clone, Copy)]
+pub(crate) struct Lists {
+    /// Where chance begins.
+    pub(crate) seed: u64,
+    /// How many lists, and how many steps each has.
+    pub(crate) lists: u32,
+    pub(crate) steps: u32,
+    /// After so many steps each it is looked at what is wrong.
+    pub(crate) apart: u32,
+}
+
+/// Sees that nothing is wrong behind the steps of lists, and that these have each outcome.
+pub(crate) fn see_lists(alloc: Global, rt: &impl Abort, desk: &mut Desk, lists: Lists) {
+    let mut dice = Dice::new(lists.seed);
     let mut missing = outcomes(alloc).expect(rt, "no memory");
-    for list in 0..lists {
-        let fault = fault_of(alloc, &mut dice, desk, steps, &mut missing).expect(rt, "no memory");
+    for list in 0..lists.lists {
+        let fault = fault_of(alloc, &mut dice, desk, lists, &mut missing).expect(rt, "no memory");
         assert!(rt;
             fault.is_empty(),
             "list {list}: {fault} behind\n{}",
@@ -247,7 +279,53 @@ fn outcomes(alloc: Global) -> Result<Vec<&'static str>, AllocError> {
     Ok(outcomes)
 }
 
+fn see(alloc: Global, rt: &impl Abort, lists: Lists) {
+    on_desk(alloc, rt, Task::Chance(lists)).expect(rt, "no memory");
+}
+
 #[test]
 fn lists_by_chance_end_well(rt: HostRuntime) {
-    on_desk(rt.alloc(), &rt, Task::Chance(60, 200)).expect(&rt, "no memory");
+    let lists = Lists {
+        seed: 1,
+        lists: 60,
+        steps: 200,
+        apart: 1,
+    };
+    see(rt.alloc(), &rt, lists);
+}
+
+/// Forty lists of 500 steps each, five times.
+fn see_long(alloc: Global, rt: &impl Abort, seed: u64) {
+    let lists = Lists {
+        seed,
+        lists: 40,
+        steps: 500,
+        apart: 250,
+    };
+    see(alloc, rt, lists);
+}
+
+#[test]
+fn long_lists_from_seed_2_end_well(rt: HostRuntime) {
+    see_long(rt.alloc(), &rt, 2);
+}
+
+#[test]
+fn long_lists_from_seed_3_end_well(rt: HostRuntime) {
+    see_long(rt.alloc(), &rt, 3);
+}
+
+#[test]
+fn long_lists_from_seed_4_end_well(rt: HostRuntime) {
+    see_long(rt.alloc(), &rt, 4);
+}
+
+#[test]
+fn long_lists_from_seed_5_end_well(rt: HostRuntime) {
+    see_long(rt.alloc(), &rt, 5);
+}
+
+#[test]
+fn long_lists_from_seed_6_end_well(rt: HostRuntime) {
+    see_long(rt.alloc(), &rt, 6);
 }

@@ -200,6 +200,20 @@ open 1 least => client 3
 crash 3 => crashed
 ";
 
+/// Fewer inodes may be hot than are.
+const COOLED: &str = "\
+cluster 1 8 => begun
+open 1 least => client 1
+1 create /f => done
+digest 1 => digested 1
+1 stat /f => file 0
+keep 1 hot at 1 => set
+capacity at 1 => 1
+keep 2 hot at 1 => set
+capacity at 1 => 2
+tree at 1 => / names 1 f; /f bytes 0 x
+";
+
 /// The last revoker of the stock is taken, once.
 const TAKEN: &str = "\
 cluster 2 8 => begun
@@ -218,7 +232,7 @@ fn what_is_refused_is_made_again(rt: HostRuntime) {
     let ended = on_desk(
         rt.alloc(),
         &rt,
-        Task::Again(&[CARRIED, BOTH, FAILED, TAKEN]),
+        Task::Again(&[CARRIED, BOTH, FAILED, COOLED, TAKEN]),
     );
     assert!(rt; matches!(ended, Ok(()) | Err(Refusal::OutOfMemory)));
 }

@@ -1,19 +1,22 @@
 // Steps on a cluster, as text.
 use crate::desk::{Asked, Desk, HOT, Letter};
 use crate::frames::{copy_of, frame_in, put_digits};
+use crate::linked::{put_carried, put_link};
 use crate::told::{keep, put_answer, put_told};
 use crate::words::{number_in, small_in};
 use assise_fault_script::command::{Command, RevokerKind};
 use assise_fault_script::parse::parse;
 use assise_machine::answer::Answer;
 use assise_machine::event::Event;
+use assise_machine::hot::HotCapacity;
 use assise_machine::run::apply_event;
 use assise_names::call::Op;
 use assise_rows::split_word;
 use std::alloc::Global;
 
 /// Makes a step, and appends what it comes to: a question, an event, or `cluster NODES LOG HOT`, `stock KINDS`,
-/// `times COUNT STEP`, `frame NUMBER`, `frame of DIGITS`, and `deliver` for a frame that is given away. None where there is no such
+/// `times COUNT STEP`, `frame NUMBER`, `frame of DIGITS`, `deliver` for a frame that is given away, `link NODE KIND`, and `over NODE` for
+/// what a node sends over its link. None where there is no such
 /// step, or no memory to read or to answer it.
 pub(crate) fn put_step(
     alloc: Global,
@@ -31,6 +34,8 @@ pub(crate) fn put_step(
         "times" => put_repeated(alloc, desk, rest, text),
         "frame" => put_frame(alloc, desk, rest, text),
         "deliver" => put_delivery(alloc, desk, rest, text),
+        "link" => put_link(desk, rest, text),
+        "over" => put_carried(alloc, desk, small_in(rest)?, text),
         _ => put_event(alloc, desk, step, text),
     }
 }
@@ -130,6 +135,7 @@ pub(crate) fn event_of(alloc: Global, desk: &mut Desk, step: &str) -> Option<Eve
         "open" => opening(desk, rest),
         "release" => Some(Event::ReleaseReady),
         "deliver" => delivery(alloc, desk, rest),
+        "keep" => kept_hot(rest),
         "fsync" | "send" | "digest" | "crash" | "fail" | "back" | "refill" | "join" => {
             Some(numbered(word, small_in(rest)?))
         }
@@ -149,6 +155,14 @@ fn numbered(word: &str, number: u32) -> Event {
         "refill" => Event::Refill(number),
         _ => Event::Join(number),
     }
+}
+
+/// So many inodes may be hot at a node: `COUNT hot at NODE`.
+fn kept_hot(rest: &str) -> Option<Event> {
+    let (count, rest) = split_word(rest);
+    let node = small_in(rest.strip_prefix("hot at ")?)?;
+    let capacity = HotCapacity::new(number_in(count)? as usize)?;
+    Some(Event::SetHot(node, capacity))
 }
 
 /// A client is opened on a node with the last revoker of the stock. A kind behind it is added to the stock before.

@@ -1,7 +1,7 @@
 // What tests make on a cluster. One function alone owns it.
 use crate::desk::Desk;
 use crate::failing_anywhere::see_failures;
-use crate::lists::see_lists;
+use crate::lists::{Lists, see_lists};
 use crate::refused::see_made_again;
 use crate::rows::show_rows;
 use crate::running::show_list;
@@ -20,8 +20,8 @@ pub(crate) enum Task<'a> {
     Again(&'a [&'a str]),
     /// Scripts in which a node fails before each step, and comes back so many steps further.
     Failures(usize, &'a [&'a str]),
-    /// So many lists of so many steps by chance.
-    Chance(u32, u32),
+    /// Lists of steps by chance.
+    Chance(Lists),
 }
 
 /// Makes what is to be made on a new desk. Refused for want of memory.
@@ -37,7 +37,7 @@ fn make(alloc: Global, rt: &impl Abort, desk: &mut Desk, task: Task<'_>) {
         Task::Lists(texts) => show_lists(alloc, rt, desk, texts),
         Task::Again(texts) => see_made_again(alloc, rt, desk, texts),
         Task::Failures(away, scripts) => see_failures(alloc, rt, desk, away, scripts),
-        Task::Chance(lists, steps) => see_lists(alloc, rt, desk, lists, steps),
+        Task::Chance(lists) => see_lists(alloc, rt, desk, lists),
     }
 }
 

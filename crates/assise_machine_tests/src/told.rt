@@ -22,6 +22,7 @@ pub(crate) fn put_told(
         Answer::Received(place) => put_count("received", place, text),
         Answer::Digested(count) => put_count("digested", count, text),
         Answer::Released(count) => write!(text, "released {count}"),
+        Answer::HotSet(set) => put_done("set", set, text),
         Answer::Crashed(crashed) => put_done("crashed", crashed, text),
         Answer::Failed(Ok(losses)) => put_losses(losses.as_slice(), text),
         Answer::Began(stale) => put_count("stale", stale, text),
@@ -165,7 +166,7 @@ fn put_warmth(cluster: &Cluster, inode: u64, node: u32, text: &mut String) -> Op
 }
 
 /// Appends how many inodes may be hot at a node. None where there is no such node.
-fn put_capacity(cluster: &Cluster, node: u32, text: &mut String) -> Option<()> {
+pub(crate) fn put_capacity(cluster: &Cluster, node: u32, text: &mut String) -> Option<()> {
     let capacity = cluster.region(node).ok()?.hot_capacity();
     write!(text, "{capacity}").ok()
 }

@@ -13,7 +13,7 @@ use Rattle.assise_machine_events.specs.Happenings.{Trying}
 use Rattle.assise_machine_events.specs.Machine.{Machine}
 use Rattle.assise_machine_events.specs.NodeEvents.{Digesting, Releasing, Sending}
 use Rattle.assise_rounds.specs.Courses.{Told}
-use Rattle.assise_rounds.specs.Rounds.{AreCarried, DigestsOnce, EachFull, IfFull, ReleasesOnce, RoundsOnce, TakesTurn, UnlessAtFault, WithWork, deliveries, is_refused, is_work, letter, most_nodes, replicates}
+use Rattle.assise_rounds.specs.Rounds.{AreCarried, DigestsOnce, EachFull, IfFull, ReleasesOnce, RoundsOver, TakesTurn, UnlessAtFault, WithWork, deliveries, is_refused, is_work, letter, most_nodes, replicates}
 use Rattle.assise_rounds.specs.Trying.{Awaits, TriesOften, is_busy, is_settled, is_stuck, settled_answer}
 use Rattle.assise_rounds.proofs.Busy.{both_work, no_more_work, one_work, turn_work}
 use Rattle.assise_rounds.proofs.Carrying.{carried_turn}
@@ -63,18 +63,18 @@ faulty_next Does n m v so_far some faulty (es, before) = (
 
 -- ---- what a node does in a round
 
-pub turn_taken : (m v : Machine) (n count size : ℕ) (frames : List (LogFrame × ℕ)) (none : Bool) → size ≡ length frames → none ≡ (size == 0) → Sending m n (sent frames) m → AreCarried frames count m v
-    → (es : Told) × WithWork (TakesTurn n) (not none) m es v
-turn_taken m v n count size frames none whole is sends h = (
+pub turn_taken : (F : Type 0) (m v : Machine) (n count size : ℕ) (frames : List (LogFrame × ℕ)) (none : Bool) → size ≡ length frames → none ≡ (size == 0) → Sending m n (sent frames) m → AreCarried F frames count m v
+    → (es : Told) × WithWork (TakesTurn F n) (not none) m es v
+turn_taken F m v n count size frames none whole is sends h = (
   (outgoing n, sent (map letter h.carried)) ∷ deliveries h.carried,
   record {
-    does = replicates count (carried_turn m v n count frames sends h);
+    does = replicates count (carried_turn F m v n count frames sends h);
     work = ap not (is ∙ ap (λ k. k == 0) (whole ∙ ap length (sym h.letters))) ∙ turn_work (outgoing n) h.carried;
   },
 )
 
-pub turn_refused : (m m' : Machine) (n : ℕ) (e : Refusal) → Sending m n (refused e) m' → (es : Told) × WithWork (TakesTurn n) true m es m'
-turn_refused m m' n e h = ((outgoing n, refused e) ∷ [], record { does = is_refused e record { told = refl; happens = h }; work = refl })
+pub turn_refused : (F : Type 0) (m m' : Machine) (n : ℕ) (e : Refusal) → Sending m n (refused e) m' → (es : Told) × WithWork (TakesTurn F n) true m es m'
+turn_refused F m m' n e h = ((outgoing n, refused e) ∷ [], record { does = is_refused e record { told = refl; happens = h }; work = refl })
 
 pub digests_once : (m m' : Machine) (n : ℕ) (a : Answer) → Digesting m n a m' → (es : Told) × WithWork (DigestsOnce n) (is_work a) m es m'
 digests_once m m' n a h = ((digest n, a) ∷ [], record { does = record { answer = a; event = record { told = refl; happens = h } }; work = one_work (digest n) a })
@@ -82,9 +82,9 @@ digests_once m m' n a h = ((digest n, a) ∷ [], record { does = record { answer
 pub releases_once : (m m' : Machine) (a : Answer) → Releasing m a m' → (es : Told) × WithWork ReleasesOnce (is_work a) m es m'
 releases_once m m' a h = ((release_ready, a) ∷ [], record { does = record { answer = a; event = record { told = refl; happens = h } }; work = one_work release_ready a })
 
-pub whole_round : (m u v m' : Machine) (sends digests releases : Bool) → (es : Told) × WithWork (EachFull TakesTurn most_nodes) sends m es u → (fs : Told) × WithWork (EachFull DigestsOnce most_nodes) digests u fs v
-    → (gs : Told) × WithWork ReleasesOnce releases v gs m' → (hs : Told) × RoundsOnce (sends || digests || releases) m hs m'
-whole_round m u v m' sends digests releases (es, first) (fs, second) (gs, third) = (
+pub whole_round : (F : ℕ → Type 0) (m u v m' : Machine) (sends digests releases : Bool) → (es : Told) × WithWork (EachFull (λ n. TakesTurn (F n) n) most_nodes) sends m es u → (fs : Told) × WithWork (EachFull DigestsOnce most_nodes) digests u fs v
+    → (gs : Told) × WithWork ReleasesOnce releases v gs m' → (hs : Told) × RoundsOver F (sends || digests || releases) m hs m'
+whole_round F m u v m' sends digests releases (es, first) (fs, second) (gs, third) = (
   es ++ (fs ++ gs),
   record {
     does = record {
@@ -103,9 +103,9 @@ whole_round m u v m' sends digests releases (es, first) (fs, second) (gs, third)
 
 -- ---- tries
 
-pub next_try : (c : ℕ) (op : Op) (k j : ℕ) (a : Answer) (busy : Bool) (m u v m' : Machine) → j ≡ suc k → a ≡ not_yet → busy ≡ true
-    → (es : Told) × Awaits c op k m es u → Trying u c op a v → (fs : Told) × RoundsOnce busy v fs m' → (gs : Told) × Awaits c op j m gs m'
-next_try c op k j a busy m u v m' is awaited some (es, before) h (fs, round) = rw is (
+pub next_try : (F : ℕ → Type 0) (c : ℕ) (op : Op) (k j : ℕ) (a : Answer) (busy : Bool) (m u v m' : Machine) → j ≡ suc k → a ≡ not_yet → busy ≡ true
+    → (es : Told) × Awaits F c op k m es u → Trying u c op a v → (fs : Told) × RoundsOver F busy v fs m' → (gs : Told) × Awaits F c op j m gs m'
+next_try F c op k j a busy m u v m' is awaited some (es, before) h (fs, round) = rw is (
   es ++ ((try_call c op, not_yet) ∷ fs),
   record {
     between = u;
@@ -119,14 +119,14 @@ next_try c op k j a busy m u v m' is awaited some (es, before) h (fs, round) = r
       after = fs;
       told = refl;
       first = record { told = refl; happens = subst (λ x. Trying u c op x v) awaited h };
-      second = subst (λ b. RoundsOnce b v fs m') some round;
+      second = subst (λ b. RoundsOver F b v fs m') some round;
     };
   },
 )
 
-pub settled : (turns c : ℕ) (op : Op) (r : Result Reply Refusal) (a : Answer) (k : ℕ) (m v m' : Machine) → k ≤ turns - 1 → a ≡ settled_answer r
-    → (es : Told) × Awaits c op k m es v → Trying v c op a m' → (gs : Told) × TriesOften turns c op r m gs m'
-settled turns c op r a k m v m' few settles (es, before) h = (
+pub settled : (F : ℕ → Type 0) (turns c : ℕ) (op : Op) (r : Result Reply Refusal) (a : Answer) (k : ℕ) (m v m' : Machine) → k ≤ turns - 1 → a ≡ settled_answer r
+    → (es : Told) × Awaits F c op k m es v → Trying v c op a m' → (gs : Told) × TriesOften F turns c op r m gs m'
+settled F turns c op r a k m v m' few settles (es, before) h = (
   es ++ ((try_call c op, settled_answer r) ∷ []),
   is_settled k few record {
     between = v;
@@ -138,23 +138,23 @@ settled turns c op r a k m v m' few settles (es, before) h = (
   },
 )
 
-pub busy : (turns c : ℕ) (op : Op) (a : Answer) (k : ℕ) (m v m' : Machine) → k ≡ turns - 1 → a ≡ not_yet
-    → (es : Told) × Awaits c op k m es v → Trying v c op a m' → (gs : Told) × TriesOften turns c op (Err Busy) m gs m'
-busy turns c op a k m v m' is awaited (es, before) h = (
+pub busy : (F : ℕ → Type 0) (turns c : ℕ) (op : Op) (a : Answer) (k : ℕ) (m v m' : Machine) → k ≡ turns - 1 → a ≡ not_yet
+    → (es : Told) × Awaits F c op k m es v → Trying v c op a m' → (gs : Told) × TriesOften F turns c op (Err Busy) m gs m'
+busy F turns c op a k m v m' is awaited (es, before) h = (
   es ++ ((try_call c op, not_yet) ∷ []),
   is_busy refl record {
     between = v;
     before = es;
     after = (try_call c op, not_yet) ∷ [];
     told = refl;
-    first = subst (λ j. Awaits c op j m es v) is before;
+    first = subst (λ j. Awaits F c op j m es v) is before;
     second = record { told = refl; happens = subst (λ x. Trying v c op x m') awaited h };
   },
 )
 
-pub stuck : (turns c : ℕ) (op : Op) (a : Answer) (some : Bool) (k : ℕ) (m u v m' : Machine) → k < turns - 1 → a ≡ not_yet → some ≡ false
-    → (es : Told) × Awaits c op k m es u → Trying u c op a v → (fs : Told) × RoundsOnce some v fs m' → (gs : Told) × TriesOften turns c op (Err Busy) m gs m'
-stuck turns c op a some k m u v m' few awaited none (es, before) h (fs, round) = (
+pub stuck : (F : ℕ → Type 0) (turns c : ℕ) (op : Op) (a : Answer) (some : Bool) (k : ℕ) (m u v m' : Machine) → k < turns - 1 → a ≡ not_yet → some ≡ false
+    → (es : Told) × Awaits F c op k m es u → Trying u c op a v → (fs : Told) × RoundsOver F some v fs m' → (gs : Told) × TriesOften F turns c op (Err Busy) m gs m'
+stuck F turns c op a some k m u v m' few awaited none (es, before) h (fs, round) = (
   es ++ ((try_call c op, not_yet) ∷ fs),
   is_stuck k few refl record {
     between = u;
@@ -168,7 +168,7 @@ stuck turns c op a some k m u v m' few awaited none (es, before) h (fs, round) =
       after = fs;
       told = refl;
       first = record { told = refl; happens = subst (λ x. Trying u c op x v) awaited h };
-      second = subst (λ b. RoundsOnce b v fs m') none round;
+      second = subst (λ b. RoundsOver F b v fs m') none round;
     };
   },
 )

@@ -1,8 +1,8 @@
 -- What a cluster does between the tries of a call: replicate turns, and rounds.
 -- Assise (OSDI 2020), section 3 (replication along a chain, digests, leases); van Renesse and Schneider, chain replication
 -- (OSDI 2004), section 2.
-use Rattle.std.specs.Prelude.{◌≡◌, ◌==◌, ℕ, zero, suc, Bool, true, false, not, List, [], ◌∷◌, ◌++◌, filter, length, map, Option, None, Some}
-use Rattle.std.specs.List.{list_any}
+use Rattle.std.specs.Prelude.{◌≡◌, ◌==◌, ℕ, zero, suc, Bool, true, false, not, List, [], ◌∷◌, ◌++◌, filter, length, map, Option, None, Some, IfSome, ⊤}
+use Rattle.std.specs.List.{AllByRecursion, list_any}
 use Rattle.assise_names.specs.declared.refusal.Refusal.{Refusal}
 use Rattle.assise_record.specs.LogFrame.{LogFrame}
 use Rattle.assise_machine_events.specs.Events.{Answer, deliver, digest, digested, outgoing, received, refused, release_ready, released, sent}
@@ -13,56 +13,66 @@ use Rattle.assise_rounds.specs.Courses.{IsEvent, Nothing, Then, Told}
 
 -- ---- a replicate turn
 
--- a frame that was sent, and the node that it is for; and what that node answered once it came, or nothing where there was no
--- memory for the frame's bytes or for what they spell
+-- a frame that was sent, and the node that it is for; and the frame that came there with what the node answered it, or nothing where
+-- the link lost or kept it, had a fault or gave bytes that spell no frame, or where there was no memory
 pub record Carried : Type 0 where
   pub frame : LogFrame
   pub node : ℕ
-  pub answer : Option Answer
+  pub came : Option (LogFrame × Answer)
 
 abbrev pub letter : Carried → LogFrame × ℕ
 letter c = (c.frame, c.node)
 
-abbrev pub delivery : LogFrame → ℕ → Option Answer → Told
-delivery f n None = []
-delivery f n (Some a) = (deliver f n, a) ∷ []
+abbrev pub delivery : ℕ → Option (LogFrame × Answer) → Told
+delivery n None = []
+delivery n (Some (f, a)) = (deliver f n, a) ∷ []
 
 abbrev pub deliveries : List Carried → Told
 deliveries [] = []
-deliveries (c ∷ cs) = delivery c.frame c.node c.answer ++ deliveries cs
+deliveries (c ∷ cs) = delivery c.node c.came ++ deliveries cs
 
 -- the node took the frame in
-abbrev pub is_taken_in : Option Answer → Bool
-is_taken_in (Some (received place)) = true
+abbrev pub is_taken_in : Option (LogFrame × Answer) → Bool
+is_taken_in (Some (f, received place)) = true
 is_taken_in _ = false
 
 abbrev pub taken : List Carried → ℕ
-taken cs = length (filter (λ c. is_taken_in c.answer) cs)
+taken cs = length (filter (λ c. is_taken_in c.came) cs)
 
--- a frame goes to node n, which takes it in or doesn't
-pub record Delivers (f : LogFrame) (n : ℕ) (is_in : Bool) (m m' : Machine) : Type 0 where
-  pub answer : Option Answer
-  pub taken : is_in ≡ is_taken_in answer
-  pub happen : AllHappen m (delivery f n answer) m'
+-- what came, if anything did, is the frame that was sent
+abbrev pub IsSame : LogFrame → Option (LogFrame × Answer) → Type 0
+IsSame frame came = IfSome came (λ c. c.0 ≡ frame)
 
--- these frames go to the nodes that they are for, one after another, and so many are taken in
-pub record AreCarried (frames : List (LogFrame × ℕ)) (count : ℕ) (m m' : Machine) : Type 0 where
+abbrev pub AreSame : List Carried → Type 0
+AreSame carried = AllByRecursion (λ c. IsSame c.frame c.came) carried
+
+-- a frame goes over a link to node n, which takes in what comes or doesn't; over a faithful link that frame comes, if any does
+pub record Delivers (faithful : Type 0) (f : LogFrame) (n : ℕ) (is_in : Bool) (m m' : Machine) : Type 0 where
+  pub came : Option (LogFrame × Answer)
+  pub same : faithful → IsSame f came
+  pub taken : is_in ≡ is_taken_in came
+  pub happen : AllHappen m (delivery n came) m'
+
+-- these frames go over a link to the nodes that they are for, one after another, and so many are taken in
+pub record AreCarried (faithful : Type 0) (frames : List (LogFrame × ℕ)) (count : ℕ) (m m' : Machine) : Type 0 where
   pub carried : List Carried
+  pub same : faithful → AreSame carried
   pub letters : map letter carried ≡ frames
   pub counts : count ≡ taken carried
   pub happen : AllHappen m (deliveries carried) m'
 
--- what node n sends comes to the nodes that it is for, one frame after another; so many are taken in
-pub record Replicates (n count : ℕ) (m : Machine) (es : Told) (m' : Machine) : Type 0 where
+-- what node n sends goes over a link to the nodes that it is for, one frame after another; so many are taken in
+pub record Replicates (faithful : Type 0) (n count : ℕ) (m : Machine) (es : Told) (m' : Machine) : Type 0 where
   pub carried : List Carried
+  pub same : faithful → AreSame carried
   pub counts : count ≡ taken carried
   pub told : es ≡ (outgoing n, sent (map letter carried)) ∷ deliveries carried
   pub happen : AllHappen m es m'
 
 -- it does, or what it sends is refused
-pub data TakesTurn (n : ℕ) (m : Machine) (es : Told) (m' : Machine) : Type 0 where
-  replicates : (count : ℕ) → Replicates n count m es m' → TakesTurn n m es m'
-  is_refused : (r : Refusal) → IsEvent (outgoing n) (refused r) m es m' → TakesTurn n m es m'
+pub data TakesTurn (faithful : Type 0) (n : ℕ) (m : Machine) (es : Told) (m' : Machine) : Type 0 where
+  replicates : (count : ℕ) → Replicates faithful n count m es m' → TakesTurn faithful n m es m'
+  is_refused : (r : Refusal) → IsEvent (outgoing n) (refused r) m es m' → TakesTurn faithful n m es m'
 
 -- ---- a round
 
@@ -93,9 +103,9 @@ EachFull Does (suc n) m es m' = Then (EachFull Does n) (IfFull Does (suc n)) m e
 abbrev pub most_nodes : ℕ
 most_nodes = 8
 
--- each full node makes a replicate turn, each digests, and leases go
-pub record IsRound (m : Machine) (es : Told) (m' : Machine) : Type 0 where
-  pub round : Then (EachFull TakesTurn most_nodes) (Then (EachFull DigestsOnce most_nodes) ReleasesOnce) m es m'
+-- each full node makes a replicate turn over its own link, each digests, and leases go
+pub record IsRound (faithful : ℕ → Type 0) (m : Machine) (es : Told) (m' : Machine) : Type 0 where
+  pub round : Then (EachFull (λ n. TakesTurn (faithful n) n) most_nodes) (Then (EachFull DigestsOnce most_nodes) ReleasesOnce) m es m'
 
 -- ---- whether there was anything to do
 
@@ -115,6 +125,10 @@ pub record WithWork (Does : Machine → Told → Machine → Type 0) (busy : Boo
   pub does : Does m es m'
   pub work : busy ≡ did_work es
 
--- one round, in which there was something to do, or nothing
+-- one round over these links, in which there was something to do, or nothing
+abbrev pub RoundsOver : (ℕ → Type 0) → Bool → Machine → Told → Machine → Type 0
+RoundsOver faithful busy m es m' = WithWork (IsRound faithful) busy m es m'
+
+-- one round in which each frame that comes is the one that was sent
 abbrev pub RoundsOnce : Bool → Machine → Told → Machine → Type 0
-RoundsOnce busy m es m' = WithWork IsRound busy m es m'
+RoundsOnce busy m es m' = RoundsOver (λ n. ⊤) busy m es m'

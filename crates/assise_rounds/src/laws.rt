@@ -1,5 +1,5 @@
 // Laws of rounds, tries and returns. Each function does nothing: its contract is the law.
-ghost use Rattle.std.specs.Prelude.{◌≡◌, ◌++◌, ⊤, Result, ℕ};
+ghost use Rattle.std.specs.Prelude.{◌≡◌, ◌++◌, ⊤, Bool, List, Result, map, true, ℕ};
 ghost use Rattle.assise_names.specs.declared.call.Op.{Op};
 ghost use Rattle.assise_names.specs.declared.refusal.Refusal.{Refusal};
 ghost use Rattle.assise_names.specs.declared.reply.Reply.{Reply};
@@ -7,18 +7,24 @@ ghost use Rattle.assise_history.specs.Legal.{IsLegal};
 ghost use Rattle.assise_machine_events.specs.Events.{all_entries};
 ghost use Rattle.assise_machine_events.specs.Machine.{Holds, Machine};
 ghost use Rattle.assise_rounds.specs.Courses.{IsCourse, Told};
+ghost use Rattle.assise_rounds.specs.NodeLinks.{FaithfulAt};
 ghost use Rattle.assise_rounds.specs.Returning.{ComesBack};
-ghost use Rattle.assise_rounds.specs.Rounds.{IsRound, Replicates};
+ghost use Rattle.assise_rounds.specs.Rounds.{IsRound, Replicates, RoundsOnce};
 ghost use Rattle.assise_rounds.specs.Trying.{TriesOften};
 
-/// A replicate turn, a round, the tries of a call and the return of a node are courses of events.
-pub fn what_is_done_is_a_course_of_events()
-    ensures turn { (n count : ℕ) (m : Machine) (es : Told) (m' : Machine) →
-        Replicates n count m es m' → IsCourse m es m' }
-    ensures round { (m : Machine) (es : Told) (m' : Machine) → IsRound m es m' → IsCourse m es m' }
-    ensures tries { (turns c : ℕ) (op : Op) (r : Result Reply Refusal)
+use assise_link::link::Link;
+
+/// A replicate turn, a round, the tries of a call and the return of a node are courses of events, over links of any kind.
+pub fn what_is_done_is_a_course_of_events<L: Link>()
+    ensures turn { (link : L) (n count : ℕ) (m : Machine) (es : Told) (m' : Machine) →
+        Replicates (L.faithful link ≡ true) n count m es m' → IsCourse m es m' }
+    ensures round { (links : List L) (m : Machine) (es : Told) (m' : Machine) →
+        IsRound (FaithfulAt (map L.faithful links)) m es m' → IsCourse m es m' }
+    ensures once { (busy : Bool) (m : Machine) (es : Told) (m' : Machine) →
+        RoundsOnce busy m es m' → IsCourse m es m' }
+    ensures tries { (links : List L) (turns c : ℕ) (op : Op) (r : Result Reply Refusal)
         (m : Machine) (es : Told) (m' : Machine) →
-        TriesOften turns c op r m es m' → IsCourse m es m' }
+        TriesOften (FaithfulAt (map L.faithful links)) turns c op r m es m' → IsCourse m es m' }
     ensures comes_back { (n : ℕ) (r : Result ⊤ Refusal) (m : Machine) (es : Told) (m' : Machine) →
         ComesBack n r m es m' → IsCourse m es m' }
 {}

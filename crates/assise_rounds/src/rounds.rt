@@ -1,68 +1,76 @@
 // What a cluster does between the tries of a call: replicate turns, and rounds.
-ghost use Rattle.std.specs.Prelude.{◌≡◌, IfErr, IfOk, is_none};
+ghost use Rattle.std.specs.Prelude.{◌≡◌, ◌≤◌, IfErr, IfOk, is_none, length, map, true};
 ghost use Rattle.assise_machine_events.specs.Events.{refused, released};
 ghost use Rattle.assise_machine_events.specs.Faults.{node_fault};
 ghost use Rattle.assise_machine_events.specs.NodeEvents.{Releasing, Sending};
 ghost use Rattle.assise_machine.specs.Clusters.{machine};
 ghost use Rattle.assise_rounds.specs.Courses.{Told};
-ghost use Rattle.assise_rounds.specs.Rounds.{AreCarried, Delivers, DigestsOnce, EachFull, Replicates, RoundsOnce, TakesTurn, WithWork, most_nodes};
+ghost use Rattle.assise_rounds.specs.NodeLinks.{FaithfulAt};
+ghost use Rattle.assise_rounds.specs.Rounds.{AreCarried, Delivers, DigestsOnce, EachFull, Replicates, RoundsOnce, RoundsOver, TakesTurn, WithWork, most_nodes};
 
 use assise_lease_table::revoker::Revokes;
 use assise_link::carrying::carry_frame;
-use assise_link::link::PerfectLink;
+use assise_link::link::{Link, PerfectLink};
 use assise_machine::cluster::ClusterOf;
 use assise_names::refusal::Refusal;
 use assise_record::frame::Frame;
 use std::alloc::Global;
+use std::array;
 
 /// The most nodes of a cluster.
 const MOST_NODES: u32 = 8;
 
-/// One replicate turn of a node: what it sends comes to the nodes that it is for. It answers how many frames were taken in. What
-/// finds no memory on its way is lost. Refused as [`ClusterOf::outgoing`], and nothing is sent then.
-pub fn replicate<C: Revokes + Drop>(
+/// One replicate turn of a node: what it sends goes over its link to the nodes that it is for. It answers how many frames were taken
+/// in. What the link loses, and what finds no memory on its way, is lost. Refused as [`ClusterOf::outgoing`], and nothing is sent then.
+pub fn replicate<C: Revokes + Drop, L: Link>(
     alloc: Global,
     cluster: &mut ClusterOf<C>,
+    link: &mut L,
     node: u32,
 ) -> Result<u64, Refusal>
     ensures ok { IfOk result (λ count. (es : Told) ×
-        Replicates node count (machine cluster.old) es (machine cluster.new)) }
+        Replicates (L.faithful link.old ≡ true) node count (machine cluster.old) es (machine cluster.new)) }
     ensures err { IfErr result (λ refusal.
         Sending (machine cluster.old) node (refused refusal) (machine cluster.new)) }
+    ensures stays { L.faithful link.new ≡ L.faithful link.old }
 {
     match cluster.outgoing(alloc, node) {
-        Ok(frames) => Ok(deliver_all(alloc, cluster, frames)),
+        Ok(frames) => Ok(deliver_all(alloc, cluster, link, frames)),
         Err(refusal) => Err(refusal),
     }
 }
 
-/// Frames come to the nodes that they are for, one after another. It answers how many were taken in.
-fn deliver_all<C: Revokes + Drop>(
+/// Frames go over a link to the nodes that they are for, one after another. It answers how many were taken in.
+fn deliver_all<C: Revokes + Drop, L: Link>(
     alloc: Global,
     cluster: &mut ClusterOf<C>,
+    link: &mut L,
     frames: Vec<(Frame, u32)>,
 ) -> u64
-    ensures { AreCarried frames.items result (machine cluster.old) (machine cluster.new) }
+    ensures carried { AreCarried (L.faithful link.old ≡ true) frames.items result
+        (machine cluster.old) (machine cluster.new) }
+    ensures stays { L.faithful link.new ≡ L.faithful link.old }
 {
-    let mut link = PerfectLink::new();
     let mut taken = 0;
     for (frame, next) in frames {
-        if deliver(alloc, cluster, &mut link, &frame, next) {
+        if deliver(alloc, cluster, link, &frame, next) {
             taken += 1;
         }
     }
     taken
 }
 
-/// A frame goes over a link to a node. Whether the node took it in.
-fn deliver<C: Revokes + Drop>(
+/// A frame goes over a link to a node. Whether the node took in what came.
+fn deliver<C: Revokes + Drop, L: Link>(
     alloc: Global,
     cluster: &mut ClusterOf<C>,
-    link: &mut PerfectLink,
+    link: &mut L,
     frame: &Frame,
     node: u32,
 ) -> bool
-    ensures { Delivers frame.now node result (machine cluster.old) (machine cluster.new) }
+    ensures delivers { Delivers (L.faithful link.old ≡ true) frame.now node result
+        (machine cluster.old) (machine cluster.new) }
+    ensures stays { L.faithful link.new ≡ L.faithful link.old }
 {
     match carry_frame(alloc, link, frame) {
         Some(came) => cluster.deliver(came, node).is_ok(),
@@ -70,41 +78,69 @@ fn deliver<C: Revokes + Drop>(
     }
 }
 
-/// One round: each full node sends what it has for others, each digests, and leases go that may. What finds no memory in it
-/// ends nothing. It answers whether there was anything to do: a frame to send, a record to digest, a lease to let go of, or something
-/// that found no memory.
+/// One round over links that lose nothing and spoil nothing, as [`round_over`].
 pub fn round<C: Revokes + Drop>(alloc: Global, cluster: &mut ClusterOf<C>) -> bool
     ensures { (es : Told) × RoundsOnce result (machine cluster.old) es (machine cluster.new) }
 {
-    let mut busy = replicate_all(alloc, cluster);
+    let mut links: [PerfectLink; MOST_NODES as usize] = array::from_fn(|_| PerfectLink::new());
+    round_over(alloc, cluster, &mut links)
+}
+
+/// One round: each full node sends what it has for others over its link, which is the one at the place before its number, each digests,
+/// and leases go that may. What finds no memory in it ends nothing. It answers whether there was anything to do: a frame to send, a
+/// record to digest, a lease to let go of, or something that found no memory.
+pub fn round_over<C: Revokes + Drop, L: Link>(
+    alloc: Global,
+    cluster: &mut ClusterOf<C>,
+    links: &mut [L],
+) -> bool
+    requires { most_nodes ≤ length links.old }
+    ensures rounds { (es : Told) × RoundsOver (FaithfulAt (map L.faithful links.old)) result
+        (machine cluster.old) es (machine cluster.new) }
+    ensures stay { map L.faithful links.new ≡ map L.faithful links.old }
+{
+    let mut busy = replicate_all(alloc, cluster, links);
     busy |= digest_all(alloc, cluster);
     busy |= release(cluster) != 0;
     busy
 }
 
-/// Each full node makes a replicate turn, by rising number. Whether there was anything to send.
-fn replicate_all<C: Revokes + Drop>(alloc: Global, cluster: &mut ClusterOf<C>) -> bool
-    ensures { (es : Told) × WithWork (EachFull TakesTurn most_nodes) result
+/// Each full node makes a replicate turn over its link, by rising number. Whether there was anything to send.
+fn replicate_all<C: Revokes + Drop, L: Link>(
+    alloc: Global,
+    cluster: &mut ClusterOf<C>,
+    links: &mut [L],
+) -> bool
+    requires { most_nodes ≤ length links.old }
+    ensures each { (es : Told) ×
+        WithWork (EachFull (λ n. TakesTurn (FaithfulAt (map L.faithful links.old) n) n) most_nodes) result
         (machine cluster.old) es (machine cluster.new) }
+    ensures stay { map L.faithful links.new ≡ map L.faithful links.old }
 {
     let mut busy = false;
     for node in 1..=MOST_NODES {
         if is_full(cluster, node) {
-            busy |= take_turn(alloc, cluster, node);
+            busy |= take_turn(alloc, cluster, &mut links[node as usize - 1], node);
         }
     }
     busy
 }
 
-/// A node makes a replicate turn. Whether there was anything to send, or no memory for it.
-fn take_turn<C: Revokes + Drop>(alloc: Global, cluster: &mut ClusterOf<C>, node: u32) -> bool
-    ensures { (es : Told) × WithWork (TakesTurn node) result
+/// A node makes a replicate turn over a link. Whether there was anything to send, or no memory for it.
+fn take_turn<C: Revokes + Drop, L: Link>(
+    alloc: Global,
+    cluster: &mut ClusterOf<C>,
+    link: &mut L,
+    node: u32,
+) -> bool
+    ensures turn { (es : Told) × WithWork (TakesTurn (L.faithful link.old ≡ true) node) result
         (machine cluster.old) es (machine cluster.new) }
+    ensures stays { L.faithful link.new ≡ L.faithful link.old }
 {
     match cluster.outgoing(alloc, node) {
         Ok(frames) => {
             let busy = !frames.is_empty();
-            deliver_all(alloc, cluster, frames);
+            deliver_all(alloc, cluster, link, frames);
             busy
         }
         Err(_) => true,

@@ -1,10 +1,14 @@
 // Tries of a client's call.
+ghost use Rattle.std.specs.Prelude.{◌≡◌, ◌≤◌, length, map};
 ghost use Rattle.assise_machine.specs.Clusters.{machine};
 ghost use Rattle.assise_rounds.specs.Courses.{Told};
+ghost use Rattle.assise_rounds.specs.NodeLinks.{FaithfulAt};
+ghost use Rattle.assise_rounds.specs.Rounds.{most_nodes};
 ghost use Rattle.assise_rounds.specs.Trying.{TriesOften};
 
-use crate::rounds::round;
+use crate::rounds::round_over;
 use assise_lease_table::revoker::Revokes;
+use assise_link::link::Link;
 use assise_machine::cluster::ClusterOf;
 use assise_machine_calls::turn::Turn;
 use assise_names::call::Op;
@@ -12,24 +16,28 @@ use assise_names::refusal::Refusal;
 use assise_names::reply::Reply;
 use std::alloc::Global;
 
-/// Tries a call until it isn't awaited any more, so many times at most, with a round between two tries. Refused as
+/// Tries a call until it isn't awaited any more, so many times at most, with a round over these links between two tries. Refused as
 /// [`ClusterOf::try_call`], and with [`Refusal::Busy`] where the call is still awaited: after the last try, or after a round in which
 /// there was nothing to do. Zero times is once.
-pub fn try_often<C: Revokes + Drop>(
+pub fn try_often<C: Revokes + Drop, L: Link>(
     alloc: Global,
     cluster: &mut ClusterOf<C>,
+    links: &mut [L],
     client: u32,
     op: &Op,
     turns: u32,
 ) -> Result<Reply, Refusal>
-    ensures { (es : Told) × TriesOften turns client op.now result
+    requires { most_nodes ≤ length links.old }
+    ensures tries { (es : Told) ×
+        TriesOften (FaithfulAt (map L.faithful links.old)) turns client op.now result
         (machine cluster.old) es (machine cluster.new) }
+    ensures stay { map L.faithful links.new ≡ map L.faithful links.old }
 {
     for _ in 1..turns {
         match cluster.try_call(alloc, client, op)? {
             Turn::Answered(reply) => return Ok(reply),
             Turn::NotYet => {
-                if !round(alloc, cluster) {
+                if !round_over(alloc, cluster, links) {
                     return Err(Refusal::Busy);
                 }
             }

@@ -195,3 +195,28 @@ back 2
 join 2
 history
 ";
+
+/// The full node that a node is filled from fails, and another takes its place.
+pub const DONOR_FAILS: &str = "\
+cluster 3 16 4
+manual
+open 2 least
+fail 3
+1 create /f
+1 fsync
+carry 2
+digest 1
+digest 2
+back 3
+refill 3
+fail 1
+join 3
+refill 3
+refill 3
+1 write /f 0 tz
+digest 2
+join 3
+refill 3
+join 3
+tree 3
+";

@@ -1,7 +1,7 @@
 -- The calls in front of commands, and the first line that only a run on one thread serves.
 use Rattle.std.proofs.Common.{◌≡◌, ◌≤◌, ℕ, suc, List, [], ◌∷◌, length, take, get_or, refl, sym, ap, subst, arith}
 use Rattle.assise_fault_script.specs.declared.command.Command.{Command}
-use Rattle.assise_fault_script.specs.declared.command.Command.TheVariants.{Cluster, Manual, Open, Call, Carry, Digest, Release, Crash, Fail, Back, Refill, Join, Tree, History}
+use Rattle.assise_fault_script.specs.declared.command.Command.TheVariants.{Cluster, Manual, Open, Call, Carry, Link, Hot, Digest, Release, Crash, Fail, Back, Refill, Join, Tree, History}
 use Rattle.assise_fault_script.specs.declared.parse.NumberedCommand.{NumberedCommand}
 use Rattle.assise_threads.specs.CallsAhead.{calls_ahead, counts_call}
 use Rattle.assise_threads.specs.Stretches.{AreCalls, IsClientCall}
@@ -16,6 +16,8 @@ call_or_not (Cluster nodes log hot) = is_none (λ is. is) (λ k. refl)
 call_or_not Manual = is_none (λ is. is) (λ k. refl)
 call_or_not (Open node kind) = is_none (λ is. is) (λ k. refl)
 call_or_not (Carry node) = is_none (λ is. is) (λ k. refl)
+call_or_not (Link node kind) = is_none (λ is. is) (λ k. refl)
+call_or_not (Hot node capacity) = is_none (λ is. is) (λ k. refl)
 call_or_not (Digest node) = is_none (λ is. is) (λ k. refl)
 call_or_not Release = is_none (λ is. is) (λ k. refl)
 call_or_not (Crash client) = is_none (λ is. is) (λ k. refl)

@@ -9,7 +9,7 @@ use Rattle.assise_names.specs.declared.refusal.Refusal.{Refusal}
 use Rattle.assise_names.specs.declared.reply.Reply.{Reply}
 use Rattle.assise_history.specs.Entries.{Event}
 use Rattle.assise_fault_script.specs.declared.command.Command.{Command}
-use Rattle.assise_fault_script.specs.declared.command.Command.TheVariants.{Cluster, Manual, Open, Call, Carry, Digest, Release, Crash, Fail, Back, Refill, Join, Tree, History}
+use Rattle.assise_fault_script.specs.declared.command.Command.TheVariants.{Cluster, Manual, Open, Call, Carry, Link, Hot, Digest, Release, Crash, Fail, Back, Refill, Join, Tree, History}
 use Rattle.assise_fault_script.specs.declared.parse.NumberedCommand.{NumberedCommand}
 use Rattle.assise_console.specs.Lines.{line_text}
 use Rattle.assise_workers.specs.Told.{told_all}
@@ -63,6 +63,8 @@ is_answered (Cluster nodes log hot) seen r is = absurd is
 is_answered Manual seen r is = absurd is
 is_answered (Open node kind) seen r is = absurd is
 is_answered (Carry node) seen r is = absurd is
+is_answered (Link node kind) seen r is = absurd is
+is_answered (Hot node capacity) seen r is = absurd is
 is_answered (Digest node) seen r is = absurd is
 is_answered Release seen r is = absurd is
 is_answered (Crash client) seen r is = absurd is
@@ -88,6 +90,8 @@ one_or_none c (Cluster nodes log hot) = inl refl
 one_or_none c Manual = inl refl
 one_or_none c (Open node kind) = inl refl
 one_or_none c (Carry node) = inl refl
+one_or_none c (Link node kind) = inl refl
+one_or_none c (Hot node capacity) = inl refl
 one_or_none c (Digest node) = inl refl
 one_or_none c Release = inl refl
 one_or_none c (Crash client) = inl refl

@@ -9,7 +9,7 @@ use Rattle.assise_names.specs.declared.reply.Reply.{Reply}
 use Rattle.assise_history.specs.Entries.{Event}
 use Rattle.assise_keeper.specs.Clients.{calls_by}
 use Rattle.assise_fault_script.specs.declared.command.Command.{Command}
-use Rattle.assise_fault_script.specs.declared.command.Command.TheVariants.{Cluster, Manual, Open, Call, Carry, Digest, Release, Crash, Fail, Back, Refill, Join, Tree, History}
+use Rattle.assise_fault_script.specs.declared.command.Command.TheVariants.{Cluster, Manual, Open, Call, Carry, Link, Hot, Digest, Release, Crash, Fail, Back, Refill, Join, Tree, History}
 use Rattle.assise_workers.specs.Told.{told_all}
 use Rattle.assise_workers.proofs.Lists.{told-append}
 use Rattle.assise_threads.specs.Said.{Said, TellsClient, call_in, calls_in, commands_said}
@@ -72,6 +72,8 @@ no_call c (Cluster nodes log hot) none = refl
 no_call c Manual none = refl
 no_call c (Open node kind) none = refl
 no_call c (Carry node) none = refl
+no_call c (Link node kind) none = refl
+no_call c (Hot node capacity) none = refl
 no_call c (Digest node) none = refl
 no_call c Release none = refl
 no_call c (Crash client) none = refl

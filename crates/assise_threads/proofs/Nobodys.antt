@@ -9,13 +9,14 @@ use Rattle.assise_machine_events.specs.Events.{Answer as EventAnswer, back, cras
 use Rattle.assise_machine_events.specs.ClientEvents.{Crashing, is_crashed, is_refused as not_crashed, lacks_memory as crash_lacks}
 use Rattle.assise_machine_events.specs.Machine.{Machine}
 use Rattle.assise_machine_events.specs.MemberEvents.{Failing, Returning, Refilling, Joining, is_back, is_failed, is_failed_again, is_joined, is_refilled, is_refused, is_whole, lacks_memory}
-use Rattle.assise_machine_events.specs.NodeEvents.{Digesting, Releasing, is_digested, is_refused as not_digested, is_released, lacks_memory as digest_lacks}
+use Rattle.assise_machine_events.specs.NodeEvents.{Digesting, Releasing, SettingHot, is_digested, is_refused as not_digested, is_released, is_set, lacks_memory as digest_lacks}
 use Rattle.assise_machine.specs.Clusters.{machine}
 use Rattle.assise_machine.specs.declared.cluster.ClusterOf.{ClusterOf}
 use Rattle.assise_workers.proofs.Lists.{extends-on}
 use Rattle.assise_console.specs.declared.answer.Answer.{Answer}
 use Rattle.assise_rounds.specs.Courses.{Told}
 use Rattle.assise_console.specs.OneEvent.{IsOne, IsOneAt}
+use Rattle.assise_console.specs.Steps.{SetsHot, is_made, is_out}
 use Rattle.assise_threads.specs.Takes.{AddsNobodys, AreNobodys}
 
 -- ---- a pass without a client may give such entries
@@ -78,6 +79,11 @@ digest_adds m m' n a (not_digested r fault is same) = adds_none m m' same
 release_adds : (m m' : Machine) (a : EventAnswer) → Releasing m a m' → AddsNobodys m.history m'.history
 release_adds m m' a (is_released gone freed is e) = record { more = []; split = e.adds.history; nobodys = tt }
 
+hot_adds : (m m' : Machine) (n : ℕ) (a : EventAnswer) → SettingHot m n a m' → AddsNobodys m.history m'.history
+hot_adds m m' n a (is_set fine is same) = adds_none m m' same
+hot_adds m m' n a (digest_lacks fine is same) = adds_none m m' same
+hot_adds m m' n a (not_digested r fault is same) = adds_none m m' same
+
 fail_adds : (m m' : Machine) (n : ℕ) (a : EventAnswer) → Failing m n a m' → AddsNobodys m.history m'.history
 fail_adds m m' n a (is_failed fine is e) = record { more = _; split = e.adds.history; nobodys = tt }
 fail_adds m m' n a (is_failed_again fine is e) = record { more = _; split = e.adds.history; nobodys = tt }
@@ -108,6 +114,10 @@ module _ (a : Answer) (m m' : Machine) where
 
   pub released_adds : (es : Told) × IsOne release_ready a m es m' → AddsNobodys m.history m'.history
   released_adds (es, h) = release_adds m m' h.answer h.event.happens
+
+  pub hot_set_adds : (n capacity : ℕ) → (es : Told) × SetsHot n capacity a m es m' → AddsNobodys m.history m'.history
+  hot_set_adds n capacity (es, is_made least most h) = hot_adds m m' n h.answer h.event.happens
+  hot_set_adds n capacity (es, is_out out is h) = adds_none m m' h.stays
 
   pub crashed_adds : (c : ℕ) → (es : Told) × IsOneAt crash c a m es m' → AddsNobodys m.history m'.history
   crashed_adds c (es, h) = crash_adds m m' c h.answer h.event.happens

@@ -7,17 +7,18 @@ use Rattle.assise_history.specs.Legal.{calls_made}
 use Rattle.assise_keeper.specs.Clients.{calls_by}
 use Rattle.assise_libfs.specs.Clients.{client_of, seen_by}
 use Rattle.assise_fault_script.specs.declared.command.Command.{Command}
-use Rattle.assise_fault_script.specs.declared.command.Command.TheVariants.{Cluster, Manual, Open, Call, Carry, Digest, Release, Crash, Fail, Back, Refill, Join, Tree, History}
+use Rattle.assise_fault_script.specs.declared.command.Command.TheVariants.{Cluster, Manual, Open, Call, Carry, Link, Hot, Digest, Release, Crash, Fail, Back, Refill, Join, Tree, History}
 use Rattle.assise_fault_script.specs.declared.parse.NumberedCommand.{NumberedCommand}
 use Rattle.assise_console.specs.declared.answer.Answer.{Answer}
-use Rattle.assise_console.specs.declared.answer.Answer.TheVariants.{Quiet, Client, Replied, Waits, Refused, Carried, Digested, Released, Crashed, Failed, Began, Left, Returned, Tree as Shown, History as Whole}
+use Rattle.assise_console.specs.declared.answer.Answer.TheVariants.{Quiet, Client, Replied, Waits, Refused, Carried, Digested, Released, Linked, HotSet, Crashed, Failed, Began, Left, Returned, Tree as Shown, History as Whole}
 use Rattle.assise_names.specs.declared.refusal.Refusal.TheVariants.{Busy, OutOfMemory}
 use Rattle.assise_machine_events.specs.Machine.{Machine}
 use Rattle.assise_console.specs.declared.fault.EngineFault.{EngineFault}
 use Rattle.assise_console.specs.declared.fault.EngineFault.TheVariants.{Read, Script, Memory, Write, NeedsSerial, NoThread}
 use Rattle.assise_console.specs.Engines.{IsReadFault}
 use Rattle.assise_console.specs.Lines.{line_text}
-use Rattle.assise_console.specs.Steps.{Shows, is_shown, lacks_memory, is_refused as not_shown}
+use Rattle.assise_rounds.specs.Courses.{Told}
+use Rattle.assise_console.specs.Steps.{SetsHot, Shows, is_made, is_out, is_shown, lacks_memory, is_refused as not_shown}
 use Rattle.assise_libfs.specs.declared.libfs.LibFs.{LibFs}
 use Rattle.assise_threads.specs.Answered.{AnswersCommand, joins, stops_filling, is_refused, is_busy, is_opened, is_carried, is_replied}
 use Rattle.assise_threads.specs.CallsAhead.{AreSaidNext, is_one, is_stretch}
@@ -72,6 +73,10 @@ run_kept commands old mid new h keeps = record { said = h.said; run = h.run; app
 
 -- ---- the history is printed by its own command alone
 
+hot_not_whole : (n capacity : ℕ) (m : Machine) (es : Told) (m' : Machine) → SetsHot n capacity Whole m es m' → ⊥
+hot_not_whole n capacity m es m' (is_made least most h) = h.tells
+hot_not_whole n capacity m es m' (is_out out is h) = let x : Whole ≡ Quiet = is in cc
+
 not_whole : (command : Command) (old new : List Event) → (command ≡ History → ⊥) → AnswersCommand command Whole old new → ⊥
 not_whole (Cluster nodes log hot) old new other h = let x : Whole ≡ Quiet = h.answer in cc
 not_whole Manual old new other h = let x : Whole ≡ Quiet = h.answer in cc
@@ -81,6 +86,8 @@ not_whole (Call c op) old new other (is_replied reply is e) = let x : Whole ≡ 
 not_whole (Call c op) old new other (is_refused r is e) = let x : Whole ≡ Refused r = is in cc
 not_whole (Carry node) old new other (is_carried count is e) = let x : Whole ≡ Carried count = is in cc
 not_whole (Carry node) old new other (is_refused r is e) = let x : Whole ≡ Refused r = is in cc
+not_whole (Link node kind) old new other h = let x : Whole ≡ Quiet = h.answer in cc
+not_whole (Hot node capacity) old new other h = hot_not_whole node capacity h.before h.told h.after h.does
 not_whole (Digest node) old new other h = h.does.tells
 not_whole Release old new other h = h.does.tells
 not_whole (Crash client) old new other h = h.does.tells
@@ -108,6 +115,8 @@ line_shows_none n command (Replied reply) shown old new other h = refl
 line_shows_none n command Waits shown old new other h = refl
 line_shows_none n command (Refused r) shown old new other h = refl
 line_shows_none n command (Carried k) shown old new other h = refl
+line_shows_none n command (Linked k) shown old new other h = refl
+line_shows_none n command (HotSet k) shown old new other h = refl
 line_shows_none n command (Digested k) shown old new other h = refl
 line_shows_none n command (Released k) shown old new other h = refl
 line_shows_none n command (Crashed c) shown old new other h = refl
@@ -124,7 +133,7 @@ read_ends Read known old is = refl
 read_ends Memory known old is = tt
 read_ends (Script line fault) known old is = absurd is
 read_ends Write known old is = absurd is
-read_ends (NeedsSerial line) known old is = absurd is
+read_ends (NeedsSerial line command) known old is = absurd is
 read_ends NoThread known old is = absurd is
 
 pub run_ends : (e : EngineFault) (known old new : Option (List ℕ)) → EndsRun e → ThreadFault e known old new
@@ -133,4 +142,4 @@ run_ends Write known old new is = tt
 run_ends NoThread known old new is = tt
 run_ends Read known old new is = absurd is
 run_ends (Script line fault) known old new is = absurd is
-run_ends (NeedsSerial line) known old new is = absurd is
+run_ends (NeedsSerial line command) known old new is = absurd is

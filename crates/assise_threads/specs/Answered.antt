@@ -9,13 +9,13 @@ use Rattle.assise_history.specs.Legal.{IsLegal, calls_made}
 use Rattle.assise_keeper.specs.Clients.{Extends}
 use Rattle.assise_libfs.specs.Lives.{IsOpenedOn}
 use Rattle.assise_fault_script.specs.declared.command.Command.{Command}
-use Rattle.assise_fault_script.specs.declared.command.Command.TheVariants.{Cluster, Manual, Open, Call, Carry, Digest, Release, Crash, Fail, Back, Refill, Join, Tree as TreeOf, History}
+use Rattle.assise_fault_script.specs.declared.command.Command.TheVariants.{Cluster, Manual, Open, Call, Carry, Link, Hot, Digest, Release, Crash, Fail, Back, Refill, Join, Tree as TreeOf, History}
 use Rattle.assise_machine_events.specs.Events.{back, crash, digest, fail, join, refill, release_ready}
 use Rattle.assise_machine_events.specs.Machine.{Machine}
 use Rattle.assise_console.specs.declared.answer.Answer.{Answer}
 use Rattle.assise_console.specs.declared.answer.Answer.TheVariants.{Quiet, Client, Replied, Refused, Carried, History as Whole}
 use Rattle.assise_rounds.specs.Courses.{Told}
-use Rattle.assise_console.specs.Steps.{Shows}
+use Rattle.assise_console.specs.Steps.{SetsHot, Shows}
 use Rattle.assise_console.specs.OneEvent.{IsOne, IsOneAt}
 use Rattle.assise_threads.specs.Takes.{InOneTake}
 
@@ -64,6 +64,8 @@ AnswersCommand Manual a old new = IsSilent a old new
 AnswersCommand (Open n kind) a old new = OpensOne n a old new
 AnswersCommand (Call c op) a old new = IsCallAnswered a old new
 AnswersCommand (Carry n) a old new = CarriesSome a old new
+AnswersCommand (Link n kind) a old new = IsSilent a old new
+AnswersCommand (Hot n capacity) a old new = InOneTake (SetsHot n capacity a) old new
 AnswersCommand (Digest n) a old new = InOneTake (IsOne (digest n) a) old new
 AnswersCommand Release a old new = InOneTake (IsOne release_ready a) old new
 AnswersCommand (Crash c) a old new = InOneTake (IsOneAt crash c a) old new

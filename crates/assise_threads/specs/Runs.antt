@@ -3,11 +3,13 @@ use Rattle.std.specs.Prelude.{◌≡◌, ℕ, List, [], ◌∷◌, Option, None,
 use Rattle.std.specs.Io.KnownBytes.{Appends}
 use Rattle.assise_history.specs.Entries.{Event}
 use Rattle.assise_fault_script.specs.declared.command.Command.{Command}
-use Rattle.assise_fault_script.specs.declared.command.Command.TheVariants.{Manual}
+use Rattle.assise_fault_script.specs.declared.command.Command.TheVariants.{Manual, Link}
 use Rattle.assise_fault_script.specs.declared.parse.NumberedCommand.{NumberedCommand}
 use Rattle.assise_console.specs.Engines.{IsInput, IsScript, IsScriptFault}
 use Rattle.assise_console.specs.declared.fault.EngineFault.{EngineFault}
 use Rattle.assise_console.specs.declared.fault.EngineFault.TheVariants.{Read, Script, Memory, Write, NeedsSerial, NoThread}
+use Rattle.assise_console.specs.declared.fault.SerialCommand.{SerialCommand}
+use Rattle.assise_console.specs.declared.fault.SerialCommand.TheVariants.{Manual as manual, Link as link}
 use Rattle.assise_threads.specs.Answered.{AnswersCommand}
 use Rattle.assise_threads.specs.Said.{IsHeard, Said, commands_said, said_lines}
 
@@ -29,14 +31,20 @@ pub record IsRunSaid (commands : List NumberedCommand) (old new : Option (List �
   pub run : IsThreadRun commands said
   pub appends : Appends old new (said_lines said)
 
--- the first line that only a run on one thread serves
-abbrev pub serial_from : Command → ℕ → Option ℕ → Option ℕ
-serial_from Manual line later = Some line
-serial_from command line later = later
+-- what a command is that only a run on one thread serves
+abbrev pub serial_command : Command → Option SerialCommand
+serial_command Manual = Some manual
+serial_command (Link n kind) = Some link
+serial_command command = None
 
-abbrev pub serial_line : List NumberedCommand → Option ℕ
+-- the first line with such a command
+abbrev pub or_later : ℕ → Option SerialCommand → Option (ℕ × SerialCommand) → Option (ℕ × SerialCommand)
+or_later line None later = later
+or_later line (Some command) later = Some (line, command)
+
+abbrev pub serial_line : List NumberedCommand → Option (ℕ × SerialCommand)
 serial_line [] = None
-serial_line (l ∷ ls) = serial_from l.command l.line (serial_line ls)
+serial_line (l ∷ ls) = or_later l.line (serial_command l.command) (serial_line ls)
 
 -- the reader gave a script that threads can serve, and it was run
 pub record PrintsByThreads (known old new : Option (List ℕ)) : Type 0 where
@@ -51,7 +59,7 @@ pub record PrintsByThreads (known old new : Option (List ℕ)) : Type 0 where
 abbrev pub ThreadFault : EngineFault → Option (List ℕ) → Option (List ℕ) → Option (List ℕ) → Type 0
 ThreadFault Read known old new = new ≡ old
 ThreadFault (Script line fault) known old new = (input : List ℕ) × (IsInput known input × (IsScriptFault input line fault × (new ≡ old)))
-ThreadFault (NeedsSerial line) known old new = (input : List ℕ) × (IsInput known input × ((commands : List NumberedCommand) × (IsScript input commands × ((serial_line commands ≡ Some line) × (new ≡ old)))))
+ThreadFault (NeedsSerial line command) known old new = (input : List ℕ) × (IsInput known input × ((commands : List NumberedCommand) × (IsScript input commands × ((serial_line commands ≡ Some (line, command)) × (new ≡ old)))))
 ThreadFault Memory known old new = Unit {0}
 ThreadFault Write known old new = Unit {0}
 ThreadFault NoThread known old new = Unit {0}
@@ -63,4 +71,4 @@ EndsRun Write = Unit {0}
 EndsRun NoThread = Unit {0}
 EndsRun Read = ⊥
 EndsRun (Script line fault) = ⊥
-EndsRun (NeedsSerial line) = ⊥
+EndsRun (NeedsSerial line command) = ⊥

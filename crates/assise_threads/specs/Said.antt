@@ -9,7 +9,7 @@ use Rattle.assise_history.specs.Entries.{Event}
 use Rattle.assise_history.specs.Legal.{IsLegal}
 use Rattle.assise_keeper.specs.Clients.{calls_by}
 use Rattle.assise_fault_script.specs.declared.command.Command.{Command}
-use Rattle.assise_fault_script.specs.declared.command.Command.TheVariants.{Cluster, Manual, Open, Call, Carry, Digest, Release, Crash, Fail, Back, Refill, Join, Tree, History}
+use Rattle.assise_fault_script.specs.declared.command.Command.TheVariants.{Cluster, Manual, Open, Call, Carry, Link, Hot, Digest, Release, Crash, Fail, Back, Refill, Join, Tree, History}
 use Rattle.assise_fault_script.specs.declared.parse.NumberedCommand.{NumberedCommand}
 use Rattle.assise_console.specs.declared.answer.Answer.{Answer}
 use Rattle.assise_console.specs.declared.answer.Answer.TheVariants.{Replied, Refused}
@@ -41,6 +41,8 @@ call_in c (Cluster nodes log hot) = []
 call_in c Manual = []
 call_in c (Open node kind) = []
 call_in c (Carry node) = []
+call_in c (Link node kind) = []
+call_in c (Hot node capacity) = []
 call_in c (Digest node) = []
 call_in c Release = []
 call_in c (Crash client) = []

@@ -8,7 +8,7 @@ use Rattle.assise_names.specs.declared.reply.Reply.{Reply}
 use Rattle.assise_names.specs.declared.call.Op.{Op}
 use Rattle.assise_history.specs.Entries.{Event}
 use Rattle.assise_fault_script.specs.declared.command.Command.{Command}
-use Rattle.assise_fault_script.specs.declared.command.Command.TheVariants.{Cluster, Manual, Open, Call, Carry, Digest, Release, Crash, Fail, Back, Refill, Join, Tree, History}
+use Rattle.assise_fault_script.specs.declared.command.Command.TheVariants.{Cluster, Manual, Open, Call, Carry, Link, Hot, Digest, Release, Crash, Fail, Back, Refill, Join, Tree, History}
 use Rattle.assise_fault_script.specs.declared.parse.NumberedCommand.{NumberedCommand}
 use Rattle.assise_console.specs.Lines.{line_text}
 use Rattle.assise_libfs.specs.Clients.{IsSameClient, client_of, seen_by}
@@ -27,6 +27,8 @@ IsClientCall (Cluster nodes log hot) = ⊥
 IsClientCall Manual = ⊥
 IsClientCall (Open node kind) = ⊥
 IsClientCall (Carry node) = ⊥
+IsClientCall (Link node kind) = ⊥
+IsClientCall (Hot node capacity) = ⊥
 IsClientCall (Digest node) = ⊥
 IsClientCall Release = ⊥
 IsClientCall (Crash client) = ⊥

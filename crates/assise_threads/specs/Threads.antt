@@ -8,10 +8,11 @@ use Rattle.assise_machine_events.specs.Machine.{Machine}
 use Rattle.assise_console.specs.declared.answer.Answer.{Answer}
 use Rattle.assise_rounds.specs.Courses.{Told}
 use Rattle.assise_console.specs.OneEvent.{IsOne, IsOneAt}
+use Rattle.assise_console.specs.Steps.{SetsHot}
 use Rattle.assise_threads.specs.Answered.{ShowsTree}
 use Rattle.assise_threads.specs.declared.main_thread.MainThreadOf.{MainThreadOf}
 use Rattle.assise_threads.specs.declared.takes.Take.{Take}
-use Rattle.assise_threads.specs.declared.takes.Take.TheVariants.{Digest, Release, Crash, Fail, BeginReturn, Refill, Join, Tree}
+use Rattle.assise_threads.specs.declared.takes.Take.TheVariants.{Digest, Release, SetHot, Crash, Fail, BeginReturn, Refill, Join, Tree}
 
 -- what the main thread's pass has seen
 abbrev pub main_seen : {C : Type 0} → MainThreadOf C → List Event
@@ -20,6 +21,7 @@ main_seen t = seen t.pass
 abbrev pub DoesTake : Take → Answer → Machine → Told → Machine → Type 0
 DoesTake (Digest n) a = IsOne (digest n) a
 DoesTake Release a = IsOne release_ready a
+DoesTake (SetHot n capacity) a = SetsHot n capacity a
 DoesTake (Crash c) a = IsOneAt crash c a
 DoesTake (Fail n) a = IsOneAt fail n a
 DoesTake (BeginReturn n) a = IsOneAt back n a

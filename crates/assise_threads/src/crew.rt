@@ -264,6 +264,9 @@ impl<'a> Crew<'a> {
             Command::Back { node } => Ok(main.bring_back(rt, alloc, *node, self.turns)),
             Command::Digest { node } => Ok(main.in_one_take(rt, alloc, Take::Digest(*node))),
             Command::Release => Ok(main.in_one_take(rt, alloc, Take::Release)),
+            Command::Hot { node, capacity } => {
+                Ok(main.in_one_take(rt, alloc, Take::SetHot(*node, *capacity)))
+            }
             Command::Crash { client } => Ok(main.in_one_take(rt, alloc, Take::Crash(*client))),
             Command::Fail { node } => Ok(main.in_one_take(rt, alloc, Take::Fail(*node))),
             Command::Refill { node } => Ok(main.in_one_take(rt, alloc, Take::Refill(*node))),
@@ -271,6 +274,7 @@ impl<'a> Crew<'a> {
             Command::Tree { node } => Ok(main.in_one_take(rt, alloc, Take::Tree(*node))),
             Command::Cluster { .. } => Ok(Answer::Quiet),
             Command::Manual => Ok(Answer::Quiet),
+            Command::Link { .. } => Ok(Answer::Quiet),
             Command::Call { .. } => unreachable!(),
             Command::History => unreachable!(),
         }

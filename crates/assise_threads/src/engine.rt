@@ -3,12 +3,12 @@ ghost use Rattle.std.specs.Prelude.{◌≡◌, ◌≤◌, [], IfErr, IfOk, IsOkU
 ghost use Rattle.std.specs.Io.KnownBytes.{Keeps};
 ghost use Rattle.assise_fault_script.specs.Script.{ClusterFirst, IsCluster};
 ghost use Rattle.assise_machine.specs.Clusters.{machine};
-ghost use Rattle.assise_threads.specs.Runs.{EndsRun, IsRunSaid, PrintsByThreads, ThreadFault, serial_line};
+ghost use Rattle.assise_threads.specs.Runs.{EndsRun, IsRunSaid, PrintsByThreads, ThreadFault, serial_command, serial_line};
 
 use crate::crew::Crew;
 use crate::main_thread::MainThread;
 use assise_console::engine::{flush, read_all};
-use assise_console::fault::EngineFault;
+use assise_console::fault::{EngineFault, SerialCommand};
 use assise_console::options::CommandLine;
 use assise_console::stock::Stock;
 use assise_fault_script::command::Command;
@@ -27,7 +27,7 @@ use std::thread::Threads;
 /// waits until all before it are answered, and is made by the calling thread. Clients are opened with revokers of the stock.
 ///
 /// [`EngineFault::Read`] is the reader's failure, [`EngineFault::Script`] the first fault of the script, and
-/// [`EngineFault::NeedsSerial`] its first line `manual`: nothing is written then. [`EngineFault::Memory`], [`EngineFault::NoThread`]
+/// [`EngineFault::NeedsSerial`] its first line `manual` or `link`: nothing is written then. [`EngineFault::Memory`], [`EngineFault::NoThread`]
 /// and [`EngineFault::Write`] may come in the midst of a run. Whatever ends it, no thread is left.
 pub fn engine_threads<I: Read, W: Write, R: Threads + Wait + Sync>(
     rt: &R,
@@ -49,8 +49,8 @@ pub fn engine_threads<I: Read, W: Write, R: Threads + Wait + Sync>(
         Ok(commands) => commands,
         Err(found) => return Err(EngineFault::Script(found.line, found.fault)),
     };
-    if let Some(line) = serial_line(commands.as_slice()) {
-        return Err(EngineFault::NeedsSerial(line));
+    if let Some((line, command)) = serial_line(commands.as_slice()) {
+        return Err(EngineFault::NeedsSerial(line, command));
     }
     run_commands(
         rt,
@@ -63,16 +63,27 @@ pub fn engine_threads<I: Read, W: Write, R: Threads + Wait + Sync>(
     flush(writer)
 }
 
-/// The first line that only a run on one thread serves.
-fn serial_line(commands: &[NumberedCommand]) -> Option<u64>
+/// The first line that only a run on one thread serves, with its command.
+fn serial_line(commands: &[NumberedCommand]) -> Option<(u64, SerialCommand)>
     ensures { result ≡ serial_line commands.now }
 {
     for line in commands {
-        if let Command::Manual = line.command {
-            return Some(line.line);
+        if let Some(command) = serial_command(&line.command) {
+            return Some((line.line, command));
         }
     }
     None
+}
+
+/// What a command is that only a run on one thread serves.
+fn serial_command(command: &Command) -> Option<SerialCommand>
+    ensures { result ≡ serial_command command.now }
+{
+    match command {
+        Command::Manual => Some(SerialCommand::Manual),
+        Command::Link { .. } => Some(SerialCommand::Link),
+        _ => None,
+    }
 }
 
 /// Runs the commands of a script, the first of which makes its cluster.

@@ -5,7 +5,9 @@ ghost use Rattle.assise_threads.specs.Takes.{AddsNobodys};
 ghost use Rattle.assise_threads.specs.Threads.{DoesTake};
 
 use assise_console::answer::Answer;
-use assise_console::commands::{begin_return, crash, digest, fail, join, refill, release, tree};
+use assise_console::commands::{
+    begin_return, crash, digest, fail, join, refill, release, set_hot, tree,
+};
 use assise_lease_table::revoker::Revokes;
 use assise_machine::cluster::ClusterOf;
 use std::alloc::Global;
@@ -17,6 +19,8 @@ pub(crate) enum Take {
     Digest(u64),
     /// Leases go that may.
     Release,
+    /// So many inodes may be hot at a node.
+    SetHot(u64, u64),
     /// A client crashes.
     Crash(u64),
     /// A node fails.
@@ -44,6 +48,7 @@ pub(crate) fn apply<C: Revokes + Drop>(
     match take {
         Take::Digest(node) => digest(alloc, cluster, node),
         Take::Release => release(cluster),
+        Take::SetHot(node, capacity) => set_hot(cluster, node, capacity),
         Take::Crash(client) => crash(cluster, client),
         Take::Fail(node) => fail(alloc, cluster, node),
         Take::BeginReturn(node) => begin_return(cluster, node),

@@ -1,8 +1,12 @@
+use Rattle.std.proofs.Common.{◌≡◌, true}
 use Rattle.assise_machine.specs.Clusters.{machine}
-use Rattle.assise_rounds.proofs.Carrying.{is_delivered}
+use Rattle.assise_rounds.proofs.Carrying.{is_delivered, is_lost}
 use Rattle.assise_rounds.proofs.rounds.deliver.Goals as goal
 
-pub returns-in-Some : goal.returns-in-Some
-returns-in-Some g c =
+pub returns-in-Some-clause-delivers : goal.returns-in-Some-clause-delivers
+returns-in-Some-clause-delivers g c =
     rw c.is_ok.ensures.value
-    (is_delivered (machine c.args.cluster.now) (machine c.deliver.new.self) c.args.frame.now c.in-Some.came c.args.node c.deliver.result (c.in-Some.ensures.same (λ bytes came is. is)) c.deliver.ensures.happens)
+    (is_delivered (g.L.Link.faithful c.args.link.now ≡ true) (machine c.args.cluster.now) (machine c.deliver.new.self) c.args.frame.now c.in-Some.came c.args.node c.deliver.result c.in-Some.ensures.same c.deliver.ensures.happens)
+
+pub returns-in-None-clause-delivers : goal.returns-in-None-clause-delivers
+returns-in-None-clause-delivers g c = is_lost (g.L.Link.faithful c.args.link.now ≡ true) (machine c.args.cluster.now) c.args.frame.now c.args.node

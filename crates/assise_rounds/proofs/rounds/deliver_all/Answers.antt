@@ -1,6 +1,6 @@
-use Rattle.std.proofs.Common.{length, ap, arith}
+use Rattle.std.proofs.Common.{◌∙◌, refl, ◌≡◌, true, rules, length, ap, arith}
 use Rattle.assise_machine.specs.Clusters.{machine}
-use Rattle.assise_rounds.proofs.Carrying.{one_lost, one_taken}
+use Rattle.assise_rounds.proofs.Carrying.{none_carried, one_lost, one_taken}
 use Rattle.assise_rounds.proofs.rounds.deliver_all.Goals as goal
 use Rattle.assise_rounds.proofs.rounds.deliver_all.Goals.{then-deliver, else-deliver}
 
@@ -8,6 +8,9 @@ pub overflow_add-taken : goal.overflow_add-taken
 overflow_add-taken g c =
     let rest = ap length c.in-Some.ensures.steps.0 in
     omega (arith, rest, c.loop-frame.invariant.few)
+
+pub loop-frame-init : goal.loop-frame-init
+loop-frame-init g c = record { carried = none_carried (g.L.Link.faithful c.args.link.now ≡ true) (machine c.args.cluster.now); stays = refl; few = search rules }
 
 pub loop-frame-preserved : goal.loop-frame-preserved
 loop-frame-preserved g c =
@@ -18,11 +21,13 @@ loop-frame-preserved g c =
     let rest = ap length c.in-Some.ensures.steps.0 in
     elim c.if-deliver.branch [
       | then-deliver w ↦ rw w.taken-is (record {
-        carried = one_taken m v u c.loop-frame.yielded c.loop-frame.taken c.in-Some.frame c.in-Some.next c.deliver.result before.carried c.deliver.ensures w.if-deliver.true;
+        carried = one_taken (g.L.Link.faithful c.args.link.now ≡ true) (g.L.Link.faithful c.loop-frame.link ≡ true) (λ faithful. before.stays ∙ faithful) m v u c.loop-frame.yielded c.loop-frame.taken c.in-Some.frame c.in-Some.next c.deliver.result before.carried c.deliver.ensures.delivers w.if-deliver.true;
+        stays = c.deliver.ensures.stays ∙ before.stays;
         few = omega (arith, rest, before.few);
       })
       | else-deliver w ↦ rw w.taken-is (record {
-        carried = one_lost m v u c.loop-frame.yielded c.loop-frame.taken c.in-Some.frame c.in-Some.next c.deliver.result before.carried c.deliver.ensures w.if-deliver.false;
+        carried = one_lost (g.L.Link.faithful c.args.link.now ≡ true) (g.L.Link.faithful c.loop-frame.link ≡ true) (λ faithful. before.stays ∙ faithful) m v u c.loop-frame.yielded c.loop-frame.taken c.in-Some.frame c.in-Some.next c.deliver.result before.carried c.deliver.ensures.delivers w.if-deliver.false;
+        stays = c.deliver.ensures.stays ∙ before.stays;
         few = omega (arith, rest, before.few);
       })
     ]
@@ -36,11 +41,13 @@ loop-frame-preserved-after-deliver g c =
     let rest = ap length c.in-Some.ensures.steps.0 in
     elim c.if-deliver.branch [
       | then-deliver w ↦ rw w.taken-is (record {
-        carried = one_taken m v u c.loop-frame.yielded c.loop-frame.taken c.in-Some.frame c.in-Some.next c.deliver.result before.carried c.deliver.ensures w.if-deliver.true;
+        carried = one_taken (g.L.Link.faithful c.args.link.now ≡ true) (g.L.Link.faithful c.loop-frame.link ≡ true) (λ faithful. before.stays ∙ faithful) m v u c.loop-frame.yielded c.loop-frame.taken c.in-Some.frame c.in-Some.next c.deliver.result before.carried c.deliver.ensures.delivers w.if-deliver.true;
+        stays = c.deliver.ensures.stays ∙ before.stays;
         few = omega (arith, rest, before.few);
       })
       | else-deliver w ↦ rw w.taken-is (record {
-        carried = one_lost m v u c.loop-frame.yielded c.loop-frame.taken c.in-Some.frame c.in-Some.next c.deliver.result before.carried c.deliver.ensures w.if-deliver.false;
+        carried = one_lost (g.L.Link.faithful c.args.link.now ≡ true) (g.L.Link.faithful c.loop-frame.link ≡ true) (λ faithful. before.stays ∙ faithful) m v u c.loop-frame.yielded c.loop-frame.taken c.in-Some.frame c.in-Some.next c.deliver.result before.carried c.deliver.ensures.delivers w.if-deliver.false;
+        stays = c.deliver.ensures.stays ∙ before.stays;
         few = omega (arith, rest, before.few);
       })
     ]

@@ -1,30 +1,44 @@
-use Rattle.std.proofs.Common.{◌≡◌, ◌-◌, [], refl, sym, subst, ◌∙◌, arith}
+use Rattle.std.proofs.Common.{map, ◌≡◌, ◌-◌, [], refl, sym, subst, ◌∙◌, arith}
 use Rattle.assise_machine.specs.Clusters.{machine}
 use Rattle.assise_rounds.specs.Courses.{Told}
+use Rattle.assise_rounds.specs.NodeLinks.{FaithfulAt}
 use Rattle.assise_rounds.specs.Rounds.{EachFull, TakesTurn, WithWork}
+use Rattle.assise_rounds.proofs.Faithful.{turn_over}
+use Rattle.assise_rounds.proofs.NodeLinks.{at_node, set_same, still}
 use Rattle.assise_rounds.proofs.Rounding.{faulty_next, full_next}
 use Rattle.assise_rounds.proofs.rounds.replicate_all.Goals as goal
 use Rattle.assise_rounds.proofs.rounds.replicate_all.Goals.{else-is_full, then-is_full}
 
 pub loop-node-init : goal.loop-node-init
-loop-node-init g c = ([], record { does = record { told = refl; stays = refl }; work = refl })
+loop-node-init g c = record { each = ([], record { does = record { told = refl; stays = refl }; work = refl }); stay = refl }
 
 pub loop-node-preserved : goal.loop-node-preserved
 loop-node-preserved g c =
+    let F = g.L.Link.faithful in
+    let links = c.loop-node.links in
     let m = machine c.args.cluster.now in
     let v = machine c.loop-node.cluster in
     let k = c.loop-node.node in
+    let before = c.loop-node.invariant in
     elim c.if-is_full.branch [
       | then-is_full w ↦
           let u = machine w.take_turn-busy.new.cluster in
           let full = sym c.is_full.ensures ∙ w.if-is_full.true in
-          rw w.cluster-is (rw w.busy-is (full_next TakesTurn k m v u c.loop-node.busy w.take_turn-busy.result c.loop-node.auto.node full c.loop-node.invariant w.take_turn-busy.ensures))
+          let link = w.index-links-node.result in
+          let turn = turn_over (FaithfulAt (map F c.args.links.now) k) _ (λ faithful. at_node F links k link (still _ _ k before.stay faithful)) k w.take_turn-busy.result v u w.take_turn-busy.ensures.turn in
+          rw w.cluster-is (rw w.busy-is (rw w.links-is (record {
+            each = full_next (λ n. TakesTurn (FaithfulAt (map F c.args.links.now) n) n) k m v u c.loop-node.busy w.take_turn-busy.result c.loop-node.auto.node full before.each turn;
+            stay = set_same F links (k - 1) link w.take_turn-busy.new.link w.take_turn-busy.ensures.stays ∙ before.stay;
+          })))
       | else-is_full w ↦
           let faulty = sym c.is_full.ensures ∙ w.if-is_full.false in
-          rw w.cluster-is (rw w.busy-is (faulty_next TakesTurn k m v c.loop-node.busy c.loop-node.auto.node faulty c.loop-node.invariant))
+          rw w.cluster-is (rw w.busy-is (rw w.links-is (record {
+            each = faulty_next (λ n. TakesTurn (FaithfulAt (map F c.args.links.now) n) n) k m v c.loop-node.busy c.loop-node.auto.node faulty before.each;
+            stay = before.stay;
+          })))
     ]
 
-pub returns : goal.returns
-returns g c =
+pub returns-clause-each : goal.returns-clause-each
+returns-clause-each g c =
     let last : c.loop-node.node - 1 ≡ 8 = omega (arith, c.loop-node-test.false, c.loop-node.auto.node-end) in
-    subst (λ n. (es : Told) × WithWork (EachFull TakesTurn n) c.loop-node.busy (machine c.args.cluster.now) es (machine c.loop-node.cluster)) last c.loop-node.invariant
+    subst (λ n. (es : Told) × WithWork (EachFull (λ k. TakesTurn (FaithfulAt (map g.L.Link.faithful c.args.links.now) k) k) n) c.loop-node.busy (machine c.args.cluster.now) es (machine c.loop-node.cluster)) last c.loop-node.invariant.each

@@ -1,11 +1,11 @@
-use Rattle.assise_machine_events.specs.Events.{released}
+use Rattle.std.specs.Prelude.{⊤}
+use Rattle.std.proofs.Common.{refl, rules, ◌≤◌, length, arith}
 use Rattle.assise_machine.specs.Clusters.{machine}
-use Rattle.assise_rounds.proofs.Rounding.{releases_once, whole_round}
+use Rattle.assise_rounds.proofs.Faithful.{round_with}
+use Rattle.assise_rounds.proofs.NodeLinks.{all_faithful}
 use Rattle.assise_rounds.proofs.rounds.round.Goals as goal
 
 pub returns : goal.returns
 returns g c =
-    let v = machine c.digest_all-busy.new.cluster in
-    let m' = machine c.release.new.cluster in
-    whole_round (machine c.args.cluster.now) (machine c.replicate_all-busy.new.cluster) v m' c.replicate_all-busy.result c.digest_all-busy.result _
-    c.replicate_all-busy.ensures c.digest_all-busy.ensures (releases_once v m' (released c.release.result) c.release.ensures)
+    let eight : 8 ≤ length c.from_fn-links.result = search rules in
+    round_with (λ n. ⊤) _ (λ n some few is. all_faithful _ (λ l. refl) c.from_fn-links.result n some (omega (arith, few, eight))) c.round_over.result (machine c.args.cluster.now) (machine c.round_over.new.cluster) c.round_over.ensures.rounds

@@ -7,6 +7,9 @@ returns-in-Digest-clause-does g c = rw c.in-Digest.is c.digest.ensures
 pub returns-in-Release-clause-does : goal.returns-in-Release-clause-does
 returns-in-Release-clause-does g c = rw c.in-Release.is c.release.ensures
 
+pub returns-in-SetHot-clause-does : goal.returns-in-SetHot-clause-does
+returns-in-SetHot-clause-does g c = rw c.in-SetHot.is c.set_hot.ensures
+
 pub returns-in-Crash-clause-does : goal.returns-in-Crash-clause-does
 returns-in-Crash-clause-does g c = rw c.in-Crash.is c.crash.ensures
 

@@ -19,5 +19,5 @@ returns-then-self g c =
 
 pub returns-else-self : goal.returns-else-self
 returns-else-self g c =
-    calls_often (seen c.args.self.now) c.args.client c.in-Some.client c.args.op.now c.answered.result c.try_often.result (machine c.try_often.new.cluster)
-    c.in-Some.ensures.some c.if-self.false c.answered.ensures c.try_often.ensures
+    calls_often (seen c.args.self.now) c.args.client c.in-Some.client c.args.op.now c.answered.result c.try_often.result (machine c.try_often.new.cluster) _
+    c.in-Some.ensures.some c.if-self.false c.answered.ensures c.try_often.ensures.stay c.try_often.ensures.tries

@@ -1,0 +1,47 @@
+-- Links of nodes that are there.
+use Rattle.std.proofs.Common.{◌≡◌, ◌≤◌, ◌<◌, ℕ, zero, suc, ◌-◌, Bool, List, [], ◌∷◌, Some, length, map, slice_set, inl, inr, refl, ap, sym, subst, ◌∙◌, arith}
+use Rattle.std.proofs.lemmas.Bool.{cases_lt}
+use Rattle.assise_names.specs.declared.refusal.Refusal.TheVariants.{BadNode}
+use Rattle.assise_fault_script.specs.declared.command.LinkKind.{LinkKind}
+use Rattle.assise_link.specs.TestLinks.{is_perfect}
+use Rattle.assise_link.specs.declared.test_link.TestLink.{TestLink}
+use Rattle.assise_machine_events.specs.Faults.{node_fault}
+use Rattle.assise_machine_events.specs.Machine.{Machine}
+use Rattle.assise_machine.specs.Clusters.{machine}
+use Rattle.assise_machine.specs.declared.cluster.ClusterOf.{ClusterOf}
+use Rattle.assise_machine.proofs.Few.{few_nodes}
+use Rattle.assise_console.specs.State.{State}
+use Rattle.assise_console.specs.declared.answer.Answer.TheVariants.{Linked, Refused}
+use Rattle.assise_console.specs.Steps.{SetsLink, is_linked, is_nowhere, is_perfect_kind}
+use Rattle.assise_console.proofs.Numbers.{no_node}
+use Rattle.assise_console.proofs.OneCommand.{with_links}
+
+named : (m : Machine) (n : ℕ) → (node_fault m n ≡ Some BadNode → ⊥) → (1 ≤ n) × (n ≤ length m.members.nodes)
+named m zero there = absurd (there refl)
+named m (suc k) there = elim (cases_lt (length m.members.nodes) (suc k)) [
+  | inl far ↦ absurd (there (no_node m (suc k) far))
+  | inr near ↦ (omega arith, near)
+]
+
+-- the place of a node's link is one of eight
+pub below_eight : {C : Type 0} (cluster : ClusterOf C) (n : ℕ) → (node_fault (machine cluster) n ≡ Some BadNode → ⊥) → n - 1 < 8
+below_eight cluster n there =
+    let there_is = named (machine cluster) n there in
+    let few = few_nodes cluster in
+    omega (arith, there_is.0, there_is.1, few)
+
+map_set : {X Y : Type 0} (f : X → Y) (xs : List X) (k : ℕ) (x : X) → map f (slice_set xs k x) ≡ slice_set (map f xs) k (f x)
+map_set f [] k x = refl
+map_set f (y ∷ xs) zero x = refl
+map_set f (y ∷ xs) (suc k) x = ap (λ ys. f y ∷ ys) (map_set f xs k x)
+
+pub sets_link : (s : State) (n k : ℕ) (kind : LinkKind) (links : List TestLink) (l : TestLink) → k ≡ n → (node_fault s.machine k ≡ Some BadNode → ⊥) → s.links ≡ map is_perfect links → is_perfect l ≡ is_perfect_kind kind
+    → SetsLink s n kind (Linked k) (with_links s s.machine (map is_perfect (slice_set links (k - 1) l)))
+sets_link s n k kind links l same there seen perfect =
+    let now : map is_perfect (slice_set links (k - 1) l) ≡ slice_set s.links (k - 1) (is_perfect_kind kind) =
+    map_set is_perfect links (k - 1) l ∙ (λ i. slice_set (sym seen i) (k - 1) (perfect i)) in
+    subst (λ j. SetsLink s j kind (Linked k) (with_links s s.machine (map is_perfect (slice_set links (k - 1) l)))) same
+    (is_linked there refl (ap (with_links s s.machine) now))
+
+pub links_nowhere : (s : State) (n : ℕ) (kind : LinkKind) → length s.machine.members.nodes < n → SetsLink s n kind (Refused BadNode) s
+links_nowhere s n kind far = is_nowhere (no_node s.machine n far) refl refl

@@ -1,0 +1,22 @@
+use Rattle.std.proofs.Common.{refl, arith}
+use Rattle.assise_machine.specs.Clusters.{machine}
+use Rattle.assise_machine.proofs.Few.{few_nodes}
+use Rattle.assise_console.proofs.OneCommand.{hot_nowhere, sets_hot}
+use Rattle.assise_console.proofs.commands.set_hot.Goals as goal
+
+pub returns-in_default-number_of : goal.returns-in_default-number_of
+returns-in_default-number_of g c =
+    let few = few_nodes c.args.cluster.now in
+    let large = c.number_of.ensures.none c.in_default-number_of.is in
+    let within = c.in-Some.ensures.within.0 refl in
+    hot_nowhere (machine c.args.cluster.now) c.args.node c.args.capacity within.0 within.1 (omega (arith, few, large))
+
+pub returns-in-Ok : goal.returns-in-Ok
+returns-in-Ok g c =
+    let within = c.in-Some.ensures.within.0 refl in
+    sets_hot (machine c.args.cluster.now) c.args.node c.in-Some-number_of.node c.args.capacity _ _ (machine c.set_hot.new.self) c.in-Some-number_of.ensures.some within.0 within.1 (refl, refl) c.in-Ok.ensures.happens
+
+pub returns-in-Err : goal.returns-in-Err
+returns-in-Err g c =
+    let within = c.in-Some.ensures.within.0 refl in
+    sets_hot (machine c.args.cluster.now) c.args.node c.in-Some-number_of.node c.args.capacity _ _ (machine c.set_hot.new.self) c.in-Some-number_of.ensures.some within.0 within.1 refl c.in-Err.ensures.happens

@@ -1,0 +1,23 @@
+use Rattle.std.proofs.Common.{rules, ◌≡◌, ◌-◌, ◌<◌, length, refl, subst, sym, arith}
+use Rattle.assise_machine.proofs.Few.{few_nodes}
+use Rattle.assise_console.specs.Consoles.{seen}
+use Rattle.assise_console.proofs.Links.{below_eight, links_nowhere, sets_link}
+use Rattle.assise_console.proofs.console.ConsoleOf.link.Goals as goal
+
+pub returns-in_default : goal.returns-in_default
+returns-in_default g c =
+    let few = few_nodes c.args.self.now.cluster in
+    let large = c.number_of.ensures.none c.in_default.is in
+    links_nowhere (seen c.args.self.now) c.args.node c.args.kind (omega (arith, few, large))
+
+pub listed : goal.listed
+listed g c =
+    let eight : length c.args.self.now.links ≡ 8 = search rules in
+    subst (λ n. c.in-Some.node - 1 < n) (sym eight) (below_eight c.args.self.now.cluster c.in-Some.node (c.has_node.ensures.yes c.if-not-has_node.false))
+
+pub way_replace-self : goal.way_replace-self
+way_replace-self g c = below_eight c.args.self.now.cluster c.in-Some.node (c.has_node.ensures.yes c.if-not-has_node.false)
+
+pub returns : goal.returns
+returns g c =
+    sets_link (seen c.args.self.now) c.args.node c.in-Some.node c.args.kind c.args.self.now.links c.link_of.result c.in-Some.ensures.some (c.has_node.ensures.yes c.if-not-has_node.false) refl c.link_of.ensures
