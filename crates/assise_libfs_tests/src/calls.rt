@@ -77,3 +77,21 @@ pub fn make_calls<S: Served, R: Wait>(
     }
     Some(text)
 }
+
+/// Makes the call of a line `CALL = OUTCOME`, once more where it is refused for want of memory. Whether it came to that.
+pub fn is_answered_at_last<S: Served, R: Wait>(
+    rt: &R,
+    alloc: Global,
+    libfs: &mut LibFs<'_, S>,
+    line: &str,
+) -> Option<bool> {
+    let (call, outcome) = line.split_once(" = ")?;
+    let first = make(rt, alloc, libfs, call_in(alloc, call)?);
+    let came = match first {
+        Err(Refusal::OutOfMemory) => make(rt, alloc, libfs, call_in(alloc, call)?),
+        _ => first,
+    };
+    let mut text = String::new(alloc);
+    put_outcome(&mut text, &came)?;
+    Some(text.as_str() == outcome)
+}

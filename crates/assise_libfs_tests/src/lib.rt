@@ -12,6 +12,8 @@ mod ledgers;
 #[cfg(test)]
 mod meeting;
 #[cfg(test)]
+mod refused;
+#[cfg(test)]
 mod tending;
 #[cfg(test)]
 mod tests;

@@ -8,6 +8,8 @@ mod gates;
 #[cfg(test)]
 mod held_frames;
 #[cfg(test)]
+mod refused;
+#[cfg(test)]
 mod scripts;
 #[cfg(test)]
 mod tests;

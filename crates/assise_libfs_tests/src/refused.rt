@@ -1,0 +1,89 @@
+// A keeper, a client and its calls, where each allocation of a run is refused in turn: what is refused gives back what it was given,
+// changes nothing, and is done when it is made again.
+ghost use Rattle.std.specs.Prelude.{◌≡◌, IfSome, None};
+ghost use Rattle.assise_keeper.specs.Passes.{IsPassOf, client};
+
+use crate::calls::is_answered_at_last;
+use crate::meeting::TURNS;
+use crate::tending::{Cluster, Whole};
+use assise_keeper::keeper::Keeper;
+use assise_keeper::pass::Pass;
+use assise_libfs::libfs::LibFs;
+use std::alloc::Global;
+use std::sync::Wait;
+
+/// Calls on one node, and what each comes to.
+const LINES: &str = "\
+create /f = done
+write /f 5 tabc = done
+read /f 0 10 = bytes 8 x0000000000616263
+truncate /f 6 = done
+stat /f = file 6
+mkdir /d = done
+rename /f /d/g = done
+list /d = names 1 g
+fsync = done
+unlink /d/g = done
+rmdir /d = done
+list / = names 0
+";
+
+/// A keeper of a cluster, which comes back where memory is refused, and is kept then.
+fn kept(alloc: Global, cluster: Cluster) -> Option<(Keeper<Cluster>, Pass<Cluster>)>
+    ensures { IfSome result (λ both. IsPassOf both.0 both.1 × (client both.1 ≡ None)) }
+{
+    match Keeper::new(alloc, cluster) {
+        Ok(both) => Some(both),
+        Err((_, cluster)) => Keeper::new(alloc, cluster).ok(),
+    }
+}
+
+/// A client on node 1: where memory is refused for it, its pass and revoker come back, and open it then.
+fn opened<'a, R: Wait>(
+    rt: &R,
+    alloc: Global,
+    keeper: &'a Keeper<Cluster>,
+    pass: Pass<Cluster>,
+) -> Option<LibFs<'a, Cluster>>
+    requires { IsPassOf keeper.now pass × (client pass ≡ None) }
+{
+    match LibFs::open(rt, alloc, keeper, pass, 1, Whole, TURNS) {
+        Ok(libfs) => Some(libfs),
+        Err((_, pass, whole)) => LibFs::open(rt, alloc, keeper, pass, 1, whole, TURNS).ok(),
+    }
+}
+
+/// Whether each call comes to what its line says, once it isn't refused for want of memory.
+fn are_answered<R: Wait>(
+    rt: &R,
+    alloc: Global,
+    keeper: &Keeper<Cluster>,
+    pass: Pass<Cluster>,
+) -> Option<bool>
+    requires { IsPassOf keeper.now pass × (client pass ≡ None) }
+{
+    let mut libfs = opened(rt, alloc, keeper, pass)?;
+    for line in LINES.lines() {
+        if !is_answered_at_last(rt, alloc, &mut libfs, line)? {
+            return Some(false);
+        }
+    }
+    Some(true)
+}
+
+/// Whether all is answered, each call once. None where memory runs out for the test itself.
+fn calls<R: Wait>(rt: &R, alloc: Global) -> Option<bool> {
+    let cluster = Cluster::new(alloc, 1, 8, 4).ok()?;
+    let (keeper, pass) = kept(alloc, cluster)?;
+    let answered = are_answered(rt, alloc, &keeper, pass);
+    let cluster = keeper.close()?;
+    let entries = cluster.history().entries().len();
+    Some(answered? && entries == LINES.lines().count().saturating_add(1))
+}
+
+#[test]
+fn what_is_refused_is_made_again(rt: HostRuntime) {
+    if let Some(right) = calls(&rt, rt.alloc()) {
+        assert!(rt; right);
+    }
+}
