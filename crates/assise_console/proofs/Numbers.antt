@@ -3,9 +3,12 @@ use Rattle.std.proofs.Common.{◌≡◌, ◌≤◌, ◌<◌, ℕ, zero, suc, fal
 use Rattle.std.proofs.lemmas.Bool.{cases_Bool, leb-true}
 use Rattle.std.proofs.Math.Bool.{and-false}
 use Rattle.assise_names.specs.declared.call.Op.{Op}
-use Rattle.assise_names.specs.declared.call.Op.TheVariants.{Create, Mkdir, Read, Write, Truncate, Rename, Unlink, Rmdir, List as ListCall, Stat, Fsync}
+use Rattle.assise_names.specs.declared.call.Op.TheVariants.{Create, Mkdir, Read, Write, Truncate, Rename, Unlink, Rmdir, List as ListCall, Stat, Fsync, Dsync}
 use Rattle.assise_names.specs.declared.refusal.Refusal.TheVariants.{BadClient, BadNode, NodeDown, WrongPhase}
 use Rattle.assise_machine_laws.specs.World.{World}
+use Rattle.assise_names.specs.declared.durability.Durability.{Durability}
+use Rattle.assise_history.specs.Legal.{durability_of}
+use Rattle.assise_machine_events.proofs.Syncing.{fsync_refused}
 use Rattle.assise_machine_events.specs.ClientEvents.{Crashing, Opening, is_refused}
 use Rattle.assise_machine_events.specs.Events.{refused}
 use Rattle.assise_machine_events.specs.Faults.{client_fault, fault_if, is_client, node_fault, open_fault, or_else, unless_full}
@@ -34,8 +37,8 @@ no_node m n far = ap (unless_full WrongPhase) (no_standing m.members.nodes n far
 no_open : (m : Machine) (n : ℕ) → length m.members.nodes < n → open_fault m n ≡ Some BadNode
 no_open m n far = ap (λ s. or_else (unless_full NodeDown s) (fault_if (nat_le most_clients m.world.clients) BadClient)) (no_standing m.members.nodes n far)
 
-pub opens_nowhere : (m : Machine) (n : ℕ) → length m.members.nodes < n → Opening m n (refused BadNode) m
-opens_nowhere m n far = is_refused BadNode (no_open m n far) refl refl
+pub opens_nowhere : (m : Machine) (n : ℕ) (u : Durability) → length m.members.nodes < n → Opening m n u (refused BadNode) m
+opens_nowhere m n u far = is_refused BadNode (no_open m n far) refl refl
 
 pub sends_nowhere : (m : Machine) (n : ℕ) → length m.members.nodes < n → Sending m n (refused BadNode) m
 sends_nowhere m n far = node_refused BadNode (no_node m n far) refl refl
@@ -83,4 +86,5 @@ tries_nobody m c (Unlink p) far = is_refused BadClient (rw (client_missing m c f
 tries_nobody m c (Rmdir p) far = is_refused BadClient (rw (client_missing m c far) refl) refl refl
 tries_nobody m c (ListCall p) far = is_refused BadClient (rw (client_missing m c far) refl) refl refl
 tries_nobody m c (Stat p) far = is_refused BadClient (rw (client_missing m c far) refl) refl refl
-tries_nobody m c Fsync far = is_refused BadClient (client_missing m c far) refl refl
+tries_nobody m c Fsync far = fsync_refused m c (durability_of c m.history) BadClient (refused BadClient) (client_missing m c far) refl
+tries_nobody m c Dsync far = is_refused BadClient (client_missing m c far) refl refl

@@ -8,6 +8,7 @@ use Rattle.assise_names.specs.declared.reply.Reply.{Reply}
 use Rattle.assise_seq_tree.specs.Tree.{Tree as PlainTree}
 use Rattle.assise_inode_table.specs.Spelled.{Spells}
 use Rattle.assise_machine_laws.specs.World.{alone}
+use Rattle.assise_names.specs.declared.durability.Durability.{Durability}
 use Rattle.assise_machine_events.specs.Faults.{node_fault}
 use Rattle.assise_fault_script.specs.declared.command.RevokerKind.{RevokerKind}
 use Rattle.assise_fault_script.specs.declared.command.RevokerKind.TheVariants.{Least, Whole, Eights}
@@ -39,15 +40,15 @@ changes_links Does s m' links same (es, h) = (es, record { events = h; stays = a
 
 -- ---- an open
 
-pub opens_by : (s : State) (n k : ℕ) (kind : RevokerKind) (a : Answer) (e : EventAnswer) (m' : Machine) (left : ℕ) → k ≡ n → Tells a e → IsServed (stock_of kind s.stock) s.machine (open_client k) e m'
-    → left ≡ stock_after (stock_of kind s.stock) e → (es : Told) × Opens s n kind es a (record { machine = m'; stock = with_stock kind left s.stock; turns = s.turns; manual = s.manual; links = s.links })
-opens_by s n k kind a e m' left same tells served stock = (
+pub opens_by : (s : State) (n k : ℕ) (kind : RevokerKind) (u : Durability) (a : Answer) (e : EventAnswer) (m' : Machine) (left : ℕ) → k ≡ n → Tells a e → IsServed (stock_of kind s.stock) s.machine (open_client k u) e m'
+    → left ≡ stock_after (stock_of kind s.stock) e → (es : Told) × Opens s n kind u es a (record { machine = m'; stock = with_stock kind left s.stock; turns = s.turns; manual = s.manual; links = s.links })
+opens_by s n k kind u a e m' left same tells served stock = (
   _,
   record {
     answer = e;
     tells = tells;
     told = refl;
-    served = subst (λ j. IsServed (stock_of kind s.stock) s.machine (open_client j) e m') same served;
+    served = subst (λ j. IsServed (stock_of kind s.stock) s.machine (open_client j u) e m') same served;
     stock = ap (λ l. with_stock kind l s.stock) stock;
     turns = refl;
     manual = refl;
@@ -60,14 +61,14 @@ same_stock s Least = refl
 same_stock s Whole = refl
 same_stock s Eights = refl
 
-pub opens_none : (s : State) (n : ℕ) (kind : RevokerKind) → length s.machine.members.nodes < n → (es : Told) × Opens s n kind es (Refused BadNode) s
-opens_none s n kind far = (
+pub opens_none : (s : State) (n : ℕ) (kind : RevokerKind) (u : Durability) → length s.machine.members.nodes < n → (es : Told) × Opens s n kind u es (Refused BadNode) s
+opens_none s n kind u far = (
   _,
   record {
     answer = refused BadNode;
     tells = refl;
     told = refl;
-    served = happens (opens_nowhere s.machine n far);
+    served = happens (opens_nowhere s.machine n u far);
     stock = same_stock s kind;
     turns = refl;
     manual = refl;

@@ -52,7 +52,7 @@ hot_course n capacity a m es m' (is_out out answer h) = quiet_course m m' es h.t
 pub command_course : (s t : State) (c : commands.Command) (es : Told) (a : Answer) → Serves s c es a t → IsCourse s.machine es t.machine
 command_course s t (Cluster n l hot) es a h = quiet_course s.machine t.machine es h.told (ap (λ x. x.machine) h.stays)
 command_course s t Manual es a h = quiet_course s.machine t.machine es h.told (ap (λ x. x.machine) h.stays)
-command_course s t (Open n kind) es a h = subst (λ x. IsCourse s.machine x t.machine) (sym h.told) (t.machine, ((_, h.served), refl))
+command_course s t (Open n kind u) es a h = subst (λ x. IsCourse s.machine x t.machine) (sym h.told) (t.machine, ((_, h.served), refl))
 command_course s t (Call c op) es a h = calls_course s.manual s.links s.turns c op a s.machine es t.machine h.events
 command_course s t (Carry n) es a h = carries_course _ n a s.machine es t.machine h.events
 command_course s t (Link n kind) es a h = quiet_course s.machine t.machine es h.1 (link_stays s t n kind a h.0)

@@ -6,6 +6,7 @@ use Rattle.assise_names.specs.declared.refusal.Refusal.TheVariants.{BadNode, Out
 use Rattle.assise_names.specs.declared.reply.Reply.{Reply}
 use Rattle.assise_seq_tree.specs.Tree.{Tree as PlainTree}
 use Rattle.assise_inode_table.specs.Spelled.{Spells}
+use Rattle.assise_names.specs.declared.durability.Durability.{Durability}
 use Rattle.assise_fault_script.specs.declared.command.Command as commands
 use Rattle.assise_fault_script.specs.declared.command.Command.TheVariants.{Cluster, Manual, Open, Call, Carry, Link, Hot, Digest, Release, Crash, Fail, Back, Refill, Join, Tree as TreeOf, History}
 use Rattle.assise_fault_script.specs.declared.command.LinkKind.{LinkKind}
@@ -32,12 +33,12 @@ pub record IsQuiet (a : answers.Answer) (es : Told) (t next : State) : Type 0 wh
   pub told : es ≡ []
   pub stays : t ≡ next
 
--- a client is opened on node n, with a revoker of this kind
-pub record Opens (s : State) (n : ℕ) (kind : RevokerKind) (es : Told) (a : answers.Answer) (t : State) : Type 0 where
+-- a client is opened on node n, with a revoker of this kind, and its fsyncs are served so
+pub record Opens (s : State) (n : ℕ) (kind : RevokerKind) (u : Durability) (es : Told) (a : answers.Answer) (t : State) : Type 0 where
   pub answer : EventAnswer
   pub tells : Tells a answer
-  pub told : es ≡ (open_client n, answer) ∷ []
-  pub served : IsServed (stock_of kind s.stock) s.machine (open_client n) answer t.machine
+  pub told : es ≡ (open_client n u, answer) ∷ []
+  pub served : IsServed (stock_of kind s.stock) s.machine (open_client n u) answer t.machine
   pub stock : t.stock ≡ with_stock kind (stock_after (stock_of kind s.stock) answer) s.stock
   pub turns : t.turns ≡ s.turns
   pub manual : t.manual ≡ s.manual
@@ -117,7 +118,7 @@ pub record Changes (Does : Machine → Told → Machine → Type 0) (s : State) 
 abbrev pub Serves : State → commands.Command → Told → answers.Answer → State → Type 0
 Serves s (Cluster n l h) es a t = IsQuiet a es t s
 Serves s Manual es a t = IsQuiet a es t (record s { manual = true })
-Serves s (Open n kind) es a t = Opens s n kind es a t
+Serves s (Open n kind u) es a t = Opens s n kind u es a t
 Serves s (Call c op) es a t = Changes (Calls s.manual s.links s.turns c op a) s es t
 Serves s (Carry n) es a t = Changes (Carries (FaithfulAt s.links n) n a) s es t
 Serves s (Link n kind) es a t = SetsLink s n kind a t × (es ≡ [])

@@ -33,7 +33,7 @@ pub record StoresLast {C : Type 0} (kind : RevokerKind) (a : Answer) (old new : 
 
 -- where the command is an open
 abbrev pub Stores : {C : Type 0} → Command → Answer → ConsoleOf C → ConsoleOf C → Type 0
-Stores (Open n kind) a old new = StoresLast kind a old new
+Stores (Open n kind u) a old new = StoresLast kind a old new
 Stores (Cluster n l h) a old new = ⊤
 Stores Manual a old new = ⊤
 Stores (Call c op) a old new = ⊤

@@ -27,6 +27,7 @@ use assise_machine::cluster::ClusterOf;
 use assise_machine::run::open_next;
 use assise_machine_calls::turn::Turn;
 use assise_names::call::Op;
+use assise_names::durability::Durability;
 use assise_names::refusal::Refusal;
 use assise_names::reply::Reply;
 use assise_rounds::returning::return_node;
@@ -92,7 +93,11 @@ impl<C: Revokes + Drop> ConsoleOf<C> {
                 self.manual = true;
                 Answer::Quiet
             }
-            Command::Open { node, kind } => self.open(alloc, node, kind),
+            Command::Open {
+                node,
+                kind,
+                durability,
+            } => self.open(alloc, node, kind, durability),
             Command::Call { client, op } => self.call(alloc, client, &op),
             Command::Carry { node } => self.carry(alloc, node),
             Command::Link { node, kind } => self.link(node, kind),
@@ -109,19 +114,33 @@ impl<C: Revokes + Drop> ConsoleOf<C> {
         }
     }
 
-    /// Opens a client on a node, with a revoker of a kind.
-    fn open(&mut self, alloc: Global, node: u64, kind: RevokerKind) -> Answer
-        ensures opens { (es : Told) × Opens (seen self.old) node kind es result (seen self.new) }
+    /// Opens a client on a node, with a revoker of a kind, whose fsyncs are served so.
+    fn open(
+        &mut self,
+        alloc: Global,
+        node: u64,
+        kind: RevokerKind,
+        durability: Durability,
+    ) -> Answer
+        ensures opens { (es : Told) ×
+            Opens (seen self.old) node kind durability es result (seen self.new) }
         ensures stores { StoresLast kind result self.old self.new }
     {
         let Some(node) = number_of(node) else {
             return Answer::Refused(Refusal::BadNode);
         };
         let cluster = &mut self.cluster;
+        let stock = &mut self.stock;
         match kind {
-            RevokerKind::Least => opened(open_next(alloc, cluster, node, &mut self.stock.least)),
-            RevokerKind::Whole => opened(open_next(alloc, cluster, node, &mut self.stock.whole)),
-            RevokerKind::Eights => opened(open_next(alloc, cluster, node, &mut self.stock.eights)),
+            RevokerKind::Least => {
+                opened(open_next(alloc, cluster, node, &mut stock.least, durability))
+            }
+            RevokerKind::Whole => {
+                opened(open_next(alloc, cluster, node, &mut stock.whole, durability))
+            }
+            RevokerKind::Eights => {
+                opened(open_next(alloc, cluster, node, &mut stock.eights, durability))
+            }
         }
     }
 

@@ -38,7 +38,7 @@ Options:
 
 One command a line. Spaces alone part its words. A line that begins with # is a comment.
   cluster NODES LOG HOT         first of all: 1-8 nodes, 8-4096 records a log, 1-4096 hot inodes a node
-  open NODE KIND                opens client 1, 2, .. 16; KIND is least, whole or eights
+  open NODE KIND [optimistic]   opens client 1, 2, .. 16; KIND is least, whole or eights
   C create P                    the calls of client C; P and Q are paths, as /mail/new
   C mkdir P
   C read P OFFSET LENGTH
@@ -49,7 +49,8 @@ One command a line. Spaces alone part its words. A line that begins with # is a 
   C rmdir P
   C list P
   C stat P
-  C fsync                       is answered once every full node has what the client did before
+  C fsync                       as dsync; an optimistic client's is answered at once, and promises nothing
+  C dsync                       is answered once every full node has what the client did before
   crash C                       a client stops
   fail NODE                     a node stops, and the clients on it
   back NODE                     a node comes back; after manual it only begins to

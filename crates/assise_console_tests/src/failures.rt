@@ -23,6 +23,19 @@ pub(crate) const HAS_ALL: &str = "\
 14: bytes 4 x6e657721
 ";
 
+/// A script whose one fsync is an optimistic client's.
+const OPTIMISTIC: &str = "\
+cluster 2 64 4
+open 1 least optimistic
+open 2 least
+1 create /f
+1 write /f 0 taa
+1 fsync
+fail 1
+2 read /f 0 2
+history
+";
+
 /// Scripts with failures, returns and crashes.
 const RUNS: &[Run<'_>] = &[
     // A file that one node had is lost.
@@ -36,6 +49,27 @@ const RUNS: &[Run<'_>] = &[
 6: failed 1 1:0
 7: E1 NoEnt
 8: F3 NodeDown
+",
+    ),
+    // What an optimistic client's fsync said is lost, too.
+    (
+        OPTIMISTIC,
+        "\
+2: client 1
+3: client 2
+4: done
+5: done
+6: done
+7: failed 1 1:0
+8: E1 NoEnt
+9: history 7
+open 1 1 optimistic
+open 2 2
+call 1 0 create /f = done
+call 1 1 write /f 0 2 = done
+call 1 2 fsync = done
+fail 1 1:0
+call 2 0 read /f 0 2 = E1 NoEnt
 ",
     ),
     // What an fsync kept stays.

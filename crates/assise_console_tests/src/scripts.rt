@@ -100,6 +100,25 @@ pub(crate) const PRINTED: &str = "2: client 1\n\
 
 /// Scripts of one client on one node.
 pub(crate) const RUNS: &[Run<'_>] = &[
+    // An optimistic client: on one node its dsync is answered at once.
+    (
+        "\
+cluster 1 8 4
+open 1 least optimistic
+1 dsync
+1 fsync
+history
+",
+        "\
+2: client 1
+3: done
+4: done
+5: history 3
+open 1 1 optimistic
+call 1 0 dsync = done
+call 1 1 fsync = done
+",
+    ),
     // A gap is filled with zeros.
     // A write behind the end of a file.
     (

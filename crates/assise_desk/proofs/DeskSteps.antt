@@ -4,6 +4,7 @@ use Rattle.std.specs.Global.{Box, Vec}
 use Rattle.std.specs.Prelude.{⊤}
 use Rattle.assise_names.specs.declared.refusal.Refusal.{Refusal}
 use Rattle.assise_machine_calls.specs.Answers.{crashing_answer}
+use Rattle.assise_names.specs.declared.durability.Durability.TheVariants.{Pessimistic}
 use Rattle.assise_machine_events.specs.ClientEvents.{Crashing, Opening}
 use Rattle.assise_machine_events.specs.Machine.{Machine}
 use Rattle.assise_machine_events.specs.MemberEvents.{Failing}
@@ -24,7 +25,7 @@ use Rattle.assise_desk.specs.DeskAnswers.{DoesAt, AnswersRequest, IsServedAt, Sh
 -- ---- one event
 
 pub opening_told : (call : ClusterCall) (r : DeskRequest) (result : Result ℕ DeskFault) (out : List ℕ) (told : Result ℕ Refusal) (m m' : Machine) → call ≡ Open → result ≡ number_told told →
-    Opening m r.node (opened_answer told) m' → (es : Told) × DoesAt call r result out m es m'
+    Opening m r.node Pessimistic (opened_answer told) m' → (es : Told) × DoesAt call r result out m es m'
 opening_told call r result out told m m' is result_is h = rw is (_, record { told = told; result_is = result_is; event = record { told = refl; happens = h } })
 
 pub crashing_told : (call : ClusterCall) (r : DeskRequest) (result : Result ℕ DeskFault) (out : List ℕ) (told : Result ⊤ Refusal) (m m' : Machine) → call ≡ Crash → result ≡ done_told told →

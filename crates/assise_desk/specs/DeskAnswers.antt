@@ -6,6 +6,7 @@ use Rattle.assise_names.specs.declared.call.Op.{Op}
 use Rattle.assise_names.specs.declared.refusal.Refusal.{Refusal}
 use Rattle.assise_names.specs.declared.reply.Reply.{Reply}
 use Rattle.assise_machine_calls.specs.Answers.{crashing_answer}
+use Rattle.assise_names.specs.declared.durability.Durability.TheVariants.{Pessimistic}
 use Rattle.assise_machine_events.specs.Events.{Answer, ClusterEvent, crash, fail, open_client}
 use Rattle.assise_machine_events.specs.Machine.{Machine, begun_as}
 use Rattle.assise_machine_failures.specs.Answers.{failing_answer}
@@ -108,7 +109,7 @@ pub record TellsLength (result : Result ℕ DeskFault) (m : Machine) (es : Told)
 
 -- what it does, with its result, and with what stands in the bytes then
 abbrev pub DoesAt : ClusterCall → DeskRequest → Result ℕ DeskFault → List ℕ → Machine → Told → Machine → Type 0
-DoesAt Open r result out m es m' = TellsEvent number_told opened_answer (open_client r.node) result m es m'
+DoesAt Open r result out m es m' = TellsEvent number_told opened_answer (open_client r.node Pessimistic) result m es m'
 DoesAt Crash r result out m es m' = TellsEvent done_told crashing_answer (crash r.client) result m es m'
 DoesAt Fail r result out m es m' = TellsFailure r.node result out m es m'
 DoesAt Back r result out m es m' = TellsReturn r.node result m es m'

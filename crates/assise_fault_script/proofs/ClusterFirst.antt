@@ -6,6 +6,7 @@ use Rattle.std.proofs.lemmas.List.Elements.{All-nil, All-cons}
 use Rattle.std.specs.Prelude.{is_some}
 use Rattle.std.specs.Str.{is_utf8}
 use Rattle.assise_names.specs.declared.call.Op.{Op}
+use Rattle.assise_names.specs.declared.durability.Durability.TheVariants.{Pessimistic}
 use Rattle.assise_fault_script.specs.declared.command.Command.{Command}
 use Rattle.assise_fault_script.specs.declared.command.Command.TheVariants.{Cluster, Manual, Open, Call, Carry, Digest, Release, Crash, Fail, Back, Refill, Join, Link, Hot, Tree, History}
 use Rattle.assise_fault_script.specs.declared.command.LinkKind.TheVariants.{Cut}
@@ -17,7 +18,7 @@ use Rattle.assise_fault_script.specs.declared.fault.ScriptFault.TheVariants.{Bad
 use Rattle.assise_fault_script.specs.declared.parse.NumberedCommand.{NumberedCommand}
 use Rattle.assise_fault_script.specs.Calls.{call_of, call_word}
 use Rattle.assise_fault_script.specs.Fault.{◌>>=◌}
-use Rattle.assise_fault_script.specs.Keywords.{keyword_command, keyword_of, kind_of, link_kind_of, says_cut, cluster_of, cut_link_of, uncut_link_of, hot_capacity_of}
+use Rattle.assise_fault_script.specs.Keywords.{keyword_command, keyword_of, kind_of, link_kind_of, mode_of, says_cut, cluster_of, cut_link_of, uncut_link_of, hot_capacity_of}
 use Rattle.assise_fault_script.specs.Line.{begins_with_digit, client_command, cluster_there, command_of, in_turn, is_comment, line_says, nameless_call, other_command}
 use Rattle.assise_fault_script.specs.Number.{in_limits, limited, number_of}
 use Rattle.assise_fault_script.specs.Script.{◌>>>◌, IsCluster, IsOther, ClusterFirst, at_line, commands_from, commands_of, numbered}
@@ -65,13 +66,19 @@ cluster_row (a ∷ b ∷ d ∷ e ∷ rest) c h = cc
 
 open_row : (rest : List (List ℕ)) (c : Command) → keyword_command for_open rest ≡ Ok c → IsOther c
 open_row (node ∷ kind ∷ []) c h =
-    let n = came_from (number_of node) (λ n. kind_of kind >>= λ k. Ok (Open n k)) c h in
-    let k = came_from (kind_of kind) (λ k. Ok (Open n.0 k)) c n.1.1 in
-    let is : Open n.0 k.0 ≡ c = let e = k.1.1 in cc in
+    let n = came_from (number_of node) (λ n. kind_of kind >>= λ k. Ok (Open n k Pessimistic)) c h in
+    let k = came_from (kind_of kind) (λ k. Ok (Open n.0 k Pessimistic)) c n.1.1 in
+    let is : Open n.0 k.0 Pessimistic ≡ c = let e = k.1.1 in cc in
+    subst IsOther is tt
+open_row (node ∷ kind ∷ mode ∷ []) c h =
+    let n = came_from (number_of node) (λ n. kind_of kind >>= λ k. mode_of mode >>= λ m. Ok (Open n k m)) c h in
+    let k = came_from (kind_of kind) (λ k. mode_of mode >>= λ m. Ok (Open n.0 k m)) c n.1.1 in
+    let m = came_from (mode_of mode) (λ m. Ok (Open n.0 k.0 m)) c k.1.1 in
+    let is : Open n.0 k.0 m.0 ≡ c = let e = m.1.1 in cc in
     subst IsOther is tt
 open_row [] c h = cc
 open_row (a ∷ []) c h = cc
-open_row (a ∷ b ∷ d ∷ rest) c h = cc
+open_row (a ∷ b ∷ d ∷ e ∷ rest) c h = cc
 
 uncut_row : (node name : List ℕ) (c : Command) → uncut_link_of node name ≡ Ok c → IsOther c
 uncut_row node name c h =

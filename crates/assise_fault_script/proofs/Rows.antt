@@ -4,7 +4,7 @@ use Rattle.std.proofs.lemmas.Bool.{cases_Bool}
 use Rattle.assise_names.specs.Path.{path_of}
 use Rattle.assise_names.specs.declared.path.PathFault.{PathFault}
 use Rattle.assise_fault_script.specs.declared.command.CallWord.{CallWord}
-use Rattle.assise_fault_script.specs.declared.command.CallWord.TheVariants.{Create as for_create, Mkdir as for_mkdir, Read as for_read, Write as for_write, Truncate as for_truncate, Rename as for_rename, Unlink as for_unlink, Rmdir as for_rmdir, List as for_list, Stat as for_stat, Fsync as for_fsync}
+use Rattle.assise_fault_script.specs.declared.command.CallWord.TheVariants.{Create as for_create, Mkdir as for_mkdir, Read as for_read, Write as for_write, Truncate as for_truncate, Rename as for_rename, Unlink as for_unlink, Rmdir as for_rmdir, List as for_list, Stat as for_stat, Fsync as for_fsync, Dsync as for_dsync}
 use Rattle.assise_fault_script.specs.declared.command.Keyword as first
 use Rattle.assise_fault_script.specs.declared.command.Keyword.TheVariants.{Cluster as for_cluster, Manual as for_manual, Open as for_open, Carry as for_carry, Digest as for_digest, Release as for_release, Crash as for_crash, Fail as for_fail, Back as for_back, Refill as for_refill, Join as for_join, Link as for_link, Hot as for_hot, Tree as for_tree, History as for_history}
 use Rattle.assise_fault_script.specs.declared.command.Command.TheVariants.{Call}
@@ -32,6 +32,7 @@ many_for_call for_rmdir a b c d rest = refl
 many_for_call for_list a b c d rest = refl
 many_for_call for_stat a b c d rest = refl
 many_for_call for_fsync a b c d rest = refl
+many_for_call for_dsync a b c d rest = refl
 
 many_for_keyword : (k : first.Keyword) (a b c d : Word) (rest : List Word) → keyword_command k (a ∷ b ∷ c ∷ d ∷ rest) ≡ Err WrongCount
 many_for_keyword for_cluster a b c d rest = refl

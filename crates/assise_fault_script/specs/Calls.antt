@@ -4,10 +4,10 @@ use Rattle.std.specs.Bool.{nat_eq}
 use Rattle.std.specs.Cmp.Lexicographic.{pointwise}
 use Rattle.assise_names.specs.Path.{path_of}
 use Rattle.assise_names.specs.declared.call.Op.{Op}
-use Rattle.assise_names.specs.declared.call.Op.TheVariants.{Create, Mkdir, Read, Write, Truncate, Rename, Unlink, Rmdir, List as ListCall, Stat, Fsync}
+use Rattle.assise_names.specs.declared.call.Op.TheVariants.{Create, Mkdir, Read, Write, Truncate, Rename, Unlink, Rmdir, List as ListCall, Stat, Fsync, Dsync}
 use Rattle.assise_names.specs.declared.path.PathFault.{PathFault}
 use Rattle.assise_fault_script.specs.declared.command.CallWord.{CallWord}
-use Rattle.assise_fault_script.specs.declared.command.CallWord.TheVariants.{Create as for_create, Mkdir as for_mkdir, Read as for_read, Write as for_write, Truncate as for_truncate, Rename as for_rename, Unlink as for_unlink, Rmdir as for_rmdir, List as for_list, Stat as for_stat, Fsync as for_fsync}
+use Rattle.assise_fault_script.specs.declared.command.CallWord.TheVariants.{Create as for_create, Mkdir as for_mkdir, Read as for_read, Write as for_write, Truncate as for_truncate, Rename as for_rename, Unlink as for_unlink, Rmdir as for_rmdir, List as for_list, Stat as for_stat, Fsync as for_fsync, Dsync as for_dsync}
 use Rattle.assise_fault_script.specs.declared.fault.ScriptFault.{ScriptFault}
 use Rattle.assise_fault_script.specs.declared.fault.ScriptFault.TheVariants.{UnknownCommand, WrongCount, BadPath}
 use Rattle.assise_fault_script.specs.Data.{data_of}
@@ -28,7 +28,8 @@ call_word word =
     else (if pointwise nat_eq word (codes "list") then Ok for_list
     else (if pointwise nat_eq word (codes "stat") then Ok for_stat
     else (if pointwise nat_eq word (codes "fsync") then Ok for_fsync
-    else Err UnknownCommand))))))))))
+    else (if pointwise nat_eq word (codes "dsync") then Ok for_dsync
+    else Err UnknownCommand)))))))))))
 
 abbrev pub of_path : Result (List (List ℕ)) PathFault → Result (List (List ℕ)) ScriptFault
 of_path (Ok path) = Ok path
@@ -81,4 +82,5 @@ call_of for_rmdir (path ∷ []) = rmdir_of path
 call_of for_list (path ∷ []) = list_of path
 call_of for_stat (path ∷ []) = stat_of path
 call_of for_fsync [] = Ok Fsync
+call_of for_dsync [] = Ok Dsync
 call_of _ _ = Err WrongCount

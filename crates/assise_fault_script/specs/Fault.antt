@@ -2,7 +2,7 @@
 use Rattle.std.specs.Prelude.{◌≡◌, ◌⊎◌, ℕ, List, ◌++◌, Option, Some, None, Result, Ok, Err, codes}
 use Rattle.assise_names.specs.Text.{path_fault_text}
 use Rattle.assise_fault_script.specs.declared.fault.ScriptFault.{ScriptFault}
-use Rattle.assise_fault_script.specs.declared.fault.ScriptFault.TheVariants.{NotUtf8, UnknownCommand, WrongCount, BadNumber, BadPath, BadData, BadKind, NoCluster, SecondCluster, BadLimit, Memory, BadLink}
+use Rattle.assise_fault_script.specs.declared.fault.ScriptFault.TheVariants.{NotUtf8, UnknownCommand, WrongCount, BadNumber, BadPath, BadData, BadKind, NoCluster, SecondCluster, BadLimit, Memory, BadLink, BadMode}
 
 -- what comes next, unless there was a fault already
 infixl 10 ◌>>=◌
@@ -44,3 +44,4 @@ fault_text SecondCluster = codes "second cluster"
 fault_text BadLimit = codes "out of limits"
 fault_text Memory = codes "out of memory"
 fault_text BadLink = codes "unknown link"
+fault_text BadMode = codes "unknown mode"

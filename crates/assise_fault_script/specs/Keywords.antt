@@ -2,6 +2,8 @@
 use Rattle.std.specs.Prelude.{ℕ, Bool, if◌then◌else◌, List, [], ◌∷◌, Result, Ok, Err, codes}
 use Rattle.std.specs.Bool.{nat_eq}
 use Rattle.std.specs.Cmp.Lexicographic.{pointwise}
+use Rattle.assise_names.specs.declared.durability.Durability.{Durability}
+use Rattle.assise_names.specs.declared.durability.Durability.TheVariants.{Pessimistic, Optimistic}
 use Rattle.assise_fault_script.specs.declared.command.Command.{Command}
 use Rattle.assise_fault_script.specs.declared.command.Command.TheVariants.{Cluster, Manual, Open, Carry, Digest, Release, Crash, Fail, Back, Refill, Join, Link, Hot, Tree, History}
 use Rattle.assise_fault_script.specs.declared.command.Keyword as first
@@ -11,7 +13,7 @@ use Rattle.assise_fault_script.specs.declared.command.LinkKind.TheVariants.{Perf
 use Rattle.assise_fault_script.specs.declared.command.RevokerKind.{RevokerKind}
 use Rattle.assise_fault_script.specs.declared.command.RevokerKind.TheVariants.{Least, Whole, Eights}
 use Rattle.assise_fault_script.specs.declared.fault.ScriptFault.{ScriptFault}
-use Rattle.assise_fault_script.specs.declared.fault.ScriptFault.TheVariants.{UnknownCommand, WrongCount, BadKind, BadLink}
+use Rattle.assise_fault_script.specs.declared.fault.ScriptFault.TheVariants.{UnknownCommand, WrongCount, BadKind, BadLink, BadMode}
 use Rattle.assise_fault_script.specs.Fault.{◌>>=◌}
 use Rattle.assise_fault_script.specs.Number.{limited, number_of}
 
@@ -60,8 +62,21 @@ link_kind_of word =
 abbrev pub cluster_of : List ℕ → List ℕ → List ℕ → Result Command ScriptFault
 cluster_of nodes log hot = limited 1 8 nodes >>= λ n. limited 8 4096 log >>= λ l. limited 1 4096 hot >>= λ h. Ok (Cluster n l h)
 
+-- the one mode that is named
+abbrev pub mode_of : List ℕ → Result Durability ScriptFault
+mode_of word = if pointwise nat_eq word (codes "optimistic") then Ok Optimistic else Err BadMode
+
 abbrev pub open_of : List ℕ → List ℕ → Result Command ScriptFault
-open_of node kind = number_of node >>= λ n. kind_of kind >>= λ k. Ok (Open n k)
+open_of node kind = number_of node >>= λ n. kind_of kind >>= λ k. Ok (Open n k Pessimistic)
+
+abbrev pub open_in_mode_of : List ℕ → List ℕ → List ℕ → Result Command ScriptFault
+open_in_mode_of node kind mode = number_of node >>= λ n. kind_of kind >>= λ k. mode_of mode >>= λ m. Ok (Open n k m)
+
+-- a node, a revoker and, where a third word says so, how the client's fsyncs are served
+abbrev pub opening_of : List (List ℕ) → Result Command ScriptFault
+opening_of (node ∷ kind ∷ []) = open_of node kind
+opening_of (node ∷ kind ∷ mode ∷ []) = open_in_mode_of node kind mode
+opening_of _ = Err WrongCount
 
 abbrev pub carry_of : List ℕ → Result Command ScriptFault
 carry_of node = number_of node >>= λ n. Ok (Carry n)
@@ -113,7 +128,7 @@ tree_of node = number_of node >>= λ n. Ok (Tree n)
 abbrev pub keyword_command : first.Keyword → List (List ℕ) → Result Command ScriptFault
 keyword_command for_cluster (nodes ∷ log ∷ hot ∷ []) = cluster_of nodes log hot
 keyword_command for_manual [] = Ok Manual
-keyword_command for_open (node ∷ kind ∷ []) = open_of node kind
+keyword_command for_open words = opening_of words
 keyword_command for_carry (node ∷ []) = carry_of node
 keyword_command for_digest (node ∷ []) = digest_of node
 keyword_command for_release [] = Ok Release

@@ -28,6 +28,7 @@ pub fn call_word(word: &str) -> Result<CallWord, ScriptFault>
         "list" => Ok(CallWord::List),
         "stat" => Ok(CallWord::Stat),
         "fsync" => Ok(CallWord::Fsync),
+        "dsync" => Ok(CallWord::Dsync),
         _ => Err(ScriptFault::UnknownCommand),
     }
 }
@@ -48,6 +49,7 @@ pub fn call(alloc: Global, name: CallWord, words: &[&str]) -> Result<Op, ScriptF
         (CallWord::List, [path]) => list(alloc, path),
         (CallWord::Stat, [path]) => stat(alloc, path),
         (CallWord::Fsync, []) => Ok(Op::Fsync),
+        (CallWord::Dsync, []) => Ok(Op::Dsync),
         _ => Err(ScriptFault::WrongCount),
     }
 }

@@ -1,6 +1,7 @@
 // The commands of a script.
 
 use assise_names::call::Op;
+use assise_names::durability::Durability;
 
 /// Which part of its log a client hands over when a lease is asked back.
 #[derive(Clone, Copy, Debug, PartialEq, Eq)]
@@ -51,6 +52,8 @@ pub enum Command {
         node: u64,
         /// Its revoker.
         kind: RevokerKind,
+        /// How its fsyncs are served.
+        durability: Durability,
     },
     /// A call of a client.
     Call {
@@ -126,7 +129,7 @@ pub(crate) enum Keyword {
     Cluster,
     /// `manual`.
     Manual,
-    /// `open NODE KIND`.
+    /// `open NODE KIND [optimistic]`.
     Open,
     /// `carry NODE`.
     Carry,
@@ -179,4 +182,6 @@ pub(crate) enum CallWord {
     Stat,
     /// `fsync`.
     Fsync,
+    /// `dsync`.
+    Dsync,
 }

@@ -35,6 +35,8 @@ pub enum ScriptFault {
     Memory,
     /// A word names no kind of link.
     BadLink,
+    /// A word names no way to open a client.
+    BadMode,
 }
 
 impl Display for ScriptFault {
@@ -54,6 +56,7 @@ impl Display for ScriptFault {
             ScriptFault::BadLimit => write!(f, "out of limits"),
             ScriptFault::Memory => write!(f, "out of memory"),
             ScriptFault::BadLink => write!(f, "unknown link"),
+            ScriptFault::BadMode => write!(f, "unknown mode"),
         }
     }
 }

@@ -1,10 +1,11 @@
 // A row for each command that begins with a keyword.
 ghost use Rattle.std.specs.Prelude.{◌≡◌, map};
-ghost use Rattle.assise_fault_script.specs.Keywords.{back_of, carry_of, cluster_of, crash_of, cut_link_of, digest_of, fail_of, hot_capacity_of, hot_of, join_of, keyword_command, keyword_of, kind_of, link_kind_of, node_link_of, open_of, refill_of, tree_of, uncut_link_of};
+ghost use Rattle.assise_fault_script.specs.Keywords.{back_of, carry_of, cluster_of, crash_of, cut_link_of, digest_of, fail_of, hot_capacity_of, hot_of, join_of, keyword_command, keyword_of, kind_of, link_kind_of, mode_of, node_link_of, open_in_mode_of, open_of, opening_of, refill_of, tree_of, uncut_link_of};
 
 use crate::command::{Command, Keyword, LinkKind, RevokerKind};
 use crate::fault::ScriptFault;
 use crate::number::{number, within};
+use assise_names::durability::Durability;
 
 /// The keyword that a word is.
 pub fn keyword(word: &str) -> Result<Keyword, ScriptFault>
@@ -37,7 +38,7 @@ pub fn keyword_command(keyword: Keyword, words: &[&str]) -> Result<Command, Scri
     match (keyword, words) {
         (Keyword::Cluster, [nodes, log, hot]) => cluster(nodes, log, hot),
         (Keyword::Manual, []) => Ok(Command::Manual),
-        (Keyword::Open, [node, kind]) => open(node, kind),
+        (Keyword::Open, words) => opening(words),
         (Keyword::Carry, [node]) => carry(node),
         (Keyword::Digest, [node]) => digest(node),
         (Keyword::Release, []) => Ok(Command::Release),
@@ -63,12 +64,50 @@ fn cluster(nodes: &str, log: &str, hot: &str) -> Result<Command, ScriptFault>
     Ok(Command::Cluster { nodes, log, hot })
 }
 
+/// A node, a revoker and, where a third word says so, how the client's fsyncs are served.
+fn opening(words: &[&str]) -> Result<Command, ScriptFault>
+    ensures { result ≡ opening_of (map (λ w. w.now) words.now) }
+{
+    match words {
+        [node, name] => open(node, name),
+        [node, name, mode] => open_in_mode(node, name, mode),
+        _ => Err(ScriptFault::WrongCount),
+    }
+}
+
 fn open(node: &str, name: &str) -> Result<Command, ScriptFault>
     ensures { result ≡ open_of node.now name.now }
 {
     let node = number(node)?;
     let kind = kind(name)?;
-    Ok(Command::Open { node, kind })
+    Ok(Command::Open {
+        node,
+        kind,
+        durability: Durability::Pessimistic,
+    })
+}
+
+fn open_in_mode(node: &str, name: &str, mode: &str) -> Result<Command, ScriptFault>
+    ensures { result ≡ open_in_mode_of node.now name.now mode.now }
+{
+    let node = number(node)?;
+    let kind = kind(name)?;
+    let durability = durability(mode)?;
+    Ok(Command::Open {
+        node,
+        kind,
+        durability,
+    })
+}
+
+/// The one mode that is named.
+fn durability(mode: &str) -> Result<Durability, ScriptFault>
+    ensures { result ≡ mode_of mode.now }
+{
+    match mode {
+        "optimistic" => Ok(Durability::Optimistic),
+        _ => Err(ScriptFault::BadMode),
+    }
 }
 
 fn carry(node: &str) -> Result<Command, ScriptFault>

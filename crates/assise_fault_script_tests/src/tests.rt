@@ -4,6 +4,7 @@ use assise_fault_script::fault::ScriptFault;
 use assise_fault_script::parse::{NumberedCommand, parse};
 use assise_names::byte_string::ByteString;
 use assise_names::call::Op;
+use assise_names::durability::Durability;
 use assise_names::reply::Reply;
 use std::alloc::{AllocError, Global};
 use std::process::Abort;
@@ -14,6 +15,14 @@ fn revoker(kind: RevokerKind) -> &'static str {
         RevokerKind::Least => "least",
         RevokerKind::Whole => "whole",
         RevokerKind::Eights => "eights",
+    }
+}
+
+/// How a client is opened, behind its revoker.
+fn mode(durability: Durability) -> &'static str {
+    match durability {
+        Durability::Pessimistic => "",
+        Durability::Optimistic => " optimistic",
     }
 }
 
@@ -34,9 +43,14 @@ fn line_of(alloc: Global, rt: &impl Abort, command: &Command) -> String {
     let text = match command {
         Command::Cluster { nodes, log, hot } => format!(in alloc; "cluster {nodes} {log} {hot}"),
         Command::Manual => format!(in alloc; "manual"),
-        Command::Open { node, kind } => {
+        Command::Open {
+            node,
+            kind,
+            durability,
+        } => {
             let kind = revoker(*kind);
-            format!(in alloc; "open {node} {kind}")
+            let mode = mode(*durability);
+            format!(in alloc; "open {node} {kind}{mode}")
         }
         Command::Call { client, op } => format!(in alloc; "{client} {op}"),
         Command::Carry { node } => format!(in alloc; "carry {node}"),
@@ -153,7 +167,9 @@ const EACH: &str = "# a file\r\n\
     link 4 fault\n\
     hot 01 1\n\
     hot 18446744073709551615 4096\r\n\
-    \x20 hot 2 007";
+    \x20 hot 2 007\n\
+    1 dsync\n\
+    open  03 eights  optimistic\r\n";
 
 /// What it says.
 const EACH_SAID: &str = "2: cluster 1 4096 1\n\
@@ -191,7 +207,9 @@ const EACH_SAID: &str = "2: cluster 1 4096 1\n\
     37: link 4 fault\n\
     38: hot 1 1\n\
     39: hot 18446744073709551615 4096\n\
-    40: hot 2 7\n";
+    40: hot 2 7\n\
+    41: 1 dsync\n\
+    42: open 3 eights optimistic\n";
 
 #[test]
 fn each_command_is_read(rt: HostRuntime) {
@@ -220,7 +238,7 @@ fn short_scripts_are_read(rt: HostRuntime) {
 }
 
 /// Faults of a line: the words, one by one, then of two faults the first.
-static FAULTS: [(&str, &str); 142] = [
+static FAULTS: [(&str, &str); 147] = [
     // the words, one by one
     ("fly", "2: unknown command"),
     ("Open 1 least", "2: unknown command"),
@@ -231,7 +249,7 @@ static FAULTS: [(&str, &str); 142] = [
     ("1 # a file", "2: unknown command"),
     ("history 1", "2: wrong number of words"),
     ("open 1", "2: wrong number of words"),
-    ("open 1 least 2", "2: wrong number of words"),
+    ("open 1 least 2 3", "2: wrong number of words"),
     ("1 create", "2: wrong number of words"),
     ("1 stat /f /g", "2: wrong number of words"),
     ("1 mkdir", "2: wrong number of words"),
@@ -244,6 +262,7 @@ static FAULTS: [(&str, &str); 142] = [
     ("1 list", "2: wrong number of words"),
     ("1 fsync /", "2: wrong number of words"),
     ("1 fsync 1", "2: wrong number of words"),
+    ("1 dsync 1", "2: wrong number of words"),
     ("1 read /f 0", "2: wrong number of words"),
     ("1 write /f 0", "2: wrong number of words"),
     ("1 write /f 0 ta b", "2: wrong number of words"),
@@ -340,6 +359,9 @@ static FAULTS: [(&str, &str); 142] = [
     ("1 write /f 0 ab", "2: bad data"),
     ("open 1 most", "2: unknown revoker"),
     ("open 1 leas", "2: unknown revoker"),
+    ("open 1 least 2", "2: unknown mode"),
+    ("open 1 least Optimistic", "2: unknown mode"),
+    ("open 1 least pessimistic", "2: unknown mode"),
     ("link 1 least", "2: unknown link"),
     ("link 1 Lose", "2: unknown link"),
     ("link 1 los", "2: unknown link"),
@@ -350,7 +372,8 @@ static FAULTS: [(&str, &str); 142] = [
     ("1x", "2: bad number"),
     ("cluster", "2: second cluster"),
     ("open x most", "2: bad number"),
-    ("open x most 1", "2: wrong number of words"),
+    ("open x most 1", "2: bad number"),
+    ("open 1 most 1", "2: unknown revoker"),
     ("link x least", "2: bad number"),
     ("link 1 least 5", "2: wrong number of words"),
     ("link x least 5", "2: wrong number of words"),

@@ -4,6 +4,7 @@ use crate::cut_kind::CutKind;
 use assise_history::check::check;
 use assise_machine::cluster::ClusterOf;
 use assise_names::call::Op;
+use assise_names::durability::Durability;
 use assise_names::refusal::Refusal;
 use assise_names::reply::Reply;
 use assise_rounds::returning::return_node;
@@ -19,6 +20,7 @@ pub struct Files {
 
 impl Files {
     ghost use Rattle.std.specs.Prelude.{◌≡◌, ◌↔◌, ◌+◌, ◌<◌, ◌≤◌, IfOk, IsOkUnless, IsTrue, OnOk, length};
+    ghost use Rattle.assise_names.specs.declared.durability.Durability.TheVariants.{Pessimistic};
     ghost use Rattle.assise_names.specs.declared.refusal.Refusal.TheVariants.{OutOfMemory};
     ghost use Rattle.assise_history.specs.Legal.{IsLegal};
     ghost use Rattle.assise_lease_table.specs.Tables.{Enrols};
@@ -60,16 +62,19 @@ impl Files {
         })
     }
 
-    /// Opens a client on a node, with a revoker of a kind, and answers its number. Refused as
+    /// Opens a client on a node, with a revoker of a kind, whose fsyncs wait, and answers its number. Refused as
     /// [`ClusterOf::open`](ClusterOf::open).
     pub fn open(&mut self, alloc: Global, node: u32, kind: CutKind) -> Result<u32, Refusal>
-        ensures happens { Opening (cluster_seen self.old) node
+        ensures happens { Opening (cluster_seen self.old) node Pessimistic
             (opened_answer result) (cluster_seen self.new) }
         ensures stored { OnOk result (Enrols (kinds_seen self.old) (kinds_seen self.new)
             ((cluster_seen self.old).world.clients + 1) kind) }
         ensures turns { most_tries self.new ≡ most_tries self.old }
     {
-        match self.cluster.open(alloc, node, kind) {
+        match self
+            .cluster
+            .open(alloc, node, kind, Durability::Pessimistic)
+        {
             Ok(client) => Ok(client),
             Err(refused) => Err(refused.0),
         }

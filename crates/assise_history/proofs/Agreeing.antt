@@ -2,17 +2,18 @@
 use Rattle.std.proofs.Common.{◌≡◌, ◌↔◌, ℕ, ◌+◌, ◌<◌, true, false, not, ◌&&◌, ◌==◌, List, [], ◌∷◌, ◌++◌, length, Option, Some, None, refl, ap, sym, subst, ◌∙◌, inl, inr, arith, eqb-true, eq-eqb, ltb-true, lt-ltb}
 use Rattle.std.specs.List.{list_any, list_all}
 use Rattle.std.proofs.lemmas.Bool.{cases_Bool, not-true, not_from_false, both_ways, false_from_ne_true}
+use Rattle.assise_names.specs.declared.durability.Durability.{Durability}
 use Rattle.assise_history.specs.declared.call.Call.{Call}
 use Rattle.assise_history.specs.declared.call.Loss.{Loss}
 use Rattle.assise_history.specs.declared.front.ClientSummary.{ClientSummary}
 use Rattle.assise_history.specs.Entries.{Event, opens, calls, crashes, fails, returns}
-use Rattle.assise_history.specs.Legal.{IsLegal, Fits, is_fsync, is_crash_of, is_failure_of, calls_made, IsAlive, IsPastFsyncs, MayLose, Rises, IsNextCall, MayOpen, IsFair, MayFollow}
+use Rattle.assise_history.specs.Legal.{IsLegal, Fits, is_sync, syncs, durability_of, is_crash_of, is_failure_of, calls_made, IsAlive, IsPastSyncs, MayLose, Rises, IsNextCall, MayOpen, IsFair, MayFollow}
 use Rattle.assise_history.specs.Summary.{follows, summary, newly_opened, is_past, is_down, rise_from, makes, may_lose, with_call, with_crash, with_failure, comes_next}
 use Rattle.assise_history.proofs.Passing.{two, two_from, four, four_from, all_at, all_from, cut_end, not_nil}
 use Rattle.assise_history.proofs.Legality.{along}
-use Rattle.assise_history.proofs.Counting.{early, made_append, made_before, next_opened, number_in}
-use Rattle.assise_history.proofs.Standing.{past_fsyncs-front, past_fsyncs-push}
-use Rattle.assise_history.proofs.Fronts.{Found, found, seen, count_clients, through, through-push, with_entry, through_client, through_node, crashed_since, failed_since, down_found, down_seen, next, comes_next_is}
+use Rattle.assise_history.proofs.Counting.{early, durability_in, made_append, made_before, next_opened, number_in}
+use Rattle.assise_history.proofs.Standing.{past_syncs-front, past_syncs-push}
+use Rattle.assise_history.proofs.Fronts.{Found, found, seen, count_clients, through, through-push, with_entry, through_client, through_node, through_durability, crashed_since, failed_since, down_found, down_seen, next, comes_next_is}
 
 -- what it takes to make a call
 pub record Makes (x : Call) (k : ClientSummary) : Type 0 where
@@ -36,23 +37,23 @@ makes_from x k m =
     four_from (k.client == x.client) (not k.crashed) (not k.failed) (comes_next k.last x.number) (eq-eqb k.client x.client m.client) (not_from_false k.crashed m.no_crash) (not_from_false k.failed m.no_failure) (comes_next_is k.last x.number ∙ eq-eqb x.number (next k.last) m.number)
 
 -- who makes a call
-made_by : (h : List Event) (x : Call) (f : Found (makes x) h) → Makes x (through f.since (newly_opened f.client f.node))
-made_by h x f = makes_parts x (through f.since (newly_opened f.client f.node)) f.holds
+made_by : (h : List Event) (x : Call) (f : Found (makes x) h) → Makes x (through f.since (newly_opened f.client f.node f.durability))
+made_by h x f = makes_parts x (through f.since (newly_opened f.client f.node f.durability)) f.holds
 
 maker : (h : List Event) (x : Call) (f : Found (makes x) h) → f.client ≡ x.client
-maker h x f = sym (through_client f.since (newly_opened f.client f.node)) ∙ (made_by h x f).client
+maker h x f = sym (through_client f.since (newly_opened f.client f.node f.durability)) ∙ (made_by h x f).client
 
 -- a client's next number is the count of its calls
 abbrev Numbered : List Event → Type 0
-Numbered h = (c n : ℕ) (before since : List Event) → h ≡ before ++ opens c n ∷ since → next (through since (newly_opened c n)).last ≡ calls_made c h
+Numbered h = (c n : ℕ) (u : Durability) (before since : List Event) → h ≡ before ++ opens c n u ∷ since → next (through since (newly_opened c n u)).last ≡ calls_made c h
 
 call_number : (h : List Event) (x : Call) → Fits h (calls x) → x.number ≡ calls_made x.client h
 call_number h x fits = let is : IsNextCall h x = fits.follows in is.number
 
-number_open : (h : List Event) (c n : ℕ) → IsLegal h → Fits h (opens c n) → 0 ≡ calls_made c (h ++ opens c n ∷ [])
-number_open h c n legal fits =
-    let made = made_append c h (opens c n ∷ []) in
-    let is = next_opened h c n fits in
+number_open : (h : List Event) (c n : ℕ) (u : Durability) → IsLegal h → Fits h (opens c n u) → 0 ≡ calls_made c (h ++ opens c n u ∷ [])
+number_open h c n u legal fits =
+    let made = made_append c h (opens c n u ∷ []) in
+    let is = next_opened h c n u fits in
     let none = early h legal c (omega arith) in
     omega arith
 
@@ -62,32 +63,32 @@ last_own x k own = rw own refl
 last_other : (x : Call) (k : ClientSummary) → (k.client == x.client) ≡ false → (with_call x k).last ≡ k.last
 last_other x k other = rw other refl
 
-number_more : (h : List Event) (e : Event) → IsLegal h → Fits h e → Numbered h → (c n : ℕ) (before since : List Event) → h ≡ before ++ opens c n ∷ since
-    → next (with_entry e (through since (newly_opened c n))).last ≡ calls_made c (h ++ e ∷ [])
-number_more h (opens d m) legal fits numbered c n before since split =
-    let is = numbered c n before since split in
-    let made = made_append c h (opens d m ∷ []) in
+number_more : (h : List Event) (e : Event) → IsLegal h → Fits h e → Numbered h → (c n : ℕ) (u : Durability) (before since : List Event) → h ≡ before ++ opens c n u ∷ since
+    → next (with_entry e (through since (newly_opened c n u))).last ≡ calls_made c (h ++ e ∷ [])
+number_more h (opens d m v) legal fits numbered c n u before since split =
+    let is = numbered c n u before since split in
+    let made = made_append c h (opens d m v ∷ []) in
     omega arith
-number_more h (returns m) legal fits numbered c n before since split =
-    let is = numbered c n before since split in
+number_more h (returns m) legal fits numbered c n u before since split =
+    let is = numbered c n u before since split in
     let made = made_append c h (returns m ∷ []) in
     omega arith
-number_more h (crashes d) legal fits numbered c n before since split =
-    let k = through since (newly_opened c n) in
+number_more h (crashes d) legal fits numbered c n u before since split =
+    let k = through since (newly_opened c n u) in
     let made = made_append c h (crashes d ∷ []) in
     let same : (with_crash d k).last ≡ k.last = elim (cases_Bool (k.client == d)) [ inl t ↦ rw t refl | inr f ↦ rw f refl ] in
     let still : calls_made c (h ++ crashes d ∷ []) ≡ calls_made c h = omega arith in
-    ap next same ∙ numbered c n before since split ∙ sym still
-number_more h (fails m losses) legal fits numbered c n before since split =
-    let k = through since (newly_opened c n) in
+    ap next same ∙ numbered c n u before since split ∙ sym still
+number_more h (fails m losses) legal fits numbered c n u before since split =
+    let k = through since (newly_opened c n u) in
     let made = made_append c h (fails m losses ∷ []) in
     let same : (with_failure m k).last ≡ k.last = elim (cases_Bool (k.node == m)) [ inl t ↦ rw t refl | inr f ↦ rw f refl ] in
     let still : calls_made c (h ++ fails m losses ∷ []) ≡ calls_made c h = omega arith in
-    ap next same ∙ numbered c n before since split ∙ sym still
-number_more h (calls x) legal fits numbered c n before since split =
-    let k = through since (newly_opened c n) in
+    ap next same ∙ numbered c n u before since split ∙ sym still
+number_more h (calls x) legal fits numbered c n u before since split =
+    let k = through since (newly_opened c n u) in
     let made = made_append c h (calls x ∷ []) in
-    let who : k.client ≡ c = through_client since (newly_opened c n) in
+    let who : k.client ≡ c = through_client since (newly_opened c n u) in
     elim (cases_Bool (c == x.client)) [
       | inl own ↦
           let last = last_own x k (subst (λ d. (d == x.client) ≡ true) (sym who) own) in
@@ -100,23 +101,23 @@ number_more h (calls x) legal fits numbered c n before since split =
           let last = last_other x k (subst (λ d. (d == x.client) ≡ false) (sym who) other) in
           let grown = rw other at made in
           let still : calls_made c (h ++ calls x ∷ []) ≡ calls_made c h = omega arith in
-          ap next last ∙ numbered c n before since split ∙ sym still
+          ap next last ∙ numbered c n u before since split ∙ sym still
     ]
 
 numbered_more : (h : List Event) (e : Event) → IsLegal h → Fits h e → Numbered h → Numbered (h ++ e ∷ [])
-numbered_more h e legal fits numbered c n before since split =
-    elim (cut_end h e before (opens c n) since split) [
+numbered_more h e legal fits numbered c n u before since split =
+    elim (cut_end h e before (opens c n u) since split) [
       | inl end ↦
-          let first = number_open h c n legal (subst (Fits h) end.last_is fits) in
-          let none : next (through since (newly_opened c n)).last ≡ 0 = ap (λ es. next (through es (newly_opened c n)).last) end.more_is in
+          let first = number_open h c n u legal (subst (Fits h) end.last_is fits) in
+          let none : next (through since (newly_opened c n u)).last ≡ 0 = ap (λ es. next (through es (newly_opened c n u)).last) end.more_is in
           none ∙ first ∙ ap (λ x. calls_made c (h ++ x ∷ [])) (sym end.last_is)
       | inr early ↦
-          let on : through since (newly_opened c n) ≡ with_entry e (through early.rest (newly_opened c n)) = ap (λ es. through es (newly_opened c n)) early.more_is ∙ through-push early.rest e (newly_opened c n) in
-          ap (λ k. next k.last) on ∙ number_more h e legal fits numbered c n before early.rest early.split
+          let on : through since (newly_opened c n u) ≡ with_entry e (through early.rest (newly_opened c n u)) = ap (λ es. through es (newly_opened c n u)) early.more_is ∙ through-push early.rest e (newly_opened c n u) in
+          ap (λ k. next k.last) on ∙ number_more h e legal fits numbered c n u before early.rest early.split
     ]
 
 numbered : (h : List Event) → IsLegal h → Numbered h
-numbered = along Numbered (λ c n before since split. absurd (not_nil before since (opens c n) split)) numbered_more
+numbered = along Numbered (λ c n u before since split. absurd (not_nil before since (opens c n u) split)) numbered_more
 
 -- a call
 call_allowed : (h : List Event) (x : Call) → IsLegal h → list_any (makes x) (summary h).clients ≡ true → IsNextCall h x
@@ -124,41 +125,42 @@ call_allowed h x legal rule =
     let f = found (makes x) h rule in
     let who = maker h x f in
     let m = made_by h x f in
-    let crash : list_any (is_crash_of f.client) f.since ≡ false = sym (crashed_since f.since f.client f.node) ∙ m.no_crash in
+    let crash : list_any (is_crash_of f.client) f.since ≡ false = sym (crashed_since f.since f.client f.node f.durability) ∙ m.no_crash in
     record {
       ready = record {
         node = f.node;
+        durability = f.durability;
         before = f.before;
         since = f.since;
-        split = subst (λ c. h ≡ f.before ++ opens c f.node ∷ f.since) who f.split;
+        split = subst (λ c. h ≡ f.before ++ opens c f.node f.durability ∷ f.since) who f.split;
         no_crash = subst (λ c. list_any (is_crash_of c) f.since ≡ false) who crash;
-        no_failure = sym (failed_since f.since f.client f.node) ∙ m.no_failure;
+        no_failure = sym (failed_since f.since f.client f.node f.durability) ∙ m.no_failure;
       };
-      number = m.number ∙ numbered h legal f.client f.node f.before f.since f.split ∙ ap (λ c. calls_made c h) who;
+      number = m.number ∙ numbered h legal f.client f.node f.durability f.before f.since f.split ∙ ap (λ c. calls_made c h) who;
     }
 
 call_follows : (h : List Event) (x : Call) → IsLegal h → IsNextCall h x → list_any (makes x) (summary h).clients ≡ true
 call_follows h x legal is =
     let r = is.ready in
-    let count = numbered h legal x.client r.node r.before r.since r.split in
-    seen (makes x) h r.before r.since x.client r.node r.split (makes_from x (through r.since (newly_opened x.client r.node)) record {
-      client = through_client r.since (newly_opened x.client r.node);
-      no_crash = crashed_since r.since x.client r.node ∙ r.no_crash;
-      no_failure = failed_since r.since x.client r.node ∙ r.no_failure;
+    let count = numbered h legal x.client r.node r.durability r.before r.since r.split in
+    seen (makes x) h r.before r.since x.client r.node r.durability r.split (makes_from x (through r.since (newly_opened x.client r.node r.durability)) record {
+      client = through_client r.since (newly_opened x.client r.node r.durability);
+      no_crash = crashed_since r.since x.client r.node r.durability ∙ r.no_crash;
+      no_failure = failed_since r.since x.client r.node r.durability ∙ r.no_failure;
       number = is.number ∙ sym count;
     })
 
 -- an open
-open_allowed : (h : List Event) (c n : ℕ) → follows (summary h) (opens c n) ≡ true → MayOpen h c n
-open_allowed h c n rule =
+open_allowed : (h : List Event) (c n : ℕ) (u : Durability) → follows (summary h) (opens c n u) ≡ true → MayOpen h c n
+open_allowed h c n u rule =
     let parts = two (c == length (summary h).clients + 1) (not (is_down (summary h) n)) rule in
     record {
       next = eqb-true c (length (summary h).clients + 1) parts.0 ∙ ap (λ k. k + 1) (count_clients h);
       up = λ d. both_ways (is_down (summary h) n) (not-true (is_down (summary h) n) parts.1) (down_seen h n d);
     }
 
-open_follows : (h : List Event) (c n : ℕ) → MayOpen h c n → follows (summary h) (opens c n) ≡ true
-open_follows h c n may =
+open_follows : (h : List Event) (c n : ℕ) (u : Durability) → MayOpen h c n → follows (summary h) (opens c n u) ≡ true
+open_follows h c n u may =
     let first : c ≡ length (summary h).clients + 1 = may.next ∙ ap (λ k. k + 1) (sym (count_clients h)) in
     two_from (c == length (summary h).clients + 1) (not (is_down (summary h) n)) (eq-eqb c (length (summary h).clients + 1) first) (not_from_false (is_down (summary h) n) (false_from_ne_true (is_down (summary h) n) (λ down. may.up (down_found h n down))))
 
@@ -166,22 +168,23 @@ open_follows h c n may =
 crash_allowed : (h : List Event) (c : ℕ) → list_any (λ k. (k.client == c) && not k.crashed) (summary h).clients ≡ true → IsAlive h c
 crash_allowed h c rule =
     let f = found (λ k. (k.client == c) && not k.crashed) h rule in
-    let k = through f.since (newly_opened f.client f.node) in
+    let k = through f.since (newly_opened f.client f.node f.durability) in
     let parts = two (k.client == c) (not k.crashed) f.holds in
-    let who : f.client ≡ c = sym (through_client f.since (newly_opened f.client f.node)) ∙ eqb-true k.client c parts.0 in
-    let crash : list_any (is_crash_of f.client) f.since ≡ false = sym (crashed_since f.since f.client f.node) ∙ not-true k.crashed parts.1 in
+    let who : f.client ≡ c = sym (through_client f.since (newly_opened f.client f.node f.durability)) ∙ eqb-true k.client c parts.0 in
+    let crash : list_any (is_crash_of f.client) f.since ≡ false = sym (crashed_since f.since f.client f.node f.durability) ∙ not-true k.crashed parts.1 in
     record {
       node = f.node;
+      durability = f.durability;
       before = f.before;
       since = f.since;
-      split = subst (λ d. h ≡ f.before ++ opens d f.node ∷ f.since) who f.split;
+      split = subst (λ d. h ≡ f.before ++ opens d f.node f.durability ∷ f.since) who f.split;
       no_crash = subst (λ d. list_any (is_crash_of d) f.since ≡ false) who crash;
     }
 
 crash_follows : (h : List Event) (c : ℕ) → IsAlive h c → list_any (λ k. (k.client == c) && not k.crashed) (summary h).clients ≡ true
 crash_follows h c a =
-    let k = through a.since (newly_opened c a.node) in
-    seen (λ k. (k.client == c) && not k.crashed) h a.before a.since c a.node a.split (two_from (k.client == c) (not k.crashed) (eq-eqb k.client c (through_client a.since (newly_opened c a.node))) (not_from_false k.crashed (crashed_since a.since c a.node ∙ a.no_crash)))
+    let k = through a.since (newly_opened c a.node a.durability) in
+    seen (λ k. (k.client == c) && not k.crashed) h a.before a.since c a.node a.durability a.split (two_from (k.client == c) (not k.crashed) (eq-eqb k.client c (through_client a.since (newly_opened c a.node a.durability))) (not_from_false k.crashed (crashed_since a.since c a.node a.durability ∙ a.no_crash)))
 
 -- a failure: its clients rise
 past_more : (o : Option ℕ) (i j : ℕ) → is_past o i ≡ true → i < j → is_past o j ≡ true
@@ -218,39 +221,39 @@ rise_back o (x ∷ xs) rising past =
     (λ before between behind l m split. rising (x ∷ before) between behind l m (ap (λ ys. x ∷ ys) split))
     (λ before behind l split. lt-ltb x.client l.client (rising [] before behind x l (ap (λ ys. x ∷ ys) split))))
 
--- what was fsynced of a client's calls
-abbrev Fsynced : List Event → ℕ → ℕ → Type 0
-Fsynced h c j = IsPastFsyncs h record { client = c; first = j }
+-- what was synced of a client's calls
+abbrev UpTo : List Event → ℕ → ℕ → Type 0
+UpTo h c j = IsPastSyncs h record { client = c; first = j }
 
 abbrev Synced : List Event → Type 0
-Synced h = (c n : ℕ) (before since : List Event) → h ≡ before ++ opens c n ∷ since → (j : ℕ) → (is_past (through since (newly_opened c n)).synced j ≡ true) ↔ Fsynced h c j
+Synced h = (c n : ℕ) (u : Durability) (before since : List Event) → h ≡ before ++ opens c n u ∷ since → (j : ℕ) → (is_past (through since (newly_opened c n u)).synced j ≡ true) ↔ UpTo h c j
 
-fsynced_front : (h : List Event) (e : Event) (c j : ℕ) → Fsynced (h ++ e ∷ []) c j → Fsynced h c j
-fsynced_front h e c j all = past_fsyncs-front h e record { client = c; first = j } all
+up_to-front : (h : List Event) (e : Event) (c j : ℕ) → UpTo (h ++ e ∷ []) c j → UpTo h c j
+up_to-front h e c j all = past_syncs-front h e record { client = c; first = j } all
 
-fsynced_quiet : (h : List Event) (e : Event) (c j : ℕ) → ((x : Call) → e ≡ calls x → x.client ≡ c → is_fsync x.op ≡ true → ⊥) → Fsynced h c j → Fsynced (h ++ e ∷ []) c j
-fsynced_quiet h e c j quiet all = past_fsyncs-push h e record { client = c; first = j } (λ x is client fsync. absurd (quiet x is client fsync)) all
+up_to-quiet : (h : List Event) (e : Event) (c j : ℕ) → ((x : Call) → e ≡ calls x → x.client ≡ c → syncs h x ≡ true → ⊥) → UpTo h c j → UpTo (h ++ e ∷ []) c j
+up_to-quiet h e c j quiet all = past_syncs-push h e record { client = c; first = j } (λ x is client sync. absurd (quiet x is client sync)) all
 
--- the same is known of the client, and no fsync of it more
-synced_quiet : (h : List Event) (e : Event) (c j : ℕ) (k l : ClientSummary) → l.synced ≡ k.synced → ((x : Call) → e ≡ calls x → x.client ≡ c → is_fsync x.op ≡ true → ⊥)
-    → ((is_past k.synced j ≡ true) ↔ Fsynced h c j) → (is_past l.synced j ≡ true) ↔ Fsynced (h ++ e ∷ []) c j
+-- the same is known of the client, and no sync of it more
+synced_quiet : (h : List Event) (e : Event) (c j : ℕ) (k l : ClientSummary) → l.synced ≡ k.synced → ((x : Call) → e ≡ calls x → x.client ≡ c → syncs h x ≡ true → ⊥)
+    → ((is_past k.synced j ≡ true) ↔ UpTo h c j) → (is_past l.synced j ≡ true) ↔ UpTo (h ++ e ∷ []) c j
 synced_quiet h e c j k l same quiet before = (
-  λ past. fsynced_quiet h e c j quiet (before.0 (ap (λ s. is_past s j) (sym same) ∙ past)),
-  λ all. ap (λ s. is_past s j) same ∙ before.1 (fsynced_front h e c j all),
+  λ past. up_to-quiet h e c j quiet (before.0 (ap (λ s. is_past s j) (sym same) ∙ past)),
+  λ all. ap (λ s. is_past s j) same ∙ before.1 (up_to-front h e c j all),
 )
 
 synced_other : (x : Call) (k : ClientSummary) → (k.client == x.client) ≡ false → (with_call x k).synced ≡ k.synced
 synced_other x k other = rw other refl
 
-synced_plain : (x : Call) (k : ClientSummary) → is_fsync x.op ≡ false → (with_call x k).synced ≡ k.synced
+synced_plain : (x : Call) (k : ClientSummary) → is_sync x.op k.durability ≡ false → (with_call x k).synced ≡ k.synced
 synced_plain x k plain = elim (cases_Bool (k.client == x.client)) [ inl t ↦ rw (t, plain) refl | inr f ↦ rw f refl ]
 
-synced_own : (x : Call) (k : ClientSummary) → (k.client == x.client) ≡ true → is_fsync x.op ≡ true → (with_call x k).synced ≡ Some x.number
-synced_own x k own fsync = rw (own, fsync) refl
+synced_own : (x : Call) (k : ClientSummary) → (k.client == x.client) ≡ true → is_sync x.op k.durability ≡ true → (with_call x k).synced ≡ Some x.number
+synced_own x k own sync = rw (own, sync) refl
 
--- an fsync more of the client
-synced_fsync : (h : List Event) (x : Call) (j : ℕ) → IsLegal h → Fits h (calls x) → is_fsync x.op ≡ true → (is_past (Some x.number) j ≡ true) ↔ Fsynced (h ++ calls x ∷ []) x.client j
-synced_fsync h x j legal fits fsync = (
+-- a sync more of the client
+synced_sync : (h : List Event) (x : Call) (j : ℕ) → IsLegal h → Fits h (calls x) → syncs h x ≡ true → (is_past (Some x.number) j ≡ true) ↔ UpTo (h ++ calls x ∷ []) x.client j
+synced_sync h x j legal fits sync = (
   λ past before since y split client again.
       let below = ltb-true x.number j past in
       elim (cut_end h (calls x) before (calls y) since split) [
@@ -261,111 +264,114 @@ synced_fsync h x j legal fits fsync = (
             let more = made_before h before early.rest y x.client early.split client in
             omega arith
       ],
-  λ all. lt-ltb x.number j (all h [] x refl refl fsync),
+  λ all. lt-ltb x.number j (all h [] x refl refl sync),
 )
 
-synced_more : (h : List Event) (e : Event) → IsLegal h → Fits h e → Synced h → (c n : ℕ) (before since : List Event) → h ≡ before ++ opens c n ∷ since
-    → (j : ℕ) → (is_past (with_entry e (through since (newly_opened c n))).synced j ≡ true) ↔ Fsynced (h ++ e ∷ []) c j
-synced_more h (opens d m) legal fits synced c n before since split j =
-    let k = through since (newly_opened c n) in
-    synced_quiet h (opens d m) c j k k refl (λ x is. cc) (synced c n before since split j)
-synced_more h (returns m) legal fits synced c n before since split j =
-    let k = through since (newly_opened c n) in
-    synced_quiet h (returns m) c j k k refl (λ x is. cc) (synced c n before since split j)
-synced_more h (crashes d) legal fits synced c n before since split j =
-    let k = through since (newly_opened c n) in
+synced_more : (h : List Event) (e : Event) → IsLegal h → Fits h e → Synced h → (c n : ℕ) (u : Durability) (before since : List Event) → h ≡ before ++ opens c n u ∷ since
+    → (j : ℕ) → (is_past (with_entry e (through since (newly_opened c n u))).synced j ≡ true) ↔ UpTo (h ++ e ∷ []) c j
+synced_more h (opens d m v) legal fits synced c n u before since split j =
+    let k = through since (newly_opened c n u) in
+    synced_quiet h (opens d m v) c j k k refl (λ x is. cc) (synced c n u before since split j)
+synced_more h (returns m) legal fits synced c n u before since split j =
+    let k = through since (newly_opened c n u) in
+    synced_quiet h (returns m) c j k k refl (λ x is. cc) (synced c n u before since split j)
+synced_more h (crashes d) legal fits synced c n u before since split j =
+    let k = through since (newly_opened c n u) in
     let same : (with_crash d k).synced ≡ k.synced = elim (cases_Bool (k.client == d)) [ inl t ↦ rw t refl | inr f ↦ rw f refl ] in
-    synced_quiet h (crashes d) c j k (with_crash d k) same (λ x is. cc) (synced c n before since split j)
-synced_more h (fails m losses) legal fits synced c n before since split j =
-    let k = through since (newly_opened c n) in
+    synced_quiet h (crashes d) c j k (with_crash d k) same (λ x is. cc) (synced c n u before since split j)
+synced_more h (fails m losses) legal fits synced c n u before since split j =
+    let k = through since (newly_opened c n u) in
     let same : (with_failure m k).synced ≡ k.synced = elim (cases_Bool (k.node == m)) [ inl t ↦ rw t refl | inr f ↦ rw f refl ] in
-    synced_quiet h (fails m losses) c j k (with_failure m k) same (λ x is. cc) (synced c n before since split j)
-synced_more h (calls y) legal fits synced c n before since split j =
-    let k = through since (newly_opened c n) in
-    let who : k.client ≡ c = through_client since (newly_opened c n) in
+    synced_quiet h (fails m losses) c j k (with_failure m k) same (λ x is. cc) (synced c n u before since split j)
+synced_more h (calls y) legal fits synced c n u before since split j =
+    let k = through since (newly_opened c n u) in
+    let who : k.client ≡ c = through_client since (newly_opened c n u) in
     elim (cases_Bool (k.client == y.client)) [
       | inr other ↦
-          let apart : (x : Call) → calls y ≡ calls x → x.client ≡ c → is_fsync x.op ≡ true → ⊥ = λ x is client fsync.
+          let apart : (x : Call) → calls y ≡ calls x → x.client ≡ c → syncs h x ≡ true → ⊥ = λ x is client sync.
           let same : y ≡ x = cc in
           let met : k.client ≡ y.client = who ∙ sym client ∙ ap (λ z. z.client) (sym same) in
           both_ways (k.client == y.client) other (eq-eqb k.client y.client met) in
-          synced_quiet h (calls y) c j k (with_call y k) (synced_other y k other) apart (synced c n before since split j)
-      | inl own ↦ elim (cases_Bool (is_fsync y.op)) [
+          synced_quiet h (calls y) c j k (with_call y k) (synced_other y k other) apart (synced c n u before since split j)
+      | inl own ↦ elim (cases_Bool (is_sync y.op k.durability)) [
         | inr plain ↦
-            let apart : (x : Call) → calls y ≡ calls x → x.client ≡ c → is_fsync x.op ≡ true → ⊥ = λ x is client fsync.
+            let apart : (x : Call) → calls y ≡ calls x → x.client ≡ c → syncs h x ≡ true → ⊥ = λ x is client sync.
             let same : y ≡ x = cc in
-            both_ways (is_fsync y.op) plain (subst (λ z. is_fsync z.op ≡ true) (sym same) fsync) in
-            synced_quiet h (calls y) c j k (with_call y k) (synced_plain y k plain) apart (synced c n before since split j)
-        | inl fsync ↦
+            let opened : durability_of x.client h ≡ k.durability = ap (λ d. durability_of d h) client ∙ durability_in h before since c n u legal split ∙ sym (through_durability since (newly_opened c n u)) in
+            both_ways (is_sync y.op k.durability) plain (subst (λ v. is_sync y.op v ≡ true) opened (subst (λ z. is_sync z.op (durability_of x.client h) ≡ true) (sym same) sync)) in
+            synced_quiet h (calls y) c j k (with_call y k) (synced_plain y k plain) apart (synced c n u before since split j)
+        | inl sync ↦
             let same : y.client ≡ c = sym (eqb-true k.client y.client own) ∙ who in
-            let last : (with_call y k).synced ≡ Some y.number = synced_own y k own fsync in
-            let both = synced_fsync h y j legal fits fsync in (
-              λ past. subst (λ d. Fsynced (h ++ calls y ∷ []) d j) same (both.0 (ap (λ s. is_past s j) (sym last) ∙ past)),
-              λ all. ap (λ s. is_past s j) last ∙ both.1 (subst (λ d. Fsynced (h ++ calls y ∷ []) d j) (sym same) all),
+            let last : (with_call y k).synced ≡ Some y.number = synced_own y k own sync in
+            let opened : k.durability ≡ durability_of y.client h = through_durability since (newly_opened c n u) ∙ sym (durability_in h before since c n u legal split) ∙ ap (λ d. durability_of d h) (sym same) in
+            let both = synced_sync h y j legal fits (subst (λ v. is_sync y.op v ≡ true) opened sync) in (
+              λ past. subst (λ d. UpTo (h ++ calls y ∷ []) d j) same (both.0 (ap (λ s. is_past s j) (sym last) ∙ past)),
+              λ all. ap (λ s. is_past s j) last ∙ both.1 (subst (λ d. UpTo (h ++ calls y ∷ []) d j) (sym same) all),
             )
       ]
     ]
 
--- a client that was just opened has no fsync
-synced_open : (h : List Event) (c n j : ℕ) → IsLegal h → Fits h (opens c n) → Fsynced (h ++ opens c n ∷ []) c j
-synced_open h c n j legal fits before since x split client fsync =
-    elim (cut_end h (opens c n) before (calls x) since split) [
+-- a client that was just opened has no sync
+synced_open : (h : List Event) (c n : ℕ) (u : Durability) (j : ℕ) → IsLegal h → Fits h (opens c n u) → UpTo (h ++ opens c n u ∷ []) c j
+synced_open h c n u j legal fits before since x split client sync =
+    elim (cut_end h (opens c n u) before (calls x) since split) [
       | inl end ↦ let is = end.last_is in cc
       | inr early_on ↦
-          let is = next_opened h c n fits in
+          let is = next_opened h c n u fits in
           let none = early h legal c (omega arith) in
           let some = made_before h before early_on.rest x c early_on.split client in
           absurd (omega arith)
     ]
 
 synced_push : (h : List Event) (e : Event) → IsLegal h → Fits h e → Synced h → Synced (h ++ e ∷ [])
-synced_push h e legal fits synced c n before since split j =
-    elim (cut_end h e before (opens c n) since split) [
+synced_push h e legal fits synced c n u before since split j =
+    elim (cut_end h e before (opens c n u) since split) [
       | inl end ↦
-          let all = synced_open h c n j legal (subst (Fits h) end.last_is fits) in (
-            λ past. subst (λ x. Fsynced (h ++ x ∷ []) c j) (sym end.last_is) all,
-            λ each. ap (λ es. is_past (through es (newly_opened c n)).synced j) end.more_is,
+          let all = synced_open h c n u j legal (subst (Fits h) end.last_is fits) in (
+            λ past. subst (λ x. UpTo (h ++ x ∷ []) c j) (sym end.last_is) all,
+            λ each. ap (λ es. is_past (through es (newly_opened c n u)).synced j) end.more_is,
           )
       | inr early ↦
-          let on : through since (newly_opened c n) ≡ with_entry e (through early.rest (newly_opened c n)) = ap (λ es. through es (newly_opened c n)) early.more_is ∙ through-push early.rest e (newly_opened c n) in
-          let both = synced_more h e legal fits synced c n before early.rest early.split j in (
+          let on : through since (newly_opened c n u) ≡ with_entry e (through early.rest (newly_opened c n u)) = ap (λ es. through es (newly_opened c n u)) early.more_is ∙ through-push early.rest e (newly_opened c n u) in
+          let both = synced_more h e legal fits synced c n u before early.rest early.split j in (
             λ past. both.0 (ap (λ k. is_past k.synced j) (sym on) ∙ past),
             λ all. ap (λ k. is_past k.synced j) on ∙ both.1 all,
           )
     ]
 
 synced : (h : List Event) → IsLegal h → Synced h
-synced = along Synced (λ c n before since split. absurd (not_nil before since (opens c n) split)) synced_push
+synced = along Synced (λ c n u before since split. absurd (not_nil before since (opens c n u) split)) synced_push
 
 fair_pair : (h : List Event) (n : ℕ) (l : Loss) → IsLegal h → list_any (may_lose n l) (summary h).clients ≡ true → MayLose h n l
 fair_pair h n l legal is =
     let f = found (may_lose n l) h is in
-    let k = through f.since (newly_opened f.client f.node) in
+    let k = through f.since (newly_opened f.client f.node f.durability) in
     let parts = four (k.client == l.client) (k.node == n) (not k.failed) (is_past k.synced l.first) f.holds in
-    let who : f.client ≡ l.client = sym (through_client f.since (newly_opened f.client f.node)) ∙ eqb-true k.client l.client parts.0 in
-    let there : f.node ≡ n = sym (through_node f.since (newly_opened f.client f.node)) ∙ eqb-true k.node n parts.1 in
-    let failed : list_any (is_failure_of f.node) f.since ≡ false = sym (failed_since f.since f.client f.node) ∙ not-true k.failed parts.2 in
-    let placed : h ≡ f.before ++ opens l.client f.node ∷ f.since = subst (λ c. h ≡ f.before ++ opens c f.node ∷ f.since) who f.split in
+    let who : f.client ≡ l.client = sym (through_client f.since (newly_opened f.client f.node f.durability)) ∙ eqb-true k.client l.client parts.0 in
+    let there : f.node ≡ n = sym (through_node f.since (newly_opened f.client f.node f.durability)) ∙ eqb-true k.node n parts.1 in
+    let failed : list_any (is_failure_of f.node) f.since ≡ false = sym (failed_since f.since f.client f.node f.durability) ∙ not-true k.failed parts.2 in
+    let placed : h ≡ f.before ++ opens l.client f.node f.durability ∷ f.since = subst (λ c. h ≡ f.before ++ opens c f.node f.durability ∷ f.since) who f.split in
     record {
       on = record {
+        durability = f.durability;
         before = f.before;
         since = f.since;
-        split = subst (λ m. h ≡ f.before ++ opens l.client m ∷ f.since) there placed;
+        split = subst (λ m. h ≡ f.before ++ opens l.client m f.durability ∷ f.since) there placed;
         no_failure = subst (λ m. list_any (is_failure_of m) f.since ≡ false) there failed;
       };
-      past = subst (λ c. Fsynced h c l.first) who ((synced h legal f.client f.node f.before f.since f.split l.first).0 parts.3);
+      past = subst (λ c. UpTo h c l.first) who ((synced h legal f.client f.node f.durability f.before f.since f.split l.first).0 parts.3);
     }
 
 pair_from : (h : List Event) (n : ℕ) (l : Loss) → IsLegal h → MayLose h n l → list_any (may_lose n l) (summary h).clients ≡ true
 pair_from h n l legal m =
     let o = m.on in
-    let k = through o.since (newly_opened l.client n) in
-    let both = synced h legal l.client n o.before o.since o.split l.first in
-    seen (may_lose n l) h o.before o.since l.client n o.split
+    let k = through o.since (newly_opened l.client n o.durability) in
+    let both = synced h legal l.client n o.durability o.before o.since o.split l.first in
+    seen (may_lose n l) h o.before o.since l.client n o.durability o.split
     (four_from (k.client == l.client) (k.node == n) (not k.failed) (is_past k.synced l.first)
-    (eq-eqb k.client l.client (through_client o.since (newly_opened l.client n)))
-    (eq-eqb k.node n (through_node o.since (newly_opened l.client n)))
-    (not_from_false k.failed (failed_since o.since l.client n ∙ o.no_failure))
+    (eq-eqb k.client l.client (through_client o.since (newly_opened l.client n o.durability)))
+    (eq-eqb k.node n (through_node o.since (newly_opened l.client n o.durability)))
+    (not_from_false k.failed (failed_since o.since l.client n o.durability ∙ o.no_failure))
     (both.1 m.past))
 
 failure_allowed : (h : List Event) (n : ℕ) (losses : List Loss) → IsLegal h → follows (summary h) (fails n losses) ≡ true → IsFair h n losses
@@ -384,14 +390,14 @@ failure_follows h n losses legal fair =
 
 -- what the summary of a legal history allows may follow it, and what may follow is allowed
 pub may_follow : (h : List Event) (e : Event) → IsLegal h → follows (summary h) e ≡ true → MayFollow h e
-may_follow h (opens c n) legal rule = open_allowed h c n rule
+may_follow h (opens c n u) legal rule = open_allowed h c n u rule
 may_follow h (calls x) legal rule = call_allowed h x legal rule
 may_follow h (crashes c) legal rule = crash_allowed h c rule
 may_follow h (fails n losses) legal rule = failure_allowed h n losses legal rule
 may_follow h (returns n) legal rule = down_found h n rule
 
 pub is_allowed : (h : List Event) (e : Event) → IsLegal h → MayFollow h e → follows (summary h) e ≡ true
-is_allowed h (opens c n) legal may = open_follows h c n may
+is_allowed h (opens c n u) legal may = open_follows h c n u may
 is_allowed h (calls x) legal may = call_follows h x legal may
 is_allowed h (crashes c) legal may = crash_follows h c may
 is_allowed h (fails n losses) legal may = failure_follows h n losses legal may

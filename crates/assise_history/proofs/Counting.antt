@@ -1,11 +1,13 @@
 -- How many clients are opened in a legal history, and how many calls are made.
-use Rattle.std.proofs.Common.{◌≡◌, ℕ, ◌+◌, ◌<◌, ◌≤◌, true, false, ◌==◌, List, [], ◌∷◌, ◌++◌, filter, length, refl, ap, sym, ◌∙◌, inl, inr, arith, eqb-true, eq-eqb, ne_eqb}
+use Rattle.std.proofs.Common.{◌≡◌, ℕ, ◌+◌, ◌<◌, ◌≤◌, true, false, if◌then◌else◌, ◌==◌, List, [], ◌∷◌, ◌++◌, filter, length, refl, ap, sym, ◌∙◌, inl, inr, arith, eqb-true, eq-eqb, ne_eqb}
 use Rattle.std.proofs.lemmas.Bool.{cases_Bool}
 use Rattle.std.proofs.lemmas.List.{length-append}
 use Rattle.std.proofs.lemmas.List.Elements.{filter-append}
+use Rattle.assise_names.specs.declared.durability.Durability.{Durability}
+use Rattle.assise_names.specs.declared.durability.Durability.TheVariants.{Pessimistic}
 use Rattle.assise_history.specs.declared.call.Call.{Call}
 use Rattle.assise_history.specs.Entries.{Event, opens, calls, crashes, fails, returns}
-use Rattle.assise_history.specs.Legal.{IsLegal, Fits, IsNextCall, MayOpen, is_opening, is_call_of, clients_opened, calls_made}
+use Rattle.assise_history.specs.Legal.{IsLegal, Fits, IsNextCall, MayOpen, is_opening, is_call_of, clients_opened, calls_made, durability_of, opened_as}
 use Rattle.assise_history.specs.Opened.{is_opening_of, OpensOnce}
 use Rattle.assise_history.proofs.Legality.{along, fits_in}
 
@@ -24,20 +26,20 @@ unfolding times
 times_append c g h = ap length (filter-append (is_opening_of c) g h) ∙ length-append (filter (is_opening_of c) g) (filter (is_opening_of c) h)
 
 -- the clients are opened in the order of their numbers
-pub next_opened : (h : List Event) (c n : ℕ) → Fits h (opens c n) → c ≡ clients_opened h + 1
-next_opened h c n fits = let may : MayOpen h c n = fits.follows in may.next
+pub next_opened : (h : List Event) (c n : ℕ) (u : Durability) → Fits h (opens c n u) → c ≡ clients_opened h + 1
+next_opened h c n u fits = let may : MayOpen h c n = fits.follows in may.next
 
-pub opened_within : (h before since : List Event) (c n : ℕ) → IsLegal h → h ≡ before ++ opens c n ∷ since → c ≤ clients_opened h
-opened_within h before since c n legal split =
-    let e = next_opened before c n (fits_in h before since (opens c n) legal split) in
-    let all = ap clients_opened split ∙ opened_append before (opens c n ∷ since) in
+pub opened_within : (h before since : List Event) (c n : ℕ) (u : Durability) → IsLegal h → h ≡ before ++ opens c n u ∷ since → c ≤ clients_opened h
+opened_within h before since c n u legal split =
+    let e = next_opened before c n u (fits_in h before since (opens c n u) legal split) in
+    let all = ap clients_opened split ∙ opened_append before (opens c n u ∷ since) in
     omega arith
 
 -- a client that isn't opened yet has no calls
 early_more : (h : List Event) (e : Event) → IsLegal h → Fits h e → ((c : ℕ) → clients_opened h < c → calls_made c h ≡ 0) → (c : ℕ) → clients_opened (h ++ e ∷ []) < c → calls_made c (h ++ e ∷ []) ≡ 0
-early_more h (opens d n) legal fits before c late =
-    let all = opened_append h (opens d n ∷ []) in
-    let made = made_append c h (opens d n ∷ []) in
+early_more h (opens d n u) legal fits before c late =
+    let all = opened_append h (opens d n u ∷ []) in
+    let made = made_append c h (opens d n u ∷ []) in
     let none = before c (omega arith) in
     omega arith
 early_more h (crashes d) legal fits before c late =
@@ -64,7 +66,7 @@ early_more h (calls x) legal fits before c late =
           let next : IsNextCall h x = fits.follows in
           let m = next.ready in
           let same = eqb-true c x.client own in
-          let within = opened_within h m.before m.since x.client m.node legal m.split in
+          let within = opened_within h m.before m.since x.client m.node m.durability legal m.split in
           absurd (omega arith)
       | inr other ↦ let still = rw other at made in omega arith
     ]
@@ -92,11 +94,11 @@ number_below h before later x legal split =
 -- no client is opened twice
 unopened_more : (h : List Event) (e : Event) → IsLegal h → Fits h e → ((c : ℕ) → clients_opened h < c → times c h ≡ 0) → (c : ℕ) → clients_opened (h ++ e ∷ []) < c → times c (h ++ e ∷ []) ≡ 0
 unfolding times
-unopened_more h (opens d n) legal fits before c late =
-    let all = opened_append h (opens d n ∷ []) in
-    let grown = times_append c h (opens d n ∷ []) in
+unopened_more h (opens d n u) legal fits before c late =
+    let all = opened_append h (opens d n u ∷ []) in
+    let grown = times_append c h (opens d n u ∷ []) in
     let none = before c (omega arith) in
-    let is = next_opened h d n fits in
+    let is = next_opened h d n u fits in
     let other : (d == c) ≡ false = ne_eqb d c (λ same. omega arith) in
     let still = rw other at grown in
     omega arith
@@ -127,9 +129,9 @@ unopened = along (λ h. (c : ℕ) → clients_opened h < c → times c h ≡ 0) 
 
 once_more : (h : List Event) (e : Event) → IsLegal h → Fits h e → ((c : ℕ) → times c h ≤ 1) → (c : ℕ) → times c (h ++ e ∷ []) ≤ 1
 unfolding times
-once_more h (opens d n) legal fits before c =
-    let grown = times_append c h (opens d n ∷ []) in
-    let is = next_opened h d n fits in
+once_more h (opens d n u) legal fits before c =
+    let grown = times_append c h (opens d n u ∷ []) in
+    let is = next_opened h d n u fits in
     elim (cases_Bool (d == c)) [
       | inl own ↦
           let same = eqb-true d c own in
@@ -150,3 +152,51 @@ once = along (λ h. (c : ℕ) → times c h ≤ 1) (λ c. omega arith) once_more
 pub opens_once : (h : List Event) → IsLegal h → OpensOnce h
 unfolding times
 opens_once h legal = λ c. once h legal c
+
+-- ---- how a client was opened
+
+opened_as-append : (c : ℕ) (u : Durability) (g h : List Event) → opened_as c u (g ++ h) ≡ opened_as c (opened_as c u g) h
+opened_as-append c u [] h = refl
+opened_as-append c u (opens d n v ∷ g) h = opened_as-append c (if d == c then v else u) g h
+opened_as-append c u (calls x ∷ g) h = opened_as-append c u g h
+opened_as-append c u (crashes d ∷ g) h = opened_as-append c u g h
+opened_as-append c u (fails n losses ∷ g) h = opened_as-append c u g h
+opened_as-append c u (returns n ∷ g) h = opened_as-append c u g h
+
+-- it isn't opened any more
+opened_as-still : (c : ℕ) (u : Durability) (h : List Event) → times c h ≡ 0 → opened_as c u h ≡ u
+unfolding times
+opened_as-still c u [] none = refl
+opened_as-still c u (opens d n v ∷ h) none =
+    elim (cases_Bool (d == c)) [
+      | inl own ↦ let some = rw own at none in absurd (omega arith)
+      | inr other ↦ let rest : times c h ≡ 0 = rw other at none in rw other (opened_as-still c u h rest)
+    ]
+opened_as-still c u (calls x ∷ h) none = opened_as-still c u h none
+opened_as-still c u (crashes d ∷ h) none = opened_as-still c u h none
+opened_as-still c u (fails n losses ∷ h) none = opened_as-still c u h none
+opened_as-still c u (returns n ∷ h) none = opened_as-still c u h none
+
+-- an entry more: it is the client's opening, another's, or none
+pub durability-opened : (h : List Event) (c n : ℕ) (u : Durability) → durability_of c (h ++ opens c n u ∷ []) ≡ u
+durability-opened h c n u = opened_as-append c Pessimistic h (opens c n u ∷ []) ∙ rw (eq-eqb c c refl) refl
+
+pub durability-other : (h : List Event) (c d n : ℕ) (u : Durability) → (d == c) ≡ false → durability_of c (h ++ opens d n u ∷ []) ≡ durability_of c h
+durability-other h c d n u other = opened_as-append c Pessimistic h (opens d n u ∷ []) ∙ rw other refl
+
+pub durability-still : (h : List Event) (e : Event) (c : ℕ) → is_opening e ≡ false → durability_of c (h ++ e ∷ []) ≡ durability_of c h
+durability-still h (opens d n u) c quiet = cc
+durability-still h (calls x) c quiet = opened_as-append c Pessimistic h (calls x ∷ [])
+durability-still h (crashes d) c quiet = opened_as-append c Pessimistic h (crashes d ∷ [])
+durability-still h (fails n losses) c quiet = opened_as-append c Pessimistic h (fails n losses ∷ [])
+durability-still h (returns n) c quiet = opened_as-append c Pessimistic h (returns n ∷ [])
+
+-- a client of a legal history was opened as its one opening says
+pub durability_in : (h before since : List Event) (c n : ℕ) (u : Durability) → IsLegal h → h ≡ before ++ opens c n u ∷ since → durability_of c h ≡ u
+unfolding times
+durability_in h before since c n u legal split =
+    let few = once h legal c in
+    let all = ap (times c) split ∙ times_append c before (opens c n u ∷ since) in
+    let one = rw (eq-eqb c c refl) at all in
+    let none : times c since ≡ 0 = omega arith in
+    ap (durability_of c) split ∙ opened_as-append c Pessimistic before (opens c n u ∷ since) ∙ rw (eq-eqb c c refl) (opened_as-still c u since none)

@@ -5,6 +5,7 @@ use Rattle.std.proofs.lemmas.Bool.{cases_Bool, or_cases, or_left, or_right, or_p
 use Rattle.std.proofs.lemmas.List.{length-map, length-append}
 use Rattle.std.proofs.lemmas.List.Folds.{list_any-append}
 use Rattle.std.proofs.Math.Bool.{or_assoc}
+use Rattle.assise_names.specs.declared.durability.Durability.{Durability}
 use Rattle.assise_history.specs.declared.call.Loss.{Loss}
 use Rattle.assise_history.specs.declared.front.ClientSummary.{ClientSummary}
 use Rattle.assise_history.specs.Entries.{Event, opens, calls, crashes, fails, returns}
@@ -14,7 +15,7 @@ use Rattle.assise_history.proofs.Passing.{list_any-map}
 
 -- what an entry changes of what is known of a client
 abbrev pub with_entry : Event → ClientSummary → ClientSummary
-with_entry (opens c n) k = k
+with_entry (opens c n u) k = k
 with_entry (calls x) k = with_call x k
 with_entry (crashes c) k = with_crash c k
 with_entry (fails n losses) k = with_failure n k
@@ -32,10 +33,11 @@ through-push (x ∷ es) e k = through-push es e (with_entry x k)
 pub record Found (p : ClientSummary → Bool) (es : List Event) : Type 0 where
   pub client : ℕ
   pub node : ℕ
+  pub durability : Durability
   pub before : List Event
   pub since : List Event
-  pub split : es ≡ before ++ opens client node ∷ since
-  pub holds : p (through since (newly_opened client node)) ≡ true
+  pub split : es ≡ before ++ opens client node durability ∷ since
+  pub holds : p (through since (newly_opened client node durability)) ≡ true
 
 last_any : (p : ClientSummary → Bool) (ks : List ClientSummary) (k : ClientSummary) → list_any p (ks ++ k ∷ []) ≡ true → (list_any p ks ≡ true) ⊎ (p k ≡ true)
 last_any p ks k h =
@@ -51,14 +53,15 @@ last_any p ks k h =
 pub record Newly (p : ClientSummary → Bool) (e : Event) : Type 0 where
   pub client : ℕ
   pub node : ℕ
-  pub is : e ≡ opens client node
-  pub holds : p (newly_opened client node) ≡ true
+  pub durability : Durability
+  pub is : e ≡ opens client node durability
+  pub holds : p (newly_opened client node durability) ≡ true
 
 any_after : (p : ClientSummary → Bool) (s : Summary) (e : Event) → list_any p (after s e).clients ≡ true → (list_any (λ k. p (with_entry e k)) s.clients ≡ true) ⊎ Newly p e
-any_after p s (opens c n) h =
-    elim (last_any p s.clients (newly_opened c n) h) [
+any_after p s (opens c n u) h =
+    elim (last_any p s.clients (newly_opened c n u) h) [
       | inl a ↦ inl a
-      | inr b ↦ inr record { client = c; node = n; is = refl; holds = b }
+      | inr b ↦ inr record { client = c; node = n; durability = u; is = refl; holds = b }
     ]
 any_after p s (calls x) h = inl (sym (list_any-map p (with_call x) s.clients) ∙ h)
 any_after p s (crashes c) h = inl (sym (list_any-map p (with_crash c) s.clients) ∙ h)
@@ -66,7 +69,7 @@ any_after p s (fails n losses) h = inl (sym (list_any-map p (with_failure n) s.c
 any_after p s (returns n) h = inl h
 
 any_before : (p : ClientSummary → Bool) (s : Summary) (e : Event) → list_any (λ k. p (with_entry e k)) s.clients ≡ true → list_any p (after s e).clients ≡ true
-any_before p s (opens c n) h = list_any-append p s.clients (newly_opened c n ∷ []) ∙ or_left (list_any p s.clients) _ h
+any_before p s (opens c n u) h = list_any-append p s.clients (newly_opened c n u ∷ []) ∙ or_left (list_any p s.clients) _ h
 any_before p s (calls x) h = list_any-map p (with_call x) s.clients ∙ h
 any_before p s (crashes c) h = list_any-map p (with_crash c) s.clients ∙ h
 any_before p s (fails n losses) h = list_any-map p (with_failure n) s.clients ∙ h
@@ -78,9 +81,9 @@ found_from p s (e ∷ es) h =
     elim (found_from p (after s e) es h) [
       | inl a ↦ elim (any_after (λ k. p (through es k)) s e a) [
         | inl b ↦ inl b
-        | inr o ↦ inr record { client = o.client; node = o.node; before = []; since = es; split = ap (λ x. x ∷ es) o.is; holds = o.holds }
+        | inr o ↦ inr record { client = o.client; node = o.node; durability = o.durability; before = []; since = es; split = ap (λ x. x ∷ es) o.is; holds = o.holds }
       ]
-      | inr f ↦ inr record { client = f.client; node = f.node; before = e ∷ f.before; since = f.since; split = ap (λ xs. e ∷ xs) f.split; holds = f.holds }
+      | inr f ↦ inr record { client = f.client; node = f.node; durability = f.durability; before = e ∷ f.before; since = f.since; split = ap (λ xs. e ∷ xs) f.split; holds = f.holds }
     ]
 
 -- a client of the summary was opened
@@ -95,21 +98,21 @@ any_stays : (p : ClientSummary → Bool) (s : Summary) (es : List Event) → lis
 any_stays p s [] h = h
 any_stays p s (e ∷ es) h = any_stays p (after s e) es (any_before (λ k. p (through es k)) s e h)
 
-any_opened : (p : ClientSummary → Bool) (s : Summary) (before since : List Event) (c n : ℕ) → p (through since (newly_opened c n)) ≡ true → list_any p (summed_from s (before ++ opens c n ∷ since)).clients ≡ true
-any_opened p s [] since c n h =
-    any_stays p (after s (opens c n)) since
-    (list_any-append (λ k. p (through since k)) s.clients (newly_opened c n ∷ []) ∙ or_right (list_any (λ k. p (through since k)) s.clients) _ (or_left (p (through since (newly_opened c n))) false h))
-any_opened p s (e ∷ before) since c n h = any_opened p (after s e) before since c n h
+any_opened : (p : ClientSummary → Bool) (s : Summary) (before since : List Event) (c n : ℕ) (u : Durability) → p (through since (newly_opened c n u)) ≡ true → list_any p (summed_from s (before ++ opens c n u ∷ since)).clients ≡ true
+any_opened p s [] since c n u h =
+    any_stays p (after s (opens c n u)) since
+    (list_any-append (λ k. p (through since k)) s.clients (newly_opened c n u ∷ []) ∙ or_right (list_any (λ k. p (through since k)) s.clients) _ (or_left (p (through since (newly_opened c n u))) false h))
+any_opened p s (e ∷ before) since c n u h = any_opened p (after s e) before since c n u h
 
 -- a client that was opened is in the summary
-pub seen : (p : ClientSummary → Bool) (h before since : List Event) (c n : ℕ) → h ≡ before ++ opens c n ∷ since → p (through since (newly_opened c n)) ≡ true → list_any p (summary h).clients ≡ true
-seen p h before since c n split is = subst (λ es. list_any p (summary es).clients ≡ true) (sym split) (any_opened p nothing_yet before since c n is)
+pub seen : (p : ClientSummary → Bool) (h before since : List Event) (c n : ℕ) (u : Durability) → h ≡ before ++ opens c n u ∷ since → p (through since (newly_opened c n u)) ≡ true → list_any p (summary h).clients ≡ true
+seen p h before since c n u split is = subst (λ es. list_any p (summary es).clients ≡ true) (sym split) (any_opened p nothing_yet before since c n u is)
 
 count_from : (s : Summary) (es : List Event) → length (summed_from s es).clients ≡ length s.clients + clients_opened es
 count_from s [] = omega arith
-count_from s (opens c n ∷ es) =
-    let one : length (s.clients ++ newly_opened c n ∷ []) ≡ length s.clients + 1 = length-append s.clients (newly_opened c n ∷ []) in
-    let rest = count_from (after s (opens c n)) es in
+count_from s (opens c n u ∷ es) =
+    let one : length (s.clients ++ newly_opened c n u ∷ []) ≡ length s.clients + 1 = length-append s.clients (newly_opened c n u ∷ []) in
+    let rest = count_from (after s (opens c n u)) es in
     omega arith
 count_from s (calls x ∷ es) = count_from (after s (calls x)) es ∙ ap (λ k. k + clients_opened es) (length-map s.clients (with_call x))
 count_from s (crashes c ∷ es) = count_from (after s (crashes c)) es ∙ ap (λ k. k + clients_opened es) (length-map s.clients (with_crash c))
@@ -121,18 +124,25 @@ count_clients h = let e = count_from nothing_yet h in omega arith
 
 -- what stays of a client, and what changes
 entry_client : (e : Event) (k : ClientSummary) → (with_entry e k).client ≡ k.client
-entry_client (opens c n) k = refl
+entry_client (opens c n u) k = refl
 entry_client (calls x) k = elim (cases_Bool (k.client == x.client)) [ inl t ↦ rw t refl | inr f ↦ rw f refl ]
 entry_client (crashes c) k = elim (cases_Bool (k.client == c)) [ inl t ↦ rw t refl | inr f ↦ rw f refl ]
 entry_client (fails n losses) k = elim (cases_Bool (k.node == n)) [ inl t ↦ rw t refl | inr f ↦ rw f refl ]
 entry_client (returns n) k = refl
 
 entry_node : (e : Event) (k : ClientSummary) → (with_entry e k).node ≡ k.node
-entry_node (opens c n) k = refl
+entry_node (opens c n u) k = refl
 entry_node (calls x) k = elim (cases_Bool (k.client == x.client)) [ inl t ↦ rw t refl | inr f ↦ rw f refl ]
 entry_node (crashes c) k = elim (cases_Bool (k.client == c)) [ inl t ↦ rw t refl | inr f ↦ rw f refl ]
 entry_node (fails n losses) k = elim (cases_Bool (k.node == n)) [ inl t ↦ rw t refl | inr f ↦ rw f refl ]
 entry_node (returns n) k = refl
+
+entry_durability : (e : Event) (k : ClientSummary) → (with_entry e k).durability ≡ k.durability
+entry_durability (opens c n u) k = refl
+entry_durability (calls x) k = elim (cases_Bool (k.client == x.client)) [ inl t ↦ rw t refl | inr f ↦ rw f refl ]
+entry_durability (crashes c) k = elim (cases_Bool (k.client == c)) [ inl t ↦ rw t refl | inr f ↦ rw f refl ]
+entry_durability (fails n losses) k = elim (cases_Bool (k.node == n)) [ inl t ↦ rw t refl | inr f ↦ rw f refl ]
+entry_durability (returns n) k = refl
 
 or_none : (b : Bool) → b ≡ (b || false)
 or_none true = refl
@@ -143,14 +153,14 @@ or_true true = refl
 or_true false = refl
 
 entry_crashed : (e : Event) (k : ClientSummary) → (with_entry e k).crashed ≡ (k.crashed || is_crash_of k.client e)
-entry_crashed (opens c n) k = or_none k.crashed
+entry_crashed (opens c n u) k = or_none k.crashed
 entry_crashed (calls x) k = elim (cases_Bool (k.client == x.client)) [ inl t ↦ rw t (or_none k.crashed) | inr f ↦ rw f (or_none k.crashed) ]
 entry_crashed (crashes c) k = elim (cases_Bool (k.client == c)) [ inl t ↦ rw t (or_true k.crashed) | inr f ↦ rw f (or_none k.crashed) ]
 entry_crashed (fails n losses) k = elim (cases_Bool (k.node == n)) [ inl t ↦ rw t (or_none k.crashed) | inr f ↦ rw f (or_none k.crashed) ]
 entry_crashed (returns n) k = or_none k.crashed
 
 entry_failed : (e : Event) (k : ClientSummary) → (with_entry e k).failed ≡ (k.failed || is_failure_of k.node e)
-entry_failed (opens c n) k = or_none k.failed
+entry_failed (opens c n u) k = or_none k.failed
 entry_failed (calls x) k = elim (cases_Bool (k.client == x.client)) [ inl t ↦ rw t (or_none k.failed) | inr f ↦ rw f (or_none k.failed) ]
 entry_failed (crashes c) k = elim (cases_Bool (k.client == c)) [ inl t ↦ rw t (or_none k.failed) | inr f ↦ rw f (or_none k.failed) ]
 entry_failed (fails n losses) k = elim (cases_Bool (k.node == n)) [ inl t ↦ rw t (or_true k.failed) | inr f ↦ rw f (or_none k.failed) ]
@@ -163,6 +173,10 @@ through_client (e ∷ es) k = through_client es (with_entry e k) ∙ entry_clien
 pub through_node : (es : List Event) (k : ClientSummary) → (through es k).node ≡ k.node
 through_node [] k = refl
 through_node (e ∷ es) k = through_node es (with_entry e k) ∙ entry_node e k
+
+pub through_durability : (es : List Event) (k : ClientSummary) → (through es k).durability ≡ k.durability
+through_durability [] k = refl
+through_durability (e ∷ es) k = through_durability es (with_entry e k) ∙ entry_durability e k
 
 through_crashed : (es : List Event) (k : ClientSummary) → (through es k).crashed ≡ (k.crashed || list_any (is_crash_of k.client) es)
 through_crashed [] k = or_none k.crashed
@@ -181,11 +195,11 @@ through_failed (e ∷ es) k =
     ∙ or_assoc k.failed (is_failure_of k.node e) (list_any (is_failure_of k.node) es)
 
 -- a client has crashed exactly if a crash of it stands behind its open, and likewise its node
-pub crashed_since : (es : List Event) (c n : ℕ) → (through es (newly_opened c n)).crashed ≡ list_any (is_crash_of c) es
-crashed_since es c n = through_crashed es (newly_opened c n)
+pub crashed_since : (es : List Event) (c n : ℕ) (u : Durability) → (through es (newly_opened c n u)).crashed ≡ list_any (is_crash_of c) es
+crashed_since es c n u = through_crashed es (newly_opened c n u)
 
-pub failed_since : (es : List Event) (c n : ℕ) → (through es (newly_opened c n)).failed ≡ list_any (is_failure_of n) es
-failed_since es c n = through_failed es (newly_opened c n)
+pub failed_since : (es : List Event) (c n : ℕ) (u : Durability) → (through es (newly_opened c n u)).failed ≡ list_any (is_failure_of n) es
+failed_since es c n u = through_failed es (newly_opened c n u)
 
 -- the nodes that are down
 back_left : (down : List ℕ) (m n : ℕ) → list_any (λ k. k == n) (filter (λ k. not (k == m)) down) ≡ true → (list_any (λ k. k == n) down ≡ true) × ((n == m) ≡ false)
@@ -205,7 +219,7 @@ back_left (k ∷ ks) m n h =
     ]
 
 down_after : (s : Summary) (e : Event) (n : ℕ) → is_down (after s e) n ≡ true → ((is_down s n ≡ true) × (is_return_of n e ≡ false)) ⊎ ((losses : List Loss) × (e ≡ fails n losses))
-down_after s (opens c m) n h = inl (h, refl)
+down_after s (opens c m u) n h = inl (h, refl)
 down_after s (calls x) n h = inl (h, refl)
 down_after s (crashes c) n h = inl (h, refl)
 down_after s (fails m losses) n h =
@@ -250,7 +264,7 @@ down_found h n is =
     ]
 
 stays_after : (s : Summary) (e : Event) (n : ℕ) → is_down s n ≡ true → is_return_of n e ≡ false → is_down (after s e) n ≡ true
-stays_after s (opens c m) n h other = h
+stays_after s (opens c m u) n h other = h
 stays_after s (calls x) n h other = h
 stays_after s (crashes c) n h other = h
 stays_after s (fails m losses) n h other = list_any-append (λ k. k == n) s.down (m ∷ []) ∙ or_left (is_down s n) _ h

@@ -45,7 +45,7 @@ further e es x t = record {
 
 pub taken : (es : List Event) (x : Call) → is_lost es x ≡ true → IsTaken es x
 taken [] x h = cc
-taken (opens c n ∷ es) x h = further (opens c n) es x (taken es x h)
+taken (opens c n u ∷ es) x h = further (opens c n u) es x (taken es x h)
 taken (calls y ∷ es) x h = further (calls y) es x (taken es x h)
 taken (crashes c ∷ es) x h = further (crashes c) es x (taken es x h)
 taken (returns n ∷ es) x h = further (returns n) es x (taken es x h)
@@ -57,7 +57,7 @@ taken (fails n losses ∷ es) x h =
 
 lost_at : (before behind : List Event) (n : ℕ) (losses : List Loss) (x : Call) → loses losses x ≡ true → is_lost (before ++ fails n losses ∷ behind) x ≡ true
 lost_at [] behind n losses x h = rw h refl
-lost_at (opens c m ∷ es) behind n losses x h = lost_at es behind n losses x h
+lost_at (opens c m u ∷ es) behind n losses x h = lost_at es behind n losses x h
 lost_at (calls y ∷ es) behind n losses x h = lost_at es behind n losses x h
 lost_at (crashes c ∷ es) behind n losses x h = lost_at es behind n losses x h
 lost_at (returns m ∷ es) behind n losses x h = lost_at es behind n losses x h
@@ -80,7 +80,7 @@ lost_exactly es x = (taken es x, lost es x)
 -- what is kept of two parts
 pub kept-append : (g h : List Event) → kept (g ++ h) ≡ filter (λ x. not (is_lost h x)) (kept g) ++ kept h
 kept-append [] h = refl
-kept-append (opens c n ∷ es) h = kept-append es h
+kept-append (opens c n u ∷ es) h = kept-append es h
 kept-append (crashes c ∷ es) h = kept-append es h
 kept-append (returns n ∷ es) h = kept-append es h
 kept-append (fails n losses ∷ es) h = kept-append es h
@@ -106,7 +106,7 @@ only y x (suc k, few, is) = absurd (omega arith)
 
 kept_at : (before later : List Event) (x : Call) → is_lost later x ≡ false → Contains (kept (before ++ calls x ∷ later)) x
 kept_at [] later x safe = rw safe (first_of_kept (kept later) x)
-kept_at (opens c n ∷ es) later x safe = kept_at es later x safe
+kept_at (opens c n u ∷ es) later x safe = kept_at es later x safe
 kept_at (crashes c ∷ es) later x safe = kept_at es later x safe
 kept_at (returns n ∷ es) later x safe = kept_at es later x safe
 kept_at (fails n losses ∷ es) later x safe = kept_at es later x safe
@@ -121,7 +121,7 @@ later_on e es x s = record { before = e ∷ s.before; later = s.later; split = a
 
 pub stays : (h : List Event) (x : Call) → Contains (kept h) x → Stays h x
 stays [] x h = absurd (omega (arith, h.1))
-stays (opens c n ∷ es) x h = later_on (opens c n) es x (stays es x h)
+stays (opens c n u ∷ es) x h = later_on (opens c n u) es x (stays es x h)
 stays (crashes c ∷ es) x h = later_on (crashes c) es x (stays es x h)
 stays (returns n ∷ es) x h = later_on (returns n) es x (stays es x h)
 stays (fails n losses ∷ es) x h = later_on (fails n losses) es x (stays es x h)

@@ -2,6 +2,7 @@
 use Rattle.std.proofs.Common.{◌≡◌, ◌↔◌, ℕ, List, [], ◌∷◌, ◌++◌, refl, ap, sym, subst, ◌∙◌, append_assoc}
 use Rattle.assise_seq_tree.specs.Tree.{opening}
 use Rattle.assise_seq_tree.specs.Answer.{answer}
+use Rattle.assise_names.specs.declared.durability.Durability.{Durability}
 use Rattle.assise_history.specs.declared.call.Call.{Call}
 use Rattle.assise_history.specs.declared.call.Loss.{Loss}
 use Rattle.assise_history.specs.Entries.{Event, opens, calls, crashes, fails, returns}
@@ -29,8 +30,8 @@ pub call_answered : (h : List Event) (x : Call) → Fits h (calls x) → IsAnswe
 call_answered h x fits = run-last opening (kept h) x (subst (IsRun opening) (kept-call h x) fits.run)
 
 -- each kind of entry, there and back
-pub legal-open : (h : List Event) (c n : ℕ) → IsLegal h → MayOpen h c n → IsLegal (h ++ opens c n ∷ [])
-legal-open h c n legal may = legal-push h (opens c n) legal (fits_quiet h (opens c n) legal (kept-push h (opens c n)) may)
+pub legal-open : (h : List Event) (c n : ℕ) (u : Durability) → IsLegal h → MayOpen h c n → IsLegal (h ++ opens c n u ∷ [])
+legal-open h c n u legal may = legal-push h (opens c n u) legal (fits_quiet h (opens c n u) legal (kept-push h (opens c n u)) may)
 
 pub legal-call : (h : List Event) (x : Call) → IsLegal h → IsNextCall h x → IsAnswered h x → IsLegal (h ++ calls x ∷ [])
 legal-call h x legal next reply = legal-push h (calls x) legal (fits_call h x legal next reply)
@@ -44,8 +45,8 @@ legal-failure h n losses legal fair run = legal-push h (fails n losses) legal (f
 pub legal-return : (h : List Event) (n : ℕ) → IsLegal h → IsDown h n → IsLegal (h ++ returns n ∷ [])
 legal-return h n legal down = legal-push h (returns n) legal (fits_quiet h (returns n) legal (kept-push h (returns n)) down)
 
-pub open_more : (h : List Event) (c n : ℕ) → IsLegal (h ++ opens c n ∷ []) ↔ (IsLegal h × MayOpen h c n)
-open_more h c n = (λ all. (legal-front h (opens c n ∷ []) all, (legal-last h (opens c n) all).follows), λ p. legal-open h c n p.0 p.1)
+pub open_more : (h : List Event) (c n : ℕ) (u : Durability) → IsLegal (h ++ opens c n u ∷ []) ↔ (IsLegal h × MayOpen h c n)
+open_more h c n u = (λ all. (legal-front h (opens c n u ∷ []) all, (legal-last h (opens c n u) all).follows), λ p. legal-open h c n u p.0 p.1)
 
 pub call_more : (h : List Event) (x : Call) → IsLegal (h ++ calls x ∷ []) ↔ (IsLegal h × (IsNextCall h x × IsAnswered h x))
 call_more h x = (
@@ -93,7 +94,7 @@ abbrev Left : List Event → Type 0
 Left h = (before later : List Event) (n : ℕ) (losses : List Loss) → h ≡ before ++ fails n losses ∷ later → IsRun opening (kept (before ++ fails n losses ∷ []))
 
 fits_enough : (h : List Event) (e : Event) → IsLegal h → MayFollow h e → Answered (h ++ e ∷ []) → Left (h ++ e ∷ []) → Fits h e
-fits_enough h (opens c n) legal may answered left = fits_quiet h (opens c n) legal (kept-push h (opens c n)) may
+fits_enough h (opens c n u) legal may answered left = fits_quiet h (opens c n u) legal (kept-push h (opens c n u)) may
 fits_enough h (calls x) legal may answered left = fits_call h x legal may (answered h [] x refl)
 fits_enough h (crashes c) legal may answered left = fits_quiet h (crashes c) legal (kept-push h (crashes c)) may
 fits_enough h (fails n losses) legal may answered left = fits_failure h n losses may (left h [] n losses refl)

@@ -36,7 +36,7 @@ or_false false = refl
 -- a call more is kept
 pub is_lost-append : (es fs : List Event) (call : Call) → is_lost (es ++ fs) call ≡ (if is_lost es call then true else is_lost fs call)
 is_lost-append [] fs call = refl
-is_lost-append (opens c n ∷ es) fs call = is_lost-append es fs call
+is_lost-append (opens c n u ∷ es) fs call = is_lost-append es fs call
 is_lost-append (calls other ∷ es) fs call = is_lost-append es fs call
 is_lost-append (crashes c ∷ es) fs call = is_lost-append es fs call
 is_lost-append (returns n ∷ es) fs call = is_lost-append es fs call
@@ -48,7 +48,7 @@ is_lost-append (fails n losses ∷ es) fs call =
 
 pub kept-call : (es : List Event) (call : Call) → kept (es ++ calls call ∷ []) ≡ kept es ++ call ∷ []
 kept-call [] call = refl
-kept-call (opens c n ∷ es) call = kept-call es call
+kept-call (opens c n u ∷ es) call = kept-call es call
 kept-call (crashes c ∷ es) call = kept-call es call
 kept-call (returns n ∷ es) call = kept-call es call
 kept-call (fails n losses ∷ es) call = kept-call es call
@@ -62,7 +62,7 @@ kept-call (calls other ∷ es) call =
 -- a failure more keeps what it doesn't lose
 pub kept-fail : (es : List Event) (n : ℕ) (losses : _) → kept (es ++ fails n losses ∷ []) ≡ filter (λ call. not (loses losses call)) (kept es)
 kept-fail [] n losses = refl
-kept-fail (opens c m ∷ es) n losses = kept-fail es n losses
+kept-fail (opens c m u ∷ es) n losses = kept-fail es n losses
 kept-fail (crashes c ∷ es) n losses = kept-fail es n losses
 kept-fail (returns m ∷ es) n losses = kept-fail es n losses
 kept-fail (fails m others ∷ es) n losses = kept-fail es n losses
@@ -92,7 +92,7 @@ map-filter f p (x ∷ xs) =
 -- an entry more that is no call and loses none
 kept-quiet : (es : List Event) (e : Event) → ((call : Call) → is_lost (e ∷ []) call ≡ false) → kept (e ∷ []) ≡ [] → kept (es ++ e ∷ []) ≡ kept es
 kept-quiet [] e h none = none
-kept-quiet (opens c n ∷ es) e h none = kept-quiet es e h none
+kept-quiet (opens c n u ∷ es) e h none = kept-quiet es e h none
 kept-quiet (crashes c ∷ es) e h none = kept-quiet es e h none
 kept-quiet (returns n ∷ es) e h none = kept-quiet es e h none
 kept-quiet (fails n losses ∷ es) e h none = kept-quiet es e h none
@@ -106,7 +106,7 @@ kept-quiet (calls other ∷ es) e h none =
 pub kept-push : (es : List Event) (e : Event) → kept (es ++ e ∷ []) ≡ kept_more (kept es) e
 kept-push es (calls call) = kept-call es call
 kept-push es (fails n losses) = kept-fail es n losses
-kept-push es (opens c n) = kept-quiet es (opens c n) (λ call. refl) refl
+kept-push es (opens c n u) = kept-quiet es (opens c n u) (λ call. refl) refl
 kept-push es (crashes c) = kept-quiet es (crashes c) (λ call. refl) refl
 kept-push es (returns n) = kept-quiet es (returns n) (λ call. refl) refl
 

@@ -4,10 +4,11 @@ use Rattle.std.proofs.Common.{◌≡◌, ℕ, ◌+◌, ◌<◌, Bool, true, fals
 use Rattle.std.specs.List.{list_any}
 use Rattle.std.proofs.lemmas.Bool.{or_parts, or_from}
 use Rattle.std.proofs.lemmas.List.Folds.{list_any-append}
+use Rattle.assise_names.specs.declared.durability.Durability.{Durability}
 use Rattle.assise_history.specs.declared.call.Call.{Call}
 use Rattle.assise_history.specs.declared.call.Loss.{Loss}
 use Rattle.assise_history.specs.Entries.{Event, opens, calls, fails}
-use Rattle.assise_history.specs.Legal.{IsLegal, Fits, IsAlive, IsDown, IsOn, IsPastFsyncs, MayCall, calls_made, clients_opened, is_call_of, is_crash_of, is_failure_of, is_fsync, is_opening, is_return_of}
+use Rattle.assise_history.specs.Legal.{IsLegal, Fits, IsAlive, IsDown, IsOn, IsPastSyncs, MayCall, calls_made, clients_opened, is_call_of, is_crash_of, is_failure_of, is_opening, is_return_of, syncs}
 use Rattle.assise_history.proofs.Passing.{cut_end, not_nil}
 use Rattle.assise_history.proofs.Legality.{along}
 use Rattle.assise_history.proofs.Counting.{made_append, next_opened, opened_append, opened_within}
@@ -27,15 +28,16 @@ further h before since x e split = ap (λ g. g ++ e ∷ []) split ∙ append_ass
 
 -- ---- a client that may call
 
-pub may_call-opened : (h : List Event) (c n : ℕ) → MayCall (h ++ opens c n ∷ []) c
-may_call-opened h c n = record { node = n; before = h; since = []; split = refl; no_crash = refl; no_failure = refl }
+pub may_call-opened : (h : List Event) (c n : ℕ) (u : Durability) → MayCall (h ++ opens c n u ∷ []) c
+may_call-opened h c n u = record { node = n; durability = u; before = h; since = []; split = refl; no_crash = refl; no_failure = refl }
 
 pub may_call-push : (h : List Event) (e : Event) (c : ℕ) (m : MayCall h c) → is_crash_of c e ≡ false → is_failure_of m.node e ≡ false → MayCall (h ++ e ∷ []) c
 may_call-push h e c m crash failure = record {
   node = m.node;
+  durability = m.durability;
   before = m.before;
   since = m.since ++ e ∷ [];
-  split = further h m.before m.since (opens c m.node) e m.split;
+  split = further h m.before m.since (opens c m.node m.durability) e m.split;
   no_crash = none_more (is_crash_of c) m.since e m.no_crash crash;
   no_failure = none_more (is_failure_of m.node) m.since e m.no_failure failure;
 }
@@ -46,15 +48,15 @@ pub record StillCalls (h : List Event) (e : Event) (c : ℕ) : Type 0 where
   pub no_crash : is_crash_of c e ≡ false
   pub no_failure : is_failure_of could.node e ≡ false
 
-pub may_call-last : (h : List Event) (e : Event) (c : ℕ) → MayCall (h ++ e ∷ []) c → ((n : ℕ) × (e ≡ opens c n)) ⊎ StillCalls h e c
+pub may_call-last : (h : List Event) (e : Event) (c : ℕ) → MayCall (h ++ e ∷ []) c → ((n : ℕ) × ((u : Durability) × (e ≡ opens c n u))) ⊎ StillCalls h e c
 may_call-last h e c m =
-    elim (cut_end h e m.before (opens c m.node) m.since m.split) [
-      | inl last ↦ inl (m.node, last.last_is)
+    elim (cut_end h e m.before (opens c m.node m.durability) m.since m.split) [
+      | inl last ↦ inl (m.node, (m.durability, last.last_is))
       | inr earlier ↦
           let crash = none_before (is_crash_of c) earlier.rest e (subst (λ es. list_any (is_crash_of c) es ≡ false) earlier.more_is m.no_crash) in
           let failure = none_before (is_failure_of m.node) earlier.rest e (subst (λ es. list_any (is_failure_of m.node) es ≡ false) earlier.more_is m.no_failure) in
           inr record {
-            could = record { node = m.node; before = m.before; since = earlier.rest; split = earlier.split; no_crash = crash.0; no_failure = failure.0 };
+            could = record { node = m.node; durability = m.durability; before = m.before; since = earlier.rest; split = earlier.split; no_crash = crash.0; no_failure = failure.0 };
             no_crash = crash.1;
             no_failure = failure.1;
           }
@@ -62,47 +64,49 @@ may_call-last h e c m =
 
 -- ---- a client that is alive
 
-pub alive-opened : (h : List Event) (c n : ℕ) → IsAlive (h ++ opens c n ∷ []) c
-alive-opened h c n = record { node = n; before = h; since = []; split = refl; no_crash = refl }
+pub alive-opened : (h : List Event) (c n : ℕ) (u : Durability) → IsAlive (h ++ opens c n u ∷ []) c
+alive-opened h c n u = record { node = n; durability = u; before = h; since = []; split = refl; no_crash = refl }
 
 pub alive-push : (h : List Event) (e : Event) (c : ℕ) → IsAlive h c → is_crash_of c e ≡ false → IsAlive (h ++ e ∷ []) c
 alive-push h e c a crash = record {
   node = a.node;
+  durability = a.durability;
   before = a.before;
   since = a.since ++ e ∷ [];
-  split = further h a.before a.since (opens c a.node) e a.split;
+  split = further h a.before a.since (opens c a.node a.durability) e a.split;
   no_crash = none_more (is_crash_of c) a.since e a.no_crash crash;
 }
 
-pub alive-last : (h : List Event) (e : Event) (c : ℕ) → IsAlive (h ++ e ∷ []) c → ((n : ℕ) × (e ≡ opens c n)) ⊎ (IsAlive h c × (is_crash_of c e ≡ false))
+pub alive-last : (h : List Event) (e : Event) (c : ℕ) → IsAlive (h ++ e ∷ []) c → ((n : ℕ) × ((u : Durability) × (e ≡ opens c n u))) ⊎ (IsAlive h c × (is_crash_of c e ≡ false))
 alive-last h e c a =
-    elim (cut_end h e a.before (opens c a.node) a.since a.split) [
-      | inl last ↦ inl (a.node, last.last_is)
+    elim (cut_end h e a.before (opens c a.node a.durability) a.since a.split) [
+      | inl last ↦ inl (a.node, (a.durability, last.last_is))
       | inr earlier ↦
           let crash = none_before (is_crash_of c) earlier.rest e (subst (λ es. list_any (is_crash_of c) es ≡ false) earlier.more_is a.no_crash) in
-          inr (record { node = a.node; before = a.before; since = earlier.rest; split = earlier.split; no_crash = crash.0 }, crash.1)
+          inr (record { node = a.node; durability = a.durability; before = a.before; since = earlier.rest; split = earlier.split; no_crash = crash.0 }, crash.1)
     ]
 
 -- ---- a client on a node that hasn't failed since
 
-pub on-opened : (h : List Event) (c n : ℕ) → IsOn (h ++ opens c n ∷ []) c n
-on-opened h c n = record { before = h; since = []; split = refl; no_failure = refl }
+pub on-opened : (h : List Event) (c n : ℕ) (u : Durability) → IsOn (h ++ opens c n u ∷ []) c n
+on-opened h c n u = record { durability = u; before = h; since = []; split = refl; no_failure = refl }
 
 pub on-push : (h : List Event) (e : Event) (c n : ℕ) → IsOn h c n → is_failure_of n e ≡ false → IsOn (h ++ e ∷ []) c n
 on-push h e c n o failure = record {
+  durability = o.durability;
   before = o.before;
   since = o.since ++ e ∷ [];
-  split = further h o.before o.since (opens c n) e o.split;
+  split = further h o.before o.since (opens c n o.durability) e o.split;
   no_failure = none_more (is_failure_of n) o.since e o.no_failure failure;
 }
 
-pub on-last : (h : List Event) (e : Event) (c n : ℕ) → IsOn (h ++ e ∷ []) c n → (e ≡ opens c n) ⊎ (IsOn h c n × (is_failure_of n e ≡ false))
+pub on-last : (h : List Event) (e : Event) (c n : ℕ) → IsOn (h ++ e ∷ []) c n → ((u : Durability) × (e ≡ opens c n u)) ⊎ (IsOn h c n × (is_failure_of n e ≡ false))
 on-last h e c n o =
-    elim (cut_end h e o.before (opens c n) o.since o.split) [
-      | inl last ↦ inl last.last_is
+    elim (cut_end h e o.before (opens c n o.durability) o.since o.split) [
+      | inl last ↦ inl (o.durability, last.last_is)
       | inr earlier ↦
           let failure = none_before (is_failure_of n) earlier.rest e (subst (λ es. list_any (is_failure_of n) es ≡ false) earlier.more_is o.no_failure) in
-          inr (record { before = o.before; since = earlier.rest; split = earlier.split; no_failure = failure.0 }, failure.1)
+          inr (record { durability = o.durability; before = o.before; since = earlier.rest; split = earlier.split; no_failure = failure.0 }, failure.1)
     ]
 
 -- ---- a node that is down
@@ -131,33 +135,33 @@ down-last h e n d =
 -- ---- where nothing happened
 
 pub may_call-nil : (c : ℕ) → MayCall [] c → ⊥
-may_call-nil c m = not_nil m.before m.since (opens c m.node) m.split
+may_call-nil c m = not_nil m.before m.since (opens c m.node m.durability) m.split
 
 pub alive-nil : (c : ℕ) → IsAlive [] c → ⊥
-alive-nil c a = not_nil a.before a.since (opens c a.node) a.split
+alive-nil c a = not_nil a.before a.since (opens c a.node a.durability) a.split
 
 pub on-nil : (c n : ℕ) → IsOn [] c n → ⊥
-on-nil c n o = not_nil o.before o.since (opens c n) o.split
+on-nil c n o = not_nil o.before o.since (opens c n o.durability) o.split
 
 pub down-nil : (n : ℕ) → IsDown [] n → ⊥
 down-nil n d = not_nil d.before d.since (fails n d.losses) d.split
 
--- ---- fsyncs
+-- ---- syncs
 
-pub past_fsyncs-push : (h : List Event) (e : Event) (l : Loss) → ((x : Call) → e ≡ calls x → x.client ≡ l.client → is_fsync x.op ≡ true → x.number < l.first) → IsPastFsyncs h l → IsPastFsyncs (h ++ e ∷ []) l
-past_fsyncs-push h e l last all before since x split client fsync =
+pub past_syncs-push : (h : List Event) (e : Event) (l : Loss) → ((x : Call) → e ≡ calls x → x.client ≡ l.client → syncs h x ≡ true → x.number < l.first) → IsPastSyncs h l → IsPastSyncs (h ++ e ∷ []) l
+past_syncs-push h e l last all before since x split client sync =
     elim (cut_end h e before (calls x) since split) [
-      | inl end ↦ last x end.last_is client fsync
-      | inr earlier ↦ all before earlier.rest x earlier.split client fsync
+      | inl end ↦ last x end.last_is client (subst (λ g. syncs g x ≡ true) (sym end.front_is) sync)
+      | inr earlier ↦ all before earlier.rest x earlier.split client sync
     ]
 
-pub past_fsyncs-front : (h : List Event) (e : Event) (l : Loss) → IsPastFsyncs (h ++ e ∷ []) l → IsPastFsyncs h l
-past_fsyncs-front h e l all before since x split = all before (since ++ e ∷ []) x (further h before since (calls x) e split)
+pub past_syncs-front : (h : List Event) (e : Event) (l : Loss) → IsPastSyncs (h ++ e ∷ []) l → IsPastSyncs h l
+past_syncs-front h e l all before since x split = all before (since ++ e ∷ []) x (further h before since (calls x) e split)
 
 -- ---- counts
 
-pub opened-push : (h : List Event) (c n : ℕ) → clients_opened (h ++ opens c n ∷ []) ≡ clients_opened h + 1
-opened-push h c n = opened_append h (opens c n ∷ [])
+pub opened-push : (h : List Event) (c n : ℕ) (u : Durability) → clients_opened (h ++ opens c n u ∷ []) ≡ clients_opened h + 1
+opened-push h c n u = opened_append h (opens c n u ∷ [])
 
 pub opened-still : (h : List Event) (e : Event) → is_opening e ≡ false → clients_opened (h ++ e ∷ []) ≡ clients_opened h
 opened-still h e other = let all = opened_append h (e ∷ []) in let still = rw other at all in omega arith
@@ -175,49 +179,51 @@ made-still h e c other = let all = made_append c h (e ∷ []) in let still = rw 
 -- ---- one open of each client
 
 -- two places of an open are one
-pub record SamePlace (before since : List Event) (n : ℕ) (before2 since2 : List Event) (n2 : ℕ) : Type 0 where
+pub record SamePlace (before since : List Event) (n : ℕ) (u : Durability) (before2 since2 : List Event) (n2 : ℕ) (u2 : Durability) : Type 0 where
   pub front : before ≡ before2
   pub rest : since ≡ since2
   pub node : n ≡ n2
+  pub durability : u ≡ u2
 
 abbrev OnePlace : List Event → Type 0
-OnePlace h = (c n n2 : ℕ) (before since before2 since2 : List Event) → h ≡ before ++ opens c n ∷ since → h ≡ before2 ++ opens c n2 ∷ since2 → SamePlace before since n before2 since2 n2
+OnePlace h = (c n n2 : ℕ) (u u2 : Durability) (before since before2 since2 : List Event) → h ≡ before ++ opens c n u ∷ since → h ≡ before2 ++ opens c n2 u2 ∷ since2 → SamePlace before since n u before2 since2 n2 u2
 
-opened_late : (h : List Event) (c n m : ℕ) (before since : List Event) → IsLegal h → Fits h (opens c n) → h ≡ before ++ opens c m ∷ since → ⊥
-opened_late h c n m before since legal fits split =
-    let next = next_opened h c n fits in
-    let within = opened_within h before since c m legal split in
+opened_late : (h : List Event) (c n m : ℕ) (u v : Durability) (before since : List Event) → IsLegal h → Fits h (opens c n u) → h ≡ before ++ opens c m v ∷ since → ⊥
+opened_late h c n m u v before since legal fits split =
+    let next = next_opened h c n u fits in
+    let within = opened_within h before since c m v legal split in
     omega arith
 
 one_place_more : (h : List Event) (e : Event) → IsLegal h → Fits h e → OnePlace h → OnePlace (h ++ e ∷ [])
-one_place_more h e legal fits place c n n2 before since before2 since2 split split2 =
-    elim (cut_end h e before (opens c n) since split) [
-      | inl a ↦ elim (cut_end h e before2 (opens c n2) since2 split2) [
+one_place_more h e legal fits place c n n2 u u2 before since before2 since2 split split2 =
+    elim (cut_end h e before (opens c n u) since split) [
+      | inl a ↦ elim (cut_end h e before2 (opens c n2 u2) since2 split2) [
         | inl b ↦
-            let same : opens c n ≡ opens c n2 = sym a.last_is ∙ b.last_is in
+            let same : opens c n u ≡ opens c n2 u2 = sym a.last_is ∙ b.last_is in
             let node : n ≡ n2 = cc in
-            record { front = sym a.front_is ∙ b.front_is; rest = a.more_is ∙ sym b.more_is; node = node }
-        | inr b ↦ absurd (opened_late h c n n2 before2 b.rest legal (subst (Fits h) a.last_is fits) b.split)
+            let durability : u ≡ u2 = cc in
+            record { front = sym a.front_is ∙ b.front_is; rest = a.more_is ∙ sym b.more_is; node = node; durability = durability }
+        | inr b ↦ absurd (opened_late h c n n2 u u2 before2 b.rest legal (subst (Fits h) a.last_is fits) b.split)
       ]
-      | inr a ↦ elim (cut_end h e before2 (opens c n2) since2 split2) [
-        | inl b ↦ absurd (opened_late h c n2 n before a.rest legal (subst (Fits h) b.last_is fits) a.split)
+      | inr a ↦ elim (cut_end h e before2 (opens c n2 u2) since2 split2) [
+        | inl b ↦ absurd (opened_late h c n2 n u2 u before a.rest legal (subst (Fits h) b.last_is fits) a.split)
         | inr b ↦
-            let same = place c n n2 before a.rest before2 b.rest a.split b.split in
-            record { front = same.front; rest = a.more_is ∙ ap (λ es. es ++ e ∷ []) same.rest ∙ sym b.more_is; node = same.node }
+            let same = place c n n2 u u2 before a.rest before2 b.rest a.split b.split in
+            record { front = same.front; rest = a.more_is ∙ ap (λ es. es ++ e ∷ []) same.rest ∙ sym b.more_is; node = same.node; durability = same.durability }
       ]
     ]
 
-pub one_place : (h : List Event) → IsLegal h → (c n n2 : ℕ) (before since before2 since2 : List Event) → h ≡ before ++ opens c n ∷ since → h ≡ before2 ++ opens c n2 ∷ since2 → SamePlace before since n before2 since2 n2
-one_place = along OnePlace (λ c n n2 before since before2 since2 split split2. absurd (not_nil before since (opens c n) split)) one_place_more
+pub one_place : (h : List Event) → IsLegal h → (c n n2 : ℕ) (u u2 : Durability) (before since before2 since2 : List Event) → h ≡ before ++ opens c n u ∷ since → h ≡ before2 ++ opens c n2 u2 ∷ since2 → SamePlace before since n u before2 since2 n2 u2
+one_place = along OnePlace (λ c n n2 u u2 before since before2 since2 split split2. absurd (not_nil before since (opens c n u) split)) one_place_more
 
 -- a client may call that is alive, and whose node hasn't failed
 pub may_call-from : (h : List Event) (c n : ℕ) → IsLegal h → IsAlive h c → IsOn h c n → MayCall h c
 may_call-from h c n legal a o =
-    let same = one_place h legal c n a.node o.before o.since a.before a.since o.split a.split in
-    record { node = n; before = o.before; since = o.since; split = o.split; no_crash = subst (λ es. list_any (is_crash_of c) es ≡ false) (sym same.rest) a.no_crash; no_failure = o.no_failure }
+    let same = one_place h legal c n a.node o.durability a.durability o.before o.since a.before a.since o.split a.split in
+    record { node = n; durability = o.durability; before = o.before; since = o.since; split = o.split; no_crash = subst (λ es. list_any (is_crash_of c) es ≡ false) (sym same.rest) a.no_crash; no_failure = o.no_failure }
 
 pub alive_from : (h : List Event) (c : ℕ) → MayCall h c → IsAlive h c
-alive_from h c m = record { node = m.node; before = m.before; since = m.since; split = m.split; no_crash = m.no_crash }
+alive_from h c m = record { node = m.node; durability = m.durability; before = m.before; since = m.since; split = m.split; no_crash = m.no_crash }
 
 pub on_from : (h : List Event) (c : ℕ) (m : MayCall h c) → IsOn h c m.node
-on_from h c m = record { before = m.before; since = m.since; split = m.split; no_failure = m.no_failure }
+on_from h c m = record { durability = m.durability; before = m.before; since = m.since; split = m.split; no_failure = m.no_failure }

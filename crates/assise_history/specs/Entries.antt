@@ -1,11 +1,12 @@
 -- An entry of a history as clauses see it.
 use Rattle.std.specs.Prelude.{ℕ, List}
+use Rattle.assise_names.specs.declared.durability.Durability.{Durability}
 use Rattle.assise_history.specs.declared.call.Call.{Call}
 use Rattle.assise_history.specs.declared.call.Loss.{Loss}
 
 pub data Event : Type 0 where
-  -- a client was opened on a node
-  opens : ℕ → ℕ → Event
+  -- a client was opened on a node, to have its fsyncs served in one way
+  opens : ℕ → ℕ → Durability → Event
   -- a call was answered
   calls : Call → Event
   -- a client crashed

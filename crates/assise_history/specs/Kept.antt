@@ -17,7 +17,7 @@ loses losses x = list_any (λ l. (l.client == x.client) && nat_le l.first x.numb
 abbrev pub is_lost : List Event → Call → Bool
 is_lost [] x = false
 is_lost (fails n losses ∷ es) x = if loses losses x then true else is_lost es x
-is_lost (opens c n ∷ es) x = is_lost es x
+is_lost (opens c n u ∷ es) x = is_lost es x
 is_lost (calls other ∷ es) x = is_lost es x
 is_lost (crashes c ∷ es) x = is_lost es x
 is_lost (returns n ∷ es) x = is_lost es x
@@ -26,7 +26,7 @@ is_lost (returns n ∷ es) x = is_lost es x
 abbrev pub kept : List Event → List Call
 kept [] = []
 kept (calls x ∷ es) = if is_lost es x then kept es else x ∷ kept es
-kept (opens c n ∷ es) = kept es
+kept (opens c n u ∷ es) = kept es
 kept (crashes c ∷ es) = kept es
 kept (fails n losses ∷ es) = kept es
 kept (returns n ∷ es) = kept es
@@ -60,7 +60,7 @@ pub record Stays (h : List Event) (x : Call) : Type 0 where
 abbrev pub kept_more : List Call → Event → List Call
 kept_more cs (calls x) = cs ++ x ∷ []
 kept_more cs (fails n losses) = filter (λ x. not (loses losses x)) cs
-kept_more cs (opens c n) = cs
+kept_more cs (opens c n u) = cs
 kept_more cs (crashes c) = cs
 kept_more cs (returns n) = cs
 

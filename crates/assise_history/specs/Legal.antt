@@ -1,9 +1,11 @@
 -- What a legal history is: what stands in a front of it, which entry may come next, and that what is kept is a run.
--- Assise, section 3: prefix crash consistency, by which a failure takes no call up to the client's last fsync.
-use Rattle.std.specs.Prelude.{◌≡◌, ℕ, ◌+◌, ◌<◌, Bool, true, false, ◌==◌, List, [], ◌∷◌, ◌++◌, filter, length}
+-- Assise, section 3: prefix crash consistency, by which a failure takes no call up to the client's last sync.
+use Rattle.std.specs.Prelude.{◌≡◌, ℕ, ◌+◌, ◌<◌, Bool, true, false, if◌then◌else◌, ◌==◌, List, [], ◌∷◌, ◌++◌, filter, length}
 use Rattle.std.specs.List.{list_any}
 use Rattle.assise_names.specs.declared.call.Op.{Op}
-use Rattle.assise_names.specs.declared.call.Op.TheVariants.{Create, Mkdir, Read, Write, Truncate, Rename, Unlink, Rmdir, List as ListCall, Stat, Fsync}
+use Rattle.assise_names.specs.declared.call.Op.TheVariants.{Create, Mkdir, Read, Write, Truncate, Rename, Unlink, Rmdir, List as ListCall, Stat, Fsync, Dsync}
+use Rattle.assise_names.specs.declared.durability.Durability.{Durability}
+use Rattle.assise_names.specs.declared.durability.Durability.TheVariants.{Pessimistic, Optimistic}
 use Rattle.assise_seq_tree.specs.Tree.{opening}
 use Rattle.assise_history.specs.declared.call.Call.{Call}
 use Rattle.assise_history.specs.declared.call.Loss.{Loss}
@@ -13,7 +15,7 @@ use Rattle.assise_history.specs.Kept.{kept, IsRun}
 -- ---- the kind of an entry, and whose it is
 
 abbrev pub is_opening : Event → Bool
-is_opening (opens c n) = true
+is_opening (opens c n u) = true
 is_opening (calls x) = false
 is_opening (crashes c) = false
 is_opening (fails n losses) = false
@@ -21,45 +23,65 @@ is_opening (returns n) = false
 
 abbrev pub is_call_of : ℕ → Event → Bool
 is_call_of c (calls x) = c == x.client
-is_call_of c (opens d n) = false
+is_call_of c (opens d n u) = false
 is_call_of c (crashes d) = false
 is_call_of c (fails n losses) = false
 is_call_of c (returns n) = false
 
 abbrev pub is_crash_of : ℕ → Event → Bool
 is_crash_of c (crashes d) = c == d
-is_crash_of c (opens d n) = false
+is_crash_of c (opens d n u) = false
 is_crash_of c (calls x) = false
 is_crash_of c (fails n losses) = false
 is_crash_of c (returns n) = false
 
 abbrev pub is_failure_of : ℕ → Event → Bool
 is_failure_of n (fails m losses) = n == m
-is_failure_of n (opens c m) = false
+is_failure_of n (opens c m u) = false
 is_failure_of n (calls x) = false
 is_failure_of n (crashes c) = false
 is_failure_of n (returns m) = false
 
 abbrev pub is_return_of : ℕ → Event → Bool
 is_return_of n (returns m) = n == m
-is_return_of n (opens c m) = false
+is_return_of n (opens c m u) = false
 is_return_of n (calls x) = false
 is_return_of n (crashes c) = false
 is_return_of n (fails m losses) = false
 
--- the call is answered once all calls of its client before it are replicated (POSIX.1-2017, fsync())
-abbrev pub is_fsync : Op → Bool
-is_fsync (Create p) = false
-is_fsync (Mkdir p) = false
-is_fsync (Read p o n) = false
-is_fsync (Write p o d) = false
-is_fsync (Truncate p n) = false
-is_fsync (Rename p q) = false
-is_fsync (Unlink p) = false
-is_fsync (Rmdir p) = false
-is_fsync (ListCall p) = false
-is_fsync (Stat p) = false
-is_fsync Fsync = true
+-- how the client was opened, and last where that was more than once
+abbrev pub opened_as : ℕ → Durability → List Event → Durability
+opened_as c u [] = u
+opened_as c u (opens d n v ∷ es) = opened_as c (if d == c then v else u) es
+opened_as c u (calls x ∷ es) = opened_as c u es
+opened_as c u (crashes d ∷ es) = opened_as c u es
+opened_as c u (fails n losses ∷ es) = opened_as c u es
+opened_as c u (returns n ∷ es) = opened_as c u es
+
+-- pessimistic where it wasn't
+abbrev pub durability_of : ℕ → List Event → Durability
+durability_of c h = opened_as c Pessimistic h
+
+-- the call of a client that was opened so is answered once all calls of the client before it are replicated: a dsync, and
+-- a pessimistic fsync (POSIX.1-2017, fsync(); Assise, section 3: optimistic mode)
+abbrev pub is_sync : Op → Durability → Bool
+is_sync (Create p) u = false
+is_sync (Mkdir p) u = false
+is_sync (Read p o n) u = false
+is_sync (Write p o d) u = false
+is_sync (Truncate p n) u = false
+is_sync (Rename p q) u = false
+is_sync (Unlink p) u = false
+is_sync (Rmdir p) u = false
+is_sync (ListCall p) u = false
+is_sync (Stat p) u = false
+is_sync Fsync Pessimistic = true
+is_sync Fsync Optimistic = false
+is_sync Dsync u = true
+
+-- the call, behind these entries, is a sync of its client
+abbrev pub syncs : List Event → Call → Bool
+syncs before x = is_sync x.op (durability_of x.client before)
 
 -- ---- what stands in a history
 
@@ -74,24 +96,27 @@ calls_made c h = length (filter (is_call_of c) h)
 -- the client was opened, and hasn't crashed since
 pub record IsAlive (h : List Event) (c : ℕ) : Type 0 where
   pub node : ℕ
+  pub durability : Durability
   pub before : List Event
   pub since : List Event
-  pub split : h ≡ before ++ opens c node ∷ since
+  pub split : h ≡ before ++ opens c node durability ∷ since
   pub no_crash : list_any (is_crash_of c) since ≡ false
 
 -- the client was opened on the node, and the node hasn't failed since
 pub record IsOn (h : List Event) (c n : ℕ) : Type 0 where
+  pub durability : Durability
   pub before : List Event
   pub since : List Event
-  pub split : h ≡ before ++ opens c n ∷ since
+  pub split : h ≡ before ++ opens c n durability ∷ since
   pub no_failure : list_any (is_failure_of n) since ≡ false
 
 -- the client was opened, and neither has it crashed nor has its node failed since
 pub record MayCall (h : List Event) (c : ℕ) : Type 0 where
   pub node : ℕ
+  pub durability : Durability
   pub before : List Event
   pub since : List Event
-  pub split : h ≡ before ++ opens c node ∷ since
+  pub split : h ≡ before ++ opens c node durability ∷ since
   pub no_crash : list_any (is_crash_of c) since ≡ false
   pub no_failure : list_any (is_failure_of node) since ≡ false
 
@@ -103,14 +128,14 @@ pub record IsDown (h : List Event) (n : ℕ) : Type 0 where
   pub split : h ≡ before ++ fails n losses ∷ since
   pub no_return : list_any (is_return_of n) since ≡ false
 
--- what was fsynced stays: each of the client's fsyncs has a smaller number than its first lost call
-abbrev pub IsPastFsyncs : List Event → Loss → Type 0
-IsPastFsyncs h l = (before since : List Event) (x : Call) → h ≡ before ++ calls x ∷ since → x.client ≡ l.client → is_fsync x.op ≡ true → x.number < l.first
+-- what was synced stays: each of the client's syncs has a smaller number than its first lost call
+abbrev pub IsPastSyncs : List Event → Loss → Type 0
+IsPastSyncs h l = (before since : List Event) (x : Call) → h ≡ before ++ calls x ∷ since → x.client ≡ l.client → syncs before x ≡ true → x.number < l.first
 
 -- a failure of the node may lose these calls of a client
 pub record MayLose (h : List Event) (n : ℕ) (l : Loss) : Type 0 where
   pub on : IsOn h l.client n
-  pub past : IsPastFsyncs h l
+  pub past : IsPastSyncs h l
 
 -- the clients rise
 abbrev pub Rises : List Loss → Type 0
@@ -135,7 +160,7 @@ pub record IsFair (h : List Event) (n : ℕ) (losses : List Loss) : Type 0 where
 
 -- the entry may come next, whatever is kept then; a client that is alive may crash, and a node that is down may return
 abbrev pub MayFollow : List Event → Event → Type 0
-MayFollow h (opens c n) = MayOpen h c n
+MayFollow h (opens c n u) = MayOpen h c n
 MayFollow h (calls x) = IsNextCall h x
 MayFollow h (crashes c) = IsAlive h c
 MayFollow h (fails n losses) = IsFair h n losses

@@ -3,7 +3,7 @@ use Rattle.std.specs.Prelude.{ℕ, ◌≤◌, Bool, false, ◌==◌, List, filte
 use Rattle.assise_history.specs.Entries.{Event, opens, calls, crashes, fails, returns}
 
 abbrev pub is_opening_of : ℕ → Event → Bool
-is_opening_of c (opens d n) = d == c
+is_opening_of c (opens d n u) = d == c
 is_opening_of c (calls x) = false
 is_opening_of c (crashes d) = false
 is_opening_of c (fails n losses) = false

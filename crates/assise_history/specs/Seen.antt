@@ -4,7 +4,7 @@ use Rattle.assise_history.specs.declared.entry.EntryKind.{EntryKind}
 use Rattle.assise_history.specs.declared.entry.EntryKind.TheVariants.{Open, Call, Crash, Fail, Return}
 
 abbrev pub event_of : EntryKind → Event
-event_of (Open c n) = opens c n
+event_of (Open c n u) = opens c n u
 event_of (Call x) = calls x
 event_of (Crash c) = crashes c
 event_of (Fail n losses) = fails n losses.items

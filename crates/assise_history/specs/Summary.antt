@@ -2,11 +2,12 @@
 -- of a legal history (Legal.antt) doesn't speak of it: that both say the same is proved.
 use Rattle.std.specs.Prelude.{ℕ, ◌+◌, Bool, true, false, not, ◌&&◌, ◌==◌, nat_lt, if◌then◌else◌, List, [], ◌∷◌, ◌++◌, map, filter, length, Option, Some, None}
 use Rattle.std.specs.List.{list_any, list_all}
+use Rattle.assise_names.specs.declared.durability.Durability.{Durability}
 use Rattle.assise_history.specs.declared.call.Call.{Call}
 use Rattle.assise_history.specs.declared.call.Loss.{Loss}
 use Rattle.assise_history.specs.declared.front.ClientSummary.{ClientSummary}
 use Rattle.assise_history.specs.Entries.{Event, opens, calls, crashes, fails, returns}
-use Rattle.assise_history.specs.Legal.{is_fsync}
+use Rattle.assise_history.specs.Legal.{is_sync}
 
 -- its clients in the order of their opening, and the nodes that failed and are not back
 pub record Summary : Type 0 where
@@ -16,11 +17,11 @@ pub record Summary : Type 0 where
 abbrev pub nothing_yet : Summary
 nothing_yet = record { clients = []; down = [] }
 
-abbrev pub newly_opened : ℕ → ℕ → ClientSummary
-newly_opened c n = record { client = c; node = n; last = None; synced = None; crashed = false; failed = false }
+abbrev pub newly_opened : ℕ → ℕ → Durability → ClientSummary
+newly_opened c n u = record { client = c; node = n; durability = u; last = None; synced = None; crashed = false; failed = false }
 
 abbrev pub with_call : Call → ClientSummary → ClientSummary
-with_call x k = if k.client == x.client then record k { last = Some x.number; synced = if is_fsync x.op then Some x.number else k.synced } else k
+with_call x k = if k.client == x.client then record k { last = Some x.number; synced = if is_sync x.op k.durability then Some x.number else k.synced } else k
 
 abbrev pub with_crash : ℕ → ClientSummary → ClientSummary
 with_crash c k = if k.client == c then record k { crashed = true } else k
@@ -30,7 +31,7 @@ with_failure n k = if k.node == n then record k { failed = true } else k
 
 -- what is known after an entry more
 abbrev pub after : Summary → Event → Summary
-after s (opens c n) = record { clients = s.clients ++ newly_opened c n ∷ []; down = s.down }
+after s (opens c n u) = record { clients = s.clients ++ newly_opened c n u ∷ []; down = s.down }
 after s (calls x) = record { clients = map (with_call x) s.clients; down = s.down }
 after s (crashes c) = record { clients = map (with_crash c) s.clients; down = s.down }
 after s (fails n losses) = record { clients = map (with_failure n) s.clients; down = s.down ++ n ∷ [] }
@@ -75,7 +76,7 @@ is_fair s n losses = rise_from None losses && list_all (λ l. list_any (may_lose
 
 -- the entry may come after a front of which this is known
 abbrev pub follows : Summary → Event → Bool
-follows s (opens c n) = (c == length s.clients + 1) && not (is_down s n)
+follows s (opens c n u) = (c == length s.clients + 1) && not (is_down s n)
 follows s (calls x) = list_any (makes x) s.clients
 follows s (crashes c) = list_any (λ k. (k.client == c) && not k.crashed) s.clients
 follows s (fails n losses) = is_fair s n losses

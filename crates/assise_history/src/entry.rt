@@ -2,9 +2,10 @@
 ghost use Rattle.std.specs.Prelude.{◌≡◌, Some};
 ghost use Rattle.assise_history.specs.Entries.{opens, calls, crashes, fails, returns};
 ghost use Rattle.assise_history.specs.Seen.{event_of};
-ghost use Rattle.assise_history.specs.Text.{call_text, entry_text, losses_text};
+ghost use Rattle.assise_history.specs.Text.{call_text, durability_text, entry_text, losses_text};
 
 use crate::call::{Call, Loss};
+use assise_names::durability::Durability;
 use std::fmt;
 use std::fmt::{Display, Formatter};
 use std::marker::Model;
@@ -18,6 +19,8 @@ pub enum EntryKind {
         client: u32,
         /// Its node.
         node: u32,
+        /// How its fsyncs are served.
+        durability: Durability,
     },
     /// A call was answered.
     Call(Call),
@@ -64,12 +67,16 @@ impl Entry {
         &self.kind
     }
 
-    /// The opening of a client on a node.
-    pub fn open(client: u32, node: u32) -> Entry
-        ensures { result ≡ opens client node }
+    /// The opening of a client on a node, whose fsyncs are served so.
+    pub fn open(client: u32, node: u32, durability: Durability) -> Entry
+        ensures { result ≡ opens client node durability }
     {
         Entry {
-            kind: EntryKind::Open { client, node },
+            kind: EntryKind::Open {
+                client,
+                node,
+                durability,
+            },
         }
     }
 
@@ -116,7 +123,14 @@ impl Display for Entry {
 
     fn fmt<W: fmt::Write>(&self, f: &mut Formatter<W>) -> fmt::Result {
         match self.kind() {
-            EntryKind::Open { client, node } => write!(f, "open {client} {node}"),
+            EntryKind::Open {
+                client,
+                node,
+                durability,
+            } => {
+                let how = Opened(*durability);
+                write!(f, "open {client} {node}{how}")
+            }
             EntryKind::Call(call) => write!(f, "{call}"),
             EntryKind::Crash { client } => write!(f, "crash {client}"),
             EntryKind::Fail { node, losses } => {
@@ -137,6 +151,21 @@ impl Display for Call {
         let op = &self.op;
         let reply = &self.reply;
         write!(f, "call {client} {number} {op} = {reply}")
+    }
+}
+
+/// How a client was opened, where it isn't the usual way.
+#[derive(Drop)]
+struct Opened(Durability);
+
+impl Display for Opened {
+    ghost output = { λ opened. Some (durability_text opened.0) };
+
+    fn fmt<W: fmt::Write>(&self, f: &mut Formatter<W>) -> fmt::Result {
+        match self.0 {
+            Durability::Pessimistic => Ok(()),
+            Durability::Optimistic => write!(f, " optimistic"),
+        }
     }
 }
 

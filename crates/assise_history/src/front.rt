@@ -1,20 +1,22 @@
 // What a front of a history says.
 ghost use Rattle.std.specs.Prelude.{◌≡◌, ◌==◌, ◌&&◌, OnOk, map, filter, not};
-ghost use Rattle.assise_history.specs.Legal.{is_fsync};
+ghost use Rattle.assise_history.specs.Legal.{is_sync};
 ghost use Rattle.assise_history.specs.Summary.{after, follows, nothing_yet, newly_opened, is_fair, is_down, is_past, comes_next, makes, may_lose, rise_from, with_call, with_crash, with_failure};
 ghost use Rattle.std.specs.List.{list_any, list_all};
 
 use crate::call::{Call, Loss};
 use crate::entry::{Entry, EntryKind};
 use assise_names::call::Op;
+use assise_names::durability::Durability;
 use std::alloc::{AllocError, Global};
 use std::marker::Model;
 
-/// What a front of a history says of a client: its last call, its last fsync, and whether it crashed or its node failed.
+/// What a front of a history says of a client: how it was opened, its last call, its last sync, and whether it crashed or its node failed.
 #[derive(Clone, Copy, Debug)]
 struct ClientSummary {
     client: u32,
     node: u32,
+    durability: Durability,
     last: Option<u64>,
     synced: Option<u64>,
     crashed: bool,
@@ -51,7 +53,7 @@ impl Front {
         ensures { result ≡ follows self.now entry.now }
     {
         match entry.kind() {
-            EntryKind::Open { client, node } => {
+            EntryKind::Open { client, node, .. } => {
                 *client as usize == self.clients.len() + 1 && !self.is_down(*node)
             }
             EntryKind::Call(call) => some_makes(self.clients.as_slice(), call),
@@ -78,8 +80,12 @@ impl Front {
         ensures { OnOk result (self.new ≡ after self.old entry.now) }
     {
         match entry.kind() {
-            EntryKind::Open { client, node } => {
-                self.clients.push(opened(*client, *node))?;
+            EntryKind::Open {
+                client,
+                node,
+                durability,
+            } => {
+                self.clients.push(opened(*client, *node, *durability))?;
                 Ok(())
             }
             EntryKind::Call(call) => {
@@ -103,12 +109,13 @@ impl Front {
     }
 }
 
-fn opened(client: u32, node: u32) -> ClientSummary
-    ensures { result ≡ newly_opened client node }
+fn opened(client: u32, node: u32, durability: Durability) -> ClientSummary
+    ensures { result ≡ newly_opened client node durability }
 {
     ClientSummary {
         client,
         node,
+        durability,
         last: None,
         synced: None,
         crashed: false,
@@ -116,8 +123,8 @@ fn opened(client: u32, node: u32) -> ClientSummary
     }
 }
 
-fn is_fsync(op: &Op) -> bool
-    ensures { result ≡ is_fsync op.now }
+fn is_sync(op: &Op, durability: Durability) -> bool
+    ensures { result ≡ is_sync op.now durability }
 {
     match op {
         Op::Create(_) => false,
@@ -130,7 +137,11 @@ fn is_fsync(op: &Op) -> bool
         Op::Rmdir(_) => false,
         Op::List(_) => false,
         Op::Stat(_) => false,
-        Op::Fsync => true,
+        Op::Fsync => match durability {
+            Durability::Pessimistic => true,
+            Durability::Optimistic => false,
+        },
+        Op::Dsync => true,
     }
 }
 
@@ -208,7 +219,7 @@ fn with_call(call: &Call, k: ClientSummary) -> ClientSummary
     if k.client != call.client {
         return k;
     }
-    let synced = if is_fsync(&call.op) {
+    let synced = if is_sync(&call.op, k.durability) {
         Some(call.number)
     } else {
         k.synced

@@ -4,8 +4,9 @@ ghost use Rattle.assise_history.specs.declared.call.Call.{Call};
 ghost use Rattle.assise_history.specs.declared.call.Loss.{Loss};
 ghost use Rattle.assise_history.specs.Entries.{Event, calls, crashes, fails, opens, returns};
 ghost use Rattle.assise_history.specs.Kept.{IsRun, IsTaken, Stays, is_lost, kept, kept_more, tree_after};
-ghost use Rattle.assise_history.specs.Legal.{Fits, IsAlive, IsDown, IsFair, IsLegal, IsNextCall, IsOn, IsPastFsyncs, MayCall, MayFollow, MayOpen, Rises, calls_made, clients_opened};
+ghost use Rattle.assise_history.specs.Legal.{Fits, IsAlive, IsDown, IsFair, IsLegal, IsNextCall, IsOn, IsPastSyncs, MayCall, MayFollow, MayOpen, Rises, calls_made, clients_opened};
 ghost use Rattle.assise_history.specs.Opened.{OpensOnce};
+ghost use Rattle.assise_names.specs.declared.durability.Durability.{Durability};
 ghost use Rattle.assise_seq_tree.specs.Tree.{opening};
 ghost use Rattle.assise_seq_tree.specs.Answer.{answer};
 
@@ -27,7 +28,8 @@ pub fn each_entry_may_follow_those_before_it()
 /// was opened and hasn't crashed; a failure is fair, and what it leaves is a run; and a node returns that is down.
 pub fn one_entry_more()
     ensures any { (h : List Event) (e : Event) → IsLegal (h ++ e ∷ []) ↔ (IsLegal h × Fits h e) }
-    ensures opened { (h : List Event) (c n : ℕ) → IsLegal (h ++ opens c n ∷ []) ↔ (IsLegal h × MayOpen h c n) }
+    ensures opened { (h : List Event) (c n : ℕ) (u : Durability) →
+        IsLegal (h ++ opens c n u ∷ []) ↔ (IsLegal h × MayOpen h c n) }
     ensures called { (h : List Event) (x : Call) → IsLegal (h ++ calls x ∷ []) ↔ (IsLegal h × (IsNextCall h x × (x.reply ≡ (answer (tree_after opening (kept h)) x.op).0))) }
     ensures crashed { (h : List Event) (c : ℕ) → IsLegal (h ++ crashes c ∷ []) ↔ (IsLegal h × IsAlive h c) }
     ensures failed { (h : List Event) (n : ℕ) (losses : List Loss) → IsLegal (h ++ fails n losses ∷ []) ↔ (IsLegal h × (IsFair h n losses × IsRun opening (kept (h ++ fails n losses ∷ [])))) }
@@ -45,9 +47,11 @@ pub fn a_call_is_the_next_of_an_open_client()
 /// Clients are numbered from 1 in the order of their opening, so that none is opened twice. An open names a node
 /// that isn't down, and a return one that is.
 pub fn clients_are_opened_in_order()
-    ensures next { (h before later : List Event) (c n : ℕ) → IsLegal h → h ≡ before ++ opens c n ∷ later → c ≡ clients_opened before + 1 }
+    ensures next { (h before later : List Event) (c n : ℕ) (u : Durability) → IsLegal h →
+        h ≡ before ++ opens c n u ∷ later → c ≡ clients_opened before + 1 }
     ensures once { (h : List Event) → IsLegal h → OpensOnce h }
-    ensures up { (h before later : List Event) (c n : ℕ) → IsLegal h → h ≡ before ++ opens c n ∷ later → IsDown before n → ⊥ }
+    ensures up { (h before later : List Event) (c n : ℕ) (u : Durability) → IsLegal h →
+        h ≡ before ++ opens c n u ∷ later → IsDown before n → ⊥ }
     ensures down { (h before later : List Event) (n : ℕ) → IsLegal h → h ≡ before ++ returns n ∷ later → IsDown before n }
 {}
 
@@ -57,11 +61,12 @@ pub fn only_an_open_client_crashes()
 {}
 
 /// A failure lists clients that were opened on its node, with no failure of the node between, once each, and it
-/// takes none of a client's calls up to its last fsync.
+/// takes none of a client's calls up to its last sync.
 pub fn a_failure_is_fair()
     ensures rising { (h before later : List Event) (n : ℕ) (losses : List Loss) → IsLegal h → h ≡ before ++ fails n losses ∷ later → Rises losses }
     ensures on { (h before later : List Event) (n : ℕ) (lower higher : List Loss) (l : Loss) → IsLegal h → h ≡ before ++ fails n (lower ++ l ∷ higher) ∷ later → IsOn before l.client n }
-    ensures past { (h before later : List Event) (n : ℕ) (lower higher : List Loss) (l : Loss) → IsLegal h → h ≡ before ++ fails n (lower ++ l ∷ higher) ∷ later → IsPastFsyncs before l }
+    ensures past { (h before later : List Event) (n : ℕ) (lower higher : List Loss) (l : Loss) →
+        IsLegal h → h ≡ before ++ fails n (lower ++ l ∷ higher) ∷ later → IsPastSyncs before l }
 {}
 
 /// A call is lost exactly where a later failure lists its client from it or from an earlier call on.

@@ -10,6 +10,7 @@ use assise_history::kept::kept;
 use assise_history::replay::replay;
 use assise_names::byte_string::ByteString;
 use assise_names::call::Op;
+use assise_names::durability::Durability;
 use assise_names::name::Name;
 use assise_names::name_list::NameList;
 use assise_names::path::Path;
@@ -130,10 +131,14 @@ fn failure(alloc: Global, rt: &impl Abort, text: &str) -> Entry {
     Entry::fail(small_number(rt, node), losses)
 }
 
-/// An open, of `CLIENT NODE`.
+/// An open, of `CLIENT NODE`, with `optimistic` behind it where it isn't the usual one.
 fn open(rt: &impl Abort, words: &str) -> Entry {
     let (client, node) = first(rt, words);
-    Entry::open(small_number(rt, client), small_number(rt, node))
+    let (node, durability) = match node.strip_suffix(" optimistic") {
+        Some(node) => (node, Durability::Optimistic),
+        None => (node, Durability::Pessimistic),
+    };
+    Entry::open(small_number(rt, client), small_number(rt, node), durability)
 }
 
 fn entry(alloc: Global, rt: &impl Abort, line: &str) -> Entry {
@@ -305,6 +310,23 @@ call 2 0 fsync = done
 fail 1 1:0
 open 3 2
 call 3 0 stat /a = E1 NoEnt
+
+legal: a failure takes an optimistic client's fsync, and what is before it
+open 1 1 optimistic
+open 2 2
+call 1 0 create /a = done
+call 1 1 fsync = done
+fail 1 1:0
+call 2 0 stat /a = E1 NoEnt
+
+legal: a failure takes what an optimistic client called behind its last dsync
+open 1 1 optimistic
+open 2 2
+call 1 0 create /a = done
+call 1 1 dsync = done
+call 1 2 fsync = done
+fail 1 1:2
+call 2 0 stat /a = file 0
 
 legal: a directory is filled, listed, emptied and removed
 open 1 1
@@ -502,6 +524,18 @@ call 1 0 fsync = done
 call 1 1 create /a = done
 call 1 2 fsync = done
 fail 1 1:1
+
+illegal: a loss of an optimistic client's call before its dsync
+open 1 1 optimistic
+call 1 0 create /a = done
+call 1 1 dsync = done
+call 1 2 fsync = done
+fail 1 1:1
+
+illegal: a loss of a pessimistic client's dsync
+open 1 1
+call 1 0 dsync = done
+fail 1 1:0
 
 illegal: such losses of one of two clients
 open 1 1

@@ -1,7 +1,7 @@
 -- What is planned for a call.
 use Rattle.std.specs.Prelude.{◌≡◌, ◌≤◌, ℕ, List, [], length, Option, Some, None}
 use Rattle.assise_names.specs.declared.call.Op.{Op}
-use Rattle.assise_names.specs.declared.call.Op.TheVariants.{Create, Mkdir, Read as ReadCall, Write as WriteCall, Truncate, Rename, Unlink, Rmdir, List as ListCall, Stat, Fsync}
+use Rattle.assise_names.specs.declared.call.Op.TheVariants.{Create, Mkdir, Read as ReadCall, Write as WriteCall, Truncate, Rename, Unlink, Rmdir, List as ListCall, Stat, Fsync, Dsync}
 use Rattle.assise_names.specs.declared.mode.Mode.{Mode}
 use Rattle.assise_names.specs.declared.reply.Reply.{Reply}
 use Rattle.assise_record.specs.declared.effect.Effect.{Effect}
@@ -63,3 +63,4 @@ IsWritable (Rmdir p) = Unit {0}
 IsWritable (ListCall p) = Unit {0}
 IsWritable (Stat p) = Unit {0}
 IsWritable Fsync = Unit {0}
+IsWritable Dsync = Unit {0}

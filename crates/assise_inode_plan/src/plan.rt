@@ -76,7 +76,7 @@ pub enum Planned {
 ///   [`Op::Unlink`].
 /// - [`Op::List`]: the walk; a file is [`TreeError::NotDir`]. The names rise by their bytes.
 /// - [`Op::Stat`]: the walk.
-/// - [`Op::Fsync`]: no check, no visit and no effect; it is done.
+/// - [`Op::Fsync`], [`Op::Dsync`]: no check, no visit and no effect; it is done.
 ///
 /// The one refusal is [`Refusal::OutOfMemory`]. Memory is asked for only where the first inode that the call visits is
 /// leased: what visits nothing, as [`Op::Fsync`] and a change of the root itself, is answered without, and so is a
@@ -157,5 +157,6 @@ fn plan_call<V: View>(alloc: Global, view: &V, op: &Op, fresh: u64) -> Result<Pl
         Op::List(path) => plan_list(alloc, view, path.names()),
         Op::Stat(path) => plan_stat(alloc, view, path.names()),
         Op::Fsync => Ok(answered(alloc, Reply::Done, Vec::new(alloc))),
+        Op::Dsync => Ok(answered(alloc, Reply::Done, Vec::new(alloc))),
     }
 }

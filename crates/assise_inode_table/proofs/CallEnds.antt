@@ -6,7 +6,7 @@ use Rattle.std.specs.FinMap as map
 use Rattle.std.proofs.lemmas.Bool.{eqb-true}
 use Rattle.assise_names.specs.Path.{is_proper_front, same_path}
 use Rattle.assise_names.specs.declared.call.Op.{Op}
-use Rattle.assise_names.specs.declared.call.Op.TheVariants.{Create, Mkdir, Read, Write as WriteCall, Truncate, Rename, Unlink as UnlinkCall, Rmdir, List as ListCall, Stat, Fsync}
+use Rattle.assise_names.specs.declared.call.Op.TheVariants.{Create, Mkdir, Read, Write as WriteCall, Truncate, Rename, Unlink as UnlinkCall, Rmdir, List as ListCall, Stat, Fsync, Dsync}
 use Rattle.assise_names.specs.declared.reply.Reply.{Reply}
 use Rattle.assise_names.specs.declared.reply.Reply.TheVariants.{Done, Bytes, Names, Error}
 use Rattle.assise_names.specs.declared.reply.TreeError.{TreeError}
@@ -37,6 +37,7 @@ HoldsWhereDone P (Rmdir p) fresh = (d i : ℕ) → P Done (Unlink d (last_name p
 HoldsWhereDone P (ListCall p) fresh = (names : List (List ℕ)) → P (Names names) []
 HoldsWhereDone P (Stat p) fresh = (content : Content) → P (description_of content) []
 HoldsWhereDone P Fsync fresh = P Done []
+HoldsWhereDone P Dsync fresh = P Done []
 
 module _ (v : Values) (P : Reply → List Effect → Type 0) (faults : (e : TreeError) → P (Error e) []) where
   abbrev Ends : Interaction → Type 0
@@ -94,6 +95,7 @@ module _ (v : Values) (P : Reply → List Effect → Type 0) (faults : (e : Tree
   call_ends (ListCall p) fresh h = walked 0 p _ (λ i content. or_error (as_links content) _ (λ links. h (map.keys links)))
   call_ends (Stat p) fresh h = walked 0 p _ (λ i content. h content)
   call_ends Fsync fresh h = h
+  call_ends Dsync fresh h = h
 
 -- ---- a call has at most four effects
 
@@ -116,6 +118,7 @@ few_where_done (Rmdir p) fresh = λ d i. omega arith
 few_where_done (ListCall p) fresh = λ names. omega arith
 few_where_done (Stat p) fresh = λ content. omega arith
 few_where_done Fsync fresh = omega arith
+few_where_done Dsync fresh = omega arith
 
 pub few_effects : (v : Values) (op : Op) (fresh : ℕ) → length (step v op fresh).effects ≤ 4
 few_effects v op fresh = call_ends v AreFew (λ e. omega arith) op fresh (few_where_done op fresh)
@@ -145,6 +148,7 @@ own_where_done (Rmdir p) fresh = λ d i j h. cc
 own_where_done (ListCall p) fresh = λ names j h. cc
 own_where_done (Stat p) fresh = λ content j h. cc
 own_where_done Fsync fresh = λ j h. cc
+own_where_done Dsync fresh = λ j h. cc
 
 pub makes_own : (v : Values) (op : Op) (fresh i : ℕ) → list_any (makes i) (step v op fresh).effects ≡ true → (i ≡ fresh) × (makes_inode op (step v op fresh).reply ≡ true)
 makes_own v op fresh = call_ends v (MakesOwn op fresh) (λ e i h. cc) op fresh (own_where_done op fresh)

@@ -2,7 +2,7 @@
 use Rattle.std.proofs.Common.{◌≡◌, ℕ, true, None}
 use Rattle.std.specs.List.{list_any}
 use Rattle.assise_names.specs.declared.call.Op.{Op}
-use Rattle.assise_names.specs.declared.call.Op.TheVariants.{Create, Mkdir, Read, Write, Truncate, Rename, Unlink, Rmdir, List as ListCall, Stat, Fsync}
+use Rattle.assise_names.specs.declared.call.Op.TheVariants.{Create, Mkdir, Read, Write, Truncate, Rename, Unlink, Rmdir, List as ListCall, Stat, Fsync, Dsync}
 use Rattle.assise_seq_tree.specs.Tree.{Tree}
 use Rattle.assise_seq_tree.specs.Answer.{answer}
 use Rattle.assise_inode_table.specs.Contents.{Values}
@@ -11,7 +11,7 @@ use Rattle.assise_inode_table.specs.Calls.{interaction, step}
 use Rattle.assise_inode_table.specs.Spelled.{Spells}
 use Rattle.assise_inode_table.proofs.Agreeing.{Agrees}
 use Rattle.assise_inode_table.proofs.Meeting.{settled}
-use Rattle.assise_inode_table.proofs.QuietCalls.{stat_agrees, read_agrees, list_agrees, fsync_agrees}
+use Rattle.assise_inode_table.proofs.QuietCalls.{stat_agrees, read_agrees, list_agrees, sync_agrees}
 use Rattle.assise_inode_table.proofs.WritingCalls.{write_agrees, truncate_agrees}
 use Rattle.assise_inode_table.proofs.MakingCalls.{create_agrees, mkdir_agrees}
 use Rattle.assise_inode_table.proofs.RenamingCalls.{rename_agrees}
@@ -28,7 +28,8 @@ agrees_all v t (Unlink p) fresh s = unlink_agrees v t p fresh s
 agrees_all v t (Rmdir p) fresh s = rmdir_agrees v t p fresh s
 agrees_all v t (ListCall p) fresh s = list_agrees v t p fresh s
 agrees_all v t (Stat p) fresh s = stat_agrees v t p fresh s
-agrees_all v t Fsync fresh s = fsync_agrees v t fresh s
+agrees_all v t Fsync fresh s = sync_agrees v t fresh s
+agrees_all v t Dsync fresh s = sync_agrees v t fresh s
 
 pub step_replies : (v : Values) (t : Tree) (op : Op) (fresh : ℕ) → Spells v t → (step v op fresh).reply ≡ (answer t op).0
 step_replies v t op fresh s = (agrees_all v t op fresh s).0

@@ -39,5 +39,5 @@ list_agrees v t p fresh s = go (meets v t p s)
     go (a_file f) = agrees_quietly v t fresh _ _ (Error NotDir) s (walk_to_file v t p _ f) (rw f.there refl)
     go (a_directory d) = agrees_quietly v t fresh _ _ (Names (map.keys d.links)) s (walk_to_directory v t p _ d) (rw (d.there, d.names) refl)
 
-pub fsync_agrees : (v : Values) (t : Tree) (fresh : ℕ) → Spells v t → Agrees v fresh (settled v (finish Done [])) (Done, t)
-fsync_agrees v t fresh s = agrees_quietly v t fresh (Done, []) (Done, t) Done s refl refl
+pub sync_agrees : (v : Values) (t : Tree) (fresh : ℕ) → Spells v t → Agrees v fresh (settled v (finish Done [])) (Done, t)
+sync_agrees v t fresh s = agrees_quietly v t fresh (Done, []) (Done, t) Done s refl refl

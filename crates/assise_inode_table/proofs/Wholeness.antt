@@ -1,7 +1,7 @@
 -- The effects of a call can be made all or none.
 use Rattle.std.proofs.Common.{ℕ, ◌==◌, Bool, true, false, cond, List, [], ◌∷◌, length, refl, inl, inr}
 use Rattle.assise_names.specs.declared.call.Op.{Op}
-use Rattle.assise_names.specs.declared.call.Op.TheVariants.{Create, Mkdir, Read, Write as WriteCall, Truncate, Rename, Unlink as UnlinkCall, Rmdir, List as ListCall, Stat, Fsync}
+use Rattle.assise_names.specs.declared.call.Op.TheVariants.{Create, Mkdir, Read, Write as WriteCall, Truncate, Rename, Unlink as UnlinkCall, Rmdir, List as ListCall, Stat, Fsync, Dsync}
 use Rattle.assise_names.specs.declared.reply.Reply.{Reply}
 use Rattle.assise_record.specs.Patch.{Patch}
 use Rattle.assise_record.specs.declared.effect.Effect.{Effect}
@@ -35,6 +35,7 @@ whole_where_done (Rmdir p) fresh = λ d i. inr (inl (tt, tt))
 whole_where_done (ListCall p) fresh = λ names. inr (inl tt)
 whole_where_done (Stat p) fresh = λ content. inr (inl tt)
 whole_where_done Fsync fresh = inr (inl tt)
+whole_where_done Dsync fresh = inr (inl tt)
 
 pub effects_whole : (v : Values) (op : Op) (fresh : ℕ) → CanBeMadeWhole (step v op fresh).effects
 effects_whole v op fresh = call_ends v IsWhole (λ e. inr (inl tt)) op fresh (whole_where_done op fresh)

@@ -4,7 +4,7 @@ use Rattle.std.specs.Prelude.{ℕ, Bool, ◌||◌, if◌then◌else◌, nat_le, 
 use Rattle.std.specs.FinMap as map
 use Rattle.assise_names.specs.Path.{is_proper_front, same_path}
 use Rattle.assise_names.specs.declared.call.Op.{Op}
-use Rattle.assise_names.specs.declared.call.Op.TheVariants.{Create, Mkdir, Read, Write as WriteCall, Truncate, Rename, Unlink as UnlinkCall, Rmdir, List as ListCall, Stat, Fsync}
+use Rattle.assise_names.specs.declared.call.Op.TheVariants.{Create, Mkdir, Read, Write as WriteCall, Truncate, Rename, Unlink as UnlinkCall, Rmdir, List as ListCall, Stat, Fsync, Dsync}
 use Rattle.assise_names.specs.declared.reply.Reply.{Reply}
 use Rattle.assise_names.specs.declared.reply.Reply.TheVariants.{Done, Bytes, Names, File, Dir, Error}
 use Rattle.assise_names.specs.declared.reply.TreeError.{TreeError}
@@ -155,6 +155,7 @@ interaction (Rmdir p) fresh = rmdir_call p
 interaction (ListCall p) fresh = list_call p
 interaction (Stat p) fresh = stat_call p
 interaction Fsync fresh = finish Done []
+interaction Dsync fresh = finish Done []
 
 -- what a call is over the values of inodes
 abbrev pub step : Values → Op → ℕ → Step

@@ -3,7 +3,7 @@
 use Rattle.std.specs.Prelude.{ℕ, ◌+◌, ◌*◌, Bool, true, false, ◌==◌, ◌&&◌, List, [], ◌∷◌, ◌++◌}
 use Rattle.std.specs.List.{count_by}
 use Rattle.assise_names.specs.declared.call.Op.{Op}
-use Rattle.assise_names.specs.declared.call.Op.TheVariants.{Create, Mkdir, Read, Write, Truncate, Rename, Unlink, Rmdir, List as ListCall, Stat, Fsync}
+use Rattle.assise_names.specs.declared.call.Op.TheVariants.{Create, Mkdir, Read, Write, Truncate, Rename, Unlink, Rmdir, List as ListCall, Stat, Fsync, Dsync}
 use Rattle.assise_names.specs.declared.reply.Reply.{Reply}
 use Rattle.assise_names.specs.declared.reply.Reply.TheVariants.{Done, Bytes, Names, File, Dir, Error}
 use Rattle.assise_inode_table.specs.Traces.{NumberedCall}
@@ -40,6 +40,7 @@ makes_inode (Rmdir p) reply = false
 makes_inode (ListCall p) reply = false
 makes_inode (Stat p) reply = false
 makes_inode Fsync reply = false
+makes_inode Dsync reply = false
 
 -- how many inodes a client made
 abbrev pub inodes_made : ℕ → List AnsweredCall → ℕ

@@ -11,7 +11,7 @@ use Rattle.assise_keeper.specs.Clients.{openings, calls_by, Extends, client_afte
 
 pub client_stays : (d : ℕ) (xs : List Event) → MayAddAll (Some d) xs → client_after (Some d) xs ≡ Some d
 client_stays d [] own = refl
-client_stays d (opens e n ∷ xs) own = absurd (let none = own.0 in (cc))
+client_stays d (opens e n u ∷ xs) own = absurd (let none = own.0 in (cc))
 client_stays d (calls x ∷ xs) own = client_stays d xs own.1
 client_stays d (crashes e ∷ xs) own = client_stays d xs own.1
 client_stays d (fails e ls ∷ xs) own = client_stays d xs own.1
@@ -20,7 +20,7 @@ client_stays d (returns e ∷ xs) own = client_stays d xs own.1
 -- who isn't the client afterwards has no call among what was added
 pub no_calls : (d : ℕ) (c : Option ℕ) (xs : List Event) → MayAddAll c xs → ¬ (client_after c xs ≡ Some d) → calls_by d xs ≡ []
 no_calls d c [] own other = refl
-no_calls d c (opens e n ∷ xs) own other = no_calls d (Some e) xs own.1 other
+no_calls d c (opens e n u ∷ xs) own other = no_calls d (Some e) xs own.1 other
 no_calls d c (calls x ∷ xs) own other =
     let e : ℕ = x.client in
     let own' : MayAddAll (Some e) xs = subst (λ (z : Option ℕ). MayAddAll z xs) own.0 own.1 in
@@ -34,7 +34,7 @@ no_calls d c (returns e ∷ xs) own other = no_calls d c xs own.1 other
 -- the client afterwards is the client before, or was opened
 pub was_or_opened : (d : ℕ) (c : Option ℕ) (xs : List Event) → MayAddAll c xs → client_after c xs ≡ Some d → (c ≡ Some d) ⊎ (0 < openings d xs)
 was_or_opened d c [] own is = inl is
-was_or_opened d c (opens e n ∷ xs) own is =
+was_or_opened d c (opens e n u ∷ xs) own is =
     let stays : client_after (Some e) xs ≡ Some e = client_stays e xs own.1 in
     let same : Some e ≡ Some d = sym stays ∙ is in
     let same' : d ≡ e = cc in

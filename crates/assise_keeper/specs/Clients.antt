@@ -25,7 +25,7 @@ Extends h front = (more : List Event) × (h ≡ front ++ more)
 
 -- the client of a pass that added the entry
 abbrev pub client_with : Option ℕ → Event → Option ℕ
-client_with c (opens d n) = Some d
+client_with c (opens d n u) = Some d
 client_with c (calls x) = c
 client_with c (crashes d) = c
 client_with c (fails n losses) = c
@@ -38,7 +38,7 @@ client_after c (e ∷ es) = client_after (client_with c e) es
 
 -- a pass with this client, or none, may add the entry
 abbrev pub MayAdd : Option ℕ → Event → Type 0
-MayAdd c (opens d n) = c ≡ None
+MayAdd c (opens d n u) = c ≡ None
 MayAdd c (calls x) = c ≡ Some x.client
 MayAdd c (crashes d) = Unit {0}
 MayAdd c (fails n losses) = Unit {0}

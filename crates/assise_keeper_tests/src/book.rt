@@ -8,6 +8,7 @@ use assise_history::entry::Entry;
 use assise_history::growing::Growing;
 use assise_history::history::History;
 use assise_names::call::Op;
+use assise_names::durability::Durability;
 use assise_names::refusal::Refusal;
 use assise_names::reply::Reply;
 use std::alloc::Global;
@@ -30,6 +31,7 @@ impl Growing for Book {
 
 impl Book {
     ghost use Rattle.std.specs.Prelude.{◌≡◌, [], ◌∷◌, ◌++◌, IfOk, OnErr};
+    ghost use Rattle.assise_names.specs.declared.durability.Durability.TheVariants.{Pessimistic};
     ghost use Rattle.assise_history.specs.Entries.{opens};
     ghost use Rattle.assise_keeper_tests.specs.Made.{made};
 
@@ -46,7 +48,8 @@ impl Book {
 
     /// Opens a client on node 1, and answers its number.
     pub fn open(&mut self) -> Result<u32, Refusal>
-        ensures opened { IfOk result (λ c. self.new.history.events ≡ self.old.history.events ++ opens c 1 ∷ []) }
+        ensures opened { IfOk result (λ c. self.new.history.events ≡
+            self.old.history.events ++ opens c 1 Pessimistic ∷ []) }
         ensures refused { OnErr result (self.new.history.events ≡ self.old.history.events) }
     {
         let client = self.next_client;
@@ -54,7 +57,8 @@ impl Book {
             return Err(Refusal::BadClient);
         };
         self.history.reserve()?;
-        self.history.push(Entry::open(client, 1));
+        self.history
+            .push(Entry::open(client, 1, Durability::Pessimistic));
         self.next_client = next;
         Ok(client)
     }

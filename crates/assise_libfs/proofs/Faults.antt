@@ -5,22 +5,24 @@ use Rattle.std.specs.List.{list_any}
 use Rattle.std.proofs.Math.Logic.{∥∥₁_elim, ∥∥₁_map}
 use Rattle.std.proofs.lemmas.Bool.Decides.{nat_tests}
 use Rattle.assise_names.specs.declared.call.Op.{Op}
-use Rattle.assise_names.specs.declared.call.Op.TheVariants.{Create, Mkdir, Read, Write, Truncate, Rename, Unlink, Rmdir, List as ListCall, Stat, Fsync}
+use Rattle.assise_names.specs.declared.call.Op.TheVariants.{Create, Mkdir, Read, Write, Truncate, Rename, Unlink, Rmdir, List as ListCall, Stat, Fsync, Dsync}
+use Rattle.assise_names.specs.declared.durability.Durability.{Durability}
+use Rattle.assise_names.specs.declared.durability.Durability.TheVariants.{Pessimistic, Optimistic}
 use Rattle.assise_names.specs.declared.reply.Reply.{Reply}
 use Rattle.assise_names.specs.declared.refusal.Refusal.{Refusal}
 use Rattle.assise_names.specs.declared.refusal.Refusal.TheVariants.{BadClient, BadNode, ClientGone, InodesSpent, LogFull, NodeDown, OutOfMemory, TooLarge}
 use Rattle.assise_history.specs.Entries.{opens}
-use Rattle.assise_history.specs.Legal.{IsDown, is_failure_of}
+use Rattle.assise_history.specs.Legal.{IsDown, durability_of, is_failure_of}
 use Rattle.assise_history.proofs.Counting.{next_opened, opened_within}
 use Rattle.assise_history.proofs.Legality.{fits_in}
 use Rattle.assise_inode_table.specs.Numbers.{makes_inode}
 use Rattle.assise_inode_table.proofs.CallEnds.{makes_own}
 use Rattle.assise_manager.specs.Standings.{Standing, full, down, returning, standing_of}
 use Rattle.assise_machine_laws.specs.World.{IsClient, view}
-use Rattle.assise_machine_events.specs.ClientEvents.{Opening, Calling, Syncing, call_of_client, is_answered, is_awaited, is_full, is_opened, is_refused, is_replicating, is_spent, is_synced, lacks_memory, last_world}
+use Rattle.assise_machine_events.specs.ClientEvents.{Opening, Calling, Noting, Syncing, call_of_client, is_answered, is_awaited, is_full, is_noted, is_opened, is_refused, is_replicating, is_spent, is_synced, lacks_memory, last_world}
 use Rattle.assise_machine_events.specs.Events.{Answer, not_yet, opened, refused, replied}
 use Rattle.assise_machine_events.specs.Faults.{client_fault, fault_if, is_client, is_too_large, or_else, unless_full}
-use Rattle.assise_machine_events.specs.Happenings.{Trying}
+use Rattle.assise_machine_events.specs.Happenings.{Fsyncing, Trying}
 use Rattle.assise_machine_events.specs.Machine.{Machine, Holds, most_clients}
 use Rattle.assise_machine_events.proofs.Rejoined.{stands_is_node}
 use Rattle.assise_machine_calls.specs.Answers.{opening_answer}
@@ -73,8 +75,8 @@ module _ (m : Machine) (h : Holds m) (c : ℕ) where
 
   never_opened : is_client m.world c ≡ false → (n : ℕ) → IsOpenedOn c n m.history → ⊥
   never_opened none n o =
-      let first = next_opened o.before c n (fits_in m.history o.before o.since (opens c n) h.recorded.legal o.split) in
-      let within = opened_within m.history o.before o.since c n h.recorded.legal o.split in
+      let first = next_opened o.before c n o.durability (fits_in m.history o.before o.since (opens c n o.durability) h.recorded.legal o.split) in
+      let within = opened_within m.history o.before o.since c n o.durability h.recorded.legal o.split in
       let count = h.recorded.count in
       let some : is_client m.world c ≡ true = &&_both (nat_le 1 c) (nat_le c m.world.clients) (true_le 1 c (omega arith)) (true_le c m.world.clients (omega arith)) in
       cc
@@ -82,14 +84,14 @@ module _ (m : Machine) (h : Holds m) (c : ℕ) where
   lost_node : is_client m.world c ≡ true → m.world.lives c ≡ false → HasLostNode c m.history
   lost_node known over = let o = h.recorded.opened c (client_of known) in record {
     node = m.world.home c;
-    opened = record { before = o.before; since = o.since; split = o.split };
+    opened = record { durability = o.durability; before = o.before; since = o.since; split = o.split };
     failure = not_false (list_any (is_failure_of (m.world.home c)) o.since) (sym o.lives ∙ over);
   }
 
   has_crashed : is_client m.world c ≡ true → m.world.crashed c ≡ true → HasCrashed c m.history
   has_crashed known over = let o = h.recorded.opened c (client_of known) in record {
     node = m.world.home c;
-    opened = record { before = o.before; since = o.since; split = o.split };
+    opened = record { durability = o.durability; before = o.before; since = o.since; split = o.split };
     crash = sym o.crashed ∙ over;
   }
 
@@ -107,6 +109,7 @@ writes_too_much (Rmdir p) e = cc
 writes_too_much (ListCall p) e = cc
 writes_too_much (Stat p) e = cc
 writes_too_much Fsync e = cc
+writes_too_much Dsync e = cc
 
 makes_by : (op : Op) (reply : Reply) → makes_inode op reply ≡ true → MakesInode op
 makes_by (Create p) reply e = tt
@@ -120,6 +123,7 @@ makes_by (Rmdir p) reply e = cc
 makes_by (ListCall p) reply e = cc
 makes_by (Stat p) reply e = cc
 makes_by Fsync reply e = cc
+makes_by Dsync reply e = cc
 
 data CallFault (fault : Option Refusal) (op : Op) (r : Refusal) : Type 0 where
   of_client : fault ≡ Some r → CallFault fault op r
@@ -159,14 +163,24 @@ module _ (m : Machine) (holds : ∥ Holds m ∥₁) where
   calling_refused m' c op a r (is_refused q fault e same) is =
       subst (MayRefuseTry c op m.history) (sym (same_refusal q r a e is)) (faulty_call c op q (which_call_fault (client_fault m c) (is_too_large op) op q refl fault))
 
-  syncing_refused : (m' : Machine) (c : ℕ) (a : Answer) (r : Refusal) → Syncing m c a m' → a ≡ refused r → MayRefuseTry c Fsync m.history r
-  syncing_refused m' c a r (is_synced reply fine e h) is = absurd (let x : replied reply ≡ refused r = sym e ∙ is in cc)
-  syncing_refused m' c a r (is_replicating fine e h) is = absurd (let x : not_yet ≡ refused r = sym e ∙ is in cc)
-  syncing_refused m' c a r (lacks_memory fine all e same) is = subst (MayRefuseTry c Fsync m.history) (sym (same_refusal OutOfMemory r a e is)) tt
-  syncing_refused m' c a r (is_refused q fault e same) is = subst (MayRefuseTry c Fsync m.history) (sym (same_refusal q r a e is)) (faulty_client c Fsync q fault)
+  syncing_refused : (m' : Machine) (c : ℕ) (op : Op) (a : Answer) (r : Refusal) → Syncing m c op a m' → a ≡ refused r → MayRefuseTry c op m.history r
+  syncing_refused m' c op a r (is_synced reply fine e h) is = absurd (let x : replied reply ≡ refused r = sym e ∙ is in cc)
+  syncing_refused m' c op a r (is_replicating fine e h) is = absurd (let x : not_yet ≡ refused r = sym e ∙ is in cc)
+  syncing_refused m' c op a r (lacks_memory fine all e same) is = subst (MayRefuseTry c op m.history) (sym (same_refusal OutOfMemory r a e is)) tt
+  syncing_refused m' c op a r (is_refused q fault e same) is = subst (MayRefuseTry c op m.history) (sym (same_refusal q r a e is)) (faulty_client c op q fault)
+
+  noting_refused : (m' : Machine) (c : ℕ) (a : Answer) (r : Refusal) → Noting m c a m' → a ≡ refused r → MayRefuseTry c Fsync m.history r
+  noting_refused m' c a r (is_noted reply fine e h) is = absurd (let x : replied reply ≡ refused r = sym e ∙ is in cc)
+  noting_refused m' c a r (lacks_memory fine e same) is = subst (MayRefuseTry c Fsync m.history) (sym (same_refusal OutOfMemory r a e is)) tt
+  noting_refused m' c a r (is_refused q fault e same) is = subst (MayRefuseTry c Fsync m.history) (sym (same_refusal q r a e is)) (faulty_client c Fsync q fault)
+
+  fsyncing_refused : (m' : Machine) (u : Durability) (c : ℕ) (a : Answer) (r : Refusal) → Fsyncing u m c a m' → a ≡ refused r → MayRefuseTry c Fsync m.history r
+  fsyncing_refused m' Pessimistic c a r h is = syncing_refused m' c Fsync a r h is
+  fsyncing_refused m' Optimistic c a r h is = noting_refused m' c a r h is
 
   pub trying_refused : (m' : Machine) (c : ℕ) (op : Op) (a : Answer) (r : Refusal) → Trying m c op a m' → a ≡ refused r → MayRefuseTry c op m.history r
-  trying_refused m' c Fsync a r h is = syncing_refused m' c a r h is
+  trying_refused m' c Fsync a r h is = fsyncing_refused m' (durability_of c m.history) c a r h is
+  trying_refused m' c Dsync a r h is = syncing_refused m' c Dsync a r h is
   trying_refused m' c (Create p) a r h is = calling_refused m' c (Create p) a r h is
   trying_refused m' c (Mkdir p) a r h is = calling_refused m' c (Mkdir p) a r h is
   trying_refused m' c (Read p o n) a r h is = calling_refused m' c (Read p o n) a r h is
@@ -196,18 +210,18 @@ which_open_fault (Some (returning since donor stale)) b r e = not_up (returning 
 is_down : (m : Machine) (n : ℕ) (t : Standing) → Holds m → standing_of m.members.nodes n ≡ Some t → t ≢ full → IsDown m.history n
 is_down m n t h at other = h.recorded.down n (stands_is_node m n t at) (λ f. other (let x : Some full ≡ Some t = sym (h.members.full_nodes n f) ∙ at in cc))
 
-module _ (m : Machine) (holds : ∥ Holds m ∥₁) (n : ℕ) where
+module _ (m : Machine) (holds : ∥ Holds m ∥₁) (n : ℕ) (u : Durability) where
   faulty_open : (r : Refusal) → OpenFault (standing_of m.members.nodes n) r → MayRefuseOpen n m.history r
   faulty_open r (no_node is) = subst (MayRefuseOpen n m.history) (sym is) tt
   faulty_open r (no_client_left is) = subst (MayRefuseOpen n m.history) (sym is) tt
   faulty_open r (not_up t at other is) = subst (MayRefuseOpen n m.history) (sym is) (∥∥₁_map holds (λ h. is_down m n t h at other))
 
-  pub opening_refused : (m' : Machine) (a : Answer) (r : Refusal) → Opening m n a m' → a ≡ refused r → MayRefuseOpen n m.history r
+  pub opening_refused : (m' : Machine) (a : Answer) (r : Refusal) → Opening m n u a m' → a ≡ refused r → MayRefuseOpen n m.history r
   opening_refused m' a r (is_opened fine e o) is = absurd (let x : opened _ ≡ refused r = sym e ∙ is in cc)
   opening_refused m' a r (is_refused q fault e same) is =
       subst (MayRefuseOpen n m.history) (sym (same_refusal q r a e is)) (faulty_open q (which_open_fault (standing_of m.members.nodes n) (nat_le most_clients m.world.clients) q fault))
   opening_refused m' a r (lacks_memory fine e same) is = subst (MayRefuseOpen n m.history) (sym (same_refusal OutOfMemory r a e is)) tt
 
-  pub opened_or_refused : {C : Type 0} (m' : Machine) (result : Result ℕ (Refusal × C)) → Opening m n (opening_answer result) m' → IfErr result (λ back. MayRefuseOpen n m.history back.0)
+  pub opened_or_refused : {C : Type 0} (m' : Machine) (result : Result ℕ (Refusal × C)) → Opening m n u (opening_answer result) m' → IfErr result (λ back. MayRefuseOpen n m.history back.0)
   opened_or_refused m' (Ok client) h = tt
   opened_or_refused m' (Err back) h = opening_refused m' (refused back.0) back.0 h refl

@@ -5,6 +5,7 @@ use Rattle.std.proofs.Math.Bridge.{le_prop}
 use Rattle.std.proofs.Math.Logic.{∥∥₁_elim}
 use Rattle.assise_history.proofs.Legality.{fits_in, front_in}
 use Rattle.assise_names.specs.declared.call.Op.{Op}
+use Rattle.assise_names.specs.declared.durability.Durability.{Durability}
 use Rattle.assise_names.specs.declared.refusal.Refusal.{Refusal}
 use Rattle.assise_names.specs.declared.reply.Reply.{Reply}
 use Rattle.assise_history.specs.Entries.{Event, opens, calls}
@@ -14,7 +15,7 @@ use Rattle.assise_history.proofs.Standing.{made-still}
 use Rattle.assise_keeper.specs.Clients.{calls_by, Extends, ExtendsByOne}
 use Rattle.assise_keeper.proofs.Adding.{calls-append}
 use Rattle.assise_libfs.specs.Calling.{told_call, ExtendsByOthers, SeesTry, answers}
-use Rattle.assise_libfs.specs.Lives.{IsOpenedOn}
+use Rattle.assise_libfs.specs.Lives.{IsOpenedAs, IsOpenedOn}
 
 nothing_more : (xs ys : List Event) → xs ++ ys ≡ xs → ys ≡ []
 nothing_more [] ys e = e
@@ -77,10 +78,14 @@ try-extends c op a (Err refusal) d s = others-extends c a d s
 
 pub opened-extends : (c n : ℕ) (a d : List Event) → Extends d a → IsOpenedOn c n a → IsOpenedOn c n d
 opened-extends c n a d e o = record {
+  durability = o.durability;
   before = o.before;
   since = o.since ++ e.0;
-  split = e.1 ∙ (ap (λ z. z ++ e.0) o.split ∙ append_assoc o.before (opens c n ∷ o.since) e.0);
+  split = e.1 ∙ (ap (λ z. z ++ e.0) o.split ∙ append_assoc o.before (opens c n o.durability ∷ o.since) e.0);
 }
+
+pub opened_on : (c n : ℕ) (u : Durability) (h : List Event) → IsOpenedAs c n u h → IsOpenedOn c n h
+opened_on c n u h o = record { durability = u; before = o.before; since = o.since; split = o.split }
 
 -- ---- counts
 
@@ -102,14 +107,14 @@ answers-few (Err refusal) = omega arith
 
 -- ---- a client that was just opened
 
-pub none_yet : (h : List Event) (c n : ℕ) → IsLegal (h ++ opens c n ∷ []) → calls_made c (h ++ opens c n ∷ []) ≡ 0
-none_yet h c n legal =
-    let next : c ≡ clients_opened h + 1 = next_opened h c n (fits_in (h ++ opens c n ∷ []) h [] (opens c n) legal refl) in
-    made-still h (opens c n) c refl ∙ early h (front_in (h ++ opens c n ∷ []) h (opens c n ∷ []) legal refl) c (omega arith)
+pub none_yet : (h : List Event) (c n : ℕ) (u : Durability) → IsLegal (h ++ opens c n u ∷ []) → calls_made c (h ++ opens c n u ∷ []) ≡ 0
+none_yet h c n u legal =
+    let next : c ≡ clients_opened h + 1 = next_opened h c n u (fits_in (h ++ opens c n u ∷ []) h [] (opens c n u) legal refl) in
+    made-still h (opens c n u) c refl ∙ early h (front_in (h ++ opens c n u ∷ []) h (opens c n u ∷ []) legal refl) c (omega arith)
 
 -- the client that was opened, if one was, has no calls
-pub none_of_opened : {X : Type 0} (h h' : List Event) (n : ℕ) (r : Result ℕ X) → IfOk r (λ c. h' ≡ h ++ opens c n ∷ []) → ∥ IsLegal h' ∥₁ → IfOk r (λ c. calls_made c h' ≡ 0)
-none_of_opened h h' n (Ok c) e legal =
-    let few : calls_made c h' ≤ 0 = ∥∥₁_elim legal le_prop (λ l. let none = none_yet h c n (subst IsLegal e l) in let same = ap (calls_made c) e in omega arith) in
+pub none_of_opened : {X : Type 0} (h h' : List Event) (n : ℕ) (u : Durability) (r : Result ℕ X) → IfOk r (λ c. h' ≡ h ++ opens c n u ∷ []) → ∥ IsLegal h' ∥₁ → IfOk r (λ c. calls_made c h' ≡ 0)
+none_of_opened h h' n u (Ok c) e legal =
+    let few : calls_made c h' ≤ 0 = ∥∥₁_elim legal le_prop (λ l. let none = none_yet h c n u (subst IsLegal e l) in let same = ap (calls_made c) e in omega arith) in
     omega arith
-none_of_opened h h' n (Err x) e legal = tt
+none_of_opened h h' n u (Err x) e legal = tt

@@ -2,7 +2,7 @@
 -- Assise (OSDI 2020), section 3 (CC-NVM: prefix crash consistency); POSIX.1-2017, section 2.9.7 (each call appears as made at once).
 use Rattle.std.specs.Prelude.{◌≡◌, ℕ, ◌<◌, List, [], ◌∷◌, ◌++◌, length, Option, Some, None, Result, Ok, Err}
 use Rattle.assise_names.specs.declared.call.Op.{Op}
-use Rattle.assise_names.specs.declared.call.Op.TheVariants.{Create, Mkdir, Read, Write, Truncate, Rename, Unlink, Rmdir, List as ListCall, Stat, Fsync}
+use Rattle.assise_names.specs.declared.call.Op.TheVariants.{Create, Mkdir, Read, Write, Truncate, Rename, Unlink, Rmdir, List as ListCall, Stat, Fsync, Dsync}
 use Rattle.assise_names.specs.declared.refusal.Refusal.{Refusal}
 use Rattle.assise_names.specs.declared.refusal.Refusal.TheVariants.{OutOfMemory, Busy, NodeDown, ClientGone, InodesSpent, TooLarge, LastNode, BadNode, BadClient, WrongPhase, StaleMessage, LogFull}
 use Rattle.assise_names.specs.declared.reply.Reply.{Reply}
@@ -65,6 +65,7 @@ MakesInode (Rmdir p) = ⊥
 MakesInode (ListCall p) = ⊥
 MakesInode (Stat p) = ⊥
 MakesInode Fsync = ⊥
+MakesInode Dsync = ⊥
 
 -- it writes more than 65,536 bytes
 abbrev pub WritesTooMuch : Op → Type 0
@@ -79,6 +80,7 @@ WritesTooMuch (Rmdir p) = ⊥
 WritesTooMuch (ListCall p) = ⊥
 WritesTooMuch (Stat p) = ⊥
 WritesTooMuch Fsync = ⊥
+WritesTooMuch Dsync = ⊥
 
 -- a try may be refused so after this history: of a client that was never opened with BadClient
 abbrev pub MayRefuseTry : ℕ → Op → List Event → Refusal → Type 0

@@ -2,14 +2,22 @@
 -- Assise (OSDI 2020), section 3 (process crash, fail-over).
 use Rattle.std.specs.Prelude.{◌≡◌, ℕ, true, List, ◌∷◌, ◌++◌}
 use Rattle.std.specs.List.{list_any}
+use Rattle.assise_names.specs.declared.durability.Durability.{Durability}
 use Rattle.assise_history.specs.Entries.{Event, opens}
 use Rattle.assise_history.specs.Legal.{is_crash_of, is_failure_of}
 
 -- the client was opened on the node
 pub record IsOpenedOn (c n : ℕ) (h : List Event) : Type 0 where
+  pub durability : Durability
   pub before : List Event
   pub since : List Event
-  pub split : h ≡ before ++ opens c n ∷ since
+  pub split : h ≡ before ++ opens c n durability ∷ since
+
+-- and so
+pub record IsOpenedAs (c n : ℕ) (u : Durability) (h : List Event) : Type 0 where
+  pub before : List Event
+  pub since : List Event
+  pub split : h ≡ before ++ opens c n u ∷ since
 
 -- the client's node has failed since the client was opened
 pub record HasLostNode (c : ℕ) (h : List Event) : Type 0 where

@@ -6,6 +6,7 @@ use assise_lease_table::revoker::Revokes;
 use assise_machine::cluster::ClusterOf;
 use assise_machine_calls::turn::Turn;
 use assise_names::call::Op;
+use assise_names::durability::Durability;
 use assise_names::refusal::Refusal;
 use assise_names::reply::Reply;
 use std::alloc::Global;
@@ -13,8 +14,14 @@ use std::alloc::Global;
 impl<C: Revokes + Drop> Served for ClusterOf<C> {
     type Stored = C;
 
-    fn open(&mut self, alloc: Global, node: u32, stored: C) -> Result<u32, (Refusal, C)> {
-        ClusterOf::open(self, alloc, node, stored)
+    fn open(
+        &mut self,
+        alloc: Global,
+        node: u32,
+        stored: C,
+        durability: Durability,
+    ) -> Result<u32, (Refusal, C)> {
+        ClusterOf::open(self, alloc, node, stored, durability)
     }
 
     fn try_call(&mut self, alloc: Global, client: u32, op: &Op) -> Result<Option<Reply>, Refusal> {

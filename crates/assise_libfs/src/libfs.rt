@@ -11,6 +11,7 @@ use assise_keeper::keeper::Keeper;
 use assise_keeper::pass::Pass;
 use assise_names::byte_string::ByteString;
 use assise_names::call::Op;
+use assise_names::durability::Durability;
 use assise_names::path::Path;
 use assise_names::refusal::Refusal;
 use assise_names::reply::Reply;
@@ -32,7 +33,8 @@ use std::sync::Wait;
 /// - [`Refusal::ClientGone`]: the client has crashed. It is over.
 /// - [`Refusal::InodesSpent`]: a create or mkdir, of a client that has made 1,048,576 inodes.
 /// - [`Refusal::TooLarge`]: a write of more than 65,536 bytes.
-/// - [`Refusal::LogFull`]: the call needs a record and the client's log is at its limit. An fsync, and digests, make room.
+/// - [`Refusal::LogFull`]: the call needs a record and the client's log is at its limit. A dsync, or a pessimistic fsync, and
+///   digests make room.
 #[derive(Drop)]
 pub struct LibFs<'a, S: Served> {
     keeper: &'a Keeper<S>,
@@ -51,17 +53,17 @@ pub struct LibFs<'a, S: Served> {
 
 impl<'a, S: Served> LibFs<'a, S> {
     ghost use Rattle.std.specs.Prelude.{◌≡◌, ◌≤◌, IfErr, IfOk, None};
-    ghost use Rattle.assise_names.specs.declared.call.Op.TheVariants.{Create, Fsync, List as Lists, Mkdir, Read, Rename, Rmdir, Stat, Truncate, Unlink, Write};
+    ghost use Rattle.assise_names.specs.declared.call.Op.TheVariants.{Create, Dsync, Fsync, List as Lists, Mkdir, Read, Rename, Rmdir, Stat, Truncate, Unlink, Write};
     ghost use Rattle.assise_history.specs.Legal.{IsLegal, calls_made};
     ghost use Rattle.assise_keeper.specs.Clients.{Extends};
     ghost use Rattle.assise_keeper.specs.Passes.{AreOfOneKeeper, IsPassOf, client as client_of_pass, mine, seen};
     ghost use Rattle.assise_libfs.specs.Calling.{MayRefuse, MayRefuseTry, SeesCall, SeesTry};
     ghost use Rattle.assise_libfs.specs.Clients.{IsSameClient, client_of, keeper_of, node_of, pass_of, seen_by};
-    ghost use Rattle.assise_libfs.specs.Lives.{IsOpenedOn};
+    ghost use Rattle.assise_libfs.specs.Lives.{IsOpenedAs};
     ghost use Rattle.assise_libfs.specs.Opening.{MayRefuseOpen};
 
-    /// Opens a client on a node, for calls of 1 to 1,000,000 turns. The client is the pass's from then on; what is stored with it serves
-    /// the state, as a revoker does.
+    /// Opens a client on a node, whose fsyncs are served so, for calls of 1 to 1,000,000 turns. The client is the pass's from
+    /// then on; what is stored with it serves the state, as a revoker does.
     ///
     /// Refused with [`Refusal::BadNode`] where there is no such node, [`Refusal::NodeDown`] where it is down or comes back,
     /// [`Refusal::BadClient`] where no client can be opened any more, and [`Refusal::OutOfMemory`]. Then the pass, which may have seen
@@ -73,6 +75,7 @@ impl<'a, S: Served> LibFs<'a, S> {
         pass: Pass<S>,
         node: u32,
         stored: S::Stored,
+        durability: Durability,
         limit: u32,
     ) -> Result<LibFs<'a, S>, (Refusal, Pass<S>, S::Stored)>
         requires pass { IsPassOf keeper.now pass × (client_of_pass pass ≡ None) }
@@ -81,7 +84,8 @@ impl<'a, S: Served> LibFs<'a, S> {
         ensures keeper { IfOk result (λ it. keeper_of it ≡ keeper.now) }
         ensures node { IfOk result (λ it. node_of it ≡ node) }
         ensures seen { IfOk result (λ it. Extends (seen_by it) (seen pass)) }
-        ensures opened { IfOk result (λ it. ∥ IsOpenedOn (client_of it) node (seen_by it) ∥₁) }
+        ensures opened { IfOk result
+            (λ it. ∥ IsOpenedAs (client_of it) node durability (seen_by it) ∥₁) }
         ensures no_calls { IfOk result (λ it. calls_made (client_of it) (seen_by it) ≡ 0) }
         ensures refused { IfErr result (λ back. MayRefuseOpen node (seen back.1) back.0) }
         ensures pass_back { IfErr result (λ back.
@@ -90,7 +94,7 @@ impl<'a, S: Served> LibFs<'a, S> {
         ensures given_back { IfErr result (λ back. back.2 ≡ stored) }
     {
         let mut pass = pass;
-        match open_turn(rt, alloc, keeper, &mut pass, node, stored) {
+        match open_turn(rt, alloc, keeper, &mut pass, node, stored, durability) {
             Ok(client) => Ok(LibFs {
                 keeper,
                 pass,
@@ -249,7 +253,8 @@ impl<'a, S: Served> LibFs<'a, S> {
         self.call(rt, alloc, &Op::Stat(path))
     }
 
-    /// Is answered once all full nodes have all that the client has written.
+    /// Where the client was opened pessimistic, as [`LibFs::dsync`]. Where it was opened optimistic it is answered at once, and
+    /// promises nothing.
     pub fn fsync<R: Wait>(&mut self, rt: &R, alloc: Global) -> Result<Reply, Refusal>
         ensures same { IsSameClient self.old self.new }
         ensures sees { SeesCall (client_of self.old) Fsync
@@ -259,6 +264,18 @@ impl<'a, S: Served> LibFs<'a, S> {
             (seen_by self.new) r) }
     {
         self.call(rt, alloc, &Op::Fsync)
+    }
+
+    /// Is answered once all full nodes have all that the client has written.
+    pub fn dsync<R: Wait>(&mut self, rt: &R, alloc: Global) -> Result<Reply, Refusal>
+        ensures same { IsSameClient self.old self.new }
+        ensures sees { SeesCall (client_of self.old) Dsync
+            (seen_by self.old) result (seen_by self.new) }
+        ensures legal { ∥ IsLegal (seen_by self.new) ∥₁ }
+        ensures refused { IfErr result (λ r. MayRefuse (client_of self.old) Dsync
+            (seen_by self.new) r) }
+    {
+        self.call(rt, alloc, &Op::Dsync)
     }
 
     /// Makes a call: it is tried in turns until a try is answered or refused, or all turns are spent.

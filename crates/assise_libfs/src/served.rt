@@ -7,6 +7,7 @@ ghost use Rattle.assise_libfs.specs.Opening.{MayRefuseOpen};
 
 use assise_history::growing::Growing;
 use assise_names::call::Op;
+use assise_names::durability::Durability;
 use assise_names::refusal::Refusal;
 use assise_names::reply::Reply;
 use std::alloc::Global;
@@ -16,17 +17,19 @@ pub trait Served: Growing {
     /// What a client is opened with, and the state stores: of a cluster, a revoker.
     type Stored;
 
-    /// Opens a client on a node, and answers its number. Refused with [`Refusal::BadNode`] where there is no such node,
-    /// [`Refusal::NodeDown`] where it is down or comes back, [`Refusal::BadClient`] where no client can be opened any more, and
-    /// [`Refusal::OutOfMemory`]: what is refused leaves the history as it was, and gives back what would have been stored.
+    /// Opens a client on a node, whose fsyncs are served so, and answers its number. Refused with [`Refusal::BadNode`] where
+    /// there is no such node, [`Refusal::NodeDown`] where it is down or comes back, [`Refusal::BadClient`] where no client can
+    /// be opened any more, and [`Refusal::OutOfMemory`]: what is refused leaves the history as it was, and gives back what would
+    /// have been stored.
     fn open(
         &mut self,
         alloc: Global,
         node: u32,
         stored: Self::Stored,
+        durability: Durability,
     ) -> Result<u32, (Refusal, Self::Stored)>
         ensures opened { IfOk result (λ c.
-            Self.Growing.history self.new ≡ Self.Growing.history self.old ++ opens c node ∷ []) }
+            Self.Growing.history self.new ≡ Self.Growing.history self.old ++ opens c node durability ∷ []) }
         ensures unchanged { OnErr result
             (Self.Growing.history self.new ≡ Self.Growing.history self.old) }
         ensures refused { IfErr result (λ back.

@@ -4,13 +4,14 @@ ghost use Rattle.assise_history.specs.Legal.{IsLegal, calls_made};
 ghost use Rattle.assise_keeper.specs.Clients.{Extends};
 ghost use Rattle.assise_keeper.specs.Passes.{IsPassOf, client, seen};
 ghost use Rattle.assise_libfs.specs.Calling.{MayRefuseTry, SeesTry, answers};
-ghost use Rattle.assise_libfs.specs.Lives.{IsOpenedOn};
+ghost use Rattle.assise_libfs.specs.Lives.{IsOpenedAs};
 ghost use Rattle.assise_libfs.specs.Opening.{MayRefuseOpen};
 
 use crate::served::Served;
 use assise_keeper::keeper::Keeper;
 use assise_keeper::pass::Pass;
 use assise_names::call::Op;
+use assise_names::durability::Durability;
 use assise_names::refusal::Refusal;
 use assise_names::reply::Reply;
 use std::alloc::Global;
@@ -38,7 +39,7 @@ pub(crate) fn try_turn<S: Served, R: Wait>(
     tried
 }
 
-/// Opens a client on a node, which is the pass's from then on.
+/// Opens a client on a node, whose fsyncs are served so, and which is the pass's from then on.
 pub(crate) fn open_turn<S: Served, R: Wait>(
     rt: &R,
     alloc: Global,
@@ -46,20 +47,21 @@ pub(crate) fn open_turn<S: Served, R: Wait>(
     pass: &mut Pass<S>,
     node: u32,
     stored: S::Stored,
+    durability: Durability,
 ) -> Result<u32, (Refusal, S::Stored)>
     requires { IsPassOf keeper.now pass.old × (client pass.old ≡ None) }
     ensures free { IsPassOf keeper.now pass.new }
     ensures seen { Extends (seen pass.new) (seen pass.old) }
     ensures legal { ∥ IsLegal (seen pass.new) ∥₁ }
     ensures own { IfOk result (λ c. client pass.new ≡ Some c) }
-    ensures opened { IfOk result (λ c. IsOpenedOn c node (seen pass.new)) }
+    ensures opened { IfOk result (λ c. IsOpenedAs c node durability (seen pass.new)) }
     ensures no_calls { IfOk result (λ c. calls_made c (seen pass.new) ≡ 0) }
     ensures no_client { OnErr result (client pass.new ≡ None) }
     ensures refused { IfErr result (λ back. MayRefuseOpen node (seen pass.new) back.0) }
     ensures given_back { IfErr result (λ back. back.1 ≡ stored) }
 {
     let mut held = keeper.take(rt, pass);
-    let opened = held.state().open(alloc, node, stored);
+    let opened = held.state().open(alloc, node, stored, durability);
     keeper.give(pass, held);
     opened
 }

@@ -4,6 +4,7 @@ use mathlib.Core.Logic.{dite}
 use native.Mathlib.Decide.{ℕ_discrete}
 use Rattle.std.proofs.Math.Logic.{∥∥₁_elim, ∥∥₁_map}
 use Rattle.assise_names.specs.declared.call.Op.TheVariants.{Fsync}
+use Rattle.assise_names.specs.declared.durability.Durability.{Durability}
 use Rattle.assise_names.specs.declared.reply.Reply.TheVariants.{Done}
 use Rattle.assise_history.specs.Entries.{Event, opens, calls}
 use Rattle.assise_history.specs.Legal.{IsDown, MayCall, calls_made}
@@ -24,14 +25,14 @@ still_up h e none up m d = elim (down-last h e m d) [
   | inr still ↦ up m still.0
 ]
 
-ledger-open : (n : ℕ) (h : List Event) → IsLedger n h → IsLedger (n + 1) (h ++ opens (n + 1) 1 ∷ [])
-ledger-open n h k = record {
-  legal = legal-open h (n + 1) 1 k.legal (record { next = ap (λ (z : ℕ). z + 1) k.count; up = k.up 1 });
-  count = ap (λ (z : ℕ). z + 1) k.count ∙ sym (opened-push h (n + 1) 1);
+ledger-open : (n : ℕ) (u : Durability) (h : List Event) → IsLedger n h → IsLedger (n + 1) (h ++ opens (n + 1) 1 u ∷ [])
+ledger-open n u h k = record {
+  legal = legal-open h (n + 1) 1 u k.legal (record { next = ap (λ (z : ℕ). z + 1) k.count; up = k.up 1 });
+  count = ap (λ (z : ℕ). z + 1) k.count ∙ sym (opened-push h (n + 1) 1 u);
   calls = λ c lo hi. dite (ℕ_discrete c (n + 1))
-      (λ e. subst (λ (z : ℕ). MayCall (h ++ opens z 1 ∷ []) c) e (may_call-opened h c 1))
-      (λ ne. may_call-push h (opens (n + 1) 1) c (k.calls c lo (omega arith)) refl refl);
-  up = still_up h (opens (n + 1) 1) (λ m losses e. cc) k.up;
+      (λ e. subst (λ (z : ℕ). MayCall (h ++ opens z 1 u ∷ []) c) e (may_call-opened h c 1 u))
+      (λ ne. may_call-push h (opens (n + 1) 1 u) c (k.calls c lo (omega arith)) refl refl);
+  up = still_up h (opens (n + 1) 1 u) (λ m losses e. cc) k.up;
 }
 
 ledger-call : (n : ℕ) (h : List Event) (c : ℕ) → 1 ≤ c → c ≤ n → IsLedger n h → IsLedger n (h ++ told_call c h Fsync Done ∷ [])
@@ -45,8 +46,8 @@ ledger-call n h c lo hi k = record {
 pub begun : ∥ IsLedger 0 [] ∥₁
 begun = ∣ ledger-nil ∣₁
 
-pub opened : (n : ℕ) (h h' : List Event) → ∥ IsLedger n h ∥₁ → h' ≡ h ++ opens (n + 1) 1 ∷ [] → ∥ IsLedger (n + 1) h' ∥₁
-opened n h h' k e = ∥∥₁_map k (λ l. subst (IsLedger (n + 1)) (sym e) (ledger-open n h l))
+pub opened : (n : ℕ) (u : Durability) (h h' : List Event) → ∥ IsLedger n h ∥₁ → h' ≡ h ++ opens (n + 1) 1 u ∷ [] → ∥ IsLedger (n + 1) h' ∥₁
+opened n u h h' k e = ∥∥₁_map k (λ l. subst (IsLedger (n + 1)) (sym e) (ledger-open n u h l))
 
 pub called : (n : ℕ) (h h' : List Event) (c : ℕ) → 1 ≤ c → c ≤ n → ∥ IsLedger n h ∥₁ → h' ≡ h ++ told_call c h Fsync Done ∷ [] → ∥ IsLedger n h' ∥₁
 called n h h' c lo hi k e = ∥∥₁_map k (λ l. subst (IsLedger n) (sym e) (ledger-call n h c lo hi l))
@@ -60,7 +61,7 @@ no_proofs x y = absurd x
 -- no other client was ever opened
 pub no_other : (n : ℕ) (h : List Event) (c : ℕ) → ∥ IsLedger n h ∥₁ → (1 ≤ c → c ≤ n → ⊥) → (m : ℕ) → IsOpenedOn c m h → ⊥
 no_other n h c k other m o = ∥∥₁_elim k no_proofs (λ l.
-    let first = next_opened o.before c m (fits_in h o.before o.since (opens c m) l.legal o.split) in
-    let within = opened_within h o.before o.since c m l.legal o.split in
+    let first = next_opened o.before c m o.durability (fits_in h o.before o.since (opens c m o.durability) l.legal o.split) in
+    let within = opened_within h o.before o.since c m o.durability l.legal o.split in
     let count = l.count in
     other (omega arith) (omega arith))

@@ -38,6 +38,7 @@ fn make<S: Served, R: Wait>(
         Op::List(path) => libfs.list(rt, alloc, path),
         Op::Stat(path) => libfs.stat(rt, alloc, path),
         Op::Fsync => libfs.fsync(rt, alloc),
+        Op::Dsync => libfs.dsync(rt, alloc),
     }
 }
 

@@ -10,6 +10,7 @@ use assise_keeper::keeper::Keeper;
 use assise_keeper::pass::Pass;
 use assise_keeper::worker_pass::WorkerPass;
 use assise_libfs::libfs::LibFs;
+use assise_names::durability::Durability;
 use std::alloc::Global;
 use std::sync::Wait;
 use std::sync::atomic::{AtomicU32, Ordering};
@@ -25,7 +26,17 @@ fn calls_alone<R: Wait>(
 ) -> Option<String>
     requires { IsPassOf keeper.now pass × (client pass ≡ None) }
 {
-    let mut libfs = LibFs::open(rt, alloc, keeper, pass, 1, Whole, TURNS).ok()?;
+    let mut libfs = LibFs::open(
+        rt,
+        alloc,
+        keeper,
+        pass,
+        1,
+        Whole,
+        Durability::Optimistic,
+        TURNS,
+    )
+    .ok()?;
     make_calls(rt, alloc, &mut libfs, lines)
 }
 
@@ -40,8 +51,28 @@ fn calls_behind<R: Wait>(
     requires first { IsPassOf keeper.now passes.0 × (client passes.0 ≡ None) }
     requires second { IsPassOf keeper.now passes.1 × (client passes.1 ≡ None) }
 {
-    let mut first = LibFs::open(rt, alloc, keeper, passes.0, 1, Whole, TURNS).ok()?;
-    let mut second = LibFs::open(rt, alloc, keeper, passes.1, 1, Whole, 3).ok()?;
+    let mut first = LibFs::open(
+        rt,
+        alloc,
+        keeper,
+        passes.0,
+        1,
+        Whole,
+        Durability::Pessimistic,
+        TURNS,
+    )
+    .ok()?;
+    let mut second = LibFs::open(
+        rt,
+        alloc,
+        keeper,
+        passes.1,
+        1,
+        Whole,
+        Durability::Pessimistic,
+        3,
+    )
+    .ok()?;
     make_calls(rt, alloc, &mut first, "mkdir /d = done")?;
     make_calls(rt, alloc, &mut second, lines)
 }
@@ -89,8 +120,28 @@ fn calls_at_once<R: Threads + Wait + Sync>(
     requires second { IsPassOf keeper.now passes.1 × (client passes.1 ≡ None) }
     requires worker { IsPassOf keeper.now (pass_of worker) }
 {
-    let mut first = LibFs::open(rt, alloc, keeper, passes.0, 1, Whole, TURNS).ok()?;
-    let mut second = LibFs::open(rt, alloc, keeper, passes.1, 2, Whole, TURNS).ok()?;
+    let mut first = LibFs::open(
+        rt,
+        alloc,
+        keeper,
+        passes.0,
+        1,
+        Whole,
+        Durability::Pessimistic,
+        TURNS,
+    )
+    .ok()?;
+    let mut second = LibFs::open(
+        rt,
+        alloc,
+        keeper,
+        passes.1,
+        2,
+        Whole,
+        Durability::Pessimistic,
+        TURNS,
+    )
+    .ok()?;
     let mut tender = Tender::new(keeper, worker, 2);
     let done = AtomicU32::new(0);
     let (one, other) = join(

@@ -10,6 +10,7 @@ use assise_history::growing::Growing;
 use assise_history::history::History;
 use assise_libfs::served::Served;
 use assise_names::call::Op;
+use assise_names::durability::Durability;
 use assise_names::refusal::Refusal;
 use assise_names::reply::Reply;
 use std::alloc::Global;
@@ -87,7 +88,13 @@ fn calls_made(client: u32, entries: &[Entry]) -> u64
 impl Served for Ledger {
     type Stored = u32;
 
-    fn open(&mut self, _alloc: Global, node: u32, stored: u32) -> Result<u32, (Refusal, u32)> {
+    fn open(
+        &mut self,
+        _alloc: Global,
+        node: u32,
+        stored: u32,
+        durability: Durability,
+    ) -> Result<u32, (Refusal, u32)> {
         if node != 1 {
             return Err((Refusal::BadNode, stored));
         }
@@ -97,7 +104,7 @@ impl Served for Ledger {
         if self.history.reserve().is_err() {
             return Err((Refusal::OutOfMemory, stored));
         }
-        self.history.push(Entry::open(client, 1));
+        self.history.push(Entry::open(client, 1, durability));
         self.clients = client;
         Ok(client)
     }

@@ -8,6 +8,7 @@ use crate::meeting::TURNS;
 use assise_keeper::keeper::Keeper;
 use assise_keeper::pass::Pass;
 use assise_libfs::libfs::LibFs;
+use assise_names::durability::Durability;
 use std::alloc::Global;
 use std::sync::Wait;
 use std::thread::{Threads, join};
@@ -37,7 +38,17 @@ fn open_and_sync<R: Wait>(
     requires some { 1 ≤ turns }
     requires few { turns ≤ 1000000 }
 {
-    let mut libfs = LibFs::open(rt, alloc, keeper, pass, 1, 0, turns).ok()?;
+    let mut libfs = LibFs::open(
+        rt,
+        alloc,
+        keeper,
+        pass,
+        1,
+        0,
+        Durability::Pessimistic,
+        turns,
+    )
+    .ok()?;
     let outcome = libfs.fsync(rt, alloc);
     let mut text = String::new(alloc);
     put_outcome(&mut text, &outcome)?;
@@ -53,9 +64,29 @@ pub fn open_again<R: Wait>(
 ) -> Option<String>
     requires { IsPassOf keeper.now pass × (client pass ≡ None) }
 {
-    let refused = LibFs::open(rt, alloc, keeper, pass, 2, 7, TURNS).err()?;
+    let refused = LibFs::open(
+        rt,
+        alloc,
+        keeper,
+        pass,
+        2,
+        7,
+        Durability::Pessimistic,
+        TURNS,
+    )
+    .err()?;
     let (refusal, pass, stored) = refused;
-    let libfs = LibFs::open(rt, alloc, keeper, pass, 1, stored, TURNS).ok()?;
+    let libfs = LibFs::open(
+        rt,
+        alloc,
+        keeper,
+        pass,
+        1,
+        stored,
+        Durability::Pessimistic,
+        TURNS,
+    )
+    .ok()?;
     let (client, node) = (libfs.client(), libfs.node());
     format!(in alloc; "{refusal}, {stored}, client {client} on {node}").ok()
 }
@@ -70,7 +101,17 @@ fn sync_often<R: Wait>(
 ) -> Option<u64>
     requires { IsPassOf keeper.now pass × (client pass ≡ None) }
 {
-    let mut libfs = LibFs::open(rt, alloc, keeper, pass, 1, 0, TURNS).ok()?;
+    let mut libfs = LibFs::open(
+        rt,
+        alloc,
+        keeper,
+        pass,
+        1,
+        0,
+        Durability::Pessimistic,
+        TURNS,
+    )
+    .ok()?;
     for _ in 0..count {
         libfs.fsync(rt, alloc).ok()?;
     }

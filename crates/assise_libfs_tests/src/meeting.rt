@@ -9,6 +9,7 @@ use assise_keeper::keeper::Keeper;
 use assise_keeper::pass::Pass;
 use assise_libfs::libfs::LibFs;
 use assise_libfs::served::Served;
+use assise_names::durability::Durability;
 use assise_names::path::Path;
 use assise_names::reply::Reply;
 use std::alloc::Global;
@@ -45,8 +46,28 @@ where
     ensures seen { IfSome result (λ met. HasMade (client_of met.first) met.reply (seen_by met.second)) }
     ensures legal { IfSome result (λ met. ∥ IsLegal (seen_by met.second) ∥₁) }
 {
-    let mut first = LibFs::open(rt, alloc, keeper, passes.0, 1, stored.0, TURNS).ok()?;
-    let second = LibFs::open(rt, alloc, keeper, passes.1, 1, stored.1, TURNS).ok()?;
+    let mut first = LibFs::open(
+        rt,
+        alloc,
+        keeper,
+        passes.0,
+        1,
+        stored.0,
+        Durability::Pessimistic,
+        TURNS,
+    )
+    .ok()?;
+    let second = LibFs::open(
+        rt,
+        alloc,
+        keeper,
+        passes.1,
+        1,
+        stored.1,
+        Durability::Pessimistic,
+        TURNS,
+    )
+    .ok()?;
     let path = Path::parse(alloc, "/f").ok()?;
     let reply = first.create(rt, alloc, path).ok()?;
     let (first, second) = LibFs::meet(rt, first, second);

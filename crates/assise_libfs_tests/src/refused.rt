@@ -9,6 +9,7 @@ use crate::tending::{Cluster, Whole};
 use assise_keeper::keeper::Keeper;
 use assise_keeper::pass::Pass;
 use assise_libfs::libfs::LibFs;
+use assise_names::durability::Durability;
 use std::alloc::Global;
 use std::sync::Wait;
 
@@ -23,6 +24,7 @@ mkdir /d = done
 rename /f /d/g = done
 list /d = names 1 g
 fsync = done
+dsync = done
 unlink /d/g = done
 rmdir /d = done
 list / = names 0
@@ -47,9 +49,28 @@ fn opened<'a, R: Wait>(
 ) -> Option<LibFs<'a, Cluster>>
     requires { IsPassOf keeper.now pass × (client pass ≡ None) }
 {
-    match LibFs::open(rt, alloc, keeper, pass, 1, Whole, TURNS) {
+    match LibFs::open(
+        rt,
+        alloc,
+        keeper,
+        pass,
+        1,
+        Whole,
+        Durability::Pessimistic,
+        TURNS,
+    ) {
         Ok(libfs) => Some(libfs),
-        Err((_, pass, whole)) => LibFs::open(rt, alloc, keeper, pass, 1, whole, TURNS).ok(),
+        Err((_, pass, whole)) => LibFs::open(
+            rt,
+            alloc,
+            keeper,
+            pass,
+            1,
+            whole,
+            Durability::Pessimistic,
+            TURNS,
+        )
+        .ok(),
     }
 }
 

@@ -56,8 +56,8 @@ fn two_threads_make_calls_that_stand_in_one_legal_history(rt: HostRuntime) -> Re
     Ok(())
 }
 
-/// Calls on one node, which are those of one plain tree; an fsync is answered once the other node has the log, so not here; and the
-/// log has room for 8 records.
+/// Calls of an optimistic client, which are those of one plain tree. Its fsync is answered, though the other node has nothing of
+/// the log; and the log has room for 8 records.
 const ALONE: &str = "\
 create /f = done
 write /f 5 tabc = done
@@ -67,6 +67,7 @@ stat /f = file 6
 mkdir /d = done
 rename /f /d/g = done
 list /d = names 1 g
+fsync = done
 list /f = E1 NoEnt
 write /d/g 1048576 ta = E7 TooBig
 unlink /d/g = done

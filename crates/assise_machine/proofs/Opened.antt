@@ -5,13 +5,15 @@ use Rattle.std.specs.Option.{option_to_list}
 use Rattle.std.proofs.lemmas.List.{take_all}
 use Rattle.std.proofs.lemmas.List.Elements.{Contains-append_cases, Contains-append_left, Contains-append_right, Contains-push, Contains-push_cases}
 use Rattle.assise_names.specs.declared.call.Op.{Op}
-use Rattle.assise_names.specs.declared.call.Op.TheVariants.{Create, Mkdir, Read, Write, Truncate, Rename, Unlink, Rmdir, List as ListCall, Stat, Fsync}
-use Rattle.assise_history.specs.Legal.{clients_opened}
+use Rattle.assise_names.specs.declared.call.Op.TheVariants.{Create, Mkdir, Read, Write, Truncate, Rename, Unlink, Rmdir, List as ListCall, Stat, Fsync, Dsync}
+use Rattle.assise_names.specs.declared.durability.Durability.{Durability}
+use Rattle.assise_names.specs.declared.durability.Durability.TheVariants.{Pessimistic, Optimistic}
+use Rattle.assise_history.specs.Legal.{clients_opened, durability_of}
 use Rattle.assise_history.proofs.Counting.{opened_append}
 use Rattle.assise_machine_events.specs.ClientEvents as client
-use Rattle.assise_machine_events.specs.ClientEvents.{Calling, Crashing, Opening, Syncing}
+use Rattle.assise_machine_events.specs.ClientEvents.{Calling, Crashing, Noting, Opening, Syncing}
 use Rattle.assise_machine_events.specs.Events.{Answer, ClusterEvent, open_client, try_call, try_fsync, outgoing, deliver, digest, release_ready, set_hot, crash, fail, back, refill, join, refused, opened, replied, not_yet, sent, received, digested, released, hot_set, crashed, failed, began, left, joined, entries_of}
-use Rattle.assise_machine_events.specs.Happenings.{Happens, Trying}
+use Rattle.assise_machine_events.specs.Happenings.{Fsyncing, Happens, Trying}
 use Rattle.assise_machine_events.specs.Machine.{Holds, Machine}
 use Rattle.assise_machine_events.specs.MemberEvents as member
 use Rattle.assise_machine_events.specs.NodeEvents as node
@@ -68,12 +70,12 @@ record OpensNext (m m' : Machine) (c : ℕ) : Type 0 where
   pub next : c ≡ suc m.world.clients
   pub clients : m'.world.clients ≡ c
 
-opening_next : (m m' : Machine) (n c : ℕ) → Opening m n (opened c) m' → OpensNext m m' c
-opening_next m m' n c (client.is_opened fine is e) =
+opening_next : (m m' : Machine) (n : ℕ) (u : Durability) (c : ℕ) → Opening m n u (opened c) m' → OpensNext m m' c
+opening_next m m' n u c (client.is_opened fine is e) =
     let same : c ≡ suc m.world.clients = cc in
     record { next = same; clients = e.opening.opens.clients ∙ sym same }
-opening_next m m' n c (client.is_refused r fault is same) = cc
-opening_next m m' n c (client.lacks_memory fine is same) = cc
+opening_next m m' n u c (client.is_refused r fault is same) = cc
+opening_next m m' n u c (client.lacks_memory fine is same) = cc
 
 calling_none : (m m' : Machine) (d : ℕ) (op : Op) (c : ℕ) → Calling m d op (opened c) m' → ⊥
 calling_none m m' d op c (client.is_answered reply granted is e) = cc
@@ -83,11 +85,20 @@ calling_none m m' d op c (client.is_full reply granted is e keeps) = cc
 calling_none m m' d op c (client.lacks_memory reply granted is e keeps) = cc
 calling_none m m' d op c (client.is_refused r fault is same) = cc
 
-syncing_none : (m m' : Machine) (d c : ℕ) → Syncing m d (opened c) m' → ⊥
-syncing_none m m' d c (client.is_synced reply fine is e) = cc
-syncing_none m m' d c (client.is_replicating fine is e) = cc
-syncing_none m m' d c (client.lacks_memory fine all is same) = cc
-syncing_none m m' d c (client.is_refused r fault is same) = cc
+syncing_none : (m m' : Machine) (d : ℕ) (op : Op) (c : ℕ) → Syncing m d op (opened c) m' → ⊥
+syncing_none m m' d op c (client.is_synced reply fine is e) = cc
+syncing_none m m' d op c (client.is_replicating fine is e) = cc
+syncing_none m m' d op c (client.lacks_memory fine all is same) = cc
+syncing_none m m' d op c (client.is_refused r fault is same) = cc
+
+noting_none : (m m' : Machine) (d c : ℕ) → Noting m d (opened c) m' → ⊥
+noting_none m m' d c (client.is_noted reply fine is e) = cc
+noting_none m m' d c (client.lacks_memory fine is same) = cc
+noting_none m m' d c (client.is_refused r fault is same) = cc
+
+fsyncing_none : (m m' : Machine) (u : Durability) (d c : ℕ) → Fsyncing u m d (opened c) m' → ⊥
+fsyncing_none m m' Pessimistic d c s = syncing_none m m' d Fsync c s
+fsyncing_none m m' Optimistic d c s = noting_none m m' d c s
 
 crashing_none : (m m' : Machine) (d c : ℕ) → Crashing m d (opened c) m' → ⊥
 crashing_none m m' d c (client.is_crashed fine is e) = cc
@@ -105,12 +116,13 @@ trying_none m m' d (Unlink p) c s = calling_none m m' d (Unlink p) c s
 trying_none m m' d (Rmdir p) c s = calling_none m m' d (Rmdir p) c s
 trying_none m m' d (ListCall p) c s = calling_none m m' d (ListCall p) c s
 trying_none m m' d (Stat p) c s = calling_none m m' d (Stat p) c s
-trying_none m m' d Fsync c s = syncing_none m m' d c s
+trying_none m m' d Fsync c s = fsyncing_none m m' (durability_of d m.history) d c s
+trying_none m m' d Dsync c s = syncing_none m m' d Dsync c s
 
 event_next : (m m' : Machine) (e : ClusterEvent) (c : ℕ) → Happens m e (opened c) m' → OpensNext m m' c
-event_next m m' (open_client n) c s = opening_next m m' n c s
+event_next m m' (open_client n u) c s = opening_next m m' n u c s
 event_next m m' (try_call d op) c s = absurd (trying_none m m' d op c s)
-event_next m m' (try_fsync d) c s = absurd (syncing_none m m' d c s)
+event_next m m' (try_fsync d) c s = absurd (fsyncing_none m m' (durability_of d m.history) d c s)
 event_next m m' (outgoing n) c (node.is_sent fine is same) = cc
 event_next m m' (outgoing n) c (node.lacks_memory fine some is same) = cc
 event_next m m' (outgoing n) c (node.is_refused r fault is same) = cc
@@ -143,7 +155,7 @@ event_next m m' (join n) c (member.is_refused r fault is same) = cc
 
 served_next : (k : ℕ) (m m' : Machine) (e : ClusterEvent) (c : ℕ) → IsServed k m e (opened c) m' → OpensNext m m' c
 served_next k m m' e c (happens step) = event_next m m' e c step
-served_next k m m' e c (lacks_revoker n is none fine answer same) = cc
+served_next k m m' e c (lacks_revoker n u is none fine answer same) = cc
 
 -- ---- the clients are opened by rising numbers
 

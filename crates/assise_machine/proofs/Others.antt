@@ -2,8 +2,11 @@
 use Rattle.std.proofs.Common.{◌≡◌, ◌≢◌, ℕ, zero, suc, ◌+◌, ◌-◌, drop, List, [], ◌∷◌, refl, ap, sym, subst, ◌∙◌, arith}
 use Rattle.std.proofs.lemmas.List.{drop-drop}
 use Rattle.assise_names.specs.declared.call.Op.{Op}
-use Rattle.assise_names.specs.declared.call.Op.TheVariants.{Create, Mkdir, Read, Write, Truncate, Rename, Unlink, Rmdir, List as ListCall, Stat, Fsync}
+use Rattle.assise_names.specs.declared.call.Op.TheVariants.{Create, Mkdir, Read, Write, Truncate, Rename, Unlink, Rmdir, List as ListCall, Stat, Fsync, Dsync}
+use Rattle.assise_names.specs.declared.durability.Durability.{Durability}
+use Rattle.assise_names.specs.declared.durability.Durability.TheVariants.{Pessimistic, Optimistic}
 use Rattle.assise_names.specs.declared.reply.Reply.{Reply}
+use Rattle.assise_history.specs.Legal.{durability_of}
 use Rattle.assise_record.specs.LogFrame.{LogFrame}
 use Rattle.assise_inode_table.specs.Traces.{NumberedCall}
 use Rattle.assise_manager.specs.Membership.{Membership}
@@ -14,9 +17,9 @@ use Rattle.assise_machine_laws.specs.World.{World, Full, ahead, digested_by_all}
 use Rattle.assise_machine_laws.proofs.Observing.{digested_by_all-below}
 use Rattle.assise_machine_leases.specs.Leases.{Leases}
 use Rattle.assise_machine_events.specs.ClientEvents as client
-use Rattle.assise_machine_events.specs.ClientEvents.{Calling, Crashing, Gets, Granted, IsTried, KeepsGranted, Opening, Syncing, call_of_client, last_world}
+use Rattle.assise_machine_events.specs.ClientEvents.{Calling, Crashing, Gets, Granted, IsTried, KeepsGranted, Noting, Opening, Syncing, call_of_client, last_world}
 use Rattle.assise_machine_events.specs.Events.{Answer}
-use Rattle.assise_machine_events.specs.Happenings.{Trying}
+use Rattle.assise_machine_events.specs.Happenings.{Fsyncing, Trying}
 use Rattle.assise_machine_events.specs.Machine.{Machine}
 use Rattle.assise_machine_events.specs.MemberEvents as member
 use Rattle.assise_machine_events.specs.MemberEvents.{Failing, Joining, Refilling, Returning}
@@ -49,10 +52,10 @@ leaves_all m m' j same = record { area = λ i. ap (λ x. x.world.area j i) same;
 
 -- ---- what leaves all full nodes as they are
 
-pub opening_leaves : (m m' : Machine) (n : ℕ) (a : Answer) → Opening m n a m' → (j : ℕ) → Full m.world j → Leaves m.world m'.world j
-opening_leaves m m' n a (client.is_opened fine is e) j there = leaves_nodes m.world m'.world j e.opening.opens.logs e.opening.opens.nodes there
-opening_leaves m m' n a (client.is_refused r fault is same) j there = leaves_all m m' j same
-opening_leaves m m' n a (client.lacks_memory fine is same) j there = leaves_all m m' j same
+pub opening_leaves : (m m' : Machine) (n : ℕ) (u : Durability) (a : Answer) → Opening m n u a m' → (j : ℕ) → Full m.world j → Leaves m.world m'.world j
+opening_leaves m m' n u a (client.is_opened fine is e) j there = leaves_nodes m.world m'.world j e.opening.opens.logs e.opening.opens.nodes there
+opening_leaves m m' n u a (client.is_refused r fault is same) j there = leaves_all m m' j same
+opening_leaves m m' n u a (client.lacks_memory fine is same) j there = leaves_all m m' j same
 
 pub sending_leaves : (m m' : Machine) (n : ℕ) (a : Answer) → Sending m n a m' → (j : ℕ) → Leaves m.world m'.world j
 sending_leaves m m' n a (node.is_sent fine is same) j = leaves_all m m' j same
@@ -172,13 +175,22 @@ calling_leaves m m' c op a (client.is_full reply granted is e keeps) j there = g
 calling_leaves m m' c op a (client.lacks_memory reply granted is e keeps) j there = granted_leaves m m' c op reply granted e keeps j there
 calling_leaves m m' c op a (client.is_refused r fault is same) j there = leaves_else m.world m'.world c j (leaves_all m m' j same)
 
-pub syncing_leaves : (m m' : Machine) (c : ℕ) (a : Answer) → Syncing m c a m' → (j : ℕ) → Full m.world j → LeavesElse m.world m'.world c j
-syncing_leaves m m' c a (client.is_synced reply fine is e) j there =
-    made_leaves m.world e.between m'.world (call_of_client m.world c Fsync reply) j
+syncing_leaves : (m m' : Machine) (c : ℕ) (op : Op) (a : Answer) → Syncing m c op a m' → (j : ℕ) → Full m.world j → LeavesElse m.world m'.world c j
+syncing_leaves m m' c op a (client.is_synced reply fine is e) j there =
+    made_leaves m.world e.between m'.world (call_of_client m.world c op reply) j
     (record { logs = e.raises.logs; clients = e.raises.clients; nodes = e.raises.nodes }) e.call.call there
-syncing_leaves m m' c a (client.is_replicating fine is e) j there = leaves_else m.world m'.world c j (leaves_nodes m.world m'.world j e.raises.logs e.raises.nodes there)
-syncing_leaves m m' c a (client.lacks_memory fine all is same) j there = leaves_else m.world m'.world c j (leaves_all m m' j same)
-syncing_leaves m m' c a (client.is_refused r fault is same) j there = leaves_else m.world m'.world c j (leaves_all m m' j same)
+syncing_leaves m m' c op a (client.is_replicating fine is e) j there = leaves_else m.world m'.world c j (leaves_nodes m.world m'.world j e.raises.logs e.raises.nodes there)
+syncing_leaves m m' c op a (client.lacks_memory fine all is same) j there = leaves_else m.world m'.world c j (leaves_all m m' j same)
+syncing_leaves m m' c op a (client.is_refused r fault is same) j there = leaves_else m.world m'.world c j (leaves_all m m' j same)
+
+noting_leaves : (m m' : Machine) (c : ℕ) (a : Answer) → Noting m c a m' → (j : ℕ) → Full m.world j → LeavesElse m.world m'.world c j
+noting_leaves m m' c a (client.is_noted reply fine is e) j there = made_leaves m.world m.world m'.world (call_of_client m.world c Fsync reply) j (all_rest m.world) e.call.call there
+noting_leaves m m' c a (client.lacks_memory fine is same) j there = leaves_else m.world m'.world c j (leaves_all m m' j same)
+noting_leaves m m' c a (client.is_refused r fault is same) j there = leaves_else m.world m'.world c j (leaves_all m m' j same)
+
+pub fsyncing_leaves : (m m' : Machine) (u : Durability) (c : ℕ) (a : Answer) → Fsyncing u m c a m' → (j : ℕ) → Full m.world j → LeavesElse m.world m'.world c j
+fsyncing_leaves m m' Pessimistic c a s j there = syncing_leaves m m' c Fsync a s j there
+fsyncing_leaves m m' Optimistic c a s j there = noting_leaves m m' c a s j there
 
 pub trying_leaves : (m m' : Machine) (c : ℕ) (op : Op) (a : Answer) → Trying m c op a m' → (j : ℕ) → Full m.world j → LeavesElse m.world m'.world c j
 trying_leaves m m' c (Create p) a s j there = calling_leaves m m' c (Create p) a s j there
@@ -191,7 +203,8 @@ trying_leaves m m' c (Unlink p) a s j there = calling_leaves m m' c (Unlink p) a
 trying_leaves m m' c (Rmdir p) a s j there = calling_leaves m m' c (Rmdir p) a s j there
 trying_leaves m m' c (ListCall p) a s j there = calling_leaves m m' c (ListCall p) a s j there
 trying_leaves m m' c (Stat p) a s j there = calling_leaves m m' c (Stat p) a s j there
-trying_leaves m m' c Fsync a s j there = syncing_leaves m m' c a s j there
+trying_leaves m m' c Fsync a s j there = fsyncing_leaves m m' (durability_of c m.history) c a s j there
+trying_leaves m m' c Dsync a s j there = syncing_leaves m m' c Dsync a s j there
 
 -- ---- a frame comes in
 

@@ -14,7 +14,7 @@ use Rattle.assise_seq_tree.specs.Tree.{Tree, opening}
 use Rattle.assise_history.specs.declared.call.Call.{Call}
 use Rattle.assise_history.specs.Entries.{Event as Entry}
 use Rattle.assise_history.specs.Kept.{IsRun, exchange, tree_after}
-use Rattle.assise_history.specs.Legal.{IsDown, IsPastFsyncs, calls_made, clients_opened}
+use Rattle.assise_history.specs.Legal.{IsDown, IsPastSyncs, calls_made, clients_opened}
 use Rattle.assise_inode_table.specs.Effects.{contains, touched}
 use Rattle.assise_inode_table.specs.Interaction.{Step}
 use Rattle.assise_inode_table.specs.Spelled.{Spells}
@@ -185,15 +185,15 @@ module _ (s : StateValue) (shape : IsShaped s) (some : 0 < length (full_nodes (s
         subst (λ v. Spells v (tree_after opening (kept_below bound s.history))) (λ i j. sym (same_values n h full j) i)
         (subst (Spells (alone_observed (observed s).world n)) (sym (same_tree h)) ((safe (observed s) h).rebuilt n full))))
 
-  -- ---- fsyncs, and what was seen
+  -- ---- syncs, and what was seen
 
   history_is : s.history ≡ (observed s).history
   unfolding observed
   history_is = refl
 
-  pub synced_known : (c : ℕ) → IsPastFsyncs s.history (record { client = c; first = bound c })
-  synced_known c = λ before since x split own fsync. ∥∥₁_elim holds le_prop (λ h.
-      (let low : x.number < first_unreplicated (observed s).world c = h.recorded.synced c before since x (sym history_is ∙ split) own fsync in
+  pub synced_known : (c : ℕ) → IsPastSyncs s.history (record { client = c; first = bound c })
+  synced_known c = λ before since x split own sync. ∥∥₁_elim holds le_prop (λ h.
+      (let low : x.number < first_unreplicated (observed s).world c = h.recorded.synced c before since x (sym history_is ∙ split) own sync in
       omega (arith, low, bound_is h c)))
 
   run_of : (b : ℕ → ℕ) → Holds (observed s) → ((c : ℕ) → bound c ≤ b c) → IsRun opening (kept_below b s.history)

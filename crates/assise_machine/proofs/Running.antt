@@ -2,6 +2,7 @@
 use Rattle.std.proofs.Common.{◌≡◌, ℕ, ◌+◌, ◌<◌, ◌≤◌, List, [], ◌∷◌, ◌++◌, Option, Some, None, get_or, length, take, refl, ap, sym, subst, ◌∙◌, append_assoc, append-nil, arith}
 use Rattle.std.proofs.lemmas.List.{length-take, take-take, take_all, take_more}
 use Rattle.std.specs.Option.{unwrap_or}
+use Rattle.assise_names.specs.declared.durability.Durability.{Durability}
 use Rattle.assise_names.specs.declared.refusal.Refusal.{Refusal}
 use Rattle.assise_names.specs.declared.refusal.Refusal.TheVariants.{BadClient}
 use Rattle.assise_private_log.specs.NumberedLog.{NumberedLog}
@@ -24,15 +25,15 @@ use Rattle.assise_machine.specs.Running.{AllApplied, AllServed, IsApplied, IsSer
 
 pub served_keeps : (k : ℕ) (m m' : Machine) (e : ClusterEvent) (a : Answer) → Holds m → IsServed k m e a m' → Holds m'
 served_keeps k m m' e a h (happens step) = event_keeps m m' e a h step
-served_keeps k m m' e a h (lacks_revoker n is none fine answer same) = subst Holds (sym same) h
+served_keeps k m m' e a h (lacks_revoker n u is none fine answer same) = subst Holds (sym same) h
 
 pub served_told : (k : ℕ) (m m' : Machine) (e : ClusterEvent) (a : Answer) → IsServed k m e a m' → m'.history ≡ m.history ++ entries_of m.history e a
 served_told k m m' e a (happens step) = event_told m m' e a step
-served_told k m m' e a (lacks_revoker n is none fine answer same) = same_told m m' same ∙ (λ i. m.history ++ entries_of m.history (sym is i) (sym answer i))
+served_told k m m' e a (lacks_revoker n u is none fine answer same) = same_told m m' same ∙ (λ i. m.history ++ entries_of m.history (sym is i) (sym answer i))
 
 pub served_leads : (k : ℕ) (m m' : Machine) (e : ClusterEvent) (a : Answer) → Holds m → IsServed k m e a m' → Leads m m'
 served_leads k m m' e a h (happens step) = event_leads m m' e a h step
-served_leads k m m' e a h (lacks_revoker n is none fine answer same) = same_leads m m' same
+served_leads k m m' e a h (lacks_revoker n u is none fine answer same) = same_leads m m' same
 
 -- ---- all of them
 
@@ -125,6 +126,6 @@ told_all k m m' es bs i past run = all_told k m m' (told es bs) (subst (λ xs. A
 
 -- ---- a client is to be opened, and no revoker is left
 
-pub opened_bare : (k : ℕ) (m : Machine) (n : ℕ) (o : Option Refusal) (r : Refusal) → k ≡ 0 → o ≡ open_fault m n → r ≡ unwrap_or o BadClient → IsServed k m (open_client n) (refused r) m
-opened_bare k m n None r none is answer = lacks_revoker n refl none (sym is) (ap refused answer) refl
-opened_bare k m n (Some e) r none is answer = happens (is_refused r (sym is ∙ ap Some (sym answer)) refl refl)
+pub opened_bare : (k : ℕ) (m : Machine) (n : ℕ) (u : Durability) (o : Option Refusal) (r : Refusal) → k ≡ 0 → o ≡ open_fault m n → r ≡ unwrap_or o BadClient → IsServed k m (open_client n u) (refused r) m
+opened_bare k m n u None r none is answer = lacks_revoker n u refl none (sym is) (ap refused answer) refl
+opened_bare k m n u (Some e) r none is answer = happens (is_refused r (sym is ∙ ap Some (sym answer)) refl refl)

@@ -9,7 +9,7 @@ use Rattle.assise_machine.specs.Headline.{entry_of, history_after}
 use Rattle.assise_machine.specs.Running.{answer_seen, event_seen, told}
 
 same_entry : (h : List Entry) (e : Event) (a : Answer) → entry_of h e a ≡ entries_of h (event_seen e) (answer_seen a)
-same_entry h (Open n) a = search rules
+same_entry h (Open n u) a = search rules
 same_entry h (Call c op) a = search rules
 same_entry h (Fsync c) a = search rules
 same_entry h (Outgoing n) a = refl

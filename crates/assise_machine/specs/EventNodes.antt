@@ -5,7 +5,7 @@ use Rattle.assise_machine_events.specs.Events.{ClusterEvent, open_client, try_ca
 
 -- a client's event happens at the client's home, and leases are released at no one node
 abbrev pub node_of : World → ClusterEvent → Option ℕ
-node_of w (open_client n) = Some n
+node_of w (open_client n u) = Some n
 node_of w (try_call c op) = Some (w.home c)
 node_of w (try_fsync c) = Some (w.home c)
 node_of w (outgoing n) = Some n

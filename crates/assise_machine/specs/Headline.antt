@@ -5,7 +5,7 @@ use Rattle.assise_names.specs.declared.call.Op.TheVariants.{Fsync as FsyncCall}
 use Rattle.assise_history.specs.declared.call.Call.{Call as AnsweredCall}
 use Rattle.assise_history.specs.Entries.{Event as Entry, opens, calls, crashes, fails, returns}
 use Rattle.assise_history.specs.Kept.{kept}
-use Rattle.assise_history.specs.Legal.{IsDown, IsPastFsyncs, calls_made, clients_opened}
+use Rattle.assise_history.specs.Legal.{IsDown, IsPastSyncs, calls_made, clients_opened}
 use Rattle.assise_private_log.specs.NumberedLog.{NumberedLog, end, records_from}
 use Rattle.assise_record.specs.LogRecord.{LogRecord}
 use Rattle.assise_digest.specs.Region.{RegionValue, no_log}
@@ -79,15 +79,15 @@ kept_below bound h = filter (λ x. nat_lt x.number (bound x.client)) (kept h)
 abbrev pub replicated_calls : {C : Type 0} → ClusterOf C → List AnsweredCall
 replicated_calls cluster = kept_below (replicated_to cluster) (history_of cluster)
 
--- each answered fsync of the client lies below the bound
+-- each answered sync of the client lies below the bound
 abbrev pub IsSynced : {C : Type 0} → ClusterOf C → ℕ → Type 0
-IsSynced cluster c = IsPastFsyncs (history_of cluster) (record { client = c; first = replicated_to cluster c })
+IsSynced cluster c = IsPastSyncs (history_of cluster) (record { client = c; first = replicated_to cluster c })
 
 -- ---- what a run tells
 
 -- the entry that an event with its answer is told by, after a history; what is refused or awaited has none
 abbrev pub entry_of : List Entry → Event → Answer → List Entry
-entry_of h (Open n) (Opened (Ok c)) = opens c n ∷ []
+entry_of h (Open n u) (Opened (Ok c)) = opens c n u ∷ []
 entry_of h (Call c op) (Called (Ok (Answered reply))) = calls (record { client = c; number = calls_made c h; op = op; reply = reply }) ∷ []
 entry_of h (Fsync c) (Called (Ok (Answered reply))) = calls (record { client = c; number = calls_made c h; op = FsyncCall; reply = reply }) ∷ []
 entry_of h (Crash c) (Crashed (Ok _)) = crashes c ∷ []

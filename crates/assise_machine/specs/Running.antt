@@ -2,6 +2,7 @@
 use Rattle.std.specs.Prelude.{◌≡◌, ℕ, ◌-◌, List, [], ◌∷◌, ◌++◌, length, take, Option, None, Result, Ok, Err}
 use Rattle.std.specs.Option.{option_to_list}
 use Rattle.assise_names.specs.declared.call.Op.{Op}
+use Rattle.assise_names.specs.declared.durability.Durability.{Durability}
 use Rattle.assise_names.specs.declared.refusal.Refusal.{Refusal}
 use Rattle.assise_names.specs.declared.refusal.Refusal.TheVariants.{BadClient}
 use Rattle.assise_private_log.specs.NumberedLog.{NumberedLog}
@@ -21,7 +22,7 @@ use Rattle.assise_machine.specs.Answers.{delivery_answer, digesting_answer, send
 use Rattle.assise_machine.specs.Clusters.{machine, revokers}
 
 abbrev pub event_seen : Event → ClusterEvent
-event_seen (Open n) = open_client n
+event_seen (Open n u) = open_client n u
 event_seen (Call c op) = try_call c op
 event_seen (Fsync c) = try_fsync c
 event_seen (Outgoing n) = outgoing n
@@ -89,7 +90,7 @@ last_first stored (c ∷ cs) = last_first stored cs ++ option_to_list (stored c)
 -- the event happens; or it is an open that nothing but the lack of a revoker stands against, which is refused as one client too many
 pub data IsServed (stock : ℕ) (m : Machine) (e : ClusterEvent) (a : Answer) (m' : Machine) : Type 0 where
   happens : Happens m e a m' → IsServed stock m e a m'
-  lacks_revoker : (n : ℕ) → e ≡ open_client n → stock ≡ 0 → open_fault m n ≡ None → a ≡ refused BadClient → m' ≡ m → IsServed stock m e a m'
+  lacks_revoker : (n : ℕ) (u : Durability) → e ≡ open_client n u → stock ≡ 0 → open_fault m n ≡ None → a ≡ refused BadClient → m' ≡ m → IsServed stock m e a m'
 
 -- one after another
 abbrev pub AllServed : ℕ → Machine → List (ClusterEvent × Answer) → Machine → Type 0

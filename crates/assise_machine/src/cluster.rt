@@ -10,9 +10,9 @@ use assise_lease_table::revoker::{Revoker, Revokes};
 use assise_machine_calls::calling::try_call;
 use assise_machine_calls::crash::crash;
 use assise_machine_calls::faults::open_refusal;
-use assise_machine_calls::fsync::try_fsync;
 use assise_machine_calls::opening::open;
 use assise_machine_calls::release::release_ready;
+use assise_machine_calls::sync::try_fsync;
 use assise_machine_calls::turn::Turn;
 use assise_machine_failures::back::back;
 use assise_machine_failures::fail::fail;
@@ -20,6 +20,7 @@ use assise_machine_failures::join::join;
 use assise_machine_failures::refill::refill;
 use assise_machine_state::sound::SoundOf;
 use assise_names::call::Op;
+use assise_names::durability::Durability;
 use assise_names::refusal::Refusal;
 use assise_record::frame::Frame;
 use std::alloc::Global;
@@ -40,17 +41,17 @@ impl<C: Revokes + Drop> ClusterOf<C> {
     ghost use Rattle.assise_names.specs.declared.refusal.Refusal.TheVariants.{BadClient, OutOfMemory};
     ghost use Rattle.assise_seq_tree.specs.Runs.{tree_after_calls};
     ghost use Rattle.assise_seq_tree.specs.Tree.{opening};
-    ghost use Rattle.assise_history.specs.Legal.{IsLegal};
+    ghost use Rattle.assise_history.specs.Legal.{IsLegal, durability_of};
     ghost use Rattle.assise_inode_table.specs.Spelled.{Spells};
     ghost use Rattle.assise_digest.specs.Region.{alone};
     ghost use Rattle.assise_inode_table.specs.Traces.{ops};
     ghost use Rattle.assise_lease_table.specs.Tables.{Enrols, SameRevokers};
     ghost use Rattle.assise_machine_laws.specs.World.{IsClient, alone as alone_observed, received_by_all};
     ghost use Rattle.assise_machine_history.specs.Courses.{firm_calls};
-    ghost use Rattle.assise_machine_events.specs.ClientEvents.{Crashing, Opening, Syncing};
+    ghost use Rattle.assise_machine_events.specs.ClientEvents.{Crashing, Opening};
     ghost use Rattle.assise_machine_events.specs.Events.{released};
     ghost use Rattle.assise_machine_events.specs.Faults.{node_fault, open_fault};
-    ghost use Rattle.assise_machine_events.specs.Happenings.{Trying};
+    ghost use Rattle.assise_machine_events.specs.Happenings.{Fsyncing, Trying};
     ghost use Rattle.assise_machine_events.specs.Machine.{begun_as, state_of};
     ghost use Rattle.assise_machine_events.specs.MemberEvents.{Failing, Joining, Refilling, Returning};
     ghost use Rattle.assise_machine_events.specs.NodeEvents.{Delivering, Digesting, Releasing, Sending, SettingHot};
@@ -82,16 +83,24 @@ impl<C: Revokes + Drop> ClusterOf<C> {
         })
     }
 
-    /// Opens a client on a node, and answers its number. The client is asked for its leases by the revoker. Refused with
-    /// [`Refusal::BadNode`] where there is no such node, [`Refusal::NodeDown`] where it isn't full, [`Refusal::BadClient`] where all
-    /// 16 clients were opened, and [`Refusal::OutOfMemory`]: what is refused leaves all as it was, and gives the revoker back.
-    pub fn open(&mut self, alloc: Global, node: u32, revoker: C) -> Result<u32, (Refusal, C)>
-        ensures happens { Opening (machine self.old) node (opening_answer result) (machine self.new) }
+    /// Opens a client on a node, whose fsyncs are served so, and answers its number. The client is asked for its leases by the
+    /// revoker. Refused with [`Refusal::BadNode`] where there is no such node, [`Refusal::NodeDown`] where it isn't full,
+    /// [`Refusal::BadClient`] where all 16 clients were opened, and [`Refusal::OutOfMemory`]: what is refused leaves all as it
+    /// was, and gives the revoker back.
+    pub fn open(
+        &mut self,
+        alloc: Global,
+        node: u32,
+        revoker: C,
+        durability: Durability,
+    ) -> Result<u32, (Refusal, C)>
+        ensures happens { Opening (machine self.old) node durability (opening_answer result)
+            (machine self.new) }
         ensures given_back { IfErr result (λ back. back.1 ≡ revoker) }
         ensures revokers { OnErr result (SameRevokers (revokers self.old) (revokers self.new)) }
         ensures stored { OnOk result (Enrols (revokers self.old) (revokers self.new) ((machine self.old).world.clients + 1) revoker) }
     {
-        open(alloc, &mut self.sound, node, revoker)
+        open(alloc, &mut self.sound, node, revoker, durability)
     }
 
     /// Tries a client's call, as [`try_call`](fn@try_call) says.
@@ -104,9 +113,11 @@ impl<C: Revokes + Drop> ClusterOf<C> {
         try_call(alloc, &mut self.sound, client, op)
     }
 
-    /// Tries a client's fsync: all of its log is to be replicated, and it is answered once all full nodes have all of it.
+    /// Tries a client's fsync, as [`try_fsync`](fn@try_fsync) says: a pessimistic client's waits until all full nodes have all of
+    /// its log, and an optimistic client's for nothing.
     pub fn try_fsync(&mut self, client: u32) -> Result<Turn, Refusal>
-        ensures happens { Syncing (machine self.old) client (turn_answer result) (machine self.new) }
+        ensures happens { Fsyncing (durability_of client (machine self.old).history)
+            (machine self.old) client (turn_answer result) (machine self.new) }
         ensures revokers { SameRevokers (revokers self.old) (revokers self.new) }
     {
         try_fsync(&mut self.sound, client)
@@ -202,8 +213,8 @@ impl<C: Revokes + Drop> ClusterOf<C> {
 
     /// A node fails. Of a full one the logs are gone, and its inodes stay; of each of its clients that lives the records are kept that
     /// all other full nodes have, and the others cut the rest; an epoch begins. It answers each client that lost a record, by rising
-    /// number, with its first lost call: after the client's last answered fsync. A node that comes back is down again, and nothing is
-    /// lost. Refused with [`Refusal::BadNode`] where there is no such node, [`Refusal::WrongPhase`] where it is down,
+    /// number, with its first lost call: after the client's last answered sync. A node that comes back is down again, and nothing
+    /// is lost. Refused with [`Refusal::BadNode`] where there is no such node, [`Refusal::WrongPhase`] where it is down,
     /// [`Refusal::LastNode`] where it is the only full one, and [`Refusal::OutOfMemory`]; what is refused leaves all as it was.
     pub fn fail(&mut self, alloc: Global, node: u32) -> Result<Vec<(u32, u64)>, Refusal>
         ensures happens { Failing (machine self.old) node (failing_answer result) (machine self.new) }

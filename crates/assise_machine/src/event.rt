@@ -1,13 +1,14 @@
 // What may happen to a cluster.
 use crate::hot::HotCapacity;
 use assise_names::call::Op;
+use assise_names::durability::Durability;
 use assise_record::frame::Frame;
 
 /// One call of a [`ClusterOf`](crate::cluster::ClusterOf).
 #[derive(Debug, Drop)]
 pub enum Event {
-    /// A client is opened on a node, with a revoker of the stock.
-    Open(u32),
+    /// A client is opened on a node, with a revoker of the stock; this is how its fsyncs are served.
+    Open(u32, Durability),
     /// A client tries a call.
     Call(u32, Op),
     /// A client tries an fsync.

@@ -17,7 +17,7 @@ use assise_lease_table::revoker::Revokes;
 /// history grows by what they answer, and no replicated call is lost again.
 pub fn headline<C: Revokes + Drop>(cluster: &ClusterOf<C>)
     // All answered calls stand in one legal history: at any time one plain tree gives the replies of all calls but those that failures
-    // took, and a failure takes nothing but tails of its node's clients, each behind the client's last answered fsync.
+    // took, and a failure takes nothing but tails of its node's clients, each behind the client's last answered sync.
     ensures legal { IsLegal (history_of cluster.now) }
 
     // Some node is up, and each that is has, alone, the tree of all replicated calls: its region gives it with the acknowledged numbers.
@@ -25,7 +25,7 @@ pub fn headline<C: Revokes + Drop>(cluster: &ClusterOf<C>)
     ensures alone { (n : ℕ) → IsUp cluster.now n →
         Spells (alone (region_of cluster.now n) (all_acked cluster.now)) (tree_after opening (replicated_calls cluster.now)) }
 
-    // Each client's calls are replicated up to its last answered fsync.
+    // Each client's calls are replicated up to its last answered sync.
     ensures synced { (c : ℕ) → IsSynced cluster.now c }
 
     // Nobody has seen what may yet be lost: whatever tails go of calls that aren't replicated, all others stand with their replies.

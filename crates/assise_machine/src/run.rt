@@ -14,6 +14,7 @@ use crate::answer::Answer;
 use crate::cluster::ClusterOf;
 use crate::event::Event;
 use assise_lease_table::revoker::Revokes;
+use assise_names::durability::Durability;
 use assise_names::refusal::Refusal;
 use std::alloc::Global;
 
@@ -84,7 +85,9 @@ pub fn apply_event<C: Revokes + Drop>(
         CutsAreAnswers C.answers (revokers cluster.old) (machine cluster.old) (machine cluster.new) }
 {
     match event {
-        Event::Open(node) => Answer::Opened(open_next(alloc, cluster, *node, stock)),
+        Event::Open(node, durability) => {
+            Answer::Opened(open_next(alloc, cluster, *node, stock, *durability))
+        }
         Event::Call(client, op) => Answer::Called(cluster.try_call(alloc, *client, op)),
         Event::Fsync(client) => Answer::Called(cluster.try_fsync(*client)),
         Event::Outgoing(node) => Answer::Sent(cluster.outgoing(alloc, *node)),
@@ -108,8 +111,10 @@ pub fn open_next<C: Revokes + Drop>(
     cluster: &mut ClusterOf<C>,
     node: u32,
     stock: &mut Vec<C>,
+    durability: Durability,
 ) -> Result<u32, Refusal>
-    ensures served { IsServed (length stock.old.items) (machine cluster.old) (open_client node) (opened_answer result) (machine cluster.new) }
+    ensures served { IsServed (length stock.old.items) (machine cluster.old)
+        (open_client node durability) (opened_answer result) (machine cluster.new) }
     ensures stock { length stock.new.items ≡ stock_after (length stock.old.items) (opened_answer result) }
     ensures refused { OnErr result (stock.new.items ≡ stock.old.items) }
     ensures opened { OnOk result (stock.new.items ≡ take (length stock.old.items - 1) stock.old.items) }
@@ -119,7 +124,7 @@ pub fn open_next<C: Revokes + Drop>(
     let Some(revoker) = stock.pop() else {
         return Err(cluster.open_refusal(node).unwrap_or(Refusal::BadClient));
     };
-    match cluster.open(alloc, node, revoker) {
+    match cluster.open(alloc, node, revoker, durability) {
         Ok(client) => Ok(client),
         Err((refusal, revoker)) => {
             stock.push_reserved(revoker);

@@ -1,12 +1,17 @@
 -- The cuts of the leases that a call froze are answers of their holders' revokers.
 use Rattle.std.proofs.Common.{◌≡◌, ℕ, true, not, ◌&&◌, Option, ap, sym, subst, ◌∙◌}
 use Rattle.std.proofs.lemmas.Bool.{and_parts, not-true, true≢false}
+use Rattle.assise_names.specs.declared.call.Op.{Op}
+use Rattle.assise_names.specs.declared.call.Op.TheVariants.{Fsync}
+use Rattle.assise_names.specs.declared.durability.Durability.{Durability}
+use Rattle.assise_names.specs.declared.durability.Durability.TheVariants.{Pessimistic, Optimistic}
 use Rattle.assise_private_log.specs.NumberedLog.{NumberedLog}
 use Rattle.assise_lease_table.specs.Tables.{SameRevokers}
 use Rattle.assise_lease_tree.specs.Levels.{is_frozen}
 use Rattle.assise_machine_leases.specs.Leases.{Leases, client_lease}
-use Rattle.assise_machine_events.specs.ClientEvents.{Syncing, is_refused, is_replicating, is_synced, lacks_memory}
+use Rattle.assise_machine_events.specs.ClientEvents.{Syncing, is_noted, is_refused, is_replicating, is_synced, lacks_memory}
 use Rattle.assise_machine_events.specs.Events.{Answer}
+use Rattle.assise_machine_events.specs.Happenings.{Fsyncing}
 use Rattle.assise_machine_events.specs.Machine.{Machine}
 use Rattle.assise_machine_calls.specs.Asked.{CutsAreAnswers, clients_log}
 
@@ -14,12 +19,18 @@ use Rattle.assise_machine_calls.specs.Asked.{CutsAreAnswers, clients_log}
 abbrev pub KeepsFrozen : Leases → Leases → Type 0
 KeepsFrozen l l' = (c i : ℕ) → is_frozen (client_lease l' c i) ≡ is_frozen (client_lease l c i)
 
--- an fsync leaves leases as they are
-fsync_leases : (m m' : Machine) (c : ℕ) (a : Answer) → Syncing m c a m' → m'.leases ≡ m.leases
-fsync_leases m m' c a (is_synced reply fine is e) = e.leases
-fsync_leases m m' c a (is_replicating fine is e) = e.leases
-fsync_leases m m' c a (lacks_memory fine all is same) = ap (λ x. x.leases) same
-fsync_leases m m' c a (is_refused r fault is same) = ap (λ x. x.leases) same
+-- a sync leaves leases as they are, and so does an fsync that waits for nothing
+sync_leases : (m m' : Machine) (c : ℕ) (op : Op) (a : Answer) → Syncing m c op a m' → m'.leases ≡ m.leases
+sync_leases m m' c op a (is_synced reply fine is e) = e.leases
+sync_leases m m' c op a (is_replicating fine is e) = e.leases
+sync_leases m m' c op a (lacks_memory fine all is same) = ap (λ x. x.leases) same
+sync_leases m m' c op a (is_refused r fault is same) = ap (λ x. x.leases) same
+
+fsync_leases : (m m' : Machine) (c : ℕ) (u : Durability) (a : Answer) → Fsyncing u m c a m' → m'.leases ≡ m.leases
+fsync_leases m m' c Pessimistic a e = sync_leases m m' c Fsync a e
+fsync_leases m m' c Optimistic a (is_noted reply fine is e) = e.leases
+fsync_leases m m' c Optimistic a (lacks_memory fine is same) = ap (λ x. x.leases) same
+fsync_leases m m' c Optimistic a (is_refused r fault is same) = ap (λ x. x.leases) same
 
 module _ {C : Type 0} (answers : C → NumberedLog → ℕ → ℕ → Type 0) where
   -- nothing is frozen
@@ -35,5 +46,8 @@ module _ {C : Type 0} (answers : C → NumberedLog → ℕ → ℕ → Type 0) w
       let found = cuts c i (subst (λ b. (not b && is_frozen (client_lease m'.leases c i)) ≡ true) (sym (same c i)) fresh) in
       (found.0, sym (stays c) ∙ found.1, subst (λ l. answers found.0 l i (m'.leases.cut c i)) (logs c) found.2)
 
-  pub fsync_freezes_nothing : (stored : ℕ → Option C) (m m' : Machine) (c : ℕ) (a : Answer) → Syncing m c a m' → CutsAreAnswers answers stored m m'
-  fsync_freezes_nothing stored m m' c a e = nothing_frozen stored m m' (λ d i. ap (λ l. is_frozen (client_lease l d i)) (fsync_leases m m' c a e))
+  pub sync_freezes_nothing : (stored : ℕ → Option C) (m m' : Machine) (c : ℕ) (op : Op) (a : Answer) → Syncing m c op a m' → CutsAreAnswers answers stored m m'
+  sync_freezes_nothing stored m m' c op a e = nothing_frozen stored m m' (λ d i. ap (λ l. is_frozen (client_lease l d i)) (sync_leases m m' c op a e))
+
+  pub fsync_freezes_nothing : (stored : ℕ → Option C) (m m' : Machine) (c : ℕ) (u : Durability) (a : Answer) → Fsyncing u m c a m' → CutsAreAnswers answers stored m m'
+  fsync_freezes_nothing stored m m' c u a e = nothing_frozen stored m m' (λ d i. ap (λ l. is_frozen (client_lease l d i)) (fsync_leases m m' c u a e))

@@ -33,7 +33,7 @@ use Rattle.assise_machine_state.proofs.Owning.{own_log as has_own_log}
 use Rattle.assise_machine_state.proofs.Seeing.{client_is}
 use Rattle.assise_machine_state.proofs.ShapedClients.{areas_stay}
 use Rattle.assise_machine_calls.specs.Asked.{AsksThem, CutsAreAnswers, clients_log, own_log}
-use Rattle.assise_machine_calls.proofs.Fsyncing.{fine_number}
+use Rattle.assise_machine_calls.proofs.Syncing.{fine_number}
 use Rattle.assise_machine_calls.proofs.Leasing.{are_leases}
 
 -- ---- own logs

@@ -50,7 +50,7 @@ use Rattle.assise_machine_state.proofs.Seeing.{client_is}
 use Rattle.assise_machine_calls.specs.Answers.{turn_answer}
 use Rattle.assise_machine_calls.specs.declared.turn.Turn.{Turn}
 use Rattle.assise_machine_calls.specs.Leasing.{IsReady, next_call, room_fault}
-use Rattle.assise_machine_calls.proofs.Fsyncing.{call_leases, few_made, fine_number, made_counted, next_counted, next_low}
+use Rattle.assise_machine_calls.proofs.Syncing.{call_leases, few_made, fine_number, made_counted, next_counted, next_low}
 
 -- ---- leases that serve
 
@@ -164,7 +164,7 @@ module _ (s : StateValue) (c : ℕ) (op : Op) (shape : IsShaped s) (fine : call_
     client_fine = call_client s c op fine
 
     pub call_made : (client_in s.clients c).made ≤ 1048576
-    call_made = subst (λ k. k ≤ 1048576) made_is (few_made s c shape client_fine holds)
+    call_made = subst (λ k. k ≤ 1048576) made_is (few_made s c holds)
 
     end_low : end (world_of s) c ≤ length s.history
     unfolding observed
@@ -174,7 +174,7 @@ module _ (s : StateValue) (c : ℕ) (op : Op) (shape : IsShaped s) (fine : call_
     end_fits few = omega (arith, few, end_low, end_is)
 
     pub next_fits : length s.history < 9223372036854775808 → (client_in s.clients c).next + 1 < 18446744073709551616
-    next_fits few = omega (arith, few, next_low s c shape client_fine holds, next_is)
+    next_fits few = omega (arith, few, next_low s c holds, next_is)
 
     log_within : length (log_in s.nodes home c).log.records ≤ (log_in s.nodes home c).log.limit
     unfolding observed
@@ -289,7 +289,7 @@ module _ (s : StateValue) (c : ℕ) (op : Op) (shape : IsShaped s) (fine : call_
             }
 
         called : MakesCall old made_call (world_of then)
-        called = call_seen s made_call shape (made_counted s c shape client_fine holds) (few_made s c shape client_fine holds) may
+        called = call_seen s made_call shape (made_counted s c holds) (few_made s c holds) may
 
         room : has_some (step_at_home old next).effects ≡ true → length (old.records c) < s.limit
         room some =
@@ -303,7 +303,7 @@ module _ (s : StateValue) (c : ℕ) (op : Op) (shape : IsShaped s) (fine : call_
           call = record { call = called; visited = served.visited; changed = served.changed };
           room = room;
           leases = call_leases s made_call;
-          adds = record { history = ap (λ k. s.history ++ calls (record { client = c; number = k; op = op; reply = t.reply }) ∷ []) (next_counted s c shape client_fine holds); limit = refl };
+          adds = record { history = ap (λ k. s.history ++ calls (record { client = c; number = k; op = op; reply = t.reply }) ∷ []) (next_counted s c holds); limit = refl };
           keeps = record { members = refl; others = call_areas s made_call };
         })
 

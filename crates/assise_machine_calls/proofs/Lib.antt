@@ -1,7 +1,7 @@
 pub mod OpenFaults
 pub mod Opened
 pub mod ClientFaults
-pub mod Fsyncing
+pub mod Syncing
 pub mod Crashed
 pub mod Committing
 pub mod Granted

@@ -4,6 +4,7 @@ use Rattle.std.specs.Coded.{Coded-set, coded_option, coded_ℕ}
 use Rattle.std.proofs.Math.Logic.{∥∥₁_elim}
 use Rattle.std.proofs.lemmas.Bool.{cases_Bool, ne_eqb}
 use Rattle.std.proofs.lemmas.List.{length-append}
+use Rattle.assise_names.specs.declared.durability.Durability.{Durability}
 use Rattle.assise_history.specs.Entries.{Event, opens}
 use Rattle.assise_digest.specs.Region.{ReceivedLog, RegionValue, with_client}
 use Rattle.assise_lease_tree.specs.TwoLevels.{EnrolsAt, SameLevels, TwoLevels}
@@ -25,22 +26,22 @@ use Rattle.assise_machine_calls.proofs.OpenFaults.{fine_full}
 
 -- ---- the event
 
-module _ (s : StateValue) (n : ℕ) (levels : TwoLevels) (shape : IsShaped s) (fine : open_fault (observed s) n ≡ None) where
+module _ (s : StateValue) (n : ℕ) (u : Durability) (levels : TwoLevels) (shape : IsShaped s) (fine : open_fault (observed s) n ≡ None) where
   same_next : suc (length s.clients) ≡ suc (world_of s).clients
   unfolding world_of
   same_next = refl
 
-  pub is_event : AreNoted s → EnrolsAt s.levels levels (suc (length s.clients)) n → Opening (observed s) n (opened (suc (length s.clients))) (observed (after_open s n levels))
+  pub is_event : AreNoted s → EnrolsAt s.levels levels (suc (length s.clients)) n → Opening (observed s) n u (opened (suc (length s.clients))) (observed (after_open s n u levels))
   unfolding observed
   is_event noted enrols =
       is_opened fine (ap opened same_next) record {
-        opening = open_seen s n levels shape noted (seen_full s n (fine_full s n fine)) enrols;
-        adds = record { history = ap (λ k. s.history ++ opens k n ∷ []) same_next; limit = refl };
-        keeps = record { members = refl; others = open_areas s n levels };
+        opening = open_seen s n u levels shape noted (seen_full s n (fine_full s n fine)) enrols;
+        adds = record { history = ap (λ k. s.history ++ opens k n u ∷ []) same_next; limit = refl };
+        keeps = record { members = refl; others = open_areas s n u levels };
       }
 
-  pub keeps_shape : IsShaped (after_open s n levels)
-  keeps_shape = open_shaped s n levels shape (seen_full s n (fine_full s n fine))
+  pub keeps_shape : IsShaped (after_open s n u levels)
+  keeps_shape = open_shaped s n u levels shape (seen_full s n (fine_full s n fine))
 
 -- ---- what was begun ends
 
@@ -106,9 +107,9 @@ undone s v n nodes levels shape begun gone same =
     λ i. record { nodes = back i; members = (begun i).members; clients = (begun i).clients; levels = held i; cuts = (begun i).cuts; history = (begun i).history; limit = (begun i).limit }
 
 -- the client is opened
-pub done : (s v : StateValue) (n : ℕ) (clients : List ClientValue) (levels : TwoLevels) (history : List Event) → v ≡ begun_at s n → clients ≡ v.clients ++ opened_on n ∷ [] →
-    history ≡ v.history ++ opens (suc (length s.clients)) n ∷ [] → record v { clients = clients; levels = levels; history = history } ≡ after_open s n levels
-done s v n clients levels history begun more told =
-    let all : clients ≡ s.clients ++ opened_on n ∷ [] = more ∙ ap (λ u. u.clients ++ opened_on n ∷ []) begun in
-    let entries : history ≡ s.history ++ opens (suc (length s.clients)) n ∷ [] = told ∙ ap (λ u. u.history ++ opens (suc (length s.clients)) n ∷ []) begun in
+pub done : (s v : StateValue) (n : ℕ) (u : Durability) (clients : List ClientValue) (levels : TwoLevels) (history : List Event) → v ≡ begun_at s n → clients ≡ v.clients ++ opened_on n u ∷ [] →
+    history ≡ v.history ++ opens (suc (length s.clients)) n u ∷ [] → record v { clients = clients; levels = levels; history = history } ≡ after_open s n u levels
+done s v n u clients levels history begun more told =
+    let all : clients ≡ s.clients ++ opened_on n u ∷ [] = more ∙ ap (λ x. x.clients ++ opened_on n u ∷ []) begun in
+    let entries : history ≡ s.history ++ opens (suc (length s.clients)) n u ∷ [] = told ∙ ap (λ x. x.history ++ opens (suc (length s.clients)) n u ∷ []) begun in
     λ i. record { nodes = (begun i).nodes; members = (begun i).members; clients = all i; levels = levels; cuts = (begun i).cuts; history = entries i; limit = (begun i).limit }

@@ -6,13 +6,14 @@ use Rattle.std.specs.Coded.{Coded-set, coded_option}
 use Rattle.std.specs.FinMap as map
 use Rattle.std.specs.List.{list_any}
 use Rattle.assise_names.specs.declared.call.Op.{Op}
-use Rattle.assise_names.specs.declared.call.Op.TheVariants.{Create, Mkdir, Read as ReadCall, Write as WriteCall, Truncate, Rename, Unlink, Rmdir, List as ListCall, Stat, Fsync}
+use Rattle.assise_names.specs.declared.call.Op.TheVariants.{Create, Mkdir, Read as ReadCall, Write as WriteCall, Truncate, Rename, Unlink, Rmdir, List as ListCall, Stat, Fsync, Dsync}
+use Rattle.assise_names.specs.declared.durability.Durability.TheVariants.{Pessimistic}
 use Rattle.assise_names.specs.declared.mode.Mode.{Mode}
 use Rattle.assise_names.specs.declared.mode.Mode.TheVariants.{Read, Write}
 use Rattle.assise_names.specs.declared.refusal.Refusal.{Refusal}
 use Rattle.assise_names.specs.declared.refusal.Refusal.TheVariants.{OutOfMemory}
 use Rattle.assise_names.specs.declared.reply.Reply.TheVariants.{Done}
-use Rattle.assise_history.specs.Legal.{is_fsync}
+use Rattle.assise_history.specs.Legal.{durability_of, is_sync}
 use Rattle.assise_record.specs.declared.effect.Effect.{Effect}
 use Rattle.assise_inode_plan.specs.Leased.{AreLeased, Leases as Leased, first_missing, for_reading, for_writing, wants}
 use Rattle.assise_inode_plan.specs.Planning.{Plan, missing, plan_lacking, ready, visited_plan_of}
@@ -51,7 +52,7 @@ use Rattle.assise_machine_state.proofs.Reading.{read_at_home}
 use Rattle.assise_machine_state.proofs.Seeing.{client_is}
 use Rattle.assise_machine_state.proofs.ShapedClients.{areas_stay, leases_held}
 use Rattle.assise_machine_calls.specs.Asked.{AsksThem, CutsAreAnswers}
-use Rattle.assise_machine_calls.specs.Leasing.{HasAll, IsReady, IsVisited, next_call, next_step}
+use Rattle.assise_machine_calls.specs.Leasing.{HasAll, IsReady, IsVisited, NeverSyncs, next_call, next_step}
 use Rattle.assise_machine_calls.proofs.AnsweredCuts.{KeepsFrozen, frozen_later}
 use Rattle.assise_machine_calls.proofs.Committing.{call_client, call_number}
 use Rattle.assise_machine_calls.proofs.Granted.{granted_first}
@@ -301,11 +302,11 @@ module _ (s : StateValue) (c : ℕ) (op : Op) (shape : IsShaped s) (holds : ∥ 
     unfolding observed world_of
     fine_then = fine
 
-    pub holds_then : is_fsync op ≡ false → ∥ Holds (observed s') ∥₁
-    holds_then other = ∥∥₁_map holds (λ h. calling_keeps (observed s) (observed s') c op (refused OutOfMemory) h other (goes_on (refused OutOfMemory) (observed s') (lacking (observed s') c op fine_then)))
+    pub holds_then : NeverSyncs op → ∥ Holds (observed s') ∥₁
+    holds_then other = ∥∥₁_map holds (λ h. calling_keeps (observed s) (observed s') c op (refused OutOfMemory) h (other (durability_of c (observed s).history)) (goes_on (refused OutOfMemory) (observed s') (lacking (observed s') c op fine_then)))
 
     pub shape_then : IsShaped s'
-    shape_then = record { nodes = shape.nodes; few_nodes = shape.few_nodes; logs = shape.logs; no_logs = shape.no_logs; at_home = shape.at_home; limits = shape.limits; least_limit = shape.least_limit; most_limit = shape.most_limit }
+    shape_then = record { nodes = shape.nodes; few_nodes = shape.few_nodes; logs = shape.logs; no_logs = shape.no_logs; at_home = shape.at_home; limits = shape.limits; least_limit = shape.least_limit; most_limit = shape.most_limit; durabilities = shape.durabilities }
 
     frozen_same : SameFrozen s levels
     frozen_same = same_frozen s.levels levels c (client_in s.clients c).home i mode granted (own_unfrozen s.levels c (client_in s.clients c).home i mode free)
@@ -363,30 +364,32 @@ module _ (old m m' : Machine) (c : ℕ) (op : Op) (r : Result Bool Refusal) (onw
       go (Ok all) told = tt
       go (Err e) told = onward (refused e) m' told
 
--- ---- any call but an fsync
+-- ---- any call but a sync
 
-pub no_fsync : (op : Op) → (op ≡ Fsync → ⊥) → is_fsync op ≡ false
-no_fsync Fsync other = absurd (other refl)
-no_fsync (Create p) other = refl
-no_fsync (Mkdir p) other = refl
-no_fsync (ReadCall p offset most) other = refl
-no_fsync (WriteCall p offset new) other = refl
-no_fsync (Truncate p size) other = refl
-no_fsync (Rename p q) other = refl
-no_fsync (Unlink p) other = refl
-no_fsync (Rmdir p) other = refl
-no_fsync (ListCall p) other = refl
-no_fsync (Stat p) other = refl
+pub no_sync : (op : Op) → (op ≡ Fsync → ⊥) → (op ≡ Dsync → ⊥) → NeverSyncs op
+no_sync Fsync fsync dsync = absurd (fsync refl)
+no_sync Dsync fsync dsync = absurd (dsync refl)
+no_sync (Create p) fsync dsync = λ u. refl
+no_sync (Mkdir p) fsync dsync = λ u. refl
+no_sync (ReadCall p offset most) fsync dsync = λ u. refl
+no_sync (WriteCall p offset new) fsync dsync = λ u. refl
+no_sync (Truncate p size) fsync dsync = λ u. refl
+no_sync (Rename p q) fsync dsync = λ u. refl
+no_sync (Unlink p) fsync dsync = λ u. refl
+no_sync (Rmdir p) fsync dsync = λ u. refl
+no_sync (ListCall p) fsync dsync = λ u. refl
+no_sync (Stat p) fsync dsync = λ u. refl
 
-pub is_tried : (m m' : Machine) (c : ℕ) (op : Op) (a : Answer) → is_fsync op ≡ false → Calling m c op a m' → Trying m c op a m'
-is_tried m m' c Fsync a other e = absurd (let t : true ≡ false = other in cc)
-is_tried m m' c (Create p) a other e = e
-is_tried m m' c (Mkdir p) a other e = e
-is_tried m m' c (ReadCall p offset most) a other e = e
-is_tried m m' c (WriteCall p offset new) a other e = e
-is_tried m m' c (Truncate p size) a other e = e
-is_tried m m' c (Rename p q) a other e = e
-is_tried m m' c (Unlink p) a other e = e
-is_tried m m' c (Rmdir p) a other e = e
-is_tried m m' c (ListCall p) a other e = e
-is_tried m m' c (Stat p) a other e = e
+pub is_tried : (m m' : Machine) (c : ℕ) (op : Op) (a : Answer) → NeverSyncs op → Calling m c op a m' → Trying m c op a m'
+is_tried m m' c Fsync a never e = absurd (let t : true ≡ false = never Pessimistic in cc)
+is_tried m m' c Dsync a never e = absurd (let t : true ≡ false = never Pessimistic in cc)
+is_tried m m' c (Create p) a never e = e
+is_tried m m' c (Mkdir p) a never e = e
+is_tried m m' c (ReadCall p offset most) a never e = e
+is_tried m m' c (WriteCall p offset new) a never e = e
+is_tried m m' c (Truncate p size) a never e = e
+is_tried m m' c (Rename p q) a never e = e
+is_tried m m' c (Unlink p) a never e = e
+is_tried m m' c (Rmdir p) a never e = e
+is_tried m m' c (ListCall p) a never e = e
+is_tried m m' c (Stat p) a never e = e

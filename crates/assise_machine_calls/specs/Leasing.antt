@@ -1,12 +1,14 @@
 -- What a client's next call does over what the client reads, and that all its leases are there.
 -- Assise (OSDI 2020), section 3 (CC-NVM: update logs, leases).
-use Rattle.std.specs.Prelude.{◌≡◌, ◌==◌, ◌&&◌, ℕ, List, None, Option, length, true}
+use Rattle.std.specs.Prelude.{◌≡◌, ◌==◌, ◌&&◌, ℕ, List, None, Option, length, true, false}
 use Rattle.std.specs.List.{list_any}
 use Rattle.assise_names.specs.declared.call.Op.{Op}
+use Rattle.assise_names.specs.declared.durability.Durability.{Durability}
 use Rattle.assise_names.specs.declared.mode.Mode.TheVariants.{Read}
 use Rattle.assise_names.specs.declared.refusal.Refusal.{Refusal}
 use Rattle.assise_names.specs.declared.refusal.Refusal.TheVariants.{InodesSpent, LogFull}
 use Rattle.assise_names.specs.declared.reply.Reply.TheVariants.{Done}
+use Rattle.assise_history.specs.Legal.{is_sync}
 use Rattle.assise_record.specs.declared.effect.Effect.{Effect}
 use Rattle.assise_record.specs.Records.{has_some}
 use Rattle.assise_inode_table.specs.Effects.{contains, makes}
@@ -24,6 +26,10 @@ use Rattle.assise_machine_events.specs.Faults.{call_fault, fault_if, or_else}
 use Rattle.assise_machine_events.specs.Machine.{Holds, Machine}
 use Rattle.assise_machine_state.specs.ClientValues.{ClientValue}
 use Rattle.assise_machine_calls.specs.declared.outcome.Outcome.{Outcome}
+
+-- the call is a sync of nobody
+abbrev pub NeverSyncs : Op → Type 0
+NeverSyncs op = (u : Durability) → is_sync op u ≡ false
 
 -- the client's next call: what it does doesn't depend on what it answers
 abbrev pub next_call : World → ℕ → Op → NumberedCall

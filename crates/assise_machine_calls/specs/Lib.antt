@@ -1,4 +1,5 @@
 pub mod Answers
+pub mod SyncCalls
 pub mod Asked
 pub mod Leasing
 pub mod Releasing

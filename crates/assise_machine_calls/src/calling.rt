@@ -1,6 +1,5 @@
 // A client's call.
 ghost use Rattle.std.specs.Prelude.{◌≡◌, IfErr, IfOk, None, false, true};
-ghost use Rattle.assise_history.specs.Legal.{is_fsync};
 ghost use Rattle.assise_lease_table.specs.Tables.{SameRevokers};
 ghost use Rattle.assise_lease_tree.specs.Trees.{stored_by};
 ghost use Rattle.assise_machine_events.specs.ClientEvents.{Calling};
@@ -12,13 +11,13 @@ ghost use Rattle.assise_machine_state.specs.Shape.{AreNoted, IsShaped};
 ghost use Rattle.assise_machine_state.specs.Whole.{machine_of, value_of};
 ghost use Rattle.assise_machine_calls.specs.Answers.{turn_answer};
 ghost use Rattle.assise_machine_calls.specs.Asked.{CutsAreAnswers};
-ghost use Rattle.assise_machine_calls.specs.Leasing.{HasAll, IsVisited, step_in};
+ghost use Rattle.assise_machine_calls.specs.Leasing.{HasAll, IsVisited, NeverSyncs, step_in};
 
 use crate::asking::ask;
 use crate::commit::commit;
 use crate::faults::call_refusal;
-use crate::fsync::try_fsync;
 use crate::outcome::Outcome;
+use crate::sync::{try_dsync, try_fsync};
 use crate::turn::Turn;
 use assise_inode_plan::plan::{Planned, plan_by_visits};
 use assise_inode_plan::view::first_unleased;
@@ -37,7 +36,8 @@ use std::alloc::Global;
 /// It gets the leases that the call needs, one after another: of what it visits for reading, in the order of the visits, and
 /// then of what it changes for writing. Where others stand in the way of one, they are asked, each by the revoker that it stored,
 /// and it is [`Turn::NotYet`]: the call may be tried again. Where it has all, it is [`Turn::Answered`], with one entry of the
-/// history, and one record of the client's log if it has effects. [`Op::Fsync`] is tried as [`try_fsync`] says.
+/// history, and one record of the client's log if it has effects. [`Op::Fsync`] is tried as [`try_fsync`] says, and [`Op::Dsync`]
+/// as [`try_dsync`] says.
 ///
 /// Refused as [`call_refusal`] says, with all as it was; and once it has its leases with [`Refusal::InodesSpent`] where it would make
 /// an inode and the client has made 1,048,576, and with [`Refusal::LogFull`] where it has effects and the client's log has no room.
@@ -53,8 +53,10 @@ pub fn try_call<C: Revokes + Drop>(
         (machine_of sound.old.state) (machine_of sound.new.state) }
     ensures revokers { SameRevokers (stored_by sound.old.state.leases) (stored_by sound.new.state.leases) }
 {
-    if let Op::Fsync = op {
-        return try_fsync(sound, client);
+    match op {
+        Op::Fsync => return try_fsync(sound, client),
+        Op::Dsync => return try_dsync(sound, client),
+        _ => {}
     }
     let state = &mut sound.state;
     if let Some(refusal) = call_refusal(state, client, op) {
@@ -71,7 +73,7 @@ fn call<C: Revokes + Drop>(
     op: &Op,
 ) -> Result<Turn, Refusal>
     requires fine { call_fault (machine_of state.old) client op.now ≡ None }
-    requires call { is_fsync op.now ≡ false }
+    requires call { NeverSyncs op.now }
     requires holds { ∥ Holds (machine_of state.old) ∥₁ }
     requires shape { IsShaped (value_of state.old) }
     requires noted { AreNoted (value_of state.old) }
@@ -127,7 +129,7 @@ fn lease_changes<C: Revokes + Drop>(
     outcome: &Outcome,
 ) -> Result<bool, Refusal>
     requires fine { call_fault (machine_of state.old) client op.now ≡ None }
-    requires call { is_fsync op.now ≡ false }
+    requires call { NeverSyncs op.now }
     requires holds { ∥ Holds (machine_of state.old) ∥₁ }
     requires shape { IsShaped (value_of state.old) }
     requires noted { AreNoted (value_of state.old) }

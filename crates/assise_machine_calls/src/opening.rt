@@ -13,18 +13,21 @@ use assise_history::entry::Entry;
 use assise_lease_table::revoker::Revokes;
 use assise_machine_state::sound::SoundOf;
 use assise_machine_state::state::StateOf;
+use assise_names::durability::Durability;
 use assise_names::refusal::Refusal;
 use std::alloc::Global;
 
-/// Opens a client on a node, and answers its number. Refused as [`open_refusal`] says, and with [`Refusal::OutOfMemory`]: what is
-/// refused leaves all as it was, and gives the revoker back.
+/// Opens a client on a node, whose fsyncs are served so, and answers its number. Refused as [`open_refusal`] says, and with
+/// [`Refusal::OutOfMemory`]: what is refused leaves all as it was, and gives the revoker back.
 pub fn open<C: Revokes + Drop>(
     alloc: Global,
     sound: &mut SoundOf<C>,
     node: u32,
     revoker: C,
+    durability: Durability,
 ) -> Result<u32, (Refusal, C)>
-    ensures happens { Opening (machine_of sound.old.state) node (opening_answer result) (machine_of sound.new.state) }
+    ensures happens { Opening (machine_of sound.old.state) node durability (opening_answer result)
+        (machine_of sound.new.state) }
     ensures given_back { IfErr result (λ back. back.1 ≡ revoker) }
     ensures revokers { OnErr result (SameRevokers (stored_by sound.old.state.leases) (stored_by sound.new.state.leases)) }
     ensures stored { OnOk result (Enrols (stored_by sound.old.state.leases) (stored_by sound.new.state.leases) (length sound.old.state.clients + 1) revoker) }
@@ -41,8 +44,8 @@ pub fn open<C: Revokes + Drop>(
         state.nodes.end_logs(client);
         return Err(back);
     }
-    state.clients.open(node);
-    state.history.push(Entry::open(client, node));
+    state.clients.open(node, durability);
+    state.history.push(Entry::open(client, node, durability));
     Ok(client)
 }
 

@@ -3,6 +3,7 @@ use assise_fault_script::command::RevokerKind;
 use assise_lease_table::revoker::Revoker;
 use assise_machine_calls::opening::open;
 use assise_machine_state::sound::Sound;
+use assise_names::durability::Durability;
 use assise_names::refusal::Refusal;
 use assise_private_log::log_view::LogView;
 use assise_revokers::kinds::{eights, least, whole};
@@ -26,19 +27,20 @@ pub(crate) fn open_as(
     sound: &mut Sound,
     node: u32,
     kind: RevokerKind,
+    durability: Durability,
 ) -> Result<u32, Refusal> {
     match kind {
         RevokerKind::Least => {
             let cut: Cut = Box::new(alloc, least)?;
-            open_with(alloc, sound, node, Revoker::new(cut))
+            open_with(alloc, sound, node, Revoker::new(cut), durability)
         }
         RevokerKind::Whole => {
             let cut: Cut = Box::new(alloc, whole)?;
-            open_with(alloc, sound, node, Revoker::new(cut))
+            open_with(alloc, sound, node, Revoker::new(cut), durability)
         }
         RevokerKind::Eights => {
             let cut: Cut = Box::new(alloc, eights)?;
-            open_with(alloc, sound, node, Revoker::new(cut))
+            open_with(alloc, sound, node, Revoker::new(cut), durability)
         }
     }
 }
@@ -48,6 +50,7 @@ fn open_with(
     sound: &mut Sound,
     node: u32,
     revoker: Revoker,
+    durability: Durability,
 ) -> Result<u32, Refusal> {
-    open(alloc, sound, node, revoker).map_err(|refused| refused.0)
+    open(alloc, sound, node, revoker, durability).map_err(|refused| refused.0)
 }

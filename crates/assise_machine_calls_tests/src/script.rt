@@ -6,8 +6,8 @@ use crate::told::{
 use assise_fault_script::command::Command;
 use assise_fault_script::parse::{NumberedCommand, parse};
 use assise_machine_calls::calling::try_call;
-use assise_machine_calls::fsync::try_fsync;
 use assise_machine_calls::release::release_ready;
+use assise_machine_calls::sync::try_fsync;
 use assise_machine_calls::turn::Turn;
 use assise_machine_state::sound::Sound;
 use assise_names::refusal::Refusal;
@@ -82,9 +82,13 @@ fn put_outcome(
     text: &mut String,
 ) -> Option<()> {
     match command {
-        Command::Open { node, kind } => {
+        Command::Open {
+            node,
+            kind,
+            durability,
+        } => {
             let node = u32::try_from(node).ok()?;
-            put_opened(text, open_as(alloc, sound, node, kind)).ok()
+            put_opened(text, open_as(alloc, sound, node, kind, durability)).ok()
         }
         Command::Call { client, op } => {
             let client = u32::try_from(client).ok()?;

@@ -2,7 +2,9 @@
 use Rattle.std.proofs.Common.{◌≡◌, ℕ, suc, ◌<◌, ◌≤◌, max, nat_le, inl, inr, true, false, [], ◌∷◌, ◌++◌, length, Some, None, refl, sym, subst, arith, append-nil, eq-eqb}
 use Rattle.std.proofs.lemmas.Bool.{cases_eq, ne_eqb}
 use Rattle.assise_names.specs.declared.call.Op.{Op}
-use Rattle.assise_names.specs.declared.call.Op.TheVariants.{Fsync}
+use Rattle.assise_names.specs.declared.call.Op.TheVariants.{Create, Mkdir, Read, Write, Truncate, Rename, Unlink, Rmdir, List as ListCall, Stat, Fsync, Dsync}
+use Rattle.assise_names.specs.declared.durability.Durability.{Durability}
+use Rattle.assise_history.specs.Legal.{is_sync}
 use Rattle.assise_names.specs.declared.mode.Mode.{Mode}
 use Rattle.assise_names.specs.declared.refusal.Refusal.TheVariants.{BadClient, NodeDown, TooLarge}
 use Rattle.assise_names.specs.declared.reply.Reply.{Reply}
@@ -21,7 +23,7 @@ use Rattle.assise_machine_laws.proofs.Running.{step_sound}
 use Rattle.assise_machine_leases.specs.Chances.{MayCallUnder}
 use Rattle.assise_machine_leases.specs.Leases.{Leases}
 use Rattle.assise_machine_leases.proofs.Possible.{may_open_at, may_call_under, may_ask, may_crash_with}
-use Rattle.assise_machine_events.specs.ClientEvents.{Calling, Crashing, IsMissing, IsTried, Opening, Syncing, call_of_client, goal_of_fsync}
+use Rattle.assise_machine_events.specs.ClientEvents.{Calling, Crashing, IsMissing, IsTried, Opening, Syncing, call_of_client, goal_of_sync}
 use Rattle.assise_machine_events.specs.ClientEvents.Calling.{is_answered, is_awaited}
 use Rattle.assise_machine_events.specs.ClientEvents.Crashing.{is_crashed}
 use Rattle.assise_machine_events.specs.ClientEvents.Opening.{is_opened}
@@ -34,14 +36,14 @@ use Rattle.assise_machine_events.proofs.Steady.{old_call, old_crash, old_opens, 
 
 -- ---- a client is opened, and crashes
 
-pub opened_can : (m : Machine) (n : ℕ) → Holds m → open_fault m n ≡ None → (m' : Machine) × Opening m n (opened (suc m.world.clients)) m'
-opened_can m n h fine =
+pub opened_can : (m : Machine) (n : ℕ) (u : Durability) → Holds m → open_fault m n ≡ None → (m' : Machine) × Opening m n u (opened (suc m.world.clients)) m'
+opened_can m n u h fine =
     let at : standing_of m.members.nodes n ≡ Some full =
     stands_full NodeDown (standing_of m.members.nodes n) (first_none (unless_full NodeDown (standing_of m.members.nodes n)) (fault_if (nat_le most_clients m.world.clients) BadClient) fine) in
-    let (u, k, e) = may_open_at m.world m.leases n (h.members.nodes_full n at) in (
-      record { limit = m.limit; history = m.history ++ opens (suc m.world.clients) n ∷ []; world = with_old_areas m.world u; leases = k; members = m.members },
+    let (v, k, e) = may_open_at m.world m.leases n (h.members.nodes_full n at) in (
+      record { limit = m.limit; history = m.history ++ opens (suc m.world.clients) n u ∷ []; world = with_old_areas m.world v; leases = k; members = m.members },
       is_opened fine refl (record {
-        opening = record { opens = old_opens m.world u n e.opens; enrols = e.enrols; cuts = e.cuts };
+        opening = record { opens = old_opens m.world v n e.opens; enrols = e.enrols; cuts = e.cuts };
         adds = record { history = refl; limit = refl };
         keeps = record { members = refl; others = λ j i away. refl };
       }),
@@ -106,19 +108,19 @@ awaited_can m c i op reply mode h fine missing taken =
       }),
     )
 
--- ---- an fsync
+-- ---- a sync
 
 abbrev raised_world : World → ℕ → World
-raised_world w c = record w { goal = λ d. max (w.goal d) (goal_of_fsync w c d) }
+raised_world w c = record w { goal = λ d. max (w.goal d) (goal_of_sync w c d) }
 
-goal_there : (w : World) (c d : ℕ) → goal_of_fsync w c d ≤ end w d
+goal_there : (w : World) (c d : ℕ) → goal_of_sync w c d ≤ end w d
 goal_there w c d =
     elim (cases_eq d c) [
       | inl is ↦ rw (eq-eqb d c is) (subst (λ b. end w b ≤ end w d) is (omega arith))
       | inr other ↦ rw (ne_eqb d c other) (omega arith)
     ]
 
-raises_it : (w : World) (c : ℕ) → RaisesGoals w (goal_of_fsync w c) (raised_world w c)
+raises_it : (w : World) (c : ℕ) → RaisesGoals w (goal_of_sync w c) (raised_world w c)
 raises_it w c = record {
   there = goal_there w c;
   logs = record { calls = refl; records = λ d. refl; first = λ d. refl; next = λ d. refl; border = λ d k. refl; made = λ d. refl };
@@ -128,8 +130,8 @@ raises_it w c = record {
   goals = λ d. refl;
 }
 
-fsync_may : (w : World) (l : Leases) (c : ℕ) → w.lives c ≡ true → w.crashed c ≡ false → MayCallUnder (raised_world w c) l (call_of_client w c Fsync Done)
-fsync_may w l c lives running = record {
+sync_may : (w : World) (l : Leases) (c : ℕ) (op : Op) (u : Durability) → is_sync op u ≡ true → w.lives c ≡ true → w.crashed c ≡ false → MayCallUnder (raised_world w c) l (call_of_client w c op Done)
+sync_may w l c Fsync u sync lives running = record {
   may = record {
     lives = lives;
     running = running;
@@ -143,29 +145,53 @@ fsync_may w l c lives running = record {
   visited = λ i there. cc;
   changed = λ i there. cc;
 }
+sync_may w l c Dsync u sync lives running = record {
+  may = record {
+    lives = lives;
+    running = running;
+    number = refl;
+    fresh = refl;
+    reply = refl;
+    held = λ i there. cc;
+    written = λ i there. cc;
+    room = λ makes. cc;
+  };
+  visited = λ i there. cc;
+  changed = λ i there. cc;
+}
+sync_may w l c (Create p) u sync lives running = cc
+sync_may w l c (Mkdir p) u sync lives running = cc
+sync_may w l c (Read p offset most) u sync lives running = cc
+sync_may w l c (Write p offset bytes) u sync lives running = cc
+sync_may w l c (Truncate p size) u sync lives running = cc
+sync_may w l c (Rename p q) u sync lives running = cc
+sync_may w l c (Unlink p) u sync lives running = cc
+sync_may w l c (Rmdir p) u sync lives running = cc
+sync_may w l c (ListCall p) u sync lives running = cc
+sync_may w l c (Stat p) u sync lives running = cc
 
-pub synced_can : (m : Machine) (c : ℕ) → Holds m → client_fault m c ≡ None → received_by_all m.world c ≡ end m.world c → (m' : Machine) × Syncing m c (replied Done) m'
-synced_can m c h fine all =
+pub synced_can : (m : Machine) (c : ℕ) (op : Op) (u : Durability) → is_sync op u ≡ true → Holds m → client_fault m c ≡ None → received_by_all m.world c ≡ end m.world c → (m' : Machine) × Syncing m c op (replied Done) m'
+synced_can m c op u sync h fine all =
     let runs : (m.world.lives c ≡ true) × (m.world.crashed c ≡ false) = client_runs m c fine in
-    let x : NumberedCall = call_of_client m.world c Fsync Done in
+    let x : NumberedCall = call_of_client m.world c op Done in
     let between : World = raised_world m.world c in
-    let sound : IsSound between = step_sound m.world between h.sound (raises_goals (goal_of_fsync m.world c) (raises_it m.world c)) in
-    let (u, e) = may_call_under between m.leases x sound (fsync_may m.world m.leases c runs.0 runs.1) in (
-      record { limit = m.limit; history = m.history ++ call_entry m.history c Fsync Done; world = with_old_areas between u; leases = m.leases; members = m.members },
+    let sound : IsSound between = step_sound m.world between h.sound (raises_goals (goal_of_sync m.world c) (raises_it m.world c)) in
+    let (v, e) = may_call_under between m.leases x sound (sync_may m.world m.leases c op u sync runs.0 runs.1) in (
+      record { limit = m.limit; history = m.history ++ call_entry m.history c op Done; world = with_old_areas between v; leases = m.leases; members = m.members },
       is_synced Done fine refl (record {
         replicated = all;
         between = between;
         raises = raises_it m.world c;
         others = λ j i away. refl;
-        call = record { call = old_call between u x e.call; visited = e.visited; changed = e.changed };
+        call = record { call = old_call between v x e.call; visited = e.visited; changed = e.changed };
         leases = refl;
         adds = record { history = refl; limit = refl };
         keeps = record { members = refl; others = λ j i away. refl };
       }),
     )
 
-pub replicating_can : (m : Machine) (c : ℕ) → Holds m → client_fault m c ≡ None → received_by_all m.world c < end m.world c → (m' : Machine) × Syncing m c not_yet m'
-replicating_can m c h fine lacking = (
+pub replicating_can : (m : Machine) (c : ℕ) (op : Op) → Holds m → client_fault m c ≡ None → received_by_all m.world c < end m.world c → (m' : Machine) × Syncing m c op not_yet m'
+replicating_can m c op h fine lacking = (
   record { limit = m.limit; history = m.history; world = raised_world m.world c; leases = m.leases; members = m.members },
   is_replicating fine refl (record {
     lacking = lacking;

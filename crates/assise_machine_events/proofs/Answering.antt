@@ -2,7 +2,7 @@
 use Rattle.std.proofs.Common.{◌≡◌, ℕ, ◌+◌, ◌<◌, ◌≤◌, true, List, [], ◌∷◌, ◌++◌, length, refl, ap, sym, subst, ◌∙◌, inl, inr, arith, length-append}
 use Rattle.std.proofs.lemmas.Bool.{cases_eq}
 use Rattle.assise_history.specs.Entries.{calls}
-use Rattle.assise_history.specs.Legal.{is_fsync}
+use Rattle.assise_history.specs.Legal.{syncs}
 use Rattle.assise_record.specs.Records.{has_some, record_of}
 use Rattle.assise_inode_table.specs.Traces.{NumberedCall}
 use Rattle.assise_record.specs.declared.effect.Effect.{Effect}
@@ -22,7 +22,7 @@ entry_of m m' x h number adds =
 
 -- the call is made in a world that the machine came to
 pub call_happens : (m m' : Machine) (w : World) (x : NumberedCall) → Holds m → x.number ≡ m.world.next x.client → MakesCall w x m'.world →
-    (is_fsync x.op ≡ true → received_by_all w x.client ≡ end w x.client) → Adds m (call_entry m.history x.client x.op x.reply) m' → m'.members ≡ m.members →
+    (syncs m.history (plain_call x) ≡ true → received_by_all w x.client ≡ end w x.client) → Adds m (call_entry m.history x.client x.op x.reply) m' → m'.members ≡ m.members →
     Happens (with_world m w) (state_of m')
 call_happens m m' w x h number e replicated adds members =
     call x (record { adds = record { nodes = ap (λ o. length o.nodes) members; entry = entry_of m m' x h number adds }; world = e; replicated = replicated })

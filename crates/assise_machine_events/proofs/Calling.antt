@@ -2,7 +2,7 @@
 use Rattle.std.proofs.Common.{◌≡◌, ℕ, false, List, [], ◌∷◌, length, refl, ap, sym, subst, ◌∙◌}
 use Rattle.std.proofs.lemmas.Bool.{both_ways}
 use Rattle.assise_names.specs.declared.call.Op.{Op}
-use Rattle.assise_history.specs.Legal.{is_fsync}
+use Rattle.assise_history.specs.Legal.{durability_of, is_sync, syncs}
 use Rattle.assise_inode_table.specs.Traces.{NumberedCall}
 use Rattle.assise_machine_laws.specs.World.{World}
 use Rattle.assise_machine_laws.proofs.ClientsStaying.{raise_sound}
@@ -13,6 +13,7 @@ use Rattle.assise_machine_leases.specs.Leases.{Leases, AreLeases}
 use Rattle.assise_machine_leases.proofs.Asking.{ask_keeps}
 use Rattle.assise_machine_leases.proofs.Keeping.{call_keeps}
 use Rattle.assise_machine_history.specs.Entered.{raises_goals}
+use Rattle.assise_machine_history.specs.Numbered.{plain_call}
 use Rattle.assise_machine_events.specs.ClientEvents.{Granted, last_world, last_leases, IsTried, KeepsGranted, IsAnswered, IsAwaited, Calling, is_answered, is_awaited, is_spent, is_full, lacks_memory, is_refused, call_of_client}
 use Rattle.assise_machine_events.specs.Events.{Answer, call_entry}
 use Rattle.assise_machine_events.specs.Happenings.{Leads}
@@ -68,7 +69,7 @@ module _ (m m' : Machine) (x : NumberedCall) (gs : List Granted) (h : Holds m) (
 
 -- ---- it is answered
 
-module _ (m m' : Machine) (x : NumberedCall) (gs : List Granted) (h : Holds m) (other : is_fsync x.op ≡ false) (e : IsAnswered m x gs m') where
+module _ (m m' : Machine) (x : NumberedCall) (gs : List Granted) (h : Holds m) (other : syncs m.history (plain_call x) ≡ false) (e : IsAnswered m x gs m') where
   abbrev v : World
   v = last_world m.world gs
 
@@ -81,7 +82,7 @@ module _ (m m' : Machine) (x : NumberedCall) (gs : List Granted) (h : Holds m) (
   answered_leads : Leads m m'
   answered_leads =
       leads_with m m' x gs (state_of m' ∷ []) h e.tried.gets
-      (call_happens m m' v x h e.tried.next e.call.call (λ is. absurd (both_ways (is_fsync x.op) other is)) e.adds e.keeps.members, tt)
+      (call_happens m m' v x h e.tried.next e.call.call (λ is. absurd (both_ways (syncs m.history (plain_call x)) other is)) e.adds e.keeps.members, tt)
       refl
 
   answered_keeps : Holds m'
@@ -99,7 +100,7 @@ module _ (m m' : Machine) (x : NumberedCall) (gs : List Granted) (h : Holds m) (
 
 -- ---- each outcome
 
-pub calling_leads : (m m' : Machine) (c : ℕ) (op : Op) (a : Answer) → Holds m → is_fsync op ≡ false → Calling m c op a m' → Leads m m'
+pub calling_leads : (m m' : Machine) (c : ℕ) (op : Op) (a : Answer) → Holds m → is_sync op (durability_of c m.history) ≡ false → Calling m c op a m' → Leads m m'
 calling_leads m m' c op a h other (is_answered reply gs is e) = answered_leads m m' (call_of_client m.world c op reply) gs h other e
 calling_leads m m' c op a h other (is_awaited reply gs is e) = awaited_leads m m' (call_of_client m.world c op reply) gs h e
 calling_leads m m' c op a h other (is_spent reply gs is spent e) = granted_leads m m' (call_of_client m.world c op reply) gs h spent.tried e
@@ -107,7 +108,7 @@ calling_leads m m' c op a h other (is_full reply gs is full e) = granted_leads m
 calling_leads m m' c op a h other (lacks_memory reply gs is tried e) = granted_leads m m' (call_of_client m.world c op reply) gs h tried e
 calling_leads m m' c op a h other (is_refused r fault is same) = same_leads m m' same
 
-pub calling_keeps : (m m' : Machine) (c : ℕ) (op : Op) (a : Answer) → Holds m → is_fsync op ≡ false → Calling m c op a m' → Holds m'
+pub calling_keeps : (m m' : Machine) (c : ℕ) (op : Op) (a : Answer) → Holds m → is_sync op (durability_of c m.history) ≡ false → Calling m c op a m' → Holds m'
 calling_keeps m m' c op a h other (is_answered reply gs is e) = answered_keeps m m' (call_of_client m.world c op reply) gs h other e
 calling_keeps m m' c op a h other (is_awaited reply gs is e) = awaited_keeps m m' (call_of_client m.world c op reply) gs h e
 calling_keeps m m' c op a h other (is_spent reply gs is spent e) = granted_keeps m m' (call_of_client m.world c op reply) gs h spent.tried e

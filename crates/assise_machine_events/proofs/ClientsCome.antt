@@ -1,7 +1,8 @@
 -- Each outcome of what clients do comes in a state that two nodes come to.
 use Rattle.std.proofs.Common.{◌≡◌, ◌≢◌, ℕ, suc, ◌<◌, true, false, List, [], ◌∷◌, length, Some, None, refl, ap, sym, subst, ◌∙◌, arith}
 use Rattle.assise_names.specs.declared.call.Op.{Op}
-use Rattle.assise_names.specs.declared.call.Op.TheVariants.{Create, Stat}
+use Rattle.assise_names.specs.declared.call.Op.TheVariants.{Create, Fsync, Stat}
+use Rattle.assise_names.specs.declared.durability.Durability.TheVariants.{Pessimistic}
 use Rattle.assise_names.specs.declared.mode.Mode.TheVariants.{Read, Write}
 use Rattle.assise_names.specs.declared.refusal.Refusal.TheVariants.{ClientGone, LogFull, NodeDown, OutOfMemory}
 use Rattle.assise_names.specs.declared.reply.Reply.TheVariants.{Done}
@@ -24,14 +25,14 @@ use Rattle.assise_machine_events.proofs.MembersCome.{falls}
 
 -- ---- a client is opened
 
-pub opened_comes : Comes (λ m m'. Opening m 1 (opened 1) m')
-opened_comes = (let (m', h) = opened_can (start 1) 1 (start_holds 1) refl in
+pub opened_comes : Comes (λ m m'. Opening m 1 Pessimistic (opened 1) m')
+opened_comes = (let (m', h) = opened_can (start 1) 1 Pessimistic (start_holds 1) refl in
     record { limit = 1; before = start 1; reached = start_reached 1; after = m'; outcome = h })
 
-pub not_opened_for_memory_comes : Comes (λ m m'. Opening m 1 (refused OutOfMemory) m')
+pub not_opened_for_memory_comes : Comes (λ m m'. Opening m 1 Pessimistic (refused OutOfMemory) m')
 not_opened_for_memory_comes = record { limit = 1; before = start 1; reached = start_reached 1; after = start 1; outcome = lacks_memory refl refl refl }
 
-pub not_opened_comes : Comes (λ m m'. Opening m 2 (refused NodeDown) m')
+pub not_opened_comes : Comes (λ m m'. Opening m 2 Pessimistic (refused NodeDown) m')
 not_opened_comes =
     let (m, (inodes, d)) = falls 1 (start 1) (start_reached 1) (start_holds 1) refl in
     record { limit = 1; before = m; reached = d.reached; after = m; outcome = is_refused NodeDown (rw d.members refl) refl refl }
@@ -121,7 +122,7 @@ record HasTwo (m : Machine) : Type 0 where
   home_known : m.leases.levels.home 1 ≡ Some 1
   root : m.leases.levels.clients 0 ≡ new_lease 1 Write ∷ []
 
-of_second : (m m' : Machine) → HasFile 1 m → Opening m 1 (opened (suc m.world.clients)) m' → HasTwo m'
+of_second : (m m' : Machine) → HasFile 1 m → Opening m 1 Pessimistic (opened (suc m.world.clients)) m' → HasTwo m'
 of_second m m' f (is_opened fine is e) =
     let o = e.opening.opens in
     let new : suc m.world.clients ≡ 2 = ap suc f.clients in
@@ -130,8 +131,8 @@ of_second m m' f (is_opened fine is e) =
     let many : m'.world.clients ≡ 2 = o.clients ∙ new in
     let other : 1 ≢ suc m.world.clients = λ is. (let two : 1 ≡ 2 = is ∙ new in omega (arith, two)) in
     record {
-      reached = reaches 1 m m' (open_client 1) (opened (suc m.world.clients)) f.reached (is_opened fine is e);
-      holds = event_keeps m m' (open_client 1) (opened (suc m.world.clients)) f.holds (is_opened fine is e);
+      reached = reaches 1 m m' (open_client 1 Pessimistic) (opened (suc m.world.clients)) f.reached (is_opened fine is e);
+      holds = event_keeps m m' (open_client 1 Pessimistic) (opened (suc m.world.clients)) f.holds (is_opened fine is e);
       runs = rw (many, runs, lives) refl;
       home = subst (λ c. m'.world.home c ≡ 1) new o.home_new;
       home_known = e.opening.enrols.home.elsewhere 1 other ∙ f.home_known;
@@ -143,7 +144,7 @@ of_second m m' f (lacks_memory fine is same) = cc
 has_two : (m : Machine) × HasTwo m
 has_two =
     let (m, f) = has_file 1 (omega arith) in
-    let (m', h) = opened_can m 1 f.holds (rw (f.members, f.clients) refl) in
+    let (m', h) = opened_can m 1 Pessimistic f.holds (rw (f.members, f.clients) refl) in
     (m', of_second m m' f h)
 
 root_missing : (m : Machine) → HasTwo m → IsMissing m.world m.leases (call_of_client m.world 2 (Stat []) Done) 0 Read
@@ -159,25 +160,25 @@ call_awaited_comes =
     let (m', h) = awaited_can m 2 0 (Stat []) Done Read t.holds (rw t.runs refl) (root_missing m t) (root_taken m t) in
     (Stat [], record { limit = 1; before = m; reached = t.reached; after = m'; outcome = h })
 
--- ---- an fsync
+-- ---- a sync
 
 -- a client that made no call has nothing to replicate
 nothing_awaited : (m : Machine) → IsOpen 1 m → received_by_all m.world 1 ≡ end m.world 1
 unfolding received_by_all end
 nothing_awaited m o = rw (o.world.full, o.world.first, o.world.records, o.world.received) (omega arith)
 
-pub synced_comes : Comes (λ m m'. Syncing m 1 (replied Done) m')
+pub synced_comes : Comes (λ m m'. Syncing m 1 Fsync (replied Done) m')
 synced_comes =
     let (m, o) = is_open 1 in
-    let (m', h) = synced_can m 1 o.holds (open_fine 1 m o) (nothing_awaited m o) in
+    let (m', h) = synced_can m 1 Fsync Pessimistic refl o.holds (open_fine 1 m o) (nothing_awaited m o) in
     record { limit = 1; before = m; reached = o.reached; after = m'; outcome = h }
 
-pub not_synced_for_memory_comes : Comes (λ m m'. Syncing m 1 (refused OutOfMemory) m')
+pub not_synced_for_memory_comes : Comes (λ m m'. Syncing m 1 Fsync (refused OutOfMemory) m')
 not_synced_for_memory_comes =
     let (m, o) = is_open 1 in
     record { limit = 1; before = m; reached = o.reached; after = m; outcome = lacks_memory (open_fine 1 m o) (nothing_awaited m o) refl refl }
 
-pub not_synced_comes : Comes (λ m m'. Syncing m 1 (refused ClientGone) m')
+pub not_synced_comes : Comes (λ m m'. Syncing m 1 Fsync (refused ClientGone) m')
 not_synced_comes =
     let (m, over) = is_over in
     record { limit = 1; before = m; reached = over.reached; after = m; outcome = is_refused ClientGone over.gone refl refl }
@@ -187,8 +188,8 @@ record_awaited : (m : Machine) → HasFile 1 m → received_by_all m.world 1 < e
 unfolding received_by_all end
 record_awaited m f = rw (f.full, f.first, f.records, f.received_home, f.received_other) (omega arith)
 
-pub sync_awaited_comes : Comes (λ m m'. Syncing m 1 not_yet m')
+pub sync_awaited_comes : Comes (λ m m'. Syncing m 1 Fsync not_yet m')
 sync_awaited_comes =
     let (m, f) = has_file 1 (omega arith) in
-    let (m', h) = replicating_can m 1 f.holds (rw (f.clients, f.lives, f.runs) refl) (record_awaited m f) in
+    let (m', h) = replicating_can m 1 Fsync f.holds (rw (f.clients, f.lives, f.runs) refl) (record_awaited m f) in
     record { limit = 1; before = m; reached = f.reached; after = m'; outcome = h }

@@ -1,6 +1,7 @@
 -- How two nodes begin: client 1 is opened on node 1, and gets the leases that it needs to create a file.
 use Rattle.std.proofs.Common.{◌≡◌, ◌≢◌, ℕ, ◌==◌, ◌||◌, true, false, List, [], ◌∷◌, ◌++◌, Option, Some, None, refl, ap, sym, subst, ◌∙◌, arith}
 use Rattle.std.proofs.lemmas.Bool.{or_right}
+use Rattle.assise_names.specs.declared.durability.Durability.TheVariants.{Pessimistic}
 use Rattle.assise_names.specs.declared.mode.Mode.{Mode}
 use Rattle.assise_names.specs.declared.mode.Mode.TheVariants.{Read, Write}
 use Rattle.assise_names.specs.declared.reply.Reply.TheVariants.{Done}
@@ -68,7 +69,7 @@ pub record IsOpen (limit : ℕ) (m : Machine) : Type 0 where
   pub clients_none : (i : ℕ) → m.leases.levels.clients i ≡ []
   pub nodes_none : (i : ℕ) → m.leases.levels.nodes i ≡ []
 
-of_opening : (limit : ℕ) (m : Machine) → Opening (start limit) 1 (opened 1) m → IsOpen limit m
+of_opening : (limit : ℕ) (m : Machine) → Opening (start limit) 1 Pessimistic (opened 1) m → IsOpen limit m
 of_opening limit m (is_refused r fault is same) = cc
 of_opening limit m (lacks_memory fine is same) = cc
 of_opening limit m (is_opened fine is e) =
@@ -76,8 +77,8 @@ of_opening limit m (is_opened fine is e) =
     let o = e.opening.opens in
     let there : (n : ℕ) → Full m.world n → Full w n = λ n f. subst (λ ns. contains ns n ≡ true) o.nodes.full f in
     record {
-      reached = reaches limit (start limit) m (open_client 1) (opened 1) (start_reached limit) (is_opened fine is e);
-      holds = event_keeps (start limit) m (open_client 1) (opened 1) (start_holds limit) (is_opened fine is e);
+      reached = reaches limit (start limit) m (open_client 1 Pessimistic) (opened 1) (start_reached limit) (is_opened fine is e);
+      holds = event_keeps (start limit) m (open_client 1 Pessimistic) (opened 1) (start_holds limit) (is_opened fine is e);
       limit_is = e.adds.limit;
       members = e.keeps.members;
       world = record {
@@ -105,7 +106,7 @@ of_opening limit m (is_opened fine is e) =
     }
 
 pub is_open : (limit : ℕ) → (m : Machine) × IsOpen limit m
-is_open limit = (let (m, h) = opened_can (start limit) 1 (start_holds limit) refl in (m, of_opening limit m h))
+is_open limit = (let (m, h) = opened_can (start limit) 1 Pessimistic (start_holds limit) refl in (m, of_opening limit m h))
 
 -- ---- it gets the leases that it needs to create a file
 

@@ -2,6 +2,7 @@
 use Rattle.std.proofs.Common.{◌≡◌, ℕ, suc, ◌<◌, nat_le, Bool, true, false, Option, Some, None, [], ◌∷◌, length, refl, ap, sym}
 use Rattle.std.proofs.lemmas.Bool.{leb-false}
 use Rattle.std.proofs.lemmas.Option.{none-some}
+use Rattle.assise_names.specs.declared.durability.Durability.{Durability}
 use Rattle.assise_names.specs.declared.refusal.Refusal.{Refusal}
 use Rattle.assise_names.specs.declared.refusal.Refusal.TheVariants.{BadClient, NodeDown}
 use Rattle.assise_history.specs.Entries.{opens, crashes}
@@ -41,28 +42,28 @@ few_clients m n fine =
     (stands_not (nat_le most_clients m.world.clients) BadClient
     (second_none (unless_full NodeDown (standing_of m.members.nodes n)) (fault_if (nat_le most_clients m.world.clients) BadClient) fine))
 
-opened_leads : (m m' : Machine) (n : ℕ) → IsOpened m n m' → Leads m m'
-opened_leads m m' n e =
-    one_step m m' (opening n (record { adds = record { nodes = ap (λ o. length o.nodes) e.keeps.members; entry = e.adds.history }; world = e.opening.opens }))
+opened_leads : (m m' : Machine) (n : ℕ) (u : Durability) → IsOpened m n u m' → Leads m m'
+opened_leads m m' n u e =
+    one_step m m' (opening n u (record { adds = record { nodes = ap (λ o. length o.nodes) e.keeps.members; entry = e.adds.history }; world = e.opening.opens }))
 
-pub opening_leads : (m m' : Machine) (n : ℕ) (a : Answer) → Holds m → Opening m n a m' → Leads m m'
-opening_leads m m' n a h (is_opened fine is e) = opened_leads m m' n e
-opening_leads m m' n a h (is_refused r fault is same) = same_leads m m' same
-opening_leads m m' n a h (lacks_memory fine is same) = same_leads m m' same
+pub opening_leads : (m m' : Machine) (n : ℕ) (u : Durability) (a : Answer) → Holds m → Opening m n u a m' → Leads m m'
+opening_leads m m' n u a h (is_opened fine is e) = opened_leads m m' n u e
+opening_leads m m' n u a h (is_refused r fault is same) = same_leads m m' same
+opening_leads m m' n u a h (lacks_memory fine is same) = same_leads m m' same
 
-pub opening_keeps : (m m' : Machine) (n : ℕ) (a : Answer) → Holds m → Opening m n a m' → Holds m'
-opening_keeps m m' n a h (is_opened fine is e) = record {
-  sound = leads_sound m m' h (opened_leads m m' n e);
+pub opening_keeps : (m m' : Machine) (n : ℕ) (u : Durability) (a : Answer) → Holds m → Opening m n u a m' → Holds m'
+opening_keeps m m' n u a h (is_opened fine is e) = record {
+  sound = leads_sound m m' h (opened_leads m m' n u e);
   dropped = open_dropped m.world m'.world n h.dropped e.opening.opens;
-  recorded = leads_recorded m m' h (opened_leads m m' n e);
+  recorded = leads_recorded m m' h (opened_leads m m' n u e);
   leases = open_keeps m.world m'.world m.leases m'.leases n h.leases e.opening;
   members = members_rest m m' h e.keeps e.opening.opens.nodes;
-  epochs = epochs_stay m m' (opens (suc m.world.clients) n ∷ []) h e.keeps.members e.adds;
-  logs = logs_stay m m' (opens (suc m.world.clients) n ∷ []) h e.opening.opens.logs.records e.adds;
+  epochs = epochs_stay m m' (opens (suc m.world.clients) n u ∷ []) h e.keeps.members e.adds;
+  logs = logs_stay m m' (opens (suc m.world.clients) n u ∷ []) h e.opening.opens.logs.records e.adds;
   clients = rw e.opening.opens.clients (few_clients m n fine);
 }
-opening_keeps m m' n a h (is_refused r fault is same) = same_holds m m' same h
-opening_keeps m m' n a h (lacks_memory fine is same) = same_holds m m' same h
+opening_keeps m m' n u a h (is_refused r fault is same) = same_holds m m' same h
+opening_keeps m m' n u a h (lacks_memory fine is same) = same_holds m m' same h
 
 -- ---- a client crashes
 

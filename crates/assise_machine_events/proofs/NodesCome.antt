@@ -1,5 +1,6 @@
 -- Each outcome of what nodes do comes: frames and digests.
 use Rattle.std.proofs.Common.{◌≡◌, ℕ, ◌<◌, ◌≤◌, length, true, [], ◌∷◌, None, refl, ap, sym, ◌∙◌, subst, arith}
+use Rattle.assise_names.specs.declared.call.Op.TheVariants.{Dsync}
 use Rattle.assise_names.specs.declared.refusal.Refusal.TheVariants.{OutOfMemory, StaleMessage, WrongPhase}
 use Rattle.assise_record.specs.LogFrame.{LogFrame}
 use Rattle.assise_manager.specs.Changes.{all_full}
@@ -7,7 +8,7 @@ use Rattle.assise_machine_laws.specs.World.{end, received_by_all}
 use Rattle.assise_machine_laws.proofs.Observing.{received_by_all-below}
 use Rattle.assise_machine_laws.proofs.Staying.{end-same}
 use Rattle.assise_machine_events.specs.ClientEvents.{Syncing, is_refused, is_replicating, is_synced, lacks_memory}
-use Rattle.assise_machine_events.specs.Events.{deliver, digested, hot_set, not_yet, received, refused, sent, try_fsync}
+use Rattle.assise_machine_events.specs.Events.{deliver, digested, hot_set, not_yet, received, refused, sent, try_call}
 use Rattle.assise_machine_events.specs.Faults.{IsTimely, client_fault, delivery_fault, node_fault}
 use Rattle.assise_machine_events.specs.Machine.{Holds, Machine}
 use Rattle.assise_machine_events.specs.MemberEvents.{is_refused, lacks_memory}
@@ -178,14 +179,14 @@ pub record Awaits (m : Machine) : Type 0 where
   pub received_home : m.world.received 1 1 ≡ 1
   pub received_other : m.world.received 2 1 ≡ 0
 
-of_sync : (m m' : Machine) → HasFile 1 m → Syncing m 1 not_yet m' → Awaits m'
+of_sync : (m m' : Machine) → HasFile 1 m → Syncing m 1 Dsync not_yet m' → Awaits m'
 of_sync m m' o (is_synced reply fine is e) = cc
 of_sync m m' o (lacks_memory fine all is same) = cc
 of_sync m m' o (is_refused r fault is same) = cc
 of_sync m m' o (is_replicating fine is e) =
     let d = e.raises in
     record {
-      reached = reaches 1 m m' (try_fsync 1) not_yet o.reached (is_replicating fine is e);
+      reached = reaches 1 m m' (try_call 1 Dsync) not_yet o.reached (is_replicating fine is e);
       members = e.keeps.members ∙ o.members;
       clients = d.clients.clients ∙ o.clients;
       home = d.clients.home 1 ∙ o.home;
@@ -203,7 +204,7 @@ awaits =
     let all : received_by_all m.world 1 ≤ m.world.received 2 1 = received_by_all-below m.world 2 1 (rw o.full refl) in
     let none : m.world.received 2 1 ≡ 0 = o.received_other in
     let one : end m.world 1 ≡ 1 = file_end m o in
-    let (m', h) = replicating_can m 1 o.holds fine (omega (arith, all, none, one)) in
+    let (m', h) = replicating_can m 1 Dsync o.holds fine (omega (arith, all, none, one)) in
     (m', of_sync m m' o h)
 
 frames : (m : Machine) → Awaits m → frames_to m 1 m.world.clients ≡ (file_frame 1, 2) ∷ []

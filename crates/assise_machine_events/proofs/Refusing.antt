@@ -1,25 +1,38 @@
 -- A refused event leaves the machine as it was, but for leases that a call got.
 use Rattle.std.proofs.Common.{◌≡◌, ℕ, false, ap, ◌∙◌, append-nil}
 use Rattle.assise_names.specs.declared.call.Op.{Op}
+use Rattle.assise_names.specs.declared.call.Op.TheVariants.{Fsync}
+use Rattle.assise_names.specs.declared.durability.Durability.{Durability}
+use Rattle.assise_names.specs.declared.durability.Durability.TheVariants.{Pessimistic, Optimistic}
 use Rattle.assise_names.specs.declared.refusal.Refusal.{Refusal}
+use Rattle.assise_history.specs.Legal.{durability_of}
 use Rattle.assise_record.specs.LogFrame.{LogFrame}
 use Rattle.assise_machine_events.specs.Events.{refused, ClusterEvent, open_client, try_call, try_fsync, outgoing, deliver, digest, release_ready, set_hot, crash, fail, back, refill, join, is_call}
-use Rattle.assise_machine_events.specs.Happenings.{Happens}
+use Rattle.assise_machine_events.specs.Happenings.{Fsyncing, Happens}
 use Rattle.assise_machine_events.specs.Machine.{Machine}
-use Rattle.assise_machine_events.specs.ClientEvents.{Opening, Syncing, Crashing, Calling, is_answered, is_awaited, is_crashed, is_full, is_opened, is_refused, is_replicating, is_spent, is_synced, lacks_memory}
+use Rattle.assise_machine_events.specs.ClientEvents.{Opening, Syncing, Noting, Crashing, Calling, is_answered, is_awaited, is_crashed, is_full, is_noted, is_opened, is_refused, is_replicating, is_spent, is_synced, lacks_memory}
 use Rattle.assise_machine_events.specs.NodeEvents.{Sending, Delivering, Digesting, Releasing, SettingHot, is_delivered, is_digested, is_refused, is_released, is_sent, is_set, is_stale, lacks_memory}
 use Rattle.assise_machine_events.specs.MemberEvents.{Failing, Returning, Refilling, Joining, is_back, is_failed, is_failed_again, is_joined, is_refilled, is_refused, is_whole, lacks_memory}
 
-opening_same : (m m' : Machine) (n : ℕ) (r : Refusal) → Opening m n (refused r) m' → m' ≡ m
-opening_same m m' n r (is_opened fine is e) = cc
-opening_same m m' n r (is_refused other fault is same) = same
-opening_same m m' n r (lacks_memory fine is same) = same
+opening_same : (m m' : Machine) (n : ℕ) (u : Durability) (r : Refusal) → Opening m n u (refused r) m' → m' ≡ m
+opening_same m m' n u r (is_opened fine is e) = cc
+opening_same m m' n u r (is_refused other fault is same) = same
+opening_same m m' n u r (lacks_memory fine is same) = same
 
-syncing_same : (m m' : Machine) (c : ℕ) (r : Refusal) → Syncing m c (refused r) m' → m' ≡ m
-syncing_same m m' c r (is_synced reply fine is e) = cc
-syncing_same m m' c r (is_replicating fine is e) = cc
-syncing_same m m' c r (lacks_memory fine all is same) = same
-syncing_same m m' c r (is_refused other fault is same) = same
+syncing_same : (m m' : Machine) (c : ℕ) (op : Op) (r : Refusal) → Syncing m c op (refused r) m' → m' ≡ m
+syncing_same m m' c op r (is_synced reply fine is e) = cc
+syncing_same m m' c op r (is_replicating fine is e) = cc
+syncing_same m m' c op r (lacks_memory fine all is same) = same
+syncing_same m m' c op r (is_refused other fault is same) = same
+
+noting_same : (m m' : Machine) (c : ℕ) (r : Refusal) → Noting m c (refused r) m' → m' ≡ m
+noting_same m m' c r (is_noted reply fine is e) = cc
+noting_same m m' c r (lacks_memory fine is same) = same
+noting_same m m' c r (is_refused other fault is same) = same
+
+fsyncing_same : (m m' : Machine) (c : ℕ) (u : Durability) (r : Refusal) → Fsyncing u m c (refused r) m' → m' ≡ m
+fsyncing_same m m' c Pessimistic r h = syncing_same m m' c Fsync r h
+fsyncing_same m m' c Optimistic r h = noting_same m m' c r h
 
 crashing_same : (m m' : Machine) (c : ℕ) (r : Refusal) → Crashing m c (refused r) m' → m' ≡ m
 crashing_same m m' c r (is_crashed fine is e) = cc
@@ -73,9 +86,9 @@ joining_same m m' n r (lacks_memory fine is same) = same
 joining_same m m' n r (is_refused other fault is same) = same
 
 pub refused_same : (m m' : Machine) (e : ClusterEvent) (r : Refusal) → is_call e ≡ false → Happens m e (refused r) m' → m' ≡ m
-refused_same m m' (open_client n) r own h = opening_same m m' n r h
+refused_same m m' (open_client n u) r own h = opening_same m m' n u r h
 refused_same m m' (try_call c op) r own h = cc
-refused_same m m' (try_fsync c) r own h = syncing_same m m' c r h
+refused_same m m' (try_fsync c) r own h = fsyncing_same m m' c (durability_of c m.history) r h
 refused_same m m' (crash c) r own h = crashing_same m m' c r h
 refused_same m m' (outgoing n) r own h = sending_same m m' n r h
 refused_same m m' (deliver f n) r own h = delivering_same m m' f n r h

@@ -1,7 +1,6 @@
 -- What each answer says.
 use Rattle.std.proofs.Common.{◌≡◌, ◌≢◌, ◌↔◌, ◌⊎◌, inl, inr, ℕ, zero, suc, ◌<◌, ◌≤◌, true, false, List, [], ◌∷◌, Contains, Some, None, refl, ap, sym, subst, ◌∙◌, arith}
 use Rattle.assise_names.specs.declared.call.Op.{Op}
-use Rattle.assise_names.specs.declared.call.Op.TheVariants.{Fsync}
 use Rattle.assise_names.specs.declared.refusal.Refusal.{Refusal}
 use Rattle.assise_names.specs.declared.refusal.Refusal.TheVariants.{Busy}
 use Rattle.assise_names.specs.declared.reply.Reply.{Reply}
@@ -29,7 +28,7 @@ use Rattle.assise_machine_leases.proofs.Awaiting.{asked_other, asked_in_way, ask
 use Rattle.assise_machine_history.specs.Lost.{IsFirstLost, losses_of}
 use Rattle.assise_machine_history.proofs.Listing.{exactly_lost}
 use Rattle.assise_machine_history.proofs.Recording.{same_tree}
-use Rattle.assise_machine_events.specs.ClientEvents.{Granted, Gets, Calling, Syncing, is_answered, is_awaited, is_spent, is_full, is_refused, lacks_memory, is_synced, is_replicating, last_leases, last_world, call_of_client, goal_of_fsync}
+use Rattle.assise_machine_events.specs.ClientEvents.{Granted, Gets, Calling, Syncing, is_answered, is_awaited, is_spent, is_full, is_refused, lacks_memory, is_synced, is_replicating, last_leases, last_world, call_of_client, goal_of_sync}
 use Rattle.assise_machine_events.specs.Events.{Answer, digested, failed, joined, not_yet, received, refused, replied}
 use Rattle.assise_machine_events.specs.Machine.{Machine, Holds}
 use Rattle.assise_machine_events.specs.MemberEvents.{Failing, Joining, is_failed, is_failed_again, is_joined, is_refused, lacks_memory}
@@ -109,26 +108,26 @@ call_replies m m' c op reply h (is_full own granted is e keeps) = cc
 call_replies m m' c op reply h (lacks_memory own granted is e keeps) = cc
 call_replies m m' c op reply h (is_refused r fault is same) = cc
 
-pub fsync_replies : (m m' : Machine) (c : ℕ) (reply : Reply) → Holds m → Syncing m c (replied reply) m' → reply ≡ (answer (tree_after opening_tree (kept m.history)) Fsync).0
-fsync_replies m m' c reply h (is_synced own fine is e) =
-    same_reply reply own is ∙ of_the_tree m m' e.between (call_of_client m.world c Fsync own) h (raise_sound m.world e.between (goal_of_fsync m.world c) h.sound e.raises) e.raises.logs.calls e.call.call
-fsync_replies m m' c reply h (is_replicating fine is e) = cc
-fsync_replies m m' c reply h (lacks_memory fine all is same) = cc
-fsync_replies m m' c reply h (is_refused r fault is same) = cc
+pub sync_replies : (m m' : Machine) (c : ℕ) (op : Op) (reply : Reply) → Holds m → Syncing m c op (replied reply) m' → reply ≡ (answer (tree_after opening_tree (kept m.history)) op).0
+sync_replies m m' c op reply h (is_synced own fine is e) =
+    same_reply reply own is ∙ of_the_tree m m' e.between (call_of_client m.world c op own) h (raise_sound m.world e.between (goal_of_sync m.world c) h.sound e.raises) e.raises.logs.calls e.call.call
+sync_replies m m' c op reply h (is_replicating fine is e) = cc
+sync_replies m m' c op reply h (lacks_memory fine all is same) = cc
+sync_replies m m' c op reply h (is_refused r fault is same) = cc
 
--- ---- an fsync
+-- ---- a sync
 
-pub synced_all : (m m' : Machine) (c : ℕ) (reply : Reply) → Syncing m c (replied reply) m' → received_by_all m.world c ≡ end m.world c
-synced_all m m' c reply (is_synced own fine is e) = e.replicated
-synced_all m m' c reply (is_replicating fine is e) = cc
-synced_all m m' c reply (lacks_memory fine all is same) = all
-synced_all m m' c reply (is_refused r fault is same) = cc
+pub synced_all : (m m' : Machine) (c : ℕ) (op : Op) (reply : Reply) → Syncing m c op (replied reply) m' → received_by_all m.world c ≡ end m.world c
+synced_all m m' c op reply (is_synced own fine is e) = e.replicated
+synced_all m m' c op reply (is_replicating fine is e) = cc
+synced_all m m' c op reply (lacks_memory fine all is same) = all
+synced_all m m' c op reply (is_refused r fault is same) = cc
 
-pub syncing_lacks : (m m' : Machine) (c : ℕ) → Syncing m c not_yet m' → received_by_all m.world c < end m.world c
-syncing_lacks m m' c (is_synced own fine is e) = cc
-syncing_lacks m m' c (is_replicating fine is e) = e.lacking
-syncing_lacks m m' c (lacks_memory fine all is same) = cc
-syncing_lacks m m' c (is_refused r fault is same) = cc
+pub syncing_lacks : (m m' : Machine) (c : ℕ) (op : Op) → Syncing m c op not_yet m' → received_by_all m.world c < end m.world c
+syncing_lacks m m' c op (is_synced own fine is e) = cc
+syncing_lacks m m' c op (is_replicating fine is e) = e.lacking
+syncing_lacks m m' c op (lacks_memory fine all is same) = cc
+syncing_lacks m m' c op (is_refused r fault is same) = cc
 
 -- ---- a delivery
 

@@ -1,12 +1,16 @@
 -- An event's answer tells exactly the entries that the history gets.
-use Rattle.std.proofs.Common.{◌≡◌, ℕ, ◌++◌, ap, sym, ◌∙◌}
+use Rattle.std.proofs.Common.{◌≡◌, ℕ, List, ◌++◌, refl, ap, sym, ◌∙◌}
 use Rattle.assise_names.specs.declared.call.Op.{Op}
-use Rattle.assise_names.specs.declared.call.Op.TheVariants.{Create, Mkdir, Read, Write, Truncate, Rename, Unlink, Rmdir, List as ListCall, Stat, Fsync}
+use Rattle.assise_names.specs.declared.call.Op.TheVariants.{Create, Mkdir, Read, Write, Truncate, Rename, Unlink, Rmdir, List as ListCall, Stat, Fsync, Dsync}
+use Rattle.assise_names.specs.declared.durability.Durability.{Durability}
+use Rattle.assise_names.specs.declared.durability.Durability.TheVariants.{Pessimistic, Optimistic}
+use Rattle.assise_history.specs.Legal.{durability_of}
 use Rattle.assise_record.specs.LogFrame.{LogFrame}
-use Rattle.assise_machine_events.specs.Events.{Answer, ClusterEvent, open_client, try_call, try_fsync, outgoing, deliver, digest, release_ready, set_hot, crash, fail, back, refill, join, entries_of}
-use Rattle.assise_machine_events.specs.Happenings.{Trying}
+use Rattle.assise_machine_events.specs.Events.{Answer, ClusterEvent, open_client, try_call, try_fsync, outgoing, deliver, digest, release_ready, set_hot, crash, fail, back, refill, join, entries_of, refused, opened, replied, not_yet, sent, received, digested, released, hot_set, crashed, failed, began, left, joined}
+use Rattle.assise_history.specs.Entries.{Event}
+use Rattle.assise_machine_events.specs.Happenings.{Fsyncing, Trying}
 use Rattle.assise_machine_events.specs.Machine.{Machine}
-use Rattle.assise_machine_events.specs.ClientEvents.{Opening, Calling, Syncing, Crashing, is_answered, is_awaited, is_crashed, is_full, is_opened, is_refused, is_replicating, is_spent, is_synced, lacks_memory}
+use Rattle.assise_machine_events.specs.ClientEvents.{Opening, Calling, Syncing, Noting, Crashing, is_answered, is_awaited, is_crashed, is_full, is_noted, is_opened, is_refused, is_replicating, is_spent, is_synced, lacks_memory}
 use Rattle.assise_machine_events.specs.NodeEvents.{Sending, Delivering, Digesting, Releasing, SettingHot, is_delivered, is_digested, is_refused, is_released, is_sent, is_set, is_stale, lacks_memory}
 use Rattle.assise_machine_events.specs.MemberEvents.{Failing, Returning, Refilling, Joining, is_back, is_failed, is_failed_again, is_joined, is_refilled, is_refused, is_whole, lacks_memory}
 use Rattle.assise_machine_events.proofs.Leading.{same_told}
@@ -15,10 +19,10 @@ use Rattle.assise_machine_events.proofs.Leading.{same_told}
 told_as : (m m' : Machine) (e : ClusterEvent) (a b : Answer) → a ≡ b → m'.history ≡ m.history ++ entries_of m.history e b → m'.history ≡ m.history ++ entries_of m.history e a
 told_as m m' e a b is told = told ∙ ap (λ x. m.history ++ entries_of m.history e x) (sym is)
 
-pub opening_told : (m m' : Machine) (n : ℕ) (a : Answer) → Opening m n a m' → m'.history ≡ m.history ++ entries_of m.history (open_client n) a
-opening_told m m' n a (is_opened fine is e) = told_as m m' (open_client n) a _ is e.adds.history
-opening_told m m' n a (is_refused r fault is same) = told_as m m' (open_client n) a _ is (same_told m m' same)
-opening_told m m' n a (lacks_memory fine is same) = told_as m m' (open_client n) a _ is (same_told m m' same)
+pub opening_told : (m m' : Machine) (n : ℕ) (u : Durability) (a : Answer) → Opening m n u a m' → m'.history ≡ m.history ++ entries_of m.history (open_client n u) a
+opening_told m m' n u a (is_opened fine is e) = told_as m m' (open_client n u) a _ is e.adds.history
+opening_told m m' n u a (is_refused r fault is same) = told_as m m' (open_client n u) a _ is (same_told m m' same)
+opening_told m m' n u a (lacks_memory fine is same) = told_as m m' (open_client n u) a _ is (same_told m m' same)
 
 pub calling_told : (m m' : Machine) (c : ℕ) (op : Op) (a : Answer) → Calling m c op a m' → m'.history ≡ m.history ++ entries_of m.history (try_call c op) a
 calling_told m m' c op a (is_answered reply granted is e) = told_as m m' (try_call c op) a _ is e.adds.history
@@ -28,11 +32,16 @@ calling_told m m' c op a (is_full reply granted is e keeps) = told_as m m' (try_
 calling_told m m' c op a (lacks_memory reply granted is e keeps) = told_as m m' (try_call c op) a _ is keeps.adds.history
 calling_told m m' c op a (is_refused r fault is same) = told_as m m' (try_call c op) a _ is (same_told m m' same)
 
-pub syncing_told : (m m' : Machine) (c : ℕ) (a : Answer) → Syncing m c a m' → m'.history ≡ m.history ++ entries_of m.history (try_fsync c) a
-syncing_told m m' c a (is_synced reply fine is e) = told_as m m' (try_fsync c) a _ is e.adds.history
-syncing_told m m' c a (is_replicating fine is e) = told_as m m' (try_fsync c) a _ is e.adds.history
-syncing_told m m' c a (lacks_memory fine all is same) = told_as m m' (try_fsync c) a _ is (same_told m m' same)
-syncing_told m m' c a (is_refused r fault is same) = told_as m m' (try_fsync c) a _ is (same_told m m' same)
+pub syncing_told : (m m' : Machine) (c : ℕ) (op : Op) (a : Answer) → Syncing m c op a m' → m'.history ≡ m.history ++ entries_of m.history (try_call c op) a
+syncing_told m m' c op a (is_synced reply fine is e) = told_as m m' (try_call c op) a _ is e.adds.history
+syncing_told m m' c op a (is_replicating fine is e) = told_as m m' (try_call c op) a _ is e.adds.history
+syncing_told m m' c op a (lacks_memory fine all is same) = told_as m m' (try_call c op) a _ is (same_told m m' same)
+syncing_told m m' c op a (is_refused r fault is same) = told_as m m' (try_call c op) a _ is (same_told m m' same)
+
+pub noting_told : (m m' : Machine) (c : ℕ) (a : Answer) → Noting m c a m' → m'.history ≡ m.history ++ entries_of m.history (try_call c Fsync) a
+noting_told m m' c a (is_noted reply fine is e) = told_as m m' (try_call c Fsync) a _ is e.adds.history
+noting_told m m' c a (lacks_memory fine is same) = told_as m m' (try_call c Fsync) a _ is (same_told m m' same)
+noting_told m m' c a (is_refused r fault is same) = told_as m m' (try_call c Fsync) a _ is (same_told m m' same)
 
 pub crashing_told : (m m' : Machine) (c : ℕ) (a : Answer) → Crashing m c a m' → m'.history ≡ m.history ++ entries_of m.history (crash c) a
 crashing_told m m' c a (is_crashed fine is e) = told_as m m' (crash c) a _ is e.adds.history
@@ -85,7 +94,31 @@ joining_told m m' n a (is_joined fine is e) = told_as m m' (join n) a _ is e.add
 joining_told m m' n a (lacks_memory fine is same) = told_as m m' (join n) a _ is (same_told m m' same)
 joining_told m m' n a (is_refused r fault is same) = told_as m m' (join n) a _ is (same_told m m' same)
 
--- a call that a client tries: an fsync is one
+-- an fsync, which has two names
+by_either_name : (h : List Event) (c : ℕ) (a : Answer) → entries_of h (try_call c Fsync) a ≡ entries_of h (try_fsync c) a
+by_either_name h c (refused r) = refl
+by_either_name h c (opened k) = refl
+by_either_name h c (replied reply) = refl
+by_either_name h c not_yet = refl
+by_either_name h c (sent frames) = refl
+by_either_name h c (received place) = refl
+by_either_name h c (digested count) = refl
+by_either_name h c (released count) = refl
+by_either_name h c hot_set = refl
+by_either_name h c crashed = refl
+by_either_name h c (failed losses) = refl
+by_either_name h c (began stale) = refl
+by_either_name h c (left stale) = refl
+by_either_name h c joined = refl
+
+call_told : (m m' : Machine) (c : ℕ) (u : Durability) (a : Answer) → Fsyncing u m c a m' → m'.history ≡ m.history ++ entries_of m.history (try_call c Fsync) a
+call_told m m' c Pessimistic a h = syncing_told m m' c Fsync a h
+call_told m m' c Optimistic a h = noting_told m m' c a h
+
+pub fsyncing_told : (m m' : Machine) (c : ℕ) (u : Durability) (a : Answer) → Fsyncing u m c a m' → m'.history ≡ m.history ++ entries_of m.history (try_fsync c) a
+fsyncing_told m m' c u a h = call_told m m' c u a h ∙ ap (λ es. m.history ++ es) (by_either_name m.history c a)
+
+-- a call that a client tries: a sync is one
 pub trying_told : (m m' : Machine) (c : ℕ) (op : Op) (a : Answer) → Trying m c op a m' → m'.history ≡ m.history ++ entries_of m.history (try_call c op) a
 trying_told m m' c (Create p) a h = calling_told m m' c (Create p) a h
 trying_told m m' c (Mkdir p) a h = calling_told m m' c (Mkdir p) a h
@@ -97,7 +130,5 @@ trying_told m m' c (Unlink p) a h = calling_told m m' c (Unlink p) a h
 trying_told m m' c (Rmdir p) a h = calling_told m m' c (Rmdir p) a h
 trying_told m m' c (ListCall p) a h = calling_told m m' c (ListCall p) a h
 trying_told m m' c (Stat p) a h = calling_told m m' c (Stat p) a h
-trying_told m m' c Fsync a (is_synced reply fine is e) = told_as m m' (try_call c Fsync) a _ is e.adds.history
-trying_told m m' c Fsync a (is_replicating fine is e) = told_as m m' (try_call c Fsync) a _ is e.adds.history
-trying_told m m' c Fsync a (lacks_memory fine all is same) = told_as m m' (try_call c Fsync) a _ is (same_told m m' same)
-trying_told m m' c Fsync a (is_refused r fault is same) = told_as m m' (try_call c Fsync) a _ is (same_told m m' same)
+trying_told m m' c Fsync a h = call_told m m' c (durability_of c m.history) a h
+trying_told m m' c Dsync a h = syncing_told m m' c Dsync a h

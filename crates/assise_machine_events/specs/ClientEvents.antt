@@ -3,6 +3,7 @@
 use Rattle.std.specs.Prelude.{◌≡◌, ℕ, suc, ◌<◌, true, ◌==◌, if◌then◌else◌, List, [], ◌∷◌, length, Some, None}
 use Rattle.assise_names.specs.declared.call.Op.{Op}
 use Rattle.assise_names.specs.declared.call.Op.TheVariants.{Fsync}
+use Rattle.assise_names.specs.declared.durability.Durability.{Durability}
 use Rattle.assise_names.specs.declared.mode.Mode.{Mode}
 use Rattle.assise_names.specs.declared.mode.Mode.TheVariants.{Read, Write}
 use Rattle.assise_names.specs.declared.refusal.Refusal.{Refusal}
@@ -33,15 +34,15 @@ pub record KeepsMembers (m m' : Machine) : Type 0 where
 -- ---- a client is opened
 
 -- the next client is opened on full node n
-pub record IsOpened (m : Machine) (n : ℕ) (m' : Machine) : Type 0 where
+pub record IsOpened (m : Machine) (n : ℕ) (u : Durability) (m' : Machine) : Type 0 where
   pub opening : OpensAt m.world m.leases n m'.world m'.leases
-  pub adds : Adds m (opens (suc m.world.clients) n ∷ []) m'
+  pub adds : Adds m (opens (suc m.world.clients) n u ∷ []) m'
   pub keeps : KeepsMembers m m'
 
-pub data Opening (m : Machine) (n : ℕ) (a : Answer) (m' : Machine) : Type 0 where
-  is_opened : open_fault m n ≡ None → a ≡ opened (suc m.world.clients) → IsOpened m n m' → Opening m n a m'
-  is_refused : (r : Refusal) → open_fault m n ≡ Some r → a ≡ refused r → m' ≡ m → Opening m n a m'
-  lacks_memory : open_fault m n ≡ None → a ≡ refused OutOfMemory → m' ≡ m → Opening m n a m'
+pub data Opening (m : Machine) (n : ℕ) (u : Durability) (a : Answer) (m' : Machine) : Type 0 where
+  is_opened : open_fault m n ≡ None → a ≡ opened (suc m.world.clients) → IsOpened m n u m' → Opening m n u a m'
+  is_refused : (r : Refusal) → open_fault m n ≡ Some r → a ≡ refused r → m' ≡ m → Opening m n u a m'
+  lacks_memory : open_fault m n ≡ None → a ≡ refused OutOfMemory → m' ≡ m → Opening m n u a m'
 
 -- ---- leases that a call takes
 
@@ -148,36 +149,50 @@ pub data Calling (m : Machine) (c : ℕ) (op : Op) (a : Answer) (m' : Machine) :
       KeepsGranted m granted m' → Calling m c op a m'
   is_refused : (r : Refusal) → call_fault m c op ≡ Some r → a ≡ refused r → m' ≡ m → Calling m c op a m'
 
--- ---- an fsync
+-- ---- a sync
 
 -- all of the client's log is to be replicated
-abbrev pub goal_of_fsync : World → ℕ → ℕ → ℕ
-goal_of_fsync w c d = if d == c then end w c else 0
+abbrev pub goal_of_sync : World → ℕ → ℕ → ℕ
+goal_of_sync w c d = if d == c then end w c else 0
 
--- an fsync is answered once all full nodes have all of the client's records
+-- a sync is answered once all full nodes have all of the client's records
 pub record IsSynced (m : Machine) (x : NumberedCall) (m' : Machine) : Type 0 where
   pub replicated : received_by_all m.world x.client ≡ end m.world x.client
   pub between : World
-  pub raises : RaisesGoals m.world (goal_of_fsync m.world x.client) between
+  pub raises : RaisesGoals m.world (goal_of_sync m.world x.client) between
   pub others : OtherAreasStay m.world between
   pub call : CallsUnder between m.leases x m'.world
   pub leases : m'.leases ≡ m.leases
-  pub adds : Adds m (call_entry m.history x.client Fsync x.reply) m'
+  pub adds : Adds m (call_entry m.history x.client x.op x.reply) m'
   pub keeps : KeepsMembers m m'
 
 -- until then it is awaited
 pub record IsReplicating (m : Machine) (c : ℕ) (m' : Machine) : Type 0 where
   pub lacking : received_by_all m.world c < end m.world c
-  pub raises : RaisesGoals m.world (goal_of_fsync m.world c) m'.world
+  pub raises : RaisesGoals m.world (goal_of_sync m.world c) m'.world
   pub leases : m'.leases ≡ m.leases
   pub adds : Adds m [] m'
   pub keeps : KeepsMembers m m'
 
-pub data Syncing (m : Machine) (c : ℕ) (a : Answer) (m' : Machine) : Type 0 where
-  is_synced : (reply : Reply) → client_fault m c ≡ None → a ≡ replied reply → IsSynced m (call_of_client m.world c Fsync reply) m' → Syncing m c a m'
-  is_replicating : client_fault m c ≡ None → a ≡ not_yet → IsReplicating m c m' → Syncing m c a m'
-  lacks_memory : client_fault m c ≡ None → received_by_all m.world c ≡ end m.world c → a ≡ refused OutOfMemory → m' ≡ m → Syncing m c a m'
-  is_refused : (r : Refusal) → client_fault m c ≡ Some r → a ≡ refused r → m' ≡ m → Syncing m c a m'
+pub data Syncing (m : Machine) (c : ℕ) (op : Op) (a : Answer) (m' : Machine) : Type 0 where
+  is_synced : (reply : Reply) → client_fault m c ≡ None → a ≡ replied reply → IsSynced m (call_of_client m.world c op reply) m' → Syncing m c op a m'
+  is_replicating : client_fault m c ≡ None → a ≡ not_yet → IsReplicating m c m' → Syncing m c op a m'
+  lacks_memory : client_fault m c ≡ None → received_by_all m.world c ≡ end m.world c → a ≡ refused OutOfMemory → m' ≡ m → Syncing m c op a m'
+  is_refused : (r : Refusal) → client_fault m c ≡ Some r → a ≡ refused r → m' ≡ m → Syncing m c op a m'
+
+-- ---- an optimistic client's fsync
+
+-- it is answered at once, and changes the history alone
+pub record IsNoted (m : Machine) (x : NumberedCall) (m' : Machine) : Type 0 where
+  pub call : CallsUnder m.world m.leases x m'.world
+  pub leases : m'.leases ≡ m.leases
+  pub adds : Adds m (call_entry m.history x.client x.op x.reply) m'
+  pub keeps : KeepsMembers m m'
+
+pub data Noting (m : Machine) (c : ℕ) (a : Answer) (m' : Machine) : Type 0 where
+  is_noted : (reply : Reply) → client_fault m c ≡ None → a ≡ replied reply → IsNoted m (call_of_client m.world c Fsync reply) m' → Noting m c a m'
+  lacks_memory : client_fault m c ≡ None → a ≡ refused OutOfMemory → m' ≡ m → Noting m c a m'
+  is_refused : (r : Refusal) → client_fault m c ≡ Some r → a ≡ refused r → m' ≡ m → Noting m c a m'
 
 -- ---- a crash
 

@@ -3,6 +3,7 @@
 use Rattle.std.specs.Prelude.{ℕ, Bool, true, false, List, [], ◌∷◌, ◌++◌}
 use Rattle.assise_names.specs.declared.call.Op.{Op}
 use Rattle.assise_names.specs.declared.call.Op.TheVariants.{Fsync}
+use Rattle.assise_names.specs.declared.durability.Durability.{Durability}
 use Rattle.assise_names.specs.declared.refusal.Refusal.{Refusal}
 use Rattle.assise_names.specs.declared.reply.Reply.{Reply}
 use Rattle.assise_history.specs.declared.call.Loss.{Loss}
@@ -11,8 +12,8 @@ use Rattle.assise_history.specs.Legal.{calls_made}
 use Rattle.assise_record.specs.LogFrame.{LogFrame}
 
 pub data ClusterEvent : Type 0 where
-  -- a client is opened on a node
-  open_client : (node : ℕ) → ClusterEvent
+  -- a client is opened on a node, to have its fsyncs served in one way
+  open_client : (node : ℕ) → Durability → ClusterEvent
   -- a client tries a call, an fsync
   try_call : (client : ℕ) → Op → ClusterEvent
   try_fsync : (client : ℕ) → ClusterEvent
@@ -37,7 +38,7 @@ pub data ClusterEvent : Type 0 where
 
 -- a client tries a call
 abbrev pub is_call : ClusterEvent → Bool
-is_call (open_client n) = false
+is_call (open_client n u) = false
 is_call (try_call c op) = true
 is_call (try_fsync c) = false
 is_call (outgoing n) = false
@@ -82,7 +83,7 @@ call_entry h c op reply = calls (record { client = c; number = calls_made c h; o
 -- the entries that an answer is told by, after a history: one where a client was opened, was answered or crashed, a node failed or
 -- was taken in again, and none where the event was refused, is awaited, or is none of these
 abbrev pub entries_of : List Entry → ClusterEvent → Answer → List Entry
-entries_of h (open_client n) (opened c) = opens c n ∷ []
+entries_of h (open_client n u) (opened c) = opens c n u ∷ []
 entries_of h (try_call c op) (replied reply) = call_entry h c op reply
 entries_of h (try_fsync c) (replied reply) = call_entry h c Fsync reply
 entries_of h (crash c) crashed = crashes c ∷ []

@@ -2,7 +2,7 @@
 -- Assise (OSDI 2020), section 3 (process crash, fail-over, epochs).
 use Rattle.std.specs.Prelude.{◌≡◌, ℕ, ◌-◌, ◌≤◌, nat_lt, nat_le, Bool, false, ◌&&◌, not, if◌then◌else◌, List, drop, take, length, Option, Some, None}
 use Rattle.assise_names.specs.declared.call.Op.{Op}
-use Rattle.assise_names.specs.declared.call.Op.TheVariants.{Create, Mkdir, Read, Write, Truncate, Rename, Unlink, Rmdir, List as ListCall, Stat, Fsync}
+use Rattle.assise_names.specs.declared.call.Op.TheVariants.{Create, Mkdir, Read, Write, Truncate, Rename, Unlink, Rmdir, List as ListCall, Stat, Fsync, Dsync}
 use Rattle.assise_names.specs.declared.refusal.Refusal.{Refusal}
 use Rattle.assise_names.specs.declared.refusal.Refusal.TheVariants.{BadNode, BadClient, NodeDown, ClientGone, TooLarge, WrongPhase}
 use Rattle.assise_record.specs.LogFrame.{LogFrame}
@@ -43,6 +43,7 @@ is_too_large (Rmdir p) = false
 is_too_large (ListCall p) = false
 is_too_large (Stat p) = false
 is_too_large Fsync = false
+is_too_large Dsync = false
 
 abbrev pub call_fault : Machine → ℕ → Op → Option Refusal
 call_fault m c op = or_else (client_fault m c) (fault_if (is_too_large op) TooLarge)

@@ -3,17 +3,26 @@
 use Rattle.std.specs.Prelude.{◌≡◌, ℕ, List, [], ◌∷◌}
 use Rattle.assise_machine_history.specs.Courses.{IsCourse, last_of}
 use Rattle.assise_machine_history.specs.State.{State}
-use Rattle.assise_machine_events.specs.ClientEvents.{Opening, Calling, Syncing, Crashing}
+use Rattle.assise_machine_events.specs.ClientEvents.{Opening, Calling, Syncing, Noting, Crashing}
 use Rattle.assise_machine_events.specs.Events.{ClusterEvent, open_client, try_call, try_fsync, outgoing, deliver, digest, release_ready, set_hot, crash, fail, back, refill, join, Answer}
 use Rattle.assise_machine_events.specs.Machine.{Machine, state_of}
 use Rattle.assise_machine_events.specs.MemberEvents.{Failing, Returning, Refilling, Joining}
 use Rattle.assise_machine_events.specs.NodeEvents.{Sending, Delivering, Digesting, Releasing, SettingHot}
 use Rattle.assise_names.specs.declared.call.Op.{Op}
-use Rattle.assise_names.specs.declared.call.Op.TheVariants.{Create, Mkdir, Read, Write, Truncate, Rename, Unlink, Rmdir, List as ListCall, Stat, Fsync}
+use Rattle.assise_names.specs.declared.call.Op.TheVariants.{Create, Mkdir, Read, Write, Truncate, Rename, Unlink, Rmdir, List as ListCall, Stat, Fsync, Dsync}
+use Rattle.assise_names.specs.declared.durability.Durability.{Durability}
+use Rattle.assise_names.specs.declared.durability.Durability.TheVariants.{Pessimistic, Optimistic}
+use Rattle.assise_history.specs.Legal.{durability_of}
 
--- a call that a client tries: an fsync is one
+-- an fsync waits, or is answered at once
+abbrev pub Fsyncing : Durability → Machine → ℕ → Answer → Machine → Type 0
+Fsyncing Pessimistic m c a m' = Syncing m c Fsync a m'
+Fsyncing Optimistic m c a m' = Noting m c a m'
+
+-- a call that a client tries: a sync is one
 abbrev pub Trying : Machine → ℕ → Op → Answer → Machine → Type 0
-Trying m c Fsync a m' = Syncing m c a m'
+Trying m c Fsync a m' = Fsyncing (durability_of c m.history) m c a m'
+Trying m c Dsync a m' = Syncing m c Dsync a m'
 Trying m c (Create p) a m' = Calling m c (Create p) a m'
 Trying m c (Mkdir p) a m' = Calling m c (Mkdir p) a m'
 Trying m c (Read p offset n) a m' = Calling m c (Read p offset n) a m'
@@ -27,9 +36,9 @@ Trying m c (Stat p) a m' = Calling m c (Stat p) a m'
 
 -- an event with its answer leads from one state to the next
 abbrev pub Happens : Machine → ClusterEvent → Answer → Machine → Type 0
-Happens m (open_client n) a m' = Opening m n a m'
+Happens m (open_client n u) a m' = Opening m n u a m'
 Happens m (try_call c op) a m' = Trying m c op a m'
-Happens m (try_fsync c) a m' = Syncing m c a m'
+Happens m (try_fsync c) a m' = Fsyncing (durability_of c m.history) m c a m'
 Happens m (outgoing n) a m' = Sending m n a m'
 Happens m (deliver f n) a m' = Delivering m f n a m'
 Happens m (digest n) a m' = Digesting m n a m'

@@ -1,7 +1,6 @@
 // What each answer says.
 ghost use Rattle.std.specs.Prelude.{◌≡◌, ◌≢◌, ◌+◌, ◌<◌, ◌≤◌, ◌↔◌, Contains, List, None, Some, false, [], length, max, true, ℕ};
 ghost use Rattle.assise_names.specs.declared.call.Op.{Op};
-ghost use Rattle.assise_names.specs.declared.call.Op.TheVariants.{Fsync};
 ghost use Rattle.assise_names.specs.declared.refusal.Refusal.{Refusal};
 ghost use Rattle.assise_names.specs.declared.refusal.Refusal.TheVariants.{Busy};
 ghost use Rattle.assise_names.specs.declared.reply.Reply.{Reply};
@@ -30,16 +29,20 @@ pub fn a_call_is_awaited_only_for_a_lease()
     ensures { (m m' : Machine) (c : ℕ) (op : Op) → Calling m c op not_yet m' → AwaitsLease m c op m' }
 {}
 
-/// A call is answered what the tree of the kept calls answers, and so is an fsync.
+/// A call is answered what the tree of the kept calls answers, and so is a sync.
 pub fn a_reply_is_that_of_the_tree_of_the_kept_calls()
     ensures call { (m m' : Machine) (c : ℕ) (op : Op) (reply : Reply) → Holds m → Calling m c op (replied reply) m' → reply ≡ (answer (tree_after opening (kept m.history)) op).0 }
-    ensures fsync { (m m' : Machine) (c : ℕ) (reply : Reply) → Holds m → Syncing m c (replied reply) m' → reply ≡ (answer (tree_after opening (kept m.history)) Fsync).0 }
+    ensures sync { (m m' : Machine) (c : ℕ) (op : Op) (reply : Reply) → Holds m →
+        Syncing m c op (replied reply) m' →
+        reply ≡ (answer (tree_after opening (kept m.history)) op).0 }
 {}
 
-/// An fsync is answered exactly where all full nodes have all records of its client.
-pub fn an_fsync_is_answered_once_all_full_nodes_have_all()
-    ensures answered { (m m' : Machine) (c : ℕ) (reply : Reply) → Syncing m c (replied reply) m' → received_by_all m.world c ≡ end m.world c }
-    ensures awaited { (m m' : Machine) (c : ℕ) → Syncing m c not_yet m' → received_by_all m.world c < end m.world c }
+/// A sync is answered exactly where all full nodes have all records of its client.
+pub fn a_sync_is_answered_once_all_full_nodes_have_all()
+    ensures answered { (m m' : Machine) (c : ℕ) (op : Op) (reply : Reply) →
+        Syncing m c op (replied reply) m' → received_by_all m.world c ≡ end m.world c }
+    ensures awaited { (m m' : Machine) (c : ℕ) (op : Op) → Syncing m c op not_yet m' →
+        received_by_all m.world c < end m.world c }
 {}
 
 /// A delivery answers the greater of what the node had received and the end of the frame, and so much it has then.

@@ -1,11 +1,13 @@
 // Each outcome of an event can come, where what it asks for holds.
 ghost use Rattle.std.specs.Prelude.{◌≡◌, ◌<◌, ◌≤◌, List, [], None, false, length, min, suc, true, ℕ};
 ghost use Rattle.assise_names.specs.declared.call.Op.{Op};
+ghost use Rattle.assise_names.specs.declared.durability.Durability.{Durability};
 ghost use Rattle.assise_names.specs.declared.refusal.Refusal.TheVariants.{InodesSpent, LogFull, OutOfMemory};
 ghost use Rattle.assise_names.specs.declared.mode.Mode.{Mode};
 ghost use Rattle.assise_names.specs.declared.reply.Reply.{Reply};
 ghost use Rattle.assise_names.specs.declared.reply.Reply.TheVariants.{Done};
 ghost use Rattle.assise_history.specs.declared.call.Loss.{Loss};
+ghost use Rattle.assise_history.specs.Legal.{is_sync};
 ghost use Rattle.assise_record.specs.LogFrame.{LogFrame};
 ghost use Rattle.assise_record.specs.Records.{has_some};
 ghost use Rattle.assise_lease_tree.specs.TwoLevels.{is_free_for};
@@ -21,13 +23,17 @@ ghost use Rattle.assise_machine_events.specs.NodeEvents.{Delivering, Digesting, 
 
 /// What clients do can be answered where no fault stands.
 pub fn what_clients_do_can_be_answered()
-    ensures opened { (m : Machine) (n : ℕ) → Holds m → open_fault m n ≡ None → (m' : Machine) × Opening m n (opened (suc m.world.clients)) m' }
+    ensures opened { (m : Machine) (n : ℕ) (u : Durability) → Holds m → open_fault m n ≡ None →
+        (m' : Machine) × Opening m n u (opened (suc m.world.clients)) m' }
     ensures called { (m : Machine) (c : ℕ) (op : Op) (reply : Reply) → Holds m → call_fault m c op ≡ None → MayCallUnder m.world m.leases (call_of_client m.world c op reply) →
         (has_some (step_at_home m.world (call_of_client m.world c op reply)).effects ≡ true → length (m.world.records c) < m.limit) → (m' : Machine) × Calling m c op (replied reply) m' }
     ensures awaited { (m : Machine) (c i : ℕ) (op : Op) (reply : Reply) (mode : Mode) → Holds m → call_fault m c op ≡ None →
         IsMissing m.world m.leases (call_of_client m.world c op reply) i mode → is_free_for m.leases.levels c (m.world.home c) i mode ≡ false → (m' : Machine) × Calling m c op not_yet m' }
-    ensures synced { (m : Machine) (c : ℕ) → Holds m → client_fault m c ≡ None → received_by_all m.world c ≡ end m.world c → (m' : Machine) × Syncing m c (replied Done) m' }
-    ensures replicating { (m : Machine) (c : ℕ) → Holds m → client_fault m c ≡ None → received_by_all m.world c < end m.world c → (m' : Machine) × Syncing m c not_yet m' }
+    ensures synced { (m : Machine) (c : ℕ) (op : Op) (u : Durability) → is_sync op u ≡ true →
+        Holds m → client_fault m c ≡ None → received_by_all m.world c ≡ end m.world c →
+        (m' : Machine) × Syncing m c op (replied Done) m' }
+    ensures replicating { (m : Machine) (c : ℕ) (op : Op) → Holds m → client_fault m c ≡ None →
+        received_by_all m.world c < end m.world c → (m' : Machine) × Syncing m c op not_yet m' }
     ensures crashed { (m : Machine) (c : ℕ) → Holds m → client_fault m c ≡ None → (m' : Machine) × Crashing m c crashed m' }
 {}
 

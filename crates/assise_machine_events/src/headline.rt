@@ -12,7 +12,7 @@ ghost use Rattle.assise_inode_table.specs.Spelled.{Spells};
 ghost use Rattle.assise_inode_table.specs.Traces.{Each, ops};
 ghost use Rattle.assise_machine_laws.specs.World.{Full, alone, first_unreplicated, steps};
 ghost use Rattle.assise_machine_leases.specs.Leases.{client_lease, is_written};
-ghost use Rattle.assise_machine_history.specs.Courses.{IsFsynced, IsLasting, firm_calls};
+ghost use Rattle.assise_machine_history.specs.Courses.{IsSynced, IsLasting, firm_calls};
 ghost use Rattle.assise_machine_history.specs.Numbered.{plain_call};
 ghost use Rattle.assise_machine_events.specs.Events.{Answer, ClusterEvent, all_entries, entries_of};
 ghost use Rattle.assise_machine_events.specs.Happenings.{AllHappen, Happens, Leads};
@@ -33,9 +33,9 @@ pub fn whatever_happens_it_holds()
 
 /// **The headline.** Whatever calls, deliveries, digests, hand-overs, failures and returns interleave, each answered call stands
 /// once in one legal history (`legal`, `entries`) that extends all that was answered before it (`extends`); a node's failure
-/// removes, from each of its clients, only a tail after that client's last answered fsync (`only_tails`), and the remaining calls
+/// removes, from each of its clients, only a tail after that client's last answered sync (`only_tails`), and the remaining calls
 /// stay legal with the replies they gave (`remaining`); and every full node alone holds the tree of all replicated calls
-/// (`alone`): among these are all up to a client's last answered fsync (`synced`) and all that changed an inode that their client
+/// (`alone`): among these are all up to a client's last answered sync (`synced`) and all that changed an inode that their client
 /// handed over (`handed_over`), and none of them is lost again (`lasting`).
 pub fn whatever_happens_the_history_is_legal_and_each_full_node_has_what_is_replicated()
     ensures legal { (nodes limit : ℕ) (es : List (ClusterEvent × Answer)) (m : Machine) → 0 < nodes → AllHappen (begun_as nodes limit) es m → IsLegal m.history }
@@ -48,7 +48,7 @@ pub fn whatever_happens_the_history_is_legal_and_each_full_node_has_what_is_repl
     ensures alone { (nodes limit : ℕ) (es : List (ClusterEvent × Answer)) (m : Machine) → 0 < nodes → AllHappen (begun_as nodes limit) es m →
         (n : ℕ) → Full m.world n → Spells (alone m.world n) (tree_after_calls opening (ops (firm_calls (state_of m)))) }
     ensures synced { (nodes limit : ℕ) (es : List (ClusterEvent × Answer)) (m : Machine) → 0 < nodes → AllHappen (begun_as nodes limit) es m →
-        (before later : List Entry) (x : Call) → m.history ≡ before ++ calls x ∷ later → IsFsynced m.history x → Contains (map plain_call (firm_calls (state_of m))) x }
+        (before later : List Entry) (x : Call) → m.history ≡ before ++ calls x ∷ later → IsSynced m.history x → Contains (map plain_call (firm_calls (state_of m))) x }
     ensures handed_over { (nodes limit : ℕ) (es : List (ClusterEvent × Answer)) (m : Machine) → 0 < nodes → AllHappen (begun_as nodes limit) es m →
         (c i : ℕ) → is_written (client_lease m.leases c i) ≡ false →
         Each (λ x. x.0.client ≡ c → contains (touched x.1.effects) i ≡ true → x.0.number < first_unreplicated m.world c) (steps m.world) }

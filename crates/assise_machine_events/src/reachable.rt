@@ -1,7 +1,8 @@
 // Each outcome of each event comes in a state that the cluster can come to.
 ghost use Rattle.std.specs.Prelude.{◌≡◌, ◌≢◌, List, Some, [], ◌∷◌, suc, ℕ};
 ghost use Rattle.assise_names.specs.declared.call.Op.{Op};
-ghost use Rattle.assise_names.specs.declared.call.Op.TheVariants.{Create};
+ghost use Rattle.assise_names.specs.declared.call.Op.TheVariants.{Create, Fsync};
+ghost use Rattle.assise_names.specs.declared.durability.Durability.TheVariants.{Pessimistic};
 ghost use Rattle.assise_names.specs.declared.refusal.Refusal.TheVariants.{Busy, ClientGone, InodesSpent, LastNode, LogFull, NodeDown, OutOfMemory, StaleMessage, WrongPhase};
 ghost use Rattle.assise_names.specs.declared.reply.Reply.TheVariants.{Done};
 ghost use Rattle.assise_history.specs.declared.call.Loss.{Loss};
@@ -15,18 +16,19 @@ ghost use Rattle.assise_machine_events.specs.Reached.{Comes};
 
 /// What clients do is answered, is awaited and is refused in some state that two nodes can come to.
 pub fn each_outcome_of_what_clients_do_comes()
-    ensures opened { Comes (λ m m'. Opening m 1 (opened 1) m') }
-    ensures not_opened { Comes (λ m m'. Opening m 2 (refused NodeDown) m') }
-    ensures not_opened_for_memory { Comes (λ m m'. Opening m 1 (refused OutOfMemory) m') }
+    ensures opened { Comes (λ m m'. Opening m 1 Pessimistic (opened 1) m') }
+    ensures not_opened { Comes (λ m m'. Opening m 2 Pessimistic (refused NodeDown) m') }
+    ensures not_opened_for_memory { Comes
+        (λ m m'. Opening m 1 Pessimistic (refused OutOfMemory) m') }
     ensures called { (p : List (List ℕ)) × Comes (λ m m'. Calling m 1 (Create p) (replied Done) m') }
     ensures call_awaited { (op : Op) × Comes (λ m m'. Calling m 2 op not_yet m') }
     ensures log_full { (op : Op) × Comes (λ m m'. Calling m 1 op (refused LogFull) m') }
     ensures not_called { (op : Op) × Comes (λ m m'. Calling m 1 op (refused ClientGone) m') }
     ensures not_called_for_memory { (op : Op) × Comes (λ m m'. Calling m 1 op (refused OutOfMemory) m') }
-    ensures synced { Comes (λ m m'. Syncing m 1 (replied Done) m') }
-    ensures sync_awaited { Comes (λ m m'. Syncing m 1 not_yet m') }
-    ensures not_synced { Comes (λ m m'. Syncing m 1 (refused ClientGone) m') }
-    ensures not_synced_for_memory { Comes (λ m m'. Syncing m 1 (refused OutOfMemory) m') }
+    ensures synced { Comes (λ m m'. Syncing m 1 Fsync (replied Done) m') }
+    ensures sync_awaited { Comes (λ m m'. Syncing m 1 Fsync not_yet m') }
+    ensures not_synced { Comes (λ m m'. Syncing m 1 Fsync (refused ClientGone) m') }
+    ensures not_synced_for_memory { Comes (λ m m'. Syncing m 1 Fsync (refused OutOfMemory) m') }
     ensures crashed { Comes (λ m m'. Crashing m 1 crashed m') }
     ensures not_crashed { Comes (λ m m'. Crashing m 1 (refused ClientGone) m') }
     ensures not_crashed_for_memory { Comes (λ m m'. Crashing m 1 (refused OutOfMemory) m') }

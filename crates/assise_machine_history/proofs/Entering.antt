@@ -5,9 +5,10 @@ use Rattle.std.proofs.lemmas.List.{length-append}
 use Rattle.std.proofs.lemmas.List.Elements.{filter-append}
 use Rattle.std.proofs.lemmas.List.Folds.{list_any-append}
 use Rattle.assise_history.specs.declared.call.Call.{Call}
+use Rattle.assise_names.specs.declared.durability.Durability.{Durability}
 use Rattle.assise_history.specs.Entries.{Event, opens, calls, crashes, fails, returns}
-use Rattle.assise_history.specs.Legal.{IsDown, IsPastFsyncs, is_call_of, is_crash_of, is_failure_of, is_fsync, is_opening, is_return_of}
-use Rattle.assise_history.proofs.Standing.{down-push, down-last, past_fsyncs-push}
+use Rattle.assise_history.specs.Legal.{IsDown, IsPastSyncs, is_call_of, is_crash_of, is_failure_of, is_opening, is_return_of, syncs}
+use Rattle.assise_history.proofs.Standing.{down-push, down-last, past_syncs-push}
 use Rattle.assise_inode_table.specs.Effects.{contains}
 use Rattle.assise_machine_laws.specs.Staying.{SameClients}
 use Rattle.assise_machine_laws.specs.World.{World, Full}
@@ -29,28 +30,28 @@ count_more p h e one = let all = count_push p h e in let is : length (filter p (
 
 -- neither an opening nor a call
 abbrev pub IsAside : Event → Type 0
-IsAside (opens c n) = ⊥
+IsAside (opens c n u) = ⊥
 IsAside (calls x) = ⊥
 IsAside (crashes c) = Unit {0}
 IsAside (fails n losses) = Unit {0}
 IsAside (returns n) = Unit {0}
 
 pub aside_opening : (e : Event) → IsAside e → is_opening e ≡ false
-aside_opening (opens c n) a = absurd a
+aside_opening (opens c n u) a = absurd a
 aside_opening (calls x) a = absurd a
 aside_opening (crashes c) a = refl
 aside_opening (fails n losses) a = refl
 aside_opening (returns n) a = refl
 
 pub aside_call : (e : Event) (c : ℕ) → IsAside e → is_call_of c e ≡ false
-aside_call (opens d n) c a = absurd a
+aside_call (opens d n u) c a = absurd a
 aside_call (calls x) c a = absurd a
 aside_call (crashes d) c a = refl
 aside_call (fails n losses) c a = refl
 aside_call (returns n) c a = refl
 
 pub aside_making : (e : Event) (c : ℕ) → IsAside e → is_making_of c e ≡ false
-aside_making (opens d n) c a = absurd a
+aside_making (opens d n u) c a = absurd a
 aside_making (calls x) c a = absurd a
 aside_making (crashes d) c a = refl
 aside_making (fails n losses) c a = refl
@@ -61,14 +62,14 @@ aside_no_call e x a is = subst IsAside is a
 
 -- neither a failure nor a return
 abbrev pub IsOfClient : Event → Type 0
-IsOfClient (opens c n) = Unit {0}
+IsOfClient (opens c n u) = Unit {0}
 IsOfClient (calls x) = Unit {0}
 IsOfClient (crashes c) = Unit {0}
 IsOfClient (fails n losses) = ⊥
 IsOfClient (returns n) = ⊥
 
 of_client_return : (e : Event) (n : ℕ) → IsOfClient e → is_return_of n e ≡ false
-of_client_return (opens c m) n o = refl
+of_client_return (opens c m u) n o = refl
 of_client_return (calls x) n o = refl
 of_client_return (crashes c) n o = refl
 of_client_return (fails m losses) n o = absurd o
@@ -94,9 +95,10 @@ any_push p h e = list_any-append p h (e ∷ []) ∙ ap (λ b. list_any p h || b)
 -- the entry may be the client's crash or its node's failure
 pub opened_more : (h : List Event) (e : Event) (w w' : World) (c : ℕ) → w'.home c ≡ w.home c → w'.crashed c ≡ (w.crashed c || is_crash_of c e) → w'.lives c ≡ (w.lives c && not (is_failure_of (w.home c) e)) → IsOpened h w c → IsOpened (h ++ e ∷ []) w' c
 opened_more h e w w' c home crashed lives o = record {
+  durability = o.durability;
   before = o.before;
   since = o.since ++ e ∷ [];
-  split = subst (λ n. h ++ e ∷ [] ≡ o.before ++ opens c n ∷ (o.since ++ e ∷ [])) (sym home) (ap (λ g. g ++ e ∷ []) o.split ∙ append_assoc o.before (opens c (w.home c) ∷ o.since) (e ∷ []));
+  split = subst (λ n. h ++ e ∷ [] ≡ o.before ++ opens c n o.durability ∷ (o.since ++ e ∷ [])) (sym home) (ap (λ g. g ++ e ∷ []) o.split ∙ append_assoc o.before (opens c (w.home c) o.durability ∷ o.since) (e ∷ []));
   crashed = crashed ∙ ap (λ b. b || is_crash_of c e) o.crashed ∙ sym (any_push (is_crash_of c) o.since e);
   lives = subst (λ n. w'.lives c ≡ not (list_any (is_failure_of n) (o.since ++ e ∷ []))) (sym home)
       (lives ∙ ap (λ b. b && not (is_failure_of (w.home c) e)) o.lives ∙ sym (not_or (list_any (is_failure_of (w.home c)) o.since) (is_failure_of (w.home c) e)) ∙ ap not (sym (any_push (is_failure_of (w.home c)) o.since e)));
@@ -110,19 +112,21 @@ opened_aside h e w w' c same crash failure o =
 -- there is none
 pub opened_still : (h : List Event) (w w' : World) (c : ℕ) → SameClients w w' → IsOpened h w c → IsOpened h w' c
 opened_still h w w' c same o = record {
+  durability = o.durability;
   before = o.before;
   since = o.since;
-  split = subst (λ n. h ≡ o.before ++ opens c n ∷ o.since) (sym (same.home c)) o.split;
+  split = subst (λ n. h ≡ o.before ++ opens c n o.durability ∷ o.since) (sym (same.home c)) o.split;
   crashed = same.crashed c ∙ o.crashed;
   lives = subst (λ n. w'.lives c ≡ not (list_any (is_failure_of n) o.since)) (sym (same.home c)) (same.lives c ∙ o.lives);
 }
 
 -- it is the client's opening
-pub opened_now : (h : List Event) (w' : World) (c n : ℕ) → w'.home c ≡ n → w'.crashed c ≡ false → w'.lives c ≡ true → IsOpened (h ++ opens c n ∷ []) w' c
-opened_now h w' c n home crashed lives = record {
+pub opened_now : (h : List Event) (w' : World) (c n : ℕ) (u : Durability) → w'.home c ≡ n → w'.crashed c ≡ false → w'.lives c ≡ true → IsOpened (h ++ opens c n u ∷ []) w' c
+opened_now h w' c n u home crashed lives = record {
+  durability = u;
   before = h;
   since = [];
-  split = subst (λ m. h ++ opens c n ∷ [] ≡ h ++ opens c m ∷ []) (sym home) refl;
+  split = subst (λ m. h ++ opens c n u ∷ [] ≡ h ++ opens c m u ∷ []) (sym home) refl;
   crashed = crashed;
   lives = lives;
 }
@@ -157,14 +161,14 @@ down_before h e n o d =
 pub up_client : (k : ℕ) (h : List Event) (e : Event) (w w' : World) → IsOfClient e → w'.full ≡ w.full → AreUp k h w → AreUp k (h ++ e ∷ []) w'
 up_client k h e w w' o same a = up_same k h (h ++ e ∷ []) w w' same (λ n d. down_before h e n o d) (λ n d. down-push h e n d (of_client_return e n o)) a
 
--- ---- fsyncs
+-- ---- syncs
 
--- the client's fsyncs are numbered below
+-- the client's syncs are numbered below
 abbrev pub Synced : List Event → ℕ → ℕ → Type 0
-Synced h c j = IsPastFsyncs h (record { client = c; first = j })
+Synced h c j = IsPastSyncs h (record { client = c; first = j })
 
 pub synced_still : (h : List Event) (c i j : ℕ) → i ≤ j → Synced h c i → Synced h c j
-synced_still h c i j le old before since x split client fsync = let less : x.number < i = old before since x split client fsync in omega (arith, less, le)
+synced_still h c i j le old before since x split client sync = let less : x.number < i = old before since x split client sync in omega (arith, less, le)
 
-pub synced_more : (h : List Event) (e : Event) (c i j : ℕ) → i ≤ j → ((x : Call) → e ≡ calls x → x.client ≡ c → is_fsync x.op ≡ true → x.number < j) → Synced h c i → Synced (h ++ e ∷ []) c j
-synced_more h e c i j le new old = past_fsyncs-push h e (record { client = c; first = j }) new (synced_still h c i j le old)
+pub synced_more : (h : List Event) (e : Event) (c i j : ℕ) → i ≤ j → ((x : Call) → e ≡ calls x → x.client ≡ c → syncs h x ≡ true → x.number < j) → Synced h c i → Synced (h ++ e ∷ []) c j
+synced_more h e c i j le new old = past_syncs-push h e (record { client = c; first = j }) new (synced_still h c i j le old)

@@ -1,8 +1,9 @@
 -- A course from the start in which there is each kind of entry.
 use Rattle.std.proofs.Common.{◌≡◌, ◌≤◌, true, false, List, [], ◌∷◌, ◌++◌, refl, ap, ◌∙◌, arith}
+use Rattle.assise_names.specs.declared.durability.Durability.TheVariants.{Pessimistic}
 use Rattle.assise_history.specs.declared.call.Loss.{Loss}
 use Rattle.assise_history.specs.Entries.{opens, calls, crashes, fails, returns}
-use Rattle.assise_history.specs.Legal.{is_fsync}
+use Rattle.assise_history.specs.Legal.{is_sync}
 use Rattle.assise_inode_table.specs.Traces.{NumberedCall}
 use Rattle.assise_machine_laws.specs.Sound.{IsSound}
 use Rattle.assise_machine_laws.specs.World.{Full, end, received_by_all}
@@ -20,14 +21,14 @@ abbrev start : State
 start = begun_with 2
 
 -- a client is opened on node 1
-opened : (t : State) × IsOpening start 1 t
-opened = can_open start 1 refl
+opened : (t : State) × IsOpening start 1 Pessimistic t
+opened = can_open start 1 Pessimistic refl
 
 abbrev with_client : State
 with_client = opened.0
 
 client_sound : IsSound with_client.world
-client_sound = happens_sound start with_client (begun_sound 2) (opening 1 opened.1)
+client_sound = happens_sound start with_client (begun_sound 2) (opening 1 Pessimistic opened.1)
 
 client_lives : with_client.world.lives 1 ≡ true
 client_lives = opened.1.world.lives_new
@@ -46,8 +47,8 @@ client_received =
     omega (arith, none, most)
 
 -- it makes an fsync
-fsynced : (x : NumberedCall) × ((x.client ≡ 1) × (is_fsync x.op ≡ true) × ((t : State) × IsCall with_client x t))
-fsynced = let f = can_fsync with_client 1 client_sound client_lives client_runs client_received in (f.0, (f.1.0, ap is_fsync f.1.1, f.1.2))
+fsynced : (x : NumberedCall) × ((x.client ≡ 1) × (is_sync x.op Pessimistic ≡ true) × ((t : State) × IsCall with_client x t))
+fsynced = let f = can_fsync with_client 1 client_sound client_lives client_runs client_received in (f.0, (f.1.0, ap (λ op. is_sync op Pessimistic) f.1.1, f.1.2))
 
 abbrev with_fsync : State
 with_fsync = fsynced.1.2.0
@@ -91,9 +92,9 @@ abbrev with_return : State
 with_return = returned.0
 
 course : IsCourse start (with_client ∷ with_fsync ∷ with_crash ∷ with_failure ∷ with_return ∷ [])
-course = (opening 1 opened.1, (call fsynced.0 fsync_call, (crash 1 crashed.1, (failure 1 failed.1, (comeback 1 2 returned.1, tt)))))
+course = (opening 1 Pessimistic opened.1, (call fsynced.0 fsync_call, (crash 1 crashed.1, (failure 1 failed.1, (comeback 1 2 returned.1, tt)))))
 
-entries : with_return.history ≡ opens 1 1 ∷ calls (plain_call fsynced.0) ∷ crashes 1 ∷ fails 1 lost ∷ returns 1 ∷ []
+entries : with_return.history ≡ opens 1 1 Pessimistic ∷ calls (plain_call fsynced.0) ∷ crashes 1 ∷ fails 1 lost ∷ returns 1 ∷ []
 entries =
     returned.1.adds.entry
     ∙ ap (λ h. h ++ returns 1 ∷ []) failed.1.adds.entry
@@ -104,5 +105,5 @@ entries =
 pub eventful : (ts : List State) × (IsCourse (begun_with 2) ts × IsEventful (last_of (begun_with 2) ts).history)
 eventful = (
   with_client ∷ with_fsync ∷ with_crash ∷ with_failure ∷ with_return ∷ [],
-  (course, record { fsync = plain_call fsynced.0; losses = lost; is_one = fsynced.1.1; entries = entries }),
+  (course, record { sync = plain_call fsynced.0; losses = lost; is_one = fsynced.1.1; entries = entries }),
 )

@@ -6,7 +6,7 @@ use Rattle.std.proofs.lemmas.List.Elements.{Contains-append_cases}
 use Rattle.assise_history.specs.declared.call.Loss.{Loss}
 use Rattle.assise_history.specs.Entries.{opens, fails, returns}
 use Rattle.assise_history.specs.Kept.{loses}
-use Rattle.assise_history.specs.Legal.{IsDown, IsFair, IsOn, IsPastFsyncs, is_failure_of}
+use Rattle.assise_history.specs.Legal.{IsDown, IsFair, IsOn, IsPastSyncs, is_failure_of}
 use Rattle.assise_history.proofs.OneMore.{legal-failure, legal-return}
 use Rattle.assise_history.proofs.Passing.{Passes, passes_from, not_nil}
 use Rattle.assise_history.proofs.Standing.{down-failed, down-push, down-last}
@@ -114,12 +114,12 @@ loss_answered w n l s h =
 
 -- ---- the failure is fair
 
-pub past_fsyncs : (s : State) (n : ℕ) (l : Loss) → IsSound s.world → IsRecorded s → Contains (losses_of s.world n) l → IsPastFsyncs s.history l
+pub past_syncs : (s : State) (n : ℕ) (l : Loss) → IsSound s.world → IsRecorded s → Contains (losses_of s.world n) l → IsPastSyncs s.history l
 unfolding first_unreplicated
-past_fsyncs s n l sound r h before since x split client fsync =
+past_syncs s n l sound r h before since x split client sync =
     let c : ℕ = l.client in
     let o : IsLossTo s.world n s.world.clients l = listed_to s.world n s.world.clients l h in
-    let low : x.number < call_at s.world c (received_by_all s.world c) = r.synced c before since x split client fsync in
+    let low : x.number < call_at s.world c (received_by_all s.world c) = r.synced c before since x split client sync in
     let up : call_at s.world c (received_by_all s.world c) ≤ call_at s.world c (kept_at_failure s.world n c) = call_at-mono s.world c (received_by_all s.world c) (kept_at_failure s.world n c) sound.coherent (kept_low s.world n c) in
     let first : l.first ≡ call_at s.world c (kept_at_failure s.world n c) = o.first in
     omega (arith, low, up, first)
@@ -129,9 +129,10 @@ was_on s n l sound r h =
     let f : IsFirstLost s.world n l = (exactly_lost s.world n l sound).0 h in
     let o : IsOpened s.history s.world l.client = r.opened l.client (sound.opened l.client f.lives) in
     record {
+      durability = o.durability;
       before = o.before;
       since = o.since;
-      split = subst (λ m. s.history ≡ o.before ++ opens l.client m ∷ o.since) f.home o.split;
+      split = subst (λ m. s.history ≡ o.before ++ opens l.client m o.durability ∷ o.since) f.home o.split;
       no_failure = subst (λ m. list_any (is_failure_of m) o.since ≡ false) f.home (no_failure s l.client o f.lives);
     }
 
@@ -140,7 +141,7 @@ failure_fits s n sound r = record {
   rising = losses_rise s.world n;
   each = λ lower higher l split.
       let h : Contains (losses_of s.world n) l = in_midst (losses_of s.world n) lower higher l split in
-      record { on = was_on s n l sound r h; past = past_fsyncs s n l sound r h };
+      record { on = was_on s n l sound r h; past = past_syncs s n l sound r h };
 }
 
 -- ---- a failure of a full node

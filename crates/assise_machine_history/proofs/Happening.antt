@@ -1,9 +1,10 @@
 -- Each thing that an entry tells of can happen.
 use Rattle.std.proofs.Common.{◌≡◌, ℕ, suc, true, false, [], ◌∷◌, ◌++◌, refl}
 use Rattle.assise_names.specs.declared.call.Op.TheVariants.{Fsync}
+use Rattle.assise_names.specs.declared.durability.Durability.{Durability}
 use Rattle.assise_names.specs.declared.reply.Reply.TheVariants.{Done}
 use Rattle.assise_history.specs.Entries.{Event, opens, calls, crashes, fails, returns}
-use Rattle.assise_history.specs.Legal.{is_fsync}
+use Rattle.assise_history.specs.Legal.{syncs}
 use Rattle.assise_inode_table.specs.Numbers.{inode_number}
 use Rattle.assise_inode_table.specs.Traces.{NumberedCall}
 use Rattle.assise_machine_laws.specs.Chances.{MayCall, MayFail}
@@ -22,13 +23,13 @@ told s e u = record { nodes = s.nodes; history = s.history ++ e ∷ []; world = 
 adds_it : (s : State) (e : Event) (u : World) → Adds s e (told s e u)
 adds_it s e u = record { nodes = refl; entry = refl }
 
-pub can_open : (s : State) (n : ℕ) → Full s.world n → (t : State) × IsOpening s n t
-can_open s n full =
-    let u = may_open s.world n full in
-    let e : Event = opens (suc s.world.clients) n in
-    (told s e u.0, record { adds = adds_it s e u.0; world = u.1 })
+pub can_open : (s : State) (n : ℕ) (u : Durability) → Full s.world n → (t : State) × IsOpening s n u t
+can_open s n u full =
+    let v = may_open s.world n full in
+    let e : Event = opens (suc s.world.clients) n u in
+    (told s e v.0, record { adds = adds_it s e v.0; world = v.1 })
 
-pub can_call : (s : State) (x : NumberedCall) → IsSound s.world → MayCall s.world x → (is_fsync x.op ≡ true → received_by_all s.world x.client ≡ end s.world x.client) → (t : State) × IsCall s x t
+pub can_call : (s : State) (x : NumberedCall) → IsSound s.world → MayCall s.world x → (syncs s.history (plain_call x) ≡ true → received_by_all s.world x.client ≡ end s.world x.client) → (t : State) × IsCall s x t
 can_call s x sound may replicated =
     let u = may_call s.world x sound may in
     (told s (calls (plain_call x)) u.0, record { adds = adds_it s (calls (plain_call x)) u.0; world = u.1; replicated = replicated })

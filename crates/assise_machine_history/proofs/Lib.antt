@@ -4,7 +4,7 @@ pub mod Entering
 pub mod Listing
 pub mod Recording
 pub mod Failing
-pub mod Fsynced
+pub mod Synced
 pub mod Running
 pub mod Happening
 pub mod Eventful

@@ -12,6 +12,7 @@ use Rattle.assise_names.specs.declared.call.Op.TheVariants.{Create}
 use Rattle.assise_names.specs.declared.mode.Mode.TheVariants.{Write}
 use Rattle.assise_names.specs.declared.reply.Reply.TheVariants.{Done}
 use Rattle.assise_names.specs.declared.reply.TreeError.{TreeError}
+use Rattle.assise_names.specs.declared.durability.Durability.TheVariants.{Pessimistic}
 use Rattle.assise_names.specs.declared.reply.TreeError.TheVariants.{NoEnt}
 use Rattle.assise_seq_tree.specs.Tree.{no_entries}
 use Rattle.assise_history.specs.Entries.{opens, calls, fails}
@@ -64,8 +65,8 @@ made_number = 4294967296
 abbrev start : State
 start = begun_with 2
 
-opened : (t : State) × IsOpening start 1 t
-opened = can_open start 1 refl
+opened : (t : State) × IsOpening start 1 Pessimistic t
+opened = can_open start 1 Pessimistic refl
 
 abbrev with_client : State
 with_client = opened.0
@@ -133,7 +134,7 @@ leases_new = acquired_new with_root.world with_leases.world made_number (acquire
 
 leases_sound : IsSound with_leases.world
 leases_sound =
-    let client : IsSound with_client.world = happens_sound start with_client (begun_sound 2) (opening 1 opened.1) in
+    let client : IsSound with_client.world = happens_sound start with_client (begun_sound 2) (opening 1 Pessimistic opened.1) in
     happens_sound with_root with_leases (happens_sound with_client with_root client (quiet root_quiet)) (quiet own_quiet)
 
 not_root : made_number ≡ 0 → ⊥
@@ -233,7 +234,7 @@ created : (t : State) × IsCall with_leases creation t
 created =
     can_call with_leases creation leases_sound
     (may_create with_leases.world leases_new (λ i h. of_either (λ k. with_leases.world.holds 1 k ≡ true) made_number 0 i holds_own holds_root h) (λ i h. of_either (λ k. with_leases.world.writes 1 k ≡ true) made_number 0 i writes_own writes_root h))
-    (λ fsync. cc)
+    (λ sync. cc)
 
 abbrev with_file : State
 with_file = created.0
@@ -287,9 +288,9 @@ abbrev with_failure : State
 with_failure = failed.0
 
 course : IsCourse start (with_client ∷ with_root ∷ with_leases ∷ with_file ∷ with_failure ∷ [])
-course = (opening 1 opened.1, (quiet root_quiet, (quiet own_quiet, (call creation created.1, (failure 1 failed.1, tt)))))
+course = (opening 1 Pessimistic opened.1, (quiet root_quiet, (quiet own_quiet, (call creation created.1, (failure 1 failed.1, tt)))))
 
-entries : with_failure.history ≡ opens 1 1 ∷ calls (plain_call creation) ∷ fails 1 (record { client = 1; first = 0 } ∷ []) ∷ []
+entries : with_failure.history ≡ opens 1 1 Pessimistic ∷ calls (plain_call creation) ∷ fails 1 (record { client = 1; first = 0 } ∷ []) ∷ []
 entries =
     failed.1.adds.entry
     ∙ ap (λ ls. with_file.history ++ fails 1 ls ∷ []) lost_list

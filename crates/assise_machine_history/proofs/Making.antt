@@ -1,18 +1,20 @@
--- Which calls make an inode, and that an fsync does nothing.
-use Rattle.std.proofs.Common.{◌≡◌, ℕ, Bool, true, false, List, [], ◌∷◌, cond, length, refl, ◌==◌}
+-- Which calls make an inode, and that a sync does nothing.
+use Rattle.std.proofs.Common.{◌≡◌, ℕ, Bool, true, false, List, [], ◌∷◌, cond, length, refl, ap, ◌==◌}
 use Rattle.std.specs.List.{list_any}
 use Rattle.std.proofs.lemmas.Bool.{eq-eqb}
 use Rattle.assise_names.specs.declared.call.Op.{Op}
-use Rattle.assise_names.specs.declared.call.Op.TheVariants.{Create, Mkdir, Read, Write as WriteCall, Truncate, Rename, Unlink as UnlinkCall, Rmdir, List as ListCall, Stat, Fsync}
+use Rattle.assise_names.specs.declared.call.Op.TheVariants.{Create, Mkdir, Read, Write as WriteCall, Truncate, Rename, Unlink as UnlinkCall, Rmdir, List as ListCall, Stat, Fsync, Dsync}
+use Rattle.assise_names.specs.declared.durability.Durability.{Durability}
 use Rattle.assise_names.specs.declared.reply.Reply.{Reply}
-use Rattle.assise_names.specs.declared.reply.Reply.TheVariants.{Error}
+use Rattle.assise_names.specs.declared.reply.Reply.TheVariants.{Done, Error}
 use Rattle.assise_names.specs.declared.reply.TreeError.{TreeError}
 use Rattle.assise_record.specs.declared.effect.Effect.{Effect}
 use Rattle.assise_record.specs.declared.effect.Effect.TheVariants.{Write}
-use Rattle.assise_history.specs.Legal.{is_fsync}
+use Rattle.assise_history.specs.Legal.{is_sync}
 use Rattle.assise_inode_table.specs.Calls.{step}
 use Rattle.assise_inode_table.specs.Contents.{Values}
 use Rattle.assise_inode_table.specs.Effects.{makes}
+use Rattle.assise_inode_table.specs.Interaction.{Step}
 use Rattle.assise_inode_table.specs.Numbers.{makes_inode}
 use Rattle.assise_inode_table.proofs.CallEnds.{HoldsWhereDone, call_ends}
 
@@ -36,6 +38,7 @@ as_replied (Rmdir p) fresh = λ d i. refl
 as_replied (ListCall p) fresh = λ names. refl
 as_replied (Stat p) fresh = λ content. refl
 as_replied Fsync fresh = refl
+as_replied Dsync fresh = refl
 
 -- a call that fails makes none
 none_by_error : (op : Op) (e : TreeError) → false ≡ makes_inode op (Error e)
@@ -50,20 +53,28 @@ none_by_error (Rmdir p) e = refl
 none_by_error (ListCall p) e = refl
 none_by_error (Stat p) e = refl
 none_by_error Fsync e = refl
+none_by_error Dsync e = refl
 
 pub makes_where_done : (v : Values) (op : Op) (fresh : ℕ) → list_any (makes fresh) (step v op fresh).effects ≡ makes_inode op (step v op fresh).reply
 makes_where_done v op fresh = call_ends v (AsReplied op fresh) (none_by_error op) op fresh (as_replied op fresh)
 
--- an fsync does nothing
-pub fsync_still : (v : Values) (op : Op) (fresh : ℕ) → is_fsync op ≡ true → (step v op fresh).effects ≡ []
-fsync_still v (Create p) fresh h = cc
-fsync_still v (Mkdir p) fresh h = cc
-fsync_still v (Read p offset most) fresh h = cc
-fsync_still v (WriteCall p offset new) fresh h = cc
-fsync_still v (Truncate p size) fresh h = cc
-fsync_still v (Rename p q) fresh h = cc
-fsync_still v (UnlinkCall p) fresh h = cc
-fsync_still v (Rmdir p) fresh h = cc
-fsync_still v (ListCall p) fresh h = cc
-fsync_still v (Stat p) fresh h = cc
-fsync_still v Fsync fresh h = refl
+-- what a sync does
+abbrev pub nothing_done : Step
+nothing_done = record { visits = []; reply = Done; effects = [] }
+
+pub sync_step : (v : Values) (op : Op) (fresh : ℕ) (u : Durability) → is_sync op u ≡ true → step v op fresh ≡ nothing_done
+sync_step v (Create p) fresh u h = cc
+sync_step v (Mkdir p) fresh u h = cc
+sync_step v (Read p offset most) fresh u h = cc
+sync_step v (WriteCall p offset new) fresh u h = cc
+sync_step v (Truncate p size) fresh u h = cc
+sync_step v (Rename p q) fresh u h = cc
+sync_step v (UnlinkCall p) fresh u h = cc
+sync_step v (Rmdir p) fresh u h = cc
+sync_step v (ListCall p) fresh u h = cc
+sync_step v (Stat p) fresh u h = cc
+sync_step v Fsync fresh u h = refl
+sync_step v Dsync fresh u h = refl
+
+pub sync_still : (v : Values) (op : Op) (fresh : ℕ) (u : Durability) → is_sync op u ≡ true → (step v op fresh).effects ≡ []
+sync_still v op fresh u h = ap (λ s. s.effects) (sync_step v op fresh u h)

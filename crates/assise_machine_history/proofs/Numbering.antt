@@ -4,6 +4,7 @@ use Rattle.std.proofs.lemmas.Bool.{cases_Bool}
 use Rattle.std.proofs.lemmas.List.Elements.{Contains-append_right, Contains-append_cases}
 use Rattle.assise_history.specs.declared.call.Call.{Call}
 use Rattle.assise_history.specs.declared.call.Loss.{Loss}
+use Rattle.assise_names.specs.declared.durability.Durability.{Durability}
 use Rattle.assise_history.specs.Entries.{Event, opens, calls, crashes, fails, returns}
 use Rattle.assise_history.specs.Kept.{is_lost, loses, kept}
 use Rattle.assise_inode_table.specs.Traces.{NumberedCall, Each}
@@ -30,7 +31,7 @@ numbered_parts_from : (front g h : List Event) → all_after front (g ++ h) ≡ 
 numbered_parts_from front [] h = ap (λ f. all_after f h) (sym (append-nil front))
 numbered_parts_from front (calls x ∷ es) h =
     ap (λ xs. numbered_in front x ∷ xs) (numbered_parts_from (front ++ calls x ∷ []) es h ∙ ap (λ f. all_after (front ++ calls x ∷ []) es ++ all_after f h) (append_assoc front (calls x ∷ []) es))
-numbered_parts_from front (opens c n ∷ es) h = numbered_parts_from (front ++ opens c n ∷ []) es h ∙ ap (λ f. all_after (front ++ opens c n ∷ []) es ++ all_after f h) (append_assoc front (opens c n ∷ []) es)
+numbered_parts_from front (opens c n u ∷ es) h = numbered_parts_from (front ++ opens c n u ∷ []) es h ∙ ap (λ f. all_after (front ++ opens c n u ∷ []) es ++ all_after f h) (append_assoc front (opens c n u ∷ []) es)
 numbered_parts_from front (crashes c ∷ es) h = numbered_parts_from (front ++ crashes c ∷ []) es h ∙ ap (λ f. all_after (front ++ crashes c ∷ []) es ++ all_after f h) (append_assoc front (crashes c ∷ []) es)
 numbered_parts_from front (fails n losses ∷ es) h =
     numbered_parts_from (front ++ fails n losses ∷ []) es h ∙ ap (λ f. all_after (front ++ fails n losses ∷ []) es ++ all_after f h) (append_assoc front (fails n losses ∷ []) es)
@@ -45,7 +46,7 @@ left_by h xs = filter (λ x. not (is_lost h (plain_call x))) xs
 
 kept_parts_from : (front g h : List Event) → kept_after front (g ++ h) ≡ left_by h (kept_after front g) ++ kept_after (front ++ g) h
 kept_parts_from front [] h = ap (λ f. kept_after f h) (sym (append-nil front))
-kept_parts_from front (opens c n ∷ es) h = kept_parts_from (front ++ opens c n ∷ []) es h ∙ ap (λ f. left_by h (kept_after (front ++ opens c n ∷ []) es) ++ kept_after f h) (append_assoc front (opens c n ∷ []) es)
+kept_parts_from front (opens c n u ∷ es) h = kept_parts_from (front ++ opens c n u ∷ []) es h ∙ ap (λ f. left_by h (kept_after (front ++ opens c n u ∷ []) es) ++ kept_after f h) (append_assoc front (opens c n u ∷ []) es)
 kept_parts_from front (crashes c ∷ es) h = kept_parts_from (front ++ crashes c ∷ []) es h ∙ ap (λ f. left_by h (kept_after (front ++ crashes c ∷ []) es) ++ kept_after f h) (append_assoc front (crashes c ∷ []) es)
 kept_parts_from front (fails n losses ∷ es) h =
     kept_parts_from (front ++ fails n losses ∷ []) es h ∙ ap (λ f. left_by h (kept_after (front ++ fails n losses ∷ []) es) ++ kept_after f h) (append_assoc front (fails n losses ∷ []) es)
@@ -73,8 +74,8 @@ nothing_more xs = append-nil (filter (λ x. true) xs) ∙ filter_all xs
 pub kept_call : (h : List Event) (x : Call) → kept_numbered (h ++ calls x ∷ []) ≡ kept_numbered h ++ numbered_in h x ∷ []
 kept_call h x = kept_parts h (calls x ∷ []) ∙ ap (λ xs. xs ++ numbered_in h x ∷ []) (filter_all (kept_numbered h))
 
-pub kept_open : (h : List Event) (c n : ℕ) → kept_numbered (h ++ opens c n ∷ []) ≡ kept_numbered h
-kept_open h c n = kept_parts h (opens c n ∷ []) ∙ nothing_more (kept_numbered h)
+pub kept_open : (h : List Event) (c n : ℕ) (u : Durability) → kept_numbered (h ++ opens c n u ∷ []) ≡ kept_numbered h
+kept_open h c n u = kept_parts h (opens c n u ∷ []) ∙ nothing_more (kept_numbered h)
 
 pub kept_crash : (h : List Event) (c : ℕ) → kept_numbered (h ++ crashes c ∷ []) ≡ kept_numbered h
 kept_crash h c = kept_parts h (crashes c ∷ []) ∙ nothing_more (kept_numbered h)
@@ -98,7 +99,7 @@ kept_fail_none h n = kept_fail h n [] ∙ filter_all (kept_numbered h)
 
 kept_plain_from : (front h : List Event) → map plain_call (kept_after front h) ≡ kept h
 kept_plain_from front [] = refl
-kept_plain_from front (opens c n ∷ es) = kept_plain_from (front ++ opens c n ∷ []) es
+kept_plain_from front (opens c n u ∷ es) = kept_plain_from (front ++ opens c n u ∷ []) es
 kept_plain_from front (crashes c ∷ es) = kept_plain_from (front ++ crashes c ∷ []) es
 kept_plain_from front (fails n losses ∷ es) = kept_plain_from (front ++ fails n losses ∷ []) es
 kept_plain_from front (returns n ∷ es) = kept_plain_from (front ++ returns n ∷ []) es
@@ -141,7 +142,7 @@ later_on front es e y k = record {
 
 kept_as_from : (front h : List Event) (y : NumberedCall) → Contains (kept_after front h) y → IsKeptFrom front h y
 kept_as_from front [] y h = absurd (omega (arith, h.1))
-kept_as_from front (opens c n ∷ es) y h = later_on front es (opens c n) y (kept_as_from (front ++ opens c n ∷ []) es y h)
+kept_as_from front (opens c n u ∷ es) y h = later_on front es (opens c n u) y (kept_as_from (front ++ opens c n u ∷ []) es y h)
 kept_as_from front (crashes c ∷ es) y h = later_on front es (crashes c) y (kept_as_from (front ++ crashes c ∷ []) es y h)
 kept_as_from front (fails n losses ∷ es) y h = later_on front es (fails n losses) y (kept_as_from (front ++ fails n losses ∷ []) es y h)
 kept_as_from front (returns n ∷ es) y h = later_on front es (returns n) y (kept_as_from (front ++ returns n ∷ []) es y h)

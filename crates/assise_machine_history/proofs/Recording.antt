@@ -6,9 +6,10 @@ use Rattle.assise_seq_tree.specs.Tree.{opening as opening_tree}
 use Rattle.assise_seq_tree.specs.Answer.{answer}
 use Rattle.assise_seq_tree.specs.Runs.{AreAnswered, tree_after_calls}
 use Rattle.assise_history.specs.declared.call.Call.{Call}
+use Rattle.assise_names.specs.declared.durability.Durability.{Durability}
 use Rattle.assise_history.specs.Entries.{Event, opens, calls, crashes}
 use Rattle.assise_history.specs.Kept.{kept, IsRun, exchange, tree_after}
-use Rattle.assise_history.specs.Legal.{IsAlive, IsLegal, IsNextCall, MayOpen, calls_made, clients_opened, is_call_of, is_failure_of, is_fsync, is_opening}
+use Rattle.assise_history.specs.Legal.{IsAlive, IsLegal, IsNextCall, MayOpen, calls_made, clients_opened, is_call_of, is_failure_of, is_opening, is_sync, durability_of, syncs}
 use Rattle.assise_history.proofs.OneMore.{legal-open, legal-call, legal-crash}
 use Rattle.assise_record.specs.Records.{record_of}
 use Rattle.assise_inode_table.specs.Effects.{contains}
@@ -28,7 +29,7 @@ use Rattle.assise_machine_history.specs.Entered.{Adds, IsOpening, IsCall, IsCras
 use Rattle.assise_machine_history.specs.Numbered.{is_making_of, made_in, numbered_in, plain_call, kept_numbered}
 use Rattle.assise_machine_history.specs.State.{State, IsOpened, IsRecorded}
 use Rattle.assise_machine_history.proofs.Entering.{count_same, count_more, IsAside, aside_opening, aside_call, aside_making, aside_no_call, or_false, and_true, opened_more, opened_aside, opened_now, opened_still, AreUp, up_same, up_client, synced_more, synced_still}
-use Rattle.assise_machine_history.proofs.Making.{makes_where_done, fsync_still}
+use Rattle.assise_machine_history.proofs.Making.{makes_where_done, sync_still}
 use Rattle.assise_machine_history.proofs.Numbering.{kept_call, kept_open, kept_crash, kept_plain}
 
 -- ---- one state after another
@@ -68,43 +69,43 @@ recorded_aside s e s' a r adds legal same counts opened falls nodes = with_histo
   nodes = nodes.nodes;
   up = nodes.up;
   down = nodes.down;
-  synced = λ c. synced_more s.history e c (first_unreplicated s.world c) (first_unreplicated s'.world c) (falls.unreplicated c) (λ x is client fsync. absurd (aside_no_call e x a is)) (r.synced c);
+  synced = λ c. synced_more s.history e c (first_unreplicated s.world c) (first_unreplicated s'.world c) (falls.unreplicated c) (λ x is client sync. absurd (aside_no_call e x a is)) (r.synced c);
 }
 
 -- ---- an opening
 
-pub opening_fits : (s : State) (n : ℕ) (s' : State) → IsRecorded s → IsOpening s n s' → MayOpen s.history (suc s.world.clients) n
-opening_fits s n s' r e = record { next = (let count : s.world.clients ≡ clients_opened s.history = r.count in omega (arith, count)); up = r.up n e.world.full_node }
+pub opening_fits : (s : State) (n : ℕ) (u : Durability) (s' : State) → IsRecorded s → IsOpening s n u s' → MayOpen s.history (suc s.world.clients) n
+opening_fits s n u s' r e = record { next = (let count : s.world.clients ≡ clients_opened s.history = r.count in omega (arith, count)); up = r.up n e.world.full_node }
 
-opening_of : (s : State) (n : ℕ) (s' : State) → IsRecorded s → IsOpening s n s' → (c : ℕ) → IsClient s'.world c → IsOpened (s.history ++ opens (suc s.world.clients) n ∷ []) s'.world c
-opening_of s n s' r e c client =
+opening_of : (s : State) (n : ℕ) (u : Durability) (s' : State) → IsRecorded s → IsOpening s n u s' → (c : ℕ) → IsClient s'.world c → IsOpened (s.history ++ opens (suc s.world.clients) n u ∷ []) s'.world c
+opening_of s n u s' r e c client =
     let d : ℕ = suc s.world.clients in
     elim (cases_eq d c) [
-      | inl own ↦ subst (λ b. IsOpened (s.history ++ opens d n ∷ []) s'.world b) own (opened_now s.history s'.world d n e.world.home_new e.world.crashed_new e.world.lives_new)
+      | inl own ↦ subst (λ b. IsOpened (s.history ++ opens d n u ∷ []) s'.world b) own (opened_now s.history s'.world d n u e.world.home_new e.world.crashed_new e.world.lives_new)
       | inr other ↦
           let all : s'.world.clients ≡ suc s.world.clients = e.world.clients in
           let most : c ≤ s'.world.clients = client.1 in
           let old : (c ≡ d) → ⊥ = λ is. other (sym is) in
-          opened_more s.history (opens d n) s.world s'.world c (e.world.home_else c old) (e.world.crashed_else c old ∙ sym (or_false (s.world.crashed c))) (e.world.lives_else c old ∙ sym (and_true (s.world.lives c))) (r.opened c (client.0, omega (arith, most, all, other)))
+          opened_more s.history (opens d n u) s.world s'.world c (e.world.home_else c old) (e.world.crashed_else c old ∙ sym (or_false (s.world.crashed c))) (e.world.lives_else c old ∙ sym (and_true (s.world.lives c))) (r.opened c (client.0, omega (arith, most, all, other)))
     ]
 
-pub opening_recorded : (s : State) (n : ℕ) (s' : State) → IsSound s.world → IsRecorded s → IsOpening s n s' → IsRecorded s'
-opening_recorded s n s' sound r e =
+pub opening_recorded : (s : State) (n : ℕ) (u : Durability) (s' : State) → IsSound s.world → IsRecorded s → IsOpening s n u s' → IsRecorded s'
+opening_recorded s n u s' sound r e =
     let d : ℕ = suc s.world.clients in
-    let entry : Event = opens d n in
+    let entry : Event = opens d n u in
     let falls : NoneFalls s.world s'.world = step_falls s.world s'.world sound (opens_client n e.world) in
     let nodes : AreUp s.nodes (s.history ++ entry ∷ []) s'.world = up_client s.nodes s.history entry s.world s'.world tt e.world.nodes.full (nodes_of s r) in
     with_history s' s.nodes (s.history ++ entry ∷ []) e.adds.nodes e.adds.entry record {
-      legal = legal-open s.history d n r.legal (opening_fits s n s' r e);
-      calls = e.world.logs.calls ∙ r.calls ∙ sym (kept_open s.history d n);
+      legal = legal-open s.history d n u r.legal (opening_fits s n u s' r e);
+      calls = e.world.logs.calls ∙ r.calls ∙ sym (kept_open s.history d n u);
       count = e.world.clients ∙ ap suc r.count ∙ sym (count_more is_opening s.history entry refl);
-      opened = opening_of s n s' r e;
+      opened = opening_of s n u s' r e;
       next = λ c. e.world.logs.next c ∙ r.next c ∙ sym (count_same (is_call_of c) s.history entry refl);
       made = λ c. e.world.logs.made c ∙ r.made c ∙ sym (count_same (is_making_of c) s.history entry refl);
       nodes = nodes.nodes;
       up = nodes.up;
       down = nodes.down;
-      synced = λ c. synced_more s.history entry c (first_unreplicated s.world c) (first_unreplicated s'.world c) (falls.unreplicated c) (λ x is client fsync. cc) (r.synced c);
+      synced = λ c. synced_more s.history entry c (first_unreplicated s.world c) (first_unreplicated s'.world c) (falls.unreplicated c) (λ x is client sync. cc) (r.synced c);
     }
 
 -- ---- a call
@@ -136,7 +137,7 @@ pub call_fits : (s : State) (x : NumberedCall) (s' : State) → IsSound s.world 
 call_fits s x s' sound r e =
     let o : IsOpened s.history s.world x.client = r.opened x.client (sound.opened x.client e.world.lives) in
     record {
-      ready = record { node = s.world.home x.client; before = o.before; since = o.since; split = o.split; no_crash = sym o.crashed ∙ e.world.running; no_failure = no_failure s x.client o e.world.lives };
+      ready = record { node = s.world.home x.client; durability = o.durability; before = o.before; since = o.since; split = o.split; no_crash = sym o.crashed ∙ e.world.running; no_failure = no_failure s x.client o e.world.lives };
       number = e.world.number ∙ r.next x.client;
     }
 
@@ -180,11 +181,11 @@ call_made s x s' r e c =
       | inr other ↦ e.world.made_else c other ∙ r.made c ∙ sym (count_same (is_making_of c) s.history entry (rw (ne_eqb c x.client other) refl))
     ]
 
--- an fsync has no record
-fsync_end : (w w' : World) (x : NumberedCall) → MakesCall w x w' → is_fsync x.op ≡ true → end w' x.client ≡ end w x.client
+-- a sync has no record
+sync_end : (w w' : World) (x : NumberedCall) (u : Durability) → MakesCall w x w' → is_sync x.op u ≡ true → end w' x.client ≡ end w x.client
 unfolding end
-fsync_end w w' x e fsync =
-    let none : (step_at_home w x).effects ≡ [] = fsync_still (view w (w.home x.client) x.client) x.op x.fresh fsync in
+sync_end w w' x u e sync =
+    let none : (step_at_home w x).effects ≡ [] = sync_still (view w (w.home x.client) x.client) x.op x.fresh u sync in
     let same : w'.records x.client ≡ w.records x.client = e.records_own ∙ ap (λ es. w.records x.client ++ record_of x.number es) none ∙ append-nil (w.records x.client) in
     rw (e.first x.client, same) refl
 
@@ -197,11 +198,11 @@ call_receives w w' x n e full had same =
     ]
 
 -- and all full nodes still have the others
-fsync_received : (w w' : World) (x : NumberedCall) → MakesCall w x w' → is_fsync x.op ≡ true → received_by_all w x.client ≡ end w x.client → received_by_all w' x.client ≡ end w' x.client
+sync_received : (w w' : World) (x : NumberedCall) (u : Durability) → MakesCall w x w' → is_sync x.op u ≡ true → received_by_all w x.client ≡ end w x.client → received_by_all w' x.client ≡ end w' x.client
 unfolding received_by_all
-fsync_received w w' x e fsync all =
+sync_received w w' x u e sync all =
     let c : ℕ = x.client in
-    let same : end w' c ≡ end w c = fsync_end w w' x e fsync in
+    let same : end w' c ≡ end w c = sync_end w w' x u e sync in
     let most : least_of w'.full (λ m. w'.received m c) (end w' c) ≤ end w' c = received_by_all-end w' c in
     let least : end w' c ≤ least_of w'.full (λ m. w'.received m c) (end w' c) =
     least_of-above w'.full (λ m. w'.received m c) (end w' c) (end w' c) (omega arith)
@@ -210,16 +211,16 @@ fsync_received w w' x e fsync all =
     call_receives w w' x m e was (omega (arith, had, all)) same) in
     omega (arith, most, least)
 
-pub fsync_firm : (s : State) (x : NumberedCall) (s' : State) → IsCall s x s' → is_fsync x.op ≡ true → first_unreplicated s'.world x.client ≡ s'.world.next x.client
-fsync_firm s x s' e fsync = next_unreplicated s'.world x.client (fsync_received s.world s'.world x e.world fsync (e.replicated fsync))
+pub sync_firm : (s : State) (x : NumberedCall) (s' : State) → IsCall s x s' → syncs s.history (plain_call x) ≡ true → first_unreplicated s'.world x.client ≡ s'.world.next x.client
+sync_firm s x s' e sync = next_unreplicated s'.world x.client (sync_received s.world s'.world x (durability_of x.client s.history) e.world sync (e.replicated sync))
 
-call_synced : (s : State) (x : NumberedCall) (s' : State) → IsCall s x s' → (c : ℕ) (y : Call) → calls (plain_call x) ≡ calls y → y.client ≡ c → is_fsync y.op ≡ true → y.number < first_unreplicated s'.world c
-call_synced s x s' e c y is client fsync =
+call_synced : (s : State) (x : NumberedCall) (s' : State) → IsCall s x s' → (c : ℕ) (y : Call) → calls (plain_call x) ≡ calls y → y.client ≡ c → syncs s.history y ≡ true → y.number < first_unreplicated s'.world c
+call_synced s x s' e c y is client sync =
     let same : plain_call x ≡ y = cc in
     let own : x.client ≡ c = ap (λ z. z.client) same ∙ client in
     let number : x.number ≡ y.number = ap (λ z. z.number) same in
-    let is_one : is_fsync x.op ≡ true = ap (λ z. is_fsync z.op) same ∙ fsync in
-    let all : first_unreplicated s'.world x.client ≡ s'.world.next x.client = fsync_firm s x s' e is_one in
+    let is_one : syncs s.history (plain_call x) ≡ true = ap (λ z. syncs s.history z) same ∙ sync in
+    let all : first_unreplicated s'.world x.client ≡ s'.world.next x.client = sync_firm s x s' e is_one in
     let next : s'.world.next x.client ≡ suc x.number = e.world.next_own in
     subst (λ d. y.number < first_unreplicated s'.world d) own (omega (arith, all, next, number))
 
@@ -246,7 +247,7 @@ call_recorded s x s' sound r e =
 pub crash_fits : (s : State) (c : ℕ) (s' : State) → IsSound s.world → IsRecorded s → IsCrash s c s' → IsAlive s.history c
 crash_fits s c s' sound r e =
     let o : IsOpened s.history s.world c = r.opened c (sound.opened c e.world.lives) in
-    record { node = s.world.home c; before = o.before; since = o.since; split = o.split; no_crash = sym o.crashed ∙ e.world.running }
+    record { node = s.world.home c; durability = o.durability; before = o.before; since = o.since; split = o.split; no_crash = sym o.crashed ∙ e.world.running }
 
 crash_opened : (s : State) (c : ℕ) (s' : State) → IsRecorded s → IsCrash s c s' → (d : ℕ) → IsClient s.world d → IsOpened (s.history ++ crashes c ∷ []) s'.world d
 crash_opened s c s' r e d client =

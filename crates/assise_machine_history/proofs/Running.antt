@@ -19,12 +19,12 @@ use Rattle.assise_machine_laws.specs.Sound.{IsSound}
 use Rattle.assise_machine_laws.specs.World.{World, first_unreplicated, firm, alone}
 use Rattle.assise_machine_laws.proofs.Rebuilding.{rebuilds_tree, rebuilds_run}
 use Rattle.assise_machine_laws.proofs.Running.{every_run, step_sound, run_falls, run_stays}
-use Rattle.assise_machine_history.specs.Courses.{Happens, opening, call, crash, failure, failure_again, comeback, quiet, IsCourse, last_of, firm_calls, IsFsynced, IsSafe, IsLasting}
+use Rattle.assise_machine_history.specs.Courses.{Happens, opening, call, crash, failure, failure_again, comeback, quiet, IsCourse, last_of, firm_calls, IsSynced, IsSafe, IsLasting}
 use Rattle.assise_machine_history.specs.Lost.{losses_of}
 use Rattle.assise_machine_history.specs.Numbered.{plain_call, kept_numbered}
 use Rattle.assise_machine_history.specs.State.{State, IsRecorded, down_from, begun_with}
 use Rattle.assise_machine_history.proofs.Failing.{failure_recorded, failure_again_recorded, return_recorded}
-use Rattle.assise_machine_history.proofs.Fsynced.{fsynced_kept}
+use Rattle.assise_machine_history.proofs.Synced.{synced_kept}
 use Rattle.assise_machine_history.proofs.Listing.{one_in}
 use Rattle.assise_machine_history.proofs.Numbering.{kept_plain}
 use Rattle.assise_machine_history.proofs.Recording.{untold_moves, opening_recorded, call_recorded, crash_recorded, quiet_recorded}
@@ -32,7 +32,7 @@ use Rattle.assise_machine_history.proofs.Recording.{untold_moves, opening_record
 -- ---- one thing that happens
 
 pub happens_moves : (s s' : State) → Happens s s' → Moves s.world s'.world
-happens_moves s s' (opening n e) = opens_client n e.world
+happens_moves s s' (opening n u e) = opens_client n e.world
 happens_moves s s' (call x e) = makes_call x e.world
 happens_moves s s' (crash c e) = crashes_client c e.world
 happens_moves s s' (failure n e) = fails_node n e.world
@@ -45,7 +45,7 @@ happens_sound s s' sound m = step_sound s.world s'.world sound (happens_moves s 
 
 -- the nodes stay
 happens_nodes : (s s' : State) → Happens s s' → s'.nodes ≡ s.nodes
-happens_nodes s s' (opening n e) = e.adds.nodes
+happens_nodes s s' (opening n u e) = e.adds.nodes
 happens_nodes s s' (call x e) = e.adds.nodes
 happens_nodes s s' (crash c e) = e.adds.nodes
 happens_nodes s s' (failure n e) = e.adds.nodes
@@ -55,7 +55,7 @@ happens_nodes s s' (quiet e) = e.nodes
 
 -- the history grows
 happens_grows : (s s' : State) → Happens s s' → (more : List Event) × (s'.history ≡ s.history ++ more)
-happens_grows s s' (opening n e) = (opens (suc s.world.clients) n ∷ [], e.adds.entry)
+happens_grows s s' (opening n u e) = (opens (suc s.world.clients) n u ∷ [], e.adds.entry)
 happens_grows s s' (call x e) = (calls (plain_call x) ∷ [], e.adds.entry)
 happens_grows s s' (crash c e) = (crashes c ∷ [], e.adds.entry)
 happens_grows s s' (failure n e) = (fails n (losses_of s.world n) ∷ [], e.adds.entry)
@@ -64,7 +64,7 @@ happens_grows s s' (comeback n donor e) = (returns n ∷ [], e.adds.entry)
 happens_grows s s' (quiet e) = ([], e.entries ∙ sym (append-nil s.history))
 
 pub happens_recorded : (s s' : State) → IsSound s.world → IsRecorded s → Happens s s' → IsRecorded s'
-happens_recorded s s' sound r (opening n e) = opening_recorded s n s' sound r e
+happens_recorded s s' sound r (opening n u e) = opening_recorded s n u s' sound r e
 happens_recorded s s' sound r (call x e) = call_recorded s x s' sound r e
 happens_recorded s s' sound r (crash c e) = crash_recorded s c s' sound r e
 happens_recorded s s' sound r (failure n e) = failure_recorded s n s' sound r e
@@ -142,17 +142,17 @@ among_low a (x ∷ xs) y low h =
           ]
     ]
 
-fsynced_firm : (s : State) (before since : List Event) (y : Call) → IsRecorded s → s.history ≡ before ++ calls y ∷ since → IsFsynced s.history y → Contains (map plain_call (firm_calls s)) y
-fsynced_firm s before since y r split f =
-    let low : f.fsync.number < first_unreplicated s.world y.client = r.synced y.client f.before f.since f.fsync f.split f.client f.is_one in
-    among_low (first_unreplicated s.world) (kept_numbered s.history) y (omega (arith, low, f.number)) (subst (λ cs. Contains cs y) (sym (kept_plain s.history)) (fsynced_kept s.history before since y r.legal split f))
+synced_firm : (s : State) (before since : List Event) (y : Call) → IsRecorded s → s.history ≡ before ++ calls y ∷ since → IsSynced s.history y → Contains (map plain_call (firm_calls s)) y
+synced_firm s before since y r split f =
+    let low : f.sync.number < first_unreplicated s.world y.client = r.synced y.client f.before f.since f.sync f.split f.client f.is_one in
+    among_low (first_unreplicated s.world) (kept_numbered s.history) y (omega (arith, low, f.number)) (subst (λ cs. Contains cs y) (sym (kept_plain s.history)) (synced_kept s.history before since y r.legal split f))
 
 pub kept_of : (s : State) → IsSound s.world → IsRecorded s → IsSafe s
 kept_of s sound r = record {
   legal = r.legal;
   rebuilt = λ n full. subst (λ xs. Spells (alone s.world n) (tree_after_calls opening_tree (ops xs))) (firm_same s r) (rebuilds_tree s.world n sound full);
   run = subst (λ xs. AreAnswered opening_tree (exchanges xs)) (firm_same s r) (rebuilds_run s.world sound);
-  fsynced = λ before since y split f. fsynced_firm s before since y r split f;
+  synced = λ before since y split f. synced_firm s before since y r split f;
   fair = λ before later n lower higher l split.
       let fair : IsFair before n (lower ++ l ∷ higher) = follows_in s.history before later (fails n (lower ++ l ∷ higher)) r.legal split in
       (fair.each lower higher l refl).past;
@@ -205,7 +205,7 @@ begun_recorded nodes = record {
   nodes = λ n full. node_of nodes n full;
   up = λ n full down. down-nil n down;
   down = λ n node absent. absurd (absent (of_node nodes n node.0 node.1));
-  synced = λ c before since x split client fsync. absurd (not_nil before since (calls x) split);
+  synced = λ c before since x split client sync. absurd (not_nil before since (calls x) split);
 }
 
 pub whatever_recorded : (nodes : ℕ) (ts : List State) → IsCourse (begun_with nodes) ts → IsRecorded (last_of (begun_with nodes) ts)

@@ -1,13 +1,15 @@
 -- Whatever happens to the machine, from its start.
 -- Assise (OSDI 2020), section 3 (CC-NVM: prefix crash consistency, fail-over, node recovery).
 use Rattle.std.specs.Prelude.{◌≡◌, ℕ, ◌≤◌, true, List, [], ◌∷◌, ◌++◌, filter, map, Contains}
+use Rattle.assise_names.specs.declared.durability.Durability.{Durability}
+use Rattle.assise_names.specs.declared.durability.Durability.TheVariants.{Pessimistic}
 use Rattle.assise_seq_tree.specs.Tree.{opening as opening_tree}
 use Rattle.assise_seq_tree.specs.Runs.{AreAnswered, tree_after_calls}
 use Rattle.assise_history.specs.declared.call.Call.{Call}
 use Rattle.assise_history.specs.declared.call.Loss.{Loss}
 use Rattle.assise_history.specs.Entries.{Event, opens, calls, crashes, fails, returns}
 use Rattle.assise_history.specs.Kept.{kept}
-use Rattle.assise_history.specs.Legal.{IsLegal, IsPastFsyncs, is_fsync}
+use Rattle.assise_history.specs.Legal.{IsLegal, IsPastSyncs, is_sync, syncs}
 use Rattle.assise_inode_table.specs.Numbers.{makes_inode}
 use Rattle.assise_inode_table.specs.Spelled.{Spells}
 use Rattle.assise_inode_table.specs.Traces.{NumberedCall, exchanges, ops, below}
@@ -19,7 +21,7 @@ use Rattle.assise_machine_history.specs.Entered.{IsOpening, IsCall, IsCrash, IsF
 
 -- one thing that happens
 pub data Happens (s s' : State) : Type 0 where
-  opening : (n : ℕ) → IsOpening s n s' → Happens s s'
+  opening : (n : ℕ) (u : Durability) → IsOpening s n u s' → Happens s s'
   call : (x : NumberedCall) → IsCall s x s' → Happens s s'
   crash : (c : ℕ) → IsCrash s c s' → Happens s s'
   failure : (n : ℕ) → IsFailure s n s' → Happens s s'
@@ -40,15 +42,15 @@ last_of s (t ∷ ts) = last_of t ts
 abbrev pub firm_calls : State → List NumberedCall
 firm_calls s = filter (below (first_unreplicated s.world)) (kept_numbered s.history)
 
--- the client's fsync was answered with this call, or after it
-pub record IsFsynced (h : List Event) (y : Call) : Type 0 where
+-- a sync of the client was answered with this call, or after it
+pub record IsSynced (h : List Event) (y : Call) : Type 0 where
   pub before : List Event
   pub since : List Event
-  pub fsync : Call
-  pub split : h ≡ before ++ calls fsync ∷ since
-  pub is_one : is_fsync fsync.op ≡ true
-  pub client : fsync.client ≡ y.client
-  pub number : y.number ≤ fsync.number
+  pub sync : Call
+  pub split : h ≡ before ++ calls sync ∷ since
+  pub is_one : syncs before sync ≡ true
+  pub client : sync.client ≡ y.client
+  pub number : y.number ≤ sync.number
 
 -- what clients and recovery may rest on
 pub record IsSafe (s : State) : Type 0 where
@@ -56,10 +58,10 @@ pub record IsSafe (s : State) : Type 0 where
   -- what a full node's region says alone is the tree of the firm calls, which are a run
   pub rebuilt : (n : ℕ) → Full s.world n → Spells (alone s.world n) (tree_after_calls opening_tree (ops (firm_calls s)))
   pub run : AreAnswered opening_tree (exchanges (firm_calls s))
-  -- each call is among these up to its client's last fsync
-  pub fsynced : (before since : List Event) (y : Call) → s.history ≡ before ++ calls y ∷ since → IsFsynced s.history y → Contains (map plain_call (firm_calls s)) y
-  -- what a failure lists begins after the client's last fsync
-  pub fair : (before later : List Event) (n : ℕ) (lower higher : List Loss) (l : Loss) → s.history ≡ before ++ fails n (lower ++ l ∷ higher) ∷ later → IsPastFsyncs before l
+  -- each call is among these up to its client's last sync
+  pub synced : (before since : List Event) (y : Call) → s.history ≡ before ++ calls y ∷ since → IsSynced s.history y → Contains (map plain_call (firm_calls s)) y
+  -- what a failure lists begins after the client's last sync
+  pub fair : (before later : List Event) (n : ℕ) (lower higher : List Loss) (l : Loss) → s.history ≡ before ++ fails n (lower ++ l ∷ higher) ∷ later → IsPastSyncs before l
 
 -- from a state to a later one
 pub record IsLasting (s t : State) : Type 0 where
@@ -74,14 +76,14 @@ pub record IsLasting (s t : State) : Type 0 where
 
 -- the entries of a course in which a client is opened, calls and crashes, and its node fails and returns
 pub record IsEventful (h : List Event) : Type 0 where
-  pub fsync : Call
+  pub sync : Call
   pub losses : List Loss
-  pub is_one : is_fsync fsync.op ≡ true
-  pub entries : h ≡ opens 1 1 ∷ calls fsync ∷ crashes 1 ∷ fails 1 losses ∷ returns 1 ∷ []
+  pub is_one : is_sync sync.op Pessimistic ≡ true
+  pub entries : h ≡ opens 1 1 Pessimistic ∷ calls sync ∷ crashes 1 ∷ fails 1 losses ∷ returns 1 ∷ []
 
 -- the entries of a course in which a client makes an inode, and its node's failure takes this call
 pub record IsLossy (h : List Event) : Type 0 where
   pub create : Call
   pub makes : makes_inode create.op create.reply ≡ true
-  pub entries : h ≡ opens 1 1 ∷ calls create ∷ fails 1 (record { client = 1; first = 0 } ∷ []) ∷ []
+  pub entries : h ≡ opens 1 1 Pessimistic ∷ calls create ∷ fails 1 (record { client = 1; first = 0 } ∷ []) ∷ []
   pub none_left : kept h ≡ []

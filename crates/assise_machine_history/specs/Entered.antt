@@ -1,9 +1,10 @@
 -- What happens to the machine, with the entry that its history gets.
 -- Assise (OSDI 2020), section 3 (CC-NVM: fsync, process crash, fail-over, node recovery).
 use Rattle.std.specs.Prelude.{◌≡◌, ℕ, suc, true, List, [], ◌∷◌, ◌++◌}
+use Rattle.assise_names.specs.declared.durability.Durability.{Durability}
 use Rattle.assise_names.specs.declared.mode.Mode.{Mode}
 use Rattle.assise_history.specs.Entries.{Event, opens, calls, crashes, fails, returns}
-use Rattle.assise_history.specs.Legal.{is_fsync}
+use Rattle.assise_history.specs.Legal.{syncs}
 use Rattle.assise_inode_table.specs.Traces.{NumberedCall}
 use Rattle.assise_record.specs.LogRecord.{LogRecord}
 use Rattle.assise_machine_laws.specs.World.{World, Full, end, received_by_all}
@@ -22,15 +23,15 @@ pub record Adds (s : State) (e : Event) (s' : State) : Type 0 where
   pub entry : s'.history ≡ s.history ++ e ∷ []
 
 -- the next client is opened on full node n
-pub record IsOpening (s : State) (n : ℕ) (s' : State) : Type 0 where
-  pub adds : Adds s (opens (suc s.world.clients) n) s'
+pub record IsOpening (s : State) (n : ℕ) (u : Durability) (s' : State) : Type 0 where
+  pub adds : Adds s (opens (suc s.world.clients) n u) s'
   pub world : Opens s.world n s'.world
 
--- a client makes a call; an fsync is answered only where all full nodes have all of the client's records
+-- a client makes a call; a sync is answered only where all full nodes have all of the client's records
 pub record IsCall (s : State) (x : NumberedCall) (s' : State) : Type 0 where
   pub adds : Adds s (calls (plain_call x)) s'
   pub world : MakesCall s.world x s'.world
-  pub replicated : is_fsync x.op ≡ true → received_by_all s.world x.client ≡ end s.world x.client
+  pub replicated : syncs s.history (plain_call x) ≡ true → received_by_all s.world x.client ≡ end s.world x.client
 
 -- a client crashes
 pub record IsCrash (s : State) (c : ℕ) (s' : State) : Type 0 where

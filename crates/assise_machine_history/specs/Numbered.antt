@@ -10,7 +10,7 @@ use Rattle.assise_inode_table.specs.Traces.{NumberedCall}
 -- a call of the client that made an inode
 abbrev pub is_making_of : ℕ → Event → Bool
 is_making_of c (calls x) = (c == x.client) && makes_inode x.op x.reply
-is_making_of c (opens d n) = false
+is_making_of c (opens d n u) = false
 is_making_of c (crashes d) = false
 is_making_of c (fails n losses) = false
 is_making_of c (returns n) = false
@@ -31,7 +31,7 @@ plain_call x = record { client = x.client; number = x.number; op = x.op; reply =
 abbrev pub all_after : List Event → List Event → List NumberedCall
 all_after front [] = []
 all_after front (calls x ∷ es) = numbered_in front x ∷ all_after (front ++ calls x ∷ []) es
-all_after front (opens c n ∷ es) = all_after (front ++ opens c n ∷ []) es
+all_after front (opens c n u ∷ es) = all_after (front ++ opens c n u ∷ []) es
 all_after front (crashes c ∷ es) = all_after (front ++ crashes c ∷ []) es
 all_after front (fails n losses ∷ es) = all_after (front ++ fails n losses ∷ []) es
 all_after front (returns n ∷ es) = all_after (front ++ returns n ∷ []) es
@@ -43,7 +43,7 @@ all_numbered h = all_after [] h
 abbrev pub kept_after : List Event → List Event → List NumberedCall
 kept_after front [] = []
 kept_after front (calls x ∷ es) = if is_lost es x then kept_after (front ++ calls x ∷ []) es else numbered_in front x ∷ kept_after (front ++ calls x ∷ []) es
-kept_after front (opens c n ∷ es) = kept_after (front ++ opens c n ∷ []) es
+kept_after front (opens c n u ∷ es) = kept_after (front ++ opens c n u ∷ []) es
 kept_after front (crashes c ∷ es) = kept_after (front ++ crashes c ∷ []) es
 kept_after front (fails n losses ∷ es) = kept_after (front ++ fails n losses ∷ []) es
 kept_after front (returns n ∷ es) = kept_after (front ++ returns n ∷ []) es

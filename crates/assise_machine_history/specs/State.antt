@@ -2,8 +2,9 @@
 -- Assise (OSDI 2020), section 3 (prefix crash consistency, fail-over, node recovery).
 use Rattle.std.specs.Prelude.{◌≡◌, ℕ, zero, suc, ◌≤◌, not, List, [], ◌∷◌, ◌++◌}
 use Rattle.std.specs.List.{list_any}
+use Rattle.assise_names.specs.declared.durability.Durability.{Durability}
 use Rattle.assise_history.specs.Entries.{Event, opens}
-use Rattle.assise_history.specs.Legal.{IsDown, IsLegal, IsPastFsyncs, calls_made, clients_opened, is_crash_of, is_failure_of}
+use Rattle.assise_history.specs.Legal.{IsDown, IsLegal, IsPastSyncs, calls_made, clients_opened, is_crash_of, is_failure_of}
 use Rattle.assise_machine_laws.specs.Runs.{begun}
 use Rattle.assise_machine_laws.specs.World.{World, Full, IsClient, first_unreplicated}
 use Rattle.assise_machine_history.specs.Numbered.{made_in, kept_numbered}
@@ -19,9 +20,10 @@ IsNode s n = (1 ≤ n) × (n ≤ s.nodes)
 
 -- the client was opened on its home, and it crashed, or its home failed, exactly where an entry since says so
 pub record IsOpened (h : List Event) (w : World) (c : ℕ) : Type 0 where
+  pub durability : Durability
   pub before : List Event
   pub since : List Event
-  pub split : h ≡ before ++ opens c (w.home c) ∷ since
+  pub split : h ≡ before ++ opens c (w.home c) durability ∷ since
   pub crashed : w.crashed c ≡ list_any (is_crash_of c) since
   pub lives : w.lives c ≡ not (list_any (is_failure_of (w.home c)) since)
 
@@ -40,8 +42,8 @@ pub record IsRecorded (s : State) : Type 0 where
   pub nodes : (n : ℕ) → Full s.world n → IsNode s n
   pub up : (n : ℕ) → Full s.world n → IsDown s.history n → ⊥
   pub down : (n : ℕ) → IsNode s n → (Full s.world n → ⊥) → IsDown s.history n
-  -- all full nodes have each client's calls up to its last fsync
-  pub synced : (c : ℕ) → IsPastFsyncs s.history (record { client = c; first = first_unreplicated s.world c })
+  -- all full nodes have each client's calls up to its last sync
+  pub synced : (c : ℕ) → IsPastSyncs s.history (record { client = c; first = first_unreplicated s.world c })
 
 -- ---- the start
 

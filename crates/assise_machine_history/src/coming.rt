@@ -1,6 +1,6 @@
 // Each entry can come.
 ghost use Rattle.std.specs.Prelude.{◌≡◌, List, false, true, ℕ};
-ghost use Rattle.assise_history.specs.Legal.{is_fsync};
+ghost use Rattle.assise_history.specs.Legal.{syncs};
 ghost use Rattle.assise_inode_table.specs.Traces.{NumberedCall};
 ghost use Rattle.assise_machine_history.specs.Courses.{IsCourse, IsEventful, IsLossy, last_of};
 ghost use Rattle.assise_machine_history.specs.Entered.{IsCall, IsCrash, IsFailure, IsFailureAgain, IsOpening, IsReturn};
@@ -8,13 +8,16 @@ ghost use Rattle.assise_machine_history.specs.State.{IsNode, State, begun_with};
 ghost use Rattle.assise_machine_laws.specs.Chances.{MayCall, MayFail};
 ghost use Rattle.assise_machine_laws.specs.Sound.{IsSound};
 ghost use Rattle.assise_machine_laws.specs.World.{Full, end, received_by_all};
+ghost use Rattle.assise_machine_history.specs.Numbered.{plain_call};
 ghost use Rattle.assise_names.specs.declared.call.Op.TheVariants.{Fsync};
+ghost use Rattle.assise_names.specs.declared.durability.Durability.{Durability};
 
 /// Each thing that an entry tells of can happen.
 pub fn each_entry_can_come()
-    ensures opening { (s : State) (n : ℕ) → Full s.world n → (t : State) × IsOpening s n t }
+    ensures opening { (s : State) (n : ℕ) (u : Durability) → Full s.world n → (t : State) ×
+        IsOpening s n u t }
     ensures call { (s : State) (x : NumberedCall) → IsSound s.world → MayCall s.world x →
-        (is_fsync x.op ≡ true → received_by_all s.world x.client ≡ end s.world x.client) → (t : State) × IsCall s x t }
+        (syncs s.history (plain_call x) ≡ true → received_by_all s.world x.client ≡ end s.world x.client) → (t : State) × IsCall s x t }
     ensures fsync { (s : State) (c : ℕ) → IsSound s.world → s.world.lives c ≡ true → s.world.crashed c ≡ false → received_by_all s.world c ≡ end s.world c →
         (x : NumberedCall) × ((x.client ≡ c) × (x.op ≡ Fsync) × ((t : State) × IsCall s x t)) }
     ensures crash { (s : State) (c : ℕ) → s.world.lives c ≡ true → s.world.crashed c ≡ false → (t : State) × IsCrash s c t }

@@ -12,7 +12,7 @@ pub fn each_thing_that_happens_is_recorded()
 {}
 
 /// Whatever happens, from the start the history is legal, and the machine's state is what it says. Each full node's region
-/// alone says the tree of the firm calls, in which are all that were fsynced, and a failure lists none of those. From any
+/// alone says the tree of the firm calls, in which are all that were synced, and a failure lists none of those. From any
 /// state on the history grows, and the calls that all full nodes had stay.
 pub fn whatever_happens_is_recorded()
     ensures sound { (nodes : ℕ) (ts : List State) → IsCourse (begun_with nodes) ts → IsSound (last_of (begun_with nodes) ts).world }

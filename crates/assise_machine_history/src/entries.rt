@@ -1,7 +1,7 @@
 // Each entry is recorded.
 ghost use Rattle.std.specs.Prelude.{◌≡◌, List, [], suc, true, ℕ};
 ghost use Rattle.assise_history.specs.Kept.{kept, tree_after};
-ghost use Rattle.assise_history.specs.Legal.{IsAlive, IsDown, IsFair, IsNextCall, MayOpen, is_fsync};
+ghost use Rattle.assise_history.specs.Legal.{IsAlive, IsDown, IsFair, IsNextCall, MayOpen, syncs};
 ghost use Rattle.assise_inode_table.specs.Traces.{NumberedCall};
 ghost use Rattle.assise_machine_history.specs.Entered.{IsCall, IsCrash, IsFailure, IsFailureAgain, IsOpening, IsUntold, IsReturn};
 ghost use Rattle.assise_machine_history.specs.Lost.{losses_of};
@@ -9,22 +9,27 @@ ghost use Rattle.assise_machine_history.specs.Numbered.{plain_call};
 ghost use Rattle.assise_machine_history.specs.State.{IsRecorded, State};
 ghost use Rattle.assise_machine_laws.specs.Sound.{IsSound};
 ghost use Rattle.assise_machine_laws.specs.World.{first_unreplicated};
+ghost use Rattle.assise_names.specs.declared.durability.Durability.{Durability};
 ghost use Rattle.assise_seq_tree.specs.Answer.{answer};
 ghost use Rattle.assise_seq_tree.specs.Tree.{opening};
 
 /// The opening of a client is recorded: it has the next number, and its node is up.
 pub fn an_opening_is_recorded()
-    ensures fits { (s t : State) (n : ℕ) → IsRecorded s → IsOpening s n t → MayOpen s.history (suc s.world.clients) n }
-    ensures recorded { (s t : State) (n : ℕ) → IsSound s.world → IsRecorded s → IsOpening s n t → IsRecorded t }
+    ensures fits { (s t : State) (n : ℕ) (u : Durability) → IsRecorded s → IsOpening s n u t →
+        MayOpen s.history (suc s.world.clients) n }
+    ensures recorded { (s t : State) (n : ℕ) (u : Durability) → IsSound s.world → IsRecorded s →
+        IsOpening s n u t → IsRecorded t }
 {}
 
 /// A call is recorded: it is the next of its client, which neither crashed nor lost its node, and its reply is that of the tree
-/// of the kept calls. Once an fsync is answered, all full nodes have all of its client's calls.
+/// of the kept calls. Once a sync is answered, all full nodes have all of its client's calls.
 pub fn a_call_is_recorded()
     ensures fits { (s t : State) (x : NumberedCall) → IsSound s.world → IsRecorded s → IsCall s x t → IsNextCall s.history (plain_call x) }
     ensures reply { (s t : State) (x : NumberedCall) → IsSound s.world → IsRecorded s → IsCall s x t → x.reply ≡ (answer (tree_after opening (kept s.history)) x.op).0 }
     ensures recorded { (s t : State) (x : NumberedCall) → IsSound s.world → IsRecorded s → IsCall s x t → IsRecorded t }
-    ensures firm { (s t : State) (x : NumberedCall) → IsCall s x t → is_fsync x.op ≡ true → first_unreplicated t.world x.client ≡ t.world.next x.client }
+    ensures firm { (s t : State) (x : NumberedCall) → IsCall s x t →
+        syncs s.history (plain_call x) ≡ true →
+        first_unreplicated t.world x.client ≡ t.world.next x.client }
 {}
 
 /// A crash is recorded: its client hasn't crashed before.

@@ -2,7 +2,7 @@
 ghost use Rattle.std.specs.Prelude.{◌≡◌, ◌<◌, ◌↔◌, ◌++◌, ◌∷◌, Contains, List, filter, not, ℕ};
 ghost use Rattle.assise_history.specs.declared.call.Loss.{Loss};
 ghost use Rattle.assise_history.specs.Kept.{loses};
-ghost use Rattle.assise_history.specs.Legal.{IsPastFsyncs, Rises};
+ghost use Rattle.assise_history.specs.Legal.{IsPastSyncs, Rises};
 ghost use Rattle.assise_machine_history.specs.Entered.{IsFailure};
 ghost use Rattle.assise_machine_history.specs.Lost.{IsFirstLost, losses_of};
 ghost use Rattle.assise_machine_history.specs.Numbered.{plain_call};
@@ -18,9 +18,10 @@ pub fn a_failure_lists_the_first_lost_calls()
     ensures taken { (s t : State) (n : ℕ) → IsSound s.world → IsFailure s n t → t.world.calls ≡ filter (λ x. not (loses (losses_of s.world n) (plain_call x))) s.world.calls }
 {}
 
-/// What a failure lists begins after the client's last fsync, and before its next call: each client that it lists loses a call
+/// What a failure lists begins after the client's last sync, and before its next call: each client that it lists loses a call
 /// that was answered.
-pub fn a_failure_takes_no_fsynced_call()
-    ensures past { (s : State) (n : ℕ) (lower higher : List Loss) (l : Loss) → IsSound s.world → IsRecorded s → losses_of s.world n ≡ lower ++ l ∷ higher → IsPastFsyncs s.history l }
+pub fn a_failure_takes_no_synced_call()
+    ensures past { (s : State) (n : ℕ) (lower higher : List Loss) (l : Loss) → IsSound s.world →
+        IsRecorded s → losses_of s.world n ≡ lower ++ l ∷ higher → IsPastSyncs s.history l }
     ensures answered { (w : World) (n : ℕ) (l : Loss) → IsSound w → Contains (losses_of w n) l → l.first < w.next l.client }
 {}

@@ -276,6 +276,8 @@ module _ (s : StateValue) (levels : TwoLevels) (asked : List Asked) where
     limit = refl;
     limits = λ n d. refl;
     at_home = λ n d. refl;
+    durability = stays (λ x. x.durability) (λ to x. refl);
+    opened = λ d. refl;
   }
 
 -- ---- leases that are asked for

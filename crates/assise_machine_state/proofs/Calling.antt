@@ -2,6 +2,8 @@
 use Rattle.std.proofs.Common.{◌≡◌, ◌≢◌, ℕ, suc, ◌+◌, ◌-◌, ◌<◌, ◌≤◌, Bool, true, false, not, if◌then◌else◌, List, [], ◌∷◌, ◌++◌, length, inl, inr, refl, ap, sym, subst, ◌∙◌, arith}
 use Rattle.std.proofs.lemmas.Bool.{cases_Bool}
 use Rattle.std.proofs.lemmas.List.{length-set}
+use Rattle.assise_history.specs.Entries.{calls}
+use Rattle.assise_history.proofs.Counting.{durability-still}
 use Rattle.assise_record.specs.declared.effect.Effect.{Effect}
 use Rattle.assise_record.specs.Records.{has_some, record_of}
 use Rattle.assise_inode_table.specs.Contents.{values}
@@ -143,6 +145,8 @@ module _ (s : StateValue) (x : NumberedCall) where
     limit = refl;
     limits = kept (λ l. l.log.limit) refl;
     at_home = kept (λ l. l.at_home) refl;
+    durability = stays (λ y. y.durability) refl;
+    opened = λ d. durability-still s.history (calls (plain_call x)) d refl;
   }
 
   -- each client's own log is where it was

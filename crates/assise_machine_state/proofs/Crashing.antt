@@ -1,6 +1,7 @@
 -- What the laws observe of a client that crashes.
 use Rattle.std.proofs.Common.{◌≡◌, ℕ, ◌==◌, true, false, List, ◌∷◌, [], ◌++◌, refl, ap, ◌∙◌}
 use Rattle.std.proofs.lemmas.Bool.{ne_eqb}
+use Rattle.assise_history.proofs.Counting.{durability-still}
 use Rattle.assise_history.specs.Entries.{Event, crashes}
 use Rattle.assise_lease_table.specs.declared.lease.Asked.{Asked}
 use Rattle.assise_lease_table.specs.Leases.{is_own}
@@ -35,7 +36,7 @@ module _ (s : StateValue) (c : ℕ) (levels : TwoLevels) (asked : List Asked) wh
   told = s.history ++ crashes c ∷ []
 
   remains : Remains (client_in s.clients c) now
-  remains = record { home = refl; failed = refl; next = refl; made = refl }
+  remains = record { home = refl; failed = refl; next = refl; made = refl; durability = refl }
 
   crash_of : IsNumber s.clients c → w.lives c ≡ true → w.crashed c ≡ false → IsFrozen s.levels levels c → Crashes w c w'
   unfolding world_of
@@ -68,4 +69,4 @@ module _ (s : StateValue) (c : ℕ) (levels : TwoLevels) (asked : List Asked) wh
       }
 
   pub crash_shaped : IsShaped s → IsShaped (after_crash s c levels asked)
-  crash_shaped shape = still_shaped s c now levels (s.cuts ++ asked) told remains shape
+  crash_shaped shape = still_shaped s c now levels (s.cuts ++ asked) told remains (λ d. durability-still s.history (crashes c) d refl) shape

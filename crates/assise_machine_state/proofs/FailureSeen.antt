@@ -5,6 +5,8 @@ use Rattle.std.specs.FinSet as set
 use Rattle.std.proofs.Math.Bool.{and-false}
 use Rattle.std.proofs.lemmas.Bool.{cases_Bool, cases_eq, ne_eqb}
 use Rattle.std.proofs.lemmas.List.{length-take, nil_from_length}
+use Rattle.assise_history.specs.Entries.{fails}
+use Rattle.assise_history.proofs.Counting.{durability-still}
 use Rattle.assise_inode_table.specs.Contents.{values}
 use Rattle.assise_inode_table.specs.Traces.{NumberedCall, below}
 use Rattle.assise_private_log.specs.NumberedLog.{end as log_end}
@@ -154,6 +156,12 @@ module _ (s : StateValue) (n : ℕ) (inodes : set.FinSet nat_cmp) (levels : TwoL
       let other : k ≢ n = not_failed k f in
       same_limit k c other ∙ limit_seen s k c shape (sym (else_stands k other) ∙ f) record { some = client.some; there = subst (λ m. c ≤ m) clients_left client.there }
 
+  left_durability : (c : ℕ) → (client_seen t.clients c).durability ≡ (client_seen s.clients c).durability
+  left_durability c = elim (cases_eq (client_seen s.clients c).home n) [
+    | inl here ↦ ap (λ y. y.durability) (client_over c here)
+    | inr other ↦ ap (λ y. y.durability) (client_same c other)
+  ]
+
   pub failure_shaped : IsShaped t
   failure_shaped = record {
     nodes = count_left s.nodes n s.clients kept ∙ shape.nodes ∙ sym (count_then s.members n inodes stands);
@@ -164,6 +172,7 @@ module _ (s : StateValue) (n : ℕ) (inodes : set.FinSet nat_cmp) (levels : TwoL
     limits = limits_all t left_logs left_none left_limit;
     least_limit = shape.least_limit;
     most_limit = shape.most_limit;
+    durabilities = λ c. left_durability c ∙ shape.durabilities c ∙ sym (durability-still s.history (fails n (losses_of w n)) c refl);
   }
 
   -- ---- what the laws observe

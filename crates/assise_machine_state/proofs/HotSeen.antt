@@ -78,6 +78,8 @@ module _ (s : StateValue) (n capacity : ℕ) where
     limit = refl;
     limits = λ k c. ap (λ ls. (at no_log ls c).log.limit) (logs_same k);
     at_home = λ k c. ap (λ ls. (at no_log ls c).at_home) (logs_same k);
+    durability = λ c. refl;
+    opened = λ c. refl;
   }
 
   pub notes_kept : AreNoted s → AreNoted t

@@ -7,6 +7,7 @@ use Rattle.std.specs.FinSet as set
 use Rattle.std.proofs.lemmas.Bool.{and_from, and_parts, cases_Bool, cases_lt, false_from_ne_true, ne_eqb, not-true, or_cases, or_left, or_right}
 use Rattle.std.proofs.lemmas.List.{length-set, length_push}
 use Rattle.std.proofs.lemmas.List.Folds.{list_any-append}
+use Rattle.assise_names.specs.declared.durability.Durability.{Durability}
 use Rattle.assise_inode_table.specs.Traces.{NumberedCall}
 use Rattle.assise_lease_table.specs.declared.lease.Asked.{Asked}
 use Rattle.assise_lease_table.specs.declared.lease.Lease.{Lease}
@@ -119,9 +120,9 @@ new_unasked s noted i =
     let next : ℕ = suc (length s.clients) in
     false_from_ne_true (is_asked s.cuts next i) (λ asked. let there : IsNumber s.clients next = noted.known next i asked in omega (arith, there.there))
 
-pub open_noted : (s : StateValue) (n : ℕ) (levels : TwoLevels) → AreNoted s → EnrolsAt s.levels levels (suc (length s.clients)) n → AreNoted (after_open s n levels)
-open_noted s n levels noted enrols =
-    still_noted s (after_open s n levels) refl (omega (arith, length_push s.clients (opened_on n))) (λ c i. ap (λ ls. is_frozen (lease_of ls c)) (enrols.clients i)) noted
+pub open_noted : (s : StateValue) (n : ℕ) (u : Durability) (levels : TwoLevels) → AreNoted s → EnrolsAt s.levels levels (suc (length s.clients)) n → AreNoted (after_open s n u levels)
+open_noted s n u levels noted enrols =
+    still_noted s (after_open s n u levels) refl (omega (arith, length_push s.clients (opened_on n u))) (λ c i. ap (λ ls. is_frozen (lease_of ls c)) (enrols.clients i)) noted
 
 -- ---- more answers
 

@@ -3,6 +3,9 @@ use Rattle.std.proofs.Common.{◌≡◌, ◌≢◌, ℕ, zero, suc, ◌+◌, ◌
 use Rattle.std.proofs.Math.Bool.{and-true}
 use Rattle.std.proofs.lemmas.Bool.{cases_Bool, cases_eq, ne_eqb}
 use Rattle.std.proofs.lemmas.List.{length_push}
+use Rattle.assise_names.specs.declared.durability.Durability.{Durability}
+use Rattle.assise_history.specs.Legal.{durability_of}
+use Rattle.assise_history.proofs.Counting.{durability-opened, durability-other}
 use Rattle.assise_inode_table.specs.Contents.{values}
 use Rattle.assise_private_log.specs.NumberedLog.{end as log_end}
 use Rattle.assise_digest.specs.Region.{ReceivedLog, RegionValue, no_log, with_client as with_client_log}
@@ -82,9 +85,9 @@ module _ (full : ℕ → Bool) (limit home : ℕ) where
 
 -- ---- the state
 
-module _ (s : StateValue) (n : ℕ) (levels : TwoLevels) where
+module _ (s : StateValue) (n : ℕ) (u : Durability) (levels : TwoLevels) where
   abbrev s' : StateValue
-  s' = after_open s n levels
+  s' = after_open s n u levels
 
   abbrev w : World
   w = world_of s
@@ -97,20 +100,20 @@ module _ (s : StateValue) (n : ℕ) (levels : TwoLevels) where
 
   -- the client
 
-  new_client : client_seen s'.clients next ≡ opened_on n
+  new_client : client_seen s'.clients next ≡ opened_on n u
   unfolding client_seen
-  new_client = pushed_here no_client (opened_on n) s.clients
+  new_client = pushed_here no_client (opened_on n u) s.clients
 
   other_client : (d : ℕ) → d ≢ next → client_seen s'.clients d ≡ client_seen s.clients d
   unfolding client_seen
-  other_client d other = pushed_else no_client (opened_on n) s.clients d other
+  other_client d other = pushed_else no_client (opened_on n u) s.clients d other
 
-  client_kept : {A : Type 0} (f : ClientValue → A) → f (opened_on n) ≡ f no_client → (d : ℕ) → f (client_seen s'.clients d) ≡ f (client_seen s.clients d)
+  client_kept : {A : Type 0} (f : ClientValue → A) → f (opened_on n u) ≡ f no_client → (d : ℕ) → f (client_seen s'.clients d) ≡ f (client_seen s.clients d)
   unfolding client_seen
-  client_kept f same d = pushed_kept f no_client (opened_on n) s.clients d same
+  client_kept f same d = pushed_kept f no_client (opened_on n u) s.clients d same
 
   so_many_clients : length s'.clients ≡ next
-  so_many_clients = (let more : length s.clients + 1 ≡ next = omega arith in length_push s.clients (opened_on n) ∙ more)
+  so_many_clients = (let more : length s.clients + 1 ≡ next = omega arith in length_push s.clients (opened_on n u) ∙ more)
 
   -- areas stay
   area_kept : (k i : ℕ) → w'.area k i ≡ w.area k i
@@ -148,7 +151,7 @@ module _ (s : StateValue) (n : ℕ) (levels : TwoLevels) where
     logs_stay : SameLogs w w'
     unfolding world_of
     logs_stay = record {
-      calls = kept_open s.history next n;
+      calls = kept_open s.history next n u;
       records = own_kept (λ l. l.log.records) (λ b. refl);
       first = own_kept (λ l. l.log.first) (λ b. refl);
       next = client_kept (λ y. y.next) refl;
@@ -273,4 +276,8 @@ module _ (s : StateValue) (n : ℕ) (levels : TwoLevels) where
       limits = limits_all s' all_logs no_logs_there limit_now;
       least_limit = shape.least_limit;
       most_limit = shape.most_limit;
+      durabilities = λ d. elim (cases_eq next d) [
+        | inl is ↦ subst (λ k. (client_seen s'.clients k).durability ≡ durability_of k s'.history) is (ap (λ y. y.durability) new_client ∙ sym (durability-opened s.history next n u))
+        | inr other ↦ ap (λ y. y.durability) (other_client d (λ is. other (sym is))) ∙ shape.durabilities d ∙ sym (durability-other s.history d next n u (ne_eqb next d other))
+      ];
     }

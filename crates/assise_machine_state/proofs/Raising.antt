@@ -24,7 +24,7 @@ module _ (s : StateValue) (c to : ℕ) (there : IsNumber s.clients c) where
   w' = world_of (after_goal s c to)
 
   remains : Remains (client_in s.clients c) now
-  remains = record { home = refl; failed = refl; next = refl; made = refl }
+  remains = record { home = refl; failed = refl; next = refl; made = refl; durability = refl }
 
   goal_here : (client_seen (with_client s.clients c now) c).goal ≡ max (client_seen s.clients c).goal to
   goal_here = ap (λ x. x.goal) (client_here s.clients c now there) ∙ ap (λ x. max x.goal to) (sym (client_is s.clients c there))
@@ -58,4 +58,4 @@ module _ (s : StateValue) (c to : ℕ) (there : IsNumber s.clients c) where
   }
 
   pub goal_shaped : IsShaped s → IsShaped (after_goal s c to)
-  goal_shaped shape = still_shaped s c now s.levels s.cuts s.history remains shape
+  goal_shaped shape = still_shaped s c now s.levels s.cuts s.history remains (λ d. refl) shape

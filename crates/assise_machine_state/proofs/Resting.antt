@@ -58,6 +58,8 @@ members_shaped s m shape long same = shaped_as s (after_members s m) shape recor
   limit = refl;
   limits = λ n c. refl;
   at_home = λ n c. refl;
+  durability = λ c. refl;
+  opened = λ c. refl;
 }
 
 -- ---- an inode of a node that isn't full
@@ -127,4 +129,6 @@ inode_shaped s n i v shape there = shaped_as s (after_inode s n i v) shape recor
   limit = refl;
   limits = λ k c. ap (λ l. l.log.limit) (same_log s n i v there k c);
   at_home = λ k c. ap (λ l. l.at_home) (same_log s n i v there k c);
+  durability = λ c. refl;
+  opened = λ c. refl;
 }

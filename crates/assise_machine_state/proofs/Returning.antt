@@ -6,6 +6,8 @@ use Rattle.std.proofs.Math.ListN.{get_or-map}
 use Rattle.std.proofs.Math.Bool.{and-false}
 use Rattle.std.proofs.lemmas.Bool.{cases_Bool, cases_eq, ne_eqb}
 use Rattle.std.proofs.lemmas.List.{take_all, length-map, length-set}
+use Rattle.assise_history.specs.Entries.{returns}
+use Rattle.assise_history.proofs.Counting.{durability-still}
 use Rattle.assise_inode_table.specs.Contents.{values}
 use Rattle.assise_private_log.specs.NumberedLog.{end as log_end}
 use Rattle.assise_digest.specs.Region.{ReceivedLog, RegionValue, no_log}
@@ -157,6 +159,7 @@ module _ (s : StateValue) (n since donor : ℕ) (stale : set.FinSet nat_cmp) (sh
     limits = limits_all t logs no_logs limits;
     least_limit = shape.least_limit;
     most_limit = shape.most_limit;
+    durabilities = λ c. shape.durabilities c ∙ sym (durability-still s.history (returns n) c refl);
   }
 
   -- ---- what the laws observe

@@ -1,6 +1,7 @@
 -- What stays of the state where the value of one client changes, and the node of its own log doesn't.
 use Rattle.std.proofs.Common.{◌≡◌, ℕ, ◌-◌, not, List, length, refl, ap}
 use Rattle.std.proofs.lemmas.List.{length-set}
+use Rattle.assise_history.specs.Legal.{durability_of}
 use Rattle.assise_history.specs.Entries.{Event}
 use Rattle.assise_lease_table.specs.declared.lease.Asked.{Asked}
 use Rattle.assise_lease_tree.specs.TwoLevels.{TwoLevels}
@@ -27,6 +28,7 @@ pub record Remains (old new : ClientValue) : Type 0 where
   pub failed : new.failed ≡ old.failed
   pub next : new.next ≡ old.next
   pub made : new.made ≡ old.made
+  pub durability : new.durability ≡ old.durability
 
 -- nodes stay
 pub areas_stay : (s s' : StateValue) → s'.nodes ≡ s.nodes → OtherAreasStay (world_of s) (world_of s')
@@ -87,8 +89,8 @@ module _ (s : StateValue) (c : ℕ) (x : ClientValue) (levels : TwoLevels) (cuts
       crashed = client_same (λ y. y.crashed) s.clients c x same;
     }
 
-    pub still_shaped : IsShaped s → IsShaped (changed s c x levels cuts h)
-    still_shaped shape = shaped_as s (changed s c x levels cuts h) shape record {
+    pub still_shaped : ((d : ℕ) → durability_of d h ≡ durability_of d s.history) → IsShaped s → IsShaped (changed s c x levels cuts h)
+    still_shaped opened shape = shaped_as s (changed s c x levels cuts h) shape record {
       nodes = refl;
       members = refl;
       full = λ n. refl;
@@ -99,4 +101,6 @@ module _ (s : StateValue) (c : ℕ) (x : ClientValue) (levels : TwoLevels) (cuts
       limit = refl;
       limits = λ n d. refl;
       at_home = λ n d. refl;
+      durability = client_same (λ y. y.durability) s.clients c x remains.durability;
+      opened = opened;
     }

@@ -2,6 +2,7 @@
 use Rattle.std.proofs.Common.{◌≡◌, ℕ, ◌-◌, ◌≤◌, true, false, not, ◌&&◌, ◌==◌, [], length, map, inl, inr, refl, ap, sym, subst, ◌∙◌, arith}
 use Rattle.std.proofs.lemmas.Bool.{cases_Bool}
 use Rattle.std.proofs.lemmas.List.{length-map, length-set, nil_from_length}
+use Rattle.assise_history.specs.Legal.{durability_of}
 use Rattle.assise_inode_table.specs.Contents.{InodeMap}
 use Rattle.assise_digest.specs.Region.{ReceivedLog}
 use Rattle.assise_manager.specs.Membership.{Membership}
@@ -52,6 +53,8 @@ pub record KeepsShape (s t : StateValue) : Type 0 where
   pub limit : t.limit ≡ s.limit
   pub limits : (n c : ℕ) → (log_seen t.nodes n c).log.limit ≡ (log_seen s.nodes n c).log.limit
   pub at_home : (n c : ℕ) → (log_seen t.nodes n c).at_home ≡ (log_seen s.nodes n c).at_home
+  pub durability : (c : ℕ) → (client_seen t.clients c).durability ≡ (client_seen s.clients c).durability
+  pub opened : (c : ℕ) → durability_of c t.history ≡ durability_of c s.history
 
 pub shaped_as : (s t : StateValue) → IsShaped s → KeepsShape s t → IsShaped t
 shaped_as s t shape same =
@@ -69,6 +72,7 @@ shaped_as s t shape same =
       limits = limits_all t logs no_logs (λ n c f client. same.limits n c ∙ limit_seen s n c shape (was_full n f) (was_client c client) ∙ sym same.limit);
       least_limit = subst (λ k. 8 ≤ k) (sym same.limit) shape.least_limit;
       most_limit = subst (λ k. k ≤ 4096) (sym same.limit) shape.most_limit;
+      durabilities = λ c. same.durability c ∙ shape.durabilities c ∙ sym (same.opened c);
     }
 
 -- one node's log of a client changes, with the node's inodes
@@ -88,6 +92,8 @@ shaped_log s members n c inodes l shape limit at_home count full =
       limit = refl;
       limits = λ m d. log_same s.nodes n c inodes l (λ x. x.log.limit) m d limit;
       at_home = λ m d. log_same s.nodes n c inodes l (λ x. x.at_home) m d at_home;
+      durability = λ d. refl;
+      opened = λ d. refl;
     }
 
 -- a client's logs change at all nodes
@@ -106,4 +112,6 @@ shaped_all s c g shape limit at_home =
       limit = refl;
       limits = λ n d. part_seen c g (λ x. x.log.limit) s.nodes n d limit;
       at_home = λ n d. part_seen c g (λ x. x.at_home) s.nodes n d at_home;
+      durability = λ d. refl;
+      opened = λ d. refl;
     }

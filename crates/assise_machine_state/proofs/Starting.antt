@@ -124,6 +124,7 @@ begun_shaped n hot limit few least most = record {
   limits = λ k c has. absurd (has_none n k c has);
   least_limit = least;
   most_limit = most;
+  durabilities = λ c. ap (λ x. x.durability) (nobody_seen c);
 }
   where
     many_regions : (m : ℕ) → length (new_regions m hot) ≡ m

@@ -3,6 +3,7 @@
 use Rattle.std.specs.Prelude.{ℕ, zero, suc, ◌-◌, ◌==◌, if◌then◌else◌, List, [], ◌∷◌, ◌++◌, length, Option}
 use Rattle.std.specs.Ordering.{nat_cmp}
 use Rattle.std.specs.FinSet as set
+use Rattle.assise_names.specs.declared.durability.Durability.{Durability}
 use Rattle.assise_history.specs.Entries.{calls, crashes, fails, opens, returns}
 use Rattle.assise_inode_table.specs.Contents.{Content}
 use Rattle.assise_inode_table.specs.Traces.{NumberedCall}
@@ -23,12 +24,12 @@ use Rattle.assise_machine_state.specs.StateValues.{StateValue, standings}
 -- ---- clients
 
 -- the next client is opened on node n, with these leases
-abbrev pub after_open : StateValue → ℕ → TwoLevels → StateValue
-after_open s n levels = record s {
+abbrev pub after_open : StateValue → ℕ → Durability → TwoLevels → StateValue
+after_open s n u levels = record s {
   nodes = with_logs_begun (is_full_in (standings s)) s.limit n 1 s.nodes;
-  clients = s.clients ++ opened_on n ∷ [];
+  clients = s.clients ++ opened_on n u ∷ [];
   levels = levels;
-  history = s.history ++ opens (suc (length s.clients)) n ∷ [];
+  history = s.history ++ opens (suc (length s.clients)) n u ∷ [];
 }
 
 -- a call is answered: its record, if it has effects, is added at its client's home

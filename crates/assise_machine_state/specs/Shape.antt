@@ -2,6 +2,7 @@
 -- Assise (OSDI 2020), section 3 (CC-NVM: a replica has the logs of all clients).
 use Rattle.std.specs.Prelude.{◌≡◌, ℕ, ◌≤◌, Bool, true, false, not, ◌&&◌, ◌==◌, List, [], filter, length}
 use Rattle.assise_names.specs.declared.mode.Mode.{Mode}
+use Rattle.assise_history.specs.Legal.{durability_of}
 use Rattle.assise_private_log.specs.Touches.{Covers}
 use Rattle.assise_lease_table.specs.declared.lease.Asked.{Asked}
 use Rattle.assise_lease_table.specs.Answers.{clients_of}
@@ -28,6 +29,8 @@ pub record IsShaped (s : StateValue) : Type 0 where
   pub limits : (n c : ℕ) → HasLog s.nodes n c → (log_in s.nodes n c).log.limit ≡ s.limit
   pub least_limit : 8 ≤ s.limit
   pub most_limit : s.limit ≤ 4096
+  -- each client is known as it was opened
+  pub durabilities : (c : ℕ) → (client_seen s.clients c).durability ≡ durability_of c s.history
 
 -- the answers are those of the leases that are frozen, one of each
 pub record AreNoted (s : StateValue) : Type 0 where

@@ -1,6 +1,7 @@
 // One client.
 ghost use Rattle.std.specs.Prelude.{◌≡◌};
 
+use assise_names::durability::Durability;
 use std::marker::Model;
 
 /// What is known of a client, beside its logs and its leases.
@@ -8,6 +9,8 @@ use std::marker::Model;
 pub struct Client {
     /// The node on which it was opened.
     pub(crate) home: u32,
+    /// How its fsyncs are served.
+    pub(crate) durability: Durability,
     /// The place up to which its log is to be replicated.
     pub(crate) goal: u64,
     /// How many of its calls were answered, which is the number of its next one.
@@ -29,7 +32,7 @@ impl Model for Client {
 
     ghost coded = { coded_client };
 
-    ghost view = { λ c. record { home = c.home; goal = c.goal; next = c.next; made = c.made; crashed = c.crashed; failed = c.failed; last_cut = c.last_cut } };
+    ghost view = { λ c. record { home = c.home; durability = c.durability; goal = c.goal; next = c.next; made = c.made; crashed = c.crashed; failed = c.failed; last_cut = c.last_cut } };
 }
 
 impl Client {
@@ -40,6 +43,13 @@ impl Client {
         ensures { result ≡ self.now.home }
     {
         self.home
+    }
+
+    /// How its fsyncs are served.
+    pub fn durability(&self) -> Durability
+        ensures { result ≡ self.now.durability }
+    {
+        self.durability
     }
 
     /// The place up to which its log is to be replicated.

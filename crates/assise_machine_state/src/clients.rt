@@ -5,6 +5,7 @@ ghost use Rattle.assise_machine_state.specs.ClientValues.{client_in, crashed_at,
 ghost use Rattle.assise_machine_state.specs.Places.{IsNumber};
 
 use crate::client::Client;
+use assise_names::durability::Durability;
 use assise_names::refusal::Refusal;
 use std::alloc::Global;
 use std::marker::Model;
@@ -65,12 +66,13 @@ impl Clients {
     }
 
     /// Adds a client that is opened on a node, the sixteenth at most. It takes no memory.
-    pub fn open(&mut self, home: u32)
+    pub fn open(&mut self, home: u32, durability: Durability)
         requires room { length self.old < 16 }
-        ensures { self.new ≡ self.old ++ opened_on home ∷ [] }
+        ensures { self.new ≡ self.old ++ opened_on home durability ∷ [] }
     {
         self.clients.push_reserved(Client {
             home,
+            durability,
             goal: 0,
             next: 0,
             made: 0,

@@ -3,6 +3,7 @@ ghost use Rattle.std.specs.Prelude.{◌≡◌, ◌≤◌, ◌==◌, List, false,
 ghost use Rattle.assise_inode_table.specs.Traces.{NumberedCall};
 ghost use Rattle.assise_lease_table.specs.declared.lease.Asked.{Asked};
 ghost use Rattle.assise_lease_tree.specs.TwoLevels.{EnrolsAt, IsAskedFor, IsFrozen, TwoLevels, is_free_for};
+ghost use Rattle.assise_names.specs.declared.durability.Durability.{Durability};
 ghost use Rattle.assise_names.specs.declared.mode.Mode.{Mode};
 ghost use Rattle.assise_machine_laws.specs.Chances.{MayCall};
 ghost use Rattle.assise_machine_laws.specs.ClientSteps.{MakesCall, RaisesGoals};
@@ -21,11 +22,15 @@ ghost use Rattle.assise_machine_state.specs.StateValues.{StateValue, leases_of};
 
 /// A client that is opened on a full node.
 pub fn an_open_is_observed()
-    ensures opens { (s : StateValue) (n : ℕ) (levels : TwoLevels) → IsShaped s → AreNoted s → Full (world_of s) n → EnrolsAt s.levels levels (suc (length s.clients)) n →
-        OpensAt (world_of s) (leases_of s) n (world_of (after_open s n levels)) (leases_of (after_open s n levels)) }
-    ensures others { (s : StateValue) (n : ℕ) (levels : TwoLevels) → OtherAreasStay (world_of s) (world_of (after_open s n levels)) }
-    ensures shape { (s : StateValue) (n : ℕ) (levels : TwoLevels) → IsShaped s → Full (world_of s) n → IsShaped (after_open s n levels) }
-    ensures noted { (s : StateValue) (n : ℕ) (levels : TwoLevels) → AreNoted s → EnrolsAt s.levels levels (suc (length s.clients)) n → AreNoted (after_open s n levels) }
+    ensures opens { (s : StateValue) (n : ℕ) (u : Durability) (levels : TwoLevels) → IsShaped s →
+        AreNoted s → Full (world_of s) n → EnrolsAt s.levels levels (suc (length s.clients)) n →
+        OpensAt (world_of s) (leases_of s) n (world_of (after_open s n u levels)) (leases_of (after_open s n u levels)) }
+    ensures others { (s : StateValue) (n : ℕ) (u : Durability) (levels : TwoLevels) →
+        OtherAreasStay (world_of s) (world_of (after_open s n u levels)) }
+    ensures shape { (s : StateValue) (n : ℕ) (u : Durability) (levels : TwoLevels) → IsShaped s →
+        Full (world_of s) n → IsShaped (after_open s n u levels) }
+    ensures noted { (s : StateValue) (n : ℕ) (u : Durability) (levels : TwoLevels) → AreNoted s →
+        EnrolsAt s.levels levels (suc (length s.clients)) n → AreNoted (after_open s n u levels) }
 {}
 
 /// A call that is answered.

@@ -5,6 +5,7 @@ ghost use Rattle.assise_machine_state.specs.Places.{IsNumber};
 use crate::steps::show;
 use assise_machine_state::client::Client;
 use assise_machine_state::clients::Clients;
+use assise_names::durability::Durability;
 use assise_rows::{Subject, split_word};
 use std::alloc::{AllocError, Global};
 
@@ -45,7 +46,7 @@ fn open(clients: &mut Clients, node: u32) -> Option<()> {
     if clients.len() >= 16 {
         return None;
     }
-    clients.open(node);
+    clients.open(node, Durability::Pessimistic);
     Some(())
 }
 

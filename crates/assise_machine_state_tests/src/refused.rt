@@ -4,6 +4,7 @@ use assise_inode_table::inode::Inode;
 use assise_machine_state::clients::Clients;
 use assise_machine_state::nodes::Nodes;
 use assise_machine_state::sound::Sound;
+use assise_names::durability::Durability;
 use assise_names::refusal::Refusal;
 use std::alloc::Global;
 
@@ -12,7 +13,7 @@ fn opens(alloc: Global) -> Result<bool, Refusal> {
     let mut clients = Clients::new(alloc)?;
     for home in 1..17 {
         if clients.len() < 16 {
-            clients.open(home);
+            clients.open(home, Durability::Pessimistic);
         }
     }
     Ok(clients.len() == 16)

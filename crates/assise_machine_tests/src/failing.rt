@@ -29,6 +29,57 @@ fail 1 => failed 1:3
 tree at 2 => / names 1 f; /f bytes 2 x6161
 ";
 
+/// An optimistic client's fsync asks for nothing to be sent, and is lost with its node.
+const OPTIMISTIC: &str = "\
+cluster 2 16 => begun
+open 1 least optimistic => client 1
+open 2 least => client 2
+1 create /f => done
+fsync 1 => done
+1 fsync => done
+send 1 => nothing
+fail 1 => failed 1:0
+rounds => failed 1:0
+2 stat /f => E1 NoEnt
+history => open 1 1 optimistic; open 2 2; call 1 0 create /f = done; call 1 1 fsync = done; call 1 2 fsync = done; \
+fail 1 1:0; call 2 0 stat /f = E1 NoEnt
+";
+
+/// An optimistic client's dsync waits, and what it synced stays.
+const DSYNCED: &str = "\
+cluster 2 16 => begun
+open 1 least optimistic => client 1
+open 2 least => client 2
+1 create /f => done
+1 dsync => not yet
+send 1 => 1 for 2: client 1, 0..1
+deliver 1 at 2 => received 1
+1 dsync => done
+1 create /g => done
+1 fsync => done
+fail 1 => failed 1:2
+rounds => failed 1:2
+2 stat /f => file 0
+2 stat /g => E1 NoEnt
+";
+
+/// A pessimistic client's dsync is as its fsync.
+const BOTH_SYNCS: &str = "\
+cluster 2 8 => begun
+open 2 least => client 1
+1 dsync => done
+1 mkdir /d => done
+1 fsync => not yet
+1 dsync => not yet
+send 2 => 1 for 1: client 1, 0..1
+deliver 1 at 1 => received 1
+1 dsync => done
+fsync 1 => done
+fail 2 => failed
+2 dsync => F9 BadClient
+1 dsync => F3 NodeDown
+";
+
 /// A node comes back, and then the other one fails. The node that came back has all.
 const BOTH_FAIL: &str = "\
 cluster 2 16 => begun
@@ -166,6 +217,9 @@ fn nodes_fail_and_come_back(rt: HostRuntime) {
         &[
             LOST,
             SYNCED,
+            OPTIMISTIC,
+            DSYNCED,
+            BOTH_SYNCS,
             BOTH_FAIL,
             FILLED,
             FAILS_AGAIN,

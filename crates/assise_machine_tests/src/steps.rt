@@ -11,6 +11,7 @@ use assise_machine::event::Event;
 use assise_machine::hot::HotCapacity;
 use assise_machine::run::apply_event;
 use assise_names::call::Op;
+use assise_names::durability::Durability;
 use assise_rows::split_word;
 use std::alloc::Global;
 
@@ -165,13 +166,19 @@ fn kept_hot(rest: &str) -> Option<Event> {
     Some(Event::SetHot(node, capacity))
 }
 
-/// A client is opened on a node with the last revoker of the stock. A kind behind it is added to the stock before.
+/// A client is opened on a node with the last revoker of the stock. A kind behind it is added to the stock before, and `optimistic`
+/// may stand behind the kind.
 fn opening(desk: &mut Desk, rest: &str) -> Option<Event> {
-    let (node, kind) = split_word(rest);
+    let (node, rest) = split_word(rest);
+    let (kind, mode) = split_word(rest);
     if let Some(letter) = kind.chars().next() {
         desk.stock.push(asked(letter)?).ok()?;
     }
-    Some(Event::Open(small_in(node)?))
+    let durability = match mode {
+        "optimistic" => Durability::Optimistic,
+        _ => Durability::Pessimistic,
+    };
+    Some(Event::Open(small_in(node)?, durability))
 }
 
 fn delivery(alloc: Global, desk: &Desk, rest: &str) -> Option<Event> {

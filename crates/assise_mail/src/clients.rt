@@ -9,6 +9,7 @@ use assise_lease_table::revoker::Revoker;
 use assise_libfs::libfs::LibFs;
 use assise_libfs::served::Served;
 use assise_machine::cluster::Cluster;
+use assise_names::durability::Durability;
 use assise_names::refusal::Refusal;
 use assise_names::reply::Reply;
 use assise_private_log::log_view::LogView;
@@ -112,12 +113,28 @@ fn with_clients<R: Threads + Wait + Sync>(
 {
     let mut nodes = workers_up_to(alloc, keeper, main, NODES)?;
     let (first, second) = (keeper.split(main), keeper.split(main));
-    let mut writer = LibFs::open(rt, alloc, keeper, first, 1, revokers.0, TURNS).map_err(
-        |refused| refused.0,
-    )?;
-    let mut reader = LibFs::open(rt, alloc, keeper, second, 2, revokers.1, TURNS).map_err(
-        |refused| refused.0,
-    )?;
+    let mut writer = LibFs::open(
+        rt,
+        alloc,
+        keeper,
+        first,
+        1,
+        revokers.0,
+        Durability::Pessimistic,
+        TURNS,
+    )
+    .map_err(|refused| refused.0)?;
+    let mut reader = LibFs::open(
+        rt,
+        alloc,
+        keeper,
+        second,
+        2,
+        revokers.1,
+        Durability::Pessimistic,
+        TURNS,
+    )
+    .map_err(|refused| refused.0)?;
     deliver_and_fetch(rt, alloc, &mut writer, &mut reader, nodes.as_mut_slice())
 }
 

@@ -4,7 +4,7 @@ use Rattle.std.specs.List.{flat_map}
 use Rattle.std.specs.Fmt.{decimal, digits}
 use Rattle.assise_names.specs.Path.{spelling}
 use Rattle.assise_names.specs.declared.call.Op.{Op}
-use Rattle.assise_names.specs.declared.call.Op.TheVariants.{Create, Mkdir, Read, Write, Truncate, Rename, Unlink, Rmdir, List as ListCall, Stat, Fsync}
+use Rattle.assise_names.specs.declared.call.Op.TheVariants.{Create, Mkdir, Read, Write, Truncate, Rename, Unlink, Rmdir, List as ListCall, Stat, Fsync, Dsync}
 use Rattle.assise_names.specs.declared.path.PathFault.{PathFault}
 use Rattle.assise_names.specs.declared.path.PathFault.TheVariants.{NotAbsolute, EmptyName, BadName, NameTooLong, TooDeep, Memory}
 use Rattle.assise_names.specs.declared.refusal.Refusal.{Refusal}
@@ -78,3 +78,4 @@ op_text (Rmdir path) = codes "rmdir " ++ spelling path
 op_text (ListCall path) = codes "list " ++ spelling path
 op_text (Stat path) = codes "stat " ++ spelling path
 op_text Fsync = codes "fsync"
+op_text Dsync = codes "dsync"

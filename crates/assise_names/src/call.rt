@@ -33,15 +33,18 @@ pub enum Op {
     List(Path),
     /// Says what stands at a path.
     Stat(Path),
-    /// Is answered once all calls before it are replicated.
+    /// Is answered once all calls before it are replicated, and at once to a client that was opened to be optimistic.
     Fsync,
+    /// Is answered once all calls before it are replicated.
+    Dsync,
 }
 
 impl Op {
-    /// An equal value, or [`Refusal::OutOfMemory`]. `fsync` takes no memory.
+    /// An equal value, or [`Refusal::OutOfMemory`]. `fsync` and `dsync` take no memory.
     pub fn copy(&self, alloc: Global) -> Result<Op, Refusal>
         ensures equal { IfOk result (λ copied. copied ≡ self.now) }
         ensures fsync { self.now ≡ Op.Fsync → IsOk result }
+        ensures dsync { self.now ≡ Op.Dsync → IsOk result }
         ensures only_memory { IsOkUnless result OutOfMemory }
     {
         match self {
@@ -62,6 +65,7 @@ impl Op {
             Op::List(path) => Ok(Op::List(path.copy(alloc)?)),
             Op::Stat(path) => Ok(Op::Stat(path.copy(alloc)?)),
             Op::Fsync => Ok(Op::Fsync),
+            Op::Dsync => Ok(Op::Dsync),
         }
     }
 }
@@ -86,6 +90,7 @@ impl Display for Op {
             Op::List(path) => write!(f, "list {path}"),
             Op::Stat(path) => write!(f, "stat {path}"),
             Op::Fsync => write!(f, "fsync"),
+            Op::Dsync => write!(f, "dsync"),
         }
     }
 }

@@ -3,6 +3,7 @@
 
 pub mod byte_string;
 pub mod call;
+pub mod durability;
 pub mod mode;
 pub mod name;
 pub mod name_list;

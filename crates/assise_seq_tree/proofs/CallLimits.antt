@@ -2,7 +2,7 @@
 use Rattle.std.proofs.Common.{◌≡◌, ◌≤◌, ◌<◌, ◌+◌, arith, ℕ, Bool, true, false, cond, ◌==◌, nat_le, is_some, List, [], ◌∷◌, length, Result, Ok, Err, refl, sym, ◌∙◌, subst}
 use Rattle.std.proofs.lemmas.Bool.Decides.{nat_tests}
 use Rattle.assise_names.specs.declared.call.Op.{Op}
-use Rattle.assise_names.specs.declared.call.Op.TheVariants.{Create, Mkdir, Read, Write, Truncate, Rename, Unlink, Rmdir, List as ListCall, Stat, Fsync}
+use Rattle.assise_names.specs.declared.call.Op.TheVariants.{Create, Mkdir, Read, Write, Truncate, Rename, Unlink, Rmdir, List as ListCall, Stat, Fsync, Dsync}
 use Rattle.assise_names.specs.declared.reply.Reply.{Reply}
 use Rattle.assise_names.specs.declared.reply.Reply.TheVariants.{Done}
 use Rattle.assise_names.specs.declared.reply.TreeError.{TreeError}
@@ -97,4 +97,5 @@ limits_kept t u (Unlink p) reply h s = subst IsWithinLimits (sym (second _ reply
 limits_kept t u (Rmdir p) reply h s = subst IsWithinLimits (sym (second _ reply u h)) (removed t p (may_rmdir t p) s)
 limits_kept t u (ListCall p) reply h s = subst IsWithinLimits (sym (second _ reply u h ∙ list_leaves t (entries_at t p))) s
 limits_kept t u Fsync reply h s = subst IsWithinLimits (sym (second _ reply u h)) s
+limits_kept t u Dsync reply h s = subst IsWithinLimits (sym (second _ reply u h)) s
 limits_kept t u (Rename p q) reply h s = subst IsWithinLimits (sym (second _ reply u h)) (renamed t p q (at t p) (may_rename t p q) (same_path p q) refl refl refl s)

@@ -2,7 +2,7 @@
 use Rattle.std.proofs.Common.{◌≡◌, ℕ, Bool, true, false, cond, ◌==◌, nat_le, List, [], ◌∷◌, length, Result, Ok, Err, refl, sym, subst}
 use Rattle.assise_names.specs.Path.{same_path}
 use Rattle.assise_names.specs.declared.call.Op.{Op}
-use Rattle.assise_names.specs.declared.call.Op.TheVariants.{Create, Mkdir, Read, Write, Truncate, Rename, Unlink, Rmdir, List as ListCall, Stat, Fsync}
+use Rattle.assise_names.specs.declared.call.Op.TheVariants.{Create, Mkdir, Read, Write, Truncate, Rename, Unlink, Rmdir, List as ListCall, Stat, Fsync, Dsync}
 use Rattle.assise_names.specs.declared.reply.Reply.TheVariants.{Done}
 use Rattle.assise_names.specs.declared.reply.TreeError.{TreeError}
 use Rattle.assise_names.specs.declared.reply.TreeError.TheVariants.{TooBig}
@@ -57,6 +57,7 @@ ordered-answer t (Rmdir p) s = removed t p s (may_rmdir t p)
 ordered-answer t (ListCall p) s = subst IsOrdered (sym (list_leaves t (entries_at t p))) s
 ordered-answer t (Stat p) s = subst IsOrdered (sym (stat_leaves t (at t p))) s
 ordered-answer t Fsync s = s
+ordered-answer t Dsync s = s
 
 ordered_after_calls : (t : Tree) (ops : List Op) → IsOrdered t → IsOrdered (tree_after_calls t ops)
 ordered_after_calls t [] s = s

@@ -2,7 +2,7 @@
 use Rattle.std.proofs.Common.{◌≡◌, ℕ, Bool, true, false, cond, ◌==◌, nat_le, List, [], length, Result, Ok, Err, refl, ap, sym, ◌∙◌}
 use Rattle.assise_names.specs.Path.{same_path}
 use Rattle.assise_names.specs.declared.call.Op.{Op}
-use Rattle.assise_names.specs.declared.call.Op.TheVariants.{Create, Mkdir, Read, Write, Truncate, Rename, Unlink, Rmdir, List as ListCall, Stat, Fsync}
+use Rattle.assise_names.specs.declared.call.Op.TheVariants.{Create, Mkdir, Read, Write, Truncate, Rename, Unlink, Rmdir, List as ListCall, Stat, Fsync, Dsync}
 use Rattle.assise_names.specs.declared.reply.Reply.{Reply}
 use Rattle.assise_names.specs.declared.reply.Reply.TheVariants.{Done, Bytes, Names}
 use Rattle.assise_names.specs.declared.reply.TreeError.{TreeError}
@@ -70,4 +70,5 @@ rest_is_left t u (Unlink p) reply q h apart = ap (λ v. at v q) (second _ reply 
 rest_is_left t u (Rmdir p) reply q h apart = ap (λ v. at v q) (second _ reply u h) ∙ removal_leaves t p q apart (may_rmdir t p)
 rest_is_left t u (ListCall p) reply q h apart = ap (λ v. at v q) (second _ reply u h ∙ list_leaves t (entries_at t p))
 rest_is_left t u Fsync reply q h apart = ap (λ v. at v q) (second _ reply u h)
+rest_is_left t u Dsync reply q h apart = ap (λ v. at v q) (second _ reply u h)
 rest_is_left t u (Rename p r) reply q h apart = ap (λ v. at v q) (second _ reply u h) ∙ rename_leaves t p r q apart.0 apart.1 (may_rename t p r) (at t p) (same_path p r)

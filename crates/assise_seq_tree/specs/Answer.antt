@@ -3,7 +3,7 @@
 use Rattle.std.specs.Prelude.{ℕ, ◌-◌, Bool, ◌||◌, if◌then◌else◌, nat_le, ◌==◌, List, [], length, take, slice_index_or, is_some, Option, Some, None, Result, Ok, Err}
 use Rattle.assise_names.specs.Path.{is_proper_front, same_path}
 use Rattle.assise_names.specs.declared.call.Op.{Op}
-use Rattle.assise_names.specs.declared.call.Op.TheVariants.{Create, Mkdir, Read, Write, Truncate, Rename, Unlink, Rmdir, List as ListCall, Stat, Fsync}
+use Rattle.assise_names.specs.declared.call.Op.TheVariants.{Create, Mkdir, Read, Write, Truncate, Rename, Unlink, Rmdir, List as ListCall, Stat, Fsync, Dsync}
 use Rattle.assise_names.specs.declared.reply.Reply.{Reply}
 use Rattle.assise_names.specs.declared.reply.Reply.TheVariants.{Done, Bytes, Names, File, Dir, Error}
 use Rattle.assise_names.specs.declared.reply.TreeError.{TreeError}
@@ -141,6 +141,7 @@ answer t (Rmdir p) = rmdir_answer t p
 answer t (ListCall p) = list_answer t p
 answer t (Stat p) = stat_answer t p
 answer t Fsync = (Done, t)
+answer t Dsync = (Done, t)
 
 -- the path lies apart from those that the call names
 abbrev pub IsApartFrom : Op → List (List ℕ) → Type 0
@@ -155,3 +156,4 @@ IsApartFrom (Rmdir p) q = LieApart p q
 IsApartFrom (ListCall p) q = LieApart p q
 IsApartFrom (Stat p) q = LieApart p q
 IsApartFrom Fsync q = Unit {0}
+IsApartFrom Dsync q = Unit {0}

@@ -2,7 +2,7 @@
 -- POSIX.1-2017, system interfaces: open(), mkdir(), write() and rename(), [ENOSPC], for a directory or a file that would have to be extended.
 use Rattle.std.specs.Prelude.{ℕ, ◌+◌, ◌<◌, List, length, Result, Ok, Err, IsErr}
 use Rattle.assise_names.specs.declared.call.Op.{Op}
-use Rattle.assise_names.specs.declared.call.Op.TheVariants.{Create, Mkdir, Read, Write, Truncate, Rename, Unlink, Rmdir, List as ListCall, Stat, Fsync}
+use Rattle.assise_names.specs.declared.call.Op.TheVariants.{Create, Mkdir, Read, Write, Truncate, Rename, Unlink, Rmdir, List as ListCall, Stat, Fsync, Dsync}
 use Rattle.assise_names.specs.declared.reply.TreeError.{TreeError}
 use Rattle.assise_seq_tree.specs.Answer.{file_at}
 use Rattle.assise_seq_tree.specs.Tree.{Tree, at}
@@ -28,3 +28,4 @@ AsksForMemory t (Rmdir p) = ⊥
 AsksForMemory t (ListCall p) = Unit {0}
 AsksForMemory t (Stat p) = ⊥
 AsksForMemory t Fsync = ⊥
+AsksForMemory t Dsync = ⊥

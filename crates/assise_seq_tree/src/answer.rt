@@ -50,7 +50,7 @@ pub const MOST_ENTRIES: usize = 4096;
 ///   entries is [`TreeError::NotEmpty`].
 /// - [`Op::List`]: the walk; a file is [`TreeError::NotDir`]. The names rise by their bytes.
 /// - [`Op::Stat`]: the walk.
-/// - [`Op::Fsync`]: no check.
+/// - [`Op::Fsync`], [`Op::Dsync`]: no check.
 ///
 /// The one refusal is [`Refusal::OutOfMemory`], and it leaves the tree as it was. An error is answered without memory.
 /// Of the calls that are done, those alone ask for memory that make an entry where there was none, make a file longer,
@@ -81,6 +81,7 @@ pub fn answer(alloc: Global, tree: &mut Tree, op: &Op) -> Result<Reply, Refusal>
         Op::List(path) => list(alloc, tree, path.names()),
         Op::Stat(path) => Ok(stat(tree, path.names())),
         Op::Fsync => Ok(Reply::Done),
+        Op::Dsync => Ok(Reply::Done),
     }
 }
 

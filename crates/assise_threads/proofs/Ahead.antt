@@ -14,7 +14,7 @@ call_or_not : (command : Command) → CallOrNot command
 call_or_not (Call c op) = is_call tt (λ k. refl)
 call_or_not (Cluster nodes log hot) = is_none (λ is. is) (λ k. refl)
 call_or_not Manual = is_none (λ is. is) (λ k. refl)
-call_or_not (Open node kind) = is_none (λ is. is) (λ k. refl)
+call_or_not (Open node kind u) = is_none (λ is. is) (λ k. refl)
 call_or_not (Carry node) = is_none (λ is. is) (λ k. refl)
 call_or_not (Link node kind) = is_none (λ is. is) (λ k. refl)
 call_or_not (Hot node capacity) = is_none (λ is. is) (λ k. refl)

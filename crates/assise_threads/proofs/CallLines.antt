@@ -61,7 +61,7 @@ is_answered (Call c op) seen (Ok reply) is = is_replied reply refl refl
 is_answered (Call c op) seen (Err refusal) is = is_refused refusal refl refl
 is_answered (Cluster nodes log hot) seen r is = absurd is
 is_answered Manual seen r is = absurd is
-is_answered (Open node kind) seen r is = absurd is
+is_answered (Open node kind u) seen r is = absurd is
 is_answered (Carry node) seen r is = absurd is
 is_answered (Link node kind) seen r is = absurd is
 is_answered (Hot node capacity) seen r is = absurd is
@@ -88,7 +88,7 @@ one_or_none c (Call d op) = by_case (d == c) refl
     by_case false is = inl (rw is refl)
 one_or_none c (Cluster nodes log hot) = inl refl
 one_or_none c Manual = inl refl
-one_or_none c (Open node kind) = inl refl
+one_or_none c (Open node kind u) = inl refl
 one_or_none c (Carry node) = inl refl
 one_or_none c (Link node kind) = inl refl
 one_or_none c (Hot node capacity) = inl refl

@@ -70,7 +70,7 @@ pub no_call : (c : ℕ) (command : Command) → (IsClientCall command → ⊥) �
 no_call c (Call d op) none = absurd (none tt)
 no_call c (Cluster nodes log hot) none = refl
 no_call c Manual none = refl
-no_call c (Open node kind) none = refl
+no_call c (Open node kind u) none = refl
 no_call c (Carry node) none = refl
 no_call c (Link node kind) none = refl
 no_call c (Hot node capacity) none = refl

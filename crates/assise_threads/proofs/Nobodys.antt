@@ -23,7 +23,7 @@ use Rattle.assise_threads.specs.Takes.{AddsNobodys, AreNobodys}
 
 may_add : (es : List Event) → AreNobodys es → MayAddAll None es
 may_add [] q = tt
-may_add (opens c n ∷ es) q = absurd q
+may_add (opens c n u ∷ es) q = absurd q
 may_add (calls x ∷ es) q = absurd q
 may_add (crashes c ∷ es) q = (tt, may_add es q)
 may_add (fails n losses ∷ es) q = (tt, may_add es q)
@@ -31,7 +31,7 @@ may_add (returns n ∷ es) q = (tt, may_add es q)
 
 no_client : (es : List Event) → AreNobodys es → client_after None es ≡ None
 no_client [] q = refl
-no_client (opens c n ∷ es) q = absurd q
+no_client (opens c n u ∷ es) q = absurd q
 no_client (calls x ∷ es) q = absurd q
 no_client (crashes c ∷ es) q = no_client es q
 no_client (fails n losses ∷ es) q = no_client es q

@@ -80,8 +80,8 @@ hot_not_whole n capacity m es m' (is_out out is h) = let x : Whole ≡ Quiet = i
 not_whole : (command : Command) (old new : List Event) → (command ≡ History → ⊥) → AnswersCommand command Whole old new → ⊥
 not_whole (Cluster nodes log hot) old new other h = let x : Whole ≡ Quiet = h.answer in cc
 not_whole Manual old new other h = let x : Whole ≡ Quiet = h.answer in cc
-not_whole (Open node kind) old new other (is_opened c seen is e o m s) = let x : Whole ≡ Client c = is in cc
-not_whole (Open node kind) old new other (is_refused r is e) = let x : Whole ≡ Refused r = is in cc
+not_whole (Open node kind u) old new other (is_opened c seen is e o m s) = let x : Whole ≡ Client c = is in cc
+not_whole (Open node kind u) old new other (is_refused r is e) = let x : Whole ≡ Refused r = is in cc
 not_whole (Call c op) old new other (is_replied reply is e) = let x : Whole ≡ Replied reply = is in cc
 not_whole (Call c op) old new other (is_refused r is e) = let x : Whole ≡ Refused r = is in cc
 not_whole (Carry node) old new other (is_carried count is e) = let x : Whole ≡ Carried count = is in cc

@@ -1,13 +1,14 @@
 -- What each command of a run with threads is answered, and what the main thread has seen then.
 -- Assise (OSDI 2020), section 3.
 use Rattle.std.specs.Prelude.{◌≡◌, ℕ, List}
+use Rattle.assise_names.specs.declared.durability.Durability.{Durability}
 use Rattle.assise_names.specs.declared.refusal.Refusal.{Refusal}
 use Rattle.assise_names.specs.declared.refusal.Refusal.TheVariants.{Busy}
 use Rattle.assise_names.specs.declared.reply.Reply.{Reply}
 use Rattle.assise_history.specs.Entries.{Event}
 use Rattle.assise_history.specs.Legal.{IsLegal, calls_made}
 use Rattle.assise_keeper.specs.Clients.{Extends}
-use Rattle.assise_libfs.specs.Lives.{IsOpenedOn}
+use Rattle.assise_libfs.specs.Lives.{IsOpenedAs}
 use Rattle.assise_fault_script.specs.declared.command.Command.{Command}
 use Rattle.assise_fault_script.specs.declared.command.Command.TheVariants.{Cluster, Manual, Open, Call, Carry, Link, Hot, Digest, Release, Crash, Fail, Back, Refill, Join, Tree as TreeOf, History}
 use Rattle.assise_machine_events.specs.Events.{back, crash, digest, fail, join, refill, release_ready}
@@ -24,10 +25,10 @@ pub record IsSilent (a : Answer) (old new : List Event) : Type 0 where
   pub answer : a ≡ Quiet
   pub stays : new ≡ old
 
--- a client is opened on node n in a history that it has seen, and made no call; or the open is refused, and more may have been seen
-pub data OpensOne (n : ℕ) (a : Answer) (old new : List Event) : Type 0 where
-  is_opened : (c : ℕ) (h : List Event) → a ≡ Client c → Extends h old → ∥ IsOpenedOn c n h ∥₁ → calls_made c h ≡ 0 → new ≡ old → OpensOne n a old new
-  is_refused : (r : Refusal) → a ≡ Refused r → Extends new old → OpensOne n a old new
+-- a client is opened on node n, and so, in a history that it has seen, and made no call; or the open is refused, and more may have been seen
+pub data OpensOne (n : ℕ) (u : Durability) (a : Answer) (old new : List Event) : Type 0 where
+  is_opened : (c : ℕ) (h : List Event) → a ≡ Client c → Extends h old → ∥ IsOpenedAs c n u h ∥₁ → calls_made c h ≡ 0 → new ≡ old → OpensOne n u a old new
+  is_refused : (r : Refusal) → a ≡ Refused r → Extends new old → OpensOne n u a old new
 
 -- a call is answered with a reply or a refusal, which its client's thread has seen
 pub data IsCallAnswered (a : Answer) (old new : List Event) : Type 0 where
@@ -61,7 +62,7 @@ pub record PrintsHistory (a : Answer) (old new : List Event) : Type 0 where
 abbrev pub AnswersCommand : Command → Answer → List Event → List Event → Type 0
 AnswersCommand (Cluster nodes log hot) a old new = IsSilent a old new
 AnswersCommand Manual a old new = IsSilent a old new
-AnswersCommand (Open n kind) a old new = OpensOne n a old new
+AnswersCommand (Open n kind u) a old new = OpensOne n u a old new
 AnswersCommand (Call c op) a old new = IsCallAnswered a old new
 AnswersCommand (Carry n) a old new = CarriesSome a old new
 AnswersCommand (Link n kind) a old new = IsSilent a old new

@@ -39,7 +39,7 @@ abbrev pub call_in : ℕ → Command → List Op
 call_in c (Call d op) = if d == c then op ∷ [] else []
 call_in c (Cluster nodes log hot) = []
 call_in c Manual = []
-call_in c (Open node kind) = []
+call_in c (Open node kind u) = []
 call_in c (Carry node) = []
 call_in c (Link node kind) = []
 call_in c (Hot node capacity) = []

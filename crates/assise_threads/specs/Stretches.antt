@@ -25,7 +25,7 @@ abbrev pub IsClientCall : Command → Type 0
 IsClientCall (Call c op) = Unit {0}
 IsClientCall (Cluster nodes log hot) = ⊥
 IsClientCall Manual = ⊥
-IsClientCall (Open node kind) = ⊥
+IsClientCall (Open node kind u) = ⊥
 IsClientCall (Carry node) = ⊥
 IsClientCall (Link node kind) = ⊥
 IsClientCall (Hot node capacity) = ⊥

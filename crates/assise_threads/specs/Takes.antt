@@ -20,7 +20,7 @@ pub record InOneTake (Does : Machine → Told → Machine → Type 0) (old new :
 -- no client is opened and no call answered by these entries
 abbrev pub AreNobodys : List Event → Type 0
 AreNobodys [] = Unit {0}
-AreNobodys (opens c n ∷ es) = ⊥
+AreNobodys (opens c n u ∷ es) = ⊥
 AreNobodys (calls x ∷ es) = ⊥
 AreNobodys (crashes c ∷ es) = AreNobodys es
 AreNobodys (fails n losses ∷ es) = AreNobodys es

@@ -18,6 +18,7 @@ use assise_history::history::History;
 use assise_lease_table::revoker::Revoker;
 use assise_libfs::libfs::LibFs;
 use assise_machine::cluster::Cluster;
+use assise_names::durability::Durability;
 use assise_names::refusal::Refusal;
 use assise_workers::gate::OpenGate;
 use std::alloc::Global;
@@ -259,7 +260,11 @@ impl<'a> Crew<'a> {
     {
         let main = &mut self.main;
         match command {
-            Command::Open { node, kind } => self.open(rt, alloc, clients, *node, *kind),
+            Command::Open {
+                node,
+                kind,
+                durability,
+            } => self.open(rt, alloc, clients, *node, *kind, *durability),
             Command::Carry { node } => Ok(main.carry(rt, alloc, *node)),
             Command::Back { node } => Ok(main.bring_back(rt, alloc, *node, self.turns)),
             Command::Digest { node } => Ok(main.in_one_take(rt, alloc, Take::Digest(*node))),
@@ -288,8 +293,9 @@ impl<'a> Crew<'a> {
         clients: &mut Vec<LibFs<'a, Cluster>>,
         node: u64,
         kind: RevokerKind,
+        durability: Durability,
     ) -> Result<Answer, EngineFault>
-        ensures opens { IfOk result (λ answer. OpensOne node answer
+        ensures opens { IfOk result (λ answer. OpensOne node durability answer
             (main_seen self.old.main) (main_seen self.new.main)) }
         ensures clients { OnOk result (MayGain (sights clients.old.items) (sights
             clients.new.items)) }
@@ -304,7 +310,10 @@ impl<'a> Crew<'a> {
         let Some(revoker) = self.stock.take(kind) else {
             return Ok(Answer::Refused(self.main.refuse_open(rt, node)));
         };
-        match self.main.open(rt, alloc, node, revoker, self.turns) {
+        match self
+            .main
+            .open(rt, alloc, node, revoker, durability, self.turns)
+        {
             Ok(libfs) => {
                 let client = libfs.client();
                 clients.push_reserved(libfs);

@@ -12,6 +12,7 @@ use assise_lease_table::revoker::{Revoker, Revokes};
 use assise_libfs::libfs::LibFs;
 use assise_link::link::PerfectLink;
 use assise_machine::cluster::ClusterOf;
+use assise_names::durability::Durability;
 use assise_names::refusal::Refusal;
 use assise_workers::gate::OpenGate;
 use assise_workers::nodes::{NodeWorkers, workers_up_to};
@@ -38,7 +39,7 @@ impl<'a, C: Revokes + Drop> MainThreadOf<'a, C> {
     ghost use Rattle.assise_keeper.specs.Clients.{Extends};
     ghost use Rattle.assise_keeper.specs.Passes.{IsPassOf, client as client_of_pass, seen};
     ghost use Rattle.assise_libfs.specs.Clients.{client_of, seen_by};
-    ghost use Rattle.assise_libfs.specs.Lives.{IsOpenedOn};
+    ghost use Rattle.assise_libfs.specs.Lives.{IsOpenedAs};
     ghost use Rattle.assise_threads.specs.Answered.{CarriesSome, ComesBackInTakes};
     ghost use Rattle.assise_threads.specs.Takes.{InOneTake};
     ghost use Rattle.assise_threads.specs.Threads.{DoesTake, main_seen};
@@ -65,24 +66,35 @@ impl<'a, C: Revokes + Drop> MainThreadOf<'a, C> {
         workers_up_to(alloc, self.keeper, &mut self.pass, last)
     }
 
-    /// Opens a client on a node. Refused, the revoker comes back.
+    /// Opens a client on a node, whose fsyncs are served so. Refused, the revoker comes back.
     pub(crate) fn open<R: Wait>(
         &mut self,
         rt: &R,
         alloc: Global,
         node: u32,
         revoker: C,
+        durability: Durability,
         turns: u32,
     ) -> Result<LibFs<'a, ClusterOf<C>>, (Refusal, C)>
         requires some_turns { 1 ≤ turns }
         requires few_turns { turns ≤ 1000000 }
         ensures stays { main_seen self.new ≡ main_seen self.old }
         ensures extends { IfOk result (λ it. Extends (seen_by it) (main_seen self.old)) }
-        ensures opened { IfOk result (λ it. ∥ IsOpenedOn (client_of it) node (seen_by it) ∥₁) }
+        ensures opened { IfOk result
+            (λ it. ∥ IsOpenedAs (client_of it) node durability (seen_by it) ∥₁) }
         ensures no_calls { IfOk result (λ it. calls_made (client_of it) (seen_by it) ≡ 0) }
     {
         let pass = self.keeper.split(&mut self.pass);
-        match LibFs::open(rt, alloc, self.keeper, pass, node, revoker, turns) {
+        match LibFs::open(
+            rt,
+            alloc,
+            self.keeper,
+            pass,
+            node,
+            revoker,
+            durability,
+            turns,
+        ) {
             Ok(libfs) => Ok(libfs),
             Err((refusal, _, revoker)) => Err((refusal, revoker)),
         }

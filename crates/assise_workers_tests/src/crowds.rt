@@ -12,6 +12,7 @@ use assise_keeper::worker_pass::WorkerPass;
 use assise_lease_table::revoker::Revoker;
 use assise_libfs::libfs::LibFs;
 use assise_machine::cluster::Cluster;
+use assise_names::durability::Durability;
 use assise_names::refusal::Refusal;
 use assise_names::reply::Reply;
 use assise_revokers::kinds::least;
@@ -87,7 +88,17 @@ fn list_of<'a, R: Wait>(
     let node = client % crowd.nodes.max(1) + 1;
     let pass = keeper.split(main);
     let calls = calls_in(alloc, script_of(alloc, crowd, client)?.as_str())?;
-    let libfs = LibFs::open(rt, alloc, keeper, pass, node, revoker, TURNS).ok()?;
+    let libfs = LibFs::open(
+        rt,
+        alloc,
+        keeper,
+        pass,
+        node,
+        revoker,
+        Durability::Pessimistic,
+        TURNS,
+    )
+    .ok()?;
     ClientList::new(alloc, libfs, calls).ok()
 }
 

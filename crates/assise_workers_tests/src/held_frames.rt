@@ -11,6 +11,7 @@ use assise_libfs::libfs::LibFs;
 use assise_libfs::served::Served;
 use assise_machine::cluster::Cluster;
 use assise_names::byte_string::ByteString;
+use assise_names::durability::Durability;
 use assise_names::path::Path;
 use assise_names::reply::Reply;
 use assise_revokers::kinds::least;
@@ -99,8 +100,28 @@ fn settle<'a, R: Threads + Wait + Sync>(
     ensures { IsPassOf keeper.now main.new }
 {
     let (one, two) = (keeper.split(main), keeper.split(main));
-    let first = LibFs::open(rt, alloc, keeper, one, 1, revokers.0, TURNS).ok()?;
-    let second = LibFs::open(rt, alloc, keeper, two, 2, revokers.1, TURNS).ok()?;
+    let first = LibFs::open(
+        rt,
+        alloc,
+        keeper,
+        one,
+        1,
+        revokers.0,
+        Durability::Pessimistic,
+        TURNS,
+    )
+    .ok()?;
+    let second = LibFs::open(
+        rt,
+        alloc,
+        keeper,
+        two,
+        2,
+        revokers.1,
+        Durability::Pessimistic,
+        TURNS,
+    )
+    .ok()?;
     let first = serve_alone(rt, alloc, keeper, main, gate, first, MAKES)?;
     let second = serve_alone(rt, alloc, keeper, main, gate, second, TAKES_G)?;
     let first = serve_alone(rt, alloc, keeper, main, gate, first, TAKES_F)?;

@@ -7,6 +7,8 @@ use assise_keeper::pass::Pass;
 use assise_lease_table::revoker::Revoker;
 use assise_link::link::PerfectLink;
 use assise_machine::cluster::Cluster;
+use assise_names::call::Op;
+use assise_names::durability::Durability;
 use assise_names::refusal::Refusal;
 use assise_revokers::kinds::least;
 use assise_workers::gate::OpenGate;
@@ -17,13 +19,22 @@ use std::sync::Wait;
 /// A cluster of two nodes whose one client made a file and waits for an fsync. None where memory runs out.
 fn waiting(alloc: Global) -> Option<Cluster> {
     let cut: Cut = Box::new(alloc, least).ok()?;
+    let calls = calls_in(alloc, "1 create /f\n")?;
     let mut cluster = Cluster::new(alloc, 2, 8, 4).ok()?;
-    cluster.open(alloc, 1, Revoker::new(cut)).ok()?;
-    for op in calls_in(alloc, "1 create /f\n")? {
-        cluster.try_call(alloc, 1, &op).ok()?;
+    begin(alloc, &mut cluster, Revoker::new(cut), calls.as_slice())?;
+    Some(cluster)
+}
+
+/// Client 1 is opened, makes calls and waits for an fsync. None where memory runs out.
+fn begin(alloc: Global, cluster: &mut Cluster, revoker: Revoker, calls: &[Op]) -> Option<()> {
+    cluster
+        .open(alloc, 1, revoker, Durability::Pessimistic)
+        .ok()?;
+    for op in calls {
+        cluster.try_call(alloc, 1, op).ok()?;
     }
     cluster.try_fsync(1).ok()?;
-    Some(cluster)
+    Some(())
 }
 
 /// Whether a turn did its one thing, or nothing for want of memory.

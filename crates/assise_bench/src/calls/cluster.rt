@@ -7,6 +7,7 @@ use assise_machine_calls::opening::open;
 use assise_machine_calls::turn::Turn;
 use assise_machine_state::sound::SoundOf;
 use assise_names::call::Op;
+use assise_names::durability::Durability;
 use assise_names::reply::Reply;
 use std::alloc::Global;
 
@@ -16,7 +17,14 @@ pub(crate) type Cluster = SoundOf<Least>;
 /// Opens so many clients, which live on either of two nodes in turn, the first on node 1.
 pub(crate) fn open_all(alloc: Global, cluster: &mut Cluster, clients: u32) -> Option<()> {
     for number in 0..clients {
-        open(alloc, cluster, 1 + number % 2, Least).ok()?;
+        open(
+            alloc,
+            cluster,
+            1 + number % 2,
+            Least,
+            Durability::Pessimistic,
+        )
+        .ok()?;
     }
     Some(())
 }

@@ -5,6 +5,7 @@ use crate::rounds::made::{directory, file};
 use crate::rounds::setting::{Parts, Setting};
 use assise_machine::turn::Turn;
 use assise_names::call::Op;
+use assise_names::durability::Durability;
 use assise_names::reply::Reply;
 use std::alloc::Global;
 
@@ -23,7 +24,9 @@ pub(crate) fn cluster_of(alloc: Global, nodes: u32) -> Option<Cluster> {
 pub(crate) fn open_all(alloc: Global, cluster: &mut Cluster, setting: Setting) -> Option<()> {
     for number in 0..setting.clients {
         let node = 1 + number.checked_rem(setting.nodes)?;
-        cluster.open(alloc, node, Least).ok()?;
+        cluster
+            .open(alloc, node, Least, Durability::Pessimistic)
+            .ok()?;
     }
     Some(())
 }

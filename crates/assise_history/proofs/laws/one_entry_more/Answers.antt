@@ -6,7 +6,7 @@ pub returns-clause-any : goal.returns-clause-any
 returns-clause-any c = λ h e. one_more h e
 
 pub returns-clause-opened : goal.returns-clause-opened
-returns-clause-opened c = λ h client n. open_more h client n
+returns-clause-opened c = λ h client n u. open_more h client n u
 
 pub returns-clause-called : goal.returns-clause-called
 returns-clause-called c = λ h x. call_more h x

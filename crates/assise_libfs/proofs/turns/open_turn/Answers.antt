@@ -8,5 +8,5 @@ use Rattle.assise_libfs.proofs.turns.open_turn.Goals as goal
 pub returns-clause-no_calls : goal.returns-clause-no_calls
 returns-clause-no_calls g c =
     let given : seen c.give.new.pass ≡ g.S.Growing.history c.open-opened.new.self = search rules in
-    let none = none_of_opened _ _ c.args.node c.open-opened.result c.open-opened.ensures.opened (g.met.S.Served.legal c.open-opened.new.self) in
+    let none = none_of_opened _ _ c.args.node c.args.durability c.open-opened.result c.open-opened.ensures.opened (g.met.S.Served.legal c.open-opened.new.self) in
     subst (λ h. IfOk c.open-opened.result (λ client. calls_made client h ≡ 0)) (sym given) none

@@ -6,7 +6,7 @@ use Rattle.assise_machine_state.specs.Shape.{AreNoted}
 use Rattle.assise_machine_state.specs.Whole.{value_of}
 use Rattle.assise_machine_state.proofs.Owning.{own_log}
 use Rattle.assise_machine_calls.proofs.Answering.{IsAsked, cuts_in, few_asked, is_asked_in, lent, running_holder}
-use Rattle.assise_machine_calls.proofs.Fsyncing.{fine_number}
+use Rattle.assise_machine_calls.proofs.Syncing.{fine_number}
 use Rattle.assise_machine_calls.proofs.Leasing.{are_leases, home_known}
 use Rattle.assise_machine_calls.proofs.Trying.{same_levels}
 use Rattle.assise_machine_calls.proofs.asking.ask.Given as given

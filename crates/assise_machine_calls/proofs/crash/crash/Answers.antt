@@ -7,7 +7,7 @@ use Rattle.assise_machine_state.specs.ClientValues.{client_in, crashed_at, with_
 use Rattle.assise_machine_state.specs.Observed.{observed, world_of}
 use Rattle.assise_machine_state.specs.StateValues.{StateValue}
 use Rattle.assise_machine_state.specs.Whole.{value_of}
-use Rattle.assise_machine_calls.proofs.Fsyncing.{fine_number, place_is}
+use Rattle.assise_machine_calls.proofs.Syncing.{fine_number, place_is}
 use Rattle.assise_machine_calls.proofs.Crashed.{HasCrashed, given}
 use Rattle.assise_machine_calls.proofs.crash.crash.Given as over
 use Rattle.assise_machine_calls.proofs.crash.crash.Goals as goal

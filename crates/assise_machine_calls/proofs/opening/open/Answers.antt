@@ -74,15 +74,15 @@ invariant_of-sound-2 g c =
     let levels = levels_of c.enrol.new.self in
     let fine : open_fault (observed s) c.args.node ≡ None = sym c.open_refusal.ensures ∙ c.in_default.is in
     let number : c.len.result + 1 ≡ suc (length c.args.sound.now.state.clients) = omega (arith, c.len.ensures) in
-    let told = c.push.ensures.grown ∙ ap (λ e. v.history ++ e ∷ []) (c.open-2.ensures ∙ ap (λ k. opens k c.args.node) number) in
-    let same = done s v c.args.node c.open.new.self levels c.push.new.self.events c.in_default-begin.ensures.ok c.open.ensures told in
+    let told = c.push.ensures.grown ∙ ap (λ e. v.history ++ e ∷ []) (c.open-2.ensures ∙ ap (λ k. opens k c.args.node c.args.durability) number) in
+    let same = done s v c.args.node c.args.durability c.open.new.self levels c.push.new.self.events c.in_default-begin.ensures.ok c.open.ensures told in
     let enrols : EnrolsAt s.levels levels (suc (length s.clients)) c.args.node =
     subst (λ t. EnrolsAt (levels_of t) levels (suc (length s.clients)) c.args.node) c.begin.ensures.revokers (subst (λ k. EnrolsAt (levels_of c.begin.new.state.leases) levels k c.args.node) number c.in_default-enrol.ensures.ok) in
     record {
       holds = subst (λ u. ∥ Holds (observed u) ∥₁) (sym same)
-          (∥∥₁_map c.args.sound.now.holds (λ h. event_keeps (observed s) (observed (after_open s c.args.node levels)) (open_client c.args.node) (opened (suc (length s.clients))) h (is_event s c.args.node levels c.args.sound.now.shape fine c.args.sound.now.noted enrols)));
-      shape = subst IsShaped (sym same) (keeps_shape s c.args.node levels c.args.sound.now.shape fine);
-      noted = subst AreNoted (sym same) (open_noted s c.args.node levels c.args.sound.now.noted enrols);
+          (∥∥₁_map c.args.sound.now.holds (λ h. event_keeps (observed s) (observed (after_open s c.args.node c.args.durability levels)) (open_client c.args.node c.args.durability) (opened (suc (length s.clients))) h (is_event s c.args.node c.args.durability levels c.args.sound.now.shape fine c.args.sound.now.noted enrols)));
+      shape = subst IsShaped (sym same) (keeps_shape s c.args.node c.args.durability levels c.args.sound.now.shape fine);
+      noted = subst AreNoted (sym same) (open_noted s c.args.node c.args.durability levels c.args.sound.now.noted enrols);
     }
 
 pub returns-clause-happens : goal.returns-clause-happens
@@ -92,9 +92,9 @@ returns-clause-happens g c =
     let levels = levels_of c.enrol.new.self in
     let fine : open_fault (observed s) c.args.node ≡ None = sym c.open_refusal.ensures ∙ c.in_default.is in
     let number : c.len.result + 1 ≡ suc (length c.args.sound.now.state.clients) = omega (arith, c.len.ensures) in
-    let told = c.push.ensures.grown ∙ ap (λ e. v.history ++ e ∷ []) (c.open-2.ensures ∙ ap (λ k. opens k c.args.node) number) in
-    let same = done s v c.args.node c.open.new.self levels c.push.new.self.events c.in_default-begin.ensures.ok c.open.ensures told in
+    let told = c.push.ensures.grown ∙ ap (λ e. v.history ++ e ∷ []) (c.open-2.ensures ∙ ap (λ k. opens k c.args.node c.args.durability) number) in
+    let same = done s v c.args.node c.args.durability c.open.new.self levels c.push.new.self.events c.in_default-begin.ensures.ok c.open.ensures told in
     let enrols : EnrolsAt s.levels levels (suc (length s.clients)) c.args.node =
     subst (λ t. EnrolsAt (levels_of t) levels (suc (length s.clients)) c.args.node) c.begin.ensures.revokers (subst (λ k. EnrolsAt (levels_of c.begin.new.state.leases) levels k c.args.node) number c.in_default-enrol.ensures.ok) in
-    subst (λ u. Opening (observed s) c.args.node (opened (c.len.result + 1)) (observed u)) (sym same)
-    (subst (λ k. Opening (observed s) c.args.node (opened k) (observed (after_open s c.args.node levels))) (sym number) (is_event s c.args.node levels c.args.sound.now.shape fine c.args.sound.now.noted enrols))
+    subst (λ u. Opening (observed s) c.args.node c.args.durability (opened (c.len.result + 1)) (observed u)) (sym same)
+    (subst (λ k. Opening (observed s) c.args.node c.args.durability (opened k) (observed (after_open s c.args.node c.args.durability levels))) (sym number) (is_event s c.args.node c.args.durability levels c.args.sound.now.shape fine c.args.sound.now.noted enrols))

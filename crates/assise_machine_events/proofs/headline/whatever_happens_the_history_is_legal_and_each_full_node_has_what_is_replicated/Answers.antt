@@ -21,7 +21,7 @@ pub returns-clause-alone : goal.returns-clause-alone
 returns-clause-alone r = λ nodes limit es m some run n full. (safe m (reached_holds nodes limit es m some run)).rebuilt n full
 
 pub returns-clause-synced : goal.returns-clause-synced
-returns-clause-synced r = λ nodes limit es m some run before later x split is. (safe m (reached_holds nodes limit es m some run)).fsynced before later x split is
+returns-clause-synced r = λ nodes limit es m some run before later x split is. (safe m (reached_holds nodes limit es m some run)).synced before later x split is
 
 pub returns-clause-handed_over : goal.returns-clause-handed_over
 returns-clause-handed_over r = λ nodes limit es m some run c i away. handed_over_firm m (reached_holds nodes limit es m some run) c i away

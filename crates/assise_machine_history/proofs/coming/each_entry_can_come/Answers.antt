@@ -2,7 +2,7 @@ use Rattle.assise_machine_history.proofs.Happening.{can_call, can_crash, can_fai
 use Rattle.assise_machine_history.proofs.coming.each_entry_can_come.Goals as goal
 
 pub returns-clause-opening : goal.returns-clause-opening
-returns-clause-opening c = λ s n full. can_open s n full
+returns-clause-opening c = λ s n u full. can_open s n u full
 
 pub returns-clause-call : goal.returns-clause-call
 returns-clause-call c = λ s x sound may replicated. can_call s x sound may replicated

@@ -1,4 +1,4 @@
-use Rattle.assise_machine_history.proofs.Recording.{call_answered, call_fits, call_recorded, fsync_firm}
+use Rattle.assise_machine_history.proofs.Recording.{call_answered, call_fits, call_recorded, sync_firm}
 use Rattle.assise_machine_history.proofs.entries.a_call_is_recorded.Goals as goal
 
 pub returns-clause-fits : goal.returns-clause-fits
@@ -11,4 +11,4 @@ pub returns-clause-recorded : goal.returns-clause-recorded
 returns-clause-recorded c = λ s t x sound r e. call_recorded s x t sound r e
 
 pub returns-clause-firm : goal.returns-clause-firm
-returns-clause-firm c = λ s t x e fsync. fsync_firm s x t e fsync
+returns-clause-firm c = λ s t x e sync. sync_firm s x t e sync

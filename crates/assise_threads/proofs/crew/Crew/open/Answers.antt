@@ -2,7 +2,7 @@ use Rattle.std.proofs.Common.{rules, ◌≡◌, ap, refl, subst}
 use Rattle.assise_keeper.proofs.Adding.{extends-same}
 use Rattle.assise_console.specs.declared.answer.Answer.TheVariants.{Client}
 use Rattle.assise_libfs.specs.Clients.{client_of, seen_by}
-use Rattle.assise_libfs.specs.Lives.{IsOpenedOn}
+use Rattle.assise_libfs.specs.Lives.{IsOpenedAs}
 use Rattle.assise_threads.specs.Answered.{is_opened, is_refused}
 use Rattle.assise_threads.specs.Threads.{main_seen}
 use Rattle.assise_threads.proofs.Nobodys.{extends_as_it_is}
@@ -20,7 +20,7 @@ returns-in-Ok-open-clause-opens g c =
     let it = c.in-Ok-open.libfs in
     let same : c.in-Ok.node ≡ c.args.node = search rules in
     is_opened (client_of it) (seen_by it) (ap Client c.client-client.ensures) c.in-Ok-open.ensures.extends
-    (subst (λ n. ∥ IsOpenedOn (client_of it) n (seen_by it) ∥₁) same c.in-Ok-open.ensures.opened) c.in-Ok-open.ensures.no_calls c.in-Ok-open.ensures.stays
+    (subst (λ n. ∥ IsOpenedAs (client_of it) n c.args.durability (seen_by it) ∥₁) same c.in-Ok-open.ensures.opened) c.in-Ok-open.ensures.no_calls c.in-Ok-open.ensures.stays
 
 pub returns-in-Ok-open-clause-clients : goal.returns-in-Ok-open-clause-clients
 returns-in-Ok-open-clause-clients g c =

@@ -1,4 +1,4 @@
--- What was fsynced is kept.
+-- What was synced is kept.
 use Rattle.std.proofs.Common.{◌≡◌, ℕ, ◌<◌, true, false, List, [], ◌∷◌, ◌++◌, Contains, refl, ap, sym, subst, ◌∙◌, ◌⊎◌, inl, inr, arith, append_assoc, eq-eqb}
 use Rattle.std.specs.List.{list_any}
 use Rattle.std.proofs.lemmas.Bool.{both_ways}
@@ -12,7 +12,7 @@ use Rattle.assise_history.proofs.Lost.{kept_from}
 use Rattle.assise_history.proofs.OneMore.{follows_in}
 use Rattle.assise_history.proofs.Passing.{passes_at}
 use Rattle.assise_history.proofs.Standing.{SamePlace, one_place}
-use Rattle.assise_machine_history.specs.Courses.{IsFsynced}
+use Rattle.assise_machine_history.specs.Courses.{IsSynced}
 
 -- where two entries of a list stand to one another
 record Between {X : Type 0} (before since : List X) (x : X) (front behind : List X) (y : X) : Type 0 where
@@ -50,32 +50,32 @@ placed (b ∷ before) since x (f ∷ front) behind y h =
 failed_since : (h front rest : List Event) (c n : ℕ) (losses : List Loss) → IsLegal h → h ≡ front ++ fails n losses ∷ rest → IsOn front c n → MayCall h c → ⊥
 failed_since h front rest c n losses legal split on may =
     let since : List Event = on.since ++ fails n losses ∷ rest in
-    let there : h ≡ on.before ++ opens c n ∷ since = split ∙ ap (λ es. es ++ fails n losses ∷ rest) on.split ∙ append_assoc on.before (opens c n ∷ on.since) (fails n losses ∷ rest) in
-    let same : SamePlace on.before since n may.before may.since may.node = one_place h legal c n may.node on.before since may.before may.since there may.split in
+    let there : h ≡ on.before ++ opens c n on.durability ∷ since = split ∙ ap (λ es. es ++ fails n losses ∷ rest) on.split ∙ append_assoc on.before (opens c n on.durability ∷ on.since) (fails n losses ∷ rest) in
+    let same : SamePlace on.before since n on.durability may.before may.since may.node may.durability = one_place h legal c n may.node on.durability may.durability on.before since may.before may.since there may.split in
     let some : list_any (is_failure_of n) since ≡ true = passes_at (is_failure_of n) on.since rest (fails n losses) (eq-eqb n n refl) in
     let none : list_any (is_failure_of n) since ≡ false = subst (λ m. list_any (is_failure_of m) since ≡ false) (sym same.node) (subst (λ es. list_any (is_failure_of may.node) es ≡ false) (sym same.rest) may.no_failure) in
     both_ways (list_any (is_failure_of n) since) none some
 
--- no failure takes it, neither before the fsync nor after it
-not_taken : (h before since : List Event) (y : Call) → IsLegal h → h ≡ before ++ calls y ∷ since → IsFsynced h y → IsTaken since y → ⊥
+-- no failure takes it, neither before the sync nor after it
+not_taken : (h before since : List Event) (y : Call) → IsLegal h → h ≡ before ++ calls y ∷ since → IsSynced h y → IsTaken since y → ⊥
 not_taken h before since y legal split f t =
     let front : List Event = before ++ calls y ∷ t.before in
     let failed : h ≡ front ++ fails t.node t.losses ∷ t.behind = split ∙ ap (λ es. before ++ calls y ∷ es) t.split ∙ sym (append_assoc before (calls y ∷ t.before) (fails t.node t.losses ∷ t.behind)) in
     let fair : IsFair front t.node t.losses = follows_in h front t.behind (fails t.node t.losses) legal failed in
     let may : MayLose front t.node t.loss = fair.each t.lower t.higher t.loss t.listed in
-    let same : f.fsync.client ≡ t.loss.client = f.client ∙ sym t.client in
-    elim (placed f.before f.since (calls f.fsync) front t.behind (fails t.node t.losses) (sym f.split ∙ failed)) [
-      | inl p ↦ let never : calls f.fsync ≡ fails t.node t.losses = p.entry_is in cc
+    let same : f.sync.client ≡ t.loss.client = f.client ∙ sym t.client in
+    elim (placed f.before f.since (calls f.sync) front t.behind (fails t.node t.losses) (sym f.split ∙ failed)) [
+      | inl p ↦ let never : calls f.sync ≡ fails t.node t.losses = p.entry_is in cc
       | inr more ↦ elim more [
         | inl p ↦
-            let past : f.fsync.number < t.loss.first = may.past f.before p.rest f.fsync p.front_is same f.is_one in
+            let past : f.sync.number < t.loss.first = may.past f.before p.rest f.sync p.front_is same f.is_one in
             omega (arith, past, t.first, f.number)
         | inr p ↦
-            let next : IsNextCall f.before f.fsync = follows_in h f.before f.since (calls f.fsync) legal f.split in
+            let next : IsNextCall f.before f.sync = follows_in h f.before f.since (calls f.sync) legal f.split in
             let ready : MayCall f.before t.loss.client = subst (λ c. MayCall f.before c) same next.ready in
-            failed_since f.before front p.rest t.loss.client t.node t.losses (front_in h f.before (calls f.fsync ∷ f.since) legal f.split) p.front_is may.on ready
+            failed_since f.before front p.rest t.loss.client t.node t.losses (front_in h f.before (calls f.sync ∷ f.since) legal f.split) p.front_is may.on ready
       ]
     ]
 
-pub fsynced_kept : (h before since : List Event) (y : Call) → IsLegal h → h ≡ before ++ calls y ∷ since → IsFsynced h y → Contains (kept h) y
-fsynced_kept h before since y legal split f = kept_from h y record { before = before; later = since; split = split; safe = not_taken h before since y legal split f }
+pub synced_kept : (h before since : List Event) (y : Call) → IsLegal h → h ≡ before ++ calls y ∷ since → IsSynced h y → Contains (kept h) y
+synced_kept h before since y legal split f = kept_from h y record { before = before; later = since; split = split; safe = not_taken h before since y legal split f }

@@ -1,0 +1,130 @@
+// A client's syncs: an fsync, and a dsync.
+ghost use Rattle.std.specs.Prelude.{◌≡◌, None};
+ghost use Rattle.assise_history.specs.Legal.{durability_of};
+ghost use Rattle.assise_lease_table.specs.Tables.{SameRevokers};
+ghost use Rattle.assise_lease_tree.specs.Trees.{stored_by};
+ghost use Rattle.assise_machine_events.specs.ClientEvents.{Noting, Syncing};
+ghost use Rattle.assise_machine_events.specs.Faults.{client_fault};
+ghost use Rattle.assise_machine_events.specs.Happenings.{Fsyncing};
+ghost use Rattle.assise_machine_state.specs.Whole.{machine_of};
+ghost use Rattle.assise_machine_calls.specs.Answers.{turn_answer};
+ghost use Rattle.assise_machine_calls.specs.SyncCalls.{op_of};
+ghost use Rattle.assise_names.specs.declared.call.Op.TheVariants.{Dsync};
+ghost use Rattle.assise_names.specs.declared.durability.Durability.TheVariants.{Optimistic};
+
+use crate::faults::client_refusal;
+use crate::turn::Turn;
+use assise_history::call::Call;
+use assise_history::entry::Entry;
+use assise_lease_table::revoker::Revokes;
+use assise_machine_state::sound::SoundOf;
+use assise_names::call::Op;
+use assise_names::durability::Durability;
+use assise_names::refusal::Refusal;
+use assise_names::reply::Reply;
+
+/// Tries a client's fsync. A pessimistic client's waits, as [`try_dsync`] says. An optimistic client's is answered at once, with
+/// one entry of the history, and promises nothing. Refused as [`client_refusal`] says; with [`Refusal::OutOfMemory`] only where
+/// it would be answered, and then all stays as it was.
+pub fn try_fsync<C: Revokes + Drop>(sound: &mut SoundOf<C>, client: u32) -> Result<Turn, Refusal>
+    ensures happens { Fsyncing (durability_of client (machine_of sound.old.state).history)
+        (machine_of sound.old.state) client (turn_answer result)
+        (machine_of sound.new.state) }
+    ensures revokers { SameRevokers (stored_by sound.old.state.leases)
+        (stored_by sound.new.state.leases) }
+{
+    if let Some(refusal) = client_refusal(&sound.state, client) {
+        return Err(refusal);
+    }
+    match sound.state.clients.get(client).durability() {
+        Durability::Pessimistic => sync(sound, client, SyncCall::Fsync),
+        Durability::Optimistic => note(sound, client),
+    }
+}
+
+/// Tries a client's dsync: all of its log is to be replicated, and it is answered once all full nodes have all of it, with one
+/// entry of the history. Refused as [`client_refusal`] says; with [`Refusal::OutOfMemory`] only where it would be answered, and
+/// then all stays as it was.
+pub fn try_dsync<C: Revokes + Drop>(sound: &mut SoundOf<C>, client: u32) -> Result<Turn, Refusal>
+    ensures happens { Syncing (machine_of sound.old.state) client Dsync (turn_answer result)
+        (machine_of sound.new.state) }
+    ensures revokers { SameRevokers (stored_by sound.old.state.leases)
+        (stored_by sound.new.state.leases) }
+{
+    if let Some(refusal) = client_refusal(&sound.state, client) {
+        return Err(refusal);
+    }
+    sync(sound, client, SyncCall::Dsync)
+}
+
+/// A call that may be a sync.
+#[derive(Clone, Copy)]
+enum SyncCall {
+    /// An fsync.
+    Fsync,
+    /// A dsync.
+    Dsync,
+}
+
+fn op_of(which: SyncCall) -> Op
+    ensures { result ≡ op_of which }
+{
+    match which {
+        SyncCall::Fsync => Op::Fsync,
+        SyncCall::Dsync => Op::Dsync,
+    }
+}
+
+/// Raises the goal of a client that may call, and answers the call once all full nodes have all of its log. The one refusal is
+/// [`Refusal::OutOfMemory`].
+fn sync<C: Revokes + Drop>(
+    sound: &mut SoundOf<C>,
+    client: u32,
+    which: SyncCall,
+) -> Result<Turn, Refusal>
+    requires fine { client_fault (machine_of sound.old.state) client ≡ None }
+    ensures happens { Syncing (machine_of sound.old.state) client (op_of which)
+        (turn_answer result) (machine_of sound.new.state) }
+    ensures revokers { SameRevokers (stored_by sound.old.state.leases)
+        (stored_by sound.new.state.leases) }
+{
+    let state = &mut sound.state;
+    let end = state.own_region(client).log(client as usize).end();
+    if state.acked(client) < end {
+        state.clients.raise_goal(client, end);
+        return Ok(Turn::NotYet);
+    }
+    state.history.reserve()?;
+    let number = state.clients.get(client).next();
+    state.history.push(Entry::call(Call {
+        client,
+        number,
+        op: op_of(which),
+        reply: Reply::Done,
+    }));
+    state.clients.raise_goal(client, end);
+    state.clients.note_call(client, false);
+    Ok(Turn::Answered(Reply::Done))
+}
+
+/// Answers an fsync of an optimistic client that may call. The one refusal is [`Refusal::OutOfMemory`].
+fn note<C: Revokes + Drop>(sound: &mut SoundOf<C>, client: u32) -> Result<Turn, Refusal>
+    requires fine { client_fault (machine_of sound.old.state) client ≡ None }
+    requires optimistic { durability_of client (machine_of sound.old.state).history ≡ Optimistic }
+    ensures happens { Noting (machine_of sound.old.state) client (turn_answer result)
+        (machine_of sound.new.state) }
+    ensures revokers { SameRevokers (stored_by sound.old.state.leases)
+        (stored_by sound.new.state.leases) }
+{
+    let state = &mut sound.state;
+    state.history.reserve()?;
+    let number = state.clients.get(client).next();
+    state.history.push(Entry::call(Call {
+        client,
+        number,
+        op: Op::Fsync,
+        reply: Reply::Done,
+    }));
+    state.clients.note_call(client, false);
+    Ok(Turn::Answered(Reply::Done))
+}
