@@ -1,6 +1,7 @@
 //! `digest KIND PLACE INODES TURNS`: appends 64 records of one client to a region of so many inodes, digests them and lets them go, so
-//! many times. KIND is `creates`, of files in a directory of 4,032 entries, which are taken out again, or `writes`, of 4 KiB into
-//! files of 1 MiB. PLACE is `home`, where the client lives on the node, or `away`.
+//! many times. KIND is `creates`, of files in a directory of 4,032 entries, which are taken out again, `writes`, of 4 KiB into files
+//! of 1 MiB in turn, `file`, of 4 KiB into one of them, or `group`, the same as one group. PLACE is `home`, where the client lives
+//! on the node, or `away`.
 //!
 //! `digest refused` appends three records, digests them, and says how often either was refused. A refused call is made again.
 mod built;
@@ -44,6 +45,8 @@ fn kind_of(text: &str) -> Option<Kind> {
     match text {
         "creates" => Some(Kind::Create),
         "writes" => Some(Kind::Write),
+        "file" => Some(Kind::OneFile),
+        "group" => Some(Kind::Group),
         _ => None,
     }
 }

@@ -9,7 +9,7 @@ use Rattle.assise_record.specs.LogRecord.{LogRecord}
 use Rattle.assise_record.specs.LogFrame.{LogFrame}
 use Rattle.assise_private_log.specs.NumberedLog.{NumberedLog, end, record_at, records_from, with_record, without_front}
 use Rattle.assise_chain.specs.Acceptance.{accepted, records_past}
-use Rattle.assise_chain.specs.Messages.{first_sent, sent}
+use Rattle.assise_chain.specs.Messages.{count_sent, first_sent, sent}
 use Rattle.assise_chain.specs.Passing.{IsFrontOf}
 
 -- ---- places
@@ -93,7 +93,7 @@ pub part_sent : (l : NumberedLog) (from to : ℕ) (whole : NumberedLog) → IsPa
 part_sent l from to whole part = record {
   agrees = λ k r is here.
       let rs = records_from l from in
-      let one = of_take (to - first_sent l from) rs k r (of_take 64 (take (to - first_sent l from) rs) k r is) in
+      let one = of_take (to - first_sent l from) rs k r (of_take (count_sent l from to) (take (to - first_sent l from) rs) k r is) in
       let number : l.first + ((from - l.first) + k) ≡ first_sent l from + k = omega arith in
       let there = part.agrees ((from - l.first) + k) r (of_drop (from - l.first) l.records k r one) (omega arith) in
       ap (λ n. slice_get whole.records (n - whole.first)) (sym number) ∙ there;

@@ -1,10 +1,13 @@
 -- Fronts of records: what is sent, and what was read of an iterator.
-use Rattle.std.proofs.Common.{◌≡◌, ℕ, zero, suc, ◌+◌, ◌-◌, ◌<◌, min, max, List, [], ◌∷◌, length, take, Some, ap, sym, ◌∙◌, refl, arith}
-use Rattle.std.proofs.lemmas.List.{take_min, length-drop}
+use Rattle.std.proofs.Common.{◌≡◌, ℕ, zero, suc, ◌+◌, ◌-◌, ◌<◌, ◌≤◌, min, max, List, [], ◌∷◌, length, take, None, Some, ap, sym, ◌∙◌, refl, arith, true, inl, inr}
+use Rattle.std.proofs.lemmas.Bool.{both_ways, cases_lt}
+use Rattle.std.proofs.lemmas.List.{length-drop, length-take, length-take-le}
 use Rattle.assise_record.specs.LogRecord.{LogRecord}
 use Rattle.assise_record.specs.LogFrame.{LogFrame}
-use Rattle.assise_private_log.specs.NumberedLog.{NumberedLog, end, records_from}
-use Rattle.assise_chain.specs.Messages.{first_sent, frame_of, sent}
+use Rattle.assise_private_log.specs.Borders.{IsWholeCount, whole_count}
+use Rattle.assise_private_log.specs.NumberedLog.{IsNumberedLog, NumberedLog, end, is_border, records_from}
+use Rattle.assise_private_log.proofs.Bordering.{is_whole, some_whole}
+use Rattle.assise_chain.specs.Messages.{count_sent, first_sent, frame_of, records_between, sent}
 
 -- the first item of a front
 pub taken_first : {X : Type 0} (n m : ℕ) (xs ys : List X) (x : X) → m + 1 ≡ n → xs ≡ x ∷ ys → take n xs ≡ x ∷ take m ys
@@ -19,19 +22,82 @@ take-take (suc m) zero xs = let none : min (suc m) zero ≡ zero = omega arith i
 take-take (suc m) (suc n) [] = let some : min (suc m) (suc n) ≡ suc (min m n) = omega arith in rw some refl
 take-take (suc m) (suc n) (x ∷ xs) = let some : min (suc m) (suc n) ≡ suc (min m n) = omega arith in rw some (ap (λ l. x ∷ l) (take-take m n xs))
 
--- what is sent is so many of the records from a number on
-pub sent_first : (l : NumberedLog) (from to count : ℕ) → count ≡ min (min to (end l) - max from l.first) 64 → sent l from to ≡ take count (records_from l from)
-sent_first l from to count is =
+-- how many records lie between two numbers
+pub length_between : (l : NumberedLog) (from to : ℕ) → length (records_between l from to) ≡ min to (end l) - max from l.first
+length_between l from to =
     let there : length (records_from l from) ≡ length l.records - (from - l.first) = length-drop (from - l.first) l.records in
-    let same : min (min 64 (to - first_sent l from)) (length (records_from l from)) ≡ count = omega arith in
-    take-take 64 (to - first_sent l from) (records_from l from)
-    ∙ sym (take_min (min 64 (to - first_sent l from)) (records_from l from))
-    ∙ ap (λ k. take k (records_from l from)) same
+    omega (arith, length-take (to - first_sent l from) (records_from l from))
+
+-- so many records are counted of those from a number on and below another
+pub record IsCounted (l : NumberedLog) (from to first most count : ℕ) : Type 0 where
+  pub first_is : first ≡ first_sent l from
+  pub most_is : most ≡ min 64 (min to (end l) - first)
+  pub count_is : count ≡ whole_count l first most
+
+counted : (l : NumberedLog) (from to first most count : ℕ) → IsCounted l from to first most count → count_sent l from to ≡ count
+counted l from to first most count is =
+    let same : min 64 (length (records_between l from to)) ≡ most = omega (arith, length_between l from to, is.first_is, is.most_is) in
+    ap (λ n. whole_count l n (min 64 (length (records_between l from to)))) (sym is.first_is) ∙ ap (whole_count l first) same ∙ sym is.count_is
+
+counted_within : (l : NumberedLog) (from to first most count : ℕ) → IsCounted l from to first most count → count ≤ min to (end l) - first_sent l from
+counted_within l from to first most count is = omega (arith, is.first_is, is.most_is, is.count_is, (is_whole l first most).within)
+
+-- what is sent is so many of the records from a number on
+pub sent_first : (l : NumberedLog) (from to first most count : ℕ) → IsCounted l from to first most count → sent l from to ≡ take count (records_from l from)
+sent_first l from to first most count is =
+    let within : min count (to - first_sent l from) ≡ count = omega (arith, counted_within l from to first most count is) in
+    ap (λ n. take n (records_between l from to)) (counted l from to first most count is)
+    ∙ take-take count (to - first_sent l from) (records_from l from)
+    ∙ ap (λ n. take n (records_from l from)) within
+
+-- and there are so many
+pub sent_length : (l : NumberedLog) (from to first most count : ℕ) → IsCounted l from to first most count → length (sent l from to) ≡ count
+sent_length l from to first most count is =
+    let within : count ≤ length (records_between l from to) = omega (arith, length_between l from to, counted_within l from to first most count is) in
+    ap (λ n. length (take n (records_between l from to))) (counted l from to first most count is) ∙ length-take-le count (records_between l from to) within
+
+-- as many are sent as are counted
+length_sent : (l : NumberedLog) (from to : ℕ) → length (sent l from to) ≡ count_sent l from to
+length_sent l from to =
+    let between = records_between l from to in
+    let within : count_sent l from to ≤ length between = omega (arith, (is_whole l (first_sent l from) (min 64 (length between))).within) in
+    length-take-le (count_sent l from to) between within
+
+-- whole groups of them
+pub sent_border : (l : NumberedLog) (from to : ℕ) → 0 < length (sent l from to) → is_border l (first_sent l from + length (sent l from to)) ≡ true
+sent_border l from to some =
+    let long = length_sent l from to in
+    let whole = is_whole l (first_sent l from) (min 64 (length (records_between l from to))) in
+    ap (λ n. is_border l (first_sent l from + n)) long ∙ whole.border (omega arith)
+
+-- and some, up to a border
+pub some_sent : (l : NumberedLog) (from to : ℕ) → IsNumberedLog l → first_sent l from < to → to ≤ end l → is_border l to ≡ true → 0 < length (sent l from to)
+some_sent l from to law low high is =
+    let most : ℕ = min 64 (length (records_between l from to)) in
+    let between = length_between l from to in
+    let long = length_sent l from to in
+    let whole : IsWholeCount l (first_sent l from) most (count_sent l from to) = is_whole l (first_sent l from) most in
+    let counted : 0 < count_sent l from to =
+    elim (cases_lt most 64) [
+      | inl short ↦ elim (cases_lt 0 (count_sent l from to)) [
+        | inl more ↦ more
+        | inr none ↦
+            let place : first_sent l from + most ≡ to = omega arith in
+            absurd (both_ways (is_border l (first_sent l from + most)) (whole.greatest most (omega arith) (omega arith)) (ap (is_border l) place ∙ is))
+      ]
+      | inr all ↦ some_whole l (first_sent l from) most law (omega arith) (inl all)
+    ] in
+    omega arith
 
 -- there is a frame of some records
 pub frame_of_some : (epoch client first : ℕ) (rs : List LogRecord) → 0 < length rs → Some (record { version = 1; epoch = epoch; client = client; first = first; records = rs; last = [] }) ≡ frame_of epoch client first rs
 frame_of_some epoch client first [] some = absurd (omega arith)
 frame_of_some epoch client first (r ∷ rs) some = refl
+
+-- and there is none of none
+pub frame_of_none : (epoch client first : ℕ) (rs : List LogRecord) → length rs ≡ 0 → None ≡ frame_of epoch client first rs
+frame_of_none epoch client first [] none = refl
+frame_of_none epoch client first (r ∷ rs) none = absurd (omega arith)
 
 -- what a frame that is sent has
 pub parts_of_frame : (epoch client first : ℕ) (rs : List LogRecord) (f : LogFrame) → frame_of epoch client first rs ≡ Some f → (f.epoch ≡ epoch) × (f.first ≡ first) × (f.records ≡ rs)

@@ -1,8 +1,9 @@
 -- What a node sends of its log: Assise (OSDI 2020), section 3, on logs that are replicated along a chain; van Renesse and
 -- Schneider, chain replication (OSDI 2004), section 2.
-use Rattle.std.specs.Prelude.{ℕ, ◌-◌, max, List, [], ◌∷◌, take, Option, Some, None}
+use Rattle.std.specs.Prelude.{ℕ, ◌-◌, max, min, List, [], ◌∷◌, length, take, Option, Some, None}
 use Rattle.assise_record.specs.LogRecord.{LogRecord}
 use Rattle.assise_record.specs.LogFrame.{LogFrame}
+use Rattle.assise_private_log.specs.Borders.{whole_count}
 use Rattle.assise_private_log.specs.NumberedLog.{NumberedLog, records_from}
 
 -- the number of the first record that is sent, where one is
@@ -13,9 +14,13 @@ first_sent l from = max from l.first
 abbrev pub records_between : NumberedLog → ℕ → ℕ → List LogRecord
 records_between l from to = take (to - first_sent l from) (records_from l from)
 
--- the records that one message has: the first 64
+-- how many records one message has: whole groups, as many as have at most 64 together
+abbrev pub count_sent : NumberedLog → ℕ → ℕ → ℕ
+count_sent l from to = whole_count l (first_sent l from) (min 64 (length (records_between l from to)))
+
+-- the records that one message has
 abbrev pub sent : NumberedLog → ℕ → ℕ → List LogRecord
-sent l from to = take 64 (records_between l from to)
+sent l from to = take (count_sent l from to) (records_between l from to)
 
 -- records from a number on in a frame of version 1, which has at least one
 abbrev pub frame_of : ℕ → ℕ → ℕ → List LogRecord → Option LogFrame

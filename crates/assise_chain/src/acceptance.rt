@@ -16,9 +16,9 @@ pub fn is_timely(frame: &Frame, received: u64, epoch: u64) -> bool
     frame.epoch() == epoch && frame.first() <= received
 }
 
-/// Takes the records of a frame in that lie past a log's end, and passes over those that the log has. It answers the number
-/// behind the log's last record. A frame that isn't timely behind the log's end ([`is_timely`]) is refused with
-/// [`Refusal::StaleMessage`], and leaves the log as it was. It takes no memory.
+/// Takes the records of a frame in that lie past a log's end, each as a group by itself, and passes over those that the log
+/// has. It answers the number behind the log's last record. A frame that isn't timely behind the log's end ([`is_timely`]) is
+/// refused with [`Refusal::StaleMessage`], and leaves the log as it was. It takes no memory.
 pub fn accept(log: &mut Log, frame: Frame, epoch: u64) -> Result<u64, Refusal>
     requires room { IsTimely (end log.old) frame epoch → frame.first + length frame.records ≤ log.old.first + log.old.limit }
     ensures timely { IsOk result ↔ IsTimely (end log.old) frame epoch }

@@ -1,11 +1,11 @@
 // Laws of chains. Each function does nothing: its contract is the law.
-ghost use Rattle.std.specs.Prelude.{◌≡◌, ◌≢◌, ◌≤◌, ◌↔◌, ℕ, List, [], ◌∷◌, ◌++◌, Some, None};
+ghost use Rattle.std.specs.Prelude.{◌≡◌, ◌≢◌, ◌+◌, ◌<◌, ◌≤◌, true, length, ◌↔◌, ℕ, List, [], ◌∷◌, ◌++◌, Some, None};
 ghost use Rattle.assise_record.specs.LogFrame.{LogFrame};
-ghost use Rattle.assise_private_log.specs.NumberedLog.{NumberedLog, end};
+ghost use Rattle.assise_private_log.specs.NumberedLog.{IsNumberedLog, NumberedLog, end, is_border};
 ghost use Rattle.assise_chain.specs.Acceptance.{IsTimely, records_past};
 ghost use Rattle.assise_chain.specs.Chains.{IsRising, behind, chain, first_of_all};
 ghost use Rattle.assise_chain.specs.Lists.{AllDiffer, IsOneOf};
-ghost use Rattle.assise_chain.specs.Messages.{message_of, sent};
+ghost use Rattle.assise_chain.specs.Messages.{first_sent, message_of, sent};
 ghost use Rattle.assise_chain.specs.Passing.{AllDo, IsBegun, IsFrontOf, Nodes, Step};
 
 /// The full nodes stand in the chain, and nobody else does: whoever isn't full has nobody behind.
@@ -32,6 +32,14 @@ pub fn each_node_passes_to_the_next()
 pub fn what_is_sent_from_the_end_is_taken_in()
     ensures timely { (from l : NumberedLog) (f : LogFrame) (epoch client to : ℕ) → from.first ≤ end l → message_of from epoch client (end l) to ≡ Some f → IsTimely (end l) f epoch }
     ensures taken { (from l : NumberedLog) (f : LogFrame) (epoch client to : ℕ) → from.first ≤ end l → message_of from epoch client (end l) to ≡ Some f → records_past l f ≡ sent from (end l) to }
+{}
+
+/// What is sent ends with a group of the log; and up to a border some is sent, unless nothing is there.
+pub fn what_is_sent_is_whole_groups()
+    ensures border { (l : NumberedLog) (from to : ℕ) → 0 < length (sent l from to) →
+        is_border l (first_sent l from + length (sent l from to)) ≡ true }
+    ensures some { (l : NumberedLog) (from to : ℕ) → IsNumberedLog l → first_sent l from < to → to ≤ end l →
+        is_border l to ≡ true → 0 < length (sent l from to) }
 {}
 
 /// Whatever of the messages of an epoch is lost, repeated or brought in another order, and whoever sends them, what a full

@@ -11,8 +11,8 @@ use assise_record::record::Record;
 use std::alloc::Global;
 
 /// A frame of the records of a log that are numbered from `from` on, or from the log's first where that is later, and below
-/// `to`: the first 64 of them, where there are more. None, where there are none. The bytes of writes are shared. The one
-/// refusal is [`Refusal::OutOfMemory`].
+/// `to`: whole groups of them, as many as have at most 64 records together. None, where there is no such group. The bytes
+/// of writes are shared. The one refusal is [`Refusal::OutOfMemory`].
 pub fn message(
     alloc: Global,
     log: &Log,
@@ -28,7 +28,8 @@ pub fn message(
 {
     let first = from.max(log.first());
     let end = to.min(log.end());
-    let count = MOST_RECORDS.min(end.saturating_sub(first) as usize);
+    let most = MOST_RECORDS.min(end.saturating_sub(first) as usize);
+    let count = log.whole_count(first, most);
     if count == 0 {
         return Ok(None);
     }

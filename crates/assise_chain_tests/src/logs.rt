@@ -26,14 +26,14 @@ pub(crate) fn log_of(alloc: Global, first: u64, end: u64) -> Option<Log> {
     Some(log)
 }
 
-/// Adds a record.
+/// Adds a record, which touches an inode that no other does.
 fn add(alloc: Global, log: &mut Log) -> Option<()> {
-    let mut effects = Vec::new(alloc);
-    effects.push(Effect::Free { inode: 1 }).ok()?;
     let number = log.end();
     if number == u64::MAX {
         return None;
     }
+    let mut effects = Vec::new(alloc);
+    effects.push(Effect::Free { inode: number }).ok()?;
     log.append(Record::new(number, effects)).ok()
 }
 

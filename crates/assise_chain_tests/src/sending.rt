@@ -4,15 +4,19 @@ use assise_chain::messages::message;
 use assise_rows::{Subject, split_word};
 use std::alloc::Global;
 
-/// `FIRST END, FROM TO`: a log, and what is sent of it.
+/// `FIRST END, FROM TO`: a log, and what is sent of it. Behind END may be numbers, of which each begins a group.
 #[derive(Clone, Copy)]
 struct Sent;
 
 impl Subject for Sent {
     fn put(&mut self, alloc: Global, steps: &str, text: &mut String) -> Option<()> {
         let (numbers, between) = steps.split_once(", ")?;
-        let (first, end) = split_word(numbers);
-        let log = log_of(alloc, first.parse::<u64>().ok()?, end.parse::<u64>().ok()?)?;
+        let (first, others) = split_word(numbers);
+        let (end, groups) = split_word(others);
+        let mut log = log_of(alloc, first.parse::<u64>().ok()?, end.parse::<u64>().ok()?)?;
+        for number in groups.split_terminator(' ') {
+            log.regroup(alloc, number.parse::<u64>().ok()?).ok()?;
+        }
         let (from, to) = split_word(between);
         let from = from.parse::<u64>().ok()?;
         let to = to.parse::<u64>().ok()?;
@@ -50,6 +54,28 @@ const LONG: &str = "\
 0 100, 37 100 => 63 from 37: 37 99
 20 100, 0 100 => 64 from 20: 20 83
 ";
+
+/// Groups are sent whole, or not at all.
+const GROUPED: &str = "\
+0 10 0, 0 10 => 10 from 0: 0 9
+0 10 0, 0 9 => none
+0 10 4, 0 9 => 4 from 0: 0 3
+0 10 4, 0 10 => 10 from 0: 0 9
+0 10 4, 4 9 => none
+0 10 4, 6 10 => 4 from 6: 6 9
+4 10 4, 0 10 => 6 from 4: 4 9
+0 100 0, 0 100 => 64 from 0: 0 63
+0 100 0, 64 100 => 36 from 64: 64 99
+0 100 60, 0 100 => 60 from 0: 0 59
+0 100 60, 60 100 => 40 from 60: 60 99
+0 80 0 40, 0 80 => 40 from 0: 0 39
+0 80 0 40, 40 80 => 40 from 40: 40 79
+";
+
+#[test]
+fn groups_are_sent_whole(rt: HostRuntime) {
+    show(rt.alloc(), &rt, &mut Sent, GROUPED);
+}
 
 #[test]
 fn records_between_two_numbers_are_sent(rt: HostRuntime) {

@@ -37,7 +37,7 @@ touched_parts n rs i =
     ap (λ xs. contains (touched (all_effects xs)) i) (sym (take-append-drop n rs)) ∙ ap (λ es. contains (touched es) i) (all_effects-append (take n rs) (drop n rs))
     ∙ contains-both (all_effects (take n rs)) (all_effects (drop n rs)) i
 
-quiet_front : (n : ℕ) (rs : List LogRecord) (i : ℕ) → contains (touched (all_effects rs)) i ≡ false → contains (touched (all_effects (take n rs))) i ≡ false
+pub quiet_front : (n : ℕ) (rs : List LogRecord) (i : ℕ) → contains (touched (all_effects rs)) i ≡ false → contains (touched (all_effects (take n rs))) i ≡ false
 quiet_front n rs i h = or_left (contains (touched (all_effects (take n rs))) i) _ (sym (touched_parts n rs i) ∙ h)
 
 quiet_rest : (n : ℕ) (rs : List LogRecord) (i : ℕ) → contains (touched (all_effects rs)) i ≡ false → contains (touched (all_effects (drop n rs))) i ≡ false
@@ -74,26 +74,26 @@ set_again [] k x y = refl
 set_again (l ∷ ls) zero x y = refl
 set_again (l ∷ ls) (suc k) x y = ap (λ xs. l ∷ xs) (set_again ls k x y)
 
-pub digested_one_more : (r : RegionValue) (c n : ℕ) → HasClient r c → IsBegun (log_of r c) → digested_by (digested_by r c n) c 1 ≡ digested_by r c (n + 1)
-digested_one_more r c n has b =
+pub digested_more : (r : RegionValue) (c n k : ℕ) → HasClient r c → IsBegun (log_of r c) → digested_by (digested_by r c n) c k ≡ digested_by r c (n + k)
+digested_more r c n k has b =
     ap (λ l. record r {
-      inodes = all_applied (all_applied r.inodes (all_effects (take n rs))) (all_effects (take 1 (ahead l)));
-      logs = slice_set (slice_set r.logs (c - 1) (digested_further (log_of r c) n)) (c - 1) (digested_further l 1);
+      inodes = all_applied (all_applied r.inodes (all_effects (take n rs))) (all_effects (take k (ahead l)));
+      logs = slice_set (slice_set r.logs (c - 1) (digested_further (log_of r c) n)) (c - 1) (digested_further l k);
     }) (log_digested r c n has)
     ∙ ap (λ ls. record r {
-      inodes = all_applied (all_applied r.inodes (all_effects (take n rs))) (all_effects (take 1 (ahead (digested_further (log_of r c) n))));
+      inodes = all_applied (all_applied r.inodes (all_effects (take n rs))) (all_effects (take k (ahead (digested_further (log_of r c) n))));
       logs = ls;
-    }) (set_again r.logs (c - 1) (digested_further (log_of r c) n) (digested_further (digested_further (log_of r c) n) 1)
+    }) (set_again r.logs (c - 1) (digested_further (log_of r c) n) (digested_further (digested_further (log_of r c) n) k)
     ∙ ap (λ d. slice_set r.logs (c - 1) (record { log = (log_of r c).log; digested = d; at_home = (log_of r c).at_home })) both)
-    ∙ ap (λ m. record r { inodes = m; logs = slice_set r.logs (c - 1) (digested_further (log_of r c) (n + 1)) })
-    (ap (λ xs. all_applied (all_applied r.inodes (all_effects (take n rs))) (all_effects (take 1 xs))) (ahead_further (log_of r c) n b)
-    ∙ sym (append_applied r.inodes (all_effects (take n rs)) (all_effects (take 1 (drop n rs))))
-    ∙ ap (all_applied r.inodes) (sym (all_effects-append (take n rs) (take 1 (drop n rs))) ∙ ap all_effects (sym (take-add n 1 rs))))
+    ∙ ap (λ m. record r { inodes = m; logs = slice_set r.logs (c - 1) (digested_further (log_of r c) (n + k)) })
+    (ap (λ xs. all_applied (all_applied r.inodes (all_effects (take n rs))) (all_effects (take k xs))) (ahead_further (log_of r c) n b)
+    ∙ sym (append_applied r.inodes (all_effects (take n rs)) (all_effects (take k (drop n rs))))
+    ∙ ap (all_applied r.inodes) (sym (all_effects-append (take n rs) (take k (drop n rs))) ∙ ap all_effects (sym (take-add n k rs))))
   where
     rs : List LogRecord
     rs = ahead (log_of r c)
 
-    both : ((log_of r c).digested + n) + 1 ≡ (log_of r c).digested + (n + 1)
+    both : ((log_of r c).digested + n) + k ≡ (log_of r c).digested + (n + k)
     both = omega arith
 
 -- two clients' records still touch no common inode

@@ -9,5 +9,8 @@ pub mod Rebuilding
 pub mod Forests
 pub mod Pieces
 pub mod Listed
-pub mod Growing
+pub mod Grouped
+pub mod Coalescing
+pub mod Regrouping
+mod Growing
 pub mod Assembling

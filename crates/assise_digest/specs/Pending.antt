@@ -60,6 +60,10 @@ abbrev pub all_noted : map.FinMap nat_cmp ℕ → ℕ → List LogRecord → map
 all_noted l number [] = l
 all_noted l number (r ∷ rs) = all_noted (noted l number r.effects) (number + 1) rs
 
+-- with the numbers of those records
+abbrev pub noted_from : Pending → ℕ → List LogRecord → Pending
+noted_from p number rs = record { inodes = p.inodes; last = all_noted p.last number rs }
+
 -- each inode that effects touch has a number
 abbrev pub HasAll : map.FinMap nat_cmp ℕ → List Effect → Type 0
 HasAll l es = (i : ℕ) → contains (touched es) i ≡ true → IsSome (map.get l i)

@@ -1,11 +1,13 @@
 -- A node's region: its inodes, and for each client the log that it received, some of which is digested into the inodes.
 -- Assise (OSDI 2020), section 3: a replica's update logs and shared areas; Strata (SOSP 2017), section 3: digests.
-use Rattle.std.specs.Prelude.{◌≡◌, ◌≢◌, ℕ, ◌+◌, ◌-◌, ◌<◌, ◌≤◌, Bool, true, false, List, [], ◌∷◌, ◌++◌, length, take, slice_index_or, slice_set, Option}
+use Rattle.std.specs.Prelude.{◌≡◌, ◌≢◌, ℕ, ◌+◌, ◌-◌, ◌<◌, ◌≤◌, Bool, true, false, List, [], ◌∷◌, ◌++◌, length, min, take, slice_index_or, slice_set, Option}
 use Rattle.std.specs.FinMap as map
 use Rattle.assise_record.specs.declared.effect.Effect.{Effect}
 use Rattle.assise_record.specs.LogRecord.{LogRecord}
 use Rattle.assise_record.specs.Records.{all_effects}
-use Rattle.assise_private_log.specs.NumberedLog.{NumberedLog, empty_log, end, records_from, with_record, without_front, without_tail}
+use Rattle.assise_private_log.specs.Borders.{whole_count}
+use Rattle.assise_private_log.specs.Groups.{regrouped}
+use Rattle.assise_private_log.specs.NumberedLog.{NumberedLog, empty_log, end, is_border, records_from, with_record, without_front, without_tail}
 use Rattle.assise_inode_table.specs.Contents.{Content, InodeMap, Values}
 use Rattle.assise_inode_table.specs.Effects.{all_applied, contains, touched, value_after, with_value}
 use Rattle.assise_inode_table.specs.Whole.{CanBeMadeWhole}
@@ -79,6 +81,17 @@ next_effects l = first_effects (ahead l)
 abbrev pub ahead_below : ReceivedLog → ℕ → List LogRecord
 ahead_below l to = take (to - l.digested) (ahead l)
 
+-- so many of the records that aren't digested are the next group, or what is left of it
+pub record IsNextGroup (l : ReceivedLog) (count : ℕ) : Type 0 where
+  pub some : 0 < count
+  pub within : count ≤ length (ahead l)
+  pub border : is_border l.log (l.digested + count) ≡ true
+  pub least : (k : ℕ) → 0 < k → k < count → is_border l.log (l.digested + k) ≡ false
+
+-- how many of those below a number are whole groups, so many records at most
+abbrev pub whole_ahead : ReceivedLog → (to most : ℕ) → ℕ
+whole_ahead l to most = whole_count l.log l.digested (min (length (ahead_below l to)) most)
+
 -- there is room for one more record, or there is none
 abbrev pub HasRoom : ReceivedLog → Type 0
 HasRoom l = length l.log.records < l.log.limit
@@ -104,6 +117,10 @@ up_to_number l from = record { log = without_tail l.log from; digested = l.diges
 
 abbrev pub digested_further : ReceivedLog → ℕ → ReceivedLog
 digested_further l count = record { log = l.log; digested = l.digested + count; at_home = l.at_home }
+
+-- the records from a number on in groups, without what is overridden in them
+abbrev pub regrouped_from : ReceivedLog → ℕ → ReceivedLog
+regrouped_from l from = record { log = regrouped l.log from; digested = l.digested; at_home = l.at_home }
 
 -- the first records that aren't digested, so many, are made of the inodes
 abbrev pub digested_by : RegionValue → ℕ → ℕ → RegionValue

@@ -1,16 +1,18 @@
 // What a client's own records make, before they are digested.
-ghost use Rattle.std.specs.Prelude.{◌≡◌, IfOk, IsOkUnless, OnErr, OnOk, None, is_some, option_copied, ℕ};
+ghost use Rattle.std.specs.Prelude.{◌≡◌, ◌+◌, ◌<◌, ◌^◌, length, IfOk, IsOkUnless, OnErr, OnOk, None, is_some, option_copied, ℕ};
+ghost use Rattle.assise_record.specs.Records.{all_effects};
 ghost use Rattle.std.specs.FinMap as map;
 ghost use Rattle.assise_inode_table.specs.Effects.{all_applied, with_value};
 ghost use Rattle.assise_inode_table.specs.Whole.{CanBeMadeWhole};
 ghost use Rattle.assise_names.specs.declared.refusal.Refusal.TheVariants.{OutOfMemory};
-ghost use Rattle.assise_digest.specs.Pending.{HasAll, IsNew, KeepsNoMore, all_held, forgotten, held, is_last, let_go, noted, seen, taken_in};
+ghost use Rattle.assise_digest.specs.Pending.{HasAll, IsNew, KeepsNoMore, all_held, forgotten, held, is_last, let_go, noted, noted_from, seen, taken_in};
 
 use crate::numbers::Numbers;
 use assise_area::area::Area;
 use assise_inode_table::inode::Inode;
 use assise_inode_table::table::InodeTable;
 use assise_names::refusal::Refusal;
+use assise_private_log::records::Records;
 use assise_record::effect::Effect;
 use std::alloc::Global;
 
@@ -137,6 +139,20 @@ impl Pending {
         }
         note(&mut self.last, number, effects);
         Ok(())
+    }
+
+    /// Notes records, numbered from a number on, as the last that touch their inodes, one after another. All of the inodes
+    /// are kept.
+    pub(crate) fn note_all(&mut self, first: u64, records: Records<'_>)
+        requires numbers_fit { first + length records < 2 ^ 64 }
+        requires there { HasAll self.old.last (all_effects records) }
+        ensures { self.new ≡ noted_from self.old first records.entry }
+    {
+        let mut number = first;
+        for record in records {
+            note(&mut self.last, number, record.effects());
+            number += 1;
+        }
     }
 
     /// Lets the inode of an effect go, where the record of this number is the last that touches it.

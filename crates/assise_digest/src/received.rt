@@ -1,20 +1,21 @@
 // What a node received of a client's log.
-ghost use Rattle.std.specs.Prelude.{◌≡◌, ◌≢◌, ◌⊎◌, ◌+◌, ◌^◌, ◌<◌, ◌≤◌, ◌++◌, IfErr, IsOk, IsOkUnless, List, Option, Some, None, OnErr, OnOk, false, is_some, length, true, option_map, ℕ};
+ghost use Rattle.std.specs.Prelude.{◌≡◌, ◌≢◌, ◌⊎◌, ◌+◌, ◌^◌, ◌<◌, ◌≤◌, ◌++◌, IfErr, IfOk, IfSome, IsOk, IsOkUnless, List, Option, Some, None, OnErr, OnOk, false, is_some, length, take, true, option_map, ℕ};
 ghost use Rattle.assise_record.specs.Records.{all_effects};
 ghost use Rattle.assise_inode_table.specs.Contents.{InodeMap};
 ghost use Rattle.assise_inode_table.specs.Effects.{all_applied};
 ghost use Rattle.assise_inode_table.specs.Whole.{CanBeMadeWhole};
 ghost use Rattle.assise_names.specs.declared.refusal.Refusal.TheVariants.{LogFull, OutOfMemory};
-ghost use Rattle.assise_private_log.specs.NumberedLog.{end};
-ghost use Rattle.assise_digest.specs.Region.{AreWhole, IsBegun, ahead_below, digested_further, from_number, next_effects, up_to_number, with_more};
-ghost use Rattle.assise_record.specs.declared.effect.Effect.{Effect};
-ghost use Rattle.assise_digest.specs.Pending.{KeepsNoMore, Lays, forgotten};
+ghost use Rattle.assise_private_log.specs.NumberedLog.{end, records_from};
+ghost use Rattle.assise_digest.specs.Region.{AreWhole, IsBegun, IsNextGroup, ahead, ahead_below, digested_further, from_number, regrouped_from, next_effects, up_to_number, with_more};
+ghost use Rattle.assise_record.specs.declared.effect.Effect.{Effect as EffectValue};
+ghost use Rattle.assise_digest.specs.Pending.{HasAll, KeepsNoMore, Lays, forgotten, noted_from};
 ghost use Rattle.assise_digest.specs.Sound.{IsKeptFor, IsSoundLog, seen_log};
 
 use crate::pending::Pending;
 use assise_area::area::Area;
 use assise_names::refusal::Refusal;
 use assise_private_log::log::Log;
+use assise_record::effect::Effect;
 use assise_record::record::Record;
 use std::alloc::Global;
 
@@ -104,6 +105,50 @@ impl Received {
         self.digested += 1;
     }
 
+    /// Counts the next records as digested, so many.
+    pub(crate) fn count_all_digested(&mut self, count: usize)
+        requires begun { IsBegun (seen_log self.old) }
+        requires there { count ≤ length (ahead (seen_log self.old)) }
+        ensures seen { seen_log self.new ≡ digested_further (seen_log self.old) count }
+        ensures sound { (m : InodeMap) → IsSoundLog m self.old →
+            IsSoundLog (all_applied m (all_effects (take count (ahead (seen_log self.old))))) self.new }
+    {
+        let mut done = 0;
+        while done < count {
+            self.count_digested();
+            done += 1;
+        }
+    }
+
+    /// Equal effects of the next records, so many. The bytes of writes are shared.
+    pub(crate) fn effects_ahead(&self, alloc: Global, count: usize) -> Result<Vec<Effect>, Refusal>
+        requires begun { IsBegun (seen_log self.now) }
+        requires there { count ≤ length (ahead (seen_log self.now)) }
+        ensures effects { IfOk result (λ effects. effects.items ≡ all_effects (take count (ahead (seen_log self.now)))) }
+        ensures only_memory { IsOkUnless result OutOfMemory }
+    {
+        let _end = self.log.end();
+        let mut effects = Vec::new(alloc);
+        for number in self.digested..self.digested + count as u64 {
+            let Some(record) = self.log.get(number) else {
+                unreachable!()
+            };
+            push_copies(&mut effects, record.effects())?;
+        }
+        Ok(effects)
+    }
+
+    /// How many records the next group has, or what is left of it.
+    pub(crate) fn next_group(&self) -> usize
+        requires begun { IsBegun (seen_log self.now) }
+        requires more { self.now.digested < end self.now.log }
+        ensures { IsNextGroup (seen_log self.now) result }
+    {
+        let _end = self.log.end();
+        let _lawful = self.log.limit();
+        (self.log.group_end(self.digested + 1) - self.digested) as usize
+    }
+
     /// Lets the records below a number go, all of which are digested.
     pub(crate) fn drop_front(&mut self, to: u64)
         requires begun { IsBegun (seen_log self.old) }
@@ -126,6 +171,37 @@ impl Received {
         self.log.cut_tail(from);
     }
 
+    /// Cuts the records from a number on into groups, and lets what is overridden in them go (see [`Log::regroup`]). What is
+    /// kept for a client that lives here stays, with the new numbers. The one refusal is [`Refusal::OutOfMemory`], and it
+    /// leaves all as it was.
+    pub(crate) fn coalesce(&mut self, alloc: Global, from: u64) -> Result<(), Refusal>
+        requires sound { (m : InodeMap) × IsSoundLog m self.old }
+        requires digested { self.old.digested ≤ from }
+        requires to_end { from ≤ end self.old.log }
+        ensures seen { OnOk result (seen_log self.new ≡ regrouped_from (seen_log self.old) from) }
+        ensures sound { (m : InodeMap) → IsSoundLog m self.old → IsSoundLog m self.new }
+        ensures err { OnErr result (self.new ≡ self.old) }
+        ensures only_memory { IsOkUnless result OutOfMemory }
+    {
+        self.log.regroup(alloc, from)?;
+        let _end = self.log.end();
+        self.note_from(from);
+        Ok(())
+    }
+
+    /// Notes the records from a number on as the last that touch their inodes, where the client lives here.
+    fn note_from(&mut self, from: u64)
+        requires numbers_fit { from + length (records_from self.old.log from) < 2 ^ 64 }
+        requires there { IfSome self.old.pending (λ p. HasAll p.last (all_effects (records_from self.old.log from))) }
+        ensures log { self.new.log ≡ self.old.log }
+        ensures digested { self.new.digested ≡ self.old.digested }
+        ensures pending { self.new.pending ≡ option_map (λ p. noted_from p from (records_from self.old.log from)) self.old.pending }
+    {
+        if let Some(pending) = &mut self.pending {
+            pending.note_all(from, self.log.since(from));
+        }
+    }
+
     /// Takes in what the records make that aren't digested, of those numbered below what is acknowledged. Where memory
     /// runs out, some of it may be taken in.
     pub(crate) fn lay(
@@ -139,7 +215,7 @@ impl Received {
         requires whole { AreWhole self.now.log.records }
         requires no_more { KeepsNoMore pending.old }
         ensures no_more { OnOk result (KeepsNoMore pending.new) }
-        ensures lays { (es : List Effect) → Lays pending.old area.now.inodes es → OnOk result (Lays pending.new area.now.inodes (es ++ all_effects (ahead_below (seen_log self.now) acked))) }
+        ensures lays { (es : List EffectValue) → Lays pending.old area.now.inodes es → OnOk result (Lays pending.new area.now.inodes (es ++ all_effects (ahead_below (seen_log self.now) acked))) }
         ensures only_memory { IsOkUnless result OutOfMemory }
     {
         let to = acked.clamp(self.digested, self.log.end());
@@ -151,4 +227,15 @@ impl Received {
         }
         Ok(())
     }
+}
+
+/// Adds equal effects. Where memory runs out, some of them may be added.
+fn push_copies(effects: &mut Vec<Effect>, added: &[Effect]) -> Result<(), Refusal>
+    ensures ok { OnOk result (effects.new.items ≡ effects.old.items ++ added.now) }
+    ensures only_memory { IsOkUnless result OutOfMemory }
+{
+    for effect in added {
+        effects.push(effect.copy()?)?;
+    }
+    Ok(())
 }

@@ -7,16 +7,17 @@ ghost use Rattle.assise_inode_table.specs.Opening.{opening};
 ghost use Rattle.assise_inode_table.specs.Spelled.{Spells};
 ghost use Rattle.assise_inode_table.specs.Whole.{CanBeMadeWhole};
 ghost use Rattle.assise_names.specs.declared.refusal.Refusal.TheVariants.{LogFull, OutOfMemory};
-ghost use Rattle.assise_private_log.specs.NumberedLog.{end};
+ghost use Rattle.assise_private_log.specs.NumberedLog.{end, is_border};
 ghost use Rattle.assise_seq_tree.specs.Tree.{Tree as PlainTree};
 ghost use Rattle.assise_digest.specs.Pending.{Lays};
-ghost use Rattle.assise_digest.specs.Region.{AreNotBelow, AreWhole, HasClient, HasRoom, IsBegun, IsFull, IsQuiet, TouchApart, ahead, ahead_below, all_ahead, alone, digested_by, from_number, log_of, read_by, up_to_number, with_client, with_hot_capacity, with_inode, with_log, with_more, without_clients, without_last_client};
+ghost use Rattle.assise_digest.specs.Region.{AreNotBelow, AreWhole, HasClient, HasRoom, IsBegun, IsFull, IsNextGroup, IsQuiet, TouchApart, ahead, ahead_below, all_ahead, alone, digested_by, from_number, log_of, read_by, regrouped_from, up_to_number, whole_ahead, with_client, with_hot_capacity, with_inode, with_log, with_more, without_clients, without_last_client};
 ghost use Rattle.assise_digest.specs.Sound.{IsSoundLog, seen_log};
 
 use crate::overlay::Overlay;
 use crate::pending::Pending;
 use crate::received::Received;
 use assise_area::area::Area;
+use assise_inode_table::changes::apply_all_on_copies;
 use assise_inode_table::inode::Inode;
 use assise_inode_table::store::InodeStore;
 use assise_inode_table::table::ROOT;
@@ -343,12 +344,29 @@ impl Region {
         self.logs[client - 1].cut_tail(from);
     }
 
+    /// Cuts the records of a client from a number on, none of which are digested here, into groups of 64, the last with the
+    /// rest, and lets the effects go that later ones of the same group override: the client reads what it read. The one
+    /// refusal is [`Refusal::OutOfMemory`], and it leaves the region as it was.
+    pub fn coalesce(&mut self, client: usize, from: u64) -> Result<(), Refusal>
+        requires client { HasClient self.old client }
+        requires digested { (log_of self.old client).digested ≤ from }
+        requires to_end { from ≤ end (log_of self.old client).log }
+        ensures ok { OnOk result (self.new ≡
+            with_log self.old client (regrouped_from (log_of self.old client) from)) }
+        ensures read { OnOk result ((i : ℕ) → read_by self.new client i ≡ read_by self.old client i) }
+        ensures err { OnErr result (self.new ≡ self.old) }
+        ensures only_memory { IsOkUnless result OutOfMemory }
+    {
+        let alloc = self.area.allocator();
+        self.logs[client - 1].coalesce(alloc, from)
+    }
+
     /// Puts records of a client into the inodes, in their order, so many at most, and of those alone that are numbered
-    /// below what is acknowledged (Strata, SOSP 2017, section 3: digest). Each is put in whole or not at all. It answers how
-    /// many there were, and only where there was none to digest, or none was asked for, is that 0. Where memory runs out
-    /// it answers those before, and the one refusal, [`Refusal::OutOfMemory`], comes where there were none: it leaves the
-    /// region as it was. Nobody can see a digest: the client reads what it read before, and the inodes that the region
-    /// alone gives stay, whatever else is acknowledged.
+    /// below what is acknowledged (Strata, SOSP 2017, section 3: digest). Each group is put in whole or not at all. It
+    /// answers how many records there were, and only where no whole group is among those that may be digested is that 0.
+    /// Where memory runs out it answers those before, and the one refusal, [`Refusal::OutOfMemory`], comes where there were
+    /// none: it leaves the region as it was. Nobody can see a digest: the client reads what it read before, and the inodes
+    /// that the region alone gives stay, whatever else is acknowledged.
     pub fn digest_some(
         &mut self,
         client: usize,
@@ -360,7 +378,9 @@ impl Region {
         ensures ok { IfOk result (λ n. self.new ≡ digested_by self.old client n) }
         ensures at_most { IfOk result (λ n. n ≤ at_most) }
         ensures acked { IfOk result (λ n. n ≤ length (ahead_below (log_of self.old client) acked)) }
-        ensures none { IfOk result (λ n. n ≡ 0 → (at_most ≡ 0) ⊎ (length (ahead_below (log_of self.old client) acked) ≡ 0)) }
+        ensures groups { IfOk result (λ n. 0 < n →
+            is_border (log_of self.old client).log ((log_of self.old client).digested + n) ≡ true) }
+        ensures none { IfOk result (λ n. n ≡ 0 → whole_ahead (log_of self.old client) acked at_most ≡ 0) }
         ensures err { OnErr result (self.new ≡ self.old) }
         ensures asked { OnErr result ((0 < at_most) × (0 < length (ahead_below (log_of self.old client) acked))) }
         ensures read { (i : ℕ) → read_by self.new client i ≡ read_by self.old client i }
@@ -368,12 +388,59 @@ impl Region {
         ensures only_memory { IsOkUnless result OutOfMemory }
     {
         let most = self.count_ahead(client, acked).min(at_most);
-        for count in 0..most {
-            if let Err(refusal) = self.digest_next(client) {
+        let mut count = 0;
+        while count < most {
+            let group = self.next_group(client);
+            if most - count < group {
+                return Ok(count);
+            }
+            if let Err(refusal) = self.digest_group(client, group) {
                 return if count == 0 { Err(refusal) } else { Ok(count) };
             }
+            count += group;
         }
-        Ok(most)
+        Ok(count)
+    }
+
+    /// How many records the next group of a client has that isn't digested, or what is left of it.
+    fn next_group(&self, client: usize) -> usize
+        requires client { HasClient self.now client }
+        requires more { (log_of self.now client).digested < end (log_of self.now client).log }
+        ensures { IsNextGroup (log_of self.now client) result }
+    {
+        self.logs[client - 1].next_group()
+    }
+
+    /// Puts the next records of a client into the inodes, so many: all of them, or none.
+    fn digest_group(&mut self, client: usize, count: usize) -> Result<(), Refusal>
+        requires client { HasClient self.old client }
+        requires apart { TouchApart self.old }
+        requires some { 0 < count }
+        requires there { count ≤ length (ahead (log_of self.old client)) }
+        ensures ok { OnOk result (self.new ≡ digested_by self.old client count) }
+        ensures err { OnErr result (self.new ≡ self.old) }
+        ensures only_memory { IsOkUnless result OutOfMemory }
+    {
+        if count == 1 {
+            return self.digest_next(client);
+        }
+        self.digest_on_copies(client, count)
+    }
+
+    /// The same, at the cost of a copy of each inode that the records touch.
+    fn digest_on_copies(&mut self, client: usize, count: usize) -> Result<(), Refusal>
+        requires client { HasClient self.old client }
+        requires apart { TouchApart self.old }
+        requires there { count ≤ length (ahead (log_of self.old client)) }
+        ensures ok { OnOk result (self.new ≡ digested_by self.old client count) }
+        ensures err { OnErr result (self.new ≡ self.old) }
+        ensures only_memory { IsOkUnless result OutOfMemory }
+    {
+        let alloc = self.area.allocator();
+        let effects = self.logs[client - 1].effects_ahead(alloc, count)?;
+        apply_all_on_copies(&mut self.area, &effects)?;
+        self.logs[client - 1].count_all_digested(count);
+        Ok(())
     }
 
     /// How many records of a client aren't digested, of those numbered below what is acknowledged.

@@ -66,6 +66,22 @@ pub(crate) fn digest(region: &mut Region, text: &str, answer: &mut String) -> Op
     }
 }
 
+/// `CLIENT FROM`: cuts the records from a number on into groups, and appends the refusal if there is one.
+pub(crate) fn coalesce(region: &mut Region, text: &str, answer: &mut String) -> Option<()> {
+    let (client, from) = split_client(text)?;
+    let from = from.parse::<u64>().ok()?;
+    if !has_client(region, client)
+        || from < region.digested(client)
+        || region.log(client).end() < from
+    {
+        return None;
+    }
+    match region.coalesce(client, from) {
+        Ok(()) => Some(()),
+        Err(refusal) => put_refusal(answer, refusal).ok(),
+    }
+}
+
 /// `CLIENT TO`: lets the records below a number go.
 pub(crate) fn drop_front(region: &mut Region, text: &str) -> Option<()> {
     let (client, to) = split_client(text)?;

@@ -25,7 +25,12 @@ impl Subject for NewRegion {
 }
 
 /// Adds the two clients, and makes the steps.
-fn put_on(alloc: Global, region: &mut Region, steps: &str, text: &mut String) -> Option<()> {
+pub(crate) fn put_on(
+    alloc: Global,
+    region: &mut Region,
+    steps: &str,
+    text: &mut String,
+) -> Option<()> {
     region.add_own_client(Log::new(alloc, 8).ok()?).ok()?;
     region.add_client(Log::new(alloc, 8).ok()?, 0).ok()?;
     put_steps(alloc, region, steps, text)

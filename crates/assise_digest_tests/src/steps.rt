@@ -1,7 +1,7 @@
 // What is done to a region and asked of it, as text.
 use crate::asked::put_answer;
 use crate::changes::{
-    append, cut_tail, digest, drop_front, fill, lose, refill, set_hot_capacity, stale,
+    append, coalesce, cut_tail, digest, drop_front, fill, lose, refill, set_hot_capacity, stale,
 };
 use assise_digest::region::Region;
 use assise_rows::split_word;
@@ -26,6 +26,7 @@ fn put_step(alloc: Global, region: &mut Region, step: &str, text: &mut String) -
         "append" => append(alloc, region, rest, text),
         "fill" => fill(alloc, region, rest),
         "digest" => digest(region, rest, text),
+        "coalesce" => coalesce(region, rest, text),
         "drop" => drop_front(region, rest),
         "cut" => cut_tail(region, rest),
         _ => put_step_of_inode(alloc, region, word, rest, text),

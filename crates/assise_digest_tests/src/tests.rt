@@ -59,6 +59,20 @@ append 2 create 0 g 20, cut 2 1, log 2, cut 2 9, log 2, cut 2 0, log 2, digest 2
 append 1 create 0 f 10, append 2 create 20 g 21, cut 2 0, digest 1 1 1, log 1, log 2 => 1; 0..1..1 home; 0..0..0 away;
 ";
 
+/// Records in groups, which are digested whole or not at all.
+const GROUPS: &str = "\
+fill 1 8, coalesce 1 0, digest 1 5 9, digest 1 8 7, log 1, digest 1 8 8, log 1 => 0; 0; 0..0..8 home; 8; 0..8..8 home;
+append 1 create 0 f 10, append 1 write 10 0 ab, append 1 write 10 0 cd, coalesce 1 1, log 1, read 1 10, read 1 0, digest 1 9 1, peek 10, digest 1 9 1, peek 10 => 0..0..2 home; file 2 cd; dir 1 f:10; 1; file 0; 1; file 2 cd;
+append 1 create 0 f 10, append 1 write 10 0 abc, append 1 unlink 0 f 10, coalesce 1 0, log 1, read 1 0, read 1 10, digest 1 9 9, peek 0, peek 10 => 0..0..1 home; dir 0; none; 1; dir 0; none;
+append 2 create 0 g 20, append 2 write 20 0 ab, append 2 write 20 1 cd, coalesce 2 0, log 2, digest 2 2 9, peek 20, digest 2 3 9, peek 20, peek 0 => 0..0..3 away; 0; none; 3; file 3 acd; dir 1 g:20;
+append 1 create 0 f 10, digest 1 1 1, append 1 write 10 0 ab, append 1 write 10 0 cd, coalesce 1 1, log 1, append 1 write 10 2 e, digest 1 2 9, log 1, read 1 10, drop 1 2, digest 1 3 9, peek 10 => 1; 0..1..2 home; 1; 0..2..3 home; file 3 cde; 1; file 3 cde;
+";
+
+#[test]
+fn groups_are_digested_whole(rt: HostRuntime) {
+    show(rt.alloc(), &rt, GROUPS);
+}
+
 /// Inodes that are taken out and refilled, and clients that go.
 const INODES: &str = "\
 append 1 create 0 f 10, append 1 create 0 g 11, digest 1 2 2, stale 10, peek 10, read 1 10, peek 11, peek 0, peek 9 => 2; none; none; file 0; dir 2 f:10 g:11; none;

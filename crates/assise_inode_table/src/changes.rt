@@ -131,6 +131,7 @@ pub fn changes_over<I: Inodes>(
 fn make_place<S: InodeStore>(store: &mut S, made: &mut Vec<u64>, inode: u64) -> Result<(), Refusal>
     ensures ok { OnOk result (S.contents store.new ≡ placed_one (S.contents store.old) inode) }
     ensures noted { without (S.contents store.new) made.new.items ≡ without (S.contents store.old) made.old.items }
+    ensures setting { S.setting store.new ≡ S.setting store.old }
     ensures only_memory { IsOkUnless result OutOfMemory }
 {
     if store.get(inode).is_some() {
@@ -143,7 +144,8 @@ fn make_place<S: InodeStore>(store: &mut S, made: &mut Vec<u64>, inode: u64) -> 
 
 /// Takes inodes out.
 fn take_out<S: InodeStore>(store: &mut S, mut inodes: Vec<u64>)
-    ensures { S.contents store.new ≡ without (S.contents store.old) inodes.items }
+    ensures gone { S.contents store.new ≡ without (S.contents store.old) inodes.items }
+    ensures setting { S.setting store.new ≡ S.setting store.old }
 {
     while let Some(inode) = inodes.pop() {
         discard(store, inode);
@@ -154,6 +156,7 @@ fn take_out<S: InodeStore>(store: &mut S, mut inodes: Vec<u64>)
 fn make_places<S: InodeStore>(store: &mut S, changes: &[Change]) -> Result<(), Refusal>
     ensures ok { OnOk result (S.contents store.new ≡ placed (S.contents store.old) changes.now) }
     ensures err { OnErr result (S.contents store.new ≡ S.contents store.old) }
+    ensures setting { S.setting store.new ≡ S.setting store.old }
     ensures only_memory { IsOkUnless result OutOfMemory }
 {
     let mut made = Vec::new(store.allocator());
@@ -172,6 +175,7 @@ pub fn put_all<S: InodeStore>(store: &mut S, mut changes: Vec<Change>) -> Result
     requires apart { AreApart changes.items }
     ensures ok { OnOk result ((i : ℕ) → map.get (S.contents store.new) i ≡ found changes.items i (map.get (S.contents store.old) i)) }
     ensures err { OnErr result (S.contents store.new ≡ S.contents store.old) }
+    ensures setting { S.setting store.new ≡ S.setting store.old }
     ensures only_memory { IsOkUnless result OutOfMemory }
 {
     make_places(store, changes.as_slice())?;
@@ -186,6 +190,7 @@ pub fn put_all<S: InodeStore>(store: &mut S, mut changes: Vec<Change>) -> Result
 pub fn apply_all_on_copies<S: InodeStore>(store: &mut S, effects: &[Effect]) -> Result<(), Refusal>
     ensures ok { OnOk result (S.contents store.new ≡ all_applied (S.contents store.old) effects.now) }
     ensures err { OnErr result (S.contents store.new ≡ S.contents store.old) }
+    ensures setting { S.setting store.new ≡ S.setting store.old }
     ensures only_memory { IsOkUnless result OutOfMemory }
 {
     let changes = changes_over(store.allocator(), store, effects)?;

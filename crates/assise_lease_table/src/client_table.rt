@@ -207,7 +207,7 @@ impl<C: Revokes + Drop> ClientTableOf<C> {
         self.leases.freeze(inode, test);
     }
 
-    /// What a client answers when its lease of an inode is asked for.
+    /// What a client answers when its lease of an inode is asked for, raised to the end of its group.
     fn answer<V: Views>(&self, client: u32, inode: u64, views: &V) -> Asked
         requires enrolled { is_some (revoker_of self.now client) ≡ true }
         requires viewed { is_some (V.view_of views.now client) ≡ true }
@@ -223,7 +223,7 @@ impl<C: Revokes + Drop> ClientTableOf<C> {
         Asked {
             client,
             inode,
-            cut: revoker.cut(view, inode),
+            cut: view.group_end(revoker.cut(view, inode)),
         }
     }
 

@@ -17,7 +17,7 @@ pub struct Lease {
     pub frozen: bool,
 }
 
-/// A client that was asked for its lease of an inode, and what its revoker answered.
+/// A client that was asked for its lease of an inode, and what its revoker answered, raised to the end of its group.
 #[derive(Clone, Copy, PartialEq, Eq, Debug)]
 pub struct Asked {
     pub client: u32,

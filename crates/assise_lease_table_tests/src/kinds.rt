@@ -1,4 +1,4 @@
-// What the kinds of revokers answer for four logs.
+// What the kinds of revokers answer for a few logs.
 use crate::logs::{OneLog, log_of};
 use crate::steps::{ask, enrol, hold, show};
 use crate::stored::stored_cut;
@@ -9,8 +9,9 @@ use assise_revokers::kinds::{eights, least, whole};
 use assise_rows::Subject;
 use std::alloc::Global;
 
-/// `FIRST END LAST`: a log, with the last touch of inode 7. What the three kinds answer is told twice: as the functions
-/// answer, and as three clients that stored them answer when they are asked for inode 7.
+/// `FIRST END LAST`: a log, with the last touch of inode 7; `FIRST END LAST GROUPED`: from the last number on its records are
+/// in groups. What the three kinds answer is told twice: as the functions answer, and as three clients that stored them answer
+/// when they are asked for inode 7.
 #[derive(Clone, Copy)]
 struct Kinds;
 
@@ -29,7 +30,11 @@ fn logs_of(alloc: Global, steps: &str) -> Option<OneLog> {
     let first = words.next()?.parse::<u64>().ok()?;
     let end = words.next()?.parse::<u64>().ok()?;
     let last = words.next()?.parse::<u64>().ok();
-    log_of(alloc, first, end, last)
+    let mut logs = log_of(alloc, first, end, last)?;
+    if let Some(grouped) = words.next() {
+        logs.log.regroup(alloc, grouped.parse::<u64>().ok()?).ok()?;
+    }
+    Some(logs)
 }
 
 /// Appends what the three kinds answer, and what a stored one does.
@@ -55,12 +60,14 @@ fn put_asked(
     ask(table, logs, 4, 7, Mode::Write, text)
 }
 
-/// The cuts of four logs.
+/// The cuts of four logs, and of two with groups: there a cut is raised to the end of its group.
 const CUTS: &str = "\
 3 20 9 => 10 20 16 10 1:7:10 2:7:20 3:7:16
 3 20 none => 3 20 8 3 1:7:3 2:7:20 3:7:8
 3 6 4 => 5 6 6 5 1:7:5 2:7:6 3:7:6
 0 0 none => 0 0 0 0 1:7:0 2:7:0 3:7:0
+3 20 9 8 => 10 20 16 10 1:7:20 2:7:20 3:7:20
+3 20 9 12 => 10 20 16 10 1:7:10 2:7:20 3:7:20
 ";
 
 #[test]

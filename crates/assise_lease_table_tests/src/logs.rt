@@ -24,11 +24,16 @@ impl Views for OneLog {
     }
 }
 
-/// A log from a first number to an end, of which one record touches inode 7 last, if one does; all others touch inode 1.
+/// A log from a first number to an end, of which one record touches inode 7 last, if one does; each other touches an inode of
+/// its own.
 pub(crate) fn log_of(alloc: Global, first: u64, end: u64, last: Option<u64>) -> Option<OneLog> {
     let mut log = Log::new(alloc, 64).ok()?;
     for number in 0..end {
-        let inode = if last == Some(number) { 7 } else { 1 };
+        let inode = if last == Some(number) {
+            7
+        } else {
+            number.saturating_add(100)
+        };
         add(alloc, &mut log, inode)?;
     }
     if first < log.first() || log.end() < first {

@@ -1,5 +1,5 @@
 -- What a node sends of a client's log, as the laws have it.
-use Rattle.std.proofs.Common.{append-nil, false, true≢false, subst, length-append, ◌≡◌, ℕ, zero, suc, ◌-◌, ◌<◌, ◌≤◌, ◌==◌, min, Bool, true, List, [], ◌∷◌, ◌++◌, filter, length, nat_le, nat_lt, Option, Some, None, inl, inr, refl, ap, sym, ◌∙◌, arith, eq-eqb}
+use Rattle.std.proofs.Common.{append-nil, false, true≢false, subst, length-append, ◌≡◌, ℕ, zero, suc, ◌-◌, ◌<◌, ◌≤◌, ◌==◌, min, Bool, true, List, [], ◌∷◌, ◌++◌, filter, length, map, nat_le, nat_lt, Option, Some, None, inl, inr, refl, ap, sym, ◌∙◌, arith, eq-eqb}
 use Rattle.std.specs.Option.{option_to_list}
 use Rattle.std.proofs.Math.Logic.{∥∥₁_elim}
 use Rattle.std.proofs.Props.{props}
@@ -21,9 +21,10 @@ use Rattle.assise_machine_state.specs.ClientValues.{ClientValue, client_in}
 use Rattle.assise_machine_state.specs.NodeValues.{HasLog, log_in}
 use Rattle.assise_machine_state.specs.Observed.{is_full_in, observed, stands_full, world_of}
 use Rattle.assise_machine_state.specs.Places.{IsNumber}
-use Rattle.assise_machine_state.specs.Shape.{IsShaped}
+use Rattle.assise_machine_state.specs.Shape.{HasSingleGroups, IsShaped}
 use Rattle.assise_machine_state.specs.StateValues.{StateValue, standings}
 use Rattle.assise_machine_state.proofs.Fullness.{has_log, log_is, same_first, seen_full}
+use Rattle.assise_machine_state.proofs.Logging.{log_in_holds}
 use Rattle.assise_machine_state.proofs.Seeing.{client_is}
 use Rattle.assise_machine_state.proofs.Standings.{listed_is_full}
 
@@ -115,8 +116,11 @@ module _ (s : StateValue) (n c : ℕ) (shape : IsShaped s) (holds : ∥ Holds (o
         unfolding observed
         limit_is = sym (shape.limits n c has)
 
+        begins_is : map (λ r. true) ((observed s).world.log n c) ≡ (log_in s.nodes n c).log.begins
+        begins_is = ap (map (λ r. true)) records_is ∙ sym (log_in_holds (λ l. HasSingleGroups l.log) s.nodes shape.single n c)
+
         log_as : node_log (observed s) n c ≡ (log_in s.nodes n c).log
-        log_as = λ i. record { first = first_is i; limit = limit_is i; records = records_is i }
+        log_as = λ i. record { first = first_is i; limit = limit_is i; records = records_is i; begins = begins_is i }
 
         epoch_is : (observed s).members.epoch ≡ s.members.epoch
         unfolding observed

@@ -6,6 +6,7 @@ use Rattle.assise_names.specs.declared.call.Op.TheVariants.{Fsync}
 use Rattle.assise_names.specs.declared.durability.Durability.{Durability}
 use Rattle.assise_names.specs.declared.durability.Durability.TheVariants.{Pessimistic, Optimistic}
 use Rattle.assise_private_log.specs.NumberedLog.{NumberedLog}
+use Rattle.assise_lease_table.specs.Answers.{IsRaisedAnswer}
 use Rattle.assise_lease_table.specs.Tables.{SameRevokers}
 use Rattle.assise_lease_tree.specs.Levels.{is_frozen}
 use Rattle.assise_machine_leases.specs.Leases.{Leases, client_lease}
@@ -44,7 +45,7 @@ module _ {C : Type 0} (answers : C → NumberedLog → ℕ → ℕ → Type 0) w
       CutsAreAnswers answers kept v m' → CutsAreAnswers answers stored m m'
   frozen_later stored kept m v m' same logs stays cuts c i fresh =
       let found = cuts c i (subst (λ b. (not b && is_frozen (client_lease m'.leases c i)) ≡ true) (sym (same c i)) fresh) in
-      (found.0, sym (stays c) ∙ found.1, subst (λ l. answers found.0 l i (m'.leases.cut c i)) (logs c) found.2)
+      (found.0, sym (stays c) ∙ found.1, subst (λ l. IsRaisedAnswer answers found.0 l i (m'.leases.cut c i)) (logs c) found.2)
 
   pub sync_freezes_nothing : (stored : ℕ → Option C) (m m' : Machine) (c : ℕ) (op : Op) (a : Answer) → Syncing m c op a m' → CutsAreAnswers answers stored m m'
   sync_freezes_nothing stored m m' c op a e = nothing_frozen stored m m' (λ d i. ap (λ l. is_frozen (client_lease l d i)) (sync_leases m m' c op a e))

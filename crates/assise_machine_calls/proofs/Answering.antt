@@ -1,12 +1,12 @@
 -- Those who are asked for their leases are lent their own logs, and their revokers answer cuts of these.
-use Rattle.std.proofs.Common.{◌≡◌, ℕ, ◌-◌, ◌<◌, ◌≤◌, nat_le, Bool, true, false, not, ◌&&◌, if◌then◌else◌, List, [], ◌∷◌, ◌++◌, filter, length, Option, Some, None, inl, inr, refl, ap, sym, subst, ◌∙◌, arith, append-nil}
+use Rattle.std.proofs.Common.{◌≡◌, ℕ, ◌-◌, ◌<◌, ◌≤◌, nat_le, Bool, true, false, not, ◌&&◌, if◌then◌else◌, List, [], ◌∷◌, ◌++◌, filter, length, map, Option, Some, None, inl, inr, refl, ap, sym, subst, ◌∙◌, arith, append-nil}
 use Rattle.std.proofs.lemmas.Bool.{and_parts, cases_Bool, le-leb, leb-true, true≢false}
 use Rattle.std.proofs.lemmas.List.{length-map, length-set}
 use Rattle.assise_names.specs.declared.mode.Mode.{Mode}
 use Rattle.assise_private_log.specs.NumberedLog.{NumberedLog}
 use Rattle.assise_private_log.specs.Touches.{Covers}
 use Rattle.assise_digest.specs.Region.{RegionValue}
-use Rattle.assise_lease_table.specs.Answers.{AnswerAll, clients_of}
+use Rattle.assise_lease_table.specs.Answers.{AnswerAll, IsRaisedAnswer, clients_of}
 use Rattle.assise_lease_table.specs.declared.lease.Asked.{Asked}
 use Rattle.assise_lease_table.specs.declared.lease.Lease.{Lease}
 use Rattle.assise_lease_table.specs.Leases.{Among, holders, is_to_ask, lease_of}
@@ -24,10 +24,11 @@ use Rattle.assise_machine_state.specs.ClientValues.{ClientValue, client_in, clie
 use Rattle.assise_machine_state.specs.NodeValues.{HasLog, log_in, log_seen}
 use Rattle.assise_machine_state.specs.Observed.{observed, own_node, own_seen, world_of}
 use Rattle.assise_machine_state.specs.Places.{IsNumber}
-use Rattle.assise_machine_state.specs.Shape.{AreAnswers, AreNoted, IsShaped}
+use Rattle.assise_machine_state.specs.Shape.{AreAnswers, AreNoted, HasSingleGroups, IsShaped}
 use Rattle.assise_machine_state.specs.StateValues.{StateValue, leases_of, standings}
 use Rattle.assise_machine_state.proofs.AskingSeen.{asking_noted, asking_seen, asking_shaped, newly_answered}
 use Rattle.assise_machine_state.proofs.Fullness.{log_is}
+use Rattle.assise_machine_state.proofs.Logging.{log_in_holds}
 use Rattle.assise_machine_state.proofs.Noted.{running_number}
 use Rattle.assise_machine_state.proofs.Owning.{own_log as has_own_log}
 use Rattle.assise_machine_state.proofs.Seeing.{client_is}
@@ -116,13 +117,15 @@ module _ {C : Type 0} (answers : C → NumberedLog → ℕ → ℕ → Type 0) (
   log_lent d there =
       let own = own_is d there in
       let limit = shape.limits (own_node (standings s) (client_in s.clients d)) d (has_own_log s d shape there some_full) in
-      λ k. record { first = (own k).first; limit = limit k; records = (own k).records }
+      let begins : (log_in s.nodes (own_node (standings s) (client_in s.clients d)) d).log.begins ≡ map (λ r. true) (own_seen s d).log.records =
+      log_in_holds (λ l. HasSingleGroups l.log) s.nodes shape.single (own_node (standings s) (client_in s.clients d)) d ∙ ap (λ l. map (λ r. true) l.records) own in
+      λ k. record { first = (own k).first; limit = limit k; records = (own k).records; begins = begins k }
 
-  cut_answered : (a : Asked) → Among asked a → (revoker : C) × (stored a.client ≡ Some revoker) × answers revoker (clients_log (observed s) a.client) i a.cut
+  cut_answered : (a : Asked) → Among asked a → (revoker : C) × (stored a.client ≡ Some revoker) × IsRaisedAnswer answers revoker (clients_log (observed s) a.client) i a.cut
   cut_answered a among =
       let answer = all.each a among in
       let known = lent_to s.nodes (standings s) s.clients a.client answer.view answer.seen in
-      (answer.revoker, answer.stored, subst (λ l. answers answer.revoker l i a.cut) (known.1 ∙ log_lent a.client known.0) answer.answered)
+      (answer.revoker, answer.stored, subst (λ l. IsRaisedAnswer answers answer.revoker l i a.cut) (known.1 ∙ log_lent a.client known.0) answer.answered)
 
   pub are_answers : AreAnswers s c i mode asked
   are_answers = record {
@@ -189,11 +192,11 @@ module _ {C : Type 0} (answers : C → NumberedLog → ℕ → ℕ → Type 0) (
       let a = found.1 in
       let got = cut_answered answers stored s r.client r.inode r.node r.mode asked shape some_full home_seen all a.0 a.1 in
       let cut = (leases_of (after_asking s levels asked)).cut in
-      let at_cut : answers got.0 (clients_log (observed s) a.0.client) r.inode (cut d r.inode) = subst (λ k. answers got.0 (clients_log (observed s) a.0.client) r.inode k) (sym a.3) got.2 in
-      let of_holder : answers got.0 (clients_log (observed s) d) r.inode (cut d r.inode) = subst (λ c. answers got.0 (clients_log (observed s) c) r.inode (cut d r.inode)) a.2 at_cut in (
+      let at_cut : IsRaisedAnswer answers got.0 (clients_log (observed s) a.0.client) r.inode (cut d r.inode) = subst (λ k. IsRaisedAnswer answers got.0 (clients_log (observed s) a.0.client) r.inode k) (sym a.3) got.2 in
+      let of_holder : IsRaisedAnswer answers got.0 (clients_log (observed s) d) r.inode (cut d r.inode) = subst (λ c. IsRaisedAnswer answers got.0 (clients_log (observed s) c) r.inode (cut d r.inode)) a.2 at_cut in (
         got.0,
         subst (λ c. stored c ≡ Some got.0) a.2 got.1,
-        subst (λ k. answers got.0 (clients_log (observed s) d) k (cut d k)) (sym found.0) of_holder,
+        subst (λ k. IsRaisedAnswer answers got.0 (clients_log (observed s) d) k (cut d k)) (sym found.0) of_holder,
       )
 
   all_asked : IsAsked s r (after_asking s levels asked)

@@ -13,8 +13,6 @@ use Rattle.assise_names.specs.declared.durability.Durability.TheVariants.{Optimi
 use Rattle.assise_names.specs.declared.reply.Reply.TheVariants.{Done}
 use Rattle.assise_history.specs.Entries.{Event, calls}
 use Rattle.assise_history.specs.Legal.{calls_made, durability_of, is_sync}
-use Rattle.assise_inode_table.specs.Calls.{step}
-use Rattle.assise_inode_table.specs.Contents.{Values}
 use Rattle.assise_inode_table.specs.Effects.{contains, makes, touched}
 use Rattle.assise_inode_table.specs.Interaction.{Step}
 use Rattle.assise_inode_table.specs.Numbers.{inode_number}

@@ -13,7 +13,7 @@ use Rattle.assise_names.specs.declared.mode.Mode.TheVariants.{Read, Write}
 use Rattle.assise_names.specs.declared.refusal.Refusal.{Refusal}
 use Rattle.assise_names.specs.declared.refusal.Refusal.TheVariants.{OutOfMemory}
 use Rattle.assise_names.specs.declared.reply.Reply.TheVariants.{Done}
-use Rattle.assise_history.specs.Legal.{durability_of, is_sync}
+use Rattle.assise_history.specs.Legal.{durability_of}
 use Rattle.assise_record.specs.declared.effect.Effect.{Effect}
 use Rattle.assise_inode_plan.specs.Leased.{AreLeased, Leases as Leased, first_missing, for_reading, for_writing, wants}
 use Rattle.assise_inode_plan.specs.Planning.{Plan, missing, plan_lacking, ready, visited_plan_of}
@@ -306,7 +306,7 @@ module _ (s : StateValue) (c : ℕ) (op : Op) (shape : IsShaped s) (holds : ∥ 
     holds_then other = ∥∥₁_map holds (λ h. calling_keeps (observed s) (observed s') c op (refused OutOfMemory) h (other (durability_of c (observed s).history)) (goes_on (refused OutOfMemory) (observed s') (lacking (observed s') c op fine_then)))
 
     pub shape_then : IsShaped s'
-    shape_then = record { nodes = shape.nodes; few_nodes = shape.few_nodes; logs = shape.logs; no_logs = shape.no_logs; at_home = shape.at_home; limits = shape.limits; least_limit = shape.least_limit; most_limit = shape.most_limit; durabilities = shape.durabilities }
+    shape_then = record { nodes = shape.nodes; few_nodes = shape.few_nodes; logs = shape.logs; no_logs = shape.no_logs; at_home = shape.at_home; limits = shape.limits; least_limit = shape.least_limit; most_limit = shape.most_limit; single = shape.single; durabilities = shape.durabilities }
 
     frozen_same : SameFrozen s levels
     frozen_same = same_frozen s.levels levels c (client_in s.clients c).home i mode granted (own_unfrozen s.levels c (client_in s.clients c).home i mode free)

@@ -1,8 +1,9 @@
 -- Those who stand in a call's way are asked for their leases, and the revokers that they stored answer.
 -- Assise (OSDI 2020), section 3 (CC-NVM: leases, and their revocation).
-use Rattle.std.specs.Prelude.{◌≡◌, ℕ, nat_le, true, ◌&&◌, if◌then◌else◌, List, [], length, Option, Some, None}
+use Rattle.std.specs.Prelude.{◌≡◌, ℕ, nat_le, true, ◌&&◌, if◌then◌else◌, List, [], length, map, Option, Some, None}
 use Rattle.assise_private_log.specs.NumberedLog.{NumberedLog}
 use Rattle.assise_digest.specs.Region.{RegionValue}
+use Rattle.assise_lease_table.specs.Answers.{IsRaisedAnswer}
 use Rattle.assise_lease_tree.specs.declared.request.Request.{Request}
 use Rattle.assise_manager.specs.Standings.{Standing}
 use Rattle.assise_machine_leases.specs.Handing.{Asks, is_newly_frozen}
@@ -22,12 +23,12 @@ pub record AsksThem (m : Machine) (r : Request) (m' : Machine) : Type 0 where
   pub adds : Adds m [] m'
   pub keeps : KeepsMembers m m'
 
--- a client's own log
+-- a client's own log, in which each record is a group by itself
 abbrev pub clients_log : Machine → ℕ → NumberedLog
-clients_log m c = record { first = m.world.first c; limit = m.limit; records = m.world.records c }
+clients_log m c = record { first = m.world.first c; limit = m.limit; records = m.world.records c; begins = map (λ r. true) (m.world.records c) }
 
 -- the cut of each lease that is frozen now and wasn't before is what the revoker that its holder stored answers for the holder's
--- own log and the inode
+-- own log and the inode, raised to the end of its group
 abbrev pub CutsAreAnswers : {C : Type 0} → (C → NumberedLog → ℕ → ℕ → Type 0) → (ℕ → Option C) → Machine → Machine → Type 0
 CutsAreAnswers {C} answers stored m m' = (c i : ℕ) → is_newly_frozen m.leases m'.leases c i ≡ true →
-    (revoker : C) × (stored c ≡ Some revoker) × answers revoker (clients_log m c) i (m'.leases.cut c i)
+    (revoker : C) × (stored c ≡ Some revoker) × IsRaisedAnswer answers revoker (clients_log m c) i (m'.leases.cut c i)

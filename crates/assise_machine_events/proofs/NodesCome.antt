@@ -3,6 +3,7 @@ use Rattle.std.proofs.Common.{◌≡◌, ℕ, ◌<◌, ◌≤◌, length, true, 
 use Rattle.assise_names.specs.declared.call.Op.TheVariants.{Dsync}
 use Rattle.assise_names.specs.declared.refusal.Refusal.TheVariants.{OutOfMemory, StaleMessage, WrongPhase}
 use Rattle.assise_record.specs.LogFrame.{LogFrame}
+use Rattle.assise_private_log.specs.Borders.{whole_count}
 use Rattle.assise_manager.specs.Changes.{all_full}
 use Rattle.assise_machine_laws.specs.World.{end, received_by_all}
 use Rattle.assise_machine_laws.proofs.Observing.{received_by_all-below}
@@ -208,6 +209,7 @@ awaits =
     (m', of_sync m m' o h)
 
 frames : (m : Machine) → Awaits m → frames_to m 1 m.world.clients ≡ (file_frame 1, 2) ∷ []
+unfolding whole_count
 frames m o = rw (o.clients, o.members, o.home, o.first, o.goal, o.log, o.received_home, o.received_other) refl
 
 pub sent_one : (f : LogFrame) × Comes (λ m m'. Sending m 1 (sent ((f, 2) ∷ [])) m')

@@ -1,7 +1,7 @@
 -- What nodes do: each outcome with its answer, and what stands after it.
 -- Assise (OSDI 2020), section 3 (CC-NVM: replication, digests, leases); Strata (SOSP 2017), section 3; van Renesse and Schneider,
 -- chain replication (OSDI 2004), section 2.
-use Rattle.std.specs.Prelude.{◌≡◌, ℕ, zero, suc, ◌+◌, ◌-◌, ◌<◌, ◌≤◌, min, max, nat_le, Bool, true, ◌&&◌, List, [], ◌∷◌, ◌++◌, length, Option, Some, None}
+use Rattle.std.specs.Prelude.{◌≡◌, ℕ, zero, suc, ◌+◌, ◌-◌, ◌<◌, ◌≤◌, min, max, nat_le, Bool, true, ◌&&◌, List, [], ◌∷◌, ◌++◌, length, map, Option, Some, None}
 use Rattle.std.specs.Ordering.{nat_cmp}
 use Rattle.std.specs.FinSet as set
 use Rattle.assise_names.specs.declared.refusal.Refusal.{Refusal}
@@ -32,9 +32,9 @@ use Rattle.assise_machine_events.specs.Machine.{Machine, Adds, state_of}
 abbrev pub next_node : Machine → ℕ → ℕ → Option ℕ
 next_node m n c = behind n (chain (full_nodes m.members.nodes) (m.world.home c))
 
--- node n's log of the client
+-- node n's log of the client, whose records are groups by themselves
 abbrev pub node_log : Machine → ℕ → ℕ → NumberedLog
-node_log m n c = record { first = m.world.first c; limit = m.limit; records = m.world.log n c }
+node_log m n c = record { first = m.world.first c; limit = m.limit; records = m.world.log n c; begins = map (λ r. true) (m.world.log n c) }
 
 abbrev pub for_node : ℕ → Option LogFrame → List (LogFrame × ℕ)
 for_node k None = []

@@ -138,7 +138,7 @@ module _ {s : StateValue} {n : ℕ} (was : WasReturning s n) where
   again_shaped = of_members (members_shaped s m was.shape long same)
     where
       of_members : IsShaped u → IsShaped t
-      of_members h = record { nodes = h.nodes; few_nodes = h.few_nodes; logs = h.logs; no_logs = h.no_logs; at_home = h.at_home; limits = h.limits; least_limit = h.least_limit; most_limit = h.most_limit; durabilities = λ c. h.durabilities c ∙ sym (durability-still s.history (fails n []) c refl) }
+      of_members h = record { nodes = h.nodes; few_nodes = h.few_nodes; logs = h.logs; no_logs = h.no_logs; at_home = h.at_home; limits = h.limits; least_limit = h.least_limit; most_limit = h.most_limit; single = h.single; durabilities = λ c. h.durabilities c ∙ sym (durability-still s.history (fails n []) c refl) }
 
   again_noted : AreNoted t
   again_noted = still_noted s t refl (omega arith) (λ c i. refl) was.noted

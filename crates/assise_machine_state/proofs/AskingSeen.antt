@@ -276,6 +276,7 @@ module _ (s : StateValue) (levels : TwoLevels) (asked : List Asked) where
     limit = refl;
     limits = λ n d. refl;
     at_home = λ n d. refl;
+    single = λ all. all;
     durability = stays (λ x. x.durability) (λ to x. refl);
     opened = λ d. refl;
   }

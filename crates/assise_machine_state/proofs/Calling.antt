@@ -22,12 +22,13 @@ use Rattle.assise_machine_state.specs.ClientValues.{ClientValue, client_in, clie
 use Rattle.assise_machine_state.specs.NodeValues.{HasLog, log_in, log_seen, region_in, region_seen, with_call_in, with_records}
 use Rattle.assise_machine_state.specs.Observed.{own_node, own_seen, world_of}
 use Rattle.assise_machine_state.specs.Places.{IsNumber}
-use Rattle.assise_machine_state.specs.Shape.{IsShaped}
+use Rattle.assise_machine_state.specs.Shape.{HasSingleGroups, IsShaped}
 use Rattle.assise_machine_state.specs.StateValues.{StateValue, standings}
 use Rattle.assise_machine_state.proofs.Fullness.{has_log, home_full, lives_number, lives_unfailed, log_is}
-use Rattle.assise_machine_state.proofs.Logging.{log_else, log_here, log_same, none_more, region_kept}
+use Rattle.assise_machine_state.proofs.Logging.{log_else, log_here, log_holds, log_in_holds, log_same, none_more, region_kept}
 use Rattle.assise_machine_state.proofs.Seeing.{client_else, client_here, client_is, client_same}
 use Rattle.assise_machine_state.proofs.Shaping.{shaped_as}
+use Rattle.assise_machine_state.proofs.Singles.{single_more}
 use Rattle.assise_machine_state.proofs.Staying.{leases_as}
 
 -- ---- the log at home
@@ -60,6 +61,14 @@ module _ (rs : List RegionValue) (n c call : ℕ) (es : List Effect) where
       elim (cases_Bool (has_some es)) [
         | inl some ↦ rw some (log_same rs n c (region_in rs n).inodes more f m d same)
         | inr none ↦ rw none refl
+      ]
+
+  -- what holds of the longer log and of all logs holds of all then
+  call_holds : (P : ReceivedLog → Type 0) → P more → ((m d : ℕ) → P (log_seen rs m d)) → (m d : ℕ) → P (log_seen (with_call_in rs n c call es) m d)
+  call_holds P new old m d =
+      elim (cases_Bool (has_some es)) [
+        | inl some ↦ rw some (log_holds rs n c (region_in rs n).inodes more P new old m d)
+        | inr none ↦ rw none (old m d)
       ]
 
   call_region_kept : {A : Type 0} (f : RegionValue → A) → f (with_log (region_in rs n) c more) ≡ f (region_in rs n) → (m : ℕ) →
@@ -145,6 +154,8 @@ module _ (s : StateValue) (x : NumberedCall) where
     limit = refl;
     limits = kept (λ l. l.log.limit) refl;
     at_home = kept (λ l. l.at_home) refl;
+    single = λ all. call_holds s.nodes home c x.number es (λ l. HasSingleGroups l.log)
+        (single_more (log_in s.nodes home c) (record { call = x.number; effects = es } ∷ []) (log_in_holds (λ l. HasSingleGroups l.log) s.nodes all home c)) all;
     durability = stays (λ y. y.durability) refl;
     opened = λ d. durability-still s.history (calls (plain_call x)) d refl;
   }

@@ -72,7 +72,8 @@ module _ (n : ℕ) (kept : ℕ → ℕ) (cs : List ClientValue) where
 cut_none : (from : ℕ) → up_to_number no_log from ≡ no_log
 cut_none from =
     let none : take (from - 0) [] ≡ [] = take_all (from - 0) [] (omega arith) in
-    λ i. record { log = record { first = 0; limit = 0; records = none i }; digested = 0; at_home = false }
+    let unmarked : take (from - 0) [] ≡ [] = take_all (from - 0) [] (omega arith) in
+    λ i. record { log = record { first = 0; limit = 0; records = none i; begins = unmarked i }; digested = 0; at_home = false }
 
 abbrev cut_to : ℕ → ReceivedLog → ReceivedLog
 cut_to from l = up_to_number l from

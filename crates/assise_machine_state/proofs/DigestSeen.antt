@@ -54,7 +54,7 @@ inodes_now s n c k = all_applied (region_in s.nodes n).inodes (all_effects (take
 
 pub digest_shaped : (s : StateValue) (n c k : ℕ) (inodes : set.FinSet nat_cmp) → IsShaped s → IsShaped (after_digest s n c k inodes)
 digest_shaped s n c k inodes shape =
-    shaped_log s (noted s.members n inodes) n c (inodes_now s n c k) (further s n c k) shape refl refl (same_count (standings s) n inodes) (still_full (standings s) n inodes)
+    shaped_log s (noted s.members n inodes) n c (inodes_now s n c k) (further s n c k) shape refl refl (λ single. single) (same_count (standings s) n inodes) (still_full (standings s) n inodes)
 
 module _ (s : StateValue) (n c k : ℕ) (inodes : set.FinSet nat_cmp) (shape : IsShaped s) (first : (log_seen s.nodes n c).log.first ≡ (world_of s).first c) (client : IsNumber s.clients c) (may : MayDigest (world_of s) n c k) where
   abbrev w : World

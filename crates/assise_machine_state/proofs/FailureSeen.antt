@@ -35,7 +35,7 @@ use Rattle.assise_machine_state.specs.ClientValues.{ClientValue, client_seen, cu
 use Rattle.assise_machine_state.specs.NodeValues.{log_seen, region_seen}
 use Rattle.assise_machine_state.specs.Observed.{is_full_in, own_seen, world_of}
 use Rattle.assise_machine_state.specs.Places.{IsNumber}
-use Rattle.assise_machine_state.specs.Shape.{AreLeft, IsShaped}
+use Rattle.assise_machine_state.specs.Shape.{AreLeft, HasSingleGroups, IsShaped}
 use Rattle.assise_machine_state.specs.StateValues.{StateValue, leases_of, standings}
 use Rattle.assise_machine_state.proofs.CutSeen.{client_fails, client_stays, count_over, home_number, inodes_left, log_cut_left, log_left, count_left, logs_gone, logs_left}
 use Rattle.assise_machine_state.proofs.Fullness.{full_seen, node_number, same_first, seen_full, no_log_in}
@@ -43,6 +43,7 @@ use Rattle.assise_machine_state.proofs.Kept.{kept_elsewhere, kept_from_first, ke
 use Rattle.assise_machine_state.proofs.Noted.{failed_over, left_else, lives_elsewhere, unasked_cut}
 use Rattle.assise_machine_state.proofs.Shaping.{KnowsHome, limit_seen, limits_all}
 use Rattle.assise_machine_state.proofs.Standings.{else_then, full_as, gone_then, lowest_is_full, survivor_left, count_then}
+use Rattle.assise_machine_state.proofs.Singles.{single_tail}
 use Rattle.assise_machine_state.proofs.Staying.{leases_frozen}
 
 -- the cut of a client whose node failed
@@ -156,6 +157,15 @@ module _ (s : StateValue) (n : ℕ) (inodes : set.FinSet nat_cmp) (levels : TwoL
       let other : k ≢ n = not_failed k f in
       same_limit k c other ∙ limit_seen s k c shape (sym (else_stands k other) ∙ f) record { some = client.some; there = subst (λ m. c ≤ m) clients_left client.there }
 
+  left_single : (k c : ℕ) → HasSingleGroups (log_seen t.nodes k c).log
+  left_single k c = elim (cases_eq k n) [
+    | inl is ↦ subst (λ m. HasSingleGroups (log_seen t.nodes m c).log) (sym is) (subst (λ l. HasSingleGroups l.log) (sym (no_log_in t.nodes n c emptied)) refl)
+    | inr apart ↦ (elim (cases_eq (client_seen s.clients c).home n) [
+      | inl here ↦ subst (λ l. HasSingleGroups l.log) (sym (log_there k c apart here)) (single_tail (log_seen s.nodes k c).log (kept c) (shape.single k c))
+      | inr other ↦ subst (λ l. HasSingleGroups l.log) (sym (log_same k c apart other)) (shape.single k c)
+    ])
+  ]
+
   left_durability : (c : ℕ) → (client_seen t.clients c).durability ≡ (client_seen s.clients c).durability
   left_durability c = elim (cases_eq (client_seen s.clients c).home n) [
     | inl here ↦ ap (λ y. y.durability) (client_over c here)
@@ -172,6 +182,7 @@ module _ (s : StateValue) (n : ℕ) (inodes : set.FinSet nat_cmp) (levels : TwoL
     limits = limits_all t left_logs left_none left_limit;
     least_limit = shape.least_limit;
     most_limit = shape.most_limit;
+    single = left_single;
     durabilities = λ c. left_durability c ∙ shape.durabilities c ∙ sym (durability-still s.history (fails n (losses_of w n)) c refl);
   }
 

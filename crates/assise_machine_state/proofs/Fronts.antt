@@ -22,12 +22,13 @@ use Rattle.assise_machine_state.specs.StateValues.{StateValue, standings}
 use Rattle.assise_machine_state.proofs.Fullness.{full_seen, has_log, no_log_there, same_first}
 use Rattle.assise_machine_state.proofs.Logging.{beside_seen, inodes_seen, own_changes, part_seen}
 use Rattle.assise_machine_state.proofs.Shaping.{shaped_all}
+use Rattle.assise_machine_state.proofs.Singles.{single_front}
 use Rattle.assise_machine_state.proofs.Staying.{clients_as, goals_as, leases_as}
 
 -- ---- fronts are dropped
 
 pub drop_shaped : (s : StateValue) (c to : ℕ) → IsShaped s → IsShaped (after_drop s c to)
-drop_shaped s c to shape = shaped_all s c (λ l. from_number l to) shape (λ l. refl) (λ l. refl)
+drop_shaped s c to shape = shaped_all s c (λ l. from_number l to) shape (λ l. refl) (λ l. refl) (λ l. single_front l.log to)
 
 pub drop_areas : (s : StateValue) (c to n i : ℕ) → (world_of (after_drop s c to)).area n i ≡ (world_of s).area n i
 unfolding world_of

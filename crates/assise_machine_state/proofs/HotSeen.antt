@@ -1,5 +1,5 @@
 -- How many inodes may be hot at a node isn't observed.
-use Rattle.std.proofs.Common.{◌≡◌, ℕ, ◌-◌, List, length, not, true, refl, ap}
+use Rattle.std.proofs.Common.{◌≡◌, ℕ, ◌-◌, List, length, not, true, refl, ap, subst, sym}
 use Rattle.std.proofs.lemmas.List.{length-set}
 use Rattle.assise_inode_table.specs.Contents.{InodeMap, values}
 use Rattle.assise_private_log.specs.NumberedLog.{end}
@@ -12,7 +12,7 @@ use Rattle.assise_machine_state.specs.ClientValues.{client_seen}
 use Rattle.assise_machine_state.specs.NodeValues.{log_seen, no_region, region_in, region_seen}
 use Rattle.assise_machine_state.specs.Observed.{full_in, observed, own_node, own_seen, world_of}
 use Rattle.assise_machine_state.specs.Places.{at}
-use Rattle.assise_machine_state.specs.Shape.{AreNoted, IsShaped}
+use Rattle.assise_machine_state.specs.Shape.{AreNoted, HasSingleGroups, IsShaped}
 use Rattle.assise_machine_state.specs.StateValues.{StateValue, leases_of, standings}
 use Rattle.assise_machine_state.proofs.Seeing.{seen_kept}
 use Rattle.assise_machine_state.proofs.Shaping.{shaped_as}
@@ -78,6 +78,7 @@ module _ (s : StateValue) (n capacity : ℕ) where
     limit = refl;
     limits = λ k c. ap (λ ls. (at no_log ls c).log.limit) (logs_same k);
     at_home = λ k c. ap (λ ls. (at no_log ls c).at_home) (logs_same k);
+    single = λ all k c. subst (λ ls. HasSingleGroups (at no_log ls c).log) (sym (logs_same k)) (all k c);
     durability = λ c. refl;
     opened = λ c. refl;
   }

@@ -21,6 +21,7 @@ use Rattle.assise_machine_state.specs.StateValues.{StateValue, standings}
 use Rattle.assise_machine_state.proofs.Fullness.{full_seen, has_log, log_is, same_first}
 use Rattle.assise_machine_state.proofs.Logging.{log_else, log_here, log_same, none_more, region_kept}
 use Rattle.assise_machine_state.proofs.Shaping.{shaped_log}
+use Rattle.assise_machine_state.proofs.Singles.{single_more}
 use Rattle.assise_machine_state.proofs.Staying.{clients_as, goals_as, leases_as, logs_as}
 
 -- the node's log of the client then
@@ -36,7 +37,8 @@ pub other_areas : (s : StateValue) (n c k : ℕ) → OtherAreasStay (world_of s)
 other_areas s n c k m i else = same_area s n c k m i
 
 pub delivery_shaped : (s : StateValue) (n c k : ℕ) → IsShaped s → IsShaped (after_delivery s n c k)
-delivery_shaped s n c k shape = shaped_log s s.members n c (region_in s.nodes n).inodes (delivered_log s n c k) shape refl refl refl (λ m. refl)
+delivery_shaped s n c k shape = shaped_log s s.members n c (region_in s.nodes n).inodes (delivered_log s n c k) shape refl refl
+    (single_more (log_in s.nodes n c) (records_between (world_of s) c ((world_of s).received n c) k)) refl (λ m. refl)
 
 -- what a node has of a log that is a client's own is all of it, and its log of the client begins where the own one does
 pub record HasFront (s : StateValue) (n c : ℕ) : Type 0 where

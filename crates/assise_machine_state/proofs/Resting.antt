@@ -13,7 +13,7 @@ use Rattle.assise_machine_state.specs.ClientValues.{client_seen}
 use Rattle.assise_machine_state.specs.NodeValues.{log_seen, region_in, region_seen}
 use Rattle.assise_machine_state.specs.Observed.{is_full_in, own_node, own_seen, world_of}
 use Rattle.assise_machine_state.specs.Places.{IsNumber, at}
-use Rattle.assise_machine_state.specs.Shape.{IsShaped}
+use Rattle.assise_machine_state.specs.Shape.{HasSingleGroups, IsShaped}
 use Rattle.assise_machine_state.specs.StateValues.{StateValue, standings}
 use Rattle.assise_machine_state.proofs.Fullness.{region_is}
 use Rattle.assise_machine_state.proofs.Logging.{region_else, region_here, region_kept}
@@ -58,6 +58,7 @@ members_shaped s m shape long same = shaped_as s (after_members s m) shape recor
   limit = refl;
   limits = λ n c. refl;
   at_home = λ n c. refl;
+  single = λ all. all;
   durability = λ c. refl;
   opened = λ c. refl;
 }
@@ -129,6 +130,7 @@ inode_shaped s n i v shape there = shaped_as s (after_inode s n i v) shape recor
   limit = refl;
   limits = λ k c. ap (λ l. l.log.limit) (same_log s n i v there k c);
   at_home = λ k c. ap (λ l. l.at_home) (same_log s n i v there k c);
+  single = λ all k c. subst (λ l. HasSingleGroups l.log) (sym (same_log s n i v there k c)) (all k c);
   durability = λ c. refl;
   opened = λ c. refl;
 }

@@ -24,7 +24,7 @@ use Rattle.assise_machine_state.specs.ClientValues.{client_seen}
 use Rattle.assise_machine_state.specs.NodeValues.{away, log_seen, region_in, region_seen}
 use Rattle.assise_machine_state.specs.Observed.{is_full_in, own_seen, world_of}
 use Rattle.assise_machine_state.specs.Places.{IsNumber, at}
-use Rattle.assise_machine_state.specs.Shape.{IsShaped}
+use Rattle.assise_machine_state.specs.Shape.{HasSingleGroups, IsShaped}
 use Rattle.assise_machine_state.specs.StateValues.{StateValue, standings}
 use Rattle.assise_machine_state.proofs.Fullness.{full_number, full_seen, home_full, node_number, region_is, same_first, seen_full}
 use Rattle.assise_machine_state.proofs.Logging.{log_away, region_else, region_here, region_kept}
@@ -149,6 +149,12 @@ module _ (s : StateValue) (n since donor : ℕ) (stale : set.FinSet nat_cmp) (sh
     | inr other ↦ ap (λ l. l.at_home) (log_stays k c other) ∙ shape.at_home k c
   ]
 
+  single : (k c : ℕ) → HasSingleGroups (log_seen t.nodes k c).log
+  single k c = elim (cases_eq k n) [
+    | inl is ↦ subst (λ m. HasSingleGroups (log_seen t.nodes m c).log) (sym is) (subst (λ l. HasSingleGroups l.log) (sym (log_filled c)) (shape.single donor c))
+    | inr other ↦ subst (λ l. HasSingleGroups l.log) (sym (log_stays k c other)) (shape.single k c)
+  ]
+
   pub join_shaped : IsShaped t
   join_shaped = record {
     nodes = count ∙ shape.nodes ∙ sym (same_count (standings s) n full);
@@ -159,6 +165,7 @@ module _ (s : StateValue) (n since donor : ℕ) (stale : set.FinSet nat_cmp) (sh
     limits = limits_all t logs no_logs limits;
     least_limit = shape.least_limit;
     most_limit = shape.most_limit;
+    single = single;
     durabilities = λ c. shape.durabilities c ∙ sym (durability-still s.history (returns n) c refl);
   }
 

@@ -101,6 +101,7 @@ module _ (s : StateValue) (c : ℕ) (x : ClientValue) (levels : TwoLevels) (cuts
       limit = refl;
       limits = λ n d. refl;
       at_home = λ n d. refl;
+      single = λ all. all;
       durability = client_same (λ y. y.durability) s.clients c x remains.durability;
       opened = opened;
     }

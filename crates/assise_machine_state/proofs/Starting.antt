@@ -14,7 +14,7 @@ use Rattle.assise_machine_state.specs.ClientValues.{client_seen, cut_of, no_clie
 use Rattle.assise_machine_state.specs.NodeValues.{HasLog, log_seen, new_region, new_regions, no_region, region_in, region_seen}
 use Rattle.assise_machine_state.specs.Observed.{full_in, is_full_in, observed, own_node, own_seen, world_of}
 use Rattle.assise_machine_state.specs.Places.{at}
-use Rattle.assise_machine_state.specs.Shape.{IsShaped}
+use Rattle.assise_machine_state.specs.Shape.{HasSingleGroups, IsShaped}
 use Rattle.assise_machine_state.specs.StateValues.{StateValue, leases_of}
 use Rattle.assise_machine_state.proofs.Seeing.{seen_nothing}
 
@@ -124,6 +124,7 @@ begun_shaped n hot limit few least most = record {
   limits = λ k c has. absurd (has_none n k c has);
   least_limit = least;
   most_limit = most;
+  single = λ k c. subst (λ l. HasSingleGroups l.log) (sym (no_log_seen n hot k c)) refl;
   durabilities = λ c. ap (λ x. x.durability) (nobody_seen c);
 }
   where

@@ -1,5 +1,5 @@
 -- Records and logs come to a region one after another.
-use Rattle.std.proofs.Common.{◌≡◌, ℕ, suc, ◌+◌, ◌-◌, ◌<◌, ◌≤◌, List, [], ◌∷◌, ◌++◌, false, length, map, take, take-suc, take_all, get_or, ap, sym, ◌∙◌, arith}
+use Rattle.std.proofs.Common.{◌≡◌, ℕ, suc, ◌+◌, ◌-◌, ◌<◌, ◌≤◌, List, [], ◌∷◌, ◌++◌, true, false, length, map, take, take-suc, take_all, get_or, ap, sym, ◌∙◌, arith}
 use Rattle.std.proofs.lemmas.List.{append_assoc, get_or-set_same, map-append, set-set}
 use Rattle.assise_record.specs.LogRecord.{LogRecord}
 use Rattle.assise_private_log.specs.NumberedLog.{NumberedLog}
@@ -9,7 +9,16 @@ use Rattle.assise_machine_state.specs.NodeValues.{AreTaken, away, copied, with_r
 -- ---- records
 
 one_then_others : (l : ReceivedLog) (a : LogRecord) (rest : List LogRecord) → with_records (with_more l a) rest ≡ with_records l (a ∷ rest)
-one_then_others l a rest = ap (λ rs. record { log = record { first = l.log.first; limit = l.log.limit; records = rs }; digested = l.digested; at_home = l.at_home }) (append_assoc l.log.records (a ∷ []) rest)
+one_then_others l a rest = λ i. record {
+  log = record {
+    first = l.log.first;
+    limit = l.log.limit;
+    records = append_assoc l.log.records (a ∷ []) rest i;
+    begins = append_assoc l.log.begins (true ∷ []) (map (λ r. true) rest) i;
+  };
+  digested = l.digested;
+  at_home = l.at_home;
+}
 
 pub one_taken : (r : RegionValue) (c : ℕ) (a : LogRecord) (rest : List LogRecord) → HasClient r c →
     with_log (with_log r c (with_more (log_of r c) a)) c (with_records (log_of (with_log r c (with_more (log_of r c) a)) c) rest) ≡ with_log r c (with_records (log_of r c) (a ∷ rest))

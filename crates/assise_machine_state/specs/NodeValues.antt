@@ -1,6 +1,6 @@
 -- What nodes have: for each its inodes, and the logs that it received.
 -- Assise (OSDI 2020), section 3 (CC-NVM: update logs, shared areas, recovery).
-use Rattle.std.specs.Prelude.{◌≡◌, ℕ, zero, suc, ◌≤◌, nat_le, Bool, false, ◌==◌, if◌then◌else◌, List, [], ◌∷◌, ◌++◌, length, map}
+use Rattle.std.specs.Prelude.{◌≡◌, ℕ, zero, suc, ◌≤◌, nat_le, Bool, true, false, ◌==◌, if◌then◌else◌, List, [], ◌∷◌, ◌++◌, length, map}
 use Rattle.assise_record.specs.Records.{has_some}
 use Rattle.assise_inode_table.specs.Opening.{opening}
 use Rattle.assise_record.specs.declared.effect.Effect.{Effect}
@@ -58,9 +58,13 @@ with_hot_in rs n capacity = with_region rs n (with_hot_capacity (region_in rs n)
 abbrev pub with_call_in : List RegionValue → ℕ → ℕ → ℕ → List Effect → List RegionValue
 with_call_in rs n c call es = if has_some es then with_log_in rs n c (with_more (log_in rs n c) (record { call = call; effects = es })) else rs
 
--- records come in behind the last
+-- records come in behind the last, each a group by itself
 abbrev pub with_records : ReceivedLog → List LogRecord → ReceivedLog
-with_records l more = record { log = record { first = l.log.first; limit = l.log.limit; records = l.log.records ++ more }; digested = l.digested; at_home = l.at_home }
+with_records l more = record {
+  log = record { first = l.log.first; limit = l.log.limit; records = l.log.records ++ more; begins = l.log.begins ++ map (λ r. true) more };
+  digested = l.digested;
+  at_home = l.at_home;
+}
 
 -- a node gets another's logs: no client lives there
 abbrev pub away : ReceivedLog → ReceivedLog

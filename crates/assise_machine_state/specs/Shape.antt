@@ -1,8 +1,9 @@
 -- What holds of the parts of the state, beside what the laws say of it.
 -- Assise (OSDI 2020), section 3 (CC-NVM: a replica has the logs of all clients).
-use Rattle.std.specs.Prelude.{◌≡◌, ℕ, ◌≤◌, Bool, true, false, not, ◌&&◌, ◌==◌, List, [], filter, length}
+use Rattle.std.specs.Prelude.{◌≡◌, ℕ, ◌≤◌, Bool, true, false, not, ◌&&◌, ◌==◌, List, [], filter, length, map}
 use Rattle.assise_names.specs.declared.mode.Mode.{Mode}
 use Rattle.assise_history.specs.Legal.{durability_of}
+use Rattle.assise_private_log.specs.NumberedLog.{NumberedLog}
 use Rattle.assise_private_log.specs.Touches.{Covers}
 use Rattle.assise_lease_table.specs.declared.lease.Asked.{Asked}
 use Rattle.assise_lease_table.specs.Answers.{clients_of}
@@ -15,6 +16,10 @@ use Rattle.assise_machine_state.specs.NodeValues.{HasLog, log_in, log_seen, regi
 use Rattle.assise_machine_state.specs.Observed.{is_full_in, own_seen}
 use Rattle.assise_machine_state.specs.Places.{IsNumber}
 use Rattle.assise_machine_state.specs.StateValues.{StateValue, standings}
+
+-- each record is a group by itself
+abbrev pub HasSingleGroups : NumberedLog → Type 0
+HasSingleGroups l = l.begins ≡ map (λ r. true) l.records
 
 pub record IsShaped (s : StateValue) : Type 0 where
   -- each node stands somehow
@@ -29,6 +34,8 @@ pub record IsShaped (s : StateValue) : Type 0 where
   pub limits : (n c : ℕ) → HasLog s.nodes n c → (log_in s.nodes n c).log.limit ≡ s.limit
   pub least_limit : 8 ≤ s.limit
   pub most_limit : s.limit ≤ 4096
+  -- no record of any log is in a group with another
+  pub single : (n c : ℕ) → HasSingleGroups (log_seen s.nodes n c).log
   -- each client is known as it was opened
   pub durabilities : (c : ℕ) → (client_seen s.clients c).durability ≡ durability_of c s.history
 

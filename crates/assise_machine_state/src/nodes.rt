@@ -3,8 +3,8 @@ ghost use Rattle.std.specs.Prelude.{◌≡◌, ◌⊎◌, ◌+◌, ◌^◌, ◌<
 ghost use Rattle.std.specs.FinMap as map;
 ghost use Rattle.assise_names.specs.declared.refusal.Refusal.TheVariants.{LogFull, OutOfMemory};
 ghost use Rattle.assise_inode_table.specs.Whole.{CanBeMadeWhole};
-ghost use Rattle.assise_private_log.specs.NumberedLog.{end};
-ghost use Rattle.assise_digest.specs.Region.{AreWhole, HasClient, HasRoom, IsFull, IsQuiet, ReceivedLog, TouchApart, ahead_below, digested_by, from_number, log_of, up_to_number, with_client, with_inode, with_log, with_more, without_clients};
+ghost use Rattle.assise_private_log.specs.NumberedLog.{end, is_border};
+ghost use Rattle.assise_digest.specs.Region.{AreWhole, HasClient, HasRoom, IsFull, IsQuiet, ReceivedLog, TouchApart, ahead_below, digested_by, from_number, log_of, up_to_number, whole_ahead, with_client, with_inode, with_log, with_more, without_clients};
 ghost use Rattle.assise_manager.specs.Whole.{membership};
 ghost use Rattle.assise_machine_state.specs.NodeValues.{AreDigested, AreTaken, AreUndigested, HasLog, IsDigestedTo, IsUndigestedFrom, away, begun_log, changed_in, copied, log_in, new_regions, region_in, with_copies, with_fronts_dropped, with_hot_in, with_log_in, with_logs_begun, with_logs_ended, with_logs_of, with_records, with_region, with_tails_cut, without_log_of, without_logs};
 ghost use Rattle.assise_machine_state.specs.Observed.{is_full_in};
@@ -173,8 +173,9 @@ impl Nodes {
         self.regions[node as usize - 1].append(client as usize, added)
     }
 
-    /// A node digests records of a client that are numbered below what is acknowledged, so many at most, and answers how
-    /// many. The one refusal is [`Refusal::OutOfMemory`], where there was one to digest, and it changes nothing.
+    /// A node digests records of a client that are numbered below what is acknowledged, so many at most, each group whole or
+    /// not at all, and answers how many. The one refusal is [`Refusal::OutOfMemory`], where there was one to digest, and it
+    /// changes nothing.
     pub fn digest_some(
         &mut self,
         node: u32,
@@ -187,7 +188,9 @@ impl Nodes {
         ensures ok { IfOk result (λ n. self.new ≡ with_region self.old node (digested_by (region_in self.old node) client n)) }
         ensures at_most { IfOk result (λ n. n ≤ at_most) }
         ensures acked { IfOk result (λ n. n ≤ length (ahead_below (log_in self.old node client) acked)) }
-        ensures none { IfOk result (λ n. n ≡ 0 → (at_most ≡ 0) ⊎ (length (ahead_below (log_in self.old node client) acked) ≡ 0)) }
+        ensures groups { IfOk result (λ n. 0 < n →
+            is_border (log_in self.old node client).log ((log_in self.old node client).digested + n) ≡ true) }
+        ensures none { IfOk result (λ n. n ≡ 0 → whole_ahead (log_in self.old node client) acked at_most ≡ 0) }
         ensures err { OnErr result (self.new ≡ self.old) }
         ensures asked { OnErr result ((0 < at_most) × (0 < length (ahead_below (log_in self.old node client) acked))) }
         ensures only_memory { IsOkUnless result OutOfMemory }

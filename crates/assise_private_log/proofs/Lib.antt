@@ -1,2 +1,4 @@
+pub mod Bordering
+pub mod Grouping
 mod Fronts
 mod Touching

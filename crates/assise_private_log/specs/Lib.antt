@@ -1,2 +1,4 @@
+pub mod Borders
+pub mod Groups
 pub mod NumberedLog
 pub mod Touches

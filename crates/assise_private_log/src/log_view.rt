@@ -1,10 +1,11 @@
 // A log as it is lent: its numbers, and which records touch an inode.
-ghost use Rattle.std.specs.Prelude.{◌≡◌, ◌<◌, ◌≤◌, ◌^◌, false, true, IfSome, length, option_copied, ℕ};
+ghost use Rattle.std.specs.Prelude.{◌≡◌, ◌+◌, ◌<◌, ◌≤◌, ◌^◌, false, true, IfSome, length, option_copied, ℕ};
 ghost use Rattle.std.specs.List.{slice_index_or};
 ghost use Rattle.std.specs.Map.Iter.{ShowsInOrder, ShowsInReverse, deref};
 ghost use Rattle.assise_record.specs.LogRecord.{LogRecord};
-ghost use Rattle.assise_private_log.specs.NumberedLog.{IsNumberedLog, end, record_at, records_from};
-ghost use Rattle.assise_private_log.specs.Touches.{IsLastTouch, record_touches, touches, touches_after};
+ghost use Rattle.assise_private_log.specs.Borders.{group_end, whole_count};
+ghost use Rattle.assise_private_log.specs.NumberedLog.{IsNumberedLog, end, is_border, record_at, records_from};
+ghost use Rattle.assise_private_log.specs.Touches.{Covers, IsLastTouch, record_touches, touches, touches_after};
 
 use crate::records::Records;
 use assise_record::record::Record;
@@ -17,16 +18,19 @@ use std::marker::Model;
 pub struct LogView {
     pub(crate) first: u64,
     pub(crate) records: HeapCircularBuffer<Record>,
+    // of each record, whether a group begins with it
+    pub(crate) begins: HeapCircularBuffer<bool>,
 }
 
 impl Model for LogView {
+    ghost use Rattle.std.specs.Prelude.{◌≡◌};
     ghost use Rattle.assise_private_log.specs.NumberedLog.{NumberedLog, IsNumberedLog};
 
     ghost Value = { NumberedLog };
 
-    ghost view = { λ v. record { first = v.first; limit = v.records.capacity; records = v.records.items } };
+    ghost view = { λ v. record { first = v.first; limit = v.records.capacity; records = v.records.items; begins = v.begins.items } };
 
-    ghost invariant = { λ v. IsNumberedLog (record { first = v.first; limit = v.records.capacity; records = v.records.items }) };
+    ghost invariant = { λ v. IsNumberedLog (record { first = v.first; limit = v.records.capacity; records = v.records.items; begins = v.begins.items }) × (v.begins.capacity ≡ v.records.capacity) };
 }
 
 impl LogView {
@@ -44,6 +48,48 @@ impl LogView {
         ensures fits { end self.now < 2 ^ 64 }
     {
         self.first + self.records.len() as u64
+    }
+
+    /// Whether no group has records on both sides of a number: one begins there, or nothing is before it, or nothing
+    /// behind.
+    pub fn is_border(&self, number: u64) -> bool
+        ensures { result ≡ is_border self.now number }
+    {
+        if number <= self.first {
+            return true;
+        }
+        match self.begins.get((number - self.first) as usize) {
+            Some(begins) => *begins,
+            None => true,
+        }
+    }
+
+    /// The least border from a number on. A cut that is raised to it is one too.
+    pub fn group_end(&self, number: u64) -> u64
+        ensures end { result ≡ group_end self.now number }
+        ensures covers { (inode : ℕ) →
+            Covers self.now inode number → Covers self.now inode (group_end self.now number) }
+    {
+        let _lawful = self.first;
+        for border in number..self.end() {
+            if self.is_border(border) {
+                return border;
+            }
+        }
+        number.max(self.end())
+    }
+
+    /// How many records from a number on, at most so many, end with a group.
+    pub fn whole_count(&self, from: u64, most: usize) -> usize
+        requires fits { from + most < 2 ^ 64 }
+        ensures count { result ≡ whole_count self.now from most }
+        ensures within { result ≤ most }
+    {
+        let mut count = most;
+        while 0 < count && !self.is_border(from + count as u64) {
+            count -= 1;
+        }
+        count
     }
 
     /// Whether the record of a number touches an inode. Where there is none of that number, none does.

@@ -46,6 +46,27 @@ fn copy_is_alike(alloc: Global) -> Result<bool, Refusal> {
     Ok(has_two(&copied?))
 }
 
+/// Cuts a log into groups, and says whether one record is left, or, where memory ran out, both.
+fn regroups_or_stays(alloc: Global) -> Result<bool, Refusal> {
+    let mut log = log_of_two(alloc)?;
+    let regrouped = log.regroup(alloc, 0);
+    if regrouped.is_err() && !has_two(&log) {
+        return Ok(false);
+    }
+    regrouped?;
+    let call = log.get(0).map(|record| record.call());
+    Ok(log.end() == 1 && call == Some(0) && log.view().touches(0, 7))
+}
+
+#[test]
+fn a_log_that_cannot_be_regrouped_stays(rt: HostRuntime) {
+    let ended = regroups_or_stays(rt.alloc());
+    assert!(rt;
+        matches!(ended, Ok(true) | Err(Refusal::OutOfMemory)),
+        "{ended:?}"
+    );
+}
+
 #[test]
 fn a_refused_allocation_is_answered(rt: HostRuntime) {
     let ended = copy_is_alike(rt.alloc());

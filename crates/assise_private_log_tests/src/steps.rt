@@ -24,6 +24,7 @@ fn put_step(alloc: Global, log: &mut Log, step: &str, text: &mut String) -> Opti
     match word {
         "add" => put_added(alloc, log, rest, text),
         "fill" => fill(alloc, log, rest),
+        "each" => add_each(alloc, log, rest),
         "drop" => {
             log.drop_front(rest.parse::<u64>().ok()?);
             Some(())
@@ -32,7 +33,16 @@ fn put_step(alloc: Global, log: &mut Log, step: &str, text: &mut String) -> Opti
             log.cut_tail(rest.parse::<u64>().ok()?);
             Some(())
         }
+        "regroup" => put_regrouped(alloc, log, rest, text),
         _ => put_answer(log, word, rest, text).ok(),
+    }
+}
+
+/// Cuts the records from a number on into groups, and appends the refusal if there is one.
+fn put_regrouped(alloc: Global, log: &mut Log, from: &str, text: &mut String) -> Option<()> {
+    match log.regroup(alloc, from.parse::<u64>().ok()?) {
+        Ok(()) => Some(()),
+        Err(refusal) => write!(text, " {refusal:?}").ok(),
     }
 }
 
@@ -81,6 +91,15 @@ fn fill(alloc: Global, log: &mut Log, text: &str) -> Option<()> {
     Some(())
 }
 
+/// `FIRST END`: adds a record for each of these inodes, which touches it.
+fn add_each(alloc: Global, log: &mut Log, text: &str) -> Option<()> {
+    let (first, end) = text.split_once(' ')?;
+    for inode in first.parse::<u64>().ok()?..end.parse::<u64>().ok()? {
+        add_one(alloc, log, inode)?;
+    }
+    Some(())
+}
+
 /// Appends what a log answers.
 fn put_answer(log: &Log, word: &str, rest: &str, text: &mut String) -> Result<(), AllocError> {
     let (left, right) = split_word(rest);
@@ -93,6 +112,9 @@ fn put_answer(log: &Log, word: &str, rest: &str, text: &mut String) -> Result<()
         "last" => put_last(log.view().last_touch(left), text),
         "touches" => put_bool(log.view().touches(left, right), text),
         "after" => put_bool(log.touches_after(left, right), text),
+        "border" => put_bool(log.is_border(left), text),
+        "group" => write!(text, " {}", log.group_end(left)),
+        "whole" => put_whole(log, left, right, text),
         _ => write!(text, " ?"),
     }
 }
@@ -110,6 +132,14 @@ fn put_since(log: &Log, from: u64, text: &mut String) -> Result<(), AllocError> 
         put_record(text, record)?;
     }
     Ok(())
+}
+
+/// Appends how many records from a number on end with a group, so many at most.
+fn put_whole(log: &Log, from: u64, most: u64, text: &mut String) -> Result<(), AllocError> {
+    match from.checked_add(most) {
+        Some(_) => write!(text, " {}", log.whole_count(from, most as usize)),
+        None => write!(text, " ?"),
+    }
 }
 
 fn put_found(found: Option<&Record>, text: &mut String) -> Result<(), AllocError> {

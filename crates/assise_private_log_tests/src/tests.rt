@@ -31,10 +31,35 @@ add 1, add 2 1, add 3, last 1, last 2, last 3, last 4 => 1 1 2 none
 add 1, add 1, drop 1, last 1, drop 2, last 1 => 1 none
 ";
 
+/// Groups: what is left of them, where they end, and in a ring that wraps.
+const GROUPS: &str = "\
+add 1, add 2, border 0, border 1, border 2, border 9, group 1, group 9 => true true true true 1 9
+add 1, add 2, add 1, regroup 0, since 0, sizes, border 0, border 1, border 2 => 0:2 2:1 0..2 2+6=8 true true false true
+fill 5 1, regroup 0, since 0, regroup 1, regroup 9, sizes => 0:1 0..1 1+7=8 true
+add 1 2, add 2 3, regroup 0, since 0 => 0:1 1:2:3
+add 1, add 2, add 3, regroup 1, border 1, border 2, border 3, group 2, whole 0 2, whole 0 3, whole 1 1 => true false true 3 1 3 0
+fill 8 1, drop 6, add 1, add 2, add 3, regroup 6, since 0, border 6, border 7, border 8, group 7 => 6:1 9:2 10:3 true false false 9
+fill 8 1, drop 6, add 1, add 2, add 3, regroup 6, add 4, drop 7, border 7, border 8, group 8, group 9 => true false 9 9
+fill 8 1, drop 6, add 1, add 2, add 3, regroup 6, cut 8, border 7, border 8, add 5, group 7, group 8 => false true 8 8
+";
+
 #[test]
 fn a_log_is_asked_step_by_step(rt: HostRuntime) {
     show(rt.alloc(), &rt, 8, NUMBERS);
     show(rt.alloc(), &rt, 8, TOUCHES);
+    show(rt.alloc(), &rt, 8, GROUPS);
+}
+
+/// Groups have 64 records, and the last the rest, whatever is left of each.
+const LONG_GROUPS: &str = "\
+each 0 100, regroup 0, sizes, group 1, group 65, whole 0 99, whole 0 63, whole 64 36 => 0..100 100+28=128 true 64 100 64 0 36
+each 0 100, drop 30, regroup 40, group 31, group 41, group 99, border 104, whole 30 64 => 31 100 100 true 10
+each 0 60, each 50 60, regroup 0, sizes, group 1, group 64 => 0..66 66+62=128 true 60 66
+";
+
+#[test]
+fn a_group_has_at_most_64_records(rt: HostRuntime) {
+    show(rt.alloc(), &rt, 128, LONG_GROUPS);
 }
 
 /// What a revoker is told of a log: its first number, its end, and the last touch of an inode.

@@ -1,8 +1,8 @@
 -- Groups of at most 64 records, and the marks of what is left of them.
-use Rattle.std.proofs.Common.{◌≡◌, ℕ, zero, suc, ◌+◌, ◌-◌, ◌<◌, ◌≤◌, ◌||◌, ◌&&◌, nat_le, Bool, true, false, List, [], ◌∷◌, ◌++◌, length, take, drop, refl, ap, sym, ◌∙◌, arith, inl, inr, take-append-drop, length-append}
+use Rattle.std.proofs.Common.{◌≡◌, ℕ, zero, suc, ◌-◌, ◌<◌, ◌≤◌, ◌||◌, ◌&&◌, nat_le, Bool, true, false, List, [], ◌∷◌, ◌++◌, length, take, drop, get_or, map, refl, ap, sym, ◌∙◌, arith, inl, inr, take-append-drop, length-append}
 use Rattle.std.proofs.lemmas.Bool.{cases_lt, le-leb, lt-leb, ne_eqb}
-use Rattle.std.proofs.lemmas.List.{length-take, length-drop}
-use Rattle.assise_record.specs.Groups.{AllHaveEffects, AreGroups, all_records, all_coalesced, are_whole, all_marks, coalesced_group, ends_at, groups_of, marks}
+use Rattle.std.proofs.lemmas.List.{get_or-append_right, length-drop, length-map, length-take}
+use Rattle.assise_record.specs.Groups.{AllHaveEffects, AreGroups, all_records, all_coalesced, are_whole, all_marks, coalesced_group, groups_of, marks_of}
 use Rattle.assise_record.specs.LogRecord.{LogRecord}
 use Rattle.assise_record.proofs.Grouping.{group-some}
 
@@ -30,50 +30,60 @@ groups-are zero rs h = tt
 groups-are (suc n) [] h = tt
 groups-are (suc n) (r ∷ rs) h = ((omega (arith, length-take 64 (r ∷ rs)), effects-take 64 (r ∷ rs) h), groups-are n (drop 64 (r ∷ rs)) (effects-drop 64 (r ∷ rs) h))
 
+-- as many steps as there are records are enough, and more come to the same
+pub groups-steps : (n m : ℕ) (rs : List LogRecord) → length rs ≤ n → length rs ≤ m → groups_of n rs ≡ groups_of m rs
+groups-steps zero zero [] few less = refl
+groups-steps zero (suc m) [] few less = refl
+groups-steps (suc n) zero [] few less = refl
+groups-steps (suc n) (suc m) [] few less = refl
+groups-steps zero m (r ∷ rs) few less = absurd (omega (arith, few))
+groups-steps (suc n) zero (r ∷ rs) few less = absurd (omega (arith, less))
+groups-steps (suc n) (suc m) (r ∷ rs) few less =
+    ap (λ gs. take 64 (r ∷ rs) ∷ gs)
+    (groups-steps n m (drop 64 (r ∷ rs)) (omega (arith, few, length-drop 64 (r ∷ rs))) (omega (arith, less, length-drop 64 (r ∷ rs))))
+
+-- each group is coalesced, and then they stand one behind another
+pub all-coalesced : (gs : List (List LogRecord)) → all_records (map coalesced_group gs) ≡ all_coalesced gs
+all-coalesced [] = refl
+all-coalesced (g ∷ gs) = ap (λ rs. coalesced_group g ++ rs) (all-coalesced gs)
+
 -- ---- marks
 
-length-marks : (n : ℕ) → length (marks n) ≡ n
-length-marks zero = refl
-length-marks (suc zero) = refl
-length-marks (suc (suc n)) = ap suc (length-marks (suc n))
+pub length-marks : (rs : List LogRecord) → length (marks_of rs) ≡ length rs
+length-marks [] = refl
+length-marks (r ∷ rs) = ap suc (length-map rs (λ (q : LogRecord). false))
 
--- inside a group no record is the last
-inside : (n k : ℕ) (ms : List Bool) → suc k < n → ends_at (marks n ++ ms) (suc k) ≡ false
-inside zero k ms h = absurd (omega (arith, h))
-inside (suc zero) k ms h = absurd (omega (arith, h))
-inside (suc (suc n)) zero ms h = refl
-inside (suc (suc n)) (suc k) ms h = inside (suc n) k ms (omega (arith, h))
+-- behind the first record of a group none is the first of one
+behind_first : (rs : List LogRecord) (ms : List Bool) (k : ℕ) → k < length rs → get_or (map (λ (q : LogRecord). false) rs ++ ms) k true ≡ false
+behind_first [] ms k h = absurd (omega (arith, h))
+behind_first (r ∷ rs) ms zero h = refl
+behind_first (r ∷ rs) ms (suc k) h = behind_first rs ms k (omega (arith, h))
 
--- at its end and behind it
-behind : (n k : ℕ) (ms : List Bool) → ends_at (marks (suc n) ++ ms) (suc n + k) ≡ ends_at ms k
-behind zero zero ms = refl
-behind zero (suc k) ms = (let is : suc zero + suc k ≡ suc (suc k) = omega arith in ap (ends_at (true ∷ ms)) is)
-behind (suc n) k ms = (let more : suc (suc n) + k ≡ suc (suc n + k) = omega arith in
-    let some : suc n + k ≡ suc (n + k) = omega arith in
-    ap (ends_at (false ∷ (marks (suc n) ++ ms))) (more ∙ ap suc some) ∙ ap (ends_at (marks (suc n) ++ ms)) (sym some) ∙ behind n k ms)
+inside : (rs : List LogRecord) (ms : List Bool) (k : ℕ) → suc k < length rs → get_or (marks_of rs ++ ms) (suc k) true ≡ false
+inside [] ms k h = absurd (omega (arith, h))
+inside (r ∷ rs) ms k h = behind_first rs ms k (omega (arith, h))
 
-one_group : (n : ℕ) (ms : List Bool) (k : ℕ) → 0 < n → n ≤ k → ends_at (marks n ++ ms) k ≡ ends_at ms (k - n)
-one_group zero ms k some h = absurd (omega (arith, some))
-one_group (suc n) ms k some h = (let is : k ≡ suc n + (k - suc n) = omega (arith, h) in ap (ends_at (marks (suc n) ++ ms)) is ∙ behind n (k - suc n) ms)
+first_of : (rs : List LogRecord) (ms : List Bool) → 0 < length rs → get_or (marks_of rs ++ ms) 0 true ≡ true
+first_of [] ms some = absurd (omega (arith, some))
+first_of (r ∷ rs) ms some = refl
 
 some_whole : (g : List LogRecord) (gs : List (List LogRecord)) (k : ℕ) →
     are_whole (g ∷ gs) (suc k) ≡ (nat_le (length (coalesced_group g)) (suc k) && are_whole gs (suc k - length (coalesced_group g)))
 some_whole g gs k =
     ap (λ b. b || (nat_le (length (coalesced_group g)) (suc k) && are_whole gs (suc k - length (coalesced_group g)))) (ne_eqb (suc k) 0 (λ e. omega (arith, e)))
 
--- records end a group by their marks exactly where they are whole groups
-pub marked : (gs : List (List LogRecord)) (k : ℕ) → AreGroups gs → k ≤ length (all_coalesced gs) → ends_at (all_marks gs) k ≡ are_whole gs k
+-- by the marks of what is left a group begins, or nothing comes, exactly where the records before are whole groups
+pub marked : (gs : List (List LogRecord)) (k : ℕ) → AreGroups gs → k ≤ length (all_coalesced gs) → get_or (all_marks (map coalesced_group gs)) k true ≡ are_whole gs k
 marked [] zero h low = refl
 marked [] (suc k) h low = absurd (omega (arith, low))
-marked (g ∷ gs) zero h low = refl
+marked (g ∷ gs) zero h low = first_of (coalesced_group g) (all_marks (map coalesced_group gs)) (group-some g h.0.0 h.0.1)
 marked (g ∷ gs) (suc k) h low =
-    let some : 0 < length (coalesced_group g) = group-some g h.0.0 h.0.1 in
     elim (cases_lt (suc k) (length (coalesced_group g))) [
       | inl within ↦
-          inside (length (coalesced_group g)) k (all_marks gs) within
+          inside (coalesced_group g) (all_marks (map coalesced_group gs)) k within
           ∙ sym (some_whole g gs k ∙ ap (λ b. b && are_whole gs (suc k - length (coalesced_group g))) (lt-leb (length (coalesced_group g)) (suc k) within))
       | inr past ↦
-          one_group (length (coalesced_group g)) (all_marks gs) (suc k) some past
+          get_or-append_right (marks_of (coalesced_group g)) (all_marks (map coalesced_group gs)) (length (coalesced_group g)) (suc k) true (length-marks (coalesced_group g)) past
           ∙ marked gs (suc k - length (coalesced_group g)) h.1 (omega (arith, past, low, length-append (coalesced_group g) (all_coalesced gs)))
           ∙ sym (some_whole g gs k ∙ ap (λ b. b && are_whole gs (suc k - length (coalesced_group g))) (le-leb (length (coalesced_group g)) (suc k) past))
     ]

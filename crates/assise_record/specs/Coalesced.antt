@@ -1,6 +1,7 @@
 -- Which effects of a list count for nothing, because of later ones.
 -- Assise (OSDI 2020), section 3 (CC-NVM: in optimistic mode update logs are coalesced before they are replicated).
-use Rattle.std.specs.Prelude.{ℕ, ◌+◌, ◌==◌, nat_le, Bool, false, ◌&&◌, ◌||◌, if◌then◌else◌, List, [], ◌∷◌, length}
+use Rattle.std.specs.Prelude.{ℕ, ◌+◌, ◌==◌, nat_le, Bool, false, ◌&&◌, if◌then◌else◌, List, [], ◌∷◌, length}
+use Rattle.std.specs.List.{list_any}
 use Rattle.std.specs.Ordering.{nat_cmp, is_eq}
 use Rattle.std.specs.Cmp.Lexicographic.{slice_cmp}
 use Rattle.assise_record.specs.declared.effect.Effect.{Effect}
@@ -44,8 +45,7 @@ overrides (Unlink d name) e = is_of_entry d name e
 
 -- one of the later effects does
 abbrev pub overridden : Effect → List Effect → Bool
-overridden e [] = false
-overridden e (f ∷ fs) = overrides f e || overridden e fs
+overridden e later = list_any (λ f. overrides f e) later
 
 -- those that no later one overrides, in their order
 abbrev pub coalesced : List Effect → List Effect

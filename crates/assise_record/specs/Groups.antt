@@ -1,6 +1,6 @@
 -- Groups of a client's records, which are replicated, digested and cut whole.
 -- Assise (OSDI 2020), section 3 (CC-NVM: in optimistic mode update logs are coalesced before they are replicated).
-use Rattle.std.specs.Prelude.{◌≡◌, ℕ, zero, suc, ◌+◌, ◌-◌, ◌<◌, ◌==◌, nat_le, Bool, true, false, ◌&&◌, ◌||◌, take, drop, List, [], ◌∷◌, ◌++◌, length, if◌then◌else◌}
+use Rattle.std.specs.Prelude.{◌≡◌, ℕ, zero, suc, ◌+◌, ◌-◌, ◌<◌, ◌==◌, nat_le, Bool, true, false, ◌&&◌, ◌||◌, take, drop, List, [], ◌∷◌, ◌++◌, length, map, if◌then◌else◌}
 use Rattle.assise_record.specs.declared.effect.Effect.{Effect}
 use Rattle.assise_record.specs.Coalesced.{overridden}
 use Rattle.assise_record.specs.LogRecord.{LogRecord}
@@ -68,20 +68,12 @@ groups_of zero rs = []
 groups_of (suc n) [] = []
 groups_of (suc n) (r ∷ rs) = take 64 (r ∷ rs) ∷ groups_of n (drop 64 (r ∷ rs))
 
--- of so many records of a group, whether each is the last
-abbrev pub marks : ℕ → List Bool
-marks zero = []
-marks (suc zero) = true ∷ []
-marks (suc (suc n)) = false ∷ marks (suc n)
+-- of the records of a group, whether each is the first
+abbrev pub marks_of : List LogRecord → List Bool
+marks_of [] = []
+marks_of (r ∷ rs) = true ∷ map (λ q. false) rs
 
--- of the records that are left of groups, whether each is the last of its group
+-- of the records of groups, whether each is the first of its group
 abbrev pub all_marks : List (List LogRecord) → List Bool
 all_marks [] = []
-all_marks (g ∷ gs) = marks (length (coalesced_group g)) ++ all_marks gs
-
--- so many records end a group, by their marks: also where there is none before or behind
-abbrev pub ends_at : List Bool → ℕ → Bool
-ends_at ms zero = true
-ends_at [] (suc k) = true
-ends_at (m ∷ ms) (suc zero) = m
-ends_at (m ∷ ms) (suc (suc k)) = ends_at ms (suc k)
+all_marks (g ∷ gs) = marks_of g ++ all_marks gs

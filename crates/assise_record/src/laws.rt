@@ -1,6 +1,7 @@
 // Laws of frames and of groups of records. Each function does nothing: its contract is the law.
-ghost use Rattle.std.specs.Prelude.{◌≡◌, ◌↔◌, ◌<◌, ◌≤◌, ◌++◌, ◌∷◌, [], All, Err, IsTrue, List, None, Ok, flat_map, length, true, ℕ};
-ghost use Rattle.assise_record.specs.Groups.{AllHaveEffects, AreGroups, all_coalesced, all_marks, all_records, are_whole, ends_at, groups_of, were};
+ghost use Rattle.std.specs.Prelude.{◌≡◌, ◌↔◌, ◌<◌, ◌≤◌, ◌++◌, ◌∷◌, [], All, Err, IsTrue, List, None, Ok, flat_map, length, map, true, ℕ};
+ghost use Rattle.std.specs.List.{slice_index_or};
+ghost use Rattle.assise_record.specs.Groups.{AllHaveEffects, AreGroups, all_coalesced, all_marks, all_records, are_whole, coalesced_group, groups_of, were};
 ghost use Rattle.assise_record.specs.LogFrame.{LogFrame};
 ghost use Rattle.assise_record.specs.Reading.{frame_at};
 ghost use Rattle.assise_record.specs.Spelling.{BeginsWith, Spells, header_of, record_spelling};
@@ -76,13 +77,13 @@ pub fn equal_is_the_same()
     ensures records { (r s : LogRecord) → IsTrue (records_equal.it r s) ↔ (r ≡ s) }
 {}
 
-/// Records in groups of at most 64 are all of them, in groups. The marks of what is left say where whole groups end; there the
-/// call that comes next is the one that came next.
+/// Records in groups of at most 64 are all of them, in groups. The marks of what is left say where whole groups end: where the
+/// next begins, or nothing comes. There the call that comes next is the one that came next.
 pub fn records_are_cut_into_groups()
     ensures all { (n : ℕ) (rs : List LogRecord) → length rs ≤ n → all_records (groups_of n rs) ≡ rs }
     ensures groups { (n : ℕ) (rs : List LogRecord) → AllHaveEffects rs → AreGroups (groups_of n rs) }
     ensures marks { (gs : List (List LogRecord)) (k : ℕ) → AreGroups gs → k ≤ length (all_coalesced gs)
-        → ends_at (all_marks gs) k ≡ are_whole gs k }
+        → slice_index_or (all_marks (map coalesced_group gs)) k true ≡ are_whole gs k }
     ensures calls { (gs : List (List LogRecord)) (k next : ℕ) → AreGroups gs → are_whole gs k ≡ true
         → call_of (all_coalesced gs) k next ≡ call_of (all_records gs) (were gs k) next }
 {}

@@ -17,6 +17,10 @@ pub(crate) enum Kind {
     Unlink,
     /// It writes 4 KiB into a file.
     Write,
+    /// It writes 4 KiB into one of the files.
+    OneFile,
+    /// It does, in one group with all others that are appended at a time.
+    Group,
 }
 
 /// The record of a call of this kind, with a number among those that are appended at a time.
@@ -26,7 +30,8 @@ pub(crate) fn record_of(alloc: Global, kind: Kind, number: u64) -> Option<Record
     match kind {
         Kind::Create => create(alloc, number),
         Kind::Unlink => unlink(alloc, number),
-        Kind::Write => write(alloc, number),
+        Kind::Write => write(alloc, number, FIRST_FILE + number % FILES, number / FILES),
+        Kind::OneFile | Kind::Group => write(alloc, number, FIRST_FILE, number),
     }
 }
 
@@ -49,12 +54,11 @@ fn unlink(alloc: Global, number: u64) -> Option<Record>
     Some(Record::new(number, effects))
 }
 
-/// The files are written in turn, block after block.
-fn write(alloc: Global, number: u64) -> Option<Record>
+/// A block of a file is written: its blocks have their turns.
+fn write(alloc: Global, number: u64, inode: u64, turn: u64) -> Option<Record>
     ensures whole { IfSome result (λ made. CanBeMadeWhole made.effects) }
 {
-    let inode = FIRST_FILE + number % FILES;
-    let block = (number / FILES % 256) as u32;
+    let block = (turn % 256) as u32;
     let bytes = Bytes::copy_from_slice(alloc, &[7; 4096]).ok()?;
     let extent = Extent::new(block * 4096, bytes);
     let effects = vec![in alloc; Effect::Write { inode, extent }].ok()?;

@@ -82,6 +82,9 @@ fn turn_of(
     times: &mut Times,
 ) -> Option<()> {
     let append = append_all(rt, region, kind, first)?;
+    if kind == Kind::Group {
+        coalesce_all(region)?;
+    }
     let digest = digest_all(rt, region)?;
     drop_all(region)?;
     let peek = peek_all(rt, region)?;
@@ -113,6 +116,18 @@ fn append(rt: &HostRuntime, region: &mut Region, kind: Kind, number: u64) -> Opt
     let start = Instant::now(rt).ok()?;
     region.append(CLIENT, added).ok()?;
     start.elapsed(rt).ok()
+}
+
+/// Makes one group of all records.
+fn coalesce_all(region: &mut Region) -> Option<()> {
+    if region.clients() != 1 {
+        return None;
+    }
+    let from = region.digested(CLIENT);
+    if region.log(CLIENT).end() < from {
+        return None;
+    }
+    region.coalesce(CLIENT, from).ok()
 }
 
 /// Digests all records at once.

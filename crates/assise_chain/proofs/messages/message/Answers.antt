@@ -1,20 +1,30 @@
-use Rattle.std.proofs.Common.{◌≡◌, ◌<◌, ◌-◌, length, min, max, ap, sym, ◌∙◌, Some, arith}
-use Rattle.std.proofs.lemmas.List.{length-take, length-drop}
-use Rattle.assise_private_log.specs.NumberedLog.{end, records_from}
-use Rattle.assise_chain.specs.Messages.{first_sent, frame_of, sent}
-use Rattle.assise_chain.proofs.Taking.{frame_of_some, sent_first}
+use Rattle.std.proofs.Common.{◌<◌, length, ap, sym, ◌∙◌, Some, arith}
+use Rattle.assise_chain.specs.Messages.{frame_of, sent}
+use Rattle.assise_chain.proofs.Taking.{IsCounted, frame_of_none, frame_of_some, sent_first, sent_length}
 use Rattle.assise_chain.proofs.messages.message.Goals as goal
+
+pub returns-then-count-eq0-clause-exact : goal.returns-then-count-eq0-clause-exact
+returns-then-count-eq0-clause-exact c =
+    let l = c.args.log.now in
+    let counted : IsCounted l c.args.from c.args.to c.max-first.result c.min-most.result c.whole_count-count.result
+    = record { first_is = omega arith; most_is = omega arith; count_is = c.whole_count-count.ensures.count } in
+    frame_of_none c.args.epoch c.args.client _ (sent l c.args.from c.args.to) (omega (arith, sent_length l c.args.from c.args.to _ _ _ counted))
+
+pub returns-in_err-records-clause-nothing_asked : goal.returns-in_err-records-clause-nothing_asked
+returns-in_err-records-clause-nothing_asked c none =
+    let l = c.args.log.now in
+    let counted : IsCounted l c.args.from c.args.to c.max-first.result c.min-most.result c.whole_count-count.result
+    = record { first_is = omega arith; most_is = omega arith; count_is = c.whole_count-count.ensures.count } in
+    absurd (omega (arith, ap length none, sent_length l c.args.from c.args.to _ _ _ counted))
 
 pub returns-clause-exact : goal.returns-clause-exact
 returns-clause-exact c =
     let l = c.args.log.now in
-    let first : c.max-first.result ≡ first_sent l c.args.from = omega arith in
-    let count : c.min-count.result ≡ min (min c.args.to (end l) - max c.args.from l.first) 64 = omega arith in
-    let front = sent_first l c.args.from c.args.to c.min-count.result count in
-    let there = length-drop (c.args.from - l.first) l.records in
-    let long = length-take c.min-count.result (records_from l c.args.from) in
-    let some : 0 < length c.in_ok-records.records.items = omega (arith, ap length c.in_ok-records.ensures.equal) in
+    let counted : IsCounted l c.args.from c.args.to c.max-first.result c.min-most.result c.whole_count-count.result
+    = record { first_is = omega arith; most_is = omega arith; count_is = c.whole_count-count.ensures.count } in
+    let front = c.in_ok-records.ensures.equal ∙ sym (sent_first l c.args.from c.args.to _ _ _ counted) in
+    let some : 0 < length c.in_ok-records.records.items = omega (arith, ap length front, sent_length l c.args.from c.args.to _ _ _ counted) in
     ap Some c.new.ensures
     ∙ frame_of_some c.args.epoch c.args.client c.max-first.result c.in_ok-records.records.items some
-    ∙ ap (frame_of c.args.epoch c.args.client c.max-first.result) (c.in_ok-records.ensures.equal ∙ sym front)
-    ∙ ap (λ k. frame_of c.args.epoch c.args.client k (sent l c.args.from c.args.to)) first
+    ∙ ap (frame_of c.args.epoch c.args.client c.max-first.result) front
+    ∙ ap (λ k. frame_of c.args.epoch c.args.client k (sent l c.args.from c.args.to)) counted.first_is

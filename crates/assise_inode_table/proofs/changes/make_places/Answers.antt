@@ -9,4 +9,5 @@ loop-change-preserved g c =
       placed = c.in_default.ensures.ok ∙ ap (λ m. placed_one m c.change-item.result.inode) c.loop-change.invariant.placed
           ∙ sym (one_more_placed (g.S.Inodes.contents c.args.store.now) c.args.changes.now c.loop-change.change-index c.change-item.result c.loop-change-test.true c.change-item.is);
       noted = c.in_default.ensures.noted ∙ c.loop-change.invariant.noted;
+      setting = c.make_place.ensures.setting ∙ c.loop-change.invariant.setting;
     }

@@ -7,4 +7,5 @@ invariant-loop-change g l =
     record {
       placed : g.S.Inodes.contents l.store ≡ placed (g.S.Inodes.contents l.fn.store) (take l.change-index l.changes);
       noted : without (g.S.Inodes.contents l.store) l.made.items ≡ g.S.Inodes.contents l.fn.store;
+      setting : g.S.InodeStore.setting l.store ≡ g.S.InodeStore.setting l.fn.store;
     }

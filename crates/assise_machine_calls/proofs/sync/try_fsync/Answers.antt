@@ -1,7 +1,5 @@
 use Rattle.std.proofs.Common.{Err, refl, sym, subst, ap, ◌∙◌}
 use Rattle.assise_history.specs.Legal.{durability_of}
-use Rattle.assise_names.specs.declared.durability.Durability.TheVariants.{Optimistic}
-use Rattle.assise_machine_events.specs.Faults.{client_fault}
 use Rattle.assise_machine_events.specs.Happenings.{Fsyncing}
 use Rattle.assise_machine_events.proofs.Syncing.{fsync_refused}
 use Rattle.assise_machine_state.specs.Observed.{observed}

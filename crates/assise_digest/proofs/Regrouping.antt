@@ -1,0 +1,190 @@
+-- What holds of a log goes on when its last records give way to groups.
+use Rattle.std.proofs.Common.{◌≡◌, ℕ, zero, suc, ◌+◌, ◌-◌, ◌<◌, ◌≤◌, ◌^◌, ◌||◌, Bool, true, false, if◌then◌else◌, is_some, IsSome, Option, Some, None, option_map, List, [], ◌∷◌, ◌++◌, length, take, drop, map, refl, ap, sym, ◌∙◌, subst, arith, take-append-drop}
+use Rattle.std.specs.FinMap as map
+use Rattle.std.specs.Option.{IfSome}
+use Rattle.std.specs.Ordering.{nat_cmp}
+use Rattle.std.proofs.Math.Seq.{drop-append-add}
+use Rattle.std.proofs.lemmas.List.{drop-append-le, get_or-set_same, length-append, length-drop, length-take}
+use Rattle.assise_record.specs.declared.effect.Effect.{Effect}
+use Rattle.assise_record.specs.LogRecord.{LogRecord}
+use Rattle.assise_record.specs.Groups.{all_marks, all_records, begun_by, coalesced_group, groups_of, left_in, left_of}
+use Rattle.assise_record.specs.Records.{all_effects, record_of}
+use Rattle.assise_record.proofs.Records.{all_effects-append}
+use Rattle.assise_inode_table.specs.Contents.{Content, InodeMap}
+use Rattle.assise_inode_table.specs.Effects.{contains, touched, value_after}
+use Rattle.assise_inode_table.specs.Whole.{CanBeMadeWhole}
+use Rattle.assise_inode_table.proofs.Grouped.{ComeToSame}
+use Rattle.assise_inode_table.proofs.LeftWhole.{whole_left}
+use Rattle.assise_inode_table.proofs.Making.{contains-both, value_after-append}
+use Rattle.assise_private_log.specs.Groups.{groups_from, regrouped}
+use Rattle.assise_private_log.specs.NumberedLog.{NumberedLog, end, records_from}
+use Rattle.assise_private_log.proofs.Grouping.{regrouped_all}
+use Rattle.assise_digest.specs.Pending.{HasAll, StandsFor, noted, noted_from}
+use Rattle.assise_digest.specs.Region.{AreWhole, HasClient, IsBegun, ReceivedLog, RegionValue, ahead, log_of, no_log, read_by, regrouped_from, with_log}
+use Rattle.assise_digest.specs.Sound.{IsSoundLog, StandsHere, seen_log}
+use Rattle.assise_digest.specs.declared.pending.Pending.{Pending}
+use Rattle.assise_digest.specs.declared.received.Received.{Received}
+use Rattle.assise_digest.proofs.Coalescing.{groups_come}
+use Rattle.assise_digest.proofs.Keeping.{get-noted}
+use Rattle.assise_digest.proofs.Receiving.{whole_drop, whole_take}
+use Rattle.assise_digest.proofs.Renoting.{renoted}
+use Rattle.assise_digest.proofs.Standing.{is_touched}
+
+-- ---- numbers of records
+
+pub has_front : (l : map.FinMap nat_cmp ℕ) (es fs : List Effect) → HasAll l (es ++ fs) → HasAll l es
+has_front l es fs h i among = h i (contains-both es fs i ∙ ap (λ b. b || contains (touched fs) i) among)
+
+or_true : (b : Bool) → (b || true) ≡ true
+or_true true = refl
+or_true false = refl
+
+some_either : (b : Bool) (n : ℕ) (o : Option ℕ) → IsSome o → IsSome (if b then Some n else o)
+some_either true n o h = refl
+some_either false n o h = h
+
+pub has_others : (l : map.FinMap nat_cmp ℕ) (n : ℕ) (es fs : List Effect) → HasAll l (es ++ fs) → HasAll (noted l n es) fs
+has_others l n es fs h i among =
+    let had : IsSome (map.get l i) = h i (contains-both es fs i ∙ ap (λ b. contains (touched es) i || b) among ∙ or_true (contains (touched es) i)) in
+    subst IsSome (sym (get-noted l n es i)) (some_either (contains (touched es) i) n (map.get l i) had)
+
+-- ---- records that can be made whole
+
+whole_both : (rs qs : List LogRecord) → AreWhole rs → AreWhole qs → AreWhole (rs ++ qs)
+whole_both [] qs w v = v
+whole_both (r ∷ rs) qs w v = (w.0, whole_both rs qs w.1 v)
+
+whole_one : (call : ℕ) (es : List Effect) → CanBeMadeWhole es → AreWhole (record_of call es)
+whole_one call [] w = tt
+whole_one call (e ∷ es) w = (w, tt)
+
+whole_left_in : (rs : List LogRecord) → AreWhole rs → AreWhole (left_in rs)
+whole_left_in [] w = tt
+whole_left_in (r ∷ rs) w =
+    whole_both (record_of r.call (left_of r.effects (all_effects rs))) (left_in rs) (whole_one r.call (left_of r.effects (all_effects rs)) (whole_left r.effects (all_effects rs) w.0)) (whole_left_in rs w.1)
+
+whole_begun : (call : ℕ) (rs : List LogRecord) → AreWhole rs → AreWhole (begun_by call rs)
+whole_begun call [] w = tt
+whole_begun call (r ∷ rs) w = w
+
+whole_groups : (n : ℕ) (rs : List LogRecord) → AreWhole rs → AreWhole (all_records (map coalesced_group (groups_of n rs)))
+whole_groups zero rs w = tt
+whole_groups (suc n) [] w = tt
+whole_groups (suc n) (r ∷ rs) w =
+    whole_both (coalesced_group (take 64 (r ∷ rs))) (all_records (map coalesced_group (groups_of n (drop 64 (r ∷ rs)))))
+    (whole_begun _ (left_in (take 64 (r ∷ rs))) (whole_left_in (take 64 (r ∷ rs)) (whole_take 64 (r ∷ rs) w)))
+    (whole_groups n (drop 64 (r ∷ rs)) (whole_drop 64 (r ∷ rs) w))
+
+-- ---- the log with groups in place of its last records
+
+module _ (x : Received) (from : ℕ) (begun : IsBegun (seen_log x)) (low : x.digested ≤ from) (high : from ≤ end x.log) where
+  abbrev front : List LogRecord
+  front = take (from - x.log.first) x.log.records
+
+  abbrev groups : List LogRecord
+  groups = all_records (groups_from x.log from)
+
+  abbrev new_log : NumberedLog
+  new_log = record { first = x.log.first; limit = x.log.limit; records = front ++ groups; begins = take (from - x.log.first) x.log.begins ++ all_marks (groups_from x.log from) }
+
+  pub new_is : regrouped x.log from ≡ new_log
+  new_is = regrouped_all x.log from
+
+  front_long : length front ≡ from - x.log.first
+  front_long = omega (arith, length-take (from - x.log.first) x.log.records, begun.from_first)
+
+  pub tail_is : records_from new_log from ≡ groups
+  tail_is = let all : from - x.log.first ≡ length front + 0 = omega (arith, front_long) in ap (λ n. drop n (front ++ groups)) all ∙ drop-append-add front groups 0
+
+  abbrev passed : List LogRecord
+  passed = drop (x.digested - x.log.first) front
+
+  ahead_new : drop (x.digested - x.log.first) (front ++ groups) ≡ passed ++ groups
+  ahead_new = drop-append-le (x.digested - x.log.first) front groups (omega (arith, front_long))
+
+  ahead_old : ahead (seen_log x) ≡ passed ++ records_from x.log from
+  ahead_old =
+      ap (drop (x.digested - x.log.first)) (sym (take-append-drop (from - x.log.first) x.log.records))
+      ∙ drop-append-le (x.digested - x.log.first) front (records_from x.log from) (omega (arith, front_long))
+
+  from_is : x.digested + length passed ≡ from
+  from_is = omega (arith, length-drop (x.digested - x.log.first) front, front_long, begun.from_first)
+
+  new_stands : (m : InodeMap) (o : Option Pending) → StandsHere m (seen_log x) o
+      → StandsHere m (record { log = new_log; digested = x.digested; at_home = is_some o }) (option_map (λ p. noted_from p from groups) o)
+  new_stands m None s = tt
+  new_stands m (Some p) s =
+      subst (StandsFor (noted_from p from groups) m x.digested) (sym ahead_new)
+      (subst (λ n. StandsFor (noted_from p n groups) m x.digested (passed ++ groups)) from_is
+      (renoted p m x.digested passed (records_from x.log from) groups (subst (StandsFor p m x.digested) ahead_old s) (groups_come x.log from)))
+
+  new_begun : IsBegun (record { log = new_log; digested = x.digested; at_home = is_some x.pending })
+  new_begun = record { from_first = begun.from_first; to_end = omega (arith, front_long, length-append front groups, begun.from_first) }
+
+  sound_new : (m : InodeMap) → IsSoundLog m x → IsSoundLog m (record { log = new_log; digested = x.digested; pending = option_map (λ p. noted_from p from groups) x.pending })
+  sound_new m s = record {
+    begun = record { from_first = new_begun.from_first; to_end = new_begun.to_end };
+    whole = whole_both front groups (whole_take (from - x.log.first) x.log.records s.whole)
+        (whole_groups (length (records_from x.log from)) (records_from x.log from) (whole_drop (from - x.log.first) x.log.records s.whole));
+    stands = like x.pending (new_stands m x.pending s.stands);
+  }
+    where
+      like : (o : Option Pending) → StandsHere m (record { log = new_log; digested = x.digested; at_home = is_some o }) (option_map (λ p. noted_from p from groups) o)
+          → StandsHere m (seen_log (record { log = new_log; digested = x.digested; pending = option_map (λ p. noted_from p from groups) o })) (option_map (λ p. noted_from p from groups) o)
+      like None h = tt
+      like (Some p) h = h
+
+  -- what is sound stays so
+  pub sound_regrouped : (m : InodeMap) (log : NumberedLog) (o : Option Pending) → IsSoundLog m x → log ≡ regrouped x.log from → o ≡ option_map (λ p. noted_from p from (records_from log from)) x.pending
+      → IsSoundLog m (record { log = log; digested = x.digested; pending = o })
+  sound_regrouped m log o s is kept =
+      let same : log ≡ new_log = is ∙ new_is in
+      let tail : records_from log from ≡ groups = ap (λ n. records_from n from) same ∙ tail_is in
+      let pending : o ≡ option_map (λ p. noted_from p from groups) x.pending = kept ∙ ap (λ rs. option_map (λ p. noted_from p from rs) x.pending) tail in
+      subst (λ n. IsSoundLog m (record { log = n; digested = x.digested; pending = o })) (sym same)
+      (subst (λ p. IsSoundLog m (record { log = new_log; digested = x.digested; pending = p })) (sym pending) (sound_new m s))
+
+  -- the new records' numbers fit
+  pub numbers_fit : (log : NumberedLog) → log ≡ regrouped x.log from → end log < 2 ^ 64 → from + length (records_from log from) < 2 ^ 64
+  numbers_fit log is fits =
+      let same : log ≡ new_log = is ∙ new_is in
+      let tail : length (records_from log from) ≡ length groups = ap (λ n. length (records_from n from)) same ∙ ap length tail_is in
+      let all : end log ≡ x.log.first + length (front ++ groups) = ap end same in
+      omega (arith, tail, all, fits, front_long, length-append front groups, begun.from_first)
+
+  -- and what they touch has a number
+  pub has_all : (m : InodeMap) (log : NumberedLog) (p : Pending) → log ≡ regrouped x.log from → StandsFor p m x.digested (ahead (seen_log x)) → HasAll p.last (all_effects (records_from log from))
+  has_all m log p is s i among =
+      let tail : records_from log from ≡ groups = ap (λ n. records_from n from) (is ∙ new_is) ∙ tail_is in
+      let stands : StandsFor p m x.digested (passed ++ records_from x.log from) = subst (StandsFor p m x.digested) ahead_old s in
+      let come : ComeToSame groups (records_from x.log from) = groups_come x.log from in
+      let old : contains (touched (all_effects (records_from x.log from))) i ≡ true = sym (come.touch i) ∙ sym (ap (λ rs. contains (touched (all_effects rs)) i) tail) ∙ among in
+      let all : contains (touched (all_effects (passed ++ records_from x.log from))) i ≡ true
+      = ap (λ es. contains (touched es) i) (all_effects-append passed (records_from x.log from)) ∙ contains-both (all_effects passed) (all_effects (records_from x.log from)) i
+      ∙ ap (λ b. contains (touched (all_effects passed)) i || b) old ∙ or_true (contains (touched (all_effects passed)) i) in
+      ap is_some (stands.last i) ∙ is_touched x.digested (passed ++ records_from x.log from) i ∙ all
+
+  pub all_there : (m : InodeMap) (log : NumberedLog) (o : Option Pending) → log ≡ regrouped x.log from → StandsHere m (seen_log x) o → IfSome o (λ p. HasAll p.last (all_effects (records_from log from)))
+  all_there m log None is s = tt
+  all_there m log (Some p) is s = has_all m log p is s
+
+  -- what the client reads stays
+  pub values_same : (i : ℕ) (v : Option Content) → value_after i v (all_effects (ahead (regrouped_from (seen_log x) from))) ≡ value_after i v (all_effects (ahead (seen_log x)))
+  values_same i v =
+      let come : ComeToSame groups (records_from x.log from) = groups_come x.log from in
+      ap (λ n. value_after i v (all_effects (drop (x.digested - n.first) n.records))) new_is
+      ∙ ap (λ rs. value_after i v (all_effects rs)) ahead_new
+      ∙ ap (value_after i v) (all_effects-append passed groups) ∙ value_after-append i v (all_effects passed) (all_effects groups)
+      ∙ come.net i (value_after i v (all_effects passed))
+      ∙ sym (ap (value_after i v) (all_effects-append passed (records_from x.log from)) ∙ value_after-append i v (all_effects passed) (all_effects (records_from x.log from)))
+      ∙ sym (ap (λ rs. value_after i v (all_effects rs)) ahead_old)
+
+pub coalesced_read : (r : RegionValue) (c from : ℕ) → HasClient r c → IsBegun (log_of r c) → (log_of r c).digested ≤ from → from ≤ end (log_of r c).log
+    → (i : ℕ) → read_by (with_log r c (regrouped_from (log_of r c) from)) c i ≡ read_by r c i
+coalesced_read r c from has b low high i =
+    let l : ReceivedLog = log_of r c in
+    let x : Received = record { log = l.log; digested = l.digested; pending = None } in
+    let begun : IsBegun (seen_log x) = record { from_first = b.from_first; to_end = b.to_end } in
+    let here : log_of (with_log r c (regrouped_from l from)) c ≡ regrouped_from l from = get_or-set_same r.logs (c - 1) (regrouped_from l from) no_log (omega (arith, has.some, has.there)) in
+    ap (λ k. value_after i (map.get r.inodes i) (all_effects (ahead k))) here
+    ∙ values_same x from begun low high i (map.get r.inodes i)

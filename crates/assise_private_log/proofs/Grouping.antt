@@ -1,0 +1,305 @@
+-- What is left of groups of records, and logs with groups behind the last.
+use Rattle.std.proofs.Common.{get_or, ◌≡◌, ℕ, zero, suc, ◌+◌, ◌-◌, ◌<◌, ◌≤◌, ◌^◌, ◌==◌, ◌||◌, inl, inr, subst, Bool, true, false, min, None, Some, List, [], ◌∷◌, ◌++◌, length, take, drop, map, refl, ap, sym, ◌∙◌, arith, append_assoc}
+use Rattle.std.specs.List.{list_any, slice_get}
+use Rattle.std.proofs.lemmas.Bool.{both_ways, cases_lt, ne_eqb}
+use Rattle.std.proofs.lemmas.List.{get_or-append_right, get_or-take, get_or_append_left, get_or_at, length-append, length-drop, length-take, map_push}
+use Rattle.assise_record.specs.declared.effect.Effect.{Effect}
+use Rattle.assise_record.specs.Coalesced.{overridden, overrides}
+use Rattle.assise_record.specs.Groups.{AllHaveEffects, all_coalesced, all_marks, all_records, are_whole, begun_by, coalesced_group, groups_of, left_in, left_of, marks_of}
+use Rattle.assise_record.specs.LogRecord.{LogRecord}
+use Rattle.assise_record.specs.Records.{all_effects, call_of, record_of}
+use Rattle.assise_record.proofs.Grouping.{group-shorter}
+use Rattle.assise_record.proofs.Marking.{all-coalesced, groups-are, groups-steps, marked}
+use Rattle.assise_record.proofs.WholeGroups.{whole_none}
+use Rattle.assise_private_log.specs.Groups.{groups_from, regrouped, with_group, with_groups, with_left}
+use Rattle.assise_private_log.specs.NumberedLog.{HasOpenGroup, IsNumberedLog, NumberedLog, end, is_border, records_from, with_grouped, without_tail}
+use Rattle.assise_private_log.proofs.Bordering.{border_first, border_marked}
+
+-- ---- effects
+
+or-assoc : (a b c : Bool) → ((a || b) || c) ≡ (a || (b || c))
+or-assoc true b c = refl
+or-assoc false b c = refl
+
+overridden-append : (e : Effect) (es fs : List Effect) → overridden e (es ++ fs) ≡ (overridden e es || overridden e fs)
+overridden-append e [] fs = refl
+overridden-append e (f ∷ es) fs = ap (λ b. overrides f e || b) (overridden-append e es fs) ∙ sym (or-assoc (overrides f e) (overridden e es) (overridden e fs))
+
+any_effects : (e : Effect) (rs : List LogRecord) → list_any (λ (r : LogRecord). overridden e r.effects) rs ≡ overridden e (all_effects rs)
+any_effects e [] = refl
+any_effects e (r ∷ rs) = ap (λ b. overridden e r.effects || b) (any_effects e rs) ∙ sym (overridden-append e r.effects (all_effects rs))
+
+-- an effect is overridden by some or by those of some records
+pub overridden_both : (e : Effect) (es : List Effect) (rs : List LogRecord) → (overridden e es || list_any (λ (r : LogRecord). overridden e r.effects) rs) ≡ overridden e (es ++ all_effects rs)
+overridden_both e es rs = ap (λ b. overridden e es || b) (any_effects e rs) ∙ sym (overridden-append e es (all_effects rs))
+
+pub left_kept : (e : Effect) (es later : List Effect) → overridden e (es ++ later) ≡ false → left_of (e ∷ es) later ≡ e ∷ left_of es later
+left_kept e es later stays = rw stays refl
+
+pub left_gone : (e : Effect) (es later : List Effect) → overridden e (es ++ later) ≡ true → left_of (e ∷ es) later ≡ left_of es later
+left_gone e es later gone = rw gone refl
+
+-- ---- records
+
+with_left-first : (call own : ℕ) (es : List Effect) (xs : List LogRecord) → begun_by call (record_of call es ++ xs) ≡ begun_by call (record_of own es ++ xs)
+with_left-first call own [] xs = refl
+with_left-first call own (e ∷ es) xs = refl
+
+-- with one more of the records that are left
+pub left_more : (call : ℕ) (qs : List LogRecord) (r : LogRecord) (rs : List LogRecord) → begun_by call (with_left call qs r (all_effects rs) ++ left_in rs) ≡ begun_by call (qs ++ left_in (r ∷ rs))
+left_more call [] r rs = with_left-first call r.call (left_of r.effects (all_effects rs)) (left_in rs)
+left_more call (q ∷ qs) r rs = ap (λ xs. begun_by call (q ∷ xs)) (append_assoc qs (record_of r.call (left_of r.effects (all_effects rs))) (left_in rs))
+
+begun_one : (call : ℕ) (es : List Effect) → begun_by call (record_of call es) ≡ record_of call es
+begun_one call [] = refl
+begun_one call (e ∷ es) = refl
+
+-- they begin with the call
+pub begun_more : (call : ℕ) (qs : List LogRecord) (r : LogRecord) (later : List Effect) → begun_by call qs ≡ qs → begun_by call (with_left call qs r later) ≡ with_left call qs r later
+begun_more call [] r later begun = begun_one call (left_of r.effects later)
+begun_more call (q ∷ qs) r later begun =
+    let first : record { call = call; effects = q.effects } ≡ q = cc in
+    ap (λ x. x ∷ (qs ++ record_of r.call (left_of r.effects later))) first
+
+append_none : {X : Type 0} (xs : List X) → xs ++ [] ≡ xs
+append_none [] = refl
+append_none (x ∷ xs) = ap (λ ys. x ∷ ys) (append_none xs)
+
+-- once there are no more
+pub left_all : (call : ℕ) (qs rest : List LogRecord) → length rest ≡ 0 → begun_by call qs ≡ qs → begun_by call (qs ++ left_in rest) ≡ qs
+left_all call qs [] none begun = ap (begun_by call) (append_none qs) ∙ begun
+left_all call qs (r ∷ rest) none begun = absurd (omega arith)
+
+-- the call that a group begins with
+pub call_first : (rs : List LogRecord) (r : LogRecord) → Some r ≡ slice_get rs 0 → call_of rs 0 0 ≡ r.call
+call_first [] r is = absurd cc
+call_first (q ∷ rs) r is = let same : r ≡ q = cc in ap (λ (x : LogRecord). x.call) (sym same)
+
+pub none_left : (rs : List LogRecord) → None ≡ slice_get rs 0 → [] ≡ coalesced_group rs
+none_left [] is = refl
+none_left (q ∷ rs) is = absurd cc
+
+-- ---- records are cut into groups
+
+-- the first group, and those of the rest
+first_group : (rs : List LogRecord) → 0 < length rs → groups_of (length rs) rs ≡ take 64 rs ∷ groups_of (length (drop 64 rs)) (drop 64 rs)
+first_group [] some = absurd (omega arith)
+first_group (r ∷ rs) some =
+    ap (λ gs. take 64 (r ∷ rs) ∷ gs) (groups-steps (length rs) (length (drop 64 (r ∷ rs))) (drop 64 (r ∷ rs)) (omega (arith, length-drop 64 (r ∷ rs))) (omega arith))
+
+take_less : {X : Type 0} (n : ℕ) (xs : List X) → take (min (length xs) n) xs ≡ take n xs
+take_less n [] = take_nothing (min 0 n) ∙ sym (take_nothing n)
+  where
+    take_nothing : {X : Type 0} (k : ℕ) → ◌≡◌ {A = List X} (take k []) []
+    take_nothing zero = refl
+    take_nothing (suc k) = refl
+take_less zero (x ∷ xs) = let none : min (suc (length xs)) zero ≡ zero = omega arith in ap (λ k. take k (x ∷ xs)) none
+take_less (suc n) (x ∷ xs) =
+    let less : min (suc (length xs)) (suc n) ≡ suc (min (length xs) n) = omega arith in
+    ap (λ k. take k (x ∷ xs)) less ∙ ap (λ ys. x ∷ ys) (take_less n xs)
+
+drop_less : {X : Type 0} (n : ℕ) (xs : List X) → drop (min (length xs) n) xs ≡ drop n xs
+drop_less n [] = drop_nothing (min 0 n) ∙ sym (drop_nothing n)
+  where
+    drop_nothing : {X : Type 0} (k : ℕ) → ◌≡◌ {A = List X} (drop k []) []
+    drop_nothing zero = refl
+    drop_nothing (suc k) = refl
+drop_less zero (x ∷ xs) = let none : min (suc (length xs)) zero ≡ zero = omega arith in ap (λ k. drop k (x ∷ xs)) none
+drop_less (suc n) (x ∷ xs) =
+    let less : min (suc (length xs)) (suc n) ≡ suc (min (length xs) n) = omega arith in
+    ap (λ k. drop k (x ∷ xs)) less ∙ drop_less n xs
+
+-- a loop over the groups goes on
+pub groups_more : (done : List (List LogRecord)) (rest front behind : List LogRecord) (g : List LogRecord) (n : ℕ) → 0 < length rest → n ≡ min (length rest) 64 → front ≡ take n rest → behind ≡ drop n rest → g ≡ coalesced_group front
+    → (done ++ g ∷ []) ++ map coalesced_group (groups_of (length behind) behind) ≡ done ++ map coalesced_group (groups_of (length rest) rest)
+groups_more done rest front behind g n some count is_front is_behind is =
+    let fronts : front ≡ take 64 rest = is_front ∙ ap (λ k. take k rest) count ∙ take_less 64 rest in
+    let others : behind ≡ drop 64 rest = is_behind ∙ ap (λ k. drop k rest) count ∙ drop_less 64 rest in
+    append_assoc done (g ∷ []) (map coalesced_group (groups_of (length behind) behind))
+    ∙ ap (λ h. done ++ h ∷ map coalesced_group (groups_of (length behind) behind)) (is ∙ ap coalesced_group fronts)
+    ∙ ap (λ b. done ++ coalesced_group (take 64 rest) ∷ map coalesced_group (groups_of (length b) b)) others
+    ∙ ap (λ gs. done ++ map coalesced_group gs) (sym (first_group rest some))
+
+-- ---- a log with groups behind the last
+
+marks_more : (rs : List LogRecord) (r : LogRecord) → marks_of (rs ++ r ∷ []) ≡ marks_of rs ++ (length rs == 0) ∷ []
+marks_more [] r = refl
+marks_more (q ∷ rs) r =
+    let some : (suc (length rs) == 0) ≡ false = ne_eqb (suc (length rs)) 0 (λ e. omega arith) in
+    ap (λ ms. true ∷ ms) (map_push (λ (x : LogRecord). false) rs r) ∙ ap (λ b. (true ∷ map (λ (x : LogRecord). false) rs) ++ b ∷ []) (sym some)
+
+-- a group grows by a record
+pub group_more : (l : NumberedLog) (rs : List LogRecord) (r : LogRecord) (begins : Bool) → begins ≡ (length rs == 0) → with_grouped (with_group l rs) r begins ≡ with_group l (rs ++ r ∷ [])
+group_more l rs r begins is = λ i. record {
+  first = l.first;
+  limit = l.limit;
+  records = append_assoc l.records rs (r ∷ []) i;
+  begins = (append_assoc l.begins (marks_of rs) (begins ∷ []) ∙ ap (λ b. l.begins ++ (marks_of rs ++ b ∷ [])) is ∙ ap (λ ms. l.begins ++ ms) (sym (marks_more rs r))) i;
+}
+
+begun_border : (l : NumberedLog) (r : LogRecord) (rs : List LogRecord) → length l.begins ≡ length l.records → is_border (with_group l (r ∷ rs)) (end l) ≡ true
+begun_border l r rs marks =
+    elim (cases_lt l.first (end l)) [
+      | inl later ↦
+          let place : length l.begins ≡ end l - l.first = omega arith in
+          border_marked (with_group l (r ∷ rs)) (end l) later ∙ get_or_at l.begins true (map (λ (x : LogRecord). false) rs) true (end l - l.first) place
+      | inr low ↦ border_first (with_group l (r ∷ rs)) (end l) low
+    ]
+
+-- and may grow while it has fewer than 64
+pub group_open : (l now : NumberedLog) (rs : List LogRecord) (begins : Bool) → length l.begins ≡ length l.records → now ≡ with_group l rs → begins ≡ (length rs == 0) → length rs < 64 → begins ≡ false → HasOpenGroup now
+group_open l now [] begins marks is begun few not_first = absurd (both_ways begins not_first begun)
+group_open l now (r ∷ rs) begins marks is begun few not_first =
+    subst HasOpenGroup (sym is)
+    (let long : length (l.records ++ r ∷ rs) ≡ length l.records + suc (length rs) = length-append l.records (r ∷ rs) in
+    (end l, omega arith, omega arith, begun_border l r rs marks))
+
+-- ---- and with all groups in place of the last records
+
+pub groups_one_more : (l : NumberedLog) (gs : List (List LogRecord)) (g : List LogRecord) → with_groups l (gs ++ g ∷ []) ≡ with_group (with_groups l gs) g
+groups_one_more l [] g = refl
+groups_one_more l (h ∷ gs) g = groups_one_more (with_group l h) gs g
+
+-- how many records there are
+abbrev pub total : List (List LogRecord) → ℕ
+total [] = 0
+total (g ∷ gs) = length g + total gs
+
+total-append : (gs hs : List (List LogRecord)) → total (gs ++ hs) ≡ total gs + total hs
+total-append [] hs = omega arith
+total-append (g ∷ gs) hs = let rest : total (gs ++ hs) ≡ total gs + total hs = total-append gs hs in omega arith
+
+record HasMore (l m : NumberedLog) (more : ℕ) : Type 0 where
+  pub first : m.first ≡ l.first
+  pub limit : m.limit ≡ l.limit
+  pub count : length m.records ≡ length l.records + more
+
+with_groups_more : (l : NumberedLog) (gs : List (List LogRecord)) → HasMore l (with_groups l gs) (total gs)
+with_groups_more l [] = record { first = refl; limit = refl; count = omega arith }
+with_groups_more l (g ∷ gs) =
+    let rest : HasMore (with_group l g) (with_groups (with_group l g) gs) (total gs) = with_groups_more (with_group l g) gs in
+    record { first = rest.first; limit = rest.limit; count = omega (arith, rest.count, length-append l.records g) }
+
+total_less : (n : ℕ) (rs : List LogRecord) → total (map coalesced_group (groups_of n rs)) ≤ length rs
+total_less zero rs = omega arith
+total_less (suc n) [] = omega arith
+total_less (suc n) (r ∷ rs) =
+    let rest = total_less n (drop 64 (r ∷ rs)) in
+    let front = group-shorter (take 64 (r ∷ rs)) in
+    omega (arith, rest, front, length-take 64 (r ∷ rs), length-drop 64 (r ∷ rs))
+
+-- there is room for the next
+pub room_for_group : (l now : NumberedLog) (from : ℕ) (done rest : List (List LogRecord)) (g : List LogRecord) → IsNumberedLog l → now ≡ with_groups (without_tail l from) done → done ++ g ∷ rest ≡ groups_from l from
+    → (end now + length g < 2 ^ 64) × (length now.records + length g ≤ now.limit)
+room_for_group l now from done rest g law is all =
+    let same : HasMore (without_tail l from) now (total done) = subst (λ m. HasMore (without_tail l from) m (total done)) (sym is) (with_groups_more (without_tail l from) done) in
+    let whole : total done + (length g + total rest) ≡ total (groups_from l from) = sym (total-append done (g ∷ rest)) ∙ ap total all in
+    let less = total_less (length (records_from l from)) (records_from l from) in
+    let front = length-take (from - l.first) l.records in
+    let tail = length-drop (from - l.first) l.records in
+    let fits : length now.records + length g ≤ length l.records = omega (arith, same.count, whole, less, front, tail) in
+    (omega (arith, law.numbers, same.first), omega (arith, law.room, same.limit))
+
+-- ---- loops that take groups in
+
+-- what a log and the rest of a group have
+pub record HasRest (l now : NumberedLog) (done group : List LogRecord) : Type 0 where
+  pub fits : end now + 1 ≤ end l + length group
+  pub room : length now.records < length l.records + length group
+  pub limit : now.limit ≡ l.limit
+  pub few : length done < length group
+
+pub has_rest : (l now : NumberedLog) (done rest group : List LogRecord) (r : LogRecord) → now ≡ with_group l done → done ++ r ∷ rest ≡ group → HasRest l now done group
+has_rest l now done rest group r is all =
+    let long : length now.records ≡ length l.records + length done = ap (λ m. length m.records) is ∙ length-append l.records done in
+    let first : now.first ≡ l.first = ap (λ m. m.first) is in
+    let whole : length done + suc (length rest) ≡ length group = sym (length-append done (r ∷ rest)) ∙ ap length all in
+    record { fits = omega arith; room = omega arith; limit = ap (λ m. m.limit) is; few = omega arith }
+
+-- one more of them, of what is left
+pub one_passed : {X : Type 0} (done rest left all : List X) (x : X) → done ++ left ≡ all → left ≡ x ∷ rest → (done ++ x ∷ []) ++ rest ≡ all
+one_passed done rest left all x is next = append_assoc done (x ∷ []) rest ∙ ap (λ xs. done ++ xs) (sym next) ∙ is
+
+pub all_passed : {X : Type 0} (done left all : List X) → done ++ left ≡ all → length left ≡ 0 → done ≡ all
+all_passed done [] all is none = sym (append_none done) ∙ is
+all_passed done (x ∷ left) all is none = absurd (omega arith)
+
+-- ---- what is in place of the last records
+
+-- with groups behind the last there are their records and their marks
+abbrev pub with_all : NumberedLog → List (List LogRecord) → NumberedLog
+with_all l gs = record { first = l.first; limit = l.limit; records = l.records ++ all_records gs; begins = l.begins ++ all_marks gs }
+
+with_groups_all : (l : NumberedLog) (gs : List (List LogRecord)) → with_groups l gs ≡ with_all l gs
+with_groups_all l [] = λ i. record { first = l.first; limit = l.limit; records = sym (append_none l.records) i; begins = sym (append_none l.begins) i }
+with_groups_all l (g ∷ gs) =
+    with_groups_all (with_group l g) gs
+    ∙ (λ i. record { first = l.first; limit = l.limit; records = append_assoc l.records g (all_records gs) i; begins = append_assoc l.begins (marks_of g) (all_marks gs) i })
+
+pub regrouped_all : (l : NumberedLog) (from : ℕ) → regrouped l from ≡ with_all (without_tail l from) (groups_from l from)
+regrouped_all l from = with_groups_all (without_tail l from) (groups_from l from)
+
+-- the groups are the same, however many steps there may be
+cut_same : (l : NumberedLog) (from n : ℕ) → length (records_from l from) ≤ n → groups_of (length (records_from l from)) (records_from l from) ≡ groups_of n (records_from l from)
+cut_same l from n enough = groups-steps (length (records_from l from)) n (records_from l from) (omega arith) enough
+
+pub regrouped_records : (l : NumberedLog) (from n : ℕ) → length (records_from l from) ≤ n
+    → (regrouped l from).records ≡ take (from - l.first) l.records ++ all_coalesced (groups_of n (records_from l from))
+regrouped_records l from n enough =
+    ap (λ m. m.records) (regrouped_all l from)
+    ∙ ap (λ rs. take (from - l.first) l.records ++ rs) (all-coalesced (groups_of (length (records_from l from)) (records_from l from)))
+    ∙ ap (λ gs. take (from - l.first) l.records ++ all_coalesced gs) (cut_same l from n enough)
+
+-- no more than there were
+pub regrouped_shorter : (l : NumberedLog) (from : ℕ) → length (regrouped l from).records ≤ length l.records
+regrouped_shorter l from =
+    let more : HasMore (without_tail l from) (regrouped l from) (total (groups_from l from)) = with_groups_more (without_tail l from) (groups_from l from) in
+    let less = total_less (length (records_from l from)) (records_from l from) in
+    omega (arith, more.count, less, length-take (from - l.first) l.records, length-drop (from - l.first) l.records)
+
+-- before them the marks are as they were
+pub regrouped_before : (l : NumberedLog) (from number : ℕ) → IsNumberedLog l → from ≤ end l → number < from → is_border (regrouped l from) number ≡ is_border l number
+regrouped_before l from number law last before =
+    let front : List Bool = take (from - l.first) l.begins in
+    let kept : length front ≡ from - l.first = omega (arith, law.marks, length-take (from - l.first) l.begins) in
+    ap (λ m. is_border m number) (regrouped_all l from)
+    ∙ elim (cases_lt l.first number) [
+      | inl high ↦
+          border_marked (with_all (without_tail l from) (groups_from l from)) number high
+          ∙ get_or_append_left front (all_marks (groups_from l from)) true (number - l.first) (omega arith)
+          ∙ get_or-take (from - l.first) l.begins (number - l.first) true (omega arith)
+          ∙ sym (border_marked l number high)
+      | inr low ↦ border_first (with_all (without_tail l from) (groups_from l from)) number low ∙ sym (border_first l number low)
+    ]
+
+-- a border among them is where one begins
+border_among : (l : NumberedLog) (from k : ℕ) → IsNumberedLog l → l.first < from + k → l.first ≤ from → from ≤ end l → is_border (regrouped l from) (from + k) ≡ get_or (all_marks (groups_from l from)) k true
+border_among l from k law high low last =
+    let place : (from + k) - l.first ≡ (from - l.first) + k = omega arith in
+    let kept : length (take (from - l.first) l.begins) ≡ from - l.first = omega (arith, law.marks, length-take (from - l.first) l.begins) in
+    let there : ((from - l.first) + k) - (from - l.first) ≡ k = omega arith in
+    ap (λ m. is_border m (from + k)) (regrouped_all l from)
+    ∙ border_marked (with_all (without_tail l from) (groups_from l from)) (from + k) high
+    ∙ ap (λ n. get_or (take (from - l.first) l.begins ++ all_marks (groups_from l from)) n true) place
+    ∙ get_or-append_right (take (from - l.first) l.begins) (all_marks (groups_from l from)) (from - l.first) ((from - l.first) + k) true kept (omega arith)
+    ∙ ap (λ n. get_or (all_marks (groups_from l from)) n true) there
+
+-- and that is where the records before are whole groups
+pub regrouped_among : (l : NumberedLog) (from n k : ℕ) → IsNumberedLog l → l.first ≤ from → from ≤ end l → AllHaveEffects (records_from l from) → length (records_from l from) ≤ n
+    → from + k ≤ end (regrouped l from) → is_border (regrouped l from) (from + k) ≡ are_whole (groups_of n (records_from l from)) k
+regrouped_among l from n k law low last some enough within =
+    let gs : List (List LogRecord) = groups_of n (records_from l from) in
+    elim (cases_lt l.first (from + k)) [
+      | inl high ↦
+          let first : (regrouped l from).first ≡ l.first = ap (λ m. m.first) (regrouped_all l from) in
+          let front : length (take (from - l.first) l.records) ≡ from - l.first = omega (arith, length-take (from - l.first) l.records) in
+          let all = length-append (take (from - l.first) l.records) (all_coalesced gs) in
+          let short : k ≤ length (all_coalesced gs) = omega (arith, within, first, front, all, ap length (regrouped_records l from n enough)) in
+          border_among l from k law high low last
+          ∙ ap (λ hs. get_or (all_marks (map coalesced_group hs)) k true) (cut_same l from n enough)
+          ∙ marked gs k (groups-are n (records_from l from) some) short
+      | inr none ↦
+          let is : k ≡ 0 = omega arith in
+          border_first (regrouped l from) (from + k) (omega (arith, ap (λ m. m.first) (regrouped_all l from)))
+          ∙ sym (ap (are_whole gs) is ∙ whole_none gs)
+    ]

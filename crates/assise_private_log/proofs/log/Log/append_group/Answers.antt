@@ -1,0 +1,47 @@
+use Rattle.std.proofs.Common.{◌≡◌, ◌<◌, ◌++◌, [], ◌∷◌, ◌∙◌, Result, Err, IsOk, length, ap, sym, subst, true≢false, arith}
+use Rattle.std.proofs.lemmas.Bool.{ne_eqb}
+use Rattle.std.proofs.lemmas.List.{length_push}
+use Rattle.assise_private_log.specs.Groups.{with_group}
+use Rattle.assise_private_log.specs.NumberedLog.{with_grouped}
+use Rattle.assise_private_log.proofs.Grouping.{HasRest, all_passed, group_more, group_open, has_rest, one_passed}
+use Rattle.assise_private_log.proofs.log.Log.append_group.Goals as goal
+
+refused_not_ok : {T E : Type 0} (r : Result T E) (e : E) → r ≡ Err e → IsOk r → ⊥
+refused_not_ok r e is ok = true≢false (sym (subst IsOk is ok))
+
+pub append_grouped-requires-clause-number_fits : goal.append_grouped-requires-clause-number_fits
+append_grouped-requires-clause-number_fits c =
+    let done = c.loop-record.yielded in
+    let all = ap (λ xs. done ++ xs) (sym c.in-Some.ensures.steps.0) ∙ c.loop-record.invariant.items in
+    let has : HasRest c.args.self.now c.loop-record.self done c.args.group = has_rest c.args.self.now c.loop-record.self done _ c.args.group c.in-Some.record c.loop-record.invariant.log all in
+    omega (arith, has.fits, c.requires.numbers_fit)
+
+pub append_grouped-requires-clause-open_group : goal.append_grouped-requires-clause-open_group
+append_grouped-requires-clause-open_group c =
+    let done = c.loop-record.yielded in
+    let all = ap (λ xs. done ++ xs) (sym c.in-Some.ensures.steps.0) ∙ c.loop-record.invariant.items in
+    let has : HasRest c.args.self.now c.loop-record.self done c.args.group = has_rest c.args.self.now c.loop-record.self done _ c.args.group c.in-Some.record c.loop-record.invariant.log all in
+    group_open c.args.self.now c.loop-record.self done c.loop-record.begins c.limit-lawful.ensures.lawful.marks c.loop-record.invariant.log c.loop-record.invariant.begins
+    (omega (arith, has.few, c.group.invariant, ap length c.group.view_is))
+
+pub unreachable-requires : goal.unreachable-requires
+unreachable-requires c =
+    let done = c.loop-record.yielded in
+    let all = ap (λ xs. done ++ xs) (sym c.in-Some.ensures.steps.0) ∙ c.loop-record.invariant.items in
+    let has : HasRest c.args.self.now c.loop-record.self done c.args.group = has_rest c.args.self.now c.loop-record.self done _ c.args.group c.in-Some.record c.loop-record.invariant.log all in
+    let room : length c.loop-record.self.records < c.loop-record.self.limit = omega (arith, has.room, has.limit, c.requires.room) in
+    refused_not_ok c.append_grouped.result c.in_default.field-0 c.in_default.is (c.append_grouped.ensures.room.1 room)
+
+pub loop-record-preserved : goal.loop-record-preserved
+loop-record-preserved c = record {
+  log = c.in-Ok.ensures.ok
+      ∙ ap (λ l. with_grouped l c.in-Some.record c.loop-record.begins) c.loop-record.invariant.log
+      ∙ group_more c.args.self.now c.loop-record.yielded c.in-Some.record c.loop-record.begins c.loop-record.invariant.begins;
+  items = one_passed c.loop-record.yielded _ _ c.args.group c.in-Some.record c.loop-record.invariant.items c.in-Some.ensures.steps.0;
+  begins = sym (ne_eqb (length (c.loop-record.yielded ++ c.in-Some.record ∷ [])) 0 (λ none. omega (arith, length_push c.loop-record.yielded c.in-Some.record)));
+}
+
+pub returns : goal.returns
+returns c =
+    c.loop-record.invariant.log
+    ∙ ap (with_group c.args.self.now) (all_passed c.loop-record.yielded c.loop-record.record-iterator.rest.items c.args.group c.loop-record.invariant.items (omega (arith, c.in-None.ensures.steps)))

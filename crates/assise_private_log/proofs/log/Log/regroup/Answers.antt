@@ -1,0 +1,28 @@
+use Rattle.std.proofs.Common.{◌++◌, ◌∙◌, ap, sym, arith}
+use Rattle.assise_private_log.specs.Groups.{with_group, with_groups}
+use Rattle.assise_private_log.specs.NumberedLog.{without_tail}
+use Rattle.assise_private_log.proofs.Grouping.{all_passed, groups_one_more, one_passed, room_for_group}
+use Rattle.assise_private_log.proofs.log.Log.regroup.Goals as goal
+
+pub append_group-requires-clause-numbers_fit : goal.append_group-requires-clause-numbers_fit
+append_group-requires-clause-numbers_fit c =
+    let all = ap (λ gs. c.loop-group.yielded ++ gs) (sym c.in-Some.ensures.steps.0) ∙ c.loop-group.invariant.items in
+    (room_for_group c.args.self.now c.loop-group.self c.args.from c.loop-group.yielded _ c.in-Some.group c.limit-lawful.ensures.lawful c.loop-group.invariant.log all).0
+
+pub append_group-requires-clause-room : goal.append_group-requires-clause-room
+append_group-requires-clause-room c =
+    let all = ap (λ gs. c.loop-group.yielded ++ gs) (sym c.in-Some.ensures.steps.0) ∙ c.loop-group.invariant.items in
+    (room_for_group c.args.self.now c.loop-group.self c.args.from c.loop-group.yielded _ c.in-Some.group c.limit-lawful.ensures.lawful c.loop-group.invariant.log all).1
+
+pub loop-group-preserved : goal.loop-group-preserved
+loop-group-preserved c = record {
+  log = c.append_group.ensures
+      ∙ ap (λ l. with_group l c.in-Some.group) c.loop-group.invariant.log
+      ∙ sym (groups_one_more (without_tail c.args.self.now c.args.from) c.loop-group.yielded c.in-Some.group);
+  items = one_passed c.loop-group.yielded _ _ _ c.in-Some.group c.loop-group.invariant.items c.in-Some.ensures.steps.0;
+}
+
+pub returns-clause-ok : goal.returns-clause-ok
+returns-clause-ok c =
+    c.loop-group.invariant.log
+    ∙ ap (with_groups (without_tail c.args.self.now c.args.from)) (all_passed c.loop-group.yielded c.loop-group.group-iterator.rest.items _ c.loop-group.invariant.items (omega (arith, c.in-None.ensures.steps)))

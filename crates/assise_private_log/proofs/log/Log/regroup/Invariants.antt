@@ -1,0 +1,11 @@
+use Rattle.std.proofs.Common.{◌≡◌, ◌++◌}
+use Rattle.assise_private_log.specs.Groups.{groups_from, with_groups}
+use Rattle.assise_private_log.specs.NumberedLog.{without_tail}
+use Rattle.assise_private_log.proofs.log.Log.regroup.Given as goal
+
+-- the log has the first of the groups
+abbrev pub invariant-loop-group : goal.invariant-loop-group
+invariant-loop-group l = record {
+  log : l.self ≡ with_groups (without_tail l.fn.self l.from) l.yielded;
+  items : l.yielded ++ l.group-iterator.rest.items ≡ groups_from l.fn.self l.from;
+}
