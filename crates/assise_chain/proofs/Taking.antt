@@ -6,7 +6,7 @@ use Rattle.assise_record.specs.LogRecord.{LogRecord}
 use Rattle.assise_record.specs.LogFrame.{LogFrame}
 use Rattle.assise_private_log.specs.Borders.{IsWholeCount, whole_count}
 use Rattle.assise_private_log.specs.NumberedLog.{IsNumberedLog, NumberedLog, end, is_border, records_from}
-use Rattle.assise_private_log.proofs.Bordering.{is_whole, some_whole}
+use Rattle.assise_private_log.proofs.Borders.{is_whole, some_whole}
 use Rattle.assise_chain.specs.Messages.{count_sent, first_sent, frame_of, records_between, sent}
 
 -- the first item of a front

@@ -38,7 +38,8 @@ pub fn what_is_sent_from_the_end_is_taken_in()
 pub fn what_is_sent_is_whole_groups()
     ensures border { (l : NumberedLog) (from to : ℕ) → 0 < length (sent l from to) →
         is_border l (first_sent l from + length (sent l from to)) ≡ true }
-    ensures some { (l : NumberedLog) (from to : ℕ) → IsNumberedLog l → first_sent l from < to → to ≤ end l →
+    ensures some { (l : NumberedLog) (from to : ℕ) → IsNumberedLog l → first_sent l from < to →
+        to ≤ end l →
         is_border l to ≡ true → 0 < length (sent l from to) }
 {}
 

@@ -1,5 +1,5 @@
 -- Links of nodes that are there.
-use Rattle.std.proofs.Common.{◌≡◌, ◌≤◌, ◌<◌, ℕ, zero, suc, ◌-◌, List, [], ◌∷◌, Some, length, map, slice_set, inl, inr, refl, ap, sym, subst, ◌∙◌, arith}
+use Rattle.std.proofs.Common.{◌≡◌, ◌≤◌, ◌<◌, ℕ, zero, suc, ◌-◌, Bool, List, [], ◌∷◌, Some, length, map, slice_set, inl, inr, refl, ap, sym, subst, ◌∙◌, arith}
 use Rattle.std.proofs.lemmas.Bool.{cases_lt}
 use Rattle.assise_names.specs.declared.refusal.Refusal.TheVariants.{BadNode}
 use Rattle.assise_fault_script.specs.declared.command.LinkKind.{LinkKind}

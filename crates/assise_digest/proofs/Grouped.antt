@@ -10,7 +10,7 @@ use Rattle.assise_inode_table.proofs.Applying.{append_applied, get-all_applied}
 use Rattle.assise_inode_table.proofs.Making.{untouched}
 use Rattle.assise_private_log.specs.Borders.{IsNextBorder, IsWholeCount, group_end, whole_count}
 use Rattle.assise_private_log.specs.NumberedLog.{IsNumberedLog, end, is_border}
-use Rattle.assise_private_log.proofs.Bordering.{border_end, is_whole, next_border}
+use Rattle.assise_private_log.proofs.Borders.{border_end, is_whole, next_border}
 use Rattle.assise_record.specs.Records.{all_effects}
 use Rattle.assise_record.proofs.Records.{all_effects-append}
 use Rattle.assise_digest.specs.Region.{HasClient, IsBegun, IsNextGroup, ReceivedLog, RegionValue, TouchApart, ahead, digested_by, digested_further, first_effects, log_at, log_of, next_effects, no_log}

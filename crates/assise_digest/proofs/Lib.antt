@@ -10,7 +10,7 @@ pub mod Forests
 pub mod Pieces
 pub mod Listed
 pub mod Grouped
-pub mod Coalescing
-pub mod Regrouping
+pub mod CoalescedLogs
+pub mod RegroupedLogs
 mod Growing
 pub mod Assembling

@@ -1,12 +1,12 @@
 -- The log that a node received of a client, while records come and go.
-use Rattle.std.proofs.Common.{◌≡◌, ◌≤◌, ◌<◌, ◌+◌, ◌-◌, ℕ, zero, suc, nat_lt, if◌then◌else◌, drop-drop, false, List, [], ◌∷◌, ◌++◌, length, take, drop, Option, Some, None, option_map, refl, sym, ap, subst, ◌∙◌, is_some, true≢false, arith}
+use Rattle.std.proofs.Common.{◌≡◌, ◌≤◌, ◌<◌, ◌+◌, ◌-◌, ℕ, Bool, zero, suc, nat_lt, if◌then◌else◌, drop-drop, false, List, [], ◌∷◌, ◌++◌, length, take, drop, Option, Some, None, option_map, refl, sym, ap, subst, ◌∙◌, is_some, true≢false, arith}
 use Rattle.std.proofs.lemmas.List.{drop-append-le, length-append, length-drop, length-take}
 use Rattle.std.specs.List.{slice_get}
 use Rattle.assise_record.specs.LogRecord.{LogRecord}
 use Rattle.assise_inode_table.specs.Contents.{InodeMap}
 use Rattle.assise_inode_table.specs.Effects.{all_applied}
 use Rattle.assise_inode_table.specs.Whole.{CanBeMadeWhole}
-use Rattle.assise_private_log.specs.NumberedLog.{end, record_at, with_record, without_front, without_tail}
+use Rattle.assise_private_log.specs.NumberedLog.{end, record_at, with_grouped, without_front, without_tail}
 use Rattle.assise_digest.specs.Pending.{IsNew, StandsFor, forgotten, taken_in}
 use Rattle.assise_digest.specs.Region.{AreWhole, IsBegun, ReceivedLog, ahead, digested_further, first_effects, from_number, next_effects, up_to_number, with_more}
 use Rattle.assise_digest.specs.Sound.{IsSoundLog, StandsHere, seen_log}
@@ -91,9 +91,9 @@ kept_new p m l k b s is = subst (IsNew p) (sym (is ∙ count_ahead l b)) (next_i
 
 -- ---- one of these changes
 
-pub sound_more : (m : InodeMap) (x : Received) (r : LogRecord) (o : Option Pending) → IsSoundLog m x → CanBeMadeWhole r.effects → StandsHere m (with_more (seen_log x) r) o
-    → IsSoundLog m (record { log = with_record x.log r; digested = x.digested; pending = o })
-sound_more m x r o s h kept = record {
+pub sound_more : (m : InodeMap) (x : Received) (r : LogRecord) (begins : Bool) (o : Option Pending) → IsSoundLog m x → CanBeMadeWhole r.effects → StandsHere m (with_more (seen_log x) r) o
+    → IsSoundLog m (record { log = with_grouped x.log r begins; digested = x.digested; pending = o })
+sound_more m x r begins o s h kept = record {
   begun = record {
     from_first = s.begun.from_first;
     to_end = let counted = length-append x.log.records (r ∷ []) in omega (arith, s.begun.to_end, counted);
@@ -102,7 +102,7 @@ sound_more m x r o s h kept = record {
   stands = stands_like o kept;
 }
   where
-    stands_like : (o : Option Pending) → StandsHere m (with_more (seen_log x) r) o → StandsHere m (seen_log (record { log = with_record x.log r; digested = x.digested; pending = o })) o
+    stands_like : (o : Option Pending) → StandsHere m (with_more (seen_log x) r) o → StandsHere m (seen_log (record { log = with_grouped x.log r begins; digested = x.digested; pending = o })) o
     stands_like None k = tt
     stands_like (Some p) k = k
 

@@ -7,7 +7,7 @@ use Rattle.assise_record.specs.LogRecord.{LogRecord}
 use Rattle.assise_record.specs.Records.{all_effects}
 use Rattle.assise_private_log.specs.Borders.{whole_count}
 use Rattle.assise_private_log.specs.Groups.{regrouped}
-use Rattle.assise_private_log.specs.NumberedLog.{NumberedLog, empty_log, end, is_border, records_from, with_record, without_front, without_tail}
+use Rattle.assise_private_log.specs.NumberedLog.{NumberedLog, empty_log, end, is_border, records_from, with_grouped, without_front, without_tail}
 use Rattle.assise_inode_table.specs.Contents.{Content, InodeMap, Values}
 use Rattle.assise_inode_table.specs.Effects.{all_applied, contains, touched, value_after, with_value}
 use Rattle.assise_inode_table.specs.Whole.{CanBeMadeWhole}
@@ -106,8 +106,12 @@ AreWhole (r ∷ rs) = CanBeMadeWhole r.effects × AreWhole rs
 
 -- ---- changes of one log
 
+-- one more record begins a group, or is one more of the last one
+abbrev pub with_one : ReceivedLog → LogRecord → Bool → ReceivedLog
+with_one l r begins = record { log = with_grouped l.log r begins; digested = l.digested; at_home = l.at_home }
+
 abbrev pub with_more : ReceivedLog → LogRecord → ReceivedLog
-with_more l r = record { log = with_record l.log r; digested = l.digested; at_home = l.at_home }
+with_more l r = with_one l r true
 
 abbrev pub from_number : ReceivedLog → ℕ → ReceivedLog
 from_number l to = record { log = without_front l.log to; digested = l.digested; at_home = l.at_home }

@@ -5,8 +5,8 @@ ghost use Rattle.assise_inode_table.specs.Contents.{InodeMap};
 ghost use Rattle.assise_inode_table.specs.Effects.{all_applied};
 ghost use Rattle.assise_inode_table.specs.Whole.{CanBeMadeWhole};
 ghost use Rattle.assise_names.specs.declared.refusal.Refusal.TheVariants.{LogFull, OutOfMemory};
-ghost use Rattle.assise_private_log.specs.NumberedLog.{end, records_from};
-ghost use Rattle.assise_digest.specs.Region.{AreWhole, IsBegun, IsNextGroup, ahead, ahead_below, digested_further, from_number, regrouped_from, next_effects, up_to_number, with_more};
+ghost use Rattle.assise_private_log.specs.NumberedLog.{HasOpenGroup, end, records_from};
+ghost use Rattle.assise_digest.specs.Region.{AreWhole, IsBegun, IsNextGroup, ahead, ahead_below, digested_further, from_number, regrouped_from, next_effects, up_to_number, with_one};
 ghost use Rattle.assise_record.specs.declared.effect.Effect.{Effect as EffectValue};
 ghost use Rattle.assise_digest.specs.Pending.{HasAll, KeepsNoMore, Lays, forgotten, noted_from};
 ghost use Rattle.assise_digest.specs.Sound.{IsKeptFor, IsSoundLog, seen_log};
@@ -48,20 +48,22 @@ impl Received {
         }
     }
 
-    /// Takes a record in, behind the last. It is refused with [`Refusal::LogFull`] exactly where there is no room, and
-    /// else with [`Refusal::OutOfMemory`], for a client that lives here alone. What is refused leaves all as it was, and
-    /// comes back.
+    /// Takes a record in, behind the last: it begins a group, or is one more of the last one. It is refused with
+    /// [`Refusal::LogFull`] exactly where there is no room, and else with [`Refusal::OutOfMemory`], for a client that lives
+    /// here alone. What is refused leaves all as it was, and comes back.
     pub(crate) fn append(
         &mut self,
         alloc: Global,
         area: &Area,
         added: Record,
+        begins: bool,
     ) -> Result<(), (Refusal, Record)>
         requires sound { IsSoundLog area.now.inodes self.old }
+        requires open_group { begins ≡ false → HasOpenGroup self.old.log }
         requires number_fits { end self.old.log + 1 < 2 ^ 64 }
         requires whole { CanBeMadeWhole added.effects }
         ensures sound { IsSoundLog area.now.inodes self.new }
-        ensures ok { OnOk result (seen_log self.new ≡ with_more (seen_log self.old) added) }
+        ensures ok { OnOk result (seen_log self.new ≡ with_one (seen_log self.old) added begins) }
         ensures err { OnErr result (self.new ≡ self.old) }
         ensures given_back { IfErr result (λ back. back.1 ≡ added) }
         ensures room { IsOk result → length self.old.log.records < self.old.log.limit }
@@ -74,7 +76,7 @@ impl Received {
         if let Err(refusal) = self.keep(alloc, area, &added) {
             return Err((refusal, added));
         }
-        self.log.append(added)
+        self.log.append_grouped(added, begins)
     }
 
     /// Lets go of what the next record is the last to touch.
@@ -124,7 +126,8 @@ impl Received {
     pub(crate) fn effects_ahead(&self, alloc: Global, count: usize) -> Result<Vec<Effect>, Refusal>
         requires begun { IsBegun (seen_log self.now) }
         requires there { count ≤ length (ahead (seen_log self.now)) }
-        ensures effects { IfOk result (λ effects. effects.items ≡ all_effects (take count (ahead (seen_log self.now)))) }
+        ensures effects { IfOk result (λ effects. effects.items ≡
+            all_effects (take count (ahead (seen_log self.now)))) }
         ensures only_memory { IsOkUnless result OutOfMemory }
     {
         let _end = self.log.end();
@@ -192,10 +195,12 @@ impl Received {
     /// Notes the records from a number on as the last that touch their inodes, where the client lives here.
     fn note_from(&mut self, from: u64)
         requires numbers_fit { from + length (records_from self.old.log from) < 2 ^ 64 }
-        requires there { IfSome self.old.pending (λ p. HasAll p.last (all_effects (records_from self.old.log from))) }
+        requires there { IfSome self.old.pending
+            (λ p. HasAll p.last (all_effects (records_from self.old.log from))) }
         ensures log { self.new.log ≡ self.old.log }
         ensures digested { self.new.digested ≡ self.old.digested }
-        ensures pending { self.new.pending ≡ option_map (λ p. noted_from p from (records_from self.old.log from)) self.old.pending }
+        ensures pending { self.new.pending ≡ option_map
+            (λ p. noted_from p from (records_from self.old.log from)) self.old.pending }
     {
         if let Some(pending) = &mut self.pending {
             pending.note_all(from, self.log.since(from));
@@ -215,7 +220,8 @@ impl Received {
         requires whole { AreWhole self.now.log.records }
         requires no_more { KeepsNoMore pending.old }
         ensures no_more { OnOk result (KeepsNoMore pending.new) }
-        ensures lays { (es : List EffectValue) → Lays pending.old area.now.inodes es → OnOk result (Lays pending.new area.now.inodes (es ++ all_effects (ahead_below (seen_log self.now) acked))) }
+        ensures lays { (es : List EffectValue) → Lays pending.old area.now.inodes es →
+            OnOk result (Lays pending.new area.now.inodes (es ++ all_effects (ahead_below (seen_log self.now) acked))) }
         ensures only_memory { IsOkUnless result OutOfMemory }
     {
         let to = acked.clamp(self.digested, self.log.end());

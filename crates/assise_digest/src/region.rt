@@ -7,10 +7,10 @@ ghost use Rattle.assise_inode_table.specs.Opening.{opening};
 ghost use Rattle.assise_inode_table.specs.Spelled.{Spells};
 ghost use Rattle.assise_inode_table.specs.Whole.{CanBeMadeWhole};
 ghost use Rattle.assise_names.specs.declared.refusal.Refusal.TheVariants.{LogFull, OutOfMemory};
-ghost use Rattle.assise_private_log.specs.NumberedLog.{end, is_border};
+ghost use Rattle.assise_private_log.specs.NumberedLog.{HasOpenGroup, end, is_border};
 ghost use Rattle.assise_seq_tree.specs.Tree.{Tree as PlainTree};
 ghost use Rattle.assise_digest.specs.Pending.{Lays};
-ghost use Rattle.assise_digest.specs.Region.{AreNotBelow, AreWhole, HasClient, HasRoom, IsBegun, IsFull, IsNextGroup, IsQuiet, TouchApart, ahead, ahead_below, all_ahead, alone, digested_by, from_number, log_of, read_by, regrouped_from, up_to_number, whole_ahead, with_client, with_hot_capacity, with_inode, with_log, with_more, without_clients, without_last_client};
+ghost use Rattle.assise_digest.specs.Region.{AreNotBelow, AreWhole, HasClient, HasRoom, IsBegun, IsFull, IsNextGroup, IsQuiet, TouchApart, ahead, ahead_below, all_ahead, alone, digested_by, from_number, log_of, read_by, regrouped_from, up_to_number, whole_ahead, with_client, with_hot_capacity, with_inode, with_log, with_more, with_one, without_clients, without_last_client};
 ghost use Rattle.assise_digest.specs.Sound.{IsSoundLog, seen_log};
 
 use crate::overlay::Overlay;
@@ -319,8 +319,33 @@ impl Region {
         ensures refused { IfErr result (λ back. ((back.0 ≡ LogFull) × IsFull (log_of self.old client))
             ⊎ ((back.0 ≡ OutOfMemory) × HasRoom (log_of self.old client) × ((log_of self.old client).at_home ≡ true))) }
     {
+        self.append_grouped(client, added, true)
+    }
+
+    /// As [`Region::append`], but that the record is one more of the last group where it doesn't begin one: that has fewer than
+    /// 64 records then.
+    pub fn append_grouped(
+        &mut self,
+        client: usize,
+        added: Record,
+        begins: bool,
+    ) -> Result<(), (Refusal, Record)>
+        requires client { HasClient self.old client }
+        requires number_fits { end (log_of self.old client).log + 1 < 2 ^ 64 }
+        requires whole { CanBeMadeWhole added.effects }
+        requires open_group { begins ≡ false → HasOpenGroup (log_of self.old client).log }
+        ensures ok { OnOk result (self.new ≡
+            with_log self.old client (with_one (log_of self.old client) added begins)) }
+        ensures err { OnErr result (self.new ≡ self.old) }
+        ensures given_back { IfErr result (λ back. back.1 ≡ added) }
+        ensures room { IsOk result → HasRoom (log_of self.old client) }
+        ensures refused { IfErr result (λ back. ((back.0 ≡ LogFull)
+            × IsFull (log_of self.old client))
+            ⊎ ((back.0 ≡ OutOfMemory) × HasRoom (log_of self.old client)
+            × ((log_of self.old client).at_home ≡ true))) }
+    {
         let alloc = self.area.allocator();
-        self.logs[client - 1].append(alloc, &self.area, added)
+        self.logs[client - 1].append(alloc, &self.area, added, begins)
     }
 
     /// Lets the records of a client below a number go, all of which are digested here. It takes no memory.
@@ -353,7 +378,8 @@ impl Region {
         requires to_end { from ≤ end (log_of self.old client).log }
         ensures ok { OnOk result (self.new ≡
             with_log self.old client (regrouped_from (log_of self.old client) from)) }
-        ensures read { OnOk result ((i : ℕ) → read_by self.new client i ≡ read_by self.old client i) }
+        ensures read { OnOk result ((i : ℕ) →
+            read_by self.new client i ≡ read_by self.old client i) }
         ensures err { OnErr result (self.new ≡ self.old) }
         ensures only_memory { IsOkUnless result OutOfMemory }
     {
@@ -380,7 +406,8 @@ impl Region {
         ensures acked { IfOk result (λ n. n ≤ length (ahead_below (log_of self.old client) acked)) }
         ensures groups { IfOk result (λ n. 0 < n →
             is_border (log_of self.old client).log ((log_of self.old client).digested + n) ≡ true) }
-        ensures none { IfOk result (λ n. n ≡ 0 → whole_ahead (log_of self.old client) acked at_most ≡ 0) }
+        ensures none { IfOk result (λ n. n ≡ 0 →
+            whole_ahead (log_of self.old client) acked at_most ≡ 0) }
         ensures err { OnErr result (self.new ≡ self.old) }
         ensures asked { OnErr result ((0 < at_most) × (0 < length (ahead_below (log_of self.old client) acked))) }
         ensures read { (i : ℕ) → read_by self.new client i ≡ read_by self.old client i }

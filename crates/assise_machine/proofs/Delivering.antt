@@ -1,12 +1,13 @@
 -- A delivery, as the laws have it.
-use Rattle.std.proofs.Common.{◌≡◌, ℕ, ◌+◌, ◌-◌, ◌<◌, ◌≤◌, ◌==◌, max, true, false, not, List, [], length, take, drop, None, refl, ap, sym, subst, ◌∙◌, append-nil, arith}
+use Rattle.std.proofs.Common.{◌≡◌, ◌≢◌, ℕ, Bool, ◌+◌, ◌-◌, ◌<◌, ◌≤◌, ◌==◌, max, true, false, not, inl, inr, List, [], length, take, drop, None, refl, ap, sym, subst, ◌∙◌, append-nil, arith}
 use Rattle.std.proofs.Math.Logic.{∥∥₁_elim, ∥∥₁_map}
 use Rattle.std.proofs.Props.{props}
-use Rattle.std.proofs.lemmas.Bool.{and_parts, eqb-true, false_from_ne_true, not-true}
+use Rattle.std.proofs.lemmas.Bool.{and_parts, cases_lt, eqb-true, false_from_ne_true, not-true}
 use Rattle.std.proofs.lemmas.List.{drop_all, length-drop, length-take, set-get_or}
 use Rattle.assise_record.specs.LogFrame.{LogFrame}
 use Rattle.assise_record.specs.LogRecord.{LogRecord}
-use Rattle.assise_private_log.specs.NumberedLog.{NumberedLog, end as log_end, records_from}
+use Rattle.assise_private_log.specs.NumberedLog.{NumberedLog, end as log_end, is_border, records_from}
+use Rattle.assise_private_log.proofs.Borders.{border_first}
 use Rattle.assise_digest.specs.Region.{AreWhole, RegionValue, log_of, no_log, with_log}
 use Rattle.assise_manager.specs.Standings.{full_nodes}
 use Rattle.assise_machine_laws.specs.Chances.{MayDeliver}
@@ -18,13 +19,14 @@ use Rattle.assise_machine_events.specs.NodeEvents.{Delivering, is_delivered}
 use Rattle.assise_machine_events.proofs.EachEvent.{event_keeps}
 use Rattle.assise_machine_state.specs.Changes.{after_delivery}
 use Rattle.assise_machine_state.specs.ClientValues.{client_in, client_seen}
-use Rattle.assise_machine_state.specs.NodeValues.{HasLog, log_in, log_seen, no_region, region_in, with_log_in, with_records, with_region}
+use Rattle.assise_machine_state.specs.NodeValues.{HasGroupsOf, HasLog, log_in, log_seen, no_region, region_in, with_log_in, with_records, with_region}
 use Rattle.assise_machine_state.specs.Observed.{is_full_in, observed, own_node, own_seen, world_of}
 use Rattle.assise_machine_state.specs.Places.{IsNumber}
 use Rattle.assise_machine_state.specs.Shape.{AreNoted, IsShaped}
 use Rattle.assise_machine_state.specs.StateValues.{StateValue, leases_of, standings}
 use Rattle.assise_machine_state.proofs.Fullness.{has_log, log_is, seen_full}
 use Rattle.assise_machine_state.proofs.Logging.{none_more}
+use Rattle.assise_machine_state.proofs.Marks.{border_inside, so_many_marks}
 use Rattle.assise_machine_state.proofs.Noted.{still_noted}
 use Rattle.assise_machine_state.proofs.Owning.{own_log as has_own_log}
 use Rattle.assise_machine_state.proofs.Receiving.{HasFront, delivered_front, delivery_shaped, has_front, other_areas}
@@ -34,11 +36,11 @@ use Rattle.assise_machine.proofs.DeliveryFaults.{fine_client, fine_full}
 
 -- ---- nothing is changed where nothing comes
 
-log_kept : (r : RegionValue) (c : ℕ) → with_log r c (with_records (log_of r c) []) ≡ r
-log_kept r c = ap (with_log r c) (none_more (log_of r c)) ∙ (λ i. record r { logs = set-get_or r.logs (c - 1) no_log i })
+log_kept : (border : ℕ → Bool) (r : RegionValue) (c : ℕ) → with_log r c (with_records border (log_of r c) []) ≡ r
+log_kept border r c = ap (with_log r c) (none_more border (log_of r c)) ∙ (λ i. record r { logs = set-get_or r.logs (c - 1) no_log i })
 
-nodes_kept : (rs : List RegionValue) (n c : ℕ) → with_log_in rs n c (with_records (log_in rs n c) []) ≡ rs
-nodes_kept rs n c = ap (with_region rs n) (log_kept (region_in rs n) c) ∙ set-get_or rs (n - 1) no_region
+nodes_kept : (border : ℕ → Bool) (rs : List RegionValue) (n c : ℕ) → with_log_in rs n c (with_records border (log_in rs n c) []) ≡ rs
+nodes_kept border rs n c = ap (with_region rs n) (log_kept border (region_in rs n) c) ∙ set-get_or rs (n - 1) no_region
 
 -- a delivery with its answer, and what holds after it
 pub record Gives (s : StateValue) (f : LogFrame) (n p : ℕ) (u : StateValue) : Type 0 where
@@ -86,6 +88,10 @@ module _ (s : StateValue) (f : LogFrame) (n : ℕ) (shape : IsShaped s) (holds :
         ap (λ x. (log_seen s.nodes (own_node (standings s) x) c).log) (client_is s.clients c client)
         ∙ ap (λ l. l.log) (log_is s (own_node (standings s) (client_in s.clients c)) c has_own)
 
+    -- where the client's groups lie
+    abbrev own_border : ℕ → Bool
+    own_border = is_border (own_seen s c).log
+
     received_is : (r : ℕ) → r ≡ log_end (log_in s.nodes n c).log → r ≡ w.received n c
     unfolding world_of
     received_is r is = is ∙ ap (λ l. log_end l.log) (sym (log_is s n c has))
@@ -107,16 +113,35 @@ module _ (s : StateValue) (f : LogFrame) (n : ℕ) (shape : IsShaped s) (holds :
     pub begun : (r : ℕ) → r ≡ w.received n c → (own_log s c).first ≤ r
     begun r is = omega (arith, is, counted, first_is)
 
+    -- the client's own log has a border where the node's ends
+    got_border : w.border c (w.received n c) ≡ true
+    unfolding observed
+    got_border = ∥∥₁_elim holds (search props) (λ h. (h.sound.coherent.order n c (seen_full s n full)).received_border)
+
+    ends_whole : (w.received n c < f.first + length f.records → w.border c (f.first + length f.records) ≡ true) → w.border c (max (w.received n c) (f.first + length f.records)) ≡ true
+    ends_whole whole =
+        elim (cases_lt (w.received n c) (f.first + length f.records)) [
+          | inl past ↦ (let place : max (w.received n c) (f.first + length f.records) ≡ f.first + length f.records = omega (arith, past) in ap (w.border c) place ∙ whole past)
+          | inr old ↦ (let place : max (w.received n c) (f.first + length f.records) ≡ w.received n c = omega (arith, old) in ap (w.border c) place ∙ got_border)
+        ]
+
     to_timely : IsNext (own_log s c) s.members.epoch f (w.received n c) → IsTimely (observed s) f n
     unfolding observed world_of
     to_timely next =
         let v = subst (λ l. IsNext l s.members.epoch f (w.received n c)) (sym own_is) next in
-        record { this_epoch = v.this_epoch; no_gap = v.no_gap; own = v.own }
+        record { this_epoch = v.this_epoch; no_gap = v.no_gap; own = v.own; whole = ends_whole v.whole }
 
     from_timely : IsTimely (observed s) f n → IsNext (own_log s c) s.members.epoch f (w.received n c)
     unfolding observed world_of
     from_timely timely =
-        subst (λ l. IsNext l s.members.epoch f (w.received n c)) own_is (record { this_epoch = timely.this_epoch; no_gap = timely.no_gap; own = timely.own })
+        subst (λ l. IsNext l s.members.epoch f (w.received n c)) own_is (record {
+          this_epoch = timely.this_epoch;
+          no_gap = timely.no_gap;
+          own = timely.own;
+          whole = λ past.
+              let place : f.first + length f.records ≡ max (w.received n c) (f.first + length f.records) = omega (arith, past) in
+              ap (w.border c) place ∙ timely.whole;
+        })
 
     pub not_timely : (r : ℕ) → r ≡ w.received n c → (IsNextOf s f r → ⊥) → IsTimely (observed s) f n → ⊥
     not_timely r is stale timely = stale (subst (λ k. IsNextOf s f k) (sym is) (from_timely timely))
@@ -159,8 +184,8 @@ module _ (s : StateValue) (f : LogFrame) (n : ℕ) (shape : IsShaped s) (holds :
       high = omega (arith, low, so_many, is, known, counted)
 
       may : MayDeliver w n c place
-      unfolding world_of
-      may = record { full_node = seen_full s n full; from = omega arith; to = high; border_to = refl }
+      unfolding observed
+      may = record { full_node = seen_full s n full; from = omega arith; to = high; border_to = timely.whole }
 
       delivered_now : Delivering (observed s) f n (told place) (observed t)
       unfolding observed world_of leases_of
@@ -177,7 +202,7 @@ module _ (s : StateValue) (f : LogFrame) (n : ℕ) (shape : IsShaped s) (holds :
       nothing_new old =
           let none : records_between w c (w.received n c) place ≡ [] = more_is ∙ drop_all (r - f.first) f.records (omega (arith, old, next.no_gap)) in
           let same : t ≡ s =
-          ap (λ more. record s { nodes = with_log_in s.nodes n c (with_records (log_in s.nodes n c) more) }) none ∙ (λ i. record s { nodes = nodes_kept s.nodes n c i })
+          ap (λ more. record s { nodes = with_log_in s.nodes n c (with_records own_border (log_in s.nodes n c) more) }) none ∙ (λ i. record s { nodes = nodes_kept own_border s.nodes n c i })
           in
           let here : place ≡ r = omega (arith, old, is) in
           subst (λ u. Delivering (observed s) f n (told r) (observed u)) same (subst (λ k. Delivering (observed s) f n (told k) (observed t)) here delivered_now)
@@ -208,11 +233,27 @@ module _ (s : StateValue) (f : LogFrame) (n : ℕ) (shape : IsShaped s) (holds :
         place_is = omega (arith, past, is)
 
         -- the state as the code leaves it
-        taken_in : (rs : List RegionValue) → rs ≡ with_log_in s.nodes n c (with_records (log_in s.nodes n c) (lacking f r)) → record s { nodes = rs } ≡ t
-        taken_in rs now = (λ i. record s { nodes = now i }) ∙ ap (λ more. record s { nodes = with_log_in s.nodes n c (with_records (log_in s.nodes n c) more) }) (sym more_is)
+        taken_in : (rs : List RegionValue) → rs ≡ with_log_in s.nodes n c (with_records own_border (log_in s.nodes n c) (lacking f r)) → record s { nodes = rs } ≡ t
+        taken_in rs now = (λ i. record s { nodes = now i }) ∙ ap (λ more. record s { nodes = with_log_in s.nodes n c (with_records own_border (log_in s.nodes n c) more) }) (sym more_is)
 
         keeps_shape : IsShaped t
-        keeps_shape = delivery_shaped s n c place shape
+        keeps_shape = delivery_shaped s n c place shape front client may
+
+        -- the client's own log is another node's
+        own_apart : own_node (standings s) (client_seen s.clients c) ≢ n
+        own_apart own = (let all : w.received n c ≡ end w c = front.all_there own in omega (arith, all, some_new, so_many, high))
+
+        -- and its borders are those of this node's log, as far as that goes
+        groups : HasGroupsOf (own_log s c) (log_in s.nodes n c).log
+        groups =
+            subst (λ own. HasGroupsOf own (log_in s.nodes n c).log) own_is
+            (subst (λ l. HasGroupsOf (own_seen s c).log l.log) (log_is s n c has) (record {
+              marks = so_many_marks own_border (log_seen s.nodes n c).log (shape.marked n c);
+              borders = λ k low is. elim (cases_lt (log_seen s.nodes n c).log.first k) [
+                | inl inside ↦ border_inside own_border (log_seen s.nodes n c).log k (shape.marked n c) inside low ∙ is
+                | inr before ↦ border_first (log_seen s.nodes n c).log k before
+              ];
+            }))
 
         -- as the code names what it passes
         module _ (k first : ℕ) (items : List LogRecord) (of_client : k ≡ c) (from : first ≡ f.first) (all : items ≡ f.records) where
@@ -233,8 +274,26 @@ module _ (s : StateValue) (f : LogFrame) (n : ℕ) (shape : IsShaped s) (holds :
           pub whole_as : AreWhole (lacking f r) → AreWhole (drop (r - first) items)
           whole_as whole = subst AreWhole (sym more_as) whole
 
-          taken_as : (rs : List RegionValue) → rs ≡ with_log_in s.nodes n k (with_records (log_in s.nodes n k) (drop (r - first) items)) → record s { nodes = rs } ≡ t
-          taken_as rs now = taken_in rs (now ∙ (λ i. with_log_in s.nodes n (of_client i) (with_records (log_in s.nodes n (of_client i)) (more_as i))))
+          -- with the node of the client's own log
+          module _ (own : ℕ) (is_own : own ≡ own_node (standings s) (client_in s.clients k)) where
+            own_place : own ≡ own_node (standings s) (client_in s.clients c)
+            own_place = is_own ∙ ap (λ d. own_node (standings s) (client_in s.clients d)) of_client
+
+            own_there : (log_in s.nodes own k).log ≡ own_log s c
+            own_there = (λ i. (log_in s.nodes (own_place i) (of_client i)).log)
+
+            pub apart_as : own ≢ n
+            apart_as same = own_apart (ap (own_node (standings s)) (client_is s.clients c client) ∙ sym own_place ∙ same)
+
+            pub groups_as : HasGroupsOf (log_in s.nodes own k).log (log_in s.nodes n k).log
+            groups_as =
+                subst (λ l. HasGroupsOf l (log_in s.nodes n k).log) (sym own_there)
+                (subst (λ d. HasGroupsOf (own_log s c) (log_in s.nodes n d).log) (sym of_client) groups)
+
+            taken_as : (rs : List RegionValue) → rs ≡ with_log_in s.nodes n k (with_records (is_border (log_in s.nodes own k).log) (log_in s.nodes n k) (drop (r - first) items)) → record s { nodes = rs } ≡ t
+            taken_as rs now =
+                taken_in rs
+                (now ∙ (λ i. with_log_in s.nodes n (of_client i) (with_records (is_border ((own_there ∙ sym own_is) i)) (log_in s.nodes n (of_client i)) (more_as i))))
 
           base : AreNoted s → Gives s f n place t
           base noted = record {
@@ -244,6 +303,7 @@ module _ (s : StateValue) (f : LogFrame) (n : ℕ) (shape : IsShaped s) (holds :
             noted = still_noted s t refl (omega arith) (λ d i. refl) noted;
           }
 
-          pub given_as : AreNoted s → (rs : List RegionValue) → rs ≡ with_log_in s.nodes n k (with_records (log_in s.nodes n k) (drop (r - first) items)) → (p : ℕ) → p ≡ f.first + length f.records →
+          pub given_as : AreNoted s → (own : ℕ) → own ≡ own_node (standings s) (client_in s.clients k) →
+              (rs : List RegionValue) → rs ≡ with_log_in s.nodes n k (with_records (is_border (log_in s.nodes own k).log) (log_in s.nodes n k) (drop (r - first) items)) → (p : ℕ) → p ≡ f.first + length f.records →
               Gives s f n p (record s { nodes = rs })
-          given_as noted rs now p p_is = subst (λ u. Gives s f n p u) (sym (taken_as rs now)) (subst (λ q. Gives s f n q t) (place_is ∙ sym p_is) (base noted))
+          given_as noted own is_own rs now p p_is = subst (λ u. Gives s f n p u) (sym (taken_as own is_own rs now)) (subst (λ q. Gives s f n q t) (place_is ∙ sym p_is) (base noted))

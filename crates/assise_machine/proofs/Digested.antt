@@ -1,9 +1,9 @@
 -- A node's digest, as the laws have it.
-use Rattle.std.proofs.Common.{◌≡◌, ◌≢◌, ℕ, suc, ◌+◌, ◌-◌, ◌≤◌, min, true, false, ◌||◌, ◌==◌, List, [], ◌∷◌, length, map, take, slice_set, inl, inr, refl, ap, sym, subst, ◌∙◌, arith}
+use Rattle.std.proofs.Common.{◌≡◌, ◌≢◌, ℕ, suc, ◌+◌, ◌-◌, ◌<◌, ◌≤◌, min, true, false, ◌||◌, ◌==◌, List, [], ◌∷◌, length, map, take, slice_set, inl, inr, refl, ap, sym, subst, ◌∙◌, arith}
 use Rattle.std.proofs.Math.Bool.{or-false}
 use Rattle.std.proofs.Math.Logic.{∥∥₁_elim, ∥∥₁_map}
 use Rattle.std.proofs.Props.{props}
-use Rattle.std.proofs.lemmas.Bool.{cases_Bool, false_from_ne_true}
+use Rattle.std.proofs.lemmas.Bool.{cases_Bool, cases_lt, false_from_ne_true}
 use Rattle.std.proofs.lemmas.List.{get_or-set_same, length-drop, length-set, set-get_or}
 use Rattle.std.specs.Cmp.{nat_cmp_total}
 use Rattle.std.specs.FinSet as set
@@ -11,7 +11,9 @@ use Rattle.std.specs.FinSet.{contains-empty, contains-from_list_nat, contains-un
 use Rattle.std.specs.Ordering.{nat_cmp}
 use Rattle.assise_record.specs.Records.{all_effects}
 use Rattle.assise_inode_table.specs.Effects.{contains, touched}
-use Rattle.assise_private_log.specs.NumberedLog.{end as log_end}
+use Rattle.assise_private_log.specs.Borders.{whole_count}
+use Rattle.assise_private_log.specs.NumberedLog.{NumberedLog, end as log_end, is_border}
+use Rattle.assise_private_log.proofs.Borders.{border_end, border_first, whole_here}
 use Rattle.assise_digest.specs.Region.{HasClient, ReceivedLog, RegionValue, TouchApart, ahead, digested_by, digested_further, log_at, log_of, no_log}
 use Rattle.assise_manager.specs.Changes.{noted, stale_again, with_written}
 use Rattle.assise_manager.specs.Membership.{Membership}
@@ -21,18 +23,19 @@ use Rattle.assise_machine_laws.specs.Sound.{Compatible, Guarded, IsSound, Writes
 use Rattle.assise_machine_laws.specs.World.{Full, World, ahead_below, received_by_all}
 use Rattle.assise_machine_laws.proofs.Digesting.{digest_sound}
 use Rattle.assise_machine_laws.proofs.Logs.{contains-drop, contains-take}
-use Rattle.assise_machine_laws.proofs.Observing.{received_by_all-below}
+use Rattle.assise_machine_laws.proofs.Observing.{received_by_all-below, received_by_all-border}
 use Rattle.assise_machine_returns.specs.Returns.{DigestsNoted}
 use Rattle.assise_machine_events.specs.NodeEvents.{undigested}
 use Rattle.assise_machine_state.specs.NodeValues.{HasLog, log_in, log_seen, no_region, region_in, with_region}
-use Rattle.assise_machine_state.specs.Observed.{is_full_in, world_of}
+use Rattle.assise_machine_state.specs.Observed.{is_full_in, own_seen, world_of}
 use Rattle.assise_machine_state.specs.Places.{IsNumber, at}
 use Rattle.assise_machine_state.specs.Shape.{IsShaped}
 use Rattle.assise_machine_state.specs.StateValues.{StateValue, standings}
 use Rattle.assise_machine_state.proofs.DigestSeen.{digest_shaped, noted_front}
 use Rattle.assise_machine_state.proofs.Fullness.{has_log, log_is, region_is, same_first, seen_full}
+use Rattle.assise_machine_state.proofs.Marks.{border_inside, so_many_marks}
 use Rattle.assise_machine_state.proofs.Reading.{ahead_first}
-use Rattle.assise_machine.specs.Digesting.{NoneListed, digests_some}
+use Rattle.assise_machine.specs.Digesting.{EndsWithGroup, NoneListed, digests_some}
 use Rattle.assise_machine.proofs.Unlisted.{nothing_noted}
 
 -- ---- nothing is changed where nothing is digested
@@ -190,9 +193,67 @@ module _ (s : StateValue) (n c : ℕ) (shape : IsShaped s) (sound : ∥ IsSound 
   pub touch_apart : TouchApart (region_in s.nodes n)
   touch_apart j k other i touches = ∥∥₁_elim sound (search props) (λ h. apart_of h j k other i touches)
 
+  -- ---- groups
+
+  got_border : w.border c (w.received n c) ≡ true
+  got_border = ∥∥₁_elim sound (search props) (λ h. (h.coherent.order n c full_here).received_border)
+
+  digested_border : w.border c (w.digested n c) ≡ true
+  digested_border = ∥∥₁_elim sound (search props) (λ h. (h.coherent.order n c full_here).digested_border)
+
+  all_border : w.border c (received_by_all w c) ≡ true
+  all_border = ∥∥₁_elim sound (search props) (λ h. received_by_all-border w h.coherent c)
+
+  -- the node's log has the borders of the client's own as far as it goes
+  border_there : (k : ℕ) → k ≤ w.received n c → is_border (log_in s.nodes n c).log k ≡ w.border c k
+  unfolding world_of
+  border_there k low =
+      let l : NumberedLog = (log_seen s.nodes n c).log in
+      ap (λ x. is_border x.log k) (sym was)
+      ∙ elim (cases_lt l.first k) [
+        | inl inside ↦ (elim (cases_lt k (log_end l)) [
+          | inl before ↦ border_inside (is_border (own_seen s c).log) l k (shape.marked n c) inside before
+          | inr past ↦
+              let last : k ≡ w.received n c = omega (arith, low, past) in
+              border_end l k (so_many_marks (is_border (own_seen s c).log) l (shape.marked n c)) past ∙ sym (ap (w.border c) last ∙ got_border)
+        ])
+        | inr first ↦ border_first l k first ∙ sym (border_first (own_seen s c).log k (omega (arith, first, first_is)))
+      ]
+
+  pub none_whole : EndsWithGroup w n c 0
+  none_whole = (let here : w.digested n c + 0 ≡ w.digested n c = omega arith in ap (w.border c) here ∙ digested_border)
+
+  -- as the code finds it: what is digested ends with a group
+  pub whole_as : (count : ℕ) → count ≤ undigested w n c → (0 < count → is_border (log_in s.nodes n c).log ((log_in s.nodes n c).digested + count) ≡ true) → EndsWithGroup w n c count
+  whole_as count few groups =
+      elim (cases_lt 0 count) [
+        | inl some ↦
+            let all : received_by_all w c ≤ w.received n c = received_by_all-below w n c full_here in
+            let there : (log_in s.nodes n c).digested + count ≡ w.digested n c + count = omega (arith, digested_is) in
+            sym (border_there (w.digested n c + count) (omega (arith, few, all, acknowledged)))
+            ∙ ap (is_border (log_in s.nodes n c).log) (sym there)
+            ∙ groups some
+        | inr none ↦ (let zero_now : count ≡ 0 = omega (arith, none) in subst (EndsWithGroup w n c) (sym zero_now) none_whole)
+      ]
+
+  -- some whole groups are among 64 of them, and all of them are
+  pub some_wanted : (r : RegionValue) (l : NumberedLog) (from acked at_most most wanted : ℕ) → from ≡ (log_of r c).digested → l ≡ (log_of r c).log → r ≡ region_in s.nodes n → acked ≡ received_by_all w c →
+      most ≡ min at_most (acked - from) → wanted ≡ whole_count l from most → (64 ≤ most → 0 < wanted) → at_most ≡ 64 → 0 < undigested w n c → 0 < wanted
+  some_wanted r l from acked at_most most wanted log logs region all is counted some whole_most left =
+      let there : from ≡ w.digested n c = log ∙ ap (λ x. (log_of x c).digested) region ∙ sym digested_is in
+      elim (cases_lt most 64) [
+        | inl fewer ↦
+            let ends : from + most ≡ received_by_all w c = omega (arith, fewer, is, whole_most, all, there, acknowledged) in
+            let high : received_by_all w c ≤ w.received n c = received_by_all-below w n c full_here in
+            let border : is_border l (from + most) ≡ true =
+            (λ i. is_border ((logs ∙ ap (λ x. (log_of x c).log) region) i) (ends i)) ∙ border_there (received_by_all w c) high ∙ all_border in
+            omega (arith, counted, whole_here l from most border, is, whole_most, left, all, there, fewer)
+        | inr enough ↦ some enough
+      ]
+
   -- ---- so many of them
 
-  module _ (count : ℕ) (few : count ≤ undigested w n c) where
+  module _ (count : ℕ) (few : count ≤ undigested w n c) (whole : EndsWithGroup w n c count) where
     abbrev t : StateValue
     t = digests_some s n c count
 
@@ -204,7 +265,7 @@ module _ (s : StateValue) (n c : ℕ) (shape : IsShaped s) (sound : ∥ IsSound 
 
     may : MayDigest w n c place
     unfolding world_of
-    may = record { full_node = full_here; from = omega arith; to = omega (arith, few, acknowledged); border_to = refl }
+    may = record { full_node = full_here; from = omega arith; to = omega (arith, few, acknowledged); border_to = whole }
 
     below_is : ahead_below w n c place ≡ take count (ahead (log_in s.nodes n c))
     unfolding ahead_below

@@ -1,6 +1,8 @@
 -- A node's digest of one client's records after another's, as the laws have it.
 use Rattle.std.proofs.Common.{◌≡◌, ℕ, zero, suc, ◌+◌, ◌-◌, ◌<◌, ◌≤◌, min, true, take, length, inl, inr, refl, ap, sym, subst, ◌∙◌, arith}
-use Rattle.std.proofs.lemmas.Bool.{cases_lt}
+use Rattle.std.proofs.lemmas.Bool.{cases_eq, cases_lt}
+use Rattle.std.proofs.Math.Logic.{∥∥₁_elim}
+use Rattle.std.proofs.Props.{props}
 use Rattle.std.specs.FinSet as set
 use Rattle.std.specs.Ordering.{nat_cmp}
 use Rattle.assise_record.specs.Records.{all_effects}
@@ -17,7 +19,7 @@ use Rattle.assise_machine_state.specs.Places.{IsNumber}
 use Rattle.assise_machine_state.specs.Shape.{IsShaped}
 use Rattle.assise_machine_state.specs.StateValues.{StateValue, standings}
 use Rattle.assise_machine_state.proofs.Fullness.{full_seen, seen_full}
-use Rattle.assise_machine.specs.Digesting.{NoneListed, digests_some, digests_to}
+use Rattle.assise_machine.specs.Digesting.{EndWithGroups, EndsWithGroup, NoneListed, digests_some, digests_to}
 use Rattle.assise_machine.proofs.Digested.{has_here, next_shape, next_sound, none_digested, noted_so}
 use Rattle.assise_machine.proofs.Unlisted.{still_none}
 
@@ -33,6 +35,7 @@ pub record StillSame (s t : StateValue) (n m : ℕ) : Type 0 where
   pub lists : NoneListed s.members → NoneListed t.members
   pub full : (world_of t).full ≡ (world_of s).full
   pub received : (c : ℕ) → received_by_all (world_of t) c ≡ received_by_all (world_of s) c
+  pub border : (c k : ℕ) → (world_of t).border c k ≡ (world_of s).border c k
   pub later : (c : ℕ) → m < c → (world_of t).digested n c ≡ (world_of s).digested n c
   pub shape : IsShaped t
   pub sound : ∥ IsSound (world_of t) ∥₁
@@ -55,7 +58,11 @@ module _ (s : StateValue) (n : ℕ) (shape : IsShaped s) (sound : ∥ IsSound (w
     next_undigested : undigested (world_of t) n (suc m) ≡ undigested w n (suc m)
     next_undigested = (let now = same.later (suc m) (omega arith) in let all = same.received (suc m) in omega (arith, now, all))
 
-    module _ (count : ℕ) (few : count ≤ undigested w n (suc m)) where
+    -- what ends with a group before does so now
+    whole_next : (count : ℕ) → EndsWithGroup w n (suc m) count → EndsWithGroup (world_of t) n (suc m) count
+    whole_next count whole = same.border (suc m) ((world_of t).digested n (suc m) + count) ∙ ap (λ k. w.border (suc m) (k + count)) (same.later (suc m) (omega arith)) ∙ whole
+
+    module _ (count : ℕ) (few : count ≤ undigested w n (suc m)) (whole : EndsWithGroup w n (suc m) count) where
       few_next : count ≤ undigested (world_of t) n (suc m)
       few_next = omega (arith, few, next_undigested)
 
@@ -69,7 +76,7 @@ module _ (s : StateValue) (n : ℕ) (shape : IsShaped s) (sound : ∥ IsSound (w
       inodes = set.from_list (touched (all_effects (take count (ahead (log_in t.nodes n (suc m))))))
 
       next_noted : DigestsNoted (world_of t) t.members n (suc m) place inodes (world_of u) u.members
-      next_noted = noted_so t n (suc m) same.shape same.sound next_here next_client count few_next
+      next_noted = noted_so t n (suc m) same.shape same.sound next_here next_client count few_next (whole_next count whole)
 
       next_same : StillSame s u n (suc m)
       next_same = record {
@@ -81,16 +88,21 @@ module _ (s : StateValue) (n : ℕ) (shape : IsShaped s) (sound : ∥ IsSound (w
         lists = λ none. still_none t.members n inodes (same.lists none);
         full = next_noted.digests.full ∙ same.full;
         received = λ c. same_received (world_of t) (world_of u) n (suc m) place next_noted.digests c ∙ same.received c;
+        border = λ c k. next_noted.digests.logs.border c k ∙ same.border c k;
         later = λ c above. next_noted.digests.digested_else n c next_noted.digests.full_node (λ is own. omega (arith, above, own)) ∙ same.later c (omega (arith, above));
-        shape = next_shape t n (suc m) same.shape same.sound next_here next_client count few_next;
-        sound = next_sound t n (suc m) same.shape same.sound next_here next_client count few_next;
+        shape = next_shape t n (suc m) same.shape same.sound next_here next_client count few_next (whole_next count whole);
+        sound = next_sound t n (suc m) same.shape same.sound next_here next_client count few_next (whole_next count whole);
       }
 
   part_low : (count m : ℕ) → part_of w n count (suc m) ≤ undigested w n (suc m)
   part_low count m = omega arith
 
-  pub same_to : (count m : ℕ) → m ≤ length s.clients → StillSame s (digests_to s n count m) n m
-  same_to count zero last = record {
+  -- fewer clients' parts do
+  fewer_whole : (count m : ℕ) → EndWithGroups w n count (suc m) → EndWithGroups w n count m
+  fewer_whole count m whole c low = whole c (omega (arith, low))
+
+  pub same_to : (count m : ℕ) → m ≤ length s.clients → EndWithGroups w n count m → StillSame s (digests_to s n count m) n m
+  same_to count zero last whole = record {
     clients = refl;
     levels = refl;
     cuts = refl;
@@ -99,25 +111,27 @@ module _ (s : StateValue) (n : ℕ) (shape : IsShaped s) (sound : ∥ IsSound (w
     lists = λ none. none;
     full = refl;
     received = λ c. refl;
+    border = λ c k. refl;
     later = λ c above. refl;
     shape = shape;
     sound = sound;
   }
-  same_to count (suc m) last = next_same (digests_to s n count m) m (same_to count m (omega (arith, last))) (omega (arith, last)) (part_of w n count (suc m)) (part_low count m)
+  same_to count (suc m) last whole =
+      next_same (digests_to s n count m) m (same_to count m (omega (arith, last)) (fewer_whole count m whole)) (omega (arith, last)) (part_of w n count (suc m)) (part_low count m) (whole m (omega arith))
 
-  pub course_to : (count m : ℕ) → m ≤ length s.clients → DigestsTo n count w w s.members m (world_of (digests_to s n count m)) (digests_to s n count m).members
-  course_to count zero last = (refl, refl)
-  course_to count (suc m) last =
+  pub course_to : (count m : ℕ) → m ≤ length s.clients → EndWithGroups w n count m → DigestsTo n count w w s.members m (world_of (digests_to s n count m)) (digests_to s n count m).members
+  course_to count zero last whole = (refl, refl)
+  course_to count (suc m) last whole =
       let t : StateValue = digests_to s n count m in
-      let same : StillSame s t n m = same_to count m (omega (arith, last)) in (
+      let same : StillSame s t n m = same_to count m (omega (arith, last)) (fewer_whole count m whole) in (
         world_of t,
         (
           t.members,
           (
-            course_to count m (omega (arith, last)),
+            course_to count m (omega (arith, last)) (fewer_whole count m whole),
             record {
               inodes = set.from_list (touched (all_effects (take (part_of w n count (suc m)) (ahead (log_in t.nodes n (suc m))))));
-              digests = next_noted t m same (omega (arith, last)) (part_of w n count (suc m)) (part_low count m);
+              digests = next_noted t m same (omega (arith, last)) (part_of w n count (suc m)) (part_low count m) (whole m (omega arith));
             },
           ),
         ),
@@ -133,19 +147,64 @@ module _ (s : StateValue) (n : ℕ) (shape : IsShaped s) (sound : ∥ IsSound (w
       let before = enough_same a b m (omega (arith, first)) (omega (arith, second)) in
       (λ i. digests_some (before i) n (suc m) (parts i))
 
-  none_more : (count m : ℕ) → m < length s.clients → part_of w n count (suc m) ≡ 0 → digests_to s n count (suc m) ≡ digests_to s n count m
-  none_more count m last none =
+  none_more : (count m : ℕ) → m < length s.clients → EndWithGroups w n count m → part_of w n count (suc m) ≡ 0 → digests_to s n count (suc m) ≡ digests_to s n count m
+  none_more count m last whole none =
       let t : StateValue = digests_to s n count m in
-      let same : StillSame s t n m = same_to count m (omega (arith, last)) in
+      let same : StillSame s t n m = same_to count m (omega (arith, last)) whole in
       ap (digests_some t n (suc m)) none ∙ none_digested t n (suc m) (has_here t n (suc m) same.shape same.sound (next_here t m same last) (next_client t m same last))
 
-  -- memory ran out before
-  pub stopped_before : (count m : ℕ) → m < length s.clients → count ≤ undigested_to w n m → digests_to s n count (suc m) ≡ digests_to s n count m
-  stopped_before count m last few = none_more count m last (omega (arith, few))
+  -- it ended before
+  pub stopped_before : (count m : ℕ) → m < length s.clients → EndWithGroups w n count m → count ≤ undigested_to w n m → digests_to s n count (suc m) ≡ digests_to s n count m
+  stopped_before count m last whole few = none_more count m last whole (omega (arith, few))
+
+  -- nothing ends with a group
+  nothing_whole : (c : ℕ) → EndsWithGroup w n (suc c) 0
+  nothing_whole c =
+      let border : w.border (suc c) (w.digested n (suc c)) ≡ true = ∥∥₁_elim sound (search props) (λ h. (h.coherent.order n (suc c) (seen_full s n here)).digested_border) in
+      let place : w.digested n (suc c) + 0 ≡ w.digested n (suc c) = omega arith in
+      ap (w.border (suc c)) place ∙ border
+
+  none_parts : (m : ℕ) → EndWithGroups w n 0 m
+  none_parts m c low = (let none : part_of w n 0 (suc c) ≡ 0 = omega arith in subst (EndsWithGroup w n (suc c)) (sym none) (nothing_whole c))
 
   pub none_to : (m : ℕ) → m ≤ length s.clients → digests_to s n 0 m ≡ s
   none_to zero last = refl
-  none_to (suc m) last = none_more 0 m (omega (arith, last)) (omega arith) ∙ none_to m (omega (arith, last))
+  none_to (suc m) last = none_more 0 m (omega (arith, last)) (none_parts m) (omega arith) ∙ none_to m (omega (arith, last))
+
+  -- other counts of which the parts are the same end with groups too
+  same_parts : (a b m : ℕ) → ((c : ℕ) → c < m → part_of w n b (suc c) ≡ part_of w n a (suc c)) → EndWithGroups w n a m → EndWithGroups w n b m
+  same_parts a b m parts whole c low = subst (EndsWithGroup w n (suc c)) (sym (parts c low)) (whole c low)
+
+  -- of clients before there is at least as much
+  before_low : (c m : ℕ) → c ≤ m → undigested_to w n c ≤ undigested_to w n m
+  before_low c zero low = (let same : c ≡ 0 = omega (arith, low) in subst (λ k. undigested_to w n k ≤ 0) (sym same) (omega arith))
+  before_low c (suc m) low =
+      elim (cases_eq c (suc m)) [
+        | inl last ↦ subst (λ k. undigested_to w n k ≤ undigested_to w n (suc m)) (sym last) (omega arith)
+        | inr before ↦ (let rest = before_low c m (omega (arith, low, before)) in omega (arith, rest))
+      ]
+
+  stopped_whole : (count m : ℕ) → count ≤ undigested_to w n m → EndWithGroups w n count m → EndWithGroups w n count (suc m)
+  stopped_whole count m few whole c low =
+      elim (cases_eq c m) [
+        | inl last ↦
+            let none : part_of w n count (suc c) ≡ 0 = subst (λ k. part_of w n count (suc k) ≡ 0) (sym last) (omega (arith, few)) in
+            subst (EndsWithGroup w n (suc c)) (sym none) (nothing_whole c)
+        | inr before ↦ whole c (omega (arith, low, before))
+      ]
+
+  parts_behind : (a b m : ℕ) → a ≡ min most_digested (undigested_to w n m) → b ≤ min (most_digested - a) (undigested w n (suc m)) → EndWithGroups w n a m → EndsWithGroup w n (suc m) b →
+      EndWithGroups w n (a + b) (suc m)
+  parts_behind a b m all few whole own c low =
+      elim (cases_eq c m) [
+        | inl last ↦
+            let part : b ≡ part_of w n (a + b) (suc m) = omega (arith, all, few) in
+            subst (λ k. EndsWithGroup w n (suc k) (part_of w n (a + b) (suc k))) (sym last) (subst (EndsWithGroup w n (suc m)) part own)
+        | inr before ↦
+            let there : undigested_to w n (suc c) ≤ undigested_to w n m = before_low (suc c) m (omega (arith, low, before)) in
+            let part : part_of w n a (suc c) ≡ part_of w n (a + b) (suc c) = omega (arith, all, few, there) in
+            subst (EndsWithGroup w n (suc c)) part (whole c (omega (arith, low, before)))
+      ]
 
   -- a client's part behind those of the clients before
   pub part_behind : (a b m : ℕ) → a ≡ min most_digested (undigested_to w n m) → b ≤ min (most_digested - a) (undigested w n (suc m)) →
@@ -159,18 +218,15 @@ module _ (s : StateValue) (n : ℕ) (shape : IsShaped s) (sound : ∥ IsSound (w
             (λ i. digests_some (before i) n (suc m) (part i))
       ]
 
-  pub undigested_next : (count m : ℕ) → m < length s.clients → undigested (world_of (digests_to s n count m)) n (suc m) ≡ undigested w n (suc m)
-  undigested_next count m last = next_undigested (digests_to s n count m) m (same_to count m (omega (arith, last))) last
-
   -- ---- as the code finds it, which counts clients down from the last
 
   module _ (last m : ℕ) (next : suc m ≡ last) (there : last ≤ length s.clients) where
     low : m < length s.clients
     low = omega (arith, next, there)
 
-    module _ (t : StateValue) (a : ℕ) (is : t ≡ digests_to s n a m) where
+    module _ (t : StateValue) (a : ℕ) (is : t ≡ digests_to s n a m) (whole : EndWithGroups w n a m) where
       same_as : StillSame s t n m
-      same_as = subst (λ u. StillSame s u n m) (sym is) (same_to a m (omega (arith, low)))
+      same_as = subst (λ u. StillSame s u n m) (sym is) (same_to a m (omega (arith, low)) whole)
 
       pub here_as : is_full_in (standings t) n ≡ true
       here_as = next_here t m same_as low
@@ -190,9 +246,12 @@ module _ (s : StateValue) (n : ℕ) (shape : IsShaped s) (sound : ∥ IsSound (w
       undigested_as : undigested (world_of t) n last ≡ undigested w n last
       undigested_as = subst (λ c. undigested (world_of t) n c ≡ undigested w n c) next (next_undigested t m same_as low)
 
-      -- memory ran out before
+      -- it ended before
       pub stopped_as : a ≤ undigested_to w n m → t ≡ digests_to s n a last
-      stopped_as few = is ∙ sym (subst (λ c. digests_to s n a c ≡ digests_to s n a m) next (stopped_before a m low few))
+      stopped_as few = is ∙ sym (subst (λ c. digests_to s n a c ≡ digests_to s n a m) next (stopped_before a m low whole few))
+
+      pub stopped_groups : a ≤ undigested_to w n m → EndWithGroups w n a last
+      stopped_groups few = subst (EndWithGroups w n a) next (stopped_whole a m few whole)
 
       sum_as : undigested_to w n last ≡ undigested_to w n m + undigested w n last
       sum_as = subst (λ c. undigested_to w n c ≡ undigested_to w n m + undigested w n c) next refl
@@ -200,8 +259,8 @@ module _ (s : StateValue) (n : ℕ) (shape : IsShaped s) (sound : ∥ IsSound (w
       pub still_few : a ≤ min most_digested (undigested_to w n m) → a ≤ min most_digested (undigested_to w n last)
       still_few few = omega (arith, few, sum_as)
 
-      pub still_refused : a < undigested_to w n m → a < undigested_to w n last
-      still_refused few = omega (arith, few, sum_as)
+      pub still_ended : a < undigested_to w n m → a < undigested_to w n last
+      still_ended few = omega (arith, few, sum_as)
 
       -- a part more
       module _ (b : ℕ) (all : a ≡ min most_digested (undigested_to w n m)) (few : b ≤ min (most_digested - a) (undigested (world_of t) n last)) where
@@ -210,11 +269,28 @@ module _ (s : StateValue) (n : ℕ) (shape : IsShaped s) (sound : ∥ IsSound (w
             let low_part : b ≤ min (most_digested - a) (undigested w n (suc m)) = subst (λ c. b ≤ min (most_digested - a) (undigested w n c)) (sym next) (omega (arith, few, undigested_as)) in
             then_is ∙ ap (λ v. digests_some v n last b) is ∙ subst (λ c. digests_some (digests_to s n a m) n c b ≡ digests_to s n (a + b) c) next (part_behind a b m all low_part)
 
+        pub groups_as : EndsWithGroup (world_of t) n last b → EndWithGroups w n (a + b) last
+        groups_as own =
+            let low_part : b ≤ min (most_digested - a) (undigested w n (suc m)) = subst (λ c. b ≤ min (most_digested - a) (undigested w n c)) (sym next) (omega (arith, few, undigested_as)) in
+            let there : (world_of t).digested n (suc m) ≡ w.digested n (suc m) = same_as.later (suc m) (omega arith) in
+            let here : EndsWithGroup (world_of t) n (suc m) b = subst (λ c. EndsWithGroup (world_of t) n c b) (sym next) own in
+            let before : EndsWithGroup w n (suc m) b =
+            ap (λ k. w.border (suc m) (k + b)) (sym there) ∙ sym (same_as.border (suc m) ((world_of t).digested n (suc m) + b)) ∙ here in
+            subst (EndWithGroups w n (a + b)) next (parts_behind a b m all low_part whole before)
+
         pub few_as : a + b ≤ min most_digested (undigested_to w n last)
         few_as = omega (arith, all, few, sum_as, undigested_as)
 
         pub all_as : b ≡ min (most_digested - a) (undigested (world_of t) n last) → a + b ≡ min most_digested (undigested_to w n last)
         all_as rest = omega (arith, all, rest, sum_as, undigested_as)
 
-        pub refused_as : b < min (most_digested - a) (undigested (world_of t) n last) → a + b < undigested_to w n last
-        refused_as short = omega (arith, all, short, sum_as, undigested_as)
+        pub ended_as : b < min (most_digested - a) (undigested (world_of t) n last) → a + b < undigested_to w n last
+        ended_as short = omega (arith, all, short, sum_as, undigested_as)
+
+        -- where there was something to digest before, some was, and else there are 64 left of the most
+        pub some_as : (most_digested - a ≡ 64 → 0 < undigested (world_of t) n last → 0 < b) → 0 < undigested_to w n last → 0 < a + b
+        some_as own some =
+            elim (cases_lt 0 a) [
+              | inl before ↦ omega (arith, before)
+              | inr none ↦ (let here = own (omega (arith, none)) (omega (arith, none, all, some, sum_as, undigested_as)) in omega (arith, here))
+            ]

@@ -1,5 +1,5 @@
 -- What a node sends of a client's log, as the laws have it.
-use Rattle.std.proofs.Common.{append-nil, false, true≢false, subst, length-append, ◌≡◌, ℕ, zero, suc, ◌-◌, ◌<◌, ◌≤◌, ◌==◌, min, Bool, true, List, [], ◌∷◌, ◌++◌, filter, length, map, nat_le, nat_lt, Option, Some, None, inl, inr, refl, ap, sym, ◌∙◌, arith, eq-eqb}
+use Rattle.std.proofs.Common.{append-nil, false, true≢false, subst, length-append, ◌≡◌, ℕ, zero, suc, ◌-◌, ◌<◌, ◌≤◌, ◌==◌, min, Bool, true, List, [], ◌∷◌, ◌++◌, filter, length, nat_le, nat_lt, Option, Some, None, inl, inr, refl, ap, sym, ◌∙◌, arith, eq-eqb}
 use Rattle.std.specs.Option.{option_to_list}
 use Rattle.std.proofs.Math.Logic.{∥∥₁_elim}
 use Rattle.std.proofs.Props.{props}
@@ -7,7 +7,7 @@ use Rattle.std.proofs.lemmas.Bool.{and_parts, cases_Bool, cases_eq, eqb-true, or
 use Rattle.std.proofs.lemmas.Map.Views.{any-filter_same}
 use Rattle.assise_names.specs.declared.refusal.Refusal.TheVariants.{WrongPhase}
 use Rattle.assise_record.specs.LogFrame.{LogFrame}
-use Rattle.assise_private_log.specs.NumberedLog.{end as log_end}
+use Rattle.assise_private_log.specs.NumberedLog.{end as log_end, is_border}
 use Rattle.assise_chain.specs.Chains.{behind, chain, first_of_all}
 use Rattle.assise_record.specs.LogRecord.{LogRecord}
 use Rattle.assise_chain.specs.Messages.{frame_of, message_of}
@@ -16,15 +16,14 @@ use Rattle.assise_inode_table.proofs.Making.{contains-append}
 use Rattle.assise_manager.specs.Standings.{Standing, down, full, full_nodes, returning, standing_of}
 use Rattle.assise_machine_events.specs.Faults.{node_fault, unless_full}
 use Rattle.assise_machine_events.specs.Machine.{Holds, Machine}
-use Rattle.assise_machine_events.specs.NodeEvents.{for_node, frame_for, frames_to, next_node, node_log}
+use Rattle.assise_machine_events.specs.NodeEvents.{for_node, frame_for, frames_to, border_marks, next_node, node_log}
 use Rattle.assise_machine_state.specs.ClientValues.{ClientValue, client_in}
 use Rattle.assise_machine_state.specs.NodeValues.{HasLog, log_in}
-use Rattle.assise_machine_state.specs.Observed.{is_full_in, observed, stands_full, world_of}
+use Rattle.assise_machine_state.specs.Observed.{is_full_in, observed, own_seen, stands_full, world_of}
 use Rattle.assise_machine_state.specs.Places.{IsNumber}
-use Rattle.assise_machine_state.specs.Shape.{HasSingleGroups, IsShaped}
+use Rattle.assise_machine_state.specs.Shape.{IsMarked, IsShaped}
 use Rattle.assise_machine_state.specs.StateValues.{StateValue, standings}
 use Rattle.assise_machine_state.proofs.Fullness.{has_log, log_is, same_first, seen_full}
-use Rattle.assise_machine_state.proofs.Logging.{log_in_holds}
 use Rattle.assise_machine_state.proofs.Seeing.{client_is}
 use Rattle.assise_machine_state.proofs.Standings.{listed_is_full}
 
@@ -116,8 +115,11 @@ module _ (s : StateValue) (n c : ℕ) (shape : IsShaped s) (holds : ∥ Holds (o
         unfolding observed
         limit_is = sym (shape.limits n c has)
 
-        begins_is : map (λ r. true) ((observed s).world.log n c) ≡ (log_in s.nodes n c).log.begins
-        begins_is = ap (map (λ r. true)) records_is ∙ sym (log_in_holds (λ l. HasSingleGroups l.log) s.nodes shape.single n c)
+        begins_is : border_marks ((observed s).world.border c) ((observed s).world.first c) ((observed s).world.log n c) ≡ (log_in s.nodes n c).log.begins
+        unfolding observed world_of
+        begins_is =
+            (λ i. border_marks (is_border (own_seen s c).log) (first_is i) (records_is i))
+            ∙ sym (subst (λ l. IsMarked (is_border (own_seen s c).log) l.log) (log_is s n c has) (shape.marked n c))
 
         log_as : node_log (observed s) n c ≡ (log_in s.nodes n c).log
         log_as = λ i. record { first = first_is i; limit = limit_is i; records = records_is i; begins = begins_is i }

@@ -19,7 +19,7 @@ use Rattle.assise_machine_state.specs.Observed.{is_full_in, observed, world_of}
 use Rattle.assise_machine_state.specs.Shape.{AreNoted, IsShaped}
 use Rattle.assise_machine_state.specs.StateValues.{StateValue, leases_of, standings}
 use Rattle.assise_machine_state.proofs.Noted.{still_noted}
-use Rattle.assise_machine.specs.Digesting.{NoneListed, digests_to}
+use Rattle.assise_machine.specs.Digesting.{EndWithGroups, NoneListed, digests_to}
 use Rattle.assise_machine.proofs.DigestedTo.{StillSame, course_to, none_to, same_to}
 use Rattle.assise_machine_state.proofs.Dropped.{StillDropping, all_dropped, same_dropping}
 use Rattle.assise_machine.proofs.Frames.{fine_node}
@@ -56,9 +56,9 @@ module _ (s : StateValue) (n : ℕ) (shape : IsShaped s) (holds : ∥ Holds (obs
   lacks t is some = lacks_memory fine some refl (ap observed (nothing_digested t is))
 
   -- what the second half asks
-  module _ (count : ℕ) (v : StateValue) (is : v ≡ digests_to s n count (length s.clients)) where
+  module _ (count : ℕ) (v : StateValue) (is : v ≡ digests_to s n count (length s.clients)) (whole : EndWithGroups (world_of s) n count (length s.clients)) where
     same_between : StillSame s v n (length s.clients)
-    same_between = subst (λ x. StillSame s x n (length s.clients)) (sym is) (same_to s n shape sound here count (length s.clients) (omega arith))
+    same_between = subst (λ x. StillSame s x n (length s.clients)) (sym is) (same_to s n shape sound here count (length s.clients) (omega arith) whole)
 
     pub shape_between : IsShaped v
     shape_between = same_between.shape
@@ -70,12 +70,13 @@ module _ (s : StateValue) (n : ℕ) (shape : IsShaped s) (holds : ∥ Holds (obs
     clients_between = ap length same_between.clients
 
   -- so many records are digested, and then fronts go
-  module _ (count : ℕ) (few : count ≤ min most_digested (undigested_to (world_of s) n (length s.clients))) (some : 0 < undigested_to (world_of s) n (length s.clients) → 0 < count) where
+  module _ (count : ℕ) (few : count ≤ min most_digested (undigested_to (world_of s) n (length s.clients))) (some : 0 < undigested_to (world_of s) n (length s.clients) → 0 < count)
+      (whole : EndWithGroups (world_of s) n count (length s.clients)) where
     abbrev t : StateValue
     t = digests_to s n count (length s.clients)
 
     same : StillSame s t n (length s.clients)
-    same = same_to s n shape sound here count (length s.clients) (omega arith)
+    same = same_to s n shape sound here count (length s.clients) (omega arith) whole
 
     clients_same : length t.clients ≡ length s.clients
     clients_same = ap length same.clients
@@ -95,7 +96,7 @@ module _ (s : StateValue) (n : ℕ) (shape : IsShaped s) (holds : ∥ Holds (obs
         (λ i. record { levels = levels i; cut = λ c j. cut_of (cuts i) c (client_seen (clients i) c) j })
 
     course : DigestsTo n count (world_of s) (world_of s) s.members (length s.clients) (world_of t) u.members
-    course = subst (DigestsTo n count (world_of s) (world_of s) s.members (length s.clients) (world_of t)) (sym then_same.members) (course_to s n shape sound here count (length s.clients) (omega arith))
+    course = subst (DigestsTo n count (world_of s) (world_of s) s.members (length s.clients) (world_of t)) (sym then_same.members) (course_to s n shape sound here count (length s.clients) (omega arith) whole)
 
     digested_now : Digesting (observed s) n (digested count) (observed u)
     unfolding observed world_of

@@ -1,6 +1,6 @@
 -- What a node's digest changes of the state, client by client.
 -- Assise (OSDI 2020), section 3 (digests); Strata (SOSP 2017), section 3.
-use Rattle.std.specs.Prelude.{◌≡◌, ℕ, zero, suc, ◌+◌, true, length, take}
+use Rattle.std.specs.Prelude.{◌≡◌, ℕ, zero, suc, ◌+◌, ◌<◌, true, length, take}
 use Rattle.std.specs.List.{list_all}
 use Rattle.std.specs.FinSet as set
 use Rattle.assise_record.specs.Records.{all_effects}
@@ -8,6 +8,7 @@ use Rattle.assise_inode_table.specs.Effects.{touched}
 use Rattle.assise_digest.specs.Region.{ahead}
 use Rattle.assise_manager.specs.Membership.{Membership}
 use Rattle.assise_manager.specs.Standings.{is_full}
+use Rattle.assise_machine_laws.specs.World.{World}
 use Rattle.assise_machine_events.specs.NodeEvents.{part_of}
 use Rattle.assise_machine_state.specs.Changes.{after_digest}
 use Rattle.assise_machine_state.specs.NodeValues.{log_in}
@@ -23,6 +24,14 @@ digests_some s n c count =
 abbrev pub digests_to : StateValue → (n count m : ℕ) → StateValue
 digests_to s n count zero = s
 digests_to s n count (suc c) = digests_some (digests_to s n count c) n (suc c) (part_of (world_of s) n count (suc c))
+
+-- the next so many of a client's records that node n has not digested end with a group
+abbrev pub EndsWithGroup : World → (n c count : ℕ) → Type 0
+EndsWithGroup w n c count = w.border c (w.digested n c + count) ≡ true
+
+-- so does each part of so many records, of clients 1 to m
+abbrev pub EndWithGroups : World → (n count m : ℕ) → Type 0
+EndWithGroups w n count m = (c : ℕ) → c < m → EndsWithGroup w n (suc c) (part_of w n count (suc c))
 
 -- where all nodes are full there is no list on which a digest could note an inode
 abbrev pub NoneListed : Membership → Type 0

@@ -30,8 +30,8 @@ use std::alloc::Global;
 /// passed over.
 ///
 /// Refused as [`delivery_refusal`] says, and with [`Refusal::StaleMessage`] where the frame is of another epoch, leaves a gap, or
-/// has a record that the node lacks and that isn't next in the client's own log. What is refused leaves all as it was. It takes
-/// no memory.
+/// has a record that the node lacks and that isn't next in the client's own log, or ends inside a group of it. What is refused
+/// leaves all as it was. It takes no memory.
 pub(crate) fn deliver<C: Revokes + Drop>(
     sound: &mut SoundOf<C>,
     frame: Frame,
@@ -54,7 +54,10 @@ pub(crate) fn deliver<C: Revokes + Drop>(
         return Ok(received);
     }
     let had = (received - frame.first()) as usize;
-    state.nodes.extend(node, client, frame.into_records(), had);
+    let own = state.own_node(client);
+    state
+        .nodes
+        .extend(node, client, own, frame.into_records(), had);
     Ok(place)
 }
 
@@ -114,7 +117,8 @@ pub(crate) fn delivery_refusal<C: Revokes + Drop>(
     None
 }
 
-/// Whether a frame is of this epoch, leaves no gap behind what was received, and goes on as the client's own log does.
+/// Whether a frame is of this epoch, leaves no gap behind what was received, and goes on as the client's own log does, up to the
+/// end of a group.
 fn is_next<C: Revokes + Drop>(state: &StateOf<C>, frame: &Frame, received: u64) -> bool
     requires client { IsNumber state.now.clients frame.now.client }
     requires shape { IsShaped (value_of state.now) }
@@ -135,7 +139,9 @@ fn is_next<C: Revokes + Drop>(state: &StateOf<C>, frame: &Frame, received: u64) 
     let own = state.own_region(client).log(client as usize);
     let new = &frame.records()[had as usize..];
     let passed = (received - own.first()) as usize;
-    new.len() <= own.len().saturating_sub(passed) && goes_on_with(own, received, new)
+    new.len() <= own.len().saturating_sub(passed)
+        && own.is_border(frame.first() + frame.records().len() as u64)
+        && goes_on_with(own, received, new)
 }
 
 /// Whether a log's records from a number on begin with these.

@@ -14,7 +14,7 @@ ghost use Rattle.assise_machine_state.specs.Shape.{IsShaped};
 ghost use Rattle.assise_machine_state.specs.StateValues.{standings};
 ghost use Rattle.assise_machine_state.specs.Whole.{machine_of, value_of};
 ghost use Rattle.assise_machine.specs.Answers.{digesting_answer};
-ghost use Rattle.assise_machine.specs.Digesting.{NoneListed, digests_some, digests_to};
+ghost use Rattle.assise_machine.specs.Digesting.{EndWithGroups, EndsWithGroup, NoneListed, digests_some, digests_to};
 
 use crate::faults::node_refusal;
 use crate::progress::Progress;
@@ -30,9 +30,10 @@ use std::alloc::Global;
 /// The most records of one digest.
 const MOST_DIGESTED: usize = 64;
 
-/// A node digests records that all full nodes have, of clients by rising number, and 64 in all at most. Then all nodes let go what
-/// all full nodes have digested. It answers how many records it digested: fewer than there are to digest where there are more than
-/// 64, or where memory runs out after the first. Refused as [`node_refusal`] says, and with [`Refusal::OutOfMemory`] where memory
+/// A node digests records that all full nodes have, of clients by rising number, and 64 in all at most: each group whole, up to the
+/// first that is longer than what is left of the 64. Then all nodes let go what all full nodes have digested. It answers how many
+/// records it digested: fewer than there are to digest where there are more than 64, or where memory runs out after the first
+/// group. Refused as [`node_refusal`] says, and with [`Refusal::OutOfMemory`] where memory
 /// runs out before the first: then all stays as it was.
 pub fn digest<C: Revokes + Drop>(
     alloc: Global,
@@ -55,7 +56,8 @@ pub fn digest<C: Revokes + Drop>(
     Ok(progress.count)
 }
 
-/// A node digests records of clients 1 to a last one, one client after another, until it has 64, or memory runs out.
+/// A node digests records of clients 1 to a last one, one client after another, until the next group is longer than what is left of
+/// 64, or memory runs out.
 fn digest_to<C: Revokes + Drop>(
     alloc: Global,
     state: &mut StateOf<C>,
@@ -68,29 +70,38 @@ fn digest_to<C: Revokes + Drop>(
     requires shape { IsShaped (value_of state.old) }
     requires lists { NoneListed (value_of state.old).members }
     ensures digests { value_of state.new ≡ digests_to (value_of state.old) node result.count last }
+    ensures groups { EndWithGroups (world_of (value_of state.old)) node result.count last }
     ensures few { result.count ≤ min most_digested (undigested_to (world_of (value_of state.old)) node last) }
-    ensures all { result.refused ≡ false → result.count ≡ min most_digested (undigested_to (world_of (value_of state.old)) node last) }
-    ensures refused { result.refused ≡ true → result.count < undigested_to (world_of (value_of state.old)) node last }
+    ensures all { result.ended ≡ false →
+        result.count ≡ min most_digested (undigested_to (world_of (value_of state.old)) node last) }
+    ensures ended { result.ended ≡ true →
+        result.count < undigested_to (world_of (value_of state.old)) node last }
+    ensures refused { result.refused ≡ true → result.ended ≡ true }
+    ensures some { result.refused ≡ false →
+        0 < undigested_to (world_of (value_of state.old)) node last → 0 < result.count }
     ensures revokers { state.new.leases ≡ state.old.leases }
 {
     if last == 0 {
         return Progress {
             count: 0,
             refused: false,
+            ended: false,
         };
     }
     let before = digest_to(alloc, state, node, last - 1);
-    if before.refused {
+    if before.ended {
         return before;
     }
     let own = digest_of(alloc, state, node, last, MOST_DIGESTED - before.count);
     Progress {
         count: before.count + own.count,
         refused: own.refused,
+        ended: own.ended,
     }
 }
 
-/// A node digests records of a client, so many at most, until memory runs out.
+/// A node digests records of a client, so many at most, until the next group is longer than what is left of them, or memory runs
+/// out.
 fn digest_of<C: Revokes + Drop>(
     alloc: Global,
     state: &mut StateOf<C>,
@@ -105,28 +116,39 @@ fn digest_of<C: Revokes + Drop>(
     requires shape { IsShaped (value_of state.old) }
     requires lists { NoneListed (value_of state.old).members }
     ensures digests { value_of state.new ≡ digests_some (value_of state.old) node client result.count }
+    ensures group { EndsWithGroup (world_of (value_of state.old)) node client result.count }
     ensures few { result.count ≤ min at_most (undigested (world_of (value_of state.old)) node client) }
-    ensures all { result.refused ≡ false → result.count ≡ min at_most (undigested (world_of (value_of state.old)) node client) }
-    ensures refused { result.refused ≡ true → result.count < min at_most (undigested (world_of (value_of state.old)) node client) }
+    ensures all { result.ended ≡ false →
+        result.count ≡ min at_most (undigested (world_of (value_of state.old)) node client) }
+    ensures ended { result.ended ≡ true →
+        result.count < min at_most (undigested (world_of (value_of state.old)) node client) }
+    ensures refused { result.refused ≡ true → result.ended ≡ true }
+    ensures some { result.refused ≡ false → at_most ≡ 64 →
+        0 < undigested (world_of (value_of state.old)) node client → 0 < result.count }
     ensures revokers { state.new.leases ≡ state.old.leases }
 {
     let acked = state.acked(client);
-    let from = state.nodes.region(node).digested(client as usize);
-    let wanted = at_most.min((acked - from) as usize);
+    let region = state.nodes.region(node);
+    let from = region.digested(client as usize);
+    let most = at_most.min((acked - from) as usize);
+    let wanted = region.log(client as usize).whole_count(from, most);
     if wanted == 0 {
         return Progress {
             count: 0,
             refused: false,
+            ended: 0 < most,
         };
     }
     match digest_wanted(alloc, state, node, client, acked, wanted) {
         Ok(count) => Progress {
             count,
             refused: count < wanted,
+            ended: count < most,
         },
         Err(_) => Progress {
             count: 0,
             refused: true,
+            ended: true,
         },
     }
 }
@@ -150,6 +172,8 @@ fn digest_wanted<C: Revokes + Drop>(
     requires shape { IsShaped (value_of state.old) }
     requires lists { NoneListed (value_of state.old).members }
     ensures ok { IfOk result (λ count. value_of state.new ≡ digests_some (value_of state.old) node client count) }
+    ensures group { IfOk result
+        (λ count. EndsWithGroup (world_of (value_of state.old)) node client count) }
     ensures few { IfOk result (λ count. count ≤ wanted) }
     ensures err { OnErr result (value_of state.new ≡ value_of state.old) }
     ensures revokers { state.new.leases ≡ state.old.leases }
@@ -179,6 +203,8 @@ fn digest_noted<C: Revokes + Drop>(
     requires sound { ∥ IsSound (world_of (value_of state.old)) ∥₁ }
     requires shape { IsShaped (value_of state.old) }
     ensures ok { IfOk result (λ count. value_of state.new ≡ digests_some (value_of state.old) node client count) }
+    ensures group { IfOk result
+        (λ count. EndsWithGroup (world_of (value_of state.old)) node client count) }
     ensures few { IfOk result (λ count. count ≤ wanted) }
     ensures err { OnErr result (value_of state.new ≡ value_of state.old) }
     ensures revokers { state.new.leases ≡ state.old.leases }

@@ -1,10 +1,11 @@
 -- Those who are asked for their leases are lent their own logs, and their revokers answer cuts of these.
-use Rattle.std.proofs.Common.{◌≡◌, ℕ, ◌-◌, ◌<◌, ◌≤◌, nat_le, Bool, true, false, not, ◌&&◌, if◌then◌else◌, List, [], ◌∷◌, ◌++◌, filter, length, map, Option, Some, None, inl, inr, refl, ap, sym, subst, ◌∙◌, arith, append-nil}
+use Rattle.std.proofs.Common.{◌≡◌, ℕ, ◌-◌, ◌<◌, ◌≤◌, nat_le, Bool, true, false, not, ◌&&◌, if◌then◌else◌, List, [], ◌∷◌, ◌++◌, filter, length, Option, Some, None, inl, inr, refl, ap, sym, subst, ◌∙◌, arith, append-nil}
 use Rattle.std.proofs.lemmas.Bool.{and_parts, cases_Bool, le-leb, leb-true, true≢false}
 use Rattle.std.proofs.lemmas.List.{length-map, length-set}
 use Rattle.assise_names.specs.declared.mode.Mode.{Mode}
-use Rattle.assise_private_log.specs.NumberedLog.{NumberedLog}
+use Rattle.assise_private_log.specs.NumberedLog.{NumberedLog, is_border}
 use Rattle.assise_private_log.specs.Touches.{Covers}
+use Rattle.assise_private_log.proofs.Borders.{next_border}
 use Rattle.assise_digest.specs.Region.{RegionValue}
 use Rattle.assise_lease_table.specs.Answers.{AnswerAll, IsRaisedAnswer, clients_of}
 use Rattle.assise_lease_table.specs.declared.lease.Asked.{Asked}
@@ -24,15 +25,15 @@ use Rattle.assise_machine_state.specs.ClientValues.{ClientValue, client_in, clie
 use Rattle.assise_machine_state.specs.NodeValues.{HasLog, log_in, log_seen}
 use Rattle.assise_machine_state.specs.Observed.{observed, own_node, own_seen, world_of}
 use Rattle.assise_machine_state.specs.Places.{IsNumber}
-use Rattle.assise_machine_state.specs.Shape.{AreAnswers, AreNoted, HasSingleGroups, IsShaped}
+use Rattle.assise_machine_state.specs.Shape.{AreAnswers, AreNoted, IsShaped}
 use Rattle.assise_machine_state.specs.StateValues.{StateValue, leases_of, standings}
 use Rattle.assise_machine_state.proofs.AskingSeen.{asking_noted, asking_seen, asking_shaped, newly_answered}
 use Rattle.assise_machine_state.proofs.Fullness.{log_is}
-use Rattle.assise_machine_state.proofs.Logging.{log_in_holds}
 use Rattle.assise_machine_state.proofs.Noted.{running_number}
 use Rattle.assise_machine_state.proofs.Owning.{own_log as has_own_log}
 use Rattle.assise_machine_state.proofs.Seeing.{client_is}
 use Rattle.assise_machine_state.proofs.ShapedClients.{areas_stay}
+use Rattle.assise_machine_state.proofs.Shaping.{own_marked}
 use Rattle.assise_machine_calls.specs.Asked.{AsksThem, CutsAreAnswers, clients_log, own_log}
 use Rattle.assise_machine_calls.proofs.Syncing.{fine_number}
 use Rattle.assise_machine_calls.proofs.Leasing.{are_leases}
@@ -111,14 +112,20 @@ module _ {C : Type 0} (answers : C → NumberedLog → ℕ → ℕ → Type 0) (
       let known = lent_to s.nodes (standings s) s.clients a.client answer.view answer.seen in
       subst (λ l. Covers l i a.cut) (known.1 ∙ own_is a.client known.0) answer.covers
 
+  at_border : (a : Asked) → Among asked a → is_border (own_seen s a.client).log a.cut ≡ true
+  at_border a among =
+      let answer = all.each a among in
+      let known = lent_to s.nodes (standings s) s.clients a.client answer.view answer.seen in
+      let border : is_border answer.view a.cut ≡ true = ap (is_border answer.view) answer.answered.cut_is ∙ (next_border answer.view answer.answered.answer).border in
+      subst (λ l. is_border l a.cut ≡ true) (known.1 ∙ own_is a.client known.0) border
+
   -- what its revoker answered for its own log
   log_lent : (d : ℕ) → IsNumber s.clients d → (log_in s.nodes (own_node (standings s) (client_in s.clients d)) d).log ≡ clients_log (observed s) d
   unfolding observed world_of
   log_lent d there =
       let own = own_is d there in
       let limit = shape.limits (own_node (standings s) (client_in s.clients d)) d (has_own_log s d shape there some_full) in
-      let begins : (log_in s.nodes (own_node (standings s) (client_in s.clients d)) d).log.begins ≡ map (λ r. true) (own_seen s d).log.records =
-      log_in_holds (λ l. HasSingleGroups l.log) s.nodes shape.single (own_node (standings s) (client_in s.clients d)) d ∙ ap (λ l. map (λ r. true) l.records) own in
+      let begins = ap (λ l. l.begins) own ∙ own_marked s shape.marked d in
       λ k. record { first = (own k).first; limit = limit k; records = (own k).records; begins = begins k }
 
   cut_answered : (a : Asked) → Among asked a → (revoker : C) × (stored a.client ≡ Some revoker) × IsRaisedAnswer answers revoker (clients_log (observed s) a.client) i a.cut
@@ -132,6 +139,7 @@ module _ {C : Type 0} (answers : C → NumberedLog → ℕ → ℕ → Type 0) (
     who = all.who ∙ ap (λ m. holders (filter (is_to_ask (in_way s.levels.home (s.levels.nodes i) c m mode)) (s.levels.clients i))) home;
     inodes = λ a among. (all.each a among).inode_is;
     covers = covered;
+    borders = at_border;
   }
 
 -- ---- all of it

@@ -308,7 +308,7 @@ module _ (s : StateValue) (c : ℕ) (op : Op) (shape : IsShaped s) (fine : call_
         })
 
         then_shaped : IsShaped then
-        then_shaped = call_shaped s made_call shape
+        then_shaped = call_shaped s made_call shape may.lives
 
         pub answered_given : AreNoted s → (n number : ℕ) (makes_one : Bool) (e : Event) (rs : List RegionValue) (ds : List ClientValue) (g h : List Event) → n ≡ home → number ≡ (client_in s.clients c).next →
             makes_one ≡ list_any (makes (inode_number c (client_in s.clients c).made)) t.effects → e ≡ calls (record { client = c; number = number; op = op; reply = t.reply }) →

@@ -45,6 +45,7 @@ module _ (s : StateValue) (holds : ∥ Holds (observed s) ∥₁) where
       untouched = ∥∥₁_elim holds (search props) (λ h. (h.leases.covered c i frozen).untouched);
     };
     goals = λ c i lives frozen. ∥∥₁_elim holds (search props) (λ h. h.leases.goals c i lives frozen);
+    borders = λ c i frozen low. ∥∥₁_elim holds (search props) (λ h. h.leases.borders c i frozen low);
     crashed = λ c i over held. ∥∥₁_elim holds (search props) (λ h. h.leases.crashed c i over held);
     failed = λ c i over held. ∥∥₁_elim holds (search props) (λ h. h.leases.failed c i over held);
   }

@@ -163,7 +163,7 @@ module _ (s : StateValue) (levels : TwoLevels) (a : Asked) (xs ys : List Asked) 
     limits = shape.limits;
     least_limit = shape.least_limit;
     most_limit = shape.most_limit;
-    single = shape.single;
+    marked = shape.marked;
     durabilities = shape.durabilities;
   }
 

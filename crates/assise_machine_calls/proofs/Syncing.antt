@@ -125,6 +125,11 @@ module _ (s : StateValue) (c : ℕ) (holds : ∥ Holds (observed s) ∥₁) wher
 abbrev after_sync : StateValue → ℕ → Op → StateValue
 after_sync s c op = after_note (after_goal s c (end (world_of s) c)) (call_of_client (world_of s) c op Done)
 
+-- a client at which nothing is wrong lives
+fine_lives : (s : StateValue) (c : ℕ) → client_fault (observed s) c ≡ None → (world_of s).lives c ≡ true
+unfolding observed
+fine_lives s c fine = (client_runs (observed s) c fine).0
+
 module _ (s : StateValue) (c : ℕ) (op : Op) (shape : IsShaped s) (fine : client_fault (observed s) c ≡ None) where
   abbrev old : World
   old = world_of s
@@ -164,7 +169,7 @@ module _ (s : StateValue) (c : ℕ) (op : Op) (shape : IsShaped s) (fine : clien
 
   module _ (sync : SyncsSome op) where
     sync_shaped : IsShaped (after_sync s c op)
-    sync_shaped = subst IsShaped (note_is raised called_now sync) (call_shaped raised called_now raised_shaped)
+    sync_shaped = subst IsShaped (note_is raised called_now sync) (call_shaped raised called_now raised_shaped (raises.clients.lives c ∙ fine_lives s c fine))
 
     sync_noted : AreNoted s → AreNoted (after_sync s c op)
     sync_noted noted = subst AreNoted (note_is raised called_now sync) (call_noted raised called_now (raised_noted noted))
@@ -335,6 +340,6 @@ module _ (s : StateValue) (c : ℕ) (shape : IsShaped s) (fine : client_fault (o
       (record {
         happens = happens;
         holds = ∥∥₁_map holds (λ h. noting_keeps (observed s) (observed (after_note s x)) c (replied Done) (ap (is_sync Fsync) optimistic) h happens);
-        shape = call_shaped s x shape;
+        shape = call_shaped s x shape (fine_lives s c fine);
         noted = call_noted s x noted;
       })

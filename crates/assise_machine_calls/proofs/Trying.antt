@@ -306,7 +306,8 @@ module _ (s : StateValue) (c : ℕ) (op : Op) (shape : IsShaped s) (holds : ∥ 
     holds_then other = ∥∥₁_map holds (λ h. calling_keeps (observed s) (observed s') c op (refused OutOfMemory) h (other (durability_of c (observed s).history)) (goes_on (refused OutOfMemory) (observed s') (lacking (observed s') c op fine_then)))
 
     pub shape_then : IsShaped s'
-    shape_then = record { nodes = shape.nodes; few_nodes = shape.few_nodes; logs = shape.logs; no_logs = shape.no_logs; at_home = shape.at_home; limits = shape.limits; least_limit = shape.least_limit; most_limit = shape.most_limit; single = shape.single; durabilities = shape.durabilities }
+    unfolding own_seen
+    shape_then = record { nodes = shape.nodes; few_nodes = shape.few_nodes; logs = shape.logs; no_logs = shape.no_logs; at_home = shape.at_home; limits = shape.limits; least_limit = shape.least_limit; most_limit = shape.most_limit; marked = shape.marked; durabilities = shape.durabilities }
 
     frozen_same : SameFrozen s levels
     frozen_same = same_frozen s.levels levels c (client_in s.clients c).home i mode granted (own_unfrozen s.levels c (client_in s.clients c).home i mode free)

@@ -1,6 +1,6 @@
 -- Those who stand in a call's way are asked for their leases, and the revokers that they stored answer.
 -- Assise (OSDI 2020), section 3 (CC-NVM: leases, and their revocation).
-use Rattle.std.specs.Prelude.{◌≡◌, ℕ, nat_le, true, ◌&&◌, if◌then◌else◌, List, [], length, map, Option, Some, None}
+use Rattle.std.specs.Prelude.{◌≡◌, ℕ, nat_le, true, ◌&&◌, if◌then◌else◌, List, [], length, Option, Some, None}
 use Rattle.assise_private_log.specs.NumberedLog.{NumberedLog}
 use Rattle.assise_digest.specs.Region.{RegionValue}
 use Rattle.assise_lease_table.specs.Answers.{IsRaisedAnswer}
@@ -9,6 +9,7 @@ use Rattle.assise_manager.specs.Standings.{Standing}
 use Rattle.assise_machine_leases.specs.Handing.{Asks, is_newly_frozen}
 use Rattle.assise_machine_events.specs.ClientEvents.{KeepsMembers}
 use Rattle.assise_machine_events.specs.Machine.{Adds, Machine}
+use Rattle.assise_machine_events.specs.NodeEvents.{border_marks}
 use Rattle.assise_machine_state.specs.ClientValues.{ClientValue, client_in}
 use Rattle.assise_machine_state.specs.NodeValues.{log_in}
 use Rattle.assise_machine_state.specs.Observed.{own_node}
@@ -23,9 +24,14 @@ pub record AsksThem (m : Machine) (r : Request) (m' : Machine) : Type 0 where
   pub adds : Adds m [] m'
   pub keeps : KeepsMembers m m'
 
--- a client's own log, in which each record is a group by itself
+-- a client's own log
 abbrev pub clients_log : Machine → ℕ → NumberedLog
-clients_log m c = record { first = m.world.first c; limit = m.limit; records = m.world.records c; begins = map (λ r. true) (m.world.records c) }
+clients_log m c = record {
+  first = m.world.first c;
+  limit = m.limit;
+  records = m.world.records c;
+  begins = border_marks (m.world.border c) (m.world.first c) (m.world.records c);
+}
 
 -- the cut of each lease that is frozen now and wasn't before is what the revoker that its holder stored answers for the holder's
 -- own log and the inode, raised to the end of its group

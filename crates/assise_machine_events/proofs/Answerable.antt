@@ -86,7 +86,7 @@ pub awaited_can : (m : Machine) (c i : ℕ) (op : Op) (reply : Reply) (mode : Mo
     IsMissing m.world m.leases (call_of_client m.world c op reply) i mode → is_free_for m.leases.levels c (m.world.home c) i mode ≡ false → (m' : Machine) × Calling m c op not_yet m'
 awaited_can m c i op reply mode h fine missing taken =
     let runs : (m.world.lives c ≡ true) × (m.world.crashed c ≡ false) = client_runs m c (first_none (client_fault m c) (fault_if (is_too_large op) TooLarge) fine) in
-    let (u, k, e) = may_ask m.world m.leases c i mode h.leases (record { lives_on = runs.0; running = runs.1; not_free = taken }) in (
+    let (u, k, e) = may_ask m.world m.leases c i mode h.leases (record { lives_on = runs.0; running = runs.1; not_free = taken }) h.sound in (
       record { limit = m.limit; history = m.history; world = with_old_areas m.world u; leases = k; members = m.members },
       is_awaited reply [] refl (record {
         tried = is_tried m c op reply fine;
@@ -100,6 +100,7 @@ awaited_can m c i op reply mode h fine missing taken =
           asked = e.asked;
           answered = e.answered;
           from_first = e.from_first;
+          border = e.border;
           cuts_else = e.cuts_else;
           goals = old_raises m.world u _ e.goals;
         };

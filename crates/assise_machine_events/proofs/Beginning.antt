@@ -68,6 +68,7 @@ begun_leases nodes = record {
   strangers = λ c not_one. refl;
   covered = λ c i frozen. cc;
   goals = λ c i lives frozen. cc;
+  borders = λ c i frozen low. refl;
   crashed = λ c i crashed held. cc;
   failed = λ c i lives held. cc;
 }

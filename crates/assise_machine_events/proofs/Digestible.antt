@@ -1,5 +1,5 @@
 -- A node can digest what all full nodes have.
-use Rattle.std.proofs.Common.{◌≡◌, ℕ, zero, suc, ◌+◌, ◌<◌, ◌≤◌, min, true, None, refl, sym, ◌∙◌, arith, append-nil}
+use Rattle.std.proofs.Common.{◌≡◌, ℕ, zero, suc, ◌+◌, ◌<◌, ◌≤◌, min, true, None, refl, ap, sym, ◌∙◌, arith, append-nil}
 use Rattle.assise_names.specs.declared.refusal.Refusal.TheVariants.{WrongPhase}
 use Rattle.assise_manager.specs.Membership.{Membership}
 use Rattle.assise_manager.specs.Standings.{standing_of}
@@ -8,7 +8,7 @@ use Rattle.assise_machine_laws.specs.NodeSteps.{Digests}
 use Rattle.assise_machine_laws.specs.Runs.{digests}
 use Rattle.assise_machine_laws.specs.Sound.{IsSound}
 use Rattle.assise_machine_laws.specs.World.{World, Full, end, received_by_all}
-use Rattle.assise_machine_laws.proofs.Observing.{least_of-same, received_by_all-end}
+use Rattle.assise_machine_laws.proofs.Observing.{least_of-same}
 use Rattle.assise_machine_laws.proofs.Running.{step_sound}
 use Rattle.assise_machine_returns.proofs.Making.{may_digest}
 use Rattle.assise_machine_events.specs.Events.{digested}
@@ -51,19 +51,21 @@ record DigestedTo (m : Machine) (n count c : ℕ) : Type 0 where
   same : SameRecords m.world world
   later : (d : ℕ) → c < d → world.digested n d ≡ m.world.digested n d
 
-module _ (m : Machine) (n count : ℕ) (h : Holds m) (here : Full m.world n) (borders : (c k : ℕ) → k ≤ end m.world c → m.world.border c k ≡ true) where
+module _ (m : Machine) (n count : ℕ) (h : Holds m) (here : Full m.world n) (borders : (c : ℕ) → m.world.border c (m.world.digested n c + part_of m.world n count c) ≡ true) where
   may_next : (c : ℕ) (r : DigestedTo m n count c) → MayDigest r.world n (suc c) (r.world.digested n (suc c) + part_of m.world n count (suc c))
   may_next c r =
       let there : Full r.world n = full_after m.world r.world n r.same.full here in
       let known : r.world.digested n (suc c) ≤ received_by_all r.world (suc c) = (r.same.sound.coherent.order n (suc c) there).acknowledged in
       let now : r.world.digested n (suc c) ≡ m.world.digested n (suc c) = r.later (suc c) (omega arith) in
       let all : received_by_all r.world (suc c) ≡ received_by_all m.world (suc c) = r.same.received (suc c) in
-      let ends : received_by_all m.world (suc c) ≤ end m.world (suc c) = received_by_all-end m.world (suc c) in
       record {
         full_node = there;
         from = omega arith;
         to = omega (arith, known, now, all);
-        border_to = r.same.border (suc c) _ ∙ borders (suc c) (r.world.digested n (suc c) + part_of m.world n count (suc c)) (omega (arith, known, now, all, ends));
+        border_to =
+            r.same.border (suc c) (r.world.digested n (suc c) + part_of m.world n count (suc c))
+            ∙ ap (λ k. m.world.border (suc c) (k + part_of m.world n count (suc c))) now
+            ∙ borders (suc c);
       }
 
   next_digested : (c : ℕ) → DigestedTo m n count c → DigestedTo m n count (suc c)
@@ -91,7 +93,8 @@ module _ (m : Machine) (n count : ℕ) (h : Holds m) (here : Full m.world n) (bo
 -- ---- then fronts of logs go
 
 pub digested_can : (m : Machine) (n count : ℕ) → Holds m → node_fault m n ≡ None → count ≤ min most_digested (undigested_to m.world n m.world.clients) →
-    (0 < undigested_to m.world n m.world.clients → 0 < count) → ((c k : ℕ) → k ≤ end m.world c → m.world.border c k ≡ true) → (m' : Machine) × Digesting m n (digested count) m'
+    (0 < undigested_to m.world n m.world.clients → 0 < count) →
+    ((c : ℕ) → m.world.border c (m.world.digested n c + part_of m.world n count c) ≡ true) → (m' : Machine) × Digesting m n (digested count) m'
 digested_can m n count h fine few some borders =
     let here : Full m.world n = h.members.nodes_full n (stands_full WrongPhase (standing_of m.members.nodes n) fine) in
     let r : DigestedTo m n count m.world.clients = digested_to m n count h here borders m.world.clients in (

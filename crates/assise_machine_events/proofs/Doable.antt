@@ -1,5 +1,5 @@
 -- A timely frame can be delivered.
-use Rattle.std.proofs.Common.{◌≡◌, ℕ, ◌+◌, ◌-◌, ◌≤◌, min, not, true, drop, take, List, length, None, refl, ap, sym, arith, append-nil}
+use Rattle.std.proofs.Common.{◌≡◌, ℕ, ◌+◌, ◌-◌, ◌≤◌, min, not, drop, take, List, length, None, refl, ap, sym, arith, append-nil}
 use Rattle.std.proofs.Math.Nat.{le-max_left, max-le}
 use Rattle.std.proofs.lemmas.List.{length-take, length-drop}
 use Rattle.assise_names.specs.declared.refusal.Refusal.TheVariants.{BadClient, WrongPhase}
@@ -11,9 +11,9 @@ use Rattle.assise_machine_laws.specs.World.{World, Full, end, received_by_all}
 use Rattle.assise_machine_laws.proofs.Observing.{received_by_all-below}
 use Rattle.assise_machine_laws.proofs.Possible.{may_deliver}
 use Rattle.assise_machine_events.specs.Events.{received}
-use Rattle.assise_machine_events.specs.Faults.{IsTimely, delivery_fault, fault_if, is_client, new_records, node_fault}
+use Rattle.assise_machine_events.specs.Faults.{IsTimely, delivery_fault, fault_if, is_client, new_records, node_fault, place_after}
 use Rattle.assise_machine_events.specs.Machine.{Holds, Machine}
-use Rattle.assise_machine_events.specs.NodeEvents.{Delivering, place_after}
+use Rattle.assise_machine_events.specs.NodeEvents.{Delivering}
 use Rattle.assise_machine_events.specs.NodeEvents.Delivering.{is_delivered}
 use Rattle.assise_machine_events.proofs.Faultless.{first_none, stands_full}
 use Rattle.assise_machine_events.proofs.Steady.{old_delivers, with_old_areas}
@@ -42,15 +42,15 @@ frame_there m f n h here timely =
     omega (arith, own, taken, behind, count, all, gap, known, begun, digested)
 
 pub delivered_can : (m : Machine) (f : LogFrame) (n : ℕ) → Holds m → delivery_fault m f n ≡ None → IsTimely m f n →
-    m.world.border f.client (place_after m f n) ≡ true → (m' : Machine) × Delivering m f n (received (place_after m f n)) m'
-delivered_can m f n h fine timely border =
+    (m' : Machine) × Delivering m f n (received (place_after m f n)) m'
+delivered_can m f n h fine timely =
     let here : Full m.world n = full_at m f n h fine in
     let known : m.world.received n f.client ≤ end m.world f.client = (h.sound.coherent.order n f.client here).known in
     let (u, e) = may_deliver m.world n f.client (place_after m f n) (record {
       full_node = here;
       from = le-max_left (m.world.received n f.client) (f.first + length f.records);
       to = max-le known (frame_there m f n h here timely);
-      border_to = border;
+      border_to = timely.whole;
     }) in (
       record { limit = m.limit; history = m.history; world = with_old_areas m.world u; leases = m.leases; members = m.members },
       is_delivered fine refl (record {

@@ -86,7 +86,7 @@ left_leases w v l n e = (
 )
 
 -- fronts of logs go that all full nodes have digested
-digested_border : (w : World) → IsSound w → (c : ℕ) → w.border c (digested_by_all w c) ≡ true
+pub digested_border : (w : World) → IsSound w → (c : ℕ) → w.border c (digested_by_all w c) ≡ true
 unfolding digested_by_all
 digested_border w s c =
     least_of-is (λ k. w.border c k ≡ true) w.full (λ n. w.digested n c) (end w c) (s.coherent.end_border c) (λ n h. (s.coherent.order n c h).digested_border)

@@ -12,6 +12,7 @@ use Rattle.assise_manager.proofs.Nodes.{never}
 use Rattle.assise_machine_laws.specs.NodeSteps.{Rests, kept_at_failure}
 use Rattle.assise_machine_laws.specs.World.{World, digested_by_all, records_between}
 use Rattle.assise_machine_laws.proofs.Dropping.{drop_dropped}
+use Rattle.assise_machine_laws.proofs.Failing.{fail_sound}
 use Rattle.assise_machine_leases.specs.Leases.{AreLeases}
 use Rattle.assise_machine_leases.proofs.Ending.{fail_keeps as leases_fail}
 use Rattle.assise_machine_leases.proofs.Keeping.{logs_keep, drop_keeps}
@@ -97,7 +98,8 @@ full_leases m m' n h e =
     let r : Rests e.cut e.refreshed = e.failure.rests in
     drop_keeps e.refreshed m'.world m'.leases (digested_by_all e.refreshed)
     (logs_keep e.cut e.refreshed m'.leases r.logs r.clients r.leases (λ c. rw (r.goals c) (omega arith))
-    (leases_fail m.world e.cut m.leases m'.leases n h.leases e.leases))
+    (leases_fail m.world e.cut m.leases m'.leases n h.leases e.leases
+    (fail_sound m.world e.cut n h.sound e.failure.fails)))
     e.drops
 
 full_members : (m m' : Machine) (n : ℕ) → Holds m → IsFailed m n m' → AreMembers m'.world m'.members

@@ -1,19 +1,20 @@
 -- Each outcome of what nodes do comes: frames and digests.
-use Rattle.std.proofs.Common.{◌≡◌, ℕ, ◌<◌, ◌≤◌, length, true, [], ◌∷◌, None, refl, ap, sym, ◌∙◌, subst, arith}
+use Rattle.std.proofs.Common.{◌≡◌, ℕ, zero, suc, ◌+◌, ◌<◌, ◌≤◌, length, true, [], ◌∷◌, None, refl, ap, sym, ◌∙◌, subst, arith}
 use Rattle.assise_names.specs.declared.call.Op.TheVariants.{Dsync}
 use Rattle.assise_names.specs.declared.refusal.Refusal.TheVariants.{OutOfMemory, StaleMessage, WrongPhase}
 use Rattle.assise_record.specs.LogFrame.{LogFrame}
 use Rattle.assise_private_log.specs.Borders.{whole_count}
 use Rattle.assise_manager.specs.Changes.{all_full}
-use Rattle.assise_machine_laws.specs.World.{end, received_by_all}
-use Rattle.assise_machine_laws.proofs.Observing.{received_by_all-below}
+use Rattle.assise_manager.specs.Standings.{standing_of}
+use Rattle.assise_machine_laws.specs.World.{Full, World, end, received_by_all}
+use Rattle.assise_machine_laws.proofs.Observing.{received_by_all-below, received_by_all-end}
 use Rattle.assise_machine_laws.proofs.Staying.{end-same}
 use Rattle.assise_machine_events.specs.ClientEvents.{Syncing, is_refused, is_replicating, is_synced, lacks_memory}
 use Rattle.assise_machine_events.specs.Events.{deliver, digested, hot_set, not_yet, received, refused, sent, try_call}
-use Rattle.assise_machine_events.specs.Faults.{IsTimely, client_fault, delivery_fault, node_fault}
+use Rattle.assise_machine_events.specs.Faults.{IsTimely, client_fault, delivery_fault, node_fault, place_after}
 use Rattle.assise_machine_events.specs.Machine.{Holds, Machine}
 use Rattle.assise_machine_events.specs.MemberEvents.{is_refused, lacks_memory}
-use Rattle.assise_machine_events.specs.NodeEvents.{Delivering, Digesting, IsDelivered, Sending, SettingHot, frames_to, is_delivered, is_refused, is_sent, is_set, is_stale, lacks_memory, place_after, undigested_to}
+use Rattle.assise_machine_events.specs.NodeEvents.{Delivering, Digesting, IsDelivered, Sending, SettingHot, frames_to, is_delivered, is_refused, is_sent, is_set, is_stale, lacks_memory, part_of, undigested, undigested_to}
 use Rattle.assise_machine_events.specs.Reached.{Comes, IsReached}
 use Rattle.assise_machine_events.proofs.Answerable.{replicating_can}
 use Rattle.assise_machine_events.proofs.Course.{reaches, start, start_holds, start_reached}
@@ -21,6 +22,7 @@ use Rattle.assise_machine_events.proofs.Creating.{HasFile, file_record, has_file
 use Rattle.assise_machine_events.proofs.Digestible.{digested_can}
 use Rattle.assise_machine_events.proofs.Doable.{delivered_can}
 use Rattle.assise_machine_events.proofs.EachEvent.{event_keeps}
+use Rattle.assise_machine_events.proofs.Faultless.{stands_full}
 use Rattle.assise_machine_events.proofs.MembersCome.{falls}
 
 -- ---- node 2 is down
@@ -69,19 +71,23 @@ module _ (m : Machine) (o : HasFile 1 m) where
   delivery_fine : (epoch : ℕ) → delivery_fault m (file_frame epoch) 2 ≡ None
   delivery_fine epoch = rw (o.members, o.clients) refl
 
+  place : place_after m (file_frame 1) 2 ≡ 1
+  place = rw o.received_other refl
+
   timely : IsTimely m (file_frame 1) 2
-  timely = record { this_epoch = rw o.members refl; no_gap = omega arith; own = rw (o.received_other, o.first, o.records) refl }
+  timely = record {
+    this_epoch = rw o.members refl;
+    no_gap = omega arith;
+    own = rw (o.received_other, o.first, o.records) refl;
+    whole = o.borders 1 (place_after m (file_frame 1) 2) (rw (place, file_end) (omega arith));
+  }
 
   late : IsTimely m (file_frame 0) 2 → ⊥
   late t = (let this : 0 ≡ m.members.epoch = t.this_epoch in let first : m.members.epoch ≡ 1 = ap (λ x. x.epoch) o.members in omega (arith, this, first))
 
-  place : place_after m (file_frame 1) 2 ≡ 1
-  place = rw o.received_other refl
-
   delivery : (m' : Machine) × Delivering m (file_frame 1) 2 (received 1) m'
   delivery =
-      let border : m.world.border 1 (place_after m (file_frame 1) 2) ≡ true = o.borders 1 (place_after m (file_frame 1) 2) (rw (place, file_end) (omega arith)) in
-      let (m', h) = delivered_can m (file_frame 1) 2 o.holds (delivery_fine 1) timely border in
+      let (m', h) = delivered_can m (file_frame 1) 2 o.holds (delivery_fine 1) timely in
       (m', subst (λ k. Delivering m (file_frame 1) 2 (received k) m') place h)
 
 pub delivered : (f : LogFrame) × Comes (λ m m'. Delivering m f 2 (received 1) m')
@@ -159,11 +165,21 @@ not_digested_for_memory =
     let some : undigested_to m.world 1 m.world.clients ≡ 1 = o.undigested in
     record { limit = 1; before = m; reached = o.reached; after = m; outcome = lacks_memory (full_fine m o) (omega (arith, some)) refl refl }
 
+part_low : (w : World) (n count c : ℕ) → part_of w n count c ≤ undigested w n c
+part_low w n count zero = omega arith
+part_low w n count (suc c) = omega arith
+
+part_border : (m : Machine) → HasBoth m → (c : ℕ) → m.world.border c (m.world.digested 1 c + part_of m.world 1 1 c) ≡ true
+part_border m o c =
+    let here : Full m.world 1 = o.holds.members.nodes_full 1 (stands_full WrongPhase (standing_of m.members.nodes 1) (full_fine m o)) in
+    let known : m.world.digested 1 c ≤ received_by_all m.world c = (o.holds.sound.coherent.order 1 c here).acknowledged in
+    o.borders c (m.world.digested 1 c + part_of m.world 1 1 c) (omega (arith, known, received_by_all-end m.world c, part_low m.world 1 1 c))
+
 pub digested_one : Comes (λ m m'. Digesting m 1 (digested 1) m')
 digested_one =
     let (m, o) = has_both in
     let some : undigested_to m.world 1 m.world.clients ≡ 1 = o.undigested in
-    let (m', h) = digested_can m 1 1 o.holds (full_fine m o) (rw some (omega arith)) (λ more. omega arith) o.borders in
+    let (m', h) = digested_can m 1 1 o.holds (full_fine m o) (rw some (omega arith)) (λ more. omega arith) (part_border m o) in
     record { limit = 1; before = m; reached = o.reached; after = m'; outcome = h }
 
 -- ---- client 1 awaits that its file is replicated

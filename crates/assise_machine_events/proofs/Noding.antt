@@ -12,9 +12,10 @@ use Rattle.assise_machine_returns.proofs.Noting.{areas_keep, keeps_areas}
 use Rattle.assise_manager.specs.Membership.{Membership}
 use Rattle.assise_record.specs.LogFrame.{LogFrame}
 use Rattle.assise_machine_events.specs.Events.{Answer}
+use Rattle.assise_machine_events.specs.Faults.{place_after}
 use Rattle.assise_machine_events.specs.Happenings.{Leads}
 use Rattle.assise_machine_events.specs.Machine.{Machine, Holds, Adds}
-use Rattle.assise_machine_events.specs.NodeEvents.{IsDelivered, Delivering, place_after}
+use Rattle.assise_machine_events.specs.NodeEvents.{IsDelivered, Delivering}
 use Rattle.assise_machine_events.specs.NodeEvents.Delivering.{is_delivered, is_stale, lacks_memory, is_refused}
 use Rattle.assise_machine_events.proofs.Leading.{leads_sound, leads_recorded, same_leads, same_holds, with_world, quietly, ends_as}
 

@@ -30,9 +30,10 @@ use Rattle.assise_machine_history.proofs.Listing.{exactly_lost}
 use Rattle.assise_machine_history.proofs.Recording.{same_tree}
 use Rattle.assise_machine_events.specs.ClientEvents.{Granted, Gets, Calling, Syncing, is_answered, is_awaited, is_spent, is_full, is_refused, lacks_memory, is_synced, is_replicating, last_leases, last_world, call_of_client, goal_of_sync}
 use Rattle.assise_machine_events.specs.Events.{Answer, digested, failed, joined, not_yet, received, refused, replied}
+use Rattle.assise_machine_events.specs.Faults.{place_after}
 use Rattle.assise_machine_events.specs.Machine.{Machine, Holds}
 use Rattle.assise_machine_events.specs.MemberEvents.{Failing, Joining, is_failed, is_failed_again, is_joined, is_refused, lacks_memory}
-use Rattle.assise_machine_events.specs.NodeEvents.{Delivering, Digesting, Releasing, is_delivered, is_stale, is_digested, is_released, is_refused, lacks_memory, is_ready, most_digested, undigested_to, place_after}
+use Rattle.assise_machine_events.specs.NodeEvents.{Delivering, Digesting, Releasing, is_delivered, is_stale, is_digested, is_released, is_refused, lacks_memory, is_ready, most_digested, undigested_to}
 use Rattle.assise_machine_events.specs.Outcomes.{AwaitsLease}
 use Rattle.assise_machine_events.proofs.Granting.{comes_to}
 use Rattle.assise_machine_events.proofs.Letting.{freed_same}

@@ -1,6 +1,6 @@
 -- Why an event is refused, whatever memory there is: the first fault that stands.
 -- Assise (OSDI 2020), section 3 (process crash, fail-over, epochs).
-use Rattle.std.specs.Prelude.{◌≡◌, ℕ, ◌-◌, ◌≤◌, nat_lt, nat_le, Bool, false, ◌&&◌, not, if◌then◌else◌, List, drop, take, length, Option, Some, None}
+use Rattle.std.specs.Prelude.{◌≡◌, ℕ, ◌+◌, ◌-◌, ◌≤◌, max, nat_lt, nat_le, Bool, true, false, ◌&&◌, not, if◌then◌else◌, List, drop, take, length, Option, Some, None}
 use Rattle.assise_names.specs.declared.call.Op.{Op}
 use Rattle.assise_names.specs.declared.call.Op.TheVariants.{Create, Mkdir, Read, Write, Truncate, Rename, Unlink, Rmdir, List as ListCall, Stat, Fsync, Dsync}
 use Rattle.assise_names.specs.declared.refusal.Refusal.{Refusal}
@@ -70,11 +70,17 @@ open_fault m n = or_else (unless_full NodeDown (standing_of m.members.nodes n)) 
 abbrev pub new_records : World → LogFrame → ℕ → List LogRecord
 new_records w f n = drop (w.received n f.client - f.first) f.records
 
--- the frame is of this epoch, it leaves no gap, and what the node doesn't have of it stands next in the client's own log
+-- the place behind the last of the client's records that the node has with the frame
+abbrev pub place_after : Machine → LogFrame → ℕ → ℕ
+place_after m f n = max (m.world.received n f.client) (f.first + length f.records)
+
+-- the frame is of this epoch, it leaves no gap, and what the node doesn't have of it stands next in the client's own log, and ends
+-- with a group of it
 pub record IsTimely (m : Machine) (f : LogFrame) (n : ℕ) : Type 0 where
   pub this_epoch : f.epoch ≡ m.members.epoch
   pub no_gap : f.first ≤ m.world.received n f.client
   pub own : take (length (new_records m.world f n)) (drop (m.world.received n f.client - m.world.first f.client) (m.world.records f.client)) ≡ new_records m.world f n
+  pub whole : m.world.border f.client (place_after m f n) ≡ true
 
 -- what is wrong about a delivery whatever the frame's records are
 abbrev pub delivery_fault : Machine → LogFrame → ℕ → Option Refusal

@@ -1,7 +1,7 @@
 -- What nodes do: each outcome with its answer, and what stands after it.
 -- Assise (OSDI 2020), section 3 (CC-NVM: replication, digests, leases); Strata (SOSP 2017), section 3; van Renesse and Schneider,
 -- chain replication (OSDI 2004), section 2.
-use Rattle.std.specs.Prelude.{◌≡◌, ℕ, zero, suc, ◌+◌, ◌-◌, ◌<◌, ◌≤◌, min, max, nat_le, Bool, true, ◌&&◌, List, [], ◌∷◌, ◌++◌, length, map, Option, Some, None}
+use Rattle.std.specs.Prelude.{◌≡◌, ℕ, zero, suc, ◌+◌, ◌-◌, ◌<◌, ◌≤◌, min, nat_le, Bool, true, ◌&&◌, List, [], ◌∷◌, ◌++◌, length, Option, Some, None}
 use Rattle.std.specs.Ordering.{nat_cmp}
 use Rattle.std.specs.FinSet as set
 use Rattle.assise_names.specs.declared.refusal.Refusal.{Refusal}
@@ -13,6 +13,7 @@ use Rattle.assise_lease_tree.specs.Levels.{is_frozen}
 use Rattle.assise_lease_tree.specs.TwoLevels.{IsIdle}
 use Rattle.assise_private_log.specs.NumberedLog.{NumberedLog}
 use Rattle.assise_record.specs.LogFrame.{LogFrame}
+use Rattle.assise_record.specs.LogRecord.{LogRecord}
 use Rattle.assise_manager.specs.Membership.{Membership}
 use Rattle.assise_manager.specs.Standings.{full_nodes}
 use Rattle.assise_machine_laws.specs.NodeSteps.{Delivers, Drops}
@@ -23,7 +24,7 @@ use Rattle.assise_machine_returns.specs.Returns.{OtherAreasStay, DigestsNoted}
 use Rattle.assise_machine_history.specs.State.{IsNode}
 use Rattle.assise_machine_events.specs.ClientEvents.{KeepsMembers}
 use Rattle.assise_machine_events.specs.Events.{Answer, refused, sent, received, digested, released, hot_set}
-use Rattle.assise_machine_events.specs.Faults.{node_fault, delivery_fault, IsTimely}
+use Rattle.assise_machine_events.specs.Faults.{node_fault, delivery_fault, place_after, IsTimely}
 use Rattle.assise_machine_events.specs.Machine.{Machine, Adds, state_of}
 
 -- ---- frames go out
@@ -32,9 +33,19 @@ use Rattle.assise_machine_events.specs.Machine.{Machine, Adds, state_of}
 abbrev pub next_node : Machine → ℕ → ℕ → Option ℕ
 next_node m n c = behind n (chain (full_nodes m.members.nodes) (m.world.home c))
 
--- node n's log of the client, whose records are groups by themselves
+-- of each of these records, from a place of a log on, whether it begins a group, where these are the borders of groups
+abbrev pub border_marks : (ℕ → Bool) → ℕ → List LogRecord → List Bool
+border_marks border k [] = []
+border_marks border k (r ∷ rs) = border k ∷ border_marks border (suc k) rs
+
+-- node n's log of the client
 abbrev pub node_log : Machine → ℕ → ℕ → NumberedLog
-node_log m n c = record { first = m.world.first c; limit = m.limit; records = m.world.log n c; begins = map (λ r. true) (m.world.log n c) }
+node_log m n c = record {
+  first = m.world.first c;
+  limit = m.limit;
+  records = m.world.log n c;
+  begins = border_marks (m.world.border c) (m.world.first c) (m.world.log n c);
+}
 
 abbrev pub for_node : ℕ → Option LogFrame → List (LogFrame × ℕ)
 for_node k None = []
@@ -57,10 +68,6 @@ pub data Sending (m : Machine) (n : ℕ) (a : Answer) (m' : Machine) : Type 0 wh
   is_refused : (r : Refusal) → node_fault m n ≡ Some r → a ≡ refused r → m' ≡ m → Sending m n a m'
 
 -- ---- a frame comes in
-
--- the place behind the last of the client's records that the node has with the frame
-abbrev pub place_after : Machine → LogFrame → ℕ → ℕ
-place_after m f n = max (m.world.received n f.client) (f.first + length f.records)
 
 pub record IsDelivered (m : Machine) (f : LogFrame) (n : ℕ) (m' : Machine) : Type 0 where
   pub timely : IsTimely m f n

@@ -1,5 +1,5 @@
 // Each outcome of an event can come, where what it asks for holds.
-ghost use Rattle.std.specs.Prelude.{◌≡◌, ◌<◌, ◌≤◌, List, [], None, false, length, min, suc, true, ℕ};
+ghost use Rattle.std.specs.Prelude.{◌≡◌, ◌+◌, ◌<◌, ◌≤◌, List, [], None, false, length, min, suc, true, ℕ};
 ghost use Rattle.assise_names.specs.declared.call.Op.{Op};
 ghost use Rattle.assise_names.specs.declared.durability.Durability.{Durability};
 ghost use Rattle.assise_names.specs.declared.refusal.Refusal.TheVariants.{InodesSpent, LogFull, OutOfMemory};
@@ -16,10 +16,10 @@ ghost use Rattle.assise_machine_laws.specs.World.{call_makes_inode, end, receive
 ghost use Rattle.assise_machine_leases.specs.Chances.{MayCallUnder};
 ghost use Rattle.assise_machine_events.specs.ClientEvents.{Calling, Crashing, IsMissing, IsServed, Opening, Syncing, call_of_client};
 ghost use Rattle.assise_machine_events.specs.Events.{Answer, began, crashed, digested, failed, hot_set, joined, left, not_yet, opened, received, refused, replied};
-ghost use Rattle.assise_machine_events.specs.Faults.{IsTimely, call_fault, client_fault, delivery_fault, node_fault, open_fault};
+ghost use Rattle.assise_machine_events.specs.Faults.{IsTimely, call_fault, client_fault, delivery_fault, node_fault, open_fault, place_after};
 ghost use Rattle.assise_machine_events.specs.Machine.{Holds, Machine};
 ghost use Rattle.assise_machine_events.specs.MemberEvents.{Failing, Joining, Refilling, Returning, stale_at};
-ghost use Rattle.assise_machine_events.specs.NodeEvents.{Delivering, Digesting, Releasing, SettingHot, most_digested, place_after, undigested_to};
+ghost use Rattle.assise_machine_events.specs.NodeEvents.{Delivering, Digesting, Releasing, SettingHot, most_digested, part_of, undigested_to};
 
 /// What clients do can be answered where no fault stands.
 pub fn what_clients_do_can_be_answered()
@@ -50,9 +50,11 @@ pub fn what_a_call_lacks_can_be_answered()
 /// What nodes do can be done where no fault stands. Leases go where clients hold only so many inodes.
 pub fn what_nodes_do_can_be_done()
     ensures delivered { (m : Machine) (f : LogFrame) (n : ℕ) → Holds m → delivery_fault m f n ≡ None → IsTimely m f n →
-        m.world.border f.client (place_after m f n) ≡ true → (m' : Machine) × Delivering m f n (received (place_after m f n)) m' }
+        (m' : Machine) × Delivering m f n (received (place_after m f n)) m' }
     ensures digested { (m : Machine) (n count : ℕ) → Holds m → node_fault m n ≡ None → count ≤ min most_digested (undigested_to m.world n m.world.clients) →
-        (0 < undigested_to m.world n m.world.clients → 0 < count) → ((c k : ℕ) → k ≤ end m.world c → m.world.border c k ≡ true) → (m' : Machine) × Digesting m n (digested count) m' }
+        (0 < undigested_to m.world n m.world.clients → 0 < count) →
+        ((c : ℕ) → m.world.border c (m.world.digested n c + part_of m.world n count c) ≡ true) →
+        (m' : Machine) × Digesting m n (digested count) m' }
     ensures hot { (m : Machine) (n : ℕ) → node_fault m n ≡ None →
         (m' : Machine) × SettingHot m n hot_set m' }
     ensures released { (m : Machine) (most : ℕ) → Holds m → ((i : ℕ) → most < i → m.leases.levels.clients i ≡ []) → (m' : Machine) × ((a : Answer) × Releasing m a m') }

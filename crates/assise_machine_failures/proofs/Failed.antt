@@ -124,7 +124,8 @@ module _ (s : StateValue) (n : ℕ) (inodes : set.FinSet nat_cmp) (levels : TwoL
   }
 
   cut_shaped : IsShaped t
-  cut_shaped = failure_shaped s n inodes levels asked may.shape may.stands
+  unfolding observed
+  cut_shaped = failure_shaped s n inodes levels asked may.shape may.stands (∥∥₁_map may.holds (λ h. h.sound)) may.fine
 
   cut_sound : ∥ IsSound (world_of t) ∥₁
   unfolding observed

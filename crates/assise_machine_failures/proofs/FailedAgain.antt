@@ -135,10 +135,11 @@ module _ {s : StateValue} {n : ℕ} (was : WasReturning s n) where
   again_holds = ∥∥₁_map was.holds (λ h. event_keeps (observed s) (observed t) (fail_event n) (failed_answer []) h again_happens)
 
   again_shaped : IsShaped t
+  unfolding own_seen
   again_shaped = of_members (members_shaped s m was.shape long same)
     where
       of_members : IsShaped u → IsShaped t
-      of_members h = record { nodes = h.nodes; few_nodes = h.few_nodes; logs = h.logs; no_logs = h.no_logs; at_home = h.at_home; limits = h.limits; least_limit = h.least_limit; most_limit = h.most_limit; single = h.single; durabilities = λ c. h.durabilities c ∙ sym (durability-still s.history (fails n []) c refl) }
+      of_members h = record { nodes = h.nodes; few_nodes = h.few_nodes; logs = h.logs; no_logs = h.no_logs; at_home = h.at_home; limits = h.limits; least_limit = h.least_limit; most_limit = h.most_limit; marked = h.marked; durabilities = λ c. h.durabilities c ∙ sym (durability-still s.history (fails n []) c refl) }
 
   again_noted : AreNoted t
   again_noted = still_noted s t refl (omega arith) (λ c i. refl) was.noted

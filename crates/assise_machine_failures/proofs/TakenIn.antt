@@ -155,7 +155,8 @@ module _ {s : StateValue} {n d : ℕ} {rs : List RegionValue} {m : Membership} {
   join_happens = subst (λ x. Joining (observed s) n joined (observed x)) (sym same) happens_so
 
   pub join_left : IsShaped w
-  join_left = subst IsShaped (sym same) (join_shaped s n since d stale taken.fills.shape taken.fills.lawful stands)
+  unfolding observed
+  join_left = subst IsShaped (sym same) (join_shaped s n since d stale taken.fills.shape taken.fills.lawful stands (∥∥₁_map taken.holds (λ h. h.sound)))
 
   pub join_noted : AreNoted s → AreNoted w
   join_noted noted = record { once = noted.once; known = noted.known; noted = noted.noted }

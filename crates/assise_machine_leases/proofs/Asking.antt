@@ -57,6 +57,12 @@ module _ (w u : World) (l k : Leases) (c i : ℕ) (mode : Mode) (a : AreLeases w
     | inr old ↦ (let low : l.cut d j ≤ w.goal d = a.goals d j lives old.0 in omega (arith, low, old.1))
   ])
 
+  ask_borders : (d j : ℕ) → IsFrozenLease k d j → w.first d ≤ k.cut d j → w.border d (k.cut d j) ≡ true
+  ask_borders d j h low = elim (newly_or_was d j h) [
+    | inl new ↦ subst (λ j. w.border d (k.cut d j) ≡ true) (sym new.0) (e.border d new.1)
+    | inr old ↦ subst (λ m. w.border d m ≡ true) (sym old.1) (a.borders d j old.0 (subst (λ m. w.first d ≤ m) old.1 low))
+  ]
+
   pub ask_keeps : IsSound w → AreLeases u k
   ask_keeps s = record {
     lawful = asked_lawful l.levels a.lawful k.levels c (w.home c) i mode (a.homes c (s.opened c e.lives_on)) e.asked;
@@ -68,6 +74,7 @@ module _ (w u : World) (l k : Leases) (c i : ℕ) (mode : Mode) (a : AreLeases w
     strangers = λ d no. e.asked.home d ∙ a.strangers d (λ o. no (was_client w u l a e.goals.clients d o));
     covered = λ d j h. covers_same w u d j (k.cut d j) (e.goals.logs.records d) (e.goals.logs.first d) (ask_covered d j h);
     goals = λ d j lives h. ask_goals d j (sym (e.goals.clients.lives d) ∙ lives) h;
+    borders = λ d j h low. e.goals.logs.border d (k.cut d j) ∙ ask_borders d j h (subst (λ m. m ≤ k.cut d j) (e.goals.logs.first d) low);
     crashed = λ d j over h. frozen_stays d j (a.crashed d j (sym (e.goals.clients.crashed d) ∙ over) (sym (same_held d j) ∙ h));
     failed = λ d j over h. frozen_stays d j (a.failed d j (sym (e.goals.clients.lives d) ∙ over) (sym (same_held d j) ∙ h));
   }

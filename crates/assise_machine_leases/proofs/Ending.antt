@@ -11,6 +11,7 @@ use Rattle.assise_lease_tree.specs.Levels.{Homes, Under, AskedBelow, carries, is
 use Rattle.assise_lease_tree.specs.TwoLevels.{TwoLevels, IsLawful}
 use Rattle.assise_lease_tree.proofs.Steps.{frozen_lawful}
 use Rattle.assise_machine_laws.specs.NodeSteps.{kept_at_failure}
+use Rattle.assise_machine_laws.specs.Sound.{IsSound}
 use Rattle.assise_machine_laws.specs.World.{World, end}
 use Rattle.assise_machine_laws.proofs.Observing.{part-whole}
 use Rattle.assise_machine_leases.specs.Handing.{CrashesWith, FailsWith}
@@ -40,8 +41,8 @@ module _ (w u : World) (l k : Leases) (c : ℕ) (a : AreLeases w l) (e : Crashes
   stays : (d j : ℕ) → IsFrozenLease l d j → IsFrozenLease k d j
   stays d j h = ap is_frozen (lease d j) ∙ still_frozen (is_own c) (client_lease l d j) h
 
-  pub crash_keeps : AreLeases u k
-  crash_keeps = record {
+  pub crash_keeps : IsSound w → AreLeases u k
+  crash_keeps s = record {
     lawful = frozen_lawful l.levels a.lawful k.levels c e.frozen;
     held = record {
       holds = λ d j. e.crash.leases.holds d j ∙ a.held.holds d j ∙ sym (same_held d j);
@@ -56,6 +57,11 @@ module _ (w u : World) (l k : Leases) (c : ℕ) (a : AreLeases w l) (e : Crashes
     goals = λ d j lives h. elim (cases_eq d c) [
       | inl own ↦ subst (λ d. k.cut d j ≤ u.goal d) (sym own) (rw (e.cut_here j, e.crash.goal_here) (omega arith))
       | inr other ↦ rw (e.cut_else d j other, e.crash.goal_else d other) (a.goals d j (sym (e.crash.lives_same d) ∙ lives) (was_other d j other h))
+    ];
+    borders = λ d j h low. e.crash.logs.border d (k.cut d j) ∙ elim (cases_eq d c) [
+      | inl own ↦ subst (λ d. w.border d (k.cut d j) ≡ true) (sym own) (rw (e.cut_here j) (s.coherent.end_border c))
+      | inr other ↦ subst (λ m. w.border d m ≡ true) (sym (e.cut_else d j other))
+          (a.borders d j (was_other d j other h) (omega (arith, low, e.cut_else d j other, e.crash.logs.first d)))
     ];
     crashed = λ d j over h.
         (let held : is_held (client_lease l d j) ≡ true = sym (same_held d j) ∙ h in
@@ -129,8 +135,8 @@ module _ (w u : World) (l k : Leases) (n : ℕ) (a : AreLeases w l) (e : FailsWi
   whole_log : (d : ℕ) → w.home d ≢ n → u.records d ≡ w.records d
   whole_log d other = e.fails.records d ∙ rw (kept_elsewhere w n d other) (part-whole w d)
 
-  pub fail_keeps : AreLeases u k
-  fail_keeps = record {
+  pub fail_keeps : IsSound u → AreLeases u k
+  fail_keeps s = record {
     lawful = chosen_lawful l.levels k.levels there a.lawful e.home e.clients e.nodes;
     held = record {
       holds = λ d j. e.fails.leases.holds d j ∙ a.held.holds d j ∙ sym (held_now d j);
@@ -149,6 +155,15 @@ module _ (w u : World) (l k : Leases) (n : ℕ) (a : AreLeases w l) (e : FailsWi
           let low : l.cut d j ≤ w.goal d = a.goals d j (sym (e.fails.lives_else d other) ∙ alive) frozen in
           let top : l.cut d j ≤ end w d = (a.covered d j frozen).to_end in
           rw (e.cut_else d j other, e.fails.goals d, kept_elsewhere w n d other) (omega (arith, low, top))
+    ];
+    borders = λ d j h low. elim (cases_eq (w.home d) n) [
+      | inl here ↦ rw (e.cut_here d j here) (s.coherent.end_border d)
+      | inr other ↦
+          let frozen : IsFrozenLease l d j = was_away d j other h in
+          let top : l.cut d j ≤ end w d = (a.covered d j frozen).to_end in
+          let kept : l.cut d j ≤ kept_at_failure w n d = subst (λ m. l.cut d j ≤ m) (sym (kept_elsewhere w n d other)) top in
+          subst (λ m. u.border d m ≡ true) (sym (e.cut_else d j other))
+          (e.fails.border d (l.cut d j) kept ∙ a.borders d j frozen (omega (arith, low, e.cut_else d j other, e.fails.first d)))
     ];
     crashed = λ d j over h. stays_now d j (a.crashed d j (sym (e.fails.crashed d) ∙ over) (sym (held_now d j) ∙ h));
     failed = λ d j over h.

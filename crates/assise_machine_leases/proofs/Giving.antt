@@ -1,5 +1,5 @@
 -- A lease is granted against which nobody stands.
-use Rattle.std.proofs.Common.{◌≡◌, ◌≢◌, ℕ, ◌==◌, inl, inr, Bool, true, false, not, ◌&&◌, ◌||◌, List, Option, Some, None, refl, ap, sym, ◌∙◌, subst}
+use Rattle.std.proofs.Common.{◌≡◌, ◌≢◌, ℕ, ◌==◌, inl, inr, Bool, true, false, not, ◌&&◌, ◌||◌, List, Option, Some, None, refl, ap, sym, ◌∙◌, subst, arith}
 use Rattle.std.specs.List.{list_any}
 use Rattle.std.proofs.lemmas.Bool.{both_ways, cases_eq, ne_eqb}
 use Rattle.assise_names.specs.declared.mode.Mode.{Mode}
@@ -125,6 +125,8 @@ module _ (w u : World) (l k : Leases) (c i : ℕ) (mode : Mode) (a : AreLeases w
     strangers = λ d no. e.granted.home d ∙ a.strangers d (λ o. no (was_client w u l a e.holds.clients d o));
     covered = λ d j h. rw (e.cuts d j) (covers_same w u d j (l.cut d j) (e.holds.logs.records d) (e.holds.logs.first d) (a.covered d j (was_frozen d j h)));
     goals = λ d j lives h. rw (e.cuts d j, e.holds.goals d) (a.goals d j (sym (e.holds.clients.lives d) ∙ lives) (was_frozen d j h));
+    borders = λ d j h low. subst (λ m. u.border d m ≡ true) (sym (e.cuts d j))
+        (e.holds.logs.border d (l.cut d j) ∙ a.borders d j (was_frozen d j h) (omega (arith, low, e.cuts d j, e.holds.logs.first d)));
     crashed = λ d j over h.
         (let other : d ≢ c = λ own. both_ways (w.crashed d) (subst (λ d. w.crashed d ≡ false) (sym own) e.running) (sym (e.holds.clients.crashed d) ∙ over) in
         let same : client_lease k d j ≡ client_lease l d j = elsewhere d j (λ own at. other own) in

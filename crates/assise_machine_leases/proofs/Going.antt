@@ -62,6 +62,8 @@ module _ (w u : World) (l k : Leases) (c i : ℕ) (a : AreLeases w l) (e : Relea
     strangers = λ d no. e.released.home d ∙ a.strangers d (λ o. no (was_client w u l a e.holds.clients d o));
     covered = λ d j h. rw (e.cuts d j h) (covers_same w u d j (l.cut d j) (e.holds.logs.records d) (e.holds.logs.first d) (a.covered d j (was_frozen d j h)));
     goals = λ d j lives h. rw (e.cuts d j h, e.holds.goals d) (a.goals d j (sym (e.holds.clients.lives d) ∙ lives) (was_frozen d j h));
+    borders = λ d j h low. subst (λ m. u.border d m ≡ true) (sym (e.cuts d j h))
+        (e.holds.logs.border d (l.cut d j) ∙ a.borders d j (was_frozen d j h) (omega (arith, low, e.cuts d j h, e.holds.logs.first d)));
     crashed = λ d j over h. ap is_frozen (was_there d j h) ∙ a.crashed d j (sym (e.holds.clients.crashed d) ∙ over) (ap is_held (sym (was_there d j h)) ∙ h);
     failed = λ d j over h. ap is_frozen (was_there d j h) ∙ a.failed d j (sym (e.holds.clients.lives d) ∙ over) (ap is_held (sym (was_there d j h)) ∙ h);
   }
@@ -74,6 +76,7 @@ free_keeps w l k n a e = record {
   strangers = λ d no. e.freed.home d ∙ a.strangers d no;
   covered = λ d j h. rw (e.cuts d j) (a.covered d j (ap is_frozen (sym (same d j)) ∙ h));
   goals = λ d j lives h. rw (e.cuts d j) (a.goals d j lives (ap is_frozen (sym (same d j)) ∙ h));
+  borders = λ d j h low. subst (λ m. w.border d m ≡ true) (sym (e.cuts d j)) (a.borders d j (ap is_frozen (sym (same d j)) ∙ h) (omega (arith, low, e.cuts d j)));
   crashed = λ d j over h. ap is_frozen (same d j) ∙ a.crashed d j over (ap is_held (sym (same d j)) ∙ h);
   failed = λ d j over h. ap is_frozen (same d j) ∙ a.failed d j over (ap is_held (sym (same d j)) ∙ h);
 }

@@ -66,14 +66,16 @@ module _ (w u : World) (l : Leases) (a : AreLeases w l) (same : SameClients w u)
   was_client c o = (o.0, (let e : u.clients ≡ w.clients = same.clients in omega (arith, o.1, e)))
 
   -- and leases do, and cuts cover
-  still_leases : SameLeases w u → ((c i : ℕ) → IsFrozenLease l c i → Covers u c i (l.cut c i)) → ((c i : ℕ) → w.lives c ≡ true → IsFrozenLease l c i → l.cut c i ≤ u.goal c) → AreLeases u l
-  still_leases leases covered goals = record {
+  still_leases : SameLeases w u → ((c i : ℕ) → IsFrozenLease l c i → Covers u c i (l.cut c i)) → ((c i : ℕ) → w.lives c ≡ true → IsFrozenLease l c i → l.cut c i ≤ u.goal c) →
+      ((c i : ℕ) → IsFrozenLease l c i → u.first c ≤ l.cut c i → u.border c (l.cut c i) ≡ true) → AreLeases u l
+  still_leases leases covered goals borders = record {
     lawful = a.lawful;
     held = record { holds = λ c i. leases.holds c i ∙ a.held.holds c i; writes = λ c i. leases.writes c i ∙ a.held.writes c i };
     homes = λ c o. a.homes c (still_client c o) ∙ ap (λ n. Some n) (sym (same.home c));
     strangers = λ c no. a.strangers c (λ o. no (was_client c o));
     covered = covered;
     goals = λ c i lives h. goals c i (sym (same.lives c) ∙ lives) h;
+    borders = borders;
     crashed = λ c i over h. a.crashed c i (sym (same.crashed c) ∙ over) h;
     failed = λ c i over h. a.failed c i (sym (same.lives c) ∙ over) h;
   }
@@ -83,10 +85,14 @@ module _ (w u : World) (l : Leases) (a : AreLeases w l) (same : SameClients w u)
 pub logs_keep : (w u : World) (l : Leases) → SameLogs w u → SameClients w u → SameLeases w u → ((c : ℕ) → w.goal c ≤ u.goal c) → AreLeases w l → AreLeases u l
 logs_keep w u l logs clients leases goals a =
     still_leases w u l a clients leases (λ c i h. covers_same w u c i (l.cut c i) (logs.records c) (logs.first c) (a.covered c i h)) (λ c i lives h. omega (arith, a.goals c i lives h, goals c))
+    (λ c i h low. logs.border c (l.cut c i) ∙ a.borders c i h (subst (λ k. k ≤ l.cut c i) (logs.first c) low))
 
 pub drop_keeps : (w u : World) (l : Leases) (f : ℕ → ℕ) → AreLeases w l → Drops w f u → AreLeases u l
 drop_keeps w u l f a e =
     still_leases w u l a e.clients e.leases (λ c i h. covers_drop w u f c i (l.cut c i) e (a.covered c i h)) (λ c i lives h. rw (e.goals c) (a.goals c i lives h))
+    (λ c i h low.
+    let high : f c ≤ l.cut c i = subst (λ k. k ≤ l.cut c i) (e.first c) low in
+    e.border c (l.cut c i) high ∙ a.borders c i h (omega (arith, e.low c, high)))
 
 pub call_keeps : (w u : World) (l : Leases) (x : NumberedCall) → AreLeases w l → CallsUnder w l x u → AreLeases u l
 call_keeps w u l x a e =
@@ -96,6 +102,7 @@ call_keeps w u l x a e =
       | inr other ↦ covers_same w u c i (l.cut c i) (e.call.records_else c other) (e.call.first c) (a.covered c i h)
     ])
     (λ c i lives h. rw (e.call.goals c) (a.goals c i lives h))
+    (λ c i h low. e.call.border_old c (l.cut c i) (a.covered c i h).to_end ∙ a.borders c i h (subst (λ k. k ≤ l.cut c i) (e.call.first c) low))
   where
     -- the call changes no inode whose lease is frozen
     covered : (i : ℕ) → IsFrozenLease l x.client i → Covers u x.client i (l.cut x.client i)
@@ -118,6 +125,15 @@ coalesced_keeps w u l c s new was so a e =
           let low : l.cut c i ≤ w.goal c = a.goals c i e.coalesces.lives frozen in
           subst (λ d. l.cut d i ≤ u.goal d) (sym own) (rw e.coalesces.goal_here (omega (arith, low, (covered i frozen).to_end)))
       | inr other ↦ rw (e.coalesces.goal_else d other) (a.goals d i lives h)
+    ])
+    (λ d i h low.
+    let was : w.border d (l.cut d i) ≡ true = a.borders d i h (subst (λ k. k ≤ l.cut d i) (e.coalesces.first d) low) in
+    elim (cases_eq d c) [
+      | inl own ↦
+          let frozen : IsFrozenLease l c i = subst (λ d. IsFrozenLease l d i) own h in
+          subst (λ d. u.border d (l.cut d i) ≡ true) (sym own)
+          (e.coalesces.border_old (l.cut c i) (e.cuts i frozen) ∙ subst (λ d. w.border d (l.cut d i) ≡ true) own was)
+      | inr other ↦ e.coalesces.border_else d (l.cut d i) other ∙ was
     ])
   where
     covered : (i : ℕ) → IsFrozenLease l c i → Covers u c i (l.cut c i)
@@ -144,6 +160,8 @@ open_keeps w u l k n a e = record {
   goals = λ c i lives h.
       (let old : c ≢ suc w.clients = holder_old c i (frozen_holder l c i (was c i h)) in
       rw (e.cuts c i, e.opens.goal_else c old) (a.goals c i (sym (e.opens.lives_else c old) ∙ lives) (was c i h)));
+  borders = λ c i h low.
+      rw (e.cuts c i) (e.opens.logs.border c (l.cut c i) ∙ a.borders c i (was c i h) (subst (λ k. k ≤ l.cut c i) (e.opens.logs.first c) (subst (λ k. u.first c ≤ k) (e.cuts c i) low)));
   crashed = λ c i over h.
       (let held : is_held (client_lease l c i) ≡ true = ap is_held (sym (lease c i)) ∙ h in
       let old : c ≢ suc w.clients = holder_old c i held in

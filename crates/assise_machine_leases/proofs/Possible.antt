@@ -195,8 +195,8 @@ module _ (w : World) (l : Leases) (c i : ℕ) (mode : Mode) (a : AreLeases w l) 
         ∙ some_frozen l.levels.home (l.levels.clients i) (l.levels.nodes i) c (w.home c) mode (a.lawful.asked i) m.not_free;
   }
 
-  pub may_ask : (u : World) × (k : Leases) × Asks w l c i mode u k
-  may_ask =
+  pub may_ask : IsSound w → (u : World) × (k : Leases) × Asks w l c i mode u k
+  may_ask s =
       let (u, e) = may_raise w (asked_goal l answers i) goal_there in (
         u,
         answers,
@@ -207,6 +207,7 @@ module _ (w : World) (l : Leases) (c i : ℕ) (mode : Mode) (a : AreLeases w l) 
           asked = is_asked_for;
           answered = λ d h. rw (cut_now d h) (covers_end w d i);
           from_first = λ d h. rw (cut_now d h) (first_end w d);
+          border = λ d h. rw (cut_now d h) (s.coherent.end_border d);
           cuts_else = λ d j other. rw (false_from_ne_true ((j == i) && now d) (λ t. let p = and_parts (j == i) (now d) t in other (eqb-true j i p.0) p.1)) refl;
           goals = e;
         },

@@ -65,8 +65,8 @@ is_newly_frozen l l' d i = not (is_frozen (client_lease l d i)) && is_frozen (cl
 abbrev pub asked_goal : Leases → Leases → ℕ → ℕ → ℕ
 asked_goal l l' i d = if is_newly_frozen l l' d i then l'.cut d i else 0
 
--- those who stand against client c are asked for their leases of inode i: each answers a cut that covers, from its log's first
--- place on, and its log is to be replicated up to it
+-- those who stand against client c are asked for their leases of inode i: each answers a cut that covers, at a border of its log
+-- from the first place on, and its log is to be replicated up to it
 pub record Asks (w : World) (l : Leases) (c i : ℕ) (mode : Mode) (w' : World) (l' : Leases) : Type 0 where
   pub lives_on : w.lives c ≡ true
   pub running : w.crashed c ≡ false
@@ -74,6 +74,7 @@ pub record Asks (w : World) (l : Leases) (c i : ℕ) (mode : Mode) (w' : World) 
   pub asked : IsAskedFor l.levels l'.levels c (w.home c) i mode
   pub answered : (d : ℕ) → is_newly_frozen l l' d i ≡ true → Covers w d i (l'.cut d i)
   pub from_first : (d : ℕ) → is_newly_frozen l l' d i ≡ true → w.first d ≤ l'.cut d i
+  pub border : (d : ℕ) → is_newly_frozen l l' d i ≡ true → w.border d (l'.cut d i) ≡ true
   pub cuts_else : (d j : ℕ) → (j ≡ i → is_newly_frozen l l' d i ≡ true → ⊥) → l'.cut d j ≡ l.cut d j
   pub goals : RaisesGoals w (asked_goal l l' i) w'
 

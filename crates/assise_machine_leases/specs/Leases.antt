@@ -62,6 +62,8 @@ pub record AreLeases (w : World) (l : Leases) : Type 0 where
   -- full nodes have all that is left
   pub covered : (c i : ℕ) → IsFrozenLease l c i → Covers w c i (l.cut c i)
   pub goals : (c i : ℕ) → w.lives c ≡ true → IsFrozenLease l c i → l.cut c i ≤ w.goal c
+  -- what lies before it in the log are whole groups
+  pub borders : (c i : ℕ) → IsFrozenLease l c i → w.first c ≤ l.cut c i → w.border c (l.cut c i) ≡ true
   -- a client that crashed, or whose node failed, has only frozen leases
   pub crashed : (c i : ℕ) → w.crashed c ≡ true → is_held (client_lease l c i) ≡ true → IsFrozenLease l c i
   pub failed : (c i : ℕ) → w.lives c ≡ false → is_held (client_lease l c i) ≡ true → IsFrozenLease l c i

@@ -15,7 +15,8 @@ pub fn each_step_of_leases_can_be_made()
     ensures opened { (w : World) (l : Leases) (n : ℕ) → Full w n → (u : World) × (k : Leases) × OpensAt w l n u k }
     ensures called { (w : World) (l : Leases) (x : NumberedCall) → IsSound w → MayCallUnder w l x → (u : World) × CallsUnder w l x u }
     ensures granted { (w : World) (l : Leases) (c i : ℕ) (mode : Mode) → MayGrant w l c i mode → (u : World) × (k : Leases) × Grants w l c i mode u k }
-    ensures asked { (w : World) (l : Leases) (c i : ℕ) (mode : Mode) → AreLeases w l → MayAsk w l c i mode → (u : World) × (k : Leases) × Asks w l c i mode u k }
+    ensures asked { (w : World) (l : Leases) (c i : ℕ) (mode : Mode) → IsSound w → AreLeases w l →
+        MayAsk w l c i mode → (u : World) × (k : Leases) × Asks w l c i mode u k }
     ensures released { (w : World) (l : Leases) (c i : ℕ) → MayRelease w l c i → (u : World) × (k : Leases) × ReleasesReady w l c i u k }
     ensures freed { (w : World) (l : Leases) (n : ℕ) → (Full w n → ⊥) → IsIdle l.levels n → (k : Leases) × FreesNode w l n k }
     ensures crashed { (w : World) (l : Leases) (c : ℕ) → w.lives c ≡ true → w.crashed c ≡ false → (u : World) × (k : Leases) × CrashesWith w l c u k }

@@ -49,8 +49,10 @@ pub fn a_release_keeps_leases()
 
 /// A client that crashes, or whose node fails, has only frozen leases from then on.
 pub fn an_end_keeps_leases()
-    ensures crash { (w u : World) (l k : Leases) (c : ℕ) → AreLeases w l → CrashesWith w l c u k → AreLeases u k }
-    ensures failure { (w u : World) (l k : Leases) (n : ℕ) → AreLeases w l → FailsWith w l n u k → AreLeases u k }
+    ensures crash { (w u : World) (l k : Leases) (c : ℕ) → IsSound w → AreLeases w l →
+        CrashesWith w l c u k → AreLeases u k }
+    ensures failure { (w u : World) (l k : Leases) (n : ℕ) → IsSound u → AreLeases w l →
+        FailsWith w l n u k → AreLeases u k }
 {}
 
 /// Dropped fronts keep leases. So does what leaves logs, clients and leases and lowers no goal: an fsync, deliveries, digests,

@@ -11,7 +11,7 @@ use Rattle.assise_record.specs.LogRecord.{LogRecord}
 use Rattle.assise_record.specs.Touched.{touched_by}
 use Rattle.assise_record.specs.Records.{all_effects}
 use Rattle.assise_inode_table.specs.Effects.{contains, touched}
-use Rattle.assise_private_log.specs.NumberedLog.{NumberedLog, record_at}
+use Rattle.assise_private_log.specs.NumberedLog.{NumberedLog, is_border, record_at}
 use Rattle.assise_private_log.specs.Touches.{Covers as CoversLog, found_touches}
 use Rattle.assise_lease_table.specs.declared.lease.Asked.{Asked}
 use Rattle.assise_lease_table.specs.declared.lease.Lease.{Lease}
@@ -38,7 +38,7 @@ use Rattle.assise_machine_state.specs.StateValues.{StateValue, leases_of}
 use Rattle.assise_machine_state.proofs.Fullness.{lives_number}
 use Rattle.assise_machine_state.proofs.Noted.{asked_either, cut_before, none_cut, once_both}
 use Rattle.assise_machine_state.proofs.Seeing.{client_else, client_here, client_is, client_same}
-use Rattle.assise_machine_state.proofs.Shaping.{shaped_as}
+use Rattle.assise_machine_state.proofs.Shaping.{shaped_as, still_marked}
 use Rattle.assise_machine_state.proofs.Staying.{node_as}
 
 -- ---- the holders that are left of compatible leases
@@ -247,7 +247,7 @@ module _ (s : StateValue) (levels : TwoLevels) (asked : List Asked) where
     records = λ d. ap (λ l. l.log.records) (own_stays d);
     first = λ d. ap (λ l. l.log.first) (own_stays d);
     next = stays (λ x. x.next) (λ to x. refl);
-    border = λ d k. refl;
+    border = λ d k. ap (λ l. is_border l.log k) (own_stays d);
     made = stays (λ x. x.made) (λ to x. refl);
   }
 
@@ -276,7 +276,7 @@ module _ (s : StateValue) (levels : TwoLevels) (asked : List Asked) where
     limit = refl;
     limits = λ n d. refl;
     at_home = λ n d. refl;
-    single = λ all. all;
+    marked = still_marked s after (λ n d. refl) (λ d. ap (λ l. l.log) (own_stays d));
     durability = stays (λ x. x.durability) (λ to x. refl);
     opened = λ d. refl;
   }
@@ -410,6 +410,12 @@ module _ (s : StateValue) (c i : ℕ) (mode : Mode) (levels : TwoLevels) (asked 
       subst (λ e. CoversLog (own_seen s e).log i (l'.cut d i)) a.2
       (subst (λ k. CoversLog (own_seen s a.0.client).log i k) (sym (cut_now d h ∙ a.3)) (answers.covers a.0 a.1))
 
+  at_border : (d : ℕ) → is_asked asked d i ≡ true → is_border (own_seen s d).log (l'.cut d i) ≡ true
+  at_border d h =
+      let a = answer_of asked d i h in
+      subst (λ e. is_border (own_seen s e).log (l'.cut d i) ≡ true) a.2
+      (subst (λ k. is_border (own_seen s a.0.client).log k ≡ true) (sym (cut_now d h ∙ a.3)) (answers.borders a.0 a.1))
+
   goals_known : (d : ℕ) → asked_goal l l' i d ≤ end (world_of s) d
   goals_known d =
       elim (cases_Bool (is_asked asked d i)) [
@@ -442,6 +448,7 @@ module _ (s : StateValue) (c i : ℕ) (mode : Mode) (levels : TwoLevels) (asked 
     asked = asks;
     answered = λ d h. log_covers s d i (l'.cut d i) (covers d (sym (newly d) ∙ h));
     from_first = λ d h. (covers d (sym (newly d) ∙ h)).from_first;
+    border = λ d h. at_border d (sym (newly d) ∙ h);
     cuts_else = λ d j other. cut_stays d j (false_from_ne_true (is_asked asked d j) (λ h. other (at_inode d j h) (newly d ∙ asked_here d j h)));
     goals = raises;
   }

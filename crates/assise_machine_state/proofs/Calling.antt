@@ -1,15 +1,16 @@
 -- What the laws observe of a call that is answered.
 use Rattle.std.proofs.Common.{◌≡◌, ◌≢◌, ℕ, suc, ◌+◌, ◌-◌, ◌<◌, ◌≤◌, Bool, true, false, not, if◌then◌else◌, List, [], ◌∷◌, ◌++◌, length, inl, inr, refl, ap, sym, subst, ◌∙◌, arith}
-use Rattle.std.proofs.lemmas.Bool.{cases_Bool}
+use Rattle.std.proofs.lemmas.Bool.{cases_Bool, cases_eq}
 use Rattle.std.proofs.lemmas.List.{length-set}
 use Rattle.assise_history.specs.Entries.{calls}
 use Rattle.assise_history.proofs.Counting.{durability-still}
 use Rattle.assise_record.specs.declared.effect.Effect.{Effect}
-use Rattle.assise_record.specs.Records.{has_some, record_of}
+use Rattle.assise_record.specs.Records.{has_some}
 use Rattle.assise_inode_table.specs.Contents.{values}
 use Rattle.assise_inode_table.specs.Numbers.{inode_number}
 use Rattle.assise_inode_table.specs.Traces.{NumberedCall}
-use Rattle.assise_private_log.specs.NumberedLog.{end as log_end}
+use Rattle.assise_private_log.specs.NumberedLog.{end as log_end, is_border}
+use Rattle.assise_private_log.proofs.Borders.{border_end}
 use Rattle.assise_digest.specs.Region.{ReceivedLog, RegionValue, with_log, with_more}
 use Rattle.assise_machine_laws.specs.Chances.{MayCall}
 use Rattle.assise_machine_laws.specs.ClientSteps.{MakesCall}
@@ -19,23 +20,19 @@ use Rattle.assise_machine_history.specs.Numbered.{kept_numbered, made_in, number
 use Rattle.assise_machine_history.proofs.Numbering.{kept_call}
 use Rattle.assise_machine_state.specs.Changes.{after_call}
 use Rattle.assise_machine_state.specs.ClientValues.{ClientValue, client_in, client_seen, with_call}
-use Rattle.assise_machine_state.specs.NodeValues.{HasLog, log_in, log_seen, region_in, region_seen, with_call_in, with_records}
+use Rattle.assise_machine_state.specs.NodeValues.{HasLog, log_in, log_seen, region_in, region_seen, with_call_in}
 use Rattle.assise_machine_state.specs.Observed.{own_node, own_seen, world_of}
 use Rattle.assise_machine_state.specs.Places.{IsNumber}
-use Rattle.assise_machine_state.specs.Shape.{HasSingleGroups, IsShaped}
+use Rattle.assise_machine_state.specs.Shape.{IsMarked, IsShaped}
 use Rattle.assise_machine_state.specs.StateValues.{StateValue, standings}
 use Rattle.assise_machine_state.proofs.Fullness.{has_log, home_full, lives_number, lives_unfailed, log_is}
-use Rattle.assise_machine_state.proofs.Logging.{log_else, log_here, log_holds, log_in_holds, log_same, none_more, region_kept}
+use Rattle.assise_machine_state.proofs.Logging.{log_else, log_here, log_same, none_more, region_kept}
+use Rattle.assise_machine_state.proofs.Marks.{called, called_border, marked_as, marked_called, so_many_marks}
 use Rattle.assise_machine_state.proofs.Seeing.{client_else, client_here, client_is, client_same}
-use Rattle.assise_machine_state.proofs.Shaping.{shaped_as}
-use Rattle.assise_machine_state.proofs.Singles.{single_more}
+use Rattle.assise_machine_state.proofs.Shaping.{AreMarked, own_marked, shaped_as}
 use Rattle.assise_machine_state.proofs.Staying.{leases_as}
 
 -- ---- the log at home
-
--- a log with the record of a call, if it has one
-abbrev called : ℕ → List Effect → ReceivedLog → ReceivedLog
-called call es l = with_records l (record_of call es)
 
 module _ (rs : List RegionValue) (n c call : ℕ) (es : List Effect) where
   abbrev more : ReceivedLog
@@ -45,7 +42,7 @@ module _ (rs : List RegionValue) (n c call : ℕ) (es : List Effect) where
   call_here has same =
       elim (cases_Bool (has_some es)) [
         | inl some ↦ rw (some, same) (log_here rs n c (region_in rs n).inodes more has)
-        | inr none ↦ rw none (sym (none_more (log_seen rs n c)))
+        | inr none ↦ rw none (sym (none_more (λ k. true) (log_seen rs n c)))
       ]
 
   call_else : HasLog rs n c → (m d : ℕ) → (m ≡ n → d ≡ c → ⊥) → log_seen (with_call_in rs n c call es) m d ≡ log_seen rs m d
@@ -61,14 +58,6 @@ module _ (rs : List RegionValue) (n c call : ℕ) (es : List Effect) where
       elim (cases_Bool (has_some es)) [
         | inl some ↦ rw some (log_same rs n c (region_in rs n).inodes more f m d same)
         | inr none ↦ rw none refl
-      ]
-
-  -- what holds of the longer log and of all logs holds of all then
-  call_holds : (P : ReceivedLog → Type 0) → P more → ((m d : ℕ) → P (log_seen rs m d)) → (m d : ℕ) → P (log_seen (with_call_in rs n c call es) m d)
-  call_holds P new old m d =
-      elim (cases_Bool (has_some es)) [
-        | inl some ↦ rw some (log_holds rs n c (region_in rs n).inodes more P new old m d)
-        | inr none ↦ rw none (old m d)
       ]
 
   call_region_kept : {A : Type 0} (f : RegionValue → A) → f (with_log (region_in rs n) c more) ≡ f (region_in rs n) → (m : ℕ) →
@@ -142,24 +131,6 @@ module _ (s : StateValue) (x : NumberedCall) where
   stays : {A : Type 0} (f : ClientValue → A) → f now ≡ f (client_in s.clients c) → (d : ℕ) → f (client_seen s'.clients d) ≡ f (client_seen s.clients d)
   stays f same = client_same f s.clients c now same
 
-  pub call_shaped : IsShaped s → IsShaped s'
-  call_shaped shape = shaped_as s s' shape record {
-    nodes = so_many_nodes s.nodes home c x.number es;
-    members = refl;
-    full = λ n. refl;
-    logs = so_many_logs s.nodes home c x.number es;
-    clients = so_many_clients;
-    home = stays (λ y. y.home) refl;
-    failed = stays (λ y. y.failed) refl;
-    limit = refl;
-    limits = kept (λ l. l.log.limit) refl;
-    at_home = kept (λ l. l.at_home) refl;
-    single = λ all. call_holds s.nodes home c x.number es (λ l. HasSingleGroups l.log)
-        (single_more (log_in s.nodes home c) (record { call = x.number; effects = es } ∷ []) (log_in_holds (λ l. HasSingleGroups l.log) s.nodes all home c)) all;
-    durability = stays (λ y. y.durability) refl;
-    opened = λ d. durability-still s.history (calls (plain_call x)) d refl;
-  }
-
   -- each client's own log is where it was
   own_now : (d : ℕ) → own_seen s' d ≡ log_seen s'.nodes (own_node (standings s) (client_seen s.clients d)) d
   unfolding own_seen
@@ -194,6 +165,52 @@ module _ (s : StateValue) (x : NumberedCall) where
     unfolding own_seen
     own_else d other = own_now d ∙ else_log (own_node (standings s) (client_seen s.clients d)) d (λ _ same. other same)
 
+    -- ---- its shape
+
+    -- the client's own log has its groups, and so has each node's
+    own_borders : AreMarked s → (k : ℕ) → is_border (own_seen s' c).log k ≡ is_border (own_seen s c).log k
+    own_borders all k =
+        ap (λ l. is_border l.log k) own_called
+        ∙ called_border (own_seen s c) x.number es k (so_many_marks (is_border (own_seen s c).log) (own_seen s c).log (own_marked s all c))
+
+    marked_here : AreMarked s → (n : ℕ) → IsMarked (is_border (own_seen s' c).log) (log_seen s'.nodes n c).log
+    marked_here all n =
+        elim (cases_eq n home) [
+          | inl is ↦
+              subst (λ m. IsMarked (is_border (own_seen s' c).log) (log_seen s'.nodes m c).log) (sym is)
+              (subst (λ l. IsMarked (is_border (own_seen s' c).log) l.log) own_here
+              (subst (λ l. IsMarked (is_border l.log) l.log) (sym own_called) (marked_called (own_seen s c) x.number es (own_marked s all c))))
+          | inr away ↦
+              subst (λ l. IsMarked (is_border (own_seen s' c).log) l.log) (sym (else_log n c (λ there same. away there)))
+              (marked_as (is_border (own_seen s c).log) (is_border (own_seen s' c).log) (log_seen s.nodes n c).log (λ k low high. sym (own_borders all k)) (all n c))
+        ]
+
+    marked_now : AreMarked s → AreMarked s'
+    marked_now all n d =
+        elim (cases_eq d c) [
+          | inl is ↦ subst (λ e. IsMarked (is_border (own_seen s' e).log) (log_seen s'.nodes n e).log) (sym is) (marked_here all n)
+          | inr other ↦
+              subst (λ l. IsMarked (is_border l.log) (log_seen s'.nodes n d).log) (sym (own_else d other))
+              (subst (λ l. IsMarked (is_border (own_seen s d).log) l.log) (sym (else_log n d (λ there same. other same))) (all n d))
+        ]
+
+    shaped : IsShaped s → IsShaped s'
+    shaped shape = shaped_as s s' shape record {
+      nodes = so_many_nodes s.nodes home c x.number es;
+      members = refl;
+      full = λ n. refl;
+      logs = so_many_logs s.nodes home c x.number es;
+      clients = so_many_clients;
+      home = stays (λ y. y.home) refl;
+      failed = stays (λ y. y.failed) refl;
+      limit = refl;
+      limits = kept (λ l. l.log.limit) refl;
+      at_home = kept (λ l. l.at_home) refl;
+      marked = marked_now;
+      durability = stays (λ y. y.durability) refl;
+      opened = λ d. durability-still s.history (calls (plain_call x)) d refl;
+    }
+
     same_end : w'.received home c ≡ end w' c
     unfolding world_of end
     same_end = ap (λ l. log_end l.log) (sym own_here)
@@ -223,9 +240,23 @@ module _ (s : StateValue) (x : NumberedCall) where
         ∙ plus_one (call_makes_inode w x) (client_in s.clients c).made
         ∙ ap (λ k. if call_makes_inode w x then suc k else k) (ap (λ y. y.made) (sym (client_is s.clients c there)))
 
-    call_of : w.made c ≡ made_in c s.history → w.made c ≤ 1048576 → MayCall w x → MakesCall w x w'
+    border_kept : AreMarked s → (d k : ℕ) → k ≤ end w d → w'.border d k ≡ w.border d k
     unfolding world_of
-    call_of counted few may = record {
+    border_kept all d k old =
+        elim (cases_eq d c) [
+          | inl is ↦ subst (λ e. w'.border e k ≡ w.border e k) (sym is) (own_borders all k)
+          | inr other ↦ ap (λ l. is_border l.log k) (own_else d other)
+        ]
+
+    border_ends : AreMarked s → w'.border c (end w' c) ≡ true
+    unfolding world_of end
+    border_ends all =
+        let now : IsMarked (is_border (own_seen s' c).log) (own_seen s' c).log = own_marked s' (marked_now all) c in
+        border_end (own_seen s' c).log (log_end (own_seen s' c).log) (so_many_marks (is_border (own_seen s' c).log) (own_seen s' c).log now) (omega arith)
+
+    call_of : IsShaped s → w.made c ≡ made_in c s.history → w.made c ≤ 1048576 → MayCall w x → MakesCall w x w'
+    unfolding world_of
+    call_of shape counted few may = record {
       lives = may.lives;
       running = may.running;
       number = may.number;
@@ -237,8 +268,8 @@ module _ (s : StateValue) (x : NumberedCall) where
       records_own = ap (λ l. l.log.records) own_called;
       records_else = λ d other. ap (λ l. l.log.records) (own_else d other);
       first = own_kept (λ l. l.log.first) refl;
-      border_old = λ d k old. refl;
-      border_new = refl;
+      border_old = border_kept shape.marked;
+      border_new = border_ends shape.marked;
       next_own = next_now may.number;
       next_else = λ d other. ap (λ y. y.next) (client_else s.clients c now there d other);
       made_own = made_now;
@@ -260,4 +291,10 @@ module _ (s : StateValue) (x : NumberedCall) where
   call_seen shape counted few may =
       let there : IsNumber s.clients c = lives_number s c may.lives in
       let unfailed : (client_seen s.clients c).failed ≡ false = lives_unfailed s c may.lives in
-      call_of there (has_log s home c shape (home_full s c shape unfailed) there) unfailed counted few may
+      call_of there (has_log s home c shape (home_full s c shape unfailed) there) unfailed shape counted few may
+
+  pub call_shaped : IsShaped s → w.lives c ≡ true → IsShaped s'
+  call_shaped shape lives =
+      let there : IsNumber s.clients c = lives_number s c lives in
+      let unfailed : (client_seen s.clients c).failed ≡ false = lives_unfailed s c lives in
+      shaped there (has_log s home c shape (home_full s c shape unfailed) there) unfailed shape

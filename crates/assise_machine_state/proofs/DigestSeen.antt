@@ -7,7 +7,7 @@ use Rattle.assise_record.specs.Records.{all_effects}
 use Rattle.assise_inode_table.proofs.Applying.{get-all_applied}
 use Rattle.assise_inode_table.specs.Contents.{InodeMap, values}
 use Rattle.assise_inode_table.specs.Effects.{all_applied, contains, touched, value_after}
-use Rattle.assise_private_log.specs.NumberedLog.{end as log_end}
+use Rattle.assise_private_log.specs.NumberedLog.{end as log_end, is_border}
 use Rattle.assise_digest.specs.Region.{ReceivedLog, RegionValue, ahead, digested_further}
 use Rattle.assise_manager.specs.Changes.{noted, stale_again}
 use Rattle.assise_manager.specs.Standings.{Standing, down, full, is_full, returning}
@@ -26,7 +26,7 @@ use Rattle.assise_machine_state.specs.StateValues.{StateValue, standings}
 use Rattle.assise_machine_state.proofs.Fullness.{full_seen, has_log, log_is, region_is, same_first}
 use Rattle.assise_machine_state.proofs.Logging.{log_else, log_here, log_same, region_else, region_here, region_with}
 use Rattle.assise_machine_state.proofs.Reading.{ahead_first}
-use Rattle.assise_machine_state.proofs.Shaping.{shaped_log}
+use Rattle.assise_machine_state.proofs.Shaping.{shaped_log, still_marked}
 use Rattle.assise_machine_state.proofs.Standings.{mapped_full, same_full, same_own}
 use Rattle.assise_machine_state.proofs.Staying.{clients_as, goals_as, leases_as, logs_as}
 
@@ -52,9 +52,22 @@ further s n c k = digested_further (log_in s.nodes n c) (k - (log_in s.nodes n c
 abbrev inodes_now : StateValue → (n c k : ℕ) → InodeMap
 inodes_now s n c k = all_applied (region_in s.nodes n).inodes (all_effects (take (k - (log_in s.nodes n c).digested) (ahead (log_in s.nodes n c))))
 
+-- logs stay but for what is digested of them
+
+same_log : (s : StateValue) (n c k : ℕ) (inodes : set.FinSet nat_cmp) (m d : ℕ) → (log_seen (after_digest s n c k inodes).nodes m d).log ≡ (log_seen s.nodes m d).log
+same_log s n c k inodes m d = log_same s.nodes n c (inodes_now s n c k) (further s n c k) (λ x. x.log) m d refl
+
+own_log : (s : StateValue) (n c k : ℕ) (inodes : set.FinSet nat_cmp) (d : ℕ) → (own_seen (after_digest s n c k inodes) d).log ≡ (own_seen s d).log
+unfolding own_seen
+own_log s n c k inodes d =
+    let t : StateValue = after_digest s n c k inodes in
+    ap (λ m. (log_seen t.nodes m d).log) (same_own (standings t) (standings s) (same_count (standings s) n inodes) (still_full (standings s) n inodes) (client_seen s.clients d))
+    ∙ same_log s n c k inodes (own_node (standings s) (client_seen s.clients d)) d
+
 pub digest_shaped : (s : StateValue) (n c k : ℕ) (inodes : set.FinSet nat_cmp) → IsShaped s → IsShaped (after_digest s n c k inodes)
 digest_shaped s n c k inodes shape =
-    shaped_log s (noted s.members n inodes) n c (inodes_now s n c k) (further s n c k) shape refl refl (λ single. single) (same_count (standings s) n inodes) (still_full (standings s) n inodes)
+    shaped_log s (noted s.members n inodes) n c (inodes_now s n c k) (further s n c k) shape refl refl
+    (still_marked s (after_digest s n c k inodes) (same_log s n c k inodes) (own_log s n c k inodes)) (same_count (standings s) n inodes) (still_full (standings s) n inodes)
 
 module _ (s : StateValue) (n c k : ℕ) (inodes : set.FinSet nat_cmp) (shape : IsShaped s) (first : (log_seen s.nodes n c).log.first ≡ (world_of s).first c) (client : IsNumber s.clients c) (may : MayDigest (world_of s) n c k) where
   abbrev w : World
@@ -76,15 +89,6 @@ module _ (s : StateValue) (n c k : ℕ) (inodes : set.FinSet nat_cmp) (shape : I
   was = log_is s n c has
 
   -- all but the area and the digested number stays
-
-  same_log : (m d : ℕ) → (log_seen t.nodes m d).log ≡ (log_seen s.nodes m d).log
-  same_log m d = log_same s.nodes n c (inodes_now s n c k) (further s n c k) (λ x. x.log) m d refl
-
-  own_log : (d : ℕ) → (own_seen t d).log ≡ (own_seen s d).log
-  unfolding own_seen
-  own_log d =
-      ap (λ m. (log_seen t.nodes m d).log) (same_own (standings t) (standings s) (same_count (standings s) n inodes) (still_full (standings s) n inodes) (client_seen s.clients d))
-      ∙ same_log (own_node (standings s) (client_seen s.clients d)) d
 
   digested_now : w'.digested n c ≡ k
   unfolding world_of
@@ -118,13 +122,14 @@ module _ (s : StateValue) (n c k : ℕ) (inodes : set.FinSet nat_cmp) (shape : I
     from = may.from;
     to = may.to;
     border_to = may.border_to;
-    logs = logs_as s t refl refl (λ d. ap (λ x. x.records) (own_log d)) (λ d. ap (λ x. x.first) (own_log d));
+    logs = logs_as s t refl refl (λ d. ap (λ x. x.records) (own_log s n c k inodes d)) (λ d. ap (λ x. x.first) (own_log s n c k inodes d))
+        (λ d j. ap (λ x. is_border x j) (own_log s n c k inodes d));
     clients = clients_as s t refl;
     goals = goals_as s t refl;
     leases = leases_as s t (λ i. refl);
     full = same_full (standings t) (standings s) (same_count (standings s) n inodes) (still_full (standings s) n inodes);
-    log = λ m d f. ap (λ x. x.records) (same_log m d);
-    received = λ m d f. ap (λ x. log_end x) (same_log m d);
+    log = λ m d f. ap (λ x. x.records) (same_log s n c k inodes m d);
+    received = λ m d f. ap (λ x. log_end x) (same_log s n c k inodes m d);
     digested_here = digested_now;
     digested_else = λ m d f other. ap (λ x. x.digested) (log_else s.nodes n c (inodes_now s n c k) (further s n c k) has m d other);
     area_here = area_now;

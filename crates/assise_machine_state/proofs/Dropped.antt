@@ -5,12 +5,14 @@ use Rattle.std.proofs.Props.{props}
 use Rattle.std.proofs.lemmas.Bool.{cases_Bool, cases_eq, ne_eqb}
 use Rattle.assise_record.specs.LogRecord.{LogRecord}
 use Rattle.assise_private_log.specs.NumberedLog.{end as log_end}
+use Rattle.assise_private_log.proofs.Borders.{border_first}
 use Rattle.assise_digest.specs.Region.{HasClient, RegionValue, log_of, no_log}
 use Rattle.assise_machine_laws.specs.NodeSteps.{Drops}
 use Rattle.assise_machine_laws.specs.Sound.{IsSound}
 use Rattle.assise_machine_laws.specs.World.{World, digested_by_all, end}
 use Rattle.assise_machine_laws.proofs.Dropping.{drop_sound}
 use Rattle.assise_machine_laws.proofs.Observing.{digested_by_all-below, least_of-end}
+use Rattle.assise_machine_events.proofs.Failable.{digested_border}
 use Rattle.assise_machine_state.specs.Changes.{after_drop, drops_to, first_but}
 use Rattle.assise_machine_state.specs.ClientValues.{client_seen}
 use Rattle.assise_machine_state.specs.NodeValues.{AreDigested, IsDigestedTo, log_in, log_seen, no_region, region_in, region_seen}
@@ -71,6 +73,10 @@ fronts_of s c sound = record {
   begun = λ d. ∥∥₁_elim sound (search props) (λ h. (has_fronts s c h).begun d);
 }
 
+-- what all full nodes have digested ends at a border
+to_border : (s : StateValue) (c : ℕ) → ∥ IsSound (world_of s) ∥₁ → (world_of s).border c (digested_by_all (world_of s) c) ≡ true
+to_border s c sound = ∥∥₁_elim sound (search props) (λ h. digested_border (world_of s) h c)
+
 each_digested : (rs : List RegionValue) (c to : ℕ) → ((k : ℕ) → k < length rs → HasClient (slice_index_or rs k no_region) c → IsDigestedTo (log_of (slice_index_or rs k no_region) c) to) → AreDigested rs c to
 each_digested [] c to each = tt
 each_digested (r ∷ rs) c to each = (each 0 (omega arith), each_digested rs c to (λ k low. each (suc k) (omega (arith, low))))
@@ -127,7 +133,7 @@ module _ (s : StateValue) (shape : IsShaped s) (sound : ∥ IsSound (world_of s)
     next_drops : Drops (world_of t) (first_but (world_of t) (suc m) to) (world_of u)
     next_drops =
         let fronts = fronts_of t (suc m) same.sound in
-        dropped_fronts t (suc m) to same.shape fronts next_client (fronts.begun (suc m)) (omega arith)
+        dropped_fronts t (suc m) to same.shape fronts next_client (fronts.begun (suc m)) (omega arith) (to_border t (suc m) same.sound)
 
     next_same : StillDropping s u
     next_same = record {
@@ -138,7 +144,9 @@ module _ (s : StateValue) (shape : IsShaped s) (sound : ∥ IsSound (world_of s)
       history = same.history;
       limit = same.limit;
       area = λ k i. drop_areas t (suc m) to k i ∙ same.area k i;
-      shape = drop_shaped t (suc m) to same.shape;
+      shape =
+          let fronts = fronts_of t (suc m) same.sound in
+          drop_shaped t (suc m) to same.shape fronts next_client (fronts.begun (suc m)) (omega arith) (to_border t (suc m) same.sound);
       sound = ∥∥₁_map same.sound (λ h. drop_sound (world_of t) (world_of u) (first_but (world_of t) (suc m) to) h next_drops);
     }
 
@@ -161,7 +169,7 @@ module _ (s : StateValue) (shape : IsShaped s) (sound : ∥ IsSound (world_of s)
   nothing_drops = record {
     low = λ c. omega arith;
     high = λ c. (fronts_of s c sound).begun c;
-    border_at = λ c. refl;
+    border_at = λ c. border_first (own_seen s c).log (own_seen s c).log.first (omega arith);
     calls = refl;
     records = λ c. none_dropped (w.first c) (w.records c);
     first = λ c. refl;

@@ -2,14 +2,17 @@
 use Rattle.std.proofs.Common.{◌≡◌, ◌≢◌, ◌⊎◌, ℕ, ◌+◌, ◌-◌, ◌<◌, ◌≤◌, min, Bool, true, false, not, ◌==◌, List, length, take, filter, Some, None, inl, inr, refl, ap, sym, subst, ◌∙◌, arith, true≢false, []}
 use Rattle.std.specs.Ordering.{nat_cmp}
 use Rattle.std.specs.FinSet as set
+use Rattle.std.proofs.Math.Logic.{∥∥₁_elim}
+use Rattle.std.proofs.Props.{props}
 use Rattle.std.proofs.Math.Bool.{and-false}
-use Rattle.std.proofs.lemmas.Bool.{cases_Bool, cases_eq, ne_eqb}
+use Rattle.std.proofs.lemmas.Bool.{cases_Bool, cases_eq, cases_lt, ne_eqb}
 use Rattle.std.proofs.lemmas.List.{length-take, nil_from_length}
 use Rattle.assise_history.specs.Entries.{fails}
 use Rattle.assise_history.proofs.Counting.{durability-still}
 use Rattle.assise_inode_table.specs.Contents.{values}
 use Rattle.assise_inode_table.specs.Traces.{NumberedCall, below}
-use Rattle.assise_private_log.specs.NumberedLog.{end as log_end}
+use Rattle.assise_private_log.specs.NumberedLog.{NumberedLog, end as log_end, is_border, without_tail}
+use Rattle.assise_private_log.proofs.Borders.{border_end, border_first}
 use Rattle.assise_digest.specs.Region.{up_to_number}
 use Rattle.assise_lease_table.specs.declared.lease.Asked.{Asked}
 use Rattle.assise_lease_table.specs.declared.lease.Lease.{Lease}
@@ -24,7 +27,7 @@ use Rattle.assise_machine_laws.specs.NodeSteps.{Fails, kept_at_failure}
 use Rattle.assise_machine_laws.specs.Sound.{IsSound}
 use Rattle.assise_machine_laws.specs.Staying.{SameLeases}
 use Rattle.assise_machine_laws.specs.World.{Full, World, call_at, end}
-use Rattle.assise_machine_laws.proofs.Failing.{kept_high}
+use Rattle.assise_machine_laws.proofs.Failing.{kept_border, kept_high}
 use Rattle.assise_machine_leases.specs.Handing.{FailsWith}
 use Rattle.assise_machine_leases.specs.Leases.{AreLeases}
 use Rattle.assise_machine_history.specs.Lost.{losses_of}
@@ -35,15 +38,15 @@ use Rattle.assise_machine_state.specs.ClientValues.{ClientValue, client_seen, cu
 use Rattle.assise_machine_state.specs.NodeValues.{log_seen, region_seen}
 use Rattle.assise_machine_state.specs.Observed.{is_full_in, own_seen, world_of}
 use Rattle.assise_machine_state.specs.Places.{IsNumber}
-use Rattle.assise_machine_state.specs.Shape.{AreLeft, HasSingleGroups, IsShaped}
+use Rattle.assise_machine_state.specs.Shape.{AreLeft, IsMarked, IsShaped}
 use Rattle.assise_machine_state.specs.StateValues.{StateValue, leases_of, standings}
 use Rattle.assise_machine_state.proofs.CutSeen.{client_fails, client_stays, count_over, home_number, inodes_left, log_cut_left, log_left, count_left, logs_gone, logs_left}
 use Rattle.assise_machine_state.proofs.Fullness.{full_seen, node_number, same_first, seen_full, no_log_in}
 use Rattle.assise_machine_state.proofs.Kept.{kept_elsewhere, kept_from_first, kept_received, part_first, front_kept, front_whole, all_kept, end_cut}
+use Rattle.assise_machine_state.proofs.Marks.{border_inside, borders_same, marked_as, marked_tail, so_many_marks, tail_border}
 use Rattle.assise_machine_state.proofs.Noted.{failed_over, left_else, lives_elsewhere, unasked_cut}
-use Rattle.assise_machine_state.proofs.Shaping.{KnowsHome, limit_seen, limits_all}
+use Rattle.assise_machine_state.proofs.Shaping.{KnowsHome, limit_seen, limits_all, own_marked}
 use Rattle.assise_machine_state.proofs.Standings.{else_then, full_as, gone_then, lowest_is_full, survivor_left, count_then}
-use Rattle.assise_machine_state.proofs.Singles.{single_tail}
 use Rattle.assise_machine_state.proofs.Staying.{leases_frozen}
 
 -- the cut of a client whose node failed
@@ -110,7 +113,7 @@ module _ (s : StateValue) (n : ℕ) (inodes : set.FinSet nat_cmp) (levels : TwoL
   log_same : (m c : ℕ) → m ≢ n → (client_seen s.clients c).home ≢ n → log_seen t.nodes m c ≡ log_seen s.nodes m c
   log_same m c apart other = log_left s.nodes n s.clients kept m c failed_there apart other
 
-  -- ---- its shape
+  -- ---- parts of its shape
 
   clients_left : length t.clients ≡ length s.clients
   clients_left = count_over n kept s.clients (length s.clients)
@@ -157,34 +160,11 @@ module _ (s : StateValue) (n : ℕ) (inodes : set.FinSet nat_cmp) (levels : TwoL
       let other : k ≢ n = not_failed k f in
       same_limit k c other ∙ limit_seen s k c shape (sym (else_stands k other) ∙ f) record { some = client.some; there = subst (λ m. c ≤ m) clients_left client.there }
 
-  left_single : (k c : ℕ) → HasSingleGroups (log_seen t.nodes k c).log
-  left_single k c = elim (cases_eq k n) [
-    | inl is ↦ subst (λ m. HasSingleGroups (log_seen t.nodes m c).log) (sym is) (subst (λ l. HasSingleGroups l.log) (sym (no_log_in t.nodes n c emptied)) refl)
-    | inr apart ↦ (elim (cases_eq (client_seen s.clients c).home n) [
-      | inl here ↦ subst (λ l. HasSingleGroups l.log) (sym (log_there k c apart here)) (single_tail (log_seen s.nodes k c).log (kept c) (shape.single k c))
-      | inr other ↦ subst (λ l. HasSingleGroups l.log) (sym (log_same k c apart other)) (shape.single k c)
-    ])
-  ]
-
   left_durability : (c : ℕ) → (client_seen t.clients c).durability ≡ (client_seen s.clients c).durability
   left_durability c = elim (cases_eq (client_seen s.clients c).home n) [
     | inl here ↦ ap (λ y. y.durability) (client_over c here)
     | inr other ↦ ap (λ y. y.durability) (client_same c other)
   ]
-
-  pub failure_shaped : IsShaped t
-  failure_shaped = record {
-    nodes = count_left s.nodes n s.clients kept ∙ shape.nodes ∙ sym (count_then s.members n inodes stands);
-    few_nodes = subst (λ k. k ≤ 8) (sym (count_left s.nodes n s.clients kept)) shape.few_nodes;
-    logs = left_logs;
-    no_logs = left_none;
-    at_home = λ k c. elim (cases_eq k n) [ inl is ↦ subst (λ m. KnowsHome t m c) (sym is) (gone_home c) | inr apart ↦ left_home k c apart ];
-    limits = limits_all t left_logs left_none left_limit;
-    least_limit = shape.least_limit;
-    most_limit = shape.most_limit;
-    single = left_single;
-    durabilities = λ c. left_durability c ∙ shape.durabilities c ∙ sym (durability-still s.history (fails n (losses_of w n)) c refl);
-  }
 
   -- ---- what the laws observe
 
@@ -312,6 +292,96 @@ module _ (s : StateValue) (n : ℕ) (inodes : set.FinSet nat_cmp) (levels : TwoL
           let cut : length (w'.records c) ≡ min (kept c - w.first c) (length (w.records c)) = ap length (own_records c) ∙ length-take (kept c - w.first c) (w.records c) in
           omega (arith, first, top, cut, own_first c)
 
+      -- ---- groups
+
+      abbrev own : ℕ → NumberedLog
+      own c = (own_seen s c).log
+
+      own_marks : (c : ℕ) → length (own c).begins ≡ length (own c).records
+      own_marks c = so_many_marks (is_border (own c)) (own c) (own_marked s shape.marked c)
+
+      abbrev lowest : ℕ → NumberedLog
+      lowest c = (log_seen s.nodes low c).log
+
+      lowest_first : (c : ℕ) → (lowest c).first ≡ (own c).first
+      unfolding world_of
+      lowest_first c = same_first s low c sound (was_full low low_stands)
+
+      -- below what is kept the borders of the lowest node's log are those of the own one
+      lowest_border : (c k : ℕ) → (client_seen t.clients c).failed ≡ true → k < kept c → is_border (lowest c) k ≡ is_border (own c) k
+      unfolding world_of
+      lowest_border c k over below =
+          elim (cases_lt (lowest c).first k) [
+            | inl inside ↦
+                let there : kept c ≤ w.received low c = kept_received w n low c sound (was_full low low_stands) (not_failed low low_stands) (has_ended c over) in
+                border_inside (is_border (own c)) (lowest c) k (shape.marked low c) inside (omega (arith, below, there))
+            | inr before ↦ border_first (lowest c) k before ∙ sym (border_first (own c) k (omega (arith, before, lowest_first c)))
+          ]
+
+      -- of a client whose node fails now
+      cut_border : (c k : ℕ) → (client_seen t.clients c).failed ≡ true → (client_seen s.clients c).home ≡ n → k ≤ kept c → is_border (own_seen t c).log k ≡ is_border (own c) k
+      unfolding world_of
+      cut_border c k over here high =
+          let cut : NumberedLog = without_tail (lowest c) (kept c) in
+          ap (λ l. is_border l.log k) (own_once_over c over ∙ log_there low c (not_failed low low_stands) here)
+          ∙ elim (cases_eq k (kept c)) [
+            | inl last ↦
+                let from : (lowest c).first ≤ kept c = omega (arith, kept_from_first w n c sound, lowest_first c) in
+                let ends : log_end cut ≤ k = omega (arith, end_cut (lowest c) (kept c) from, last) in
+                border_end cut k (so_many_marks (is_border (own c)) cut (marked_tail (is_border (own c)) (lowest c) (kept c) (shape.marked low c))) ends
+                ∙ sym (ap (is_border (own c)) last ∙ kept_border w n c sound.coherent)
+            | inr before ↦
+                let below : k < kept c = omega (arith, high, before) in
+                tail_border (lowest c) (kept c) k below ∙ lowest_border c k over below
+          ]
+
+      -- of one whose node failed before
+      left_border : (c k : ℕ) → (client_seen t.clients c).failed ≡ true → (client_seen s.clients c).home ≢ n → is_border (own_seen t c).log k ≡ is_border (own c) k
+      unfolding world_of end
+      left_border c k over other =
+          let ended : w.lives c ≡ false = ap (λ x. not x.failed) (sym (client_same c other)) ∙ ap not over in
+          let all : w.received low c ≡ end w c = sound.left low c ended (was_full low low_stands) in
+          ap (λ l. is_border l.log k) (own_once_over c over ∙ log_same low c (not_failed low low_stands) other)
+          ∙ borders_same (own c) (lowest c) k (own_marks c) (shape.marked low c) (lowest_first c) all
+
+      own_border : (c k : ℕ) → k ≤ kept c → is_border (own_seen t c).log k ≡ is_border (own c) k
+      own_border c k high =
+          elim (cases_Bool (client_seen t.clients c).failed) [
+            | inl over ↦ (elim (cases_eq (client_seen s.clients c).home n) [
+              | inl here ↦ cut_border c k over here high
+              | inr other ↦ left_border c k over other
+            ])
+            | inr unfailed ↦ ap (λ l. is_border l.log k) (own_while_lives c unfailed)
+          ]
+
+      -- a log that is cut has the groups that are left
+      marked_cut : (k c : ℕ) → k ≢ n → (client_seen s.clients c).home ≡ n → IsMarked (is_border (own_seen t c).log) (log_seen t.nodes k c).log
+      marked_cut k c apart here =
+          let l : NumberedLog = (log_seen s.nodes k c).log in
+          let cut : NumberedLog = without_tail l (kept c) in
+          subst (λ x. IsMarked (is_border (own_seen t c).log) x.log) (sym (log_there k c apart here))
+          (marked_as (is_border (own c)) (is_border (own_seen t c).log) cut
+          (λ j low high. sym (own_border c j (omega (arith, low, high, length-take (kept c - l.first) l.records))))
+          (marked_tail (is_border (own c)) l (kept c) (shape.marked k c)))
+
+      marked_left : (k c : ℕ) → k ≢ n → (client_seen s.clients c).home ≢ n → IsMarked (is_border (own_seen t c).log) (log_seen t.nodes k c).log
+      marked_left k c apart other =
+          let l : NumberedLog = (log_seen s.nodes k c).log in
+          subst (λ x. IsMarked (is_border (own_seen t c).log) x.log) (sym (log_same k c apart other))
+          (elim (cases_Bool (client_seen t.clients c).failed) [
+            | inl over ↦ marked_as (is_border (own c)) (is_border (own_seen t c).log) l (λ j low high. sym (left_border c j over other)) (shape.marked k c)
+            | inr unfailed ↦ subst (λ x. IsMarked (is_border x.log) l) (sym (own_while_lives c unfailed)) (shape.marked k c)
+          ])
+
+      left_marked : (k c : ℕ) → IsMarked (is_border (own_seen t c).log) (log_seen t.nodes k c).log
+      left_marked k c = elim (cases_eq k n) [
+        | inl is ↦ subst (λ m. IsMarked (is_border (own_seen t c).log) (log_seen t.nodes m c).log) (sym is) (subst (λ l. IsMarked (is_border (own_seen t c).log) l.log) (sym (no_log_in t.nodes n c emptied)) refl)
+        | inr apart ↦ (elim (cases_eq (client_seen s.clients c).home n) [
+          | inl here ↦ marked_cut k c apart here
+          | inr other ↦ marked_left k c apart other
+        ])
+      ]
+
       -- ---- the failure
 
       survivor : (m : ℕ) × ((m ≢ n) × Full w m)
@@ -336,7 +406,7 @@ module _ (s : StateValue) (n : ℕ) (inodes : set.FinSet nat_cmp) (levels : TwoL
           calls = same;
           records = λ c. own_records c ∙ sym (part_first w c (kept c));
           first = own_first;
-          border = λ c k low. refl;
+          border = own_border;
           next = client_keeps (λ x. x.next) (λ k x. refl);
           made = client_keeps (λ x. x.made) (λ k x. refl);
           goals = goals;
@@ -375,3 +445,19 @@ module _ (s : StateValue) (n : ℕ) (inodes : set.FinSet nat_cmp) (levels : TwoL
               ap (λ x. cut_of t.cuts c x i) (client_same c other)
               ∙ unasked_cut s.cuts asked c (client_seen s.clients c) i (left_else s (λ d. lives s.levels.home d n) asked left c i (lives_elsewhere s n c leases other));
         }
+
+  -- ---- its shape is one
+
+  pub failure_shaped : ∥ IsSound w ∥₁ → failure_fault s.members n ≡ None → IsShaped t
+  failure_shaped sound fine = record {
+    nodes = count_left s.nodes n s.clients kept ∙ shape.nodes ∙ sym (count_then s.members n inodes stands);
+    few_nodes = subst (λ k. k ≤ 8) (sym (count_left s.nodes n s.clients kept)) shape.few_nodes;
+    logs = left_logs;
+    no_logs = left_none;
+    at_home = λ k c. elim (cases_eq k n) [ inl is ↦ subst (λ m. KnowsHome t m c) (sym is) (gone_home c) | inr apart ↦ left_home k c apart ];
+    limits = limits_all t left_logs left_none left_limit;
+    least_limit = shape.least_limit;
+    most_limit = shape.most_limit;
+    marked = λ k c. ∥∥₁_elim sound (search props) (λ h. left_marked h fine k c);
+    durabilities = λ c. left_durability c ∙ shape.durabilities c ∙ sym (durability-still s.history (fails n (losses_of w n)) c refl);
+  }

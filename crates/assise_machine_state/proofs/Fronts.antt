@@ -1,10 +1,11 @@
 -- What the laws observe of fronts that are dropped at all nodes.
 use Rattle.std.proofs.Common.{◌≡◌, ◌≢◌, ℕ, ◌+◌, ◌-◌, ◌≤◌, true, List, length, drop, inl, inr, refl, ap, sym, subst, ◌∙◌, arith, eq-eqb}
 use Rattle.std.proofs.lemmas.Bool.{cases_Bool, cases_eq, ne_eqb}
-use Rattle.std.proofs.lemmas.List.{length-drop}
+use Rattle.std.proofs.lemmas.List.{length-drop, nil_from_length}
 use Rattle.assise_record.specs.LogRecord.{LogRecord}
 use Rattle.assise_inode_table.specs.Contents.{values}
-use Rattle.assise_private_log.specs.NumberedLog.{end as log_end}
+use Rattle.assise_private_log.specs.NumberedLog.{end as log_end, is_border}
+use Rattle.assise_private_log.proofs.Borders.{border_first}
 use Rattle.assise_digest.specs.Region.{from_number, no_log}
 use Rattle.assise_machine_laws.specs.NodeSteps.{Drops}
 use Rattle.assise_machine_laws.specs.Sound.{IsSound}
@@ -14,21 +15,18 @@ use Rattle.assise_machine_laws.proofs.Observing.{digested_by_all-below, digested
 use Rattle.assise_machine_events.proofs.Granting.{clients_after, full_after}
 use Rattle.assise_machine_state.specs.Changes.{after_drop, first_but}
 use Rattle.assise_machine_state.specs.ClientValues.{client_seen}
-use Rattle.assise_machine_state.specs.NodeValues.{log_seen}
+use Rattle.assise_machine_state.specs.NodeValues.{log_seen, region_seen}
 use Rattle.assise_machine_state.specs.Observed.{is_full_in, own_node, own_seen, world_of}
 use Rattle.assise_machine_state.specs.Places.{IsNumber}
-use Rattle.assise_machine_state.specs.Shape.{IsShaped}
+use Rattle.assise_machine_state.specs.Shape.{IsMarked, IsShaped}
 use Rattle.assise_machine_state.specs.StateValues.{StateValue, standings}
-use Rattle.assise_machine_state.proofs.Fullness.{full_seen, has_log, no_log_there, same_first}
-use Rattle.assise_machine_state.proofs.Logging.{beside_seen, inodes_seen, own_changes, part_seen}
-use Rattle.assise_machine_state.proofs.Shaping.{shaped_all}
-use Rattle.assise_machine_state.proofs.Singles.{single_front}
+use Rattle.assise_machine_state.proofs.Fullness.{full_seen, has_log, no_log_in, no_log_there, same_first, seen_full}
+use Rattle.assise_machine_state.proofs.Logging.{beside_seen, count_seen, inodes_seen, own_changes, own_changes_all, part_seen}
+use Rattle.assise_machine_state.proofs.Marks.{front_border, marked_front}
+use Rattle.assise_machine_state.proofs.Shaping.{AreMarked, shaped_all}
 use Rattle.assise_machine_state.proofs.Staying.{clients_as, goals_as, leases_as}
 
 -- ---- fronts are dropped
-
-pub drop_shaped : (s : StateValue) (c to : ℕ) → IsShaped s → IsShaped (after_drop s c to)
-drop_shaped s c to shape = shaped_all s c (λ l. from_number l to) shape (λ l. refl) (λ l. refl) (λ l. single_front l.log to)
 
 pub drop_areas : (s : StateValue) (c to n i : ℕ) → (world_of (after_drop s c to)).area n i ≡ (world_of s).area n i
 unfolding world_of
@@ -53,7 +51,7 @@ has_fronts s c sound = record {
 }
 
 module _ (s : StateValue) (c to : ℕ) (shape : IsShaped s) (fronts : HasFronts s c) (client : IsNumber s.clients c)
-    (from_first : (world_of s).first c ≤ to) (all_digested : to ≤ digested_by_all (world_of s) c) where
+    (from_first : (world_of s).first c ≤ to) (all_digested : to ≤ digested_by_all (world_of s) c) (at_border : (world_of s).border c to ≡ true) where
   abbrev w : World
   w = world_of s
 
@@ -84,9 +82,7 @@ module _ (s : StateValue) (c to : ℕ) (shape : IsShaped s) (fronts : HasFronts 
         | inl full ↦ begins own full
         | inr away ↦
             let none : log_seen s.nodes own c ≡ no_log = no_log_there s own c shape away in
-            no_log_there (after_drop s c to) own c (drop_shaped s c to shape) away
-            ∙ ap (from_number no_log) (sym (nowhere none))
-            ∙ ap (λ x. from_number x to) (sym none)
+            own_changes_all c (λ l. from_number l to) client.some (subst (λ k. from_number no_log k ≡ no_log) (sym (nowhere none)) refl) s.nodes own
       ]
 
   beside : (n d : ℕ) → d ≢ c → log_seen (after_drop s c to).nodes n d ≡ log_seen s.nodes n d
@@ -95,6 +91,36 @@ module _ (s : StateValue) (c to : ℕ) (shape : IsShaped s) (fronts : HasFronts 
   own_beside : (d : ℕ) → d ≢ c → own_seen (after_drop s c to) d ≡ own_seen s d
   unfolding own_seen
   own_beside d other = beside (own_node (standings s) (client_seen s.clients d)) d other
+
+  -- ---- its shape
+
+  -- all logs of the client begin there then, in its groups
+  marked_here : AreMarked s → (n : ℕ) → IsMarked (is_border (own_seen (after_drop s c to) c).log) (log_seen (after_drop s c to).nodes n c).log
+  unfolding world_of
+  marked_here all n =
+      subst (λ l. IsMarked (is_border l.log) (log_seen (after_drop s c to).nodes n c).log) (sym own_begins)
+      (elim (cases_Bool (is_full_in (standings s) n)) [
+        | inl full ↦
+            let low : (log_seen s.nodes n c).log.first ≤ to = subst (λ k. k ≤ to) (sym (fronts.first n (seen_full s n full))) from_first in
+            subst (λ l. IsMarked (is_border (from_number (own_seen s c) to).log) l.log) (sym (begins n full))
+            (marked_front (own_seen s c).log (log_seen s.nodes n c).log to from_first at_border low (all n c))
+        | inr away ↦
+            let none : log_seen (after_drop s c to).nodes n c ≡ no_log =
+            no_log_in (after_drop s c to).nodes n c (nil_from_length (region_seen (after_drop s c to).nodes n).logs (count_seen c (λ l. from_number l to) s.nodes n ∙ ap length (shape.no_logs n away))) in
+            subst (λ l. IsMarked (is_border (from_number (own_seen s c) to).log) l.log) (sym none) refl
+      ])
+
+  marked_now : AreMarked s → AreMarked (after_drop s c to)
+  marked_now all n d =
+      elim (cases_eq d c) [
+        | inl is ↦ subst (λ e. IsMarked (is_border (own_seen (after_drop s c to) e).log) (log_seen (after_drop s c to).nodes n e).log) (sym is) (marked_here all n)
+        | inr other ↦
+            subst (λ l. IsMarked (is_border l.log) (log_seen (after_drop s c to).nodes n d).log) (sym (own_beside d other))
+            (subst (λ l. IsMarked (is_border (own_seen s d).log) l.log) (sym (beside n d other)) (all n d))
+      ]
+
+  pub drop_shaped : IsShaped (after_drop s c to)
+  drop_shaped = shaped_all s c (λ l. from_number l to) shape (λ l. refl) (λ l. refl) marked_now
 
   -- ---- of all clients
 
@@ -149,16 +175,30 @@ module _ (s : StateValue) (c to : ℕ) (shape : IsShaped s) (fronts : HasFronts 
         | inr other ↦ ap (λ x. log_end x.log) (beside n d other)
       ]
 
+  first_border : (d : ℕ) → w.border d (w.first d) ≡ true
+  unfolding world_of
+  first_border d = border_first (own_seen s d).log (own_seen s d).log.first (omega arith)
+
+  border_now : (d k : ℕ) → f d ≤ k → w'.border d k ≡ w.border d k
+  unfolding world_of
+  border_now d k low =
+      elim (cases_eq d c) [
+        | inl is ↦
+            subst (λ e. w'.border e k ≡ w.border e k) (sym is)
+            (ap (λ l. is_border l.log k) own_begins ∙ front_border (own_seen s c).log to k from_first at_border (subst (λ j. j ≤ k) (ap f is ∙ f_here) low))
+        | inr other ↦ ap (λ l. is_border l.log k) (own_beside d other)
+      ]
+
   pub dropped_fronts : Drops w f w'
   unfolding world_of
   dropped_fronts = record {
     low = each (λ d k. w.first d ≤ k) from_first (λ d other. omega arith);
     high = each (λ d k. k ≤ digested_by_all w d) all_digested (λ d other. fronts.begun d);
-    border_at = λ d. refl;
+    border_at = each (λ d k. w.border d k ≡ true) at_border (λ d other. first_border d);
     calls = refl;
     records = records_now;
     first = first_now;
-    border = λ d k low. refl;
+    border = border_now;
     next = λ d. refl;
     made = λ d. refl;
     clients = clients_as s (after_drop s c to) refl;
@@ -171,9 +211,9 @@ module _ (s : StateValue) (c to : ℕ) (shape : IsShaped s) (fronts : HasFronts 
     area = λ n i full. drop_areas s c to n i;
   }
 
-pub dropped : (s : StateValue) (c to : ℕ) → IsShaped s → IsSound (world_of s) → IsNumber s.clients c → (world_of s).first c ≤ to → to ≤ digested_by_all (world_of s) c →
+pub dropped : (s : StateValue) (c to : ℕ) → IsShaped s → IsSound (world_of s) → IsNumber s.clients c → (world_of s).first c ≤ to → to ≤ digested_by_all (world_of s) c → (world_of s).border c to ≡ true →
     Drops (world_of s) (first_but (world_of s) c to) (world_of (after_drop s c to))
-dropped s c to shape sound client low high = dropped_fronts s c to shape (has_fronts s c sound) client low high
+dropped s c to shape sound client low high border = dropped_fronts s c to shape (has_fronts s c sound) client low high border
 
 -- ---- one after another
 

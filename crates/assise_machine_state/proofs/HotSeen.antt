@@ -1,8 +1,8 @@
 -- How many inodes may be hot at a node isn't observed.
-use Rattle.std.proofs.Common.{◌≡◌, ℕ, ◌-◌, List, length, not, true, refl, ap, subst, sym}
+use Rattle.std.proofs.Common.{◌≡◌, ℕ, ◌-◌, List, length, not, refl, ap}
 use Rattle.std.proofs.lemmas.List.{length-set}
 use Rattle.assise_inode_table.specs.Contents.{InodeMap, values}
-use Rattle.assise_private_log.specs.NumberedLog.{end}
+use Rattle.assise_private_log.specs.NumberedLog.{end, is_border}
 use Rattle.assise_digest.specs.Region.{ReceivedLog, RegionValue, no_log, with_hot_capacity}
 use Rattle.assise_machine_leases.specs.Leases.{client_lease, is_held, is_written}
 use Rattle.assise_machine_history.specs.Numbered.{kept_numbered}
@@ -12,10 +12,10 @@ use Rattle.assise_machine_state.specs.ClientValues.{client_seen}
 use Rattle.assise_machine_state.specs.NodeValues.{log_seen, no_region, region_in, region_seen}
 use Rattle.assise_machine_state.specs.Observed.{full_in, observed, own_node, own_seen, world_of}
 use Rattle.assise_machine_state.specs.Places.{at}
-use Rattle.assise_machine_state.specs.Shape.{AreNoted, HasSingleGroups, IsShaped}
+use Rattle.assise_machine_state.specs.Shape.{AreNoted, IsShaped}
 use Rattle.assise_machine_state.specs.StateValues.{StateValue, leases_of, standings}
 use Rattle.assise_machine_state.proofs.Seeing.{seen_kept}
-use Rattle.assise_machine_state.proofs.Shaping.{shaped_as}
+use Rattle.assise_machine_state.proofs.Shaping.{shaped_as, still_marked}
 
 -- what is observed, by what is seen of the nodes' inodes and logs
 observed_by : StateValue → (inodes : ℕ → InodeMap) → (logs : ℕ → List ReceivedLog) → Machine
@@ -34,7 +34,7 @@ observed_by s inodes logs = record {
     crashed = λ c. (client_seen s.clients c).crashed;
     records = λ c. (at no_log (logs (own_node (standings s) (client_seen s.clients c))) c).log.records;
     first = λ c. (at no_log (logs (own_node (standings s) (client_seen s.clients c))) c).log.first;
-    border = λ c k. true;
+    border = λ c k. is_border (at no_log (logs (own_node (standings s) (client_seen s.clients c))) c).log k;
     goal = λ c. (client_seen s.clients c).goal;
     next = λ c. (client_seen s.clients c).next;
     made = λ c. (client_seen s.clients c).made;
@@ -66,7 +66,7 @@ module _ (s : StateValue) (n capacity : ℕ) where
   machine_same = λ i. observed_by s (λ k. inodes_same k i) (λ k. logs_same k i)
 
   pub shape_kept : IsShaped s → IsShaped t
-  unfolding log_seen
+  unfolding log_seen own_seen
   shape_kept shape = shaped_as s t shape record {
     nodes = length-set s.nodes (n - 1) changed;
     members = refl;
@@ -78,7 +78,8 @@ module _ (s : StateValue) (n capacity : ℕ) where
     limit = refl;
     limits = λ k c. ap (λ ls. (at no_log ls c).log.limit) (logs_same k);
     at_home = λ k c. ap (λ ls. (at no_log ls c).at_home) (logs_same k);
-    single = λ all k c. subst (λ ls. HasSingleGroups (at no_log ls c).log) (sym (logs_same k)) (all k c);
+    marked = still_marked s t (λ k c. ap (λ ls. (at no_log ls c).log) (logs_same k))
+        (λ c. ap (λ ls. (at no_log ls c).log) (logs_same (own_node (standings s) (client_seen s.clients c))));
     durability = λ c. refl;
     opened = λ c. refl;
   }

@@ -3,7 +3,7 @@ pub mod Taking
 pub mod Seeing
 pub mod Starting
 pub mod Logging
-pub mod Singles
+pub mod Marks
 pub mod Standings
 pub mod Fullness
 pub mod Owning

@@ -1,5 +1,5 @@
 -- What is seen of nodes after a change of one of them, of one of its logs, or of one client's logs at all of them.
-use Rattle.std.proofs.Common.{◌≡◌, ◌≢◌, ℕ, ◌-◌, ◌<◌, nat_le, List, [], ◌∷◌, length, get_or, map, inl, inr, refl, ap, sym, subst, ◌∙◌, append-nil}
+use Rattle.std.proofs.Common.{◌≡◌, ◌≢◌, ℕ, ◌-◌, ◌<◌, nat_le, Bool, List, [], ◌∷◌, length, get_or, map, inl, inr, refl, ap, sym, subst, ◌∙◌, append-nil}
 use Rattle.std.proofs.Math.ListN.{get_or-map}
 use Rattle.std.proofs.lemmas.Bool.{cases_Bool, cases_eq, le-leb, leb-false, leb-true}
 use Rattle.std.proofs.lemmas.List.{length-set}
@@ -7,11 +7,11 @@ use Rattle.assise_inode_table.specs.Contents.{InodeMap}
 use Rattle.assise_digest.specs.Region.{ReceivedLog, RegionValue, log_of, no_log}
 use Rattle.assise_machine_state.specs.NodeValues.{HasLog, changed_in, log_in, log_seen, no_region, region_in, region_seen, with_records, with_region}
 use Rattle.assise_machine_state.specs.Places.{IsNumber, at, put}
-use Rattle.assise_machine_state.proofs.Seeing.{is_seen, seen_else, seen_here, seen_kept, seen_holds, seen_past, item_holds}
+use Rattle.assise_machine_state.proofs.Seeing.{is_seen, seen_else, seen_here, seen_kept, seen_past}
 
 -- a log into which nothing comes stays
-pub none_more : (l : ReceivedLog) → with_records l [] ≡ l
-none_more l = λ i. record {
+pub none_more : (border : ℕ → Bool) (l : ReceivedLog) → with_records border l [] ≡ l
+none_more border l = λ i. record {
   log = record { first = l.log.first; limit = l.log.limit; records = append-nil l.log.records i; begins = append-nil l.log.begins i };
   digested = l.digested;
   at_home = l.at_home;
@@ -20,11 +20,6 @@ none_more l = λ i. record {
 -- a log that a node has is an item
 pub log_number : (rs : List RegionValue) (n c : ℕ) → HasLog rs n c → IsNumber (region_in rs n).logs c
 log_number rs n c has = record { some = has.client.some; there = has.client.there }
-
--- what holds of all logs holds of that which a node is looked up for
-pub log_in_holds : (P : ReceivedLog → Type 0) (rs : List RegionValue) → ((n c : ℕ) → P (log_seen rs n c)) → (n c : ℕ) → P (log_in rs n c)
-unfolding log_seen region_seen
-log_in_holds P rs all n c = item_holds P no_log (region_in rs n).logs (λ d. item_holds (λ r. P (at no_log r.logs d)) no_region rs (λ m. all m d) n) c
 
 -- ---- node n has other inodes or logs
 
@@ -63,14 +58,6 @@ module _ (rs : List RegionValue) (n c : ℕ) (inodes : InodeMap) (l : ReceivedLo
   pub log_same : {A : Type 0} (f : ReceivedLog → A) (m d : ℕ) → f l ≡ f (log_in rs n c) → f (log_seen (log_changed rs n c inodes l) m d) ≡ f (log_seen rs m d)
   unfolding log_seen
   log_same f m d same = region_kept rs n (region_with rs n c inodes l) (λ r. f (at no_log r.logs d)) (seen_kept f no_log l (region_in rs n).logs c d same) m
-
-  -- what holds of the log and of all logs holds of all then
-  pub log_holds : (P : ReceivedLog → Type 0) → P l → ((m d : ℕ) → P (log_seen rs m d)) → (m d : ℕ) → P (log_seen (log_changed rs n c inodes l) m d)
-  unfolding log_seen region_seen
-  log_holds P new old m d =
-      let beside : (e : ℕ) → P (at no_log (region_in rs n).logs e) = λ e. item_holds (λ r. P (at no_log r.logs e)) no_region rs (λ k. old k e) n in
-      seen_holds (λ r. P (at no_log r.logs d)) no_region (region_with rs n c inodes l) rs n m
-      (seen_holds P no_log l (region_in rs n).logs c d new (beside d)) (old m d)
 
   module _ (has : HasLog rs n c) where
     pub log_here : log_seen (log_changed rs n c inodes l) n c ≡ l
@@ -129,13 +116,6 @@ module _ (c : ℕ) (g : ReceivedLog → ReceivedLog) where
         | inr e ↦ rw e refl
       ]
 
-  holds_kept : (P : ReceivedLog → Type 0) (r : RegionValue) → ((l : ReceivedLog) → P l → P (g l)) → ((d : ℕ) → P (at no_log r.logs d)) → (d : ℕ) → P (at no_log (changed_in c g r).logs d)
-  holds_kept P r keeps old d =
-      elim (cases_Bool (nat_le c (length r.logs))) [
-        | inl e ↦ rw e (seen_holds P no_log (g (log_of r c)) r.logs c d (keeps (log_of r c) (item_holds P no_log r.logs old c)) (old d))
-        | inr e ↦ rw e (old d)
-      ]
-
   beside_kept : (r : RegionValue) (d : ℕ) → 0 < c → d ≢ c → at no_log (changed_in c g r).logs d ≡ at no_log r.logs d
   beside_kept r d some other =
       elim (cases_Bool (nat_le c (length r.logs))) [
@@ -158,10 +138,6 @@ module _ (c : ℕ) (g : ReceivedLog → ReceivedLog) where
   pub part_seen : {A : Type 0} (f : ReceivedLog → A) (rs : List RegionValue) (n d : ℕ) → ((l : ReceivedLog) → f (g l) ≡ f l) → f (log_seen (map (changed_in c g) rs) n d) ≡ f (log_seen rs n d)
   unfolding log_seen
   part_seen f rs n d same = ap (λ r. f (at no_log r.logs d)) (region_changed rs n) ∙ part_kept f (region_seen rs n) d same
-
-  pub all_hold : (P : ReceivedLog → Type 0) (rs : List RegionValue) → ((l : ReceivedLog) → P l → P (g l)) → ((n d : ℕ) → P (log_seen rs n d)) → (n d : ℕ) → P (log_seen (map (changed_in c g) rs) n d)
-  unfolding log_seen
-  all_hold P rs keeps old n d = subst (λ r. P (at no_log r.logs d)) (sym (region_changed rs n)) (holds_kept P (region_seen rs n) keeps (old n) d)
 
   pub beside_seen : (rs : List RegionValue) (n d : ℕ) → 0 < c → d ≢ c → log_seen (map (changed_in c g) rs) n d ≡ log_seen rs n d
   unfolding log_seen

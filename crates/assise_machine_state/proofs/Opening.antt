@@ -7,7 +7,7 @@ use Rattle.assise_names.specs.declared.durability.Durability.{Durability}
 use Rattle.assise_history.specs.Legal.{durability_of}
 use Rattle.assise_history.proofs.Counting.{durability-opened, durability-other}
 use Rattle.assise_inode_table.specs.Contents.{values}
-use Rattle.assise_private_log.specs.NumberedLog.{end as log_end}
+use Rattle.assise_private_log.specs.NumberedLog.{end as log_end, is_border}
 use Rattle.assise_digest.specs.Region.{ReceivedLog, RegionValue, no_log, with_client as with_client_log}
 use Rattle.assise_lease_tree.specs.TwoLevels.{EnrolsAt, TwoLevels}
 use Rattle.assise_machine_laws.specs.ClientSteps.{Opens}
@@ -21,7 +21,7 @@ use Rattle.assise_machine_state.specs.ClientValues.{ClientValue, client_seen, cu
 use Rattle.assise_machine_state.specs.NodeValues.{begun_log, log_seen, no_region, region_seen, with_logs_begun}
 use Rattle.assise_machine_state.specs.Observed.{is_full_in, own_node, own_seen, world_of}
 use Rattle.assise_machine_state.specs.Places.{IsNumber, at}
-use Rattle.assise_machine_state.specs.Shape.{AreNoted, HasSingleGroups, IsShaped}
+use Rattle.assise_machine_state.specs.Shape.{AreNoted, IsMarked, IsShaped}
 use Rattle.assise_machine_state.specs.StateValues.{StateValue, leases_of, standings}
 use Rattle.assise_machine_state.proofs.Fullness.{full_number, full_seen, no_log_in, no_log_there}
 use Rattle.assise_machine_state.proofs.Noted.{new_unasked, none_cut}
@@ -155,7 +155,7 @@ module _ (s : StateValue) (n : ℕ) (u : Durability) (levels : TwoLevels) where
       records = own_kept (λ l. l.log.records) (λ b. refl);
       first = own_kept (λ l. l.log.first) (λ b. refl);
       next = client_kept (λ y. y.next) refl;
-      border = λ d k. refl;
+      border = λ d k. own_kept (λ l. is_border l.log k) (λ b. refl) d;
       made = client_kept (λ y. y.made) refl;
     }
 
@@ -254,16 +254,23 @@ module _ (s : StateValue) (n : ℕ) (u : Durability) (levels : TwoLevels) where
           | inr other ↦ ap (λ l. l.at_home) (same_log m d other) ∙ shape.at_home m d ∙ sym (ap (λ y. (m == y.home) && not y.failed) (other_client d other))
         ]
 
-    single_new : (m : ℕ) → HasSingleGroups (log_seen s'.nodes m next).log
-    single_new m = elim (cases_Bool (is_full_in (standings s) m)) [
-      | inl f ↦ subst (λ l. HasSingleGroups l.log) (sym (begun_now m f)) refl
-      | inr away ↦ subst (λ l. HasSingleGroups l.log) (sym (no_log_in s'.nodes m next (no_logs_there m away))) refl
+    own_other : (d : ℕ) → d ≢ next → own_seen s' d ≡ own_seen s d
+    unfolding own_seen
+    own_other d other =
+        ap (λ y. log_seen s'.nodes (own_node (standings s) y) d) (other_client d other) ∙ same_log (own_node (standings s) (client_seen s.clients d)) d other
+
+    marked_new : (m : ℕ) → IsMarked (is_border (own_seen s' next).log) (log_seen s'.nodes m next).log
+    marked_new m = elim (cases_Bool (is_full_in (standings s) m)) [
+      | inl f ↦ subst (λ l. IsMarked (is_border (own_seen s' next).log) l.log) (sym (begun_now m f)) refl
+      | inr away ↦ subst (λ l. IsMarked (is_border (own_seen s' next).log) l.log) (sym (no_log_in s'.nodes m next (no_logs_there m away))) refl
     ]
 
-    single_now : (m d : ℕ) → HasSingleGroups (log_seen s'.nodes m d).log
-    single_now m d = elim (cases_eq d next) [
-      | inl is ↦ subst (λ k. HasSingleGroups (log_seen s'.nodes m k).log) (sym is) (single_new m)
-      | inr other ↦ subst (λ l. HasSingleGroups l.log) (sym (same_log m d other)) (shape.single m d)
+    marked_now : (m d : ℕ) → IsMarked (is_border (own_seen s' d).log) (log_seen s'.nodes m d).log
+    marked_now m d = elim (cases_eq d next) [
+      | inl is ↦ subst (λ k. IsMarked (is_border (own_seen s' k).log) (log_seen s'.nodes m k).log) (sym is) (marked_new m)
+      | inr other ↦
+          subst (λ l. IsMarked (is_border l.log) (log_seen s'.nodes m d).log) (sym (own_other d other))
+          (subst (λ l. IsMarked (is_border (own_seen s d).log) l.log) (sym (same_log m d other)) (shape.marked m d))
     ]
 
     limit_now : (m d : ℕ) → is_full_in (standings s) m ≡ true → IsNumber s'.clients d → (log_seen s'.nodes m d).log.limit ≡ s.limit
@@ -288,7 +295,7 @@ module _ (s : StateValue) (n : ℕ) (u : Durability) (levels : TwoLevels) where
       limits = limits_all s' all_logs no_logs_there limit_now;
       least_limit = shape.least_limit;
       most_limit = shape.most_limit;
-      single = single_now;
+      marked = marked_now;
       durabilities = λ d. elim (cases_eq next d) [
         | inl is ↦ subst (λ k. (client_seen s'.clients k).durability ≡ durability_of k s'.history) is (ap (λ y. y.durability) new_client ∙ sym (durability-opened s.history next n u))
         | inr other ↦ ap (λ y. y.durability) (other_client d (λ is. other (sym is))) ∙ shape.durabilities d ∙ sym (durability-other s.history d next n u (ne_eqb next d other))

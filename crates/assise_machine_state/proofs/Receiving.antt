@@ -4,7 +4,7 @@ use Rattle.std.proofs.lemmas.Bool.{cases_Bool, cases_eq}
 use Rattle.std.proofs.lemmas.List.{length-append, length-drop, length-take}
 use Rattle.assise_record.specs.LogRecord.{LogRecord}
 use Rattle.assise_inode_table.specs.Contents.{values}
-use Rattle.assise_private_log.specs.NumberedLog.{end as log_end}
+use Rattle.assise_private_log.specs.NumberedLog.{end as log_end, is_border}
 use Rattle.assise_digest.specs.Region.{ReceivedLog, with_log}
 use Rattle.assise_machine_laws.specs.Chances.{MayDeliver}
 use Rattle.assise_machine_laws.specs.NodeSteps.{Delivers}
@@ -16,17 +16,17 @@ use Rattle.assise_machine_state.specs.ClientValues.{client_seen}
 use Rattle.assise_machine_state.specs.NodeValues.{HasLog, log_in, log_seen, region_in, with_records}
 use Rattle.assise_machine_state.specs.Observed.{own_node, own_seen, world_of}
 use Rattle.assise_machine_state.specs.Places.{IsNumber}
-use Rattle.assise_machine_state.specs.Shape.{IsShaped}
+use Rattle.assise_machine_state.specs.Shape.{IsMarked, IsShaped}
 use Rattle.assise_machine_state.specs.StateValues.{StateValue, standings}
 use Rattle.assise_machine_state.proofs.Fullness.{full_seen, has_log, log_is, same_first}
 use Rattle.assise_machine_state.proofs.Logging.{log_else, log_here, log_same, none_more, region_kept}
-use Rattle.assise_machine_state.proofs.Shaping.{shaped_log}
-use Rattle.assise_machine_state.proofs.Singles.{single_more}
+use Rattle.assise_machine_state.proofs.Marks.{marked_more}
+use Rattle.assise_machine_state.proofs.Shaping.{AreMarked, shaped_log}
 use Rattle.assise_machine_state.proofs.Staying.{clients_as, goals_as, leases_as, logs_as}
 
 -- the node's log of the client then
 abbrev delivered_log : StateValue → (n c k : ℕ) → ReceivedLog
-delivered_log s n c k = with_records (log_in s.nodes n c) (records_between (world_of s) c ((world_of s).received n c) k)
+delivered_log s n c k = with_records (is_border (own_seen s c).log) (log_in s.nodes n c) (records_between (world_of s) c ((world_of s).received n c) k)
 
 -- the areas of all nodes stay
 same_area : (s : StateValue) (n c k m i : ℕ) → (world_of (after_delivery s n c k)).area m i ≡ (world_of s).area m i
@@ -35,10 +35,6 @@ same_area s n c k m i = region_kept s.nodes n (with_log (region_in s.nodes n) c 
 
 pub other_areas : (s : StateValue) (n c k : ℕ) → OtherAreasStay (world_of s) (world_of (after_delivery s n c k))
 other_areas s n c k m i else = same_area s n c k m i
-
-pub delivery_shaped : (s : StateValue) (n c k : ℕ) → IsShaped s → IsShaped (after_delivery s n c k)
-delivery_shaped s n c k shape = shaped_log s s.members n c (region_in s.nodes n).inodes (delivered_log s n c k) shape refl refl
-    (single_more (log_in s.nodes n c) (records_between (world_of s) c ((world_of s).received n c) k)) refl (λ m. refl)
 
 -- what a node has of a log that is a client's own is all of it, and its log of the client begins where the own one does
 pub record HasFront (s : StateValue) (n c : ℕ) : Type 0 where
@@ -86,7 +82,7 @@ module _ (s : StateValue) (n c k : ℕ) (shape : IsShaped s) (front : HasFront s
   no_more all =
       let none : k - w.received n c ≡ 0 = omega (arith, all, may.to) in
       let nothing : take (k - w.received n c) (drop (w.received n c - w.first c) (w.records c)) ≡ [] = ap (λ j. take j (drop (w.received n c - w.first c) (w.records c))) none in
-      ap (with_records (log_in s.nodes n c)) nothing ∙ none_more (log_in s.nodes n c)
+      ap (with_records (is_border (own_seen s c).log) (log_in s.nodes n c)) nothing ∙ none_more (is_border (own_seen s c).log) (log_in s.nodes n c)
 
   same_here : own_node (standings s) (client_seen s.clients c) ≡ n → (m d : ℕ) → log_seen t.nodes m d ≡ log_seen s.nodes m d
   same_here own m d = log_same s.nodes n c (region_in s.nodes n).inodes longer (λ x. x) m d (no_more (front.all_there own))
@@ -104,6 +100,25 @@ module _ (s : StateValue) (n c k : ℕ) (shape : IsShaped s) (front : HasFront s
         ])
         | inr other ↦ same_else (own_node (standings s) (client_seen s.clients d)) d (λ there same. other same)
       ]
+
+  -- and this node's log has its groups
+  marked_now : AreMarked s → AreMarked t
+  marked_now all m d =
+      subst (λ l. IsMarked (is_border l.log) (log_seen t.nodes m d).log) (sym (same_own d))
+      (elim (cases_eq d c) [
+        | inl of_client ↦ (elim (cases_eq m n) [
+          | inl here ↦
+              subst (λ e. IsMarked (is_border (own_seen s e).log) (log_seen t.nodes m e).log) (sym of_client)
+              (subst (λ j. IsMarked (is_border (own_seen s c).log) (log_seen t.nodes j c).log) (sym here)
+              (subst (λ l. IsMarked (is_border (own_seen s c).log) l.log) (sym (log_here s.nodes n c (region_in s.nodes n).inodes longer has))
+              (marked_more (is_border (own_seen s c).log) (log_in s.nodes n c) more (subst (λ l. IsMarked (is_border (own_seen s c).log) l.log) was (all n c)))))
+          | inr away ↦ subst (λ l. IsMarked (is_border (own_seen s d).log) l.log) (sym (same_else m d (λ there same. away there))) (all m d)
+        ])
+        | inr other ↦ subst (λ l. IsMarked (is_border (own_seen s d).log) l.log) (sym (same_else m d (λ there same. other same))) (all m d)
+      ])
+
+  pub delivery_shaped : IsShaped t
+  delivery_shaped = shaped_log s s.members n c (region_in s.nodes n).inodes longer shape refl refl marked_now refl (λ m. refl)
 
   -- ---- this node's log
 
@@ -136,7 +151,7 @@ module _ (s : StateValue) (n c k : ℕ) (shape : IsShaped s) (front : HasFront s
     from = may.from;
     to = may.to;
     border_to = may.border_to;
-    logs = logs_as s t refl refl (λ d. ap (λ x. x.log.records) (same_own d)) (λ d. ap (λ x. x.log.first) (same_own d));
+    logs = logs_as s t refl refl (λ d. ap (λ x. x.log.records) (same_own d)) (λ d. ap (λ x. x.log.first) (same_own d)) (λ d j. ap (λ x. is_border x.log j) (same_own d));
     clients = clients_as s t refl;
     goals = goals_as s t refl;
     leases = leases_as s t (λ i. refl);

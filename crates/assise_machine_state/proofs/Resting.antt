@@ -6,6 +6,7 @@ use Rattle.assise_inode_table.specs.Contents.{Content, values}
 use Rattle.assise_inode_table.proofs.Making.{get-with_value}
 use Rattle.assise_digest.specs.Region.{RegionValue, no_log, with_inode}
 use Rattle.assise_manager.specs.Membership.{Membership}
+use Rattle.assise_private_log.specs.NumberedLog.{is_border}
 use Rattle.assise_machine_laws.specs.NodeSteps.{Rests}
 use Rattle.assise_machine_laws.specs.World.{Full}
 use Rattle.assise_machine_state.specs.Changes.{after_inode, after_members}
@@ -13,11 +14,11 @@ use Rattle.assise_machine_state.specs.ClientValues.{client_seen}
 use Rattle.assise_machine_state.specs.NodeValues.{log_seen, region_in, region_seen}
 use Rattle.assise_machine_state.specs.Observed.{is_full_in, own_node, own_seen, world_of}
 use Rattle.assise_machine_state.specs.Places.{IsNumber, at}
-use Rattle.assise_machine_state.specs.Shape.{HasSingleGroups, IsShaped}
+use Rattle.assise_machine_state.specs.Shape.{IsShaped}
 use Rattle.assise_machine_state.specs.StateValues.{StateValue, standings}
 use Rattle.assise_machine_state.proofs.Fullness.{region_is}
 use Rattle.assise_machine_state.proofs.Logging.{region_else, region_here, region_kept}
-use Rattle.assise_machine_state.proofs.Shaping.{shaped_as}
+use Rattle.assise_machine_state.proofs.Shaping.{shaped_as, still_marked}
 use Rattle.assise_machine_state.proofs.Standings.{same_full, same_own}
 use Rattle.assise_machine_state.proofs.Staying.{clients_as, goals_as, leases_as, logs_as, node_as}
 
@@ -34,7 +35,7 @@ module _ (s : StateValue) (m : Membership) (long : length m.nodes ≡ length (st
   pub members_rest : Rests (world_of s) (world_of u)
   unfolding world_of
   members_rest = record {
-    logs = logs_as s u refl refl (λ c. ap (λ l. l.log.records) (own_stays c)) (λ c. ap (λ l. l.log.first) (own_stays c));
+    logs = logs_as s u refl refl (λ c. ap (λ l. l.log.records) (own_stays c)) (λ c. ap (λ l. l.log.first) (own_stays c)) (λ c k. ap (λ l. is_border l.log k) (own_stays c));
     clients = clients_as s u refl;
     goals = goals_as s u refl;
     leases = leases_as s u (λ i. refl);
@@ -58,7 +59,7 @@ members_shaped s m shape long same = shaped_as s (after_members s m) shape recor
   limit = refl;
   limits = λ n c. refl;
   at_home = λ n c. refl;
-  single = λ all. all;
+  marked = still_marked s (after_members s m) (λ n c. refl) (λ c. ap (λ l. l.log) (own_stays s m long same c));
   durability = λ c. refl;
   opened = λ c. refl;
 }
@@ -111,7 +112,7 @@ module _ (s : StateValue) (n i : ℕ) (v : Option Content) (there : IsNumber s.n
   pub inode_rests : (Full (world_of s) n → ⊥) → Rests (world_of s) (world_of t)
   unfolding world_of
   inode_rests away = record {
-    logs = logs_as s t refl refl (λ c. ap (λ l. l.log.records) (own_same c)) (λ c. ap (λ l. l.log.first) (own_same c));
+    logs = logs_as s t refl refl (λ c. ap (λ l. l.log.records) (own_same c)) (λ c. ap (λ l. l.log.first) (own_same c)) (λ c k. ap (λ l. is_border l.log k) (own_same c));
     clients = clients_as s t refl;
     goals = goals_as s t refl;
     leases = leases_as s t (λ j. refl);
@@ -130,7 +131,7 @@ inode_shaped s n i v shape there = shaped_as s (after_inode s n i v) shape recor
   limit = refl;
   limits = λ k c. ap (λ l. l.log.limit) (same_log s n i v there k c);
   at_home = λ k c. ap (λ l. l.at_home) (same_log s n i v there k c);
-  single = λ all k c. subst (λ l. HasSingleGroups l.log) (sym (same_log s n i v there k c)) (all k c);
+  marked = still_marked s (after_inode s n i v) (λ k c. ap (λ l. l.log) (same_log s n i v there k c)) (λ c. ap (λ l. l.log) (own_same s n i v there c));
   durability = λ c. refl;
   opened = λ c. refl;
 }

@@ -3,13 +3,15 @@ use Rattle.std.proofs.Common.{◌≡◌, ◌≢◌, ◌⊎◌, ℕ, ◌+◌, ◌
 use Rattle.std.specs.Ordering.{nat_cmp}
 use Rattle.std.specs.FinSet as set
 use Rattle.std.proofs.Math.ListN.{get_or-map}
+use Rattle.std.proofs.Math.Logic.{∥∥₁_elim}
+use Rattle.std.proofs.Props.{props}
 use Rattle.std.proofs.Math.Bool.{and-false}
 use Rattle.std.proofs.lemmas.Bool.{cases_Bool, cases_eq, ne_eqb}
 use Rattle.std.proofs.lemmas.List.{take_all, length-map, length-set}
 use Rattle.assise_history.specs.Entries.{returns}
 use Rattle.assise_history.proofs.Counting.{durability-still}
 use Rattle.assise_inode_table.specs.Contents.{values}
-use Rattle.assise_private_log.specs.NumberedLog.{end as log_end}
+use Rattle.assise_private_log.specs.NumberedLog.{NumberedLog, end as log_end, is_border}
 use Rattle.assise_digest.specs.Region.{ReceivedLog, RegionValue, no_log}
 use Rattle.assise_manager.specs.Changes.{join_fault}
 use Rattle.assise_manager.specs.Membership.{IsMembership, lowest_full}
@@ -24,11 +26,12 @@ use Rattle.assise_machine_state.specs.ClientValues.{client_seen}
 use Rattle.assise_machine_state.specs.NodeValues.{away, log_seen, region_in, region_seen}
 use Rattle.assise_machine_state.specs.Observed.{is_full_in, own_seen, world_of}
 use Rattle.assise_machine_state.specs.Places.{IsNumber, at}
-use Rattle.assise_machine_state.specs.Shape.{HasSingleGroups, IsShaped}
+use Rattle.assise_machine_state.specs.Shape.{IsMarked, IsShaped}
 use Rattle.assise_machine_state.specs.StateValues.{StateValue, standings}
 use Rattle.assise_machine_state.proofs.Fullness.{full_number, full_seen, home_full, node_number, region_is, same_first, seen_full}
 use Rattle.assise_machine_state.proofs.Logging.{log_away, region_else, region_here, region_kept}
-use Rattle.assise_machine_state.proofs.Shaping.{KnowsHome, limit_seen, limits_all}
+use Rattle.assise_machine_state.proofs.Marks.{borders_same, marked_as, so_many_marks}
+use Rattle.assise_machine_state.proofs.Shaping.{KnowsHome, limit_seen, limits_all, own_marked}
 use Rattle.assise_machine_state.proofs.Standings.{full_as, full_else, full_here, lowest_is_full, same_count}
 use Rattle.assise_machine_state.proofs.Staying.{clients_as, goals_as, leases_as, logs_as, node_as}
 
@@ -101,7 +104,7 @@ module _ (s : StateValue) (n since donor : ℕ) (stale : set.FinSet nat_cmp) (sh
       ∙ all_away (region_in s.nodes donor).logs c
       ∙ ap (λ r. away (at no_log r.logs c)) (sym (region_is s donor (full_number s donor shape donor_stands)))
 
-  -- ---- its shape
+  -- ---- parts of its shape
 
   count : length t.nodes ≡ length s.nodes
   count = length-set s.nodes (n - 1) filled
@@ -148,26 +151,6 @@ module _ (s : StateValue) (n since donor : ℕ) (stale : set.FinSet nat_cmp) (sh
         subst (λ m. KnowsHome t m c) (sym is) (ap (λ l. l.at_home) (log_filled c) ∙ sym (nobody c))
     | inr other ↦ ap (λ l. l.at_home) (log_stays k c other) ∙ shape.at_home k c
   ]
-
-  single : (k c : ℕ) → HasSingleGroups (log_seen t.nodes k c).log
-  single k c = elim (cases_eq k n) [
-    | inl is ↦ subst (λ m. HasSingleGroups (log_seen t.nodes m c).log) (sym is) (subst (λ l. HasSingleGroups l.log) (sym (log_filled c)) (shape.single donor c))
-    | inr other ↦ subst (λ l. HasSingleGroups l.log) (sym (log_stays k c other)) (shape.single k c)
-  ]
-
-  pub join_shaped : IsShaped t
-  join_shaped = record {
-    nodes = count ∙ shape.nodes ∙ sym (same_count (standings s) n full);
-    few_nodes = subst (λ k. k ≤ 8) (sym count) shape.few_nodes;
-    logs = logs;
-    no_logs = no_logs;
-    at_home = homes;
-    limits = limits_all t logs no_logs limits;
-    least_limit = shape.least_limit;
-    most_limit = shape.most_limit;
-    single = single;
-    durabilities = λ c. shape.durabilities c ∙ sym (durability-still s.history (returns n) c refl);
-  }
 
   -- ---- what the laws observe
 
@@ -217,6 +200,39 @@ module _ (s : StateValue) (n since donor : ℕ) (stale : set.FinSet nat_cmp) (sh
           | inr unfailed ↦ ap (λ l. l.log.first) (at_home c unfailed)
         ]
 
+    -- ---- groups
+
+    -- all full nodes have all of a log whose client's node failed, so each has its borders
+    left_border : (m c k : ℕ) → is_full_in (standings s) m ≡ true → (client_seen s.clients c).failed ≡ true → is_border (log_seen s.nodes m c).log k ≡ is_border (own_seen s c).log k
+    unfolding world_of end
+    left_border m c k f over =
+        let all : w.received m c ≡ end w c = sound.left m c (ap not over) (seen_full s m f) in
+        borders_same (own_seen s c).log (log_seen s.nodes m c).log k (so_many_marks (is_border (own_seen s c).log) (own_seen s c).log (own_marked s shape.marked c)) (shape.marked m c) (from_first m c f) all
+
+    full_border : (m c k : ℕ) → is_full_in (standings t) m ≡ true → (client_seen s.clients c).failed ≡ true → is_border (log_seen t.nodes m c).log k ≡ is_border (own_seen s c).log k
+    full_border m c k f over =
+        elim (cases_eq m n) [
+          | inl is ↦ subst (λ j. is_border (log_seen t.nodes j c).log k ≡ is_border (own_seen s c).log k) (sym is) (ap (λ l. is_border l.log k) (log_filled c) ∙ left_border donor c k donor_stands over)
+          | inr other ↦ ap (λ l. is_border l.log k) (log_stays m c other) ∙ left_border m c k (sym (full_same m other) ∙ f) over
+        ]
+
+    own_border : (c k : ℕ) → is_border (own_seen t c).log k ≡ is_border (own_seen s c).log k
+    own_border c k =
+        elim (cases_Bool (client_seen s.clients c).failed) [
+          | inl over ↦ ap (λ l. is_border l.log k) (own_left c over) ∙ full_border (lowest_full (standings t)) c k lowest over
+          | inr unfailed ↦ ap (λ l. is_border l.log k) (at_home c unfailed)
+        ]
+
+    -- the node's logs have them too
+    marked_then : (k c : ℕ) → IsMarked (is_border (own_seen t c).log) (log_seen t.nodes k c).log
+    marked_then k c =
+        let again : (l : NumberedLog) → IsMarked (is_border (own_seen s c).log) l → IsMarked (is_border (own_seen t c).log) l =
+        λ l. marked_as (is_border (own_seen s c).log) (is_border (own_seen t c).log) l (λ j low high. sym (own_border c j)) in
+        elim (cases_eq k n) [
+          | inl is ↦ subst (λ m. IsMarked (is_border (own_seen t c).log) (log_seen t.nodes m c).log) (sym is) (subst (λ l. IsMarked (is_border (own_seen t c).log) l.log) (sym (log_filled c)) (again (log_seen s.nodes donor c).log (shape.marked donor c)))
+          | inr other ↦ subst (λ l. IsMarked (is_border (own_seen t c).log) l.log) (sym (log_stays k c other)) (again (log_seen s.nodes k c).log (shape.marked k c))
+        ]
+
     -- who is full then
     stays_full : (k : ℕ) → Full w k → Full w' k
     stays_full k f =
@@ -242,7 +258,7 @@ module _ (s : StateValue) (n since donor : ℕ) (stale : set.FinSet nat_cmp) (sh
       joined = seen_full t n now_full;
       stay = stays_full;
       only = was_full;
-      logs = logs_as s t refl (kept_return s.history n) own_records own_first;
+      logs = logs_as s t refl (kept_return s.history n) own_records own_first own_border;
       clients = clients_as s t refl;
       goals = goals_as s t refl;
       leases = leases_as s t (λ i. refl);
@@ -252,3 +268,19 @@ module _ (s : StateValue) (n since donor : ℕ) (stale : set.FinSet nat_cmp) (sh
       digested_here = λ c. ap (λ l. l.digested) (log_filled c);
       else_same = λ k f. node_as s t k (λ i. ap (λ m. values m i) (inodes_stay k)) (λ c. log_stays k c (apart k (full_seen s k f)));
     }
+
+  -- ---- its shape is one
+
+  pub join_shaped : ∥ IsSound w ∥₁ → IsShaped t
+  join_shaped sound = record {
+    nodes = count ∙ shape.nodes ∙ sym (same_count (standings s) n full);
+    few_nodes = subst (λ k. k ≤ 8) (sym count) shape.few_nodes;
+    logs = logs;
+    no_logs = no_logs;
+    at_home = homes;
+    limits = limits_all t logs no_logs limits;
+    least_limit = shape.least_limit;
+    most_limit = shape.most_limit;
+    marked = λ k c. ∥∥₁_elim sound (search props) (λ h. marked_then h k c);
+    durabilities = λ c. shape.durabilities c ∙ sym (durability-still s.history (returns n) c refl);
+  }

@@ -57,19 +57,6 @@ seen_either none x xs n (suc j) =
       | inr other ↦ inr (get_or-set_other xs (n - 1) j x none other)
     ]
 
--- what holds of the new item and of each that is seen holds of each
-
-pub seen_holds : {X : Type 0} (P : X → Type 0) (none x : X) (xs : List X) (n d : ℕ) → P x → P (at none xs d) → P (at none (put xs n x) d)
-seen_holds P none x xs n d new old =
-    elim (seen_either none x xs n d) [
-      | inl is ↦ subst P (sym is) new
-      | inr is ↦ subst P (sym is) old
-    ]
-
-pub item_holds : {X : Type 0} (P : X → Type 0) (none : X) (xs : List X) → ((n : ℕ) → P (at none xs n)) → (n : ℕ) → P (item none xs n)
-unfolding at
-item_holds P none xs all n = all (suc (n - 1))
-
 -- ---- where there is no item
 
 pub seen_past : {X : Type 0} (none : X) (xs : List X) (d : ℕ) → length xs < d → at none xs d ≡ none

@@ -3,6 +3,7 @@ use Rattle.std.proofs.Common.{◌≡◌, ℕ, ◌-◌, not, List, length, refl, 
 use Rattle.std.proofs.lemmas.List.{length-set}
 use Rattle.assise_history.specs.Legal.{durability_of}
 use Rattle.assise_history.specs.Entries.{Event}
+use Rattle.assise_private_log.specs.NumberedLog.{is_border}
 use Rattle.assise_lease_table.specs.declared.lease.Asked.{Asked}
 use Rattle.assise_lease_tree.specs.TwoLevels.{TwoLevels}
 use Rattle.assise_machine_laws.specs.Staying.{SameClients, SameLogs, SameNodes}
@@ -15,7 +16,7 @@ use Rattle.assise_machine_state.specs.Observed.{own_seen, world_of}
 use Rattle.assise_machine_state.specs.Shape.{IsShaped}
 use Rattle.assise_machine_state.specs.StateValues.{StateValue, leases_of}
 use Rattle.assise_machine_state.proofs.Seeing.{client_same}
-use Rattle.assise_machine_state.proofs.Shaping.{shaped_as}
+use Rattle.assise_machine_state.proofs.Shaping.{shaped_as, still_marked}
 use Rattle.assise_machine_state.proofs.Staying.{clients_as, goals_as, logs_as, node_as}
 
 -- another value of one client, and maybe other leases, other answers and another history
@@ -39,11 +40,26 @@ areas_stay s s' same k i away = rw same refl
 pub leases_held : (s : StateValue) (levels : TwoLevels) → Holds (world_of s) (world_of (after_leases s levels)) (leases_of (after_leases s levels))
 unfolding world_of own_seen
 leases_held s levels = record {
-  logs = logs_as s (after_leases s levels) refl refl (λ c. refl) (λ c. refl);
+  logs = logs_as s (after_leases s levels) refl refl (λ c. refl) (λ c. refl) (λ c k. refl);
   clients = clients_as s (after_leases s levels) refl;
   goals = goals_as s (after_leases s levels) refl;
   nodes = record { full = refl; same = λ n f. node_as s (after_leases s levels) n (λ i. refl) (λ d. refl) };
   held = record { holds = λ c i. refl; writes = λ c i. refl };
+}
+
+pub leases_shaped : (s : StateValue) (levels : TwoLevels) → IsShaped s → IsShaped (after_leases s levels)
+unfolding own_seen
+leases_shaped s levels shape = record {
+  nodes = shape.nodes;
+  few_nodes = shape.few_nodes;
+  logs = shape.logs;
+  no_logs = shape.no_logs;
+  at_home = shape.at_home;
+  limits = shape.limits;
+  least_limit = shape.least_limit;
+  most_limit = shape.most_limit;
+  marked = shape.marked;
+  durabilities = shape.durabilities;
 }
 
 module _ (s : StateValue) (c : ℕ) (x : ClientValue) (levels : TwoLevels) (cuts : List Asked) (h : List Event) where
@@ -76,7 +92,7 @@ module _ (s : StateValue) (c : ℕ) (x : ClientValue) (levels : TwoLevels) (cuts
       records = λ d. ap (λ l. l.log.records) (own_stays d);
       first = λ d. ap (λ l. l.log.first) (own_stays d);
       next = client_same (λ y. y.next) s.clients c x remains.next;
-      border = λ d k. refl;
+      border = λ d k. ap (λ l. is_border l.log k) (own_stays d);
       made = client_same (λ y. y.made) s.clients c x remains.made;
     }
 
@@ -101,7 +117,7 @@ module _ (s : StateValue) (c : ℕ) (x : ClientValue) (levels : TwoLevels) (cuts
       limit = refl;
       limits = λ n d. refl;
       at_home = λ n d. refl;
-      single = λ all. all;
+      marked = still_marked s (changed s c x levels cuts h) (λ n d. refl) (λ d. ap (λ l. l.log) (own_stays d));
       durability = client_same (λ y. y.durability) s.clients c x remains.durability;
       opened = opened;
     }

@@ -4,16 +4,17 @@ use Rattle.std.proofs.lemmas.Bool.{cases_Bool}
 use Rattle.std.proofs.lemmas.List.{length-map, length-set, nil_from_length}
 use Rattle.assise_history.specs.Legal.{durability_of}
 use Rattle.assise_inode_table.specs.Contents.{InodeMap}
+use Rattle.assise_private_log.specs.NumberedLog.{is_border}
 use Rattle.assise_digest.specs.Region.{ReceivedLog}
 use Rattle.assise_manager.specs.Membership.{Membership}
 use Rattle.assise_machine_state.specs.ClientValues.{client_seen}
 use Rattle.assise_machine_state.specs.NodeValues.{HasLog, changed_in, log_in, log_seen, region_seen}
-use Rattle.assise_machine_state.specs.Observed.{is_full_in}
+use Rattle.assise_machine_state.specs.Observed.{is_full_in, own_node, own_seen}
 use Rattle.assise_machine_state.specs.Places.{IsNumber}
-use Rattle.assise_machine_state.specs.Shape.{HasSingleGroups, IsShaped}
+use Rattle.assise_machine_state.specs.Shape.{IsMarked, IsShaped}
 use Rattle.assise_machine_state.specs.StateValues.{StateValue, standings}
 use Rattle.assise_machine_state.proofs.Fullness.{has_log, log_is, region_is}
-use Rattle.assise_machine_state.proofs.Logging.{all_hold, count_seen, log_changed, log_holds, log_in_holds, log_same, logs_count, part_seen, region_with}
+use Rattle.assise_machine_state.proofs.Logging.{count_seen, log_changed, log_same, logs_count, part_seen, region_with}
 
 -- ---- limits
 
@@ -40,6 +41,22 @@ limits_all s logs no_logs seen n c has =
 abbrev pub KnowsHome : StateValue → ℕ → ℕ → Type 0
 KnowsHome s n c = (log_seen s.nodes n c).at_home ≡ ((n == (client_seen s.clients c).home) && not (client_seen s.clients c).failed)
 
+-- ---- groups
+
+-- each node's log of a client has the groups of the client's own
+abbrev pub AreMarked : StateValue → Type 0
+AreMarked s = (n c : ℕ) → IsMarked (is_border (own_seen s c).log) (log_seen s.nodes n c).log
+
+-- the client's own among them
+pub own_marked : (s : StateValue) → AreMarked s → (c : ℕ) → IsMarked (is_border (own_seen s c).log) (own_seen s c).log
+unfolding own_seen
+own_marked s all c = all (own_node (standings s) (client_seen s.clients c)) c
+
+-- so it is where logs stay
+pub still_marked : (s t : StateValue) → ((n c : ℕ) → (log_seen t.nodes n c).log ≡ (log_seen s.nodes n c).log) → ((c : ℕ) → (own_seen t c).log ≡ (own_seen s c).log) → AreMarked s → AreMarked t
+still_marked s t logs own all n c =
+    subst (IsMarked (is_border (own_seen t c).log)) (sym (logs n c)) (subst (λ l. IsMarked (is_border l) (log_seen s.nodes n c).log) (sym (own c)) (all n c))
+
 -- ---- the same nodes are full and have as many logs, and limits and homes stay
 
 pub record KeepsShape (s t : StateValue) : Type 0 where
@@ -54,7 +71,7 @@ pub record KeepsShape (s t : StateValue) : Type 0 where
   pub limits : (n c : ℕ) → (log_seen t.nodes n c).log.limit ≡ (log_seen s.nodes n c).log.limit
   pub at_home : (n c : ℕ) → (log_seen t.nodes n c).at_home ≡ (log_seen s.nodes n c).at_home
   pub durability : (c : ℕ) → (client_seen t.clients c).durability ≡ (client_seen s.clients c).durability
-  pub single : ((n c : ℕ) → HasSingleGroups (log_seen s.nodes n c).log) → (n c : ℕ) → HasSingleGroups (log_seen t.nodes n c).log
+  pub marked : AreMarked s → AreMarked t
   pub opened : (c : ℕ) → durability_of c t.history ≡ durability_of c s.history
 
 pub shaped_as : (s t : StateValue) → IsShaped s → KeepsShape s t → IsShaped t
@@ -73,17 +90,17 @@ shaped_as s t shape same =
       limits = limits_all t logs no_logs (λ n c f client. same.limits n c ∙ limit_seen s n c shape (was_full n f) (was_client c client) ∙ sym same.limit);
       least_limit = subst (λ k. 8 ≤ k) (sym same.limit) shape.least_limit;
       most_limit = subst (λ k. k ≤ 4096) (sym same.limit) shape.most_limit;
-      single = same.single shape.single;
+      marked = same.marked shape.marked;
       durabilities = λ c. same.durability c ∙ shape.durabilities c ∙ sym (same.opened c);
     }
 
 -- one node's log of a client changes, with the node's inodes
 pub shaped_log : (s : StateValue) (members : Membership) (n c : ℕ) (inodes : InodeMap) (l : ReceivedLog) → IsShaped s
     → l.log.limit ≡ (log_in s.nodes n c).log.limit → l.at_home ≡ (log_in s.nodes n c).at_home
-    → (HasSingleGroups (log_in s.nodes n c).log → HasSingleGroups l.log)
+    → (AreMarked s → AreMarked (record s { nodes = log_changed s.nodes n c inodes l; members = members }))
     → length members.nodes ≡ length (standings s) → ((k : ℕ) → is_full_in members.nodes k ≡ is_full_in (standings s) k)
     → IsShaped (record s { nodes = log_changed s.nodes n c inodes l; members = members })
-shaped_log s members n c inodes l shape limit at_home single count full =
+shaped_log s members n c inodes l shape limit at_home marked count full =
     shaped_as s (record s { nodes = log_changed s.nodes n c inodes l; members = members }) shape record {
       nodes = length-set s.nodes (n - 1) (region_with s.nodes n c inodes l);
       members = count;
@@ -95,7 +112,7 @@ shaped_log s members n c inodes l shape limit at_home single count full =
       limit = refl;
       limits = λ m d. log_same s.nodes n c inodes l (λ x. x.log.limit) m d limit;
       at_home = λ m d. log_same s.nodes n c inodes l (λ x. x.at_home) m d at_home;
-      single = λ all. log_holds s.nodes n c inodes l (λ x. HasSingleGroups x.log) (single (log_in_holds (λ x. HasSingleGroups x.log) s.nodes all n c)) all;
+      marked = marked;
       durability = λ d. refl;
       opened = λ d. refl;
     }
@@ -103,9 +120,9 @@ shaped_log s members n c inodes l shape limit at_home single count full =
 -- a client's logs change at all nodes
 pub shaped_all : (s : StateValue) (c : ℕ) (g : ReceivedLog → ReceivedLog) → IsShaped s
     → ((l : ReceivedLog) → (g l).log.limit ≡ l.log.limit) → ((l : ReceivedLog) → (g l).at_home ≡ l.at_home)
-    → ((l : ReceivedLog) → HasSingleGroups l.log → HasSingleGroups (g l).log)
+    → (AreMarked s → AreMarked (record s { nodes = map (changed_in c g) s.nodes }))
     → IsShaped (record s { nodes = map (changed_in c g) s.nodes })
-shaped_all s c g shape limit at_home single =
+shaped_all s c g shape limit at_home marked =
     shaped_as s (record s { nodes = map (changed_in c g) s.nodes }) shape record {
       nodes = length-map s.nodes (changed_in c g);
       members = refl;
@@ -117,7 +134,7 @@ shaped_all s c g shape limit at_home single =
       limit = refl;
       limits = λ n d. part_seen c g (λ x. x.log.limit) s.nodes n d limit;
       at_home = λ n d. part_seen c g (λ x. x.at_home) s.nodes n d at_home;
-      single = all_hold c g (λ x. HasSingleGroups x.log) s.nodes single;
+      marked = marked;
       durability = λ d. refl;
       opened = λ d. refl;
     }

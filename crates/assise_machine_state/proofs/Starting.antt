@@ -1,8 +1,9 @@
 -- A cluster in which nothing happened is observed as the start of the machine.
-use Rattle.std.proofs.Common.{◌≡◌, ℕ, zero, suc, ◌-◌, ◌<◌, ◌≤◌, ◌&&◌, ◌==◌, [], ◌∷◌, length, filter, get_or, slice_get, false, true, not, Some, refl, ap, sym, subst, ◌∙◌, arith}
+use Rattle.std.proofs.Common.{◌≡◌, ℕ, zero, suc, ◌-◌, ◌<◌, ◌≤◌, ◌&&◌, ◌==◌, [], ◌∷◌, length, filter, get_or, slice_get, false, not, Some, refl, ap, sym, subst, ◌∙◌, arith}
 use Rattle.std.proofs.Math.Bool.{and-false}
 use Rattle.assise_inode_table.specs.Contents.{values}
-use Rattle.assise_private_log.specs.NumberedLog.{end}
+use Rattle.assise_private_log.specs.NumberedLog.{empty_log, end, is_border}
+use Rattle.assise_private_log.proofs.Borders.{border_end}
 use Rattle.assise_digest.specs.Region.{RegionValue, no_log}
 use Rattle.assise_lease_tree.specs.TwoLevels.{SameLevels, TwoLevels, nobody}
 use Rattle.assise_manager.specs.Changes.{all_full, fulls}
@@ -14,7 +15,7 @@ use Rattle.assise_machine_state.specs.ClientValues.{client_seen, cut_of, no_clie
 use Rattle.assise_machine_state.specs.NodeValues.{HasLog, log_seen, new_region, new_regions, no_region, region_in, region_seen}
 use Rattle.assise_machine_state.specs.Observed.{full_in, is_full_in, observed, own_node, own_seen, world_of}
 use Rattle.assise_machine_state.specs.Places.{at}
-use Rattle.assise_machine_state.specs.Shape.{HasSingleGroups, IsShaped}
+use Rattle.assise_machine_state.specs.Shape.{IsMarked, IsShaped}
 use Rattle.assise_machine_state.specs.StateValues.{StateValue, leases_of}
 use Rattle.assise_machine_state.proofs.Seeing.{seen_nothing}
 
@@ -83,7 +84,7 @@ world_seen n hot limit = λ i. record {
   crashed = λ c. (nobody_seen c i).crashed;
   records = λ c. (no_own_log n hot limit c nobody i).log.records;
   first = λ c. (no_own_log n hot limit c nobody i).log.first;
-  border = λ c k. true;
+  border = λ c k. (ap (λ l. is_border l.log k) (no_own_log n hot limit c nobody) ∙ border_end (empty_log 0) k refl (omega arith)) i;
   goal = λ c. (nobody_seen c i).goal;
   next = λ c. (nobody_seen c i).next;
   made = λ c. (nobody_seen c i).made;
@@ -124,7 +125,7 @@ begun_shaped n hot limit few least most = record {
   limits = λ k c has. absurd (has_none n k c has);
   least_limit = least;
   most_limit = most;
-  single = λ k c. subst (λ l. HasSingleGroups l.log) (sym (no_log_seen n hot k c)) refl;
+  marked = λ k c. subst (λ l. IsMarked (is_border (own_seen (begun_state n hot limit nobody) c).log) l.log) (sym (no_log_seen n hot k c)) refl;
   durabilities = λ c. ap (λ x. x.durability) (nobody_seen c);
 }
   where

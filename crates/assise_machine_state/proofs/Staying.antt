@@ -1,7 +1,7 @@
 -- What the laws observe as the same where parts of the state are.
-use Rattle.std.proofs.Common.{◌≡◌, ℕ, Bool, not, length, refl, ap, ◌∙◌}
+use Rattle.std.proofs.Common.{◌≡◌, ℕ, Bool, not, length, ap, ◌∙◌}
 use Rattle.assise_inode_table.specs.Contents.{values}
-use Rattle.assise_private_log.specs.NumberedLog.{end as log_end}
+use Rattle.assise_private_log.specs.NumberedLog.{end as log_end, is_border}
 use Rattle.assise_lease_table.specs.declared.lease.Lease.{Lease}
 use Rattle.assise_lease_table.specs.Leases.{freeze, lease_of}
 use Rattle.assise_machine_laws.specs.Staying.{SameClients, SameGoals, SameLeases, SameLogs, SameNode}
@@ -30,14 +30,15 @@ module _ (s t : StateValue) where
 
   -- and their own logs
   pub logs_as : t.clients ≡ s.clients → kept_numbered t.history ≡ kept_numbered s.history → ((c : ℕ) → (own_seen t c).log.records ≡ (own_seen s c).log.records)
-      → ((c : ℕ) → (own_seen t c).log.first ≡ (own_seen s c).log.first) → SameLogs (world_of s) (world_of t)
+      → ((c : ℕ) → (own_seen t c).log.first ≡ (own_seen s c).log.first) → ((c k : ℕ) → is_border (own_seen t c).log k ≡ is_border (own_seen s c).log k)
+      → SameLogs (world_of s) (world_of t)
   unfolding world_of
-  logs_as same calls records first = record {
+  logs_as same calls records first border = record {
     calls = calls;
     records = records;
     first = first;
     next = λ c. ap (λ cs. (client_seen cs c).next) same;
-    border = λ c k. refl;
+    border = border;
     made = λ c. ap (λ cs. (client_seen cs c).made) same;
   }
 

@@ -7,6 +7,7 @@ use Rattle.assise_names.specs.declared.durability.Durability.{Durability}
 use Rattle.assise_history.specs.Entries.{calls, crashes, fails, opens, returns}
 use Rattle.assise_inode_table.specs.Contents.{Content}
 use Rattle.assise_inode_table.specs.Traces.{NumberedCall}
+use Rattle.assise_private_log.specs.NumberedLog.{is_border}
 use Rattle.assise_digest.specs.Region.{RegionValue, digested_by, with_inode}
 use Rattle.assise_lease_table.specs.declared.lease.Asked.{Asked}
 use Rattle.assise_lease_tree.specs.TwoLevels.{TwoLevels}
@@ -18,7 +19,7 @@ use Rattle.assise_machine_history.specs.Lost.{losses_of}
 use Rattle.assise_machine_history.specs.Numbered.{plain_call}
 use Rattle.assise_machine_state.specs.ClientValues.{ClientValue, client_in, client_seen, crashed_at, failed_at, opened_on, with_call, with_client, with_goal}
 use Rattle.assise_machine_state.specs.NodeValues.{log_in, region_in, with_call_in, with_fronts_dropped, with_hot_in, with_log_in, with_logs_begun, with_logs_of, with_records, with_region, with_tails_cut, without_logs}
-use Rattle.assise_machine_state.specs.Observed.{is_full_in, world_of}
+use Rattle.assise_machine_state.specs.Observed.{is_full_in, own_seen, world_of}
 use Rattle.assise_machine_state.specs.StateValues.{StateValue, standings}
 
 -- ---- clients
@@ -77,7 +78,7 @@ after_crash s c levels asked = record s {
 
 -- node n receives client c's records below place k
 abbrev pub after_delivery : StateValue → (n c k : ℕ) → StateValue
-after_delivery s n c k = record s { nodes = with_log_in s.nodes n c (with_records (log_in s.nodes n c) (records_between (world_of s) c ((world_of s).received n c) k)) }
+after_delivery s n c k = record s { nodes = with_log_in s.nodes n c (with_records (is_border (own_seen s c).log) (log_in s.nodes n c) (records_between (world_of s) c ((world_of s).received n c) k)) }
 
 -- node n digests client c's records below place k, and the manager notes these inodes
 abbrev pub after_digest : StateValue → (n c k : ℕ) → set.FinSet nat_cmp → StateValue

@@ -1,12 +1,13 @@
 -- What nodes have: for each its inodes, and the logs that it received.
 -- Assise (OSDI 2020), section 3 (CC-NVM: update logs, shared areas, recovery).
-use Rattle.std.specs.Prelude.{◌≡◌, ℕ, zero, suc, ◌≤◌, nat_le, Bool, true, false, ◌==◌, if◌then◌else◌, List, [], ◌∷◌, ◌++◌, length, map}
+use Rattle.std.specs.Prelude.{◌≡◌, ℕ, zero, suc, ◌<◌, ◌≤◌, nat_le, Bool, true, false, ◌==◌, if◌then◌else◌, List, [], ◌∷◌, ◌++◌, length, map}
 use Rattle.assise_record.specs.Records.{has_some}
 use Rattle.assise_inode_table.specs.Opening.{opening}
 use Rattle.assise_record.specs.declared.effect.Effect.{Effect}
 use Rattle.assise_record.specs.LogRecord.{LogRecord}
-use Rattle.assise_private_log.specs.NumberedLog.{NumberedLog, empty_log}
-use Rattle.assise_digest.specs.Region.{AreWhole, HasClient, IsBegun, ReceivedLog, RegionValue, from_number, log_of, no_log, up_to_number, with_client, with_hot_capacity, with_log, with_more, without_clients, without_last_client}
+use Rattle.assise_private_log.specs.NumberedLog.{NumberedLog, empty_log, end, is_border}
+use Rattle.assise_digest.specs.Region.{AreWhole, HasClient, IsBegun, ReceivedLog, RegionValue, from_number, log_of, no_log, up_to_number, with_client, with_hot_capacity, with_log, with_more, with_one, without_clients, without_last_client}
+use Rattle.assise_machine_events.specs.NodeEvents.{border_marks}
 use Rattle.assise_machine_state.specs.Places.{IsNumber, at, item, put}
 
 -- a node that received nothing, of which so many inodes may be hot
@@ -58,13 +59,22 @@ with_hot_in rs n capacity = with_region rs n (with_hot_capacity (region_in rs n)
 abbrev pub with_call_in : List RegionValue → ℕ → ℕ → ℕ → List Effect → List RegionValue
 with_call_in rs n c call es = if has_some es then with_log_in rs n c (with_more (log_in rs n c) (record { call = call; effects = es })) else rs
 
--- records come in behind the last, each a group by itself
-abbrev pub with_records : ReceivedLog → List LogRecord → ReceivedLog
-with_records l more = record {
-  log = record { first = l.log.first; limit = l.log.limit; records = l.log.records ++ more; begins = l.log.begins ++ map (λ r. true) more };
+-- records come in behind the last, in groups between these borders
+abbrev pub with_records : (ℕ → Bool) → ReceivedLog → List LogRecord → ReceivedLog
+with_records border l more = record {
+  log = record { first = l.log.first; limit = l.log.limit; records = l.log.records ++ more; begins = l.log.begins ++ border_marks border (end l.log) more };
   digested = l.digested;
   at_home = l.at_home;
 }
+
+-- a node's log of a client has one record more, which begins a group where a border lies before it
+abbrev pub with_next : (ℕ → Bool) → List RegionValue → (n c : ℕ) → LogRecord → List RegionValue
+with_next border rs n c a = with_log_in rs n c (with_one (log_in rs n c) a (border (end (log_in rs n c).log)))
+
+-- a log marks the borders of another as far as it has records
+pub record HasGroupsOf (own l : NumberedLog) : Type 0 where
+  pub marks : length l.begins ≡ length l.records
+  pub borders : (k : ℕ) → k < end l → is_border own k ≡ true → is_border l k ≡ true
 
 -- a node gets another's logs: no client lives there
 abbrev pub away : ReceivedLog → ReceivedLog

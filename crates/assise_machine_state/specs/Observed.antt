@@ -1,10 +1,10 @@
 -- The state as the laws observe it.
 -- Assise (OSDI 2020), section 3 (CC-NVM: update logs, replication, digests, leases, recovery).
-use Rattle.std.specs.Prelude.{ℕ, Bool, true, false, not, if◌then◌else◌, List, filter, length, Option, Some, None}
+use Rattle.std.specs.Prelude.{ℕ, Bool, false, not, if◌then◌else◌, List, filter, length, Option, Some, None}
 use Rattle.assise_record.specs.Records.{all_effects}
 use Rattle.assise_inode_table.specs.Contents.{InodeMap, values}
 use Rattle.assise_inode_table.specs.Effects.{all_applied}
-use Rattle.assise_private_log.specs.NumberedLog.{end}
+use Rattle.assise_private_log.specs.NumberedLog.{end, is_border}
 use Rattle.assise_digest.specs.Region.{ReceivedLog, ahead}
 use Rattle.assise_manager.specs.Membership.{lowest_full}
 use Rattle.assise_manager.specs.Standings.{Standing, is_full, standing_of}
@@ -63,7 +63,7 @@ world_of s = record {
   crashed = λ c. (client_seen s.clients c).crashed;
   records = λ c. (own_seen s c).log.records;
   first = λ c. (own_seen s c).log.first;
-  border = λ c k. true;
+  border = λ c k. is_border (own_seen s c).log k;
   goal = λ c. (client_seen s.clients c).goal;
   next = λ c. (client_seen s.clients c).next;
   made = λ c. (client_seen s.clients c).made;

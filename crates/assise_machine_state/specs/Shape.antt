@@ -1,15 +1,16 @@
 -- What holds of the parts of the state, beside what the laws say of it.
 -- Assise (OSDI 2020), section 3 (CC-NVM: a replica has the logs of all clients).
-use Rattle.std.specs.Prelude.{◌≡◌, ℕ, ◌≤◌, Bool, true, false, not, ◌&&◌, ◌==◌, List, [], filter, length, map}
+use Rattle.std.specs.Prelude.{◌≡◌, ℕ, ◌≤◌, Bool, true, false, not, ◌&&◌, ◌==◌, List, [], filter, length}
 use Rattle.assise_names.specs.declared.mode.Mode.{Mode}
 use Rattle.assise_history.specs.Legal.{durability_of}
-use Rattle.assise_private_log.specs.NumberedLog.{NumberedLog}
+use Rattle.assise_private_log.specs.NumberedLog.{NumberedLog, is_border}
 use Rattle.assise_private_log.specs.Touches.{Covers}
 use Rattle.assise_lease_table.specs.declared.lease.Asked.{Asked}
 use Rattle.assise_lease_table.specs.Answers.{clients_of}
 use Rattle.assise_lease_table.specs.Leases.{Among, holders, is_to_ask, lease_of}
 use Rattle.assise_lease_tree.specs.Levels.{in_way, is_frozen}
 use Rattle.assise_lease_tree.specs.TwoLevels.{TwoLevels}
+use Rattle.assise_machine_events.specs.NodeEvents.{border_marks}
 use Rattle.assise_machine_state.specs.ClientValues.{client_seen}
 use Rattle.assise_lease_table.specs.Cuts.{are_once, is_asked, is_unasked}
 use Rattle.assise_machine_state.specs.NodeValues.{HasLog, log_in, log_seen, region_seen}
@@ -17,9 +18,9 @@ use Rattle.assise_machine_state.specs.Observed.{is_full_in, own_seen}
 use Rattle.assise_machine_state.specs.Places.{IsNumber}
 use Rattle.assise_machine_state.specs.StateValues.{StateValue, standings}
 
--- each record is a group by itself
-abbrev pub HasSingleGroups : NumberedLog → Type 0
-HasSingleGroups l = l.begins ≡ map (λ r. true) l.records
+-- a log has marks where groups begin, between these borders
+abbrev pub IsMarked : (ℕ → Bool) → NumberedLog → Type 0
+IsMarked border l = l.begins ≡ border_marks border l.first l.records
 
 pub record IsShaped (s : StateValue) : Type 0 where
   -- each node stands somehow
@@ -34,8 +35,8 @@ pub record IsShaped (s : StateValue) : Type 0 where
   pub limits : (n c : ℕ) → HasLog s.nodes n c → (log_in s.nodes n c).log.limit ≡ s.limit
   pub least_limit : 8 ≤ s.limit
   pub most_limit : s.limit ≤ 4096
-  -- no record of any log is in a group with another
-  pub single : (n c : ℕ) → HasSingleGroups (log_seen s.nodes n c).log
+  -- each node's log of a client has the groups of the client's own
+  pub marked : (n c : ℕ) → IsMarked (is_border (own_seen s c).log) (log_seen s.nodes n c).log
   -- each client is known as it was opened
   pub durabilities : (c : ℕ) → (client_seen s.clients c).durability ≡ durability_of c s.history
 
@@ -50,11 +51,12 @@ pub record AreLeft (s : StateValue) (who : ℕ → Bool) (asked : List Asked) : 
   pub once : are_once asked ≡ true
   pub all : (c i : ℕ) → is_asked asked c i ≡ (who c && is_unasked (lease_of (s.levels.clients i) c))
 
--- those who stand in the way of client c were asked, each once, and answered cuts that cover in their own logs
+-- those who stand in the way of client c were asked, each once, and answered cuts that cover in their own logs, at borders
 pub record AreAnswers (s : StateValue) (c i : ℕ) (mode : Mode) (asked : List Asked) : Type 0 where
   pub who : clients_of asked ≡ holders (filter (is_to_ask (in_way s.levels.home (s.levels.nodes i) c (client_seen s.clients c).home mode)) (s.levels.clients i))
   pub inodes : (a : Asked) → Among asked a → a.inode ≡ i
   pub covers : (a : Asked) → Among asked a → Covers (own_seen s a.client).log i a.cut
+  pub borders : (a : Asked) → Among asked a → is_border (own_seen s a.client).log a.cut ≡ true
 
 -- the same leases are frozen
 abbrev pub SameFrozen : StateValue → TwoLevels → Type 0

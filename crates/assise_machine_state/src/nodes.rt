@@ -1,12 +1,12 @@
 // What all nodes have.
-ghost use Rattle.std.specs.Prelude.{◌≡◌, ◌⊎◌, ◌+◌, ◌^◌, ◌<◌, ◌≤◌, [], IfErr, IfOk, IsOk, IsOkUnless, None, OnErr, OnOk, drop, false, length, map as mapped, true};
+ghost use Rattle.std.specs.Prelude.{◌≡◌, ◌≢◌, ◌⊎◌, ◌+◌, ◌^◌, ◌<◌, ◌≤◌, [], IfErr, IfOk, IsOk, IsOkUnless, None, OnErr, OnOk, drop, false, length, map as mapped, true};
 ghost use Rattle.std.specs.FinMap as map;
 ghost use Rattle.assise_names.specs.declared.refusal.Refusal.TheVariants.{LogFull, OutOfMemory};
 ghost use Rattle.assise_inode_table.specs.Whole.{CanBeMadeWhole};
 ghost use Rattle.assise_private_log.specs.NumberedLog.{end, is_border};
 ghost use Rattle.assise_digest.specs.Region.{AreWhole, HasClient, HasRoom, IsFull, IsQuiet, ReceivedLog, TouchApart, ahead_below, digested_by, from_number, log_of, up_to_number, whole_ahead, with_client, with_inode, with_log, with_more, without_clients};
 ghost use Rattle.assise_manager.specs.Whole.{membership};
-ghost use Rattle.assise_machine_state.specs.NodeValues.{AreDigested, AreTaken, AreUndigested, HasLog, IsDigestedTo, IsUndigestedFrom, away, begun_log, changed_in, copied, log_in, new_regions, region_in, with_copies, with_fronts_dropped, with_hot_in, with_log_in, with_logs_begun, with_logs_ended, with_logs_of, with_records, with_region, with_tails_cut, without_log_of, without_logs};
+ghost use Rattle.assise_machine_state.specs.NodeValues.{AreDigested, AreTaken, AreUndigested, HasGroupsOf, HasLog, IsDigestedTo, IsUndigestedFrom, away, begun_log, changed_in, copied, log_in, new_regions, region_in, with_copies, with_fronts_dropped, with_hot_in, with_log_in, with_logs_begun, with_logs_ended, with_logs_of, with_next, with_records, with_region, with_tails_cut, without_log_of, without_logs};
 ghost use Rattle.assise_machine_state.specs.Observed.{is_full_in};
 ghost use Rattle.assise_machine_state.specs.Places.{IsNumber};
 
@@ -98,21 +98,82 @@ impl Nodes {
     }
 
     /// Takes records of a client that lives elsewhere in at a node, behind the last, but for so many at the front. They have
-    /// room there. It takes no memory.
-    pub fn extend(&mut self, node: u32, client: u32, records: Vec<Record>, skipped: usize)
+    /// room there, and get the groups that the client's own log has, which another node has. It takes no memory.
+    pub fn extend(&mut self, node: u32, client: u32, own: u32, records: Vec<Record>, skipped: usize)
         requires there { HasLog self.old node client }
+        requires own { HasLog self.old own client }
+        requires apart { own ≢ node }
+        requires groups { HasGroupsOf (log_in self.old own client).log (log_in self.old node client).log }
         requires elsewhere { (log_in self.old node client).at_home ≡ false }
         requires room { length (log_in self.old node client).log.records + length (drop skipped records.items) ≤ (log_in self.old node client).log.limit }
         requires numbers_fit { end (log_in self.old node client).log + length (drop skipped records.items) < 2 ^ 64 }
         requires whole { AreWhole (drop skipped records.items) }
-        ensures { self.new ≡ with_log_in self.old node client (with_records (log_in self.old node client) (drop skipped records.items)) }
+        ensures { self.new ≡ with_log_in self.old node client
+            (with_records (is_border (log_in self.old own client).log) (log_in self.old node client) (drop skipped records.items)) }
     {
-        take_in(
-            &mut self.regions[node as usize - 1],
-            client,
-            records.into_iter(),
-            skipped,
-        );
+        self.take_in(node, client, own, records.into_iter(), skipped);
+    }
+
+    /// Takes records in, but for so many at the front.
+    fn take_in(
+        &mut self,
+        node: u32,
+        client: u32,
+        own: u32,
+        mut records: IntoIter<Record>,
+        skipped: usize,
+    )
+        requires there { HasLog self.old node client }
+        requires own { HasLog self.old own client }
+        requires apart { own ≢ node }
+        requires groups { HasGroupsOf (log_in self.old own client).log (log_in self.old node client).log }
+        requires elsewhere { (log_in self.old node client).at_home ≡ false }
+        requires room { length (log_in self.old node client).log.records + length (drop skipped records.rest.items) ≤ (log_in self.old node client).log.limit }
+        requires numbers_fit { end (log_in self.old node client).log + length (drop skipped records.rest.items) < 2 ^ 64 }
+        requires whole { AreWhole (drop skipped records.rest.items) }
+        ensures { self.new ≡ with_log_in self.old node client
+            (with_records (is_border (log_in self.old own client).log) (log_in self.old node client) (drop skipped records.rest.items)) }
+    {
+        let Some(added) = records.next() else {
+            return;
+        };
+        if 0 < skipped {
+            return self.take_in(node, client, own, records, skipped - 1);
+        }
+        self.take_one(node, client, own, added);
+        self.take_in(node, client, own, records, 0);
+    }
+
+    /// Takes a record in.
+    fn take_one(&mut self, node: u32, client: u32, own: u32, added: Record)
+        requires there { HasLog self.old node client }
+        requires own { HasLog self.old own client }
+        requires apart { own ≢ node }
+        requires groups { HasGroupsOf (log_in self.old own client).log (log_in self.old node client).log }
+        requires elsewhere { (log_in self.old node client).at_home ≡ false }
+        requires room { length (log_in self.old node client).log.records < (log_in self.old node client).log.limit }
+        requires number_fits { end (log_in self.old node client).log + 1 < 2 ^ 64 }
+        requires whole { CanBeMadeWhole added.effects }
+        ensures next { self.new ≡
+            with_next (is_border (log_in self.old own client).log) self.old node client added }
+        ensures there { HasLog self.new node client }
+        ensures own { HasLog self.new own client }
+        ensures own_log { log_in self.new own client ≡ log_in self.old own client }
+        ensures groups { HasGroupsOf (log_in self.new own client).log (log_in self.new node client).log }
+        ensures elsewhere { (log_in self.new node client).at_home ≡ false }
+        ensures limit { (log_in self.new node client).log.limit ≡
+            (log_in self.old node client).log.limit }
+        ensures longer { length (log_in self.new node client).log.records ≡
+            length (log_in self.old node client).log.records + 1 }
+        ensures end { end (log_in self.new node client).log ≡
+            end (log_in self.old node client).log + 1 }
+    {
+        let number = self.region(node).log(client as usize).end();
+        let begins = self.region(own).log(client as usize).is_border(number);
+        let region = &mut self.regions[node as usize - 1];
+        let Ok(()) = region.append_grouped(client as usize, added, begins) else {
+            unreachable!()
+        };
     }
 
     /// A node that has no logs gets copies of another's, whose clients live elsewhere. Payloads are shared. The one refusal is
@@ -190,7 +251,8 @@ impl Nodes {
         ensures acked { IfOk result (λ n. n ≤ length (ahead_below (log_in self.old node client) acked)) }
         ensures groups { IfOk result (λ n. 0 < n →
             is_border (log_in self.old node client).log ((log_in self.old node client).digested + n) ≡ true) }
-        ensures none { IfOk result (λ n. n ≡ 0 → whole_ahead (log_in self.old node client) acked at_most ≡ 0) }
+        ensures none { IfOk result (λ n. n ≡ 0 →
+            whole_ahead (log_in self.old node client) acked at_most ≡ 0) }
         ensures err { OnErr result (self.new ≡ self.old) }
         ensures asked { OnErr result ((0 < at_most) × (0 < length (ahead_below (log_in self.old node client) acked))) }
         ensures only_memory { IsOkUnless result OutOfMemory }
@@ -314,27 +376,6 @@ fn end_all(regions: &mut [Region], client: u32)
     };
     end_log(first, client);
     end_all(rest, client);
-}
-
-/// A node takes records of a client that lives elsewhere in, but for so many at the front.
-fn take_in(region: &mut Region, client: u32, mut records: IntoIter<Record>, skipped: usize)
-    requires there { HasClient region.old client }
-    requires elsewhere { (log_of region.old client).at_home ≡ false }
-    requires room { length (log_of region.old client).log.records + length (drop skipped records.rest.items) ≤ (log_of region.old client).log.limit }
-    requires numbers_fit { end (log_of region.old client).log + length (drop skipped records.rest.items) < 2 ^ 64 }
-    requires whole { AreWhole (drop skipped records.rest.items) }
-    ensures { region.new ≡ with_log region.old client (with_records (log_of region.old client) (drop skipped records.rest.items)) }
-{
-    let Some(added) = records.next() else {
-        return;
-    };
-    if 0 < skipped {
-        return take_in(region, client, records, skipped - 1);
-    }
-    let Ok(()) = region.append(client as usize, added) else {
-        unreachable!()
-    };
-    take_in(region, client, records, 0);
 }
 
 /// Copies of all logs of a node, each with the number up to which it is digested.

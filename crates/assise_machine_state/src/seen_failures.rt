@@ -32,7 +32,7 @@ pub fn a_failure_is_observed()
         ((c : ℕ) → levels.home c ≡ s.levels.home c) → ((i : ℕ) → levels.clients i ≡ freeze (λ a. lives s.levels.home a.holder n) (s.levels.clients i)) → SameLeasesOf s.levels.nodes levels.nodes → AreLeft s (λ c. lives s.levels.home c n) asked → AreLeases (world_of s) (leases_of s) →
         LeasesFail (world_of s) (leases_of s) n (world_of (after_failure s n inodes levels asked)) (leases_of (after_failure s n inodes levels asked)) }
     ensures areas { (s : StateValue) (n k i : ℕ) (inodes : set.FinSet nat_cmp) (levels : TwoLevels) (asked : List Asked) → (world_of (after_failure s n inodes levels asked)).area k i ≡ (world_of s).area k i }
-    ensures shape { (s : StateValue) (n : ℕ) (inodes : set.FinSet nat_cmp) (levels : TwoLevels) (asked : List Asked) → IsShaped s → standing_of (standings s) n ≡ Some full → failure_fault s.members n ≡ None → IsShaped (after_failure s n inodes levels asked) }
+    ensures shape { (s : StateValue) (n : ℕ) (inodes : set.FinSet nat_cmp) (levels : TwoLevels) (asked : List Asked) → IsShaped s → IsSound (world_of s) → standing_of (standings s) n ≡ Some full → failure_fault s.members n ≡ None → IsShaped (after_failure s n inodes levels asked) }
     ensures noted { (s : StateValue) (n : ℕ) (inodes : set.FinSet nat_cmp) (levels : TwoLevels) (asked : List Asked) → AreNoted s → AreLeases (world_of s) (leases_of s) →
         ((i : ℕ) → levels.clients i ≡ freeze (λ a. lives s.levels.home a.holder n) (s.levels.clients i)) → AreLeft s (λ c. lives s.levels.home c n) asked → AreNoted (after_failure s n inodes levels asked) }
 {}
@@ -56,5 +56,8 @@ pub fn members_are_observed()
 pub fn a_return_is_observed()
     ensures rejoins { (s : StateValue) (n since donor : ℕ) (stale : set.FinSet nat_cmp) → IsShaped s → IsSound (world_of s) → IsMembership s.members →
         standing_of (standings s) n ≡ Some (returning since donor stale) → join_fault s.members n ≡ None → Rejoins (world_of s) s.members n (world_of (after_join s n donor)) (after_join s n donor).members }
-    ensures shape { (s : StateValue) (n since donor : ℕ) (stale : set.FinSet nat_cmp) → IsShaped s → IsMembership s.members → standing_of (standings s) n ≡ Some (returning since donor stale) → IsShaped (after_join s n donor) }
+    ensures shape { (s : StateValue) (n since donor : ℕ) (stale : set.FinSet nat_cmp) →
+        IsShaped s → IsSound (world_of s) → IsMembership s.members →
+        standing_of (standings s) n ≡ Some (returning since donor stale) →
+        IsShaped (after_join s n donor) }
 {}

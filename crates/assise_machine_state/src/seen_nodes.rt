@@ -22,7 +22,8 @@ ghost use Rattle.assise_machine_state.specs.StateValues.{StateValue};
 pub fn a_delivery_is_observed()
     ensures delivers { (s : StateValue) (n c k : ℕ) → IsShaped s → IsSound (world_of s) → IsNumber s.clients c → MayDeliver (world_of s) n c k → Delivers (world_of s) n c k (world_of (after_delivery s n c k)) }
     ensures others { (s : StateValue) (n c k : ℕ) → OtherAreasStay (world_of s) (world_of (after_delivery s n c k)) }
-    ensures shape { (s : StateValue) (n c k : ℕ) → IsShaped s → IsNumber s.clients c → Full (world_of s) n → IsShaped (after_delivery s n c k) }
+    ensures shape { (s : StateValue) (n c k : ℕ) → IsShaped s → IsSound (world_of s) →
+        IsNumber s.clients c → MayDeliver (world_of s) n c k → IsShaped (after_delivery s n c k) }
 {}
 
 /// Records that a node digests, with what the manager notes of them.
@@ -35,10 +36,14 @@ pub fn a_digest_is_observed()
 
 /// Fronts of one client's logs that are dropped at all nodes. Where fronts are dropped one after another, they are dropped.
 pub fn dropped_fronts_are_observed()
-    ensures drops { (s : StateValue) (c to : ℕ) → IsShaped s → IsSound (world_of s) → IsNumber s.clients c → (world_of s).first c ≤ to → to ≤ digested_by_all (world_of s) c →
+    ensures drops { (s : StateValue) (c to : ℕ) → IsShaped s → IsSound (world_of s) →
+        IsNumber s.clients c → (world_of s).first c ≤ to → to ≤ digested_by_all (world_of s) c →
+        (world_of s).border c to ≡ true →
         Drops (world_of s) (first_but (world_of s) c to) (world_of (after_drop s c to)) }
     ensures areas { (s : StateValue) (c to n i : ℕ) → (world_of (after_drop s c to)).area n i ≡ (world_of s).area n i }
-    ensures shape { (s : StateValue) (c to : ℕ) → IsShaped s → IsShaped (after_drop s c to) }
+    ensures shape { (s : StateValue) (c to : ℕ) → IsShaped s → IsSound (world_of s) →
+        IsNumber s.clients c → (world_of s).first c ≤ to → to ≤ digested_by_all (world_of s) c →
+        (world_of s).border c to ≡ true → IsShaped (after_drop s c to) }
     ensures one_after_another { (w v u : World) (f g : ℕ → ℕ) → Drops w f v → Drops v g u → Drops w g u }
 {}
 

@@ -44,7 +44,7 @@ impl<C: Revokes + Drop> StateOf<C> {
     ghost use Rattle.assise_machine_laws.specs.World.{digested_by_all, received_by_all};
     ghost use Rattle.assise_machine_events.specs.Machine.{begun_as};
     ghost use Rattle.assise_machine_state.specs.ClientValues.{client_in};
-    ghost use Rattle.assise_machine_state.specs.NodeValues.{new_regions, region_in};
+    ghost use Rattle.assise_machine_state.specs.NodeValues.{HasLog, new_regions, region_in};
     ghost use Rattle.assise_machine_state.specs.Observed.{inodes_read, own_node, world_of};
     ghost use Rattle.assise_machine_state.specs.Places.{IsNumber};
     ghost use Rattle.assise_machine_state.specs.Shape.{AreNoted, IsShaped};
@@ -109,21 +109,32 @@ impl<C: Revokes + Drop> StateOf<C> {
         least
     }
 
-    /// The region whose log of a client is the client's own: that of its home, and once that failed of the lowest full node,
-    /// since all full nodes have the same then.
-    pub fn own_region(&self, client: u32) -> &Region
+    /// The node whose log of a client is the client's own: its home, and once that failed the lowest full node, since all full
+    /// nodes have the same then.
+    pub fn own_node(&self, client: u32) -> u32
         requires client { IsNumber self.now.clients client }
         requires shape { IsShaped (value_of self.now) }
-        ensures region { result.now ≡ region_in self.now.nodes (own_node (membership self.now.members).nodes (client_in self.now.clients client)) }
-        ensures log { HasClient result.now client }
+        ensures node { result ≡
+            own_node (membership self.now.members).nodes (client_in self.now.clients client) }
+        ensures log { HasLog self.now.nodes result client }
     {
         let known = self.clients.get(client);
-        let node = if known.has_failed() {
+        if known.has_failed() {
             self.members.full_nodes()[0]
         } else {
             known.home()
-        };
-        self.nodes.region(node)
+        }
+    }
+
+    /// The region of that node.
+    pub fn own_region(&self, client: u32) -> &Region
+        requires client { IsNumber self.now.clients client }
+        requires shape { IsShaped (value_of self.now) }
+        ensures region { result.now ≡
+            region_in self.now.nodes (own_node (membership self.now.members).nodes (client_in self.now.clients client)) }
+        ensures log { HasClient result.now client }
+    {
+        self.nodes.region(self.own_node(client))
     }
 
     /// What a client reads whose node hasn't failed since it was opened, with its leases.

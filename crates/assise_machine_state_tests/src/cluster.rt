@@ -63,7 +63,8 @@ fn append_one(alloc: Global, nodes: &mut Nodes, node: u32, client: u32, inode: u
     nodes.append(node, client, added).ok()
 }
 
-/// A node takes three records of a client that lives elsewhere in, but for so many at the front.
+/// A node that has no record of a client, which lives elsewhere, takes three in, but for so many at the front, in the groups of node
+/// 1's log.
 pub(crate) fn extend(
     alloc: Global,
     nodes: &mut Nodes,
@@ -72,14 +73,20 @@ pub(crate) fn extend(
     skipped: usize,
 ) -> Option<()> {
     let records = three_records(alloc)?;
-    if !has_log(nodes, node, client) || nodes.region(node).is_at_home(client as usize) {
+    if node == 1 || !has_log(nodes, 1, client) || !has_log(nodes, node, client) {
+        return None;
+    }
+    if nodes.region(node).is_at_home(client as usize) {
         return None;
     }
     let log = nodes.region(node).log(client as usize);
+    if !log.is_border(0) || !log.is_empty() {
+        return None;
+    }
     if log.spare() < records.len() || u64::MAX - log.end() < records.len() as u64 {
         return None;
     }
-    nodes.extend(node, client, records, skipped);
+    nodes.extend(node, client, 1, records, skipped);
     Some(())
 }
 

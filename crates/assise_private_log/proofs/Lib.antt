@@ -1,4 +1,4 @@
-pub mod Bordering
-pub mod Grouping
+pub mod Borders
+pub mod LogGroups
 mod Fronts
 mod Touching

@@ -63,7 +63,8 @@ fn push_left(
     added: &Record,
     later: &[Record],
 ) -> Result<(), Refusal>
-    ensures ok { OnOk result (left.new.items ≡ with_left begin left.old.items added.now (all_effects later.now)) }
+    ensures ok { OnOk result (left.new.items ≡
+        with_left begin left.old.items added.now (all_effects later.now)) }
     ensures only_memory { IsOkUnless result OutOfMemory }
 {
     let effects = left_of(alloc, added.effects(), later)?;

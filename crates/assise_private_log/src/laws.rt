@@ -65,7 +65,8 @@ pub fn borders_stay()
 /// in.
 pub fn a_group_is_taken_in_record_by_record()
     ensures { (other l : NumberedLog) → IsNumberedLog other → is_border other (end l) ≡ false →
-        ((number : ℕ) → number < end l → is_border other number ≡ true → is_border l number ≡ true) →
+        ((number : ℕ) → number < end l → is_border other number ≡ true →
+        is_border l number ≡ true) →
         HasOpenGroup l }
 {}
 
@@ -85,7 +86,8 @@ pub fn the_last_records_give_way_to_groups()
         length (regrouped l from).records ≤ length l.records }
     ensures before { (l : NumberedLog) (from number : ℕ) → IsNumberedLog l → from ≤ end l →
         number < from → is_border (regrouped l from) number ≡ is_border l number }
-    ensures among { (l : NumberedLog) (from n k : ℕ) → IsNumberedLog l → l.first ≤ from → from ≤ end l →
+    ensures among { (l : NumberedLog) (from n k : ℕ) → IsNumberedLog l → l.first ≤ from →
+        from ≤ end l →
         AllHaveEffects (records_from l from) → length (records_from l from) ≤ n →
         from + k ≤ end (regrouped l from) →
         is_border (regrouped l from) (from + k) ≡ are_whole (groups_of n (records_from l from)) k }

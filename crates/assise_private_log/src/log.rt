@@ -138,7 +138,8 @@ impl Log {
     /// Whether no group has records on both sides of a number: one begins there, or nothing is before it, or nothing
     /// behind.
     pub fn is_border(&self, number: u64) -> bool
-        ensures { result ≡ is_border self.now number }
+        ensures border { result ≡ is_border self.now number }
+        ensures lawful { IsNumberedLog self.now }
     {
         self.view.is_border(number)
     }
@@ -150,11 +151,12 @@ impl Log {
         self.view.group_end(number)
     }
 
-    /// How many records from a number on, at most so many, end with a group.
+    /// How many records from a number on, at most so many, end with a group. Among 64 some do.
     pub fn whole_count(&self, from: u64, most: usize) -> usize
         requires fits { from + most < 2 ^ 64 }
         ensures count { result ≡ whole_count self.now from most }
         ensures within { result ≤ most }
+        ensures some { 64 ≤ most → 0 < result }
     {
         self.view.whole_count(from, most)
     }

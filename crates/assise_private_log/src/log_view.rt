@@ -53,7 +53,8 @@ impl LogView {
     /// Whether no group has records on both sides of a number: one begins there, or nothing is before it, or nothing
     /// behind.
     pub fn is_border(&self, number: u64) -> bool
-        ensures { result ≡ is_border self.now number }
+        ensures border { result ≡ is_border self.now number }
+        ensures lawful { IsNumberedLog self.now }
     {
         if number <= self.first {
             return true;
@@ -79,12 +80,14 @@ impl LogView {
         number.max(self.end())
     }
 
-    /// How many records from a number on, at most so many, end with a group.
+    /// How many records from a number on, at most so many, end with a group. Among 64 some do.
     pub fn whole_count(&self, from: u64, most: usize) -> usize
         requires fits { from + most < 2 ^ 64 }
         ensures count { result ≡ whole_count self.now from most }
         ensures within { result ≤ most }
+        ensures some { 64 ≤ most → 0 < result }
     {
+        let _lawful = self.first;
         let mut count = most;
         while 0 < count && !self.is_border(from + count as u64) {
             count -= 1;

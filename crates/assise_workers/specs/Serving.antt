@@ -1,5 +1,6 @@
 -- What is seen of a client's list of calls, and of its end.
 -- Assise (OSDI 2020), section 3 (a process's calls in order).
+use Rattle.std.specs.Prelude.{List}
 use Rattle.assise_libfs.specs.Clients.{IsSameClient, client_of, seen_by}
 use Rattle.assise_workers.specs.declared.serving.ClientEnd.{ClientEnd}
 use Rattle.assise_workers.specs.declared.serving.ClientList.{ClientList}

@@ -2,8 +2,9 @@ use Rattle.std.proofs.Common.{◌≡◌, ◌+◌, ◌<◌, ◌≤◌, ◌∙◌,
 use Rattle.assise_digest.specs.Region.{HasClient}
 use Rattle.assise_machine_events.specs.NodeEvents.{is_refused, is_stale}
 use Rattle.assise_machine_state.specs.NodeValues.{region_in}
+use Rattle.assise_machine_state.specs.Places.{IsNumber}
 use Rattle.assise_machine_state.specs.Whole.{value_of}
-use Rattle.assise_machine.proofs.Delivering.{Gives, begun, elsewhere_as, given_as, has, not_timely, nothing_new, received_as, room_as, some_new, there_as, whole_as}
+use Rattle.assise_machine.proofs.Delivering.{Gives, apart_as, begun, elsewhere_as, given_as, groups_as, has, not_timely, nothing_new, received_as, room_as, some_new, there_as, whole_as}
 use Rattle.assise_machine.proofs.DeliveryFaults.{fine_client}
 use Rattle.assise_machine.proofs.delivery.deliver.Given as given
 use Rattle.assise_machine.proofs.delivery.deliver.Goals as goal
@@ -51,6 +52,10 @@ returns-then-place-received-clause-happens g c =
     let old : c.args.frame.first + length c.args.frame.records ≤ c.end-received.result = omega (arith, c.if-place-received.true, c.first.ensures.first, ap length c.records.ensures.records) in
     nothing_new (value_of c.args.sound.now.state) c.args.frame c.args.node c.args.sound.now.shape c.args.sound.now.holds c.args.sound.now.state.members.lawful.some_full fine c.end-received.result is (c.is_next.ensures.timely c.if-not-is_next.false) old
 
+pub own_node-own-requires-clause-client : goal.own_node-own-requires-clause-client
+own_node-own-requires-clause-client g c =
+    subst (IsNumber (value_of c.args.sound.now.state).clients) (sym c.client-client.ensures.client) (fine_client (value_of c.args.sound.now.state) c.args.frame c.args.node (sym c.delivery_refusal.ensures ∙ c.in_default.is))
+
 pub extend-requires-clause-there : goal.extend-requires-clause-there
 extend-requires-clause-there g c =
     let fine = sym c.delivery_refusal.ensures ∙ c.in_default.is in
@@ -68,6 +73,26 @@ extend-requires-clause-elsewhere g c =
     let past : c.end-received.result < c.args.frame.first + length c.args.frame.records = omega (arith, c.if-place-received.false, c.first.ensures.first, ap length c.records.ensures.records) in
     let next = c.is_next.ensures.timely c.if-not-is_next.false in
     elsewhere_as (value_of c.args.sound.now.state) c.args.frame c.args.node c.args.sound.now.shape c.args.sound.now.holds c.args.sound.now.state.members.lawful.some_full fine c.end-received.result is next past c.client-client.result c.first-2.result c.into_records.result.items c.client-client.ensures.client c.first-2.ensures.first c.into_records.ensures.records
+
+pub extend-requires-clause-apart : goal.extend-requires-clause-apart
+extend-requires-clause-apart g c =
+    let fine = sym c.delivery_refusal.ensures ∙ c.in_default.is in
+    let is = received_as (value_of c.args.sound.now.state) c.args.frame c.args.node c.args.sound.now.shape c.args.sound.now.holds c.args.sound.now.state.members.lawful.some_full fine
+    c.region.result.now c.log.result.now c.client-client.result c.end-received.result c.end-received.ensures.end c.log.ensures.log c.region.ensures c.client-client.ensures.client in
+    let past : c.end-received.result < c.args.frame.first + length c.args.frame.records = omega (arith, c.if-place-received.false, c.first.ensures.first, ap length c.records.ensures.records) in
+    let next = c.is_next.ensures.timely c.if-not-is_next.false in
+    apart_as (value_of c.args.sound.now.state) c.args.frame c.args.node c.args.sound.now.shape c.args.sound.now.holds c.args.sound.now.state.members.lawful.some_full fine c.end-received.result is next past c.client-client.result c.first-2.result c.into_records.result.items c.client-client.ensures.client c.first-2.ensures.first c.into_records.ensures.records
+    c.own_node-own.result c.own_node-own.ensures.node
+
+pub extend-requires-clause-groups : goal.extend-requires-clause-groups
+extend-requires-clause-groups g c =
+    let fine = sym c.delivery_refusal.ensures ∙ c.in_default.is in
+    let is = received_as (value_of c.args.sound.now.state) c.args.frame c.args.node c.args.sound.now.shape c.args.sound.now.holds c.args.sound.now.state.members.lawful.some_full fine
+    c.region.result.now c.log.result.now c.client-client.result c.end-received.result c.end-received.ensures.end c.log.ensures.log c.region.ensures c.client-client.ensures.client in
+    let past : c.end-received.result < c.args.frame.first + length c.args.frame.records = omega (arith, c.if-place-received.false, c.first.ensures.first, ap length c.records.ensures.records) in
+    let next = c.is_next.ensures.timely c.if-not-is_next.false in
+    groups_as (value_of c.args.sound.now.state) c.args.frame c.args.node c.args.sound.now.shape c.args.sound.now.holds c.args.sound.now.state.members.lawful.some_full fine c.end-received.result is next past c.client-client.result c.first-2.result c.into_records.result.items c.client-client.ensures.client c.first-2.ensures.first c.into_records.ensures.records
+    c.own_node-own.result c.own_node-own.ensures.node
 
 pub extend-requires-clause-room : goal.extend-requires-clause-room
 extend-requires-clause-room g c =
@@ -98,7 +123,7 @@ given_now g c =
     let place : c.first.result + length c.records.result.now ≡ c.args.frame.first + length c.args.frame.records = omega (arith, c.first.ensures.first, ap length c.records.ensures.records) in
     given_as (value_of c.args.sound.now.state) c.args.frame c.args.node c.args.sound.now.shape c.args.sound.now.holds c.args.sound.now.state.members.lawful.some_full fine c.end-received.result is (c.is_next.ensures.timely c.if-not-is_next.false) past
     c.client-client.result c.first-2.result c.into_records.result.items c.client-client.ensures.client c.first-2.ensures.first c.into_records.ensures.records
-    c.args.sound.now.noted c.extend.new.self c.extend.ensures (c.first.result + length c.records.result.now) place
+    c.args.sound.now.noted c.own_node-own.result c.own_node-own.ensures.node c.extend.new.self c.extend.ensures (c.first.result + length c.records.result.now) place
 
 pub invariant_of-sound-2 : goal.invariant_of-sound-2
 invariant_of-sound-2 g c = (let given = given_now g c in record { holds = given.holds; shape = given.shape; noted = given.noted })

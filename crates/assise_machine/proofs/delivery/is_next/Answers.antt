@@ -3,8 +3,8 @@ use Rattle.assise_digest.specs.Region.{AreWhole}
 use Rattle.assise_machine.proofs.Agreeing.{whole_new}
 use Rattle.assise_machine.proofs.delivery.is_next.Goals as goal
 
-pub returns-then-new-saturating_sub-clause-whole : goal.returns-then-new-saturating_sub-clause-whole
-returns-then-new-saturating_sub-clause-whole g c all =
+pub returns-then-is_border-clause-whole : goal.returns-then-is_border-clause-whole
+returns-then-is_border-clause-whole g c all =
     let whole = subst AreWhole (ap (λ l. l.records) (sym c.log-own.ensures.log)) c.log-own.ensures.whole in
     subst AreWhole (λ i. drop (c.args.received - c.first.ensures.first i) (c.records-2.ensures.records i))
     (whole_new c.log-own.result.now c.args.received (c.args.received - c.first.result) c.records-2.result.now whole (c.goes_on_with.ensures.same all))

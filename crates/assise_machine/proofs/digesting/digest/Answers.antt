@@ -1,4 +1,5 @@
-use Rattle.std.proofs.Common.{◌<◌, length, refl, ap, sym, subst, ◌∙◌, arith}
+use Rattle.std.proofs.Common.{◌≡◌, ℕ, ◌<◌, length, refl, ap, sym, subst, ◌∙◌, arith}
+use Rattle.assise_machine_laws.specs.World.{World}
 use Rattle.assise_machine_events.specs.NodeEvents.{undigested_to}
 use Rattle.assise_machine_events.specs.NodeEvents.Digesting.{is_refused}
 use Rattle.assise_machine_state.specs.Changes.{drops_to}
@@ -6,7 +7,7 @@ use Rattle.assise_machine_state.specs.Observed.{observed, world_of}
 use Rattle.assise_machine_state.specs.Whole.{value_of}
 use Rattle.assise_machine_events.specs.Machine.{Holds}
 use Rattle.assise_machine_state.specs.Shape.{AreNoted, IsShaped}
-use Rattle.assise_machine.specs.Digesting.{digests_to}
+use Rattle.assise_machine.specs.Digesting.{EndWithGroups, digests_to}
 use Rattle.assise_machine.proofs.Frames.{few_clients, fine_node}
 use Rattle.assise_machine.proofs.WholeDigest.{Gives, clients_between, gives_as, lacks, lists_of, nothing_digested, shape_between, sound_between, sound_of}
 use Rattle.assise_machine.proofs.digesting.digest.Given as given
@@ -43,7 +44,7 @@ invariant_of-sound-then-progress-eq0 g c =
 
 pub returns-then-progress-eq0-clause-happens : goal.returns-then-progress-eq0-clause-happens
 returns-then-progress-eq0-clause-happens g c =
-    let short = c.digest_to-progress.ensures.refused c.if-progress.true in
+    let short = c.digest_to-progress.ensures.ended (c.digest_to-progress.ensures.refused c.if-progress.true) in
     let all = ap (undigested_to (world_of (value_of c.args.sound.now.state)) c.args.node) c.len-last.ensures in
     lacks (value_of c.args.sound.now.state) c.args.node c.args.sound.now.shape c.args.sound.now.holds c.args.sound.now.noted (sym c.node_refusal.ensures ∙ c.in_default.is)
     (value_of c.digest_to-progress.new.state) (c.digest_to-progress.ensures.digests ∙ (λ i. digests_to (value_of c.args.sound.now.state) c.args.node (c.if-progress-eq0.true i) (c.len-last.ensures i)))
@@ -51,22 +52,25 @@ returns-then-progress-eq0-clause-happens g c =
 
 -- between the digests and the fronts that go
 
+groups_now : (w : World) (n count last all : ℕ) → last ≡ all → EndWithGroups w n count last → EndWithGroups w n count all
+groups_now w n count last all same whole = subst (EndWithGroups w n count) same whole
+
 pub drop_digested-requires-clause-last : goal.drop_digested-requires-clause-last
 drop_digested-requires-clause-last g c =
     let same =
     clients_between (value_of c.args.sound.now.state) c.args.node c.args.sound.now.shape c.args.sound.now.holds c.args.sound.now.noted (sym c.node_refusal.ensures ∙ c.in_default.is)
-    c.digest_to-progress.result.count (value_of c.digest_to-progress.new.state) (c.digest_to-progress.ensures.digests ∙ ap (digests_to (value_of c.args.sound.now.state) c.args.node c.digest_to-progress.result.count) c.len-last.ensures) in
+    c.digest_to-progress.result.count (value_of c.digest_to-progress.new.state) (c.digest_to-progress.ensures.digests ∙ ap (digests_to (value_of c.args.sound.now.state) c.args.node c.digest_to-progress.result.count) c.len-last.ensures) (groups_now (world_of (value_of c.args.sound.now.state)) c.args.node c.digest_to-progress.result.count c.len-last.result _ c.len-last.ensures c.digest_to-progress.ensures.groups) in
     omega (arith, same, c.len-last.ensures)
 
 pub drop_digested-requires-clause-sound : goal.drop_digested-requires-clause-sound
 drop_digested-requires-clause-sound g c =
     sound_between (value_of c.args.sound.now.state) c.args.node c.args.sound.now.shape c.args.sound.now.holds c.args.sound.now.noted (sym c.node_refusal.ensures ∙ c.in_default.is)
-    c.digest_to-progress.result.count (value_of c.digest_to-progress.new.state) (c.digest_to-progress.ensures.digests ∙ ap (digests_to (value_of c.args.sound.now.state) c.args.node c.digest_to-progress.result.count) c.len-last.ensures)
+    c.digest_to-progress.result.count (value_of c.digest_to-progress.new.state) (c.digest_to-progress.ensures.digests ∙ ap (digests_to (value_of c.args.sound.now.state) c.args.node c.digest_to-progress.result.count) c.len-last.ensures) (groups_now (world_of (value_of c.args.sound.now.state)) c.args.node c.digest_to-progress.result.count c.len-last.result _ c.len-last.ensures c.digest_to-progress.ensures.groups)
 
 pub drop_digested-requires-clause-shape : goal.drop_digested-requires-clause-shape
 drop_digested-requires-clause-shape g c =
     shape_between (value_of c.args.sound.now.state) c.args.node c.args.sound.now.shape c.args.sound.now.holds c.args.sound.now.noted (sym c.node_refusal.ensures ∙ c.in_default.is)
-    c.digest_to-progress.result.count (value_of c.digest_to-progress.new.state) (c.digest_to-progress.ensures.digests ∙ ap (digests_to (value_of c.args.sound.now.state) c.args.node c.digest_to-progress.result.count) c.len-last.ensures)
+    c.digest_to-progress.result.count (value_of c.digest_to-progress.new.state) (c.digest_to-progress.ensures.digests ∙ ap (digests_to (value_of c.args.sound.now.state) c.args.node c.digest_to-progress.result.count) c.len-last.ensures) (groups_now (world_of (value_of c.args.sound.now.state)) c.args.node c.digest_to-progress.result.count c.len-last.result _ c.len-last.ensures c.digest_to-progress.ensures.groups)
 
 -- what is given then
 
@@ -76,10 +80,10 @@ given_now g c =
     let some : 0 < undigested_to (world_of (value_of c.args.sound.now.state)) c.args.node (length (value_of c.args.sound.now.state).clients) → 0 < c.digest_to-progress.result.count =
     elim c.else-progress.branch [
       | else-progress-via-then-progress+else-progress-eq0 w ↦ (λ left. omega (arith, w.if-progress-eq0.false))
-      | else-progress-via-else-progress w ↦ (λ left. (let whole = c.digest_to-progress.ensures.all w.if-progress.false in omega (arith, left, all, whole)))
+      | else-progress-via-else-progress w ↦ (λ left. c.digest_to-progress.ensures.some w.if-progress.false (omega (arith, left, all)))
     ] in
     gives_as (value_of c.args.sound.now.state) c.args.node c.args.sound.now.shape c.args.sound.now.holds c.args.sound.now.noted (sym c.node_refusal.ensures ∙ c.in_default.is)
-    c.digest_to-progress.result.count (omega (arith, c.digest_to-progress.ensures.few, all)) some
+    c.digest_to-progress.result.count (omega (arith, c.digest_to-progress.ensures.few, all)) some (groups_now (world_of (value_of c.args.sound.now.state)) c.args.node c.digest_to-progress.result.count c.len-last.result _ c.len-last.ensures c.digest_to-progress.ensures.groups)
     (value_of c.digest_to-progress.new.state) (value_of c.drop_digested.new.state)
     (c.digest_to-progress.ensures.digests ∙ ap (digests_to (value_of c.args.sound.now.state) c.args.node c.digest_to-progress.result.count) c.len-last.ensures)
     (c.drop_digested.ensures.drops ∙ ap (drops_to (value_of c.digest_to-progress.new.state)) c.len-last.ensures)

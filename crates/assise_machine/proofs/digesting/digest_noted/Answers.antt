@@ -10,7 +10,7 @@ use Rattle.assise_manager.specs.Changes.{noted}
 use Rattle.assise_manager.specs.Whole.{membership}
 use Rattle.assise_machine_state.specs.NodeValues.{HasLog, log_in}
 use Rattle.assise_machine_state.specs.Whole.{value_of}
-use Rattle.assise_machine.proofs.Digested.{digests_as, has_after, has_here, log_after, touch_apart}
+use Rattle.assise_machine.proofs.Digested.{digests_as, has_after, has_here, log_after, touch_apart, whole_as}
 use Rattle.assise_machine.proofs.Fewer.{room_for_fewer}
 use Rattle.assise_machine.proofs.Touching.{fewer_effects, front_touched}
 use Rattle.assise_machine.proofs.digesting.digest_noted.Given as given
@@ -104,3 +104,8 @@ returns-clause-ok g c =
     let members = c.note_reserved.ensures ∙ ap (λ m. noted m c.args.node (set.from_list (take c.effects_from-written.result c.deref.result.now))) c.reserve_written.ensures.same in
     digests_as s c.args.node c.args.client c.in_ok-count.count has c.digest_some.new.self (membership c.note_reserved.new.self) (take c.effects_from-written.result c.deref.result.now)
     c.in_ok-count.ensures.ok members inodes
+
+pub returns-clause-group : goal.returns-clause-group
+returns-clause-group g c =
+    whole_as (value_of c.args.state.now) c.args.node c.args.client c.requires.shape c.requires.sound c.requires.full c.requires.client c.in_ok-count.count (omega (arith, c.in_ok-count.ensures.at_most, c.requires.wanted))
+    c.in_ok-count.ensures.groups

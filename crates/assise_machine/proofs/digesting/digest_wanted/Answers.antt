@@ -2,8 +2,8 @@ use Rattle.std.proofs.Common.{◌≤◌, length, ap, arith}
 use Rattle.assise_manager.specs.Standings.{full_nodes}
 use Rattle.assise_machine_state.specs.StateValues.{standings}
 use Rattle.assise_machine_state.specs.Whole.{value_of}
-use Rattle.assise_machine.proofs.Digested.{digests_unlisted, has_here, touch_apart}
-use Rattle.assise_machine.proofs.Results.{if_ok_as}
+use Rattle.assise_machine.proofs.Digested.{digests_unlisted, has_here, touch_apart, whole_as}
+use Rattle.assise_machine.proofs.Results.{if_ok_as, if_ok_both}
 use Rattle.assise_machine.proofs.digesting.digest_wanted.Given as given
 use Rattle.assise_machine.proofs.digesting.digest_wanted.Goals as goal
 
@@ -24,3 +24,9 @@ returns-clause-ok g c =
     let has = has_here s c.args.node c.args.client c.requires.shape c.requires.sound c.requires.full c.requires.client in
     if_ok_as c.digest_some.result _ _ c.digest_some.ensures.ok
     (λ count is. digests_unlisted s c.args.node c.args.client count has (all_full g c) c.requires.lists c.digest_some.new.self is)
+
+pub returns-clause-group : goal.returns-clause-group
+returns-clause-group g c =
+    if_ok_both c.digest_some.result _ _ _ c.digest_some.ensures.at_most c.digest_some.ensures.groups
+    (λ count low groups.
+    whole_as (value_of c.args.state.now) c.args.node c.args.client c.requires.shape c.requires.sound c.requires.full c.requires.client count (omega (arith, low, c.requires.wanted)) groups)

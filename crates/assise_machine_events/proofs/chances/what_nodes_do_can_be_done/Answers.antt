@@ -6,7 +6,7 @@ use Rattle.assise_machine_events.proofs.Freeable.{released_can}
 use Rattle.assise_machine_events.proofs.chances.what_nodes_do_can_be_done.Goals as goal
 
 pub returns-clause-delivered : goal.returns-clause-delivered
-returns-clause-delivered r = λ m f n h fine timely border. delivered_can m f n h fine timely border
+returns-clause-delivered r = λ m f n h fine timely. delivered_can m f n h fine timely
 
 pub returns-clause-digested : goal.returns-clause-digested
 returns-clause-digested r = λ m n count h fine few some borders. digested_can m n count h fine few some borders

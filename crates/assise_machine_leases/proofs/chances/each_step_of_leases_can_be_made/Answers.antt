@@ -11,7 +11,7 @@ pub returns-clause-granted : goal.returns-clause-granted
 returns-clause-granted r = λ w l c i mode m. may_grant w l c i mode m
 
 pub returns-clause-asked : goal.returns-clause-asked
-returns-clause-asked r = λ w l c i mode a m. may_ask w l c i mode a m
+returns-clause-asked r = λ w l c i mode s a m. may_ask w l c i mode a m s
 
 pub returns-clause-released : goal.returns-clause-released
 returns-clause-released r = λ w l c i m. may_release w l c i m

@@ -11,7 +11,7 @@ pub returns-clause-others : goal.returns-clause-others
 returns-clause-others r = λ s x. call_areas s x
 
 pub returns-clause-shape : goal.returns-clause-shape
-returns-clause-shape r = λ s x shape lives. call_shaped s x shape
+returns-clause-shape r = λ s x shape lives. call_shaped s x shape lives
 
 pub returns-clause-noted : goal.returns-clause-noted
 returns-clause-noted r = λ s x noted. call_noted s x noted

@@ -9,7 +9,7 @@ pub returns-clause-areas : goal.returns-clause-areas
 returns-clause-areas r = λ s n k i inodes levels asked. failure_areas s n k i inodes levels asked
 
 pub returns-clause-shape : goal.returns-clause-shape
-returns-clause-shape r = λ s n inodes levels asked shape stands fine. failure_shaped s n inodes levels asked shape stands
+returns-clause-shape r = λ s n inodes levels asked shape sound stands fine. failure_shaped s n inodes levels asked shape stands ∣ sound ∣₁ fine
 
 pub returns-clause-noted : goal.returns-clause-noted
 returns-clause-noted r = λ s n inodes levels asked noted leases frozen left. failure_noted s n inodes levels asked noted leases frozen left

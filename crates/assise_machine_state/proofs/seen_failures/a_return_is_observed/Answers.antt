@@ -5,4 +5,4 @@ pub returns-clause-rejoins : goal.returns-clause-rejoins
 returns-clause-rejoins r = λ s n since donor stale shape sound lawful stands fine. node_rejoins s n since donor stale shape lawful stands sound fine
 
 pub returns-clause-shape : goal.returns-clause-shape
-returns-clause-shape r = λ s n since donor stale shape lawful stands. join_shaped s n since donor stale shape lawful stands
+returns-clause-shape r = λ s n since donor stale shape sound lawful stands. join_shaped s n since donor stale shape lawful stands ∣ sound ∣₁

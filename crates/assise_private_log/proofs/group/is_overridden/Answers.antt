@@ -1,7 +1,7 @@
 use Rattle.std.proofs.Common.{◌≡◌, ◌||◌, true, false, ap, sym, ◌∙◌, rules}
 use Rattle.std.specs.List.{list_any}
 use Rattle.assise_record.specs.Coalesced.{overridden}
-use Rattle.assise_private_log.proofs.Grouping.{overridden_both}
+use Rattle.assise_private_log.proofs.LogGroups.{overridden_both}
 use Rattle.assise_private_log.proofs.group.is_overridden.Goals as goal
 
 pub returns-then-is_overridden_by : goal.returns-then-is_overridden_by

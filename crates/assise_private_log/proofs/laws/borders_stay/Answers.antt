@@ -1,5 +1,5 @@
 use Rattle.std.proofs.Common.{true, refl}
-use Rattle.assise_private_log.proofs.Bordering.{border_front, border_grouped, border_tail}
+use Rattle.assise_private_log.proofs.Borders.{border_front, border_grouped, border_tail}
 use Rattle.assise_private_log.proofs.laws.borders_stay.Goals as goal
 
 pub returns-clause-front : goal.returns-clause-front

@@ -1,7 +1,7 @@
 use Rattle.std.proofs.Common.{◌≡◌, ◌+◌, ◌∷◌, ◌∙◌, length, ap, sym, subst, arith, rules}
 use Rattle.assise_record.specs.Records.{all_effects}
 use Rattle.assise_digest.specs.Pending.{HasAll, all_noted, noted}
-use Rattle.assise_digest.proofs.Regrouping.{has_front, has_others}
+use Rattle.assise_digest.proofs.RegroupedLogs.{has_front, has_others}
 use Rattle.assise_digest.proofs.pending.Pending.note_all.Goals as goal
 
 pub note-requires : goal.note-requires

@@ -1,6 +1,6 @@
 use Rattle.std.proofs.Common.{◌∙◌, ap, sym, subst}
 use Rattle.assise_digest.specs.Sound.{IsSoundLog}
-use Rattle.assise_digest.proofs.Regrouping.{all_there, numbers_fit, sound_regrouped}
+use Rattle.assise_digest.proofs.RegroupedLogs.{all_there, numbers_fit, sound_regrouped}
 use Rattle.assise_digest.proofs.received.Received.coalesce.Goals as goal
 
 pub note_from-requires-clause-numbers_fit : goal.note_from-requires-clause-numbers_fit

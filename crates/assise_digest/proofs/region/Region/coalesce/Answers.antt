@@ -1,7 +1,7 @@
 use Rattle.std.proofs.Common.{OnOk, Result, Ok, Err, ap, subst, sym, ◌∙◌}
 use Rattle.assise_digest.specs.Region.{IsBegun, log_of, read_by, regrouped_from}
 use Rattle.assise_digest.proofs.Placing.{changed_there, in_place, log_there, sound_set, sound_there}
-use Rattle.assise_digest.proofs.Regrouping.{coalesced_read}
+use Rattle.assise_digest.proofs.RegroupedLogs.{coalesced_read}
 use Rattle.assise_digest.proofs.region.Region.coalesce.Goals as goal
 
 ok_map : {T E A B : Type 0} (r : Result T E) → OnOk r A → (A → B) → OnOk r B

@@ -3,7 +3,7 @@ use Rattle.std.proofs.lemmas.Bool.{ne_eqb}
 use Rattle.std.proofs.lemmas.List.{length_push}
 use Rattle.assise_private_log.specs.Groups.{with_group}
 use Rattle.assise_private_log.specs.NumberedLog.{with_grouped}
-use Rattle.assise_private_log.proofs.Grouping.{HasRest, all_passed, group_more, group_open, has_rest, one_passed}
+use Rattle.assise_private_log.proofs.LogGroups.{HasRest, all_passed, group_more, group_open, has_rest, one_passed}
 use Rattle.assise_private_log.proofs.log.Log.append_group.Goals as goal
 
 refused_not_ok : {T E : Type 0} (r : Result T E) (e : E) → r ≡ Err e → IsOk r → ⊥

@@ -1,6 +1,6 @@
 use Rattle.std.proofs.Common.{◌<◌, ◌++◌, length, ap, ◌∙◌, map, rules}
 use Rattle.assise_record.specs.Groups.{coalesced_group, groups_of}
-use Rattle.assise_private_log.proofs.Grouping.{groups_more}
+use Rattle.assise_private_log.proofs.LogGroups.{groups_more}
 use Rattle.assise_private_log.proofs.log.Log.groups_from.Goals as goal
 
 pub loop-rest-preserved : goal.loop-rest-preserved

@@ -1,7 +1,7 @@
 use Rattle.std.proofs.Common.{◌++◌, ◌∙◌, ap, sym, arith}
 use Rattle.assise_private_log.specs.Groups.{with_group, with_groups}
 use Rattle.assise_private_log.specs.NumberedLog.{without_tail}
-use Rattle.assise_private_log.proofs.Grouping.{all_passed, groups_one_more, one_passed, room_for_group}
+use Rattle.assise_private_log.proofs.LogGroups.{all_passed, groups_one_more, one_passed, room_for_group}
 use Rattle.assise_private_log.proofs.log.Log.regroup.Goals as goal
 
 pub append_group-requires-clause-numbers_fit : goal.append_group-requires-clause-numbers_fit

@@ -1,6 +1,6 @@
 use Rattle.std.proofs.Common.{◌≡◌, ◌≤◌, length, rules, arith, subst}
 use Rattle.assise_private_log.specs.NumberedLog.{IsNumberedLog, end}
-use Rattle.assise_private_log.proofs.Bordering.{border_end, covers_group, next_is_group_end}
+use Rattle.assise_private_log.proofs.Borders.{border_end, covers_group, next_is_group_end}
 use Rattle.assise_private_log.proofs.log_view.LogView.group_end.Goals as goal
 
 pub returns-then-is_border-clause-end : goal.returns-then-is_border-clause-end

@@ -1,6 +1,7 @@
-use Rattle.std.proofs.Common.{◌≡◌, rules, arith, ap, sym, ◌∙◌}
+use Rattle.std.proofs.Common.{◌≡◌, ℕ, ◌<◌, ◌≤◌, inl, rules, arith, ap, sym, subst, ◌∙◌}
 use Rattle.assise_private_log.specs.Borders.{whole_count}
-use Rattle.assise_private_log.proofs.Bordering.{whole_here, whole_none, whole_passed}
+use Rattle.assise_private_log.specs.NumberedLog.{IsNumberedLog, NumberedLog}
+use Rattle.assise_private_log.proofs.Borders.{some_whole, whole_here, whole_none, whole_passed}
 use Rattle.assise_private_log.proofs.log_view.LogView.whole_count.Goals as goal
 
 pub loop-count-preserved : goal.loop-count-preserved
@@ -14,3 +15,16 @@ pub returns-after-loop-count-clause-count : goal.returns-after-loop-count-clause
 returns-after-loop-count-clause-count c =
     let all : c.loop-count.count ≡ 0 = omega arith in
     all ∙ sym (whole_none c.args.self.now c.args.from) ∙ ap (whole_count c.args.self.now c.args.from) (sym all) ∙ c.loop-count.invariant.0
+
+-- the groups that there are among 64
+
+some_there : (g : NumberedLog) (from most : ℕ) → IsNumberedLog g → 64 ≤ most → 0 < whole_count g from most
+some_there g from most law enough = some_whole g from most law (omega (arith, enough)) (inl enough)
+
+pub returns-after-loop-count-clause-some : goal.returns-after-loop-count-clause-some
+returns-after-loop-count-clause-some c enough =
+    let law : IsNumberedLog c.args.self.now = subst IsNumberedLog c.self.view_is c.self.invariant.0 in
+    let none : c.loop-count.count ≡ 0 = omega arith in
+    let left : whole_count c.args.self.now c.args.from c.args.most ≡ 0 =
+    sym c.loop-count.invariant.0 ∙ ap (whole_count c.args.self.now c.args.from) none ∙ whole_none c.args.self.now c.args.from in
+    absurd (omega (arith, left, some_there c.args.self.now c.args.from c.args.most law enough))

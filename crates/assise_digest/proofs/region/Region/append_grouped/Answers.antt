@@ -1,7 +1,7 @@
 use Rattle.std.proofs.Common.{OnOk, Result, Ok, Err}
-use Rattle.assise_digest.specs.Region.{with_more}
+use Rattle.assise_digest.specs.Region.{with_one}
 use Rattle.assise_digest.proofs.Placing.{changed_there}
-use Rattle.assise_digest.proofs.region.Region.append.Goals as goal
+use Rattle.assise_digest.proofs.region.Region.append_grouped.Goals as goal
 
 ok_map : {T E A B : Type 0} (r : Result T E) → OnOk r A → (A → B) → OnOk r B
 ok_map (Ok x) a f = f a
@@ -10,5 +10,5 @@ ok_map (Err e) a f = tt
 pub returns-clause-ok : goal.returns-clause-ok
 returns-clause-ok c =
     ok_map c.append.result c.append.ensures.ok (λ step.
-    changed_there (λ l. with_more l c.args.added) c.self.inside.area.inodes c.self.inside.logs.items c.args.self.now c.args.client c.index_mut.result.now c.append.new.self c.self.view_is
+    changed_there (λ l. with_one l c.args.added c.args.begins) c.self.inside.area.inodes c.self.inside.logs.items c.args.self.now c.args.client c.index_mut.result.now c.append.new.self c.self.view_is
     c.requires.client c.index_mut.ensures.value step)

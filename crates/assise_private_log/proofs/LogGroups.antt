@@ -13,7 +13,7 @@ use Rattle.assise_record.proofs.Marking.{all-coalesced, groups-are, groups-steps
 use Rattle.assise_record.proofs.WholeGroups.{whole_none}
 use Rattle.assise_private_log.specs.Groups.{groups_from, regrouped, with_group, with_groups, with_left}
 use Rattle.assise_private_log.specs.NumberedLog.{HasOpenGroup, IsNumberedLog, NumberedLog, end, is_border, records_from, with_grouped, without_tail}
-use Rattle.assise_private_log.proofs.Bordering.{border_first, border_marked}
+use Rattle.assise_private_log.proofs.Borders.{border_first, border_marked}
 
 -- ---- effects
 

@@ -18,13 +18,13 @@ use Rattle.assise_inode_table.proofs.LeftWhole.{whole_left}
 use Rattle.assise_inode_table.proofs.Making.{contains-both, value_after-append}
 use Rattle.assise_private_log.specs.Groups.{groups_from, regrouped}
 use Rattle.assise_private_log.specs.NumberedLog.{NumberedLog, end, records_from}
-use Rattle.assise_private_log.proofs.Grouping.{regrouped_all}
+use Rattle.assise_private_log.proofs.LogGroups.{regrouped_all}
 use Rattle.assise_digest.specs.Pending.{HasAll, StandsFor, noted, noted_from}
 use Rattle.assise_digest.specs.Region.{AreWhole, HasClient, IsBegun, ReceivedLog, RegionValue, ahead, log_of, no_log, read_by, regrouped_from, with_log}
 use Rattle.assise_digest.specs.Sound.{IsSoundLog, StandsHere, seen_log}
 use Rattle.assise_digest.specs.declared.pending.Pending.{Pending}
 use Rattle.assise_digest.specs.declared.received.Received.{Received}
-use Rattle.assise_digest.proofs.Coalescing.{groups_come}
+use Rattle.assise_digest.proofs.CoalescedLogs.{groups_come}
 use Rattle.assise_digest.proofs.Keeping.{get-noted}
 use Rattle.assise_digest.proofs.Receiving.{whole_drop, whole_take}
 use Rattle.assise_digest.proofs.Renoting.{renoted}
