@@ -5,7 +5,8 @@ ghost use Rattle.assise_inode_table.specs.Contents.{InodeMap};
 ghost use Rattle.assise_inode_table.specs.Effects.{all_applied};
 ghost use Rattle.assise_inode_table.specs.Whole.{CanBeMadeWhole};
 ghost use Rattle.assise_names.specs.declared.refusal.Refusal.TheVariants.{LogFull, OutOfMemory};
-ghost use Rattle.assise_private_log.specs.NumberedLog.{HasOpenGroup, end, records_from};
+ghost use Rattle.assise_record.specs.Groups.{AllHaveEffects};
+ghost use Rattle.assise_private_log.specs.NumberedLog.{HasOpenGroup, IsNumberedLog, end, records_from};
 ghost use Rattle.assise_digest.specs.Region.{AreWhole, IsBegun, IsNextGroup, ahead, ahead_below, digested_further, from_number, regrouped_from, next_effects, up_to_number, with_one};
 ghost use Rattle.assise_record.specs.declared.effect.Effect.{Effect as EffectValue};
 ghost use Rattle.assise_digest.specs.Pending.{HasAll, KeepsNoMore, Lays, forgotten, noted_from};
@@ -182,6 +183,8 @@ impl Received {
         requires digested { self.old.digested ≤ from }
         requires to_end { from ≤ end self.old.log }
         ensures seen { OnOk result (seen_log self.new ≡ regrouped_from (seen_log self.old) from) }
+        ensures effects { OnOk result (AllHaveEffects (records_from self.old.log from)) }
+        ensures lawful { IsNumberedLog self.old.log }
         ensures sound { (m : InodeMap) → IsSoundLog m self.old → IsSoundLog m self.new }
         ensures err { OnErr result (self.new ≡ self.old) }
         ensures only_memory { IsOkUnless result OutOfMemory }

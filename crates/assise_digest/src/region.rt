@@ -7,7 +7,8 @@ ghost use Rattle.assise_inode_table.specs.Opening.{opening};
 ghost use Rattle.assise_inode_table.specs.Spelled.{Spells};
 ghost use Rattle.assise_inode_table.specs.Whole.{CanBeMadeWhole};
 ghost use Rattle.assise_names.specs.declared.refusal.Refusal.TheVariants.{LogFull, OutOfMemory};
-ghost use Rattle.assise_private_log.specs.NumberedLog.{HasOpenGroup, end, is_border};
+ghost use Rattle.assise_record.specs.Groups.{AllHaveEffects};
+ghost use Rattle.assise_private_log.specs.NumberedLog.{HasOpenGroup, IsNumberedLog, end, is_border, records_from};
 ghost use Rattle.assise_seq_tree.specs.Tree.{Tree as PlainTree};
 ghost use Rattle.assise_digest.specs.Pending.{Lays};
 ghost use Rattle.assise_digest.specs.Region.{AreNotBelow, AreWhole, HasClient, HasRoom, IsBegun, IsFull, IsNextGroup, IsQuiet, TouchApart, ahead, ahead_below, all_ahead, alone, digested_by, from_number, log_of, read_by, regrouped_from, up_to_number, whole_ahead, with_client, with_hot_capacity, with_inode, with_log, with_more, with_one, without_clients, without_last_client};
@@ -380,6 +381,9 @@ impl Region {
             with_log self.old client (regrouped_from (log_of self.old client) from)) }
         ensures read { OnOk result ((i : ℕ) →
             read_by self.new client i ≡ read_by self.old client i) }
+        ensures effects { OnOk result
+            (AllHaveEffects (records_from (log_of self.old client).log from)) }
+        ensures lawful { IsNumberedLog (log_of self.old client).log }
         ensures err { OnErr result (self.new ≡ self.old) }
         ensures only_memory { IsOkUnless result OutOfMemory }
     {

@@ -2,25 +2,31 @@
 use Rattle.std.proofs.Common.{◌≡◌, ◌≢◌, ℕ, suc, ◌<◌, true, false, List, [], ◌∷◌, length, Some, None, refl, ap, sym, subst, ◌∙◌, arith}
 use Rattle.assise_names.specs.declared.call.Op.{Op}
 use Rattle.assise_names.specs.declared.call.Op.TheVariants.{Create, Fsync, Stat}
-use Rattle.assise_names.specs.declared.durability.Durability.TheVariants.{Pessimistic}
+use Rattle.assise_names.specs.declared.durability.Durability.TheVariants.{Optimistic, Pessimistic}
 use Rattle.assise_names.specs.declared.mode.Mode.TheVariants.{Read, Write}
 use Rattle.assise_names.specs.declared.refusal.Refusal.TheVariants.{ClientGone, LogFull, NodeDown, OutOfMemory}
 use Rattle.assise_names.specs.declared.reply.Reply.TheVariants.{Done}
+use Rattle.assise_history.specs.Entries.{crashes}
+use Rattle.assise_history.specs.Legal.{durability_of}
+use Rattle.assise_history.proofs.Counting.{durability-still}
+use Rattle.assise_record.specs.Groups.{AllHaveEffects}
 use Rattle.assise_lease_table.specs.Leases.{new_lease}
 use Rattle.assise_lease_tree.specs.Levels.{in_way}
 use Rattle.assise_lease_tree.specs.TwoLevels.{is_free_for}
-use Rattle.assise_machine_laws.specs.World.{end, received_by_all}
+use Rattle.assise_machine_laws.specs.World.{end, received_by_all, records_between}
 use Rattle.assise_machine_history.proofs.Losing.{create_op}
 use Rattle.assise_machine_events.specs.ClientEvents.{Calling, Crashing, Granted, Opening, Syncing, is_crashed, is_full, is_opened, is_refused, lacks_memory, IsMissing, call_of_client}
-use Rattle.assise_machine_events.specs.Events.{crash, crashed, not_yet, open_client, opened, refused, replied}
+use Rattle.assise_machine_events.specs.Dsyncs.{Coalescing, coalesced_from, is_refused, lacks_memory}
+use Rattle.assise_machine_events.specs.Events.{Answer, crash, crashed, not_yet, open_client, opened, refused, replied}
 use Rattle.assise_machine_events.specs.Faults.{client_fault}
 use Rattle.assise_machine_events.specs.Machine.{Holds, Machine}
 use Rattle.assise_machine_events.specs.Reached.{Comes, IsReached}
 use Rattle.assise_machine_events.proofs.Answerable.{awaited_can, crashed_can, opened_can, replicating_can, synced_can}
-use Rattle.assise_machine_events.proofs.Creating.{HasFile, file_made, has_file}
-use Rattle.assise_machine_events.proofs.Course.{HasLeases, IsOpen, has_effects, is_open, leases_had, reaches, served, tried, start, start_holds, start_reached}
+use Rattle.assise_machine_events.proofs.Creating.{HasFile, file_made, has_file, has_file_as}
+use Rattle.assise_machine_events.proofs.Course.{HasLeases, IsOpen, has_effects, is_open, is_open_as, leases_had, reaches, served, tried, start, start_holds, start_reached}
 use Rattle.assise_machine_events.proofs.EachEvent.{event_keeps}
 use Rattle.assise_machine_events.proofs.Lacking.{keeps_them, memory_can, with_granted}
+use Rattle.assise_machine_events.proofs.Regroupable.{coalesced_can, coalescing_synced}
 use Rattle.assise_machine_events.proofs.MembersCome.{falls}
 
 -- ---- a client is opened
@@ -193,3 +199,49 @@ sync_awaited_comes =
     let (m, f) = has_file 1 (omega arith) in
     let (m', h) = replicating_can m 1 Fsync f.holds (rw (f.clients, f.lives, f.runs) refl) (record_awaited m f) in
     record { limit = 1; before = m; reached = f.reached; after = m'; outcome = h }
+
+-- ---- an optimistic client's dsync
+
+abbrev CoalescesTo : Answer → Machine → Machine → Type 0
+CoalescesTo a m m' = (durability_of 1 m.history ≡ Optimistic) × Coalescing m 1 a m'
+
+pub coalescing_synced_comes : Comes (CoalescesTo (replied Done))
+coalescing_synced_comes =
+    let (m, (o, was)) = is_open_as 1 Optimistic in
+    let (m', h) = coalescing_synced m 1 o.holds (open_fine 1 m o) (nothing_awaited m o) in
+    record { limit = 1; before = m; reached = o.reached; after = m'; outcome = (was, h) }
+
+from_start : (m : Machine) → HasFile 1 m → coalesced_from m.world 1 ≡ 0
+unfolding received_by_all end
+from_start m f = rw (f.full, f.first, f.records, f.received_home, f.goal, f.home) (rw f.received_other refl)
+
+-- the file's record would be a group
+file_effects : (m : Machine) → HasFile 1 m → AllHaveEffects (records_between m.world 1 (coalesced_from m.world 1) (end m.world 1))
+unfolding received_by_all end records_between
+file_effects m f = rw (from_start m f) (rw (f.first, f.records) (refl, tt))
+
+file_fine : (m : Machine) → HasFile 1 m → client_fault m 1 ≡ None
+file_fine m f = rw (f.clients, f.lives, f.runs) refl
+
+pub coalesced_comes : Comes (CoalescesTo not_yet)
+coalesced_comes =
+    let (m, (f, was)) = has_file_as 1 Optimistic (omega arith) in
+    let (m', h) = coalesced_can m 1 f.holds (file_fine m f) (record_awaited m f) (file_effects m f) in
+    record { limit = 1; before = m; reached = f.reached; after = m'; outcome = (was, h) }
+
+pub not_coalesced_for_memory_comes : Comes (CoalescesTo (refused OutOfMemory))
+not_coalesced_for_memory_comes =
+    let (m, (f, was)) = has_file_as 1 Optimistic (omega arith) in
+    record { limit = 1; before = m; reached = f.reached; after = m; outcome = (was, lacks_memory (file_fine m f) refl refl) }
+
+crash_opened : (m m' : Machine) → Crashing m 1 crashed m' → durability_of 1 m'.history ≡ durability_of 1 m.history
+crash_opened m m' (is_crashed fine is e) = ap (durability_of 1) e.adds.history ∙ durability-still m.history (crashes 1) 1 refl
+crash_opened m m' (lacks_memory fine is same) = cc
+crash_opened m m' (is_refused r fault is same) = cc
+
+pub not_coalesced_comes : Comes (CoalescesTo (refused ClientGone))
+not_coalesced_comes =
+    let (m, (o, was)) = is_open_as 1 Optimistic in
+    let (v, h) = crashed_can m 1 o.holds (open_fine 1 m o) in
+    let over = of_crash m v o h in
+    record { limit = 1; before = v; reached = over.reached; after = v; outcome = (crash_opened m v h ∙ was, is_refused ClientGone over.gone refl refl) }

@@ -1,10 +1,12 @@
 -- How two nodes begin: client 1 is opened on node 1, and gets the leases that it needs to create a file.
 use Rattle.std.proofs.Common.{◌≡◌, ◌≢◌, ℕ, ◌==◌, ◌||◌, true, false, List, [], ◌∷◌, ◌++◌, Option, Some, None, refl, ap, sym, subst, ◌∙◌, arith}
 use Rattle.std.proofs.lemmas.Bool.{or_right}
+use Rattle.assise_names.specs.declared.durability.Durability.{Durability}
 use Rattle.assise_names.specs.declared.durability.Durability.TheVariants.{Pessimistic}
 use Rattle.assise_names.specs.declared.mode.Mode.{Mode}
 use Rattle.assise_names.specs.declared.mode.Mode.TheVariants.{Read, Write}
 use Rattle.assise_names.specs.declared.reply.Reply.TheVariants.{Done}
+use Rattle.assise_history.specs.Legal.{durability_of}
 use Rattle.assise_record.specs.Records.{has_some}
 use Rattle.assise_inode_table.specs.Effects.{contains, touched}
 use Rattle.assise_lease_table.specs.declared.lease.Lease.{Lease}
@@ -69,44 +71,50 @@ pub record IsOpen (limit : ℕ) (m : Machine) : Type 0 where
   pub clients_none : (i : ℕ) → m.leases.levels.clients i ≡ []
   pub nodes_none : (i : ℕ) → m.leases.levels.nodes i ≡ []
 
-of_opening : (limit : ℕ) (m : Machine) → Opening (start limit) 1 Pessimistic (opened 1) m → IsOpen limit m
-of_opening limit m (is_refused r fault is same) = cc
-of_opening limit m (lacks_memory fine is same) = cc
-of_opening limit m (is_opened fine is e) =
+of_opening : (limit : ℕ) (u : Durability) (m : Machine) → Opening (start limit) 1 u (opened 1) m → IsOpen limit m × (durability_of 1 m.history ≡ u)
+of_opening limit u m (is_refused r fault is same) = cc
+of_opening limit u m (lacks_memory fine is same) = cc
+of_opening limit u m (is_opened fine is e) =
     let w : World = (start limit).world in
     let o = e.opening.opens in
-    let there : (n : ℕ) → Full m.world n → Full w n = λ n f. subst (λ ns. contains ns n ≡ true) o.nodes.full f in
-    record {
-      reached = reaches limit (start limit) m (open_client 1 Pessimistic) (opened 1) (start_reached limit) (is_opened fine is e);
-      holds = event_keeps (start limit) m (open_client 1 Pessimistic) (opened 1) (start_holds limit) (is_opened fine is e);
-      limit_is = e.adds.limit;
-      members = e.keeps.members;
-      world = record {
-        clients = o.clients;
-        home = o.home_new;
-        lives = o.lives_new;
-        runs = o.crashed_new;
-        records = o.logs.records 1;
-        first = o.logs.first 1;
-        next = o.logs.next 1;
-        made = o.logs.made 1;
-        full = o.nodes.full;
-        log = (o.nodes.same 1 refl).log 1;
-        received = (o.nodes.same 2 refl).received 1;
-        area = (o.nodes.same 1 refl).area 0;
-      };
-      goal = o.goal_new;
-      borders = o.logs.border;
-      log = λ n c f. (o.nodes.same n (there n f)).log c;
-      received = λ n c f. (o.nodes.same n (there n f)).received c;
-      digested = λ n c f. (o.nodes.same n (there n f)).digested c;
-      home_known = e.opening.enrols.home.here;
-      clients_none = e.opening.enrols.clients;
-      nodes_none = e.opening.enrols.nodes;
-    }
+    let there : (n : ℕ) → Full m.world n → Full w n = λ n f. subst (λ ns. contains ns n ≡ true) o.nodes.full f in (
+      record {
+        reached = reaches limit (start limit) m (open_client 1 u) (opened 1) (start_reached limit) (is_opened fine is e);
+        holds = event_keeps (start limit) m (open_client 1 u) (opened 1) (start_holds limit) (is_opened fine is e);
+        limit_is = e.adds.limit;
+        members = e.keeps.members;
+        world = record {
+          clients = o.clients;
+          home = o.home_new;
+          lives = o.lives_new;
+          runs = o.crashed_new;
+          records = o.logs.records 1;
+          first = o.logs.first 1;
+          next = o.logs.next 1;
+          made = o.logs.made 1;
+          full = o.nodes.full;
+          log = (o.nodes.same 1 refl).log 1;
+          received = (o.nodes.same 2 refl).received 1;
+          area = (o.nodes.same 1 refl).area 0;
+        };
+        goal = o.goal_new;
+        borders = o.logs.border;
+        log = λ n c f. (o.nodes.same n (there n f)).log c;
+        received = λ n c f. (o.nodes.same n (there n f)).received c;
+        digested = λ n c f. (o.nodes.same n (there n f)).digested c;
+        home_known = e.opening.enrols.home.here;
+        clients_none = e.opening.enrols.clients;
+        nodes_none = e.opening.enrols.nodes;
+      },
+      rw e.adds.history refl,
+    )
+
+-- it was opened so
+pub is_open_as : (limit : ℕ) (u : Durability) → (m : Machine) × (IsOpen limit m × (durability_of 1 m.history ≡ u))
+is_open_as limit u = (let (m, h) = opened_can (start limit) 1 u (start_holds limit) refl in (m, of_opening limit u m h))
 
 pub is_open : (limit : ℕ) → (m : Machine) × IsOpen limit m
-is_open limit = (let (m, h) = opened_can (start limit) 1 Pessimistic (start_holds limit) refl in (m, of_opening limit m h))
+is_open limit = (let (m, o) = is_open_as limit Pessimistic in (m, o.0))
 
 -- ---- it gets the leases that it needs to create a file
 

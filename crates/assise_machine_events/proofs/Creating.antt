@@ -1,8 +1,13 @@
 -- Client 1, on the first of two nodes, creates a file.
 use Rattle.std.proofs.Common.{◌≡◌, ◌≢◌, ℕ, ◌<◌, ◌≤◌, inl, inr, true, false, List, [], ◌∷◌, ◌++◌, length, Some, refl, ap, sym, subst, ◌∙◌, arith}
 use Rattle.std.proofs.lemmas.Bool.{cases_eq}
+use Rattle.assise_names.specs.declared.durability.Durability.{Durability}
+use Rattle.assise_names.specs.declared.durability.Durability.TheVariants.{Pessimistic}
 use Rattle.assise_names.specs.declared.mode.Mode.TheVariants.{Write}
 use Rattle.assise_names.specs.declared.reply.Reply.TheVariants.{Done}
+use Rattle.assise_history.specs.Entries.{calls}
+use Rattle.assise_history.specs.Legal.{calls_made, durability_of}
+use Rattle.assise_history.proofs.Counting.{durability-still}
 use Rattle.assise_record.specs.LogRecord.{LogRecord}
 use Rattle.assise_record.specs.Records.{record_of}
 use Rattle.assise_inode_table.specs.Effects.{contains}
@@ -20,7 +25,7 @@ use Rattle.assise_machine_events.specs.Machine.{Holds, Machine}
 use Rattle.assise_machine_events.specs.Reached.{Comes, IsReached}
 use Rattle.assise_machine_events.proofs.EachEvent.{event_keeps}
 use Rattle.assise_machine_events.proofs.Steady.{old_call, with_old_areas}
-use Rattle.assise_machine_events.proofs.Course.{HasLeases, IsOpen, is_open, leases_had, may, reaches, same_call, tried_creation}
+use Rattle.assise_machine_events.proofs.Course.{HasLeases, IsOpen, is_open, is_open_as, leases_had, may, reaches, same_call, tried_creation}
 
 -- the record of the call that creates it
 abbrev pub file_record : LogRecord
@@ -166,11 +171,15 @@ module _ (limit : ℕ) (m : Machine) (room : 0 < limit) (o : IsOpen limit m) (gs
     nodes_root = h.nodes_root;
   }
 
-pub has_file : (limit : ℕ) → 0 < limit → (m : Machine) × HasFile limit m
-has_file limit room =
-    let (m, o) = is_open limit in
+-- the client was opened so
+pub has_file_as : (limit : ℕ) (u : Durability) → 0 < limit → (m : Machine) × (HasFile limit m × (durability_of 1 m.history ≡ u))
+has_file_as limit u room =
+    let (m, (o, was)) = is_open_as limit u in
     let (gs, h) = leases_had limit m o in
-    (with_file limit m room o gs h, of_call limit m room o gs h)
+    (with_file limit m room o gs h, (of_call limit m room o gs h, durability-still m.history (calls (record { client = 1; number = calls_made 1 m.history; op = create_op; reply = Done })) 1 refl ∙ was))
+
+pub has_file : (limit : ℕ) → 0 < limit → (m : Machine) × HasFile limit m
+has_file limit room = (let (m, f) = has_file_as limit Pessimistic room in (m, f.0))
 
 -- the call that creates it
 pub file_made : (limit : ℕ) → 0 < limit → Comes (λ m m'. Calling m 1 create_op (replied Done) m')

@@ -9,10 +9,15 @@ use Rattle.assise_machine_laws.proofs.Regrouping.{regroups_to, regroup_dropped}
 use Rattle.assise_machine_leases.specs.Leases.{AreLeases}
 use Rattle.assise_machine_leases.proofs.Keeping.{coalesced_keeps}
 use Rattle.assise_machine_history.specs.Entered.{coalesces}
-use Rattle.assise_machine_events.specs.Dsyncs.{IsCoalescing, coalesced_from, new_groups}
+use Rattle.assise_names.specs.declared.call.Op.TheVariants.{Dsync}
+use Rattle.assise_names.specs.declared.durability.Durability.TheVariants.{Pessimistic}
+use Rattle.assise_machine_events.specs.ClientEvents.Syncing.{is_synced}
+use Rattle.assise_machine_events.specs.Dsyncs.{Coalescing, IsCoalescing, coalesced_from, is_coalesced, is_refused, is_synced, lacks_memory, new_groups}
+use Rattle.assise_machine_events.specs.Events.{Answer}
 use Rattle.assise_machine_events.specs.Happenings.{Leads}
 use Rattle.assise_machine_events.specs.Machine.{Machine, Holds}
-use Rattle.assise_machine_events.proofs.Leading.{leads_sound, leads_recorded, with_world, quietly, ends_as}
+use Rattle.assise_machine_events.proofs.Leading.{leads_sound, leads_recorded, with_world, quietly, ends_as, same_leads, same_holds}
+use Rattle.assise_machine_events.proofs.Syncing.{syncing_leads, syncing_keeps}
 use Rattle.assise_machine_events.proofs.Members.{members_stay, epochs_stay}
 
 record AsCoalesced (m : Machine) (c : ℕ) (m' : Machine) : Type 0 where
@@ -55,3 +60,17 @@ coalescing_keeps m m' c h e =
       ]);
       clients = rw e.regroups.clients.clients h.clients;
     }
+
+-- ---- each outcome of an optimistic client's dsync
+
+pub coalesced_leads : (m m' : Machine) (c : ℕ) (a : Answer) → Holds m → Coalescing m c a m' → Leads m m'
+coalesced_leads m m' c a h (is_synced reply fine is e) = syncing_leads m m' c Dsync Pessimistic a refl h (is_synced reply fine is e)
+coalesced_leads m m' c a h (is_coalesced fine is e) = coalescing_leads m m' c h e
+coalesced_leads m m' c a h (lacks_memory fine is same) = same_leads m m' same
+coalesced_leads m m' c a h (is_refused r fault is same) = same_leads m m' same
+
+pub coalesced_holds : (m m' : Machine) (c : ℕ) (a : Answer) → Holds m → Coalescing m c a m' → Holds m'
+coalesced_holds m m' c a h (is_synced reply fine is e) = syncing_keeps m m' c Dsync Pessimistic a refl h (is_synced reply fine is e)
+coalesced_holds m m' c a h (is_coalesced fine is e) = coalescing_keeps m m' c h e
+coalesced_holds m m' c a h (lacks_memory fine is same) = same_holds m m' same h
+coalesced_holds m m' c a h (is_refused r fault is same) = same_holds m m' same h

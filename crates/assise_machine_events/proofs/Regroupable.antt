@@ -1,5 +1,5 @@
 -- A dsync can coalesce.
-use Rattle.std.proofs.Common.{◌≡◌, ◌≢◌, ℕ, ◌+◌, ◌-◌, ◌<◌, ◌≤◌, ◌==◌, ◌&&◌, ◌||◌, not, nat_le, if◌then◌else◌, Bool, true, false, List, [], ◌∷◌, ◌++◌, length, take, drop, refl, ap, sym, subst, ◌∙◌, inl, inr, arith, append-nil}
+use Rattle.std.proofs.Common.{◌≡◌, ◌≢◌, ℕ, ◌+◌, ◌-◌, ◌<◌, ◌≤◌, ◌==◌, ◌&&◌, ◌||◌, not, nat_le, if◌then◌else◌, Bool, true, false, List, [], ◌∷◌, ◌++◌, None, length, take, drop, refl, ap, sym, subst, ◌∙◌, inl, inr, arith, append-nil}
 use Rattle.std.proofs.lemmas.Bool.{false≢true, cases_eq, cond-true, cond-false, eq-eqb, ne_eqb, le-leb, lt-leb, and_from, and_left, and_right, or_right}
 use Rattle.std.proofs.lemmas.List.{length-take}
 use Rattle.assise_record.specs.Groups.{AllHaveEffects, all_coalesced, are_whole}
@@ -14,14 +14,22 @@ use Rattle.assise_machine_laws.specs.World.{World, Full, end, received_by_all, r
 use Rattle.assise_machine_laws.proofs.Failing.{contains-filter, filter-contains}
 use Rattle.assise_machine_laws.proofs.Logs.{length-both}
 use Rattle.assise_machine_laws.proofs.Observing.{end_is, first-received_by_all, received_by_all-end}
-use Rattle.assise_machine_events.specs.Dsyncs.{IsCoalescing, coalesced_from, full_elsewhere, most_of, new_groups}
+use Rattle.assise_names.specs.declared.call.Op.TheVariants.{Dsync}
+use Rattle.assise_names.specs.declared.durability.Durability.TheVariants.{Pessimistic}
+use Rattle.assise_names.specs.declared.reply.Reply.TheVariants.{Done}
+use Rattle.assise_machine_events.specs.ClientEvents.{Syncing, is_refused, is_replicating, is_synced, lacks_memory}
+use Rattle.assise_machine_events.specs.Dsyncs.{Coalescing, IsCoalescing, coalesced_from, full_elsewhere, is_coalesced, is_synced, most_of, new_groups}
+use Rattle.assise_machine_events.specs.Events.{not_yet, replied}
+use Rattle.assise_machine_events.specs.Faults.{client_fault}
+use Rattle.assise_machine_events.proofs.Answerable.{synced_can}
+use Rattle.assise_machine_events.proofs.Faultless.{client_runs}
 use Rattle.assise_machine_events.specs.Machine.{Holds, Machine}
 
-between_length : (w : World) (c s : ℕ) → w.first c ≤ s → s ≤ end w c → length (records_between w c s (end w c)) ≤ end w c
+pub between_length : (w : World) (c s : ℕ) → w.first c ≤ s → s ≤ end w c → length (records_between w c s (end w c)) ≤ end w c
 unfolding records_between
 between_length w c s low high = omega (arith, length-take (end w c - s) (drop (s - w.first c) (w.records c)))
 
-most-above : (ns : List ℕ) (f : ℕ → ℕ) (n : ℕ) → contains ns n ≡ true → f n ≤ most_of ns f
+pub most-above : (ns : List ℕ) (f : ℕ → ℕ) (n : ℕ) → contains ns n ≡ true → f n ≤ most_of ns f
 most-above [] f n h = absurd (false≢true h)
 most-above (m ∷ ns) f n h =
     elim (cases_eq m n) [
@@ -29,10 +37,30 @@ most-above (m ∷ ns) f n h =
       | inr other ↦ (let rest : contains ns n ≡ true = sym (ap (λ b. b || contains ns n) (ne_eqb m n other)) ∙ h in omega (arith, most-above ns f n rest))
     ]
 
-most-below : (ns : List ℕ) (f : ℕ → ℕ) (top : ℕ) → ((n : ℕ) → contains ns n ≡ true → f n ≤ top) → most_of ns f ≤ top
+pub most-below : (ns : List ℕ) (f : ℕ → ℕ) (top : ℕ) → ((n : ℕ) → contains ns n ≡ true → f n ≤ top) → most_of ns f ≤ top
 most-below [] f top h = omega arith
 most-below (m ∷ ns) f top h =
     omega (arith, h m (ap (λ b. b || contains ns m) (eq-eqb m m refl)), most-below ns f top (λ n t. h n (or_right (m == n) (contains ns n) t)))
+
+-- a dsync begins to coalesce at a place of the log that no other full node has passed
+module _ (w : World) (c : ℕ) (h : IsSound w) where
+  pub coalesced_elsewhere : (n : ℕ) → Full w n → n ≢ w.home c → w.received n c ≤ coalesced_from w c
+  coalesced_elsewhere n f other =
+      (let kept : contains (full_elsewhere w c) n ≡ true = filter-contains (λ m. not (m == w.home c)) w.full n (ap not (ne_eqb n (w.home c) other)) f in
+      let t : w.received n c ≤ most_of (full_elsewhere w c) (λ m. w.received m c) = most-above (full_elsewhere w c) (λ m. w.received m c) n kept in
+      omega (arith, t))
+
+  pub coalesced_high : coalesced_from w c ≤ end w c
+  coalesced_high =
+      (let t : most_of (full_elsewhere w c) (λ m. w.received m c) ≤ end w c =
+      most-below (full_elsewhere w c) (λ m. w.received m c) (end w c) (λ n k. (h.coherent.order n c (contains-filter (λ m. not (m == w.home c)) w.full n k)).known) in
+      omega (arith, t, h.goals c, received_by_all-end w c))
+
+  pub coalesced_low : received_by_all w c ≤ coalesced_from w c
+  coalesced_low = omega arith
+
+  pub coalesced_first : w.first c ≤ coalesced_from w c
+  coalesced_first = omega (arith, first-received_by_all w h.coherent c, coalesced_low)
 
 module _ (w : World) (c : ℕ) (h : IsSound w) (lives : w.lives c ≡ true) (some : AllHaveEffects (records_between w c (coalesced_from w c) (end w c))) where
   abbrev s : ℕ
@@ -56,23 +84,11 @@ module _ (w : World) (c : ℕ) (h : IsSound w) (lives : w.lives c ≡ true) (som
     goal = λ d. if d == c then s + length (all_coalesced gs) else w.goal d;
   }
 
-  elsewhere : (n : ℕ) → Full w n → n ≢ w.home c → w.received n c ≤ s
-  elsewhere n f other =
-      (let kept : contains (full_elsewhere w c) n ≡ true = filter-contains (λ m. not (m == w.home c)) w.full n (ap not (ne_eqb n (w.home c) other)) f in
-      let t : w.received n c ≤ most_of (full_elsewhere w c) (λ m. w.received m c) = most-above (full_elsewhere w c) (λ m. w.received m c) n kept in
-      omega (arith, t))
-
   high : s ≤ end w c
-  high =
-      (let t : most_of (full_elsewhere w c) (λ m. w.received m c) ≤ end w c =
-      most-below (full_elsewhere w c) (λ m. w.received m c) (end w c) (λ n k. (h.coherent.order n c (contains-filter (λ m. not (m == w.home c)) w.full n k)).known) in
-      omega (arith, t, h.goals c, received_by_all-end w c))
-
-  low : received_by_all w c ≤ s
-  low = omega arith
+  high = coalesced_high w c h
 
   first_low : w.first c ≤ s
-  first_low = omega (arith, first-received_by_all w h.coherent c, low)
+  first_low = coalesced_first w c h
 
   own : (c == c) ≡ true
   own = eq-eqb c c refl
@@ -108,7 +124,7 @@ module _ (w : World) (c : ℕ) (h : IsSound w) (lives : w.lives c ≡ true) (som
   regroups : Regroups w c (coalesced_from w c) (new_groups w c) u
   regroups = record {
     lives = lives;
-    low = low;
+    low = coalesced_low w c h;
     high = high;
     groups = groups-are (end w c) (records_between w c s (end w c)) some;
     cut = groups-all (end w c) (records_between w c s (end w c)) (between_length w c s first_low high);
@@ -123,7 +139,7 @@ module _ (w : World) (c : ℕ) (h : IsSound w) (lives : w.lives c ≡ true) (som
     here = λ n f. elim (cases_eq n (w.home c)) [
       | inl is ↦ inr (subst (λ m. GetsAll m c u) (sym is) at_home)
       | inr other ↦ inl (record {
-        before = elsewhere n f other;
+        before = coalesced_elsewhere w c h n f other;
         received = cond-false (here n c) _ _ (and_right (c == c) (n == w.home c) (ne_eqb n (w.home c) other));
         log = cond-false (here n c) _ _ (and_right (c == c) (n == w.home c) (ne_eqb n (w.home c) other));
       })
@@ -149,7 +165,7 @@ module _ (w : World) (c : ℕ) (h : IsSound w) (lives : w.lives c ≡ true) (som
   pub can_regroup : (v : World) × (Regroups w c (coalesced_from w c) (new_groups w c) v × ((n i : ℕ) → v.area n i ≡ w.area n i))
   can_regroup = (u, (regroups, λ n i. refl))
 
-pub can_coalesce : (m : Machine) (c : ℕ) → Holds m → m.world.lives c ≡ true → received_by_all m.world c < end m.world c →
+can_coalesce : (m : Machine) (c : ℕ) → Holds m → m.world.lives c ≡ true → received_by_all m.world c < end m.world c →
     AllHaveEffects (records_between m.world c (coalesced_from m.world c) (end m.world c)) → (m' : Machine) × IsCoalescing m c m'
 can_coalesce m c h lives lacking some =
     let (v, t) = can_regroup m.world c h.sound lives some in (
@@ -162,3 +178,20 @@ can_coalesce m c h lives lacking some =
         keeps = record { members = refl; others = λ n i other. t.1 n i };
       },
     )
+
+pub coalesced_can : (m : Machine) (c : ℕ) → Holds m → client_fault m c ≡ None → received_by_all m.world c < end m.world c →
+    AllHaveEffects (records_between m.world c (coalesced_from m.world c) (end m.world c)) → (m' : Machine) × Coalescing m c not_yet m'
+coalesced_can m c h fine lacking some =
+    let (m', e) = can_coalesce m c h (client_runs m c fine).0 lacking some in
+    (m', is_coalesced fine refl e)
+
+as_coalescing : (m m' : Machine) (c : ℕ) → Syncing m c Dsync (replied Done) m' → Coalescing m c (replied Done) m'
+as_coalescing m m' c (is_synced reply fine is e) = is_synced reply fine is e
+as_coalescing m m' c (is_replicating fine is e) = cc
+as_coalescing m m' c (lacks_memory fine all is same) = cc
+as_coalescing m m' c (is_refused r fault is same) = cc
+
+pub coalescing_synced : (m : Machine) (c : ℕ) → Holds m → client_fault m c ≡ None → received_by_all m.world c ≡ end m.world c → (m' : Machine) × Coalescing m c (replied Done) m'
+coalescing_synced m c h fine all =
+    let (m', e) = synced_can m c Dsync Pessimistic refl h fine all in
+    (m', as_coalescing m m' c e)

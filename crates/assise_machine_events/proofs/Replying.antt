@@ -1,6 +1,7 @@
 -- What each answer says.
 use Rattle.std.proofs.Common.{◌≡◌, ◌≢◌, ◌↔◌, ◌⊎◌, inl, inr, ℕ, zero, suc, ◌<◌, ◌≤◌, true, false, List, [], ◌∷◌, Contains, Some, None, refl, ap, sym, subst, ◌∙◌, arith}
 use Rattle.assise_names.specs.declared.call.Op.{Op}
+use Rattle.assise_names.specs.declared.call.Op.TheVariants.{Dsync}
 use Rattle.assise_names.specs.declared.refusal.Refusal.{Refusal}
 use Rattle.assise_names.specs.declared.refusal.Refusal.TheVariants.{Busy}
 use Rattle.assise_names.specs.declared.reply.Reply.{Reply}
@@ -29,6 +30,7 @@ use Rattle.assise_machine_history.specs.Lost.{IsFirstLost, losses_of}
 use Rattle.assise_machine_history.proofs.Listing.{exactly_lost}
 use Rattle.assise_machine_history.proofs.Recording.{same_tree}
 use Rattle.assise_machine_events.specs.ClientEvents.{Granted, Gets, Calling, Syncing, is_answered, is_awaited, is_spent, is_full, is_refused, lacks_memory, is_synced, is_replicating, last_leases, last_world, call_of_client, goal_of_sync}
+use Rattle.assise_machine_events.specs.Dsyncs.{Coalescing, IsCoalescing, is_coalesced, is_refused, is_synced, lacks_memory}
 use Rattle.assise_machine_events.specs.Events.{Answer, digested, failed, joined, not_yet, received, refused, replied}
 use Rattle.assise_machine_events.specs.Faults.{place_after}
 use Rattle.assise_machine_events.specs.Machine.{Machine, Holds}
@@ -129,6 +131,24 @@ syncing_lacks m m' c op (is_synced own fine is e) = cc
 syncing_lacks m m' c op (is_replicating fine is e) = e.lacking
 syncing_lacks m m' c op (lacks_memory fine all is same) = cc
 syncing_lacks m m' c op (is_refused r fault is same) = cc
+
+pub coalescing_replies : (m m' : Machine) (c : ℕ) (reply : Reply) → Holds m → Coalescing m c (replied reply) m' → reply ≡ (answer (tree_after opening_tree (kept m.history)) Dsync).0
+coalescing_replies m m' c reply h (is_synced own fine is e) = sync_replies m m' c Dsync reply h (is_synced own fine is e)
+coalescing_replies m m' c reply h (is_coalesced fine is e) = cc
+coalescing_replies m m' c reply h (lacks_memory fine is same) = cc
+coalescing_replies m m' c reply h (is_refused r fault is same) = cc
+
+pub coalescing_all : (m m' : Machine) (c : ℕ) (reply : Reply) → Coalescing m c (replied reply) m' → received_by_all m.world c ≡ end m.world c
+coalescing_all m m' c reply (is_synced own fine is e) = e.replicated
+coalescing_all m m' c reply (is_coalesced fine is e) = cc
+coalescing_all m m' c reply (lacks_memory fine is same) = cc
+coalescing_all m m' c reply (is_refused r fault is same) = cc
+
+pub coalescing_awaited : (m m' : Machine) (c : ℕ) → Coalescing m c not_yet m' → IsCoalescing m c m'
+coalescing_awaited m m' c (is_synced own fine is e) = cc
+coalescing_awaited m m' c (is_coalesced fine is e) = e
+coalescing_awaited m m' c (lacks_memory fine is same) = cc
+coalescing_awaited m m' c (is_refused r fault is same) = cc
 
 -- ---- a delivery
 

@@ -8,6 +8,7 @@ use Rattle.assise_history.specs.Legal.{durability_of}
 use Rattle.assise_record.specs.LogFrame.{LogFrame}
 use Rattle.assise_machine_events.specs.Events.{Answer, ClusterEvent, open_client, try_call, try_fsync, outgoing, deliver, digest, release_ready, set_hot, crash, fail, back, refill, join, entries_of, refused, opened, replied, not_yet, sent, received, digested, released, hot_set, crashed, failed, began, left, joined}
 use Rattle.assise_history.specs.Entries.{Event}
+use Rattle.assise_machine_events.specs.Dsyncs.{Coalescing, is_coalesced, is_refused, is_synced, lacks_memory}
 use Rattle.assise_machine_events.specs.Happenings.{Fsyncing, Trying}
 use Rattle.assise_machine_events.specs.Machine.{Machine}
 use Rattle.assise_machine_events.specs.ClientEvents.{Opening, Calling, Syncing, Noting, Crashing, is_answered, is_awaited, is_crashed, is_full, is_noted, is_opened, is_refused, is_replicating, is_spent, is_synced, lacks_memory}
@@ -42,6 +43,12 @@ pub noting_told : (m m' : Machine) (c : ℕ) (a : Answer) → Noting m c a m' �
 noting_told m m' c a (is_noted reply fine is e) = told_as m m' (try_call c Fsync) a _ is e.adds.history
 noting_told m m' c a (lacks_memory fine is same) = told_as m m' (try_call c Fsync) a _ is (same_told m m' same)
 noting_told m m' c a (is_refused r fault is same) = told_as m m' (try_call c Fsync) a _ is (same_told m m' same)
+
+pub coalescing_told : (m m' : Machine) (c : ℕ) (a : Answer) → Coalescing m c a m' → m'.history ≡ m.history ++ entries_of m.history (try_call c Dsync) a
+coalescing_told m m' c a (is_synced reply fine is e) = told_as m m' (try_call c Dsync) a _ is e.adds.history
+coalescing_told m m' c a (is_coalesced fine is e) = told_as m m' (try_call c Dsync) a _ is e.adds.history
+coalescing_told m m' c a (lacks_memory fine is same) = told_as m m' (try_call c Dsync) a _ is (same_told m m' same)
+coalescing_told m m' c a (is_refused r fault is same) = told_as m m' (try_call c Dsync) a _ is (same_told m m' same)
 
 pub crashing_told : (m m' : Machine) (c : ℕ) (a : Answer) → Crashing m c a m' → m'.history ≡ m.history ++ entries_of m.history (crash c) a
 crashing_told m m' c a (is_crashed fine is e) = told_as m m' (crash c) a _ is e.adds.history

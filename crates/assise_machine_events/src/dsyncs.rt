@@ -1,24 +1,53 @@
-// A dsync of an optimistic client that is awaited keeps what holds, and can happen. No event of the machine is one yet.
-ghost use Rattle.std.specs.Prelude.{◌≡◌, ◌<◌, true, ℕ};
+// A dsync of an optimistic client keeps what holds, tells its answer, and can happen. No event of the machine is one yet.
+ghost use Rattle.std.specs.Prelude.{◌≡◌, ◌++◌, ◌<◌, None, true, ℕ};
+ghost use Rattle.assise_names.specs.declared.call.Op.TheVariants.{Dsync};
+ghost use Rattle.assise_names.specs.declared.reply.Reply.{Reply};
+ghost use Rattle.assise_names.specs.declared.reply.Reply.TheVariants.{Done};
+ghost use Rattle.assise_seq_tree.specs.Answer.{answer};
+ghost use Rattle.assise_seq_tree.specs.Tree.{opening};
+ghost use Rattle.assise_history.specs.Kept.{kept, tree_after};
 ghost use Rattle.assise_record.specs.Groups.{AllHaveEffects};
 ghost use Rattle.assise_machine_laws.specs.Regrouped.{Regroups};
 ghost use Rattle.assise_machine_laws.specs.Sound.{IsSound};
 ghost use Rattle.assise_machine_laws.specs.World.{World, end, received_by_all, records_between};
-ghost use Rattle.assise_machine_events.specs.Dsyncs.{IsCoalescing, coalesced_from, new_groups};
+ghost use Rattle.assise_machine_events.specs.Dsyncs.{Coalescing, IsCoalescing, coalesced_from, new_groups};
+ghost use Rattle.assise_machine_events.specs.Events.{Answer, entries_of, not_yet, replied, try_call};
+ghost use Rattle.assise_machine_events.specs.Faults.{client_fault};
 ghost use Rattle.assise_machine_events.specs.Happenings.{Leads};
 ghost use Rattle.assise_machine_events.specs.Machine.{Holds, Machine};
 
-/// A dsync that coalesces leads on in the course of the history, and keeps what holds.
-pub fn a_dsync_that_coalesces_keeps_what_holds()
-    ensures leads { (m m' : Machine) (c : ℕ) → Holds m → IsCoalescing m c m' → Leads m m' }
-    ensures keeps { (m m' : Machine) (c : ℕ) → Holds m → IsCoalescing m c m' → Holds m' }
+/// An optimistic client's dsync is told by its answer, leads on in the course of the history, and keeps what holds.
+pub fn an_optimistic_dsync_keeps_what_holds()
+    ensures told { (m m' : Machine) (c : ℕ) (a : Answer) → Coalescing m c a m' →
+        m'.history ≡ m.history ++ entries_of m.history (try_call c Dsync) a }
+    ensures leads { (m m' : Machine) (c : ℕ) (a : Answer) → Holds m → Coalescing m c a m' →
+        Leads m m' }
+    ensures keeps { (m m' : Machine) (c : ℕ) (a : Answer) → Holds m → Coalescing m c a m' →
+        Holds m' }
 {}
 
-/// Where a full node lacks records of a living client, a dsync can coalesce.
-pub fn a_dsync_can_coalesce()
+/// It is answered exactly where all full nodes have all records of its client, what the tree of the kept calls answers. While it
+/// is awaited, the records that only the home has are coalesced in groups.
+pub fn an_optimistic_dsync_coalesces_until_it_is_answered()
+    ensures reply { (m m' : Machine) (c : ℕ) (reply : Reply) → Holds m →
+        Coalescing m c (replied reply) m' →
+        reply ≡ (answer (tree_after opening (kept m.history)) Dsync).0 }
+    ensures answered { (m m' : Machine) (c : ℕ) (reply : Reply) →
+        Coalescing m c (replied reply) m' → received_by_all m.world c ≡ end m.world c }
+    ensures awaited { (m m' : Machine) (c : ℕ) → Coalescing m c not_yet m' →
+        IsCoalescing m c m' }
+{}
+
+/// Where a full node lacks records of a living client, a dsync can coalesce; where none does, it can be answered.
+pub fn an_optimistic_dsync_can_happen()
     ensures regroups { (w : World) (c : ℕ) → IsSound w → w.lives c ≡ true →
         AllHaveEffects (records_between w c (coalesced_from w c) (end w c)) →
         (u : World) × Regroups w c (coalesced_from w c) (new_groups w c) u }
-    ensures coalesces { (m : Machine) (c : ℕ) → Holds m → m.world.lives c ≡ true → received_by_all m.world c < end m.world c →
-        AllHaveEffects (records_between m.world c (coalesced_from m.world c) (end m.world c)) → (m' : Machine) × IsCoalescing m c m' }
+    ensures coalesced { (m : Machine) (c : ℕ) → Holds m → client_fault m c ≡ None →
+        received_by_all m.world c < end m.world c →
+        AllHaveEffects (records_between m.world c (coalesced_from m.world c) (end m.world c)) →
+        (m' : Machine) × Coalescing m c not_yet m' }
+    ensures synced { (m : Machine) (c : ℕ) → Holds m → client_fault m c ≡ None →
+        received_by_all m.world c ≡ end m.world c →
+        (m' : Machine) × Coalescing m c (replied Done) m' }
 {}

@@ -2,13 +2,15 @@
 ghost use Rattle.std.specs.Prelude.{◌≡◌, ◌≢◌, List, Some, [], ◌∷◌, suc, ℕ};
 ghost use Rattle.assise_names.specs.declared.call.Op.{Op};
 ghost use Rattle.assise_names.specs.declared.call.Op.TheVariants.{Create, Fsync};
-ghost use Rattle.assise_names.specs.declared.durability.Durability.TheVariants.{Pessimistic};
+ghost use Rattle.assise_names.specs.declared.durability.Durability.TheVariants.{Optimistic, Pessimistic};
 ghost use Rattle.assise_names.specs.declared.refusal.Refusal.TheVariants.{Busy, ClientGone, InodesSpent, LastNode, LogFull, NodeDown, OutOfMemory, StaleMessage, WrongPhase};
 ghost use Rattle.assise_names.specs.declared.reply.Reply.TheVariants.{Done};
 ghost use Rattle.assise_history.specs.declared.call.Loss.{Loss};
+ghost use Rattle.assise_history.specs.Legal.{durability_of};
 ghost use Rattle.assise_manager.specs.Standings.{full, standing_of};
 ghost use Rattle.assise_record.specs.LogFrame.{LogFrame};
 ghost use Rattle.assise_machine_events.specs.ClientEvents.{Calling, Crashing, Opening, Syncing};
+ghost use Rattle.assise_machine_events.specs.Dsyncs.{Coalescing};
 ghost use Rattle.assise_machine_events.specs.Events.{began, crashed, digested, failed, hot_set, joined, left, not_yet, opened, received, refused, released, replied, sent};
 ghost use Rattle.assise_machine_events.specs.MemberEvents.{Failing, Joining, Refilling, Returning, stale_at};
 ghost use Rattle.assise_machine_events.specs.NodeEvents.{Delivering, Digesting, Releasing, Sending, SettingHot};
@@ -29,6 +31,14 @@ pub fn each_outcome_of_what_clients_do_comes()
     ensures sync_awaited { Comes (λ m m'. Syncing m 1 Fsync not_yet m') }
     ensures not_synced { Comes (λ m m'. Syncing m 1 Fsync (refused ClientGone) m') }
     ensures not_synced_for_memory { Comes (λ m m'. Syncing m 1 Fsync (refused OutOfMemory) m') }
+    ensures coalesced { Comes (λ m m'. (durability_of 1 m.history ≡ Optimistic) ×
+        Coalescing m 1 not_yet m') }
+    ensures coalescing_synced { Comes (λ m m'. (durability_of 1 m.history ≡ Optimistic) ×
+        Coalescing m 1 (replied Done) m') }
+    ensures not_coalesced { Comes (λ m m'. (durability_of 1 m.history ≡ Optimistic) ×
+        Coalescing m 1 (refused ClientGone) m') }
+    ensures not_coalesced_for_memory { Comes (λ m m'. (durability_of 1 m.history ≡ Optimistic) ×
+        Coalescing m 1 (refused OutOfMemory) m') }
     ensures crashed { Comes (λ m m'. Crashing m 1 crashed m') }
     ensures not_crashed { Comes (λ m m'. Crashing m 1 (refused ClientGone) m') }
     ensures not_crashed_for_memory { Comes (λ m m'. Crashing m 1 (refused OutOfMemory) m') }

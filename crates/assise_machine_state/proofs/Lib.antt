@@ -7,6 +7,7 @@ pub mod Marks
 pub mod Standings
 pub mod Fullness
 pub mod Owning
+pub mod Besides
 pub mod Asking
 pub mod Shaping
 pub mod Staying
@@ -14,6 +15,8 @@ pub mod ShapedClients
 pub mod CutSeen
 pub mod Noted
 pub mod Raising
+pub mod RegroupedMarks
+pub mod CoalescingSeen
 pub mod Crashing
 pub mod AskingSeen
 pub mod Calling

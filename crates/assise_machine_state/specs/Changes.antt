@@ -8,7 +8,7 @@ use Rattle.assise_history.specs.Entries.{calls, crashes, fails, opens, returns}
 use Rattle.assise_inode_table.specs.Contents.{Content}
 use Rattle.assise_inode_table.specs.Traces.{NumberedCall}
 use Rattle.assise_private_log.specs.NumberedLog.{is_border}
-use Rattle.assise_digest.specs.Region.{RegionValue, digested_by, with_inode}
+use Rattle.assise_digest.specs.Region.{RegionValue, digested_by, regrouped_from, with_inode}
 use Rattle.assise_lease_table.specs.declared.lease.Asked.{Asked}
 use Rattle.assise_lease_tree.specs.TwoLevels.{TwoLevels}
 use Rattle.assise_manager.specs.Changes.{failed, joined, noted}
@@ -44,6 +44,16 @@ after_call s x = record s {
 -- a client's log is to be replicated up to a place, or further where it was
 abbrev pub after_goal : StateValue → ℕ → ℕ → StateValue
 after_goal s c to = record s { clients = with_client s.clients c (with_goal to (client_in s.clients c)) }
+
+-- a client's records from a place on, which its home alone has, become groups there, each coalesced
+abbrev pub after_regrouping : StateValue → (c from : ℕ) → StateValue
+after_regrouping s c from = record s {
+  nodes = with_log_in s.nodes (client_seen s.clients c).home c (regrouped_from (log_in s.nodes (client_seen s.clients c).home c) from);
+}
+
+-- and all of its log is to be replicated
+abbrev pub after_coalescing : StateValue → (c from : ℕ) → StateValue
+after_coalescing s c from = after_goal (after_regrouping s c from) c (end (world_of (after_regrouping s c from)) c)
 
 abbrev pub goal_of : (c to : ℕ) → ℕ → ℕ
 goal_of c to d = if d == c then to else 0

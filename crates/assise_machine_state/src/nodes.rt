@@ -3,8 +3,9 @@ ghost use Rattle.std.specs.Prelude.{◌≡◌, ◌≢◌, ◌⊎◌, ◌+◌, �
 ghost use Rattle.std.specs.FinMap as map;
 ghost use Rattle.assise_names.specs.declared.refusal.Refusal.TheVariants.{LogFull, OutOfMemory};
 ghost use Rattle.assise_inode_table.specs.Whole.{CanBeMadeWhole};
-ghost use Rattle.assise_private_log.specs.NumberedLog.{end, is_border};
-ghost use Rattle.assise_digest.specs.Region.{AreWhole, HasClient, HasRoom, IsFull, IsQuiet, ReceivedLog, TouchApart, ahead_below, digested_by, from_number, log_of, up_to_number, whole_ahead, with_client, with_inode, with_log, with_more, without_clients};
+ghost use Rattle.assise_record.specs.Groups.{AllHaveEffects};
+ghost use Rattle.assise_private_log.specs.NumberedLog.{IsNumberedLog, end, is_border, records_from};
+ghost use Rattle.assise_digest.specs.Region.{AreWhole, HasClient, HasRoom, IsFull, IsQuiet, ReceivedLog, TouchApart, ahead_below, digested_by, from_number, log_of, regrouped_from, up_to_number, whole_ahead, with_client, with_inode, with_log, with_more, without_clients};
 ghost use Rattle.assise_manager.specs.Whole.{membership};
 ghost use Rattle.assise_machine_state.specs.NodeValues.{AreDigested, AreTaken, AreUndigested, HasGroupsOf, HasLog, IsDigestedTo, IsUndigestedFrom, away, begun_log, changed_in, copied, log_in, new_regions, region_in, with_copies, with_fronts_dropped, with_hot_in, with_log_in, with_logs_begun, with_logs_ended, with_logs_of, with_next, with_records, with_region, with_tails_cut, without_log_of, without_logs};
 ghost use Rattle.assise_machine_state.specs.Observed.{is_full_in};
@@ -232,6 +233,23 @@ impl Nodes {
             ⊎ ((back.0 ≡ OutOfMemory) × HasRoom (log_in self.old node client) × ((log_in self.old node client).at_home ≡ true))) }
     {
         self.regions[node as usize - 1].append(client as usize, added)
+    }
+
+    /// Cuts the records of a client at a node from a number on, none of which are digested there, into groups, and lets what is
+    /// overridden in them go (see [`Region::coalesce`]). The one refusal is [`Refusal::OutOfMemory`], and it changes nothing.
+    pub fn coalesce(&mut self, node: u32, client: u32, from: u64) -> Result<(), Refusal>
+        requires there { HasLog self.old node client }
+        requires digested { (log_in self.old node client).digested ≤ from }
+        requires to_end { from ≤ end (log_in self.old node client).log }
+        ensures ok { OnOk result (self.new ≡ with_log_in self.old node client
+            (regrouped_from (log_in self.old node client) from)) }
+        ensures effects { OnOk result
+            (AllHaveEffects (records_from (log_in self.old node client).log from)) }
+        ensures lawful { IsNumberedLog (log_in self.old node client).log }
+        ensures err { OnErr result (self.new ≡ self.old) }
+        ensures only_memory { IsOkUnless result OutOfMemory }
+    {
+        self.regions[node as usize - 1].coalesce(client as usize, from)
     }
 
     /// A node digests records of a client that are numbered below what is acknowledged, so many at most, each group whole or

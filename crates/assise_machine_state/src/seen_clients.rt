@@ -1,21 +1,25 @@
 // What the laws observe of a change of clients.
 ghost use Rattle.std.specs.Prelude.{◌≡◌, ◌≤◌, ◌==◌, List, false, true, suc, length, ℕ};
+ghost use Rattle.assise_record.specs.Groups.{AllHaveEffects};
 ghost use Rattle.assise_inode_table.specs.Traces.{NumberedCall};
+ghost use Rattle.assise_private_log.specs.NumberedLog.{IsNumberedLog, records_from};
 ghost use Rattle.assise_lease_table.specs.declared.lease.Asked.{Asked};
 ghost use Rattle.assise_lease_tree.specs.TwoLevels.{EnrolsAt, IsAskedFor, IsFrozen, TwoLevels, is_free_for};
 ghost use Rattle.assise_names.specs.declared.durability.Durability.{Durability};
 ghost use Rattle.assise_names.specs.declared.mode.Mode.{Mode};
 ghost use Rattle.assise_machine_laws.specs.Chances.{MayCall};
 ghost use Rattle.assise_machine_laws.specs.ClientSteps.{MakesCall, RaisesGoals};
+ghost use Rattle.assise_machine_laws.specs.Regrouped.{Regroups};
 ghost use Rattle.assise_machine_laws.specs.Sound.{IsSound};
 ghost use Rattle.assise_machine_laws.specs.World.{Full, end};
 ghost use Rattle.assise_machine_leases.specs.Handing.{Asks, CrashesWith, Holds, OpensAt};
 ghost use Rattle.assise_machine_leases.specs.Leases.{AreLeases};
 ghost use Rattle.assise_machine_returns.specs.Returns.{OtherAreasStay};
 ghost use Rattle.assise_machine_history.specs.State.{IsRecorded};
+ghost use Rattle.assise_machine_events.specs.Dsyncs.{coalesced_from, new_groups};
 ghost use Rattle.assise_machine_events.specs.Machine.{state_of};
-ghost use Rattle.assise_machine_state.specs.Changes.{after_asking, after_call, after_crash, after_goal, after_leases, after_open, goal_of};
-ghost use Rattle.assise_machine_state.specs.Observed.{observed, world_of};
+ghost use Rattle.assise_machine_state.specs.Changes.{after_asking, after_call, after_coalescing, after_crash, after_goal, after_leases, after_open, goal_of};
+ghost use Rattle.assise_machine_state.specs.Observed.{observed, own_seen, world_of};
 ghost use Rattle.assise_machine_state.specs.Places.{IsNumber};
 ghost use Rattle.assise_machine_state.specs.Shape.{AreAnswers, AreLeft, AreNoted, IsShaped, SameFrozen};
 ghost use Rattle.assise_machine_state.specs.StateValues.{StateValue, leases_of};
@@ -47,6 +51,22 @@ pub fn a_raised_goal_is_observed()
     ensures others { (s : StateValue) (c to : ℕ) → OtherAreasStay (world_of s) (world_of (after_goal s c to)) }
     ensures shape { (s : StateValue) (c to : ℕ) → IsShaped s → IsNumber s.clients c → IsShaped (after_goal s c to) }
     ensures noted { (s : StateValue) (c to : ℕ) → AreNoted s → AreNoted (after_goal s c to) }
+{}
+
+/// A client's records that become groups at its home, each coalesced, from where its dsync begins.
+pub fn a_coalescing_is_observed()
+    ensures regroups { (s : StateValue) (c : ℕ) → IsShaped s → ∥ IsSound (world_of s) ∥₁ →
+        (world_of s).lives c ≡ true → IsNumberedLog (own_seen s c).log →
+        AllHaveEffects (records_from (own_seen s c).log (coalesced_from (world_of s) c)) →
+        Regroups (world_of s) c (coalesced_from (world_of s) c) (new_groups (world_of s) c)
+        (world_of (after_coalescing s c (coalesced_from (world_of s) c))) }
+    ensures others { (s : StateValue) (c from : ℕ) →
+        OtherAreasStay (world_of s) (world_of (after_coalescing s c from)) }
+    ensures shape { (s : StateValue) (c : ℕ) → IsShaped s → ∥ IsSound (world_of s) ∥₁ →
+        (world_of s).lives c ≡ true → IsNumberedLog (own_seen s c).log →
+        IsShaped (after_coalescing s c (coalesced_from (world_of s) c)) }
+    ensures noted { (s : StateValue) (c from : ℕ) → AreNoted s →
+        AreNoted (after_coalescing s c from) }
 {}
 
 /// Those who stand in a call's way are asked for their leases.

@@ -40,11 +40,14 @@ impl<C: Revokes + Drop> StateOf<C> {
     ghost use Rattle.std.specs.Prelude.{◌≡◌, ◌<◌, ◌≤◌, IfOk, IsOkUnless, false};
     ghost use Rattle.assise_names.specs.declared.refusal.Refusal.TheVariants.{OutOfMemory};
     ghost use Rattle.assise_digest.specs.Region.{HasClient};
+    ghost use Rattle.assise_private_log.specs.NumberedLog.{end};
+    ghost use Rattle.assise_manager.specs.Standings.{full_nodes};
     ghost use Rattle.assise_manager.specs.Whole.{membership};
     ghost use Rattle.assise_machine_laws.specs.World.{digested_by_all, received_by_all};
+    ghost use Rattle.assise_machine_events.specs.Dsyncs.{besides, coalesced_from, most_of};
     ghost use Rattle.assise_machine_events.specs.Machine.{begun_as};
     ghost use Rattle.assise_machine_state.specs.ClientValues.{client_in};
-    ghost use Rattle.assise_machine_state.specs.NodeValues.{HasLog, new_regions, region_in};
+    ghost use Rattle.assise_machine_state.specs.NodeValues.{HasLog, log_in, new_regions, region_in};
     ghost use Rattle.assise_machine_state.specs.Observed.{inodes_read, own_node, world_of};
     ghost use Rattle.assise_machine_state.specs.Places.{IsNumber};
     ghost use Rattle.assise_machine_state.specs.Shape.{AreNoted, IsShaped};
@@ -107,6 +110,36 @@ impl<C: Revokes + Drop> StateOf<C> {
             least = least.min(digested);
         }
         least
+    }
+
+    /// Where a client's dsync begins to coalesce: what is to be replicated already stays, and so does what a full node besides
+    /// its home has. It costs the nodes.
+    pub fn coalesced_from(&self, client: u32) -> u64
+        requires client { IsNumber self.now.clients client }
+        requires shape { IsShaped (value_of self.now) }
+        ensures { result ≡ coalesced_from (world_of (value_of self.now)) client }
+    {
+        let known = self.clients.get(client);
+        let most = known.goal().max(self.acked(client));
+        most.max(self.received_besides(client, known.home()))
+    }
+
+    /// The greatest place up to which a full node besides this one has a client's log, or 0.
+    fn received_besides(&self, client: u32, home: u32) -> u64
+        requires client { IsNumber self.now.clients client }
+        requires shape { IsShaped (value_of self.now) }
+        ensures { result ≡ most_of
+            (besides home (full_nodes (membership self.now.members).nodes))
+            (λ n. end (log_in self.now.nodes n client).log) }
+    {
+        let mut most = 0u64;
+        for node in self.members.full_nodes() {
+            if *node != home {
+                let received = self.nodes.region(*node).log(client as usize).end();
+                most = most.max(received);
+            }
+        }
+        most
     }
 
     /// The node whose log of a client is the client's own: its home, and once that failed the lowest full node, since all full

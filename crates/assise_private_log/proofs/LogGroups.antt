@@ -303,3 +303,14 @@ regrouped_among l from n k law low last some enough within =
           border_first (regrouped l from) (from + k) (omega (arith, ap (λ m. m.first) (regrouped_all l from)))
           ∙ sym (ap (are_whole gs) is ∙ whole_none gs)
     ]
+
+-- ---- each record has effects
+
+effects_both : (n : ℕ) (rs : List LogRecord) → AllHaveEffects (take n rs) → AllHaveEffects (drop n rs) → AllHaveEffects rs
+effects_both zero rs front behind = behind
+effects_both (suc n) [] front behind = tt
+effects_both (suc n) (r ∷ rs) front behind = (front.0, effects_both n rs front.1 behind)
+
+-- a group and what lies behind it
+pub effects_more : (rest group behind : List LogRecord) (n : ℕ) → group ≡ take n rest → behind ≡ drop n rest → AllHaveEffects group → AllHaveEffects behind → AllHaveEffects rest
+effects_more rest group behind n front back here there = effects_both n rest (subst AllHaveEffects front here) (subst AllHaveEffects back there)

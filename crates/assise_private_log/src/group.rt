@@ -1,10 +1,10 @@
 // A group of records, without what is overridden in it.
-ghost use Rattle.std.specs.Prelude.{◌≡◌, ◌≤◌, ◌++◌, IfOk, IsOkUnless, OnOk, length};
+ghost use Rattle.std.specs.Prelude.{◌≡◌, ◌≤◌, ◌++◌, true, IfOk, IsOkUnless, OnOk, length};
 ghost use Rattle.std.specs.List.{list_any};
 ghost use Rattle.assise_names.specs.declared.refusal.Refusal.TheVariants.{OutOfMemory};
 ghost use Rattle.assise_record.specs.Coalesced.{overridden};
-ghost use Rattle.assise_record.specs.Groups.{coalesced_group, left_of};
-ghost use Rattle.assise_record.specs.Records.{all_effects};
+ghost use Rattle.assise_record.specs.Groups.{AllHaveEffects, coalesced_group, left_of};
+ghost use Rattle.assise_record.specs.Records.{all_effects, has_some};
 ghost use Rattle.assise_private_log.specs.Groups.{with_left};
 
 use assise_names::refusal::Refusal;
@@ -39,6 +39,7 @@ impl Group {
     pub(crate) fn coalesced(alloc: Global, group: &[Record]) -> Result<Group, Refusal>
         requires few { length group.now ≤ 64 }
         ensures left { IfOk result (λ left. left ≡ coalesced_group group.now) }
+        ensures effects { OnOk result (AllHaveEffects group.now) }
         ensures only_memory { IsOkUnless result OutOfMemory }
     {
         let mut records = Vec::new(alloc);
@@ -65,6 +66,7 @@ fn push_left(
 ) -> Result<(), Refusal>
     ensures ok { OnOk result (left.new.items ≡
         with_left begin left.old.items added.now (all_effects later.now)) }
+    ensures some { OnOk result (has_some added.now.effects ≡ true) }
     ensures only_memory { IsOkUnless result OutOfMemory }
 {
     let effects = left_of(alloc, added.effects(), later)?;

@@ -2,6 +2,7 @@
 ghost use Rattle.std.specs.Prelude.{◌≡◌, ◌+◌, ◌<◌, ◌≤◌, ◌==◌, ◌^◌, ◌↔◌, false, IfErr, IfOk, IsOk, IsOkUnless, OnErr, OnOk, length, option_copied};
 ghost use Rattle.std.specs.Map.Iter.{ShowsInOrder, ShowsInReverse, deref};
 ghost use Rattle.assise_names.specs.declared.refusal.Refusal.TheVariants.{LogFull, OutOfMemory};
+ghost use Rattle.assise_record.specs.Groups.{AllHaveEffects};
 ghost use Rattle.assise_private_log.specs.Borders.{group_end, whole_count};
 ghost use Rattle.assise_private_log.specs.Groups.{groups_from, regrouped, with_group};
 ghost use Rattle.assise_private_log.specs.NumberedLog.{HasOpenGroup, IsNumberedLog, empty_log, end, is_border, nearest, record_at, records_from, with_grouped, with_record, without_front, without_tail};
@@ -223,6 +224,8 @@ impl Log {
     /// the log as it was.
     pub fn regroup(&mut self, alloc: Global, from: u64) -> Result<(), Refusal>
         ensures ok { OnOk result (self.new ≡ regrouped self.old from) }
+        ensures effects { OnOk result (AllHaveEffects (records_from self.old from)) }
+        ensures lawful { IsNumberedLog self.old }
         ensures err { OnErr result (self.new ≡ self.old) }
         ensures only_memory { IsOkUnless result OutOfMemory }
     {
@@ -238,6 +241,7 @@ impl Log {
     /// The groups that the records from a number on are cut into, without what is overridden in them.
     fn groups_from(&self, alloc: Global, from: u64) -> Result<Vec<Group>, Refusal>
         ensures groups { IfOk result (λ groups. groups.items ≡ groups_from self.now from) }
+        ensures effects { OnOk result (AllHaveEffects (records_from self.now from)) }
         ensures only_memory { IsOkUnless result OutOfMemory }
     {
         let tail = self.copies_from(alloc, from)?;

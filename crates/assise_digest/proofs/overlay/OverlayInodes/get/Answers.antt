@@ -1,6 +1,5 @@
 use Rattle.std.proofs.Common.{◌∙◌, ap, sym, cond}
 use Rattle.std.specs.FinMap as map
-use Rattle.assise_digest.specs.Pending.{seen}
 use Rattle.assise_digest.proofs.Laying.{get-overlaid}
 use Rattle.assise_digest.proofs.overlay.OverlayInodes.get.Goals as goal
 

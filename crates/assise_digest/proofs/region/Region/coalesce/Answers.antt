@@ -1,4 +1,6 @@
 use Rattle.std.proofs.Common.{OnOk, Result, Ok, Err, ap, subst, sym, ◌∙◌}
+use Rattle.assise_record.specs.Groups.{AllHaveEffects}
+use Rattle.assise_private_log.specs.NumberedLog.{IsNumberedLog, records_from}
 use Rattle.assise_digest.specs.Region.{IsBegun, log_of, read_by, regrouped_from}
 use Rattle.assise_digest.proofs.Placing.{changed_there, in_place, log_there, sound_set, sound_there}
 use Rattle.assise_digest.proofs.RegroupedLogs.{coalesced_read}
@@ -39,3 +41,13 @@ returns-clause-read c =
     ap (λ s. read_by s c.args.client i)
     (changed_there (λ l. regrouped_from l c.args.from) m xs r c.args.client x c.coalesce.new.self c.self.view_is c.requires.client c.index_mut.ensures.value step)
     ∙ coalesced_read r c.args.client c.args.from c.requires.client begun c.requires.digested c.requires.to_end i)
+
+pub returns-clause-effects : goal.returns-clause-effects
+returns-clause-effects c =
+    let there = log_there c.self.inside.area.inodes c.self.inside.logs.items c.args.self.now c.args.client c.index_mut.result.now c.self.view_is c.requires.client c.index_mut.ensures.value in
+    ok_map c.coalesce.result c.coalesce.ensures.effects (subst (λ l. AllHaveEffects (records_from l.log c.args.from)) (sym there))
+
+pub returns-clause-lawful : goal.returns-clause-lawful
+returns-clause-lawful c =
+    let there = log_there c.self.inside.area.inodes c.self.inside.logs.items c.args.self.now c.args.client c.index_mut.result.now c.self.view_is c.requires.client c.index_mut.ensures.value in
+    subst (λ l. IsNumberedLog l.log) (sym there) c.coalesce.ensures.lawful

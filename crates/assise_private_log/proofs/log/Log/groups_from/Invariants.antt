@@ -1,11 +1,15 @@
 use Rattle.std.proofs.Common.{◌≡◌, ◌++◌, length, map}
-use Rattle.assise_record.specs.Groups.{coalesced_group, groups_of}
+use Rattle.assise_record.specs.Groups.{AllHaveEffects, coalesced_group, groups_of}
 use Rattle.assise_private_log.specs.Groups.{groups_from}
+use Rattle.assise_private_log.specs.NumberedLog.{records_from}
 use Rattle.assise_private_log.proofs.log.Log.groups_from.Given as goal
 
 -- the groups so far, and those of the rest
 abbrev pub invariant-loop-rest : goal.invariant-loop-rest
-invariant-loop-rest l = l.groups.items ++ map coalesced_group (groups_of (length l.rest) l.rest) ≡ groups_from l.self l.from
+invariant-loop-rest l = record {
+  groups : l.groups.items ++ map coalesced_group (groups_of (length l.rest) l.rest) ≡ groups_from l.self l.from;
+  effects : AllHaveEffects l.rest → AllHaveEffects (records_from l.self l.from);
+}
 
 abbrev pub decreases-loop-rest : goal.decreases-loop-rest
 decreases-loop-rest l = length l.rest

@@ -1,0 +1,101 @@
+-- The greatest place that a full node besides a client's home has received.
+use Rattle.std.proofs.Common.{◌≡◌, ℕ, ◌+◌, ◌<◌, ◌≤◌, ◌==◌, max, not, take, take-suc, Bool, true, false, List, [], ◌∷◌, ◌++◌, filter, length, get_or, inl, inr, ◌||◌, refl, ap, sym, subst, ◌∙◌, arith, suc}
+use Rattle.std.proofs.lemmas.Bool.{cases_Bool, cases_eq, false≢true, ne_eqb}
+use Rattle.assise_inode_table.specs.Effects.{contains}
+use Rattle.assise_private_log.specs.NumberedLog.{end as log_end}
+use Rattle.assise_manager.specs.Standings.{full_nodes}
+use Rattle.assise_machine_laws.specs.World.{received_by_all}
+use Rattle.assise_machine_laws.proofs.Failing.{contains-filter, filter-contains}
+use Rattle.assise_machine_events.specs.Dsyncs.{besides, coalesced_from, full_elsewhere, most_of}
+use Rattle.assise_machine_events.proofs.Regroupable.{most-above, most-below}
+use Rattle.assise_machine_state.specs.ClientValues.{client_in, client_seen}
+use Rattle.assise_machine_state.specs.NodeValues.{log_in}
+use Rattle.assise_machine_state.specs.Observed.{full_in, is_full_in, world_of}
+use Rattle.assise_machine_state.specs.Places.{IsNumber}
+use Rattle.assise_machine_state.specs.Shape.{IsShaped}
+use Rattle.assise_machine_state.specs.StateValues.{StateValue, standings}
+use Rattle.assise_machine_state.proofs.Fullness.{full_is, has_log, log_is}
+use Rattle.assise_machine_state.proofs.Seeing.{client_is}
+use Rattle.assise_machine_state.proofs.Standings.{is_listed, listed_is_full}
+
+-- ---- one node after another
+
+module _ (home : ℕ) (f : ℕ → ℕ) where
+  one_more : (ns : List ℕ) (n : ℕ) → (n == home) ≡ false → most_of (besides home (ns ++ n ∷ [])) f ≡ max (most_of (besides home ns) f) (f n)
+  one_more [] n other = rw other (omega arith)
+  one_more (m ∷ ns) n other =
+      let rest : most_of (besides home (ns ++ n ∷ [])) f ≡ max (most_of (besides home ns) f) (f n) = one_more ns n other in
+      elim (cases_Bool (m == home)) [
+        | inl is ↦ rw is rest
+        | inr away ↦ rw away (omega (arith, rest))
+      ]
+
+  no_more : (ns : List ℕ) (n : ℕ) → (n == home) ≡ true → most_of (besides home (ns ++ n ∷ [])) f ≡ most_of (besides home ns) f
+  no_more [] n is = rw is refl
+  no_more (m ∷ ns) n is =
+      let rest : most_of (besides home (ns ++ n ∷ [])) f ≡ most_of (besides home ns) f = no_more ns n is in
+      elim (cases_Bool (m == home)) [
+        | inl here ↦ rw here rest
+        | inr away ↦ rw away (omega (arith, rest))
+      ]
+
+  taken_more : (ns : List ℕ) (i : ℕ) → i < length ns → take (i + 1) ns ≡ take i ns ++ get_or ns i 0 ∷ []
+  taken_more ns i low = (let next : i + 1 ≡ suc i = omega arith in ap (λ k. take k ns) next ∙ take-suc ns i 0 low)
+
+  pub next_most : (ns : List ℕ) (i : ℕ) → i < length ns → (get_or ns i 0 == home) ≡ false → most_of (besides home (take (i + 1) ns)) f ≡ max (most_of (besides home (take i ns)) f) (f (get_or ns i 0))
+  next_most ns i low other = ap (λ ms. most_of (besides home ms) f) (taken_more ns i low) ∙ one_more (take i ns) (get_or ns i 0) other
+
+  pub next_same : (ns : List ℕ) (i : ℕ) → i < length ns → (get_or ns i 0 == home) ≡ true → most_of (besides home (take (i + 1) ns)) f ≡ most_of (besides home (take i ns)) f
+  next_same ns i low is = ap (λ ms. most_of (besides home ms) f) (taken_more ns i low) ∙ no_more (take i ns) (get_or ns i 0) is
+
+-- ---- the order in which full nodes are listed doesn't matter
+
+-- what is left passed
+passes : (p : ℕ → Bool) (ns : List ℕ) (n : ℕ) → contains (filter p ns) n ≡ true → p n ≡ true
+passes p [] n h = absurd (false≢true h)
+passes p (m ∷ ns) n h =
+    elim (cases_Bool (p m)) [
+      | inl kept ↦ elim (cases_eq m n) [
+        | inl is ↦ subst (λ j. p j ≡ true) is kept
+        | inr other ↦ (let rest : contains (filter p ns) n ≡ true = sym (ap (λ b. b || contains (filter p ns) n) (ne_eqb m n other)) ∙ rw kept at h in passes p ns n rest)
+      ]
+      | inr gone ↦ passes p ns n (rw gone at h)
+    ]
+
+no_less : (home : ℕ) (ns ms : List ℕ) (f g : ℕ → ℕ) → ((n : ℕ) → contains ns n ≡ true → contains ms n ≡ true) → ((n : ℕ) → contains ns n ≡ true → f n ≡ g n) →
+    most_of (besides home ns) f ≤ most_of (besides home ms) g
+no_less home ns ms f g there same = most-below (besides home ns) f (most_of (besides home ms) g) (λ n listed.
+    let known : contains ns n ≡ true = contains-filter (λ m. not (m == home)) ns n listed in
+    let away : not (n == home) ≡ true = passes (λ m. not (m == home)) ns n listed in
+    let low : g n ≤ most_of (besides home ms) g = most-above (besides home ms) g n (filter-contains (λ m. not (m == home)) ms n away (there n known)) in
+    omega (arith, same n known, low))
+
+module _ (s : StateValue) (c : ℕ) (shape : IsShaped s) (client : IsNumber s.clients c) where
+  abbrev received_in : ℕ → ℕ
+  received_in n = log_end (log_in s.nodes n c).log
+
+  received_same : (n : ℕ) → is_full_in (standings s) n ≡ true → (world_of s).received n c ≡ received_in n
+  unfolding world_of
+  received_same n full = ap (λ l. log_end l.log) (log_is s n c (has_log s n c shape full client))
+
+  listed_full : (n : ℕ) → contains (full_nodes (standings s)) n ≡ true → contains (full_in (standings s)) n ≡ true
+  listed_full n listed = full_is (standings s) n ∙ listed_is_full (standings s) n listed
+
+  full_listed : (n : ℕ) → contains (full_in (standings s)) n ≡ true → contains (full_nodes (standings s)) n ≡ true
+  full_listed n full = is_listed (standings s) n (sym (full_is (standings s) n) ∙ full)
+
+  most_besides : most_of (besides (client_in s.clients c).home (full_nodes (standings s))) received_in ≡ most_of (full_elsewhere (world_of s) c) (λ n. (world_of s).received n c)
+  unfolding world_of
+  most_besides =
+      let home : ℕ = (client_seen s.clients c).home in
+      let known = ap (λ x. most_of (besides x.home (full_nodes (standings s))) received_in) (sym (client_is s.clients c client)) in
+      let low = no_less home (full_nodes (standings s)) (full_in (standings s)) received_in (λ n. (world_of s).received n c) listed_full (λ n listed. sym (received_same n (listed_is_full (standings s) n listed))) in
+      let high = no_less home (full_in (standings s)) (full_nodes (standings s)) (λ n. (world_of s).received n c) received_in full_listed (λ n full. received_same n (sym (full_is (standings s) n) ∙ full)) in
+      known ∙ omega (arith, low, high)
+
+  pub coalesced_place : (goal acked most : ℕ) → goal ≡ (client_in s.clients c).goal → acked ≡ received_by_all (world_of s) c →
+      most ≡ most_of (besides (client_in s.clients c).home (full_nodes (standings s))) received_in → max (max goal acked) most ≡ coalesced_from (world_of s) c
+  unfolding world_of
+  coalesced_place goal acked most goal_is acked_is most_is =
+      let seen : (client_in s.clients c).goal ≡ (world_of s).goal c = ap (λ x. x.goal) (sym (client_is s.clients c client)) in
+      omega (arith, goal_is, seen, acked_is, most_is, most_besides)

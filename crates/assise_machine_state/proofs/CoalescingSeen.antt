@@ -1,0 +1,368 @@
+-- What the laws observe of a client's records that become groups.
+use Rattle.std.proofs.Common.{◌≡◌, ◌≢◌, ℕ, ◌+◌, ◌-◌, ◌<◌, ◌≤◌, take, true, false, List, ◌++◌, length, inl, inr, refl, ap, sym, subst, ◌∙◌, arith, eq-eqb, take_all}
+use Rattle.std.proofs.Math.Logic.{∥∥₁_elim}
+use Rattle.std.proofs.Props.{props}
+use Rattle.std.proofs.lemmas.Bool.{cases_Bool, cases_eq, ne_eqb}
+use Rattle.std.proofs.lemmas.List.{length-append, length-drop, length-set, length-take}
+use Rattle.assise_record.specs.Groups.{AllHaveEffects, all_coalesced, are_whole, groups_of}
+use Rattle.assise_record.specs.LogRecord.{LogRecord}
+use Rattle.assise_record.proofs.Marking.{groups-all, groups-are}
+use Rattle.assise_record.proofs.WholeGroups.{whole_none}
+use Rattle.assise_inode_table.specs.Contents.{values}
+use Rattle.assise_private_log.specs.Groups.{regrouped}
+use Rattle.assise_private_log.specs.NumberedLog.{IsNumberedLog, NumberedLog, end as log_end, is_border, records_from}
+use Rattle.assise_private_log.proofs.LogGroups.{regrouped_all, regrouped_among, regrouped_before, regrouped_records}
+use Rattle.assise_digest.specs.Region.{ReceivedLog, regrouped_from, with_log}
+use Rattle.assise_machine_laws.specs.ClientSteps.{RaisesGoals}
+use Rattle.assise_machine_laws.specs.Coalescing.{GetsAll, HasNone}
+use Rattle.assise_machine_laws.specs.Regrouped.{Regroups}
+use Rattle.assise_machine_laws.specs.Sound.{IsSound}
+use Rattle.assise_machine_laws.specs.Staying.{SameLeases}
+use Rattle.assise_machine_laws.specs.World.{Full, World, end, received_by_all, records_between}
+use Rattle.assise_machine_laws.proofs.Observing.{end_is}
+use Rattle.assise_machine_laws.proofs.Staying.{end-same}
+use Rattle.assise_machine_returns.specs.Returns.{OtherAreasStay}
+use Rattle.assise_machine_events.specs.Dsyncs.{coalesced_from, new_groups}
+use Rattle.assise_machine_events.proofs.Regroupable.{between_length, coalesced_elsewhere, coalesced_first, coalesced_high}
+use Rattle.assise_machine_state.specs.Changes.{after_coalescing, after_regrouping, goal_of}
+use Rattle.assise_machine_state.specs.ClientValues.{client_seen}
+use Rattle.assise_machine_state.specs.NodeValues.{HasLog, log_in, log_seen, region_in}
+use Rattle.assise_machine_state.specs.Observed.{is_full_in, own_node, own_seen, world_of}
+use Rattle.assise_machine_state.specs.Places.{IsNumber}
+use Rattle.assise_machine_state.specs.Shape.{AreNoted, IsMarked, IsShaped}
+use Rattle.assise_machine_state.specs.StateValues.{StateValue, standings}
+use Rattle.assise_machine_state.proofs.Fullness.{has_log, home_full, lives_number, lives_unfailed, log_is, no_log_there, seen_full}
+use Rattle.assise_machine_state.proofs.Logging.{log_else, log_here, log_same, logs_count, region_kept}
+use Rattle.assise_machine_state.proofs.Marks.{marked_as}
+use Rattle.assise_machine_state.proofs.Noted.{goal_noted}
+use Rattle.assise_machine_state.proofs.Raising.{goal_raised, goal_shaped}
+use Rattle.assise_machine_state.proofs.RegroupedMarks.{regrouped_marked}
+use Rattle.assise_machine_state.proofs.Shaping.{AreMarked, own_marked, shaped_as}
+use Rattle.assise_machine_state.proofs.ShapedClients.{areas_stay}
+use Rattle.assise_machine_state.proofs.Staying.{leases_as}
+
+-- ---- what is observed of a client's log
+
+own_ends : (s : StateValue) (c : ℕ) → end (world_of s) c ≡ log_end (own_seen s c).log
+unfolding world_of end
+own_ends s c = refl
+
+first_is : (s : StateValue) (c : ℕ) → (world_of s).first c ≡ (own_seen s c).log.first
+unfolding world_of
+first_is s c = refl
+
+received_is : (s : StateValue) (n c : ℕ) → (world_of s).received n c ≡ log_end (log_seen s.nodes n c).log
+unfolding world_of
+received_is s n c = refl
+
+away_from : (s : StateValue) (c n : ℕ) → n ≢ (client_seen s.clients c).home → n ≢ (world_of s).home c
+unfolding world_of
+away_from s c n away = away
+
+module _ (s : StateValue) (c from : ℕ) where
+  abbrev home : ℕ
+  home = (client_seen s.clients c).home
+
+  abbrev w : World
+  w = world_of s
+
+  abbrev t : StateValue
+  t = after_regrouping s c from
+
+  abbrev u : World
+  u = world_of t
+
+  abbrev new : ReceivedLog
+  new = regrouped_from (log_in s.nodes home c) from
+
+  abbrev l : NumberedLog
+  l = (own_seen s c).log
+
+  abbrev s' : StateValue
+  s' = after_coalescing s c from
+
+  abbrev w' : World
+  w' = world_of s'
+
+  -- areas stay
+  area_kept : (n i : ℕ) → u.area n i ≡ w.area n i
+  unfolding world_of
+  area_kept n i = ap (λ r. values r i) (region_kept s.nodes home (with_log (region_in s.nodes home) c new) (λ r. r.inodes) refl n)
+
+  pub coalescing_areas : OtherAreasStay w w'
+  unfolding world_of
+  coalescing_areas n i away = areas_stay t s' refl n i away ∙ area_kept n i
+
+  pub coalescing_noted : AreNoted s → AreNoted s'
+  coalescing_noted noted = goal_noted t c (end u c) (record { once = noted.once; known = noted.known; noted = noted.noted })
+
+  module _ (shape : IsShaped s) (lives : w.lives c ≡ true) where
+    there : IsNumber s.clients c
+    there = lives_number s c lives
+
+    unfailed : (client_seen s.clients c).failed ≡ false
+    unfailed = lives_unfailed s c lives
+
+    has : HasLog s.nodes home c
+    has = has_log s home c shape (home_full s c shape unfailed) there
+
+    home_now : log_seen t.nodes home c ≡ regrouped_from (log_seen s.nodes home c) from
+    home_now = log_here s.nodes home c (region_in s.nodes home).inodes new has ∙ ap (λ x. regrouped_from x from) (sym (log_is s home c has))
+
+    else_now : (n d : ℕ) → (n ≡ home → d ≡ c → ⊥) → log_seen t.nodes n d ≡ log_seen s.nodes n d
+    else_now = log_else s.nodes home c (region_in s.nodes home).inodes new has
+
+    own_is_home : own_node (standings s) (client_seen s.clients c) ≡ home
+    own_is_home = rw unfailed refl
+
+    own_after : own_seen t c ≡ log_seen t.nodes home c
+    unfolding own_seen
+    own_after = ap (λ n. log_seen t.nodes n c) own_is_home
+
+    own_before : own_seen s c ≡ log_seen s.nodes home c
+    unfolding own_seen
+    own_before = ap (λ n. log_seen s.nodes n c) own_is_home
+
+    own_now : own_seen t c ≡ regrouped_from (own_seen s c) from
+    own_now = own_after ∙ home_now ∙ ap (λ x. regrouped_from x from) (sym own_before)
+
+    own_else : (d : ℕ) → d ≢ c → own_seen t d ≡ own_seen s d
+    unfolding own_seen
+    own_else d other = else_now (own_node (standings s) (client_seen s.clients d)) d (λ _ same. other same)
+
+    same_limit : new.log.limit ≡ (log_in s.nodes home c).log.limit
+    same_limit = ap (λ m. m.limit) (regrouped_all (log_in s.nodes home c).log from)
+
+    -- each log begins where it began
+    first_kept : (d : ℕ) → u.first d ≡ w.first d
+    unfolding world_of
+    first_kept d =
+        elim (cases_eq d c) [
+          | inl is ↦ subst (λ e. u.first e ≡ w.first e) (sym is) (ap (λ x. x.log.first) own_now ∙ ap (λ m. m.first) (regrouped_all l from))
+          | inr other ↦ ap (λ x. x.log.first) (own_else d other)
+        ]
+
+    module _ (law : IsNumberedLog l) (high : from ≤ log_end l) (elsewhere : (n : ℕ) → is_full_in (standings s) n ≡ true → n ≢ home → log_end (log_seen s.nodes n c).log ≤ from) where
+      -- ---- its shape
+
+      border_now : (k : ℕ) → k < from → is_border (own_seen t c).log k ≡ is_border l k
+      border_now k before = ap (λ x. is_border x.log k) own_now ∙ regrouped_before l from k law high before
+
+      marked_away : (n : ℕ) → n ≢ home → IsMarked (is_border (own_seen t c).log) (log_seen s.nodes n c).log
+      marked_away n away =
+          elim (cases_Bool (is_full_in (standings s) n)) [
+            | inl full ↦
+                marked_as (is_border l) (is_border (own_seen t c).log) (log_seen s.nodes n c).log
+                (λ k low before. (let last = elsewhere n full away in sym (border_now k (omega (arith, last, before))))) (shape.marked n c)
+            | inr none ↦ subst (λ x. IsMarked (is_border (own_seen t c).log) x.log) (sym (no_log_there s n c shape none)) refl
+          ]
+
+      marked_here : (n : ℕ) → IsMarked (is_border (own_seen t c).log) (log_seen t.nodes n c).log
+      marked_here n =
+          elim (cases_eq n home) [
+            | inl is ↦
+                subst (λ m. IsMarked (is_border (own_seen t c).log) (log_seen t.nodes m c).log) (sym is)
+                (subst (λ x. IsMarked (is_border (own_seen t c).log) x.log) own_after
+                (subst (λ x. IsMarked (is_border x.log) x.log) (sym own_now) (regrouped_marked l from (own_marked s shape.marked c))))
+            | inr away ↦ subst (λ x. IsMarked (is_border (own_seen t c).log) x.log) (sym (else_now n c (λ is _. away is))) (marked_away n away)
+          ]
+
+      marked_now : AreMarked t
+      marked_now n d =
+          elim (cases_eq d c) [
+            | inl is ↦ subst (λ e. IsMarked (is_border (own_seen t e).log) (log_seen t.nodes n e).log) (sym is) (marked_here n)
+            | inr other ↦
+                subst (λ x. IsMarked (is_border x.log) (log_seen t.nodes n d).log) (sym (own_else d other))
+                (subst (λ x. IsMarked (is_border (own_seen s d).log) x.log) (sym (else_now n d (λ _ same. other same))) (shape.marked n d))
+          ]
+
+      regrouped_shaped : IsShaped t
+      regrouped_shaped = shaped_as s t shape record {
+        nodes = length-set s.nodes (home - 1) _;
+        members = refl;
+        full = λ n. refl;
+        logs = logs_count s.nodes home c (region_in s.nodes home).inodes new;
+        clients = refl;
+        home = λ d. refl;
+        failed = λ d. refl;
+        limit = refl;
+        limits = λ n d. log_same s.nodes home c (region_in s.nodes home).inodes new (λ x. x.log.limit) n d same_limit;
+        at_home = λ n d. log_same s.nodes home c (region_in s.nodes home).inodes new (λ x. x.at_home) n d refl;
+        marked = λ all. marked_now;
+        durability = λ d. refl;
+        opened = λ d. refl;
+      }
+
+      pub coalescing_shaped : IsShaped s'
+      coalescing_shaped = goal_shaped t c (end u c) there regrouped_shaped
+
+      -- ---- what is observed
+
+      module _ (first_low : l.first ≤ from) (some : AllHaveEffects (records_from l from)) (low : received_by_all w c ≤ from) (goal_low : w.goal c ≤ from)
+          (at_border : w.border c from ≡ true) (past : (n : ℕ) → Full w n → n ≢ w.home c → w.received n c ≤ from) where
+        abbrev gs : List (List LogRecord)
+        gs = groups_of (end w c) (records_between w c from (end w c))
+
+        -- the records from there on are the last of the own log
+        tail_same : records_between w c from (end w c) ≡ records_from l from
+        unfolding records_between world_of end
+        tail_same = take_all (log_end l - from) (records_from l from) (omega (arith, length-drop (from - l.first) l.records))
+
+        few : length (records_from l from) ≤ end w c
+        unfolding world_of end
+        few = omega (arith, length-drop (from - l.first) l.records)
+
+        to_end : from ≤ end w c
+        unfolding world_of end
+        to_end = high
+
+        groups_same : groups_of (end w c) (records_from l from) ≡ gs
+        groups_same = ap (groups_of (end w c)) (sym tail_same)
+
+        records_now : u.records c ≡ take (from - w.first c) (w.records c) ++ all_coalesced gs
+        unfolding world_of
+        records_now =
+            ap (λ x. x.log.records) own_now
+            ∙ regrouped_records l from (end w c) few
+            ∙ ap (λ hs. take (from - l.first) l.records ++ all_coalesced hs) groups_same
+
+        end_now : end u c ≡ from + length (all_coalesced gs)
+        unfolding world_of
+        end_now =
+            let first : u.first c ≡ l.first = ap (λ x. x.log.first) own_now ∙ ap (λ m. m.first) (regrouped_all l from) in
+            omega (arith, end_is u c, first, ap length records_now, length-append (take (from - l.first) l.records) (all_coalesced gs), length-take (from - l.first) l.records, first_low, high)
+
+        border_among : (k : ℕ) → k ≤ length (all_coalesced gs) → u.border c (from + k) ≡ are_whole gs k
+        unfolding world_of end
+        border_among k within =
+            let ends : log_end (regrouped l from) ≡ end u c = ap (λ x. log_end x.log) (sym own_now) in
+            ap (λ x. is_border x.log (from + k)) own_now
+            ∙ regrouped_among l from (end w c) k law first_low high some few (omega (arith, within, end_now, ends))
+            ∙ ap (λ hs. are_whole hs k) groups_same
+
+        border_first : u.border c from ≡ true
+        border_first = (let here : from + 0 ≡ from = omega arith in ap (u.border c) (sym here) ∙ border_among 0 (omega arith) ∙ whole_none gs)
+
+        border_before : (k : ℕ) → k ≤ from → u.border c k ≡ w.border c k
+        unfolding world_of
+        border_before k old =
+            elim (cases_eq k from) [
+              | inl is ↦ ap (u.border c) is ∙ border_first ∙ sym (ap (w.border c) is ∙ at_border)
+              | inr other ↦ border_now k (omega (arith, old, other))
+            ]
+
+        received_now : u.received home c ≡ end u c
+        unfolding world_of end
+        received_now = ap (λ x. log_end x.log) (sym own_after)
+
+        raised : RaisesGoals u (goal_of c (end u c)) w'
+        raised = goal_raised t c (end u c) there (omega arith)
+
+        still_full : (n : ℕ) → Full w n → Full u n
+        unfolding world_of
+        still_full n f = f
+
+        ends_same : end w' c ≡ end u c
+        ends_same = end-same u w' raised.logs c
+
+        gets : Full w home → GetsAll home c w'
+        unfolding world_of
+        gets f = record {
+          received = (raised.nodes.same home (still_full home f)).received c ∙ received_now ∙ sym ends_same;
+          log = (raised.nodes.same home (still_full home f)).log c ∙ ap (λ x. x.log.records) (sym own_after) ∙ sym (raised.logs.records c);
+        }
+
+        has_none : (n : ℕ) → Full w n → n ≢ home → HasNone w n c from w'
+        unfolding world_of
+        has_none n f away = record {
+          before = past n f away;
+          received = (raised.nodes.same n (still_full n f)).received c ∙ ap (λ x. log_end x.log) (else_now n c (λ is _. away is));
+          log = (raised.nodes.same n (still_full n f)).log c ∙ ap (λ x. x.log.records) (else_now n c (λ is _. away is));
+        }
+
+        goal_now : w'.goal c ≡ end w' c
+        unfolding world_of
+        goal_now = (
+            let to : goal_of c (end u c) c ≡ end u c = rw (eq-eqb c c refl) refl in
+            omega (arith, raised.goals c, to, goal_low, end_now, ends_same))
+
+        goal_else : (d : ℕ) → d ≢ c → w'.goal d ≡ w.goal d
+        unfolding world_of
+        goal_else d other = (
+            let to : goal_of c (end u c) d ≡ 0 = rw (ne_eqb d c other) refl in
+            omega (arith, raised.goals d, to))
+
+        same_leases : SameLeases w u
+        same_leases = leases_as s t (λ i. refl)
+
+        pub regroups : Regroups w c from gs w'
+        unfolding world_of
+        regroups = record {
+          lives = lives;
+          low = low;
+          high = to_end;
+          groups = groups-are (end w c) (records_between w c from (end w c)) (subst AllHaveEffects (sym tail_same) some);
+          cut = groups-all (end w c) (records_between w c from (end w c)) (between_length w c from first_low to_end);
+          records_own = raised.logs.records c ∙ records_now;
+          records_else = λ d other. raised.logs.records d ∙ ap (λ x. x.log.records) (own_else d other);
+          border_old = λ k old. raised.logs.border c k ∙ border_before k old;
+          border_new = λ k within. raised.logs.border c (from + k) ∙ border_among k within;
+          border_else = λ d k other. raised.logs.border d k ∙ ap (λ x. is_border x.log k) (own_else d other);
+          here = λ n f. elim (cases_eq n home) [
+            | inl is ↦ inr (subst (λ m. GetsAll m c w') (sym is) (gets (subst (Full w) is f)))
+            | inr away ↦ inl (has_none n f away)
+          ];
+          at_home = gets (seen_full s home (home_full s c shape unfailed));
+          received_else = λ n d f other. (raised.nodes.same n (still_full n f)).received d ∙ ap (λ x. log_end x.log) (else_now n d (λ _ same. other same));
+          log_else = λ n d f other. (raised.nodes.same n (still_full n f)).log d ∙ ap (λ x. x.log.records) (else_now n d (λ _ same. other same));
+          full = raised.nodes.full;
+          area = λ n i f. (raised.nodes.same n (still_full n f)).area i ∙ area_kept n i;
+          digested = λ n d f. (raised.nodes.same n (still_full n f)).digested d ∙ log_same s.nodes home c (region_in s.nodes home).inodes new (λ x. x.digested) n d refl;
+          calls = raised.logs.calls;
+          first = λ d. raised.logs.first d ∙ first_kept d;
+          next = raised.logs.next;
+          made = raised.logs.made;
+          clients = record { clients = raised.clients.clients; home = raised.clients.home; lives = raised.clients.lives; crashed = raised.clients.crashed };
+          goal = goal_low;
+          goal_here = goal_now;
+          goal_else = goal_else;
+          leases = record { holds = λ d i. raised.leases.holds d i ∙ same_leases.holds d i; writes = λ d i. raised.leases.writes d i ∙ same_leases.writes d i };
+        }
+
+-- ---- where a dsync begins
+
+module _ (s : StateValue) (c : ℕ) (shape : IsShaped s) (sound : ∥ IsSound (world_of s) ∥₁) (lives : (world_of s).lives c ≡ true) (law : IsNumberedLog (own_seen s c).log) where
+  abbrev start : ℕ
+  start = coalesced_from (world_of s) c
+
+  start_first : (world_of s).first c ≤ start
+  start_first = ∥∥₁_elim sound (search props) (λ h. coalesced_first (world_of s) c h)
+
+  start_high : start ≤ end (world_of s) c
+  start_high = ∥∥₁_elim sound (search props) (λ h. coalesced_high (world_of s) c h)
+
+  start_low : received_by_all (world_of s) c ≤ start
+  start_low = omega arith
+
+  goal_low : (world_of s).goal c ≤ start
+  goal_low = omega arith
+
+  start_border : (world_of s).border c start ≡ true
+  start_border = ∥∥₁_elim sound (search props) (λ h. h.apart c start lives start_first goal_low start_high)
+
+  others_low : (n : ℕ) → Full (world_of s) n → n ≢ (world_of s).home c → (world_of s).received n c ≤ start
+  others_low n full away = ∥∥₁_elim sound (search props) (λ h. coalesced_elsewhere (world_of s) c h n full away)
+
+  within : start ≤ log_end (own_seen s c).log
+  within = omega (arith, start_high, own_ends s c)
+
+  others_end : (n : ℕ) → is_full_in (standings s) n ≡ true → n ≢ (client_seen s.clients c).home → log_end (log_seen s.nodes n c).log ≤ start
+  others_end n full away = (let known = others_low n (seen_full s n full) (away_from s c n away) in omega (arith, known, received_is s n c))
+
+  pub coalesced_shape : IsShaped (after_coalescing s c start)
+  coalesced_shape = coalescing_shaped s c start shape lives law within others_end
+
+  pub coalesced_groups : AllHaveEffects (records_from (own_seen s c).log start) → Regroups (world_of s) c start (new_groups (world_of s) c) (world_of (after_coalescing s c start))
+  coalesced_groups some =
+      let first : (own_seen s c).log.first ≤ start = omega (arith, start_first, first_is s c) in
+      regroups s c start shape lives law within others_end first some start_low goal_low start_border others_low

@@ -1,0 +1,80 @@
+-- A log whose last records became groups marks its own borders.
+use Rattle.std.proofs.Common.{◌≡◌, ℕ, zero, suc, ◌+◌, ◌-◌, ◌<◌, Bool, true, false, List, [], ◌∷◌, ◌++◌, length, get_or, take, inl, inr, refl, ap, sym, subst, ◌∙◌, arith}
+use Rattle.std.proofs.lemmas.Bool.{cases_eq}
+use Rattle.std.proofs.lemmas.List.{length-append, length-map, length-take}
+use Rattle.assise_record.specs.Groups.{all_marks, all_records, marks_of}
+use Rattle.assise_record.specs.LogRecord.{LogRecord}
+use Rattle.assise_private_log.specs.Groups.{groups_from, regrouped}
+use Rattle.assise_private_log.specs.NumberedLog.{NumberedLog, is_border, without_tail}
+use Rattle.assise_private_log.proofs.Borders.{border_first, border_marked}
+use Rattle.assise_private_log.proofs.LogGroups.{regrouped_all, with_all}
+use Rattle.assise_machine_events.specs.NodeEvents.{border_marks}
+use Rattle.assise_machine_state.specs.Shape.{IsMarked}
+use Rattle.assise_machine_state.proofs.Marks.{so_many_marks}
+
+marks_at : (f : ℕ → Bool) (k : ℕ) (ms : List Bool) (rs : List LogRecord) → length ms ≡ length rs → ((i : ℕ) → i < length rs → get_or ms i true ≡ f (k + i)) → ms ≡ border_marks f k rs
+marks_at f k [] [] same at = refl
+marks_at f k [] (r ∷ rs) same at = absurd (omega (arith, same))
+marks_at f k (m ∷ ms) [] same at = absurd (omega (arith, same))
+marks_at f k (m ∷ ms) (r ∷ rs) same at =
+    let here : k + 0 ≡ k = omega arith in
+    let next : (i : ℕ) → k + suc i ≡ suc k + i = λ i. omega arith in
+    let first : m ≡ f k = at 0 (omega arith) ∙ ap f here in
+    let rest : ms ≡ border_marks f (suc k) rs = marks_at f (suc k) ms rs (omega (arith, same)) (λ i low. at (suc i) (omega (arith, low)) ∙ ap f (next i)) in
+    λ i. first i ∷ rest i
+
+-- a log whose first record begins a group marks its borders
+marks_own : (l : NumberedLog) → length l.begins ≡ length l.records → get_or l.begins 0 true ≡ true → IsMarked (is_border l) l
+marks_own l so_many first = marks_at (is_border l) l.first l.begins l.records so_many (λ i low.
+    elim (cases_eq i 0) [
+      | inl none ↦ ap (λ j. get_or l.begins j true) none ∙ first ∙ sym (border_first l (l.first + i) (omega (arith, none)))
+      | inr some ↦
+          let place : (l.first + i) - l.first ≡ i = omega arith in
+          ap (λ j. get_or l.begins j true) (sym place) ∙ sym (border_marked l (l.first + i) (omega (arith, some)))
+    ])
+
+first_mark : (f : ℕ → Bool) (k : ℕ) (rs : List LogRecord) → f k ≡ true → get_or (border_marks f k rs) 0 true ≡ true
+first_mark f k [] is = refl
+first_mark f k (r ∷ rs) is = is
+
+first_begins : (gs : List (List LogRecord)) → get_or (all_marks gs) 0 true ≡ true
+first_begins [] = refl
+first_begins ([] ∷ gs) = first_begins gs
+first_begins ((r ∷ rs) ∷ gs) = refl
+
+first_of_both : (n : ℕ) (ms more : List Bool) → get_or ms 0 true ≡ true → get_or more 0 true ≡ true → get_or (take n ms ++ more) 0 true ≡ true
+first_of_both zero ms more front behind = behind
+first_of_both (suc n) [] more front behind = behind
+first_of_both (suc n) (m ∷ ms) more front behind = front
+
+group_marks : (rs : List LogRecord) → length (marks_of rs) ≡ length rs
+group_marks [] = refl
+group_marks (r ∷ rs) = ap suc (length-map rs (λ (q : LogRecord). false))
+
+groups_marks : (gs : List (List LogRecord)) → length (all_marks gs) ≡ length (all_records gs)
+groups_marks [] = refl
+groups_marks (g ∷ gs) = omega (arith, length-append (marks_of g) (all_marks gs), length-append g (all_records gs), group_marks g, groups_marks gs)
+
+module _ (l : NumberedLog) (from : ℕ) (marked : IsMarked (is_border l) l) where
+  abbrev now : NumberedLog
+  now = with_all (without_tail l from) (groups_from l from)
+
+  so_many : length now.begins ≡ length now.records
+  so_many = omega (
+    arith,
+    length-append (take (from - l.first) l.begins) (all_marks (groups_from l from)),
+    length-append (take (from - l.first) l.records) (all_records (groups_from l from)),
+    length-take (from - l.first) l.begins,
+    length-take (from - l.first) l.records,
+    so_many_marks (is_border l) l marked,
+    groups_marks (groups_from l from),
+  )
+
+  begins_first : get_or l.begins 0 true ≡ true
+  begins_first = ap (λ ms. get_or ms 0 true) marked ∙ first_mark (is_border l) l.first l.records (border_first l l.first (omega arith))
+
+  now_marked : IsMarked (is_border now) now
+  now_marked = marks_own now so_many (first_of_both (from - l.first) l.begins (all_marks (groups_from l from)) begins_first (first_begins (groups_from l from)))
+
+  pub regrouped_marked : IsMarked (is_border (regrouped l from)) (regrouped l from)
+  regrouped_marked = subst (λ m. IsMarked (is_border m) m) (sym (regrouped_all l from)) now_marked
