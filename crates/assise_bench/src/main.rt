@@ -30,7 +30,7 @@ const EACH: [&str; 7] = [
     "keeper keeper 4 1000",
     "leases 64 4 1000 shared",
     "log 8 100",
-    "rounds whole write 3 4 16 4",
+    "rounds whole write pessimistic 3 4 16 4",
 ];
 
 fn main(rt: HostRuntime) -> ExitCode {
@@ -118,8 +118,9 @@ fn show<R: Threads + Wait + Sync>(
             println!(rt; "{first} {end} {call}").ok()
         }
         "rounds" => {
-            let (made, digested) = rounds::counts(alloc, words)?;
-            println!(rt; "{made} calls, {digested} digested").ok()
+            let (made, traffic) = rounds::counts(alloc, words)?;
+            let (bytes, digested) = (traffic.bytes, traffic.digested);
+            println!(rt; "{made} calls, {bytes} bytes, {digested} digested").ok()
         }
         _ => None,
     }

@@ -1,40 +1,42 @@
-//! `rounds PARTS CALL NODES CLIENTS RECORDS TURNS`: so many clients are opened on so many nodes in turn, and each makes a directory
-//! with a file in it. Then, so many times, each client makes so many calls and an fsync, and a round follows. A call is a `write` of
-//! 4 KiB into the client's file, block after block of 1 MiB, or `create`, which is a create and an unlink in turn.
+//! `rounds PARTS CALL MODE NODES CLIENTS RECORDS TURNS`: so many clients, `pessimistic` or `optimistic` ones, are opened on so many
+//! nodes in turn, and each makes a directory with a file in it. Then, so many times, each client makes so many calls and a dsync, and
+//! a round follows. A call is a `write` of 4 KiB into the client's file, block after block of 1 MiB; `create`, which is a create and
+//! an unlink in turn; a database's write of a page of 4 KiB, of the first of `pages` and of 32 others in turn; or one of a `mail`
+//! store, which keeps eight messages: an old one is unlinked, a file is made and 4 KiB are written into it, and it is renamed.
 //!
 //! PARTS are those of a round that are made: `calls`, none; `sent`, each node by rising number sends what it has for others, and
 //! they take it in; `coded`, the same, but each frame comes as the bytes of its spelling; `whole`, moreover each node digests once,
 //! and leases that were asked for go. Only with `whole` the logs get room again, of 4,096 records each.
 //!
-//! It says how many calls were made, and how many records all nodes digested in these rounds. None where something was refused,
-//! answered an error, or wasn't answered.
+//! It says how many calls were made, how many bytes the frames of these rounds have where they come as bytes, and how many records
+//! all nodes digested. None where something was refused, answered an error, or wasn't answered.
 mod clients;
 mod exchange;
 mod made;
 mod setting;
 
 use crate::rounds::clients::{begin, cluster_of, open_all, turns};
-use crate::rounds::exchange::Cluster;
+use crate::rounds::exchange::{Cluster, Traffic};
 use crate::rounds::made::calls_of_all;
 use crate::rounds::setting::{Setting, setting_of};
 use assise_names::call::Op;
 use std::alloc::Global;
 
-/// How many calls are made, and how many records are digested.
-pub(crate) fn counts(alloc: Global, words: &[String]) -> Option<(u64, u64)> {
+/// How many calls are made, and what that sends and digests.
+pub(crate) fn counts(alloc: Global, words: &[String]) -> Option<(u64, Traffic)> {
     let setting = setting_of(alloc, words)?;
     let calls = calls_of_all(alloc, setting.kind, setting.clients)?;
     let mut cluster = cluster_of(alloc, setting.nodes)?;
     counts_on(alloc, &mut cluster, setting, calls.as_slice())
 }
 
-/// How many calls are made, and how many records are digested, on a cluster on which nothing happened.
+/// The same on a cluster on which nothing happened.
 fn counts_on(
     alloc: Global,
     cluster: &mut Cluster,
     setting: Setting,
     calls: &[Vec<Op>],
-) -> Option<(u64, u64)> {
+) -> Option<(u64, Traffic)> {
     open_all(alloc, cluster, setting)?;
     begin(alloc, cluster, setting, calls)?;
     turns(alloc, cluster, setting, calls)

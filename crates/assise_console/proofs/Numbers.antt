@@ -8,7 +8,7 @@ use Rattle.assise_names.specs.declared.refusal.Refusal.TheVariants.{BadClient, B
 use Rattle.assise_machine_laws.specs.World.{World}
 use Rattle.assise_names.specs.declared.durability.Durability.{Durability}
 use Rattle.assise_history.specs.Legal.{durability_of}
-use Rattle.assise_machine_events.proofs.Syncing.{fsync_refused}
+use Rattle.assise_machine_events.proofs.Syncing.{dsync_refused, fsync_refused}
 use Rattle.assise_machine_events.specs.ClientEvents.{Crashing, Opening, is_refused}
 use Rattle.assise_machine_events.specs.Events.{refused}
 use Rattle.assise_machine_events.specs.Faults.{client_fault, fault_if, is_client, node_fault, open_fault, or_else, unless_full}
@@ -87,4 +87,4 @@ tries_nobody m c (Rmdir p) far = is_refused BadClient (rw (client_missing m c fa
 tries_nobody m c (ListCall p) far = is_refused BadClient (rw (client_missing m c far) refl) refl refl
 tries_nobody m c (Stat p) far = is_refused BadClient (rw (client_missing m c far) refl) refl refl
 tries_nobody m c Fsync far = fsync_refused m c (durability_of c m.history) BadClient (refused BadClient) (client_missing m c far) refl
-tries_nobody m c Dsync far = is_refused BadClient (client_missing m c far) refl refl
+tries_nobody m c Dsync far = dsync_refused m c (durability_of c m.history) BadClient (refused BadClient) (client_missing m c far) refl

@@ -35,6 +35,41 @@ tree 2
 9: F8 BadNode
 ",
     ),
+    // A dsync sends what is left of its group.
+    // An optimistic client writes a file twice, and makes another that is gone again.
+    (
+        "\
+cluster 2 64 4
+manual
+open 1 least optimistic
+1 create /f
+1 write /f 0 taa
+1 write /f 0 tbb
+1 create /t
+1 unlink /t
+1 fsync
+1 dsync
+carry 1
+1 dsync
+digest 2
+tree 2
+",
+        "\
+3: client 1
+4: done
+5: done
+6: done
+7: done
+8: done
+9: done
+10: wait
+11: carried 1
+12: done
+13: digested 3
+14: tree 1
+/f file 2
+",
+    ),
     // A full log is digested.
     // A log of eight records gets full; what needs no record is answered still.
     (

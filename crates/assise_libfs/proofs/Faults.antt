@@ -20,9 +20,10 @@ use Rattle.assise_inode_table.proofs.CallEnds.{makes_own}
 use Rattle.assise_manager.specs.Standings.{Standing, full, down, returning, standing_of}
 use Rattle.assise_machine_laws.specs.World.{IsClient, view}
 use Rattle.assise_machine_events.specs.ClientEvents.{Opening, Calling, Noting, Syncing, call_of_client, is_answered, is_awaited, is_full, is_noted, is_opened, is_refused, is_replicating, is_spent, is_synced, lacks_memory, last_world}
+use Rattle.assise_machine_events.specs.Dsyncs.{Coalescing, is_coalesced, is_refused, is_synced, lacks_memory}
 use Rattle.assise_machine_events.specs.Events.{Answer, not_yet, opened, refused, replied}
 use Rattle.assise_machine_events.specs.Faults.{client_fault, fault_if, is_client, is_too_large, or_else, unless_full}
-use Rattle.assise_machine_events.specs.Happenings.{Fsyncing, Trying}
+use Rattle.assise_machine_events.specs.Happenings.{Dsyncing, Fsyncing, Trying}
 use Rattle.assise_machine_events.specs.Machine.{Machine, Holds, most_clients}
 use Rattle.assise_machine_events.proofs.Rejoined.{stands_is_node}
 use Rattle.assise_machine_calls.specs.Answers.{opening_answer}
@@ -178,9 +179,19 @@ module _ (m : Machine) (holds : ∥ Holds m ∥₁) where
   fsyncing_refused m' Pessimistic c a r h is = syncing_refused m' c Fsync a r h is
   fsyncing_refused m' Optimistic c a r h is = noting_refused m' c a r h is
 
+  coalescing_refused : (m' : Machine) (c : ℕ) (a : Answer) (r : Refusal) → Coalescing m c a m' → a ≡ refused r → MayRefuseTry c Dsync m.history r
+  coalescing_refused m' c a r (is_synced reply fine e h) is = absurd (let x : replied reply ≡ refused r = sym e ∙ is in cc)
+  coalescing_refused m' c a r (is_coalesced fine e h) is = absurd (let x : not_yet ≡ refused r = sym e ∙ is in cc)
+  coalescing_refused m' c a r (lacks_memory fine e same) is = subst (MayRefuseTry c Dsync m.history) (sym (same_refusal OutOfMemory r a e is)) tt
+  coalescing_refused m' c a r (is_refused q fault e same) is = subst (MayRefuseTry c Dsync m.history) (sym (same_refusal q r a e is)) (faulty_client c Dsync q fault)
+
+  dsyncing_refused : (m' : Machine) (u : Durability) (c : ℕ) (a : Answer) (r : Refusal) → Dsyncing u m c a m' → a ≡ refused r → MayRefuseTry c Dsync m.history r
+  dsyncing_refused m' Pessimistic c a r h is = syncing_refused m' c Dsync a r h is
+  dsyncing_refused m' Optimistic c a r h is = coalescing_refused m' c a r h is
+
   pub trying_refused : (m' : Machine) (c : ℕ) (op : Op) (a : Answer) (r : Refusal) → Trying m c op a m' → a ≡ refused r → MayRefuseTry c op m.history r
   trying_refused m' c Fsync a r h is = fsyncing_refused m' (durability_of c m.history) c a r h is
-  trying_refused m' c Dsync a r h is = syncing_refused m' c Dsync a r h is
+  trying_refused m' c Dsync a r h is = dsyncing_refused m' (durability_of c m.history) c a r h is
   trying_refused m' c (Create p) a r h is = calling_refused m' c (Create p) a r h is
   trying_refused m' c (Mkdir p) a r h is = calling_refused m' c (Mkdir p) a r h is
   trying_refused m' c (Read p o n) a r h is = calling_refused m' c (Read p o n) a r h is

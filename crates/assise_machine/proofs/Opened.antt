@@ -12,8 +12,10 @@ use Rattle.assise_history.specs.Legal.{clients_opened, durability_of}
 use Rattle.assise_history.proofs.Counting.{opened_append}
 use Rattle.assise_machine_events.specs.ClientEvents as client
 use Rattle.assise_machine_events.specs.ClientEvents.{Calling, Crashing, Noting, Opening, Syncing}
+use Rattle.assise_machine_events.specs.Dsyncs as dsync
+use Rattle.assise_machine_events.specs.Dsyncs.{Coalescing}
 use Rattle.assise_machine_events.specs.Events.{Answer, ClusterEvent, open_client, try_call, try_fsync, outgoing, deliver, digest, release_ready, set_hot, crash, fail, back, refill, join, refused, opened, replied, not_yet, sent, received, digested, released, hot_set, crashed, failed, began, left, joined, entries_of}
-use Rattle.assise_machine_events.specs.Happenings.{Fsyncing, Happens, Trying}
+use Rattle.assise_machine_events.specs.Happenings.{Dsyncing, Fsyncing, Happens, Trying}
 use Rattle.assise_machine_events.specs.Machine.{Holds, Machine}
 use Rattle.assise_machine_events.specs.MemberEvents as member
 use Rattle.assise_machine_events.specs.NodeEvents as node
@@ -100,6 +102,16 @@ fsyncing_none : (m m' : Machine) (u : Durability) (d c : ℕ) → Fsyncing u m d
 fsyncing_none m m' Pessimistic d c s = syncing_none m m' d Fsync c s
 fsyncing_none m m' Optimistic d c s = noting_none m m' d c s
 
+coalescing_none : (m m' : Machine) (d c : ℕ) → Coalescing m d (opened c) m' → ⊥
+coalescing_none m m' d c (dsync.is_synced reply fine is e) = cc
+coalescing_none m m' d c (dsync.is_coalesced fine is e) = cc
+coalescing_none m m' d c (dsync.lacks_memory fine is same) = cc
+coalescing_none m m' d c (dsync.is_refused r fault is same) = cc
+
+dsyncing_none : (m m' : Machine) (u : Durability) (d c : ℕ) → Dsyncing u m d (opened c) m' → ⊥
+dsyncing_none m m' Pessimistic d c s = syncing_none m m' d Dsync c s
+dsyncing_none m m' Optimistic d c s = coalescing_none m m' d c s
+
 crashing_none : (m m' : Machine) (d c : ℕ) → Crashing m d (opened c) m' → ⊥
 crashing_none m m' d c (client.is_crashed fine is e) = cc
 crashing_none m m' d c (client.lacks_memory fine is same) = cc
@@ -117,7 +129,7 @@ trying_none m m' d (Rmdir p) c s = calling_none m m' d (Rmdir p) c s
 trying_none m m' d (ListCall p) c s = calling_none m m' d (ListCall p) c s
 trying_none m m' d (Stat p) c s = calling_none m m' d (Stat p) c s
 trying_none m m' d Fsync c s = fsyncing_none m m' (durability_of d m.history) d c s
-trying_none m m' d Dsync c s = syncing_none m m' d Dsync c s
+trying_none m m' d Dsync c s = dsyncing_none m m' (durability_of d m.history) d c s
 
 event_next : (m m' : Machine) (e : ClusterEvent) (c : ℕ) → Happens m e (opened c) m' → OpensNext m m' c
 event_next m m' (open_client n u) c s = opening_next m m' n u c s

@@ -1,5 +1,6 @@
 -- What happens at one node leaves what other full nodes have.
-use Rattle.std.proofs.Common.{◌≡◌, ◌≢◌, ℕ, zero, suc, ◌+◌, ◌-◌, drop, List, [], ◌∷◌, refl, ap, sym, subst, ◌∙◌, arith}
+use Rattle.std.proofs.Common.{inl, inr, ◌≡◌, ◌≢◌, ℕ, zero, suc, ◌+◌, ◌-◌, drop, List, [], ◌∷◌, refl, ap, sym, subst, ◌∙◌, arith}
+use Rattle.std.proofs.lemmas.Bool.{cases_eq}
 use Rattle.std.proofs.lemmas.List.{drop-drop}
 use Rattle.assise_names.specs.declared.call.Op.{Op}
 use Rattle.assise_names.specs.declared.call.Op.TheVariants.{Create, Mkdir, Read, Write, Truncate, Rename, Unlink, Rmdir, List as ListCall, Stat, Fsync, Dsync}
@@ -18,11 +19,13 @@ use Rattle.assise_machine_laws.proofs.Observing.{digested_by_all-below}
 use Rattle.assise_machine_leases.specs.Leases.{Leases}
 use Rattle.assise_machine_events.specs.ClientEvents as client
 use Rattle.assise_machine_events.specs.ClientEvents.{Calling, Crashing, Gets, Granted, IsTried, KeepsGranted, Noting, Opening, Syncing, call_of_client, last_world}
+use Rattle.assise_machine_events.specs.Dsyncs as dsync
+use Rattle.assise_machine_events.specs.Dsyncs.{Coalescing}
 use Rattle.assise_machine_events.specs.Events.{Answer}
-use Rattle.assise_machine_events.specs.Happenings.{Fsyncing, Trying}
+use Rattle.assise_machine_events.specs.Happenings.{Dsyncing, Fsyncing, Trying}
 use Rattle.assise_machine_events.specs.Machine.{Machine}
 use Rattle.assise_machine_events.specs.MemberEvents as member
-use Rattle.assise_machine_events.specs.MemberEvents.{Failing, Joining, Refilling, Returning}
+use Rattle.assise_machine_events.specs.MemberEvents.{Joining, Refilling, Returning}
 use Rattle.assise_machine_events.specs.NodeEvents as node
 use Rattle.assise_machine_events.specs.NodeEvents.{Delivering, Digesting, DigestsTo, Gone, LetsGo, Releasing, Sending, SettingHot, world_after}
 use Rattle.assise_machine_events.proofs.Granting.{clients_after, full_after, logs_after, nodes_after}
@@ -192,6 +195,22 @@ pub fsyncing_leaves : (m m' : Machine) (u : Durability) (c : ℕ) (a : Answer) �
 fsyncing_leaves m m' Pessimistic c a s j there = syncing_leaves m m' c Fsync a s j there
 fsyncing_leaves m m' Optimistic c a s j there = noting_leaves m m' c a s j there
 
+coalescing_leaves : (m m' : Machine) (c : ℕ) (a : Answer) → Coalescing m c a m' → (j : ℕ) → Full m.world j → LeavesElse m.world m'.world c j
+coalescing_leaves m m' c a (dsync.is_synced reply fine is e) j there = syncing_leaves m m' c Dsync a (client.is_synced reply fine is e) j there
+coalescing_leaves m m' c a (dsync.is_coalesced fine is e) j there = record {
+  area = λ i. e.regroups.area j i there;
+  ahead = λ other d. ahead_as m.world m'.world j d (e.regroups.digested j d there) (e.regroups.first d) (elim (cases_eq d c) [
+    | inl own ↦ subst (λ x. m'.world.log j x ≡ m.world.log j x) (sym own) (e.elsewhere j there other).log
+    | inr away ↦ e.regroups.log_else j d there away
+  ]);
+}
+coalescing_leaves m m' c a (dsync.lacks_memory fine is same) j there = leaves_else m.world m'.world c j (leaves_all m m' j same)
+coalescing_leaves m m' c a (dsync.is_refused r fault is same) j there = leaves_else m.world m'.world c j (leaves_all m m' j same)
+
+pub dsyncing_leaves : (m m' : Machine) (u : Durability) (c : ℕ) (a : Answer) → Dsyncing u m c a m' → (j : ℕ) → Full m.world j → LeavesElse m.world m'.world c j
+dsyncing_leaves m m' Pessimistic c a s j there = syncing_leaves m m' c Dsync a s j there
+dsyncing_leaves m m' Optimistic c a s j there = coalescing_leaves m m' c a s j there
+
 pub trying_leaves : (m m' : Machine) (c : ℕ) (op : Op) (a : Answer) → Trying m c op a m' → (j : ℕ) → Full m.world j → LeavesElse m.world m'.world c j
 trying_leaves m m' c (Create p) a s j there = calling_leaves m m' c (Create p) a s j there
 trying_leaves m m' c (Mkdir p) a s j there = calling_leaves m m' c (Mkdir p) a s j there
@@ -204,7 +223,7 @@ trying_leaves m m' c (Rmdir p) a s j there = calling_leaves m m' c (Rmdir p) a s
 trying_leaves m m' c (ListCall p) a s j there = calling_leaves m m' c (ListCall p) a s j there
 trying_leaves m m' c (Stat p) a s j there = calling_leaves m m' c (Stat p) a s j there
 trying_leaves m m' c Fsync a s j there = fsyncing_leaves m m' (durability_of c m.history) c a s j there
-trying_leaves m m' c Dsync a s j there = syncing_leaves m m' c Dsync a s j there
+trying_leaves m m' c Dsync a s j there = dsyncing_leaves m m' (durability_of c m.history) c a s j there
 
 -- ---- a frame comes in
 

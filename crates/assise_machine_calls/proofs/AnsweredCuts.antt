@@ -2,7 +2,7 @@
 use Rattle.std.proofs.Common.{◌≡◌, ℕ, true, not, ◌&&◌, Option, ap, sym, subst, ◌∙◌}
 use Rattle.std.proofs.lemmas.Bool.{and_parts, not-true, true≢false}
 use Rattle.assise_names.specs.declared.call.Op.{Op}
-use Rattle.assise_names.specs.declared.call.Op.TheVariants.{Fsync}
+use Rattle.assise_names.specs.declared.call.Op.TheVariants.{Dsync, Fsync}
 use Rattle.assise_names.specs.declared.durability.Durability.{Durability}
 use Rattle.assise_names.specs.declared.durability.Durability.TheVariants.{Pessimistic, Optimistic}
 use Rattle.assise_private_log.specs.NumberedLog.{NumberedLog}
@@ -11,8 +11,9 @@ use Rattle.assise_lease_table.specs.Tables.{SameRevokers}
 use Rattle.assise_lease_tree.specs.Levels.{is_frozen}
 use Rattle.assise_machine_leases.specs.Leases.{Leases, client_lease}
 use Rattle.assise_machine_events.specs.ClientEvents.{Syncing, is_noted, is_refused, is_replicating, is_synced, lacks_memory}
+use Rattle.assise_machine_events.specs.Dsyncs.{is_coalesced, is_refused, is_synced, lacks_memory}
 use Rattle.assise_machine_events.specs.Events.{Answer}
-use Rattle.assise_machine_events.specs.Happenings.{Fsyncing}
+use Rattle.assise_machine_events.specs.Happenings.{Dsyncing, Fsyncing}
 use Rattle.assise_machine_events.specs.Machine.{Machine}
 use Rattle.assise_machine_calls.specs.Asked.{CutsAreAnswers, clients_log}
 
@@ -33,6 +34,14 @@ fsync_leases m m' c Optimistic a (is_noted reply fine is e) = e.leases
 fsync_leases m m' c Optimistic a (lacks_memory fine is same) = ap (λ x. x.leases) same
 fsync_leases m m' c Optimistic a (is_refused r fault is same) = ap (λ x. x.leases) same
 
+-- so does a dsync
+dsync_leases : (m m' : Machine) (c : ℕ) (u : Durability) (a : Answer) → Dsyncing u m c a m' → m'.leases ≡ m.leases
+dsync_leases m m' c Pessimistic a e = sync_leases m m' c Dsync a e
+dsync_leases m m' c Optimistic a (is_synced reply fine is e) = e.leases
+dsync_leases m m' c Optimistic a (is_coalesced fine is e) = e.leases
+dsync_leases m m' c Optimistic a (lacks_memory fine is same) = ap (λ x. x.leases) same
+dsync_leases m m' c Optimistic a (is_refused r fault is same) = ap (λ x. x.leases) same
+
 module _ {C : Type 0} (answers : C → NumberedLog → ℕ → ℕ → Type 0) where
   -- nothing is frozen
   pub nothing_frozen : (stored : ℕ → Option C) (m m' : Machine) → KeepsFrozen m.leases m'.leases → CutsAreAnswers answers stored m m'
@@ -47,8 +56,8 @@ module _ {C : Type 0} (answers : C → NumberedLog → ℕ → ℕ → Type 0) w
       let found = cuts c i (subst (λ b. (not b && is_frozen (client_lease m'.leases c i)) ≡ true) (sym (same c i)) fresh) in
       (found.0, sym (stays c) ∙ found.1, subst (λ l. IsRaisedAnswer answers found.0 l i (m'.leases.cut c i)) (logs c) found.2)
 
-  pub sync_freezes_nothing : (stored : ℕ → Option C) (m m' : Machine) (c : ℕ) (op : Op) (a : Answer) → Syncing m c op a m' → CutsAreAnswers answers stored m m'
-  sync_freezes_nothing stored m m' c op a e = nothing_frozen stored m m' (λ d i. ap (λ l. is_frozen (client_lease l d i)) (sync_leases m m' c op a e))
+  pub dsync_freezes_nothing : (stored : ℕ → Option C) (m m' : Machine) (c : ℕ) (u : Durability) (a : Answer) → Dsyncing u m c a m' → CutsAreAnswers answers stored m m'
+  dsync_freezes_nothing stored m m' c u a e = nothing_frozen stored m m' (λ d i. ap (λ l. is_frozen (client_lease l d i)) (dsync_leases m m' c u a e))
 
   pub fsync_freezes_nothing : (stored : ℕ → Option C) (m m' : Machine) (c : ℕ) (u : Durability) (a : Answer) → Fsyncing u m c a m' → CutsAreAnswers answers stored m m'
   fsync_freezes_nothing stored m m' c u a e = nothing_frozen stored m m' (λ d i. ap (λ l. is_frozen (client_lease l d i)) (fsync_leases m m' c u a e))

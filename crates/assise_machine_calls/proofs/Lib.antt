@@ -2,6 +2,7 @@ pub mod OpenFaults
 pub mod Opened
 pub mod ClientFaults
 pub mod Syncing
+pub mod GroupedSyncs
 pub mod Crashed
 pub mod Committing
 pub mod Granted

@@ -126,7 +126,7 @@ abbrev after_sync : StateValue → ℕ → Op → StateValue
 after_sync s c op = after_note (after_goal s c (end (world_of s) c)) (call_of_client (world_of s) c op Done)
 
 -- a client at which nothing is wrong lives
-fine_lives : (s : StateValue) (c : ℕ) → client_fault (observed s) c ≡ None → (world_of s).lives c ≡ true
+pub fine_lives : (s : StateValue) (c : ℕ) → client_fault (observed s) c ≡ None → (world_of s).lives c ≡ true
 unfolding observed
 fine_lives s c fine = (client_runs (observed s) c fine).0
 

@@ -1,15 +1,16 @@
 // A client's syncs: an fsync, and a dsync.
-ghost use Rattle.std.specs.Prelude.{◌≡◌, None};
+ghost use Rattle.std.specs.Prelude.{◌≡◌, ◌<◌, None};
 ghost use Rattle.assise_history.specs.Legal.{durability_of};
 ghost use Rattle.assise_lease_table.specs.Tables.{SameRevokers};
 ghost use Rattle.assise_lease_tree.specs.Trees.{stored_by};
+ghost use Rattle.assise_machine_laws.specs.World.{end, received_by_all};
 ghost use Rattle.assise_machine_events.specs.ClientEvents.{Noting, Syncing};
+ghost use Rattle.assise_machine_events.specs.Dsyncs.{Coalescing};
 ghost use Rattle.assise_machine_events.specs.Faults.{client_fault};
-ghost use Rattle.assise_machine_events.specs.Happenings.{Fsyncing};
+ghost use Rattle.assise_machine_events.specs.Happenings.{Dsyncing, Fsyncing};
 ghost use Rattle.assise_machine_state.specs.Whole.{machine_of};
 ghost use Rattle.assise_machine_calls.specs.Answers.{turn_answer};
 ghost use Rattle.assise_machine_calls.specs.SyncCalls.{op_of};
-ghost use Rattle.assise_names.specs.declared.call.Op.TheVariants.{Dsync};
 ghost use Rattle.assise_names.specs.declared.durability.Durability.TheVariants.{Optimistic};
 
 use crate::faults::client_refusal;
@@ -43,10 +44,12 @@ pub fn try_fsync<C: Revokes + Drop>(sound: &mut SoundOf<C>, client: u32) -> Resu
 }
 
 /// Tries a client's dsync: all of its log is to be replicated, and it is answered once all full nodes have all of it, with one
-/// entry of the history. Refused as [`client_refusal`] says; with [`Refusal::OutOfMemory`] only where it would be answered, and
-/// then all stays as it was.
+/// entry of the history. Until then an optimistic client's coalesces what no other full node has and what wasn't to be replicated
+/// yet, in groups of 64 records. Refused as [`client_refusal`] says; with [`Refusal::OutOfMemory`] where an optimistic client's
+/// would coalesce or where it would be answered, and then all stays as it was.
 pub fn try_dsync<C: Revokes + Drop>(sound: &mut SoundOf<C>, client: u32) -> Result<Turn, Refusal>
-    ensures happens { Syncing (machine_of sound.old.state) client Dsync (turn_answer result)
+    ensures happens { Dsyncing (durability_of client (machine_of sound.old.state).history)
+        (machine_of sound.old.state) client (turn_answer result)
         (machine_of sound.new.state) }
     ensures revokers { SameRevokers (stored_by sound.old.state.leases)
         (stored_by sound.new.state.leases) }
@@ -54,7 +57,10 @@ pub fn try_dsync<C: Revokes + Drop>(sound: &mut SoundOf<C>, client: u32) -> Resu
     if let Some(refusal) = client_refusal(&sound.state, client) {
         return Err(refusal);
     }
-    sync(sound, client, SyncCall::Dsync)
+    match sound.state.clients.get(client).durability() {
+        Durability::Pessimistic => sync(sound, client, SyncCall::Dsync),
+        Durability::Optimistic => sync_groups(sound, client),
+    }
 }
 
 /// A call that may be a sync.
@@ -105,6 +111,42 @@ fn sync<C: Revokes + Drop>(
     state.clients.raise_goal(client, end);
     state.clients.note_call(client, false);
     Ok(Turn::Answered(Reply::Done))
+}
+
+/// Coalesces the last records of an optimistic client that may call, or answers its dsync once all full nodes have all of its
+/// log. The one refusal is [`Refusal::OutOfMemory`].
+fn sync_groups<C: Revokes + Drop>(sound: &mut SoundOf<C>, client: u32) -> Result<Turn, Refusal>
+    requires fine { client_fault (machine_of sound.old.state) client ≡ None }
+    ensures happens { Coalescing (machine_of sound.old.state) client (turn_answer result)
+        (machine_of sound.new.state) }
+    ensures revokers { SameRevokers (stored_by sound.old.state.leases)
+        (stored_by sound.new.state.leases) }
+{
+    let end = sound.state.own_region(client).log(client as usize).end();
+    if sound.state.acked(client) < end {
+        return coalesce(sound, client);
+    }
+    sync(sound, client, SyncCall::Dsync)
+}
+
+/// Coalesces, in groups, the records of a client that may call which no other full node has and which weren't to be replicated
+/// yet, and raises its goal to the end of its log. The one refusal is [`Refusal::OutOfMemory`].
+fn coalesce<C: Revokes + Drop>(sound: &mut SoundOf<C>, client: u32) -> Result<Turn, Refusal>
+    requires fine { client_fault (machine_of sound.old.state) client ≡ None }
+    requires lacking { received_by_all (machine_of sound.old.state).world client
+        < end (machine_of sound.old.state).world client }
+    ensures happens { Coalescing (machine_of sound.old.state) client (turn_answer result)
+        (machine_of sound.new.state) }
+    ensures revokers { SameRevokers (stored_by sound.old.state.leases)
+        (stored_by sound.new.state.leases) }
+{
+    let state = &mut sound.state;
+    let from = state.coalesced_from(client);
+    let home = state.clients.get(client).home();
+    state.nodes.coalesce(home, client, from)?;
+    let end = state.nodes.region(home).log(client as usize).end();
+    state.clients.raise_goal(client, end);
+    Ok(Turn::NotYet)
 }
 
 /// Answers an fsync of an optimistic client that may call. The one refusal is [`Refusal::OutOfMemory`].

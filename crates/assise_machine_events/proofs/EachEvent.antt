@@ -6,12 +6,13 @@ use Rattle.assise_names.specs.declared.durability.Durability.{Durability}
 use Rattle.assise_names.specs.declared.durability.Durability.TheVariants.{Pessimistic, Optimistic}
 use Rattle.assise_history.specs.Legal.{durability_of, is_sync}
 use Rattle.assise_machine_events.specs.Events.{Answer, ClusterEvent, open_client, try_call, try_fsync, outgoing, deliver, digest, release_ready, set_hot, crash, fail, back, refill, join, entries_of}
-use Rattle.assise_machine_events.specs.Happenings.{Fsyncing, Happens, Leads, Trying}
+use Rattle.assise_machine_events.specs.Happenings.{Dsyncing, Fsyncing, Happens, Leads, Trying}
 use Rattle.assise_machine_events.specs.Machine.{Machine, Holds}
 use Rattle.assise_machine_events.specs.NodeEvents.{Sending, SettingHot, is_sent, is_set, is_refused, lacks_memory}
 use Rattle.assise_machine_events.proofs.Calling.{calling_leads, calling_keeps}
 use Rattle.assise_machine_events.proofs.Crashing.{opening_leads, opening_keeps, crashing_leads, crashing_keeps}
 use Rattle.assise_machine_events.proofs.Digested.{digesting_leads, digesting_holds}
+use Rattle.assise_machine_events.proofs.Dsyncing.{coalesced_leads, coalesced_holds}
 use Rattle.assise_machine_events.proofs.Felled.{fail_leads, fail_holds}
 use Rattle.assise_machine_events.proofs.Leading.{same_leads, same_holds}
 use Rattle.assise_machine_events.proofs.Letting.{release_leads, release_holds}
@@ -68,6 +69,14 @@ fsyncing_holds : (m m' : Machine) (c : ℕ) (u : Durability) (a : Answer) → du
 fsyncing_holds m m' c Pessimistic a is h s = syncing_keeps m m' c Fsync Pessimistic a refl h s
 fsyncing_holds m m' c Optimistic a is h s = noting_keeps m m' c a (ap (is_sync Fsync) is) h s
 
+dsyncing_leads : (m m' : Machine) (c : ℕ) (u : Durability) (a : Answer) → Holds m → Dsyncing u m c a m' → Leads m m'
+dsyncing_leads m m' c Pessimistic a h s = syncing_leads m m' c Dsync Pessimistic a refl h s
+dsyncing_leads m m' c Optimistic a h s = coalesced_leads m m' c a h s
+
+dsyncing_holds : (m m' : Machine) (c : ℕ) (u : Durability) (a : Answer) → Holds m → Dsyncing u m c a m' → Holds m'
+dsyncing_holds m m' c Pessimistic a h s = syncing_keeps m m' c Dsync Pessimistic a refl h s
+dsyncing_holds m m' c Optimistic a h s = coalesced_holds m m' c a h s
+
 trying_leads : (m m' : Machine) (c : ℕ) (op : Op) (a : Answer) → Holds m → Trying m c op a m' → Leads m m'
 trying_leads m m' c (Create p) a h s = calling_leads m m' c (Create p) a h refl s
 trying_leads m m' c (Mkdir p) a h s = calling_leads m m' c (Mkdir p) a h refl s
@@ -80,7 +89,7 @@ trying_leads m m' c (Rmdir p) a h s = calling_leads m m' c (Rmdir p) a h refl s
 trying_leads m m' c (ListCall p) a h s = calling_leads m m' c (ListCall p) a h refl s
 trying_leads m m' c (Stat p) a h s = calling_leads m m' c (Stat p) a h refl s
 trying_leads m m' c Fsync a h s = fsyncing_leads m m' c (durability_of c m.history) a refl h s
-trying_leads m m' c Dsync a h s = syncing_leads m m' c Dsync Pessimistic a refl h s
+trying_leads m m' c Dsync a h s = dsyncing_leads m m' c (durability_of c m.history) a h s
 
 trying_holds : (m m' : Machine) (c : ℕ) (op : Op) (a : Answer) → Holds m → Trying m c op a m' → Holds m'
 trying_holds m m' c (Create p) a h s = calling_keeps m m' c (Create p) a h refl s
@@ -94,7 +103,7 @@ trying_holds m m' c (Rmdir p) a h s = calling_keeps m m' c (Rmdir p) a h refl s
 trying_holds m m' c (ListCall p) a h s = calling_keeps m m' c (ListCall p) a h refl s
 trying_holds m m' c (Stat p) a h s = calling_keeps m m' c (Stat p) a h refl s
 trying_holds m m' c Fsync a h s = fsyncing_holds m m' c (durability_of c m.history) a refl h s
-trying_holds m m' c Dsync a h s = syncing_keeps m m' c Dsync Pessimistic a refl h s
+trying_holds m m' c Dsync a h s = dsyncing_holds m m' c (durability_of c m.history) a h s
 
 -- ---- what each keeps
 

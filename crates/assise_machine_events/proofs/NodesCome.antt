@@ -1,7 +1,9 @@
 -- Each outcome of what nodes do comes: frames and digests.
 use Rattle.std.proofs.Common.{◌≡◌, ℕ, zero, suc, ◌+◌, ◌<◌, ◌≤◌, length, true, [], ◌∷◌, None, refl, ap, sym, ◌∙◌, subst, arith}
 use Rattle.assise_names.specs.declared.call.Op.TheVariants.{Dsync}
+use Rattle.assise_names.specs.declared.durability.Durability.TheVariants.{Pessimistic}
 use Rattle.assise_names.specs.declared.refusal.Refusal.TheVariants.{OutOfMemory, StaleMessage, WrongPhase}
+use Rattle.assise_history.specs.Legal.{durability_of}
 use Rattle.assise_record.specs.LogFrame.{LogFrame}
 use Rattle.assise_private_log.specs.Borders.{whole_count}
 use Rattle.assise_manager.specs.Changes.{all_full}
@@ -12,13 +14,14 @@ use Rattle.assise_machine_laws.proofs.Staying.{end-same}
 use Rattle.assise_machine_events.specs.ClientEvents.{Syncing, is_refused, is_replicating, is_synced, lacks_memory}
 use Rattle.assise_machine_events.specs.Events.{deliver, digested, hot_set, not_yet, received, refused, sent, try_call}
 use Rattle.assise_machine_events.specs.Faults.{IsTimely, client_fault, delivery_fault, node_fault, place_after}
+use Rattle.assise_machine_events.specs.Happenings.{Dsyncing}
 use Rattle.assise_machine_events.specs.Machine.{Holds, Machine}
 use Rattle.assise_machine_events.specs.MemberEvents.{is_refused, lacks_memory}
 use Rattle.assise_machine_events.specs.NodeEvents.{Delivering, Digesting, IsDelivered, Sending, SettingHot, frames_to, is_delivered, is_refused, is_sent, is_set, is_stale, lacks_memory, part_of, undigested, undigested_to}
 use Rattle.assise_machine_events.specs.Reached.{Comes, IsReached}
 use Rattle.assise_machine_events.proofs.Answerable.{replicating_can}
 use Rattle.assise_machine_events.proofs.Course.{reaches, start, start_holds, start_reached}
-use Rattle.assise_machine_events.proofs.Creating.{HasFile, file_record, has_file}
+use Rattle.assise_machine_events.proofs.Creating.{HasFile, file_record, has_file, has_file_as}
 use Rattle.assise_machine_events.proofs.Digestible.{digested_can}
 use Rattle.assise_machine_events.proofs.Doable.{delivered_can}
 use Rattle.assise_machine_events.proofs.EachEvent.{event_keeps}
@@ -196,14 +199,14 @@ pub record Awaits (m : Machine) : Type 0 where
   pub received_home : m.world.received 1 1 ≡ 1
   pub received_other : m.world.received 2 1 ≡ 0
 
-of_sync : (m m' : Machine) → HasFile 1 m → Syncing m 1 Dsync not_yet m' → Awaits m'
-of_sync m m' o (is_synced reply fine is e) = cc
-of_sync m m' o (lacks_memory fine all is same) = cc
-of_sync m m' o (is_refused r fault is same) = cc
-of_sync m m' o (is_replicating fine is e) =
+of_sync : (m m' : Machine) → HasFile 1 m → durability_of 1 m.history ≡ Pessimistic → Syncing m 1 Dsync not_yet m' → Awaits m'
+of_sync m m' o was (is_synced reply fine is e) = cc
+of_sync m m' o was (lacks_memory fine all is same) = cc
+of_sync m m' o was (is_refused r fault is same) = cc
+of_sync m m' o was (is_replicating fine is e) =
     let d = e.raises in
     record {
-      reached = reaches 1 m m' (try_call 1 Dsync) not_yet o.reached (is_replicating fine is e);
+      reached = reaches 1 m m' (try_call 1 Dsync) not_yet o.reached (subst (λ u. Dsyncing u m 1 not_yet m') (sym was) (is_replicating fine is e));
       members = e.keeps.members ∙ o.members;
       clients = d.clients.clients ∙ o.clients;
       home = d.clients.home 1 ∙ o.home;
@@ -216,13 +219,13 @@ of_sync m m' o (is_replicating fine is e) =
 
 pub awaits : (m : Machine) × Awaits m
 awaits =
-    let (m, o) = has_file 1 (omega arith) in
+    let (m, (o, was)) = has_file_as 1 Pessimistic (omega arith) in
     let fine : client_fault m 1 ≡ None = rw (o.clients, o.runs, o.lives) refl in
     let all : received_by_all m.world 1 ≤ m.world.received 2 1 = received_by_all-below m.world 2 1 (rw o.full refl) in
     let none : m.world.received 2 1 ≡ 0 = o.received_other in
     let one : end m.world 1 ≡ 1 = file_end m o in
     let (m', h) = replicating_can m 1 Dsync o.holds fine (omega (arith, all, none, one)) in
-    (m', of_sync m m' o h)
+    (m', of_sync m m' o was h)
 
 frames : (m : Machine) → Awaits m → frames_to m 1 m.world.clients ≡ (file_frame 1, 2) ∷ []
 unfolding whole_count

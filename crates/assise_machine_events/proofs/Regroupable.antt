@@ -7,7 +7,7 @@ use Rattle.assise_record.specs.LogRecord.{LogRecord}
 use Rattle.assise_record.proofs.Marking.{groups-all, groups-are}
 use Rattle.assise_record.proofs.WholeGroups.{whole_none}
 use Rattle.assise_inode_table.specs.Effects.{contains}
-use Rattle.assise_machine_laws.specs.Coalescing.{GetsAll}
+use Rattle.assise_machine_laws.specs.Coalescing.{GetsAll, HasNone}
 use Rattle.assise_machine_laws.specs.Regrouped.{Regroups}
 use Rattle.assise_machine_laws.specs.Sound.{IsSound}
 use Rattle.assise_machine_laws.specs.World.{World, Full, end, received_by_all, records_between}
@@ -121,6 +121,13 @@ module _ (w : World) (c : ℕ) (h : IsSound w) (lives : w.lives c ≡ true) (som
   else_here : (n d : ℕ) → d ≢ c → here n d ≡ false
   else_here n d other = and_left (d == c) (n == w.home c) (ne_eqb d c other)
 
+  elsewhere : (n : ℕ) → Full w n → n ≢ w.home c → HasNone w n c s u
+  elsewhere n f other = record {
+    before = coalesced_elsewhere w c h n f other;
+    received = cond-false (here n c) _ _ (and_right (c == c) (n == w.home c) (ne_eqb n (w.home c) other));
+    log = cond-false (here n c) _ _ (and_right (c == c) (n == w.home c) (ne_eqb n (w.home c) other));
+  }
+
   regroups : Regroups w c (coalesced_from w c) (new_groups w c) u
   regroups = record {
     lives = lives;
@@ -138,11 +145,7 @@ module _ (w : World) (c : ℕ) (h : IsSound w) (lives : w.lives c ≡ true) (som
     border_else = λ d k other. cond-false (d == c) _ _ (ne_eqb d c other);
     here = λ n f. elim (cases_eq n (w.home c)) [
       | inl is ↦ inr (subst (λ m. GetsAll m c u) (sym is) at_home)
-      | inr other ↦ inl (record {
-        before = coalesced_elsewhere w c h n f other;
-        received = cond-false (here n c) _ _ (and_right (c == c) (n == w.home c) (ne_eqb n (w.home c) other));
-        log = cond-false (here n c) _ _ (and_right (c == c) (n == w.home c) (ne_eqb n (w.home c) other));
-      })
+      | inr other ↦ inl (elsewhere n f other)
     ];
     at_home = at_home;
     received_else = λ n d f other. cond-false (here n d) _ _ (else_here n d other);
@@ -161,9 +164,9 @@ module _ (w : World) (c : ℕ) (h : IsSound w) (lives : w.lives c ≡ true) (som
     leases = record { holds = λ d i. refl; writes = λ d i. refl };
   }
 
-  -- areas stay, those of nodes that aren't full too
-  pub can_regroup : (v : World) × (Regroups w c (coalesced_from w c) (new_groups w c) v × ((n i : ℕ) → v.area n i ≡ w.area n i))
-  can_regroup = (u, (regroups, λ n i. refl))
+  -- areas stay, those of nodes that aren't full too, and no other full node gets a record
+  pub can_regroup : (v : World) × (Regroups w c (coalesced_from w c) (new_groups w c) v × (((n i : ℕ) → v.area n i ≡ w.area n i) × ((n : ℕ) → Full w n → n ≢ w.home c → HasNone w n c (coalesced_from w c) v)))
+  can_regroup = (u, (regroups, (λ n i. refl, elsewhere)))
 
 can_coalesce : (m : Machine) (c : ℕ) → Holds m → m.world.lives c ≡ true → received_by_all m.world c < end m.world c →
     AllHaveEffects (records_between m.world c (coalesced_from m.world c) (end m.world c)) → (m' : Machine) × IsCoalescing m c m'
@@ -173,9 +176,10 @@ can_coalesce m c h lives lacking some =
       record {
         lacking = lacking;
         regroups = t.0;
+        elsewhere = t.1.1;
         leases = refl;
         adds = record { history = sym (append-nil m.history); limit = refl };
-        keeps = record { members = refl; others = λ n i other. t.1 n i };
+        keeps = record { members = refl; others = λ n i other. t.1.0 n i };
       },
     )
 

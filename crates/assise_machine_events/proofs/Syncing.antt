@@ -24,7 +24,8 @@ use Rattle.assise_machine_history.proofs.Making.{sync_still}
 use Rattle.assise_machine_events.specs.ClientEvents.{Syncing, Noting, is_synced, is_replicating, is_noted, is_refused, lacks_memory, IsSynced, IsReplicating, IsNoted, goal_of_sync, call_of_client}
 use Rattle.assise_machine_events.specs.Events.{Answer, call_entry, refused}
 use Rattle.assise_machine_events.specs.Faults.{client_fault}
-use Rattle.assise_machine_events.specs.Happenings.{Fsyncing, Leads}
+use Rattle.assise_machine_events.specs.Dsyncs.{is_refused}
+use Rattle.assise_machine_events.specs.Happenings.{Dsyncing, Fsyncing, Leads}
 use Rattle.assise_machine_events.specs.Machine.{Machine, Holds, state_of}
 use Rattle.assise_machine_events.proofs.Answering.{call_happens, logs_answered}
 use Rattle.assise_machine_events.proofs.Leading.{leads_sound, leads_recorded, same_leads, same_holds, with_world, quietly, ends_as}
@@ -147,3 +148,7 @@ noting_keeps m m' c a never h (is_refused r fault is same) = same_holds m m' sam
 pub fsync_refused : (m : Machine) (c : ℕ) (u : Durability) (r : Refusal) (a : Answer) → client_fault m c ≡ Some r → a ≡ refused r → Fsyncing u m c a m
 fsync_refused m c Pessimistic r a fault is = is_refused r fault is refl
 fsync_refused m c Optimistic r a fault is = is_refused r fault is refl
+
+pub dsync_refused : (m : Machine) (c : ℕ) (u : Durability) (r : Refusal) (a : Answer) → client_fault m c ≡ Some r → a ≡ refused r → Dsyncing u m c a m
+dsync_refused m c Pessimistic r a fault is = is_refused r fault is refl
+dsync_refused m c Optimistic r a fault is = is_refused r fault is refl

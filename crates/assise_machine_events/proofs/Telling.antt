@@ -9,7 +9,7 @@ use Rattle.assise_record.specs.LogFrame.{LogFrame}
 use Rattle.assise_machine_events.specs.Events.{Answer, ClusterEvent, open_client, try_call, try_fsync, outgoing, deliver, digest, release_ready, set_hot, crash, fail, back, refill, join, entries_of, refused, opened, replied, not_yet, sent, received, digested, released, hot_set, crashed, failed, began, left, joined}
 use Rattle.assise_history.specs.Entries.{Event}
 use Rattle.assise_machine_events.specs.Dsyncs.{Coalescing, is_coalesced, is_refused, is_synced, lacks_memory}
-use Rattle.assise_machine_events.specs.Happenings.{Fsyncing, Trying}
+use Rattle.assise_machine_events.specs.Happenings.{Dsyncing, Fsyncing, Trying}
 use Rattle.assise_machine_events.specs.Machine.{Machine}
 use Rattle.assise_machine_events.specs.ClientEvents.{Opening, Calling, Syncing, Noting, Crashing, is_answered, is_awaited, is_crashed, is_full, is_noted, is_opened, is_refused, is_replicating, is_spent, is_synced, lacks_memory}
 use Rattle.assise_machine_events.specs.NodeEvents.{Sending, Delivering, Digesting, Releasing, SettingHot, is_delivered, is_digested, is_refused, is_released, is_sent, is_set, is_stale, lacks_memory}
@@ -125,6 +125,10 @@ call_told m m' c Optimistic a h = noting_told m m' c a h
 pub fsyncing_told : (m m' : Machine) (c : ℕ) (u : Durability) (a : Answer) → Fsyncing u m c a m' → m'.history ≡ m.history ++ entries_of m.history (try_fsync c) a
 fsyncing_told m m' c u a h = call_told m m' c u a h ∙ ap (λ es. m.history ++ es) (by_either_name m.history c a)
 
+dsyncing_told : (m m' : Machine) (c : ℕ) (u : Durability) (a : Answer) → Dsyncing u m c a m' → m'.history ≡ m.history ++ entries_of m.history (try_call c Dsync) a
+dsyncing_told m m' c Pessimistic a h = syncing_told m m' c Dsync a h
+dsyncing_told m m' c Optimistic a h = coalescing_told m m' c a h
+
 -- a call that a client tries: a sync is one
 pub trying_told : (m m' : Machine) (c : ℕ) (op : Op) (a : Answer) → Trying m c op a m' → m'.history ≡ m.history ++ entries_of m.history (try_call c op) a
 trying_told m m' c (Create p) a h = calling_told m m' c (Create p) a h
@@ -138,4 +142,4 @@ trying_told m m' c (Rmdir p) a h = calling_told m m' c (Rmdir p) a h
 trying_told m m' c (ListCall p) a h = calling_told m m' c (ListCall p) a h
 trying_told m m' c (Stat p) a h = calling_told m m' c (Stat p) a h
 trying_told m m' c Fsync a h = call_told m m' c (durability_of c m.history) a h
-trying_told m m' c Dsync a h = syncing_told m m' c Dsync a h
+trying_told m m' c Dsync a h = dsyncing_told m m' c (durability_of c m.history) a h

@@ -1,15 +1,16 @@
 -- A dsync of an optimistic client. While it is awaited, what only its home has and what wasn't to be replicated yet is cut into groups,
--- each group is coalesced, and all of the log is to be replicated. The machine doesn't make this event yet.
+-- each group is coalesced, and all of the log is to be replicated.
 -- Assise (OSDI 2020), section 3 (CC-NVM: in optimistic mode update logs are coalesced before they are replicated; dsync).
-use Rattle.std.specs.Prelude.{◌≡◌, ℕ, ◌<◌, ◌==◌, max, not, List, [], ◌∷◌, filter, Some, None}
+use Rattle.std.specs.Prelude.{◌≡◌, ◌≢◌, ℕ, ◌<◌, ◌==◌, max, not, List, [], ◌∷◌, filter, Some, None}
 use Rattle.assise_names.specs.declared.call.Op.TheVariants.{Dsync}
 use Rattle.assise_names.specs.declared.refusal.Refusal.{Refusal}
 use Rattle.assise_names.specs.declared.refusal.Refusal.TheVariants.{OutOfMemory}
 use Rattle.assise_names.specs.declared.reply.Reply.{Reply}
 use Rattle.assise_record.specs.Groups.{groups_of}
 use Rattle.assise_record.specs.LogRecord.{LogRecord}
+use Rattle.assise_machine_laws.specs.Coalescing.{HasNone}
 use Rattle.assise_machine_laws.specs.Regrouped.{Regroups}
-use Rattle.assise_machine_laws.specs.World.{World, end, received_by_all, records_between}
+use Rattle.assise_machine_laws.specs.World.{World, Full, end, received_by_all, records_between}
 use Rattle.assise_machine_events.specs.ClientEvents.{IsSynced, KeepsMembers, call_of_client}
 use Rattle.assise_machine_events.specs.Events.{Answer, refused, replied, not_yet}
 use Rattle.assise_machine_events.specs.Faults.{client_fault}
@@ -40,6 +41,7 @@ new_groups w c = groups_of (end w c) (records_between w c (coalesced_from w c) (
 pub record IsCoalescing (m : Machine) (c : ℕ) (m' : Machine) : Type 0 where
   pub lacking : received_by_all m.world c < end m.world c
   pub regroups : Regroups m.world c (coalesced_from m.world c) (new_groups m.world c) m'.world
+  pub elsewhere : (n : ℕ) → Full m.world n → n ≢ m.world.home c → HasNone m.world n c (coalesced_from m.world c) m'.world
   pub leases : m'.leases ≡ m.leases
   pub adds : Adds m [] m'
   pub keeps : KeepsMembers m m'

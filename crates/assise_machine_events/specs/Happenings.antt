@@ -4,6 +4,7 @@ use Rattle.std.specs.Prelude.{◌≡◌, ℕ, List, [], ◌∷◌}
 use Rattle.assise_machine_history.specs.Courses.{IsCourse, last_of}
 use Rattle.assise_machine_history.specs.State.{State}
 use Rattle.assise_machine_events.specs.ClientEvents.{Opening, Calling, Syncing, Noting, Crashing}
+use Rattle.assise_machine_events.specs.Dsyncs.{Coalescing}
 use Rattle.assise_machine_events.specs.Events.{ClusterEvent, open_client, try_call, try_fsync, outgoing, deliver, digest, release_ready, set_hot, crash, fail, back, refill, join, Answer}
 use Rattle.assise_machine_events.specs.Machine.{Machine, state_of}
 use Rattle.assise_machine_events.specs.MemberEvents.{Failing, Returning, Refilling, Joining}
@@ -19,10 +20,15 @@ abbrev pub Fsyncing : Durability → Machine → ℕ → Answer → Machine → 
 Fsyncing Pessimistic m c a m' = Syncing m c Fsync a m'
 Fsyncing Optimistic m c a m' = Noting m c a m'
 
+-- a dsync waits; while an optimistic client's waits, what it sends becomes groups
+abbrev pub Dsyncing : Durability → Machine → ℕ → Answer → Machine → Type 0
+Dsyncing Pessimistic m c a m' = Syncing m c Dsync a m'
+Dsyncing Optimistic m c a m' = Coalescing m c a m'
+
 -- a call that a client tries: a sync is one
 abbrev pub Trying : Machine → ℕ → Op → Answer → Machine → Type 0
 Trying m c Fsync a m' = Fsyncing (durability_of c m.history) m c a m'
-Trying m c Dsync a m' = Syncing m c Dsync a m'
+Trying m c Dsync a m' = Dsyncing (durability_of c m.history) m c a m'
 Trying m c (Create p) a m' = Calling m c (Create p) a m'
 Trying m c (Mkdir p) a m' = Calling m c (Mkdir p) a m'
 Trying m c (Read p offset n) a m' = Calling m c (Read p offset n) a m'

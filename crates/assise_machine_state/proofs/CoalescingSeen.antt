@@ -272,7 +272,7 @@ module _ (s : StateValue) (c from : ℕ) where
           log = (raised.nodes.same home (still_full home f)).log c ∙ ap (λ x. x.log.records) (sym own_after) ∙ sym (raised.logs.records c);
         }
 
-        has_none : (n : ℕ) → Full w n → n ≢ home → HasNone w n c from w'
+        pub has_none : (n : ℕ) → Full w n → n ≢ home → HasNone w n c from w'
         unfolding world_of
         has_none n f away = record {
           before = past n f away;
@@ -359,6 +359,9 @@ module _ (s : StateValue) (c : ℕ) (shape : IsShaped s) (sound : ∥ IsSound (w
   others_end : (n : ℕ) → is_full_in (standings s) n ≡ true → n ≢ (client_seen s.clients c).home → log_end (log_seen s.nodes n c).log ≤ start
   others_end n full away = (let known = others_low n (seen_full s n full) (away_from s c n away) in omega (arith, known, received_is s n c))
 
+  pub regrouped_shape : IsShaped (after_regrouping s c start)
+  regrouped_shape = regrouped_shaped s c start shape lives law within others_end
+
   pub coalesced_shape : IsShaped (after_coalescing s c start)
   coalesced_shape = coalescing_shaped s c start shape lives law within others_end
 
@@ -366,3 +369,9 @@ module _ (s : StateValue) (c : ℕ) (shape : IsShaped s) (sound : ∥ IsSound (w
   coalesced_groups some =
       let first : (own_seen s c).log.first ≤ start = omega (arith, start_first, first_is s c) in
       regroups s c start shape lives law within others_end first some start_low goal_low start_border others_low
+
+  pub coalesced_none : AllHaveEffects (records_from (own_seen s c).log start) → (n : ℕ) → Full (world_of s) n → n ≢ (world_of s).home c → HasNone (world_of s) n c start (world_of (after_coalescing s c start))
+  unfolding world_of
+  coalesced_none some n full away =
+      let first : (own_seen s c).log.first ≤ start = omega (arith, start_first, first_is s c) in
+      has_none s c start shape lives law within others_end first some start_low goal_low start_border others_low n full away

@@ -99,6 +99,17 @@ pub(crate) fn digest(nodes: &mut Nodes, node: u32, count: usize) -> Option<()> {
     if digested == count { Some(()) } else { None }
 }
 
+/// A node's records of its only client from a number on become groups.
+pub(crate) fn coalesce(nodes: &mut Nodes, node: u32, from: u64) -> Option<()> {
+    if !has_log(nodes, node, 1) || nodes.region(node).digested(1) > from {
+        return None;
+    }
+    if nodes.region(node).log(1).end() < from {
+        return None;
+    }
+    nodes.coalesce(node, 1, from).ok()
+}
+
 /// All full nodes begin a log of the next client.
 pub(crate) fn begin_logs(
     alloc: Global,

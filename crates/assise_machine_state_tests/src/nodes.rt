@@ -22,7 +22,8 @@ const INODES: &str = "\
 ";
 
 /// Each full node begins a log of a client, one of them as its home, and what isn't full begins none. Records come in at one node,
-/// behind the last, but for so many at the front; a node without logs gets its donor's, with what the donor digested passed over.
+/// behind the last, but for so many at the front; a node without logs gets its donor's, with what the donor digested passed over. Records
+/// from one on become a group, without what a later one makes up for.
 const LOGS: &str = "\
 3, begin 2, logs 1, begin 3, logs 1, logs 2, inode 0 => 0..0..0 away; 0..0..0 home; 0..0..0 away; 0..0..0 away; 0..0..0 home; 0..0..0 away; 0..0..0 away; 0..0..0 away; 0..0..0 home; dir 0; dir 0; dir 0;
 3, fail 2, begin 1, logs 1, logs 2, inode 0 => 0..0..0 home; none; 0..0..0 away; none; none; none; dir 0; dir 0; dir 0;
@@ -34,6 +35,7 @@ const LOGS: &str = "\
 3, begin 1, extend 3 4, logs 1 => 0..0..0 home; 0..0..0 away; 0..0..0 away;
 3, fail 2, begin 1, append 1 1 10 3, digest 1 2, begin 3, append 1 2 20 1, copy 2 1, logs 1, logs 2, inode 10, inode 0 => 0..2..3 home; 0..2..3 away; 0..0..0 away; 0..0..1 away; 0..0..1 away; 0..0..0 home; file 0; none; none; dir 0; dir 0; dir 0;
 3, fail 2, begin 1, append 1 1 10 3, digest 1 1, copy 2 1, digest 2 2, inode 10, inode 11, inode 12, logs 1 => file 0; none; none; none; file 0; none; none; file 0; none; 0..1..3 home; 0..3..3 away; 0..0..0 away;
+3, begin 1, append 1 1 10 1, append 1 1 10 1, append 1 1 11 1, coalesce 1 1, logs 1, coalesce 1 0, logs 1, digest 1 2, inode 10, inode 11 => 0..0..3 home; 0..0..0 away; 0..0..0 away; 0..0..2 home; 0..0..0 away; 0..0..0 away; file 0; none; none; file 0; none; none;
 ";
 
 #[test]

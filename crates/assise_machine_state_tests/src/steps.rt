@@ -1,6 +1,7 @@
 // Nodes with the logs of clients, step by step.
 use crate::cluster::{
-    append, begin_logs, copy_logs, digest, extend, fail, refill, remove_logs, stale, touch,
+    append, begin_logs, coalesce, copy_logs, digest, extend, fail, refill, remove_logs, stale,
+    touch,
 };
 use crate::seen::{found, logs_of};
 use assise_machine_state::nodes::Nodes;
@@ -75,6 +76,7 @@ fn change(alloc: Global, nodes: &mut Nodes, word: &str, node: u32, rest: &str) -
     match word {
         "append" => append(alloc, nodes, node, number, rest),
         "extend" => extend(alloc, nodes, node, 1, number as usize),
+        "coalesce" => coalesce(nodes, node, number),
         "digest" => digest(nodes, node, number as usize),
         "copy" => copy_logs(alloc, nodes, node, u32::try_from(number).ok()?),
         "stale" => stale(nodes, node, number),

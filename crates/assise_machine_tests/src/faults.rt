@@ -56,7 +56,8 @@ fn settle(alloc: Global, desk: &mut Desk) -> Option<()> {
         desk.bring_back(alloc, node)?;
     }
     for client in 1..17 {
-        desk.make_of(alloc, "fsync", client)?;
+        let sync = format!(in alloc; "{client} dsync").ok()?;
+        desk.make(alloc, sync.as_str())?;
     }
     for _ in 0..4 {
         desk.make_round(alloc)?;

@@ -2,6 +2,8 @@
 #![tactic(auto)]
 
 #[cfg(test)]
+mod coalescing;
+#[cfg(test)]
 mod desk;
 #[cfg(test)]
 mod dice;

@@ -27,6 +27,8 @@ C read P N N
 C read P N N
 C read P N N
 C read P N N
+C read P N N
+C read P N N
 C write P N tab
 C write P N tab
 C write P N tcdef
@@ -39,6 +41,8 @@ C truncate P N
 C rename P P
 C rename P P
 C fsync
+C dsync
+C dsync
 C unlink P
 C rmdir P
 C list P
@@ -76,7 +80,8 @@ keep N hot at S
 send S
 open S
 open S
-open S
+open S least optimistic
+open S whole optimistic
 fsync C
 fsync C
 fsync C
@@ -244,7 +249,7 @@ fn strike(missing: &mut Vec<&str>, outcome: &str) {
     missing.retain(|kind| !outcome.contains(*kind));
 }
 
-/// Lists of steps by chance.
+/// Lists of steps by chance, of pessimistic and optimistic clients.
 #[derive(Clone, Copy)]
 pub(crate) struct Lists {
     /// Where chance begins.

@@ -214,6 +214,22 @@ capacity at 1 => 2
 tree at 1 => / names 1 f; /f bytes 0 x
 ";
 
+/// An optimistic client's dsync makes a group, which is sent and digested.
+const COALESCED: &str = "\
+cluster 2 8 => begun
+open 1 least optimistic => client 1
+1 create /f => done
+1 write /f 0 ta => done
+1 write /f 0 tb => done
+1 dsync => not yet
+send 1 => 1 for 2: client 1, 0..2
+deliver 1 at 2 => received 2
+1 dsync => done
+digest 1 => digested 2
+digest 2 => digested 2
+tree at 2 => / names 1 f; /f bytes 1 x62
+";
+
 /// The last revoker of the stock is taken, once.
 const TAKEN: &str = "\
 cluster 2 8 => begun
@@ -232,7 +248,7 @@ fn what_is_refused_is_made_again(rt: HostRuntime) {
     let ended = on_desk(
         rt.alloc(),
         &rt,
-        Task::Again(&[CARRIED, BOTH, FAILED, COOLED, TAKEN]),
+        Task::Again(&[CARRIED, BOTH, FAILED, COOLED, COALESCED, TAKEN]),
     );
     assert!(rt; matches!(ended, Ok(()) | Err(Refusal::OutOfMemory)));
 }

@@ -37,6 +37,8 @@ pub struct Crowd {
     pub every: u32,
     /// Whether all use one file, and move it away and back before they sync.
     pub shared: bool,
+    /// How they are opened.
+    pub durability: Durability,
 }
 
 /// What a client does behind a pair: lines of calls.
@@ -44,7 +46,7 @@ fn put_sync(text: &mut String, client: u32, shared: bool) -> Option<()> {
     if shared {
         write!(text, "1 rename /s /r{client}\n1 rename /r{client} /s\n").ok()?;
     }
-    text.push_str("1 fsync\n").ok()
+    text.push_str("1 dsync\n").ok()
 }
 
 /// A write and a read of a client: lines of calls.
@@ -95,7 +97,7 @@ fn list_of<'a, R: Wait>(
         pass,
         node,
         revoker,
-        Durability::Pessimistic,
+        crowd.durability,
         TURNS,
     )
     .ok()?;

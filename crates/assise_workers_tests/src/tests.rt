@@ -3,12 +3,14 @@
 use crate::crowds::{Crowd, run_crowd};
 use crate::gates::{AllAtOnce, UntilAnswered};
 use crate::held_frames::{stat_beside_fsync, two_syncs};
+use assise_names::durability::Durability;
 use assise_names::reply::Reply;
 use std::sync::atomic::Ordering;
 use std::test::Fail;
 
-/// Four clients on two nodes, each with a file of its own; and eight on four nodes, which share one and move it to and fro.
-const CROWDS: [(Crowd, &str); 2] = [
+/// Four clients on two nodes, each with a file of its own; eight on four nodes, which share one and move it to and fro; and four
+/// optimistic ones on two nodes, which share one.
+const CROWDS: [(Crowd, &str); 3] = [
     (
         Crowd {
             nodes: 2,
@@ -16,6 +18,7 @@ const CROWDS: [(Crowd, &str); 2] = [
             pairs: 25,
             every: 5,
             shared: false,
+            durability: Durability::Pessimistic,
         },
         "228 answered",
     ),
@@ -26,8 +29,20 @@ const CROWDS: [(Crowd, &str); 2] = [
             pairs: 25,
             every: 5,
             shared: true,
+            durability: Durability::Pessimistic,
         },
         "536 answered",
+    ),
+    (
+        Crowd {
+            nodes: 2,
+            clients: 4,
+            pairs: 25,
+            every: 5,
+            shared: true,
+            durability: Durability::Optimistic,
+        },
+        "268 answered",
     ),
 ];
 
@@ -47,6 +62,7 @@ const FEW: Crowd = Crowd {
     pairs: 1,
     every: 1,
     shared: true,
+    durability: Durability::Pessimistic,
 };
 
 #[test]

@@ -1,11 +1,10 @@
 // Clients that make calls.
 use crate::least::Least;
-use crate::rounds::exchange::{Cluster, round};
-use crate::rounds::made::{directory, file};
+use crate::rounds::exchange::{Cluster, Traffic, round};
+use crate::rounds::made::files_of;
 use crate::rounds::setting::{Parts, Setting};
 use assise_machine::turn::Turn;
 use assise_names::call::Op;
-use assise_names::durability::Durability;
 use assise_names::reply::Reply;
 use std::alloc::Global;
 
@@ -24,14 +23,12 @@ pub(crate) fn cluster_of(alloc: Global, nodes: u32) -> Option<Cluster> {
 pub(crate) fn open_all(alloc: Global, cluster: &mut Cluster, setting: Setting) -> Option<()> {
     for number in 0..setting.clients {
         let node = 1 + number.checked_rem(setting.nodes)?;
-        cluster
-            .open(alloc, node, Least, Durability::Pessimistic)
-            .ok()?;
+        cluster.open(alloc, node, Least, setting.mode).ok()?;
     }
     Some(())
 }
 
-/// Each client makes its directory and its file, and gets the leases that its calls need. Then all is digested.
+/// Each client makes its directory and its files, and its calls once, with the leases that these need. Then all is digested.
 pub(crate) fn begin(
     alloc: Global,
     cluster: &mut Cluster,
@@ -40,15 +37,17 @@ pub(crate) fn begin(
 ) -> Option<()> {
     for number in 0..setting.clients {
         let client = number.saturating_add(1);
-        reach(alloc, cluster, setting, client, &directory(alloc, number)?)?;
-        reach(alloc, cluster, setting, client, &file(alloc, number)?)?;
+        for call in files_of(alloc, setting.kind, number)?.iter() {
+            reach(alloc, cluster, setting, client, call)?;
+        }
     }
     let mut client = 0u32;
     for own in calls {
         client = client.saturating_add(1);
-        reach(alloc, cluster, setting, client, own.first()?)?;
-        reach(alloc, cluster, setting, client, own.get(1)?)?;
-        cluster.try_fsync(client).ok()?;
+        for call in own.iter() {
+            reach(alloc, cluster, setting, client, call)?;
+        }
+        cluster.try_call(alloc, client, &Op::Dsync).ok()?;
     }
     for _ in 0..MOST_TRIES {
         round(alloc, cluster, setting.nodes, Parts::Whole)?;
@@ -73,22 +72,21 @@ fn reach(
     None
 }
 
-/// All clients make calls and sync, and a round follows, so many times: how many calls were made, and how many records digested.
+/// All clients make calls and sync, and a round follows, so many times: how many calls were made, and what was sent and digested.
 pub(crate) fn turns(
     alloc: Global,
     cluster: &mut Cluster,
     setting: Setting,
     calls: &[Vec<Op>],
-) -> Option<(u64, u64)> {
-    let (mut made, mut digested) = (0u64, 0u64);
+) -> Option<(u64, Traffic)> {
+    let (mut made, mut traffic) = (0u64, Traffic::default());
     for turn in 0..setting.turns {
         let first = turn.saturating_mul(setting.records);
         let count = make_all(alloc, cluster, calls, first, setting.records)?;
         made = made.saturating_add(count);
-        let count = round(alloc, cluster, setting.nodes, setting.parts)?;
-        digested = digested.saturating_add(count);
+        traffic = traffic.and(round(alloc, cluster, setting.nodes, setting.parts)?);
     }
-    Some((made, digested))
+    Some((made, traffic))
 }
 
 /// Each client makes so many of its calls, from a number on, and syncs.
@@ -107,7 +105,7 @@ fn make_all(
             make(alloc, cluster, client, own.as_slice(), number)?;
             made = made.saturating_add(1);
         }
-        cluster.try_fsync(client).ok()?;
+        cluster.try_call(alloc, client, &Op::Dsync).ok()?;
     }
     Some(made)
 }

@@ -1,5 +1,6 @@
 // What the words of the command line say.
 use crate::numbers::numbers_of;
+use assise_names::durability::Durability;
 use std::alloc::Global;
 
 /// The parts of a round that are made, each with those before it.
@@ -22,6 +23,10 @@ pub(crate) enum Kind {
     Write,
     /// A new file in a directory, and its unlink, in turn.
     Create,
+    /// A write of a page into a database.
+    Pages,
+    /// A call of a mail store.
+    Mail,
 }
 
 /// What is measured, and over what.
@@ -31,6 +36,8 @@ pub(crate) struct Setting {
     pub(crate) parts: Parts,
     /// The call.
     pub(crate) kind: Kind,
+    /// How clients are opened.
+    pub(crate) mode: Durability,
     /// How many nodes there are.
     pub(crate) nodes: u32,
     /// How many clients there are.
@@ -43,10 +50,11 @@ pub(crate) struct Setting {
 
 /// What the words say.
 pub(crate) fn setting_of(alloc: Global, words: &[String]) -> Option<Setting> {
-    let [parts, kind, rest @ ..] = words else {
+    let [parts, kind, mode, rest @ ..] = words else {
         return None;
     };
     let (parts, kind) = (parts_of(parts.as_str())?, kind_of(kind.as_str())?);
+    let mode = mode_of(mode.as_str())?;
     let numbers = numbers_of(alloc, rest)?;
     let [nodes, clients, records, turns] = numbers.as_slice() else {
         return None;
@@ -54,6 +62,7 @@ pub(crate) fn setting_of(alloc: Global, words: &[String]) -> Option<Setting> {
     Some(Setting {
         parts,
         kind,
+        mode,
         nodes: (*nodes).min(8) as u32,
         clients: (*clients).min(16) as u32,
         records: *records,
@@ -75,6 +84,16 @@ fn kind_of(text: &str) -> Option<Kind> {
     match text {
         "write" => Some(Kind::Write),
         "create" => Some(Kind::Create),
+        "pages" => Some(Kind::Pages),
+        "mail" => Some(Kind::Mail),
+        _ => None,
+    }
+}
+
+fn mode_of(text: &str) -> Option<Durability> {
+    match text {
+        "pessimistic" => Some(Durability::Pessimistic),
+        "optimistic" => Some(Durability::Optimistic),
         _ => None,
     }
 }

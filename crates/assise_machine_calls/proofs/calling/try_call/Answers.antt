@@ -1,6 +1,5 @@
 use Rattle.std.proofs.Common.{Err, refl, sym, subst, ◌∙◌}
 use Rattle.std.proofs.Math.Logic.{∥∥₁_map}
-use Rattle.assise_names.specs.declared.call.Op.TheVariants.{Dsync}
 use Rattle.assise_history.specs.Legal.{durability_of}
 use Rattle.assise_lease_tree.specs.Trees.{stored_by}
 use Rattle.assise_machine_events.specs.ClientEvents.{is_refused}
@@ -8,7 +7,7 @@ use Rattle.assise_machine_events.specs.Happenings.{Trying}
 use Rattle.assise_machine_events.proofs.Calling.{calling_keeps}
 use Rattle.assise_machine_state.specs.Whole.{machine_of}
 use Rattle.assise_machine_calls.specs.Answers.{turn_answer}
-use Rattle.assise_machine_calls.proofs.AnsweredCuts.{fsync_freezes_nothing, nothing_frozen, sync_freezes_nothing}
+use Rattle.assise_machine_calls.proofs.AnsweredCuts.{dsync_freezes_nothing, fsync_freezes_nothing, nothing_frozen}
 use Rattle.assise_machine_calls.proofs.Trying.{is_tried, no_sync}
 use Rattle.assise_machine_calls.proofs.calling.try_call.Goals as goal
 
@@ -27,7 +26,8 @@ returns-in-Dsync-clause-happens g c =
 
 pub returns-in-Dsync-clause-cuts : goal.returns-in-Dsync-clause-cuts
 returns-in-Dsync-clause-cuts g c =
-    sync_freezes_nothing g.C.Revokes.answers (stored_by c.args.sound.now.state.leases) (machine_of c.args.sound.now.state) (machine_of c.try_dsync.new.sound.state) c.args.client Dsync (turn_answer c.try_dsync.result) c.try_dsync.ensures.happens
+    let m = machine_of c.args.sound.now.state in
+    dsync_freezes_nothing g.C.Revokes.answers (stored_by c.args.sound.now.state.leases) m (machine_of c.try_dsync.new.sound.state) c.args.client (durability_of c.args.client m.history) (turn_answer c.try_dsync.result) c.try_dsync.ensures.happens
 
 pub returns-in-Some : goal.returns-in-Some
 returns-in-Some g c =
