@@ -41,12 +41,16 @@ pub struct Crowd {
     pub durability: Durability,
 }
 
-/// What a client does behind a pair: lines of calls.
-fn put_sync(text: &mut String, client: u32, shared: bool) -> Option<()> {
-    if shared {
+/// What a client does behind a pair: lines of calls, the last of which is a sync.
+fn put_sync(text: &mut String, client: u32, crowd: &Crowd) -> Option<()> {
+    if crowd.shared {
         write!(text, "1 rename /s /r{client}\n1 rename /r{client} /s\n").ok()?;
     }
-    text.push_str("1 dsync\n").ok()
+    let sync = match crowd.durability {
+        Durability::Pessimistic => "1 fsync\n",
+        Durability::Optimistic => "1 dsync\n",
+    };
+    text.push_str(sync).ok()
 }
 
 /// A write and a read of a client: lines of calls.
@@ -68,7 +72,7 @@ fn script_of(alloc: Global, crowd: &Crowd, client: u32) -> Option<String> {
     for pair in 1..=crowd.pairs {
         put_pair(&mut text, client, pair, crowd.shared)?;
         if pair % crowd.every.max(1) == 0 {
-            put_sync(&mut text, client, crowd.shared)?;
+            put_sync(&mut text, client, crowd)?;
         }
     }
     Some(text)
