@@ -1,5 +1,5 @@
 -- What each step leaves true of all logs and of what was sent, and what lists of steps do.
-use Rattle.std.proofs.Common.{◌≡◌, ◌≢◌, ℕ, List, [], ◌∷◌, ap, sym, ◌∙◌, subst, inl, inr}
+use Rattle.std.proofs.Common.{◌≡◌, ◌≢◌, ℕ, Bool, List, length, [], ◌∷◌, ap, sym, ◌∙◌, subst, inl, inr}
 use mathlib.Core.Logic.{dite}
 use native.Mathlib.Decide.{ℕ_discrete}
 use Rattle.assise_record.specs.LogRecord.{LogRecord}
@@ -7,7 +7,7 @@ use Rattle.assise_record.specs.LogFrame.{LogFrame}
 use Rattle.assise_private_log.specs.NumberedLog.{NumberedLog, end, with_record, without_front}
 use Rattle.assise_chain.specs.Acceptance.{IsTimely, accepted}
 use Rattle.assise_chain.specs.Lists.{IsOneOf}
-use Rattle.assise_chain.specs.Messages.{first_sent, frame_of, message_of, sent}
+use Rattle.assise_chain.specs.Messages.{first_sent, frame_of, last_marks, message_of, sent}
 use Rattle.assise_chain.specs.Passing.{AllDo, AllLetGo, AllReach, Becomes, Does, IsBegun, IsFrontOf, Nodes, SameLogs, Step, with_message}
 use Rattle.assise_chain.specs.Passing.Step.{append, send, deliver, let_go}
 use Rattle.assise_chain.proofs.Parts.{IsPart, front_part, part_accepted, part_behind, part_front, part_longer, part_sent, part_shorter, whole_part}
@@ -55,23 +55,23 @@ module _ (full : List ℕ) (head epoch : ℕ) where
       }
 
   -- a message is among what was sent
-  message_agrees : (whole : NumberedLog) (e client first : ℕ) (rs : List LogRecord) (before : List LogFrame) (f : LogFrame) → IsPart first rs whole
+  message_agrees : (whole : NumberedLog) (marked : Bool) (e client first : ℕ) (rs : List LogRecord) (last : List Bool) (before : List LogFrame) (f : LogFrame) → IsPart first rs whole
       → (IsOneOf before f → f.epoch ≡ epoch → IsPart f.first f.records whole)
-      → IsOneOf (with_message (frame_of e client first rs) before) f → f.epoch ≡ epoch → IsPart f.first f.records whole
-  message_agrees whole e client first [] before f part rest a this = rest a this
-  message_agrees whole e client first (r ∷ rs) before f part rest (inl is) this = subst (λ (g : LogFrame). IsPart g.first g.records whole) is part
-  message_agrees whole e client first (r ∷ rs) before f part rest (inr a) this = rest a this
+      → IsOneOf (with_message (frame_of marked e client first rs last) before) f → f.epoch ≡ epoch → IsPart f.first f.records whole
+  message_agrees whole marked e client first [] last before f part rest a this = rest a this
+  message_agrees whole marked e client first (r ∷ rs) last before f part rest (inl is) this = subst (λ (g : LogFrame). IsPart g.first g.records whole) is part
+  message_agrees whole marked e client first (r ∷ rs) last before f part rest (inr a) this = rest a this
 
-  send_agree : (old new : Nodes) (client node from to : ℕ) → AllAgree old → IsOneOf full node → SameLogs old.logs new.logs
-      → new.sent ≡ with_message (message_of (old.logs node) epoch client from to) old.sent → AllAgree new
-  send_agree old new client node from to agree is same is_sent =
-      let between : Nodes = record { logs = old.logs; sent = with_message (message_of (old.logs node) epoch client from to) old.sent } in
+  send_agree : (old new : Nodes) (marked : Bool) (client node from to : ℕ) → AllAgree old → IsOneOf full node → SameLogs old.logs new.logs
+      → new.sent ≡ with_message (message_of (old.logs node) marked epoch client from to) old.sent → AllAgree new
+  send_agree old new marked client node from to agree is same is_sent =
+      let between : Nodes = record { logs = old.logs; sent = with_message (message_of (old.logs node) marked epoch client from to) old.sent } in
       let part = part_sent (old.logs node) from to (old.logs head) (agree.logs node is) in
       let middle : AllAgree between = record {
         head_full = agree.head_full;
         first = agree.first;
         logs = agree.logs;
-        frames = λ f a this. message_agrees (old.logs head) epoch client (first_sent (old.logs node) from) (sent (old.logs node) from to) old.sent f part (agree.frames f) a this;
+        frames = λ f a this. message_agrees (old.logs head) marked epoch client (first_sent (old.logs node) from) (sent (old.logs node) from to) (last_marks (old.logs node) (first_sent (old.logs node) from) (length (sent (old.logs node) from to))) old.sent f part (agree.frames f) a this;
       } in
       same_agree between new middle same is_sent
 
@@ -111,7 +111,7 @@ module _ (full : List ℕ) (head epoch : ℕ) where
 
   step_agree : (client : ℕ) (old new : Nodes) (step : Step) → AllAgree old → Does full head epoch client old step new → AllAgree new
   step_agree client old new (append r) agree d = append_agree old new r agree d.0 d.1
-  step_agree client old new (send node from to) agree d = send_agree old new client node from to agree d.0 d.1 d.2
+  step_agree client old new (send marked node from to) agree d = send_agree old new marked client node from to agree d.0 d.1 d.2
   step_agree client old new (deliver node f) agree d = deliver_agree old new node f agree d.0 d.1 d.2 d.3 d.4 d.5
   step_agree client old new (let_go to) agree d = let_go_agree old new to agree d.0 d.1 d.2
 

@@ -1,5 +1,5 @@
 -- Fronts of records: what is sent, and what was read of an iterator.
-use Rattle.std.proofs.Common.{◌≡◌, ℕ, zero, suc, ◌+◌, ◌-◌, ◌<◌, ◌≤◌, min, max, List, [], ◌∷◌, length, take, None, Some, ap, sym, ◌∙◌, refl, arith, true, inl, inr}
+use Rattle.std.proofs.Common.{◌≡◌, ℕ, zero, suc, ◌+◌, ◌-◌, ◌<◌, ◌≤◌, min, max, Bool, false, cond, List, [], ◌∷◌, ◌++◌, get_or, length, take, None, Some, ap, sym, ◌∙◌, refl, arith, true, inl, inr}
 use Rattle.std.proofs.lemmas.Bool.{both_ways, cases_lt}
 use Rattle.std.proofs.lemmas.List.{length-drop, length-take, length-take-le}
 use Rattle.assise_record.specs.LogRecord.{LogRecord}
@@ -7,7 +7,7 @@ use Rattle.assise_record.specs.LogFrame.{LogFrame}
 use Rattle.assise_private_log.specs.Borders.{IsWholeCount, whole_count}
 use Rattle.assise_private_log.specs.NumberedLog.{IsNumberedLog, NumberedLog, end, is_border, records_from}
 use Rattle.assise_private_log.proofs.Borders.{is_whole, some_whole}
-use Rattle.assise_chain.specs.Messages.{count_sent, first_sent, frame_of, records_between, sent}
+use Rattle.assise_chain.specs.Messages.{count_sent, first_sent, frame_of, last_marks, records_between, sent}
 
 -- the first item of a front
 pub taken_first : {X : Type 0} (n m : ℕ) (xs ys : List X) (x : X) → m + 1 ≡ n → xs ≡ x ∷ ys → take n xs ≡ x ∷ take m ys
@@ -90,21 +90,54 @@ some_sent l from to law low high is =
     omega arith
 
 -- there is a frame of some records
-pub frame_of_some : (epoch client first : ℕ) (rs : List LogRecord) → 0 < length rs → Some (record { version = 1; epoch = epoch; client = client; first = first; records = rs; last = [] }) ≡ frame_of epoch client first rs
-frame_of_some epoch client first [] some = absurd (omega arith)
-frame_of_some epoch client first (r ∷ rs) some = refl
+pub plain_some : (epoch client first : ℕ) (rs : List LogRecord) (last : List Bool) → 0 < length rs → Some (record { version = 1; epoch = epoch; client = client; first = first; records = rs; last = [] }) ≡ frame_of false epoch client first rs last
+plain_some epoch client first [] last some = absurd (omega arith)
+plain_some epoch client first (r ∷ rs) last some = refl
+
+pub marked_some : (epoch client first : ℕ) (rs : List LogRecord) (last : List Bool) → 0 < length rs → Some (record { version = 2; epoch = epoch; client = client; first = first; records = rs; last = last }) ≡ frame_of true epoch client first rs last
+marked_some epoch client first [] last some = absurd (omega arith)
+marked_some epoch client first (r ∷ rs) last some = refl
 
 -- and there is none of none
-pub frame_of_none : (epoch client first : ℕ) (rs : List LogRecord) → length rs ≡ 0 → None ≡ frame_of epoch client first rs
-frame_of_none epoch client first [] none = refl
-frame_of_none epoch client first (r ∷ rs) none = absurd (omega arith)
+pub frame_of_none : (marked : Bool) (epoch client first : ℕ) (rs : List LogRecord) (last : List Bool) → length rs ≡ 0 → None ≡ frame_of marked epoch client first rs last
+frame_of_none marked epoch client first [] last none = refl
+frame_of_none marked epoch client first (r ∷ rs) last none = absurd (omega arith)
 
 -- what a frame that is sent has
-pub parts_of_frame : (epoch client first : ℕ) (rs : List LogRecord) (f : LogFrame) → frame_of epoch client first rs ≡ Some f → (f.epoch ≡ epoch) × (f.first ≡ first) × (f.records ≡ rs)
-parts_of_frame epoch client first [] f is = cc
-parts_of_frame epoch client first (r ∷ rs) f is =
-    let same : record { version = 1; epoch = epoch; client = client; first = first; records = r ∷ rs; last = [] } ≡ f = cc in (
+pub parts_of_frame : (marked : Bool) (epoch client first : ℕ) (rs : List LogRecord) (last : List Bool) (f : LogFrame) → frame_of marked epoch client first rs last ≡ Some f → (f.epoch ≡ epoch) × (f.first ≡ first) × (f.records ≡ rs)
+parts_of_frame marked epoch client first [] last f is = cc
+parts_of_frame marked epoch client first (r ∷ rs) last f is =
+    let same : record { version = cond marked 2 1; epoch = epoch; client = client; first = first; records = r ∷ rs; last = cond marked last [] } ≡ f = cc in (
       ap (λ (g : LogFrame). g.epoch) (sym same),
       ap (λ (g : LogFrame). g.first) (sym same),
       ap (λ (g : LogFrame). g.records) (sym same),
     )
+
+-- ---- marks
+
+-- one more
+pub marks_more : (l : NumberedLog) (first count : ℕ) → last_marks l first (suc count) ≡ last_marks l first count ++ is_border l (first + suc count) ∷ []
+marks_more l first zero = ap (λ k. is_border l k ∷ []) (omega arith)
+marks_more l first (suc count) = ap (λ ms. is_border l (suc first) ∷ ms) (marks_more l (suc first) count ∙ ap (λ k. last_marks l (suc first) count ++ is_border l k ∷ []) (omega arith))
+
+-- what was read of them, and the next
+pub marks_next : (l : NumberedLog) (first count : ℕ) (read : List Bool) (next : Bool) → read ≡ last_marks l first count → next ≡ is_border l (first + count + 1) → read ++ next ∷ [] ≡ last_marks l first (count + 1)
+marks_next l first count read next is last =
+    let one : count + 1 ≡ suc count = omega arith in
+    ap (λ ms. ms ++ next ∷ []) is
+    ∙ ap (λ b. last_marks l first count ++ b ∷ []) (last ∙ ap (is_border l) (omega arith))
+    ∙ sym (marks_more l first count)
+    ∙ ap (last_marks l first) (sym one)
+
+pub marks_length : (l : NumberedLog) (first count : ℕ) → length (last_marks l first count) ≡ count
+marks_length l first zero = refl
+marks_length l first (suc count) = ap suc (marks_length l (suc first) count)
+
+-- the last record's mark is whether the place behind it is a border
+mark_behind : (l : NumberedLog) (first count : ℕ) → get_or (last_marks l first (suc count)) count true ≡ is_border l (first + suc count)
+mark_behind l first zero = ap (is_border l) (omega arith)
+mark_behind l first (suc count) = mark_behind l (suc first) count ∙ ap (is_border l) (omega arith)
+
+pub marks_last : (l : NumberedLog) (first count long : ℕ) → long ≡ count → 0 < count → get_or (last_marks l first count) (long - 1) true ≡ is_border l (first + count)
+marks_last l first zero long is some = absurd (omega arith)
+marks_last l first (suc count) long is some = let one : long - 1 ≡ count = omega arith in ap (λ k. get_or (last_marks l first (suc count)) k true) one ∙ mark_behind l first count

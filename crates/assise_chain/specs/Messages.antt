@@ -1,10 +1,10 @@
 -- What a node sends of its log: Assise (OSDI 2020), section 3, on logs that are replicated along a chain; van Renesse and
 -- Schneider, chain replication (OSDI 2004), section 2.
-use Rattle.std.specs.Prelude.{ℕ, ◌-◌, max, min, List, [], ◌∷◌, length, take, Option, Some, None}
+use Rattle.std.specs.Prelude.{ℕ, zero, suc, ◌-◌, max, min, Bool, if◌then◌else◌, List, [], ◌∷◌, length, take, Option, Some, None}
 use Rattle.assise_record.specs.LogRecord.{LogRecord}
 use Rattle.assise_record.specs.LogFrame.{LogFrame}
 use Rattle.assise_private_log.specs.Borders.{whole_count}
-use Rattle.assise_private_log.specs.NumberedLog.{NumberedLog, records_from}
+use Rattle.assise_private_log.specs.NumberedLog.{NumberedLog, is_border, records_from}
 
 -- the number of the first record that is sent, where one is
 abbrev pub first_sent : NumberedLog → ℕ → ℕ
@@ -22,11 +22,24 @@ count_sent l from to = whole_count l (first_sent l from) (min 64 (length (record
 abbrev pub sent : NumberedLog → ℕ → ℕ → List LogRecord
 sent l from to = take (count_sent l from to) (records_between l from to)
 
--- records from a number on in a frame of version 1, which has at least one
-abbrev pub frame_of : ℕ → ℕ → ℕ → List LogRecord → Option LogFrame
-frame_of epoch client first [] = None
-frame_of epoch client first (r ∷ rs) = Some (record { version = 1; epoch = epoch; client = client; first = first; records = r ∷ rs; last = [] })
+-- of each of so many records from a number on, whether it is the last of its group
+abbrev pub last_marks : NumberedLog → ℕ → ℕ → List Bool
+last_marks l first zero = []
+last_marks l first (suc count) = is_border l (suc first) ∷ last_marks l (suc first) count
 
--- the frame that is sent, where there are such records
-abbrev pub message_of : NumberedLog → ℕ → ℕ → ℕ → ℕ → Option LogFrame
-message_of l epoch client from to = frame_of epoch client (first_sent l from) (sent l from to)
+-- records from a number on, of which there is at least one, in a frame: of version 2 with these marks, or of version 1
+abbrev pub frame_of : Bool → ℕ → ℕ → ℕ → List LogRecord → List Bool → Option LogFrame
+frame_of marked epoch client first [] last = None
+frame_of marked epoch client first (r ∷ rs) last = Some (record {
+  version = if marked then 2 else 1;
+  epoch = epoch;
+  client = client;
+  first = first;
+  records = r ∷ rs;
+  last = if marked then last else [];
+})
+
+-- the frame that is sent, with marks or without, where there are such records
+abbrev pub message_of : NumberedLog → Bool → ℕ → ℕ → ℕ → ℕ → Option LogFrame
+message_of l marked epoch client from to =
+    frame_of marked epoch client (first_sent l from) (sent l from to) (last_marks l (first_sent l from) (length (sent l from to)))

@@ -1,7 +1,7 @@
 -- The logs of a chain's nodes, and the frames that were sent: whatever the network loses, repeats or brings in another order.
 -- van Renesse and Schneider, chain replication (OSDI 2004), section 3: what a node has is what the node in front of it has or
 -- had; Assise (OSDI 2020), section 3.
-use Rattle.std.specs.Prelude.{◌≡◌, ◌≢◌, ℕ, ◌≤◌, List, [], ◌∷◌, Option, Some, None, ◌⊎◌, length, take}
+use Rattle.std.specs.Prelude.{◌≡◌, ◌≢◌, ℕ, ◌≤◌, Bool, List, [], ◌∷◌, Option, Some, None, ◌⊎◌, length, take}
 use Rattle.assise_record.specs.LogRecord.{LogRecord}
 use Rattle.assise_record.specs.LogFrame.{LogFrame}
 use Rattle.assise_private_log.specs.NumberedLog.{NumberedLog, end, with_record, without_front}
@@ -17,8 +17,8 @@ pub record Nodes : Type 0 where
 pub data Step : Type 0 where
   -- the head takes a record in
   append : LogRecord → Step
-  -- a node sends records of its log that lie between two numbers
-  send : (node from to : ℕ) → Step
+  -- a node sends records of its log that lie between two numbers, with marks or without
+  send : (marked : Bool) (node from to : ℕ) → Step
   -- a frame that was sent, now or long ago, comes to a node that isn't the head
   deliver : (node : ℕ) → LogFrame → Step
   -- all full nodes let the records below a number go
@@ -49,8 +49,8 @@ with_message (Some f) sent = f ∷ sent
 -- what a step does among the full nodes in an epoch, where its condition holds
 abbrev pub Does : (full : List ℕ) (head epoch client : ℕ) → Nodes → Step → Nodes → Type 0
 Does full head epoch client old (append r) new = Becomes old.logs new.logs head (with_record (old.logs head) r) × (new.sent ≡ old.sent)
-Does full head epoch client old (send node from to) new =
-    IsOneOf full node × SameLogs old.logs new.logs × (new.sent ≡ with_message (message_of (old.logs node) epoch client from to) old.sent)
+Does full head epoch client old (send marked node from to) new =
+    IsOneOf full node × SameLogs old.logs new.logs × (new.sent ≡ with_message (message_of (old.logs node) marked epoch client from to) old.sent)
 Does full head epoch client old (deliver node f) new =
     IsOneOf old.sent f × IsOneOf full node × (node ≢ head) × IsTimely (end (old.logs node)) f epoch × Becomes old.logs new.logs node (accepted (old.logs node) f) × (new.sent ≡ old.sent)
 Does full head epoch client old (let_go to) new = AllReach full old.logs to × AllLetGo full old.logs new.logs to × (new.sent ≡ old.sent)

@@ -1,5 +1,5 @@
 // Laws of chains. Each function does nothing: its contract is the law.
-ghost use Rattle.std.specs.Prelude.{◌≡◌, ◌≢◌, ◌+◌, ◌<◌, ◌≤◌, true, length, ◌↔◌, ℕ, List, [], ◌∷◌, ◌++◌, Some, None};
+ghost use Rattle.std.specs.Prelude.{Bool, ◌≡◌, ◌≢◌, ◌+◌, ◌<◌, ◌≤◌, true, length, ◌↔◌, ℕ, List, [], ◌∷◌, ◌++◌, Some, None};
 ghost use Rattle.assise_record.specs.LogFrame.{LogFrame};
 ghost use Rattle.assise_private_log.specs.NumberedLog.{IsNumberedLog, NumberedLog, end, is_border};
 ghost use Rattle.assise_chain.specs.Acceptance.{IsTimely, records_past};
@@ -30,8 +30,8 @@ pub fn each_node_passes_to_the_next()
 
 /// Records that are sent from a log's end on, by a node that hasn't let them go, are taken in, all of them.
 pub fn what_is_sent_from_the_end_is_taken_in()
-    ensures timely { (from l : NumberedLog) (f : LogFrame) (epoch client to : ℕ) → from.first ≤ end l → message_of from epoch client (end l) to ≡ Some f → IsTimely (end l) f epoch }
-    ensures taken { (from l : NumberedLog) (f : LogFrame) (epoch client to : ℕ) → from.first ≤ end l → message_of from epoch client (end l) to ≡ Some f → records_past l f ≡ sent from (end l) to }
+    ensures timely { (from l : NumberedLog) (f : LogFrame) (marked : Bool) (epoch client to : ℕ) → from.first ≤ end l → message_of from marked epoch client (end l) to ≡ Some f → IsTimely (end l) f epoch }
+    ensures taken { (from l : NumberedLog) (f : LogFrame) (marked : Bool) (epoch client to : ℕ) → from.first ≤ end l → message_of from marked epoch client (end l) to ≡ Some f → records_past l f ≡ sent from (end l) to }
 {}
 
 /// What is sent ends with a group of the log; and up to a border some is sent, unless nothing is there.

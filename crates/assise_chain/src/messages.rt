@@ -1,8 +1,8 @@
 // What a node sends of its log.
-ghost use Rattle.std.specs.Prelude.{◌≡◌, ◌<◌, IfOk, IsOk, IsOkUnless, [], take};
+ghost use Rattle.std.specs.Prelude.{◌≡◌, ◌+◌, ◌<◌, ◌^◌, IfOk, IsOk, IsOkUnless, [], take};
 ghost use Rattle.assise_private_log.specs.NumberedLog.{records_from};
 ghost use Rattle.assise_names.specs.declared.refusal.Refusal.TheVariants.{OutOfMemory};
-ghost use Rattle.assise_chain.specs.Messages.{message_of, sent};
+ghost use Rattle.assise_chain.specs.Messages.{last_marks, message_of, sent};
 
 use assise_names::refusal::Refusal;
 use assise_private_log::log::Log;
@@ -11,18 +11,20 @@ use assise_record::record::Record;
 use std::alloc::Global;
 
 /// A frame of the records of a log that are numbered from `from` on, or from the log's first where that is later, and below
-/// `to`: whole groups of them, as many as have at most 64 records together. None, where there is no such group. The bytes
-/// of writes are shared. The one refusal is [`Refusal::OutOfMemory`].
+/// `to`: whole groups of them, as many as have at most 64 records together, with their marks in version 2 or without in version
+/// 1. None, where there is no such group. The bytes of writes are shared. The one refusal is [`Refusal::OutOfMemory`].
 pub fn message(
     alloc: Global,
     log: &Log,
+    marked: bool,
     epoch: u64,
     client: u32,
     from: u64,
     to: u64,
 ) -> Result<Option<Frame>, Refusal>
     requires a_client { 0 < client }
-    ensures exact { IfOk result (λ message. message ≡ message_of log.now epoch client from to) }
+    ensures exact { IfOk result
+        (λ message. message ≡ message_of log.now marked epoch client from to) }
     ensures only_memory { IsOkUnless result OutOfMemory }
     ensures nothing_asked { sent log.now from to ≡ [] → IsOk result }
 {
@@ -34,7 +36,24 @@ pub fn message(
         return Ok(None);
     }
     let records = copies(alloc, log, from, count)?;
-    Ok(Some(Frame::new(epoch, client, first, records)))
+    if !marked {
+        return Ok(Some(Frame::new(epoch, client, first, records)));
+    }
+    let last = last_marks(alloc, log, first, count)?;
+    Ok(Some(Frame::with_marks(epoch, client, first, records, last)))
+}
+
+/// Of each of so many records from a number on, whether it is the last of its group.
+fn last_marks(alloc: Global, log: &Log, first: u64, count: usize) -> Result<Vec<bool>, Refusal>
+    requires fits { first + count < 2 ^ 64 }
+    ensures marks { IfOk result (λ marks. marks.items ≡ last_marks log.now first count) }
+    ensures only_memory { IsOkUnless result OutOfMemory }
+{
+    let mut marks = Vec::with_capacity(alloc, count)?;
+    for place in 0..count {
+        marks.push(log.is_border(first + place as u64 + 1))?;
+    }
+    Ok(marks)
 }
 
 /// Equal records: the first ones of those from a number on.

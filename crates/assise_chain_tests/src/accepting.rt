@@ -62,7 +62,7 @@ fn frame_of(alloc: Global, sent: &str) -> Option<Frame> {
     let (from, to) = split_word(between);
     let from = from.parse::<u64>().ok()?;
     let to = to.parse::<u64>().ok()?;
-    message(alloc, &head, epoch.parse::<u64>().ok()?, 1, from, to).ok()?
+    message(alloc, &head, false, epoch.parse::<u64>().ok()?, 1, from, to).ok()?
 }
 
 /// The next records, some again, all again, and those that the log has let go.

@@ -44,6 +44,13 @@ pub(crate) fn put_frame(frame: &Frame, text: &mut String) -> Result<(), AllocErr
     for record in [records.first(), records.last()].into_iter().flatten() {
         write!(text, " {}", record.call())?;
     }
+    if frame.last().is_empty() {
+        return Ok(());
+    }
+    text.push_str(", marked ")?;
+    for last in frame.last() {
+        text.push_str(if *last { "1" } else { "0" })?;
+    }
     Ok(())
 }
 

@@ -35,7 +35,7 @@ impl Subject for Passed {
 
 /// Sends what a node lacks from the node in front of it, and answers what it has then.
 fn pass(alloc: Global, before: &Log, log: &mut Log) -> Option<u64> {
-    let frame = message(alloc, before, 5, 1, log.end(), before.end()).ok()?;
+    let frame = message(alloc, before, false, 5, 1, log.end(), before.end()).ok()?;
     let Some(frame) = frame else {
         return Some(log.end());
     };

@@ -4,7 +4,8 @@ use assise_chain::messages::message;
 use assise_rows::{Subject, split_word};
 use std::alloc::Global;
 
-/// `FIRST END, FROM TO`: a log, and what is sent of it. Behind END may be numbers, of which each begins a group.
+/// `FIRST END, FROM TO`: a log, and what is sent of it, with marks where `marked` stands behind. Behind END may be numbers, of which
+/// each begins a group.
 #[derive(Clone, Copy)]
 struct Sent;
 
@@ -17,10 +18,11 @@ impl Subject for Sent {
         for number in groups.split_terminator(' ') {
             log.regroup(alloc, number.parse::<u64>().ok()?).ok()?;
         }
-        let (from, to) = split_word(between);
+        let (from, rest) = split_word(between);
+        let (to, version) = split_word(rest);
         let from = from.parse::<u64>().ok()?;
         let to = to.parse::<u64>().ok()?;
-        match message(alloc, &log, 5, 1, from, to) {
+        match message(alloc, &log, version == "marked", 5, 1, from, to) {
             Ok(Some(frame)) => put_frame(&frame, text).ok(),
             Ok(None) => write!(text, " none").ok(),
             Err(refusal) => write!(text, " {refusal}").ok(),
@@ -71,6 +73,22 @@ const GROUPED: &str = "\
 0 80 0 40, 0 80 => 40 from 0: 0 39
 0 80 0 40, 40 80 => 40 from 40: 40 79
 ";
+
+/// Each record's mark says whether it is the last of its group.
+const MARKED: &str = "\
+0 3, 0 3 marked => 3 from 0: 0 2, marked 111
+0 4 2, 0 4 marked => 4 from 0: 0 3, marked 1101
+0 4 0, 0 4 marked => 4 from 0: 0 3, marked 0001
+0 6 0 4, 4 6 marked => 2 from 4: 4 5, marked 01
+0 4 2, 0 4 => 4 from 0: 0 3
+0 4 2, 0 3 marked => 2 from 0: 0 1, marked 11
+0 4 0, 0 3 marked => none
+";
+
+#[test]
+fn the_last_of_a_group_is_marked(rt: HostRuntime) {
+    show(rt.alloc(), &rt, &mut Sent, MARKED);
+}
 
 #[test]
 fn groups_are_sent_whole(rt: HostRuntime) {

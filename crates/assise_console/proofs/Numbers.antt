@@ -14,9 +14,10 @@ use Rattle.assise_machine_events.specs.Events.{refused}
 use Rattle.assise_machine_events.specs.Faults.{client_fault, fault_if, is_client, node_fault, open_fault, or_else, unless_full}
 use Rattle.assise_machine_events.specs.Happenings.{Trying}
 use Rattle.assise_machine_events.specs.Machine.{Machine, most_clients}
-use Rattle.assise_machine_events.specs.MemberEvents.{Failing, Joining, Refilling, Returning, is_refused as member_refused}
+use Rattle.assise_machine_events.specs.MemberEvents.{Failing, Joining, Raising, Refilling, Returning, is_refused as member_refused}
 use Rattle.assise_machine_events.specs.NodeEvents.{Digesting, Sending, SettingHot, is_refused as node_refused}
-use Rattle.assise_manager.specs.Changes.{failure_fault_of, filling_fault_of, join_fault_of, return_fault_of}
+use Rattle.assise_manager.specs.Changes.{failure_fault_of, filling_fault_of, join_fault_of, raise_fault_of, return_fault_of}
+use Rattle.assise_manager.specs.NodeLevels.{level_of}
 use Rattle.assise_manager.specs.Standings.{Standing, standing_of}
 
 -- ---- nodes
@@ -57,6 +58,9 @@ comes_nowhere m n far = member_refused BadNode (ap return_fault_of (no_standing 
 
 pub fills_nowhere : (m : Machine) (n : ℕ) → length m.members.nodes < n → Refilling m n (refused BadNode) m
 fills_nowhere m n far = member_refused BadNode (ap filling_fault_of (no_standing m.members.nodes n far)) refl refl
+
+pub raises_nowhere : (m : Machine) (n : ℕ) → length m.members.nodes < n → Raising m n (refused BadNode) m
+raises_nowhere m n far = member_refused BadNode (ap (λ o. raise_fault_of o (level_of m.members.levels n)) (no_standing m.members.nodes n far)) refl refl
 
 pub joins_nowhere : (m : Machine) (n : ℕ) → length m.members.nodes < n → Joining m n (refused BadNode) m
 joins_nowhere m n far = member_refused BadNode (ap join_fault_of (no_standing m.members.nodes n far)) refl refl

@@ -12,7 +12,7 @@ use Rattle.assise_names.specs.declared.durability.Durability.{Durability}
 use Rattle.assise_machine_events.specs.Faults.{node_fault}
 use Rattle.assise_fault_script.specs.declared.command.RevokerKind.{RevokerKind}
 use Rattle.assise_fault_script.specs.declared.command.RevokerKind.TheVariants.{Least, Whole, Eights}
-use Rattle.assise_machine_events.specs.Events.{Answer as EventAnswer, ClusterEvent, back, crash, digest, fail, join, open_client, refill, refused, release_ready, set_hot, try_call}
+use Rattle.assise_machine_events.specs.Events.{Answer as EventAnswer, ClusterEvent, back, crash, digest, fail, join, open_client, raise, refill, refused, release_ready, set_hot, try_call}
 use Rattle.assise_machine_events.specs.Happenings.{Happens}
 use Rattle.assise_machine_events.specs.Machine.{Machine}
 use Rattle.assise_machine_events.specs.NodeEvents.{Digesting, Releasing, Sending, SettingHot, is_refused as node_refused}
@@ -27,7 +27,7 @@ use Rattle.assise_rounds.specs.Trying.{TriesOften, is_settled}
 use Rattle.assise_console.specs.OneEvent.{IsOne, IsOneAt, Tells, TellsAt}
 use Rattle.assise_console.specs.State.{State, stock_of, with_machine, with_stock}
 use Rattle.assise_console.specs.Steps.{Calls, CallsOften, Carries, Changes, Opens, Returns, ReturnsWhole, SetsHot, Shows, call_answer, is_carried, is_made, is_out, is_refused, is_shown, lacks_memory, return_answer}
-use Rattle.assise_console.proofs.Numbers.{comes_nowhere, crashes_nobody, digests_nowhere, fails_nowhere, fills_nowhere, joins_nowhere, no_node, opens_nowhere, sets_nowhere, tries_nobody}
+use Rattle.assise_console.proofs.Numbers.{comes_nowhere, crashes_nobody, digests_nowhere, fails_nowhere, fills_nowhere, joins_nowhere, no_node, opens_nowhere, raises_nowhere, sets_nowhere, tries_nobody}
 
 -- ---- links
 
@@ -178,6 +178,9 @@ refills_none m n far = refuses_at refill m n BadNode (fills_nowhere m n far)
 
 pub joins_none : (m : Machine) (n : ℕ) → length m.members.nodes < n → (es : Told) × IsOneAt join n (Refused BadNode) m es m
 joins_none m n far = refuses_at join m n BadNode (joins_nowhere m n far)
+
+pub raises_none : (m : Machine) (n : ℕ) → length m.members.nodes < n → (es : Told) × IsOneAt raise n (Refused BadNode) m es m
+raises_none m n far = refuses_at raise m n BadNode (raises_nowhere m n far)
 
 -- ---- how many inodes may be hot
 

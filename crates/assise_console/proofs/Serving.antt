@@ -3,10 +3,10 @@ use Rattle.std.proofs.Common.{◌≡◌, ℕ, ◌<◌, Bool, true, false, List, 
 use Rattle.assise_names.specs.declared.call.Op.{Op}
 use Rattle.assise_history.specs.Legal.{IsLegal}
 use Rattle.assise_fault_script.specs.declared.command.Command as commands
-use Rattle.assise_fault_script.specs.declared.command.Command.TheVariants.{Cluster, Manual, Open, Call, Carry, Link, Hot, Digest, Release, Crash, Fail, Back, Refill, Join, Tree, History}
+use Rattle.assise_fault_script.specs.declared.command.Command.TheVariants.{Cluster, Manual, Open, Call, Carry, Link, Hot, Digest, Release, Crash, Fail, Back, Refill, Join, Raise, Tree, History}
 use Rattle.assise_fault_script.specs.declared.command.LinkKind.{LinkKind}
 use Rattle.assise_fault_script.specs.declared.parse.NumberedCommand.{NumberedCommand}
-use Rattle.assise_machine_events.specs.Events.{ClusterEvent, all_entries, back, crash, fail, join, refill, set_hot, try_call}
+use Rattle.assise_machine_events.specs.Events.{ClusterEvent, all_entries, back, crash, fail, join, raise, refill, set_hot, try_call}
 use Rattle.assise_machine_events.specs.Machine.{Machine}
 use Rattle.assise_machine_events.proofs.Beginning.{begun_holds}
 use Rattle.assise_console.specs.declared.answer.Answer.{Answer}
@@ -64,6 +64,7 @@ command_course s t (Fail n) es a h = told_course fail n a s.machine es t.machine
 command_course s t (Back n) es a h = returns_course s.manual n a s.machine es t.machine h.events
 command_course s t (Refill n) es a h = told_course refill n a s.machine es t.machine h.events
 command_course s t (Join n) es a h = told_course join n a s.machine es t.machine h.events
+command_course s t (Raise n) es a h = told_course raise n a s.machine es t.machine h.events
 command_course s t (Tree n) es a h = quiet_course s.machine t.machine es h.1.0 (ap (λ x. x.machine) h.1.1)
 command_course s t History es a h = quiet_course s.machine t.machine es h.1.0 (ap (λ x. x.machine) h.1.1)
 

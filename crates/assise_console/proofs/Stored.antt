@@ -5,7 +5,7 @@ use Rattle.assise_names.specs.declared.refusal.Refusal.{Refusal}
 use Rattle.assise_machine_events.specs.Events.{digested, not_yet, opened, refused, released, replied}
 use Rattle.assise_machine.specs.Running.{opened_answer}
 use Rattle.assise_console.specs.declared.answer.Answer.{Answer}
-use Rattle.assise_console.specs.declared.answer.Answer.TheVariants.{Quiet, Client, Replied, Waits, Refused, Carried, Digested, Released, Linked, HotSet, Crashed, Failed, Began, Left, Returned, Tree, History}
+use Rattle.assise_console.specs.declared.answer.Answer.TheVariants.{Quiet, Client, Replied, Waits, Refused, Carried, Digested, Released, Linked, HotSet, Crashed, Failed, Began, Left, Returned, Raised, Tree, History}
 use Rattle.assise_console.specs.declared.stock.Stock.{Stock}
 use Rattle.assise_console.specs.Stored.{left_of}
 use Rattle.assise_console.specs.OneEvent.{Tells}
@@ -33,6 +33,7 @@ tells_opened (Failed node losses) c tells = absurd tells
 tells_opened (Began node stale) c tells = absurd tells
 tells_opened (Left stale) c tells = absurd tells
 tells_opened (Returned node) c tells = absurd tells
+tells_opened (Raised node) c tells = absurd tells
 tells_opened (Tree tree) c tells = absurd tells
 tells_opened History c tells = absurd tells
 

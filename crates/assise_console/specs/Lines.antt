@@ -9,7 +9,7 @@ use Rattle.assise_history.specs.Entries.{Event as Entry}
 use Rattle.assise_history.specs.Text.{history_text}
 use Rattle.assise_fault_script.specs.declared.parse.NumberedCommand.{NumberedCommand}
 use Rattle.assise_console.specs.declared.answer.Answer.{Answer}
-use Rattle.assise_console.specs.declared.answer.Answer.TheVariants.{Quiet, Client, Replied, Waits, Refused, Carried, Digested, Released, Linked, HotSet, Crashed, Failed, Began, Left, Returned, Tree, History}
+use Rattle.assise_console.specs.declared.answer.Answer.TheVariants.{Quiet, Client, Replied, Waits, Refused, Carried, Digested, Released, Linked, HotSet, Crashed, Failed, Began, Left, Returned, Raised, Tree, History}
 use Rattle.assise_rounds.specs.Courses.{Told}
 use Rattle.assise_console.specs.State.{State}
 use Rattle.assise_console.specs.Steps.{Serves}
@@ -38,6 +38,7 @@ answer_text h (Failed node losses) = codes "failed " ++ decimal node ++ lost_tex
 answer_text h (Began node stale) = codes "back " ++ decimal node ++ codes " stale " ++ decimal stale
 answer_text h (Left stale) = codes "left " ++ decimal stale
 answer_text h (Returned node) = codes "returned " ++ decimal node
+answer_text h (Raised node) = codes "raised " ++ decimal node
 answer_text h (Tree tree) = tree_text tree
 answer_text h History = history_text h
 

@@ -1,12 +1,12 @@
 -- Answers of commands that tell that of one event.
 -- Assise (OSDI 2020), section 3 (calls, digests, leases; process crash, fail-over, and recovery).
 use Rattle.std.specs.Prelude.{◌≡◌, ℕ, map}
-use Rattle.assise_machine_events.specs.Events.{Answer as EventAnswer, ClusterEvent, began, crashed, digested, failed, hot_set, joined, left, not_yet, opened, refused, released, replied}
+use Rattle.assise_machine_events.specs.Events.{Answer as EventAnswer, ClusterEvent, began, crashed, digested, failed, hot_set, joined, left, not_yet, opened, raised, refused, released, replied}
 use Rattle.assise_machine_events.specs.Machine.{Machine}
 use Rattle.assise_machine_failures.specs.Answers.{loss_of}
 use Rattle.assise_rounds.specs.Courses.{IsEvent, Told}
 use Rattle.assise_console.specs.declared.answer.Answer.{Answer}
-use Rattle.assise_console.specs.declared.answer.Answer.TheVariants.{Quiet, Client, Replied, Waits, Refused, Carried, Digested, Released, Linked, HotSet, Crashed, Failed, Began, Left, Returned, Tree, History}
+use Rattle.assise_console.specs.declared.answer.Answer.TheVariants.{Quiet, Client, Replied, Waits, Refused, Carried, Digested, Released, Linked, HotSet, Crashed, Failed, Began, Left, Returned, Raised, Tree, History}
 
 -- a command's answer tells that of one event
 abbrev pub Tells : Answer → EventAnswer → Type 0
@@ -25,6 +25,7 @@ Tells (Failed node losses) e = ⊥
 Tells (Began node stale) e = ⊥
 Tells (Left stale) e = ⊥
 Tells (Returned node) e = ⊥
+Tells (Raised node) e = ⊥
 Tells (Tree tree) e = ⊥
 Tells History e = ⊥
 
@@ -42,6 +43,7 @@ TellsAt n (Failed node losses) e = (node ≡ n) × (e ≡ failed (map loss_of lo
 TellsAt n (Began node stale) e = (node ≡ n) × (e ≡ began stale)
 TellsAt n (Left stale) e = e ≡ left stale
 TellsAt n (Returned node) e = (node ≡ n) × (e ≡ joined)
+TellsAt n (Raised node) e = (node ≡ n) × (e ≡ raised)
 TellsAt n (Refused refusal) e = e ≡ refused refusal
 TellsAt n Quiet e = ⊥
 TellsAt n (Client c) e = ⊥

@@ -8,12 +8,12 @@ use Rattle.assise_seq_tree.specs.Tree.{Tree as PlainTree}
 use Rattle.assise_inode_table.specs.Spelled.{Spells}
 use Rattle.assise_names.specs.declared.durability.Durability.{Durability}
 use Rattle.assise_fault_script.specs.declared.command.Command as commands
-use Rattle.assise_fault_script.specs.declared.command.Command.TheVariants.{Cluster, Manual, Open, Call, Carry, Link, Hot, Digest, Release, Crash, Fail, Back, Refill, Join, Tree as TreeOf, History}
+use Rattle.assise_fault_script.specs.declared.command.Command.TheVariants.{Cluster, Manual, Open, Call, Carry, Link, Hot, Digest, Release, Crash, Fail, Back, Refill, Join, Raise, Tree as TreeOf, History}
 use Rattle.assise_fault_script.specs.declared.command.LinkKind.{LinkKind}
 use Rattle.assise_fault_script.specs.declared.command.LinkKind.TheVariants.{Perfect, Lose, Repeat, Delay, Cut, Fault}
 use Rattle.assise_fault_script.specs.declared.command.RevokerKind.{RevokerKind}
 use Rattle.assise_machine_laws.specs.World.{alone}
-use Rattle.assise_machine_events.specs.Events.{Answer as EventAnswer, back, crash, digest, fail, join, open_client, outgoing, refill, refused, release_ready, set_hot, try_call}
+use Rattle.assise_machine_events.specs.Events.{Answer as EventAnswer, back, crash, digest, fail, join, open_client, outgoing, raise, refill, refused, release_ready, set_hot, try_call}
 use Rattle.assise_machine_events.specs.Faults.{node_fault}
 use Rattle.assise_machine_events.specs.Machine.{Machine}
 use Rattle.assise_machine.specs.Running.{IsServed, stock_after}
@@ -130,6 +130,7 @@ Serves s (Fail n) es a t = Changes (IsOneAt fail n a) s es t
 Serves s (Back n) es a t = Changes (Returns s.manual n a) s es t
 Serves s (Refill n) es a t = Changes (IsOneAt refill n a) s es t
 Serves s (Join n) es a t = Changes (IsOneAt join n a) s es t
+Serves s (Raise n) es a t = Changes (IsOneAt raise n a) s es t
 Serves s (TreeOf n) es a t = Shows n a s.machine × ((es ≡ []) × (t ≡ s))
 Serves s History es a t = (a ≡ Whole) × ((es ≡ []) × (t ≡ s))
 

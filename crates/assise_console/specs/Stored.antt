@@ -3,7 +3,7 @@
 use Rattle.std.specs.Prelude.{◌≡◌, ◌<◌, ℕ, ⊤, List, ◌++◌, vec_capacity, vec_len}
 use Rattle.std.specs.Option.{option_to_list}
 use Rattle.assise_fault_script.specs.declared.command.Command.{Command}
-use Rattle.assise_fault_script.specs.declared.command.Command.TheVariants.{Cluster, Manual, Open, Call, Carry, Link, Hot, Digest, Release, Crash, Fail, Back, Refill, Join, Tree as TreeOf, History}
+use Rattle.assise_fault_script.specs.declared.command.Command.TheVariants.{Cluster, Manual, Open, Call, Carry, Link, Hot, Digest, Release, Crash, Fail, Back, Refill, Join, Raise, Tree as TreeOf, History}
 use Rattle.assise_fault_script.specs.declared.command.RevokerKind.{RevokerKind}
 use Rattle.assise_fault_script.specs.declared.command.RevokerKind.TheVariants.{Least, Whole, Eights}
 use Rattle.assise_machine.specs.Clusters.{revokers}
@@ -47,5 +47,6 @@ Stores (Fail n) a old new = ⊤
 Stores (Back n) a old new = ⊤
 Stores (Refill n) a old new = ⊤
 Stores (Join n) a old new = ⊤
+Stores (Raise n) a old new = ⊤
 Stores (TreeOf n) a old new = ⊤
 Stores History a old new = ⊤

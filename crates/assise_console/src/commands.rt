@@ -1,5 +1,5 @@
 // Commands that open no client and make no call, on a cluster alone.
-ghost use Rattle.assise_machine_events.specs.Events.{back, crash, digest, fail, join, refill, release_ready};
+ghost use Rattle.assise_machine_events.specs.Events.{back, crash, digest, fail, join, raise, refill, release_ready};
 ghost use Rattle.assise_machine.specs.Clusters.{machine};
 ghost use Rattle.assise_rounds.specs.Courses.{Told};
 ghost use Rattle.assise_console.specs.Steps.{SetsHot, Shows};
@@ -119,6 +119,20 @@ pub fn join<C: Revokes + Drop>(alloc: Global, cluster: &mut ClusterOf<C>, node: 
     };
     match cluster.join(alloc, node) {
         Ok(()) => Answer::Returned(node),
+        Err(refusal) => Answer::Refused(refusal),
+    }
+}
+
+/// A full node reads and sends version 2 of frames from here on.
+pub fn raise<C: Revokes + Drop>(cluster: &mut ClusterOf<C>, node: u64) -> Answer
+    ensures { (es : Told) × IsOneAt raise node result (machine cluster.old) es (machine
+        cluster.new) }
+{
+    let Some(node) = number_of(node) else {
+        return Answer::Refused(Refusal::BadNode);
+    };
+    match cluster.raise(node) {
+        Ok(()) => Answer::Raised(node),
         Err(refusal) => Answer::Refused(refusal),
     }
 }

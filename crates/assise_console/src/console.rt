@@ -1,7 +1,7 @@
 // A cluster on which a script's commands are run.
 ghost use Rattle.std.specs.Prelude.{◌≡◌, ◌<◌, ◌≤◌, IfOk, IsOkUnless, Some, false, map, true};
 ghost use Rattle.assise_names.specs.declared.refusal.Refusal.TheVariants.{OutOfMemory};
-ghost use Rattle.assise_machine_events.specs.Events.{crash, digest, fail, join, refill};
+ghost use Rattle.assise_machine_events.specs.Events.{crash, digest, fail, join, raise, refill};
 ghost use Rattle.assise_machine_calls.specs.Answers.{turn_answer};
 ghost use Rattle.assise_machine.specs.Running.{opened_answer};
 ghost use Rattle.assise_console.specs.Consoles.{seen, stocks};
@@ -109,6 +109,7 @@ impl<C: Revokes + Drop> ConsoleOf<C> {
             Command::Back { node } => self.back(alloc, node),
             Command::Refill { node } => self.refill(alloc, node),
             Command::Join { node } => self.join(alloc, node),
+            Command::Raise { node } => self.raise(node),
             Command::Tree { node } => self.tree(alloc, node),
             Command::History => Answer::History,
         }
@@ -257,6 +258,14 @@ impl<C: Revokes + Drop> ConsoleOf<C> {
         ensures { (es : Told) × Changes (IsOneAt join node result) (seen self.old) es (seen self.new) }
     {
         commands::join(alloc, &mut self.cluster, node)
+    }
+
+    /// A full node reads and sends version 2 of frames from here on.
+    fn raise(&mut self, node: u64) -> Answer
+        ensures { (es : Told) ×
+            Changes (IsOneAt raise node result) (seen self.old) es (seen self.new) }
+    {
+        commands::raise(&mut self.cluster, node)
     }
 
     /// The tree that a node's region alone gives.

@@ -63,6 +63,7 @@ One command a line. Spaces alone part its words. A line that begins with # is a 
   release                       frees the revoked leases that may go
   refill NODE                   a node that comes back gets one inode
   join NODE                     a node that comes back and lacks nothing is full again
+  raise NODE                    a full node reads and sends version 2 of frames from here on
   link NODE KIND                a node's new link; KIND is perfect, lose, repeat, delay, cut K or fault
 
 Example:  printf 'cluster 1 8 4\nopen 1 least\n1 create /f\n1 stat /f\n' | ./assise -

@@ -37,6 +37,7 @@ impl Display for AnswerText<'_> {
             Answer::Began(node, stale) => write!(f, "back {node} stale {stale}"),
             Answer::Left(stale) => write!(f, "left {stale}"),
             Answer::Returned(node) => write!(f, "returned {node}"),
+            Answer::Raised(node) => write!(f, "raised {node}"),
             Answer::Tree(tree) => write!(f, "{tree}"),
             Answer::History => {
                 let history = self.history;

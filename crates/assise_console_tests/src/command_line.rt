@@ -169,6 +169,7 @@ fn the_help_names_every_command(rt: HostRuntime) -> Result<(), Fail> {
         "\n  release ",
         "\n  refill NODE ",
         "\n  join NODE ",
+        "\n  raise NODE ",
         "\nExample:  printf ",
         "\nExit status: 0 ",
     ] {

@@ -8,10 +8,10 @@ use Rattle.std.specs.Str.{is_utf8}
 use Rattle.assise_names.specs.declared.call.Op.{Op}
 use Rattle.assise_names.specs.declared.durability.Durability.TheVariants.{Pessimistic}
 use Rattle.assise_fault_script.specs.declared.command.Command.{Command}
-use Rattle.assise_fault_script.specs.declared.command.Command.TheVariants.{Cluster, Manual, Open, Call, Carry, Digest, Release, Crash, Fail, Back, Refill, Join, Link, Hot, Tree, History}
+use Rattle.assise_fault_script.specs.declared.command.Command.TheVariants.{Cluster, Manual, Open, Call, Carry, Digest, Release, Crash, Fail, Back, Refill, Join, Raise, Link, Hot, Tree, History}
 use Rattle.assise_fault_script.specs.declared.command.LinkKind.TheVariants.{Cut}
 use Rattle.assise_fault_script.specs.declared.command.Keyword as first
-use Rattle.assise_fault_script.specs.declared.command.Keyword.TheVariants.{Cluster as for_cluster, Manual as for_manual, Open as for_open, Carry as for_carry, Digest as for_digest, Release as for_release, Crash as for_crash, Fail as for_fail, Back as for_back, Refill as for_refill, Join as for_join, Link as for_link, Hot as for_hot, Tree as for_tree, History as for_history}
+use Rattle.assise_fault_script.specs.declared.command.Keyword.TheVariants.{Cluster as for_cluster, Manual as for_manual, Open as for_open, Carry as for_carry, Digest as for_digest, Release as for_release, Crash as for_crash, Fail as for_fail, Back as for_back, Refill as for_refill, Join as for_join, Raise as for_raise, Link as for_link, Hot as for_hot, Tree as for_tree, History as for_history}
 use Rattle.assise_fault_script.specs.declared.fault.LineFault.{LineFault}
 use Rattle.assise_fault_script.specs.declared.fault.ScriptFault.{ScriptFault}
 use Rattle.assise_fault_script.specs.declared.fault.ScriptFault.TheVariants.{BadLimit, UnknownCommand, WrongCount}
@@ -152,6 +152,7 @@ row for_fail u rest c later h = number_row for_fail Fail (λ n. tt) refl (λ a. 
 row for_back u rest c later h = number_row for_back Back (λ n. tt) refl (λ a. refl) (λ a b more. refl) rest c h
 row for_refill u rest c later h = number_row for_refill Refill (λ n. tt) refl (λ a. refl) (λ a b more. refl) rest c h
 row for_join u rest c later h = number_row for_join Join (λ n. tt) refl (λ a. refl) (λ a b more. refl) rest c h
+row for_raise u rest c later h = number_row for_raise Raise (λ n. tt) refl (λ a. refl) (λ a b more. refl) rest c h
 row for_link u rest c later h = link_row rest c h
 row for_hot u rest c later h = hot_row rest c h
 row for_tree u rest c later h = number_row for_tree Tree (λ n. tt) refl (λ a. refl) (λ a b more. refl) rest c h
@@ -170,6 +171,7 @@ before_cluster for_fail u h = cc
 before_cluster for_back u h = cc
 before_cluster for_refill u h = cc
 before_cluster for_join u h = cc
+before_cluster for_raise u h = cc
 before_cluster for_link u h = cc
 before_cluster for_hot u h = cc
 before_cluster for_tree u h = cc

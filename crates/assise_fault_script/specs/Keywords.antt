@@ -5,9 +5,9 @@ use Rattle.std.specs.Cmp.Lexicographic.{pointwise}
 use Rattle.assise_names.specs.declared.durability.Durability.{Durability}
 use Rattle.assise_names.specs.declared.durability.Durability.TheVariants.{Pessimistic, Optimistic}
 use Rattle.assise_fault_script.specs.declared.command.Command.{Command}
-use Rattle.assise_fault_script.specs.declared.command.Command.TheVariants.{Cluster, Manual, Open, Carry, Digest, Release, Crash, Fail, Back, Refill, Join, Link, Hot, Tree, History}
+use Rattle.assise_fault_script.specs.declared.command.Command.TheVariants.{Cluster, Manual, Open, Carry, Digest, Release, Crash, Fail, Back, Refill, Join, Raise, Link, Hot, Tree, History}
 use Rattle.assise_fault_script.specs.declared.command.Keyword as first
-use Rattle.assise_fault_script.specs.declared.command.Keyword.TheVariants.{Cluster as for_cluster, Manual as for_manual, Open as for_open, Carry as for_carry, Digest as for_digest, Release as for_release, Crash as for_crash, Fail as for_fail, Back as for_back, Refill as for_refill, Join as for_join, Link as for_link, Hot as for_hot, Tree as for_tree, History as for_history}
+use Rattle.assise_fault_script.specs.declared.command.Keyword.TheVariants.{Cluster as for_cluster, Manual as for_manual, Open as for_open, Carry as for_carry, Digest as for_digest, Release as for_release, Crash as for_crash, Fail as for_fail, Back as for_back, Refill as for_refill, Join as for_join, Raise as for_raise, Link as for_link, Hot as for_hot, Tree as for_tree, History as for_history}
 use Rattle.assise_fault_script.specs.declared.command.LinkKind.{LinkKind}
 use Rattle.assise_fault_script.specs.declared.command.LinkKind.TheVariants.{Perfect, Lose, Repeat, Delay, Cut, Fault}
 use Rattle.assise_fault_script.specs.declared.command.RevokerKind.{RevokerKind}
@@ -31,11 +31,12 @@ keyword_of word =
     else (if pointwise nat_eq word (codes "back") then Ok for_back
     else (if pointwise nat_eq word (codes "refill") then Ok for_refill
     else (if pointwise nat_eq word (codes "join") then Ok for_join
+    else (if pointwise nat_eq word (codes "raise") then Ok for_raise
     else (if pointwise nat_eq word (codes "link") then Ok for_link
     else (if pointwise nat_eq word (codes "hot") then Ok for_hot
     else (if pointwise nat_eq word (codes "tree") then Ok for_tree
     else (if pointwise nat_eq word (codes "history") then Ok for_history
-    else Err UnknownCommand))))))))))))))
+    else Err UnknownCommand)))))))))))))))
 
 -- the revoker that a word names
 abbrev pub kind_of : List ℕ → Result RevokerKind ScriptFault
@@ -99,6 +100,9 @@ refill_of node = number_of node >>= λ n. Ok (Refill n)
 abbrev pub join_of : List ℕ → Result Command ScriptFault
 join_of node = number_of node >>= λ n. Ok (Join n)
 
+abbrev pub raise_of : List ℕ → Result Command ScriptFault
+raise_of node = number_of node >>= λ n. Ok (Raise n)
+
 -- any kind but `cut`, which wants one word more
 abbrev pub uncut_link_of : List ℕ → List ℕ → Result Command ScriptFault
 uncut_link_of node name = if says_cut name then Err WrongCount else (number_of node >>= λ n. link_kind_of name >>= λ k. Ok (Link n k))
@@ -137,6 +141,7 @@ keyword_command for_fail (node ∷ []) = fail_of node
 keyword_command for_back (node ∷ []) = back_of node
 keyword_command for_refill (node ∷ []) = refill_of node
 keyword_command for_join (node ∷ []) = join_of node
+keyword_command for_raise (node ∷ []) = raise_of node
 keyword_command for_link words = node_link_of words
 keyword_command for_hot words = hot_of words
 keyword_command for_tree (node ∷ []) = tree_of node

@@ -99,6 +99,11 @@ pub enum Command {
         /// The node.
         node: u64,
     },
+    /// A full node reads and sends version 2 of frames from here on.
+    Raise {
+        /// The node.
+        node: u64,
+    },
     /// Sets the link of a node's replicator anew: its carries are counted from 1 again.
     Link {
         /// The node.
@@ -147,6 +152,8 @@ pub(crate) enum Keyword {
     Refill,
     /// `join NODE`.
     Join,
+    /// `raise NODE`.
+    Raise,
     /// `link NODE KIND`, or `link NODE cut K`.
     Link,
     /// `hot NODE CAPACITY`.

@@ -1,6 +1,6 @@
 // A row for each command that begins with a keyword.
 ghost use Rattle.std.specs.Prelude.{◌≡◌, map};
-ghost use Rattle.assise_fault_script.specs.Keywords.{back_of, carry_of, cluster_of, crash_of, cut_link_of, digest_of, fail_of, hot_capacity_of, hot_of, join_of, keyword_command, keyword_of, kind_of, link_kind_of, mode_of, node_link_of, open_in_mode_of, open_of, opening_of, refill_of, tree_of, uncut_link_of};
+ghost use Rattle.assise_fault_script.specs.Keywords.{back_of, carry_of, cluster_of, crash_of, cut_link_of, digest_of, fail_of, hot_capacity_of, hot_of, join_of, keyword_command, keyword_of, kind_of, link_kind_of, mode_of, node_link_of, open_in_mode_of, open_of, opening_of, raise_of, refill_of, tree_of, uncut_link_of};
 
 use crate::command::{Command, Keyword, LinkKind, RevokerKind};
 use crate::fault::ScriptFault;
@@ -23,6 +23,7 @@ pub fn keyword(word: &str) -> Result<Keyword, ScriptFault>
         "back" => Ok(Keyword::Back),
         "refill" => Ok(Keyword::Refill),
         "join" => Ok(Keyword::Join),
+        "raise" => Ok(Keyword::Raise),
         "link" => Ok(Keyword::Link),
         "hot" => Ok(Keyword::Hot),
         "tree" => Ok(Keyword::Tree),
@@ -47,6 +48,7 @@ pub fn keyword_command(keyword: Keyword, words: &[&str]) -> Result<Command, Scri
         (Keyword::Back, [node]) => back(node),
         (Keyword::Refill, [node]) => refill(node),
         (Keyword::Join, [node]) => join(node),
+        (Keyword::Raise, [node]) => raise(node),
         (Keyword::Link, words) => link(words),
         (Keyword::Hot, words) => hot(words),
         (Keyword::Tree, [node]) => tree(node),
@@ -157,6 +159,13 @@ fn join(node: &str) -> Result<Command, ScriptFault>
 {
     let node = number(node)?;
     Ok(Command::Join { node })
+}
+
+fn raise(node: &str) -> Result<Command, ScriptFault>
+    ensures { result ≡ raise_of node.now }
+{
+    let node = number(node)?;
+    Ok(Command::Raise { node })
 }
 
 /// A node and its link: three words where the second is `cut`, else two.

@@ -61,6 +61,7 @@ fn line_of(alloc: Global, rt: &impl Abort, command: &Command) -> String {
         Command::Back { node } => format!(in alloc; "back {node}"),
         Command::Refill { node } => format!(in alloc; "refill {node}"),
         Command::Join { node } => format!(in alloc; "join {node}"),
+        Command::Raise { node } => format!(in alloc; "raise {node}"),
         Command::Link { node, kind } => link_line(alloc, *node, *kind),
         Command::Hot { node, capacity } => format!(in alloc; "hot {node} {capacity}"),
         Command::Tree { node } => format!(in alloc; "tree {node}"),
@@ -169,7 +170,8 @@ const EACH: &str = "# a file\r\n\
     hot 18446744073709551615 4096\r\n\
     \x20 hot 2 007\n\
     1 dsync\n\
-    open  03 eights  optimistic\r\n";
+    open  03 eights  optimistic\r\n\
+    raise  02\r\n";
 
 /// What it says.
 const EACH_SAID: &str = "2: cluster 1 4096 1\n\
@@ -209,7 +211,8 @@ const EACH_SAID: &str = "2: cluster 1 4096 1\n\
     39: hot 18446744073709551615 4096\n\
     40: hot 2 7\n\
     41: 1 dsync\n\
-    42: open 3 eights optimistic\n";
+    42: open 3 eights optimistic\n\
+    43: raise 2\n";
 
 #[test]
 fn each_command_is_read(rt: HostRuntime) {
@@ -238,7 +241,7 @@ fn short_scripts_are_read(rt: HostRuntime) {
 }
 
 /// Faults of a line: the words, one by one, then of two faults the first.
-static FAULTS: [(&str, &str); 147] = [
+static FAULTS: [(&str, &str); 149] = [
     // the words, one by one
     ("fly", "2: unknown command"),
     ("Open 1 least", "2: unknown command"),
@@ -284,6 +287,7 @@ static FAULTS: [(&str, &str); 147] = [
     ("refill 1 2", "2: wrong number of words"),
     ("join", "2: wrong number of words"),
     ("join 1 2", "2: wrong number of words"),
+    ("raise", "2: wrong number of words"),
     ("link", "2: wrong number of words"),
     ("link 1", "2: wrong number of words"),
     ("link cut", "2: wrong number of words"),
@@ -306,6 +310,7 @@ static FAULTS: [(&str, &str); 147] = [
     ("back 18446744073709551616", "2: bad number"),
     ("refill -1", "2: bad number"),
     ("join 1x", "2: bad number"),
+    ("raise 1x", "2: bad number"),
     ("link x perfect", "2: bad number"),
     ("link cut 5", "2: bad number"),
     ("link 18446744073709551616 cut 5", "2: bad number"),
@@ -396,7 +401,7 @@ fn the_first_fault_of_a_line_is_named(rt: HostRuntime) {
 }
 
 /// Scripts whose cluster is missing, or faulty, or not the only one.
-static CLUSTERS: [(&str, &str); 32] = [
+static CLUSTERS: [(&str, &str); 33] = [
     ("history", "1: no cluster yet"),
     ("history 1", "1: no cluster yet"),
     ("\nopen x", "2: no cluster yet"),
@@ -410,6 +415,7 @@ static CLUSTERS: [(&str, &str); 32] = [
     ("back 1", "1: no cluster yet"),
     ("refill x", "1: no cluster yet"),
     ("join 1", "1: no cluster yet"),
+    ("raise 1", "1: no cluster yet"),
     ("link 1 lose", "1: no cluster yet"),
     ("link x cut", "1: no cluster yet"),
     ("hot 1 1", "1: no cluster yet"),

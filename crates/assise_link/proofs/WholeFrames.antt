@@ -1,26 +1,16 @@
 -- What is read of the whole of a frame's bytes.
-use Rattle.std.proofs.Common.{◌≡◌, ◌∙◌, ℕ, List, length, Result, Ok, Err, ap, sym, subst, arith, ◌⊎◌, inl, inr}
-use Rattle.std.proofs.lemmas.List.{take_all}
+use Rattle.std.proofs.Common.{◌≡◌, ◌∙◌, ℕ, ◌≤◌, List, [], ◌++◌, take, drop, append-nil, ap, sym, subst}
+use Rattle.std.proofs.lemmas.List.{take-append-drop}
 use Rattle.assise_record.specs.LogFrame.{LogFrame}
 use Rattle.assise_record.specs.Spelling.{BeginsWith, Spells}
-use Rattle.assise_record.specs.declared.fault.FrameFault.{FrameFault}
-use Rattle.assise_record.specs.declared.fault.FrameFault.TheVariants.{Memory}
-
--- bytes that spell a frame begin with it
-pub whole_begins : (bytes : List ℕ) (f : LogFrame) → Spells 2 bytes f → BeginsWith 2 bytes f (length bytes)
-whole_begins bytes f spells = record {
-  inside = omega arith;
-  front = subst (λ x. Spells 2 x f) (sym (take_all (length bytes) bytes (omega arith))) spells;
-}
-
-abbrev frame_in : LogFrame → Result (LogFrame × ℕ) FrameFault → LogFrame
-frame_in f (Ok x) = x.0
-frame_in f (Err e) = f
-
-not_memory : (x : LogFrame × ℕ) → Ok x ≡ Err Memory → ⊥
-not_memory x is = cc
+use Rattle.assise_record.proofs.Unique.{no_more, one_frame}
+use Rattle.assise_record.proofs.Versions.{later_spells}
 
 -- what bytes are read as is the frame that they spell
-pub read_so : (r : Result (LogFrame × ℕ) FrameFault) (came f : LogFrame) (k n : ℕ) → r ≡ Ok (came, k) → (r ≡ Ok (f, n)) ⊎ (r ≡ Err Memory) → came ≡ f
-read_so r came f k n is (inl h) = ap (frame_in came) (sym is ∙ h)
-read_so r came f k n is (inr h) = absurd (not_memory (came, k) (sym is ∙ h))
+pub same_frame : (newest k : ℕ) (bytes : List ℕ) (came sent : LogFrame) → newest ≤ 2 → BeginsWith newest bytes came k → Spells 2 bytes sent → came ≡ sent
+same_frame newest k bytes came sent known begins spells =
+    let front : Spells 2 (take k bytes) came = later_spells newest 2 came (take k bytes) known begins.front in
+    let whole : take k bytes ++ drop k bytes ≡ bytes = take-append-drop k bytes in
+    let none : drop k bytes ≡ [] = no_more 2 came sent (take k bytes) (drop k bytes) front (subst (λ x. Spells 2 x sent) (sym whole) spells) in
+    let all : take k bytes ≡ bytes = sym (append-nil (take k bytes)) ∙ ap (λ r. take k bytes ++ r) (sym none) ∙ whole in
+    one_frame 2 came sent bytes (subst (λ x. Spells 2 x came) all front) spells

@@ -15,9 +15,10 @@ pub record IsFrontOnLink (bytes : List ℕ) (stored : List (List ℕ)) (came : L
 abbrev pub IsFaithful : (List ℕ → List ℕ → Type 0) → Type 0
 IsFaithful gives = (bytes came : List ℕ) → gives bytes came → came ≡ bytes
 
--- for the frame that was sent a link that gives so gave bytes that begin with the frame that came
-pub record ComesOver (gives : List ℕ → List ℕ → Type 0) (sent came : LogFrame) : Type 0 where
+-- for the frame that was sent a link that gives so gave bytes that begin with the frame that came, where versions up to the newest are
+-- read
+pub record ComesOver (newest : ℕ) (gives : List ℕ → List ℕ → Type 0) (sent came : LogFrame) : Type 0 where
   pub bytes : List ℕ
   pub given : gives (spelling sent) bytes
   pub used : ℕ
-  pub begins : BeginsWith 2 bytes came used
+  pub begins : BeginsWith newest bytes came used

@@ -31,6 +31,7 @@ use Rattle.assise_machine_state.proofs.Noted.{still_noted}
 use Rattle.assise_machine_state.proofs.Owning.{own_log as has_own_log}
 use Rattle.assise_machine_state.proofs.Receiving.{HasFront, delivered_front, delivery_shaped, has_front, other_areas}
 use Rattle.assise_machine_state.proofs.Seeing.{client_is}
+use Rattle.assise_manager.specs.NodeLevels.{level_of, newest}
 use Rattle.assise_machine.specs.Taking.{HasRoomFor, IsNext, IsNextOf, lacking, own_log}
 use Rattle.assise_machine.proofs.DeliveryFaults.{fine_client, fine_full}
 
@@ -125,35 +126,37 @@ module _ (s : StateValue) (f : LogFrame) (n : ℕ) (shape : IsShaped s) (holds :
           | inr old ↦ (let place : max (w.received n c) (f.first + length f.records) ≡ w.received n c = omega (arith, old) in ap (w.border c) place ∙ got_border)
         ]
 
-    to_timely : IsNext (own_log s c) s.members.epoch f (w.received n c) → IsTimely (observed s) f n
+    to_timely : IsNext (own_log s c) s.members.epoch (newest (level_of s.members.levels n)) f (w.received n c) → IsTimely (observed s) f n
     unfolding observed world_of
     to_timely next =
-        let v = subst (λ l. IsNext l s.members.epoch f (w.received n c)) (sym own_is) next in
-        record { this_epoch = v.this_epoch; no_gap = v.no_gap; own = v.own; whole = ends_whole v.whole }
+        let v = subst (λ l. IsNext l s.members.epoch (newest (level_of s.members.levels n)) f (w.received n c)) (sym own_is) next in
+        record { this_epoch = v.this_epoch; known = v.known; no_gap = v.no_gap; own = v.own; whole = ends_whole v.whole; marks = v.marks }
 
-    from_timely : IsTimely (observed s) f n → IsNext (own_log s c) s.members.epoch f (w.received n c)
+    from_timely : IsTimely (observed s) f n → IsNext (own_log s c) s.members.epoch (newest (level_of s.members.levels n)) f (w.received n c)
     unfolding observed world_of
     from_timely timely =
-        subst (λ l. IsNext l s.members.epoch f (w.received n c)) own_is (record {
+        subst (λ l. IsNext l s.members.epoch (newest (level_of s.members.levels n)) f (w.received n c)) own_is (record {
           this_epoch = timely.this_epoch;
+          known = timely.known;
           no_gap = timely.no_gap;
           own = timely.own;
           whole = λ past.
               let place : f.first + length f.records ≡ max (w.received n c) (f.first + length f.records) = omega (arith, past) in
               ap (w.border c) place ∙ timely.whole;
+          marks = timely.marks;
         })
 
-    pub not_timely : (r : ℕ) → r ≡ w.received n c → (IsNextOf s f r → ⊥) → IsTimely (observed s) f n → ⊥
-    not_timely r is stale timely = stale (subst (λ k. IsNextOf s f k) (sym is) (from_timely timely))
+    pub not_timely : (r : ℕ) → r ≡ w.received n c → (IsNextOf s f n r → ⊥) → IsTimely (observed s) f n → ⊥
+    not_timely r is stale timely = stale (subst (λ k. IsNextOf s f n k) (sym is) (from_timely timely))
 
-    pub is_next : (r : ℕ) → r ≡ w.received n c → IsNextOf s f r → IsTimely (observed s) f n
-    is_next r is next = to_timely (subst (λ k. IsNextOf s f k) is next)
+    pub is_next : (r : ℕ) → r ≡ w.received n c → IsNextOf s f n r → IsTimely (observed s) f n
+    is_next r is next = to_timely (subst (λ k. IsNextOf s f n k) is next)
 
     -- ---- where the frame is timely
 
-    module _ (r : ℕ) (is : r ≡ w.received n c) (next : IsNextOf s f r) where
+    module _ (r : ℕ) (is : r ≡ w.received n c) (next : IsNextOf s f n r) where
       timely : IsTimely (observed s) f n
-      timely = to_timely (subst (λ k. IsNextOf s f k) is next)
+      timely = to_timely (subst (λ k. IsNextOf s f n k) is next)
 
       abbrev place : ℕ
       place = max (w.received n c) (f.first + length f.records)

@@ -64,7 +64,7 @@ none_again n [] = refl
 none_again n (x ∷ xs) = λ i. none_stale n x i ∷ none_again n xs i
 
 none_noted : (m : Membership) (n : ℕ) → noted m n set.empty ≡ m
-none_noted m n = λ i. record { epoch = m.epoch; nodes = none_again n m.nodes i; written = none_written m.written i }
+none_noted m n = λ i. record { epoch = m.epoch; nodes = none_again n m.nodes i; written = none_written m.written i; levels = m.levels }
 
 none_further : (l : ReceivedLog) → digested_further l 0 ≡ l
 none_further l = (let same : l.digested + 0 ≡ l.digested = omega arith in (λ i. record { log = l.log; digested = same i; at_home = l.at_home }))

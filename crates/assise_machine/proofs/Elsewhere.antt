@@ -3,14 +3,14 @@ use Rattle.std.proofs.Common.{◌≡◌, ◌≢◌, ℕ, Some, List, ap, sym}
 use Rattle.assise_history.specs.declared.call.Loss.{Loss}
 use Rattle.assise_history.specs.Legal.{durability_of}
 use Rattle.assise_machine_laws.specs.World.{Full, ahead}
-use Rattle.assise_machine_events.specs.Events.{Answer, ClusterEvent, open_client, try_call, try_fsync, outgoing, deliver, digest, release_ready, set_hot, crash, fail, back, refill, join, failed}
+use Rattle.assise_machine_events.specs.Events.{Answer, ClusterEvent, open_client, try_call, try_fsync, outgoing, deliver, digest, release_ready, set_hot, crash, fail, back, refill, join, raise, failed}
 use Rattle.assise_machine_events.specs.Happenings.{Happens}
 use Rattle.assise_machine_events.specs.Machine.{Machine}
 use Rattle.assise_machine_events.specs.MemberEvents as member
 use Rattle.assise_machine_events.specs.MemberEvents.{Failing}
 use Rattle.assise_machine.specs.EventNodes.{node_of}
 use Rattle.assise_machine.proofs.KeptFronts.{failing_area}
-use Rattle.assise_machine.proofs.Others.{crashing_leaves, delivering_leaves, digesting_leaves, fsyncing_leaves, joining_leaves, leaves_all, opening_leaves, refilling_leaves, releasing_leaves, returning_leaves, sending_leaves, setting_leaves, trying_leaves}
+use Rattle.assise_machine.proofs.Others.{crashing_leaves, delivering_leaves, digesting_leaves, fsyncing_leaves, joining_leaves, leaves_all, opening_leaves, raising_leaves, refilling_leaves, releasing_leaves, returning_leaves, sending_leaves, setting_leaves, trying_leaves}
 
 pub event_area : (m m' : Machine) (e : ClusterEvent) (a : Answer) → Happens m e a m' → (j i : ℕ) → Full m.world j → e ≢ digest j → m'.world.area j i ≡ m.world.area j i
 event_area m m' (open_client n u) a s j i there other = (opening_leaves m m' n u a s j there).area i
@@ -26,6 +26,7 @@ event_area m m' (fail n) a s j i there other = failing_area m m' n a s j i there
 event_area m m' (back n) a s j i there other = (returning_leaves m m' n a s j there).area i
 event_area m m' (refill n) a s j i there other = (refilling_leaves m m' n a s j there).area i
 event_area m m' (join n) a s j i there other = (joining_leaves m m' n a s j there).area i
+event_area m m' (raise n) a s j i there other = (raising_leaves m m' n a s j).area i
 
 -- a failure that takes a node down is answered so
 unfailed : (m m' : Machine) (n : ℕ) (a : Answer) → Failing m n a m' → ((losses : List Loss) → a ≢ failed losses) → m' ≡ m
@@ -49,3 +50,4 @@ event_ahead m m' (fail n) a s none j c there other = (leaves_all m m' j (unfaile
 event_ahead m m' (back n) a s none j c there other = (returning_leaves m m' n a s j there).ahead c
 event_ahead m m' (refill n) a s none j c there other = (refilling_leaves m m' n a s j there).ahead c
 event_ahead m m' (join n) a s none j c there other = (joining_leaves m m' n a s j there).ahead c
+event_ahead m m' (raise n) a s none j c there other = (raising_leaves m m' n a s j).ahead c

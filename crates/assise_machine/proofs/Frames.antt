@@ -10,6 +10,7 @@ use Rattle.assise_record.specs.LogFrame.{LogFrame}
 use Rattle.assise_private_log.specs.NumberedLog.{end as log_end, is_border}
 use Rattle.assise_chain.specs.Chains.{behind, chain, first_of_all}
 use Rattle.assise_record.specs.LogRecord.{LogRecord}
+use Rattle.assise_manager.specs.NodeLevels.{level_of, sends_marks}
 use Rattle.assise_chain.specs.Messages.{frame_of, message_of}
 use Rattle.assise_inode_table.specs.Effects.{contains}
 use Rattle.assise_inode_table.proofs.Making.{contains-append}
@@ -128,12 +129,16 @@ module _ (s : StateValue) (n c : ℕ) (shape : IsShaped s) (holds : ∥ Holds (o
         unfolding observed
         epoch_is = refl
 
+        marks_is : sends_marks (level_of (observed s).members.levels n) ≡ sends_marks (level_of s.members.levels n)
+        unfolding observed
+        marks_is = refl
+
         pub some_sent : (k : ℕ) → next ≡ Some k →
             frame_for (observed s) n c (next_node (observed s) n c)
-            ≡ for_node k (message_of (log_in s.nodes n c).log s.members.epoch c (log_end (log_in s.nodes k c).log) (min (client_in s.clients c).goal (log_end (log_in s.nodes n c).log)))
+            ≡ for_node k (message_of (log_in s.nodes n c).log (sends_marks (level_of s.members.levels n)) s.members.epoch c (log_end (log_in s.nodes k c).log) (min (client_in s.clients c).goal (log_end (log_in s.nodes n c).log)))
         some_sent k is =
             ap (frame_for (observed s) n c) (next_is ∙ is)
-            ∙ (λ i. for_node k (message_of (log_as i) (epoch_is i) c (received_is k (next_log k is) i) (min (goal_is i) (received_is n has i))))
+            ∙ (λ i. for_node k (message_of (log_as i) (marks_is i) (epoch_is i) c (received_is k (next_log k is) i) (min (goal_is i) (received_is n has i))))
 
     -- as the code finds it
     pub next_as : (found : Option ℕ) (listed : List ℕ) (home : ℕ) (x : ClientValue) → found ≡ behind n (chain listed home) → listed ≡ full_nodes (standings s) → home ≡ x.home → x ≡ client_in s.clients c → found ≡ next
@@ -166,9 +171,9 @@ module _ (m : Machine) (n c : ℕ) (frames more : List (LogFrame × ℕ)) (one :
 -- ---- there is something to send
 
 -- a frame without records isn't sent
-pub nothing_sent : (k epoch c first : ℕ) (rs : List LogRecord) → for_node k (frame_of epoch c first rs) ≡ [] → rs ≡ []
-nothing_sent k epoch c first [] none = refl
-nothing_sent k epoch c first (r ∷ rs) none = cc
+pub nothing_sent : (k : ℕ) (marked : Bool) (epoch c first : ℕ) (rs : List LogRecord) (last : List Bool) → for_node k (frame_of marked epoch c first rs last) ≡ [] → rs ≡ []
+nothing_sent k marked epoch c first [] last none = refl
+nothing_sent k marked epoch c first (r ∷ rs) last none = cc
 
 -- nor is it refused then
 pub never : {P : Type 0} → (P → false ≡ true) → P → ⊥

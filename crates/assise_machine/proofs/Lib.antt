@@ -4,7 +4,9 @@ pub mod Spelling
 pub mod Alone
 pub mod Copying
 pub mod Delivering
+pub mod RaisedNode
 pub mod Running
+pub mod Marked
 pub mod Opened
 pub mod Others
 pub mod KeptFronts

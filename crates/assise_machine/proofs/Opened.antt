@@ -14,7 +14,7 @@ use Rattle.assise_machine_events.specs.ClientEvents as client
 use Rattle.assise_machine_events.specs.ClientEvents.{Calling, Crashing, Noting, Opening, Syncing}
 use Rattle.assise_machine_events.specs.Dsyncs as dsync
 use Rattle.assise_machine_events.specs.Dsyncs.{Coalescing}
-use Rattle.assise_machine_events.specs.Events.{Answer, ClusterEvent, open_client, try_call, try_fsync, outgoing, deliver, digest, release_ready, set_hot, crash, fail, back, refill, join, refused, opened, replied, not_yet, sent, received, digested, released, hot_set, crashed, failed, began, left, joined, entries_of}
+use Rattle.assise_machine_events.specs.Events.{Answer, ClusterEvent, open_client, try_call, try_fsync, outgoing, deliver, digest, release_ready, set_hot, crash, fail, back, refill, join, raise, refused, opened, replied, not_yet, sent, received, digested, released, hot_set, crashed, failed, began, left, joined, raised, entries_of}
 use Rattle.assise_machine_events.specs.Happenings.{Dsyncing, Fsyncing, Happens, Trying}
 use Rattle.assise_machine_events.specs.Machine.{Holds, Machine}
 use Rattle.assise_machine_events.specs.MemberEvents as member
@@ -47,6 +47,7 @@ opens_or (failed losses) = inr (record { never = λ c is. cc; none = refl; stock
 opens_or (began stale) = inr (record { never = λ c is. cc; none = refl; stock = λ k. refl })
 opens_or (left stale) = inr (record { never = λ c is. cc; none = refl; stock = λ k. refl })
 opens_or joined = inr (record { never = λ c is. cc; none = refl; stock = λ k. refl })
+opens_or raised = inr (record { never = λ c is. cc; none = refl; stock = λ k. refl })
 
 in_none : (c : ℕ) → Contains [] c → ⊥
 in_none c (k, low, is) = omega (arith, low)
@@ -164,6 +165,8 @@ event_next m m' (refill n) c (member.is_refused r fault is same) = cc
 event_next m m' (join n) c (member.is_joined fine is e) = cc
 event_next m m' (join n) c (member.lacks_memory fine is same) = cc
 event_next m m' (join n) c (member.is_refused r fault is same) = cc
+event_next m m' (raise n) c (member.is_raised fine is e) = cc
+event_next m m' (raise n) c (member.is_refused r fault is same) = cc
 
 served_next : (k : ℕ) (m m' : Machine) (e : ClusterEvent) (c : ℕ) → IsServed k m e (opened c) m' → OpensNext m m' c
 served_next k m m' e c (happens step) = event_next m m' e c step

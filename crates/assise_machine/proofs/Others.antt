@@ -25,7 +25,7 @@ use Rattle.assise_machine_events.specs.Events.{Answer}
 use Rattle.assise_machine_events.specs.Happenings.{Dsyncing, Fsyncing, Trying}
 use Rattle.assise_machine_events.specs.Machine.{Machine}
 use Rattle.assise_machine_events.specs.MemberEvents as member
-use Rattle.assise_machine_events.specs.MemberEvents.{Joining, Refilling, Returning}
+use Rattle.assise_machine_events.specs.MemberEvents.{Joining, Raising, Refilling, Returning}
 use Rattle.assise_machine_events.specs.NodeEvents as node
 use Rattle.assise_machine_events.specs.NodeEvents.{Delivering, Digesting, DigestsTo, Gone, LetsGo, Releasing, Sending, SettingHot, world_after}
 use Rattle.assise_machine_events.proofs.Granting.{clients_after, full_after, logs_after, nodes_after}
@@ -69,6 +69,10 @@ pub setting_leaves : (m m' : Machine) (n : ℕ) (a : Answer) → SettingHot m n 
 setting_leaves m m' n a (node.is_set fine is same) j = leaves_all m m' j same
 setting_leaves m m' n a (node.lacks_memory fine is same) j = leaves_all m m' j same
 setting_leaves m m' n a (node.is_refused r fault is same) j = leaves_all m m' j same
+
+pub raising_leaves : (m m' : Machine) (n : ℕ) (a : Answer) → Raising m n a m' → (j : ℕ) → Leaves m.world m'.world j
+raising_leaves m m' n a (member.is_raised fine is e) j = subst (λ w. Leaves m.world w j) (sym e.world) (leaves_all m m j refl)
+raising_leaves m m' n a (member.is_refused r fault is same) j = leaves_all m m' j same
 
 pub crashing_leaves : (m m' : Machine) (c : ℕ) (a : Answer) → Crashing m c a m' → (j : ℕ) → Full m.world j → Leaves m.world m'.world j
 crashing_leaves m m' c a (client.is_crashed fine is e) j there = leaves_nodes m.world m'.world j e.crash.crash.logs e.crash.crash.nodes there

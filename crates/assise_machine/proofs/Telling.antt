@@ -4,7 +4,7 @@ use Rattle.assise_history.specs.Entries.{Event as Entry}
 use Rattle.assise_machine_events.specs.Events.{all_entries, entries_of}
 use Rattle.assise_machine.specs.declared.answer.Answer.{Answer}
 use Rattle.assise_machine.specs.declared.event.Event.{Event}
-use Rattle.assise_machine.specs.declared.event.Event.TheVariants.{Open, Call, Fsync, Outgoing, Deliver, Digest, ReleaseReady, SetHot, Crash, Fail, Back, Refill, Join}
+use Rattle.assise_machine.specs.declared.event.Event.TheVariants.{Open, Call, Fsync, Outgoing, Deliver, Digest, ReleaseReady, SetHot, Crash, Fail, Back, Refill, Join, Raise}
 use Rattle.assise_machine.specs.Headline.{entry_of, history_after}
 use Rattle.assise_machine.specs.Running.{answer_seen, event_seen, told}
 
@@ -22,6 +22,7 @@ same_entry h (Fail n) a = search rules
 same_entry h (Back n) a = refl
 same_entry h (Refill n) a = refl
 same_entry h (Join n) a = search rules
+same_entry h (Raise n) a = refl
 
 pub history_told : (h : List Entry) (es : List Event) (bs : List Answer) → history_after h es bs ≡ h ++ all_entries h (told es bs)
 history_told h [] bs = sym (append-nil h)

@@ -37,7 +37,7 @@ none_written (list ∷ lists) inodes none = absurd (omega (arith, none))
 pub nothing_noted : (m : Membership) (n : ℕ) (inodes : set.FinSet nat_cmp) → length m.nodes ≤ length (full_nodes m.nodes) → NoneListed m → noted m n inodes ≡ m
 nothing_noted m n inodes many none =
     let all = all_are_full 1 m.nodes many in
-    (λ i. record { epoch = m.epoch; nodes = none_again n inodes m.nodes all i; written = none_written m.written inodes (none all) i })
+    (λ i. record { epoch = m.epoch; nodes = none_again n inodes m.nodes all i; written = none_written m.written inodes (none all) i; levels = m.levels })
 
 -- ---- and it stays so
 

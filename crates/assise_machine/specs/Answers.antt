@@ -2,7 +2,7 @@
 use Rattle.std.specs.Prelude.{ℕ, ⊤, Result, Ok, Err}
 use Rattle.std.specs.Global.{Vec}
 use Rattle.assise_names.specs.declared.refusal.Refusal.{Refusal}
-use Rattle.assise_machine_events.specs.Events.{Answer, digested, hot_set, received, refused, sent}
+use Rattle.assise_machine_events.specs.Events.{Answer, digested, hot_set, raised, received, refused, sent}
 use Rattle.assise_record.specs.LogFrame.{LogFrame}
 
 abbrev pub delivery_answer : Result ℕ Refusal → Answer
@@ -20,3 +20,7 @@ digesting_answer (Err refusal) = refused refusal
 abbrev pub setting_answer : Result ⊤ Refusal → Answer
 setting_answer (Ok _) = hot_set
 setting_answer (Err refusal) = refused refusal
+
+abbrev pub raising_answer : Result ⊤ Refusal → Answer
+raising_answer (Ok _) = raised
+raising_answer (Err refusal) = refused refusal

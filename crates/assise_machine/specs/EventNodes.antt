@@ -1,7 +1,7 @@
 -- Where an event happens.
 use Rattle.std.specs.Prelude.{ℕ, Option, Some, None}
 use Rattle.assise_machine_laws.specs.World.{World}
-use Rattle.assise_machine_events.specs.Events.{ClusterEvent, open_client, try_call, try_fsync, outgoing, deliver, digest, release_ready, set_hot, crash, fail, back, refill, join}
+use Rattle.assise_machine_events.specs.Events.{ClusterEvent, open_client, try_call, try_fsync, outgoing, deliver, digest, release_ready, set_hot, crash, fail, back, refill, join, raise}
 
 -- a client's event happens at the client's home, and leases are released at no one node
 abbrev pub node_of : World → ClusterEvent → Option ℕ
@@ -18,3 +18,4 @@ node_of w (fail n) = Some n
 node_of w (back n) = Some n
 node_of w (refill n) = Some n
 node_of w (join n) = Some n
+node_of w (raise n) = Some n

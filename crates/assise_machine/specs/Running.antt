@@ -8,17 +8,17 @@ use Rattle.assise_names.specs.declared.refusal.Refusal.TheVariants.{BadClient}
 use Rattle.assise_private_log.specs.NumberedLog.{NumberedLog}
 use Rattle.assise_machine_calls.specs.Answers.{crashing_answer, turn_answer}
 use Rattle.assise_machine_calls.specs.Asked.{CutsAreAnswers}
-use Rattle.assise_machine_events.specs.Events.{Answer, ClusterEvent, back, crash, deliver, digest, fail, join, open_client, opened, outgoing, refill, refused, release_ready, released, set_hot, try_call, try_fsync}
+use Rattle.assise_machine_events.specs.Events.{Answer, ClusterEvent, back, crash, deliver, digest, fail, join, open_client, raise, opened, outgoing, refill, refused, release_ready, released, set_hot, try_call, try_fsync}
 use Rattle.assise_machine_events.specs.Faults.{open_fault}
 use Rattle.assise_machine_events.specs.Happenings.{Happens}
 use Rattle.assise_machine_events.specs.Machine.{Machine}
 use Rattle.assise_machine_failures.specs.Answers.{failing_answer, joining_answer, refilling_answer, returning_answer}
 use Rattle.assise_machine.specs.declared.answer.Answer.{Answer as Answered}
-use Rattle.assise_machine.specs.declared.answer.Answer.TheVariants.{Opened, Called, Sent, Received, Digested, Released, HotSet, Crashed, Failed, Began, Left, Joined}
+use Rattle.assise_machine.specs.declared.answer.Answer.TheVariants.{Opened, Called, Sent, Received, Digested, Released, HotSet, Crashed, Failed, Began, Left, Joined, Raised}
 use Rattle.assise_machine.specs.declared.cluster.ClusterOf.{ClusterOf}
 use Rattle.assise_machine.specs.declared.event.Event.{Event}
-use Rattle.assise_machine.specs.declared.event.Event.TheVariants.{Open, Call, Fsync, Outgoing, Deliver, Digest, ReleaseReady, SetHot, Crash, Fail, Back, Refill, Join}
-use Rattle.assise_machine.specs.Answers.{delivery_answer, digesting_answer, sending_answer, setting_answer}
+use Rattle.assise_machine.specs.declared.event.Event.TheVariants.{Open, Call, Fsync, Outgoing, Deliver, Digest, ReleaseReady, SetHot, Crash, Fail, Back, Refill, Join, Raise}
+use Rattle.assise_machine.specs.Answers.{delivery_answer, digesting_answer, raising_answer, sending_answer, setting_answer}
 use Rattle.assise_machine.specs.Clusters.{machine, revokers}
 
 abbrev pub event_seen : Event → ClusterEvent
@@ -35,6 +35,7 @@ event_seen (Fail n) = fail n
 event_seen (Back n) = back n
 event_seen (Refill n) = refill n
 event_seen (Join n) = join n
+event_seen (Raise n) = raise n
 
 abbrev pub opened_answer : Result ℕ Refusal → Answer
 opened_answer (Ok client) = opened client
@@ -53,6 +54,7 @@ answer_seen (Failed result) = failing_answer result
 answer_seen (Began result) = returning_answer result
 answer_seen (Left result) = refilling_answer result
 answer_seen (Joined result) = joining_answer result
+answer_seen (Raised result) = raising_answer result
 
 -- each event with its answer
 abbrev pub told : List Event → List Answered → List (ClusterEvent × Answer)

@@ -30,4 +30,6 @@ pub enum Answer {
     Left(Result<usize, Refusal>),
     /// Whether a node is full again.
     Joined(Result<(), Refusal>),
+    /// Whether a node was raised.
+    Raised(Result<(), Refusal>),
 }

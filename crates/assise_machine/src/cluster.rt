@@ -2,6 +2,7 @@
 use crate::delivery::{deliver, deliver_copy};
 use crate::digesting::digest;
 use crate::hot::set_hot;
+use crate::raising::raise;
 use crate::sending::outgoing;
 use assise_digest::region::Region;
 use assise_history::growing::Growing;
@@ -36,9 +37,9 @@ pub struct ClusterOf<C> {
 pub type Cluster = ClusterOf<Revoker>;
 
 impl<C: Revokes + Drop> ClusterOf<C> {
-    ghost use Rattle.std.specs.Prelude.{◌≡◌, ◌↔◌, ◌+◌, ◌<◌, ◌≤◌, ℕ, [], Err, IfErr, IfOk, IsOk, IsOkUnless, List, None, OnErr, OnOk, length};
+    ghost use Rattle.std.specs.Prelude.{◌≡◌, ◌↔◌, ◌+◌, ◌<◌, ◌≤◌, ℕ, [], Err, IfErr, IfOk, IsOk, IsOkUnless, IsSome, List, None, OnErr, OnOk, length};
     ghost use Rattle.assise_names.specs.declared.refusal.Refusal.{Refusal as Refused};
-    ghost use Rattle.assise_names.specs.declared.refusal.Refusal.TheVariants.{BadClient, OutOfMemory};
+    ghost use Rattle.assise_names.specs.declared.refusal.Refusal.TheVariants.{BadClient, BadNode, OutOfMemory};
     ghost use Rattle.assise_seq_tree.specs.Runs.{tree_after_calls};
     ghost use Rattle.assise_seq_tree.specs.Tree.{opening};
     ghost use Rattle.assise_history.specs.Legal.{IsLegal, durability_of};
@@ -46,6 +47,8 @@ impl<C: Revokes + Drop> ClusterOf<C> {
     ghost use Rattle.assise_digest.specs.Region.{alone};
     ghost use Rattle.assise_inode_table.specs.Traces.{ops};
     ghost use Rattle.assise_lease_table.specs.Tables.{Enrols, SameRevokers};
+    ghost use Rattle.assise_manager.specs.NodeLevels.{level_of, newest};
+    ghost use Rattle.assise_manager.specs.Standings.{standing_of};
     ghost use Rattle.assise_machine_laws.specs.World.{IsClient, alone as alone_observed, received_by_all};
     ghost use Rattle.assise_machine_history.specs.Courses.{firm_calls};
     ghost use Rattle.assise_machine_events.specs.ClientEvents.{Crashing, Opening};
@@ -53,13 +56,13 @@ impl<C: Revokes + Drop> ClusterOf<C> {
     ghost use Rattle.assise_machine_events.specs.Faults.{node_fault, open_fault};
     ghost use Rattle.assise_machine_events.specs.Happenings.{Fsyncing, Trying};
     ghost use Rattle.assise_machine_events.specs.Machine.{begun_as, state_of};
-    ghost use Rattle.assise_machine_events.specs.MemberEvents.{Failing, Joining, Refilling, Returning};
+    ghost use Rattle.assise_machine_events.specs.MemberEvents.{Failing, Joining, Raising, Refilling, Returning};
     ghost use Rattle.assise_machine_events.specs.NodeEvents.{Delivering, Digesting, Releasing, Sending, SettingHot};
     ghost use Rattle.assise_machine_calls.specs.Answers.{crashing_answer, opening_answer, turn_answer};
     ghost use Rattle.assise_machine_calls.specs.Asked.{CutsAreAnswers};
     ghost use Rattle.assise_machine_failures.specs.Answers.{failing_answer, joining_answer, refilling_answer, returning_answer};
     ghost use Rattle.assise_machine_state.specs.NodeValues.{with_hot_in};
-    ghost use Rattle.assise_machine.specs.Answers.{delivery_answer, digesting_answer, sending_answer, setting_answer};
+    ghost use Rattle.assise_machine.specs.Answers.{delivery_answer, digesting_answer, raising_answer, sending_answer, setting_answer};
     ghost use Rattle.assise_machine.specs.Clusters.{AreAcked, HaveCapacity, machine, region_of, revokers};
     ghost use Rattle.assise_machine.specs.Headline.{IsUp, acked_to, history_of, regions_of};
 
@@ -251,6 +254,32 @@ impl<C: Revokes + Drop> ClusterOf<C> {
         ensures revokers { SameRevokers (revokers self.old) (revokers self.new) }
     {
         join(alloc, &mut self.sound, node)
+    }
+
+    /// A full node at level 1 is at level 2 then: it reads frames of version 2, too, and sends them. Refused with
+    /// [`Refusal::BadNode`] where there is no such node, and [`Refusal::WrongPhase`] where it isn't full or was raised; what is
+    /// refused leaves all as it was. It takes no memory.
+    pub fn raise(&mut self, node: u32) -> Result<(), Refusal>
+        ensures happens { Raising (machine self.old) node (raising_answer result)
+            (machine self.new) }
+        ensures revokers { SameRevokers (revokers self.old) (revokers self.new) }
+    {
+        raise(&mut self.sound, node)
+    }
+
+    /// The newest version of frames that a node reads, 1 or 2, which it sends. The one refusal is [`Refusal::BadNode`].
+    pub fn level(&self, node: u32) -> Result<u8, Refusal>
+        ensures level { IfOk result
+            (λ level. level ≡ newest (level_of (machine self.now).members.levels node)) }
+        ensures ok { IsOk result ↔ IsSome (standing_of (machine self.now).members.nodes node) }
+        ensures known { IfOk result (λ level. (1 ≤ level) × (level ≤ 2)) }
+        ensures only_bad { IsOkUnless result BadNode }
+    {
+        let members = &self.sound.state.members;
+        match members.phase(node) {
+            Ok(_) => Ok(members.level(node).newest()),
+            Err(refusal) => Err(refusal),
+        }
     }
 
     /// What was answered and what happened, in order. It is legal.

@@ -1,18 +1,18 @@
 // Records that come to a node.
-ghost use Rattle.std.specs.Prelude.{◌≡◌, ◌<◌, ◌≤◌, IfNone, IfOk, IfSome, IsOkUnless, None, Some, false, length, take, true};
+ghost use Rattle.std.specs.Prelude.{◌≡◌, ◌+◌, ◌<◌, ◌≤◌, ◌^◌, IfNone, IfOk, IfSome, IsOkUnless, None, Some, false, length, take, true};
 ghost use Rattle.assise_names.specs.declared.refusal.Refusal.{Refusal as Refused};
 ghost use Rattle.assise_names.specs.declared.refusal.Refusal.TheVariants.{OutOfMemory, StaleMessage};
 ghost use Rattle.assise_lease_table.specs.Tables.{SameRevokers};
 ghost use Rattle.assise_lease_tree.specs.Trees.{stored_by};
-ghost use Rattle.assise_private_log.specs.NumberedLog.{records_from};
+ghost use Rattle.assise_private_log.specs.NumberedLog.{is_border, records_from};
 ghost use Rattle.assise_digest.specs.Region.{AreWhole};
-ghost use Rattle.assise_machine_events.specs.Faults.{IsTimely, delivery_fault};
+ghost use Rattle.assise_machine_events.specs.Faults.{IsTimely, delivery_fault, end_marks};
 ghost use Rattle.assise_machine_events.specs.NodeEvents.{Delivering};
 ghost use Rattle.assise_machine_state.specs.Places.{IsNumber};
 ghost use Rattle.assise_machine_state.specs.Shape.{IsShaped};
 ghost use Rattle.assise_machine_state.specs.Whole.{machine_of, value_of};
 ghost use Rattle.assise_machine.specs.Answers.{delivery_answer};
-ghost use Rattle.assise_machine.specs.Taking.{HasRoomFor, IsNextOf, lacking, own_log};
+ghost use Rattle.assise_machine.specs.Taking.{HasMarksOf, HasRoomFor, IsNextOf, lacking, own_log};
 
 use crate::faults::node_refusal;
 use assise_chain::acceptance::is_timely;
@@ -29,8 +29,9 @@ use std::alloc::Global;
 /// then. Nothing of the sender is trusted: a frame may come in any order, and again and again, and what the node has of it is
 /// passed over.
 ///
-/// Refused as [`delivery_refusal`] says, and with [`Refusal::StaleMessage`] where the frame is of another epoch, leaves a gap, or
-/// has a record that the node lacks and that isn't next in the client's own log, or ends inside a group of it. What is refused
+/// Refused as [`delivery_refusal`] says, and with [`Refusal::StaleMessage`] where the frame is of another epoch, is of a version
+/// that the node doesn't read, leaves a gap, or has a record that the node lacks and that isn't next in the client's own log, ends
+/// inside a group of it, or has other marks. What is refused
 /// leaves all as it was. It takes no memory.
 pub(crate) fn deliver<C: Revokes + Drop>(
     sound: &mut SoundOf<C>,
@@ -46,7 +47,7 @@ pub(crate) fn deliver<C: Revokes + Drop>(
     }
     let client = frame.client();
     let received = state.nodes.region(node).log(client as usize).end();
-    if !is_next(state, &frame, received) {
+    if !is_next(state, &frame, node, received) {
         return Err(Refusal::StaleMessage);
     }
     let place = frame.first() + frame.records().len() as u64;
@@ -92,7 +93,7 @@ fn frame_refusal<C: Revokes + Drop>(sound: &SoundOf<C>, frame: &Frame, node: u32
     }
     let client = frame.client();
     let received = state.nodes.region(node).log(client as usize).end();
-    if is_next(state, frame, received) {
+    if is_next(state, frame, node, received) {
         None
     } else {
         Some(Refusal::StaleMessage)
@@ -117,31 +118,64 @@ pub(crate) fn delivery_refusal<C: Revokes + Drop>(
     None
 }
 
-/// Whether a frame is of this epoch, leaves no gap behind what was received, and goes on as the client's own log does, up to the
-/// end of a group.
-fn is_next<C: Revokes + Drop>(state: &StateOf<C>, frame: &Frame, received: u64) -> bool
+/// Whether a frame is of this epoch and of a version that a node reads, leaves no gap behind what was received, and goes on as the
+/// client's own log does, with its groups, up to the end of one.
+fn is_next<C: Revokes + Drop>(state: &StateOf<C>, frame: &Frame, node: u32, received: u64) -> bool
     requires client { IsNumber state.now.clients frame.now.client }
     requires shape { IsShaped (value_of state.now) }
     requires begun { (own_log (value_of state.now) frame.now.client).first ≤ received }
-    ensures timely { result ≡ true → IsNextOf (value_of state.now) frame.now received }
-    ensures stale { result ≡ false → IsNextOf (value_of state.now) frame.now received → ⊥ }
+    ensures timely { result ≡ true → IsNextOf (value_of state.now) frame.now node received }
+    ensures stale { result ≡ false → IsNextOf (value_of state.now) frame.now node received → ⊥ }
     ensures room { result ≡ true → 0 < length (lacking frame.now received) → HasRoomFor (own_log (value_of state.now) frame.now.client) received (length (lacking frame.now received)) }
     ensures whole { result ≡ true → AreWhole (lacking frame.now received) }
 {
     if !is_timely(frame, received, state.members.epoch()) {
         return false;
     }
+    if frame.version() > state.members.level(node).newest() {
+        return false;
+    }
+    let client = frame.client();
+    let own = state.own_region(client).log(client as usize);
+    if !has_own_marks(own, frame, received) {
+        return false;
+    }
     let had = received - frame.first();
     if frame.records().len() as u64 <= had {
         return true;
     }
-    let client = frame.client();
-    let own = state.own_region(client).log(client as usize);
     let new = &frame.records()[had as usize..];
     let passed = (received - own.first()) as usize;
     new.len() <= own.len().saturating_sub(passed)
         && own.is_border(frame.first() + frame.records().len() as u64)
         && goes_on_with(own, received, new)
+}
+
+/// Whether a frame's marks, if it has some, are those of a log, from what was received on.
+fn has_own_marks(log: &Log, frame: &Frame, received: u64) -> bool
+    requires no_gap { frame.now.first ≤ received }
+    ensures same { result ≡ true → HasMarksOf log.now frame.now received }
+    ensures other { result ≡ false → HasMarksOf log.now frame.now received → ⊥ }
+{
+    let had = (received - frame.first()) as usize;
+    match frame.last().get(had..) {
+        Some(marks) => has_marks(log, received, marks),
+        None => true,
+    }
+}
+
+/// Whether these are the marks of a log's records from a number on: whether each is the last of its group.
+fn has_marks(log: &Log, from: u64, marks: &[bool]) -> bool
+    requires fits { from + length marks.now < 2 ^ 64 }
+    ensures same { result ≡ true →
+        marks.now ≡ end_marks (is_border log.now) from (length marks.now) }
+    ensures other { result ≡ false →
+        marks.now ≡ end_marks (is_border log.now) from (length marks.now) → ⊥ }
+{
+    let Some((first, rest)) = marks.split_first() else {
+        return true;
+    };
+    *first == log.is_border(from + 1) && has_marks(log, from + 1, rest)
 }
 
 /// Whether a log's records from a number on begin with these.

@@ -33,4 +33,6 @@ pub enum Event {
     Refill(u32),
     /// A node that came back is full again.
     Join(u32),
+    /// A node reads and sends marked frames from now on.
+    Raise(u32),
 }

@@ -11,6 +11,7 @@ pub mod headline;
 pub mod hot;
 pub mod laws;
 mod progress;
+mod raising;
 pub mod run;
 mod sending;
 

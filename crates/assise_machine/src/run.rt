@@ -100,6 +100,7 @@ pub fn apply_event<C: Revokes + Drop>(
         Event::Back(node) => Answer::Began(cluster.back(*node)),
         Event::Refill(node) => Answer::Left(cluster.refill(alloc, *node)),
         Event::Join(node) => Answer::Joined(cluster.join(alloc, *node)),
+        Event::Raise(node) => Answer::Raised(cluster.raise(*node)),
     }
 }
 

@@ -23,7 +23,7 @@ use std::alloc::Global;
 
 /// What a node sends: for each client by rising number at most one frame, for the node behind it in the chain that begins at the
 /// client's home. It has the records that the other lacks, up to the place up to which the client's log is to be replicated, 64
-/// at most. Payloads are shared. Refused as [`node_refusal`] says, and with [`Refusal::OutOfMemory`].
+/// at most, and is of the version that the node sends. Payloads are shared. Refused as [`node_refusal`] says, and with [`Refusal::OutOfMemory`].
 pub fn outgoing<C: Revokes + Drop>(
     alloc: Global,
     sound: &SoundOf<C>,
@@ -68,6 +68,7 @@ fn frame_of<C: Revokes + Drop>(
     let log = state.nodes.region(node).log(client as usize);
     let from = state.nodes.region(next).log(client as usize).end();
     let to = known.goal().min(log.end());
-    let frame = message(alloc, log, state.members.epoch(), client, from, to)?;
+    let marked = state.members.level(node).sends_marks();
+    let frame = message(alloc, log, marked, state.members.epoch(), client, from, to)?;
     Ok(frame.map(|frame| (frame, next)))
 }

@@ -5,7 +5,7 @@ use Rattle.assise_names.specs.declared.call.Op.TheVariants.{Create, Mkdir, Read,
 use Rattle.assise_names.specs.declared.durability.Durability.{Durability}
 use Rattle.assise_names.specs.declared.durability.Durability.TheVariants.{Pessimistic, Optimistic}
 use Rattle.assise_history.specs.Legal.{durability_of, is_sync}
-use Rattle.assise_machine_events.specs.Events.{Answer, ClusterEvent, open_client, try_call, try_fsync, outgoing, deliver, digest, release_ready, set_hot, crash, fail, back, refill, join, entries_of}
+use Rattle.assise_machine_events.specs.Events.{Answer, ClusterEvent, open_client, try_call, try_fsync, outgoing, deliver, digest, release_ready, set_hot, crash, fail, back, refill, join, raise, entries_of}
 use Rattle.assise_machine_events.specs.Happenings.{Dsyncing, Fsyncing, Happens, Leads, Trying}
 use Rattle.assise_machine_events.specs.Machine.{Machine, Holds}
 use Rattle.assise_machine_events.specs.NodeEvents.{Sending, SettingHot, is_sent, is_set, is_refused, lacks_memory}
@@ -17,10 +17,11 @@ use Rattle.assise_machine_events.proofs.Felled.{fail_leads, fail_holds}
 use Rattle.assise_machine_events.proofs.Leading.{same_leads, same_holds}
 use Rattle.assise_machine_events.proofs.Letting.{release_leads, release_holds}
 use Rattle.assise_machine_events.proofs.Noding.{delivery_leads, delivery_keeps}
+use Rattle.assise_machine_events.proofs.Raised.{raise_leads, raise_holds}
 use Rattle.assise_machine_events.proofs.Rejoined.{join_leads, join_holds}
 use Rattle.assise_machine_events.proofs.Resting.{return_leads, return_holds, refill_leads, refill_holds}
 use Rattle.assise_machine_events.proofs.Syncing.{noting_leads, noting_keeps, syncing_leads, syncing_keeps}
-use Rattle.assise_machine_events.proofs.Telling.{opening_told, trying_told, fsyncing_told, sending_told, delivering_told, digesting_told, releasing_told, hot_told, crashing_told, failing_told, returning_told, refilling_told, joining_told}
+use Rattle.assise_machine_events.proofs.Telling.{opening_told, trying_told, fsyncing_told, sending_told, delivering_told, digesting_told, releasing_told, hot_told, crashing_told, failing_told, returning_told, refilling_told, joining_told, raising_told}
 
 -- ---- what is told
 
@@ -38,6 +39,7 @@ event_told m m' (fail n) a h = failing_told m m' n a h
 event_told m m' (back n) a h = returning_told m m' n a h
 event_told m m' (refill n) a h = refilling_told m m' n a h
 event_told m m' (join n) a h = joining_told m m' n a h
+event_told m m' (raise n) a h = raising_told m m' n a h
 
 -- ---- frames that go out, what may be hot, and calls that are syncs
 
@@ -121,6 +123,7 @@ event_leads m m' (fail n) a h s = fail_leads m m' n a h s
 event_leads m m' (back n) a h s = return_leads m m' n a h s
 event_leads m m' (refill n) a h s = refill_leads m m' n a h s
 event_leads m m' (join n) a h s = join_leads m m' n a h s
+event_leads m m' (raise n) a h s = raise_leads m m' n a s
 
 pub event_keeps : (m m' : Machine) (e : ClusterEvent) (a : Answer) → Holds m → Happens m e a m' → Holds m'
 event_keeps m m' (open_client n u) a h s = opening_keeps m m' n u a h s
@@ -136,3 +139,4 @@ event_keeps m m' (fail n) a h s = fail_holds m m' n a h s
 event_keeps m m' (back n) a h s = return_holds m m' n a h s
 event_keeps m m' (refill n) a h s = refill_holds m m' n a h s
 event_keeps m m' (join n) a h s = join_holds m m' n a h s
+event_keeps m m' (raise n) a h s = raise_holds m m' n a h s

@@ -12,6 +12,7 @@ pub mod Noding
 pub mod Letting
 pub mod Digested
 pub mod Resting
+pub mod Raised
 pub mod Rejoined
 pub mod Felled
 pub mod Beginning

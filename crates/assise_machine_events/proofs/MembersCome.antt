@@ -19,9 +19,11 @@ use Rattle.assise_machine_laws.specs.NodeSteps.{Fails, kept_at_failure}
 use Rattle.assise_machine_laws.specs.World.{World, end, records_between}
 use Rattle.assise_machine_returns.proofs.Lacking.{refilled_stale}
 use Rattle.assise_machine_returns.proofs.Standing.{same_stale}
-use Rattle.assise_machine_events.specs.Events.{began, fail, failed, back, joined, left, refused}
+use Rattle.assise_manager.specs.declared.level.Level.TheVariants.{Plain}
+use Rattle.assise_manager.specs.Changes.{raised as with_raised}
+use Rattle.assise_machine_events.specs.Events.{began, fail, failed, back, joined, left, raise, raised, refused}
 use Rattle.assise_machine_events.specs.Machine.{Holds, Machine}
-use Rattle.assise_machine_events.specs.MemberEvents.{Failing, IsRefilled, Joining, Refilling, Returning, count_of, stale_at, is_back, is_failed, is_failed_again, is_refilled, is_whole, is_refused, lacks_memory}
+use Rattle.assise_machine_events.specs.MemberEvents.{Failing, IsRefilled, Joining, Raising, Refilling, Returning, count_of, stale_at, is_back, is_failed, is_failed_again, is_raised, is_refilled, is_whole, is_refused, lacks_memory}
 use Rattle.assise_machine_events.specs.Reached.{Comes, IsReached}
 use Rattle.assise_machine_events.proofs.Befalling.{back_can, joined_can, refilled_can}
 use Rattle.assise_machine_events.proofs.Course.{reaches, start, start_holds, start_reached}
@@ -33,7 +35,7 @@ use Rattle.assise_machine_events.proofs.Failable.{failed_can}
 
 -- node 2 failed in its first epoch, while these inodes may not be everywhere
 abbrev pub with_down : Numbers → Membership
-with_down inodes = record { epoch = 2; nodes = full ∷ down 2 ∷ []; written = inodes ∷ [] }
+with_down inodes = record { epoch = 2; nodes = full ∷ down 2 ∷ []; written = inodes ∷ []; levels = Plain ∷ Plain ∷ [] }
 
 -- node 2 failed where both nodes were full
 pub record IsDown (limit : ℕ) (m : Machine) (inodes : Numbers) (m' : Machine) : Type 0 where
@@ -169,6 +171,32 @@ joined_comes =
 
 pub not_joined_for_memory_comes : Comes (λ m m'. Joining m 2 (refused OutOfMemory) m')
 not_joined_for_memory_comes = (let (m, b) = back_at_start in record { limit = 0; before = m; reached = b.reached; after = m; outcome = lacks_memory (may_join m b) refl refl })
+
+-- ---- node 1 is raised
+
+abbrev raised_start : Machine
+raised_start = record {
+  limit = (start 0).limit;
+  history = (start 0).history;
+  world = (start 0).world;
+  leases = (start 0).leases;
+  members = with_raised (start 0).members 1;
+}
+
+raising_start : Raising (start 0) 1 raised raised_start
+raising_start = is_raised refl refl (record { members = refl; world = refl; leases = refl; adds = record { history = refl; limit = refl } })
+
+pub raised_comes : Comes (λ m m'. Raising m 1 raised m')
+raised_comes = record { limit = 0; before = start 0; reached = start_reached 0; after = raised_start; outcome = raising_start }
+
+pub not_raised_comes : Comes (λ m m'. Raising m 1 (refused WrongPhase) m')
+not_raised_comes = record {
+  limit = 0;
+  before = raised_start;
+  reached = reaches 0 (start 0) raised_start (raise 1) raised (start_reached 0) raising_start;
+  after = raised_start;
+  outcome = is_refused WrongPhase refl refl refl;
+}
 
 -- ---- where a file was made, it lacks the root
 

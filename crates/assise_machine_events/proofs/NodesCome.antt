@@ -80,9 +80,11 @@ module _ (m : Machine) (o : HasFile 1 m) where
   timely : IsTimely m (file_frame 1) 2
   timely = record {
     this_epoch = rw o.members refl;
+    known = rw o.members (omega arith);
     no_gap = omega arith;
     own = rw (o.received_other, o.first, o.records) refl;
     whole = o.borders 1 (place_after m (file_frame 1) 2) (rw (place, file_end) (omega arith));
+    marks = λ is. cc;
   }
 
   late : IsTimely m (file_frame 0) 2 → ⊥

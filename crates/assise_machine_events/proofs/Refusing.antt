@@ -7,12 +7,12 @@ use Rattle.assise_names.specs.declared.durability.Durability.TheVariants.{Pessim
 use Rattle.assise_names.specs.declared.refusal.Refusal.{Refusal}
 use Rattle.assise_history.specs.Legal.{durability_of}
 use Rattle.assise_record.specs.LogFrame.{LogFrame}
-use Rattle.assise_machine_events.specs.Events.{refused, ClusterEvent, open_client, try_call, try_fsync, outgoing, deliver, digest, release_ready, set_hot, crash, fail, back, refill, join, is_call}
+use Rattle.assise_machine_events.specs.Events.{refused, ClusterEvent, open_client, try_call, try_fsync, outgoing, deliver, digest, release_ready, set_hot, crash, fail, back, refill, join, raise, is_call}
 use Rattle.assise_machine_events.specs.Happenings.{Fsyncing, Happens}
 use Rattle.assise_machine_events.specs.Machine.{Machine}
 use Rattle.assise_machine_events.specs.ClientEvents.{Opening, Syncing, Noting, Crashing, Calling, is_answered, is_awaited, is_crashed, is_full, is_noted, is_opened, is_refused, is_replicating, is_spent, is_synced, lacks_memory}
 use Rattle.assise_machine_events.specs.NodeEvents.{Sending, Delivering, Digesting, Releasing, SettingHot, is_delivered, is_digested, is_refused, is_released, is_sent, is_set, is_stale, lacks_memory}
-use Rattle.assise_machine_events.specs.MemberEvents.{Failing, Returning, Refilling, Joining, is_back, is_failed, is_failed_again, is_joined, is_refilled, is_refused, is_whole, lacks_memory}
+use Rattle.assise_machine_events.specs.MemberEvents.{Failing, Returning, Refilling, Joining, Raising, is_back, is_failed, is_failed_again, is_joined, is_raised, is_refilled, is_refused, is_whole, lacks_memory}
 
 opening_same : (m m' : Machine) (n : ℕ) (u : Durability) (r : Refusal) → Opening m n u (refused r) m' → m' ≡ m
 opening_same m m' n u r (is_opened fine is e) = cc
@@ -85,6 +85,10 @@ joining_same m m' n r (is_joined fine is e) = cc
 joining_same m m' n r (lacks_memory fine is same) = same
 joining_same m m' n r (is_refused other fault is same) = same
 
+raising_same : (m m' : Machine) (n : ℕ) (r : Refusal) → Raising m n (refused r) m' → m' ≡ m
+raising_same m m' n r (is_raised fine is e) = cc
+raising_same m m' n r (is_refused other fault is same) = same
+
 pub refused_same : (m m' : Machine) (e : ClusterEvent) (r : Refusal) → is_call e ≡ false → Happens m e (refused r) m' → m' ≡ m
 refused_same m m' (open_client n u) r own h = opening_same m m' n u r h
 refused_same m m' (try_call c op) r own h = cc
@@ -99,6 +103,7 @@ refused_same m m' (fail n) r own h = failing_same m m' n r h
 refused_same m m' (back n) r own h = returning_same m m' n r h
 refused_same m m' (refill n) r own h = refilling_same m m' n r h
 refused_same m m' (join n) r own h = joining_same m m' n r h
+refused_same m m' (raise n) r own h = raising_same m m' n r h
 
 -- ---- calls
 

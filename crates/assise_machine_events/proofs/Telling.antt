@@ -6,14 +6,14 @@ use Rattle.assise_names.specs.declared.durability.Durability.{Durability}
 use Rattle.assise_names.specs.declared.durability.Durability.TheVariants.{Pessimistic, Optimistic}
 use Rattle.assise_history.specs.Legal.{durability_of}
 use Rattle.assise_record.specs.LogFrame.{LogFrame}
-use Rattle.assise_machine_events.specs.Events.{Answer, ClusterEvent, open_client, try_call, try_fsync, outgoing, deliver, digest, release_ready, set_hot, crash, fail, back, refill, join, entries_of, refused, opened, replied, not_yet, sent, received, digested, released, hot_set, crashed, failed, began, left, joined}
+use Rattle.assise_machine_events.specs.Events.{Answer, ClusterEvent, open_client, try_call, try_fsync, outgoing, deliver, digest, release_ready, set_hot, crash, fail, back, refill, join, raise, entries_of, refused, opened, replied, not_yet, sent, received, digested, released, hot_set, crashed, failed, began, left, joined, raised}
 use Rattle.assise_history.specs.Entries.{Event}
 use Rattle.assise_machine_events.specs.Dsyncs.{Coalescing, is_coalesced, is_refused, is_synced, lacks_memory}
 use Rattle.assise_machine_events.specs.Happenings.{Dsyncing, Fsyncing, Trying}
 use Rattle.assise_machine_events.specs.Machine.{Machine}
 use Rattle.assise_machine_events.specs.ClientEvents.{Opening, Calling, Syncing, Noting, Crashing, is_answered, is_awaited, is_crashed, is_full, is_noted, is_opened, is_refused, is_replicating, is_spent, is_synced, lacks_memory}
 use Rattle.assise_machine_events.specs.NodeEvents.{Sending, Delivering, Digesting, Releasing, SettingHot, is_delivered, is_digested, is_refused, is_released, is_sent, is_set, is_stale, lacks_memory}
-use Rattle.assise_machine_events.specs.MemberEvents.{Failing, Returning, Refilling, Joining, is_back, is_failed, is_failed_again, is_joined, is_refilled, is_refused, is_whole, lacks_memory}
+use Rattle.assise_machine_events.specs.MemberEvents.{Failing, Returning, Refilling, Joining, Raising, is_back, is_failed, is_failed_again, is_joined, is_raised, is_refilled, is_refused, is_whole, lacks_memory}
 use Rattle.assise_machine_events.proofs.Leading.{same_told}
 
 -- an answer by another name
@@ -101,6 +101,10 @@ joining_told m m' n a (is_joined fine is e) = told_as m m' (join n) a _ is e.add
 joining_told m m' n a (lacks_memory fine is same) = told_as m m' (join n) a _ is (same_told m m' same)
 joining_told m m' n a (is_refused r fault is same) = told_as m m' (join n) a _ is (same_told m m' same)
 
+pub raising_told : (m m' : Machine) (n : ℕ) (a : Answer) → Raising m n a m' → m'.history ≡ m.history ++ entries_of m.history (raise n) a
+raising_told m m' n a (is_raised fine is e) = told_as m m' (raise n) a _ is e.adds.history
+raising_told m m' n a (is_refused r fault is same) = told_as m m' (raise n) a _ is (same_told m m' same)
+
 -- an fsync, which has two names
 by_either_name : (h : List Event) (c : ℕ) (a : Answer) → entries_of h (try_call c Fsync) a ≡ entries_of h (try_fsync c) a
 by_either_name h c (refused r) = refl
@@ -117,6 +121,7 @@ by_either_name h c (failed losses) = refl
 by_either_name h c (began stale) = refl
 by_either_name h c (left stale) = refl
 by_either_name h c joined = refl
+by_either_name h c raised = refl
 
 call_told : (m m' : Machine) (c : ℕ) (u : Durability) (a : Answer) → Fsyncing u m c a m' → m'.history ≡ m.history ++ entries_of m.history (try_call c Fsync) a
 call_told m m' c Pessimistic a h = syncing_told m m' c Fsync a h

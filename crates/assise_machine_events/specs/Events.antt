@@ -35,6 +35,8 @@ pub data ClusterEvent : Type 0 where
   back : (node : ℕ) → ClusterEvent
   refill : (node : ℕ) → ClusterEvent
   join : (node : ℕ) → ClusterEvent
+  -- a node reads and sends marked frames from now on
+  raise : (node : ℕ) → ClusterEvent
 
 -- a client tries a call
 abbrev pub is_call : ClusterEvent → Bool
@@ -51,6 +53,7 @@ is_call (fail n) = false
 is_call (back n) = false
 is_call (refill n) = false
 is_call (join n) = false
+is_call (raise n) = false
 
 pub data Answer : Type 0 where
   refused : Refusal → Answer
@@ -74,6 +77,7 @@ pub data Answer : Type 0 where
   began : (stale : ℕ) → Answer
   left : (stale : ℕ) → Answer
   joined : Answer
+  raised : Answer
 
 -- ---- entries
 

@@ -1,13 +1,14 @@
 -- Why an event is refused, whatever memory there is: the first fault that stands.
 -- Assise (OSDI 2020), section 3 (process crash, fail-over, epochs).
-use Rattle.std.specs.Prelude.{◌≡◌, ℕ, ◌+◌, ◌-◌, ◌≤◌, max, nat_lt, nat_le, Bool, true, false, ◌&&◌, not, if◌then◌else◌, List, drop, take, length, Option, Some, None}
+use Rattle.std.specs.Prelude.{◌≡◌, ℕ, zero, suc, [], ◌∷◌, ◌+◌, ◌-◌, ◌≤◌, max, nat_lt, nat_le, Bool, true, false, ◌&&◌, not, if◌then◌else◌, List, drop, take, length, Option, Some, None}
 use Rattle.assise_names.specs.declared.call.Op.{Op}
 use Rattle.assise_names.specs.declared.call.Op.TheVariants.{Create, Mkdir, Read, Write, Truncate, Rename, Unlink, Rmdir, List as ListCall, Stat, Fsync, Dsync}
 use Rattle.assise_names.specs.declared.refusal.Refusal.{Refusal}
 use Rattle.assise_names.specs.declared.refusal.Refusal.TheVariants.{BadNode, BadClient, NodeDown, ClientGone, TooLarge, WrongPhase}
-use Rattle.assise_record.specs.LogFrame.{LogFrame}
+use Rattle.assise_record.specs.LogFrame.{LogFrame, is_marked}
 use Rattle.assise_record.specs.LogRecord.{LogRecord}
 use Rattle.assise_machine_laws.specs.World.{World}
+use Rattle.assise_manager.specs.NodeLevels.{level_of, newest}
 use Rattle.assise_manager.specs.Standings.{Standing, full, down, returning, standing_of}
 use Rattle.assise_machine_events.specs.Machine.{Machine, most_clients}
 
@@ -74,13 +75,29 @@ new_records w f n = drop (w.received n f.client - f.first) f.records
 abbrev pub place_after : Machine → LogFrame → ℕ → ℕ
 place_after m f n = max (m.world.received n f.client) (f.first + length f.records)
 
--- the frame is of this epoch, it leaves no gap, and what the node doesn't have of it stands next in the client's own log, and ends
--- with a group of it
+-- of each of so many records from a number on, whether a group ends with it
+abbrev pub end_marks : (ℕ → Bool) → ℕ → ℕ → List Bool
+end_marks border k zero = []
+end_marks border k (suc count) = border (suc k) ∷ end_marks border (suc k) count
+
+-- the marks of the frame's records that the node doesn't have
+abbrev pub new_marks : World → LogFrame → ℕ → List Bool
+new_marks w f n = drop (w.received n f.client - f.first) f.last
+
+-- where the frame has marks, those of the records that the node doesn't have are the borders of the client's own log
+abbrev pub HasOwnMarks : Machine → LogFrame → ℕ → Type 0
+HasOwnMarks m f n =
+    is_marked f.version ≡ true → new_marks m.world f n ≡ end_marks (m.world.border f.client) (m.world.received n f.client) (length (new_records m.world f n))
+
+-- the frame is of this epoch and of a version that the node reads, it leaves no gap, and what the node doesn't have of it stands next
+-- in the client's own log, with the same groups, and ends with one
 pub record IsTimely (m : Machine) (f : LogFrame) (n : ℕ) : Type 0 where
   pub this_epoch : f.epoch ≡ m.members.epoch
+  pub known : f.version ≤ newest (level_of m.members.levels n)
   pub no_gap : f.first ≤ m.world.received n f.client
   pub own : take (length (new_records m.world f n)) (drop (m.world.received n f.client - m.world.first f.client) (m.world.records f.client)) ≡ new_records m.world f n
   pub whole : m.world.border f.client (place_after m f n) ≡ true
+  pub marks : HasOwnMarks m f n
 
 -- what is wrong about a delivery whatever the frame's records are
 abbrev pub delivery_fault : Machine → LogFrame → ℕ → Option Refusal

@@ -5,9 +5,9 @@ use Rattle.assise_machine_history.specs.Courses.{IsCourse, last_of}
 use Rattle.assise_machine_history.specs.State.{State}
 use Rattle.assise_machine_events.specs.ClientEvents.{Opening, Calling, Syncing, Noting, Crashing}
 use Rattle.assise_machine_events.specs.Dsyncs.{Coalescing}
-use Rattle.assise_machine_events.specs.Events.{ClusterEvent, open_client, try_call, try_fsync, outgoing, deliver, digest, release_ready, set_hot, crash, fail, back, refill, join, Answer}
+use Rattle.assise_machine_events.specs.Events.{ClusterEvent, open_client, try_call, try_fsync, outgoing, deliver, digest, release_ready, set_hot, crash, fail, back, refill, join, raise, Answer}
 use Rattle.assise_machine_events.specs.Machine.{Machine, state_of}
-use Rattle.assise_machine_events.specs.MemberEvents.{Failing, Returning, Refilling, Joining}
+use Rattle.assise_machine_events.specs.MemberEvents.{Failing, Returning, Refilling, Joining, Raising}
 use Rattle.assise_machine_events.specs.NodeEvents.{Sending, Delivering, Digesting, Releasing, SettingHot}
 use Rattle.assise_names.specs.declared.call.Op.{Op}
 use Rattle.assise_names.specs.declared.call.Op.TheVariants.{Create, Mkdir, Read, Write, Truncate, Rename, Unlink, Rmdir, List as ListCall, Stat, Fsync, Dsync}
@@ -55,6 +55,7 @@ Happens m (fail n) a m' = Failing m n a m'
 Happens m (back n) a m' = Returning m n a m'
 Happens m (refill n) a m' = Refilling m n a m'
 Happens m (join n) a m' = Joining m n a m'
+Happens m (raise n) a m' = Raising m n a m'
 
 -- events with their answers, one after another
 abbrev pub AllHappen : Machine → List (ClusterEvent × Answer) → Machine → Type 0

@@ -6,7 +6,7 @@ use Rattle.std.specs.FinSet as set
 use Rattle.assise_names.specs.declared.refusal.Refusal.{Refusal}
 use Rattle.assise_names.specs.declared.refusal.Refusal.TheVariants.{OutOfMemory}
 use Rattle.assise_history.specs.Entries.{fails, returns}
-use Rattle.assise_manager.specs.Changes.{failure_fault, return_fault, filling_fault, join_fault, stale_of}
+use Rattle.assise_manager.specs.Changes.{failure_fault, return_fault, filling_fault, join_fault, raise_fault, raised as with_raised, stale_of}
 use Rattle.assise_manager.specs.Membership.{Membership}
 use Rattle.assise_manager.specs.Standings.{full, standing_of}
 use Rattle.assise_machine_laws.specs.NodeSteps.{Drops}
@@ -14,7 +14,7 @@ use Rattle.assise_machine_laws.specs.World.{World, digested_by_all}
 use Rattle.assise_machine_leases.specs.Handing.{FailsWith as LeasesFail}
 use Rattle.assise_machine_returns.specs.Returns.{OtherAreasStay, FailsWith, FailsAgain, ComesBack, Refills, Rejoins}
 use Rattle.assise_machine_history.specs.Lost.{losses_of}
-use Rattle.assise_machine_events.specs.Events.{Answer, refused, failed, began, left, joined}
+use Rattle.assise_machine_events.specs.Events.{Answer, refused, failed, began, left, joined, raised}
 use Rattle.assise_machine_events.specs.Machine.{Machine, Adds}
 
 -- ---- a node fails
@@ -92,3 +92,16 @@ pub data Joining (m : Machine) (n : ℕ) (a : Answer) (m' : Machine) : Type 0 wh
   is_joined : join_fault m.members n ≡ None → a ≡ joined → IsJoined m n m' → Joining m n a m'
   lacks_memory : join_fault m.members n ≡ None → a ≡ refused OutOfMemory → m' ≡ m → Joining m n a m'
   is_refused : (r : Refusal) → join_fault m.members n ≡ Some r → a ≡ refused r → m' ≡ m → Joining m n a m'
+
+-- ---- a node is raised
+
+pub record IsRaised (m : Machine) (n : ℕ) (m' : Machine) : Type 0 where
+  pub members : m'.members ≡ with_raised m.members n
+  pub world : m'.world ≡ m.world
+  pub leases : m'.leases ≡ m.leases
+  pub adds : Adds m [] m'
+
+-- it takes no memory
+pub data Raising (m : Machine) (n : ℕ) (a : Answer) (m' : Machine) : Type 0 where
+  is_raised : raise_fault m.members n ≡ None → a ≡ raised → IsRaised m n m' → Raising m n a m'
+  is_refused : (r : Refusal) → raise_fault m.members n ≡ Some r → a ≡ refused r → m' ≡ m → Raising m n a m'

@@ -15,6 +15,7 @@ use Rattle.assise_private_log.specs.NumberedLog.{NumberedLog}
 use Rattle.assise_record.specs.LogFrame.{LogFrame}
 use Rattle.assise_record.specs.LogRecord.{LogRecord}
 use Rattle.assise_manager.specs.Membership.{Membership}
+use Rattle.assise_manager.specs.NodeLevels.{level_of, sends_marks}
 use Rattle.assise_manager.specs.Standings.{full_nodes}
 use Rattle.assise_machine_laws.specs.NodeSteps.{Delivers, Drops}
 use Rattle.assise_machine_laws.specs.World.{World, Full, digested_by_all, received_by_all}
@@ -51,11 +52,11 @@ abbrev pub for_node : ℕ → Option LogFrame → List (LogFrame × ℕ)
 for_node k None = []
 for_node k (Some f) = (f, k) ∷ []
 
--- what node k lacks of the client's records that node n has, up to the client's goal
+-- what node k lacks of the client's records that node n has, up to the client's goal, in the version that node n sends
 abbrev pub frame_for : Machine → ℕ → ℕ → Option ℕ → List (LogFrame × ℕ)
 frame_for m n c None = []
 frame_for m n c (Some k) =
-    for_node k (message_of (node_log m n c) m.members.epoch c (m.world.received k c) (min (m.world.goal c) (m.world.received n c)))
+    for_node k (message_of (node_log m n c) (sends_marks (level_of m.members.levels n)) m.members.epoch c (m.world.received k c) (min (m.world.goal c) (m.world.received n c)))
 
 -- of clients 1 to this
 abbrev pub frames_to : Machine → ℕ → ℕ → List (LogFrame × ℕ)

@@ -11,8 +11,8 @@ ghost use Rattle.assise_manager.specs.Standings.{full, standing_of};
 ghost use Rattle.assise_record.specs.LogFrame.{LogFrame};
 ghost use Rattle.assise_machine_events.specs.ClientEvents.{Calling, Crashing, Opening, Syncing};
 ghost use Rattle.assise_machine_events.specs.Dsyncs.{Coalescing};
-ghost use Rattle.assise_machine_events.specs.Events.{began, crashed, digested, failed, hot_set, joined, left, not_yet, opened, received, refused, released, replied, sent};
-ghost use Rattle.assise_machine_events.specs.MemberEvents.{Failing, Joining, Refilling, Returning, stale_at};
+ghost use Rattle.assise_machine_events.specs.Events.{began, crashed, digested, failed, hot_set, joined, left, not_yet, opened, raised, received, refused, released, replied, sent};
+ghost use Rattle.assise_machine_events.specs.MemberEvents.{Failing, Joining, Raising, Refilling, Returning, stale_at};
 ghost use Rattle.assise_machine_events.specs.NodeEvents.{Delivering, Digesting, Releasing, Sending, SettingHot};
 ghost use Rattle.assise_machine_events.specs.Reached.{Comes};
 
@@ -85,4 +85,6 @@ pub fn each_outcome_of_what_happens_to_nodes_comes()
     ensures joined { Comes (λ m m'. Joining m 2 joined m') }
     ensures busy { Comes (λ m m'. Joining m 2 (refused Busy) m') }
     ensures not_joined_for_memory { Comes (λ m m'. Joining m 2 (refused OutOfMemory) m') }
+    ensures raised { Comes (λ m m'. Raising m 1 raised m') }
+    ensures not_raised { Comes (λ m m'. Raising m 1 (refused WrongPhase) m') }
 {}

@@ -149,7 +149,7 @@ removed_else s i j apart none =
 
 module _ (w u : World) (m m' : Membership) (n i : ℕ) (g : Refills w m n i u m') where
   pub refill_is : m' ≡ with_node m n (returning g.since g.donor (set.remove g.stale i))
-  refill_is = g.members ∙ ap (λ o. record { epoch = m.epoch; nodes = copied_as m.nodes n i o; written = m.written }) g.stands
+  refill_is = g.members ∙ ap (λ o. record { epoch = m.epoch; nodes = copied_as m.nodes n i o; written = m.written; levels = m.levels }) g.stands
 
   pub refill_keeps : AreMembers w m → AreMembers u m'
   refill_keeps a =

@@ -50,10 +50,11 @@ pub(crate) fn fault_at_the_end(alloc: Global, desk: &mut Desk) -> Option<&'stati
     fault_between(alloc, &desk.cluster)
 }
 
-/// All nodes come back, all clients sync, all frames are sent and come, and all nodes digest.
+/// All nodes come back and are raised, all clients sync, all frames are sent and come, and all nodes digest.
 fn settle(alloc: Global, desk: &mut Desk) -> Option<()> {
     for node in 1..=desk.nodes {
         desk.bring_back(alloc, node)?;
+        desk.make_of(alloc, "raise", node)?;
     }
     for client in 1..17 {
         let sync = format!(in alloc; "{client} dsync").ok()?;

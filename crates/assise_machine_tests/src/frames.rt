@@ -1,8 +1,8 @@
 // Frames, which tests change, write and read.
 use crate::words::{number_in, small_in};
-use assise_record::decode::decode;
+use assise_record::decode::decode_up_to;
 use assise_record::encode::encode;
-use assise_record::frame::{Frame, MOST_RECORDS};
+use assise_record::frame::{Frame, MARKED_VERSION, MOST_RECORDS};
 use assise_rows::split_word;
 use std::alloc::Global;
 
@@ -32,7 +32,7 @@ fn changed(alloc: Global, frame: &Frame, epoch: u64, client: u32, first: u64) ->
 /// The frame of two hexadecimal digits for each byte.
 pub(crate) fn frame_in(alloc: Global, digits: &str) -> Option<Frame> {
     let bytes = hex::decode(alloc, digits).ok()?;
-    let (frame, used) = decode(alloc, bytes.as_slice()).ok()?;
+    let (frame, used) = decode_up_to(alloc, bytes.as_slice(), MARKED_VERSION).ok()?;
     if used == bytes.len() {
         Some(frame)
     } else {

@@ -24,6 +24,8 @@ mod linked;
 #[cfg(test)]
 mod lists;
 #[cfg(test)]
+mod raising;
+#[cfg(test)]
 mod reading;
 #[cfg(test)]
 mod refused;

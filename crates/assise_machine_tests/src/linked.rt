@@ -67,7 +67,10 @@ fn carry_all(alloc: Global, desk: &mut Desk, node: u32, frames: &[(Frame, u32)])
     let link = desk.links.get_mut(place_of(node)?)?;
     let mut taken = 0_u32;
     for (frame, next) in frames {
-        let Some(came) = carry_frame(alloc, link, frame) else {
+        let Ok(newest) = desk.cluster.level(*next) else {
+            continue;
+        };
+        let Some(came) = carry_frame(alloc, link, newest, frame) else {
             continue;
         };
         if desk.cluster.deliver(came, *next).is_ok() {

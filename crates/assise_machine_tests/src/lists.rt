@@ -113,6 +113,7 @@ refill S
 join S
 join S
 join S
+raise S
 ";
 
 /// What comes out of some step of the lists.

@@ -137,7 +137,7 @@ pub(crate) fn event_of(alloc: Global, desk: &mut Desk, step: &str) -> Option<Eve
         "release" => Some(Event::ReleaseReady),
         "deliver" => delivery(alloc, desk, rest),
         "keep" => kept_hot(rest),
-        "fsync" | "send" | "digest" | "crash" | "fail" | "back" | "refill" | "join" => {
+        "fsync" | "send" | "digest" | "crash" | "fail" | "back" | "refill" | "join" | "raise" => {
             Some(numbered(word, small_in(rest)?))
         }
         _ => call_of(alloc, step),
@@ -154,6 +154,7 @@ fn numbered(word: &str, number: u32) -> Event {
         "fail" => Event::Fail(number),
         "back" => Event::Back(number),
         "refill" => Event::Refill(number),
+        "raise" => Event::Raise(number),
         _ => Event::Join(number),
     }
 }

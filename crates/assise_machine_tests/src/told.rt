@@ -28,6 +28,7 @@ pub(crate) fn put_told(
         Answer::Began(stale) => put_count("stale", stale, text),
         Answer::Left(stale) => put_count("left", stale, text),
         Answer::Joined(joined) => put_done("returned", joined, text),
+        Answer::Raised(raised) => put_done("raised", raised, text),
         Answer::Sent(Err(refusal)) | Answer::Failed(Err(refusal)) => write!(text, "{refusal}"),
     }
 }

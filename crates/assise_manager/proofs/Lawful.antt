@@ -9,7 +9,7 @@ use Rattle.std.specs.FinSet.{contains-union, contains-empty, contains-remove}
 use Rattle.std.specs.Cmp.{nat_cmp_total}
 use Rattle.std.proofs.lemmas.Bool.{and_parts, and_from, or_cases, or_left, or_right, cases_order, cond_both, eqb-false, leb-true, le-leb}
 use Rattle.std.proofs.lemmas.Option.{none-some}
-use Rattle.std.proofs.lemmas.List.{length-append}
+use Rattle.std.proofs.lemmas.List.{length-append, length-map, length-set}
 use Rattle.assise_names.specs.declared.refusal.Refusal.{Refusal}
 use Rattle.assise_names.specs.declared.refusal.Refusal.TheVariants.{BadNode, WrongPhase, LastNode}
 use Rattle.assise_manager.specs.Standings.{Standing, is_full, full_nodes, standing_of, with_standing}
@@ -19,9 +19,12 @@ use Rattle.assise_manager.specs.Membership.{is_known}
 use Rattle.assise_manager.specs.Changes.{fulls, all_full, with_node, refilled_from, with_new_donor, with_epoch, failed_as, failed}
 use Rattle.assise_manager.specs.Changes.{failure_fault_of, failure_fault, back_as, back, return_fault_of, return_fault, is_away}
 use Rattle.assise_manager.specs.Changes.{filling_fault_of, filling_fault, copied_as, copied, joined, join_fault, with_written, stale_again}
-use Rattle.assise_manager.specs.Changes.{noted}
+use Rattle.assise_manager.specs.Changes.{donor_of, noted, raised}
+use Rattle.assise_manager.specs.NodeLevels.{greater, joined_levels, level_of, plains}
+use Rattle.assise_manager.specs.declared.level.Level.{Level}
+use Rattle.assise_manager.specs.declared.level.Level.TheVariants.{Marked}
 use Rattle.assise_manager.specs.MemberCalls.{MemberCall, Does, AllDo}
-use Rattle.assise_manager.specs.MemberCalls.MemberCall.{fail, come_back, note_copied, join, note_written}
+use Rattle.assise_manager.specs.MemberCalls.MemberCall.{fail, come_back, note_copied, join, note_written, raise}
 use Rattle.assise_manager.proofs.Sets.{Numbers, all_push}
 use Rattle.assise_manager.proofs.Nodes.{never, full_from_set_away, full_from_map, all_full_map, full_there, list_all_set, list_all_map}
 use Rattle.assise_manager.proofs.Nodes.{list_all_more, list_all_place, slice_get_set, others_stay, one_full_less, all_stay, no_fewer_full}
@@ -204,6 +207,14 @@ some_fulls : (count : ℕ) → 0 < count → 0 < length (full_nodes (fulls count
 some_fulls zero some = some
 some_fulls (suc count) some = omega arith
 
+plains_length : (count : ℕ) → length (plains count) ≡ count
+plains_length zero = refl
+plains_length (suc count) = ap suc (plains_length count)
+
+fulls_length : (count : ℕ) → length (fulls count) ≡ count
+fulls_length zero = refl
+fulls_length (suc count) = ap suc (fulls_length count)
+
 -- some full nodes in the first epoch
 pub all_full_lawful : (count : ℕ) → 0 < count → IsMembership (all_full count)
 all_full_lawful count some = record {
@@ -211,6 +222,7 @@ all_full_lawful count some = record {
   lists = omega arith;
   some_full = some_fulls count some;
   known = fulls_pass (is_known (all_full count)) count refl;
+  levelled = plains_length count ∙ sym (fulls_length count);
   none_listed = λ _. refl;
 }
 
@@ -235,6 +247,7 @@ with_node_lawful m node s lawful away new known =
       known = list_all_more (is_known m) (is_known n) n.nodes (list_all_set (is_known m) m.nodes (node - 1) s lawful.known known)
           (known_more m n refl (omega arith) (λ d there. subst (λ l. list_any (λ k. k == d) l ≡ true) (sym same) there)
           (λ since q inside. inside));
+      levelled = lawful.levelled ∙ sym (length-set m.nodes (node - 1) s);
       none_listed = λ all. absurd (not_all_full m.nodes node old.0 s old.1 (away_not_full s new) all);
     }
 
@@ -270,7 +283,7 @@ copied_known m node since donor stale lawful at inode =
 
 -- an epoch more, with a list
 abbrev one_more : Membership → List Standing → Numbers → Membership
-one_more m nodes l = record { epoch = m.epoch + 1; nodes = nodes; written = m.written ++ l ∷ [] }
+one_more m nodes l = record { epoch = m.epoch + 1; nodes = nodes; written = m.written ++ l ∷ []; levels = m.levels }
 
 one_list_more : (m : Membership) (l : Numbers) → length (m.written ++ l ∷ []) ≡ length m.written + 1
 one_list_more m l = length-append m.written (l ∷ [])
@@ -367,6 +380,7 @@ module _
         (list_all_more (is_known m) (λ s. is_known after (refill s)) m.nodes lawful.known each_known)
         (now_listed m after.nodes inodes))
         (λ s known. known);
+    levelled = lawful.levelled ∙ sym (length-map begun.nodes refill ∙ length-set m.nodes (node - 1) (down (m.epoch + 1)));
     none_listed = λ all. absurd (not_all_full m.nodes node full (down (m.epoch + 1)) at refl
         (sym (all_full_map refill (refilled_full (written_since begun) (lowest_full begun.nodes) node) begun.nodes) ∙ all));
   }
@@ -414,7 +428,7 @@ refused : {P : Type 0} (r : Refusal) → ◌≡◌ {A = Option Refusal} (Some r)
 refused r none = absurd (none-some r (sym none))
 
 copied_as_lawful : (m : Membership) (node inode : ℕ) → IsMembership m → (o : Option Standing) → standing_of m.nodes node ≡ o
-    → filling_fault_of o ≡ None → IsMembership (record { epoch = m.epoch; nodes = copied_as m.nodes node inode o; written = m.written })
+    → filling_fault_of o ≡ None → IsMembership (record { epoch = m.epoch; nodes = copied_as m.nodes node inode o; written = m.written; levels = m.levels })
 copied_as_lawful m node inode lawful None at fine = refused BadNode fine
 copied_as_lawful m node inode lawful (Some full) at fine = refused WrongPhase fine
 copied_as_lawful m node inode lawful (Some (down since)) at fine = refused WrongPhase fine
@@ -427,20 +441,25 @@ pub copied_lawful : (m : Membership) (node : ℕ) → IsMembership m → filling
     → IsMembership (copied m node inode)
 copied_lawful m node lawful fine inode = copied_as_lawful m node inode lawful (standing_of m.nodes node) refl fine
 
+joined_length : (levels : List Level) (node : ℕ) (o : Option ℕ) → length (joined_levels levels node o) ≡ length levels
+joined_length levels node None = refl
+joined_length levels node (Some donor) = length-set levels (node - 1) (greater (level_of levels node) (level_of levels donor))
+
 full_known : (m : Membership) (s : Standing) → is_full s ≡ true → is_known m s ≡ true
 full_known m full is = refl
 full_known m (down since) is = never is
 full_known m (returning since donor stale) is = never is
 
-joined_as_lawful : (m : Membership) (node : ℕ) → IsMembership m → (b : Bool) → list_all is_full (with_standing m.nodes node full) ≡ b
+joined_as_lawful : (m : Membership) (node : ℕ) → IsMembership m → (levels : List Level) → length levels ≡ length m.levels → (b : Bool) → list_all is_full (with_standing m.nodes node full) ≡ b
     → IsMembership (record {
       epoch = m.epoch + 1;
       nodes = with_standing m.nodes node full;
       written = cond b [] (m.written ++ set.empty ∷ []);
+      levels = levels;
     })
-joined_as_lawful m node lawful true all =
+joined_as_lawful m node lawful levels same true all =
     let nodes = with_standing m.nodes node full in
-    let n : Membership = record { epoch = m.epoch + 1; nodes = nodes; written = [] } in
+    let n : Membership = record { epoch = m.epoch + 1; nodes = nodes; written = []; levels = levels } in
     let some : 0 < length (full_nodes m.nodes) = lawful.some_full in
     let no_fewer : length (full_nodes m.nodes) ≤ length (full_nodes nodes) = no_fewer_full 1 m.nodes (node - 1) in
     record {
@@ -448,11 +467,12 @@ joined_as_lawful m node lawful true all =
       lists = omega arith;
       some_full = omega arith;
       known = list_all_more is_full (is_known n) nodes all (full_known n);
+      levelled = same ∙ lawful.levelled ∙ sym (length-set m.nodes (node - 1) full);
       none_listed = λ _. refl;
     }
-joined_as_lawful m node lawful false some_away =
+joined_as_lawful m node lawful levels same false some_away =
     let nodes = with_standing m.nodes node full in
-    let n = one_more m nodes set.empty in
+    let n : Membership = record { epoch = m.epoch + 1; nodes = nodes; written = m.written ++ set.empty ∷ []; levels = levels } in
     let some : 0 < length (full_nodes m.nodes) = lawful.some_full in
     let no_fewer : length (full_nodes m.nodes) ≤ length (full_nodes nodes) = no_fewer_full 1 m.nodes (node - 1) in
     record {
@@ -464,12 +484,13 @@ joined_as_lawful m node lawful false some_away =
           (known_more m n (same_first m nodes set.empty) (omega arith) (λ d. all_stay 1 d m.nodes (node - 1))
           (since_within m nodes set.empty)))
           refl;
+      levelled = same ∙ lawful.levelled ∙ sym (length-set m.nodes (node - 1) full);
       none_listed = λ all. absurd (true≢false (sym all ∙ some_away));
     }
 
 -- a node is full again
 pub joined_lawful : (m : Membership) (node : ℕ) → IsMembership m → join_fault m node ≡ None → IsMembership (joined m node)
-joined_lawful m node lawful fine = joined_as_lawful m node lawful (list_all is_full (with_standing m.nodes node full)) refl
+joined_lawful m node lawful fine = joined_as_lawful m node lawful (joined_levels m.levels node (donor_of (standing_of m.nodes node))) (joined_length m.levels node (donor_of (standing_of m.nodes node))) (list_all is_full (with_standing m.nodes node full)) refl
 
 -- ---- digests
 
@@ -528,6 +549,7 @@ module _ (m : Membership) (node : ℕ) (inodes : Numbers) (lawful : IsMembership
     lists = subst (λ k. k ≤ m.epoch) (sym (length_with_written m.written inodes)) lawful.lists;
     some_full = subst (λ l. 0 < length l) (sym noted_full) lawful.some_full;
     known = list_all_map (is_known m) (is_known noted_now) (stale_again node inodes) m.nodes lawful.known each_noted;
+    levelled = lawful.levelled ∙ sym (length-map m.nodes (stale_again node inodes));
     none_listed = λ all. length_with_written m.written inodes
         ∙ lawful.none_listed (sym (all_full_map (stale_again node inodes) (stale_full node inodes) m.nodes) ∙ all);
   }
@@ -535,6 +557,20 @@ module _ (m : Membership) (node : ℕ) (inodes : Numbers) (lawful : IsMembership
 -- inodes were written at a node
 pub noted_lawful : (m : Membership) (node : ℕ) (inodes : Numbers) → IsMembership m → IsMembership (noted m node inodes)
 noted_lawful m node inodes lawful = noted_lawful_at m node inodes lawful
+
+-- ---- levels
+
+-- a node is raised
+pub raised_lawful : (m : Membership) (node : ℕ) → IsMembership m → IsMembership (raised m node)
+raised_lawful m node lawful = record {
+  began = lawful.began;
+  lists = lawful.lists;
+  some_full = lawful.some_full;
+  known = list_all_more (is_known m) (is_known (raised m node)) m.nodes lawful.known
+      (known_more m (raised m node) refl (omega arith) (λ d there. there) (λ since q inside. inside));
+  levelled = length-set m.levels (node - 1) Marked ∙ lawful.levelled;
+  none_listed = lawful.none_listed;
+}
 
 -- ---- calls
 
@@ -545,6 +581,7 @@ call_lawful old new (come_back node) lawful done = subst IsMembership (sym done.
 call_lawful old new (note_copied node inode) lawful done = subst IsMembership (sym done.1) (copied_lawful old node lawful done.0 inode)
 call_lawful old new (join node) lawful done = subst IsMembership (sym done.1) (joined_lawful old node lawful done.0)
 call_lawful old new (note_written node inodes) lawful done = subst IsMembership (sym done) (noted_lawful old node inodes lawful)
+call_lawful old new (raise node) lawful done = subst IsMembership (sym done.1) (raised_lawful old node lawful)
 
 all_lawful : (calls : List MemberCall) (old new : Membership) → IsMembership old → AllDo old calls new → IsMembership new
 all_lawful [] old new lawful done = subst IsMembership (sym done) lawful

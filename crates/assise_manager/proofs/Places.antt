@@ -13,7 +13,10 @@ use Rattle.std.proofs.Math.Seq.{take-append_seam}
 use Rattle.assise_manager.specs.declared.node.Node.{Node}
 use Rattle.assise_manager.specs.declared.node.Node.TheVariants.{Full}
 use Rattle.assise_manager.specs.declared.node.Return.{Return}
-use Rattle.assise_manager.specs.Changes.{joined, with_epoch, failed, failed_as, refilled_from, failure_fault, failure_fault_of, filling_fault, filling_fault_of, stale_again, is_returning, is_away, stale_of, copied_as, IsLowestOf, fulls}
+use Rattle.assise_manager.specs.declared.level.Level.{Level}
+use Rattle.assise_manager.specs.declared.level.Level.TheVariants.{Plain}
+use Rattle.assise_manager.specs.NodeLevels.{joined_levels, plains}
+use Rattle.assise_manager.specs.Changes.{donor_of, joined, with_epoch, failed, failed_as, refilled_from, failure_fault, failure_fault_of, filling_fault, filling_fault_of, stale_again, is_returning, is_away, stale_of, copied_as, IsLowestOf, fulls}
 use Rattle.assise_manager.specs.Seen.{standing, stale_inodes, listed_inodes, listed_since, lowest_besides}
 use Rattle.assise_names.specs.declared.refusal.Refusal.TheVariants.{LastNode}
 use Rattle.assise_manager.specs.declared.written_list.WrittenList.{WrittenList}
@@ -111,6 +114,13 @@ fulls_last zero = refl
 fulls_last (suc n) = ap (λ l. full ∷ l) (fulls_last n)
 
 -- one full node more
+plains_last : (n : ℕ) → plains n ++ Plain ∷ [] ≡ plains (suc n)
+plains_last zero = refl
+plains_last (suc n) = ap (λ l. Plain ∷ l) (plains_last n)
+
+pub plains_push : (xs : List Level) (n : ℕ) → xs ≡ plains n → xs ++ Plain ∷ [] ≡ plains (n + 1)
+plains_push xs n e = ap (λ l. l ++ Plain ∷ []) e ∙ plains_last n ∙ ap plains (sym (one_more n))
+
 pub fulls_push : (xs : List Node) (n : ℕ) → map standing xs ≡ fulls n → map standing (xs ++ Full ∷ []) ≡ fulls (n + 1)
 fulls_push xs n e = map-append standing xs (Full ∷ []) ∙ ap (λ l. l ++ full ∷ []) e ∙ fulls_last n ∙ ap fulls (sym (one_more n))
 
@@ -176,15 +186,15 @@ filling m node since donor stale at = ap filling_fault_of at
 
 -- whether a node that comes back lacked an inode or none
 pub copied_either : (epoch : ℕ) (written : List (set.FinSet nat_cmp)) (node : ℕ) (r : Return) (old new : List Standing) →
-    IsMembership (record { epoch = epoch; nodes = old; written = written }) → standing_of old node ≡ Some (returning r.since r.donor (stale_inodes r.stale)) →
+    (levels : List Level) → IsMembership (record { epoch = epoch; nodes = old; written = written; levels = levels }) → standing_of old node ≡ Some (returning r.since r.donor (stale_inodes r.stale)) →
     ((inode : ℕ) → IsLowestOf (stale_of (standing_of old node)) (Some inode) → new ≡ copied_as old node inode (standing_of old node)) →
     (IsLowestOf (stale_of (standing_of old node)) None → new ≡ old) →
-    IsMembership (record { epoch = epoch; nodes = new; written = written })
-copied_either epoch written node r old new lawful at copies none =
+    IsMembership (record { epoch = epoch; nodes = new; written = written; levels = levels })
+copied_either epoch written node r old new levels lawful at copies none =
     elim (lowest_or_none r.stale.inodes.items r.stale.rising) [
-      | inl empty ↦ subst (λ ns. IsMembership (record { epoch = epoch; nodes = ns; written = written })) (sym (none (subst (λ o. IsLowestOf (stale_of o) None) (sym at) empty))) lawful
-      | inr (inode, low) ↦ subst (λ ns. IsMembership (record { epoch = epoch; nodes = ns; written = written })) (sym (copies inode (subst (λ o. IsLowestOf (stale_of o) (Some inode)) (sym at) low)))
-          (copied_lawful (record { epoch = epoch; nodes = old; written = written }) node lawful (filling (record { epoch = epoch; nodes = old; written = written }) node r.since r.donor (stale_inodes r.stale) at) inode)
+      | inl empty ↦ subst (λ ns. IsMembership (record { epoch = epoch; nodes = ns; written = written; levels = levels })) (sym (none (subst (λ o. IsLowestOf (stale_of o) None) (sym at) empty))) lawful
+      | inr (inode, low) ↦ subst (λ ns. IsMembership (record { epoch = epoch; nodes = ns; written = written; levels = levels })) (sym (copies inode (subst (λ o. IsLowestOf (stale_of o) (Some inode)) (sym at) low)))
+          (copied_lawful (record { epoch = epoch; nodes = old; written = written; levels = levels }) node lawful (filling (record { epoch = epoch; nodes = old; written = written; levels = levels }) node r.since r.donor (stale_inodes r.stale) at) inode)
     ]
 
 one_plus : (n : ℕ) → 1 + n ≡ suc n
@@ -205,10 +215,10 @@ first_is m node inodes len lawful e = ap (λ n. m.epoch + 1 - n) e ∙ first_sta
 pub failed_is : (m : Membership) (node : ℕ) (inodes : set.FinSet nat_cmp) (written : ℕ → set.FinSet nat_cmp) (donor : ℕ) (lists : List (set.FinSet nat_cmp)) (new : List Standing) →
     standing_of m.nodes node ≡ Some full → written ≡ written_since (with_epoch m node inodes) → donor ≡ lowest_full (with_standing m.nodes node (down (m.epoch + 1))) → lists ≡ m.written ++ inodes ∷ [] →
     new ≡ with_standing (map (refilled_from written donor node) m.nodes) node (down (m.epoch + 1)) →
-    record { epoch = m.epoch + 1; nodes = new; written = lists } ≡ failed m node inodes
+    record { epoch = m.epoch + 1; nodes = new; written = lists; levels = m.levels } ≡ failed m node inodes
 failed_is m node inodes written donor lists new at same_written same_donor same_lists is =
-    ap (λ ns. record { epoch = m.epoch + 1; nodes = ns; written = lists }) (is ∙ failed_nodes (refilled_from written donor node) m.nodes node (m.epoch + 1) refl)
-    ∙ (λ i. record { epoch = m.epoch + 1; nodes = map (refilled_from (same_written i) (same_donor i) node) (with_standing m.nodes node (down (m.epoch + 1))); written = same_lists i })
+    ap (λ ns. record { epoch = m.epoch + 1; nodes = ns; written = lists; levels = m.levels }) (is ∙ failed_nodes (refilled_from written donor node) m.nodes node (m.epoch + 1) refl)
+    ∙ (λ i. record { epoch = m.epoch + 1; nodes = map (refilled_from (same_written i) (same_donor i) node) (with_standing m.nodes node (down (m.epoch + 1))); written = same_lists i; levels = m.levels })
     ∙ sym (ap (failed_as m node inodes) at)
 
 -- nothing speaks against the failure of a full node that isn't the only one
@@ -225,15 +235,15 @@ new_donor_is nodes (suc place) e at more =
     ∙ ap (λ n. cond (eqb (slice_index_or (full_nodes nodes) 0 0) n) (slice_index_or (full_nodes nodes) 1 0) (slice_index_or (full_nodes nodes) 0 0)) (one_plus place)
 
 -- what stands once a node joined: where all nodes are full the lists go
-pub joined_last : (m : Membership) (node : ℕ) (new : List Standing) (lists : List (set.FinSet nat_cmp)) → new ≡ with_standing m.nodes node full → lists ≡ [] → list_all is_full (with_standing m.nodes node full) ≡ true → record { epoch = m.epoch + 1; nodes = new; written = lists } ≡ joined m node
-joined_last m node new lists is gone all =
-    (λ i. record { epoch = m.epoch + 1; nodes = is i; written = gone i })
-    ∙ sym (ap (λ b. record { epoch = m.epoch + 1; nodes = with_standing m.nodes node full; written = cond b [] (m.written ++ set.empty ∷ []) }) all)
+pub joined_last : (m : Membership) (node : ℕ) (new : List Standing) (lists : List (set.FinSet nat_cmp)) (levels : List Level) → new ≡ with_standing m.nodes node full → lists ≡ [] → list_all is_full (with_standing m.nodes node full) ≡ true → levels ≡ joined_levels m.levels node (donor_of (standing_of m.nodes node)) → record { epoch = m.epoch + 1; nodes = new; written = lists; levels = levels } ≡ joined m node
+joined_last m node new lists levels is gone all raised =
+    (λ i. record { epoch = m.epoch + 1; nodes = is i; written = gone i; levels = raised i })
+    ∙ sym (ap (λ b. record { epoch = m.epoch + 1; nodes = with_standing m.nodes node full; written = cond b [] (m.written ++ set.empty ∷ []); levels = joined_levels m.levels node (donor_of (standing_of m.nodes node)) }) all)
 
-pub joined_more : (m : Membership) (node : ℕ) (new : List Standing) (lists : List (set.FinSet nat_cmp)) → new ≡ with_standing m.nodes node full → lists ≡ m.written ++ set.empty ∷ [] → list_all is_full (with_standing m.nodes node full) ≡ false → record { epoch = m.epoch + 1; nodes = new; written = lists } ≡ joined m node
-joined_more m node new lists is more some =
-    (λ i. record { epoch = m.epoch + 1; nodes = is i; written = more i })
-    ∙ sym (ap (λ b. record { epoch = m.epoch + 1; nodes = with_standing m.nodes node full; written = cond b [] (m.written ++ set.empty ∷ []) }) some)
+pub joined_more : (m : Membership) (node : ℕ) (new : List Standing) (lists : List (set.FinSet nat_cmp)) (levels : List Level) → new ≡ with_standing m.nodes node full → lists ≡ m.written ++ set.empty ∷ [] → list_all is_full (with_standing m.nodes node full) ≡ false → levels ≡ joined_levels m.levels node (donor_of (standing_of m.nodes node)) → record { epoch = m.epoch + 1; nodes = new; written = lists; levels = levels } ≡ joined m node
+joined_more m node new lists levels is more some raised =
+    (λ i. record { epoch = m.epoch + 1; nodes = is i; written = more i; levels = raised i })
+    ∙ sym (ap (λ b. record { epoch = m.epoch + 1; nodes = with_standing m.nodes node full; written = cond b [] (m.written ++ set.empty ∷ []); levels = joined_levels m.levels node (donor_of (standing_of m.nodes node)) }) some)
 
 -- as many full nodes as nodes
 pub all_counted : (xs : List Standing) (full_count count : ℕ) → full_count ≡ length (full_nodes xs) → count ≡ length xs → full_count ≡ count → list_all is_full xs ≡ true

@@ -6,20 +6,23 @@ use Rattle.std.specs.FinSet as set
 use Rattle.assise_names.specs.declared.refusal.Refusal.{Refusal}
 use Rattle.assise_names.specs.declared.refusal.Refusal.TheVariants.{BadNode, WrongPhase, LastNode, Busy}
 use Rattle.assise_manager.specs.Standings.{Standing, full, down, returning, is_full, standing_of, with_standing, full_nodes}
+use Rattle.assise_manager.specs.declared.level.Level.{Level}
+use Rattle.assise_manager.specs.declared.level.Level.TheVariants.{Plain, Marked}
 use Rattle.assise_manager.specs.Membership.{Membership, written_since, lowest_full}
+use Rattle.assise_manager.specs.NodeLevels.{joined_levels, level_of, plains, with_level}
 
 -- so many full nodes
 abbrev pub fulls : ℕ → List Standing
 fulls zero = []
 fulls (suc count) = full ∷ fulls count
 
--- so many full nodes, in the first epoch
+-- so many full nodes at the first level, in the first epoch
 abbrev pub all_full : ℕ → Membership
-all_full count = record { epoch = 1; nodes = fulls count; written = [] }
+all_full count = record { epoch = 1; nodes = fulls count; written = []; levels = plains count }
 
 -- with another standing of a node
 abbrev pub with_node : Membership → ℕ → Standing → Membership
-with_node m node s = record { epoch = m.epoch; nodes = with_standing m.nodes node s; written = m.written }
+with_node m node s = record { epoch = m.epoch; nodes = with_standing m.nodes node s; written = m.written; levels = m.levels }
 
 -- ---- failures
 
@@ -32,12 +35,12 @@ refilled_from written donor failed (returning since from stale) =
 
 abbrev pub with_new_donor : Membership → ℕ → Membership
 with_new_donor m failed =
-    record { epoch = m.epoch; nodes = map (refilled_from (written_since m) (lowest_full m.nodes) failed) m.nodes; written = m.written }
+    record { epoch = m.epoch; nodes = map (refilled_from (written_since m) (lowest_full m.nodes) failed) m.nodes; written = m.written; levels = m.levels }
 
 -- a full node is down since the epoch that begins now, whose list has the inodes that may not be everywhere
 abbrev pub with_epoch : Membership → ℕ → set.FinSet nat_cmp → Membership
 with_epoch m node inodes =
-    record { epoch = m.epoch + 1; nodes = with_standing m.nodes node (down (m.epoch + 1)); written = m.written ++ inodes ∷ [] }
+    record { epoch = m.epoch + 1; nodes = with_standing m.nodes node (down (m.epoch + 1)); written = m.written ++ inodes ∷ []; levels = m.levels }
 
 -- a full node begins an epoch as it fails; one that comes back is down again, since its first failure
 abbrev pub failed_as : Membership → ℕ → set.FinSet nat_cmp → Option Standing → Membership
@@ -142,16 +145,16 @@ copied_as nodes node inode None = nodes
 copied_as nodes node inode (Some s) = with_standing nodes node (without_stale inode s)
 
 abbrev pub copied : Membership → ℕ → ℕ → Membership
-copied m node inode = record { epoch = m.epoch; nodes = copied_as m.nodes node inode (standing_of m.nodes node); written = m.written }
+copied m node inode = record { epoch = m.epoch; nodes = copied_as m.nodes node inode (standing_of m.nodes node); written = m.written; levels = m.levels }
 
 -- the lists while some node isn't full; where all are, none
 abbrev pub listed_while : List Standing → List (set.FinSet nat_cmp) → List (set.FinSet nat_cmp)
 listed_while nodes written = if list_all is_full nodes then [] else written
 
--- a node is full again: an epoch begins, in which nothing was written yet
+-- a node is full again: an epoch begins, in which nothing was written yet, and its level is that of its donor at least
 abbrev pub joined : Membership → ℕ → Membership
 joined m node =
-    record { epoch = m.epoch + 1; nodes = with_standing m.nodes node full; written = listed_while (with_standing m.nodes node full) (m.written ++ set.empty ∷ []) }
+    record { epoch = m.epoch + 1; nodes = with_standing m.nodes node full; written = listed_while (with_standing m.nodes node full) (m.written ++ set.empty ∷ []); levels = joined_levels m.levels node (donor_of (standing_of m.nodes node)) }
 
 -- why a node can't join: no such node, one that doesn't come back, or one that may lack an inode
 abbrev pub join_fault_of : Option Standing → Option Refusal
@@ -181,4 +184,21 @@ stale_again node inodes (returning since donor stale) =
 -- inodes were written at a node
 abbrev pub noted : Membership → ℕ → set.FinSet nat_cmp → Membership
 noted m node inodes =
-    record { epoch = m.epoch; nodes = map (stale_again node inodes) m.nodes; written = with_written m.written inodes }
+    record { epoch = m.epoch; nodes = map (stale_again node inodes) m.nodes; written = with_written m.written inodes; levels = m.levels }
+
+-- ---- levels
+
+-- a node reads and sends marked frames from now on
+abbrev pub raised : Membership → ℕ → Membership
+raised m node = record { epoch = m.epoch; nodes = m.nodes; written = m.written; levels = with_level m.levels node Marked }
+
+-- why a raise is refused: no such node, one that isn't full, or one that was raised
+abbrev pub raise_fault_of : Option Standing → Level → Option Refusal
+raise_fault_of None l = Some BadNode
+raise_fault_of (Some full) Plain = None
+raise_fault_of (Some full) Marked = Some WrongPhase
+raise_fault_of (Some (down since)) l = Some WrongPhase
+raise_fault_of (Some (returning since donor stale)) l = Some WrongPhase
+
+abbrev pub raise_fault : Membership → ℕ → Option Refusal
+raise_fault m node = raise_fault_of (standing_of m.nodes node) (level_of m.levels node)

@@ -1,5 +1,6 @@
 pub mod Standings
 pub mod Membership
+pub mod NodeLevels
 pub mod Changes
 pub mod Seen
 pub mod Whole

@@ -3,7 +3,7 @@ use Rattle.std.specs.Prelude.{◌≡◌, ℕ, List, [], ◌∷◌, None, ◌⊎�
 use Rattle.std.specs.Ordering.{nat_cmp}
 use Rattle.std.specs.FinSet as set
 use Rattle.assise_manager.specs.Membership.{Membership}
-use Rattle.assise_manager.specs.Changes.{failed, failure_fault, back, return_fault, copied, filling_fault, joined, join_fault, noted}
+use Rattle.assise_manager.specs.Changes.{failed, failure_fault, back, return_fault, copied, filling_fault, joined, join_fault, noted, raised, raise_fault}
 
 pub data MemberCall : Type 0 where
   -- a node failed, while these inodes may not be everywhere
@@ -16,6 +16,8 @@ pub data MemberCall : Type 0 where
   join : (node : ℕ) → MemberCall
   -- inodes were written at a node
   note_written : (node : ℕ) (inodes : set.FinSet nat_cmp) → MemberCall
+  -- a node is raised
+  raise : (node : ℕ) → MemberCall
 
 -- what a call that isn't refused does, where its condition holds
 abbrev pub Does : Membership → MemberCall → Membership → Type 0
@@ -24,6 +26,7 @@ Does old (come_back node) new = (return_fault old node ≡ None) × (new ≡ bac
 Does old (note_copied node inode) new = (filling_fault old node ≡ None) × (new ≡ copied old node inode)
 Does old (join node) new = (join_fault old node ≡ None) × (new ≡ joined old node)
 Does old (note_written node inodes) new = new ≡ noted old node inodes
+Does old (raise node) new = (raise_fault old node ≡ None) × (new ≡ raised old node)
 
 -- a refused call leaves all as it was
 abbrev pub MayDo : Membership → MemberCall → Membership → Type 0

@@ -4,6 +4,7 @@ use Rattle.std.specs.Prelude.{◌≡◌, ◌==◌, ℕ, ◌+◌, ◌-◌, ◌<�
 use Rattle.std.specs.List.{list_all, list_any, slice_get, slice_index_or}
 use Rattle.std.specs.Ordering.{nat_cmp}
 use Rattle.std.specs.FinSet as set
+use Rattle.assise_manager.specs.declared.level.Level.{Level}
 use Rattle.assise_manager.specs.Standings.{Standing, full, down, returning, is_full, full_nodes}
 
 pub record Membership : Type 0 where
@@ -12,6 +13,8 @@ pub record Membership : Type 0 where
   pub nodes : List Standing
   -- the inodes written in each of the last epochs, the current one last
   pub written : List (set.FinSet nat_cmp)
+  -- up to which version each node reads frames, node n at place n - 1
+  pub levels : List Level
 
 -- the first epoch that has a list of written inodes, or the next one where none has
 abbrev pub first_listed : Membership → ℕ
@@ -52,5 +55,6 @@ pub record IsMembership (m : Membership) : Type 0 where
   pub lists : length m.written ≤ m.epoch
   pub some_full : 0 < length (full_nodes m.nodes)
   pub known : list_all (is_known m) m.nodes ≡ true
+  pub levelled : length m.levels ≡ length m.nodes
   -- where all nodes are full there are no lists
   pub none_listed : list_all is_full m.nodes ≡ true → length m.written ≡ 0

@@ -6,7 +6,7 @@ use Rattle.assise_manager.specs.Membership.{Membership}
 use Rattle.assise_manager.specs.Seen.{listed_inodes, standing, has_last_room, has_node_room}
 
 abbrev pub membership : Members → Membership
-membership m = record { epoch = m.epoch; nodes = map standing m.nodes.items; written = map listed_inodes m.written.items }
+membership m = record { epoch = m.epoch; nodes = map standing m.nodes.items; written = map listed_inodes m.written.items; levels = m.levels.items }
 
 -- so many inodes that are written at a node take no memory
 abbrev pub has_room_for : Members → ℕ → ℕ → Bool

@@ -3,6 +3,7 @@
 #![tactic(auto)]
 
 pub mod laws;
+pub mod level;
 pub mod members;
 pub(crate) mod node;
 pub mod phase;

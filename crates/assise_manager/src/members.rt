@@ -4,6 +4,7 @@ ghost use Rattle.assise_manager.specs.Membership.{IsMembership};
 ghost use Rattle.assise_manager.specs.Seen.{listed_inodes, standing};
 ghost use Rattle.assise_manager.specs.Standings.{full_nodes};
 
+use crate::level::{Level, join_levels, level_at, put_level};
 use crate::node::{
     Node, Refill, Return, drop_lowest, list_full, lowest_besides, node_at, note_all, put,
     refill_all, reserve_all, written_since,
@@ -24,7 +25,8 @@ pub struct Members {
     nodes: Vec<Node>,
     full: Vec<u32>,
     written: Vec<WrittenList>,
-    ghost lawful: { IsMembership (record { epoch = epoch; nodes = map standing nodes.items; written = map listed_inodes written.items }) },
+    levels: Vec<Level>,
+    ghost lawful: { IsMembership (record { epoch = epoch; nodes = map standing nodes.items; written = map listed_inodes written.items; levels = levels.items }) },
     ghost listed: { full.items ≡ full_nodes (map standing nodes.items) },
     ghost room: { vec_len nodes ≤ vec_capacity full },
     ghost few: { vec_len nodes < 2 ^ 32 },
@@ -38,13 +40,14 @@ impl Members {
     ghost use Rattle.std.specs.Ordering.{nat_cmp};
     ghost use Rattle.assise_names.specs.declared.refusal.Refusal.{Refusal as Refused};
     ghost use Rattle.assise_names.specs.declared.refusal.Refusal.TheVariants.{BadNode, OutOfMemory};
-    ghost use Rattle.assise_manager.specs.Changes.{is_away, is_returning, with_node, donor_of, IsLowestOf, all_full, failed, failure_fault, back, return_fault, stale_of, filling_fault, IsLowest, copied, joined, join_fault, noted};
+    ghost use Rattle.assise_manager.specs.Changes.{is_away, is_returning, with_node, donor_of, IsLowestOf, all_full, failed, failure_fault, back, return_fault, stale_of, filling_fault, IsLowest, copied, joined, join_fault, noted, raised, raise_fault};
     ghost use Rattle.assise_manager.specs.Membership.{IsMembership, first_listed, is_known, written_in};
+    ghost use Rattle.assise_manager.specs.NodeLevels.{level_of};
     ghost use Rattle.assise_manager.specs.Seen.{standing, stale_inodes};
     ghost use Rattle.assise_manager.specs.Standings.{full, returning, full_nodes, standing_of, phase_of};
     ghost use Rattle.assise_manager.specs.Whole.{membership, has_room_for};
 
-    /// So many full nodes, in epoch 1. The one refusal is [`Refusal::OutOfMemory`].
+    /// So many full nodes at the first level, in epoch 1. The one refusal is [`Refusal::OutOfMemory`].
     pub fn new(alloc: Global, count: u32) -> Result<Members, Refusal>
         requires some { 0 < count }
         ensures full { IfOk result (λ m. membership m ≡ all_full count) }
@@ -52,8 +55,10 @@ impl Members {
     {
         let mut nodes = Vec::with_capacity(alloc, count as usize)?;
         let mut full = Vec::with_capacity(alloc, count as usize)?;
+        let mut levels = Vec::with_capacity(alloc, count as usize)?;
         for _ in 0..count {
             nodes.push(Node::Full)?;
+            levels.push(Level::Plain)?;
         }
         list_full(&mut full, &nodes);
         let written = Vec::new(alloc);
@@ -63,6 +68,7 @@ impl Members {
             nodes,
             full,
             written,
+            levels,
         })
     }
 
@@ -205,8 +211,8 @@ impl Members {
         Ok(drop_lowest(&mut self.nodes, node))
     }
 
-    /// A node that comes back and lacks no inode is full, from an epoch on that begins now. Where all nodes are full then, the
-    /// lists go. Refused with [`Refusal::BadNode`] where there is no such node, [`Refusal::WrongPhase`] where it doesn't come
+    /// A node that comes back and lacks no inode is full, from an epoch on that begins now, and its level is that of the node that
+    /// it was filled from at least. Where all nodes are full then, the lists go. Refused with [`Refusal::BadNode`] where there is no such node, [`Refusal::WrongPhase`] where it doesn't come
     /// back, [`Refusal::Busy`] where it may lack an inode, and [`Refusal::OutOfMemory`]; then all is as it was.
     pub fn join(&mut self, node: u32) -> Result<(), Refusal>
         requires epoch_fits { (membership self.old).epoch + 1 < 2 ^ 64 }
@@ -216,8 +222,9 @@ impl Members {
         ensures ok { OnOk result (membership self.new ≡ joined (membership self.old) node) }
         ensures err { OnErr result (membership self.new ≡ membership self.old) }
     {
-        self.may_join(node)?;
+        let donor = self.may_join(node)?;
         self.written.reserve(1)?;
+        join_levels(&mut self.levels, node, donor);
         put(&mut self.nodes, node, Node::Full);
         list_full(&mut self.full, &self.nodes);
         self.epoch += 1;
@@ -226,6 +233,30 @@ impl Members {
         } else {
             self.written.push_reserved(WrittenList::new(self.alloc));
         }
+        Ok(())
+    }
+
+    /// The level of a node, which is the first where there is no such node.
+    pub fn level(&self, node: u32) -> Level
+        ensures { result ≡ level_of (membership self.now).levels node }
+    {
+        level_at(&self.levels, node)
+    }
+
+    /// A full node at the first level is raised: it reads marked frames, and sends them. Refused with [`Refusal::BadNode`] where
+    /// there is no such node, and [`Refusal::WrongPhase`] where it isn't full or was raised; then all is as it was. It takes no
+    /// memory.
+    pub fn raise(&mut self, node: u32) -> Result<(), Refusal>
+        ensures fault { (e : Refused) →
+            raise_fault (membership self.old) node ≡ Some e → result ≡ Err e }
+        ensures ok { IsOk result ↔ (raise_fault (membership self.old) node ≡ None) }
+        ensures raised { OnOk result (membership self.new ≡ raised (membership self.old) node) }
+        ensures err { OnErr result (membership self.new ≡ membership self.old) }
+    {
+        if !self.node(node)?.is_full() || self.level(node) == Level::Marked {
+            return Err(Refusal::WrongPhase);
+        }
+        put_level(&mut self.levels, node, Level::Marked);
         Ok(())
     }
 
@@ -293,14 +324,16 @@ impl Members {
         put(&mut self.nodes, node, now);
     }
 
-    /// Whether a node comes back and lacks no inode.
-    fn may_join(&self, node: u32) -> Result<(), Refusal>
+    /// Of a node that comes back and lacks no inode the node that it was filled from.
+    fn may_join(&self, node: u32) -> Result<u32, Refusal>
         ensures fault { (e : Refused) → join_fault (membership self.now) node ≡ Some e → result ≡ Err e }
         ensures faultless { IsOk result ↔ (join_fault (membership self.now) node ≡ None) }
         ensures returning { OnOk result (is_returning (standing_of (membership self.now).nodes node) ≡ true) }
+        ensures donor { IfOk result
+            (λ d. donor_of (standing_of (membership self.now).nodes node) ≡ Some d) }
     {
         match self.node(node)? {
-            Node::Returning(returning) if returning.stale.len() == 0 => Ok(()),
+            Node::Returning(returning) if returning.stale.len() == 0 => Ok(returning.donor),
             Node::Returning(_) => Err(Refusal::Busy),
             _ => Err(Refusal::WrongPhase),
         }

@@ -60,6 +60,7 @@ fn put_node_step(
     let node = first.parse::<u32>().ok()?;
     match word {
         "phase" => put_phase(members, node, text).ok(),
+        "level" => write!(text, " {}", members.level(node).newest()).ok(),
         "donor" => put_donor(members, node, text).ok(),
         "stale" => put_stale(members, node, text).ok(),
         "lowest" => put_lowest(members, node, text).ok(),
@@ -100,6 +101,7 @@ pub(crate) fn change(
         "fail" => fail(members, node, inodes),
         "join" => join(members, node),
         "back" => Some(members.back(node).map(Answer::Stale)),
+        "raise" => Some(members.raise(node).map(|()| Answer::Done)),
         "copied" => Some(members.note_copied(node).map(Answer::Left)),
         "write" => Some(members.note_written(node, inodes).map(|()| Answer::Done)),
         "reserved" => Some(write_reserved(members, node, inodes)),

@@ -53,6 +53,14 @@ const LISTED: &str = "\
 2, fail 2 7, back 2, fail 2 9, epoch, written 2, written 3, written 18446744073709551615 => done 1 done 2 7 none none
 ";
 
+/// A full node is raised once. Who joins has the greater of its own level and of that of the node that it was filled from.
+const RAISED: &str = "\
+3, level 1, raise 1, level 1, level 2, raise 1, raise 0, raise 4, level 4 => 1 done 2 1 F10 WrongPhase F8 BadNode F8 BadNode 1
+2, raise 1, fail 2, raise 2, back 2, raise 2, level 2, join 2, level 2, raise 2 => done done F10 WrongPhase 0 F10 WrongPhase 1 done 2 F10 WrongPhase
+2, raise 2, fail 2, level 2, back 2, join 2, level 2, level 1 => done done 2 0 done 2 1
+3, raise 2, fail 3, fail 1, back 3, donor 3, join 3, level 3, back 1, donor 1, join 1, level 1 => done done done 0 2 done 2 0 2 done 2
+";
+
 /// Eight nodes.
 const EIGHT: &str = "\
 8, full, fail 5, fail 1, fail 8, full, epoch, back 5, donor 5, join 5, epoch, full => 1.2.3.4.5.6.7.8 done done done 2.3.4.6.7 4 0 2 done 5 2.3.4.5.6.7
@@ -97,4 +105,9 @@ fn an_epochs_list_is_lent(rt: HostRuntime) {
 #[test]
 fn calls_are_refused(rt: HostRuntime) {
     show(rt.alloc(), &rt, &mut NewMembers, REFUSED);
+}
+
+#[test]
+fn nodes_are_raised(rt: HostRuntime) {
+    show(rt.alloc(), &rt, &mut NewMembers, RAISED);
 }

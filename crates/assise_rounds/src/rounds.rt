@@ -60,7 +60,7 @@ fn deliver_all<C: Revokes + Drop, L: Link>(
     taken
 }
 
-/// A frame goes over a link to a node. Whether the node took in what came.
+/// A frame goes over a link to a node, which reads versions up to its level. Whether the node took in what came.
 fn deliver<C: Revokes + Drop, L: Link>(
     alloc: Global,
     cluster: &mut ClusterOf<C>,
@@ -72,7 +72,10 @@ fn deliver<C: Revokes + Drop, L: Link>(
         (machine cluster.old) (machine cluster.new) }
     ensures stays { L.faithful link.new ≡ L.faithful link.old }
 {
-    match carry_frame(alloc, link, frame) {
+    let Ok(newest) = cluster.level(node) else {
+        return false;
+    };
+    match carry_frame(alloc, link, newest, frame) {
         Some(came) => cluster.deliver(came, node).is_ok(),
         None => false,
     }

@@ -9,7 +9,7 @@ use Rattle.assise_names.specs.declared.refusal.Refusal.{Refusal}
 use Rattle.assise_names.specs.declared.reply.Reply.{Reply}
 use Rattle.assise_history.specs.Entries.{Event}
 use Rattle.assise_fault_script.specs.declared.command.Command.{Command}
-use Rattle.assise_fault_script.specs.declared.command.Command.TheVariants.{Cluster, Manual, Open, Call, Carry, Link, Hot, Digest, Release, Crash, Fail, Back, Refill, Join, Tree, History}
+use Rattle.assise_fault_script.specs.declared.command.Command.TheVariants.{Cluster, Manual, Open, Call, Carry, Link, Hot, Digest, Release, Crash, Fail, Back, Refill, Join, Raise, Tree, History}
 use Rattle.assise_fault_script.specs.declared.parse.NumberedCommand.{NumberedCommand}
 use Rattle.assise_console.specs.Lines.{line_text}
 use Rattle.assise_workers.specs.Told.{told_all}
@@ -72,6 +72,7 @@ is_answered (Fail node) seen r is = absurd is
 is_answered (Back node) seen r is = absurd is
 is_answered (Refill node) seen r is = absurd is
 is_answered (Join node) seen r is = absurd is
+is_answered (Raise node) seen r is = absurd is
 is_answered (Tree node) seen r is = absurd is
 is_answered History seen r is = absurd is
 
@@ -99,6 +100,7 @@ one_or_none c (Fail node) = inl refl
 one_or_none c (Back node) = inl refl
 one_or_none c (Refill node) = inl refl
 one_or_none c (Join node) = inl refl
+one_or_none c (Raise node) = inl refl
 one_or_none c (Tree node) = inl refl
 one_or_none c History = inl refl
 

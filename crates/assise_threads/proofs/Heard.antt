@@ -9,7 +9,7 @@ use Rattle.assise_names.specs.declared.reply.Reply.{Reply}
 use Rattle.assise_history.specs.Entries.{Event}
 use Rattle.assise_keeper.specs.Clients.{calls_by}
 use Rattle.assise_fault_script.specs.declared.command.Command.{Command}
-use Rattle.assise_fault_script.specs.declared.command.Command.TheVariants.{Cluster, Manual, Open, Call, Carry, Link, Hot, Digest, Release, Crash, Fail, Back, Refill, Join, Tree, History}
+use Rattle.assise_fault_script.specs.declared.command.Command.TheVariants.{Cluster, Manual, Open, Call, Carry, Link, Hot, Digest, Release, Crash, Fail, Back, Refill, Join, Raise, Tree, History}
 use Rattle.assise_workers.specs.Told.{told_all}
 use Rattle.assise_workers.proofs.Lists.{told-append}
 use Rattle.assise_threads.specs.Said.{Said, TellsClient, call_in, calls_in, commands_said}
@@ -81,6 +81,7 @@ no_call c (Fail node) none = refl
 no_call c (Back node) none = refl
 no_call c (Refill node) none = refl
 no_call c (Join node) none = refl
+no_call c (Raise node) none = refl
 no_call c (Tree node) none = refl
 no_call c History none = refl
 

@@ -5,10 +5,10 @@ use Rattle.assise_history.specs.Entries.{Event, opens, calls, crashes, fails, re
 use Rattle.assise_history.specs.Legal.{IsLegal}
 use Rattle.assise_keeper.specs.Clients.{Extends, MayAddAll, MayGive, added, client_after}
 use Rattle.assise_keeper.proofs.Adding.{drop-front}
-use Rattle.assise_machine_events.specs.Events.{Answer as EventAnswer, back, crash, digest, fail, join, refill, release_ready}
+use Rattle.assise_machine_events.specs.Events.{Answer as EventAnswer, back, crash, digest, fail, join, raise, refill, release_ready}
 use Rattle.assise_machine_events.specs.ClientEvents.{Crashing, is_crashed, is_refused as not_crashed, lacks_memory as crash_lacks}
 use Rattle.assise_machine_events.specs.Machine.{Machine}
-use Rattle.assise_machine_events.specs.MemberEvents.{Failing, Returning, Refilling, Joining, is_back, is_failed, is_failed_again, is_joined, is_refilled, is_refused, is_whole, lacks_memory}
+use Rattle.assise_machine_events.specs.MemberEvents.{Failing, Returning, Refilling, Joining, Raising, is_back, is_failed, is_failed_again, is_joined, is_raised, is_refilled, is_refused, is_whole, lacks_memory}
 use Rattle.assise_machine_events.specs.NodeEvents.{Digesting, Releasing, SettingHot, is_digested, is_refused as not_digested, is_released, is_set, lacks_memory as digest_lacks}
 use Rattle.assise_machine.specs.Clusters.{machine}
 use Rattle.assise_machine.specs.declared.cluster.ClusterOf.{ClusterOf}
@@ -106,6 +106,10 @@ join_adds m m' n a (is_joined fine is e) = record { more = returns n ∷ []; spl
 join_adds m m' n a (lacks_memory fine is same) = adds_none m m' same
 join_adds m m' n a (is_refused r fault is same) = adds_none m m' same
 
+raise_adds : (m m' : Machine) (n : ℕ) (a : EventAnswer) → Raising m n a m' → AddsNobodys m.history m'.history
+raise_adds m m' n a (is_raised fine is e) = record { more = []; split = e.adds.history; nobodys = tt }
+raise_adds m m' n a (is_refused r fault is same) = adds_none m m' same
+
 -- ---- the same, by what their functions say
 
 module _ (a : Answer) (m m' : Machine) where
@@ -133,3 +137,6 @@ module _ (a : Answer) (m m' : Machine) where
 
   pub joined_adds : (n : ℕ) → (es : Told) × IsOneAt join n a m es m' → AddsNobodys m.history m'.history
   joined_adds n (es, h) = join_adds m m' n h.answer h.event.happens
+
+  pub raised_adds : (n : ℕ) → (es : Told) × IsOneAt raise n a m es m' → AddsNobodys m.history m'.history
+  raised_adds n (es, h) = raise_adds m m' n h.answer h.event.happens

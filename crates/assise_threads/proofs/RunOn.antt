@@ -7,10 +7,10 @@ use Rattle.assise_history.specs.Legal.{calls_made}
 use Rattle.assise_keeper.specs.Clients.{calls_by}
 use Rattle.assise_libfs.specs.Clients.{client_of, seen_by}
 use Rattle.assise_fault_script.specs.declared.command.Command.{Command}
-use Rattle.assise_fault_script.specs.declared.command.Command.TheVariants.{Cluster, Manual, Open, Call, Carry, Link, Hot, Digest, Release, Crash, Fail, Back, Refill, Join, Tree, History}
+use Rattle.assise_fault_script.specs.declared.command.Command.TheVariants.{Cluster, Manual, Open, Call, Carry, Link, Hot, Digest, Release, Crash, Fail, Back, Refill, Join, Raise, Tree, History}
 use Rattle.assise_fault_script.specs.declared.parse.NumberedCommand.{NumberedCommand}
 use Rattle.assise_console.specs.declared.answer.Answer.{Answer}
-use Rattle.assise_console.specs.declared.answer.Answer.TheVariants.{Quiet, Client, Replied, Waits, Refused, Carried, Digested, Released, Linked, HotSet, Crashed, Failed, Began, Left, Returned, Tree as Shown, History as Whole}
+use Rattle.assise_console.specs.declared.answer.Answer.TheVariants.{Quiet, Client, Replied, Waits, Refused, Carried, Digested, Released, Linked, HotSet, Crashed, Failed, Began, Left, Returned, Raised, Tree as Shown, History as Whole}
 use Rattle.assise_names.specs.declared.refusal.Refusal.TheVariants.{Busy, OutOfMemory}
 use Rattle.assise_machine_events.specs.Machine.{Machine}
 use Rattle.assise_console.specs.declared.fault.EngineFault.{EngineFault}
@@ -98,6 +98,7 @@ not_whole (Back node) old new other (is_refused r is h) = let x : Whole ≡ Refu
 not_whole (Back node) old new other (is_busy is e legal) = let x : Whole ≡ Refused Busy = is in cc
 not_whole (Refill node) old new other h = h.does.tells
 not_whole (Join node) old new other h = h.does.tells
+not_whole (Raise node) old new other h = h.does.tells
 not_whole (Tree node) old new other h = no_tree h.does.shows
   where
     no_tree : {m : Machine} → Shows node Whole m → ⊥
@@ -124,6 +125,7 @@ line_shows_none n command (Failed node losses) shown old new other h = refl
 line_shows_none n command (Began node stale) shown old new other h = refl
 line_shows_none n command (Left stale) shown old new other h = refl
 line_shows_none n command (Returned node) shown old new other h = refl
+line_shows_none n command (Raised node) shown old new other h = refl
 line_shows_none n command (Shown tree) shown old new other h = refl
 
 -- ---- what ends a run

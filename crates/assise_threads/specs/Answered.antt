@@ -10,8 +10,8 @@ use Rattle.assise_history.specs.Legal.{IsLegal, calls_made}
 use Rattle.assise_keeper.specs.Clients.{Extends}
 use Rattle.assise_libfs.specs.Lives.{IsOpenedAs}
 use Rattle.assise_fault_script.specs.declared.command.Command.{Command}
-use Rattle.assise_fault_script.specs.declared.command.Command.TheVariants.{Cluster, Manual, Open, Call, Carry, Link, Hot, Digest, Release, Crash, Fail, Back, Refill, Join, Tree as TreeOf, History}
-use Rattle.assise_machine_events.specs.Events.{back, crash, digest, fail, join, refill, release_ready}
+use Rattle.assise_fault_script.specs.declared.command.Command.TheVariants.{Cluster, Manual, Open, Call, Carry, Link, Hot, Digest, Release, Crash, Fail, Back, Refill, Join, Raise, Tree as TreeOf, History}
+use Rattle.assise_machine_events.specs.Events.{back, crash, digest, fail, join, raise, refill, release_ready}
 use Rattle.assise_machine_events.specs.Machine.{Machine}
 use Rattle.assise_console.specs.declared.answer.Answer.{Answer}
 use Rattle.assise_console.specs.declared.answer.Answer.TheVariants.{Quiet, Client, Replied, Refused, Carried, History as Whole}
@@ -74,5 +74,6 @@ AnswersCommand (Fail n) a old new = InOneTake (IsOneAt fail n a) old new
 AnswersCommand (Back n) a old new = ComesBackInTakes n a old new
 AnswersCommand (Refill n) a old new = InOneTake (IsOneAt refill n a) old new
 AnswersCommand (Join n) a old new = InOneTake (IsOneAt join n a) old new
+AnswersCommand (Raise n) a old new = InOneTake (IsOneAt raise n a) old new
 AnswersCommand (TreeOf n) a old new = InOneTake (ShowsTree n a) old new
 AnswersCommand History a old new = PrintsHistory a old new

@@ -3,7 +3,7 @@
 use Rattle.std.specs.Prelude.{List}
 use Rattle.assise_history.specs.Entries.{Event}
 use Rattle.assise_keeper.specs.Passes.{seen}
-use Rattle.assise_machine_events.specs.Events.{back, crash, digest, fail, join, refill, release_ready}
+use Rattle.assise_machine_events.specs.Events.{back, crash, digest, fail, join, raise, refill, release_ready}
 use Rattle.assise_machine_events.specs.Machine.{Machine}
 use Rattle.assise_console.specs.declared.answer.Answer.{Answer}
 use Rattle.assise_rounds.specs.Courses.{Told}
@@ -12,7 +12,7 @@ use Rattle.assise_console.specs.Steps.{SetsHot}
 use Rattle.assise_threads.specs.Answered.{ShowsTree}
 use Rattle.assise_threads.specs.declared.main_thread.MainThreadOf.{MainThreadOf}
 use Rattle.assise_threads.specs.declared.takes.Take.{Take}
-use Rattle.assise_threads.specs.declared.takes.Take.TheVariants.{Digest, Release, SetHot, Crash, Fail, BeginReturn, Refill, Join, Tree}
+use Rattle.assise_threads.specs.declared.takes.Take.TheVariants.{Digest, Release, SetHot, Crash, Fail, BeginReturn, Refill, Join, Raise, Tree}
 
 -- what the main thread's pass has seen
 abbrev pub main_seen : {C : Type 0} → MainThreadOf C → List Event
@@ -27,4 +27,5 @@ DoesTake (Fail n) a = IsOneAt fail n a
 DoesTake (BeginReturn n) a = IsOneAt back n a
 DoesTake (Refill n) a = IsOneAt refill n a
 DoesTake (Join n) a = IsOneAt join n a
+DoesTake (Raise n) a = IsOneAt raise n a
 DoesTake (Tree n) a = ShowsTree n a

@@ -276,6 +276,7 @@ impl<'a> Crew<'a> {
             Command::Fail { node } => Ok(main.in_one_take(rt, alloc, Take::Fail(*node))),
             Command::Refill { node } => Ok(main.in_one_take(rt, alloc, Take::Refill(*node))),
             Command::Join { node } => Ok(main.in_one_take(rt, alloc, Take::Join(*node))),
+            Command::Raise { node } => Ok(main.in_one_take(rt, alloc, Take::Raise(*node))),
             Command::Tree { node } => Ok(main.in_one_take(rt, alloc, Take::Tree(*node))),
             Command::Cluster { .. } => Ok(Answer::Quiet),
             Command::Manual => Ok(Answer::Quiet),

@@ -6,7 +6,7 @@ ghost use Rattle.assise_threads.specs.Threads.{DoesTake};
 
 use assise_console::answer::Answer;
 use assise_console::commands::{
-    begin_return, crash, digest, fail, join, refill, release, set_hot, tree,
+    begin_return, crash, digest, fail, join, raise, refill, release, set_hot, tree,
 };
 use assise_lease_table::revoker::Revokes;
 use assise_machine::cluster::ClusterOf;
@@ -31,6 +31,8 @@ pub(crate) enum Take {
     Refill(u64),
     /// A node that comes back is full again.
     Join(u64),
+    /// A node reads and sends version 2 of frames.
+    Raise(u64),
     /// The tree of a node is read.
     Tree(u64),
 }
@@ -54,6 +56,7 @@ pub(crate) fn apply<C: Revokes + Drop>(
         Take::BeginReturn(node) => begin_return(cluster, node),
         Take::Refill(node) => refill(alloc, cluster, node),
         Take::Join(node) => join(alloc, cluster, node),
+        Take::Raise(node) => raise(cluster, node),
         Take::Tree(node) => tree(alloc, cluster, node),
     }
 }

@@ -1,5 +1,5 @@
 // A state whose nodes replicate and digest.
-ghost use Rattle.std.specs.Prelude.{◌≡◌};
+ghost use Rattle.std.specs.Prelude.{◌≡◌, ◌≤◌, IfOk};
 
 use assise_history::growing::Growing;
 use assise_lease_table::revoker::Revokes;
@@ -12,6 +12,10 @@ use std::alloc::Global;
 pub trait Replicated: Growing {
     /// What a node has for others: frames, each with the node that it is for.
     fn outgoing(&self, alloc: Global, node: u32) -> Result<Vec<(Frame, u32)>, Refusal>;
+
+    /// The newest version of frames that a node reads.
+    fn level(&self, node: u32) -> Result<u8, Refusal>
+        ensures known { IfOk result (λ level. (1 ≤ level) × (level ≤ 2)) };
 
     /// A frame comes to a node.
     fn deliver(&mut self, frame: Frame, node: u32) -> Result<u64, Refusal>
@@ -29,6 +33,10 @@ pub trait Replicated: Growing {
 impl<C: Revokes + Drop> Replicated for ClusterOf<C> {
     fn outgoing(&self, alloc: Global, node: u32) -> Result<Vec<(Frame, u32)>, Refusal> {
         ClusterOf::outgoing(self, alloc, node)
+    }
+
+    fn level(&self, node: u32) -> Result<u8, Refusal> {
+        ClusterOf::level(self, node)
     }
 
     fn deliver(&mut self, frame: Frame, node: u32) -> Result<u64, Refusal> {

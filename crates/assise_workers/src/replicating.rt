@@ -1,4 +1,5 @@
 // What a node's replicator does.
+ghost use Rattle.std.specs.Prelude.{◌≤◌};
 
 use crate::gate::{Gate, Point};
 use crate::idle::Idle;
@@ -10,6 +11,31 @@ use assise_names::refusal::Refusal;
 use assise_record::frame::Frame;
 use std::alloc::Global;
 use std::sync::Wait;
+
+/// A frame with the node that it is for, and the newest version that this one reads.
+#[derive(Drop)]
+struct Letter {
+    frame: Frame,
+    next: u32,
+    newest: u8,
+    ghost some_version: { 1 ≤ newest },
+    ghost known_version: { newest ≤ 2 },
+}
+
+/// What a node has for others, and what they read.
+fn letters_of<S: Replicated>(alloc: Global, state: &S, node: u32) -> Result<Vec<Letter>, Refusal> {
+    let frames = state.outgoing(alloc, node)?;
+    let mut letters = Vec::with_capacity(alloc, frames.len())?;
+    for (frame, next) in frames {
+        let newest = state.level(next)?;
+        letters.push(Letter {
+            frame,
+            next,
+            newest,
+        })?;
+    }
+    Ok(letters)
+}
 
 impl<'a, S: Replicated> Worker<'a, S> {
     ghost use Rattle.assise_workers.specs.Working.{GoesOn};
@@ -28,7 +54,7 @@ impl<'a, S: Replicated> Worker<'a, S> {
         ensures { GoesOn self.old self.new }
     {
         match self.take_outgoing(rt, alloc, node) {
-            Ok(frames) => self.send_all(rt, alloc, frames, link, gate),
+            Ok(letters) => self.send_all(rt, alloc, letters, link, gate),
             Err(refusal) => TurnEnd::Refused(refusal),
         }
     }
@@ -56,34 +82,34 @@ impl<'a, S: Replicated> Worker<'a, S> {
         }
     }
 
-    // What the node has for others.
+    // What the node has for others, and what they read.
     fn take_outgoing<R: Wait>(
         &mut self,
         rt: &R,
         alloc: Global,
         node: u32,
-    ) -> Result<Vec<(Frame, u32)>, Refusal>
+    ) -> Result<Vec<Letter>, Refusal>
         ensures { GoesOn self.old self.new }
     {
         let mut held = self.pass.take(rt, self.keeper);
-        let frames = held.state().outgoing(alloc, node);
+        let letters = letters_of(alloc, held.state(), node);
         self.pass.give(self.keeper, held);
-        frames
+        letters
     }
 
     fn send_all<L: Link, G: Gate, R: Wait>(
         &mut self,
         rt: &R,
         alloc: Global,
-        frames: Vec<(Frame, u32)>,
+        letters: Vec<Letter>,
         link: &mut L,
         gate: &G,
     ) -> TurnEnd
         ensures { GoesOn self.old self.new }
     {
         let mut taken = 0u64;
-        for (frame, next) in frames {
-            match self.send(rt, alloc, &frame, next, link, gate) {
+        for letter in letters {
+            match self.send(rt, alloc, &letter, link, gate) {
                 Some(one) => taken = taken.saturating_add(one),
                 None => return TurnEnd::Stopped,
             }
@@ -96,8 +122,7 @@ impl<'a, S: Replicated> Worker<'a, S> {
         &mut self,
         rt: &R,
         alloc: Global,
-        frame: &Frame,
-        next: u32,
+        letter: &Letter,
         link: &mut L,
         gate: &G,
     ) -> Option<u64>
@@ -106,13 +131,13 @@ impl<'a, S: Replicated> Worker<'a, S> {
         if !gate.pass(Point::BeforeCarry) {
             return None;
         }
-        let Some(came) = carry_frame(alloc, link, frame) else {
+        let Some(came) = carry_frame(alloc, link, letter.newest, &letter.frame) else {
             return Some(0);
         };
         if !gate.pass(Point::BeforeDeliver) {
             return None;
         }
-        Some(self.bring_in(rt, came, next))
+        Some(self.bring_in(rt, came, letter.next))
     }
 
     // A frame comes to a node; how many were taken in.

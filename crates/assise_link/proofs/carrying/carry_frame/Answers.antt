@@ -1,6 +1,6 @@
-use Rattle.std.proofs.Common.{◌≡◌, ◌∙◌, length, sym, subst, IfSome}
+use Rattle.std.proofs.Common.{◌≡◌, ◌∙◌, sym, subst, IfSome}
 use Rattle.assise_record.specs.Spelling.{BeginsWith, Spells, spelling}
-use Rattle.assise_link.proofs.WholeFrames.{read_so, whole_begins}
+use Rattle.assise_link.proofs.WholeFrames.{same_frame}
 use Rattle.assise_link.proofs.carrying.carry_frame.Goals as goal
 
 pub returns-in-Ok-decode_up_to-clause-came : goal.returns-in-Ok-decode_up_to-clause-came
@@ -14,7 +14,7 @@ returns-in-Ok-decode_up_to-clause-came g c =
       bytes = c.in-Ok-Some.came.items;
       given = subst (λ x. g.L.Link.gives c.args.link.now x c.in-Ok-Some.came.items) sent given;
       used = c.in-Ok-decode_up_to.field-0-1;
-      begins = subst (λ x. BeginsWith 2 x frame c.in-Ok-decode_up_to.field-0-1) c.as_slice-2.ensures.value c.in-Ok-decode_up_to.ensures.found;
+      begins = subst (λ x. BeginsWith c.args.newest x frame c.in-Ok-decode_up_to.field-0-1) c.as_slice-2.ensures.value c.in-Ok-decode_up_to.ensures.found;
     }
 
 pub returns-in-Ok-decode_up_to-clause-same : goal.returns-in-Ok-decode_up_to-clause-same
@@ -26,5 +26,4 @@ returns-in-Ok-decode_up_to-clause-same g c = λ faithful.
     let given : g.L.Link.gives c.args.link.now c.as_slice.result.now c.in-Ok-Some.came.items = subst (λ o. IfSome o (λ v. g.L.Link.gives c.args.link.now c.as_slice.result.now v.items)) c.in-Ok-Some.field-0-is c.in-Ok-Some.ensures.gives in
     let came : c.as_slice-2.result.now ≡ spelling sent = c.as_slice-2.ensures.value ∙ ((g.met.L.Link g.world.𝓛 g.world.𝓜 g.world.𝓡 ((λ s x. x), (λ x. x), (λ x. x), λ x. x)).same _ faithful _ _ given ∙ bytes) in
     let spells : Spells 2 c.as_slice-2.result.now sent = subst (λ x. Spells 2 x sent) (sym came) (c.in-Ok.ensures.spelled 2 c.in-Ok.ensures.known_version) in
-    let read = c.decode_up_to.ensures.only sent _ (whole_begins c.as_slice-2.result.now sent spells) in
-    read_so c.decode_up_to.result c.in-Ok-decode_up_to.frame sent c.in-Ok-decode_up_to.field-0-1 (length c.as_slice-2.result.now) c.in-Ok-decode_up_to.is read
+    same_frame c.args.newest c.in-Ok-decode_up_to.field-0-1 c.as_slice-2.result.now c.in-Ok-decode_up_to.frame sent c.requires.known_version c.in-Ok-decode_up_to.ensures.found spells

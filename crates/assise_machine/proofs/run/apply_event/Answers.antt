@@ -42,5 +42,8 @@ returns-in-Back-clause-served g c = seen_so c.in-Back.is (happens c.back.ensures
 pub returns-in-Refill-clause-served : goal.returns-in-Refill-clause-served
 returns-in-Refill-clause-served g c = seen_so c.in-Refill.is (happens c.refill.ensures.happens)
 
+pub returns-in-Raise-clause-served : goal.returns-in-Raise-clause-served
+returns-in-Raise-clause-served g c = seen_so c.in-Raise.is (happens c.raise.ensures.happens)
+
 pub returns-in-Join-clause-served : goal.returns-in-Join-clause-served
 returns-in-Join-clause-served g c = seen_so c.in-Join.is (happens c.join.ensures.happens)

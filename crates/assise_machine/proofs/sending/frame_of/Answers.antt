@@ -3,6 +3,7 @@ use Rattle.std.specs.Option.{option_to_list}
 use Rattle.assise_private_log.specs.NumberedLog.{end}
 use Rattle.assise_chain.specs.Messages.{message_of, sent}
 use Rattle.assise_digest.specs.Region.{HasClient, log_of}
+use Rattle.assise_manager.specs.NodeLevels.{sends_marks}
 use Rattle.assise_machine_events.specs.NodeEvents.{for_node}
 use Rattle.assise_machine_state.specs.NodeValues.{log_in}
 use Rattle.assise_machine_state.specs.ClientValues.{client_in}
@@ -53,7 +54,7 @@ returns-clause-frame g c =
     let to : c.min-to.result ≡ min (client_in s.clients c.args.client).goal (end (log_in s.nodes c.args.node c.args.client).log) =
     c.min-to.ensures ∙ (λ i. min ((c.goal.ensures ∙ ap (λ x. x.goal) c.get-known.ensures) i) ((c.end.ensures.end ∙ ap end log) i)) in
     mapped
-    ∙ ap (for_node c.in-Some.next) (c.in_ok-frame.ensures.exact ∙ (λ i. message_of (log i) (c.epoch.ensures.epoch i) c.args.client (from i) (to i)))
+    ∙ ap (for_node c.in-Some.next) (c.in_ok-frame.ensures.exact ∙ (λ i. message_of (log i) ((c.sends_marks-marked.ensures ∙ ap sends_marks c.level.ensures) i) (c.epoch.ensures.epoch i) c.args.client (from i) (to i)))
     ∙ sym (some_sent s c.args.node c.args.client c.requires.shape c.requires.holds c.requires.client c.requires.full c.in-Some.next (sym is ∙ c.in-Some.is))
 
 pub returns-in_err-frame-clause-nothing_asked : goal.returns-in_err-frame-clause-nothing_asked
@@ -67,5 +68,5 @@ returns-in_err-frame-clause-nothing_asked g c = λ none.
     let to : c.min-to.result ≡ min (client_in s.clients c.args.client).goal (end (log_in s.nodes c.args.node c.args.client).log) =
     c.min-to.ensures ∙ (λ i. min ((c.goal.ensures ∙ ap (λ x. x.goal) c.get-known.ensures) i) ((c.end.ensures.end ∙ ap end log) i)) in
     let there = some_sent s c.args.node c.args.client c.requires.shape c.requires.holds c.requires.client c.requires.full c.in-Some.next (sym is ∙ c.in-Some.is) in
-    let unsent = nothing_sent c.in-Some.next s.members.epoch c.args.client _ _ (sym there ∙ none) in
+    let unsent = nothing_sent c.in-Some.next _ s.members.epoch c.args.client _ _ _ (sym there ∙ none) in
     absurd (never c.in_err-frame.ensures.nothing_asked ((λ i. sent (log i) (from i) (to i)) ∙ unsent))

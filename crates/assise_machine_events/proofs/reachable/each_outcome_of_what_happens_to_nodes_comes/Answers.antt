@@ -1,4 +1,4 @@
-use Rattle.assise_machine_events.proofs.MembersCome.{back_comes, busy_comes, failed_again_comes, joined_comes, not_back_comes, not_back_for_memory_comes, not_failed_comes, not_failed_for_memory_comes, not_joined_for_memory_comes, not_refilled_comes, not_refilled_for_memory_comes, refilled_comes, whole_comes}
+use Rattle.assise_machine_events.proofs.MembersCome.{back_comes, busy_comes, failed_again_comes, joined_comes, not_back_comes, not_back_for_memory_comes, not_failed_comes, not_failed_for_memory_comes, not_joined_for_memory_comes, not_raised_comes, not_refilled_comes, not_refilled_for_memory_comes, raised_comes, refilled_comes, whole_comes}
 use Rattle.assise_machine_events.proofs.MembersFail.{failed_comes}
 use Rattle.assise_machine_events.proofs.reachable.each_outcome_of_what_happens_to_nodes_comes.Goals as goal
 
@@ -43,3 +43,9 @@ returns-clause-busy r = busy_comes
 
 pub returns-clause-not_joined_for_memory : goal.returns-clause-not_joined_for_memory
 returns-clause-not_joined_for_memory r = not_joined_for_memory_comes
+
+pub returns-clause-raised : goal.returns-clause-raised
+returns-clause-raised r = raised_comes
+
+pub returns-clause-not_raised : goal.returns-clause-not_raised
+returns-clause-not_raised r = not_raised_comes

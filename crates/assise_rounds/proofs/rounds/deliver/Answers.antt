@@ -10,3 +10,6 @@ returns-in-Some-clause-delivers g c =
 
 pub returns-in-None-clause-delivers : goal.returns-in-None-clause-delivers
 returns-in-None-clause-delivers g c = is_lost (g.L.Link.faithful c.args.link.now ≡ true) (machine c.args.cluster.now) c.args.frame.now c.args.node
+
+pub returns-in_default-clause-delivers : goal.returns-in_default-clause-delivers
+returns-in_default-clause-delivers g c = is_lost (g.L.Link.faithful c.args.link.now ≡ true) (machine c.args.cluster.now) c.args.frame.now c.args.node

@@ -25,5 +25,8 @@ returns-in-Refill-clause-does g c = rw c.in-Refill.is c.refill.ensures
 pub returns-in-Join-clause-does : goal.returns-in-Join-clause-does
 returns-in-Join-clause-does g c = rw c.in-Join.is c.join.ensures
 
+pub returns-in-Raise-clause-does : goal.returns-in-Raise-clause-does
+returns-in-Raise-clause-does g c = rw c.in-Raise.is c.raise.ensures
+
 pub returns-in-Tree-clause-does : goal.returns-in-Tree-clause-does
 returns-in-Tree-clause-does g c = rw c.in-Tree.is ([], record { shows = c.tree.ensures; stays = refl })

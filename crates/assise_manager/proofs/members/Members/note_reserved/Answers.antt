@@ -19,8 +19,8 @@ invariant_of-self c =
     let nodes = ap (map standing) nodes_same ∙ c.note_all.ensures.nodes ∙ ap (λ ns. map (stale_again c.args.node inodes) (map standing ns)) c.deref_mut-2.ensures.value in
     let lists = ap (map listed_inodes) lists_same ∙ c.insert_last.ensures.lists ∙ ap (λ ls. with_written (map listed_inodes ls) inodes) c.deref_mut.ensures.value in
     record {
-      lawful = subst (λ ns. IsMembership (record { epoch = old.epoch; nodes = ns; written = map listed_inodes (take old.written.len (c.insert_last.new.lists ++ drop (length c.insert_last.new.lists) old.written.items)) })) (sym nodes)
-          (subst (λ ls. IsMembership (record { epoch = old.epoch; nodes = map (stale_again c.args.node inodes) (map standing old.nodes.items); written = ls })) (sym lists) (noted_lawful (membership old) c.args.node inodes old.lawful));
+      lawful = subst (λ ns. IsMembership (record { epoch = old.epoch; nodes = ns; written = map listed_inodes (take old.written.len (c.insert_last.new.lists ++ drop (length c.insert_last.new.lists) old.written.items)); levels = old.levels.items })) (sym nodes)
+          (subst (λ ls. IsMembership (record { epoch = old.epoch; nodes = map (stale_again c.args.node inodes) (map standing old.nodes.items); written = ls; levels = old.levels.items })) (sym lists) (noted_lawful (membership old) c.args.node inodes old.lawful));
       listed = old.listed ∙ sym (ap full_nodes nodes ∙ full_from_map (stale_again c.args.node inodes) (still_full c.args.node inodes) 1 (map standing old.nodes.items));
       room = old.room;
       few = old.few;

@@ -1,0 +1,100 @@
+-- A node that is raised: what holds between events stays.
+use Rattle.std.specs.Prelude.{⊤}
+use Rattle.std.proofs.Common.{◌≡◌, ℕ, None, Some, Option, Result, Ok, Err, IsSome, true, false, true≢false, OnErr, OnOk, ◌↔◌, IsOk, refl, ap, sym, subst, ◌∙◌, append-nil}
+use Rattle.std.proofs.Math.Logic.{∥∥₁_map}
+use Rattle.assise_names.specs.declared.refusal.Refusal.{Refusal}
+use Rattle.assise_manager.specs.Changes.{raise_fault, raised as with_raised}
+use Rattle.assise_manager.specs.declared.phase.Phase.{Phase}
+use Rattle.assise_manager.specs.Membership.{Membership}
+use Rattle.assise_manager.specs.Standings.{Standing, full, down, returning, phase_of, standing_of}
+use Rattle.assise_machine_events.specs.Events.{raised}
+use Rattle.assise_machine_events.specs.Machine.{Holds}
+use Rattle.assise_machine_events.specs.MemberEvents.{IsRaised, Raising, is_raised, is_refused}
+use Rattle.assise_machine_events.proofs.Raised.{raise_holds}
+use Rattle.assise_machine_state.specs.NodeValues.{log_seen, region_seen}
+use Rattle.assise_machine_state.specs.Observed.{observed, own_seen, world_of}
+use Rattle.assise_machine_state.specs.Shape.{AreNoted, IsShaped}
+use Rattle.assise_machine_state.specs.StateValues.{StateValue, leases_of}
+use Rattle.assise_machine.specs.Answers.{raising_answer}
+
+-- what is to be shown of the state then
+pub record Raises (s : StateValue) (n : ℕ) (r : Result ⊤ Refusal) (t : StateValue) : Type 0 where
+  pub holds : ∥ Holds (observed t) ∥₁
+  pub shape : IsShaped t
+  pub noted : AreNoted t
+  pub happens : Raising (observed s) n (raising_answer r) (observed t)
+
+module _ (s : StateValue) (n : ℕ) where
+  abbrev after_raise : StateValue
+  after_raise = record s { members = with_raised s.members n }
+
+  shape_kept : IsShaped s → IsShaped after_raise
+  unfolding own_seen log_seen region_seen
+  shape_kept shape = record {
+    nodes = shape.nodes;
+    few_nodes = shape.few_nodes;
+    logs = shape.logs;
+    no_logs = shape.no_logs;
+    at_home = shape.at_home;
+    limits = shape.limits;
+    least_limit = shape.least_limit;
+    most_limit = shape.most_limit;
+    marked = shape.marked;
+    durabilities = shape.durabilities;
+  }
+
+  notes_kept : AreNoted s → AreNoted after_raise
+  notes_kept noted = record { once = noted.once; known = noted.known; noted = noted.noted }
+
+  is_raised_now : IsRaised (observed s) n (observed after_raise)
+  unfolding observed world_of leases_of own_seen
+  is_raised_now = record { members = refl; world = refl; leases = refl; adds = record { history = sym (append-nil s.history); limit = refl } }
+
+  pub members_as : (observed s).members ≡ s.members
+  unfolding observed
+  members_as = refl
+
+  pub raises : ∥ Holds (observed s) ∥₁ → IsShaped s → AreNoted s → (r : Result ⊤ Refusal) (o : Membership)
+      → ((e : Refusal) → raise_fault s.members n ≡ Some e → r ≡ Err e) → IsOk r ↔ (raise_fault s.members n ≡ None)
+      → OnOk r (o ≡ with_raised s.members n) → OnErr r (o ≡ s.members) → Raises s n r (record s { members = o })
+  raises holds shape noted (Ok u) o fault ok done kept =
+      let fine : raise_fault (observed s).members n ≡ None = ap (λ m. raise_fault m n) members_as ∙ ok.0 refl in
+      let now : Raising (observed s) n raised (observed after_raise) = is_raised fine refl is_raised_now in
+      subst (λ m. Raises s n (Ok u) (record s { members = m })) (sym done) (record {
+        holds = ∥∥₁_map holds (λ h. raise_holds (observed s) (observed after_raise) n raised h now);
+        shape = shape_kept shape;
+        noted = notes_kept noted;
+        happens = now;
+      })
+  raises holds shape noted (Err e) o fault ok done kept =
+      subst (λ m. Raises s n (Err e) (record s { members = m })) (sym kept) (record {
+        holds = holds;
+        shape = shape;
+        noted = noted;
+        happens = is_refused e (why (raise_fault s.members n) refl) refl refl;
+      })
+    where
+      why : (o : Option Refusal) → raise_fault s.members n ≡ o → raise_fault (observed s).members n ≡ Some e
+      why None none = absurd (true≢false (sym (ok.1 none)))
+      why (Some other) is = ap (λ m. raise_fault m n) members_as ∙ is ∙ (let both : Err e ≡ Err other = fault other is in ap Some cc)
+
+  -- ---- whether there is such a node
+
+  some_phase : (o : Option Standing) (r : Result Phase Refusal) (p : Phase) → r ≡ phase_of o → r ≡ Ok p → IsSome o
+  some_phase None r p is ok = cc
+  some_phase (Some x) r p is ok = refl
+
+  no_phase : (o : Option Standing) (r : Result Phase Refusal) (e : Refusal) → r ≡ phase_of o → r ≡ Err e → IsSome o → ⊥
+  no_phase None r e is err some = cc
+  no_phase (Some full) r e is err some = cc
+  no_phase (Some (down since)) r e is err some = cc
+  no_phase (Some (returning since donor stale)) r e is err some = cc
+
+  abbrev There : Type 0
+  There = IsSome (standing_of (observed s).members.nodes n)
+
+  pub node_there : (r : Result Phase Refusal) (p : Phase) → r ≡ phase_of (standing_of s.members.nodes n) → r ≡ Ok p → (true ≡ true → There) × (There → true ≡ true)
+  node_there r p is ok = (λ _. subst (λ m. IsSome (standing_of m.nodes n)) (sym members_as) (some_phase (standing_of s.members.nodes n) r p is ok), λ _. refl)
+
+  pub node_none : (r : Result Phase Refusal) (e : Refusal) → r ≡ phase_of (standing_of s.members.nodes n) → r ≡ Err e → (false ≡ true → There) × (There → false ≡ true)
+  node_none r e is err = (λ is. cc, λ some. absurd (no_phase (standing_of s.members.nodes n) r e is err (subst (λ m. IsSome (standing_of m.nodes n)) members_as some)))

@@ -1,0 +1,17 @@
+use Rattle.assise_manager.specs.Whole.{membership}
+use Rattle.assise_machine_state.specs.Whole.{value_of}
+use Rattle.assise_machine.proofs.RaisedNode.{Raises, raises}
+use Rattle.assise_machine.proofs.raising.raise.Given as given
+use Rattle.assise_machine.proofs.raising.raise.Goals as goal
+
+raised_now : (g : given.Over) (c : goal.After-raise g) →
+    Raises (value_of c.args.sound.now.state) c.args.node c.raise.result (record (value_of c.args.sound.now.state) { members = membership c.raise.new.self })
+raised_now g c =
+    raises (value_of c.args.sound.now.state) c.args.node c.args.sound.now.holds c.args.sound.now.shape c.args.sound.now.noted
+    c.raise.result (membership c.raise.new.self) c.raise.ensures.fault c.raise.ensures.ok c.raise.ensures.raised c.raise.ensures.err
+
+pub invariant_of-sound : goal.invariant_of-sound
+invariant_of-sound g c = (let raised = raised_now g c in record { holds = raised.holds; shape = raised.shape; noted = raised.noted })
+
+pub returns-clause-happens : goal.returns-clause-happens
+returns-clause-happens g c = (raised_now g c.before).happens
