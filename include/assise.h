@@ -1,6 +1,6 @@
 /* The file system as a library for C: C99, or C++.
  *
- * A cluster of one to eight nodes lives behind a desk, a struct in the caller's memory. Each function here writes a request into the desk,
+ * A cluster of one to sixteen nodes lives behind a desk, a struct in the caller's memory. Each function here writes a request into the desk,
  * has it served, and gives the desk's result: a number from 0 on, or one of `enum assise_fault`, below 0. The library has two functions
  * of its own, assise_begin and assise_serve; all others are written over them here.
  *
@@ -104,7 +104,7 @@ enum assise_fault {
     ASSISE_TOO_LARGE = -106,     /* a write over 65,536 bytes */
     ASSISE_LAST_NODE = -107,     /* the only full node can't fail */
     ASSISE_BAD_NODE = -108,      /* no such node */
-    ASSISE_BAD_CLIENT = -109,    /* no such client, or all 16 were opened */
+    ASSISE_BAD_CLIENT = -109,    /* no such client, or all 32 were opened */
     ASSISE_WRONG_PHASE = -110,   /* the node is down, or isn't */
     ASSISE_STALE_MESSAGE = -111, /* never: a message of an earlier epoch */
     ASSISE_LOG_FULL = -112,      /* the client's log is full, and nothing goes on */
@@ -153,7 +153,7 @@ static inline int64_t assise_at(struct assise_desk *desk, uint32_t call, uint32_
 
 /* ---- The cluster. */
 
-/* Makes a cluster in place of the desk's: 1 to 8 nodes, logs of 8 to 4,096 records, 1 to 4,096 inodes that a node keeps hot. */
+/* Makes a cluster in place of the desk's: 1 to 16 nodes, logs of 8 to 4,096 records, 1 to 4,096 inodes that a node keeps hot. */
 static inline int64_t assise_make(struct assise_desk *desk, uint32_t nodes, uint64_t log, uint64_t hot) {
     return assise_manage(desk, ASSISE_MAKE, 0, nodes, 0, log, hot);
 }
@@ -161,7 +161,7 @@ static inline int64_t assise_make(struct assise_desk *desk, uint32_t nodes, uint
 /* Lets the cluster go. */
 static inline int64_t assise_free(struct assise_desk *desk) { return assise_manage(desk, ASSISE_FREE, 0, 0, 0, 0, 0); }
 
-/* Opens a client on a node: its number. There are 16 in all, and the number of one that is gone doesn't come back. */
+/* Opens a client on a node: its number. There are 32 in all, and the number of one that is gone doesn't come back. */
 static inline int64_t assise_open(struct assise_desk *desk, uint32_t node, uint32_t kind) {
     return assise_manage(desk, ASSISE_OPEN, 0, node, kind, 0, 0);
 }

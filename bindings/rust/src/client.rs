@@ -40,7 +40,7 @@ impl Client {
         Client { desk, number }
     }
 
-    /// Its number, 1 to 16.
+    /// Its number, 1 to 32.
     pub fn number(&self) -> u32 {
         self.number
     }

@@ -35,7 +35,7 @@ pub struct Cluster {
 }
 
 impl Cluster {
-    /// Makes a cluster of 1 to 8 nodes, on which nothing has happened. A client's log holds `log` records, 8 to 4,096, and a node
+    /// Makes a cluster of 1 to 16 nodes, on which nothing has happened. A client's log holds `log` records, 8 to 4,096, and a node
     /// keeps `hot` files and directories hot, 1 to 4,096.
     ///
     /// # Errors
@@ -47,7 +47,7 @@ impl Cluster {
         Ok(Cluster { desk: Arc::new(Mutex::new(desk)) })
     }
 
-    /// Opens a client on a full node, with [`Revoker::Least`]. A cluster has 16 clients in all, and no number comes back.
+    /// Opens a client on a full node, with [`Revoker::Least`]. A cluster has 32 clients in all, and no number comes back.
     ///
     /// # Errors
     ///

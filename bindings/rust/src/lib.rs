@@ -1,4 +1,4 @@
-//! A replicated file system as a library: a [`Cluster`] of one to eight nodes in this process, and the calls of its [`Client`]s.
+//! A replicated file system as a library: a [`Cluster`] of one to sixteen nodes in this process, and the calls of its [`Client`]s.
 //!
 //! A client writes to its node; [`Client::fsync`] is answered once all full nodes have what it wrote. Where a node fails, its clients
 //! are over, and each loses at most a tail of its calls behind its last fsync, over all files, in order. A client that is opened on

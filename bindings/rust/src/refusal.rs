@@ -25,7 +25,7 @@ pub enum Refusal {
     LastNode,
     /// There is no such node.
     BadNode,
-    /// There is no such client, or all sixteen were opened.
+    /// There is no such client, or all were opened that may be.
     BadClient,
     /// A node that is down can't fail, and only one that is down comes back.
     WrongPhase,

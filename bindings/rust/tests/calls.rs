@@ -90,7 +90,7 @@ fn errors_of_the_tree_are_the_systems() {
 #[test]
 fn refusals_say_why() {
     let cluster = Cluster::new(1, 64, 64).unwrap();
-    assert_eq!(refusal(Cluster::new(9, 64, 64)), Some(Refusal::BadRequest));
+    assert_eq!(refusal(Cluster::new(17, 64, 64)), Some(Refusal::BadRequest));
     assert_eq!(refusal(Cluster::new(1, 4, 64)), Some(Refusal::BadRequest));
     assert_eq!(refusal(cluster.open(2)), Some(Refusal::BadNode));
     assert_eq!(refusal(cluster.fail(1)), Some(Refusal::LastNode));

@@ -79,9 +79,9 @@ fn a_crash_keeps_what_was_written() {
 }
 
 #[test]
-fn there_are_sixteen_clients() {
+fn there_are_thirty_two_clients() {
     let cluster = Cluster::new(2, 64, 64).unwrap();
-    for number in 1..=16 {
+    for number in 1..=32 {
         let client = cluster.open(1 + number % 2).unwrap();
         assert_eq!(client.number(), number);
         cluster.crash(number).unwrap();

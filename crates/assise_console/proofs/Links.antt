@@ -1,7 +1,8 @@
 -- Links of nodes that are there.
-use Rattle.std.proofs.Common.{◌≡◌, ◌≤◌, ◌<◌, ℕ, zero, suc, ◌-◌, Bool, List, [], ◌∷◌, Some, length, map, slice_set, inl, inr, refl, ap, sym, subst, ◌∙◌, arith}
+use Rattle.std.proofs.Common.{◌≡◌, ◌≤◌, ◌<◌, ℕ, zero, suc, ◌-◌, List, [], ◌∷◌, Some, length, map, replicate, slice_index_or, slice_set, inl, inr, refl, ap, sym, subst, ◌∙◌, arith}
 use Rattle.std.proofs.lemmas.Bool.{cases_lt}
 use Rattle.assise_names.specs.declared.refusal.Refusal.TheVariants.{BadNode}
+use Rattle.assise_names.specs.declared.limits.TheConstants.{MOST_NODES}
 use Rattle.assise_fault_script.specs.declared.command.LinkKind.{LinkKind}
 use Rattle.assise_link.specs.TestLinks.{is_perfect}
 use Rattle.assise_link.specs.declared.test_link.TestLink.{TestLink}
@@ -23,9 +24,9 @@ named m (suc k) there = elim (cases_lt (length m.members.nodes) (suc k)) [
   | inr near ↦ (omega arith, near)
 ]
 
--- the place of a node's link is one of eight
-pub below_eight : {C : Type 0} (cluster : ClusterOf C) (n : ℕ) → (node_fault (machine cluster) n ≡ Some BadNode → ⊥) → n - 1 < 8
-below_eight cluster n there =
+-- the place of a node's link is one of so many
+pub below_most : {C : Type 0} (cluster : ClusterOf C) (n : ℕ) → (node_fault (machine cluster) n ≡ Some BadNode → ⊥) → n - 1 < MOST_NODES
+below_most cluster n there =
     let there_is = named (machine cluster) n there in
     let few = few_nodes cluster in
     omega (arith, there_is.0, there_is.1, few)
@@ -45,3 +46,11 @@ sets_link s n k kind links l same there seen perfect =
 
 pub links_nowhere : (s : State) (n : ℕ) (kind : LinkKind) → length s.machine.members.nodes < n → SetsLink s n kind (Refused BadNode) s
 links_nowhere s n kind far = is_nowhere (no_node s.machine n far) refl refl
+
+-- items that are all alike in something
+pub all_alike : {X Y : Type 0} (f : X → Y) (y : Y) (xs : List X) → ((k : ℕ) (e : X) → k < length xs → f (slice_index_or xs k e) ≡ y) → map f xs ≡ replicate (length xs) y
+all_alike f y [] h = refl
+all_alike f y (x ∷ xs) h =
+    let first : f x ≡ y = h 0 x (omega arith) in
+    let rest = all_alike f y xs (λ k e few. h (suc k) e (omega (arith, few))) in
+    (λ i. first i ∷ rest i)

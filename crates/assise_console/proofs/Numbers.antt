@@ -7,13 +7,14 @@ use Rattle.assise_names.specs.declared.call.Op.TheVariants.{Create, Mkdir, Read,
 use Rattle.assise_names.specs.declared.refusal.Refusal.TheVariants.{BadClient, BadNode, NodeDown, WrongPhase}
 use Rattle.assise_machine_laws.specs.World.{World}
 use Rattle.assise_names.specs.declared.durability.Durability.{Durability}
+use Rattle.assise_names.specs.declared.limits.TheConstants.{MOST_CLIENTS}
 use Rattle.assise_history.specs.Legal.{durability_of}
 use Rattle.assise_machine_events.proofs.Syncing.{dsync_refused, fsync_refused}
 use Rattle.assise_machine_events.specs.ClientEvents.{Crashing, Opening, is_refused}
 use Rattle.assise_machine_events.specs.Events.{refused}
 use Rattle.assise_machine_events.specs.Faults.{client_fault, fault_if, is_client, node_fault, open_fault, or_else, unless_full}
 use Rattle.assise_machine_events.specs.Happenings.{Trying}
-use Rattle.assise_machine_events.specs.Machine.{Machine, most_clients}
+use Rattle.assise_machine_events.specs.Machine.{Machine}
 use Rattle.assise_machine_events.specs.MemberEvents.{Failing, Joining, Raising, Refilling, Returning, is_refused as member_refused}
 use Rattle.assise_machine_events.specs.NodeEvents.{Digesting, Sending, SettingHot, is_refused as node_refused}
 use Rattle.assise_manager.specs.Changes.{failure_fault_of, filling_fault_of, join_fault_of, raise_fault_of, return_fault_of}
@@ -36,7 +37,7 @@ pub no_node : (m : Machine) (n : ℕ) → length m.members.nodes < n → node_fa
 no_node m n far = ap (unless_full WrongPhase) (no_standing m.members.nodes n far)
 
 no_open : (m : Machine) (n : ℕ) → length m.members.nodes < n → open_fault m n ≡ Some BadNode
-no_open m n far = ap (λ s. or_else (unless_full NodeDown s) (fault_if (nat_le most_clients m.world.clients) BadClient)) (no_standing m.members.nodes n far)
+no_open m n far = ap (λ s. or_else (unless_full NodeDown s) (fault_if (nat_le MOST_CLIENTS m.world.clients) BadClient)) (no_standing m.members.nodes n far)
 
 pub opens_nowhere : (m : Machine) (n : ℕ) (u : Durability) → length m.members.nodes < n → Opening m n u (refused BadNode) m
 opens_nowhere m n u far = is_refused BadNode (no_open m n far) refl refl

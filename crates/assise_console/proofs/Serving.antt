@@ -1,20 +1,22 @@
 -- What a command makes happen, and what a whole run does, is a course of events.
-use Rattle.std.proofs.Common.{◌≡◌, ℕ, ◌<◌, Bool, true, false, List, [], ◌∷◌, ◌++◌, refl, ap, sym, subst}
+use Rattle.std.proofs.Common.{◌≡◌, ℕ, ◌<◌, Bool, true, false, List, [], ◌∷◌, ◌++◌, refl, ap, sym, subst, ◌∙◌}
 use Rattle.assise_names.specs.declared.call.Op.{Op}
+use Rattle.assise_names.specs.declared.refusal.Refusal.TheVariants.{OutOfMemory}
 use Rattle.assise_history.specs.Legal.{IsLegal}
 use Rattle.assise_fault_script.specs.declared.command.Command as commands
-use Rattle.assise_fault_script.specs.declared.command.Command.TheVariants.{Cluster, Manual, Open, Call, Carry, Link, Hot, Digest, Release, Crash, Fail, Back, Refill, Join, Raise, Tree, History}
+use Rattle.assise_fault_script.specs.declared.command.Command.TheVariants.{Cluster, Manual, Open, Call, Carry, Link, Hot, Digest, Release, Crash, Fail, Back, Refill, Join, Raise, Tree, History, Check}
 use Rattle.assise_fault_script.specs.declared.command.LinkKind.{LinkKind}
 use Rattle.assise_fault_script.specs.declared.parse.NumberedCommand.{NumberedCommand}
 use Rattle.assise_machine_events.specs.Events.{ClusterEvent, all_entries, back, crash, fail, join, raise, refill, set_hot, try_call}
 use Rattle.assise_machine_events.specs.Machine.{Machine}
 use Rattle.assise_machine_events.proofs.Beginning.{begun_holds}
 use Rattle.assise_console.specs.declared.answer.Answer.{Answer}
+use Rattle.assise_console.specs.declared.answer.Answer.TheVariants.{Checked, Refused}
 use Rattle.assise_rounds.specs.Courses.{IsCourse, Told}
 use Rattle.assise_console.specs.OneEvent.{IsOne, IsOneAt}
 use Rattle.assise_console.specs.Lines.{Prints}
 use Rattle.assise_console.specs.State.{State, Stocks, begun}
-use Rattle.assise_console.specs.Steps.{Calls, Carries, Returns, Serves, SetsHot, SetsLink, is_carried, is_linked, is_made, is_nowhere, is_out, is_refused}
+use Rattle.assise_console.specs.Steps.{Calls, Carries, IsVerdict, Returns, Serves, SetsHot, SetsLink, is_carried, is_verdict, is_linked, is_made, is_nowhere, is_out, is_refused, lacks_room}
 use Rattle.assise_rounds.proofs.Coming.{return_course}
 use Rattle.assise_rounds.proofs.Courses.{course_legal, course_of, course_then, course_told, event_course, tries_course}
 
@@ -67,6 +69,7 @@ command_course s t (Join n) es a h = told_course join n a s.machine es t.machine
 command_course s t (Raise n) es a h = told_course raise n a s.machine es t.machine h.events
 command_course s t (Tree n) es a h = quiet_course s.machine t.machine es h.1.0 (ap (λ x. x.machine) h.1.1)
 command_course s t History es a h = quiet_course s.machine t.machine es h.1.0 (ap (λ x. x.machine) h.1.1)
+command_course s t Check es a h = quiet_course s.machine t.machine es h.1.0 (ap (λ x. x.machine) h.1.1)
 
 -- ---- all commands
 
@@ -81,3 +84,8 @@ run_told s t cs es text h = course_told s.machine t.machine es (run_course s t c
 
 pub run_legal : (nodes log turns : ℕ) (stock : Stocks) (t : State) (es : Told) → 0 < nodes → IsCourse (begun nodes log stock turns).machine es t.machine → IsLegal t.machine.history
 run_legal nodes log turns stock t es some h = course_legal _ t.machine es (begun_holds nodes log some) h
+
+-- a check of a legal history doesn't say that it is another
+pub not_illegal : (m : Machine) → IsLegal m.history → IsVerdict (Checked false) m → ⊥
+not_illegal m legal (is_verdict found is same) = let right : found ≡ true = same.1 legal in let x : Checked false ≡ Checked true = is ∙ ap Checked right in cc
+not_illegal m legal (lacks_room is) = let x : Checked false ≡ Refused OutOfMemory = is in cc

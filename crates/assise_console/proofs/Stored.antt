@@ -5,7 +5,7 @@ use Rattle.assise_names.specs.declared.refusal.Refusal.{Refusal}
 use Rattle.assise_machine_events.specs.Events.{digested, not_yet, opened, refused, released, replied}
 use Rattle.assise_machine.specs.Running.{opened_answer}
 use Rattle.assise_console.specs.declared.answer.Answer.{Answer}
-use Rattle.assise_console.specs.declared.answer.Answer.TheVariants.{Quiet, Client, Replied, Waits, Refused, Carried, Digested, Released, Linked, HotSet, Crashed, Failed, Began, Left, Returned, Raised, Tree, History}
+use Rattle.assise_console.specs.declared.answer.Answer.TheVariants.{Quiet, Client, Replied, Waits, Refused, Carried, Digested, Released, Linked, HotSet, Crashed, Failed, Began, Left, Returned, Raised, Tree, History, Checked}
 use Rattle.assise_console.specs.declared.stock.Stock.{Stock}
 use Rattle.assise_console.specs.Stored.{left_of}
 use Rattle.assise_console.specs.OneEvent.{Tells}
@@ -36,6 +36,7 @@ tells_opened (Returned node) c tells = absurd tells
 tells_opened (Raised node) c tells = absurd tells
 tells_opened (Tree tree) c tells = absurd tells
 tells_opened History c tells = absurd tells
+tells_opened (Checked legal) c tells = absurd tells
 
 kept_of : (P : Type 0) (a : Answer) (r : Result ℕ Refusal) → Tells a (opened_answer r) → OnErr r P → ((c : ℕ) → a ≡ Client c → ⊥) → P
 kept_of P a (Ok c) tells p none = absurd (none c (tells_opened a c tells))

@@ -1,5 +1,5 @@
 -- What a whole run prints.
-use Rattle.std.specs.Prelude.{◌≡◌, ℕ, List, [], ◌∷◌, ◌++◌, codes, Option}
+use Rattle.std.specs.Prelude.{◌≡◌, ℕ, true, false, List, [], ◌∷◌, ◌++◌, codes, Option}
 use Rattle.std.specs.Io.KnownBytes.{Appends}
 use Rattle.std.specs.List.{flat_map}
 use Rattle.std.specs.Fmt.{decimal}
@@ -9,7 +9,7 @@ use Rattle.assise_history.specs.Entries.{Event as Entry}
 use Rattle.assise_history.specs.Text.{history_text}
 use Rattle.assise_fault_script.specs.declared.parse.NumberedCommand.{NumberedCommand}
 use Rattle.assise_console.specs.declared.answer.Answer.{Answer}
-use Rattle.assise_console.specs.declared.answer.Answer.TheVariants.{Quiet, Client, Replied, Waits, Refused, Carried, Digested, Released, Linked, HotSet, Crashed, Failed, Began, Left, Returned, Raised, Tree, History}
+use Rattle.assise_console.specs.declared.answer.Answer.TheVariants.{Quiet, Client, Replied, Waits, Refused, Carried, Digested, Released, Linked, HotSet, Crashed, Failed, Began, Left, Returned, Raised, Tree, History, Checked}
 use Rattle.assise_rounds.specs.Courses.{Told}
 use Rattle.assise_console.specs.State.{State}
 use Rattle.assise_console.specs.Steps.{Serves}
@@ -41,6 +41,8 @@ answer_text h (Returned node) = codes "returned " ++ decimal node
 answer_text h (Raised node) = codes "raised " ++ decimal node
 answer_text h (Tree tree) = tree_text tree
 answer_text h History = history_text h
+answer_text h (Checked true) = codes "legal"
+answer_text h (Checked false) = codes "illegal"
 
 -- the number of its line, a colon and a space before it, and a line feed after it
 abbrev pub numbered : ℕ → List ℕ → List ℕ

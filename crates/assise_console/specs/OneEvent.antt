@@ -6,7 +6,7 @@ use Rattle.assise_machine_events.specs.Machine.{Machine}
 use Rattle.assise_machine_failures.specs.Answers.{loss_of}
 use Rattle.assise_rounds.specs.Courses.{IsEvent, Told}
 use Rattle.assise_console.specs.declared.answer.Answer.{Answer}
-use Rattle.assise_console.specs.declared.answer.Answer.TheVariants.{Quiet, Client, Replied, Waits, Refused, Carried, Digested, Released, Linked, HotSet, Crashed, Failed, Began, Left, Returned, Raised, Tree, History}
+use Rattle.assise_console.specs.declared.answer.Answer.TheVariants.{Quiet, Client, Replied, Waits, Refused, Carried, Digested, Released, Linked, HotSet, Crashed, Failed, Began, Left, Returned, Raised, Tree, History, Checked}
 
 -- a command's answer tells that of one event
 abbrev pub Tells : Answer → EventAnswer → Type 0
@@ -28,6 +28,7 @@ Tells (Returned node) e = ⊥
 Tells (Raised node) e = ⊥
 Tells (Tree tree) e = ⊥
 Tells History e = ⊥
+Tells (Checked legal) e = ⊥
 
 -- one event, which the answer tells
 pub record IsOne (e : ClusterEvent) (a : Answer) (m : Machine) (es : Told) (m' : Machine) : Type 0 where
@@ -55,6 +56,7 @@ TellsAt n (Released count) e = ⊥
 TellsAt n (Linked node) e = ⊥
 TellsAt n (Tree tree) e = ⊥
 TellsAt n History e = ⊥
+TellsAt n (Checked legal) e = ⊥
 
 -- one event of the client or the node of this number, which the answer tells
 pub record IsOneAt (what : ℕ → ClusterEvent) (n : ℕ) (a : Answer) (m : Machine) (es : Told) (m' : Machine) : Type 0 where

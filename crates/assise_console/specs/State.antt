@@ -1,5 +1,6 @@
 -- What a console is seen as.
-use Rattle.std.specs.Prelude.{ℕ, Bool, true, false, List, [], ◌∷◌}
+use Rattle.std.specs.Prelude.{ℕ, Bool, true, false, List, replicate}
+use Rattle.assise_names.specs.declared.limits.TheConstants.{MOST_NODES}
 use Rattle.assise_fault_script.specs.declared.command.RevokerKind.{RevokerKind}
 use Rattle.assise_fault_script.specs.declared.command.RevokerKind.TheVariants.{Least, Whole, Eights}
 use Rattle.assise_machine_events.specs.Machine.{Machine, begun_as}
@@ -31,9 +32,9 @@ pub record State : Type 0 where
   -- of each node, from node 1 on: its link gives what it is handed, and nothing else
   pub links : List Bool
 
--- the links of eight nodes, all perfect
+-- the links of all nodes that there may be, all perfect
 abbrev pub perfect_links : List Bool
-perfect_links = true ∷ true ∷ true ∷ true ∷ true ∷ true ∷ true ∷ true ∷ []
+perfect_links = replicate MOST_NODES true
 
 -- a cluster in which nothing happened
 abbrev pub begun : ℕ → ℕ → Stocks → ℕ → State

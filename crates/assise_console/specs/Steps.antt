@@ -1,14 +1,15 @@
 -- What each command makes happen, what it answers, and the state after it.
-use Rattle.std.specs.Prelude.{◌≡◌, ℕ, ◌-◌, ◌≤◌, Bool, true, false, List, [], ◌∷◌, slice_set, None, Some, ⊤, Result, Ok, Err}
+use Rattle.std.specs.Prelude.{◌≡◌, ◌↔◌, IsTrue, ℕ, ◌-◌, ◌≤◌, Bool, true, false, List, [], ◌∷◌, slice_set, None, Some, ⊤, Result, Ok, Err}
 use Rattle.assise_names.specs.declared.call.Op.{Op}
 use Rattle.assise_names.specs.declared.refusal.Refusal.{Refusal}
 use Rattle.assise_names.specs.declared.refusal.Refusal.TheVariants.{BadNode, OutOfMemory}
 use Rattle.assise_names.specs.declared.reply.Reply.{Reply}
 use Rattle.assise_seq_tree.specs.Tree.{Tree as PlainTree}
+use Rattle.assise_history.specs.Legal.{IsLegal}
 use Rattle.assise_inode_table.specs.Spelled.{Spells}
 use Rattle.assise_names.specs.declared.durability.Durability.{Durability}
 use Rattle.assise_fault_script.specs.declared.command.Command as commands
-use Rattle.assise_fault_script.specs.declared.command.Command.TheVariants.{Cluster, Manual, Open, Call, Carry, Link, Hot, Digest, Release, Crash, Fail, Back, Refill, Join, Raise, Tree as TreeOf, History}
+use Rattle.assise_fault_script.specs.declared.command.Command.TheVariants.{Cluster, Manual, Open, Call, Carry, Link, Hot, Digest, Release, Crash, Fail, Back, Refill, Join, Raise, Tree as TreeOf, History, Check}
 use Rattle.assise_fault_script.specs.declared.command.LinkKind.{LinkKind}
 use Rattle.assise_fault_script.specs.declared.command.LinkKind.TheVariants.{Perfect, Lose, Repeat, Delay, Cut, Fault}
 use Rattle.assise_fault_script.specs.declared.command.RevokerKind.{RevokerKind}
@@ -18,7 +19,7 @@ use Rattle.assise_machine_events.specs.Faults.{node_fault}
 use Rattle.assise_machine_events.specs.Machine.{Machine}
 use Rattle.assise_machine.specs.Running.{IsServed, stock_after}
 use Rattle.assise_console.specs.declared.answer.Answer as answers
-use Rattle.assise_console.specs.declared.answer.Answer.TheVariants.{Quiet, Replied, Refused, Carried, Linked, Returned, Tree as Shown, History as Whole}
+use Rattle.assise_console.specs.declared.answer.Answer.TheVariants.{Quiet, Replied, Refused, Carried, Linked, Returned, Tree as Shown, History as Whole, Checked}
 use Rattle.assise_console.specs.OneEvent.{IsOne, IsOneAt, Tells}
 use Rattle.assise_console.specs.State.{State, stock_of, with_machine, with_stock}
 use Rattle.assise_rounds.specs.Courses.{IsEvent, Nothing, Told}
@@ -110,6 +111,11 @@ pub data Shows (n : ℕ) (a : answers.Answer) (m : Machine) : Type 0 where
   lacks_memory : node_fault m n ≡ None → a ≡ Refused OutOfMemory → Shows n a m
   is_refused : (r : Refusal) → node_fault m n ≡ Some r → a ≡ Refused r → Shows n a m
 
+-- whether the history is legal
+pub data IsVerdict (a : answers.Answer) (m : Machine) : Type 0 where
+  is_verdict : (legal : Bool) → a ≡ Checked legal → IsTrue legal ↔ IsLegal m.history → IsVerdict a m
+  lacks_room : a ≡ Refused OutOfMemory → IsVerdict a m
+
 -- the cluster alone changes, by these events
 pub record Changes (Does : Machine → Told → Machine → Type 0) (s : State) (es : Told) (t : State) : Type 0 where
   pub events : Does s.machine es t.machine
@@ -133,6 +139,7 @@ Serves s (Join n) es a t = Changes (IsOneAt join n a) s es t
 Serves s (Raise n) es a t = Changes (IsOneAt raise n a) s es t
 Serves s (TreeOf n) es a t = Shows n a s.machine × ((es ≡ []) × (t ≡ s))
 Serves s History es a t = (a ≡ Whole) × ((es ≡ []) × (t ≡ s))
+Serves s Check es a t = IsVerdict a s.machine × ((es ≡ []) × (t ≡ s))
 
 -- by some events
 abbrev pub Does : State → commands.Command → answers.Answer → State → Type 0

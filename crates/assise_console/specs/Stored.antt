@@ -3,7 +3,7 @@
 use Rattle.std.specs.Prelude.{◌≡◌, ◌<◌, ℕ, ⊤, List, ◌++◌, vec_capacity, vec_len}
 use Rattle.std.specs.Option.{option_to_list}
 use Rattle.assise_fault_script.specs.declared.command.Command.{Command}
-use Rattle.assise_fault_script.specs.declared.command.Command.TheVariants.{Cluster, Manual, Open, Call, Carry, Link, Hot, Digest, Release, Crash, Fail, Back, Refill, Join, Raise, Tree as TreeOf, History}
+use Rattle.assise_fault_script.specs.declared.command.Command.TheVariants.{Cluster, Manual, Open, Call, Carry, Link, Hot, Digest, Release, Crash, Fail, Back, Refill, Join, Raise, Tree as TreeOf, History, Check}
 use Rattle.assise_fault_script.specs.declared.command.RevokerKind.{RevokerKind}
 use Rattle.assise_fault_script.specs.declared.command.RevokerKind.TheVariants.{Least, Whole, Eights}
 use Rattle.assise_machine.specs.Clusters.{revokers}
@@ -50,3 +50,4 @@ Stores (Join n) a old new = ⊤
 Stores (Raise n) a old new = ⊤
 Stores (TreeOf n) a old new = ⊤
 Stores History a old new = ⊤
+Stores Check a old new = ⊤

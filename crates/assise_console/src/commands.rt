@@ -2,12 +2,13 @@
 ghost use Rattle.assise_machine_events.specs.Events.{back, crash, digest, fail, join, raise, refill, release_ready};
 ghost use Rattle.assise_machine.specs.Clusters.{machine};
 ghost use Rattle.assise_rounds.specs.Courses.{Told};
-ghost use Rattle.assise_console.specs.Steps.{SetsHot, Shows};
+ghost use Rattle.assise_console.specs.Steps.{IsVerdict, SetsHot, Shows};
 ghost use Rattle.assise_console.specs.OneEvent.{IsOne, IsOneAt};
 
 use crate::answer::Answer;
 use crate::numbered::number_of;
 use crate::trees::tree_at;
+use assise_history::check;
 use assise_lease_table::revoker::Revokes;
 use assise_machine::cluster::ClusterOf;
 use assise_machine::hot::HotCapacity;
@@ -146,6 +147,16 @@ pub fn tree<C: Revokes + Drop>(alloc: Global, cluster: &ClusterOf<C>, node: u64)
     };
     match tree_at(alloc, cluster, node) {
         Ok(tree) => Answer::Tree(tree),
+        Err(refusal) => Answer::Refused(refusal),
+    }
+}
+
+/// Whether the history of a cluster is legal. Refused with [`Refusal::OutOfMemory`] alone.
+pub fn check<C: Revokes + Drop>(alloc: Global, cluster: &ClusterOf<C>) -> Answer
+    ensures { IsVerdict result (machine cluster.now) }
+{
+    match check::check(alloc, cluster.history()) {
+        Ok(legal) => Answer::Checked(legal),
         Err(refusal) => Answer::Refused(refusal),
     }
 }

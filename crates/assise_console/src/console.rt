@@ -8,11 +8,12 @@ ghost use Rattle.assise_console.specs.Consoles.{seen, stocks};
 ghost use Rattle.assise_rounds.specs.Courses.{Told};
 ghost use Rattle.assise_console.specs.State.{begun, perfect_links};
 ghost use Rattle.assise_console.specs.Stored.{Stores, StoresLast};
-ghost use Rattle.assise_console.specs.Steps.{Calls, Carries, Changes, Does, Opens, Returns, SetsHot, SetsLink, Shows, call_answer, is_perfect_kind, return_answer};
+ghost use Rattle.assise_console.specs.Steps.{Calls, Carries, Changes, IsVerdict, Does, Opens, Returns, SetsHot, SetsLink, Shows, call_answer, is_perfect_kind, return_answer};
 ghost use Rattle.assise_console.specs.OneEvent.{IsOne, IsOneAt, Tells};
 ghost use Rattle.assise_link.specs.TestLinks.{is_perfect};
 ghost use Rattle.assise_machine_events.specs.Faults.{node_fault};
 ghost use Rattle.assise_names.specs.declared.refusal.Refusal.TheVariants.{BadNode};
+ghost use Rattle.assise_names.specs.declared.limits.TheConstants.{MOST_NODES};
 ghost use Rattle.assise_rounds.specs.NodeLinks.{FaithfulAt};
 
 use crate::answer::Answer;
@@ -28,12 +29,14 @@ use assise_machine::run::open_next;
 use assise_machine_calls::turn::Turn;
 use assise_names::call::Op;
 use assise_names::durability::Durability;
+use assise_names::limits::MOST_NODES;
 use assise_names::refusal::Refusal;
 use assise_names::reply::Reply;
 use assise_rounds::returning::return_node;
 use assise_rounds::rounds::replicate;
 use assise_rounds::trying::try_often;
 use std::alloc::Global;
+use std::array;
 
 /// A cluster that is run on one thread: a call that is awaited is tried again, with a round of all nodes behind each try.
 #[derive(Drop)]
@@ -42,11 +45,11 @@ pub struct ConsoleOf<C> {
     stock: Stock<C>,
     turns: u32,
     manual: bool,
-    links: [TestLink; 8],
+    links: [TestLink; MOST_NODES as usize],
 }
 
 impl<C: Revokes + Drop> ConsoleOf<C> {
-    /// A cluster in which nothing happened: 1 to 8 nodes, logs of 8 to 4,096 records, and 1 to 4,096 inodes that a node keeps hot.
+    /// A cluster in which nothing happened: 1 to `MOST_NODES` nodes, logs of 8 to 4,096 records, and 1 to 4,096 inodes that a node keeps hot.
     /// Clients are opened with revokers of the stock, and a call is tried so many times at most. The one refusal is
     /// [`Refusal::OutOfMemory`].
     pub fn new(
@@ -58,7 +61,7 @@ impl<C: Revokes + Drop> ConsoleOf<C> {
         turns: u32,
     ) -> Result<ConsoleOf<C>, Refusal>
         requires some_nodes { 0 < nodes }
-        requires few_nodes { nodes ≤ 8 }
+        requires few_nodes { nodes ≤ MOST_NODES }
         requires least_log { 8 ≤ log }
         requires most_log { log ≤ 4096 }
         requires least_hot { 1 ≤ hot }
@@ -112,6 +115,7 @@ impl<C: Revokes + Drop> ConsoleOf<C> {
             Command::Raise { node } => self.raise(node),
             Command::Tree { node } => self.tree(alloc, node),
             Command::History => Answer::History,
+            Command::Check => self.check(alloc),
         }
     }
 
@@ -268,6 +272,13 @@ impl<C: Revokes + Drop> ConsoleOf<C> {
         commands::raise(&mut self.cluster, node)
     }
 
+    /// Whether the history so far is legal.
+    fn check(&self, alloc: Global) -> Answer
+        ensures { IsVerdict result (seen self.now).machine }
+    {
+        commands::check(alloc, &self.cluster)
+    }
+
     /// The tree that a node's region alone gives.
     fn tree(&self, alloc: Global, node: u64) -> Answer
         ensures { Shows node result (seen self.now).machine }
@@ -276,20 +287,11 @@ impl<C: Revokes + Drop> ConsoleOf<C> {
     }
 }
 
-/// A link for each of eight nodes, all perfect.
-fn perfect_links() -> [TestLink; 8]
+/// A link for each node that there may be, all perfect.
+fn perfect_links() -> [TestLink; MOST_NODES as usize]
     ensures { map is_perfect result ≡ perfect_links }
 {
-    [
-        TestLink::perfect(),
-        TestLink::perfect(),
-        TestLink::perfect(),
-        TestLink::perfect(),
-        TestLink::perfect(),
-        TestLink::perfect(),
-        TestLink::perfect(),
-        TestLink::perfect(),
-    ]
+    array::from_fn(|_| TestLink::perfect())
 }
 
 /// A new link of a kind.

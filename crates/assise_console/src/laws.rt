@@ -1,14 +1,15 @@
 // Laws of the commands. Each function does nothing: its contract is the law.
-ghost use Rattle.std.specs.Prelude.{◌≡◌, ◌++◌, ◌<◌, List, [], ℕ};
+ghost use Rattle.std.specs.Prelude.{◌≡◌, ◌++◌, ◌<◌, List, [], false, ℕ};
 ghost use Rattle.assise_history.specs.Legal.{IsLegal};
 ghost use Rattle.assise_fault_script.specs.declared.command.Command as commands;
 ghost use Rattle.assise_fault_script.specs.declared.parse.NumberedCommand.{NumberedCommand};
 ghost use Rattle.assise_machine_events.specs.Events.{all_entries};
 ghost use Rattle.assise_console.specs.declared.answer.Answer.{Answer};
+ghost use Rattle.assise_console.specs.declared.answer.Answer.TheVariants.{Checked};
 ghost use Rattle.assise_rounds.specs.Courses.{IsCourse, Told};
 ghost use Rattle.assise_console.specs.Lines.{Prints};
 ghost use Rattle.assise_console.specs.State.{State, Stocks, begun};
-ghost use Rattle.assise_console.specs.Steps.{Serves};
+ghost use Rattle.assise_console.specs.Steps.{IsVerdict, Serves};
 
 /// What a command does to the cluster are the events by which it is run, and so of a whole run; the history gets exactly their
 /// entries.
@@ -19,8 +20,12 @@ pub fn a_run_is_a_course_of_events()
         t.machine.history ≡ s.machine.history ++ all_entries s.machine.history es }
 {}
 
-/// Wherever a run stands that began with a new cluster, its history is legal.
+/// Wherever a run stands that began with a new cluster, its history is legal, and a check doesn't say otherwise.
 pub fn a_run_stands_on_a_legal_history()
-    ensures { (nodes log turns : ℕ) (stock : Stocks) (all : List NumberedCommand) (es : Told) (text : List ℕ) (t : State) → 0 < nodes →
+    ensures legal { (nodes log turns : ℕ) (stock : Stocks) (all : List NumberedCommand) (es : Told)
+        (text : List ℕ) (t : State) → 0 < nodes →
         Prints (begun nodes log stock turns) all es text t → IsLegal t.machine.history }
+    ensures checked { (nodes log turns : ℕ) (stock : Stocks) (all : List NumberedCommand)
+        (es : Told) (text : List ℕ) (t : State) → 0 < nodes →
+        Prints (begun nodes log stock turns) all es text t → IsVerdict (Checked false) t.machine → ⊥ }
 {}

@@ -37,8 +37,8 @@ Options:
   -V, --version    Print version
 
 One command a line. Spaces alone part its words. A line that begins with # is a comment.
-  cluster NODES LOG HOT         first of all: 1-8 nodes, 8-4096 records a log, 1-4096 hot inodes a node
-  open NODE KIND [optimistic]   opens client 1, 2, .. 16; KIND is least, whole or eights
+  cluster NODES LOG HOT         first of all: nodes, 8-4096 records a log, 1-4096 hot inodes a node
+  open NODE KIND [optimistic]   opens client 1, 2, ..; KIND is least, whole or eights
   C create P                    the calls of client C; P and Q are paths, as /mail/new
   C mkdir P
   C read P OFFSET LENGTH
@@ -57,6 +57,7 @@ One command a line. Spaces alone part its words. A line that begins with # is a 
   hot NODE CAPACITY             1-4096 inodes, those used last, are hot at a node from here on
   tree NODE                     prints what this node alone has
   history                       prints what happened so far
+  check                         says whether that is legal, which it always is
   manual                        from here on a call is tried once, and nodes do only what a command says
   carry NODE                    sends what is to be replicated to the nodes behind it
   digest NODE                   digests what every full node has, and so makes room in logs

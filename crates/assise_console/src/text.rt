@@ -43,6 +43,8 @@ impl Display for AnswerText<'_> {
                 let history = self.history;
                 write!(f, "{history}")
             }
+            Answer::Checked(true) => write!(f, "legal"),
+            Answer::Checked(false) => write!(f, "illegal"),
         }
     }
 }

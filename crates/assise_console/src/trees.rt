@@ -14,12 +14,10 @@ ghost use Rattle.assise_machine.specs.Headline.{replicated_calls};
 use assise_digest::region::Region;
 use assise_lease_table::revoker::Revokes;
 use assise_machine::cluster::ClusterOf;
+use assise_names::limits::MOST_CLIENTS;
 use assise_names::refusal::Refusal;
 use assise_seq_tree::tree::Tree;
 use std::alloc::Global;
-
-/// The most clients of a cluster.
-const MOST_CLIENTS: u32 = 16;
 
 /// The tree that a full node's region alone gives: that of all replicated calls. Refused with [`Refusal::BadNode`],
 /// [`Refusal::WrongPhase`] where the node isn't full, and [`Refusal::OutOfMemory`].

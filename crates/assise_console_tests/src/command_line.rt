@@ -163,6 +163,7 @@ fn the_help_names_every_command(rt: HostRuntime) -> Result<(), Fail> {
         "\n  back NODE ",
         "\n  tree NODE ",
         "\n  history ",
+        "\n  check ",
         "\n  manual ",
         "\n  carry NODE ",
         "\n  digest NODE ",

@@ -432,6 +432,32 @@ call 1 8 read /f 0 9 = bytes 0 x
 call 1 9 fsync = done
 ",
     ),
+    // Sixteen nodes; a check of the history changes nothing, and a tree comes from any of them.
+    (
+        "\
+cluster 16 8 4
+open 9 least
+1 create /f
+1 fsync
+check
+tree 8
+history
+check
+",
+        "\
+2: client 1
+3: done
+4: done
+5: legal
+6: tree 1
+/f file 0
+7: history 3
+open 1 9
+call 1 0 create /f = done
+call 1 1 fsync = done
+8: legal
+",
+    ),
     // Answers stand in the history and refusals do not.
     (ANSWERS, PRINTED),
     // A script without a cluster prints nothing.

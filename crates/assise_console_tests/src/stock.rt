@@ -2,6 +2,7 @@
 use assise_console::stock::Stock;
 use assise_fault_script::command::RevokerKind;
 use assise_lease_table::revoker::Revoker;
+use assise_names::limits::MOST_CLIENTS;
 use assise_private_log::log_view::LogView;
 use assise_revokers::kinds::{eights, least, whole};
 use std::alloc::{AllocError, Global};
@@ -9,10 +10,10 @@ use std::test::Fail;
 
 type Cut = Box<dyn Fn(&LogView, u64) -> u64 + Send>;
 
-/// Sixteen revokers of each kind.
+/// As many revokers of each kind as clients may be opened.
 pub(crate) fn stock_of(alloc: Global) -> Result<Stock<Revoker>, AllocError> {
     let mut stock = Stock::new(alloc);
-    for _ in 0..16 {
+    for _ in 0..MOST_CLIENTS {
         let least_cut: Cut = Box::new(alloc, least)?;
         stock.least.push(Revoker::new(least_cut))?;
         let whole_cut: Cut = Box::new(alloc, whole)?;

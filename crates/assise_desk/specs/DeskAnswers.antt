@@ -7,6 +7,7 @@ use Rattle.assise_names.specs.declared.refusal.Refusal.{Refusal}
 use Rattle.assise_names.specs.declared.reply.Reply.{Reply}
 use Rattle.assise_machine_calls.specs.Answers.{crashing_answer}
 use Rattle.assise_names.specs.declared.durability.Durability.TheVariants.{Pessimistic}
+use Rattle.assise_names.specs.declared.limits.TheConstants.{MOST_NODES}
 use Rattle.assise_machine_events.specs.Events.{Answer, ClusterEvent, crash, fail, open_client}
 use Rattle.assise_machine_events.specs.Machine.{Machine, begun_as}
 use Rattle.assise_machine_failures.specs.Answers.{failing_answer}
@@ -61,9 +62,9 @@ pub record IsClusterMade (r : DeskRequest) (files : Files) : Type 0 where
   pub hot : KeepsHot files r.second
   pub turns : most_tries files ≡ MOST_TRIES
 
--- 1 to 8 nodes, logs of 8 to 4,096 records, 1 to 4,096 hot inodes
+-- 1 to `MOST_NODES` nodes, logs of 8 to 4,096 records, 1 to 4,096 hot inodes
 abbrev pub IsOutOfRange : DeskRequest → Type 0
-IsOutOfRange r = (r.node < 1) ⊎ (8 < r.node) ⊎ (r.first < 8) ⊎ (4096 < r.first) ⊎ (r.second < 1) ⊎ (4096 < r.second)
+IsOutOfRange r = (r.node < 1) ⊎ (MOST_NODES < r.node) ⊎ (r.first < 8) ⊎ (4096 < r.first) ⊎ (r.second < 1) ⊎ (4096 < r.second)
 
 pub data MayNotMake (r : DeskRequest) (fault : DeskFault) : Type 0 where
   is_out_of_range : IsOutOfRange r → fault ≡ BadRequest → MayNotMake r fault

@@ -11,6 +11,7 @@ use crate::page::place_losses;
 use crate::reply_shown::show_reply;
 use assise_files::cut_kind::CutKind;
 use assise_files::files::Files;
+use assise_names::limits::MOST_NODES;
 use assise_names::refusal::Refusal;
 use assise_names::reply::Reply;
 use std::alloc::Global;
@@ -119,7 +120,7 @@ fn make_cluster(alloc: Global, request: &DeskRequest) -> Result<Box<Files>, Desk
     ensures fault { IfErr result (MayNotMake request.now) }
 {
     let (nodes, log, hot) = (request.node, request.first, request.second);
-    if nodes == 0 || nodes > 8 || log < 8 || log > 4096 || hot < 1 || hot > 4096 {
+    if nodes == 0 || nodes > MOST_NODES || log < 8 || log > 4096 || hot < 1 || hot > 4096 {
         return Err(DeskFault::BadRequest);
     }
     let files = Files::new(alloc, nodes, log as usize, hot as usize, MOST_TRIES)?;

@@ -22,7 +22,7 @@ pub struct DeskRequest {
     pub call: u32,
     /// The client, from 1.
     pub client: u32,
-    /// The node, from 1; of a new cluster the count of its nodes, 1 to 8.
+    /// The node, from 1; of a new cluster the count of its nodes.
     pub node: u32,
     /// How many bytes of the desk are the path's.
     pub path_bytes: u32,

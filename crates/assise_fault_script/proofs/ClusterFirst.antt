@@ -7,11 +7,12 @@ use Rattle.std.specs.Prelude.{is_some}
 use Rattle.std.specs.Str.{is_utf8}
 use Rattle.assise_names.specs.declared.call.Op.{Op}
 use Rattle.assise_names.specs.declared.durability.Durability.TheVariants.{Pessimistic}
+use Rattle.assise_names.specs.declared.limits.TheConstants.{MOST_NODES}
 use Rattle.assise_fault_script.specs.declared.command.Command.{Command}
-use Rattle.assise_fault_script.specs.declared.command.Command.TheVariants.{Cluster, Manual, Open, Call, Carry, Digest, Release, Crash, Fail, Back, Refill, Join, Raise, Link, Hot, Tree, History}
+use Rattle.assise_fault_script.specs.declared.command.Command.TheVariants.{Cluster, Manual, Open, Call, Carry, Digest, Release, Crash, Fail, Back, Refill, Join, Raise, Link, Hot, Tree, History, Check}
 use Rattle.assise_fault_script.specs.declared.command.LinkKind.TheVariants.{Cut}
 use Rattle.assise_fault_script.specs.declared.command.Keyword as first
-use Rattle.assise_fault_script.specs.declared.command.Keyword.TheVariants.{Cluster as for_cluster, Manual as for_manual, Open as for_open, Carry as for_carry, Digest as for_digest, Release as for_release, Crash as for_crash, Fail as for_fail, Back as for_back, Refill as for_refill, Join as for_join, Raise as for_raise, Link as for_link, Hot as for_hot, Tree as for_tree, History as for_history}
+use Rattle.assise_fault_script.specs.declared.command.Keyword.TheVariants.{Cluster as for_cluster, Manual as for_manual, Open as for_open, Carry as for_carry, Digest as for_digest, Release as for_release, Crash as for_crash, Fail as for_fail, Back as for_back, Refill as for_refill, Join as for_join, Raise as for_raise, Link as for_link, Hot as for_hot, Tree as for_tree, History as for_history, Check as for_check}
 use Rattle.assise_fault_script.specs.declared.fault.LineFault.{LineFault}
 use Rattle.assise_fault_script.specs.declared.fault.ScriptFault.{ScriptFault}
 use Rattle.assise_fault_script.specs.declared.fault.ScriptFault.TheVariants.{BadLimit, UnknownCommand, WrongCount}
@@ -48,11 +49,11 @@ limits low high m word h = let n = came_from (number_of word) (in_limits low hig
 -- what a cluster's words make
 made : (nodes log hot : List ℕ) (c : Command) → cluster_of nodes log hot ≡ Ok c → IsCluster c
 made nodes log hot c h =
-    let n = came_from (limited 1 8 nodes) (λ n. limited 8 4096 log >>= λ l. limited 1 4096 hot >>= λ h. Ok (Cluster n l h)) c h in
+    let n = came_from (limited 1 MOST_NODES nodes) (λ n. limited 8 4096 log >>= λ l. limited 1 4096 hot >>= λ h. Ok (Cluster n l h)) c h in
     let l = came_from (limited 8 4096 log) (λ l. limited 1 4096 hot >>= λ h. Ok (Cluster n.0 l h)) c n.1.1 in
     let t = came_from (limited 1 4096 hot) (λ h. Ok (Cluster n.0 l.0 h)) c l.1.1 in
     let is : Cluster n.0 l.0 t.0 ≡ c = let e = t.1.1 in cc in
-    let ns = limits 1 8 n.0 nodes n.1.0 in
+    let ns = limits 1 MOST_NODES n.0 nodes n.1.0 in
     let ls = limits 8 4096 l.0 log l.1.0 in
     let ts = limits 1 4096 t.0 hot t.1.0 in
     subst IsCluster is (ns.0, ns.1, ls.0, ls.1, ts.0, ts.1)
@@ -157,6 +158,7 @@ row for_link u rest c later h = link_row rest c h
 row for_hot u rest c later h = hot_row rest c h
 row for_tree u rest c later h = number_row for_tree Tree (λ n. tt) refl (λ a. refl) (λ a b more. refl) rest c h
 row for_history u rest c later h = bare_row for_history History tt refl (λ a more. refl) rest c h
+row for_check u rest c later h = bare_row for_check Check tt refl (λ a more. refl) rest c h
 
 -- `cluster` is the one keyword in front of which no cluster stands
 before_cluster : (k : first.Keyword) (u : Unit {0}) → in_turn false k ≡ Ok u → k ≡ for_cluster
@@ -176,6 +178,7 @@ before_cluster for_link u h = cc
 before_cluster for_hot u h = cc
 before_cluster for_tree u h = cc
 before_cluster for_history u h = cc
+before_cluster for_check u h = cc
 
 -- what a command that a keyword begins makes, by whether the cluster was there
 first_row : (k : first.Keyword) (rest : List (List ℕ)) (c : Command) → (in_turn false k >>= λ _. keyword_command k rest >>= λ c. Ok (Some c)) ≡ Ok (Some c) → IsCluster c

@@ -6,7 +6,7 @@ use Rattle.assise_names.specs.declared.path.PathFault.{PathFault}
 use Rattle.assise_fault_script.specs.declared.command.CallWord.{CallWord}
 use Rattle.assise_fault_script.specs.declared.command.CallWord.TheVariants.{Create as for_create, Mkdir as for_mkdir, Read as for_read, Write as for_write, Truncate as for_truncate, Rename as for_rename, Unlink as for_unlink, Rmdir as for_rmdir, List as for_list, Stat as for_stat, Fsync as for_fsync, Dsync as for_dsync}
 use Rattle.assise_fault_script.specs.declared.command.Keyword as first
-use Rattle.assise_fault_script.specs.declared.command.Keyword.TheVariants.{Cluster as for_cluster, Manual as for_manual, Open as for_open, Carry as for_carry, Digest as for_digest, Release as for_release, Crash as for_crash, Fail as for_fail, Back as for_back, Refill as for_refill, Join as for_join, Raise as for_raise, Link as for_link, Hot as for_hot, Tree as for_tree, History as for_history}
+use Rattle.assise_fault_script.specs.declared.command.Keyword.TheVariants.{Cluster as for_cluster, Manual as for_manual, Open as for_open, Carry as for_carry, Digest as for_digest, Release as for_release, Crash as for_crash, Fail as for_fail, Back as for_back, Refill as for_refill, Join as for_join, Raise as for_raise, Link as for_link, Hot as for_hot, Tree as for_tree, History as for_history, Check as for_check}
 use Rattle.assise_fault_script.specs.declared.command.Command.TheVariants.{Call}
 use Rattle.std.proofs.Common.{IsOk, Some, Ok}
 use Rattle.assise_fault_script.specs.declared.fault.ScriptFault.{ScriptFault}
@@ -51,6 +51,7 @@ many_for_keyword for_link a b c d rest = refl
 many_for_keyword for_hot a b c d rest = refl
 many_for_keyword for_tree a b c d rest = refl
 many_for_keyword for_history a b c d rest = refl
+many_for_keyword for_check a b c d rest = refl
 
 same_after : {A B : Type 0} (r : Result A ScriptFault) (f g : A → Result B ScriptFault) → ((x : A) → f x ≡ g x) → (r >>= f) ≡ (r >>= g)
 same_after (Ok x) f g h = h x

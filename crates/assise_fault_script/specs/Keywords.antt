@@ -4,10 +4,11 @@ use Rattle.std.specs.Bool.{nat_eq}
 use Rattle.std.specs.Cmp.Lexicographic.{pointwise}
 use Rattle.assise_names.specs.declared.durability.Durability.{Durability}
 use Rattle.assise_names.specs.declared.durability.Durability.TheVariants.{Pessimistic, Optimistic}
+use Rattle.assise_names.specs.declared.limits.TheConstants.{MOST_NODES}
 use Rattle.assise_fault_script.specs.declared.command.Command.{Command}
-use Rattle.assise_fault_script.specs.declared.command.Command.TheVariants.{Cluster, Manual, Open, Carry, Digest, Release, Crash, Fail, Back, Refill, Join, Raise, Link, Hot, Tree, History}
+use Rattle.assise_fault_script.specs.declared.command.Command.TheVariants.{Cluster, Manual, Open, Carry, Digest, Release, Crash, Fail, Back, Refill, Join, Raise, Link, Hot, Tree, History, Check}
 use Rattle.assise_fault_script.specs.declared.command.Keyword as first
-use Rattle.assise_fault_script.specs.declared.command.Keyword.TheVariants.{Cluster as for_cluster, Manual as for_manual, Open as for_open, Carry as for_carry, Digest as for_digest, Release as for_release, Crash as for_crash, Fail as for_fail, Back as for_back, Refill as for_refill, Join as for_join, Raise as for_raise, Link as for_link, Hot as for_hot, Tree as for_tree, History as for_history}
+use Rattle.assise_fault_script.specs.declared.command.Keyword.TheVariants.{Cluster as for_cluster, Manual as for_manual, Open as for_open, Carry as for_carry, Digest as for_digest, Release as for_release, Crash as for_crash, Fail as for_fail, Back as for_back, Refill as for_refill, Join as for_join, Raise as for_raise, Link as for_link, Hot as for_hot, Tree as for_tree, History as for_history, Check as for_check}
 use Rattle.assise_fault_script.specs.declared.command.LinkKind.{LinkKind}
 use Rattle.assise_fault_script.specs.declared.command.LinkKind.TheVariants.{Perfect, Lose, Repeat, Delay, Cut, Fault}
 use Rattle.assise_fault_script.specs.declared.command.RevokerKind.{RevokerKind}
@@ -36,7 +37,8 @@ keyword_of word =
     else (if pointwise nat_eq word (codes "hot") then Ok for_hot
     else (if pointwise nat_eq word (codes "tree") then Ok for_tree
     else (if pointwise nat_eq word (codes "history") then Ok for_history
-    else Err UnknownCommand)))))))))))))))
+    else (if pointwise nat_eq word (codes "check") then Ok for_check
+    else Err UnknownCommand))))))))))))))))
 
 -- the revoker that a word names
 abbrev pub kind_of : List ℕ → Result RevokerKind ScriptFault
@@ -59,9 +61,9 @@ link_kind_of word =
     else (if pointwise nat_eq word (codes "fault") then Ok Fault
     else Err BadLink))))
 
--- 1 to 8 nodes, a log of 8 to 4,096 and 1 to 4,096 hot
+-- so many nodes, a log of 8 to 4,096 and 1 to 4,096 hot
 abbrev pub cluster_of : List ℕ → List ℕ → List ℕ → Result Command ScriptFault
-cluster_of nodes log hot = limited 1 8 nodes >>= λ n. limited 8 4096 log >>= λ l. limited 1 4096 hot >>= λ h. Ok (Cluster n l h)
+cluster_of nodes log hot = limited 1 MOST_NODES nodes >>= λ n. limited 8 4096 log >>= λ l. limited 1 4096 hot >>= λ h. Ok (Cluster n l h)
 
 -- the one mode that is named
 abbrev pub mode_of : List ℕ → Result Durability ScriptFault
@@ -146,4 +148,5 @@ keyword_command for_link words = node_link_of words
 keyword_command for_hot words = hot_of words
 keyword_command for_tree (node ∷ []) = tree_of node
 keyword_command for_history [] = Ok History
+keyword_command for_check [] = Ok Check
 keyword_command _ _ = Err WrongCount

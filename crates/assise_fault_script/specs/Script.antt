@@ -1,5 +1,6 @@
 -- The commands of a script, or the first fault of its first faulty line.
 use Rattle.std.specs.Prelude.{◌≡◌, ◌≤◌, ◌⊎◌, ℕ, ◌+◌, ◌-◌, Bool, true, false, ◌||◌, is_some, All, List, [], ◌∷◌, ◌++◌, length, take, IsOk, Option, Some, None, Result, Ok, Err}
+use Rattle.assise_names.specs.declared.limits.TheConstants.{MOST_NODES}
 use Rattle.assise_fault_script.specs.declared.command.Command.{Command}
 use Rattle.assise_fault_script.specs.declared.command.Command.TheVariants.{Cluster, Hot}
 use Rattle.assise_fault_script.specs.declared.fault.ScriptFault.{ScriptFault}
@@ -54,7 +55,7 @@ pub record IsCommandAt (bytes : List ℕ) (line : ℕ) : Type 0 where
 
 -- makes a cluster, with numbers in the limits
 abbrev pub IsCluster : Command → Type 0
-IsCluster (Cluster nodes log hot) = (1 ≤ nodes) × (nodes ≤ 8) × (8 ≤ log) × (log ≤ 4096) × (1 ≤ hot) × (hot ≤ 4096)
+IsCluster (Cluster nodes log hot) = (1 ≤ nodes) × (nodes ≤ MOST_NODES) × (8 ≤ log) × (log ≤ 4096) × (1 ≤ hot) × (hot ≤ 4096)
 IsCluster _ = ⊥
 
 -- makes no cluster; how many inodes it lets be hot is in the limits

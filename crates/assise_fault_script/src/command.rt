@@ -37,7 +37,7 @@ pub enum LinkKind {
 pub enum Command {
     /// Makes the cluster. It comes once, before every other command.
     Cluster {
-        /// How many nodes: 1 to 8.
+        /// How many nodes: 1 to `MOST_NODES`.
         nodes: u64,
         /// The most records of a client's log: 8 to 4,096.
         log: u64,
@@ -125,6 +125,8 @@ pub enum Command {
     },
     /// The history so far.
     History,
+    /// Whether the history so far is legal.
+    Check,
 }
 
 /// The first word of a command that isn't a client's call.
@@ -162,6 +164,8 @@ pub(crate) enum Keyword {
     Tree,
     /// `history`.
     History,
+    /// `check`.
+    Check,
 }
 
 /// The word that names a client's call.

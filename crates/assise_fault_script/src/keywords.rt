@@ -6,6 +6,7 @@ use crate::command::{Command, Keyword, LinkKind, RevokerKind};
 use crate::fault::ScriptFault;
 use crate::number::{number, within};
 use assise_names::durability::Durability;
+use assise_names::limits::MOST_NODES;
 
 /// The keyword that a word is.
 pub fn keyword(word: &str) -> Result<Keyword, ScriptFault>
@@ -28,6 +29,7 @@ pub fn keyword(word: &str) -> Result<Keyword, ScriptFault>
         "hot" => Ok(Keyword::Hot),
         "tree" => Ok(Keyword::Tree),
         "history" => Ok(Keyword::History),
+        "check" => Ok(Keyword::Check),
         _ => Err(ScriptFault::UnknownCommand),
     }
 }
@@ -53,6 +55,7 @@ pub fn keyword_command(keyword: Keyword, words: &[&str]) -> Result<Command, Scri
         (Keyword::Hot, words) => hot(words),
         (Keyword::Tree, [node]) => tree(node),
         (Keyword::History, []) => Ok(Command::History),
+        (Keyword::Check, []) => Ok(Command::Check),
         _ => Err(ScriptFault::WrongCount),
     }
 }
@@ -60,7 +63,7 @@ pub fn keyword_command(keyword: Keyword, words: &[&str]) -> Result<Command, Scri
 fn cluster(nodes: &str, log: &str, hot: &str) -> Result<Command, ScriptFault>
     ensures { result ≡ cluster_of nodes.now log.now hot.now }
 {
-    let nodes = within(1, 8, nodes)?;
+    let nodes = within(1, u64::from(MOST_NODES), nodes)?;
     let log = within(8, 4096, log)?;
     let hot = within(1, 4096, hot)?;
     Ok(Command::Cluster { nodes, log, hot })

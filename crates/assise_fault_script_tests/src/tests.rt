@@ -66,6 +66,7 @@ fn line_of(alloc: Global, rt: &impl Abort, command: &Command) -> String {
         Command::Hot { node, capacity } => format!(in alloc; "hot {node} {capacity}"),
         Command::Tree { node } => format!(in alloc; "tree {node}"),
         Command::History => format!(in alloc; "history"),
+        Command::Check => format!(in alloc; "check"),
     };
     text.expect(rt, "no memory")
 }
@@ -171,7 +172,8 @@ const EACH: &str = "# a file\r\n\
     \x20 hot 2 007\n\
     1 dsync\n\
     open  03 eights  optimistic\r\n\
-    raise  02\r\n";
+    raise  02\r\n\
+    check \n";
 
 /// What it says.
 const EACH_SAID: &str = "2: cluster 1 4096 1\n\
@@ -212,7 +214,8 @@ const EACH_SAID: &str = "2: cluster 1 4096 1\n\
     40: hot 2 7\n\
     41: 1 dsync\n\
     42: open 3 eights optimistic\n\
-    43: raise 2\n";
+    43: raise 2\n\
+    44: check\n";
 
 #[test]
 fn each_command_is_read(rt: HostRuntime) {
@@ -241,7 +244,7 @@ fn short_scripts_are_read(rt: HostRuntime) {
 }
 
 /// Faults of a line: the words, one by one, then of two faults the first.
-static FAULTS: [(&str, &str); 149] = [
+static FAULTS: [(&str, &str); 150] = [
     // the words, one by one
     ("fly", "2: unknown command"),
     ("Open 1 least", "2: unknown command"),
@@ -251,6 +254,7 @@ static FAULTS: [(&str, &str); 149] = [
     ("1 fly /f", "2: unknown command"),
     ("1 # a file", "2: unknown command"),
     ("history 1", "2: wrong number of words"),
+    ("check 1", "2: wrong number of words"),
     ("open 1", "2: wrong number of words"),
     ("open 1 least 2 3", "2: wrong number of words"),
     ("1 create", "2: wrong number of words"),
@@ -401,8 +405,9 @@ fn the_first_fault_of_a_line_is_named(rt: HostRuntime) {
 }
 
 /// Scripts whose cluster is missing, or faulty, or not the only one.
-static CLUSTERS: [(&str, &str); 33] = [
+static CLUSTERS: [(&str, &str); 34] = [
     ("history", "1: no cluster yet"),
+    ("check", "1: no cluster yet"),
     ("history 1", "1: no cluster yet"),
     ("\nopen x", "2: no cluster yet"),
     ("manual", "1: no cluster yet"),
@@ -426,7 +431,7 @@ static CLUSTERS: [(&str, &str); 33] = [
     ("fly", "1: unknown command"),
     ("cluster 1 8", "1: wrong number of words"),
     ("cluster 0 8 4", "1: out of limits"),
-    ("cluster 9 8 4", "1: out of limits"),
+    ("cluster 17 8 4", "1: out of limits"),
     ("cluster 1 7 1", "1: out of limits"),
     ("cluster 1 4097 1", "1: out of limits"),
     ("cluster 1 8 0", "1: out of limits"),

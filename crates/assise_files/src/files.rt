@@ -33,10 +33,11 @@ impl Files {
     ghost use Rattle.assise_rounds.specs.Courses.{Told};
     ghost use Rattle.assise_rounds.specs.Returning.{ComesBack};
     ghost use Rattle.assise_rounds.specs.Rounds.{RoundsOnce};
+    ghost use Rattle.assise_names.specs.declared.limits.TheConstants.{MOST_NODES};
     ghost use Rattle.assise_files.specs.FilesSeen.{KeepsHot, cluster_seen, kinds_seen, most_tries};
     ghost use Rattle.assise_files.specs.CallTries.{IsTriedOut};
 
-    /// A cluster in which nothing happened: 1 to 8 nodes, logs of 8 to 4,096 records, and 1 to 4,096 inodes that a node keeps hot. A
+    /// A cluster in which nothing happened: 1 to `MOST_NODES` nodes, logs of 8 to 4,096 records, and 1 to 4,096 inodes that a node keeps hot. A
     /// call is tried so many times at most. The one refusal is [`Refusal::OutOfMemory`].
     pub fn new(
         alloc: Global,
@@ -46,7 +47,7 @@ impl Files {
         turns: u32,
     ) -> Result<Files, Refusal>
         requires some_nodes { 0 < nodes }
-        requires few_nodes { nodes ≤ 8 }
+        requires few_nodes { nodes ≤ MOST_NODES }
         requires least_log { 8 ≤ log }
         requires most_log { log ≤ 4096 }
         requires least_hot { 1 ≤ hot }

@@ -57,7 +57,7 @@ fn what_is_asked_wrongly(rt: HostRuntime) {
         rt.alloc(),
         &rt,
         "\
-open 1; 1 stat /; number 0; number 10; number 27; make 0 8 4; make 9 8 4 => -301 -301 -302 -302 -302 -302 -302
+open 1; 1 stat /; number 0; number 10; number 27; make 0 8 4; make 17 8 4 => -301 -301 -302 -302 -302 -302 -302
 make 1 7 4; make 1 4097 4; make 1 8 0; make 1 8 4097; 1 stat / => -302 -302 -302 -302 -301
 make 2 8 4; open 3; open 1; open 2; 3 stat /; 1 stat a; 1 stat //; 1 stat /.. => 0 -108 1 2 -109 -201 -202 -203
 1 create /; 1 rename / /a; 1 rename /a b; 1 stat /a; 1 create /a; 1 create /a; 1 list /a => -2 -6 -201 -1 0 -2 -3

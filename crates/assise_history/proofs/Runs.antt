@@ -1,9 +1,9 @@
 -- Runs, one call at a time, and what an entry more keeps.
-use Rattle.std.proofs.Common.{◌≡◌, ℕ, Bool, true, false, not, List, [], ◌∷◌, ◌++◌, filter, map, refl, ap, sym, subst, ◌∙◌}
+use Rattle.std.proofs.Common.{◌≡◌, ℕ, nat_lt, Bool, true, false, not, List, [], ◌∷◌, ◌++◌, filter, map, refl, ap, sym, subst, ◌∙◌}
 use Rattle.std.proofs.Common.{if◌then◌else◌, inl, inr}
-use Rattle.std.proofs.Common.{Bor, take, drop, length, get_or, ◌+◌, ◌<◌}
+use Rattle.std.proofs.Common.{Bor, take, drop, length, get_or, ◌+◌, ◌<◌, ◌≤◌, arith}
 use Rattle.std.proofs.lemmas.List.{take_more, map-append, take-append-drop}
-use Rattle.std.proofs.lemmas.Bool.{cases_Bool}
+use Rattle.std.proofs.lemmas.Bool.{cases_Bool, lt-ltb}
 use Rattle.assise_seq_tree.specs.Tree.{Tree}
 use Rattle.assise_seq_tree.specs.Answer.{answer}
 use Rattle.assise_history.specs.declared.call.Call.{Call}
@@ -88,6 +88,27 @@ map-filter f p (x ∷ xs) =
       | inl stays ↦ rw stays (ap (λ ys. f x ∷ ys) (map-filter f p xs))
       | inr goes ↦ rw goes (map-filter f p xs)
     ]
+
+filter_short : {X : Type 0} (p : X → Bool) (xs : List X) → length (filter p xs) ≤ length xs
+filter_short p [] = omega arith
+filter_short p (x ∷ xs) =
+    elim (cases_Bool (p x)) [
+      | inl stays ↦ let rest = filter_short p xs in rw stays (omega (arith, rest))
+      | inr goes ↦ let rest = filter_short p xs in rw goes (omega (arith, rest))
+    ]
+
+-- where a filter leaves as many, it leaves all
+pub filter_whole : {X : Type 0} (p : X → Bool) (xs : List X) → (length (filter p xs) < length xs → ⊥) → filter p xs ≡ xs
+filter_whole p [] h = refl
+filter_whole p (x ∷ xs) h =
+    elim (cases_Bool (p x)) [
+      | inl stays ↦ rw stays (ap (λ ys. x ∷ ys) (filter_whole p xs (λ less. h (rw stays (omega (arith, less))))))
+      | inr goes ↦ let rest = filter_short p xs in absurd (h (rw goes (omega (arith, rest))))
+    ]
+
+pub filter_mapped : {X Y : Type 0} (f : X → Y) (p : X → Bool) (xs ys : List X) → ys ≡ filter p xs → nat_lt (length ys) (length xs) ≡ false → map f ys ≡ map f xs
+filter_mapped f p xs ys is long =
+    ap (map f) (is ∙ filter_whole p xs (λ less. let short : nat_lt (length (filter p xs)) (length xs) ≡ true = lt-ltb (length (filter p xs)) (length xs) less in let bad : true ≡ false = sym short ∙ subst (λ zs. nat_lt (length zs) (length xs) ≡ false) is long in cc))
 
 -- an entry more that is no call and loses none
 kept-quiet : (es : List Event) (e : Event) → ((call : Call) → is_lost (e ∷ []) call ≡ false) → kept (e ∷ []) ≡ [] → kept (es ++ e ∷ []) ≡ kept es

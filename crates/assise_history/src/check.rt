@@ -10,9 +10,9 @@ use crate::played::Played;
 use assise_names::refusal::Refusal;
 use std::alloc::Global;
 
-/// Whether the history is legal, or [`Refusal::OutOfMemory`]. Each call is played once, and each failure plays the
-/// calls that are kept again: it costs at most the history's length times one more than the count of its failures.
-/// Each entry also scans the clients, and a failure scans them and the kept calls once for each client that it lists.
+/// Whether the history is legal, or [`Refusal::OutOfMemory`]. Each call is played once, and a failure that takes calls
+/// plays those that are kept again: so it costs what the calls cost on one plain tree, as often as one more than there
+/// are such failures. Each entry also scans the clients, and a failure the kept calls once for each client that it lists.
 pub fn check(alloc: Global, history: &History) -> Result<bool, Refusal>
     ensures decided { IfOk result (λ yes. IsTrue yes ↔ IsLegal history.now.events) }
     ensures only_memory { IsOkUnless result OutOfMemory }

@@ -1,5 +1,5 @@
 // The calls that no later failure loses.
-ghost use Rattle.std.specs.Prelude.{◌≡◌, IfOk, IsOkUnless, OnOk, map, filter, not};
+ghost use Rattle.std.specs.Prelude.{◌≡◌, IfOk, IsOkUnless, OnOk, false, map, filter, not};
 ghost use Rattle.assise_history.specs.Kept.{kept, kept_more, loses};
 ghost use Rattle.assise_names.specs.declared.refusal.Refusal.TheVariants.{OutOfMemory};
 
@@ -49,11 +49,16 @@ fn keep<'a>(calls: &mut Vec<&'a Call>, entry: &'a Entry) -> Result<(), Refusal>
     }
 }
 
-/// Drops the calls that a failure loses.
-pub(crate) fn drop_lost(calls: &mut Vec<&Call>, losses: &[Loss])
-    ensures { map (λ call. call.now) calls.new.items ≡ filter (λ call. not (loses losses.now call)) (map (λ call. call.now) calls.old.items) }
+/// Drops the calls that a failure loses, and says whether there were any.
+pub(crate) fn drop_lost(calls: &mut Vec<&Call>, losses: &[Loss]) -> bool
+    ensures left { map (λ call. call.now) calls.new.items ≡
+        filter (λ call. not (loses losses.now call)) (map (λ call. call.now) calls.old.items) }
+    ensures none { result ≡ false →
+        map (λ call. call.now) calls.new.items ≡ map (λ call. call.now) calls.old.items }
 {
+    let before = calls.len();
     calls.retain(|call| !loses(losses, call));
+    calls.len() < before
 }
 
 /// Whether a failure with these losses loses a call.

@@ -40,8 +40,11 @@ impl<'a> Played<'a> {
         match entry.kind() {
             EntryKind::Call(call) => self.play(alloc, call),
             EntryKind::Fail { node: _, losses } => {
-                drop_lost(&mut self.calls, losses.as_slice());
-                self.replay(alloc)
+                if drop_lost(&mut self.calls, losses.as_slice()) {
+                    self.replay(alloc)
+                } else {
+                    Ok(true)
+                }
             }
             EntryKind::Open { .. } => Ok(true),
             EntryKind::Crash { .. } => Ok(true),

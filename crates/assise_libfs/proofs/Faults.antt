@@ -11,6 +11,7 @@ use Rattle.assise_names.specs.declared.durability.Durability.TheVariants.{Pessim
 use Rattle.assise_names.specs.declared.reply.Reply.{Reply}
 use Rattle.assise_names.specs.declared.refusal.Refusal.{Refusal}
 use Rattle.assise_names.specs.declared.refusal.Refusal.TheVariants.{BadClient, BadNode, ClientGone, InodesSpent, LogFull, NodeDown, OutOfMemory, TooLarge}
+use Rattle.assise_names.specs.declared.limits.TheConstants.{MOST_CLIENTS}
 use Rattle.assise_history.specs.Entries.{opens}
 use Rattle.assise_history.specs.Legal.{IsDown, durability_of, is_failure_of}
 use Rattle.assise_history.proofs.Counting.{next_opened, opened_within}
@@ -24,7 +25,7 @@ use Rattle.assise_machine_events.specs.Dsyncs.{Coalescing, is_coalesced, is_refu
 use Rattle.assise_machine_events.specs.Events.{Answer, not_yet, opened, refused, replied}
 use Rattle.assise_machine_events.specs.Faults.{client_fault, fault_if, is_client, is_too_large, or_else, unless_full}
 use Rattle.assise_machine_events.specs.Happenings.{Dsyncing, Fsyncing, Trying}
-use Rattle.assise_machine_events.specs.Machine.{Machine, Holds, most_clients}
+use Rattle.assise_machine_events.specs.Machine.{Machine, Holds}
 use Rattle.assise_machine_events.proofs.Rejoined.{stands_is_node}
 use Rattle.assise_machine_calls.specs.Answers.{opening_answer}
 use Rattle.assise_libfs.specs.Calling.{MakesInode, MayRefuseTry, WritesTooMuch}
@@ -230,7 +231,7 @@ module _ (m : Machine) (holds : ∥ Holds m ∥₁) (n : ℕ) (u : Durability) w
   pub opening_refused : (m' : Machine) (a : Answer) (r : Refusal) → Opening m n u a m' → a ≡ refused r → MayRefuseOpen n m.history r
   opening_refused m' a r (is_opened fine e o) is = absurd (let x : opened _ ≡ refused r = sym e ∙ is in cc)
   opening_refused m' a r (is_refused q fault e same) is =
-      subst (MayRefuseOpen n m.history) (sym (same_refusal q r a e is)) (faulty_open q (which_open_fault (standing_of m.members.nodes n) (nat_le most_clients m.world.clients) q fault))
+      subst (MayRefuseOpen n m.history) (sym (same_refusal q r a e is)) (faulty_open q (which_open_fault (standing_of m.members.nodes n) (nat_le MOST_CLIENTS m.world.clients) q fault))
   opening_refused m' a r (lacks_memory fine e same) is = subst (MayRefuseOpen n m.history) (sym (same_refusal OutOfMemory r a e is)) tt
 
   pub opened_or_refused : {C : Type 0} (m' : Machine) (result : Result ℕ (Refusal × C)) → Opening m n u (opening_answer result) m' → IfErr result (λ back. MayRefuseOpen n m.history back.0)

@@ -2,14 +2,14 @@
 use Rattle.std.proofs.Common.{◌≤◌, length, subst}
 use Rattle.std.proofs.Math.Bridge.{le_prop}
 use Rattle.std.proofs.Math.Logic.{∥∥₁_elim}
-use Rattle.assise_machine_events.specs.Machine.{most_clients}
+use Rattle.assise_names.specs.declared.limits.TheConstants.{MOST_CLIENTS, MOST_NODES}
 use Rattle.assise_machine_state.specs.Observed.{observed}
 use Rattle.assise_machine.specs.declared.cluster.ClusterOf.{ClusterOf}
 use Rattle.assise_machine.specs.Clusters.{machine}
 
-pub few_clients : {C : Type 0} (cluster : ClusterOf C) → (machine cluster).world.clients ≤ most_clients
+pub few_clients : {C : Type 0} (cluster : ClusterOf C) → (machine cluster).world.clients ≤ MOST_CLIENTS
 few_clients cluster = ∥∥₁_elim cluster.sound.holds le_prop (λ h. h.clients)
 
-pub few_nodes : {C : Type 0} (cluster : ClusterOf C) → length (machine cluster).members.nodes ≤ 8
+pub few_nodes : {C : Type 0} (cluster : ClusterOf C) → length (machine cluster).members.nodes ≤ MOST_NODES
 unfolding observed
-few_nodes cluster = subst (λ n. n ≤ 8) cluster.sound.shape.nodes cluster.sound.shape.few_nodes
+few_nodes cluster = subst (λ n. n ≤ MOST_NODES) cluster.sound.shape.nodes cluster.sound.shape.few_nodes

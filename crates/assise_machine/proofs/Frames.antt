@@ -6,6 +6,7 @@ use Rattle.std.proofs.Props.{props}
 use Rattle.std.proofs.lemmas.Bool.{and_parts, cases_Bool, cases_eq, eqb-true, or_cases, or_left, or_right}
 use Rattle.std.proofs.lemmas.Map.Views.{any-filter_same}
 use Rattle.assise_names.specs.declared.refusal.Refusal.TheVariants.{WrongPhase}
+use Rattle.assise_names.specs.declared.limits.TheConstants.{MOST_CLIENTS}
 use Rattle.assise_record.specs.LogFrame.{LogFrame}
 use Rattle.assise_private_log.specs.NumberedLog.{end as log_end, is_border}
 use Rattle.assise_chain.specs.Chains.{behind, chain, first_of_all}
@@ -69,7 +70,7 @@ next_full nodes head n k is = listed_is_full nodes k (chain_there (full_nodes no
 
 -- ---- what there is to send of a client
 
-pub few_clients : (s : StateValue) → ∥ Holds (observed s) ∥₁ → length s.clients ≤ 16
+pub few_clients : (s : StateValue) → ∥ Holds (observed s) ∥₁ → length s.clients ≤ MOST_CLIENTS
 unfolding observed world_of
 few_clients s holds = ∥∥₁_elim holds (search props) (λ h. h.clients)
 

@@ -47,6 +47,7 @@ impl<C: Revokes + Drop> ClusterOf<C> {
     ghost use Rattle.assise_digest.specs.Region.{alone};
     ghost use Rattle.assise_inode_table.specs.Traces.{ops};
     ghost use Rattle.assise_lease_table.specs.Tables.{Enrols, SameRevokers};
+    ghost use Rattle.assise_names.specs.declared.limits.TheConstants.{MOST_NODES};
     ghost use Rattle.assise_manager.specs.NodeLevels.{level_of, newest};
     ghost use Rattle.assise_manager.specs.Standings.{standing_of};
     ghost use Rattle.assise_machine_laws.specs.World.{IsClient, alone as alone_observed, received_by_all};
@@ -66,11 +67,11 @@ impl<C: Revokes + Drop> ClusterOf<C> {
     ghost use Rattle.assise_machine.specs.Clusters.{AreAcked, HaveCapacity, machine, region_of, revokers};
     ghost use Rattle.assise_machine.specs.Headline.{IsUp, acked_to, history_of, regions_of};
 
-    /// A cluster in which nothing happened: 1 to 8 full nodes, whose clients' logs have 8 to 4,096 records at most, and 1 to
+    /// A cluster in which nothing happened: 1 to `MOST_NODES` full nodes, whose clients' logs have 8 to 4,096 records at most, and 1 to
     /// 4,096 inodes that may be hot. The one refusal is [`Refusal::OutOfMemory`].
     pub fn new(alloc: Global, nodes: u32, log: usize, hot: usize) -> Result<ClusterOf<C>, Refusal>
         requires some_nodes { 0 < nodes }
-        requires few_nodes { nodes ≤ 8 }
+        requires few_nodes { nodes ≤ MOST_NODES }
         requires least_log { 8 ≤ log }
         requires most_log { log ≤ 4096 }
         requires least_hot { 1 ≤ hot }
@@ -88,7 +89,7 @@ impl<C: Revokes + Drop> ClusterOf<C> {
 
     /// Opens a client on a node, whose fsyncs are served so, and answers its number. The client is asked for its leases by the
     /// revoker. Refused with [`Refusal::BadNode`] where there is no such node, [`Refusal::NodeDown`] where it isn't full,
-    /// [`Refusal::BadClient`] where all 16 clients were opened, and [`Refusal::OutOfMemory`]: what is refused leaves all as it
+    /// [`Refusal::BadClient`] where all clients were opened that may be, and [`Refusal::OutOfMemory`]: what is refused leaves all as it
     /// was, and gives the revoker back.
     pub fn open(
         &mut self,

@@ -3,6 +3,7 @@ use Rattle.std.proofs.Common.{◌≡◌, ◌≢◌, ℕ, ◌<◌, ◌≤◌, nat
 use Rattle.std.proofs.lemmas.Bool.{cases_Bool, le-leb, leb-false, leb-true}
 use Rattle.assise_names.specs.declared.refusal.Refusal.{Refusal}
 use Rattle.assise_names.specs.declared.refusal.Refusal.TheVariants.{BadClient, NodeDown}
+use Rattle.assise_names.specs.declared.limits.TheConstants.{MOST_CLIENTS}
 use Rattle.assise_manager.specs.Standings.{Standing, down, full, phase_of, returning, standing_of}
 use Rattle.assise_manager.specs.declared.phase.Phase.{Phase}
 use Rattle.assise_manager.specs.declared.phase.Phase.TheVariants.{Full}
@@ -12,7 +13,7 @@ use Rattle.assise_machine_state.specs.StateValues.{StateValue, standings}
 use Rattle.assise_machine_state.proofs.Asking.{away_refused, full_served, none_refused}
 
 -- the fault, by what is known of the node and of how many clients there are
-fault_is : (s : StateValue) (n : ℕ) → open_fault (observed s) n ≡ or_else (unless_full NodeDown (standing_of (standings s) n)) (fault_if (nat_le 16 (length s.clients)) BadClient)
+fault_is : (s : StateValue) (n : ℕ) → open_fault (observed s) n ≡ or_else (unless_full NodeDown (standing_of (standings s) n)) (fault_if (nat_le MOST_CLIENTS (length s.clients)) BadClient)
 unfolding observed world_of
 fault_is s n = refl
 
@@ -22,17 +23,17 @@ no_node s n r same = fault_is s n ∙ rw (none_refused NodeDown (standing_of (st
 pub node_away : (s : StateValue) (n : ℕ) (p : Phase) → phase_of (standing_of (standings s) n) ≡ Ok p → p ≢ Full → open_fault (observed s) n ≡ Some NodeDown
 node_away s n p same other = fault_is s n ∙ rw (away_refused NodeDown (standing_of (standings s) n) p same other) refl
 
-pub all_opened : (s : StateValue) (n : ℕ) → phase_of (standing_of (standings s) n) ≡ Ok Full → 16 ≤ length s.clients → open_fault (observed s) n ≡ Some BadClient
-all_opened s n same many = fault_is s n ∙ rw (full_served NodeDown (standing_of (standings s) n) same, le-leb 16 (length s.clients) many) refl
+pub all_opened : (s : StateValue) (n : ℕ) → phase_of (standing_of (standings s) n) ≡ Ok Full → MOST_CLIENTS ≤ length s.clients → open_fault (observed s) n ≡ Some BadClient
+all_opened s n same many = fault_is s n ∙ rw (full_served NodeDown (standing_of (standings s) n) same, le-leb MOST_CLIENTS (length s.clients) many) refl
 
-few_test : (k : ℕ) → k < 16 → nat_le 16 k ≡ false
+few_test : (k : ℕ) → k < MOST_CLIENTS → nat_le MOST_CLIENTS k ≡ false
 few_test k few =
-    elim (cases_Bool (nat_le 16 k)) [
-      | inl many ↦ (let high : 16 ≤ k = leb-true 16 k many in absurd (omega (arith, few, high)))
+    elim (cases_Bool (nat_le MOST_CLIENTS k)) [
+      | inl many ↦ (let high : MOST_CLIENTS ≤ k = leb-true MOST_CLIENTS k many in absurd (omega (arith, few, high)))
       | inr other ↦ other
     ]
 
-pub may_open : (s : StateValue) (n : ℕ) → phase_of (standing_of (standings s) n) ≡ Ok Full → length s.clients < 16 → open_fault (observed s) n ≡ None
+pub may_open : (s : StateValue) (n : ℕ) → phase_of (standing_of (standings s) n) ≡ Ok Full → length s.clients < MOST_CLIENTS → open_fault (observed s) n ≡ None
 may_open s n same few = fault_is s n ∙ rw (full_served NodeDown (standing_of (standings s) n) same, few_test (length s.clients) few) refl
 
 -- what holds where there is none
@@ -53,7 +54,7 @@ few_then (Some r) b fine = absurd (some_none r (fault_if b BadClient) fine)
 
 pub fine_full : (s : StateValue) (n : ℕ) → open_fault (observed s) n ≡ None → is_full_in (standings s) n ≡ true
 unfolding is_full_in
-fine_full s n fine = full_then (standing_of (standings s) n) (fault_if (nat_le 16 (length s.clients)) BadClient) (sym (fault_is s n) ∙ fine)
+fine_full s n fine = full_then (standing_of (standings s) n) (fault_if (nat_le MOST_CLIENTS (length s.clients)) BadClient) (sym (fault_is s n) ∙ fine)
 
-pub fine_few : (s : StateValue) (n : ℕ) → open_fault (observed s) n ≡ None → length s.clients < 16
-fine_few s n fine = leb-false 16 (length s.clients) (few_then (unless_full NodeDown (standing_of (standings s) n)) (nat_le 16 (length s.clients)) (sym (fault_is s n) ∙ fine))
+pub fine_few : (s : StateValue) (n : ℕ) → open_fault (observed s) n ≡ None → length s.clients < MOST_CLIENTS
+fine_few s n fine = leb-false MOST_CLIENTS (length s.clients) (few_then (unless_full NodeDown (standing_of (standings s) n)) (nat_le MOST_CLIENTS (length s.clients)) (sym (fault_is s n) ∙ fine))

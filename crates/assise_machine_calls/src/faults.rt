@@ -4,10 +4,10 @@ ghost use Rattle.assise_machine_events.specs.Faults.{call_fault, client_fault, i
 ghost use Rattle.assise_machine_state.specs.Whole.{machine_of};
 
 use assise_lease_table::revoker::Revokes;
-use assise_machine_state::clients::MOST_CLIENTS;
 use assise_machine_state::state::StateOf;
 use assise_manager::phase::Phase;
 use assise_names::call::Op;
+use assise_names::limits::MOST_CLIENTS;
 use assise_names::refusal::Refusal;
 use assise_record::effect::MOST_EXTENT_BYTES;
 
@@ -22,7 +22,7 @@ pub fn open_refusal<C: Revokes + Drop>(state: &StateOf<C>, node: u32) -> Option<
     };
     match phase {
         Phase::Down | Phase::Returning => Some(Refusal::NodeDown),
-        Phase::Full if state.clients.len() >= MOST_CLIENTS => Some(Refusal::BadClient),
+        Phase::Full if state.clients.len() >= MOST_CLIENTS as usize => Some(Refusal::BadClient),
         Phase::Full => None,
     }
 }

@@ -4,6 +4,7 @@ use assise_lease_table::revoker::Revoker;
 use assise_machine_calls::opening::open;
 use assise_machine_state::sound::Sound;
 use assise_names::durability::Durability;
+use assise_names::limits::MOST_NODES;
 use assise_names::refusal::Refusal;
 use assise_private_log::log_view::LogView;
 use assise_revokers::kinds::{eights, least, whole};
@@ -14,7 +15,7 @@ type Cut = Box<dyn Fn(&LogView, u64) -> u64 + Send>;
 /// A cluster of so many nodes, whose clients' logs have 8 records at most, stands in place of another. None where there is no such
 /// cluster, or no memory.
 pub(crate) fn renew(alloc: Global, sound: &mut Sound, nodes: u32) -> Option<()> {
-    if nodes == 0 || nodes > 8 {
+    if nodes == 0 || nodes > MOST_NODES {
         return None;
     }
     *sound = Sound::new(alloc, nodes, 8, 1).ok()?;

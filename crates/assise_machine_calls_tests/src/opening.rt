@@ -33,8 +33,8 @@ inode 7 for 1 => none
 leases 0 => nobody
 ";
 
-/// Sixteen clients are as many as there may be. The node is looked at first.
-const SEVENTEEN: &str = "\
+/// Thirty-two clients are as many as there may be. The node is looked at first.
+const ONE_TOO_MANY: &str = "\
 cluster 1 => begun
 open 1 least => client 1
 open 1 least => client 2
@@ -52,12 +52,28 @@ open 1 least => client 13
 open 1 least => client 14
 open 1 least => client 15
 open 1 least => client 16
+open 1 least => client 17
+open 1 least => client 18
+open 1 least => client 19
+open 1 least => client 20
+open 1 least => client 21
+open 1 least => client 22
+open 1 least => client 23
+open 1 least => client 24
+open 1 least => client 25
+open 1 least => client 26
+open 1 least => client 27
+open 1 least => client 28
+open 1 least => client 29
+open 1 least => client 30
+open 1 least => client 31
+open 1 least => client 32
 open 1 least => F9 BadClient
 open 2 least => F8 BadNode
-clients at 1 => 16
+clients at 1 => 32
 ";
 
 #[test]
 fn clients_are_opened(rt: HostRuntime) {
-    show(rt.alloc(), &rt, &[NUMBERS, LOGS, FOUND, SEVENTEEN]);
+    show(rt.alloc(), &rt, &[NUMBERS, LOGS, FOUND, ONE_TOO_MANY]);
 }

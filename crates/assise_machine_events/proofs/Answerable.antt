@@ -9,6 +9,7 @@ use Rattle.assise_names.specs.declared.mode.Mode.{Mode}
 use Rattle.assise_names.specs.declared.refusal.Refusal.TheVariants.{BadClient, NodeDown, TooLarge}
 use Rattle.assise_names.specs.declared.reply.Reply.{Reply}
 use Rattle.assise_names.specs.declared.reply.Reply.TheVariants.{Done}
+use Rattle.assise_names.specs.declared.limits.TheConstants.{MOST_CLIENTS}
 use Rattle.assise_history.specs.Entries.{crashes, opens}
 use Rattle.assise_record.specs.Records.{has_some}
 use Rattle.assise_inode_table.specs.Traces.{NumberedCall}
@@ -30,7 +31,7 @@ use Rattle.assise_machine_events.specs.ClientEvents.Opening.{is_opened}
 use Rattle.assise_machine_events.specs.ClientEvents.Syncing.{is_replicating, is_synced}
 use Rattle.assise_machine_events.specs.Events.{call_entry, crashed, not_yet, opened, replied}
 use Rattle.assise_machine_events.specs.Faults.{call_fault, client_fault, fault_if, is_too_large, open_fault, unless_full}
-use Rattle.assise_machine_events.specs.Machine.{Holds, Machine, most_clients}
+use Rattle.assise_machine_events.specs.Machine.{Holds, Machine}
 use Rattle.assise_machine_events.proofs.Faultless.{client_runs, first_none, stands_full}
 use Rattle.assise_machine_events.proofs.Steady.{old_call, old_crash, old_opens, old_raises, with_old_areas}
 
@@ -39,7 +40,7 @@ use Rattle.assise_machine_events.proofs.Steady.{old_call, old_crash, old_opens, 
 pub opened_can : (m : Machine) (n : ℕ) (u : Durability) → Holds m → open_fault m n ≡ None → (m' : Machine) × Opening m n u (opened (suc m.world.clients)) m'
 opened_can m n u h fine =
     let at : standing_of m.members.nodes n ≡ Some full =
-    stands_full NodeDown (standing_of m.members.nodes n) (first_none (unless_full NodeDown (standing_of m.members.nodes n)) (fault_if (nat_le most_clients m.world.clients) BadClient) fine) in
+    stands_full NodeDown (standing_of m.members.nodes n) (first_none (unless_full NodeDown (standing_of m.members.nodes n)) (fault_if (nat_le MOST_CLIENTS m.world.clients) BadClient) fine) in
     let (v, k, e) = may_open_at m.world m.leases n (h.members.nodes_full n at) in (
       record { limit = m.limit; history = m.history ++ opens (suc m.world.clients) n u ∷ []; world = with_old_areas m.world v; leases = k; members = m.members },
       is_opened fine refl (record {

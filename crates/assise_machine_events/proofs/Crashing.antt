@@ -5,6 +5,7 @@ use Rattle.std.proofs.lemmas.Option.{none-some}
 use Rattle.assise_names.specs.declared.durability.Durability.{Durability}
 use Rattle.assise_names.specs.declared.refusal.Refusal.{Refusal}
 use Rattle.assise_names.specs.declared.refusal.Refusal.TheVariants.{BadClient, NodeDown}
+use Rattle.assise_names.specs.declared.limits.TheConstants.{MOST_CLIENTS}
 use Rattle.assise_history.specs.Entries.{opens, crashes}
 use Rattle.assise_manager.specs.Standings.{standing_of}
 use Rattle.assise_machine_laws.proofs.ClientsStaying.{open_dropped}
@@ -16,7 +17,7 @@ use Rattle.assise_machine_events.specs.ClientEvents.{Opening, is_opened, is_refu
 use Rattle.assise_machine_events.specs.Events.{Answer}
 use Rattle.assise_machine_events.specs.Faults.{or_else, fault_if, open_fault, unless_full}
 use Rattle.assise_machine_events.specs.Happenings.{Leads}
-use Rattle.assise_machine_events.specs.Machine.{Machine, Holds, state_of, most_clients}
+use Rattle.assise_machine_events.specs.Machine.{Machine, Holds, state_of}
 use Rattle.assise_machine_events.proofs.Leading.{leads_sound, leads_recorded, same_leads, same_holds}
 use Rattle.assise_machine_events.proofs.Members.{members_rest, epochs_stay, logs_stay}
 
@@ -36,11 +37,11 @@ one_step m m' step = record { states = state_of m' ∷ []; course = (step, tt); 
 
 -- ---- a client is opened
 
-few_clients : (m : Machine) (n : ℕ) → open_fault m n ≡ None → m.world.clients < 16
+few_clients : (m : Machine) (n : ℕ) → open_fault m n ≡ None → m.world.clients < MOST_CLIENTS
 few_clients m n fine =
-    leb-false 16 m.world.clients
-    (stands_not (nat_le most_clients m.world.clients) BadClient
-    (second_none (unless_full NodeDown (standing_of m.members.nodes n)) (fault_if (nat_le most_clients m.world.clients) BadClient) fine))
+    leb-false MOST_CLIENTS m.world.clients
+    (stands_not (nat_le MOST_CLIENTS m.world.clients) BadClient
+    (second_none (unless_full NodeDown (standing_of m.members.nodes n)) (fault_if (nat_le MOST_CLIENTS m.world.clients) BadClient) fine))
 
 opened_leads : (m m' : Machine) (n : ℕ) (u : Durability) → IsOpened m n u m' → Leads m m'
 opened_leads m m' n u e =

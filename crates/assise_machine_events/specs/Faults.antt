@@ -5,12 +5,13 @@ use Rattle.assise_names.specs.declared.call.Op.{Op}
 use Rattle.assise_names.specs.declared.call.Op.TheVariants.{Create, Mkdir, Read, Write, Truncate, Rename, Unlink, Rmdir, List as ListCall, Stat, Fsync, Dsync}
 use Rattle.assise_names.specs.declared.refusal.Refusal.{Refusal}
 use Rattle.assise_names.specs.declared.refusal.Refusal.TheVariants.{BadNode, BadClient, NodeDown, ClientGone, TooLarge, WrongPhase}
+use Rattle.assise_names.specs.declared.limits.TheConstants.{MOST_CLIENTS}
 use Rattle.assise_record.specs.LogFrame.{LogFrame, is_marked}
 use Rattle.assise_record.specs.LogRecord.{LogRecord}
 use Rattle.assise_machine_laws.specs.World.{World}
 use Rattle.assise_manager.specs.NodeLevels.{level_of, newest}
 use Rattle.assise_manager.specs.Standings.{Standing, full, down, returning, standing_of}
-use Rattle.assise_machine_events.specs.Machine.{Machine, most_clients}
+use Rattle.assise_machine_events.specs.Machine.{Machine}
 
 -- the first of two faults
 abbrev pub or_else : Option Refusal → Option Refusal → Option Refusal
@@ -63,7 +64,7 @@ node_fault m n = unless_full WrongPhase (standing_of m.members.nodes n)
 
 -- there is no such node, it isn't full, or all clients were opened that can be
 abbrev pub open_fault : Machine → ℕ → Option Refusal
-open_fault m n = or_else (unless_full NodeDown (standing_of m.members.nodes n)) (fault_if (nat_le most_clients m.world.clients) BadClient)
+open_fault m n = or_else (unless_full NodeDown (standing_of m.members.nodes n)) (fault_if (nat_le MOST_CLIENTS m.world.clients) BadClient)
 
 -- ---- frames
 

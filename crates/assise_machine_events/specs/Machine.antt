@@ -1,6 +1,7 @@
 -- The whole machine, and what holds of it between its events.
 -- Assise (OSDI 2020), section 3 (CC-NVM: update logs, replication, digests, leases, fail-over, recovery).
 use Rattle.std.specs.Prelude.{◌≡◌, ℕ, suc, ◌≤◌, List, [], ◌++◌, length}
+use Rattle.assise_names.specs.declared.limits.TheConstants.{MOST_CLIENTS}
 use Rattle.assise_history.specs.Entries.{Event as Entry}
 use Rattle.assise_lease_tree.specs.TwoLevels.{nobody}
 use Rattle.assise_manager.specs.Changes.{all_full}
@@ -28,9 +29,6 @@ pub record Machine : Type 0 where
 abbrev pub state_of : Machine → State
 state_of m = record { nodes = length m.members.nodes; history = m.history; world = m.world }
 
-abbrev pub most_clients : ℕ
-most_clients = 16
-
 -- what holds between events
 pub record Holds (m : Machine) : Type 0 where
   -- full nodes have what is acknowledged, and leases guard what some full node has not digested
@@ -46,7 +44,7 @@ pub record Holds (m : Machine) : Type 0 where
   -- numbers stay small
   pub epochs : m.members.epoch ≤ suc (length m.history)
   pub logs : (c : ℕ) → length (m.world.records c) ≤ m.limit
-  pub clients : m.world.clients ≤ most_clients
+  pub clients : m.world.clients ≤ MOST_CLIENTS
 
 -- ---- the start
 

@@ -5,6 +5,7 @@ use Rattle.std.proofs.Math.Logic.{∥∥₁_elim, ∥∥₁_map}
 use Rattle.std.proofs.lemmas.Bool.{cases_Bool, ne_eqb}
 use Rattle.std.specs.Ordering.{nat_cmp}
 use Rattle.std.specs.FinSet as set
+use Rattle.assise_names.specs.declared.limits.TheConstants.{MOST_CLIENTS}
 use Rattle.assise_history.specs.Entries.{Event, fails}
 use Rattle.assise_digest.specs.Region.{RegionValue}
 use Rattle.assise_lease_table.specs.declared.lease.Asked.{Asked}
@@ -37,7 +38,7 @@ use Rattle.assise_machine_failures.proofs.Keeping.{kept_place}
 pub few_clients : (s : StateValue) → ∥ Holds (observed s) ∥₁ → length s.clients < 4294967296
 unfolding observed world_of
 few_clients s holds =
-    let few : length s.clients ≤ 16 = ∥∥₁_elim holds le_prop (λ h. h.clients) in
+    let few : length s.clients ≤ MOST_CLIENTS = ∥∥₁_elim holds le_prop (λ h. h.clients) in
     omega (arith, few)
 
 pub sound_so : (s : StateValue) → ∥ Holds (observed s) ∥₁ → ∥ IsSound (world_of s) ∥₁

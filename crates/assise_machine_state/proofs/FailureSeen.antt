@@ -7,6 +7,7 @@ use Rattle.std.proofs.Props.{props}
 use Rattle.std.proofs.Math.Bool.{and-false}
 use Rattle.std.proofs.lemmas.Bool.{cases_Bool, cases_eq, cases_lt, ne_eqb}
 use Rattle.std.proofs.lemmas.List.{length-take, nil_from_length}
+use Rattle.assise_names.specs.declared.limits.TheConstants.{MOST_NODES}
 use Rattle.assise_history.specs.Entries.{fails}
 use Rattle.assise_history.proofs.Counting.{durability-still}
 use Rattle.assise_inode_table.specs.Contents.{values}
@@ -451,7 +452,7 @@ module _ (s : StateValue) (n : ℕ) (inodes : set.FinSet nat_cmp) (levels : TwoL
   pub failure_shaped : ∥ IsSound w ∥₁ → failure_fault s.members n ≡ None → IsShaped t
   failure_shaped sound fine = record {
     nodes = count_left s.nodes n s.clients kept ∙ shape.nodes ∙ sym (count_then s.members n inodes stands);
-    few_nodes = subst (λ k. k ≤ 8) (sym (count_left s.nodes n s.clients kept)) shape.few_nodes;
+    few_nodes = subst (λ k. k ≤ MOST_NODES) (sym (count_left s.nodes n s.clients kept)) shape.few_nodes;
     logs = left_logs;
     no_logs = left_none;
     at_home = λ k c. elim (cases_eq k n) [ inl is ↦ subst (λ m. KnowsHome t m c) (sym is) (gone_home c) | inr apart ↦ left_home k c apart ];

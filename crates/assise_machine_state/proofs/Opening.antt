@@ -4,6 +4,7 @@ use Rattle.std.proofs.Math.Bool.{and-true}
 use Rattle.std.proofs.lemmas.Bool.{cases_Bool, cases_eq, ne_eqb}
 use Rattle.std.proofs.lemmas.List.{length_push}
 use Rattle.assise_names.specs.declared.durability.Durability.{Durability}
+use Rattle.assise_names.specs.declared.limits.TheConstants.{MOST_NODES}
 use Rattle.assise_history.specs.Legal.{durability_of}
 use Rattle.assise_history.proofs.Counting.{durability-opened, durability-other}
 use Rattle.assise_inode_table.specs.Contents.{values}
@@ -288,7 +289,7 @@ module _ (s : StateValue) (n : ℕ) (u : Durability) (levels : TwoLevels) where
     pub open_shaped : Full w n → IsShaped s'
     open_shaped full_node = record {
       nodes = so_many_nodes (is_full_in (standings s)) s.limit n 1 s.nodes ∙ shape.nodes;
-      few_nodes = subst (λ k. k ≤ 8) (sym (so_many_nodes (is_full_in (standings s)) s.limit n 1 s.nodes)) shape.few_nodes;
+      few_nodes = subst (λ k. k ≤ MOST_NODES) (sym (so_many_nodes (is_full_in (standings s)) s.limit n 1 s.nodes)) shape.few_nodes;
       logs = all_logs;
       no_logs = no_logs_there;
       at_home = at_home_now full_node;

@@ -8,6 +8,7 @@ use Rattle.std.proofs.Props.{props}
 use Rattle.std.proofs.Math.Bool.{and-false}
 use Rattle.std.proofs.lemmas.Bool.{cases_Bool, cases_eq, ne_eqb}
 use Rattle.std.proofs.lemmas.List.{take_all, length-map, length-set}
+use Rattle.assise_names.specs.declared.limits.TheConstants.{MOST_NODES}
 use Rattle.assise_history.specs.Entries.{returns}
 use Rattle.assise_history.proofs.Counting.{durability-still}
 use Rattle.assise_inode_table.specs.Contents.{values}
@@ -274,7 +275,7 @@ module _ (s : StateValue) (n since donor : ℕ) (stale : set.FinSet nat_cmp) (sh
   pub join_shaped : ∥ IsSound w ∥₁ → IsShaped t
   join_shaped sound = record {
     nodes = count ∙ shape.nodes ∙ sym (same_count (standings s) n full);
-    few_nodes = subst (λ k. k ≤ 8) (sym count) shape.few_nodes;
+    few_nodes = subst (λ k. k ≤ MOST_NODES) (sym count) shape.few_nodes;
     logs = logs;
     no_logs = no_logs;
     at_home = homes;

@@ -2,6 +2,7 @@
 use Rattle.std.proofs.Common.{◌≡◌, ℕ, ◌-◌, ◌≤◌, true, false, not, ◌&&◌, ◌==◌, [], length, map, inl, inr, refl, ap, sym, subst, ◌∙◌, arith}
 use Rattle.std.proofs.lemmas.Bool.{cases_Bool}
 use Rattle.std.proofs.lemmas.List.{length-map, length-set, nil_from_length}
+use Rattle.assise_names.specs.declared.limits.TheConstants.{MOST_NODES}
 use Rattle.assise_history.specs.Legal.{durability_of}
 use Rattle.assise_inode_table.specs.Contents.{InodeMap}
 use Rattle.assise_private_log.specs.NumberedLog.{is_border}
@@ -83,7 +84,7 @@ shaped_as s t shape same =
     let was_client : (c : ℕ) → IsNumber t.clients c → IsNumber s.clients c = λ c client. record { some = client.some; there = subst (λ k. c ≤ k) same.clients client.there } in
     record {
       nodes = same.nodes ∙ shape.nodes ∙ sym same.members;
-      few_nodes = subst (λ k. k ≤ 8) (sym same.nodes) shape.few_nodes;
+      few_nodes = subst (λ k. k ≤ MOST_NODES) (sym same.nodes) shape.few_nodes;
       logs = logs;
       no_logs = no_logs;
       at_home = λ n c. same.at_home n c ∙ shape.at_home n c ∙ sym (λ i. (n == same.home c i) && not (same.failed c i));

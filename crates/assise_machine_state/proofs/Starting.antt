@@ -1,6 +1,7 @@
 -- A cluster in which nothing happened is observed as the start of the machine.
 use Rattle.std.proofs.Common.{◌≡◌, ℕ, zero, suc, ◌-◌, ◌<◌, ◌≤◌, ◌&&◌, ◌==◌, [], ◌∷◌, length, filter, get_or, slice_get, false, not, Some, refl, ap, sym, subst, ◌∙◌, arith}
 use Rattle.std.proofs.Math.Bool.{and-false}
+use Rattle.assise_names.specs.declared.limits.TheConstants.{MOST_NODES}
 use Rattle.assise_inode_table.specs.Contents.{values}
 use Rattle.assise_private_log.specs.NumberedLog.{empty_log, end, is_border}
 use Rattle.assise_private_log.proofs.Borders.{border_end}
@@ -115,10 +116,10 @@ starts s n hot nodes members none levels unasked nothing = ap observed (parts s 
 
 -- ---- its parts
 
-begun_shaped : (n hot limit : ℕ) → n ≤ 8 → 8 ≤ limit → limit ≤ 4096 → IsShaped (begun_state n hot limit nobody)
+begun_shaped : (n hot limit : ℕ) → n ≤ MOST_NODES → 8 ≤ limit → limit ≤ 4096 → IsShaped (begun_state n hot limit nobody)
 begun_shaped n hot limit few least most = record {
   nodes = as_many n;
-  few_nodes = subst (λ k. k ≤ 8) (sym (many_regions n)) few;
+  few_nodes = subst (λ k. k ≤ MOST_NODES) (sym (many_regions n)) few;
   logs = λ k f. ap length (new_seen (λ r. r.logs) n hot k refl);
   no_logs = λ k f. new_seen (λ r. r.logs) n hot k refl;
   at_home = λ k c. ap (λ l. l.at_home) (no_log_seen n hot k c) ∙ sym (ap (λ x. (k == x.home) && not x.failed) (nobody_seen c) ∙ and-false (k == 0));
@@ -139,5 +140,5 @@ begun_shaped n hot limit few least most = record {
     has_none : (m k c : ℕ) → HasLog (new_regions m hot) k c → ⊥
     has_none m k c has = (let none : length (region_in (new_regions m hot) k).logs ≡ 0 = ap length (same_regions (λ r. r.logs) m hot (k - 1) refl) in absurd (omega (arith, none, has.client.some, has.client.there)))
 
-pub starts_shaped : (s : StateValue) (n hot : ℕ) → s.nodes ≡ new_regions n hot → s.members ≡ all_full n → s.clients ≡ [] → SameLevels nobody s.levels → s.cuts ≡ [] → s.history ≡ [] → n ≤ 8 → 8 ≤ s.limit → s.limit ≤ 4096 → IsShaped s
+pub starts_shaped : (s : StateValue) (n hot : ℕ) → s.nodes ≡ new_regions n hot → s.members ≡ all_full n → s.clients ≡ [] → SameLevels nobody s.levels → s.cuts ≡ [] → s.history ≡ [] → n ≤ MOST_NODES → 8 ≤ s.limit → s.limit ≤ 4096 → IsShaped s
 starts_shaped s n hot nodes members none levels unasked nothing few least most = subst IsShaped (sym (parts s n hot nodes members none levels unasked nothing)) (begun_shaped n hot s.limit few least most)

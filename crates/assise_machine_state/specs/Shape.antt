@@ -2,6 +2,7 @@
 -- Assise (OSDI 2020), section 3 (CC-NVM: a replica has the logs of all clients).
 use Rattle.std.specs.Prelude.{◌≡◌, ℕ, ◌≤◌, Bool, true, false, not, ◌&&◌, ◌==◌, List, [], filter, length}
 use Rattle.assise_names.specs.declared.mode.Mode.{Mode}
+use Rattle.assise_names.specs.declared.limits.TheConstants.{MOST_NODES}
 use Rattle.assise_history.specs.Legal.{durability_of}
 use Rattle.assise_private_log.specs.NumberedLog.{NumberedLog, is_border}
 use Rattle.assise_private_log.specs.Touches.{Covers}
@@ -25,7 +26,7 @@ IsMarked border l = l.begins ≡ border_marks border l.first l.records
 pub record IsShaped (s : StateValue) : Type 0 where
   -- each node stands somehow
   pub nodes : length s.nodes ≡ length (standings s)
-  pub few_nodes : length s.nodes ≤ 8
+  pub few_nodes : length s.nodes ≤ MOST_NODES
   -- a full node has a log of each client, and another has none
   pub logs : (n : ℕ) → is_full_in (standings s) n ≡ true → length (region_seen s.nodes n).logs ≡ length s.clients
   pub no_logs : (n : ℕ) → is_full_in (standings s) n ≡ false → (region_seen s.nodes n).logs ≡ []

@@ -1,23 +1,22 @@
 // What is known of all clients.
 ghost use Rattle.std.specs.Prelude.{◌≡◌, ◌==◌, ◌+◌, ◌^◌, ◌<◌, ◌≤◌, [], ◌∷◌, ◌++◌, IfOk, IsOkUnless, length, vec_capacity};
 ghost use Rattle.assise_names.specs.declared.refusal.Refusal.TheVariants.{OutOfMemory};
+ghost use Rattle.assise_names.specs.declared.limits.TheConstants.{MOST_CLIENTS};
 ghost use Rattle.assise_machine_state.specs.ClientValues.{client_in, crashed_at, failed_at, opened_on, with_call, with_client, with_goal};
 ghost use Rattle.assise_machine_state.specs.Places.{IsNumber};
 
 use crate::client::Client;
 use assise_names::durability::Durability;
+use assise_names::limits::MOST_CLIENTS;
 use assise_names::refusal::Refusal;
 use std::alloc::Global;
 use std::marker::Model;
-
-/// The most clients that are ever opened.
-pub const MOST_CLIENTS: usize = 16;
 
 /// The clients that were opened, by their numbers, from 1 on. A contract sees their list.
 #[derive(Debug, Drop)]
 pub struct Clients {
     clients: Vec<Client>,
-    ghost room: { 16 ≤ vec_capacity clients },
+    ghost room: { MOST_CLIENTS ≤ vec_capacity clients },
 }
 
 impl Model for Clients {
@@ -33,13 +32,13 @@ impl Model for Clients {
 }
 
 impl Clients {
-    /// No clients, with room for 16. The one refusal is [`Refusal::OutOfMemory`].
+    /// No clients, with room for all that may be opened. The one refusal is [`Refusal::OutOfMemory`].
     pub fn new(alloc: Global) -> Result<Clients, Refusal>
         ensures none { IfOk result (λ clients. clients ≡ []) }
         ensures only_memory { IsOkUnless result OutOfMemory }
     {
         Ok(Clients {
-            clients: Vec::with_capacity(alloc, MOST_CLIENTS)?,
+            clients: Vec::with_capacity(alloc, MOST_CLIENTS as usize)?,
         })
     }
 
@@ -65,9 +64,9 @@ impl Clients {
         &self.clients[client as usize - 1]
     }
 
-    /// Adds a client that is opened on a node, the sixteenth at most. It takes no memory.
+    /// Adds a client that is opened on a node, where not all were opened that may be. It takes no memory.
     pub fn open(&mut self, home: u32, durability: Durability)
-        requires room { length self.old < 16 }
+        requires room { length self.old < MOST_CLIENTS }
         ensures { self.new ≡ self.old ++ opened_on home durability ∷ [] }
     {
         self.clients.push_reserved(Client {

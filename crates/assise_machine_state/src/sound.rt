@@ -28,12 +28,13 @@ impl<C: Revokes + Drop> SoundOf<C> {
     ghost use Rattle.std.specs.Prelude.{◌≡◌, ◌↔◌, ◌<◌, ◌≤◌, Err, IfOk, IsOk, IsOkUnless, None, Some};
     ghost use Rattle.assise_names.specs.declared.refusal.Refusal.{Refusal as Refused};
     ghost use Rattle.assise_names.specs.declared.refusal.Refusal.TheVariants.{BadClient, OutOfMemory};
+    ghost use Rattle.assise_names.specs.declared.limits.TheConstants.{MOST_NODES};
     ghost use Rattle.assise_machine_laws.specs.World.{IsClient, received_by_all};
     ghost use Rattle.assise_machine_events.specs.Faults.{node_fault};
     ghost use Rattle.assise_machine_events.specs.Machine.{begun_as};
     ghost use Rattle.assise_machine_state.specs.NodeValues.{new_regions, region_seen};
 
-    /// A cluster in which nothing happened: 1 to 8 full nodes, whose clients' logs have 8 to 4,096 records at most, and 1 to
+    /// A cluster in which nothing happened: 1 to `MOST_NODES` full nodes, whose clients' logs have 8 to 4,096 records at most, and 1 to
     /// 4,096 inodes that may be hot. The one refusal is [`Refusal::OutOfMemory`].
     pub fn new(
         alloc: Global,
@@ -42,7 +43,7 @@ impl<C: Revokes + Drop> SoundOf<C> {
         hot_capacity: usize,
     ) -> Result<SoundOf<C>, Refusal>
         requires some_nodes { 0 < nodes }
-        requires few_nodes { nodes ≤ 8 }
+        requires few_nodes { nodes ≤ MOST_NODES }
         requires least_limit { 8 ≤ limit }
         requires most_limit { limit ≤ 4096 }
         requires least_hot { 1 ≤ hot_capacity }

@@ -39,6 +39,7 @@ pub type State = StateOf<Revoker>;
 impl<C: Revokes + Drop> StateOf<C> {
     ghost use Rattle.std.specs.Prelude.{◌≡◌, ◌<◌, ◌≤◌, IfOk, IsOkUnless, false};
     ghost use Rattle.assise_names.specs.declared.refusal.Refusal.TheVariants.{OutOfMemory};
+    ghost use Rattle.assise_names.specs.declared.limits.TheConstants.{MOST_NODES};
     ghost use Rattle.assise_digest.specs.Region.{HasClient};
     ghost use Rattle.assise_private_log.specs.NumberedLog.{end};
     ghost use Rattle.assise_manager.specs.Standings.{full_nodes};
@@ -53,7 +54,7 @@ impl<C: Revokes + Drop> StateOf<C> {
     ghost use Rattle.assise_machine_state.specs.Shape.{AreNoted, IsShaped};
     ghost use Rattle.assise_machine_state.specs.Whole.{machine_of, value_of};
 
-    /// A cluster in which nothing happened: 1 to 8 full nodes, whose clients' logs have 8 to 4,096 records at most, and 1 to
+    /// A cluster in which nothing happened: 1 to `MOST_NODES` full nodes, whose clients' logs have 8 to 4,096 records at most, and 1 to
     /// 4,096 inodes that may be hot. The one refusal is [`Refusal::OutOfMemory`].
     pub fn new(
         alloc: Global,
@@ -62,7 +63,7 @@ impl<C: Revokes + Drop> StateOf<C> {
         hot_capacity: usize,
     ) -> Result<StateOf<C>, Refusal>
         requires some_nodes { 0 < nodes }
-        requires few_nodes { nodes ≤ 8 }
+        requires few_nodes { nodes ≤ MOST_NODES }
         requires least_limit { 8 ≤ limit }
         requires most_limit { limit ≤ 4096 }
         requires least_hot { 1 ≤ hot_capacity }

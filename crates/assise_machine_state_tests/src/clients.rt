@@ -6,6 +6,7 @@ use crate::steps::show;
 use assise_machine_state::client::Client;
 use assise_machine_state::clients::Clients;
 use assise_names::durability::Durability;
+use assise_names::limits::MOST_CLIENTS;
 use assise_rows::{Subject, split_word};
 use std::alloc::{AllocError, Global};
 
@@ -41,9 +42,9 @@ fn put_step(clients: &mut Clients, step: &str, text: &mut String) -> Option<()> 
     }
 }
 
-/// A client is opened on a node, if there aren't sixteen.
+/// A client is opened on a node, if there is room for it.
 fn open(clients: &mut Clients, node: u32) -> Option<()> {
-    if clients.len() >= 16 {
+    if clients.len() >= MOST_CLIENTS as usize {
         return None;
     }
     clients.open(node, Durability::Pessimistic);

@@ -5,18 +5,19 @@ use assise_machine_state::clients::Clients;
 use assise_machine_state::nodes::Nodes;
 use assise_machine_state::sound::Sound;
 use assise_names::durability::Durability;
+use assise_names::limits::MOST_CLIENTS;
 use assise_names::refusal::Refusal;
 use std::alloc::Global;
 
-/// A table of clients, with the sixteen that there may be.
+/// A table of clients, with all that there may be.
 fn opens(alloc: Global) -> Result<bool, Refusal> {
     let mut clients = Clients::new(alloc)?;
-    for home in 1..17 {
-        if clients.len() < 16 {
+    for home in 1..=MOST_CLIENTS {
+        if clients.len() < MOST_CLIENTS as usize {
             clients.open(home, Durability::Pessimistic);
         }
     }
-    Ok(clients.len() == 16)
+    Ok(clients.len() == MOST_CLIENTS as usize)
 }
 
 /// Makes two nodes, and gives the second an inode.

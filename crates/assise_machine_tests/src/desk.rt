@@ -6,6 +6,7 @@ use assise_fault_script::command::RevokerKind;
 use assise_lease_table::revoker::Revokes;
 use assise_link::test_link::TestLink;
 use assise_machine::cluster::ClusterOf;
+use assise_names::limits::MOST_NODES;
 use assise_names::refusal::Refusal;
 use assise_private_log::log_view::LogView;
 use assise_record::frame::Frame;
@@ -55,7 +56,7 @@ pub(crate) const HOT: usize = 2;
 pub(crate) struct Desk {
     pub(crate) cluster: Cluster,
     pub(crate) letters: Vec<Letter>,
-    pub(crate) links: [TestLink; 8],
+    pub(crate) links: [TestLink; MOST_NODES as usize],
     pub(crate) stock: Vec<Asked>,
     pub(crate) nodes: u32,
     pub(crate) rounds: u32,
@@ -67,7 +68,7 @@ impl Desk {
     /// A desk of a cluster of one node.
     pub(crate) fn new(alloc: Global) -> Result<Desk, Refusal> {
         let letters = Vec::with_capacity(alloc, 16)?;
-        let stock = Vec::with_capacity(alloc, 20)?;
+        let stock = Vec::with_capacity(alloc, 34)?;
         let cluster = Cluster::new(alloc, 1, 8, HOT)?;
         Ok(Desk {
             cluster,
@@ -209,7 +210,7 @@ impl Desk {
 
 /// A cluster on which nothing happened. None where there is no such cluster, or no memory.
 fn cluster_of(alloc: Global, nodes: u32, log: usize, hot: usize) -> Option<Cluster> {
-    if nodes == 0 || nodes > 8 || log < 8 || log > 4096 || hot == 0 || hot > 4096 {
+    if nodes == 0 || nodes > MOST_NODES || log < 8 || log > 4096 || hot == 0 || hot > 4096 {
         return None;
     }
     Cluster::new(alloc, nodes, log, hot).ok()

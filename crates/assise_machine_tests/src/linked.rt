@@ -3,22 +3,15 @@ use crate::desk::Desk;
 use crate::words::{number_in, small_in};
 use assise_link::carrying::carry_frame;
 use assise_link::test_link::TestLink;
+use assise_names::limits::MOST_NODES;
 use assise_record::frame::Frame;
 use assise_rows::split_word;
 use std::alloc::Global;
+use std::array;
 
-/// A link for each of eight nodes, all perfect.
-pub(crate) fn perfect_links() -> [TestLink; 8] {
-    [
-        TestLink::perfect(),
-        TestLink::perfect(),
-        TestLink::perfect(),
-        TestLink::perfect(),
-        TestLink::perfect(),
-        TestLink::perfect(),
-        TestLink::perfect(),
-        TestLink::perfect(),
-    ]
+/// A link for each node that there may be, all perfect.
+pub(crate) fn perfect_links() -> [TestLink; MOST_NODES as usize] {
+    array::from_fn(|_| TestLink::perfect())
 }
 
 /// Sets the link of a node anew, as `NODE KIND` says. None where there is no such node, or no such kind.

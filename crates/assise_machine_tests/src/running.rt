@@ -85,10 +85,10 @@ cluster 2 8 => begun
 stock llll => 4
 ";
 
-/// Eighteen revokers.
-const EIGHTEEN: &str = "\
+/// Thirty-four revokers.
+const THIRTY_FOUR: &str = "\
 cluster 2 8 => begun
-stock llllllllllllllllll => 18
+stock llllllllllllllllllllllllllllllllll => 34
 ";
 
 /// One event of each kind.
@@ -163,8 +163,8 @@ open 2 => F9 BadClient
 send 1 => 1 for 2: client 1, 0..2
 ";
 
-/// There are at most 16 clients.
-const SIXTEEN: &str = "\
+/// There are at most 32 clients.
+const ALL_CLIENTS: &str = "\
 open 1 => client 1
 open 2 => client 2
 open 1 => client 3
@@ -181,6 +181,22 @@ open 1 => client 13
 open 2 => client 14
 open 1 => client 15
 open 2 => client 16
+open 1 => client 17
+open 2 => client 18
+open 1 => client 19
+open 2 => client 20
+open 1 => client 21
+open 2 => client 22
+open 1 => client 23
+open 2 => client 24
+open 1 => client 25
+open 2 => client 26
+open 1 => client 27
+open 2 => client 28
+open 1 => client 29
+open 2 => client 30
+open 1 => client 31
+open 2 => client 32
 open 1 => F9 BadClient
 open 3 => F8 BadNode
 ";
@@ -281,8 +297,8 @@ fn the_last_revoker_of_the_stock_is_taken_next(rt: HostRuntime) {
         LEAST_FIRST,
         LEAST_GOES_BACK,
         NONE_LEFT,
-        EIGHTEEN,
-        SIXTEEN,
+        THIRTY_FOUR,
+        ALL_CLIENTS,
         TWO_LEFT,
     ];
     on_desk(rt.alloc(), &rt, Task::Lists(&lists)).expect(&rt, "no memory");

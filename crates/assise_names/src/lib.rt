@@ -4,6 +4,7 @@
 pub mod byte_string;
 pub mod call;
 pub mod durability;
+pub mod limits;
 pub mod mode;
 pub mod name;
 pub mod name_list;

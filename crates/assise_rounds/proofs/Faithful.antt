@@ -1,10 +1,11 @@
 -- What is done over links that are faithful is done over links of which less is known.
 use Rattle.std.proofs.Common.{◌≤◌, ℕ, zero, suc, Bool, Option, None, Some, arith}
 use Rattle.assise_names.specs.declared.refusal.Refusal.{Refusal}
+use Rattle.assise_names.specs.declared.limits.TheConstants.{MOST_NODES}
 use Rattle.assise_machine_events.specs.Faults.{node_fault}
 use Rattle.assise_machine_events.specs.Machine.{Machine}
 use Rattle.assise_rounds.specs.Courses.{Told}
-use Rattle.assise_rounds.specs.Rounds.{EachFull, RoundsOver, TakesTurn, UnlessAtFault, WithWork, is_refused, most_nodes, replicates}
+use Rattle.assise_rounds.specs.Rounds.{EachFull, RoundsOver, TakesTurn, UnlessAtFault, WithWork, is_refused, replicates}
 
 turn_of : (F G : Type 0) → (F → G) → (n : ℕ) (m : Machine) (es : Told) (m' : Machine) → TakesTurn G n m es m' → TakesTurn F n m es m'
 turn_of F G to n m es m' (replicates count h) = replicates count record { carried = h.carried; same = λ f. h.same (to f); counts = h.counts; told = h.told; happen = h.happen }
@@ -32,12 +33,12 @@ each_of F G (suc n) to m es m' h = record {
 }
 
 -- a round, and whether there was anything to do
-pub round_with : (F G : ℕ → Type 0) → ((k : ℕ) → 1 ≤ k → k ≤ most_nodes → F k → G k) → (busy : Bool) (m m' : Machine) → (es : Told) × RoundsOver G busy m es m' → (es : Told) × RoundsOver F busy m es m'
+pub round_with : (F G : ℕ → Type 0) → ((k : ℕ) → 1 ≤ k → k ≤ MOST_NODES → F k → G k) → (busy : Bool) (m m' : Machine) → (es : Told) × RoundsOver G busy m es m' → (es : Told) × RoundsOver F busy m es m'
 round_with F G to busy m m' (es, h) = (
   es,
   record {
     does = record {
-      round = let r = h.does.round in record { between = r.between; before = r.before; after = r.after; told = r.told; first = each_of F G most_nodes to m r.before r.between r.first; second = r.second };
+      round = let r = h.does.round in record { between = r.between; before = r.before; after = r.after; told = r.told; first = each_of F G MOST_NODES to m r.before r.between r.first; second = r.second };
     };
     work = h.work;
   },

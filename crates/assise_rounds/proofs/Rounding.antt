@@ -6,6 +6,7 @@ use Rattle.assise_names.specs.declared.call.Op.{Op}
 use Rattle.assise_names.specs.declared.refusal.Refusal.{Refusal}
 use Rattle.assise_names.specs.declared.refusal.Refusal.TheVariants.{Busy}
 use Rattle.assise_names.specs.declared.reply.Reply.{Reply}
+use Rattle.assise_names.specs.declared.limits.TheConstants.{MOST_NODES}
 use Rattle.assise_record.specs.LogFrame.{LogFrame}
 use Rattle.assise_machine_events.specs.Events.{Answer, digest, not_yet, outgoing, refused, release_ready, sent, try_call}
 use Rattle.assise_machine_events.specs.Faults.{node_fault}
@@ -13,7 +14,7 @@ use Rattle.assise_machine_events.specs.Happenings.{Trying}
 use Rattle.assise_machine_events.specs.Machine.{Machine}
 use Rattle.assise_machine_events.specs.NodeEvents.{Digesting, Releasing, Sending}
 use Rattle.assise_rounds.specs.Courses.{Told}
-use Rattle.assise_rounds.specs.Rounds.{AreCarried, DigestsOnce, EachFull, IfFull, ReleasesOnce, RoundsOver, TakesTurn, UnlessAtFault, WithWork, deliveries, is_refused, is_work, letter, most_nodes, replicates}
+use Rattle.assise_rounds.specs.Rounds.{AreCarried, DigestsOnce, EachFull, IfFull, ReleasesOnce, RoundsOver, TakesTurn, UnlessAtFault, WithWork, deliveries, is_refused, is_work, letter, replicates}
 use Rattle.assise_rounds.specs.Trying.{Awaits, TriesOften, is_busy, is_settled, is_stuck, settled_answer}
 use Rattle.assise_rounds.proofs.Busy.{both_work, no_more_work, one_work, turn_work}
 use Rattle.assise_rounds.proofs.Carrying.{carried_turn}
@@ -82,7 +83,7 @@ digests_once m m' n a h = ((digest n, a) ∷ [], record { does = record { answer
 pub releases_once : (m m' : Machine) (a : Answer) → Releasing m a m' → (es : Told) × WithWork ReleasesOnce (is_work a) m es m'
 releases_once m m' a h = ((release_ready, a) ∷ [], record { does = record { answer = a; event = record { told = refl; happens = h } }; work = one_work release_ready a })
 
-pub whole_round : (F : ℕ → Type 0) (m u v m' : Machine) (sends digests releases : Bool) → (es : Told) × WithWork (EachFull (λ n. TakesTurn (F n) n) most_nodes) sends m es u → (fs : Told) × WithWork (EachFull DigestsOnce most_nodes) digests u fs v
+pub whole_round : (F : ℕ → Type 0) (m u v m' : Machine) (sends digests releases : Bool) → (es : Told) × WithWork (EachFull (λ n. TakesTurn (F n) n) MOST_NODES) sends m es u → (fs : Told) × WithWork (EachFull DigestsOnce MOST_NODES) digests u fs v
     → (gs : Told) × WithWork ReleasesOnce releases v gs m' → (hs : Told) × RoundsOver F (sends || digests || releases) m hs m'
 whole_round F m u v m' sends digests releases (es, first) (fs, second) (gs, third) = (
   es ++ (fs ++ gs),

@@ -4,6 +4,7 @@
 use Rattle.std.specs.Prelude.{◌≡◌, ◌==◌, ℕ, zero, suc, Bool, true, false, not, List, [], ◌∷◌, ◌++◌, filter, length, map, Option, None, Some, IfSome, ⊤}
 use Rattle.std.specs.List.{AllByRecursion, list_any}
 use Rattle.assise_names.specs.declared.refusal.Refusal.{Refusal}
+use Rattle.assise_names.specs.declared.limits.TheConstants.{MOST_NODES}
 use Rattle.assise_record.specs.LogFrame.{LogFrame}
 use Rattle.assise_machine_events.specs.Events.{Answer, deliver, digest, digested, outgoing, received, refused, release_ready, released, sent}
 use Rattle.assise_machine_events.specs.Faults.{node_fault}
@@ -100,12 +101,9 @@ EachFull Does zero m es m' = Nothing m es m'
 EachFull Does (suc n) m es m' = Then (EachFull Does n) (IfFull Does (suc n)) m es m'
 
 -- the most nodes of a cluster
-abbrev pub most_nodes : ℕ
-most_nodes = 8
-
 -- each full node makes a replicate turn over its own link, each digests, and leases go
 pub record IsRound (faithful : ℕ → Type 0) (m : Machine) (es : Told) (m' : Machine) : Type 0 where
-  pub round : Then (EachFull (λ n. TakesTurn (faithful n) n) most_nodes) (Then (EachFull DigestsOnce most_nodes) ReleasesOnce) m es m'
+  pub round : Then (EachFull (λ n. TakesTurn (faithful n) n) MOST_NODES) (Then (EachFull DigestsOnce MOST_NODES) ReleasesOnce) m es m'
 
 -- ---- whether there was anything to do
 

@@ -1,24 +1,23 @@
 // What a cluster does between the tries of a call: replicate turns, and rounds.
 ghost use Rattle.std.specs.Prelude.{◌≡◌, ◌≤◌, IfErr, IfOk, is_none, length, map, true};
+ghost use Rattle.assise_names.specs.declared.limits.TheConstants.{MOST_NODES};
 ghost use Rattle.assise_machine_events.specs.Events.{refused, released};
 ghost use Rattle.assise_machine_events.specs.Faults.{node_fault};
 ghost use Rattle.assise_machine_events.specs.NodeEvents.{Releasing, Sending};
 ghost use Rattle.assise_machine.specs.Clusters.{machine};
 ghost use Rattle.assise_rounds.specs.Courses.{Told};
 ghost use Rattle.assise_rounds.specs.NodeLinks.{FaithfulAt};
-ghost use Rattle.assise_rounds.specs.Rounds.{AreCarried, Delivers, DigestsOnce, EachFull, Replicates, RoundsOnce, RoundsOver, TakesTurn, WithWork, most_nodes};
+ghost use Rattle.assise_rounds.specs.Rounds.{AreCarried, Delivers, DigestsOnce, EachFull, Replicates, RoundsOnce, RoundsOver, TakesTurn, WithWork};
 
 use assise_lease_table::revoker::Revokes;
 use assise_link::carrying::carry_frame;
 use assise_link::link::{Link, PerfectLink};
 use assise_machine::cluster::ClusterOf;
+use assise_names::limits::MOST_NODES;
 use assise_names::refusal::Refusal;
 use assise_record::frame::Frame;
 use std::alloc::Global;
 use std::array;
-
-/// The most nodes of a cluster.
-const MOST_NODES: u32 = 8;
 
 /// One replicate turn of a node: what it sends goes over its link to the nodes that it is for. It answers how many frames were taken
 /// in. What the link loses, and what finds no memory on its way, is lost. Refused as [`ClusterOf::outgoing`], and nothing is sent then.
@@ -97,7 +96,7 @@ pub fn round_over<C: Revokes + Drop, L: Link>(
     cluster: &mut ClusterOf<C>,
     links: &mut [L],
 ) -> bool
-    requires { most_nodes ≤ length links.old }
+    requires { MOST_NODES ≤ length links.old }
     ensures rounds { (es : Told) × RoundsOver (FaithfulAt (map L.faithful links.old)) result
         (machine cluster.old) es (machine cluster.new) }
     ensures stay { map L.faithful links.new ≡ map L.faithful links.old }
@@ -114,9 +113,9 @@ fn replicate_all<C: Revokes + Drop, L: Link>(
     cluster: &mut ClusterOf<C>,
     links: &mut [L],
 ) -> bool
-    requires { most_nodes ≤ length links.old }
+    requires { MOST_NODES ≤ length links.old }
     ensures each { (es : Told) ×
-        WithWork (EachFull (λ n. TakesTurn (FaithfulAt (map L.faithful links.old) n) n) most_nodes) result
+        WithWork (EachFull (λ n. TakesTurn (FaithfulAt (map L.faithful links.old) n) n) MOST_NODES) result
         (machine cluster.old) es (machine cluster.new) }
     ensures stay { map L.faithful links.new ≡ map L.faithful links.old }
 {
@@ -152,7 +151,7 @@ fn take_turn<C: Revokes + Drop, L: Link>(
 
 /// Each full node digests once, by rising number. Whether there was anything to digest.
 fn digest_all<C: Revokes + Drop>(alloc: Global, cluster: &mut ClusterOf<C>) -> bool
-    ensures { (es : Told) × WithWork (EachFull DigestsOnce most_nodes) result
+    ensures { (es : Told) × WithWork (EachFull DigestsOnce MOST_NODES) result
         (machine cluster.old) es (machine cluster.new) }
 {
     let mut busy = false;

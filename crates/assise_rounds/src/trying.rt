@@ -1,9 +1,9 @@
 // Tries of a client's call.
 ghost use Rattle.std.specs.Prelude.{◌≡◌, ◌≤◌, length, map};
+ghost use Rattle.assise_names.specs.declared.limits.TheConstants.{MOST_NODES};
 ghost use Rattle.assise_machine.specs.Clusters.{machine};
 ghost use Rattle.assise_rounds.specs.Courses.{Told};
 ghost use Rattle.assise_rounds.specs.NodeLinks.{FaithfulAt};
-ghost use Rattle.assise_rounds.specs.Rounds.{most_nodes};
 ghost use Rattle.assise_rounds.specs.Trying.{TriesOften};
 
 use crate::rounds::round_over;
@@ -27,7 +27,7 @@ pub fn try_often<C: Revokes + Drop, L: Link>(
     op: &Op,
     turns: u32,
 ) -> Result<Reply, Refusal>
-    requires { most_nodes ≤ length links.old }
+    requires { MOST_NODES ≤ length links.old }
     ensures tries { (es : Told) ×
         TriesOften (FaithfulAt (map L.faithful links.old)) turns client op.now result
         (machine cluster.old) es (machine cluster.new) }

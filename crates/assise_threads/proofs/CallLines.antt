@@ -9,7 +9,7 @@ use Rattle.assise_names.specs.declared.refusal.Refusal.{Refusal}
 use Rattle.assise_names.specs.declared.reply.Reply.{Reply}
 use Rattle.assise_history.specs.Entries.{Event}
 use Rattle.assise_fault_script.specs.declared.command.Command.{Command}
-use Rattle.assise_fault_script.specs.declared.command.Command.TheVariants.{Cluster, Manual, Open, Call, Carry, Link, Hot, Digest, Release, Crash, Fail, Back, Refill, Join, Raise, Tree, History}
+use Rattle.assise_fault_script.specs.declared.command.Command.TheVariants.{Cluster, Manual, Open, Call, Carry, Link, Hot, Digest, Release, Crash, Fail, Back, Refill, Join, Raise, Tree, History, Check}
 use Rattle.assise_fault_script.specs.declared.parse.NumberedCommand.{NumberedCommand}
 use Rattle.assise_console.specs.Lines.{line_text}
 use Rattle.assise_workers.specs.Told.{told_all}
@@ -75,6 +75,7 @@ is_answered (Join node) seen r is = absurd is
 is_answered (Raise node) seen r is = absurd is
 is_answered (Tree node) seen r is = absurd is
 is_answered History seen r is = absurd is
+is_answered Check seen r is = absurd is
 
 line_same : (n : ℕ) (h : List Event) (r : Result Reply Refusal) → line_text n [] (outcome_answer r) ≡ line_text n h (outcome_answer r)
 line_same n h (Ok reply) = refl
@@ -103,6 +104,7 @@ one_or_none c (Join node) = inl refl
 one_or_none c (Raise node) = inl refl
 one_or_none c (Tree node) = inl refl
 one_or_none c History = inl refl
+one_or_none c Check = inl refl
 
 module _ (c : ℕ) (ss : List Said) (l : NumberedCommand) (seen : List Event) (outcome : Option (Result Reply Refusal)) where
   abbrev s : Said

@@ -9,7 +9,7 @@ use Rattle.assise_names.specs.declared.reply.Reply.{Reply}
 use Rattle.assise_history.specs.Entries.{Event}
 use Rattle.assise_keeper.specs.Clients.{calls_by}
 use Rattle.assise_fault_script.specs.declared.command.Command.{Command}
-use Rattle.assise_fault_script.specs.declared.command.Command.TheVariants.{Cluster, Manual, Open, Call, Carry, Link, Hot, Digest, Release, Crash, Fail, Back, Refill, Join, Raise, Tree, History}
+use Rattle.assise_fault_script.specs.declared.command.Command.TheVariants.{Cluster, Manual, Open, Call, Carry, Link, Hot, Digest, Release, Crash, Fail, Back, Refill, Join, Raise, Tree, History, Check}
 use Rattle.assise_workers.specs.Told.{told_all}
 use Rattle.assise_workers.proofs.Lists.{told-append}
 use Rattle.assise_threads.specs.Said.{Said, TellsClient, call_in, calls_in, commands_said}
@@ -84,6 +84,7 @@ no_call c (Join node) none = refl
 no_call c (Raise node) none = refl
 no_call c (Tree node) none = refl
 no_call c History none = refl
+no_call c Check none = refl
 
 -- what is seen of client c of the first client's or, where that has another number, of those behind it
 first_keeps : (c : ℕ) (b : Bool) (h : List Event) (u v : Option (List Event)) → calls_of_sight c v ≡ calls_of_sight c u → calls_of_sight c (if b then Some h else v) ≡ calls_of_sight c (if b then Some h else u)

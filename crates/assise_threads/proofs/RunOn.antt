@@ -1,5 +1,5 @@
 -- A run goes on with what is said next, and is whole in the end.
-use Rattle.std.proofs.Common.{◌≡◌, ◌∙◌, ℕ, ◌+◌, List, [], ◌∷◌, ◌++◌, take, drop, Option, None, Some, refl, sym, ap, subst, take-add, slice_get, Result, Ok, Err, OnOk}
+use Rattle.std.proofs.Common.{◌≡◌, ◌∙◌, ℕ, ◌+◌, true, false, List, [], ◌∷◌, ◌++◌, take, drop, Option, None, Some, refl, sym, ap, subst, take-add, slice_get, Result, Ok, Err, OnOk}
 use Rattle.std.proofs.lemmas.List.{map-append, nil_from_length}
 use Rattle.std.specs.Io.KnownBytes.{Appends, Keeps}
 use Rattle.assise_history.specs.Entries.{Event}
@@ -7,10 +7,10 @@ use Rattle.assise_history.specs.Legal.{calls_made}
 use Rattle.assise_keeper.specs.Clients.{calls_by}
 use Rattle.assise_libfs.specs.Clients.{client_of, seen_by}
 use Rattle.assise_fault_script.specs.declared.command.Command.{Command}
-use Rattle.assise_fault_script.specs.declared.command.Command.TheVariants.{Cluster, Manual, Open, Call, Carry, Link, Hot, Digest, Release, Crash, Fail, Back, Refill, Join, Raise, Tree, History}
+use Rattle.assise_fault_script.specs.declared.command.Command.TheVariants.{Cluster, Manual, Open, Call, Carry, Link, Hot, Digest, Release, Crash, Fail, Back, Refill, Join, Raise, Tree, History, Check}
 use Rattle.assise_fault_script.specs.declared.parse.NumberedCommand.{NumberedCommand}
 use Rattle.assise_console.specs.declared.answer.Answer.{Answer}
-use Rattle.assise_console.specs.declared.answer.Answer.TheVariants.{Quiet, Client, Replied, Waits, Refused, Carried, Digested, Released, Linked, HotSet, Crashed, Failed, Began, Left, Returned, Raised, Tree as Shown, History as Whole}
+use Rattle.assise_console.specs.declared.answer.Answer.TheVariants.{Quiet, Client, Replied, Waits, Refused, Carried, Digested, Released, Linked, HotSet, Crashed, Failed, Began, Left, Returned, Raised, Tree as Shown, History as Whole, Checked}
 use Rattle.assise_names.specs.declared.refusal.Refusal.TheVariants.{Busy, OutOfMemory}
 use Rattle.assise_machine_events.specs.Machine.{Machine}
 use Rattle.assise_console.specs.declared.fault.EngineFault.{EngineFault}
@@ -18,7 +18,7 @@ use Rattle.assise_console.specs.declared.fault.EngineFault.TheVariants.{Read, Sc
 use Rattle.assise_console.specs.Engines.{IsReadFault}
 use Rattle.assise_console.specs.Lines.{line_text}
 use Rattle.assise_rounds.specs.Courses.{Told}
-use Rattle.assise_console.specs.Steps.{SetsHot, Shows, is_made, is_out, is_shown, lacks_memory, is_refused as not_shown}
+use Rattle.assise_console.specs.Steps.{IsVerdict, SetsHot, Shows, is_verdict, is_made, is_out, is_shown, lacks_memory, lacks_room, is_refused as not_shown}
 use Rattle.assise_libfs.specs.declared.libfs.LibFs.{LibFs}
 use Rattle.assise_threads.specs.Answered.{AnswersCommand, joins, stops_filling, is_refused, is_busy, is_opened, is_carried, is_replied}
 use Rattle.assise_threads.specs.CallsAhead.{AreSaidNext, is_one, is_stretch}
@@ -99,6 +99,11 @@ not_whole (Back node) old new other (is_busy is e legal) = let x : Whole ≡ Ref
 not_whole (Refill node) old new other h = h.does.tells
 not_whole (Join node) old new other h = h.does.tells
 not_whole (Raise node) old new other h = h.does.tells
+not_whole Check old new other h = no_check h.does.verdict
+  where
+    no_check : {m : Machine} → IsVerdict Whole m → ⊥
+    no_check (is_verdict found is legal) = let x : Whole ≡ Checked found = is in cc
+    no_check (lacks_room is) = let x : Whole ≡ Refused OutOfMemory = is in cc
 not_whole (Tree node) old new other h = no_tree h.does.shows
   where
     no_tree : {m : Machine} → Shows node Whole m → ⊥
@@ -127,6 +132,8 @@ line_shows_none n command (Left stale) shown old new other h = refl
 line_shows_none n command (Returned node) shown old new other h = refl
 line_shows_none n command (Raised node) shown old new other h = refl
 line_shows_none n command (Shown tree) shown old new other h = refl
+line_shows_none n command (Checked true) shown old new other h = refl
+line_shows_none n command (Checked false) shown old new other h = refl
 
 -- ---- what ends a run
 

@@ -10,13 +10,13 @@ use Rattle.assise_history.specs.Legal.{IsLegal, calls_made}
 use Rattle.assise_keeper.specs.Clients.{Extends}
 use Rattle.assise_libfs.specs.Lives.{IsOpenedAs}
 use Rattle.assise_fault_script.specs.declared.command.Command.{Command}
-use Rattle.assise_fault_script.specs.declared.command.Command.TheVariants.{Cluster, Manual, Open, Call, Carry, Link, Hot, Digest, Release, Crash, Fail, Back, Refill, Join, Raise, Tree as TreeOf, History}
+use Rattle.assise_fault_script.specs.declared.command.Command.TheVariants.{Cluster, Manual, Open, Call, Carry, Link, Hot, Digest, Release, Crash, Fail, Back, Refill, Join, Raise, Tree as TreeOf, History, Check}
 use Rattle.assise_machine_events.specs.Events.{back, crash, digest, fail, join, raise, refill, release_ready}
 use Rattle.assise_machine_events.specs.Machine.{Machine}
 use Rattle.assise_console.specs.declared.answer.Answer.{Answer}
 use Rattle.assise_console.specs.declared.answer.Answer.TheVariants.{Quiet, Client, Replied, Refused, Carried, History as Whole}
 use Rattle.assise_rounds.specs.Courses.{Told}
-use Rattle.assise_console.specs.Steps.{SetsHot, Shows}
+use Rattle.assise_console.specs.Steps.{IsVerdict, SetsHot, Shows}
 use Rattle.assise_console.specs.OneEvent.{IsOne, IsOneAt}
 use Rattle.assise_threads.specs.Takes.{InOneTake}
 
@@ -43,6 +43,11 @@ pub data CarriesSome (a : Answer) (old new : List Event) : Type 0 where
 -- the tree that node n's region alone spells, in a machine that stays as it is
 pub record ShowsTree (n : ℕ) (a : Answer) (m : Machine) (es : Told) (m' : Machine) : Type 0 where
   pub shows : Shows n a m
+  pub stays : m' ≡ m
+
+-- whether the history is legal, of a machine that stays as it is
+pub record ChecksHistory (a : Answer) (m : Machine) (es : Told) (m' : Machine) : Type 0 where
+  pub verdict : IsVerdict a m
   pub stays : m' ≡ m
 
 -- node n joined, behind takes in which it began to come back and was filled; or one of these is refused; or its turns are spent
@@ -77,3 +82,4 @@ AnswersCommand (Join n) a old new = InOneTake (IsOneAt join n a) old new
 AnswersCommand (Raise n) a old new = InOneTake (IsOneAt raise n a) old new
 AnswersCommand (TreeOf n) a old new = InOneTake (ShowsTree n a) old new
 AnswersCommand History a old new = PrintsHistory a old new
+AnswersCommand Check a old new = InOneTake (ChecksHistory a) old new

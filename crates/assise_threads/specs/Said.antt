@@ -9,7 +9,7 @@ use Rattle.assise_history.specs.Entries.{Event}
 use Rattle.assise_history.specs.Legal.{IsLegal}
 use Rattle.assise_keeper.specs.Clients.{calls_by}
 use Rattle.assise_fault_script.specs.declared.command.Command.{Command}
-use Rattle.assise_fault_script.specs.declared.command.Command.TheVariants.{Cluster, Manual, Open, Call, Carry, Link, Hot, Digest, Release, Crash, Fail, Back, Refill, Join, Raise, Tree, History}
+use Rattle.assise_fault_script.specs.declared.command.Command.TheVariants.{Cluster, Manual, Open, Call, Carry, Link, Hot, Digest, Release, Crash, Fail, Back, Refill, Join, Raise, Tree, History, Check}
 use Rattle.assise_fault_script.specs.declared.parse.NumberedCommand.{NumberedCommand}
 use Rattle.assise_console.specs.declared.answer.Answer.{Answer}
 use Rattle.assise_console.specs.declared.answer.Answer.TheVariants.{Replied, Refused}
@@ -53,6 +53,7 @@ call_in c (Join node) = []
 call_in c (Raise node) = []
 call_in c (Tree node) = []
 call_in c History = []
+call_in c Check = []
 
 -- the calls of client c, in the order of the lines
 abbrev pub calls_in : ℕ → List NumberedCommand → List Op

@@ -8,7 +8,7 @@ use Rattle.assise_names.specs.declared.reply.Reply.{Reply}
 use Rattle.assise_names.specs.declared.call.Op.{Op}
 use Rattle.assise_history.specs.Entries.{Event}
 use Rattle.assise_fault_script.specs.declared.command.Command.{Command}
-use Rattle.assise_fault_script.specs.declared.command.Command.TheVariants.{Cluster, Manual, Open, Call, Carry, Link, Hot, Digest, Release, Crash, Fail, Back, Refill, Join, Raise, Tree, History}
+use Rattle.assise_fault_script.specs.declared.command.Command.TheVariants.{Cluster, Manual, Open, Call, Carry, Link, Hot, Digest, Release, Crash, Fail, Back, Refill, Join, Raise, Tree, History, Check}
 use Rattle.assise_fault_script.specs.declared.parse.NumberedCommand.{NumberedCommand}
 use Rattle.assise_console.specs.Lines.{line_text}
 use Rattle.assise_libfs.specs.Clients.{IsSameClient, client_of, seen_by}
@@ -39,6 +39,7 @@ IsClientCall (Join node) = ⊥
 IsClientCall (Raise node) = ⊥
 IsClientCall (Tree node) = ⊥
 IsClientCall History = ⊥
+IsClientCall Check = ⊥
 
 abbrev pub AreCalls : List NumberedCommand → Type 0
 AreCalls [] = Unit {0}

@@ -9,10 +9,10 @@ use Rattle.assise_console.specs.declared.answer.Answer.{Answer}
 use Rattle.assise_rounds.specs.Courses.{Told}
 use Rattle.assise_console.specs.OneEvent.{IsOne, IsOneAt}
 use Rattle.assise_console.specs.Steps.{SetsHot}
-use Rattle.assise_threads.specs.Answered.{ShowsTree}
+use Rattle.assise_threads.specs.Answered.{ChecksHistory, ShowsTree}
 use Rattle.assise_threads.specs.declared.main_thread.MainThreadOf.{MainThreadOf}
 use Rattle.assise_threads.specs.declared.takes.Take.{Take}
-use Rattle.assise_threads.specs.declared.takes.Take.TheVariants.{Digest, Release, SetHot, Crash, Fail, BeginReturn, Refill, Join, Raise, Tree}
+use Rattle.assise_threads.specs.declared.takes.Take.TheVariants.{Digest, Release, SetHot, Crash, Fail, BeginReturn, Refill, Join, Raise, Tree, Check}
 
 -- what the main thread's pass has seen
 abbrev pub main_seen : {C : Type 0} → MainThreadOf C → List Event
@@ -29,3 +29,4 @@ DoesTake (Refill n) a = IsOneAt refill n a
 DoesTake (Join n) a = IsOneAt join n a
 DoesTake (Raise n) a = IsOneAt raise n a
 DoesTake (Tree n) a = ShowsTree n a
+DoesTake Check a = ChecksHistory a

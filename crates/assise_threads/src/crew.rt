@@ -278,6 +278,7 @@ impl<'a> Crew<'a> {
             Command::Join { node } => Ok(main.in_one_take(rt, alloc, Take::Join(*node))),
             Command::Raise { node } => Ok(main.in_one_take(rt, alloc, Take::Raise(*node))),
             Command::Tree { node } => Ok(main.in_one_take(rt, alloc, Take::Tree(*node))),
+            Command::Check => Ok(main.in_one_take(rt, alloc, Take::Check)),
             Command::Cluster { .. } => Ok(Answer::Quiet),
             Command::Manual => Ok(Answer::Quiet),
             Command::Link { .. } => Ok(Answer::Quiet),

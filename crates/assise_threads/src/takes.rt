@@ -6,7 +6,7 @@ ghost use Rattle.assise_threads.specs.Threads.{DoesTake};
 
 use assise_console::answer::Answer;
 use assise_console::commands::{
-    begin_return, crash, digest, fail, join, raise, refill, release, set_hot, tree,
+    begin_return, check, crash, digest, fail, join, raise, refill, release, set_hot, tree,
 };
 use assise_lease_table::revoker::Revokes;
 use assise_machine::cluster::ClusterOf;
@@ -35,6 +35,8 @@ pub(crate) enum Take {
     Raise(u64),
     /// The tree of a node is read.
     Tree(u64),
+    /// The history is looked through.
+    Check,
 }
 
 /// Does it.
@@ -58,5 +60,6 @@ pub(crate) fn apply<C: Revokes + Drop>(
         Take::Join(node) => join(alloc, cluster, node),
         Take::Raise(node) => raise(cluster, node),
         Take::Tree(node) => tree(alloc, cluster, node),
+        Take::Check => check(alloc, cluster),
     }
 }

@@ -1,5 +1,6 @@
 // What the words of the command line say.
 use crate::numbers::numbers_of;
+use assise_names::limits::MOST_CLIENTS;
 use std::alloc::Global;
 
 /// The call that is measured.
@@ -54,7 +55,7 @@ pub(crate) fn setting_of(alloc: Global, words: &[String]) -> Option<Setting> {
         kind,
         bytes: *bytes,
         records: *records,
-        clients: (*clients).min(16) as u32,
+        clients: (*clients).min(u64::from(MOST_CLIENTS)) as u32,
         entries: *entries,
         history: *history,
         turns: *turns,

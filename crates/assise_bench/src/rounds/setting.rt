@@ -1,6 +1,7 @@
 // What the words of the command line say.
 use crate::numbers::numbers_of;
 use assise_names::durability::Durability;
+use assise_names::limits::MOST_CLIENTS;
 use std::alloc::Global;
 
 /// The parts of a round that are made, each with those before it.
@@ -64,7 +65,7 @@ pub(crate) fn setting_of(alloc: Global, words: &[String]) -> Option<Setting> {
         kind,
         mode,
         nodes: (*nodes).min(8) as u32,
-        clients: (*clients).min(16) as u32,
+        clients: (*clients).min(u64::from(MOST_CLIENTS)) as u32,
         records: *records,
         turns: *turns,
     })

@@ -1,5 +1,6 @@
 use Rattle.std.proofs.Common.{◌≡◌, ◌+◌, ◌<◌, ◌∙◌, [], ◌∷◌, ◌++◌, None, suc, length, refl, ap, subst, sym, arith}
 use Rattle.std.proofs.Math.Logic.{∥∥₁_map}
+use Rattle.assise_names.specs.declared.limits.TheConstants.{MOST_CLIENTS}
 use Rattle.assise_lease_tree.specs.Trees.{levels_of}
 use Rattle.assise_lease_tree.specs.TwoLevels.{EnrolsAt}
 use Rattle.assise_history.specs.Entries.{opens}
@@ -23,12 +24,12 @@ returns-in-Some-clause-happens g c = is_refused c.in-Some.refusal (sym c.open_re
 
 pub overflow_cast-client : goal.overflow_cast-client
 overflow_cast-client g c =
-    let few : length c.args.sound.now.state.clients < 16 = fine_few (value_of c.args.sound.now.state) c.args.node (sym c.open_refusal.ensures ∙ c.in_default.is) in
+    let few : length c.args.sound.now.state.clients < MOST_CLIENTS = fine_few (value_of c.args.sound.now.state) c.args.node (sym c.open_refusal.ensures ∙ c.in_default.is) in
     omega (arith, few, c.len.ensures)
 
 pub overflow_add-client : goal.overflow_add-client
 overflow_add-client g c =
-    let few : length c.args.sound.now.state.clients < 16 = fine_few (value_of c.args.sound.now.state) c.args.node (sym c.open_refusal.ensures ∙ c.in_default.is) in
+    let few : length c.args.sound.now.state.clients < MOST_CLIENTS = fine_few (value_of c.args.sound.now.state) c.args.node (sym c.open_refusal.ensures ∙ c.in_default.is) in
     omega (arith, few, c.len.ensures)
 
 pub enrol-requires : goal.enrol-requires
@@ -64,8 +65,8 @@ returns-in-Err-enrol-clause-happens g c =
 
 pub open-requires : goal.open-requires
 open-requires g c =
-    let few : length c.args.sound.now.state.clients < 16 = fine_few (value_of c.args.sound.now.state) c.args.node (sym c.open_refusal.ensures ∙ c.in_default.is) in
-    record { room = subst (λ cs. length cs < 16) (sym (ap (λ u. u.clients) c.in_default-begin.ensures.ok)) few }
+    let few : length c.args.sound.now.state.clients < MOST_CLIENTS = fine_few (value_of c.args.sound.now.state) c.args.node (sym c.open_refusal.ensures ∙ c.in_default.is) in
+    record { room = subst (λ cs. length cs < MOST_CLIENTS) (sym (ap (λ u. u.clients) c.in_default-begin.ensures.ok)) few }
 
 pub invariant_of-sound-2 : goal.invariant_of-sound-2
 invariant_of-sound-2 g c =

@@ -1,4 +1,5 @@
 use Rattle.std.proofs.Common.{map, ◌≡◌, ◌-◌, [], refl, sym, subst, ◌∙◌, arith}
+use Rattle.assise_names.specs.declared.limits.TheConstants.{MOST_NODES}
 use Rattle.assise_machine.specs.Clusters.{machine}
 use Rattle.assise_rounds.specs.Courses.{Told}
 use Rattle.assise_rounds.specs.NodeLinks.{FaithfulAt}
@@ -40,5 +41,5 @@ loop-node-preserved g c =
 
 pub returns-clause-each : goal.returns-clause-each
 returns-clause-each g c =
-    let last : c.loop-node.node - 1 ≡ 8 = omega (arith, c.loop-node-test.false, c.loop-node.auto.node-end) in
+    let last : c.loop-node.node - 1 ≡ MOST_NODES = omega (arith, c.loop-node-test.false, c.loop-node.auto.node-end) in
     subst (λ n. (es : Told) × WithWork (EachFull (λ k. TakesTurn (FaithfulAt (map g.L.Link.faithful c.args.links.now) k) k) n) c.loop-node.busy (machine c.args.cluster.now) es (machine c.loop-node.cluster)) last c.loop-node.invariant.each

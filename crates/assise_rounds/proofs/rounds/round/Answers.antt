@@ -1,5 +1,6 @@
 use Rattle.std.specs.Prelude.{⊤}
 use Rattle.std.proofs.Common.{refl, rules, ◌≤◌, length, arith}
+use Rattle.assise_names.specs.declared.limits.TheConstants.{MOST_NODES}
 use Rattle.assise_machine.specs.Clusters.{machine}
 use Rattle.assise_rounds.proofs.Faithful.{round_with}
 use Rattle.assise_rounds.proofs.NodeLinks.{all_faithful}
@@ -7,5 +8,5 @@ use Rattle.assise_rounds.proofs.rounds.round.Goals as goal
 
 pub returns : goal.returns
 returns g c =
-    let eight : 8 ≤ length c.from_fn-links.result = search rules in
-    round_with (λ n. ⊤) _ (λ n some few is. all_faithful _ (λ l. refl) c.from_fn-links.result n some (omega (arith, few, eight))) c.round_over.result (machine c.args.cluster.now) (machine c.round_over.new.cluster) c.round_over.ensures.rounds
+    let most : MOST_NODES ≤ length c.from_fn-links.result = search rules in
+    round_with (λ n. ⊤) _ (λ n some few is. all_faithful _ (λ l. refl) c.from_fn-links.result n some (omega (arith, few, most))) c.round_over.result (machine c.args.cluster.now) (machine c.round_over.new.cluster) c.round_over.ensures.rounds

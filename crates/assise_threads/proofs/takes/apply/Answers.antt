@@ -30,3 +30,6 @@ returns-in-Raise-clause-does g c = rw c.in-Raise.is c.raise.ensures
 
 pub returns-in-Tree-clause-does : goal.returns-in-Tree-clause-does
 returns-in-Tree-clause-does g c = rw c.in-Tree.is ([], record { shows = c.tree.ensures; stays = refl })
+
+pub returns-in-Check-clause-does : goal.returns-in-Check-clause-does
+returns-in-Check-clause-does g c = rw c.in-Check.is ([], record { verdict = c.check.ensures; stays = refl })

@@ -1,12 +1,13 @@
 use Rattle.std.proofs.Common.{rules, ◌≡◌, ◌-◌, ◌<◌, Some, length, subst, sym, arith}
 use Rattle.assise_names.specs.declared.refusal.Refusal.TheVariants.{BadNode}
+use Rattle.assise_names.specs.declared.limits.TheConstants.{MOST_NODES}
 use Rattle.assise_link.specs.TestLinks.{is_perfect}
 use Rattle.assise_machine_events.specs.Faults.{node_fault}
 use Rattle.assise_machine.specs.Clusters.{machine}
 use Rattle.assise_machine.proofs.Few.{few_nodes}
 use Rattle.assise_rounds.proofs.NodeLinks.{at_node, set_same}
 use Rattle.assise_console.specs.Consoles.{seen}
-use Rattle.assise_console.proofs.Links.{below_eight}
+use Rattle.assise_console.proofs.Links.{below_most}
 use Rattle.assise_console.proofs.OneCommand.{carries_none, carries_nowhere, carries_refused, carries_some}
 use Rattle.assise_console.proofs.console.ConsoleOf.carry.Goals as goal
 
@@ -23,11 +24,11 @@ returns-then-not-has_node g c =
 
 pub listed : goal.listed
 listed g c =
-    let eight : length c.args.self.now.links ≡ 8 = search rules in
-    subst (λ n. c.in-Some.node - 1 < n) (sym eight) (below_eight c.args.self.now.cluster c.in-Some.node (c.has_node.ensures.yes c.if-not-has_node.false))
+    let most : length c.args.self.now.links ≡ MOST_NODES = search rules in
+    subst (λ n. c.in-Some.node - 1 < n) (sym most) (below_most c.args.self.now.cluster c.in-Some.node (c.has_node.ensures.yes c.if-not-has_node.false))
 
 pub bounds-self-node : goal.bounds-self-node
-bounds-self-node g c = below_eight c.args.self.now.cluster c.in-Some.node (c.has_node.ensures.yes c.if-not-has_node.false)
+bounds-self-node g c = below_most c.args.self.now.cluster c.in-Some.node (c.has_node.ensures.yes c.if-not-has_node.false)
 
 pub returns-in-Ok : goal.returns-in-Ok
 returns-in-Ok g c =

@@ -1,7 +1,8 @@
 use Rattle.std.proofs.Common.{rules, ◌≡◌, ◌-◌, ◌<◌, length, refl, subst, sym, arith}
+use Rattle.assise_names.specs.declared.limits.TheConstants.{MOST_NODES}
 use Rattle.assise_machine.proofs.Few.{few_nodes}
 use Rattle.assise_console.specs.Consoles.{seen}
-use Rattle.assise_console.proofs.Links.{below_eight, links_nowhere, sets_link}
+use Rattle.assise_console.proofs.Links.{below_most, links_nowhere, sets_link}
 use Rattle.assise_console.proofs.console.ConsoleOf.link.Goals as goal
 
 pub returns-in_default : goal.returns-in_default
@@ -12,11 +13,11 @@ returns-in_default g c =
 
 pub listed : goal.listed
 listed g c =
-    let eight : length c.args.self.now.links ≡ 8 = search rules in
-    subst (λ n. c.in-Some.node - 1 < n) (sym eight) (below_eight c.args.self.now.cluster c.in-Some.node (c.has_node.ensures.yes c.if-not-has_node.false))
+    let most : length c.args.self.now.links ≡ MOST_NODES = search rules in
+    subst (λ n. c.in-Some.node - 1 < n) (sym most) (below_most c.args.self.now.cluster c.in-Some.node (c.has_node.ensures.yes c.if-not-has_node.false))
 
 pub way_replace-self : goal.way_replace-self
-way_replace-self g c = below_eight c.args.self.now.cluster c.in-Some.node (c.has_node.ensures.yes c.if-not-has_node.false)
+way_replace-self g c = below_most c.args.self.now.cluster c.in-Some.node (c.has_node.ensures.yes c.if-not-has_node.false)
 
 pub returns : goal.returns
 returns g c =

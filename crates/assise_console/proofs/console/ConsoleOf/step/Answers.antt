@@ -15,3 +15,6 @@ returns-in-Release-clause-does g c =
 
 pub returns-in-Tree-clause-does : goal.returns-in-Tree-clause-does
 returns-in-Tree-clause-does g c = rw c.in-Tree.is ([], (c.tree.ensures, (refl, refl)))
+
+pub returns-in-Check-clause-does : goal.returns-in-Check-clause-does
+returns-in-Check-clause-does g c = rw c.in-Check.is ([], (c.check.ensures, (refl, refl)))
