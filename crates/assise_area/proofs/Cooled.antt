@@ -11,10 +11,10 @@ use Rattle.std.specs.BTreeMap.{is_at}
 use Rattle.lru.specs.LruCache.{LruCache, lru_cache}
 use Rattle.assise_inode_table.specs.Contents.{Content}
 use Rattle.assise_area.specs.Hot.{AreaValue, with_capacity}
-use Rattle.assise_area.specs.Parts.{Entries, AreApart, AreWritten, HoldSame, IsCooled, joined, value_in, hot_at, cold_at, seen}
+use Rattle.assise_area.specs.Parts.{Entries, AreDisjoint, AreWritten, HoldSame, IsCooled, both_parts, value_in, hot_at, cold_at, area_seen}
 use Rattle.assise_area.proofs.Seen.{turned, some≢none, from_some, same_joined, is_some-lookup}
-use Rattle.assise_area.proofs.Writing.{cold-written, apart_at}
-use Rattle.assise_area.proofs.Warming.{hot-append, keys_take}
+use Rattle.assise_area.proofs.WrittenValues.{cold-written, disjoint_at}
+use Rattle.assise_area.proofs.ColdToHot.{hot-append, keys_take}
 
 -- ---- places
 
@@ -33,10 +33,10 @@ written_next numbers k d value cold c1 c2 within so_far step q =
     cold-written c1 c2 n value step q ∙ ap (cond (eqb n q) value) (so_far q) ∙ ap (λ b. cond b value (cond (list_any (nat_eq q) (take k numbers)) value (cold_at cold q))) (turned n q)
     ∙ one_more (list_any (nat_eq q) (take k numbers)) (eqb q n) value (cold_at cold q) ∙ ap (λ b. cond b value (cold_at cold q)) (sym among)
 
-none_in_front : (p : ℕ → Bool) (k : ℕ) (ns : List ℕ) → list_any p ns ≡ false → list_any p (take k ns) ≡ false
-none_in_front p zero ns h = refl
-none_in_front p (suc k) [] h = refl
-none_in_front p (suc k) (n ∷ ns) h = go (none_in_front p k ns) (p n) h
+none_in_prefix : (p : ℕ → Bool) (k : ℕ) (ns : List ℕ) → list_any p ns ≡ false → list_any p (take k ns) ≡ false
+none_in_prefix p zero ns h = refl
+none_in_prefix p (suc k) [] h = refl
+none_in_prefix p (suc k) (n ∷ ns) h = go (none_in_prefix p k ns) (p n) h
   where
     go : (list_any p ns ≡ false → list_any p (take k ns) ≡ false) → (b : Bool) → (b || list_any p ns) ≡ false → (b || list_any p (take k ns)) ≡ false
     go ih true e = e
@@ -45,7 +45,7 @@ none_in_front p (suc k) (n ∷ ns) h = go (none_in_front p k ns) (p n) h
 -- a number that is not among those that may be written
 pub not_written : (numbers : List ℕ) (k : ℕ) (value : Option Content) (cold c1 : Entries) → AreWritten (take k numbers) value cold c1
     → (q : ℕ) → list_any (nat_eq q) numbers ≡ false → cold_at c1 q ≡ cold_at cold q
-not_written numbers k value cold c1 so_far q other = so_far q ∙ ap (λ b. cond b value (cold_at cold q)) (none_in_front (nat_eq q) k numbers other)
+not_written numbers k value cold c1 so_far q other = so_far q ∙ ap (λ b. cond b value (cold_at cold q)) (none_in_prefix (nat_eq q) k numbers other)
 
 -- ---- the hot inodes behind the first ones
 
@@ -61,10 +61,10 @@ module _ (k : ℕ) (es : Entries) (q : ℕ) where
       go (Some w) = refl
 
   -- a number behind the first ones isn't cold
-  pub beyond_absent : (cold : Entries) (numbers : List ℕ) → AreApart es cold → numbers ≡ keys_of (drop k es) → list_any (nat_eq q) numbers ≡ true → cold_at cold q ≡ None
-  beyond_absent cold numbers apart are among =
+  pub beyond_absent : (cold : Entries) (numbers : List ℕ) → AreDisjoint es cold → numbers ≡ keys_of (drop k es) → list_any (nat_eq q) numbers ≡ true → cold_at cold q ≡ None
+  beyond_absent cold numbers disjoint are among =
       let there : IsSome (hot_at (drop k es) q) = is_some-lookup q (drop k es) ∙ ap (list_any (nat_eq q)) (sym are) ∙ among in
-      from_some (hot_at (drop k es) q) there (λ v is. from_some (hot_at es q) (hot_beyond v is) (apart_at es cold apart q))
+      from_some (hot_at (drop k es) q) there (λ v is. from_some (hot_at es q) (hot_beyond v is) (disjoint_at es cold disjoint q))
 
   -- it has a place
   pub beyond_placed : (cold c1 : Entries) (numbers : List ℕ) (w : Content) → numbers ≡ keys_of (drop k es) → AreWritten numbers (Some w) cold c1 → IsSome (hot_at (drop k es) q) → IsSome (cold_at c1 q)
@@ -74,11 +74,11 @@ module _ (k : ℕ) (es : Entries) (q : ℕ) where
 
 -- ---- the longest unused one moves
 
-at_front : (m : ℕ) (es : Entries) → slice_get (take (suc m) es) m ≡ slice_get es m
-at_front zero [] = refl
-at_front zero (e ∷ es) = refl
-at_front (suc m) [] = refl
-at_front (suc m) (e ∷ es) = at_front m es
+at_prefix : (m : ℕ) (es : Entries) → slice_get (take (suc m) es) m ≡ slice_get es m
+at_prefix zero [] = refl
+at_prefix zero (e ∷ es) = refl
+at_prefix (suc m) [] = refl
+at_prefix (suc m) (e ∷ es) = at_prefix m es
 
 next_last : (m : ℕ) (es : Entries) (e : ℕ × Content) → slice_get es m ≡ Some e → drop m es ≡ e ∷ drop (suc m) es
 next_last m [] e is = absurd (some≢none e (sym is))
@@ -106,16 +106,16 @@ take_fewer (suc k) zero es h = absurd (omega (arith, h))
 take_fewer (suc k) (suc m) [] h = refl
 take_fewer (suc k) (suc m) (e ∷ es) h = ap (λ l. e ∷ l) (take_fewer k m es (omega (arith, h)))
 
--- all but the last, of a front
-pub shorter_front : (n : ℕ) (old hot : Entries) → hot ≡ take n old → n ≡ length hot → take (n - 1) hot ≡ take (n - 1) old
-shorter_front n old hot front is = ap (take (n - 1)) front ∙ take_fewer (n - 1) n old (omega arith)
+-- all but the last, of a prefix
+pub shorter_prefix : (n : ℕ) (old hot : Entries) → hot ≡ take n old → n ≡ length hot → take (n - 1) hot ≡ take (n - 1) old
+shorter_prefix n old hot prefix is = ap (take (n - 1)) prefix ∙ take_fewer (n - 1) n old (omega arith)
 
 pub length_shorter : (n : ℕ) (hot : Entries) → n ≡ length hot → length (take (n - 1) hot) ≡ n - 1
 length_shorter n hot is = length-take-le (n - 1) hot (omega (arith, is))
 
-module _ (n : ℕ) (old hot : Entries) (e : ℕ × Content) (some : 0 < n) (front : hot ≡ take n old) (is_last : slice_get hot (n - 1) ≡ Some e) where
+module _ (n : ℕ) (old hot : Entries) (e : ℕ × Content) (some : 0 < n) (prefix : hot ≡ take n old) (is_last : slice_get hot (n - 1) ≡ Some e) where
   last_of_all : slice_get old (n - 1) ≡ Some e
-  last_of_all = let next : n ≡ suc (n - 1) = omega (arith, some) in sym (at_front (n - 1) old) ∙ ap (λ k. slice_get (take k old) (n - 1)) (sym next) ∙ ap (λ l. slice_get l (n - 1)) (sym front) ∙ is_last
+  last_of_all = let next : n ≡ suc (n - 1) = omega (arith, some) in sym (at_prefix (n - 1) old) ∙ ap (λ k. slice_get (take k old) (n - 1)) (sym next) ∙ ap (λ l. slice_get l (n - 1)) (sym prefix) ∙ is_last
 
   behind_last : drop (n - 1) old ≡ e ∷ drop n old
   behind_last = let next : n ≡ suc (n - 1) = omega (arith, some) in next_last (n - 1) old e last_of_all ∙ ap (λ k. e ∷ drop k old) (sym next)
@@ -164,7 +164,7 @@ or_or : {X : Type 0} (a b c : Option X) → option_or a (option_or b c) ≡ opti
 or_or None b c = refl
 or_or (Some x) b c = refl
 
-module _ (k : ℕ) (hot hot' : LruCache ℕ Content) (cold c1 c2 : Entries) (numbers : List ℕ) (w : Content) (distinct : IsDistinct nat_eq (keys_of hot.entries)) (apart : AreApart hot.entries cold)
+module _ (k : ℕ) (hot hot' : LruCache ℕ Content) (cold c1 c2 : Entries) (numbers : List ℕ) (w : Content) (distinct : IsDistinct nat_eq (keys_of hot.entries)) (disjoint : AreDisjoint hot.entries cold)
     (are : numbers ≡ keys_of (drop k hot.entries)) (written : AreWritten numbers (Some w) cold c1) (left : hot' ≡ lru_cache (take k hot.entries) hot.cap)
     (moved : (q : ℕ) → cold_at c2 q ≡ option_or (hot_at (drop k hot.entries) q) (cold_at c1 q)) where
   moved_over : (q : ℕ) → cold_at c2 q ≡ option_or (hot_at (drop k hot.entries) q) (cold_at cold q)
@@ -179,15 +179,15 @@ module _ (k : ℕ) (hot hot' : LruCache ℕ Content) (cold c1 c2 : Entries) (num
       ap (λ h. value_in h.entries c2 q) left ∙ ap (option_or (hot_at (take k hot.entries) q)) (moved_over q)
       ∙ or_or (hot_at (take k hot.entries) q) (hot_at (drop k hot.entries) q) (cold_at cold q) ∙ ap (λ o. option_or o (cold_at cold q)) (sym (hot_parts k hot.entries q))
 
-  cooled_apart : AreApart hot'.entries c2
-  unfolding AreApart
-  cooled_apart q v is =
+  cooled_disjoint : AreDisjoint hot'.entries c2
+  unfolding AreDisjoint
+  cooled_disjoint q v is =
       let stays : hot_at (take k hot.entries) q ≡ Some v = sym (ap (λ h. hot_at h.entries q) left) ∙ is in
-      let was = apart_at hot.entries cold apart q v (hot_parts k hot.entries q ∙ ap (λ o. option_or o (hot_at (drop k hot.entries) q)) stays) in
+      let was = disjoint_at hot.entries cold disjoint q v (hot_parts k hot.entries q ∙ ap (λ o. option_or o (hot_at (drop k hot.entries) q)) stays) in
       moved_over q ∙ ap (λ o. option_or o (cold_at cold q)) (not_beyond k hot.entries q v distinct stays) ∙ was
 
   pub cooled : IsCooled k hot hot' cold c2
-  cooled = record { left = left; same = cooled_same; apart = cooled_apart }
+  cooled = record { left = left; same = cooled_same; disjoint = cooled_disjoint }
 
 -- ---- areas
 
@@ -198,10 +198,10 @@ module _ (k : ℕ) (hot h1 h2 : LruCache ℕ Content) (cold c1 : Entries) (w : I
   as_cooled : h2.entries ≡ h1.entries
   as_cooled = ap (λ h. h.entries) again ∙ sym (ap (λ h. h.entries) w.left)
 
-  pub seen_resized : (a : AreaValue) → seen hot cold ≡ a → seen h2 c1 ≡ with_capacity a k
+  pub seen_resized : (a : AreaValue) → area_seen hot cold ≡ a → area_seen h2 c1 ≡ with_capacity a k
   seen_resized a view =
-      let inodes = ap (λ es. joined es c1) as_cooled ∙ same_joined hot.entries cold h1.entries c1 w.same in
+      let inodes = ap (λ es. both_parts es c1) as_cooled ∙ same_joined hot.entries cold h1.entries c1 w.same in
       let keys = ap (λ h. keys_of h.entries) again ∙ sym (keys_take k hot.entries) in
       let cap = ap (λ h. h.cap) again in
-      let now : seen h2 c1 ≡ with_capacity (seen hot cold) k = λ j. record { inodes = inodes j; hot = keys j; capacity = cap j } in
+      let now : area_seen h2 c1 ≡ with_capacity (area_seen hot cold) k = λ j. record { inodes = inodes j; hot = keys j; capacity = cap j } in
       now ∙ ap (λ b. with_capacity b k) view

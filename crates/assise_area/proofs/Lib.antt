@@ -1,5 +1,5 @@
 pub mod Seen
-pub mod Writing
-pub mod Using
-pub mod Warming
+pub mod WrittenValues
+pub mod HotUse
+pub mod ColdToHot
 pub mod Cooled

@@ -14,9 +14,9 @@ use Rattle.std.specs.FinMap as map
 use Rattle.lru.specs.LruCache.{LruCache}
 use Rattle.assise_inode_table.specs.Contents.{Content}
 use Rattle.assise_inode_table.specs.Effects.{with_value}
-use Rattle.assise_inode_table.proofs.Making.{get-with_value}
+use Rattle.assise_inode_table.proofs.EffectValues.{get-with_value}
 use Rattle.assise_area.specs.Hot.{AreaValue, is_hot}
-use Rattle.assise_area.specs.Parts.{Entries, HoldSame, joined, value_in, hot_at, cold_at, seen}
+use Rattle.assise_area.specs.Parts.{Entries, HoldSame, both_parts, value_in, hot_at, cold_at, area_seen}
 
 -- ---- numbers
 
@@ -65,28 +65,28 @@ find-joined (e ∷ hot) cold q = ap (λ b. cond b (Some e.1) (map.find nat_cmp q
     go true ih = refl
     go false ih = ih
 
-pub get-joined : (hot cold : Entries) (q : ℕ) → map.get (joined hot cold) q ≡ value_in hot cold q
+pub get-joined : (hot cold : Entries) (q : ℕ) → map.get (both_parts hot cold) q ≡ value_in hot cold q
 get-joined hot cold q = map.get-from_entries nat_cmp_total (hot ++ cold) q ∙ find-joined hot cold q
 
 -- parts that hold the same are the same map
-pub same_joined : (hot cold hot' cold' : Entries) → HoldSame hot cold hot' cold' → joined hot' cold' ≡ joined hot cold
+pub same_joined : (hot cold hot' cold' : Entries) → HoldSame hot cold hot' cold' → both_parts hot' cold' ≡ both_parts hot cold
 same_joined hot cold hot' cold' same = map.same_map nat_cmp_total exact_unsigned _ _ (λ q. get-joined hot' cold' q ∙ same q ∙ sym (get-joined hot cold q))
 
 -- parts that hold another value of one inode
 pub with_value-joined : (hot cold hot' cold' : Entries) (k : ℕ) (w : Option Content)
-    → ((q : ℕ) → value_in hot' cold' q ≡ cond (eqb k q) w (value_in hot cold q)) → joined hot' cold' ≡ with_value (joined hot cold) k w
+    → ((q : ℕ) → value_in hot' cold' q ≡ cond (eqb k q) w (value_in hot cold q)) → both_parts hot' cold' ≡ with_value (both_parts hot cold) k w
 with_value-joined hot cold hot' cold' k w values = map.same_map nat_cmp_total exact_unsigned _ _ (λ q.
-    get-joined hot' cold' q ∙ values q ∙ ap (cond (eqb k q) w) (sym (get-joined hot cold q)) ∙ sym (get-with_value (joined hot cold) k w q))
+    get-joined hot' cold' q ∙ values q ∙ ap (cond (eqb k q) w) (sym (get-joined hot cold q)) ∙ sym (get-with_value (both_parts hot cold) k w q))
 
 -- what an area has of a number
-pub value_of : (a : AreaValue) (hot : LruCache ℕ Content) (cold : Entries) (q : ℕ) → seen hot cold ≡ a → map.get a.inodes q ≡ value_in hot.entries cold q
+pub value_of : (a : AreaValue) (hot : LruCache ℕ Content) (cold : Entries) (q : ℕ) → area_seen hot cold ≡ a → map.get a.inodes q ≡ value_in hot.entries cold q
 value_of a hot cold q view = ap (λ b. map.get b.inodes q) (sym view) ∙ get-joined hot.entries cold q
 
 -- a number that isn't hot has what the cold part has
-pub value_of_cold : (a : AreaValue) (hot : LruCache ℕ Content) (cold : Entries) (q : ℕ) → seen hot cold ≡ a → hot_at hot.entries q ≡ None → map.get a.inodes q ≡ cold_at cold q
+pub value_of_cold : (a : AreaValue) (hot : LruCache ℕ Content) (cold : Entries) (q : ℕ) → area_seen hot cold ≡ a → hot_at hot.entries q ≡ None → map.get a.inodes q ≡ cold_at cold q
 value_of_cold a hot cold q view none = value_of a hot cold q view ∙ ap (λ o. option_or o (cold_at cold q)) none
 
-pub value_of_hot : (a : AreaValue) (hot : LruCache ℕ Content) (cold : Entries) (q : ℕ) (v : Content) → seen hot cold ≡ a → hot_at hot.entries q ≡ Some v → map.get a.inodes q ≡ Some v
+pub value_of_hot : (a : AreaValue) (hot : LruCache ℕ Content) (cold : Entries) (q : ℕ) (v : Content) → area_seen hot cold ≡ a → hot_at hot.entries q ≡ Some v → map.get a.inodes q ≡ Some v
 value_of_hot a hot cold q v view is = value_of a hot cold q view ∙ ap (λ o. option_or o (cold_at cold q)) is
 
 -- the number of what is hot is among the keys
@@ -98,7 +98,7 @@ is_some-lookup i (e ∷ es) = go (eqb i e.0) (is_some-lookup i es)
     go true ih = refl
     go false ih = ih
 
-pub hot_now : (a : AreaValue) (hot : LruCache ℕ Content) (cold : Entries) (i : ℕ) → seen hot cold ≡ a → is_hot a i ≡ is_some (hot_at hot.entries i)
+pub hot_now : (a : AreaValue) (hot : LruCache ℕ Content) (cold : Entries) (i : ℕ) → area_seen hot cold ≡ a → is_hot a i ≡ is_some (hot_at hot.entries i)
 hot_now a hot cold i view = ap (λ b. is_hot b i) (sym view) ∙ sym (is_some-lookup i hot.entries)
 
 -- ---- results

@@ -31,17 +31,17 @@ abbrev pub with_inodes : AreaValue → InodeMap → AreaValue
 with_inodes a m = record { inodes = m; hot = a.hot; capacity = a.capacity }
 
 -- the numbers without that one
-abbrev pub without : List ℕ → ℕ → List ℕ
-without [] i = []
-without (j ∷ js) i = if i == j then js else j ∷ without js i
+abbrev pub without_number : List ℕ → ℕ → List ℕ
+without_number [] i = []
+without_number (j ∷ js) i = if i == j then js else j ∷ without_number js i
 
 -- the inode is gone
 abbrev pub removed : AreaValue → ℕ → AreaValue
-removed a i = record { inodes = map.remove a.inodes i; hot = without a.hot i; capacity = a.capacity }
+removed a i = record { inodes = map.remove a.inodes i; hot = without_number a.hot i; capacity = a.capacity }
 
 -- the hot ones after an effect, by which none becomes hot
 abbrev pub hot_after : List ℕ → Effect → List ℕ
-hot_after hot (Free i) = without hot i
+hot_after hot (Free i) = without_number hot i
 hot_after hot (NewFile i) = hot
 hot_after hot (NewDir i) = hot
 hot_after hot (Write i patch) = hot
@@ -59,7 +59,7 @@ with_capacity a n = record { inodes = a.inodes; hot = take n a.hot; capacity = n
 
 -- the used one comes first, and of more than may be hot the one goes that is longest unused
 abbrev pub used : List ℕ → ℕ → ℕ → List ℕ
-used hot i capacity = i ∷ take (capacity - 1) (without hot i)
+used hot i capacity = i ∷ take (capacity - 1) (without_number hot i)
 
 -- after a use of an inode
 abbrev pub after_use : AreaValue → ℕ → AreaValue

@@ -26,19 +26,19 @@ abbrev pub value_in : Entries → Entries → ℕ → Option Content
 value_in hot cold q = option_or (hot_at hot q) (cold_at cold q)
 
 -- both as one map
-abbrev pub joined : Entries → Entries → InodeMap
-joined hot cold = map.from_entries (hot ++ cold)
+abbrev pub both_parts : Entries → Entries → InodeMap
+both_parts hot cold = map.from_entries (hot ++ cold)
 
-abbrev pub seen : LruCache ℕ Content → Entries → AreaValue
-seen hot cold = record { inodes = joined hot.entries cold; hot = keys_of hot.entries; capacity = hot.cap }
+abbrev pub area_seen : LruCache ℕ Content → Entries → AreaValue
+area_seen hot cold = record { inodes = both_parts hot.entries cold; hot = keys_of hot.entries; capacity = hot.cap }
 
 -- no inode is in both
-unfoldable pub AreApart : Entries → Entries → Type 0
-AreApart hot cold = (q : ℕ) (content : Content) → hot_at hot q ≡ Some content → cold_at cold q ≡ None
+unfoldable pub AreDisjoint : Entries → Entries → Type 0
+AreDisjoint hot cold = (q : ℕ) (content : Content) → hot_at hot q ≡ Some content → cold_at cold q ≡ None
 
 -- what holds of the parts of an area
-pub record IsSound (hot : LruCache ℕ Content) (cold : Entries) : Type 0 where
-  pub apart : AreApart hot.entries cold
+pub record AreaInvariant (hot : LruCache ℕ Content) (cold : Entries) : Type 0 where
+  pub disjoint : AreDisjoint hot.entries cold
   pub most : hot.cap ≤ 4096
 
 -- both parts hold together what they held
@@ -50,7 +50,7 @@ pub record IsWarmed (i : ℕ) (hot hot' : LruCache ℕ Content) (cold cold' : En
   pub keys : keys_of hot'.entries ≡ i ∷ take (hot.cap - 1) (keys_of hot.entries)
   pub cap : hot'.cap ≡ hot.cap
   pub same : HoldSame hot.entries cold hot'.entries cold'
-  pub apart : AreApart hot'.entries cold'
+  pub disjoint : AreDisjoint hot'.entries cold'
 
 -- a cold inode is the first of the hot ones, of which no more are left than may be
 pub record IsPushed (i : ℕ) (hot hot' : LruCache ℕ Content) (cold : Entries) : Type 0 where
@@ -67,4 +67,4 @@ AreWritten numbers value cold cold' = (q : ℕ) → cold_at cold' q ≡ cond (li
 pub record IsCooled (n : ℕ) (hot hot' : LruCache ℕ Content) (cold cold' : Entries) : Type 0 where
   pub left : hot' ≡ lru_cache (take n hot.entries) hot.cap
   pub same : HoldSame hot.entries cold hot'.entries cold'
-  pub apart : AreApart hot'.entries cold'
+  pub disjoint : AreDisjoint hot'.entries cold'

@@ -38,15 +38,15 @@ pub struct Area {
 
 impl Model for Area {
     ghost use Rattle.assise_area.specs.Hot.{AreaValue, coded_area};
-    ghost use Rattle.assise_area.specs.Parts.{IsSound, seen};
+    ghost use Rattle.assise_area.specs.Parts.{AreaInvariant, area_seen};
 
     ghost Value = { AreaValue };
 
     ghost coded = { coded_area };
 
-    ghost view = { λ a. seen a.hot a.cold.entries };
+    ghost view = { λ a. area_seen a.hot a.cold.entries };
 
-    ghost invariant = { λ a. IsSound a.hot a.cold.entries };
+    ghost invariant = { λ a. AreaInvariant a.hot a.cold.entries };
 }
 
 impl Area {
@@ -141,7 +141,8 @@ impl Area {
     /// The inode of a number, if there is one, which is used by that (see [`Area::touch`]). It is there whether it becomes
     /// hot or not.
     pub fn get(&mut self, inode: u64) -> Option<&Inode>
-        ensures* used { sem 𝓛 (follows_so the_row the_row self.entry.ghost_name none (λ _ _. ⊤) (λ n. IsTouched self.old inode n)) }
+        ensures* used { sem 𝓛 (follows_so the_row the_row self.entry.ghost_name none (λ _ _. ⊤)
+            (λ n. IsTouched self.old inode n)) }
         ensures value { option_copied result ≡ map.get self.old.inodes inode }
     {
         self.touch(inode);
@@ -151,7 +152,8 @@ impl Area {
     /// Gives a number an inode, and gives back the one that it had. What was hot is hot as before, and a new inode is
     /// cold. The one refusal is [`Refusal::OutOfMemory`], where the number had none, and it leaves the area as it was.
     pub fn put(&mut self, inode: u64, content: Inode) -> Result<Option<Inode>, Refusal>
-        ensures ok { OnOk result (self.new ≡ with_inodes self.old (map.insert self.old.inodes inode content)) }
+        ensures ok { OnOk result (self.new ≡ with_inodes self.old
+            (map.insert self.old.inodes inode content)) }
         ensures replaced { IfOk result (λ had. had ≡ map.get self.old.inodes inode) }
         ensures err { OnErr result (self.new ≡ self.old) }
         ensures asked { OnErr result (map.get self.old.inodes inode ≡ None) }
@@ -184,7 +186,8 @@ impl Area {
         ensures ok { OnOk result (self.new ≡ after_effect self.old effect.now) }
         ensures taken_away { TakesAway effect.now → IsOk result }
         ensures err { OnErr result (self.new ≡ self.old) }
-        ensures asked { OnErr result (AsksForMemory effect.now (map.get self.old.inodes (touched_by effect.now))) }
+        ensures asked { OnErr result (AsksForMemory effect.now
+            (map.get self.old.inodes (touched_by effect.now))) }
         ensures only_memory { IsOkUnless result OutOfMemory }
     {
         match effect {
@@ -219,9 +222,12 @@ impl Area {
     fn change(&mut self, effect: &Effect) -> Result<(), Refusal>
         ensures taken_away { TakesAway effect.now → IsOk result }
         ensures ok { let inode = touched_by effect.now in let had = map.get self.old.inodes inode in
-            OnOk result (self.new ≡ with_inodes self.old (with_value self.old.inodes inode (option_map (λ content. changed content effect.now) had))) }
+            OnOk result (self.new ≡ with_inodes self.old
+            (with_value self.old.inodes inode
+            (option_map (λ content. changed content effect.now) had))) }
         ensures err { OnErr result (self.new ≡ self.old) }
-        ensures asked { OnErr result (AsksForMemory effect.now (map.get self.old.inodes (touched_by effect.now))) }
+        ensures asked { OnErr result (AsksForMemory effect.now
+            (map.get self.old.inodes (touched_by effect.now))) }
         ensures only_memory { IsOkUnless result OutOfMemory }
     {
         let Some(held) = self.hot.peek_mut(&effect.touches()) else {

@@ -3,7 +3,7 @@ ghost use Rattle.std.specs.Prelude.{◌≡◌, ◌<◌, ℕ, IfOk, IsOkUnless, I
 ghost use Rattle.std.specs.List.{list_any};
 ghost use Rattle.std.specs.Map.{keys_of};
 ghost use Rattle.std.specs.Option.{option_or};
-ghost use Rattle.assise_area.specs.Parts.{AreApart, AreWritten, IsCooled, cold_at, hot_at};
+ghost use Rattle.assise_area.specs.Parts.{AreDisjoint, AreWritten, IsCooled, cold_at, hot_at};
 ghost use Rattle.assise_inode_table.specs.Contents.{regular};
 ghost use Rattle.assise_names.specs.declared.refusal.Refusal.TheVariants.{OutOfMemory};
 ghost use Rattle.lru.specs.LruCache.{lru_cache};
@@ -23,10 +23,11 @@ pub(crate) fn cool(
     cold: &mut BTreeMap<u64, Inode>,
     most: usize,
 ) -> Result<(), Refusal>
-    requires apart { AreApart hot.old.entries cold.old.entries }
+    requires disjoint { AreDisjoint hot.old.entries cold.old.entries }
     ensures ok { OnOk result (IsCooled most hot.old hot.new cold.old.entries cold.new.entries) }
     ensures err { OnErr result (hot.new ≡ hot.old) }
-    ensures err_cold { OnErr result ((q : ℕ) → cold_at cold.new.entries q ≡ cold_at cold.old.entries q) }
+    ensures err_cold { OnErr result ((q : ℕ) →
+        cold_at cold.new.entries q ≡ cold_at cold.old.entries q) }
     ensures asked { OnErr result (most < length hot.old.entries) }
     ensures smaller { OnErr result (most < hot.old.cap) }
     ensures only_memory { IsOkUnless result OutOfMemory }
@@ -61,8 +62,10 @@ fn make_places(
     cold: &mut BTreeMap<u64, Inode>,
     numbers: &[u64],
 ) -> Result<(), Refusal>
-    requires absent { (q : ℕ) → list_any (nat_eq q) numbers.now ≡ true → cold_at cold.old.entries q ≡ None }
-    ensures ok { OnOk result (AreWritten numbers.now (Some (regular [])) cold.old.entries cold.new.entries) }
+    requires absent { (q : ℕ) → list_any (nat_eq q) numbers.now ≡ true →
+        cold_at cold.old.entries q ≡ None }
+    ensures ok { OnOk result (AreWritten numbers.now
+        (Some (regular [])) cold.old.entries cold.new.entries) }
     ensures err { OnErr result ((q : ℕ) → cold_at cold.new.entries q ≡ cold_at cold.old.entries q) }
     ensures only_memory { IsOkUnless result OutOfMemory }
 {
@@ -79,8 +82,10 @@ fn put_places(
     cold: &mut BTreeMap<u64, Inode>,
     numbers: &[u64],
 ) -> Result<(), Refusal>
-    ensures ok { OnOk result (AreWritten numbers.now (Some (regular [])) cold.old.entries cold.new.entries) }
-    ensures others { (q : ℕ) → list_any (nat_eq q) numbers.now ≡ false → cold_at cold.new.entries q ≡ cold_at cold.old.entries q }
+    ensures ok { OnOk result (AreWritten numbers.now
+        (Some (regular [])) cold.old.entries cold.new.entries) }
+    ensures others { (q : ℕ) → list_any (nat_eq q) numbers.now ≡ false →
+        cold_at cold.new.entries q ≡ cold_at cold.old.entries q }
     ensures only_memory { IsOkUnless result OutOfMemory }
 {
     for number in numbers {
@@ -100,9 +105,11 @@ fn take_places(cold: &mut BTreeMap<u64, Inode>, numbers: &[u64])
 
 /// Moves the hot inodes behind the first ones into their places among the cold ones. It takes no memory.
 fn move_beyond(hot: &mut LruCache<u64, Inode>, cold: &mut BTreeMap<u64, Inode>, first: usize)
-    requires places { (q : ℕ) → IsSome (hot_at (drop first hot.old.entries) q) → IsSome (cold_at cold.old.entries q) }
+    requires places { (q : ℕ) → IsSome (hot_at (drop first hot.old.entries) q) →
+        IsSome (cold_at cold.old.entries q) }
     ensures left { hot.new ≡ lru_cache (take first hot.old.entries) hot.old.cap }
-    ensures moved { (q : ℕ) → cold_at cold.new.entries q ≡ option_or (hot_at (drop first hot.old.entries) q) (cold_at cold.old.entries q) }
+    ensures moved { (q : ℕ) → cold_at cold.new.entries q ≡ option_or
+        (hot_at (drop first hot.old.entries) q) (cold_at cold.old.entries q) }
 {
     while hot.len() > first {
         let Some(entry) = hot.pop_lru() else {

@@ -2,7 +2,7 @@
 ghost use Rattle.std.specs.Prelude.{◌≡◌, ◌-◌, ℕ, IfOk, IsOkUnless, IsSome, None, OnErr, OnOk, Some, cond, nat_eq, option_map, slice_get};
 ghost use Rattle.std.specs.BTreeMap.{is_at};
 ghost use Rattle.std.specs.Ordering.{nat_cmp};
-ghost use Rattle.assise_area.specs.Parts.{AreApart, IsPushed, IsWarmed, cold_at, hot_at};
+ghost use Rattle.assise_area.specs.Parts.{AreDisjoint, IsPushed, IsWarmed, cold_at, hot_at};
 ghost use Rattle.assise_names.specs.declared.refusal.Refusal.TheVariants.{OutOfMemory};
 ghost use Rattle.lru.specs.LruCache.{IsValid};
 
@@ -40,9 +40,11 @@ fn push_hot(
     requires there { IsSome (cold_at cold.old.entries inode) }
     ensures left { IfOk result (λ left. left ≡ slice_get hot.old.entries (hot.old.cap - 1)) }
     ensures pushed { OnOk result (IsPushed inode hot.old hot.new cold.old.entries) }
-    ensures taken { OnOk result ((q : ℕ) → cold_at cold.new.entries q ≡ cond (is_at (nat_cmp inode) q) None (cold_at cold.old.entries q)) }
+    ensures taken { OnOk result ((q : ℕ) → cold_at cold.new.entries q ≡ cond
+        (is_at (nat_cmp inode) q) None (cold_at cold.old.entries q)) }
     ensures err { OnErr result (hot.new ≡ hot.old) }
-    ensures err_cold { OnErr result ((q : ℕ) → cold_at cold.new.entries q ≡ cold_at cold.old.entries q) }
+    ensures err_cold { OnErr result ((q : ℕ) →
+        cold_at cold.new.entries q ≡ cold_at cold.old.entries q) }
     ensures only_memory { IsOkUnless result OutOfMemory }
 {
     let Some(slot) = cold.get_mut(&inode) else {
@@ -70,14 +72,16 @@ fn trade(
     last: u64,
     inode: u64,
 ) -> Result<(), Refusal>
-    requires apart { AreApart hot.old.entries cold.old.entries }
+    requires disjoint { AreDisjoint hot.old.entries cold.old.entries }
     requires valid { IsValid nat_eq hot.old }
-    requires last { Some last ≡ option_map (λ e. e.0) (slice_get hot.old.entries (hot.old.cap - 1)) }
+    requires last { Some last ≡ option_map (λ e. e.0)
+        (slice_get hot.old.entries (hot.old.cap - 1)) }
     requires absent { hot_at hot.old.entries inode ≡ None }
     requires there { IsSome (cold_at cold.old.entries inode) }
     ensures ok { OnOk result (IsWarmed inode hot.old hot.new cold.old.entries cold.new.entries) }
     ensures err { OnErr result (hot.new ≡ hot.old) }
-    ensures err_cold { OnErr result ((q : ℕ) → cold_at cold.new.entries q ≡ cold_at cold.old.entries q) }
+    ensures err_cold { OnErr result ((q : ℕ) →
+        cold_at cold.new.entries q ≡ cold_at cold.old.entries q) }
     ensures only_memory { IsOkUnless result OutOfMemory }
 {
     cold.insert(last, Inode::new_file(alloc))?;
@@ -102,12 +106,13 @@ pub(crate) fn warm(
     cold: &mut BTreeMap<u64, Inode>,
     inode: u64,
 ) -> Result<(), Refusal>
-    requires apart { AreApart hot.old.entries cold.old.entries }
+    requires disjoint { AreDisjoint hot.old.entries cold.old.entries }
     requires absent { hot_at hot.old.entries inode ≡ None }
     requires there { IsSome (cold_at cold.old.entries inode) }
     ensures ok { OnOk result (IsWarmed inode hot.old hot.new cold.old.entries cold.new.entries) }
     ensures err { OnErr result (hot.new ≡ hot.old) }
-    ensures err_cold { OnErr result ((q : ℕ) → cold_at cold.new.entries q ≡ cold_at cold.old.entries q) }
+    ensures err_cold { OnErr result ((q : ℕ) →
+        cold_at cold.new.entries q ≡ cold_at cold.old.entries q) }
     ensures only_memory { IsOkUnless result OutOfMemory }
 {
     let Some(last) = leaving(hot) else {

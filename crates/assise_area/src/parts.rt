@@ -20,9 +20,11 @@ use std::num::NonZeroUsize;
 pub(crate) fn change_cold(cold: &mut BTreeMap<u64, Inode>, effect: &Effect) -> Result<(), Refusal>
     ensures taken_away { TakesAway effect.now → IsOk result }
     ensures ok { let inode = touched_by effect.now in let had = cold_at cold.old.entries inode in
-        OnOk result ((q : ℕ) → cold_at cold.new.entries q ≡ cond (is_at (nat_cmp inode) q) (option_map (λ content. changed content effect.now) had) (cold_at cold.old.entries q)) }
+        OnOk result ((q : ℕ) → cold_at cold.new.entries q ≡ cond (is_at (nat_cmp inode) q)
+        (option_map (λ content. changed content effect.now) had) (cold_at cold.old.entries q)) }
     ensures err { OnErr result (cold.new.entries ≡ cold.old.entries) }
-    ensures asked { OnErr result (AsksForMemory effect.now (cold_at cold.old.entries (touched_by effect.now))) }
+    ensures asked { OnErr result (AsksForMemory effect.now
+        (cold_at cold.old.entries (touched_by effect.now))) }
     ensures only_memory { IsOkUnless result OutOfMemory }
 {
     let Some(inode) = cold.get_mut(&effect.touches()) else {
@@ -50,7 +52,8 @@ pub(crate) fn hot_places(capacity: usize) -> NonZeroUsize
 /// Writes over a cold inode. It takes no memory.
 pub(crate) fn overwrite(cold: &mut BTreeMap<u64, Inode>, entry: (u64, Inode))
     requires there { IsSome (cold_at cold.old.entries entry.0) }
-    ensures { (q : ℕ) → cold_at cold.new.entries q ≡ cond (is_at (nat_cmp entry.0) q) (Some entry.1) (cold_at cold.old.entries q) }
+    ensures { (q : ℕ) → cold_at cold.new.entries q ≡ cond (is_at (nat_cmp entry.0) q) (Some entry.1)
+        (cold_at cold.old.entries q) }
 {
     let (inode, content) = entry;
     if cold.insert(inode, content).is_err() {

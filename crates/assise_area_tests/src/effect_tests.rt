@@ -1,6 +1,6 @@
 // Effects case by case, on hot inodes and on cold ones.
 use crate::subjects::{Effects, show};
-use assise_effect_texts::cases::CASES;
+use assise_test_effects::cases::CASES;
 use std::alloc::Global;
 use std::process::Abort;
 

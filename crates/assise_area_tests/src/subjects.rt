@@ -1,10 +1,10 @@
 // What the rows of the tests ask.
 use crate::steps::area_of;
 use assise_area::area::Area;
-use assise_effect_texts::effects::{effect_of, make};
-use assise_effect_texts::inodes::put_inodes;
 use assise_inode_table::table::InodeTable;
-use assise_rows::{Subject, wrong_rows};
+use assise_test_effects::effects::{effect_of, make};
+use assise_test_effects::inodes::put_inodes;
+use assise_test_rows::{Subject, wrong_rows};
 use std::alloc::Global;
 use std::process::Abort;
 

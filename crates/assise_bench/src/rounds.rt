@@ -4,7 +4,7 @@
 //! an unlink in turn; a database's write of a page of 4 KiB, of the first of `pages` and of 32 others in turn; or one of a `mail`
 //! store, which keeps eight messages: an old one is unlinked, a file is made and 4 KiB are written into it, and it is renamed.
 //!
-//! PARTS are those of a round that are made: `calls`, none; `sent`, each node by rising number sends what it has for others, and
+//! PARTS are those of a round that are made: `calls`, none; `sent`, each node by ascending number sends what it has for others, and
 //! they take it in; `coded`, the same, but each frame comes as the bytes of its spelling; `whole`, moreover each node digests once,
 //! and leases that were asked for go. Only with `whole` the logs get room again, of 4,096 records each.
 //!

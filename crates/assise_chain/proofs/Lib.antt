@@ -1,6 +1,6 @@
 mod Parts
 mod Rows
-mod Sending
-mod Standing
+mod StepsKeepPrefixes
+mod ChainOrder
 mod Successors
-mod Taking
+mod RecordPrefixes

@@ -7,30 +7,30 @@ use Rattle.std.proofs.lemmas.Bool.{cases_lt}
 use Rattle.circular_buffer.proofs.Places.{slice_get-append_left, slice_get-append_right, slice_get-drop, slice_get-take}
 use Rattle.assise_record.specs.LogRecord.{LogRecord}
 use Rattle.assise_record.specs.LogFrame.{LogFrame}
-use Rattle.assise_private_log.specs.NumberedLog.{NumberedLog, end, record_at, records_from, with_record, without_front}
+use Rattle.assise_private_log.specs.NumberedLog.{NumberedLog, end, record_at, records_from, with_record, without_prefix}
 use Rattle.assise_chain.specs.Acceptance.{accepted, records_past}
 use Rattle.assise_chain.specs.Messages.{count_sent, first_sent, sent}
-use Rattle.assise_chain.specs.Passing.{IsFrontOf}
+use Rattle.assise_chain.specs.Passing.{IsPrefixOf}
 
 -- ---- places
 
 of_take : {X : Type 0} (n : ℕ) (xs : List X) (k : ℕ) (x : X) → slice_get (take n xs) k ≡ Some x → slice_get xs k ≡ Some x
 of_take n xs k x is =
     let within = slice_get_within (take n xs) k x is in
-    let front : k < n = omega (arith, length-take n xs) in
-    sym (slice_get-take n xs k front) ∙ is
+    let prefix : k < n = omega (arith, length-take n xs) in
+    sym (slice_get-take n xs k prefix) ∙ is
 
 of_drop : {X : Type 0} (n : ℕ) (xs : List X) (k : ℕ) (x : X) → slice_get (drop n xs) k ≡ Some x → slice_get xs (n + k) ≡ Some x
 of_drop n xs k x is = sym (slice_get-drop n xs k (n + k) refl) ∙ is
 
--- what has the items of another at its places is its front
-front_of : {X : Type 0} (xs ys : List X) → ((k : ℕ) (x : X) → slice_get xs k ≡ Some x → slice_get ys k ≡ Some x) → xs ≡ take (length xs) ys
-front_of [] ys same = refl
-front_of (x ∷ xs) [] same = let none : None ≡ Some x = same zero x refl in cc
-front_of (x ∷ xs) (y ∷ ys) same =
+-- what has the items of another at its places is its prefix
+prefix_of : {X : Type 0} (xs ys : List X) → ((k : ℕ) (x : X) → slice_get xs k ≡ Some x → slice_get ys k ≡ Some x) → xs ≡ take (length xs) ys
+prefix_of [] ys same = refl
+prefix_of (x ∷ xs) [] same = let none : None ≡ Some x = same zero x refl in cc
+prefix_of (x ∷ xs) (y ∷ ys) same =
     let first : Some y ≡ Some x = same zero x refl in
     let is : x ≡ y = cc in
-    ap (λ z. z ∷ xs) is ∙ ap (λ l. y ∷ l) (front_of xs ys (λ k z s. same (suc k) z s))
+    ap (λ z. z ∷ xs) is ∙ ap (λ l. y ∷ l) (prefix_of xs ys (λ k z s. same (suc k) z s))
 
 -- ---- numbers
 
@@ -46,19 +46,19 @@ pub record IsPart (first : ℕ) (rs : List LogRecord) (whole : NumberedLog) : Ty
 pub whole_part : (l : NumberedLog) → IsPart l.first l.records l
 whole_part l = record { agrees = λ k r is from. let place : l.first + k - l.first ≡ k = omega arith in ap (slice_get l.records) place ∙ is }
 
--- a front agrees
-pub front_part : (l whole : NumberedLog) → IsFrontOf l whole → IsPart l.first l.records whole
-front_part l whole front = record {
+-- a prefix agrees
+pub prefix_part : (l whole : NumberedLog) → IsPrefixOf l whole → IsPart l.first l.records whole
+prefix_part l whole prefix = record {
   agrees = λ k r is from.
-      let place : k ≡ l.first + k - whole.first = omega (arith, front.first) in
-      ap (slice_get whole.records) (sym place) ∙ of_take (length l.records) whole.records k r (ap (λ rs. slice_get rs k) (sym front.records) ∙ is);
+      let place : k ≡ l.first + k - whole.first = omega (arith, prefix.first) in
+      ap (slice_get whole.records) (sym place) ∙ of_take (length l.records) whole.records k r (ap (λ rs. slice_get rs k) (sym prefix.records) ∙ is);
 }
 
--- and what agrees and begins with the log is a front
-pub part_front : (l whole : NumberedLog) → l.first ≡ whole.first → IsPart l.first l.records whole → IsFrontOf l whole
-part_front l whole first part = record {
+-- and what agrees and begins with the log is a prefix
+pub part_prefix : (l whole : NumberedLog) → l.first ≡ whole.first → IsPart l.first l.records whole → IsPrefixOf l whole
+part_prefix l whole first part = record {
   first = first;
-  records = front_of l.records whole.records (λ k r is.
+  records = prefix_of l.records whole.records (λ k r is.
       let place : l.first + k - whole.first ≡ k = omega arith in
       ap (slice_get whole.records) (sym place) ∙ part.agrees k r is (omega arith));
 }
@@ -72,7 +72,7 @@ part_longer first rs whole added part = record {
 }
 
 -- without the log's first records
-pub part_shorter : (first to : ℕ) (rs : List LogRecord) (whole : NumberedLog) → whole.first ≤ to → IsPart first rs whole → IsPart first rs (without_front whole to)
+pub part_shorter : (first to : ℕ) (rs : List LogRecord) (whole : NumberedLog) → whole.first ≤ to → IsPart first rs whole → IsPart first rs (without_prefix whole to)
 part_shorter first to rs whole reached part = record {
   agrees = λ k r is from.
       let place : first + k - whole.first ≡ (to - whole.first) + (first + k - to) = omega arith in

@@ -2,7 +2,7 @@
 use Rattle.std.proofs.Common.{◌≡◌, ℕ, ◌<◌, Bool, true, false, cond, List, [], ◌∷◌, ◌++◌, ap, sym, ◌∙◌, refl, arith, inl, inr, ◌⊎◌, filter, nat_lt, nat_le}
 use Rattle.std.specs.List.{AllByRecursion}
 use Rattle.std.proofs.lemmas.Bool.{cases_lt}
-use Rattle.assise_chain.specs.Chains.{IsRising, chain}
+use Rattle.assise_chain.specs.Chains.{IsAscending, chain}
 use Rattle.assise_chain.specs.Lists.{AllDiffer, IsOneOf}
 
 module _ {X : Type 0} where
@@ -52,13 +52,13 @@ module _ {X : Type 0} where
     filter_differ (y ∷ ys) d = kept_differ (p y) y (filter p ys) (λ a. d.0 (of_filter ys y a).0) (filter_differ ys d.1)
 
   both_differ : (xs ys : List X) → AllDiffer xs → AllDiffer ys → ((x : X) → IsOneOf xs x → IsOneOf ys x → ⊥) → AllDiffer (xs ++ ys)
-  both_differ [] ys d e apart = e
-  both_differ (x ∷ xs) ys d e apart = (
-    (λ a. elim (of_both xs ys x a) [ inl l ↦ d.0 l | inr r ↦ apart x (inl refl) r ]),
-    both_differ xs ys d.1 e (λ z l r. apart z (inr l) r),
+  both_differ [] ys d e disjoint = e
+  both_differ (x ∷ xs) ys d e disjoint = (
+    (λ a. elim (of_both xs ys x a) [ inl l ↦ d.0 l | inr r ↦ disjoint x (inl refl) r ]),
+    both_differ xs ys d.1 e (λ z l r. disjoint z (inr l) r),
   )
 
--- ---- rising nodes
+-- ---- ascending nodes
 
 -- who is above all of some isn't one of them
 pub above_all : (ns : List ℕ) (n m : ℕ) → AllByRecursion (λ k. n < k) ns → IsOneOf ns m → n < m
@@ -66,9 +66,9 @@ above_all [] n m above a = absurd a
 above_all (k ∷ ns) n m above (inl e) = let first : n < k = above.0 in omega (arith, e)
 above_all (k ∷ ns) n m above (inr a) = above_all ns n m above.1 a
 
-rising_differ : (ns : List ℕ) → IsRising ns → AllDiffer ns
-rising_differ [] r = tt
-rising_differ (n ∷ ns) r = ((λ a. let self : n < n = above_all ns n n r.0 a in omega arith), rising_differ ns r.1)
+ascending_differ : (ns : List ℕ) → IsAscending ns → AllDiffer ns
+ascending_differ [] r = tt
+ascending_differ (n ∷ ns) r = ((λ a. let self : n < n = above_all ns n n r.0 a in omega arith), ascending_differ ns r.1)
 
 -- nobody is both from the head on and below it
 not_both_sides : (head n : ℕ) → nat_le head n ≡ true → nat_lt n head ≡ true → ⊥
@@ -92,8 +92,8 @@ in_chain full head n a = elim (cases_lt n head) [
       in_left (filter (nat_le head) full) (filter (λ m. nat_lt m head) full) n (in_filter (nat_le head) full n a is)
 ]
 
-pub chain_differs : (full : List ℕ) (head : ℕ) → IsRising full → AllDiffer (chain full head)
+pub chain_differs : (full : List ℕ) (head : ℕ) → IsAscending full → AllDiffer (chain full head)
 chain_differs full head r =
-    let d = rising_differ full r in
+    let d = ascending_differ full r in
     both_differ (filter (nat_le head) full) (filter (λ m. nat_lt m head) full) (filter_differ (nat_le head) full d) (filter_differ (λ m. nat_lt m head) full d)
     (λ n l r. not_both_sides head n (of_filter (nat_le head) full n l).1 (of_filter (λ m. nat_lt m head) full n r).1)

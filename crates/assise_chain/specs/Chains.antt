@@ -19,6 +19,6 @@ behind node [] = None
 behind node (n ∷ ns) = if n == node then first_of_all ns else behind node ns
 
 -- each node is below all behind it
-abbrev pub IsRising : List ℕ → Type 0
-IsRising [] = Unit {0}
-IsRising (n ∷ ns) = AllByRecursion (λ m. n < m) ns × IsRising ns
+abbrev pub IsAscending : List ℕ → Type 0
+IsAscending [] = Unit {0}
+IsAscending (n ∷ ns) = AllByRecursion (λ m. n < m) ns × IsAscending ns

@@ -11,21 +11,25 @@ abbrev pub first_sent : NumberedLog → ℕ → ℕ
 first_sent l from = max from l.first
 
 -- the records from a number on and below another
-abbrev pub records_between : NumberedLog → ℕ → ℕ → List LogRecord
-records_between l from to = take (to - first_sent l from) (records_from l from)
+abbrev pub log_records_between : NumberedLog → ℕ → ℕ → List LogRecord
+log_records_between l from to = take (to - first_sent l from) (records_from l from)
 
 -- how many records one message has: whole groups, as many as have at most 64 together
 abbrev pub count_sent : NumberedLog → ℕ → ℕ → ℕ
-count_sent l from to = whole_count l (first_sent l from) (min 64 (length (records_between l from to)))
+count_sent l from to = whole_count l (first_sent l from) (min 64 (length (log_records_between l from to)))
 
 -- the records that one message has
 abbrev pub sent : NumberedLog → ℕ → ℕ → List LogRecord
-sent l from to = take (count_sent l from to) (records_between l from to)
+sent l from to = take (count_sent l from to) (log_records_between l from to)
 
--- of each of so many records from a number on, whether it is the last of its group
+-- of each of so many records from a number on, whether a group ends with it, by where groups end
+abbrev pub end_marks : (ℕ → Bool) → ℕ → ℕ → List Bool
+end_marks border first zero = []
+end_marks border first (suc count) = border (suc first) ∷ end_marks border (suc first) count
+
+-- the marks of a log's records
 abbrev pub last_marks : NumberedLog → ℕ → ℕ → List Bool
-last_marks l first zero = []
-last_marks l first (suc count) = is_border l (suc first) ∷ last_marks l (suc first) count
+last_marks l = end_marks (is_border l)
 
 -- records from a number on, of which there is at least one, in a frame: of version 2 with these marks, or of version 1
 abbrev pub frame_of : Bool → ℕ → ℕ → ℕ → List LogRecord → List Bool → Option LogFrame

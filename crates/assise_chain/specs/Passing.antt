@@ -4,7 +4,7 @@
 use Rattle.std.specs.Prelude.{◌≡◌, ◌≢◌, ℕ, ◌≤◌, Bool, List, [], ◌∷◌, Option, Some, None, ◌⊎◌, length, take}
 use Rattle.assise_record.specs.LogRecord.{LogRecord}
 use Rattle.assise_record.specs.LogFrame.{LogFrame}
-use Rattle.assise_private_log.specs.NumberedLog.{NumberedLog, end, with_record, without_front}
+use Rattle.assise_private_log.specs.NumberedLog.{NumberedLog, end, with_record, without_prefix}
 use Rattle.assise_chain.specs.Acceptance.{IsTimely, accepted}
 use Rattle.assise_chain.specs.Lists.{IsOneOf}
 use Rattle.assise_chain.specs.Messages.{message_of}
@@ -14,24 +14,24 @@ pub record Nodes : Type 0 where
   pub logs : ℕ → NumberedLog
   pub sent : List LogFrame
 
-pub data Step : Type 0 where
+pub data ChainStep : Type 0 where
   -- the head takes a record in
-  append : LogRecord → Step
+  append : LogRecord → ChainStep
   -- a node sends records of its log that lie between two numbers, with marks or without
-  send : (marked : Bool) (node from to : ℕ) → Step
+  send : (marked : Bool) (node from to : ℕ) → ChainStep
   -- a frame that was sent, now or long ago, comes to a node that isn't the head
-  deliver : (node : ℕ) → LogFrame → Step
+  deliver : (node : ℕ) → LogFrame → ChainStep
   -- all full nodes let the records below a number go
-  let_go : (to : ℕ) → Step
+  let_go : (to : ℕ) → ChainStep
 
 -- one node's log becomes this, and no other changes
-pub record Becomes (old new : ℕ → NumberedLog) (node : ℕ) (l : NumberedLog) : Type 0 where
+pub record LogBecomes (old new : ℕ → NumberedLog) (node : ℕ) (l : NumberedLog) : Type 0 where
   pub here : new node ≡ l
   pub elsewhere : (other : ℕ) → other ≢ node → new other ≡ old other
 
 -- no log changes
-abbrev pub SameLogs : (ℕ → NumberedLog) → (ℕ → NumberedLog) → Type 0
-SameLogs old new = (node : ℕ) → new node ≡ old node
+abbrev pub NoLogChanges : (ℕ → NumberedLog) → (ℕ → NumberedLog) → Type 0
+NoLogChanges old new = (node : ℕ) → new node ≡ old node
 
 -- a number lies between the first and the end of each full node's log: every such node has had all records below it
 abbrev pub AllReach : List ℕ → (ℕ → NumberedLog) → ℕ → Type 0
@@ -39,7 +39,7 @@ AllReach full logs number = (node : ℕ) → IsOneOf full node → ((logs node).
 
 -- each full node lets the records below a number go
 abbrev pub AllLetGo : List ℕ → (ℕ → NumberedLog) → (ℕ → NumberedLog) → ℕ → Type 0
-AllLetGo full old new number = (node : ℕ) → IsOneOf full node → new node ≡ without_front (old node) number
+AllLetGo full old new number = (node : ℕ) → IsOneOf full node → new node ≡ without_prefix (old node) number
 
 -- what was sent, with a message if there is one
 abbrev pub with_message : Option LogFrame → List LogFrame → List LogFrame
@@ -47,31 +47,31 @@ with_message None sent = sent
 with_message (Some f) sent = f ∷ sent
 
 -- what a step does among the full nodes in an epoch, where its condition holds
-abbrev pub Does : (full : List ℕ) (head epoch client : ℕ) → Nodes → Step → Nodes → Type 0
-Does full head epoch client old (append r) new = Becomes old.logs new.logs head (with_record (old.logs head) r) × (new.sent ≡ old.sent)
-Does full head epoch client old (send marked node from to) new =
-    IsOneOf full node × SameLogs old.logs new.logs × (new.sent ≡ with_message (message_of (old.logs node) marked epoch client from to) old.sent)
-Does full head epoch client old (deliver node f) new =
-    IsOneOf old.sent f × IsOneOf full node × (node ≢ head) × IsTimely (end (old.logs node)) f epoch × Becomes old.logs new.logs node (accepted (old.logs node) f) × (new.sent ≡ old.sent)
-Does full head epoch client old (let_go to) new = AllReach full old.logs to × AllLetGo full old.logs new.logs to × (new.sent ≡ old.sent)
+abbrev pub StepDoes : (full : List ℕ) (head epoch client : ℕ) → Nodes → ChainStep → Nodes → Type 0
+StepDoes full head epoch client old (append r) new = LogBecomes old.logs new.logs head (with_record (old.logs head) r) × (new.sent ≡ old.sent)
+StepDoes full head epoch client old (send marked node from to) new =
+    IsOneOf full node × NoLogChanges old.logs new.logs × (new.sent ≡ with_message (message_of (old.logs node) marked epoch client from to) old.sent)
+StepDoes full head epoch client old (deliver node f) new =
+    IsOneOf old.sent f × IsOneOf full node × (node ≢ head) × IsTimely (end (old.logs node)) f epoch × LogBecomes old.logs new.logs node (accepted (old.logs node) f) × (new.sent ≡ old.sent)
+StepDoes full head epoch client old (let_go to) new = AllReach full old.logs to × AllLetGo full old.logs new.logs to × (new.sent ≡ old.sent)
 
 -- where its condition doesn't hold, as at a frame that isn't timely, all stays as it was
-abbrev pub MayDo : (full : List ℕ) (head epoch client : ℕ) → Nodes → Step → Nodes → Type 0
-MayDo full head epoch client old step new = Does full head epoch client old step new ⊎ (SameLogs old.logs new.logs × (new.sent ≡ old.sent))
+abbrev pub StepMayDo : (full : List ℕ) (head epoch client : ℕ) → Nodes → ChainStep → Nodes → Type 0
+StepMayDo full head epoch client old step new = StepDoes full head epoch client old step new ⊎ (NoLogChanges old.logs new.logs × (new.sent ≡ old.sent))
 
 -- what a list of steps does, one after another
-abbrev pub AllDo : (full : List ℕ) (head epoch client : ℕ) → Nodes → List Step → Nodes → Type 0
-AllDo full head epoch client old [] new = SameLogs old.logs new.logs × (new.sent ≡ old.sent)
-AllDo full head epoch client old (step ∷ steps) new = (next : Nodes) × MayDo full head epoch client old step next × AllDo full head epoch client next steps new
+abbrev pub AllSteps : (full : List ℕ) (head epoch client : ℕ) → Nodes → List ChainStep → Nodes → Type 0
+AllSteps full head epoch client old [] new = NoLogChanges old.logs new.logs × (new.sent ≡ old.sent)
+AllSteps full head epoch client old (step ∷ steps) new = (next : Nodes) × StepMayDo full head epoch client old step next × AllSteps full head epoch client next steps new
 
 -- a log has the first records of another, and begins where that does
-pub record IsFrontOf (l whole : NumberedLog) : Type 0 where
+pub record IsPrefixOf (l whole : NumberedLog) : Type 0 where
   pub first : l.first ≡ whole.first
   pub records : l.records ≡ take (length l.records) whole.records
 
--- an epoch begins: the head is full, the log of each full node is a front of the head's, as where all are empty, and what was
+-- an epoch begins: the head is full, the log of each full node is a prefix of the head's, as where all are empty, and what was
 -- sent was sent in other epochs
-pub record IsBegun (full : List ℕ) (head epoch : ℕ) (nodes : Nodes) : Type 0 where
+pub record ChainIsBegun (full : List ℕ) (head epoch : ℕ) (nodes : Nodes) : Type 0 where
   pub head_full : IsOneOf full head
-  pub fronts : (node : ℕ) → IsOneOf full node → IsFrontOf (nodes.logs node) (nodes.logs head)
+  pub prefixes : (node : ℕ) → IsOneOf full node → IsPrefixOf (nodes.logs node) (nodes.logs head)
   pub sent_before : (f : LogFrame) → IsOneOf nodes.sent f → f.epoch ≢ epoch

@@ -20,13 +20,15 @@ pub fn is_timely(frame: &Frame, received: u64, epoch: u64) -> bool
 /// has. It answers the number behind the log's last record. A frame that isn't timely behind the log's end ([`is_timely`]) is
 /// refused with [`Refusal::StaleMessage`], and leaves the log as it was. It takes no memory.
 pub fn accept(log: &mut Log, frame: Frame, epoch: u64) -> Result<u64, Refusal>
-    requires room { IsTimely (end log.old) frame epoch → frame.first + length frame.records ≤ log.old.first + log.old.limit }
+    requires room { IsTimely (end log.old) frame epoch →
+        frame.first + length frame.records ≤ log.old.first + log.old.limit }
     ensures timely { IsOk result ↔ IsTimely (end log.old) frame epoch }
     ensures accepted { OnOk result (log.new ≡ accepted log.old frame) }
     ensures refused { OnErr result (log.new ≡ log.old) }
     ensures stale { IfErr result (λ refusal. refusal ≡ StaleMessage) }
     ensures received { IfOk result (λ received. received ≡ end log.new) }
-    ensures greater { IfOk result (λ received. received ≡ max (end log.old) (frame.first + length frame.records)) }
+    ensures greater { IfOk result (λ received. received ≡ max (end log.old)
+        (frame.first + length frame.records)) }
 {
     if !is_timely(&frame, log.end(), epoch) {
         return Err(Refusal::StaleMessage);

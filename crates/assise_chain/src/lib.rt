@@ -3,7 +3,7 @@
 #![tactic(auto)]
 
 pub mod acceptance;
-pub mod acknowledged;
 pub mod laws;
 pub mod messages;
 pub mod order;
+pub mod replicated;

@@ -6,12 +6,13 @@ use assise_chain::acceptance::{accept, is_timely};
 use assise_chain::messages::message;
 use assise_private_log::log::Log;
 use assise_record::frame::Frame;
-use assise_rows::{Subject, split_word};
+use assise_test_rows::{Subject, split_word};
 use std::alloc::Global;
 
 /// Whether a log has room up to a frame's last record.
 pub(crate) fn has_room(log: &Log, frame: &Frame) -> bool
-    ensures { result ≡ true → frame.now.first + length frame.now.records ≤ log.now.first + log.now.limit }
+    ensures { result ≡ true → frame.now.first + length frame.now.records ≤ log.now.first +
+        log.now.limit }
 {
     let end = frame.first() + frame.records().len() as u64;
     end <= log.first().saturating_add(log.limit() as u64)

@@ -3,7 +3,7 @@ use assise_private_log::log::Log;
 use assise_record::effect::Effect;
 use assise_record::frame::Frame;
 use assise_record::record::Record;
-use assise_rows::{Subject, wrong_rows};
+use assise_test_rows::{Subject, wrong_rows};
 use std::alloc::{AllocError, Global};
 use std::process::Abort;
 

@@ -2,10 +2,10 @@
 use crate::accepting::has_room;
 use crate::logs::{log_of, put_log, show};
 use assise_chain::acceptance::accept;
-use assise_chain::acknowledged::acked;
 use assise_chain::messages::message;
+use assise_chain::replicated::acked;
 use assise_private_log::log::Log;
-use assise_rows::{Subject, split_word};
+use assise_test_rows::{Subject, split_word};
 use std::alloc::Global;
 
 /// `NODES END`: a head's log up to an end goes along so many nodes, one message from node to node and then one more. The

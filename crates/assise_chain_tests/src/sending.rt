@@ -1,7 +1,7 @@
 // What a node sends of its log.
 use crate::logs::{log_of, put_frame, show};
 use assise_chain::messages::message;
-use assise_rows::{Subject, split_word};
+use assise_test_rows::{Subject, split_word};
 use std::alloc::Global;
 
 /// `FIRST END, FROM TO`: a log, and what is sent of it, with marks where `marked` stands behind. Behind END may be numbers, of which

@@ -1,8 +1,8 @@
 // Who stands behind whom, and how far all have come.
 use crate::logs::show;
-use assise_chain::acknowledged::acked;
 use assise_chain::order::successor;
-use assise_rows::Subject;
+use assise_chain::replicated::acked;
+use assise_test_rows::Subject;
 use std::alloc::Global;
 
 /// `HEAD of NODE NODE ..`: a chain of full nodes. What stands behind each of the nodes 1 to 8 is told.
@@ -96,6 +96,6 @@ const RECEIVED: &str = "\
 ";
 
 #[test]
-fn the_least_is_acknowledged(rt: HostRuntime) {
+fn the_least_is_replicated(rt: HostRuntime) {
     show(rt.alloc(), &rt, &mut Received, RECEIVED);
 }

@@ -3,7 +3,7 @@ use Rattle.std.proofs.Common.{◌≡◌, ◌≤◌, ◌<◌, ◌⊎◌, ℕ, suc
 use Rattle.std.proofs.lemmas.Bool.{cases_lt}
 use Rattle.std.proofs.lemmas.List.{get_or_append_left, length-append}
 use Rattle.std.proofs.Math.Seq.{get_or-append_seam}
-use Rattle.assise_machine_laws.specs.World.{World, received_by_all}
+use Rattle.assise_model_world.specs.World.{World, received_by_all}
 use Rattle.assise_machine.specs.Clusters.{AreAcked}
 
 -- of the first so many clients, if there are as many

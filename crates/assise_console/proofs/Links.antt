@@ -6,13 +6,13 @@ use Rattle.assise_names.specs.declared.limits.TheConstants.{MOST_NODES}
 use Rattle.assise_fault_script.specs.declared.command.LinkKind.{LinkKind}
 use Rattle.assise_link.specs.TestLinks.{is_perfect}
 use Rattle.assise_link.specs.declared.test_link.TestLink.{TestLink}
-use Rattle.assise_machine_events.specs.Faults.{node_fault}
-use Rattle.assise_machine_events.specs.Machine.{Machine}
+use Rattle.assise_model_events.specs.Faults.{node_fault}
+use Rattle.assise_model_events.specs.Machine.{Machine}
 use Rattle.assise_machine.specs.Clusters.{machine}
 use Rattle.assise_machine.specs.declared.cluster.ClusterOf.{ClusterOf}
 use Rattle.assise_machine.proofs.Few.{few_nodes}
-use Rattle.assise_console.specs.State.{State}
-use Rattle.assise_console.specs.declared.answer.Answer.TheVariants.{Linked, Refused}
+use Rattle.assise_console.specs.State.{ConsoleState}
+use Rattle.assise_console.specs.declared.response.Response.TheVariants.{Linked, Refused}
 use Rattle.assise_console.specs.Steps.{SetsLink, is_linked, is_nowhere, is_perfect_kind}
 use Rattle.assise_console.proofs.Numbers.{no_node}
 use Rattle.assise_console.proofs.OneCommand.{with_links}
@@ -36,7 +36,7 @@ map_set f [] k x = refl
 map_set f (y ∷ xs) zero x = refl
 map_set f (y ∷ xs) (suc k) x = ap (λ ys. f y ∷ ys) (map_set f xs k x)
 
-pub sets_link : (s : State) (n k : ℕ) (kind : LinkKind) (links : List TestLink) (l : TestLink) → k ≡ n → (node_fault s.machine k ≡ Some BadNode → ⊥) → s.links ≡ map is_perfect links → is_perfect l ≡ is_perfect_kind kind
+pub sets_link : (s : ConsoleState) (n k : ℕ) (kind : LinkKind) (links : List TestLink) (l : TestLink) → k ≡ n → (node_fault s.machine k ≡ Some BadNode → ⊥) → s.links ≡ map is_perfect links → is_perfect l ≡ is_perfect_kind kind
     → SetsLink s n kind (Linked k) (with_links s s.machine (map is_perfect (slice_set links (k - 1) l)))
 sets_link s n k kind links l same there seen perfect =
     let now : map is_perfect (slice_set links (k - 1) l) ≡ slice_set s.links (k - 1) (is_perfect_kind kind) =
@@ -44,7 +44,7 @@ sets_link s n k kind links l same there seen perfect =
     subst (λ j. SetsLink s j kind (Linked k) (with_links s s.machine (map is_perfect (slice_set links (k - 1) l)))) same
     (is_linked there refl (ap (with_links s s.machine) now))
 
-pub links_nowhere : (s : State) (n : ℕ) (kind : LinkKind) → length s.machine.members.nodes < n → SetsLink s n kind (Refused BadNode) s
+pub links_nowhere : (s : ConsoleState) (n : ℕ) (kind : LinkKind) → length s.machine.members.nodes < n → SetsLink s n kind (Refused BadNode) s
 links_nowhere s n kind far = is_nowhere (no_node s.machine n far) refl refl
 
 -- items that are all alike in something

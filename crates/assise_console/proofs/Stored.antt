@@ -2,12 +2,12 @@
 use Rattle.std.proofs.Common.{◌≡◌, ℕ, List, ◌++◌, Option, Result, Ok, Err, OnErr, refl, ap, sym, subst}
 use Rattle.std.specs.Option.{option_to_list}
 use Rattle.assise_names.specs.declared.refusal.Refusal.{Refusal}
-use Rattle.assise_machine_events.specs.Events.{digested, not_yet, opened, refused, released, replied}
+use Rattle.assise_model_events.specs.Events.{digested, not_yet, opened, refused, released, replied}
 use Rattle.assise_machine.specs.Running.{opened_answer}
-use Rattle.assise_console.specs.declared.answer.Answer.{Answer}
-use Rattle.assise_console.specs.declared.answer.Answer.TheVariants.{Quiet, Client, Replied, Waits, Refused, Carried, Digested, Released, Linked, HotSet, Crashed, Failed, Began, Left, Returned, Raised, Tree, History, Checked}
+use Rattle.assise_console.specs.declared.response.Response.{Response}
+use Rattle.assise_console.specs.declared.response.Response.TheVariants.{Quiet, Client, Replied, Waits, Refused, Carried, Digested, Released, Linked, HotSet, Crashed, Failed, Began, Left, Returned, Raised, Tree, History, Checked}
 use Rattle.assise_console.specs.declared.stock.Stock.{Stock}
-use Rattle.assise_console.specs.Stored.{left_of}
+use Rattle.assise_console.specs.Stored.{revokers_left}
 use Rattle.assise_console.specs.OneEvent.{Tells}
 use Rattle.assise_fault_script.specs.declared.command.RevokerKind.{RevokerKind}
 use Rattle.assise_fault_script.specs.declared.command.RevokerKind.TheVariants.{Least, Whole, Eights}
@@ -17,7 +17,7 @@ same_client : (c d : ℕ) → opened d ≡ opened c → d ≡ c
 same_client c d is = cc
 
 -- who tells that a client was opened answers with that client
-tells_opened : (a : Answer) (c : ℕ) → Tells a (opened c) → a ≡ Client c
+tells_opened : (a : Response) (c : ℕ) → Tells a (opened c) → a ≡ Client c
 tells_opened (Client d) c tells = ap Client (same_client c d (sym tells))
 tells_opened (Replied reply) c tells = absurd (let bad : opened c ≡ replied reply = tells in cc)
 tells_opened Waits c tells = absurd (let bad : opened c ≡ not_yet = tells in cc)
@@ -38,11 +38,11 @@ tells_opened (Tree tree) c tells = absurd tells
 tells_opened History c tells = absurd tells
 tells_opened (Checked legal) c tells = absurd tells
 
-kept_of : (P : Type 0) (a : Answer) (r : Result ℕ Refusal) → Tells a (opened_answer r) → OnErr r P → ((c : ℕ) → a ≡ Client c → ⊥) → P
+kept_of : (P : Type 0) (a : Response) (r : Result ℕ Refusal) → Tells a (opened_answer r) → OnErr r P → ((c : ℕ) → a ≡ Client c → ⊥) → P
 kept_of P a (Ok c) tells p none = absurd (none c (tells_opened a c tells))
 kept_of P a (Err e) tells p none = p
 
-module _ {C : Type 0} (a : Answer) (r : Result ℕ Refusal) (old new : List C) (was now : ℕ → Option C) (tells : Tells a (opened_answer r)) where
+module _ {C : Type 0} (a : Response) (r : Result ℕ Refusal) (old new : List C) (was now : ℕ → Option C) (tells : Tells a (opened_answer r)) where
   pub takes : ((c : ℕ) → opened_answer r ≡ opened c → old ≡ new ++ option_to_list (now c)) → (c : ℕ) → a ≡ Client c → old ≡ new ++ option_to_list (now c)
   takes gets c is = gets c (subst (λ b. Tells b (opened_answer r)) is tells)
 
@@ -54,17 +54,17 @@ module _ {C : Type 0} (a : Answer) (r : Result ℕ Refusal) (old new : List C) (
 
 -- ---- the other kinds
 
-pub other_kinds_least : {C : Type 0} (s : Stock C) (v : Vec C) (k : RevokerKind) → (k ≡ Least → ⊥) → left_of k (record s { least = v }) ≡ left_of k s
+pub other_kinds_least : {C : Type 0} (s : Stock C) (v : Vec C) (k : RevokerKind) → (k ≡ Least → ⊥) → revokers_left k (record s { least = v }) ≡ revokers_left k s
 other_kinds_least s v Least other = absurd (other refl)
 other_kinds_least s v Whole other = refl
 other_kinds_least s v Eights other = refl
 
-pub other_kinds_whole : {C : Type 0} (s : Stock C) (v : Vec C) (k : RevokerKind) → (k ≡ Whole → ⊥) → left_of k (record s { whole = v }) ≡ left_of k s
+pub other_kinds_whole : {C : Type 0} (s : Stock C) (v : Vec C) (k : RevokerKind) → (k ≡ Whole → ⊥) → revokers_left k (record s { whole = v }) ≡ revokers_left k s
 other_kinds_whole s v Least other = refl
 other_kinds_whole s v Whole other = absurd (other refl)
 other_kinds_whole s v Eights other = refl
 
-pub other_kinds_eights : {C : Type 0} (s : Stock C) (v : Vec C) (k : RevokerKind) → (k ≡ Eights → ⊥) → left_of k (record s { eights = v }) ≡ left_of k s
+pub other_kinds_eights : {C : Type 0} (s : Stock C) (v : Vec C) (k : RevokerKind) → (k ≡ Eights → ⊥) → revokers_left k (record s { eights = v }) ≡ revokers_left k s
 other_kinds_eights s v Least other = refl
 other_kinds_eights s v Whole other = refl
 other_kinds_eights s v Eights other = absurd (other refl)

@@ -4,7 +4,7 @@ use Rattle.std.specs.Io.KnownBytes.{Appends}
 use Rattle.std.specs.declared.io.ErrorKind.{ErrorKind}
 use Rattle.std.specs.declared.io.ErrorKind.TheVariants.{OutOfMemory}
 use Rattle.assise_history.specs.Legal.{IsLegal}
-use Rattle.assise_machine_events.specs.Events.{all_entries}
+use Rattle.assise_model_events.specs.Events.{all_entries}
 use Rattle.assise_fault_script.specs.Script.{IsCommandAt, commands_of}
 use Rattle.assise_fault_script.specs.declared.command.Command.{Command}
 use Rattle.assise_fault_script.specs.declared.command.Command.TheVariants.{Cluster}
@@ -13,9 +13,9 @@ use Rattle.assise_fault_script.specs.declared.fault.ScriptFault.TheVariants.{Mem
 use Rattle.assise_fault_script.specs.declared.parse.NumberedCommand.{NumberedCommand}
 use Rattle.assise_console.specs.declared.fault.EngineFault.{EngineFault}
 use Rattle.assise_console.specs.declared.fault.EngineFault.TheVariants.{Read, Script, Memory, Write, NeedsSerial, NoThread}
-use Rattle.assise_rounds.specs.Courses.{IsCourse, Told}
+use Rattle.assise_rounds.specs.Traces.{IsEventTrace, Told}
 use Rattle.assise_console.specs.Lines.{Prints, PrintsAll}
-use Rattle.assise_console.specs.State.{State, Stocks, begun}
+use Rattle.assise_console.specs.State.{ConsoleState, Stocks, begun_console}
 
 -- ---- a script's bytes
 
@@ -24,35 +24,35 @@ abbrev pub IsScript : List ℕ → List NumberedCommand → Type 0
 IsScript input commands = commands_of input ≡ Ok commands
 
 -- the command makes a cluster, and this is its console then
-pub record IsBegun (c : Command) (stock : Stocks) (turns : ℕ) (s : State) : Type 0 where
+pub record ClusterIsBegun (c : Command) (stock : Stocks) (turns : ℕ) (s : ConsoleState) : Type 0 where
   pub nodes : ℕ
   pub log : ℕ
   pub hot : ℕ
   pub cluster : c ≡ Cluster nodes log hot
-  pub console : s ≡ begun nodes log stock turns
+  pub console : s ≡ begun_console nodes log stock turns
 
 -- these commands were run from this state on, and the lines of their answers were written, and nothing else
-abbrev pub RunsFrom : State → List NumberedCommand → Option (List ℕ) → Option (List ℕ) → Type 0
-RunsFrom s commands old new = (end : State) × PrintsAll s commands end old new
+abbrev pub RunsFrom : ConsoleState → List NumberedCommand → Option (List ℕ) → Option (List ℕ) → Type 0
+RunsFrom s commands old new = (end : ConsoleState) × PrintsAll s commands end old new
 
 -- the first command makes a cluster, on which all were run; their answers come from events on it, and its history has exactly the
 -- entries of these events and is legal
-pub record Runs (stock : Stocks) (turns : ℕ) (first : NumberedCommand) (others : List NumberedCommand) (old new : Option (List ℕ)) : Type 0 where
-  pub start : State
-  pub begins : IsBegun first.command stock turns start
+pub record RunsScript (stock : Stocks) (turns : ℕ) (first : NumberedCommand) (others : List NumberedCommand) (old new : Option (List ℕ)) : Type 0 where
+  pub start : ConsoleState
+  pub begins : ClusterIsBegun first.command stock turns start
   pub told : Told
   pub text : List ℕ
-  pub end : State
+  pub end : ConsoleState
   pub prints : Prints start (first ∷ others) told text end
   pub appends : Appends old new text
-  pub course : IsCourse start.machine told end.machine
+  pub trace : IsEventTrace start.machine told end.machine
   pub history : end.machine.history ≡ all_entries [] told
   pub legal : IsLegal end.machine.history
 
 -- no command writes nothing
 abbrev pub Ran : Stocks → ℕ → List NumberedCommand → Option (List ℕ) → Option (List ℕ) → Type 0
 Ran stock turns [] old new = Appends old new []
-Ran stock turns (first ∷ others) old new = Runs stock turns first others old new
+Ran stock turns (first ∷ others) old new = RunsScript stock turns first others old new
 
 -- there was no memory for the cluster, and nothing was written; or the writer failed
 abbrev pub IsRunFault : EngineFault → Option (List ℕ) → Option (List ℕ) → Type 0

@@ -1,15 +1,15 @@
 -- Answers of commands that tell that of one event.
 -- Assise (OSDI 2020), section 3 (calls, digests, leases; process crash, fail-over, and recovery).
 use Rattle.std.specs.Prelude.{◌≡◌, ℕ, map}
-use Rattle.assise_machine_events.specs.Events.{Answer as EventAnswer, ClusterEvent, began, crashed, digested, failed, hot_set, joined, left, not_yet, opened, raised, refused, released, replied}
-use Rattle.assise_machine_events.specs.Machine.{Machine}
+use Rattle.assise_model_events.specs.Events.{Answer, ClusterEvent, began, crashed, digested, failed, hot_set, joined, left, not_yet, opened, raised, refused, released, replied}
+use Rattle.assise_model_events.specs.Machine.{Machine}
 use Rattle.assise_machine_failures.specs.Answers.{loss_of}
-use Rattle.assise_rounds.specs.Courses.{IsEvent, Told}
-use Rattle.assise_console.specs.declared.answer.Answer.{Answer}
-use Rattle.assise_console.specs.declared.answer.Answer.TheVariants.{Quiet, Client, Replied, Waits, Refused, Carried, Digested, Released, Linked, HotSet, Crashed, Failed, Began, Left, Returned, Raised, Tree, History, Checked}
+use Rattle.assise_rounds.specs.Traces.{IsEvent, Told}
+use Rattle.assise_console.specs.declared.response.Response.{Response}
+use Rattle.assise_console.specs.declared.response.Response.TheVariants.{Quiet, Client, Replied, Waits, Refused, Carried, Digested, Released, Linked, HotSet, Crashed, Failed, Began, Left, Returned, Raised, Tree, History, Checked}
 
 -- a command's answer tells that of one event
-abbrev pub Tells : Answer → EventAnswer → Type 0
+abbrev pub Tells : Response → Answer → Type 0
 Tells (Client c) e = e ≡ opened c
 Tells (Replied reply) e = e ≡ replied reply
 Tells Waits e = e ≡ not_yet
@@ -31,13 +31,13 @@ Tells History e = ⊥
 Tells (Checked legal) e = ⊥
 
 -- one event, which the answer tells
-pub record IsOne (e : ClusterEvent) (a : Answer) (m : Machine) (es : Told) (m' : Machine) : Type 0 where
-  pub answer : EventAnswer
+pub record IsOne (e : ClusterEvent) (a : Response) (m : Machine) (es : Told) (m' : Machine) : Type 0 where
+  pub answer : Answer
   pub tells : Tells a answer
   pub event : IsEvent e answer m es m'
 
 -- the answer of a command for the client or the node of this number tells that of one event
-abbrev pub TellsAt : ℕ → Answer → EventAnswer → Type 0
+abbrev pub TellsAt : ℕ → Response → Answer → Type 0
 TellsAt n (HotSet node) e = (node ≡ n) × (e ≡ hot_set)
 TellsAt n (Crashed client) e = (client ≡ n) × (e ≡ crashed)
 TellsAt n (Failed node losses) e = (node ≡ n) × (e ≡ failed (map loss_of losses.items))
@@ -59,7 +59,7 @@ TellsAt n History e = ⊥
 TellsAt n (Checked legal) e = ⊥
 
 -- one event of the client or the node of this number, which the answer tells
-pub record IsOneAt (what : ℕ → ClusterEvent) (n : ℕ) (a : Answer) (m : Machine) (es : Told) (m' : Machine) : Type 0 where
-  pub answer : EventAnswer
+pub record IsOneAt (what : ℕ → ClusterEvent) (n : ℕ) (a : Response) (m : Machine) (es : Told) (m' : Machine) : Type 0 where
+  pub answer : Answer
   pub tells : TellsAt n a answer
   pub event : IsEvent (what n) answer m es m'

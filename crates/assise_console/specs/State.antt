@@ -3,7 +3,7 @@ use Rattle.std.specs.Prelude.{ℕ, Bool, true, false, List, replicate}
 use Rattle.assise_names.specs.declared.limits.TheConstants.{MOST_NODES}
 use Rattle.assise_fault_script.specs.declared.command.RevokerKind.{RevokerKind}
 use Rattle.assise_fault_script.specs.declared.command.RevokerKind.TheVariants.{Least, Whole, Eights}
-use Rattle.assise_machine_events.specs.Machine.{Machine, begun_as}
+use Rattle.assise_model_events.specs.Machine.{Machine, begun_as}
 
 -- how many revokers are left of each kind
 pub record Stocks : Type 0 where
@@ -21,7 +21,7 @@ with_stock Least n s = record s { least = n }
 with_stock Whole n s = record s { whole = n }
 with_stock Eights n s = record s { eights = n }
 
-pub record State : Type 0 where
+pub record ConsoleState : Type 0 where
   -- the cluster
   pub machine : Machine
   pub stock : Stocks
@@ -37,9 +37,9 @@ abbrev pub perfect_links : List Bool
 perfect_links = replicate MOST_NODES true
 
 -- a cluster in which nothing happened
-abbrev pub begun : ℕ → ℕ → Stocks → ℕ → State
-begun nodes log stock turns = record { machine = begun_as nodes log; stock = stock; turns = turns; manual = false; links = perfect_links }
+abbrev pub begun_console : ℕ → ℕ → Stocks → ℕ → ConsoleState
+begun_console nodes log stock turns = record { machine = begun_as nodes log; stock = stock; turns = turns; manual = false; links = perfect_links }
 
 -- all else is as it was
-abbrev pub with_machine : State → Machine → State
+abbrev pub with_machine : ConsoleState → Machine → ConsoleState
 with_machine s m = record { machine = m; stock = s.stock; turns = s.turns; manual = s.manual; links = s.links }

@@ -7,16 +7,16 @@ use Rattle.assise_fault_script.specs.declared.command.Command.TheVariants.{Clust
 use Rattle.assise_fault_script.specs.declared.command.RevokerKind.{RevokerKind}
 use Rattle.assise_fault_script.specs.declared.command.RevokerKind.TheVariants.{Least, Whole, Eights}
 use Rattle.assise_machine.specs.Clusters.{revokers}
-use Rattle.assise_console.specs.declared.answer.Answer.{Answer}
-use Rattle.assise_console.specs.declared.answer.Answer.TheVariants.{Client}
+use Rattle.assise_console.specs.declared.response.Response.{Response}
+use Rattle.assise_console.specs.declared.response.Response.TheVariants.{Client}
 use Rattle.assise_console.specs.declared.console.ConsoleOf.{ConsoleOf}
 use Rattle.assise_console.specs.declared.stock.Stock.{Stock}
 
 -- the revokers of a kind that are left
-abbrev pub left_of : {C : Type 0} → RevokerKind → Stock C → List C
-left_of Least s = s.least.items
-left_of Whole s = s.whole.items
-left_of Eights s = s.eights.items
+abbrev pub revokers_left : {C : Type 0} → RevokerKind → Stock C → List C
+revokers_left Least s = s.least.items
+revokers_left Whole s = s.whole.items
+revokers_left Eights s = s.eights.items
 
 -- there is memory for one revoker of a kind more
 abbrev pub HasSpare : {C : Type 0} → RevokerKind → Stock C → Type 0
@@ -25,14 +25,14 @@ HasSpare Whole s = vec_len s.whole < vec_capacity s.whole
 HasSpare Eights s = vec_len s.eights < vec_capacity s.eights
 
 -- a client that is opened stores the last revoker of this kind; where none is opened that stays, and all else stays anyhow
-pub record StoresLast {C : Type 0} (kind : RevokerKind) (a : Answer) (old new : ConsoleOf C) : Type 0 where
-  pub takes : (c : ℕ) → a ≡ Client c → left_of kind old.stock ≡ left_of kind new.stock ++ option_to_list (revokers new.cluster c)
-  pub kept : ((c : ℕ) → a ≡ Client c → ⊥) → left_of kind new.stock ≡ left_of kind old.stock
-  pub kinds : (k : RevokerKind) → (k ≡ kind → ⊥) → left_of k new.stock ≡ left_of k old.stock
+pub record StoresLast {C : Type 0} (kind : RevokerKind) (a : Response) (old new : ConsoleOf C) : Type 0 where
+  pub takes : (c : ℕ) → a ≡ Client c → revokers_left kind old.stock ≡ revokers_left kind new.stock ++ option_to_list (revokers new.cluster c)
+  pub kept : ((c : ℕ) → a ≡ Client c → ⊥) → revokers_left kind new.stock ≡ revokers_left kind old.stock
+  pub kinds : (k : RevokerKind) → (k ≡ kind → ⊥) → revokers_left k new.stock ≡ revokers_left k old.stock
   pub others : (c : ℕ) → (a ≡ Client c → ⊥) → revokers new.cluster c ≡ revokers old.cluster c
 
 -- where the command is an open
-abbrev pub Stores : {C : Type 0} → Command → Answer → ConsoleOf C → ConsoleOf C → Type 0
+abbrev pub Stores : {C : Type 0} → Command → Response → ConsoleOf C → ConsoleOf C → Type 0
 Stores (Open n kind u) a old new = StoresLast kind a old new
 Stores (Cluster n l h) a old new = ⊤
 Stores Manual a old new = ⊤

@@ -1,24 +1,24 @@
 // A cluster on which a script's commands are run.
 ghost use Rattle.std.specs.Prelude.{◌≡◌, ◌<◌, ◌≤◌, IfOk, IsOkUnless, Some, false, map, true};
 ghost use Rattle.assise_names.specs.declared.refusal.Refusal.TheVariants.{OutOfMemory};
-ghost use Rattle.assise_machine_events.specs.Events.{crash, digest, fail, join, raise, refill};
+ghost use Rattle.assise_model_events.specs.Events.{crash, digest, fail, join, raise, refill};
 ghost use Rattle.assise_machine_calls.specs.Answers.{turn_answer};
 ghost use Rattle.assise_machine.specs.Running.{opened_answer};
-ghost use Rattle.assise_console.specs.Consoles.{seen, stocks};
-ghost use Rattle.assise_rounds.specs.Courses.{Told};
-ghost use Rattle.assise_console.specs.State.{begun, perfect_links};
+ghost use Rattle.assise_console.specs.Consoles.{console_seen, stocks};
+ghost use Rattle.assise_rounds.specs.Traces.{Told};
+ghost use Rattle.assise_console.specs.State.{begun_console, perfect_links};
 ghost use Rattle.assise_console.specs.Stored.{Stores, StoresLast};
-ghost use Rattle.assise_console.specs.Steps.{Calls, Carries, Changes, IsVerdict, Does, Opens, Returns, SetsHot, SetsLink, Shows, call_answer, is_perfect_kind, return_answer};
+ghost use Rattle.assise_console.specs.Steps.{Calls, Carries, Changes, IsVerdict, Does, OpensClient, Returns, SetsHot, SetsLink, Shows, call_answer, is_perfect_kind, return_answer};
 ghost use Rattle.assise_console.specs.OneEvent.{IsOne, IsOneAt, Tells};
 ghost use Rattle.assise_link.specs.TestLinks.{is_perfect};
-ghost use Rattle.assise_machine_events.specs.Faults.{node_fault};
+ghost use Rattle.assise_model_events.specs.Faults.{node_fault};
 ghost use Rattle.assise_names.specs.declared.refusal.Refusal.TheVariants.{BadNode};
 ghost use Rattle.assise_names.specs.declared.limits.TheConstants.{MOST_NODES};
 ghost use Rattle.assise_rounds.specs.NodeLinks.{FaithfulAt};
 
-use crate::answer::Answer;
 use crate::commands;
 use crate::numbered::number_of;
+use crate::response::Response;
 use crate::stock::Stock;
 use assise_fault_script::command::{Command, LinkKind, RevokerKind};
 use assise_history::history::History;
@@ -66,7 +66,8 @@ impl<C: Revokes + Drop> ConsoleOf<C> {
         requires most_log { log ≤ 4096 }
         requires least_hot { 1 ≤ hot }
         requires most_hot { hot ≤ 4096 }
-        ensures begun { IfOk result (λ console. seen console ≡ begun nodes log (stocks stock) turns) }
+        ensures begun { IfOk result (λ console. console_seen console ≡ begun_console nodes log
+            (stocks stock) turns) }
         ensures only_memory { IsOkUnless result OutOfMemory }
     {
         Ok(ConsoleOf {
@@ -80,21 +81,21 @@ impl<C: Revokes + Drop> ConsoleOf<C> {
 
     /// What happened so far.
     pub fn history(&self) -> &History
-        ensures { result.now.events ≡ (seen self.now).machine.history }
+        ensures { result.now.events ≡ (console_seen self.now).machine.history }
     {
         self.cluster.history()
     }
 
     /// Runs a command, by events on the cluster.
-    pub fn step(&mut self, alloc: Global, command: Command) -> Answer
-        ensures does { Does (seen self.old) command result (seen self.new) }
+    pub fn step(&mut self, alloc: Global, command: Command) -> Response
+        ensures does { Does (console_seen self.old) command result (console_seen self.new) }
         ensures stores { Stores command result self.old self.new }
     {
         match command {
-            Command::Cluster { .. } => Answer::Quiet,
+            Command::Cluster { .. } => Response::Quiet,
             Command::Manual => {
                 self.manual = true;
-                Answer::Quiet
+                Response::Quiet
             }
             Command::Open {
                 node,
@@ -114,7 +115,7 @@ impl<C: Revokes + Drop> ConsoleOf<C> {
             Command::Join { node } => self.join(alloc, node),
             Command::Raise { node } => self.raise(node),
             Command::Tree { node } => self.tree(alloc, node),
-            Command::History => Answer::History,
+            Command::History => Response::History,
             Command::Check => self.check(alloc),
         }
     }
@@ -126,13 +127,13 @@ impl<C: Revokes + Drop> ConsoleOf<C> {
         node: u64,
         kind: RevokerKind,
         durability: Durability,
-    ) -> Answer
-        ensures opens { (es : Told) ×
-            Opens (seen self.old) node kind durability es result (seen self.new) }
+    ) -> Response
+        ensures opens { (es : Told) × OpensClient
+            (console_seen self.old) node kind durability es result (console_seen self.new) }
         ensures stores { StoresLast kind result self.old self.new }
     {
         let Some(node) = number_of(node) else {
-            return Answer::Refused(Refusal::BadNode);
+            return Response::Refused(Refusal::BadNode);
         };
         let cluster = &mut self.cluster;
         let stock = &mut self.stock;
@@ -151,12 +152,13 @@ impl<C: Revokes + Drop> ConsoleOf<C> {
 
     /// A call of a client: it is tried until it isn't awaited any more, with a round behind each try, or until there is nothing to do
     /// in a round. After `manual` it is tried once.
-    fn call(&mut self, alloc: Global, client: u64, op: &Op) -> Answer
-        ensures { (es : Told) × Changes (Calls (seen self.old).manual (seen self.old).links
-            (seen self.old).turns client op.now result) (seen self.old) es (seen self.new) }
+    fn call(&mut self, alloc: Global, client: u64, op: &Op) -> Response
+        ensures { (es : Told) × Changes (Calls (console_seen self.old).manual
+            (console_seen self.old).links (console_seen self.old).turns client op.now result)
+            (console_seen self.old) es (console_seen self.new) }
     {
         let Some(client) = number_of(client) else {
-            return Answer::Refused(Refusal::BadClient);
+            return Response::Refused(Refusal::BadClient);
         };
         if self.manual {
             turned(self.cluster.try_call(alloc, client, op))
@@ -167,121 +169,128 @@ impl<C: Revokes + Drop> ConsoleOf<C> {
     }
 
     /// One replicate turn of a node.
-    fn carry(&mut self, alloc: Global, node: u64) -> Answer
+    fn carry(&mut self, alloc: Global, node: u64) -> Response
         ensures { (es : Told) ×
-            Changes (Carries (FaithfulAt (seen self.old).links node) node result)
-            (seen self.old) es (seen self.new) }
+            Changes (Carries (FaithfulAt (console_seen self.old).links node) node result)
+            (console_seen self.old) es (console_seen self.new) }
     {
         let Some(node) = number_of(node) else {
-            return Answer::Refused(Refusal::BadNode);
+            return Response::Refused(Refusal::BadNode);
         };
         if !self.has_node(node) {
-            return Answer::Refused(Refusal::BadNode);
+            return Response::Refused(Refusal::BadNode);
         }
         let link = &mut self.links[node as usize - 1];
         match replicate(alloc, &mut self.cluster, link, node) {
-            Ok(taken) => Answer::Carried(taken),
-            Err(refusal) => Answer::Refused(refusal),
+            Ok(taken) => Response::Carried(taken),
+            Err(refusal) => Response::Refused(refusal),
         }
     }
 
     /// Sets the link of a node anew: its carries are counted from 1.
-    fn link(&mut self, node: u64, kind: LinkKind) -> Answer
-        ensures { SetsLink (seen self.old) node kind result (seen self.new) }
+    fn link(&mut self, node: u64, kind: LinkKind) -> Response
+        ensures { SetsLink (console_seen self.old) node kind result (console_seen self.new) }
     {
         let Some(node) = number_of(node) else {
-            return Answer::Refused(Refusal::BadNode);
+            return Response::Refused(Refusal::BadNode);
         };
         if !self.has_node(node) {
-            return Answer::Refused(Refusal::BadNode);
+            return Response::Refused(Refusal::BadNode);
         }
         self.links[node as usize - 1] = link_of(kind);
-        Answer::Linked(node)
+        Response::Linked(node)
     }
 
     /// Whether there is such a node, full or not.
     fn has_node(&self, node: u32) -> bool
-        ensures no { result ≡ false → node_fault (seen self.now).machine node ≡ Some BadNode }
+        ensures no { result ≡ false → node_fault (console_seen self.now).machine node ≡
+            Some BadNode }
         ensures yes { result ≡ true →
-            node_fault (seen self.now).machine node ≡ Some BadNode → ⊥ }
+            node_fault (console_seen self.now).machine node ≡ Some BadNode → ⊥ }
     {
         !matches!(self.cluster.region(node), Err(Refusal::BadNode))
     }
 
     /// So many inodes may be hot at a node.
-    fn set_hot(&mut self, node: u64, capacity: u64) -> Answer
-        ensures { (es : Told) ×
-            Changes (SetsHot node capacity result) (seen self.old) es (seen self.new) }
+    fn set_hot(&mut self, node: u64, capacity: u64) -> Response
+        ensures { (es : Told) × Changes (SetsHot node capacity result) (console_seen self.old) es
+            (console_seen self.new) }
     {
         commands::set_hot(&mut self.cluster, node, capacity)
     }
 
     /// One digest of a node.
-    fn digest(&mut self, alloc: Global, node: u64) -> Answer
-        ensures { (es : Told) × Changes (IsOne (digest node) result) (seen self.old) es (seen self.new) }
+    fn digest(&mut self, alloc: Global, node: u64) -> Response
+        ensures { (es : Told) × Changes (IsOne (digest node) result) (console_seen self.old) es
+            (console_seen self.new) }
     {
         commands::digest(alloc, &mut self.cluster, node)
     }
 
     /// A client crashes.
-    fn crash(&mut self, client: u64) -> Answer
-        ensures { (es : Told) × Changes (IsOneAt crash client result) (seen self.old) es (seen self.new) }
+    fn crash(&mut self, client: u64) -> Response
+        ensures { (es : Told) × Changes (IsOneAt crash client result) (console_seen self.old) es
+            (console_seen self.new) }
     {
         commands::crash(&mut self.cluster, client)
     }
 
     /// A node fails.
-    fn fail(&mut self, alloc: Global, node: u64) -> Answer
-        ensures { (es : Told) × Changes (IsOneAt fail node result) (seen self.old) es (seen self.new) }
+    fn fail(&mut self, alloc: Global, node: u64) -> Response
+        ensures { (es : Told) × Changes (IsOneAt fail node result) (console_seen self.old) es
+            (console_seen self.new) }
     {
         commands::fail(alloc, &mut self.cluster, node)
     }
 
     /// A node comes back: it begins to, is filled and joins. After `manual` it begins to.
-    fn back(&mut self, alloc: Global, node: u64) -> Answer
-        ensures { (es : Told) × Changes (Returns (seen self.old).manual node result) (seen self.old) es (seen self.new) }
+    fn back(&mut self, alloc: Global, node: u64) -> Response
+        ensures { (es : Told) × Changes (Returns (console_seen self.old).manual node result)
+            (console_seen self.old) es (console_seen self.new) }
     {
         if self.manual {
             return commands::begin_return(&mut self.cluster, node);
         }
         let Some(node) = number_of(node) else {
-            return Answer::Refused(Refusal::BadNode);
+            return Response::Refused(Refusal::BadNode);
         };
         returned(node, return_node(alloc, &mut self.cluster, node))
     }
 
     /// A node that comes back gets one inode that it may lack.
-    fn refill(&mut self, alloc: Global, node: u64) -> Answer
-        ensures { (es : Told) × Changes (IsOneAt refill node result) (seen self.old) es (seen self.new) }
+    fn refill(&mut self, alloc: Global, node: u64) -> Response
+        ensures { (es : Told) × Changes (IsOneAt refill node result) (console_seen self.old) es
+            (console_seen self.new) }
     {
         commands::refill(alloc, &mut self.cluster, node)
     }
 
     /// A node that comes back and lacks no inode is full again.
-    fn join(&mut self, alloc: Global, node: u64) -> Answer
-        ensures { (es : Told) × Changes (IsOneAt join node result) (seen self.old) es (seen self.new) }
+    fn join(&mut self, alloc: Global, node: u64) -> Response
+        ensures { (es : Told) × Changes (IsOneAt join node result) (console_seen self.old) es
+            (console_seen self.new) }
     {
         commands::join(alloc, &mut self.cluster, node)
     }
 
     /// A full node reads and sends version 2 of frames from here on.
-    fn raise(&mut self, node: u64) -> Answer
+    fn raise(&mut self, node: u64) -> Response
         ensures { (es : Told) ×
-            Changes (IsOneAt raise node result) (seen self.old) es (seen self.new) }
+            Changes (IsOneAt raise node result) (console_seen self.old) es (console_seen self.new) }
     {
         commands::raise(&mut self.cluster, node)
     }
 
     /// Whether the history so far is legal.
-    fn check(&self, alloc: Global) -> Answer
-        ensures { IsVerdict result (seen self.now).machine }
+    fn check(&self, alloc: Global) -> Response
+        ensures { IsVerdict result (console_seen self.now).machine }
     {
         commands::check(alloc, &self.cluster)
     }
 
     /// The tree that a node's region alone gives.
-    fn tree(&self, alloc: Global, node: u64) -> Answer
-        ensures { Shows node result (seen self.now).machine }
+    fn tree(&self, alloc: Global, node: u64) -> Response
+        ensures { Shows node result (console_seen self.now).machine }
     {
         commands::tree(alloc, &self.cluster, node)
     }
@@ -309,42 +318,42 @@ fn link_of(kind: LinkKind) -> TestLink
 }
 
 /// What an open is answered with.
-fn opened(client: Result<u32, Refusal>) -> Answer
+fn opened(client: Result<u32, Refusal>) -> Response
     ensures { Tells result (opened_answer client) }
 {
     match client {
-        Ok(client) => Answer::Client(client),
-        Err(refusal) => Answer::Refused(refusal),
+        Ok(client) => Response::Client(client),
+        Err(refusal) => Response::Refused(refusal),
     }
 }
 
 /// What a try is answered with.
-fn turned(turn: Result<Turn, Refusal>) -> Answer
+fn turned(turn: Result<Turn, Refusal>) -> Response
     ensures { Tells result (turn_answer turn) }
 {
     match turn {
-        Ok(Turn::Answered(reply)) => Answer::Replied(reply),
-        Ok(Turn::NotYet) => Answer::Waits,
-        Err(refusal) => Answer::Refused(refusal),
+        Ok(Turn::Answered(reply)) => Response::Replied(reply),
+        Ok(Turn::NotYet) => Response::Waits,
+        Err(refusal) => Response::Refused(refusal),
     }
 }
 
 /// What a call is answered with that isn't awaited any more.
-fn answered(reply: Result<Reply, Refusal>) -> Answer
+fn answered(reply: Result<Reply, Refusal>) -> Response
     ensures { result ≡ call_answer reply }
 {
     match reply {
-        Ok(reply) => Answer::Replied(reply),
-        Err(refusal) => Answer::Refused(refusal),
+        Ok(reply) => Response::Replied(reply),
+        Err(refusal) => Response::Refused(refusal),
     }
 }
 
 /// What the return of a node is answered with.
-fn returned(node: u32, joined: Result<(), Refusal>) -> Answer
+fn returned(node: u32, joined: Result<(), Refusal>) -> Response
     ensures { result ≡ return_answer node joined }
 {
     match joined {
-        Ok(()) => Answer::Returned(node),
-        Err(refusal) => Answer::Refused(refusal),
+        Ok(()) => Response::Returned(node),
+        Err(refusal) => Response::Refused(refusal),
     }
 }

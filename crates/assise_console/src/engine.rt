@@ -1,15 +1,15 @@
 // Runs a script's commands and prints their answers.
 ghost use Rattle.std.specs.Prelude.{◌≡◌, IfErr, IfOk, IsOkUnless, OnOk};
 ghost use Rattle.std.specs.Io.KnownBytes.{Appends, Keeps};
-ghost use Rattle.assise_console.specs.Consoles.{seen, stocks};
-ghost use Rattle.assise_console.specs.Engines.{FaultFrom, FaultOf, IsBegun, IsInput, IsReadFault, IsRunFault, Printed, PrintedFrom, Ran, RunsFrom, read_fault};
-ghost use Rattle.assise_console.specs.Lines.{PrintsAll, PrintsOne, answer_text, line_text, numbered};
+ghost use Rattle.assise_console.specs.Consoles.{console_seen, stocks};
+ghost use Rattle.assise_console.specs.Engines.{FaultFrom, FaultOf, ClusterIsBegun, IsInput, IsReadFault, IsRunFault, Printed, PrintedFrom, Ran, RunsFrom, read_fault};
+ghost use Rattle.assise_console.specs.Lines.{PrintsAll, PrintsOne, answer_text, line_text, numbered_line};
 ghost use Rattle.assise_fault_script.specs.Script.{ClusterFirst, IsCluster};
 
-use crate::answer::Answer;
 use crate::console::ConsoleOf;
 use crate::fault::EngineFault;
 use crate::options::CommandLine;
+use crate::response::Response;
 use crate::stock::Stock;
 use crate::text::AnswerText;
 use assise_fault_script::command::Command;
@@ -23,7 +23,7 @@ use std::io::{ErrorKind, Read, Write};
 /// waits for nobody.
 ///
 /// [`EngineFault::Read`] is the reader's failure, [`EngineFault::Script`] the first fault of the script, and
-/// [`EngineFault::Memory`] want of memory for the script's bytes or for the cluster; nothing is written then.
+/// [`EngineFault::Memory`] out of memory for the script's bytes or for the cluster; nothing is written then.
 /// [`EngineFault::Write`] is the writer's failure, and nothing more is written after it. What is said of the bytes that
 /// were read holds of the reader's own where those are known, and else of some.
 pub fn engine<R: Read, W: Write, C: Revokes + Drop>(
@@ -33,8 +33,10 @@ pub fn engine<R: Read, W: Write, C: Revokes + Drop>(
     stock: Stock<C>,
     command_line: &CommandLine<'_>,
 ) -> Result<(), EngineFault>
-    ensures done { OnOk result (PrintedFrom (stocks stock) command_line.now.turns (R.remaining reader.old) (W.contents writer.old) (W.contents writer.new)) }
-    ensures faulty { IfErr result (λ e. FaultFrom e (R.remaining reader.old) (W.contents writer.old) (W.contents writer.new)) }
+    ensures done { OnOk result (PrintedFrom (stocks stock) command_line.now.turns
+        (R.remaining reader.old) (W.contents writer.old) (W.contents writer.new)) }
+    ensures faulty { IfErr result (λ e. FaultFrom e (R.remaining reader.old) (W.contents writer.old)
+        (W.contents writer.new)) }
 {
     let input = read_all(alloc, reader)?;
     run_script(alloc, input.as_slice(), writer, stock, command_line.turns)
@@ -42,7 +44,7 @@ pub fn engine<R: Read, W: Write, C: Revokes + Drop>(
 
 /// Runs the script that these bytes are, and writes its answers and nothing else. A call is tried so many times at most.
 ///
-/// [`EngineFault::Script`] is the first fault of the script, and [`EngineFault::Memory`] want of memory for the cluster of
+/// [`EngineFault::Script`] is the first fault of the script, and [`EngineFault::Memory`] out of memory for the cluster of
 /// a script that has no fault; nothing is written then. [`EngineFault::Write`] is the writer's failure.
 pub fn run_script<W: Write, C: Revokes + Drop>(
     alloc: Global,
@@ -51,8 +53,10 @@ pub fn run_script<W: Write, C: Revokes + Drop>(
     stock: Stock<C>,
     turns: u32,
 ) -> Result<(), EngineFault>
-    ensures done { OnOk result (Printed (stocks stock) turns script.now (W.contents writer.old) (W.contents writer.new)) }
-    ensures faulty { IfErr result (λ e. FaultOf e script.now (W.contents writer.old) (W.contents writer.new)) }
+    ensures done { OnOk result (Printed (stocks stock) turns script.now (W.contents writer.old)
+        (W.contents writer.new)) }
+    ensures faulty { IfErr result (λ e. FaultOf e script.now (W.contents writer.old)
+        (W.contents writer.new)) }
 {
     match parse(alloc, script) {
         Ok(commands) => run_commands(alloc, commands, writer, stock, turns),
@@ -60,7 +64,7 @@ pub fn run_script<W: Write, C: Revokes + Drop>(
     }
 }
 
-/// All bytes that the reader has. [`EngineFault::Read`] is the reader's failure, and [`EngineFault::Memory`] want of memory for what it
+/// All bytes that the reader has. [`EngineFault::Read`] is the reader's failure, and [`EngineFault::Memory`] out of memory for what it
 /// gave.
 pub fn read_all<R: Read>(alloc: Global, reader: &mut R) -> Result<Vec<u8>, EngineFault>
     ensures bytes { IfOk result (λ bytes. IsInput (R.remaining reader.old) bytes.items) }
@@ -73,7 +77,7 @@ pub fn read_all<R: Read>(alloc: Global, reader: &mut R) -> Result<Vec<u8>, Engin
     }
 }
 
-/// What a reader's failure is: want of memory for what was read, or the reader's own.
+/// What a reader's failure is: out of memory for what was read, or the reader's own.
 fn read_fault(kind: ErrorKind) -> EngineFault
     ensures exact { result ≡ read_fault kind }
     ensures fault { IsReadFault result }
@@ -93,8 +97,10 @@ fn run_commands<W: Write, C: Revokes + Drop>(
     turns: u32,
 ) -> Result<(), EngineFault>
     requires cluster_first { ClusterFirst commands.items }
-    ensures done { OnOk result (Ran (stocks stock) turns commands.items (W.contents writer.old) (W.contents writer.new)) }
-    ensures faulty { IfErr result (λ e. IsRunFault e (W.contents writer.old) (W.contents writer.new)) }
+    ensures done { OnOk result (Ran (stocks stock) turns commands.items (W.contents writer.old)
+        (W.contents writer.new)) }
+    ensures faulty { IfErr result (λ e. IsRunFault e (W.contents writer.old)
+        (W.contents writer.new)) }
 {
     match commands.first() {
         Some(first) => {
@@ -113,7 +119,8 @@ fn console_of<C: Revokes + Drop>(
     turns: u32,
 ) -> Result<ConsoleOf<C>, EngineFault>
     requires cluster { IsCluster command.now }
-    ensures begun { IfOk result (λ console. IsBegun command.now (stocks stock) turns (seen console)) }
+    ensures begun { IfOk result (λ console. ClusterIsBegun command.now (stocks stock) turns
+        (console_seen console)) }
     ensures only_memory { IsOkUnless result EngineFault.Memory }
 {
     let Command::Cluster { nodes, log, hot } = command else {
@@ -139,7 +146,8 @@ fn run<W: Write, C: Revokes + Drop>(
     commands: Vec<NumberedCommand>,
     writer: &mut W,
 ) -> Result<(), EngineFault>
-    ensures done { OnOk result (RunsFrom (seen console) commands.items (W.contents writer.old) (W.contents writer.new)) }
+    ensures done { OnOk result (RunsFrom (console_seen console) commands.items
+        (W.contents writer.old) (W.contents writer.new)) }
     ensures only_write { IsOkUnless result EngineFault.Write }
 {
     run_lines(alloc, &mut console, commands, writer)?;
@@ -153,7 +161,8 @@ fn run_lines<W: Write, C: Revokes + Drop>(
     commands: Vec<NumberedCommand>,
     writer: &mut W,
 ) -> Result<(), EngineFault>
-    ensures done { OnOk result (PrintsAll (seen console.old) commands.items (seen console.new) (W.contents writer.old) (W.contents writer.new)) }
+    ensures done { OnOk result (PrintsAll (console_seen console.old) commands.items
+        (console_seen console.new) (W.contents writer.old) (W.contents writer.new)) }
     ensures only_write { IsOkUnless result EngineFault.Write }
 {
     for command in commands {
@@ -169,7 +178,8 @@ fn run_line<W: Write, C: Revokes + Drop>(
     command: NumberedCommand,
     writer: &mut W,
 ) -> Result<(), EngineFault>
-    ensures done { OnOk result (PrintsOne (seen console.old) command (seen console.new) (W.contents writer.old) (W.contents writer.new)) }
+    ensures done { OnOk result (PrintsOne (console_seen console.old) command
+        (console_seen console.new) (W.contents writer.old) (W.contents writer.new)) }
     ensures only_write { IsOkUnless result EngineFault.Write }
 {
     let number = command.line;
@@ -180,18 +190,19 @@ fn run_line<W: Write, C: Revokes + Drop>(
 /// Writes the line of an answer to the command at this line, numbered from 1, where the history so far is this. The one fault is
 /// [`EngineFault::Write`].
 ///
-/// Nothing is written of [`Answer::Quiet`].
+/// Nothing is written of [`Response::Quiet`].
 pub fn print<W: Write>(
     writer: &mut W,
     number: u64,
     history: &History,
-    answer: &Answer,
+    answer: &Response,
 ) -> Result<(), EngineFault>
-    ensures done { OnOk result (Appends (W.contents writer.old) (W.contents writer.new) (line_text number history.now.events answer.now)) }
+    ensures done { OnOk result (Appends (W.contents writer.old) (W.contents writer.new)
+        (line_text number history.now.events answer.now)) }
     ensures only_write { IsOkUnless result EngineFault.Write }
 {
     match answer {
-        Answer::Quiet => Ok(()),
+        Response::Quiet => Ok(()),
         _ => print_line(writer, number, history, answer),
     }
 }
@@ -200,9 +211,10 @@ fn print_line<W: Write>(
     writer: &mut W,
     number: u64,
     history: &History,
-    answer: &Answer,
+    answer: &Response,
 ) -> Result<(), EngineFault>
-    ensures done { OnOk result (Appends (W.contents writer.old) (W.contents writer.new) (numbered number (answer_text history.now.events answer.now))) }
+    ensures done { OnOk result (Appends (W.contents writer.old) (W.contents writer.new)
+        (numbered_line number (answer_text history.now.events answer.now))) }
     ensures only_write { IsOkUnless result EngineFault.Write }
 {
     let text = AnswerText { history, answer };

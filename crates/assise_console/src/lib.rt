@@ -1,7 +1,6 @@
 //! The console: a script is read, run on a cluster, and its answers are printed.
 #![tactic(auto)]
 
-pub mod answer;
 pub mod commands;
 pub mod console;
 pub mod engine;
@@ -9,6 +8,7 @@ pub mod fault;
 pub mod laws;
 mod numbered;
 pub mod options;
+pub mod response;
 pub mod stock;
 mod text;
 pub mod trees;

@@ -76,14 +76,16 @@ Exit status: 0 the script ran to its end, whatever was refused; 1 no memory, or 
 /// error has the text and the exit status of `clap`: `--help` and `--version` are errors of their own kinds, and so is want of
 /// memory.
 pub fn options<'a, S: AsStr>(alloc: Global, words: &'a [S]) -> Result<CommandLine<'a>, Error>
-    ensures script { IfOk result (λ line. script_of (map S.text words.entry.now) ≡ Some line.script.now) }
+    ensures script { IfOk result (λ line. script_of (map S.text words.entry.now) ≡
+        Some line.script.now) }
     ensures turns { IfOk result (λ line. turns_of (map S.text words.entry.now) ≡ Some line.turns) }
     ensures some_turns { IfOk result (λ line. 1 ≤ line.turns) }
     ensures few_turns { IfOk result (λ line. line.turns ≤ 1000000) }
     ensures threads { IfOk result (λ line. line.threads ≡ threads_of (map S.text words.entry.now)) }
     ensures faultless { IfOk result (λ line. faults_of (map S.text words.entry.now) ≡ []) }
     ensures fault { IfErr result (λ error. HasKind (faults_of (map S.text words.entry.now)) error) }
-    ensures taken { IfErr result (λ error. IsTrue (is_taken (map S.text words.entry.now)) → kind_of error ≡ ErrorKind.OutOfMemory) }
+    ensures taken { IfErr result (λ error. IsTrue (is_taken (map S.text words.entry.now)) →
+        kind_of error ≡ ErrorKind.OutOfMemory) }
 {
     let command = command(alloc)?;
     let matches = command.try_get_matches_from(words)?;

@@ -2,7 +2,7 @@
 ghost use Rattle.std.specs.Option.{option_to_list};
 ghost use Rattle.std.specs.Prelude.{◌≡◌, ◌<◌, ◌++◌, ◌∷◌, [], IfErr, IsOk, IsSome, None, OnErr, OnOk, vec_capacity, vec_len};
 ghost use Rattle.assise_fault_script.specs.declared.command.RevokerKind.{RevokerKind as Kind};
-ghost use Rattle.assise_console.specs.Stored.{HasSpare, left_of};
+ghost use Rattle.assise_console.specs.Stored.{HasSpare, revokers_left};
 
 use assise_fault_script::command::RevokerKind;
 use std::alloc::Global;
@@ -34,9 +34,11 @@ impl<C> Stock<C> {
 
     /// Takes the last revoker of a kind, if one is left. [`put_back`](Stock::put_back) finds memory for it then.
     pub fn take(&mut self, kind: RevokerKind) -> Option<C>
-        ensures taken { left_of kind self.old ≡ left_of kind self.new ++ option_to_list result }
-        ensures none { result ≡ None → left_of kind self.old ≡ [] }
-        ensures kinds { (k : Kind) → (k ≡ kind → ⊥) → left_of k self.new ≡ left_of k self.old }
+        ensures taken { revokers_left kind self.old ≡ revokers_left kind self.new ++
+            option_to_list result }
+        ensures none { result ≡ None → revokers_left kind self.old ≡ [] }
+        ensures kinds { (k : Kind) → (k ≡ kind → ⊥) →
+            revokers_left k self.new ≡ revokers_left k self.old }
         ensures spare { IsSome result → HasSpare kind self.new }
     {
         match kind {
@@ -48,11 +50,12 @@ impl<C> Stock<C> {
 
     /// Puts a revoker behind those of its kind. Where there is no memory for it, it comes back, and the stock is as it was.
     pub fn put_back(&mut self, kind: RevokerKind, revoker: C) -> Result<(), C>
-        ensures added { OnOk result (left_of kind self.new ≡ left_of kind self.old ++ revoker ∷
-            []) }
-        ensures kept { OnErr result (left_of kind self.new ≡ left_of kind self.old) }
+        ensures added { OnOk result (revokers_left kind self.new ≡ revokers_left kind self.old ++
+            revoker ∷ []) }
+        ensures kept { OnErr result (revokers_left kind self.new ≡ revokers_left kind self.old) }
         ensures returned { IfErr result (λ back. back ≡ revoker) }
-        ensures kinds { (k : Kind) → (k ≡ kind → ⊥) → left_of k self.new ≡ left_of k self.old }
+        ensures kinds { (k : Kind) → (k ≡ kind → ⊥) →
+            revokers_left k self.new ≡ revokers_left k self.old }
         ensures succeeds { HasSpare kind self.old → IsOk result }
     {
         match kind {

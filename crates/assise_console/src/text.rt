@@ -2,7 +2,7 @@
 ghost use Rattle.std.specs.Prelude.{Some};
 ghost use Rattle.assise_console.specs.Lines.{answer_text, lost_text};
 
-use crate::answer::Answer;
+use crate::response::Response;
 use assise_history::history::History;
 use std::fmt;
 use std::fmt::{Display, Formatter};
@@ -11,7 +11,7 @@ use std::fmt::{Display, Formatter};
 #[derive(Drop)]
 pub(crate) struct AnswerText<'a> {
     pub(crate) history: &'a History,
-    pub(crate) answer: &'a Answer,
+    pub(crate) answer: &'a Response,
 }
 
 impl Display for AnswerText<'_> {
@@ -19,32 +19,32 @@ impl Display for AnswerText<'_> {
 
     fn fmt<W: fmt::Write>(&self, f: &mut Formatter<W>) -> fmt::Result {
         match self.answer {
-            Answer::Quiet => Ok(()),
-            Answer::Client(client) => write!(f, "client {client}"),
-            Answer::Replied(reply) => write!(f, "{reply}"),
-            Answer::Waits => write!(f, "wait"),
-            Answer::Refused(refusal) => write!(f, "{refusal}"),
-            Answer::Carried(frames) => write!(f, "carried {frames}"),
-            Answer::Digested(records) => write!(f, "digested {records}"),
-            Answer::Released(leases) => write!(f, "released {leases}"),
-            Answer::Linked(node) => write!(f, "linked {node}"),
-            Answer::HotSet(node) => write!(f, "hot {node}"),
-            Answer::Crashed(client) => write!(f, "crashed {client}"),
-            Answer::Failed(node, losses) => {
+            Response::Quiet => Ok(()),
+            Response::Client(client) => write!(f, "client {client}"),
+            Response::Replied(reply) => write!(f, "{reply}"),
+            Response::Waits => write!(f, "wait"),
+            Response::Refused(refusal) => write!(f, "{refusal}"),
+            Response::Carried(frames) => write!(f, "carried {frames}"),
+            Response::Digested(records) => write!(f, "digested {records}"),
+            Response::Released(leases) => write!(f, "released {leases}"),
+            Response::Linked(node) => write!(f, "linked {node}"),
+            Response::HotSet(node) => write!(f, "hot {node}"),
+            Response::Crashed(client) => write!(f, "crashed {client}"),
+            Response::Failed(node, losses) => {
                 let losses = Losses(losses.as_slice());
                 write!(f, "failed {node}{losses}")
             }
-            Answer::Began(node, stale) => write!(f, "back {node} stale {stale}"),
-            Answer::Left(stale) => write!(f, "left {stale}"),
-            Answer::Returned(node) => write!(f, "returned {node}"),
-            Answer::Raised(node) => write!(f, "raised {node}"),
-            Answer::Tree(tree) => write!(f, "{tree}"),
-            Answer::History => {
+            Response::Began(node, stale) => write!(f, "back {node} stale {stale}"),
+            Response::Left(stale) => write!(f, "left {stale}"),
+            Response::Returned(node) => write!(f, "returned {node}"),
+            Response::Raised(node) => write!(f, "raised {node}"),
+            Response::Tree(tree) => write!(f, "{tree}"),
+            Response::History => {
                 let history = self.history;
                 write!(f, "{history}")
             }
-            Answer::Checked(true) => write!(f, "legal"),
-            Answer::Checked(false) => write!(f, "illegal"),
+            Response::Checked(true) => write!(f, "legal"),
+            Response::Checked(false) => write!(f, "illegal"),
         }
     }
 }

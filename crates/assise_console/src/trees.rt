@@ -6,8 +6,8 @@ ghost use Rattle.assise_inode_table.specs.Spelled.{Spells};
 ghost use Rattle.assise_digest.specs.Region.{alone as alone_there};
 ghost use Rattle.assise_seq_tree.specs.Tree.{Tree as PlainTree, opening};
 ghost use Rattle.assise_history.specs.Kept.{tree_after};
-ghost use Rattle.assise_machine_events.specs.Faults.{node_fault};
-ghost use Rattle.assise_machine_laws.specs.World.{alone};
+ghost use Rattle.assise_model_events.specs.Faults.{node_fault};
+ghost use Rattle.assise_model_world.specs.World.{alone_at};
 ghost use Rattle.assise_machine.specs.Clusters.{AreAcked, machine};
 ghost use Rattle.assise_machine.specs.Headline.{replicated_calls};
 
@@ -26,11 +26,14 @@ pub fn tree_at<C: Revokes + Drop>(
     cluster: &ClusterOf<C>,
     node: u32,
 ) -> Result<Tree, Refusal>
-    ensures fault { (e : Refused) → node_fault (machine cluster.now) node ≡ Some e → result ≡ Err e }
-    ensures tree { IfOk result (λ tree. Spells (alone (machine cluster.now).world node) tree) }
-    ensures replicated { IfOk result (λ tree. tree ≡ tree_after opening (replicated_calls cluster.now)) }
+    ensures fault { (e : Refused) → node_fault (machine cluster.now) node ≡ Some e →
+        result ≡ Err e }
+    ensures tree { IfOk result (λ tree. Spells (alone_at (machine cluster.now).world node) tree) }
+    ensures replicated { IfOk result (λ tree. tree ≡ tree_after opening
+        (replicated_calls cluster.now)) }
     ensures fine { IfOk result (λ tree. node_fault (machine cluster.now) node ≡ None) }
-    ensures only_memory { node_fault (machine cluster.now) node ≡ None → IsOkUnless result OutOfMemory }
+    ensures only_memory { node_fault (machine cluster.now) node ≡ None →
+        IsOkUnless result OutOfMemory }
 {
     match cluster.region(node) {
         Ok(region) => tree_of(alloc, cluster, region),
@@ -45,7 +48,8 @@ fn tree_of<C: Revokes + Drop>(
     region: &Region,
 ) -> Result<Tree, Refusal>
     ghost tree: { PlainTree }
-    requires spelled { (acked : List ℕ) → AreAcked (machine cluster.now).world acked → Spells (alone_there region.now acked) tree }
+    requires spelled { (acked : List ℕ) → AreAcked (machine cluster.now).world acked →
+        Spells (alone_there region.now acked) tree }
     ensures tree { IfOk result (λ found. found ≡ tree) }
     ensures only_memory { IsOkUnless result OutOfMemory }
 {

@@ -4,7 +4,7 @@ use crate::scripts::NOWHERE;
 use crate::stock::stock_of;
 use assise_console::engine::engine;
 use assise_console::fault::EngineFault;
-use assise_rows::scripts::BACK_AND_ALONE;
+use assise_test_rows::scripts::BACK_AND_ALONE;
 use std::alloc::Global;
 use std::io;
 use std::io::{ErrorKind, Read, Write};

@@ -1,6 +1,6 @@
 // Scripts whose clients crash and whose nodes fail and come back.
 use crate::scripts::{Run, all_print};
-use assise_rows::scripts::{
+use assise_test_rows::scripts::{
     BACK_AND_ALONE, BACK_BY_HAND, CARRIED_IN_PART, CRASHED, CUT_AT_AN_FSYNC, DONOR_FAILS,
     FAILS_AGAIN, HANDED_LEAST, HANDED_WHOLE, LOST_FILE, OUT_OF_ORDER,
 };

@@ -1,7 +1,7 @@
 // Scripts on a cluster: replication, leases, digests and what each node has.
 use crate::scripts::{NOWHERE, Run, all_print, prints};
 use assise_console::options::CommandLine;
-use assise_rows::scripts::{CROSSING, HANDED_BY_HAND, SHARED_FILE};
+use assise_test_rows::scripts::{CROSSING, HANDED_BY_HAND, SHARED_FILE};
 use std::test::Fail;
 
 /// Scripts of clients that share files, on one node and on several.

@@ -234,7 +234,7 @@ open 1 least
 ",
     ),
     // Directories are listed and removed.
-    // Directories that are made, listed, and removed once they are empty; names rise by their bytes.
+    // Directories that are made, listed, and removed once they are empty; names ascend by their bytes.
     (
         "\
 cluster 1 64 4

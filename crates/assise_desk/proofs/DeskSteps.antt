@@ -5,12 +5,12 @@ use Rattle.std.specs.Prelude.{⊤}
 use Rattle.assise_names.specs.declared.refusal.Refusal.{Refusal}
 use Rattle.assise_machine_calls.specs.Answers.{crashing_answer}
 use Rattle.assise_names.specs.declared.durability.Durability.TheVariants.{Pessimistic}
-use Rattle.assise_machine_events.specs.ClientEvents.{Crashing, Opening}
-use Rattle.assise_machine_events.specs.Machine.{Machine}
-use Rattle.assise_machine_events.specs.MemberEvents.{Failing}
+use Rattle.assise_model_events.specs.ClientEvents.{Crashing, Opening}
+use Rattle.assise_model_events.specs.Machine.{Machine}
+use Rattle.assise_model_events.specs.MemberEvents.{Failing}
 use Rattle.assise_machine_failures.specs.Answers.{failing_answer}
 use Rattle.assise_machine.specs.Running.{opened_answer}
-use Rattle.assise_rounds.specs.Courses.{Told}
+use Rattle.assise_rounds.specs.Traces.{Told}
 use Rattle.assise_rounds.specs.Returning.{ComesBack}
 use Rattle.assise_files.specs.declared.files.Files.{Files}
 use Rattle.assise_desk.specs.declared.caller_desk.CallerDesk.{CallerDesk}

@@ -1,4 +1,4 @@
-mod DeskCourses
+mod DeskTraces
 mod DeskSteps
 mod PathFaults
 mod TwoPieces

@@ -8,11 +8,11 @@ use Rattle.assise_names.specs.declared.reply.Reply.{Reply}
 use Rattle.assise_machine_calls.specs.Answers.{crashing_answer}
 use Rattle.assise_names.specs.declared.durability.Durability.TheVariants.{Pessimistic}
 use Rattle.assise_names.specs.declared.limits.TheConstants.{MOST_NODES}
-use Rattle.assise_machine_events.specs.Events.{Answer, ClusterEvent, crash, fail, open_client}
-use Rattle.assise_machine_events.specs.Machine.{Machine, begun_as}
+use Rattle.assise_model_events.specs.Events.{Answer, ClusterEvent, crash, fail, open_client}
+use Rattle.assise_model_events.specs.Machine.{Machine, begun_as}
 use Rattle.assise_machine_failures.specs.Answers.{failing_answer}
 use Rattle.assise_machine.specs.Running.{opened_answer}
-use Rattle.assise_rounds.specs.Courses.{IsEvent, Nothing, Told}
+use Rattle.assise_rounds.specs.Traces.{IsEvent, Nothing, Told}
 use Rattle.assise_rounds.specs.Returning.{ComesBack}
 use Rattle.assise_rounds.specs.Rounds.{RoundsOnce}
 use Rattle.assise_files.specs.CallTries.{IsTriedOut}

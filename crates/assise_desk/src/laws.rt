@@ -1,21 +1,21 @@
 // A law of what is asked at a desk. The function does nothing: its contract is the law.
 ghost use Rattle.std.specs.Prelude.{List, Result, ℕ};
 ghost use Rattle.assise_names.specs.declared.reply.Reply.{Reply};
-ghost use Rattle.assise_machine_events.specs.Machine.{Machine};
-ghost use Rattle.assise_rounds.specs.Courses.{IsCourse, Told};
+ghost use Rattle.assise_model_events.specs.Machine.{Machine};
+ghost use Rattle.assise_rounds.specs.Traces.{IsEventTrace, Told};
 ghost use Rattle.assise_desk.specs.DeskAnswers.{CallsAt, DoesAt};
 ghost use Rattle.assise_desk.specs.declared.desk_call.ClientCall.{ClientCall};
 ghost use Rattle.assise_desk.specs.declared.desk_call.ClusterCall.{ClusterCall};
 ghost use Rattle.assise_desk.specs.declared.desk_fault.DeskFault.{DeskFault};
 ghost use Rattle.assise_desk.specs.declared.desk_request.DeskRequest.{DeskRequest};
 
-/// What a request does to the cluster that it finds is a course of events: so over it the history stays legal, and gets exactly their
-/// entries (`a_course_keeps_the_history_legal` of `assise_rounds`). A request that makes a cluster, or lets it go, is none.
-pub fn a_request_is_a_course_of_events()
+/// What a request does to the cluster that it finds is a trace of events: so over it the history stays legal, and gets exactly their
+/// entries (`a_trace_keeps_the_history_legal` of `assise_rounds`). A request that makes a cluster, or lets it go, is none.
+pub fn a_request_is_a_trace_of_events()
     ensures cluster { (call : ClusterCall) (r : DeskRequest) (result : Result ℕ DeskFault)
         (out : List ℕ) (m : Machine) (es : Told) (m' : Machine) →
-        DoesAt call r result out m es m' → IsCourse m es m' }
+        DoesAt call r result out m es m' → IsEventTrace m es m' }
     ensures client { (turns : ℕ) (call : ClientCall) (r : DeskRequest) (bytes : List ℕ)
         (result : Result Reply DeskFault) (m : Machine) (es : Told) (m' : Machine) →
-        CallsAt turns call r bytes result m es m' → IsCourse m es m' }
+        CallsAt turns call r bytes result m es m' → IsEventTrace m es m' }
 {}

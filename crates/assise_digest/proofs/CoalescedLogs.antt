@@ -12,10 +12,10 @@ come_along zero [] few = same_none
 come_along zero (r ∷ rs) few = absurd (omega arith)
 come_along (suc n) [] few = same_none
 come_along (suc n) (r ∷ rs) few =
-    let front : List LogRecord = take 64 (r ∷ rs) in
+    let prefix : List LogRecord = take 64 (r ∷ rs) in
     let rest : List LogRecord = drop 64 (r ∷ rs) in
-    subst (λ qs. ComeToSame (coalesced_group front ++ all_records (map coalesced_group (groups_of n rest))) qs) (take-append-drop 64 (r ∷ rs))
-    (same_both (coalesced_group front) front (all_records (map coalesced_group (groups_of n rest))) rest (same_group front) (come_along n rest (omega (arith, length-drop 64 (r ∷ rs)))))
+    subst (λ qs. ComeToSame (coalesced_group prefix ++ all_records (map coalesced_group (groups_of n rest))) qs) (take-append-drop 64 (r ∷ rs))
+    (same_both (coalesced_group prefix) prefix (all_records (map coalesced_group (groups_of n rest))) rest (same_group prefix) (come_along n rest (omega (arith, length-drop 64 (r ∷ rs)))))
 
 pub groups_come : (l : NumberedLog) (from : ℕ) → ComeToSame (all_records (groups_from l from)) (records_from l from)
 groups_come l from = come_along (length (records_from l from)) (records_from l from) (omega arith)

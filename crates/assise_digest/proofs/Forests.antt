@@ -9,13 +9,13 @@ use Rattle.assise_digest.specs.Postorder.{postorder, postorder_of, subtrees, sub
 
 -- ---- lists by their last element
 pub record Ends {X : Type 0} (xs : List X) : Type 0 where
-  pub front : List X
+  pub prefix : List X
   pub last : X
-  pub is : xs ≡ front ++ last ∷ []
+  pub is : xs ≡ prefix ++ last ∷ []
 
 pub ends : {X : Type 0} (x : X) (xs : List X) → Ends (x ∷ xs)
-ends x [] = record { front = []; last = x; is = refl }
-ends x (y ∷ xs) = let rest = ends y xs in record { front = x ∷ rest.front; last = rest.last; is = ap (λ ys. x ∷ ys) rest.is }
+ends x [] = record { prefix = []; last = x; is = refl }
+ends x (y ∷ xs) = let rest = ends y xs in record { prefix = x ∷ rest.prefix; last = rest.last; is = ap (λ ys. x ∷ ys) rest.is }
 
 pub last_or_none : {X : Type 0} (xs : List X) → (xs ≡ []) ⊎ Ends xs
 last_or_none [] = inl refl
@@ -35,13 +35,13 @@ same_end (w ∷ xs) (z ∷ ys) x y e =
     (cc (first, rest.0), rest.1)
 
 -- parts of equal length are equal
-pub same_parts : {X : Type 0} (front other xs ys : List X) → length xs ≡ length ys → front ++ xs ≡ other ++ ys → (front ≡ other) × (xs ≡ ys)
+pub same_parts : {X : Type 0} (prefix other xs ys : List X) → length xs ≡ length ys → prefix ++ xs ≡ other ++ ys → (prefix ≡ other) × (xs ≡ ys)
 same_parts [] [] xs ys len e = (refl, e)
 same_parts [] (b ∷ other) xs ys len e = absurd (omega (arith, ap length e, length-append other ys))
-same_parts (a ∷ front) [] xs ys len e = absurd (omega (arith, ap length e, length-append front xs))
-same_parts (a ∷ front) (b ∷ other) xs ys len e =
+same_parts (a ∷ prefix) [] xs ys len e = absurd (omega (arith, ap length e, length-append prefix xs))
+same_parts (a ∷ prefix) (b ∷ other) xs ys len e =
     let first : a ≡ b = cc in
-    let rest = same_parts front other xs ys len (cc) in
+    let rest = same_parts prefix other xs ys len (cc) in
     (cc (first, rest.0), rest.1)
 
 -- ---- a tree and its subtrees
@@ -88,24 +88,24 @@ same_tree (dir es) (dir fs) a b = ap dir (same_entries es fs (cc) b)
 
 -- ---- the last place taken off
 pub record Cut (ts : List Tree) (places : List Shape) (s : Shape) : Type 0 where
-  pub front : List Tree
+  pub prefix : List Tree
   pub last : Tree
-  pub are : ts ≡ front ++ last ∷ []
+  pub are : ts ≡ prefix ++ last ∷ []
   pub shape : shape_of_tree last ≡ s
-  pub rest : forest (front ++ subtrees last) ≡ places
+  pub rest : forest (prefix ++ subtrees last) ≡ places
 
 pub cut : (ts : List Tree) (places : List Shape) (s : Shape) → forest ts ≡ places ++ s ∷ [] → Cut ts places s
 cut ts places s e = elim (last_or_none ts) [
   | inl none ↦ not_none places s (sym (ap forest none) ∙ e)
   | inr some ↦
-      let same = same_end (forest (some.front ++ subtrees some.last)) places (shape_of_tree some.last) s (sym (forest_ends some.front some.last) ∙ sym (ap forest some.is) ∙ e) in
-      record { front = some.front; last = some.last; are = some.is; shape = same.1; rest = same.0 }
+      let same = same_end (forest (some.prefix ++ subtrees some.last)) places (shape_of_tree some.last) s (sym (forest_ends some.prefix some.last) ∙ sym (ap forest some.is) ∙ e) in
+      record { prefix = some.prefix; last = some.last; are = some.is; shape = same.1; rest = same.0 }
 ]
 
 none_of : (ts : List Tree) → forest ts ≡ [] → ts ≡ []
 none_of ts e = elim (last_or_none ts) [
   | inl none ↦ none
-  | inr some ↦ not_none _ (shape_of_tree some.last) (sym e ∙ ap forest some.is ∙ forest_ends some.front some.last)
+  | inr some ↦ not_none _ (shape_of_tree some.last) (sym e ∙ ap forest some.is ∙ forest_ends some.prefix some.last)
 ]
 
 reverse_first : (s : Shape) (places : List Shape) → reverse (s ∷ places) ≡ reverse places ++ s ∷ []
@@ -117,11 +117,11 @@ same_by [] ts us a b = none_of ts a ∙ sym (none_of us b)
 same_by (s ∷ places) ts us a b =
     let x = cut ts (reverse places) s (a ∙ reverse_first s places) in
     let y = cut us (reverse places) s (b ∙ reverse_first s places) in
-    let below = same_by places (x.front ++ subtrees x.last) (y.front ++ subtrees y.last) x.rest y.rest in
+    let below = same_by places (x.prefix ++ subtrees x.last) (y.prefix ++ subtrees y.last) x.rest y.rest in
     let shapes : shape_of_tree x.last ≡ shape_of_tree y.last = x.shape ∙ sym y.shape in
-    let parts = same_parts x.front y.front (subtrees x.last) (subtrees y.last) (sym (degree-shape x.last) ∙ ap degree shapes ∙ degree-shape y.last) below in
+    let parts = same_parts x.prefix y.prefix (subtrees x.last) (subtrees y.last) (sym (degree-shape x.last) ∙ ap degree shapes ∙ degree-shape y.last) below in
     let last = same_tree x.last y.last shapes parts.1 in
-    x.are ∙ ap (λ fs. fs ++ x.last ∷ []) parts.0 ∙ ap (λ t. y.front ++ t ∷ []) last ∙ sym y.are
+    x.are ∙ ap (λ fs. fs ++ x.last ∷ []) parts.0 ∙ ap (λ t. y.prefix ++ t ∷ []) last ∙ sym y.are
 
 pub same_forest : (ts us : List Tree) → forest ts ≡ forest us → ts ≡ us
 same_forest ts us e =
@@ -132,8 +132,8 @@ same_forest ts us e =
 pub enough : (places : List Shape) (s : Shape) (ts us : List Tree) → forest ts ++ s ∷ reverse places ≡ forest us → degree s ≤ length ts
 enough [] s ts us e =
     let x = cut us (forest ts) s (sym e) in
-    let same = same_forest (x.front ++ subtrees x.last) ts x.rest in
-    omega (arith, ap degree x.shape, degree-shape x.last, ap length same, length-append x.front (subtrees x.last))
+    let same = same_forest (x.prefix ++ subtrees x.last) ts x.rest in
+    omega (arith, ap degree x.shape, degree-shape x.last, ap length same, length-append x.prefix (subtrees x.last))
 enough (p ∷ places) s ts us e =
     let x = cut us (forest ts ++ s ∷ reverse places) p (sym e ∙ ap (λ ps. forest ts ++ s ∷ ps) (reverse_first p places) ∙ sym (append_assoc (forest ts) (s ∷ reverse places) (p ∷ []))) in
-    enough places s ts (x.front ++ subtrees x.last) (sym x.rest)
+    enough places s ts (x.prefix ++ subtrees x.last) (sym x.rest)

@@ -6,19 +6,19 @@ use Rattle.std.specs.FinMap as map
 use Rattle.assise_record.specs.LogRecord.{LogRecord}
 use Rattle.assise_inode_table.specs.Contents.{InodeMap}
 use Rattle.assise_inode_table.specs.Effects.{all_applied, contains, touched}
-use Rattle.assise_inode_table.proofs.Applying.{append_applied, get-all_applied}
-use Rattle.assise_inode_table.proofs.Making.{untouched}
+use Rattle.assise_inode_table.proofs.EffectLists.{append_applied, get-all_applied}
+use Rattle.assise_inode_table.proofs.EffectValues.{untouched}
 use Rattle.assise_private_log.specs.Borders.{IsNextBorder, IsWholeCount, group_end, whole_count}
 use Rattle.assise_private_log.specs.NumberedLog.{IsNumberedLog, end, is_border}
 use Rattle.assise_private_log.proofs.Borders.{border_end, is_whole, next_border}
 use Rattle.assise_record.specs.Records.{all_effects}
 use Rattle.assise_record.proofs.Records.{all_effects-append}
-use Rattle.assise_digest.specs.Region.{HasClient, IsBegun, IsNextGroup, ReceivedLog, RegionValue, TouchApart, ahead, digested_by, digested_further, first_effects, log_at, log_of, next_effects, no_log}
-use Rattle.assise_digest.specs.Sound.{AreSound, IsSoundLog, seen_log}
+use Rattle.assise_digest.specs.Region.{HasClient, IsBegun, IsNextGroup, ReceivedLog, RegionValue, TouchDisjoint, ahead, digested_by, digested_further, first_effects, log_at, log_of, next_effects, no_log}
+use Rattle.assise_digest.specs.Invariant.{LogsInvariant, LogInvariant, seen_log}
 use Rattle.assise_digest.specs.declared.received.Received.{Received}
-use Rattle.assise_digest.proofs.Digesting.{ahead_further, begun_further, quiet_front}
-use Rattle.assise_digest.proofs.Placing.{log_there, region, sound_beside, sound_others, with_one}
-use Rattle.assise_digest.proofs.Receiving.{count_ahead}
+use Rattle.assise_digest.proofs.DigestKeepsReads.{ahead_further, begun_further, quiet_prefix}
+use Rattle.assise_digest.proofs.RegionLogs.{log_there, region, sound_beside, sound_others, with_one}
+use Rattle.assise_digest.proofs.ReceivedLogs.{count_ahead}
 
 -- ---- one after another
 
@@ -70,9 +70,9 @@ digested_view_all m w kept xs r c n x y view has at applied same step =
     (applied ∙ ap (λ k. all_applied k (all_effects (take n (ahead (seen_log x))))) (ap (λ s. s.inodes) view) ∙ ap (λ l. all_applied r.inodes (all_effects (take n (ahead l)))) (sym here))
     ∙ ap (λ l. record r { inodes = all_applied r.inodes (all_effects (take n (ahead (log_of r c)))); logs = slice_set r.logs (c - 1) l }) (step ∙ ap (λ l. digested_further l n) (sym here))
 
-pub digested_sound_all : {hot : ℕ} (m w : InodeMap) (xs : List Received) (r : RegionValue) (c n : ℕ) (x y : Received) → region m hot xs ≡ r → HasClient r c → TouchApart r → AreSound m xs
-    → x ≡ slice_index_or xs (c - 1) x → w ≡ all_applied m (all_effects (take n (ahead (seen_log x)))) → IsSoundLog w y → AreSound w (slice_set xs (c - 1) y)
-digested_sound_all m w xs r c n x y view has apart sound at applied here =
+pub digested_sound_all : {hot : ℕ} (m w : InodeMap) (xs : List Received) (r : RegionValue) (c n : ℕ) (x y : Received) → region m hot xs ≡ r → HasClient r c → TouchDisjoint r → LogsInvariant m xs
+    → x ≡ slice_index_or xs (c - 1) x → w ≡ all_applied m (all_effects (take n (ahead (seen_log x)))) → LogInvariant w y → LogsInvariant w (slice_set xs (c - 1) y)
+digested_sound_all m w xs r c n x y view has disjoint sound at applied here =
     sound_others m w xs (c - 1) y
     (λ j none other h.
     sound_beside m w (slice_index_or xs j none) (sound j none h)
@@ -86,8 +86,8 @@ digested_sound_all m w xs r c n x y view has apart sound at applied here =
         → contains (touched (all_effects (take n (ahead (seen_log x))))) i ≡ false
     quiet j none other h i among =
         let theirs : contains (touched (all_effects (ahead (log_at r j)))) i ≡ true = ap (λ l. contains (touched (all_effects (ahead l))) i) (seen_other j none h) ∙ among in
-        let ours = apart j (c - 1) other i theirs in
-        quiet_front n (ahead (seen_log x)) i (sym (ap (λ l. contains (touched (all_effects (ahead l))) i) (log_there m xs r c x view has at)) ∙ ours)
+        let ours = disjoint j (c - 1) other i theirs in
+        quiet_prefix n (ahead (seen_log x)) i (sym (ap (λ l. contains (touched (all_effects (ahead l))) i) (log_there m xs r c x view has at)) ∙ ours)
 
 -- ---- groups
 

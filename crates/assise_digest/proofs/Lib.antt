@@ -1,16 +1,16 @@
-pub mod Keeping
-pub mod Standing
-pub mod Receiving
-pub mod Renoting
-pub mod Placing
-pub mod Digesting
-pub mod Laying
-pub mod Rebuilding
+pub mod KeptInodes
+pub mod KeptStands
+pub mod ReceivedLogs
+pub mod RegroupedKept
+pub mod RegionLogs
+pub mod DigestKeepsReads
+pub mod InodesUnderRecords
+pub mod RebuiltInodes
 pub mod Forests
 pub mod Pieces
 pub mod Listed
 pub mod Grouped
 pub mod CoalescedLogs
 pub mod RegroupedLogs
-mod Growing
-pub mod Assembling
+mod DirectoryGrowth
+pub mod PostorderTrees

@@ -11,13 +11,13 @@ use Rattle.assise_seq_tree.proofs.Sets.{same_itself, one_name}
 use Rattle.assise_inode_table.specs.Contents.{Content, regular, directory, Links, Values}
 use Rattle.assise_inode_table.specs.Reach.{Shape, link_of, shape_of, shape_of_tree}
 use Rattle.assise_inode_table.specs.Spelled.{SpellsFrom}
-use Rattle.assise_inode_table.proofs.Descending.{Child, child, shape_here, reached_is_there}
-use Rattle.assise_inode_table.proofs.Naming.{same_found}
-use Rattle.assise_inode_table.proofs.Spelling.{spelled_is_ordered}
+use Rattle.assise_inode_table.proofs.ReachedSpelling.{Child, child, shape_here, reached_is_there}
+use Rattle.assise_inode_table.proofs.DirectoryNames.{same_found}
+use Rattle.assise_inode_table.proofs.SpellingUnique.{spelled_is_ordered}
 use Rattle.assise_digest.specs.Postorder.{postorder, subtrees, subtrees_of}
 use Rattle.assise_digest.specs.Targets.{linked, targets}
 use Rattle.assise_digest.proofs.Forests.{forest, forest_ends}
-use Rattle.assise_digest.proofs.Growing.{none_below}
+use Rattle.assise_digest.proofs.DirectoryGrowth.{none_below}
 
 -- ---- inodes, each with the tree that it spells
 abbrev pub SpellEach : Values → List ℕ → List Tree → Type 0
@@ -33,20 +33,20 @@ each-append v [] js (t ∷ ts) us a b = absurd a
 each-append v (i ∷ is) js [] us a b = absurd a
 
 pub record EndsWith (v : Values) (is : List ℕ) (i : ℕ) (ts : List Tree) : Type 0 where
-  pub front : List Tree
+  pub prefix : List Tree
   pub last : Tree
-  pub are : ts ≡ front ++ last ∷ []
-  pub before : SpellEach v is front
+  pub are : ts ≡ prefix ++ last ∷ []
+  pub before : SpellEach v is prefix
   pub spelled : SpellsFrom v i last
 
 each_ends : (v : Values) (is : List ℕ) (i : ℕ) (ts : List Tree) → SpellEach v (is ++ i ∷ []) ts → EndsWith v is i ts
 each_ends v [] i [] s = absurd s
-each_ends v [] i (t ∷ []) s = record { front = []; last = t; are = refl; before = tt; spelled = s.0 }
+each_ends v [] i (t ∷ []) s = record { prefix = []; last = t; are = refl; before = tt; spelled = s.0 }
 each_ends v [] i (t ∷ u ∷ ts) s = absurd s.1
 each_ends v (j ∷ is) i [] s = absurd s
 each_ends v (j ∷ is) i (t ∷ ts) s =
     let rest = each_ends v is i ts s.1 in
-    record { front = t ∷ rest.front; last = rest.last; are = ap (λ us. t ∷ us) rest.are; before = (s.0, rest.before); spelled = rest.spelled }
+    record { prefix = t ∷ rest.prefix; last = rest.last; are = ap (λ us. t ∷ us) rest.are; before = (s.0, rest.before); spelled = rest.spelled }
 
 -- ---- what an inode links to spells the subtrees
 found_first : (name : List ℕ) (t : Tree) (es : Entries) → find name (entry name t es) ≡ Some t
@@ -57,7 +57,7 @@ found_later : (q name : List ℕ) (t u : Tree) (es : Entries) → IsBelow name e
 found_later q name t u es below there =
     elim (cases_Bool (same_name q name)) [
       | inl same ↦ let none = none_below name es below in let some = ap (λ n. find n es) (sym (one_name q name same)) ∙ there in cc
-      | inr apart ↦ ap (λ b. cond b (Some t) (find q es)) apart ∙ there
+      | inr disjoint ↦ ap (λ b. cond b (Some t) (find q es)) disjoint ∙ there
     ]
 
 some_too : {A B : Type 0} (o : Option A) (p : Option B) (x : A) → o ≡ Some x → is_some o ≡ is_some p → (y : B) × (p ≡ Some y)
@@ -115,12 +115,12 @@ module _ (v : Values) (t : Tree) (rest : List ℕ) (i : ℕ) (places : List Shap
       let shapes : shape_of (Some content) ≡ Ok (shape_of_tree e.last) = sym (ap shape_of holds) ∙ shape_here v i e.last e.spelled in
       let shape : s ≡ shape_of_tree e.last = cc (is, shapes) in
       record {
-        trees = e.front ++ subtrees e.last;
-        spelled = each-append v rest (targets content) e.front (subtrees e.last) e.before (links_spell v i e.last content e.spelled holds shapes);
-        whole = ap (λ ps. forest (e.front ++ subtrees e.last) ++ ps) (reverse-append places (s ∷ []))
-            ∙ ap (λ x. forest (e.front ++ subtrees e.last) ++ x ∷ reverse places) shape
-            ∙ sym (append_assoc (forest (e.front ++ subtrees e.last)) (shape_of_tree e.last ∷ []) (reverse places))
-            ∙ ap (λ ps. ps ++ reverse places) (sym (forest_ends e.front e.last)) ∙ ap (λ ts. forest ts ++ reverse places) (sym e.are) ∙ l.whole;
+        trees = e.prefix ++ subtrees e.last;
+        spelled = each-append v rest (targets content) e.prefix (subtrees e.last) e.before (links_spell v i e.last content e.spelled holds shapes);
+        whole = ap (λ ps. forest (e.prefix ++ subtrees e.last) ++ ps) (reverse-append places (s ∷ []))
+            ∙ ap (λ x. forest (e.prefix ++ subtrees e.last) ++ x ∷ reverse places) shape
+            ∙ sym (append_assoc (forest (e.prefix ++ subtrees e.last)) (shape_of_tree e.last ∷ []) (reverse places))
+            ∙ ap (λ ps. ps ++ reverse places) (sym (forest_ends e.prefix e.last)) ∙ ap (λ ts. forest ts ++ reverse places) (sym e.are) ∙ l.whole;
       }
 
 pub not_more : (v : Values) (t : Tree) (pending : List ℕ) (places : List Shape) → IsListed v t pending places → length places ≤ length (postorder t)

@@ -15,25 +15,25 @@ use Rattle.assise_inode_table.specs.Effects.{contains, touched, value_after}
 use Rattle.assise_inode_table.specs.Whole.{CanBeMadeWhole}
 use Rattle.assise_inode_table.proofs.Grouped.{ComeToSame}
 use Rattle.assise_inode_table.proofs.LeftWhole.{whole_left}
-use Rattle.assise_inode_table.proofs.Making.{contains-both, value_after-append}
+use Rattle.assise_inode_table.proofs.EffectValues.{contains-both, value_after-append}
 use Rattle.assise_private_log.specs.Groups.{groups_from, regrouped}
 use Rattle.assise_private_log.specs.NumberedLog.{NumberedLog, end, records_from}
 use Rattle.assise_private_log.proofs.LogGroups.{regrouped_all}
-use Rattle.assise_digest.specs.Pending.{HasAll, StandsFor, noted, noted_from}
+use Rattle.assise_digest.specs.Pending.{HasAllNumbers, StandsFor, last_noted, noted_from}
 use Rattle.assise_digest.specs.Region.{AreWhole, HasClient, IsBegun, ReceivedLog, RegionValue, ahead, log_of, no_log, read_by, regrouped_from, with_log}
-use Rattle.assise_digest.specs.Sound.{IsSoundLog, StandsHere, seen_log}
+use Rattle.assise_digest.specs.Invariant.{LogInvariant, StandsHere, seen_log}
 use Rattle.assise_digest.specs.declared.pending.Pending.{Pending}
 use Rattle.assise_digest.specs.declared.received.Received.{Received}
 use Rattle.assise_digest.proofs.CoalescedLogs.{groups_come}
-use Rattle.assise_digest.proofs.Keeping.{get-noted}
-use Rattle.assise_digest.proofs.Receiving.{whole_drop, whole_take}
-use Rattle.assise_digest.proofs.Renoting.{renoted}
-use Rattle.assise_digest.proofs.Standing.{is_touched}
+use Rattle.assise_digest.proofs.KeptInodes.{get-noted}
+use Rattle.assise_digest.proofs.ReceivedLogs.{whole_drop, whole_take}
+use Rattle.assise_digest.proofs.RegroupedKept.{renoted}
+use Rattle.assise_digest.proofs.KeptStands.{is_touched}
 
 -- ---- numbers of records
 
-pub has_front : (l : map.FinMap nat_cmp ℕ) (es fs : List Effect) → HasAll l (es ++ fs) → HasAll l es
-has_front l es fs h i among = h i (contains-both es fs i ∙ ap (λ b. b || contains (touched fs) i) among)
+pub has_prefix : (l : map.FinMap nat_cmp ℕ) (es fs : List Effect) → HasAllNumbers l (es ++ fs) → HasAllNumbers l es
+has_prefix l es fs h i among = h i (contains-both es fs i ∙ ap (λ b. b || contains (touched fs) i) among)
 
 or_true : (b : Bool) → (b || true) ≡ true
 or_true true = refl
@@ -43,7 +43,7 @@ some_either : (b : Bool) (n : ℕ) (o : Option ℕ) → IsSome o → IsSome (if 
 some_either true n o h = refl
 some_either false n o h = h
 
-pub has_others : (l : map.FinMap nat_cmp ℕ) (n : ℕ) (es fs : List Effect) → HasAll l (es ++ fs) → HasAll (noted l n es) fs
+pub has_others : (l : map.FinMap nat_cmp ℕ) (n : ℕ) (es fs : List Effect) → HasAllNumbers l (es ++ fs) → HasAllNumbers (last_noted l n es) fs
 has_others l n es fs h i among =
     let had : IsSome (map.get l i) = h i (contains-both es fs i ∙ ap (λ b. contains (touched es) i || b) among ∙ or_true (contains (touched es) i)) in
     subst IsSome (sym (get-noted l n es i)) (some_either (contains (touched es) i) n (map.get l i) had)
@@ -78,37 +78,37 @@ whole_groups (suc n) (r ∷ rs) w =
 -- ---- the log with groups in place of its last records
 
 module _ (x : Received) (from : ℕ) (begun : IsBegun (seen_log x)) (low : x.digested ≤ from) (high : from ≤ end x.log) where
-  abbrev front : List LogRecord
-  front = take (from - x.log.first) x.log.records
+  abbrev prefix : List LogRecord
+  prefix = take (from - x.log.first) x.log.records
 
   abbrev groups : List LogRecord
   groups = all_records (groups_from x.log from)
 
   abbrev new_log : NumberedLog
-  new_log = record { first = x.log.first; limit = x.log.limit; records = front ++ groups; begins = take (from - x.log.first) x.log.begins ++ all_marks (groups_from x.log from) }
+  new_log = record { first = x.log.first; limit = x.log.limit; records = prefix ++ groups; begins = take (from - x.log.first) x.log.begins ++ all_marks (groups_from x.log from) }
 
   pub new_is : regrouped x.log from ≡ new_log
   new_is = regrouped_all x.log from
 
-  front_long : length front ≡ from - x.log.first
-  front_long = omega (arith, length-take (from - x.log.first) x.log.records, begun.from_first)
+  prefix_long : length prefix ≡ from - x.log.first
+  prefix_long = omega (arith, length-take (from - x.log.first) x.log.records, begun.from_first)
 
   pub tail_is : records_from new_log from ≡ groups
-  tail_is = let all : from - x.log.first ≡ length front + 0 = omega (arith, front_long) in ap (λ n. drop n (front ++ groups)) all ∙ drop-append-add front groups 0
+  tail_is = let all : from - x.log.first ≡ length prefix + 0 = omega (arith, prefix_long) in ap (λ n. drop n (prefix ++ groups)) all ∙ drop-append-add prefix groups 0
 
   abbrev passed : List LogRecord
-  passed = drop (x.digested - x.log.first) front
+  passed = drop (x.digested - x.log.first) prefix
 
-  ahead_new : drop (x.digested - x.log.first) (front ++ groups) ≡ passed ++ groups
-  ahead_new = drop-append-le (x.digested - x.log.first) front groups (omega (arith, front_long))
+  ahead_new : drop (x.digested - x.log.first) (prefix ++ groups) ≡ passed ++ groups
+  ahead_new = drop-append-le (x.digested - x.log.first) prefix groups (omega (arith, prefix_long))
 
   ahead_old : ahead (seen_log x) ≡ passed ++ records_from x.log from
   ahead_old =
       ap (drop (x.digested - x.log.first)) (sym (take-append-drop (from - x.log.first) x.log.records))
-      ∙ drop-append-le (x.digested - x.log.first) front (records_from x.log from) (omega (arith, front_long))
+      ∙ drop-append-le (x.digested - x.log.first) prefix (records_from x.log from) (omega (arith, prefix_long))
 
   from_is : x.digested + length passed ≡ from
-  from_is = omega (arith, length-drop (x.digested - x.log.first) front, front_long, begun.from_first)
+  from_is = omega (arith, length-drop (x.digested - x.log.first) prefix, prefix_long, begun.from_first)
 
   new_stands : (m : InodeMap) (o : Option Pending) → StandsHere m (seen_log x) o
       → StandsHere m (record { log = new_log; digested = x.digested; at_home = is_some o }) (option_map (λ p. noted_from p from groups) o)
@@ -119,12 +119,12 @@ module _ (x : Received) (from : ℕ) (begun : IsBegun (seen_log x)) (low : x.dig
       (renoted p m x.digested passed (records_from x.log from) groups (subst (StandsFor p m x.digested) ahead_old s) (groups_come x.log from)))
 
   new_begun : IsBegun (record { log = new_log; digested = x.digested; at_home = is_some x.pending })
-  new_begun = record { from_first = begun.from_first; to_end = omega (arith, front_long, length-append front groups, begun.from_first) }
+  new_begun = record { from_first = begun.from_first; to_end = omega (arith, prefix_long, length-append prefix groups, begun.from_first) }
 
-  sound_new : (m : InodeMap) → IsSoundLog m x → IsSoundLog m (record { log = new_log; digested = x.digested; pending = option_map (λ p. noted_from p from groups) x.pending })
+  sound_new : (m : InodeMap) → LogInvariant m x → LogInvariant m (record { log = new_log; digested = x.digested; pending = option_map (λ p. noted_from p from groups) x.pending })
   sound_new m s = record {
     begun = record { from_first = new_begun.from_first; to_end = new_begun.to_end };
-    whole = whole_both front groups (whole_take (from - x.log.first) x.log.records s.whole)
+    whole = whole_both prefix groups (whole_take (from - x.log.first) x.log.records s.whole)
         (whole_groups (length (records_from x.log from)) (records_from x.log from) (whole_drop (from - x.log.first) x.log.records s.whole));
     stands = like x.pending (new_stands m x.pending s.stands);
   }
@@ -135,25 +135,25 @@ module _ (x : Received) (from : ℕ) (begun : IsBegun (seen_log x)) (low : x.dig
       like (Some p) h = h
 
   -- what is sound stays so
-  pub sound_regrouped : (m : InodeMap) (log : NumberedLog) (o : Option Pending) → IsSoundLog m x → log ≡ regrouped x.log from → o ≡ option_map (λ p. noted_from p from (records_from log from)) x.pending
-      → IsSoundLog m (record { log = log; digested = x.digested; pending = o })
+  pub sound_regrouped : (m : InodeMap) (log : NumberedLog) (o : Option Pending) → LogInvariant m x → log ≡ regrouped x.log from → o ≡ option_map (λ p. noted_from p from (records_from log from)) x.pending
+      → LogInvariant m (record { log = log; digested = x.digested; pending = o })
   sound_regrouped m log o s is kept =
       let same : log ≡ new_log = is ∙ new_is in
       let tail : records_from log from ≡ groups = ap (λ n. records_from n from) same ∙ tail_is in
       let pending : o ≡ option_map (λ p. noted_from p from groups) x.pending = kept ∙ ap (λ rs. option_map (λ p. noted_from p from rs) x.pending) tail in
-      subst (λ n. IsSoundLog m (record { log = n; digested = x.digested; pending = o })) (sym same)
-      (subst (λ p. IsSoundLog m (record { log = new_log; digested = x.digested; pending = p })) (sym pending) (sound_new m s))
+      subst (λ n. LogInvariant m (record { log = n; digested = x.digested; pending = o })) (sym same)
+      (subst (λ p. LogInvariant m (record { log = new_log; digested = x.digested; pending = p })) (sym pending) (sound_new m s))
 
   -- the new records' numbers fit
   pub numbers_fit : (log : NumberedLog) → log ≡ regrouped x.log from → end log < 2 ^ 64 → from + length (records_from log from) < 2 ^ 64
   numbers_fit log is fits =
       let same : log ≡ new_log = is ∙ new_is in
       let tail : length (records_from log from) ≡ length groups = ap (λ n. length (records_from n from)) same ∙ ap length tail_is in
-      let all : end log ≡ x.log.first + length (front ++ groups) = ap end same in
-      omega (arith, tail, all, fits, front_long, length-append front groups, begun.from_first)
+      let all : end log ≡ x.log.first + length (prefix ++ groups) = ap end same in
+      omega (arith, tail, all, fits, prefix_long, length-append prefix groups, begun.from_first)
 
   -- and what they touch has a number
-  pub has_all : (m : InodeMap) (log : NumberedLog) (p : Pending) → log ≡ regrouped x.log from → StandsFor p m x.digested (ahead (seen_log x)) → HasAll p.last (all_effects (records_from log from))
+  pub has_all : (m : InodeMap) (log : NumberedLog) (p : Pending) → log ≡ regrouped x.log from → StandsFor p m x.digested (ahead (seen_log x)) → HasAllNumbers p.last (all_effects (records_from log from))
   has_all m log p is s i among =
       let tail : records_from log from ≡ groups = ap (λ n. records_from n from) (is ∙ new_is) ∙ tail_is in
       let stands : StandsFor p m x.digested (passed ++ records_from x.log from) = subst (StandsFor p m x.digested) ahead_old s in
@@ -164,7 +164,7 @@ module _ (x : Received) (from : ℕ) (begun : IsBegun (seen_log x)) (low : x.dig
       ∙ ap (λ b. contains (touched (all_effects passed)) i || b) old ∙ or_true (contains (touched (all_effects passed)) i) in
       ap is_some (stands.last i) ∙ is_touched x.digested (passed ++ records_from x.log from) i ∙ all
 
-  pub all_there : (m : InodeMap) (log : NumberedLog) (o : Option Pending) → log ≡ regrouped x.log from → StandsHere m (seen_log x) o → IfSome o (λ p. HasAll p.last (all_effects (records_from log from)))
+  pub all_there : (m : InodeMap) (log : NumberedLog) (o : Option Pending) → log ≡ regrouped x.log from → StandsHere m (seen_log x) o → IfSome o (λ p. HasAllNumbers p.last (all_effects (records_from log from)))
   all_there m log None is s = tt
   all_there m log (Some p) is s = has_all m log p is s
 

@@ -1,6 +1,6 @@
 pub mod Ahead
 pub mod Pending
 pub mod Region
-pub mod Sound
+pub mod Invariant
 pub mod Postorder
 pub mod Targets

@@ -14,8 +14,8 @@ use Rattle.assise_digest.specs.Ahead.{last_touch}
 use Rattle.assise_digest.specs.declared.pending.Pending.{Pending}
 
 -- the value of an inode: what is kept of it, or what it was
-abbrev pub seen : Pending → ℕ → Option Content → Option Content
-seen p i old = if is_some (map.get p.last i) then map.get p.inodes i else old
+abbrev pub pending_seen : Pending → ℕ → Option Content → Option Content
+pending_seen p i old = if is_some (map.get p.last i) then map.get p.inodes i else old
 
 -- the record of this number is the last that touches the inode
 abbrev pub is_last : Pending → ℕ → ℕ → Bool
@@ -34,13 +34,13 @@ abbrev pub held : Pending → InodeMap → ℕ → ℕ → Pending
 held p m number i = if is_some (map.get p.last i) then p else record { inodes = with_value p.inodes i (map.get m i); last = map.insert p.last i number }
 
 -- inodes one after another
-abbrev pub in_turn : (Pending → ℕ → Pending) → Pending → List ℕ → Pending
-in_turn step p [] = p
-in_turn step p (i ∷ is) = in_turn step (step p i) is
+abbrev pub loaded_in_turn : (Pending → ℕ → Pending) → Pending → List ℕ → Pending
+loaded_in_turn step p [] = p
+loaded_in_turn step p (i ∷ is) = loaded_in_turn step (step p i) is
 
 -- each inode that effects touch is kept
 abbrev pub all_held : Pending → InodeMap → ℕ → List Effect → Pending
-all_held p m number es = in_turn (λ q i. held q m number i) p (touched es)
+all_held p m number es = loaded_in_turn (λ q i. held q m number i) p (touched es)
 
 -- an inode of which the record of this number is the last goes
 abbrev pub let_go : Pending → ℕ → ℕ → Pending
@@ -48,29 +48,29 @@ let_go p number i = if is_last p number i then record { inodes = map.remove p.in
 
 -- each such inode that effects touch goes
 abbrev pub forgotten : Pending → ℕ → List Effect → Pending
-forgotten p number es = in_turn (λ q i. let_go q number i) p (touched es)
+forgotten p number es = loaded_in_turn (λ q i. let_go q number i) p (touched es)
 
 -- the record of this number is the last that touches the inodes of its effects
-abbrev pub noted : map.FinMap nat_cmp ℕ → ℕ → List Effect → map.FinMap nat_cmp ℕ
-noted l number [] = l
-noted l number (e ∷ es) = noted (map.insert l (touched_by e) number) number es
+abbrev pub last_noted : map.FinMap nat_cmp ℕ → ℕ → List Effect → map.FinMap nat_cmp ℕ
+last_noted l number [] = l
+last_noted l number (e ∷ es) = last_noted (map.insert l (touched_by e) number) number es
 
 -- each record is the last that touches the inodes of its effects, one after another, from this number on
 abbrev pub all_noted : map.FinMap nat_cmp ℕ → ℕ → List LogRecord → map.FinMap nat_cmp ℕ
 all_noted l number [] = l
-all_noted l number (r ∷ rs) = all_noted (noted l number r.effects) (number + 1) rs
+all_noted l number (r ∷ rs) = all_noted (last_noted l number r.effects) (number + 1) rs
 
 -- with the numbers of those records
 abbrev pub noted_from : Pending → ℕ → List LogRecord → Pending
 noted_from p number rs = record { inodes = p.inodes; last = all_noted p.last number rs }
 
 -- each inode that effects touch has a number
-abbrev pub HasAll : map.FinMap nat_cmp ℕ → List Effect → Type 0
-HasAll l es = (i : ℕ) → contains (touched es) i ≡ true → IsSome (map.get l i)
+abbrev pub HasAllNumbers : map.FinMap nat_cmp ℕ → List Effect → Type 0
+HasAllNumbers l es = (i : ℕ) → contains (touched es) i ≡ true → IsSome (map.get l i)
 
 -- with the effects of one more record
 abbrev pub taken_in : Pending → InodeMap → ℕ → List Effect → Pending
-taken_in p m number es = record { inodes = all_applied (all_held p m number es).inodes es; last = noted (all_held p m number es).last number es }
+taken_in p m number es = record { inodes = all_applied (all_held p m number es).inodes es; last = last_noted (all_held p m number es).last number es }
 
 -- what is kept is exactly what the records, numbered from n on, make of the map: the value of each inode that one of
 -- them touches, and the number of the last that does

@@ -7,7 +7,7 @@ use Rattle.assise_record.specs.LogRecord.{LogRecord}
 use Rattle.assise_record.specs.Records.{all_effects}
 use Rattle.assise_private_log.specs.Borders.{whole_count}
 use Rattle.assise_private_log.specs.Groups.{regrouped}
-use Rattle.assise_private_log.specs.NumberedLog.{NumberedLog, empty_log, end, is_border, records_from, with_grouped, without_front, without_tail}
+use Rattle.assise_private_log.specs.NumberedLog.{NumberedLog, empty_log, end, is_border, records_from, with_grouped, without_prefix, without_tail}
 use Rattle.assise_inode_table.specs.Contents.{Content, InodeMap, Values}
 use Rattle.assise_inode_table.specs.Effects.{all_applied, contains, touched, value_after, with_value}
 use Rattle.assise_inode_table.specs.Whole.{CanBeMadeWhole}
@@ -43,8 +43,8 @@ abbrev pub with_log : RegionValue → ℕ → ReceivedLog → RegionValue
 with_log r client l = record r { logs = slice_set r.logs (client - 1) l }
 
 -- one client more, one less, or none
-abbrev pub with_client : RegionValue → ReceivedLog → RegionValue
-with_client r l = record r { logs = r.logs ++ l ∷ [] }
+abbrev pub region_with_client : RegionValue → ReceivedLog → RegionValue
+region_with_client r l = record r { logs = r.logs ++ l ∷ [] }
 
 abbrev pub without_last_client : RegionValue → RegionValue
 without_last_client r = record r { logs = take (length r.logs - 1) r.logs }
@@ -93,11 +93,11 @@ abbrev pub whole_ahead : ReceivedLog → (to most : ℕ) → ℕ
 whole_ahead l to most = whole_count l.log l.digested (min (length (ahead_below l to)) most)
 
 -- there is room for one more record, or there is none
-abbrev pub HasRoom : ReceivedLog → Type 0
-HasRoom l = length l.log.records < l.log.limit
+abbrev pub LogHasRoom : ReceivedLog → Type 0
+LogHasRoom l = length l.log.records < l.log.limit
 
-abbrev pub IsFull : ReceivedLog → Type 0
-IsFull l = length l.log.records ≡ l.log.limit
+abbrev pub IsLogFull : ReceivedLog → Type 0
+IsLogFull l = length l.log.records ≡ l.log.limit
 
 -- each record can be made all or none
 abbrev pub AreWhole : List LogRecord → Type 0
@@ -114,7 +114,7 @@ abbrev pub with_more : ReceivedLog → LogRecord → ReceivedLog
 with_more l r = with_one l r true
 
 abbrev pub from_number : ReceivedLog → ℕ → ReceivedLog
-from_number l to = record { log = without_front l.log to; digested = l.digested; at_home = l.at_home }
+from_number l to = record { log = without_prefix l.log to; digested = l.digested; at_home = l.at_home }
 
 abbrev pub up_to_number : ReceivedLog → ℕ → ReceivedLog
 up_to_number l from = record { log = without_tail l.log from; digested = l.digested; at_home = l.at_home }
@@ -139,7 +139,7 @@ digested_by r client count = record r {
 abbrev pub read_by : RegionValue → ℕ → ℕ → Option Content
 read_by r client i = value_after i (map.get r.inodes i) (all_effects (ahead (log_of r client)))
 
--- the effects of the records that aren't digested and are acknowledged, client by client; each client has a number
+-- the effects of the records that aren't digested and are replicated, client by client; each client has a number
 -- below which its records are
 abbrev pub all_ahead : List ReceivedLog → List ℕ → List Effect
 all_ahead [] acked = []
@@ -151,13 +151,13 @@ abbrev pub alone : RegionValue → List ℕ → Values
 alone r acked i = value_after i (map.get r.inodes i) (all_ahead r.logs acked)
 
 -- no inode is touched by records of two clients that aren't digested
-abbrev pub TouchApart : RegionValue → Type 0
-TouchApart r = (j k : ℕ) → j ≢ k → (i : ℕ) → contains (touched (all_effects (ahead (log_at r j)))) i ≡ true → contains (touched (all_effects (ahead (log_at r k)))) i ≡ false
+abbrev pub TouchDisjoint : RegionValue → Type 0
+TouchDisjoint r = (j k : ℕ) → j ≢ k → (i : ℕ) → contains (touched (all_effects (ahead (log_at r j)))) i ≡ true → contains (touched (all_effects (ahead (log_at r k)))) i ≡ false
 
 -- no record that isn't digested, of a client that lives on this node, touches the inode
 abbrev pub IsQuiet : RegionValue → ℕ → Type 0
 IsQuiet r i = (k : ℕ) → (log_at r k).at_home ≡ true → contains (touched (all_effects (ahead (log_at r k)))) i ≡ false
 
--- the acknowledged numbers aren't below the digested ones
+-- the replicated numbers aren't below the digested ones
 abbrev pub AreNotBelow : List ReceivedLog → List ℕ → Type 0
 AreNotBelow ls acked = (k : ℕ) → k < length ls → (slice_index_or ls k no_log).digested ≤ slice_index_or acked k 0

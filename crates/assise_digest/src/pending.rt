@@ -5,7 +5,7 @@ ghost use Rattle.std.specs.FinMap as map;
 ghost use Rattle.assise_inode_table.specs.Effects.{all_applied, with_value};
 ghost use Rattle.assise_inode_table.specs.Whole.{CanBeMadeWhole};
 ghost use Rattle.assise_names.specs.declared.refusal.Refusal.TheVariants.{OutOfMemory};
-ghost use Rattle.assise_digest.specs.Pending.{HasAll, IsNew, KeepsNoMore, all_held, forgotten, held, is_last, let_go, noted, noted_from, seen, taken_in};
+ghost use Rattle.assise_digest.specs.Pending.{HasAllNumbers, IsNew, KeepsNoMore, all_held, forgotten, held, is_last, let_go, last_noted, noted_from, pending_seen, taken_in};
 
 use crate::numbers::Numbers;
 use assise_area::area::Area;
@@ -49,7 +49,7 @@ impl Pending {
 
     /// An inode after the records, where it was given as it is without them.
     pub(crate) fn value<'a>(&'a self, inode: u64, base: Option<&'a Inode>) -> Option<&'a Inode>
-        ensures { option_copied result ≡ seen self.now inode (option_copied base.entry) }
+        ensures { option_copied result ≡ pending_seen self.now inode (option_copied base.entry) }
     {
         if self.has(inode) {
             self.inodes.get(inode)
@@ -106,9 +106,12 @@ impl Pending {
     ) -> Result<(), Refusal>
         requires whole { CanBeMadeWhole effects.now }
         requires no_more { KeepsNoMore self.old }
-        ensures ok_inodes { OnOk result (self.new.inodes ≡ all_applied (all_held self.old area.now.inodes number effects.now).inodes effects.now) }
-        ensures ok_last { OnOk result (self.new.last ≡ (all_held self.old area.now.inodes number effects.now).last) }
-        ensures err { IsNew self.old number → OnErr result (forgotten self.new number effects.now ≡ self.old) }
+        ensures ok_inodes { OnOk result (self.new.inodes ≡ all_applied
+            (all_held self.old area.now.inodes number effects.now).inodes effects.now) }
+        ensures ok_last { OnOk result (self.new.last ≡
+            (all_held self.old area.now.inodes number effects.now).last) }
+        ensures err { IsNew self.old number →
+            OnErr result (forgotten self.new number effects.now ≡ self.old) }
         ensures only_memory { IsOkUnless result OutOfMemory }
     {
         for effect in effects {
@@ -145,7 +148,7 @@ impl Pending {
     /// are kept.
     pub(crate) fn note_all(&mut self, first: u64, records: Records<'_>)
         requires numbers_fit { first + length records < 2 ^ 64 }
-        requires there { HasAll self.old.last (all_effects records) }
+        requires there { HasAllNumbers self.old.last (all_effects records) }
         ensures { self.new ≡ noted_from self.old first records.entry }
     {
         let mut number = first;
@@ -177,8 +180,8 @@ impl Pending {
 
 /// Notes that the record of a number is the last that touches the inodes of its effects. All of them have a number.
 fn note(last: &mut Numbers, number: u64, effects: &[Effect])
-    requires there { HasAll last.old effects.now }
-    ensures { last.new ≡ noted last.old number effects.now }
+    requires there { HasAllNumbers last.old effects.now }
+    ensures { last.new ≡ last_noted last.old number effects.now }
 {
     for effect in effects {
         last.set(effect.touches(), number);

@@ -9,8 +9,8 @@ ghost use Rattle.assise_record.specs.Groups.{AllHaveEffects};
 ghost use Rattle.assise_private_log.specs.NumberedLog.{HasOpenGroup, IsNumberedLog, end, records_from};
 ghost use Rattle.assise_digest.specs.Region.{AreWhole, IsBegun, IsNextGroup, ahead, ahead_below, digested_further, from_number, regrouped_from, next_effects, up_to_number, with_one};
 ghost use Rattle.assise_record.specs.declared.effect.Effect.{Effect as EffectValue};
-ghost use Rattle.assise_digest.specs.Pending.{HasAll, KeepsNoMore, Lays, forgotten, noted_from};
-ghost use Rattle.assise_digest.specs.Sound.{IsKeptFor, IsSoundLog, seen_log};
+ghost use Rattle.assise_digest.specs.Pending.{HasAllNumbers, KeepsNoMore, Lays, forgotten, noted_from};
+ghost use Rattle.assise_digest.specs.Invariant.{IsKeptFor, LogInvariant, seen_log};
 
 use crate::pending::Pending;
 use assise_area::area::Area;
@@ -33,14 +33,16 @@ pub(crate) struct Received {
 impl Received {
     /// Takes the effects of the next record into what is kept for a client that lives here.
     fn keep(&mut self, alloc: Global, area: &Area, added: &Record) -> Result<(), Refusal>
-        requires sound { IsSoundLog area.now.inodes self.old }
+        requires sound { LogInvariant area.now.inodes self.old }
         requires whole { CanBeMadeWhole added.now.effects }
         ensures log { self.new.log ≡ self.old.log }
         ensures digested { self.new.digested ≡ self.old.digested }
         ensures at_home { is_some self.new.pending ≡ is_some self.old.pending }
-        ensures kept { OnOk result (IsKeptFor area.now.inodes (seen_log self.old) added.now self.new.pending) }
+        ensures kept { OnOk result (IsKeptFor area.now.inodes
+            (seen_log self.old) added.now self.new.pending) }
         ensures err { OnErr result (self.new ≡ self.old) }
-        ensures only_memory { IfErr result (λ e. (e ≡ OutOfMemory) × (is_some self.old.pending ≡ true)) }
+        ensures only_memory { IfErr result (λ e. (e ≡ OutOfMemory) ×
+            (is_some self.old.pending ≡ true)) }
     {
         let number = self.log.end();
         match &mut self.pending {
@@ -59,17 +61,19 @@ impl Received {
         added: Record,
         begins: bool,
     ) -> Result<(), (Refusal, Record)>
-        requires sound { IsSoundLog area.now.inodes self.old }
+        requires sound { LogInvariant area.now.inodes self.old }
         requires open_group { begins ≡ false → HasOpenGroup self.old.log }
         requires number_fits { end self.old.log + 1 < 2 ^ 64 }
         requires whole { CanBeMadeWhole added.effects }
-        ensures sound { IsSoundLog area.now.inodes self.new }
+        ensures sound { LogInvariant area.now.inodes self.new }
         ensures ok { OnOk result (seen_log self.new ≡ with_one (seen_log self.old) added begins) }
         ensures err { OnErr result (self.new ≡ self.old) }
         ensures given_back { IfErr result (λ back. back.1 ≡ added) }
         ensures room { IsOk result → length self.old.log.records < self.old.log.limit }
-        ensures refused { IfErr result (λ back. ((back.0 ≡ LogFull) × (length self.old.log.records ≡ self.old.log.limit))
-            ⊎ ((back.0 ≡ OutOfMemory) × (length self.old.log.records < self.old.log.limit) × (is_some self.old.pending ≡ true))) }
+        ensures refused { IfErr result (λ back.
+            ((back.0 ≡ LogFull) × (length self.old.log.records ≡ self.old.log.limit)) ⊎
+            ((back.0 ≡ OutOfMemory) × (length self.old.log.records < self.old.log.limit) ×
+            (is_some self.old.pending ≡ true))) }
     {
         if self.log.spare() == 0 {
             return Err((Refusal::LogFull, added));
@@ -86,7 +90,9 @@ impl Received {
         requires more { self.old.digested < end self.old.log }
         ensures log { self.new.log ≡ self.old.log }
         ensures digested { self.new.digested ≡ self.old.digested }
-        ensures pending { self.new.pending ≡ option_map (λ p. forgotten p self.old.digested (next_effects (seen_log self.old))) self.old.pending }
+        ensures pending { self.new.pending ≡ option_map
+            (λ p. forgotten p self.old.digested (next_effects (seen_log self.old)))
+            self.old.pending }
     {
         let Some(next) = self.log.get(self.digested) else {
             return;
@@ -101,7 +107,8 @@ impl Received {
         requires begun { IsBegun (seen_log self.old) }
         requires more { self.old.digested < end self.old.log }
         ensures seen { seen_log self.new ≡ digested_further (seen_log self.old) 1 }
-        ensures sound { (m : InodeMap) → IsSoundLog m self.old → IsSoundLog (all_applied m (next_effects (seen_log self.old))) self.new }
+        ensures sound { (m : InodeMap) → LogInvariant m self.old →
+            LogInvariant (all_applied m (next_effects (seen_log self.old))) self.new }
     {
         let _fits = self.log.end();
         self.forget_next();
@@ -113,8 +120,9 @@ impl Received {
         requires begun { IsBegun (seen_log self.old) }
         requires there { count ≤ length (ahead (seen_log self.old)) }
         ensures seen { seen_log self.new ≡ digested_further (seen_log self.old) count }
-        ensures sound { (m : InodeMap) → IsSoundLog m self.old →
-            IsSoundLog (all_applied m (all_effects (take count (ahead (seen_log self.old))))) self.new }
+        ensures sound { (m : InodeMap) → LogInvariant m self.old →
+            LogInvariant (all_applied m (all_effects (take count (ahead (seen_log self.old)))))
+            self.new }
     {
         let mut done = 0;
         while done < count {
@@ -159,7 +167,7 @@ impl Received {
         requires from_first { self.old.log.first ≤ to }
         requires digested { to ≤ self.old.digested }
         ensures seen { seen_log self.new ≡ from_number (seen_log self.old) to }
-        ensures sound { (m : InodeMap) → IsSoundLog m self.old → IsSoundLog m self.new }
+        ensures sound { (m : InodeMap) → LogInvariant m self.old → LogInvariant m self.new }
     {
         self.log.drop_front(to);
     }
@@ -170,7 +178,7 @@ impl Received {
         requires elsewhere { is_some self.old.pending ≡ false }
         requires digested { self.old.digested ≤ from }
         ensures seen { seen_log self.new ≡ up_to_number (seen_log self.old) from }
-        ensures sound { (m : InodeMap) → IsSoundLog m self.old → IsSoundLog m self.new }
+        ensures sound { (m : InodeMap) → LogInvariant m self.old → LogInvariant m self.new }
     {
         self.log.cut_tail(from);
     }
@@ -179,13 +187,13 @@ impl Received {
     /// kept for a client that lives here stays, with the new numbers. The one refusal is [`Refusal::OutOfMemory`], and it
     /// leaves all as it was.
     pub(crate) fn coalesce(&mut self, alloc: Global, from: u64) -> Result<(), Refusal>
-        requires sound { (m : InodeMap) × IsSoundLog m self.old }
+        requires sound { (m : InodeMap) × LogInvariant m self.old }
         requires digested { self.old.digested ≤ from }
         requires to_end { from ≤ end self.old.log }
         ensures seen { OnOk result (seen_log self.new ≡ regrouped_from (seen_log self.old) from) }
         ensures effects { OnOk result (AllHaveEffects (records_from self.old.log from)) }
         ensures lawful { IsNumberedLog self.old.log }
-        ensures sound { (m : InodeMap) → IsSoundLog m self.old → IsSoundLog m self.new }
+        ensures sound { (m : InodeMap) → LogInvariant m self.old → LogInvariant m self.new }
         ensures err { OnErr result (self.new ≡ self.old) }
         ensures only_memory { IsOkUnless result OutOfMemory }
     {
@@ -199,7 +207,7 @@ impl Received {
     fn note_from(&mut self, from: u64)
         requires numbers_fit { from + length (records_from self.old.log from) < 2 ^ 64 }
         requires there { IfSome self.old.pending
-            (λ p. HasAll p.last (all_effects (records_from self.old.log from))) }
+            (λ p. HasAllNumbers p.last (all_effects (records_from self.old.log from))) }
         ensures log { self.new.log ≡ self.old.log }
         ensures digested { self.new.digested ≡ self.old.digested }
         ensures pending { self.new.pending ≡ option_map
@@ -210,7 +218,7 @@ impl Received {
         }
     }
 
-    /// Takes in what the records make that aren't digested, of those numbered below what is acknowledged. Where memory
+    /// Takes in what the records make that aren't digested, of those numbered below what is replicated. Where memory
     /// runs out, some of it may be taken in.
     pub(crate) fn lay(
         &self,
@@ -224,7 +232,8 @@ impl Received {
         requires no_more { KeepsNoMore pending.old }
         ensures no_more { OnOk result (KeepsNoMore pending.new) }
         ensures lays { (es : List EffectValue) → Lays pending.old area.now.inodes es →
-            OnOk result (Lays pending.new area.now.inodes (es ++ all_effects (ahead_below (seen_log self.now) acked))) }
+            OnOk result (Lays pending.new area.now.inodes
+            (es ++ all_effects (ahead_below (seen_log self.now) acked))) }
         ensures only_memory { IsOkUnless result OutOfMemory }
     {
         let to = acked.clamp(self.digested, self.log.end());

@@ -3,7 +3,7 @@ ghost use Rattle.std.specs.Prelude.{◌≡◌, ◌↔◌, ◌⊎◌, ◌+◌, �
 ghost use Rattle.std.specs.FinMap as map;
 ghost use Rattle.assise_record.specs.Records.{all_effects};
 ghost use Rattle.assise_inode_table.specs.Effects.{all_applied};
-ghost use Rattle.assise_inode_table.specs.Opening.{opening};
+ghost use Rattle.assise_inode_table.specs.Opening.{opening_inodes};
 ghost use Rattle.assise_inode_table.specs.Spelled.{Spells};
 ghost use Rattle.assise_inode_table.specs.Whole.{CanBeMadeWhole};
 ghost use Rattle.assise_names.specs.declared.refusal.Refusal.TheVariants.{LogFull, OutOfMemory};
@@ -11,8 +11,8 @@ ghost use Rattle.assise_record.specs.Groups.{AllHaveEffects};
 ghost use Rattle.assise_private_log.specs.NumberedLog.{HasOpenGroup, IsNumberedLog, end, is_border, records_from};
 ghost use Rattle.assise_seq_tree.specs.Tree.{Tree as PlainTree};
 ghost use Rattle.assise_digest.specs.Pending.{Lays};
-ghost use Rattle.assise_digest.specs.Region.{AreNotBelow, AreWhole, HasClient, HasRoom, IsBegun, IsFull, IsNextGroup, IsQuiet, TouchApart, ahead, ahead_below, all_ahead, alone, digested_by, from_number, log_of, read_by, regrouped_from, up_to_number, whole_ahead, with_client, with_hot_capacity, with_inode, with_log, with_more, with_one, without_clients, without_last_client};
-ghost use Rattle.assise_digest.specs.Sound.{IsSoundLog, seen_log};
+ghost use Rattle.assise_digest.specs.Region.{AreNotBelow, AreWhole, HasClient, LogHasRoom, IsBegun, IsLogFull, IsNextGroup, IsQuiet, TouchDisjoint, ahead, ahead_below, all_ahead, alone, digested_by, from_number, log_of, read_by, regrouped_from, up_to_number, whole_ahead, region_with_client, with_hot_capacity, with_inode, with_log, with_more, with_one, without_clients, without_last_client};
+ghost use Rattle.assise_digest.specs.Invariant.{LogInvariant, seen_log};
 
 use crate::overlay::Overlay;
 use crate::pending::Pending;
@@ -42,7 +42,7 @@ impl Model for Region {
     ghost use Rattle.std.specs.Coded.{codes};
     ghost use Rattle.assise_inode_table.specs.Contents.{coded_inodes};
     ghost use Rattle.assise_digest.specs.Region.{RegionValue};
-    ghost use Rattle.assise_digest.specs.Sound.{AreSound, seen_logs};
+    ghost use Rattle.assise_digest.specs.Invariant.{LogsInvariant, seen_logs};
 
     ghost Value = { RegionValue };
 
@@ -54,7 +54,7 @@ impl Model for Region {
       capacity = r.area.capacity;
     } };
 
-    ghost invariant = { λ r. AreSound r.area.inodes r.logs.items };
+    ghost invariant = { λ r. LogsInvariant r.area.inodes r.logs.items };
 }
 
 impl Region {
@@ -64,7 +64,7 @@ impl Region {
         requires least { 1 ≤ hot_capacity }
         requires most { hot_capacity ≤ 4096 }
         ensures opening { IfOk result (λ region.
-            region ≡ record { inodes = opening; logs = []; capacity = hot_capacity }) }
+            region ≡ record { inodes = opening_inodes; logs = []; capacity = hot_capacity }) }
         ensures only_memory { IsOkUnless result OutOfMemory }
     {
         let mut area = Area::new(alloc, hot_capacity)?;
@@ -170,7 +170,8 @@ impl Region {
     pub fn inodes_of(&self, client: usize) -> Overlay<'_>
         requires client { HasClient self.now client }
         requires at_home { (log_of self.now client).at_home ≡ true }
-        ensures { result ≡ all_applied self.now.inodes (all_effects (ahead (log_of self.now client))) }
+        ensures { result ≡ all_applied self.now.inodes
+            (all_effects (ahead (log_of self.now client))) }
     {
         let Some(pending) = &self.logs[client - 1].pending else {
             unreachable!()
@@ -179,7 +180,7 @@ impl Region {
     }
 
     /// The tree that this region alone gives: that of its inodes after the records that aren't digested and are
-    /// acknowledged. There is a number for each client, from client 1 on, below which its records are acknowledged. It costs
+    /// replicated. There is a number for each client, from client 1 on, below which its records are replicated. It costs
     /// the tree and those records. The one refusal is [`Refusal::OutOfMemory`].
     pub fn rebuild(&self, alloc: Global, acked: &[u64]) -> Result<Tree, Refusal>
         ghost t: { PlainTree }
@@ -191,9 +192,10 @@ impl Region {
         Overlay::new(&self.area, &ahead).tree(alloc)
     }
 
-    /// What the records make that aren't digested and are acknowledged, client by client.
+    /// What the records make that aren't digested and are replicated, client by client.
     fn all_ahead(&self, alloc: Global, acked: &[u64]) -> Result<Pending, Refusal>
-        ensures lays { IfOk result (λ ahead. Lays ahead self.now.inodes (all_ahead self.now.logs acked.now)) }
+        ensures lays { IfOk result (λ ahead. Lays ahead self.now.inodes
+            (all_ahead self.now.logs acked.now)) }
         ensures only_memory { IsOkUnless result OutOfMemory }
     {
         let mut ahead = Pending::new(alloc);
@@ -209,7 +211,8 @@ impl Region {
         requires from_first { log.first ≤ digested }
         requires to_end { digested ≤ end log }
         requires whole { AreWhole log.records }
-        ensures ok { OnOk result (self.new ≡ with_client self.old (record { log = log; digested = digested; at_home = false })) }
+        ensures ok { OnOk result (self.new ≡ region_with_client self.old
+            (record { log = log; digested = digested; at_home = false })) }
         ensures err { OnErr result (self.new ≡ self.old) }
         ensures given_back { IfErr result (λ back. back ≡ (OutOfMemory, log)) }
     {
@@ -224,7 +227,8 @@ impl Region {
     /// [`Refusal::OutOfMemory`]: it leaves the region as it was, and gives the log back.
     pub fn add_own_client(&mut self, log: Log) -> Result<(), (Refusal, Log)>
         requires empty { log.records ≡ [] }
-        ensures ok { OnOk result (self.new ≡ with_client self.old (record { log = log; digested = log.first; at_home = true })) }
+        ensures ok { OnOk result (self.new ≡ region_with_client self.old
+            (record { log = log; digested = log.first; at_home = true })) }
         ensures err { OnErr result (self.new ≡ self.old) }
         ensures given_back { IfErr result (λ back. back ≡ (OutOfMemory, log)) }
     {
@@ -239,8 +243,8 @@ impl Region {
 
     /// Adds what is received of a log.
     fn add(&mut self, received: Received) -> Result<(), (Refusal, Log)>
-        requires sound { IsSoundLog self.old.inodes received }
-        ensures ok { OnOk result (self.new ≡ with_client self.old (seen_log received)) }
+        requires sound { LogInvariant self.old.inodes received }
+        ensures ok { OnOk result (self.new ≡ region_with_client self.old (seen_log received)) }
         ensures err { OnErr result (self.new ≡ self.old) }
         ensures given_back { IfErr result (λ back. back ≡ (OutOfMemory, received.log)) }
     {
@@ -313,12 +317,15 @@ impl Region {
         requires client { HasClient self.old client }
         requires number_fits { end (log_of self.old client).log + 1 < 2 ^ 64 }
         requires whole { CanBeMadeWhole added.effects }
-        ensures ok { OnOk result (self.new ≡ with_log self.old client (with_more (log_of self.old client) added)) }
+        ensures ok { OnOk result (self.new ≡ with_log self.old client
+            (with_more (log_of self.old client) added)) }
         ensures err { OnErr result (self.new ≡ self.old) }
         ensures given_back { IfErr result (λ back. back.1 ≡ added) }
-        ensures room { IsOk result → HasRoom (log_of self.old client) }
-        ensures refused { IfErr result (λ back. ((back.0 ≡ LogFull) × IsFull (log_of self.old client))
-            ⊎ ((back.0 ≡ OutOfMemory) × HasRoom (log_of self.old client) × ((log_of self.old client).at_home ≡ true))) }
+        ensures room { IsOk result → LogHasRoom (log_of self.old client) }
+        ensures refused { IfErr result (λ back.
+            ((back.0 ≡ LogFull) × IsLogFull (log_of self.old client)) ⊎
+            ((back.0 ≡ OutOfMemory) × LogHasRoom (log_of self.old client) ×
+            ((log_of self.old client).at_home ≡ true))) }
     {
         self.append_grouped(client, added, true)
     }
@@ -339,10 +346,10 @@ impl Region {
             with_log self.old client (with_one (log_of self.old client) added begins)) }
         ensures err { OnErr result (self.new ≡ self.old) }
         ensures given_back { IfErr result (λ back. back.1 ≡ added) }
-        ensures room { IsOk result → HasRoom (log_of self.old client) }
+        ensures room { IsOk result → LogHasRoom (log_of self.old client) }
         ensures refused { IfErr result (λ back. ((back.0 ≡ LogFull)
-            × IsFull (log_of self.old client))
-            ⊎ ((back.0 ≡ OutOfMemory) × HasRoom (log_of self.old client)
+            × IsLogFull (log_of self.old client))
+            ⊎ ((back.0 ≡ OutOfMemory) × LogHasRoom (log_of self.old client)
             × ((log_of self.old client).at_home ≡ true))) }
     {
         let alloc = self.area.allocator();
@@ -392,11 +399,11 @@ impl Region {
     }
 
     /// Puts records of a client into the inodes, in their order, so many at most, and of those alone that are numbered
-    /// below what is acknowledged (Strata, SOSP 2017, section 3: digest). Each group is put in whole or not at all. It
+    /// below what is replicated (Strata, SOSP 2017, section 3: digest). Each group is put in whole or not at all. It
     /// answers how many records there were, and only where no whole group is among those that may be digested is that 0.
     /// Where memory runs out it answers those before, and the one refusal, [`Refusal::OutOfMemory`], comes where there were
     /// none: it leaves the region as it was. Nobody can see a digest: the client reads what it read before, and the inodes
-    /// that the region alone gives stay, whatever else is acknowledged.
+    /// that the region alone gives stay, whatever else is replicated.
     pub fn digest_some(
         &mut self,
         client: usize,
@@ -404,7 +411,7 @@ impl Region {
         at_most: usize,
     ) -> Result<usize, Refusal>
         requires client { HasClient self.old client }
-        requires apart { TouchApart self.old }
+        requires disjoint { TouchDisjoint self.old }
         ensures ok { IfOk result (λ n. self.new ≡ digested_by self.old client n) }
         ensures at_most { IfOk result (λ n. n ≤ at_most) }
         ensures acked { IfOk result (λ n. n ≤ length (ahead_below (log_of self.old client) acked)) }
@@ -413,9 +420,11 @@ impl Region {
         ensures none { IfOk result (λ n. n ≡ 0 →
             whole_ahead (log_of self.old client) acked at_most ≡ 0) }
         ensures err { OnErr result (self.new ≡ self.old) }
-        ensures asked { OnErr result ((0 < at_most) × (0 < length (ahead_below (log_of self.old client) acked))) }
+        ensures asked { OnErr result ((0 < at_most) ×
+            (0 < length (ahead_below (log_of self.old client) acked))) }
         ensures read { (i : ℕ) → read_by self.new client i ≡ read_by self.old client i }
-        ensures alone { (numbers : List ℕ) → AreNotBelow self.new.logs numbers → (i : ℕ) → alone self.new numbers i ≡ alone self.old numbers i }
+        ensures alone { (numbers : List ℕ) → AreNotBelow self.new.logs numbers → (i : ℕ) →
+            alone self.new numbers i ≡ alone self.old numbers i }
         ensures only_memory { IsOkUnless result OutOfMemory }
     {
         let most = self.count_ahead(client, acked).min(at_most);
@@ -445,7 +454,7 @@ impl Region {
     /// Puts the next records of a client into the inodes, so many: all of them, or none.
     fn digest_group(&mut self, client: usize, count: usize) -> Result<(), Refusal>
         requires client { HasClient self.old client }
-        requires apart { TouchApart self.old }
+        requires disjoint { TouchDisjoint self.old }
         requires some { 0 < count }
         requires there { count ≤ length (ahead (log_of self.old client)) }
         ensures ok { OnOk result (self.new ≡ digested_by self.old client count) }
@@ -461,7 +470,7 @@ impl Region {
     /// The same, at the cost of a copy of each inode that the records touch.
     fn digest_on_copies(&mut self, client: usize, count: usize) -> Result<(), Refusal>
         requires client { HasClient self.old client }
-        requires apart { TouchApart self.old }
+        requires disjoint { TouchDisjoint self.old }
         requires there { count ≤ length (ahead (log_of self.old client)) }
         ensures ok { OnOk result (self.new ≡ digested_by self.old client count) }
         ensures err { OnErr result (self.new ≡ self.old) }
@@ -474,7 +483,7 @@ impl Region {
         Ok(())
     }
 
-    /// How many records of a client aren't digested, of those numbered below what is acknowledged.
+    /// How many records of a client aren't digested, of those numbered below what is replicated.
     fn count_ahead(&self, client: usize, acked: u64) -> usize
         requires client { HasClient self.now client }
         ensures count { result ≡ length (ahead_below (log_of self.now client) acked) }
@@ -488,7 +497,7 @@ impl Region {
     /// Puts the next record of a client into the inodes: whole, or not at all.
     fn digest_next(&mut self, client: usize) -> Result<(), Refusal>
         requires client { HasClient self.old client }
-        requires apart { TouchApart self.old }
+        requires disjoint { TouchDisjoint self.old }
         requires more { (log_of self.old client).digested < end (log_of self.old client).log }
         ensures ok { OnOk result (self.new ≡ digested_by self.old client 1) }
         ensures err { OnErr result (self.new ≡ self.old) }

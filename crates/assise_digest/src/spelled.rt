@@ -95,7 +95,8 @@ fn push_linked(
     names: &NameList,
     pending: &mut Vec<u64>,
 ) -> Result<(), Refusal>
-    ensures ok { OnOk result (pending.new.items ≡ pending.old.items ++ linked directory.now names.now) }
+    ensures ok { OnOk result (pending.new.items ≡ pending.old.items ++
+        linked directory.now names.now) }
     ensures only_memory { IsOkUnless result OutOfMemory }
 {
     for name in names.as_slice() {
@@ -127,7 +128,8 @@ fn assembled(alloc: Global, mut places: Vec<Place>) -> Result<Tree, Refusal>
 /// The tree of a place. The subtrees of a directory are the last of the trees, which it takes.
 fn grown(alloc: Global, place: Place, trees: &mut Vec<Tree>) -> Result<Tree, Refusal>
     requires { degree (shape place) ≤ length trees.old.items }
-    ensures tree { IfOk result (λ tree. TakesLast (shape place) tree trees.old.items trees.new.items) }
+    ensures tree { IfOk result (λ tree. TakesLast
+        (shape place) tree trees.old.items trees.new.items) }
     ensures only_memory { IsOkUnless result OutOfMemory }
 {
     match place {
@@ -139,7 +141,8 @@ fn grown(alloc: Global, place: Place, trees: &mut Vec<Tree>) -> Result<Tree, Ref
 /// A directory of the last trees, one under each name.
 fn directory_of(alloc: Global, names: &NameList, trees: &mut Vec<Tree>) -> Result<Tree, Refusal>
     requires { length names.now ≤ length trees.old.items }
-    ensures tree { IfOk result (λ tree. TakesLast (folder names.now) tree trees.old.items trees.new.items) }
+    ensures tree { IfOk result (λ tree. TakesLast
+        (folder names.now) tree trees.old.items trees.new.items) }
     ensures only_memory { IsOkUnless result OutOfMemory }
 {
     let mut tree = Tree::new(alloc);

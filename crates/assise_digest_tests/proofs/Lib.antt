@@ -1,3 +1,3 @@
-pub mod Meeting
+pub mod TwoLogs
 pub mod Renamed
-pub mod Making
+pub mod NewFileRegion

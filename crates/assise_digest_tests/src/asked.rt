@@ -2,11 +2,11 @@
 ghost use Rattle.std.specs.Prelude.{◌≡◌, true};
 ghost use Rattle.assise_digest.specs.Region.{HasClient, log_of};
 
-use crate::apart::has_client;
+use crate::disjoint::has_client;
 use assise_digest::region::Region;
-use assise_effect_texts::inodes::put_inode;
 use assise_inode_table::inode::Inode;
 use assise_inode_table::inodes::Inodes;
+use assise_test_effects::inodes::put_inode;
 use std::alloc::{AllocError, Global};
 
 /// Appends what a region answers: `clients`, `log CLIENT`, `peek INODE`, `read CLIENT INODE`, `hot INODE` or `capacity`.

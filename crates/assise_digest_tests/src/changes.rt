@@ -1,5 +1,5 @@
 // What is done to a region.
-use crate::apart::{are_apart, has_client, is_quiet};
+use crate::disjoint::{are_disjoint, has_client, is_quiet};
 use crate::records::{file_of, record_of};
 use assise_digest::region::Region;
 use assise_inode_table::inode::Inode;
@@ -57,7 +57,7 @@ pub(crate) fn digest(region: &mut Region, text: &str, answer: &mut String) -> Op
     let (acked, at_most) = text.split_once(' ')?;
     let acked = acked.parse::<u64>().ok()?;
     let at_most = at_most.parse::<usize>().ok()?;
-    if !has_client(region, client) || !are_apart(region) {
+    if !has_client(region, client) || !are_disjoint(region) {
         return None;
     }
     match region.digest_some(client, acked, at_most) {

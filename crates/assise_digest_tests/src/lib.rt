@@ -2,11 +2,11 @@
 #![tactic(auto)]
 
 #[cfg(test)]
-mod apart;
-#[cfg(test)]
 mod asked;
 #[cfg(test)]
 mod changes;
+#[cfg(test)]
+mod disjoint;
 #[cfg(test)]
 mod rebuilt;
 #[cfg(test)]

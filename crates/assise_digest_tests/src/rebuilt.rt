@@ -20,7 +20,7 @@ use assise_seq_tree::tree::Tree;
 use std::alloc::Global;
 
 /// What a stat of `/f` answers in the tree that a region alone gives, one of whose clients has made that file: where the
-/// record isn't acknowledged, and where it is.
+/// record isn't replicated, and where it is.
 pub(crate) fn stats(alloc: Global) -> Option<String> {
     let name = Name::parse(alloc, "f").ok()?;
     let region = region_of(alloc, name.copy().ok()?)?;
@@ -72,7 +72,7 @@ fn region_of(alloc: Global, name: Name) -> Option<Region>
     Some(region)
 }
 
-/// The tree where the record isn't acknowledged.
+/// The tree where the record isn't replicated.
 fn tree_where_lost(alloc: Global, region: &Region, name: &Name) -> Option<Tree>
     requires made { region.now ≡ with_file name.now }
     ensures { IfSome result (λ tree. tree ≡ opening) }

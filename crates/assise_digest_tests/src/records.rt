@@ -2,11 +2,11 @@
 ghost use Rattle.std.specs.Prelude.{◌≡◌, ◌∷◌, [], IfSome};
 ghost use Rattle.assise_inode_table.specs.Whole.{CanBeMadeWhole};
 
-use assise_effect_texts::effects::{extent_of, size_of, split_number};
 use assise_inode_table::inode::Inode;
 use assise_names::name::Name;
 use assise_record::effect::Effect;
 use assise_record::record::Record;
+use assise_test_effects::effects::{extent_of, size_of, split_number};
 use std::alloc::Global;
 
 /// The record of a call, if the text says one.

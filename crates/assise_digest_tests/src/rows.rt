@@ -2,7 +2,7 @@
 use crate::steps::put_steps;
 use assise_digest::region::Region;
 use assise_private_log::log::Log;
-use assise_rows::{Subject, wrong_rows};
+use assise_test_rows::{Subject, wrong_rows};
 use std::alloc::Global;
 use std::process::Abort;
 

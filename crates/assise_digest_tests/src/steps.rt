@@ -4,7 +4,7 @@ use crate::changes::{
     append, coalesce, cut_tail, digest, drop_front, fill, lose, refill, set_hot_capacity, stale,
 };
 use assise_digest::region::Region;
-use assise_rows::split_word;
+use assise_test_rows::split_word;
 use std::alloc::Global;
 
 /// Makes steps, which have commas between them, and appends what they answer.

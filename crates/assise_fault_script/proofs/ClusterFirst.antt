@@ -17,12 +17,12 @@ use Rattle.assise_fault_script.specs.declared.fault.LineFault.{LineFault}
 use Rattle.assise_fault_script.specs.declared.fault.ScriptFault.{ScriptFault}
 use Rattle.assise_fault_script.specs.declared.fault.ScriptFault.TheVariants.{BadLimit, UnknownCommand, WrongCount}
 use Rattle.assise_fault_script.specs.declared.parse.NumberedCommand.{NumberedCommand}
-use Rattle.assise_fault_script.specs.Calls.{call_of, call_word}
+use Rattle.assise_fault_script.specs.Calls.{call_command, call_word}
 use Rattle.assise_fault_script.specs.Fault.{◌>>=◌}
 use Rattle.assise_fault_script.specs.Keywords.{keyword_command, keyword_of, kind_of, link_kind_of, mode_of, says_cut, cluster_of, cut_link_of, uncut_link_of, hot_capacity_of}
 use Rattle.assise_fault_script.specs.Line.{begins_with_digit, client_command, cluster_there, command_of, in_turn, is_comment, line_says, nameless_call, other_command}
 use Rattle.assise_fault_script.specs.Number.{in_limits, limited, number_of}
-use Rattle.assise_fault_script.specs.Script.{◌>>>◌, IsCluster, IsOther, ClusterFirst, at_line, commands_from, commands_of, numbered}
+use Rattle.assise_fault_script.specs.Script.{◌>>>◌, IsCluster, IsOther, ClusterFirst, at_line, commands_from, commands_of, numbered_command}
 use Rattle.assise_fault_script.specs.Words.{lines_of, words_of}
 
 -- a result that is there came from one that was
@@ -202,10 +202,10 @@ no_call client c h = let n = came_from (number_of client) (λ _. Err UnknownComm
 client_row : (built : Bool) (client : List ℕ) (rest : List (List ℕ)) (c : Command) → client_command built client rest ≡ Ok (Some c) → (built ≡ true) × IsOther c
 client_row built client [] c h = no_call client c h
 client_row built client (name ∷ rest) c h =
-    let n = came_from (number_of client) (λ n. call_word name >>= λ k. cluster_there built >>= λ _. call_of k rest >>= λ op. Ok (Some (Call n op))) (Some c) h in
-    let k = came_from (call_word name) (λ k. cluster_there built >>= λ _. call_of k rest >>= λ op. Ok (Some (Call n.0 op))) (Some c) n.1.1 in
-    let t = came_from (cluster_there built) (λ _. call_of k.0 rest >>= λ op. Ok (Some (Call n.0 op))) (Some c) k.1.1 in
-    let op = came_from (call_of k.0 rest) (λ op. Ok (Some (Call n.0 op))) (Some c) t.1.1 in
+    let n = came_from (number_of client) (λ n. call_word name >>= λ k. cluster_there built >>= λ _. call_command k rest >>= λ op. Ok (Some (Call n op))) (Some c) h in
+    let k = came_from (call_word name) (λ k. cluster_there built >>= λ _. call_command k rest >>= λ op. Ok (Some (Call n.0 op))) (Some c) n.1.1 in
+    let t = came_from (cluster_there built) (λ _. call_command k.0 rest >>= λ op. Ok (Some (Call n.0 op))) (Some c) k.1.1 in
+    let op = came_from (call_command k.0 rest) (λ op. Ok (Some (Call n.0 op))) (Some c) t.1.1 in
     (there built t.0 t.1.0, called n.0 op.0 (let e = op.1.1 in cc))
   where
     there : (built : Bool) (u : Unit {0}) → cluster_there built ≡ Ok u → built ≡ true
@@ -256,10 +256,10 @@ abbrev Others : List NumberedCommand → Type 0
 Others cs = All (λ n. IsOther n.command) cs
 
 -- what the first line of some says, and what the others say
-said : (number : ℕ) (built : Bool) (line : List ℕ) (lines : List (List ℕ)) (cs : List NumberedCommand) → commands_from number built (line ∷ lines) ≡ Ok cs → (r : Option Command) × ((line_says built line ≡ Ok r) × ((ds : List NumberedCommand) × ((commands_from (number + 1) (is_some r || built) lines ≡ Ok ds) × (cs ≡ numbered number r ds))))
+said : (number : ℕ) (built : Bool) (line : List ℕ) (lines : List (List ℕ)) (cs : List NumberedCommand) → commands_from number built (line ∷ lines) ≡ Ok cs → (r : Option Command) × ((line_says built line ≡ Ok r) × ((ds : List NumberedCommand) × ((commands_from (number + 1) (is_some r || built) lines ≡ Ok ds) × (cs ≡ numbered_command number r ds))))
 said number built line lines cs h =
-    let r = came_at (at_line number (line_says built line)) (λ command. commands_from (number + 1) (is_some command || built) lines >>> λ others. Ok (numbered number command others)) cs h in
-    let ds = came_at (commands_from (number + 1) (is_some r.0 || built) lines) (λ others. Ok (numbered number r.0 others)) cs r.1.1 in
+    let r = came_at (at_line number (line_says built line)) (λ command. commands_from (number + 1) (is_some command || built) lines >>> λ others. Ok (numbered_command number command others)) cs h in
+    let ds = came_at (commands_from (number + 1) (is_some r.0 || built) lines) (λ others. Ok (numbered_command number r.0 others)) cs r.1.1 in
     (r.0, (plain (line_says built line) r.0 r.1.0, (ds.0, (ds.1.0, let e = ds.1.1 in cc))))
   where
     plain : (s : Result (Option Command) ScriptFault) (r : Option Command) → at_line number s ≡ Ok r → s ≡ Ok r
@@ -272,7 +272,7 @@ others number (line ∷ lines) cs h =
     let s = said number true line lines cs h in
     subst Others (sym s.1.1.1.1) (one s.0 s.1.1.0 s.1.0 s.1.1.1.0 (λ ds rest. others (number + 1) lines ds rest))
   where
-    one : (r : Option Command) (ds : List NumberedCommand) → line_says true line ≡ Ok r → commands_from (number + 1) (is_some r || true) lines ≡ Ok ds → ((ds : List NumberedCommand) → commands_from (number + 1) true lines ≡ Ok ds → Others ds) → Others (numbered number r ds)
+    one : (r : Option Command) (ds : List NumberedCommand) → line_says true line ≡ Ok r → commands_from (number + 1) (is_some r || true) lines ≡ Ok ds → ((ds : List NumberedCommand) → commands_from (number + 1) true lines ≡ Ok ds → Others ds) → Others (numbered_command number r ds)
     one None ds says rest more = more ds rest
     one (Some c) ds says rest more = All-cons (λ n. IsOther n.command) record { line = number; command = c } ds (later_command (words_of line) c (of_words true line c says)) (more ds rest)
 
@@ -282,7 +282,7 @@ from_first number (line ∷ lines) cs h =
     let s = said number false line lines cs h in
     subst ClusterFirst (sym s.1.1.1.1) (one s.0 s.1.1.0 s.1.0 s.1.1.1.0 (λ ds rest. from_first (number + 1) lines ds rest))
   where
-    one : (r : Option Command) (ds : List NumberedCommand) → line_says false line ≡ Ok r → commands_from (number + 1) (is_some r || false) lines ≡ Ok ds → ((ds : List NumberedCommand) → commands_from (number + 1) false lines ≡ Ok ds → ClusterFirst ds) → ClusterFirst (numbered number r ds)
+    one : (r : Option Command) (ds : List NumberedCommand) → line_says false line ≡ Ok r → commands_from (number + 1) (is_some r || false) lines ≡ Ok ds → ((ds : List NumberedCommand) → commands_from (number + 1) false lines ≡ Ok ds → ClusterFirst ds) → ClusterFirst (numbered_command number r ds)
     one None ds says rest more = more ds rest
     one (Some c) ds says rest more = (first_command (words_of line) c (of_words false line c says), others (number + 1) lines ds rest)
 

@@ -7,9 +7,9 @@ use Rattle.std.specs.List.{list_all}
 use Rattle.std.specs.Str.Parse.{ParsesUnsigned}
 use Rattle.std.specs.Result.{OkIff}
 use Rattle.assise_fault_script.specs.declared.fault.ScriptFault.TheVariants.{BadNumber}
-use Rattle.assise_fault_script.specs.Number.{is_digit, is_digits, value_behind, value_of, number_of}
+use Rattle.assise_fault_script.specs.Number.{is_digit, is_digits, value_behind, decimal_value, number_of}
 
-own : IsNumeralModel (λ ds. list_all is_digit ds ≡ true) value_of
+own : IsNumeralModel (λ ds. list_all is_digit ds ≡ true) decimal_value
 own = numerals_by_fold _ (search rules) value_behind (search rules)
 
 pub no_digits : (bs : List ℕ) → is_digits bs ≡ false → number_of bs ≡ Err BadNumber
@@ -20,13 +20,13 @@ no_digits bs h = rw h
 some_digits : (bs : List ℕ) → is_digits bs ≡ true → 0 < length bs
 some_digits bs h = let some : not (length bs == 0) ≡ true = (and_parts _ _ h).0 in grind (arith, nat_tests)
 
-from_parse : {E : Type 0} (bs : List ℕ) (r : Result ℕ E) → is_digits bs ≡ true → OkIff r ((0 < length bs) × (value_of bs < 2 ^ 64)) (value_of bs) → MatchResult r (λ v. number_of bs ≡ Ok v) (λ _. number_of bs ≡ Err BadNumber)
+from_parse : {E : Type 0} (bs : List ℕ) (r : Result ℕ E) → is_digits bs ≡ true → OkIff r ((0 < length bs) × (decimal_value bs < 2 ^ 64)) (decimal_value bs) → MatchResult r (λ v. number_of bs ≡ Ok v) (λ _. number_of bs ≡ Err BadNumber)
 unfolding number_of
 from_parse bs (Ok v) d h =
-    let less : nat_lt (value_of bs) (2 ^ 64) ≡ true = let lt : value_of bs < 2 ^ 64 = h.0.1 in grind (arith, nat_tests) in
+    let less : nat_lt (decimal_value bs) (2 ^ 64) ≡ true = let lt : decimal_value bs < 2 ^ 64 = h.0.1 in grind (arith, nat_tests) in
     rw (d, less) (ap Ok (sym h.1))
 from_parse bs (Err e) d h =
-    let more : nat_lt (value_of bs) (2 ^ 64) ≡ false = elim (cases_Bool (nat_lt (value_of bs) (2 ^ 64))) [ inl y ↦ absurd (h (some_digits bs d, grind (arith, nat_tests))) | inr n ↦ n ] in
+    let more : nat_lt (decimal_value bs) (2 ^ 64) ≡ false = elim (cases_Bool (nat_lt (decimal_value bs) (2 ^ 64))) [ inl y ↦ absurd (h (some_digits bs d, grind (arith, nat_tests))) | inr n ↦ n ] in
     rw (d, more)
 
 pub parsed : {E : Type 0} (bs : List ℕ) (r : Result ℕ E) → is_digits bs ≡ true → ParsesUnsigned 64 10 bs r → MatchResult r (λ v. number_of bs ≡ Ok v) (λ _. number_of bs ≡ Err BadNumber)

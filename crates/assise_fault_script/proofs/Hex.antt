@@ -3,41 +3,41 @@ use Rattle.std.proofs.Common.{◌≡◌, ℕ, ◌<◌, List, [], ◌∷◌, ◌+
 use Rattle.std.proofs.lemmas.List.{append-nil, take_all}
 use Rattle.assise_fault_script.specs.declared.fault.ScriptFault.{ScriptFault}
 use Rattle.assise_fault_script.specs.declared.fault.ScriptFault.TheVariants.{BadData}
-use Rattle.assise_fault_script.specs.Data.{hex_byte, hex_bytes}
+use Rattle.assise_fault_script.specs.Data.{byte_of_hex, hex_bytes}
 use Rattle.assise_fault_script.specs.Fault.{◌>>=◌}
 
 -- the bytes so far, and then those that are read
-abbrev pub with_front : List ℕ → Result (List ℕ) ScriptFault → Result (List ℕ) ScriptFault
-with_front front (Ok bytes) = Ok (front ++ bytes)
-with_front front (Err e) = Err e
+abbrev pub with_prefix : List ℕ → Result (List ℕ) ScriptFault → Result (List ℕ) ScriptFault
+with_prefix prefix (Ok bytes) = Ok (prefix ++ bytes)
+with_prefix prefix (Err e) = Err e
 
-with_front-cons : (front : List ℕ) (b : ℕ) (r : Result (List ℕ) ScriptFault) → with_front front (r >>= λ bytes. Ok (b ∷ bytes)) ≡ with_front (front ++ b ∷ []) r
-with_front-cons front b (Ok bytes) = ap Ok (sym (append_assoc front (b ∷ []) bytes))
-with_front-cons front b (Err e) = refl
+with_prefix-cons : (prefix : List ℕ) (b : ℕ) (r : Result (List ℕ) ScriptFault) → with_prefix prefix (r >>= λ bytes. Ok (b ∷ bytes)) ≡ with_prefix (prefix ++ b ∷ []) r
+with_prefix-cons prefix b (Ok bytes) = ap Ok (sym (append_assoc prefix (b ∷ []) bytes))
+with_prefix-cons prefix b (Err e) = refl
 
-pub with_front-nil : (r : Result (List ℕ) ScriptFault) → with_front [] r ≡ r
-with_front-nil (Ok bytes) = refl
-with_front-nil (Err e) = refl
+pub with_prefix-nil : (r : Result (List ℕ) ScriptFault) → with_prefix [] r ≡ r
+with_prefix-nil (Ok bytes) = refl
+with_prefix-nil (Err e) = refl
 
-pub one_more : (front : List ℕ) (high low b : ℕ) (digits : List ℕ) → hex_byte high low ≡ Ok b → with_front front (hex_bytes (high ∷ low ∷ digits)) ≡ with_front (front ++ b ∷ []) (hex_bytes digits)
-one_more front high low b digits h = ap (λ r. with_front front (r >>= λ c. hex_bytes digits >>= λ bytes. Ok (c ∷ bytes))) h ∙ with_front-cons front b (hex_bytes digits)
+pub one_more : (prefix : List ℕ) (high low b : ℕ) (digits : List ℕ) → byte_of_hex high low ≡ Ok b → with_prefix prefix (hex_bytes (high ∷ low ∷ digits)) ≡ with_prefix (prefix ++ b ∷ []) (hex_bytes digits)
+one_more prefix high low b digits h = ap (λ r. with_prefix prefix (r >>= λ c. hex_bytes digits >>= λ bytes. Ok (c ∷ bytes))) h ∙ with_prefix-cons prefix b (hex_bytes digits)
 
-pub one_fault : (front : List ℕ) (high low : ℕ) (e : ScriptFault) (digits : List ℕ) → hex_byte high low ≡ Err e → with_front front (hex_bytes (high ∷ low ∷ digits)) ≡ Err e
-one_fault front high low e digits h = ap (λ r. with_front front (r >>= λ c. hex_bytes digits >>= λ bytes. Ok (c ∷ bytes))) h
+pub one_fault : (prefix : List ℕ) (high low : ℕ) (e : ScriptFault) (digits : List ℕ) → byte_of_hex high low ≡ Err e → with_prefix prefix (hex_bytes (high ∷ low ∷ digits)) ≡ Err e
+one_fault prefix high low e digits h = ap (λ r. with_prefix prefix (r >>= λ c. hex_bytes digits >>= λ bytes. Ok (c ∷ bytes))) h
 
 -- the same of what a pattern takes apart
-pub two_more : (front rest : List ℕ) (b : ℕ) → 2 ≤ length rest → hex_byte (slice_index rest 0) (slice_index rest 1) ≡ Ok b → with_front (front ++ b ∷ []) (hex_bytes (take (length rest - 2) (drop 2 rest))) ≡ with_front front (hex_bytes rest)
-two_more front [] b l h = absurd (omega arith)
-two_more front (d ∷ []) b l h = absurd (omega arith)
-two_more front (high ∷ low ∷ digits) b l h =
+pub two_more : (prefix rest : List ℕ) (b : ℕ) → 2 ≤ length rest → byte_of_hex (slice_index rest 0) (slice_index rest 1) ≡ Ok b → with_prefix (prefix ++ b ∷ []) (hex_bytes (take (length rest - 2) (drop 2 rest))) ≡ with_prefix prefix (hex_bytes rest)
+two_more prefix [] b l h = absurd (omega arith)
+two_more prefix (d ∷ []) b l h = absurd (omega arith)
+two_more prefix (high ∷ low ∷ digits) b l h =
     let all : take (length (high ∷ low ∷ digits) - 2) digits ≡ digits = take_all _ _ (omega arith) in
-    rw all (sym (one_more front high low b digits h))
+    rw all (sym (one_more prefix high low b digits h))
 
-pub none_left : (front rest : List ℕ) → length rest ≡ 0 → with_front front (hex_bytes rest) ≡ Ok front
-none_left front [] h = ap Ok (append-nil front)
-none_left front (b ∷ rest) h = absurd (omega arith)
+pub none_left : (prefix rest : List ℕ) → length rest ≡ 0 → with_prefix prefix (hex_bytes rest) ≡ Ok prefix
+none_left prefix [] h = ap Ok (append-nil prefix)
+none_left prefix (b ∷ rest) h = absurd (omega arith)
 
-pub one_left : (front rest : List ℕ) → 0 < length rest → length rest < 2 → with_front front (hex_bytes rest) ≡ Err BadData
-one_left front [] h l = absurd (omega arith)
-one_left front (b ∷ []) h l = refl
-one_left front (b ∷ c ∷ rest) h l = absurd (omega arith)
+pub one_left : (prefix rest : List ℕ) → 0 < length rest → length rest < 2 → with_prefix prefix (hex_bytes rest) ≡ Err BadData
+one_left prefix [] h l = absurd (omega arith)
+one_left prefix (b ∷ []) h l = refl
+one_left prefix (b ∷ c ∷ rest) h l = absurd (omega arith)

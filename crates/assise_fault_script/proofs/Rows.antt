@@ -11,7 +11,7 @@ use Rattle.assise_fault_script.specs.declared.command.Command.TheVariants.{Call}
 use Rattle.std.proofs.Common.{IsOk, Some, Ok}
 use Rattle.assise_fault_script.specs.declared.fault.ScriptFault.{ScriptFault}
 use Rattle.assise_fault_script.specs.declared.fault.ScriptFault.TheVariants.{WrongCount}
-use Rattle.assise_fault_script.specs.Calls.{call_of, call_word, of_path, path_word}
+use Rattle.assise_fault_script.specs.Calls.{call_command, call_word, of_path, path_word}
 use Rattle.assise_fault_script.specs.Fault.{◌>>=◌}
 use Rattle.assise_fault_script.specs.Keywords.{keyword_command, keyword_of}
 use Rattle.assise_fault_script.specs.Line.{begins_with_digit, client_command, cluster_there, command_of, in_turn, other_command}
@@ -20,7 +20,7 @@ use Rattle.assise_fault_script.specs.Number.{number_of}
 abbrev Word : Type 0
 Word = List ℕ
 
-many_for_call : (k : CallWord) (a b c d : Word) (rest : List Word) → call_of k (a ∷ b ∷ c ∷ d ∷ rest) ≡ Err WrongCount
+many_for_call : (k : CallWord) (a b c d : Word) (rest : List Word) → call_command k (a ∷ b ∷ c ∷ d ∷ rest) ≡ Err WrongCount
 many_for_call for_create a b c d rest = refl
 many_for_call for_mkdir a b c d rest = refl
 many_for_call for_read a b c d rest = refl

@@ -9,59 +9,59 @@ use Rattle.assise_fault_script.specs.declared.fault.ScriptFault.{ScriptFault}
 use Rattle.assise_fault_script.specs.declared.fault.ScriptFault.TheVariants.{Memory}
 use Rattle.assise_fault_script.specs.declared.parse.NumberedCommand.{NumberedCommand}
 use Rattle.assise_fault_script.specs.Line.{line_says}
-use Rattle.assise_fault_script.specs.Script.{Progress, ◌>>>◌, at_line, numbered, commands_from, with_line, next, start, commands_of, IsReached, IsCommandAt}
+use Rattle.assise_fault_script.specs.Script.{Progress, ◌>>>◌, at_line, numbered_command, commands_from, with_line, next, start, commands_of, IsLineReached, IsCommandAt}
 use Rattle.assise_fault_script.specs.Words.{lines_of}
 
 abbrev Commands : Type 0
 Commands = Result (List NumberedCommand) LineFault
 
 -- the commands so far, and then those that are read
-abbrev pub with_front : List NumberedCommand → Commands → Commands
-with_front front (Ok commands) = Ok (front ++ commands)
-with_front front (Err e) = Err e
+abbrev pub with_prefix : List NumberedCommand → Commands → Commands
+with_prefix prefix (Ok commands) = Ok (prefix ++ commands)
+with_prefix prefix (Err e) = Err e
 
-with_front-cons : (front : List NumberedCommand) (n : NumberedCommand) (r : Commands) → with_front front (r >>> λ others. Ok (n ∷ others)) ≡ with_front (front ++ n ∷ []) r
-with_front-cons front n (Ok others) = ap Ok (sym (append_assoc front (n ∷ []) others))
-with_front-cons front n (Err e) = refl
+with_prefix-cons : (prefix : List NumberedCommand) (n : NumberedCommand) (r : Commands) → with_prefix prefix (r >>> λ others. Ok (n ∷ others)) ≡ with_prefix (prefix ++ n ∷ []) r
+with_prefix-cons prefix n (Ok others) = ap Ok (sym (append_assoc prefix (n ∷ []) others))
+with_prefix-cons prefix n (Err e) = refl
 
-with_front-same : (front : List NumberedCommand) (r : Commands) → with_front front (r >>> λ others. Ok others) ≡ with_front front r
-with_front-same front (Ok others) = refl
-with_front-same front (Err e) = refl
+with_prefix-same : (prefix : List NumberedCommand) (r : Commands) → with_prefix prefix (r >>> λ others. Ok others) ≡ with_prefix prefix r
+with_prefix-same prefix (Ok others) = refl
+with_prefix-same prefix (Err e) = refl
 
-pub with_front-nil : (r : Commands) → with_front [] r ≡ r
-with_front-nil (Ok commands) = refl
-with_front-nil (Err e) = refl
+pub with_prefix-nil : (r : Commands) → with_prefix [] r ≡ r
+with_prefix-nil (Ok commands) = refl
+with_prefix-nil (Err e) = refl
 
 -- what comes of a script that is read so far, where these lines are left
 abbrev pub comes_of : Progress → List (List ℕ) → Commands
-comes_of p lines = with_front p.commands (commands_from p.number p.built lines)
+comes_of p lines = with_prefix p.commands (commands_from p.number p.built lines)
 
-says_step : (p : Progress) (r : Result (Option Command) ScriptFault) (lines : List (List ℕ)) → with_front p.commands (at_line p.number r >>> λ command. commands_from (p.number + 1) (is_some command || p.built) lines >>> λ others. Ok (numbered p.number command others)) ≡ (with_line p r >>> λ q. comes_of q lines)
+says_step : (p : Progress) (r : Result (Option Command) ScriptFault) (lines : List (List ℕ)) → with_prefix p.commands (at_line p.number r >>> λ command. commands_from (p.number + 1) (is_some command || p.built) lines >>> λ others. Ok (numbered_command p.number command others)) ≡ (with_line p r >>> λ q. comes_of q lines)
 says_step p (Err e) lines = refl
-says_step p (Ok None) lines = with_front-same p.commands (commands_from (p.number + 1) p.built lines)
-says_step p (Ok (Some command)) lines = with_front-cons p.commands record { line = p.number; command = command } (commands_from (p.number + 1) true lines)
+says_step p (Ok None) lines = with_prefix-same p.commands (commands_from (p.number + 1) p.built lines)
+says_step p (Ok (Some command)) lines = with_prefix-cons p.commands record { line = p.number; command = command } (commands_from (p.number + 1) true lines)
 
 pub step : (p : Progress) (line : List ℕ) (lines : List (List ℕ)) → comes_of p (line ∷ lines) ≡ (next p line >>> λ q. comes_of q lines)
 step p line lines = says_step p (line_says p.built line) lines
 
 -- the lines in front are read, and these are left
 pub record IsReadTo (bytes : List ℕ) (p : Progress) (lines : List (List ℕ)) : Type 0 where
-  pub front : List (List ℕ)
-  pub parts : lines_of bytes ≡ front ++ lines
-  pub counted : p.number ≡ length front + 1
-  pub reads : (others : List (List ℕ)) → commands_from 1 false (front ++ others) ≡ comes_of p others
+  pub prefix : List (List ℕ)
+  pub parts : lines_of bytes ≡ prefix ++ lines
+  pub counted : p.number ≡ length prefix + 1
+  pub reads : (others : List (List ℕ)) → commands_from 1 false (prefix ++ others) ≡ comes_of p others
 
 pub none_read : (bytes : List ℕ) (p : Progress) → p ≡ start → IsReadTo bytes p (lines_of bytes)
-none_read bytes p h = rw h (record { front = []; parts = refl; counted = refl; reads = λ others. sym (with_front-nil (commands_from 1 false others)) })
+none_read bytes p h = rw h (record { prefix = []; parts = refl; counted = refl; reads = λ others. sym (with_prefix-nil (commands_from 1 false others)) })
 
 -- one line more is read
 pub one_read : (bytes : List ℕ) (p q : Progress) (line : List ℕ) (lines whole : List (List ℕ)) → whole ≡ line ∷ lines → IsReadTo bytes p whole → next p line ≡ Ok q → q.number ≡ p.number + 1 → IsReadTo bytes q lines
 one_read bytes p q line lines whole parts read gives counts =
-    let longer : (others : List (List ℕ)) → (read.front ++ line ∷ []) ++ others ≡ read.front ++ (line ∷ others) = λ others. append_assoc read.front (line ∷ []) others in
+    let longer : (others : List (List ℕ)) → (read.prefix ++ line ∷ []) ++ others ≡ read.prefix ++ (line ∷ others) = λ others. append_assoc read.prefix (line ∷ []) others in
     record {
-      front = read.front ++ line ∷ [];
-      parts = read.parts ∙ ap (λ ls. read.front ++ ls) parts ∙ sym (longer lines);
-      counted = omega (arith, counts, read.counted, length-append read.front (line ∷ []));
+      prefix = read.prefix ++ line ∷ [];
+      parts = read.parts ∙ ap (λ ls. read.prefix ++ ls) parts ∙ sym (longer lines);
+      counted = omega (arith, counts, read.counted, length-append read.prefix (line ∷ []));
       reads = λ others. ap (commands_from 1 false) (longer others) ∙ read.reads (line ∷ others) ∙ step p line others ∙ ap (λ r. r >>> λ t. comes_of t others) gives;
     }
 
@@ -86,15 +86,15 @@ wanting bytes p line lines whole e y is parts read at (inr fault) =
 wanting bytes p line lines whole e y is parts read at (inl memory) =
     let command = memory.1.0 in
     let number : y.line ≡ p.number = ap (λ z. z.line) is ∙ at in
-    let to = read.front ++ line ∷ [] in
-    let all : lines_of bytes ≡ to ++ lines = read.parts ∙ ap (λ ls. read.front ++ ls) parts ∙ sym (append_assoc read.front (line ∷ []) lines) in
-    let count : y.line ≡ length to = omega (arith, number, read.counted, length-append read.front (line ∷ [])) in
-    let front : take y.line (lines_of bytes) ≡ to = ap (λ n. take n (lines_of bytes)) count ∙ ap (take (length to)) all ∙ take-append_seam to lines in
+    let to = read.prefix ++ line ∷ [] in
+    let all : lines_of bytes ≡ to ++ lines = read.parts ∙ ap (λ ls. read.prefix ++ ls) parts ∙ sym (append_assoc read.prefix (line ∷ []) lines) in
+    let count : y.line ≡ length to = omega (arith, number, read.counted, length-append read.prefix (line ∷ [])) in
+    let prefix : take y.line (lines_of bytes) ≡ to = ap (λ n. take n (lines_of bytes)) count ∙ ap (take (length to)) all ∙ take-append_seam to lines in
     let reads : commands_from 1 false to ≡ Ok (p.commands ++ record { line = p.number; command = command } ∷ []) =
     read.reads (line ∷ []) ∙ step p line [] ∙ ap (λ s. with_line p s >>> λ q. comes_of q []) memory.1.1 ∙ ap Ok (append-nil (p.commands ++ record { line = p.number; command = command } ∷ [])) in
     inl (
       ap (λ z. z.fault) is ∙ memory.0,
-      record { front = p.commands; command = command; faultless = ap (commands_from 1 false) front ∙ reads ∙ ap (λ n. Ok (p.commands ++ record { line = n; command = command } ∷ [])) (sym number) },
+      record { prefix = p.commands; command = command; faultless = ap (commands_from 1 false) prefix ∙ reads ∙ ap (λ n. Ok (p.commands ++ record { line = n; command = command } ∷ [])) (sym number) },
     )
 
 is_ok : (r : Commands) (cs : List NumberedCommand) → r ≡ Ok cs → IsOk r
@@ -102,16 +102,16 @@ is_ok (Ok ds) cs h = refl
 is_ok (Err e) cs h = cc
 
 -- the lines in front of a faulty line have no fault
-pub reached : (bytes : List ℕ) (p : Progress) (line : List ℕ) (lines whole : List (List ℕ)) (e y : LineFault) → y ≡ e → whole ≡ line ∷ lines → IsReadTo bytes p whole → e.line ≡ p.number → IsReached bytes y.line
+pub reached : (bytes : List ℕ) (p : Progress) (line : List ℕ) (lines whole : List (List ℕ)) (e y : LineFault) → y ≡ e → whole ≡ line ∷ lines → IsReadTo bytes p whole → e.line ≡ p.number → IsLineReached bytes y.line
 reached bytes p line lines whole e y is parts read at =
-    let number : y.line ≡ length read.front + 1 = ap (λ z. z.line) is ∙ at ∙ read.counted in
-    let all : lines_of bytes ≡ read.front ++ (line ∷ lines) = read.parts ∙ ap (λ ls. read.front ++ ls) parts in
-    let places : length (lines_of bytes) ≡ length read.front + length (line ∷ lines) = ap length all ∙ length-append read.front (line ∷ lines) in
-    let before : y.line - 1 ≡ length read.front = omega (arith, number) in
-    let front : take (y.line - 1) (lines_of bytes) ≡ read.front = ap (λ n. take n (lines_of bytes)) before ∙ ap (take (length read.front)) all ∙ take-append_seam read.front (line ∷ lines) in
-    let whole_front : take (y.line - 1) (lines_of bytes) ≡ read.front ++ [] = front ∙ sym (append-nil read.front) in
+    let number : y.line ≡ length read.prefix + 1 = ap (λ z. z.line) is ∙ at ∙ read.counted in
+    let all : lines_of bytes ≡ read.prefix ++ (line ∷ lines) = read.parts ∙ ap (λ ls. read.prefix ++ ls) parts in
+    let places : length (lines_of bytes) ≡ length read.prefix + length (line ∷ lines) = ap length all ∙ length-append read.prefix (line ∷ lines) in
+    let before : y.line - 1 ≡ length read.prefix = omega (arith, number) in
+    let prefix : take (y.line - 1) (lines_of bytes) ≡ read.prefix = ap (λ n. take n (lines_of bytes)) before ∙ ap (take (length read.prefix)) all ∙ take-append_seam read.prefix (line ∷ lines) in
+    let whole_prefix : take (y.line - 1) (lines_of bytes) ≡ read.prefix ++ [] = prefix ∙ sym (append-nil read.prefix) in
     record {
       first = omega (arith, number);
       last = omega (arith, number, places);
-      faultless = is_ok _ _ (ap (commands_from 1 false) whole_front ∙ read.reads []);
+      faultless = is_ok _ _ (ap (commands_from 1 false) whole_prefix ∙ read.reads []);
     }

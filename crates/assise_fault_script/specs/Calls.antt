@@ -70,17 +70,17 @@ abbrev pub stat_of : List ℕ → Result Op ScriptFault
 stat_of path = path_word path >>= λ p. Ok (Stat p)
 
 -- a row for each call: the count of its words, and what they mean
-abbrev pub call_of : CallWord → List (List ℕ) → Result Op ScriptFault
-call_of for_create (path ∷ []) = create_of path
-call_of for_mkdir (path ∷ []) = mkdir_of path
-call_of for_read (path ∷ offset ∷ count ∷ []) = read_of path offset count
-call_of for_write (path ∷ offset ∷ data_word ∷ []) = write_of path offset data_word
-call_of for_truncate (path ∷ size ∷ []) = truncate_of path size
-call_of for_rename (from ∷ to ∷ []) = rename_of from to
-call_of for_unlink (path ∷ []) = unlink_of path
-call_of for_rmdir (path ∷ []) = rmdir_of path
-call_of for_list (path ∷ []) = list_of path
-call_of for_stat (path ∷ []) = stat_of path
-call_of for_fsync [] = Ok Fsync
-call_of for_dsync [] = Ok Dsync
-call_of _ _ = Err WrongCount
+abbrev pub call_command : CallWord → List (List ℕ) → Result Op ScriptFault
+call_command for_create (path ∷ []) = create_of path
+call_command for_mkdir (path ∷ []) = mkdir_of path
+call_command for_read (path ∷ offset ∷ count ∷ []) = read_of path offset count
+call_command for_write (path ∷ offset ∷ data_word ∷ []) = write_of path offset data_word
+call_command for_truncate (path ∷ size ∷ []) = truncate_of path size
+call_command for_rename (from ∷ to ∷ []) = rename_of from to
+call_command for_unlink (path ∷ []) = unlink_of path
+call_command for_rmdir (path ∷ []) = rmdir_of path
+call_command for_list (path ∷ []) = list_of path
+call_command for_stat (path ∷ []) = stat_of path
+call_command for_fsync [] = Ok Fsync
+call_command for_dsync [] = Ok Dsync
+call_command _ _ = Err WrongCount

@@ -14,14 +14,14 @@ hex_value b =
     else Err BadData))
 
 -- the byte of two hexadecimal digits
-abbrev pub hex_byte : ℕ → ℕ → Result ℕ ScriptFault
-hex_byte high low = hex_value high >>= λ h. hex_value low >>= λ l. Ok (16 * h + l)
+abbrev pub byte_of_hex : ℕ → ℕ → Result ℕ ScriptFault
+byte_of_hex high low = hex_value high >>= λ h. hex_value low >>= λ l. Ok (16 * h + l)
 
 -- a byte for each pair of hexadecimal digits
 abbrev pub hex_bytes : List ℕ → Result (List ℕ) ScriptFault
 hex_bytes [] = Ok []
 hex_bytes (digit ∷ []) = Err BadData
-hex_bytes (high ∷ low ∷ digits) = hex_byte high low >>= λ b. hex_bytes digits >>= λ bs. Ok (b ∷ bs)
+hex_bytes (high ∷ low ∷ digits) = byte_of_hex high low >>= λ b. hex_bytes digits >>= λ bs. Ok (b ∷ bs)
 
 -- at most 1,048,576 zero bytes
 abbrev pub zeros : Result ℕ ScriptFault → Result (List ℕ) ScriptFault

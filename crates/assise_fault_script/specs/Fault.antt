@@ -11,9 +11,9 @@ abbrev pub ◌>>=◌ : {A B : Type 0} → Result A ScriptFault → (A → Result
 (Err e) >>= f = Err e
 
 -- what is wanted was given, or memory ran out
-abbrev pub Gives : {X : Type 0} → Result X ScriptFault → Result X ScriptFault → Type 0
-Gives (Ok x) wanted = wanted ≡ Ok x
-Gives (Err e) wanted = (e ≡ Memory) ⊎ (wanted ≡ Err e)
+abbrev pub GivesCommand : {X : Type 0} → Result X ScriptFault → Result X ScriptFault → Type 0
+GivesCommand (Ok x) wanted = wanted ≡ Ok x
+GivesCommand (Err e) wanted = (e ≡ Memory) ⊎ (wanted ≡ Err e)
 
 -- what is wanted was given, or memory ran out where nothing is wrong
 abbrev pub Answers : {X : Type 0} → Result X ScriptFault → Result X ScriptFault → Type 0

@@ -127,8 +127,8 @@ abbrev pub hot_of : List (List ℕ) → Result Command ScriptFault
 hot_of (node ∷ capacity ∷ []) = hot_capacity_of node capacity
 hot_of _ = Err WrongCount
 
-abbrev pub tree_of : List ℕ → Result Command ScriptFault
-tree_of node = number_of node >>= λ n. Ok (Tree n)
+abbrev pub tree_command : List ℕ → Result Command ScriptFault
+tree_command node = number_of node >>= λ n. Ok (Tree n)
 
 -- a row for each keyword: the count of its words, and what they mean
 abbrev pub keyword_command : first.Keyword → List (List ℕ) → Result Command ScriptFault
@@ -146,7 +146,7 @@ keyword_command for_join (node ∷ []) = join_of node
 keyword_command for_raise (node ∷ []) = raise_of node
 keyword_command for_link words = node_link_of words
 keyword_command for_hot words = hot_of words
-keyword_command for_tree (node ∷ []) = tree_of node
+keyword_command for_tree (node ∷ []) = tree_command node
 keyword_command for_history [] = Ok History
 keyword_command for_check [] = Ok Check
 keyword_command _ _ = Err WrongCount

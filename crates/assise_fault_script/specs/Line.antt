@@ -7,7 +7,7 @@ use Rattle.assise_fault_script.specs.declared.command.Keyword as first
 use Rattle.assise_fault_script.specs.declared.command.Keyword.TheVariants.{Cluster}
 use Rattle.assise_fault_script.specs.declared.fault.ScriptFault.{ScriptFault}
 use Rattle.assise_fault_script.specs.declared.fault.ScriptFault.TheVariants.{NotUtf8, UnknownCommand, NoCluster, SecondCluster, Memory}
-use Rattle.assise_fault_script.specs.Calls.{call_of, call_word}
+use Rattle.assise_fault_script.specs.Calls.{call_command, call_word}
 use Rattle.assise_fault_script.specs.Fault.{◌>>=◌}
 use Rattle.assise_fault_script.specs.Keywords.{keyword_command, keyword_of}
 use Rattle.assise_fault_script.specs.Number.{is_digit, number_of}
@@ -33,7 +33,7 @@ nameless_call client = number_of client >>= λ _. Err UnknownCommand
 -- a client's number and its call are known, then the cluster is there, then the words behind them
 abbrev pub client_command : Bool → List ℕ → List (List ℕ) → Result (Option Command) ScriptFault
 client_command built client [] = nameless_call client
-client_command built client (name ∷ rest) = number_of client >>= λ c. call_word name >>= λ k. cluster_there built >>= λ _. call_of k rest >>= λ op. Ok (Some (Call c op))
+client_command built client (name ∷ rest) = number_of client >>= λ c. call_word name >>= λ k. cluster_there built >>= λ _. call_command k rest >>= λ op. Ok (Some (Call c op))
 
 -- a keyword is known, then the cluster is there, then the words behind it
 abbrev pub other_command : Bool → List ℕ → List (List ℕ) → Result (Option Command) ScriptFault

@@ -19,12 +19,12 @@ value_behind n [] = n
 value_behind n (digit ∷ digits) = value_behind (10 * n + (digit - 48)) digits
 
 -- the value of the digits
-abbrev pub value_of : List ℕ → ℕ
-value_of digits = value_behind 0 digits
+abbrev pub decimal_value : List ℕ → ℕ
+decimal_value digits = value_behind 0 digits
 
 -- one decimal digit or more, with a value below 2^64
 unfoldable pub number_of : List ℕ → Result ℕ ScriptFault
-number_of word = if is_digits word && nat_lt (value_of word) (2 ^ 64) then Ok (value_of word) else Err BadNumber
+number_of word = if is_digits word && nat_lt (decimal_value word) (2 ^ 64) then Ok (decimal_value word) else Err BadNumber
 
 abbrev pub in_limits : ℕ → ℕ → ℕ → Result ℕ ScriptFault
 in_limits low high n = if nat_lt n low || nat_lt high n then Err BadLimit else Ok n

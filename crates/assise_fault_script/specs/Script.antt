@@ -23,9 +23,9 @@ at_line number (Ok x) = Ok x
 at_line number (Err fault) = Err record { line = number; fault = fault }
 
 -- a command with its line, in front of the others
-abbrev pub numbered : ℕ → Option Command → List NumberedCommand → List NumberedCommand
-numbered number None others = others
-numbered number (Some command) others = record { line = number; command = command } ∷ others
+abbrev pub numbered_command : ℕ → Option Command → List NumberedCommand → List NumberedCommand
+numbered_command number None others = others
+numbered_command number (Some command) others = record { line = number; command = command } ∷ others
 
 -- the commands of the lines from this number on; the first command of all makes the cluster
 abbrev pub commands_from : ℕ → Bool → List (List ℕ) → Result (List NumberedCommand) LineFault
@@ -33,7 +33,7 @@ commands_from number built [] = Ok []
 commands_from number built (line ∷ lines) =
     at_line number (line_says built line) >>> λ command.
     commands_from (number + 1) (is_some command || built) lines >>> λ others.
-    Ok (numbered number command others)
+    Ok (numbered_command number command others)
 
 -- the commands of a script with their lines, or its first fault
 abbrev pub commands_of : List ℕ → Result (List NumberedCommand) LineFault
@@ -42,16 +42,16 @@ commands_of bytes = commands_from 1 false (lines_of bytes)
 -- ---- what holds of every script
 
 -- a line of the script, and no line in front of it is faulty
-pub record IsReached (bytes : List ℕ) (line : ℕ) : Type 0 where
+pub record IsLineReached (bytes : List ℕ) (line : ℕ) : Type 0 where
   pub first : 1 ≤ line
   pub last : line ≤ length (lines_of bytes)
   pub faultless : IsOk (commands_from 1 false (take (line - 1) (lines_of bytes)))
 
 -- this line says a command, and no line up to it is faulty
 pub record IsCommandAt (bytes : List ℕ) (line : ℕ) : Type 0 where
-  pub front : List NumberedCommand
+  pub prefix : List NumberedCommand
   pub command : Command
-  pub faultless : commands_from 1 false (take line (lines_of bytes)) ≡ Ok (front ++ record { line = line; command = command } ∷ [])
+  pub faultless : commands_from 1 false (take line (lines_of bytes)) ≡ Ok (prefix ++ record { line = line; command = command } ∷ [])
 
 -- makes a cluster, with numbers in the limits
 abbrev pub IsCluster : Command → Type 0

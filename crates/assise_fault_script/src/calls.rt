@@ -1,6 +1,6 @@
 // A row for each call of a client.
 ghost use Rattle.std.specs.Prelude.{◌≡◌, map};
-ghost use Rattle.assise_fault_script.specs.Calls.{call_of, call_word, create_of, list_of, mkdir_of, path_word, read_of, rename_of, rmdir_of, stat_of, truncate_of, unlink_of, write_of};
+ghost use Rattle.assise_fault_script.specs.Calls.{call_command, call_word, create_of, list_of, mkdir_of, path_word, read_of, rename_of, rmdir_of, stat_of, truncate_of, unlink_of, write_of};
 ghost use Rattle.assise_fault_script.specs.declared.fault.ScriptFault.{ScriptFault};
 ghost use Rattle.assise_fault_script.specs.Fault.{Answers, Makes};
 
@@ -35,7 +35,7 @@ pub fn call_word(word: &str) -> Result<CallWord, ScriptFault>
 
 /// The call that the words behind its name make. All words are checked before memory is asked for.
 pub fn call(alloc: Global, name: CallWord, words: &[&str]) -> Result<Op, ScriptFault>
-    ensures { Answers result (call_of name (map (λ w. w.now) words.now)) }
+    ensures { Answers result (call_command name (map (λ w. w.now) words.now)) }
 {
     match (name, words) {
         (CallWord::Create, [path]) => create(alloc, path),

@@ -1,8 +1,8 @@
 // The data of a write.
 ghost use Rattle.std.specs.Prelude.{◌≡◌, IfOk, IsOk, IsOkUnless, Ok, replicate};
-ghost use Rattle.assise_fault_script.specs.Data.{data_of, hex_byte, hex_bytes, hex_value, zeros};
+ghost use Rattle.assise_fault_script.specs.Data.{data_of, byte_of_hex, hex_bytes, hex_value, zeros};
 ghost use Rattle.assise_fault_script.specs.declared.fault.ScriptFault.{ScriptFault};
-ghost use Rattle.assise_fault_script.specs.Fault.{Checks, Gives};
+ghost use Rattle.assise_fault_script.specs.Fault.{Checks, GivesCommand};
 ghost use Rattle.assise_fault_script.specs.Number.{number_of};
 
 use crate::fault::ScriptFault;
@@ -77,7 +77,7 @@ pub fn checked_data(alloc: Global, word: &str) -> Result<ByteString, ScriptFault
 
 /// The bytes that a word of data writes.
 fn data(alloc: Global, word: &str) -> Result<ByteString, ScriptFault>
-    ensures { Gives result (data_of word.now) }
+    ensures { GivesCommand result (data_of word.now) }
 {
     if let Some(text) = word.strip_prefix('t') {
         return copied(alloc, text.as_bytes());
@@ -92,7 +92,7 @@ fn data(alloc: Global, word: &str) -> Result<ByteString, ScriptFault>
 }
 
 fn copied(alloc: Global, bytes: &[u8]) -> Result<ByteString, ScriptFault>
-    ensures { Gives result (Ok bytes.now) }
+    ensures { GivesCommand result (Ok bytes.now) }
 {
     let bytes = Vec::from_slice(alloc, bytes)?;
     Ok(ByteString::from_vec(bytes)?)
@@ -100,7 +100,7 @@ fn copied(alloc: Global, bytes: &[u8]) -> Result<ByteString, ScriptFault>
 
 /// A byte for each pair of hexadecimal digits.
 fn hex(alloc: Global, digits: &[u8]) -> Result<ByteString, ScriptFault>
-    ensures { Gives result (hex_bytes digits.now) }
+    ensures { GivesCommand result (hex_bytes digits.now) }
 {
     let mut bytes = Vec::new(alloc);
     let mut rest = digits;
@@ -115,7 +115,7 @@ fn hex(alloc: Global, digits: &[u8]) -> Result<ByteString, ScriptFault>
 }
 
 fn pair(high: u8, low: u8) -> Result<u8, ScriptFault>
-    ensures { result ≡ hex_byte high low }
+    ensures { result ≡ byte_of_hex high low }
 {
     let high = digit(high)?;
     let low = digit(low)?;
@@ -134,7 +134,7 @@ fn digit(byte: u8) -> Result<u8, ScriptFault>
 }
 
 fn zero_bytes(alloc: Global, count: &str) -> Result<ByteString, ScriptFault>
-    ensures { Gives result (zeros (number_of count.now)) }
+    ensures { GivesCommand result (zeros (number_of count.now)) }
 {
     match number(count) {
         Ok(count) => some_zeros(alloc, count),
@@ -143,7 +143,7 @@ fn zero_bytes(alloc: Global, count: &str) -> Result<ByteString, ScriptFault>
 }
 
 fn some_zeros(alloc: Global, count: u64) -> Result<ByteString, ScriptFault>
-    ensures { Gives result (zeros (Ok count)) }
+    ensures { GivesCommand result (zeros (Ok count)) }
 {
     if count > MOST_ZEROS {
         return Err(ScriptFault::BadData);

@@ -1,6 +1,6 @@
 // A row for each command that begins with a keyword.
 ghost use Rattle.std.specs.Prelude.{◌≡◌, map};
-ghost use Rattle.assise_fault_script.specs.Keywords.{back_of, carry_of, cluster_of, crash_of, cut_link_of, digest_of, fail_of, hot_capacity_of, hot_of, join_of, keyword_command, keyword_of, kind_of, link_kind_of, mode_of, node_link_of, open_in_mode_of, open_of, opening_of, raise_of, refill_of, tree_of, uncut_link_of};
+ghost use Rattle.assise_fault_script.specs.Keywords.{back_of, carry_of, cluster_of, crash_of, cut_link_of, digest_of, fail_of, hot_capacity_of, hot_of, join_of, keyword_command, keyword_of, kind_of, link_kind_of, mode_of, node_link_of, open_in_mode_of, open_of, opening_of, raise_of, refill_of, tree_command, uncut_link_of};
 
 use crate::command::{Command, Keyword, LinkKind, RevokerKind};
 use crate::fault::ScriptFault;
@@ -225,7 +225,7 @@ fn hot_capacity(node: &str, capacity: &str) -> Result<Command, ScriptFault>
 }
 
 fn tree(node: &str) -> Result<Command, ScriptFault>
-    ensures { result ≡ tree_of node.now }
+    ensures { result ≡ tree_command node.now }
 {
     let node = number(node)?;
     Ok(Command::Tree { node })

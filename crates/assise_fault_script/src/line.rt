@@ -108,7 +108,8 @@ fn named_call(
     name: &str,
     rest: &[&str],
 ) -> Result<Option<Command>, ScriptFault>
-    ensures { AnswersLine result (client_command built client.now (name.now ∷ map (λ w. w.now) rest.now)) }
+    ensures { AnswersLine result (client_command built client.now
+        (name.now ∷ map (λ w. w.now) rest.now)) }
 {
     let client = number(client)?;
     let word = call_word(name)?;

@@ -1,7 +1,7 @@
 // The lines of a script.
 ghost use Rattle.std.specs.Prelude.{◌≡◌, ◌⊎◌, ◌+◌, ◌<◌, ◌^◌, IfErr, IfOk, OnOk, Ok, Err};
 ghost use Rattle.assise_fault_script.specs.declared.fault.ScriptFault.TheVariants.{Memory};
-ghost use Rattle.assise_fault_script.specs.Script.{ClusterFirst, GivesNext, IsCommandAt, IsReached, commands_of, start};
+ghost use Rattle.assise_fault_script.specs.Script.{ClusterFirst, GivesNext, IsCommandAt, IsLineReached, commands_of, start};
 
 use crate::command::Command;
 use crate::fault::{LineFault, ScriptFault};
@@ -89,9 +89,11 @@ impl Progress {
 pub fn parse(alloc: Global, bytes: &[u8]) -> Result<Vec<NumberedCommand>, LineFault>
     ensures commands { IfOk result (λ commands. commands_of bytes.now ≡ Ok commands.items) }
     ensures cluster_first { IfOk result (λ commands. ClusterFirst commands.items) }
-    ensures first_fault { IfErr result (λ faulty. (faulty.fault ≡ Memory) ⊎ (commands_of bytes.now ≡ Err faulty)) }
-    ensures memory { IfErr result (λ faulty. ((faulty.fault ≡ Memory) × IsCommandAt bytes.now faulty.line) ⊎ (commands_of bytes.now ≡ Err faulty)) }
-    ensures reached { IfErr result (λ faulty. IsReached bytes.now faulty.line) }
+    ensures first_fault { IfErr result (λ faulty. (faulty.fault ≡ Memory) ⊎
+        (commands_of bytes.now ≡ Err faulty)) }
+    ensures memory { IfErr result (λ faulty. ((faulty.fault ≡ Memory) ×
+        IsCommandAt bytes.now faulty.line) ⊎ (commands_of bytes.now ≡ Err faulty)) }
+    ensures reached { IfErr result (λ faulty. IsLineReached bytes.now faulty.line) }
 {
     let mut progress = Progress::new(alloc);
     let mut rest = bytes;

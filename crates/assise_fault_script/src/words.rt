@@ -24,7 +24,8 @@ pub fn words(text: &str) -> ArrayVec<&str, MOST_WORDS>
 
 /// Appends a piece if it is a word and there is room.
 fn keep<'a>(words: &mut ArrayVec<&'a str, MOST_WORDS>, piece: &'a str)
-    ensures { map (λ w. w.now) words.new.items ≡ take 6 (map (λ w. w.now) words.old.items ++ filter is_word (piece.entry.now ∷ [])) }
+    ensures { map (λ w. w.now) words.new.items ≡ take 6
+        (map (λ w. w.now) words.old.items ++ filter is_word (piece.entry.now ∷ [])) }
 {
     if words.is_full() {
         return;
@@ -38,7 +39,8 @@ fn keep<'a>(words: &mut ArrayVec<&'a str, MOST_WORDS>, piece: &'a str)
 /// is none where no line feed is left.
 pub fn split_line(bytes: &[u8]) -> Option<(&[u8], &[u8])>
     ensures last { IfNone result (lines_of bytes.now ≡ bytes.now ∷ []) }
-    ensures first { IfSome result (λ parts. lines_of bytes.now ≡ parts.0.now ∷ lines_of parts.1.now) }
+    ensures first { IfSome result (λ parts. lines_of bytes.now ≡
+        parts.0.now ∷ lines_of parts.1.now) }
     ensures shorter { IfSome result (λ parts. length parts.1.now < length bytes.now) }
 {
     match first_line_feed(bytes) {
@@ -57,7 +59,7 @@ fn without_return(bytes: &[u8]) -> &[u8]
     ensures { result.now ≡ without_return bytes.now }
 {
     match bytes {
-        [front @ .., b'\r'] => front,
+        [prefix @ .., b'\r'] => prefix,
         _ => bytes,
     }
 }

@@ -540,8 +540,8 @@ fn data_writes_its_bytes(rt: HostRuntime) {
 }
 
 /// A text, and so many times a piece behind it.
-fn repeated(alloc: Global, rt: &impl Abort, front: &str, piece: &str, count: usize) -> String {
-    let mut text = String::from_str(alloc, front).expect(rt, "no memory");
+fn repeated(alloc: Global, rt: &impl Abort, prefix: &str, piece: &str, count: usize) -> String {
+    let mut text = String::from_str(alloc, prefix).expect(rt, "no memory");
     for _ in 0..count {
         text.push_str(piece).expect(rt, "no memory");
     }
@@ -550,8 +550,8 @@ fn repeated(alloc: Global, rt: &impl Abort, front: &str, piece: &str, count: usi
 
 #[test]
 fn writes_of_65536_bytes_are_read(rt: HostRuntime) {
-    for (front, piece, digits) in [("z65536", "", "00"), ("x", "5a", "5a"), ("t", "a", "61")] {
-        let word = repeated(rt.alloc(), &rt, front, piece, 65_536);
+    for (prefix, piece, digits) in [("z65536", "", "00"), ("x", "5a", "5a"), ("t", "a", "61")] {
+        let word = repeated(rt.alloc(), &rt, prefix, piece, 65_536);
         let wanted = repeated(rt.alloc(), &rt, "bytes 65536 x", digits, 65_536);
         gives(rt.alloc(), &rt, word.as_str(), wanted.as_str());
     }

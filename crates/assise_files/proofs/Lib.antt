@@ -1,3 +1,3 @@
 mod AlwaysLegal
 mod VainTries
-pub mod TriesCourse
+pub mod TriesTrace

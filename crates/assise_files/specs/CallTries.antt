@@ -5,9 +5,9 @@ use Rattle.assise_names.specs.declared.call.Op.{Op}
 use Rattle.assise_names.specs.declared.refusal.Refusal.{Refusal}
 use Rattle.assise_names.specs.declared.refusal.Refusal.TheVariants.{Busy, LogFull}
 use Rattle.assise_names.specs.declared.reply.Reply.{Reply}
-use Rattle.assise_machine_events.specs.Events.{Answer, not_yet, refused, try_call, try_fsync}
-use Rattle.assise_machine_events.specs.Machine.{Machine}
-use Rattle.assise_rounds.specs.Courses.{IsEvent, Nothing, Then, Told}
+use Rattle.assise_model_events.specs.Events.{Answer, not_yet, refused, try_call, try_fsync}
+use Rattle.assise_model_events.specs.Machine.{Machine}
+use Rattle.assise_rounds.specs.Traces.{IsEvent, Nothing, Then, Told}
 use Rattle.assise_rounds.specs.Rounds.{RoundsOnce}
 use Rattle.assise_rounds.specs.Trying.{settled_answer}
 
@@ -16,7 +16,7 @@ use Rattle.assise_rounds.specs.Trying.{settled_answer}
 -- an fsync of client c is tried, and all nodes make a round: a round alone sends only what an fsync, a crash or a lease asks for
 pub record MakesRoom (busy : Bool) (c : ℕ) (m : Machine) (es : Told) (m' : Machine) : Type 0 where
   pub answer : Answer
-  pub course : Then (IsEvent (try_fsync c) answer) (RoundsOnce busy) m es m'
+  pub trace : Then (IsEvent (try_fsync c) answer) (RoundsOnce busy) m es m'
 
 -- a try that waits
 abbrev pub WaitsOnce : Bool → ℕ → Op → Machine → Told → Machine → Type 0

@@ -1,7 +1,7 @@
 -- What is seen of a cluster that one caller uses.
 use Rattle.std.specs.Prelude.{ℕ, Option}
 use Rattle.assise_machine.specs.Clusters.{HaveCapacity, machine, revokers}
-use Rattle.assise_machine_events.specs.Machine.{Machine}
+use Rattle.assise_model_events.specs.Machine.{Machine}
 use Rattle.assise_files.specs.declared.cut_kind.CutKind.{CutKind}
 use Rattle.assise_files.specs.declared.files.Files.{Files}
 

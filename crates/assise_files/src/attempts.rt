@@ -1,6 +1,6 @@
 // A call is tried until it is settled.
 ghost use Rattle.assise_machine.specs.Clusters.{machine};
-ghost use Rattle.assise_rounds.specs.Courses.{Told};
+ghost use Rattle.assise_rounds.specs.Traces.{Told};
 ghost use Rattle.assise_files.specs.CallTries.{IsTriedOut, MakesRoom};
 
 use assise_lease_table::revoker::Revokes;

@@ -24,13 +24,13 @@ impl Files {
     ghost use Rattle.assise_names.specs.declared.refusal.Refusal.TheVariants.{OutOfMemory};
     ghost use Rattle.assise_history.specs.Legal.{IsLegal};
     ghost use Rattle.assise_lease_table.specs.Tables.{Enrols};
-    ghost use Rattle.assise_machine_events.specs.ClientEvents.{Crashing, Opening};
-    ghost use Rattle.assise_machine_events.specs.Machine.{begun_as};
-    ghost use Rattle.assise_machine_events.specs.MemberEvents.{Failing};
+    ghost use Rattle.assise_model_events.specs.ClientEvents.{Crashing, Opening};
+    ghost use Rattle.assise_model_events.specs.Machine.{begun_as};
+    ghost use Rattle.assise_model_events.specs.MemberEvents.{Failing};
     ghost use Rattle.assise_machine_calls.specs.Answers.{crashing_answer};
     ghost use Rattle.assise_machine_failures.specs.Answers.{failing_answer};
     ghost use Rattle.assise_machine.specs.Running.{opened_answer};
-    ghost use Rattle.assise_rounds.specs.Courses.{Told};
+    ghost use Rattle.assise_rounds.specs.Traces.{Told};
     ghost use Rattle.assise_rounds.specs.Returning.{ComesBack};
     ghost use Rattle.assise_rounds.specs.Rounds.{RoundsOnce};
     ghost use Rattle.assise_names.specs.declared.limits.TheConstants.{MOST_NODES};
@@ -112,7 +112,7 @@ impl Files {
         self.cluster.crash(client)
     }
 
-    /// A node fails. It answers each client that lost a call, by rising number, with the number of its first lost call. Refused as
+    /// A node fails. It answers each client that lost a call, by ascending number, with the number of its first lost call. Refused as
     /// [`ClusterOf::fail`](ClusterOf::fail).
     pub fn fail(&mut self, alloc: Global, node: u32) -> Result<Vec<(u32, u64)>, Refusal>
         ensures happens { Failing (cluster_seen self.old) node

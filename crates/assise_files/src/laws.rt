@@ -3,13 +3,13 @@ ghost use Rattle.std.specs.Prelude.{Result, ℕ};
 ghost use Rattle.assise_names.specs.declared.call.Op.{Op};
 ghost use Rattle.assise_names.specs.declared.refusal.Refusal.{Refusal};
 ghost use Rattle.assise_names.specs.declared.reply.Reply.{Reply};
-ghost use Rattle.assise_machine_events.specs.Machine.{Machine};
-ghost use Rattle.assise_rounds.specs.Courses.{IsCourse, Told};
+ghost use Rattle.assise_model_events.specs.Machine.{Machine};
+ghost use Rattle.assise_rounds.specs.Traces.{IsEventTrace, Told};
 ghost use Rattle.assise_files.specs.CallTries.{IsTriedOut};
 
-/// A call, with the rounds behind its tries, is a course of events: so over it the history stays legal, and gets exactly their entries
-/// (`a_course_keeps_the_history_legal` of `assise_rounds`). Of a round and of a return the laws there say the same.
-pub fn a_call_is_a_course_of_events()
+/// A call, with the rounds behind its tries, is a trace of events: so over it the history stays legal, and gets exactly their entries
+/// (`a_trace_keeps_the_history_legal` of `assise_rounds`). Of a round and of a return the laws there say the same.
+pub fn a_call_is_a_trace_of_events()
     ensures { (turns c : ℕ) (op : Op) (r : Result Reply Refusal) (m : Machine) (es : Told)
-        (m' : Machine) → IsTriedOut turns c op r m es m' → IsCourse m es m' }
+        (m' : Machine) → IsTriedOut turns c op r m es m' → IsEventTrace m es m' }
 {}

@@ -5,7 +5,7 @@ use assise_names::refusal::Refusal;
 use assise_names::reply::TreeError;
 use std::test::Fail;
 
-/// Each fault, by rising kind and then by code.
+/// Each fault, by ascending kind and then by code.
 const FAULTS: &[DeskFault] = &[
     DeskFault::Tree(TreeError::NoEnt),
     DeskFault::Tree(TreeError::Exists),

@@ -2,7 +2,7 @@
 use crate::shown::put_answer;
 use assise_desk::caller_desk::{CallerDesk, serve_desk};
 use assise_desk::desk_request::DeskRequest;
-use assise_rows::{Subject, split_word};
+use assise_test_rows::{Subject, split_word};
 use std::alloc::Global;
 
 /// A desk at which the steps of rows are served.
@@ -36,8 +36,8 @@ impl Requests {
         let bytes = path.len();
         let end = bytes.checked_add(other.len())?;
         let room = self.desk.bytes.get_mut(..end)?;
-        let (front, back) = room.split_at_mut(bytes);
-        front.copy_from_slice(path.as_bytes());
+        let (prefix, back) = room.split_at_mut(bytes);
+        prefix.copy_from_slice(path.as_bytes());
         back.copy_from_slice(other.as_bytes());
         request.path_bytes = u32::try_from(bytes).ok()?;
         request.other_bytes = u32::try_from(other.len()).ok()?;

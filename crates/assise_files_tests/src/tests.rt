@@ -1,6 +1,6 @@
 // Rows of requests.
 use crate::requests::Requests;
-use assise_rows::wrong_rows;
+use assise_test_rows::wrong_rows;
 use std::alloc::Global;
 use std::process::Abort;
 

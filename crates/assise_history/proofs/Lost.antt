@@ -5,12 +5,12 @@ use Rattle.std.proofs.lemmas.Bool.{cases_Bool, both_ways, false_from_ne_true}
 use Rattle.std.proofs.lemmas.List.Elements.{Contains-append_right, Contains-append_cases}
 use Rattle.assise_history.specs.declared.call.Call.{Call}
 use Rattle.assise_history.specs.declared.call.Loss.{Loss}
-use Rattle.assise_history.specs.Entries.{Event, opens, calls, crashes, fails, returns}
+use Rattle.assise_history.specs.Entries.{EntryValue, opens, calls, crashes, fails, returns}
 use Rattle.assise_history.specs.Kept.{IsTaken, Stays, loses, is_lost, kept}
-use Rattle.assise_history.proofs.Passing.{passes_from, passes_at, two, two_from}
+use Rattle.assise_history.proofs.TestedElements.{passes_from, passes_at, two, two_from}
 use Rattle.assise_history.proofs.Runs.{is_lost-append}
 
-here : (es : List Event) (n : ℕ) (losses : List Loss) (x : Call) → loses losses x ≡ true → IsTaken (fails n losses ∷ es) x
+here : (es : List EntryValue) (n : ℕ) (losses : List Loss) (x : Call) → loses losses x ≡ true → IsTaken (fails n losses ∷ es) x
 here es n losses x is =
     let q = passes_from (λ l. (l.client == x.client) && nat_le l.first x.number) losses is in
     let parts = two (q.item.client == x.client) (nat_le q.item.first x.number) q.holds in
@@ -28,7 +28,7 @@ here es n losses x is =
       first = leb-true q.item.first x.number parts.1;
     }
 
-further : (e : Event) (es : List Event) (x : Call) → IsTaken es x → IsTaken (e ∷ es) x
+further : (e : EntryValue) (es : List EntryValue) (x : Call) → IsTaken es x → IsTaken (e ∷ es) x
 further e es x t = record {
   node = t.node;
   losses = t.losses;
@@ -43,7 +43,7 @@ further e es x t = record {
   first = t.first;
 }
 
-pub taken : (es : List Event) (x : Call) → is_lost es x ≡ true → IsTaken es x
+pub taken : (es : List EntryValue) (x : Call) → is_lost es x ≡ true → IsTaken es x
 taken [] x h = cc
 taken (opens c n u ∷ es) x h = further (opens c n u) es x (taken es x h)
 taken (calls y ∷ es) x h = further (calls y) es x (taken es x h)
@@ -55,7 +55,7 @@ taken (fails n losses ∷ es) x h =
       | inr later ↦ let rest : is_lost es x ≡ true = rw later at h in further (fails n losses) es x (taken es x rest)
     ]
 
-lost_at : (before behind : List Event) (n : ℕ) (losses : List Loss) (x : Call) → loses losses x ≡ true → is_lost (before ++ fails n losses ∷ behind) x ≡ true
+lost_at : (before behind : List EntryValue) (n : ℕ) (losses : List Loss) (x : Call) → loses losses x ≡ true → is_lost (before ++ fails n losses ∷ behind) x ≡ true
 lost_at [] behind n losses x h = rw h refl
 lost_at (opens c m u ∷ es) behind n losses x h = lost_at es behind n losses x h
 lost_at (calls y ∷ es) behind n losses x h = lost_at es behind n losses x h
@@ -67,18 +67,18 @@ lost_at (fails m others ∷ es) behind n losses x h =
       | inr later ↦ rw later (lost_at es behind n losses x h)
     ]
 
-pub lost : (es : List Event) (x : Call) → IsTaken es x → is_lost es x ≡ true
+pub lost : (es : List EntryValue) (x : Call) → IsTaken es x → is_lost es x ≡ true
 lost es x t =
     let p : Loss → Bool = λ l. (l.client == x.client) && nat_le l.first x.number in
     let one : p t.loss ≡ true = two_from (t.loss.client == x.client) (nat_le t.loss.first x.number) (eq-eqb t.loss.client x.client t.client) (le-leb t.loss.first x.number t.first) in
     let all : loses t.losses x ≡ true = subst (λ ls. list_any p ls ≡ true) (sym t.listed) (passes_at p t.lower t.higher t.loss one) in
     subst (λ es. is_lost es x ≡ true) (sym t.split) (lost_at t.before t.behind t.node t.losses x all)
 
-pub lost_exactly : (es : List Event) (x : Call) → (is_lost es x ≡ true) ↔ IsTaken es x
+pub lost_exactly : (es : List EntryValue) (x : Call) → (is_lost es x ≡ true) ↔ IsTaken es x
 lost_exactly es x = (taken es x, lost es x)
 
 -- what is kept of two parts
-pub kept-append : (g h : List Event) → kept (g ++ h) ≡ filter (λ x. not (is_lost h x)) (kept g) ++ kept h
+pub kept-append : (g h : List EntryValue) → kept (g ++ h) ≡ filter (λ x. not (is_lost h x)) (kept g) ++ kept h
 kept-append [] h = refl
 kept-append (opens c n u ∷ es) h = kept-append es h
 kept-append (crashes c ∷ es) h = kept-append es h
@@ -104,7 +104,7 @@ only : (y x : Call) → Contains (y ∷ []) x → y ≡ x
 only y x (zero, few, is) = is
 only y x (suc k, few, is) = absurd (omega arith)
 
-kept_at : (before later : List Event) (x : Call) → is_lost later x ≡ false → Contains (kept (before ++ calls x ∷ later)) x
+kept_at : (before later : List EntryValue) (x : Call) → is_lost later x ≡ false → Contains (kept (before ++ calls x ∷ later)) x
 kept_at [] later x safe = rw safe (first_of_kept (kept later) x)
 kept_at (opens c n u ∷ es) later x safe = kept_at es later x safe
 kept_at (crashes c ∷ es) later x safe = kept_at es later x safe
@@ -116,10 +116,10 @@ kept_at (calls y ∷ es) later x safe =
       | inr left ↦ rw left (behind_it y (kept (es ++ calls x ∷ later)) x (kept_at es later x safe))
     ]
 
-later_on : (e : Event) (es : List Event) (x : Call) → Stays es x → Stays (e ∷ es) x
+later_on : (e : EntryValue) (es : List EntryValue) (x : Call) → Stays es x → Stays (e ∷ es) x
 later_on e es x s = record { before = e ∷ s.before; later = s.later; split = ap (λ xs. e ∷ xs) s.split; safe = s.safe }
 
-pub stays : (h : List Event) (x : Call) → Contains (kept h) x → Stays h x
+pub stays : (h : List EntryValue) (x : Call) → Contains (kept h) x → Stays h x
 stays [] x h = absurd (omega (arith, h.1))
 stays (opens c n u ∷ es) x h = later_on (opens c n u) es x (stays es x h)
 stays (crashes c ∷ es) x h = later_on (crashes c) es x (stays es x h)
@@ -138,10 +138,10 @@ stays (calls y ∷ es) x h =
           ]
     ]
 
-pub kept_from : (h : List Event) (x : Call) → Stays h x → Contains (kept h) x
+pub kept_from : (h : List EntryValue) (x : Call) → Stays h x → Contains (kept h) x
 kept_from h x s =
     let safe = false_from_ne_true (is_lost s.later x) (λ is. s.safe (taken s.later x is)) in
     subst (λ es. Contains (kept es) x) (sym s.split) (kept_at s.before s.later x safe)
 
-pub kept_exactly : (h : List Event) (x : Call) → Contains (kept h) x ↔ Stays h x
+pub kept_exactly : (h : List EntryValue) (x : Call) → Contains (kept h) x ↔ Stays h x
 kept_exactly h x = (stays h x, kept_from h x)

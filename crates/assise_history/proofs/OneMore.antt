@@ -5,106 +5,106 @@ use Rattle.assise_seq_tree.specs.Answer.{answer}
 use Rattle.assise_names.specs.declared.durability.Durability.{Durability}
 use Rattle.assise_history.specs.declared.call.Call.{Call}
 use Rattle.assise_history.specs.declared.call.Loss.{Loss}
-use Rattle.assise_history.specs.Entries.{Event, opens, calls, crashes, fails, returns}
+use Rattle.assise_history.specs.Entries.{EntryValue, opens, calls, crashes, fails, returns}
 use Rattle.assise_history.specs.Kept.{kept, tree_after, IsRun}
 use Rattle.assise_history.specs.Legal.{IsLegal, Fits, IsAlive, IsDown, IsFair, IsNextCall, MayFollow, MayOpen}
-use Rattle.assise_history.proofs.Passing.{by_ends}
+use Rattle.assise_history.proofs.TestedElements.{by_ends}
 use Rattle.assise_history.proofs.Runs.{kept-push, kept-call, run-push, run-last}
-use Rattle.assise_history.proofs.Legality.{legal-nil, legal-push, legal-front, legal-last, legal_run, legal_from, fits_in, front_run}
+use Rattle.assise_history.proofs.Legality.{legal-nil, legal-push, legal-prefix, legal-last, legal_run, legal_from, fits_in, prefix_run}
 
 -- the reply is the answer on the tree that the kept calls leave
-abbrev pub IsAnswered : List Event → Call → Type 0
+abbrev pub IsAnswered : List EntryValue → Call → Type 0
 IsAnswered h x = x.reply ≡ (answer (tree_after opening (kept h)) x.op).0
 
 -- an entry that leaves what is kept fits where it may follow
-pub fits_quiet : (h : List Event) (e : Event) → IsLegal h → kept (h ++ e ∷ []) ≡ kept h → MayFollow h e → Fits h e
+pub fits_quiet : (h : List EntryValue) (e : EntryValue) → IsLegal h → kept (h ++ e ∷ []) ≡ kept h → MayFollow h e → Fits h e
 fits_quiet h e legal same may = record { follows = may; run = subst (IsRun opening) (sym same) (legal_run h legal) }
 
-pub fits_call : (h : List Event) (x : Call) → IsLegal h → IsNextCall h x → IsAnswered h x → Fits h (calls x)
+pub fits_call : (h : List EntryValue) (x : Call) → IsLegal h → IsNextCall h x → IsAnswered h x → Fits h (calls x)
 fits_call h x legal next reply = record { follows = next; run = subst (IsRun opening) (sym (kept-call h x)) (run-push opening (kept h) x (legal_run h legal) reply) }
 
-pub fits_failure : (h : List Event) (n : ℕ) (losses : List Loss) → IsFair h n losses → IsRun opening (kept (h ++ fails n losses ∷ [])) → Fits h (fails n losses)
+pub fits_failure : (h : List EntryValue) (n : ℕ) (losses : List Loss) → IsFair h n losses → IsRun opening (kept (h ++ fails n losses ∷ [])) → Fits h (fails n losses)
 fits_failure h n losses fair run = record { follows = fair; run = run }
 
-pub call_answered : (h : List Event) (x : Call) → Fits h (calls x) → IsAnswered h x
+pub call_answered : (h : List EntryValue) (x : Call) → Fits h (calls x) → IsAnswered h x
 call_answered h x fits = run-last opening (kept h) x (subst (IsRun opening) (kept-call h x) fits.run)
 
 -- each kind of entry, there and back
-pub legal-open : (h : List Event) (c n : ℕ) (u : Durability) → IsLegal h → MayOpen h c n → IsLegal (h ++ opens c n u ∷ [])
+pub legal-open : (h : List EntryValue) (c n : ℕ) (u : Durability) → IsLegal h → MayOpen h c n → IsLegal (h ++ opens c n u ∷ [])
 legal-open h c n u legal may = legal-push h (opens c n u) legal (fits_quiet h (opens c n u) legal (kept-push h (opens c n u)) may)
 
-pub legal-call : (h : List Event) (x : Call) → IsLegal h → IsNextCall h x → IsAnswered h x → IsLegal (h ++ calls x ∷ [])
+pub legal-call : (h : List EntryValue) (x : Call) → IsLegal h → IsNextCall h x → IsAnswered h x → IsLegal (h ++ calls x ∷ [])
 legal-call h x legal next reply = legal-push h (calls x) legal (fits_call h x legal next reply)
 
-pub legal-crash : (h : List Event) (c : ℕ) → IsLegal h → IsAlive h c → IsLegal (h ++ crashes c ∷ [])
+pub legal-crash : (h : List EntryValue) (c : ℕ) → IsLegal h → IsAlive h c → IsLegal (h ++ crashes c ∷ [])
 legal-crash h c legal alive = legal-push h (crashes c) legal (fits_quiet h (crashes c) legal (kept-push h (crashes c)) alive)
 
-pub legal-failure : (h : List Event) (n : ℕ) (losses : List Loss) → IsLegal h → IsFair h n losses → IsRun opening (kept (h ++ fails n losses ∷ [])) → IsLegal (h ++ fails n losses ∷ [])
+pub legal-failure : (h : List EntryValue) (n : ℕ) (losses : List Loss) → IsLegal h → IsFair h n losses → IsRun opening (kept (h ++ fails n losses ∷ [])) → IsLegal (h ++ fails n losses ∷ [])
 legal-failure h n losses legal fair run = legal-push h (fails n losses) legal (fits_failure h n losses fair run)
 
-pub legal-return : (h : List Event) (n : ℕ) → IsLegal h → IsDown h n → IsLegal (h ++ returns n ∷ [])
+pub legal-return : (h : List EntryValue) (n : ℕ) → IsLegal h → IsDown h n → IsLegal (h ++ returns n ∷ [])
 legal-return h n legal down = legal-push h (returns n) legal (fits_quiet h (returns n) legal (kept-push h (returns n)) down)
 
-pub open_more : (h : List Event) (c n : ℕ) (u : Durability) → IsLegal (h ++ opens c n u ∷ []) ↔ (IsLegal h × MayOpen h c n)
-open_more h c n u = (λ all. (legal-front h (opens c n u ∷ []) all, (legal-last h (opens c n u) all).follows), λ p. legal-open h c n u p.0 p.1)
+pub open_more : (h : List EntryValue) (c n : ℕ) (u : Durability) → IsLegal (h ++ opens c n u ∷ []) ↔ (IsLegal h × MayOpen h c n)
+open_more h c n u = (λ all. (legal-prefix h (opens c n u ∷ []) all, (legal-last h (opens c n u) all).follows), λ p. legal-open h c n u p.0 p.1)
 
-pub call_more : (h : List Event) (x : Call) → IsLegal (h ++ calls x ∷ []) ↔ (IsLegal h × (IsNextCall h x × IsAnswered h x))
+pub call_more : (h : List EntryValue) (x : Call) → IsLegal (h ++ calls x ∷ []) ↔ (IsLegal h × (IsNextCall h x × IsAnswered h x))
 call_more h x = (
-  λ all. let fits = legal-last h (calls x) all in (legal-front h (calls x ∷ []) all, (fits.follows, call_answered h x fits)),
+  λ all. let fits = legal-last h (calls x) all in (legal-prefix h (calls x ∷ []) all, (fits.follows, call_answered h x fits)),
   λ p. legal-call h x p.0 p.1.0 p.1.1,
 )
 
-pub crash_more : (h : List Event) (c : ℕ) → IsLegal (h ++ crashes c ∷ []) ↔ (IsLegal h × IsAlive h c)
-crash_more h c = (λ all. (legal-front h (crashes c ∷ []) all, (legal-last h (crashes c) all).follows), λ p. legal-crash h c p.0 p.1)
+pub crash_more : (h : List EntryValue) (c : ℕ) → IsLegal (h ++ crashes c ∷ []) ↔ (IsLegal h × IsAlive h c)
+crash_more h c = (λ all. (legal-prefix h (crashes c ∷ []) all, (legal-last h (crashes c) all).follows), λ p. legal-crash h c p.0 p.1)
 
-pub failure_more : (h : List Event) (n : ℕ) (losses : List Loss) → IsLegal (h ++ fails n losses ∷ []) ↔ (IsLegal h × (IsFair h n losses × IsRun opening (kept (h ++ fails n losses ∷ []))))
+pub failure_more : (h : List EntryValue) (n : ℕ) (losses : List Loss) → IsLegal (h ++ fails n losses ∷ []) ↔ (IsLegal h × (IsFair h n losses × IsRun opening (kept (h ++ fails n losses ∷ []))))
 failure_more h n losses = (
-  λ all. let fits = legal-last h (fails n losses) all in (legal-front h (fails n losses ∷ []) all, (fits.follows, fits.run)),
+  λ all. let fits = legal-last h (fails n losses) all in (legal-prefix h (fails n losses ∷ []) all, (fits.follows, fits.run)),
   λ p. legal-failure h n losses p.0 p.1.0 p.1.1,
 )
 
-pub return_more : (h : List Event) (n : ℕ) → IsLegal (h ++ returns n ∷ []) ↔ (IsLegal h × IsDown h n)
-return_more h n = (λ all. (legal-front h (returns n ∷ []) all, (legal-last h (returns n) all).follows), λ p. legal-return h n p.0 p.1)
+pub return_more : (h : List EntryValue) (n : ℕ) → IsLegal (h ++ returns n ∷ []) ↔ (IsLegal h × IsDown h n)
+return_more h n = (λ all. (legal-prefix h (returns n ∷ []) all, (legal-last h (returns n) all).follows), λ p. legal-return h n p.0 p.1)
 
 -- an entry in the midst
-pub follows_in : (h before later : List Event) (e : Event) → IsLegal h → h ≡ before ++ e ∷ later → MayFollow before e
+pub follows_in : (h before later : List EntryValue) (e : EntryValue) → IsLegal h → h ≡ before ++ e ∷ later → MayFollow before e
 follows_in h before later e legal split = (fits_in h before later e legal split).follows
 
-pub answered_in : (h before later : List Event) (x : Call) → IsLegal h → h ≡ before ++ calls x ∷ later → IsAnswered before x
+pub answered_in : (h before later : List EntryValue) (x : Call) → IsLegal h → h ≡ before ++ calls x ∷ later → IsAnswered before x
 answered_in h before later x legal split = call_answered before x (fits_in h before later (calls x) legal split)
 
--- runs of all fronts, and entries that may follow
-front_of : (h before later : List Event) (e : Event) → h ≡ before ++ e ∷ later → h ≡ (before ++ e ∷ []) ++ later
-front_of h before later e split = split ∙ sym (append_assoc before (e ∷ []) later)
+-- runs of all prefixes, and entries that may follow
+prefix_of : (h before later : List EntryValue) (e : EntryValue) → h ≡ before ++ e ∷ later → h ≡ (before ++ e ∷ []) ++ later
+prefix_of h before later e split = split ∙ sym (append_assoc before (e ∷ []) later)
 
-pub legal_parts : (h : List Event) → IsLegal h ↔ (((front later : List Event) → h ≡ front ++ later → IsRun opening (kept front)) × ((before later : List Event) (e : Event) → h ≡ before ++ e ∷ later → MayFollow before e))
+pub legal_parts : (h : List EntryValue) → IsLegal h ↔ (((prefix later : List EntryValue) → h ≡ prefix ++ later → IsRun opening (kept prefix)) × ((before later : List EntryValue) (e : EntryValue) → h ≡ before ++ e ∷ later → MayFollow before e))
 legal_parts h = (
-  λ legal. (λ front later split. front_run h front later legal split, λ before later e split. follows_in h before later e legal split),
-  λ p. legal_from h (λ before later e split. record { follows = p.1 before later e split; run = p.0 (before ++ e ∷ []) later (front_of h before later e split) }),
+  λ legal. (λ prefix later split. prefix_run h prefix later legal split, λ before later e split. follows_in h before later e legal split),
+  λ p. legal_from h (λ before later e split. record { follows = p.1 before later e split; run = p.0 (before ++ e ∷ []) later (prefix_of h before later e split) }),
 )
 
 -- what is enough of calls and failures
-abbrev Follow : List Event → Type 0
-Follow h = (before later : List Event) (e : Event) → h ≡ before ++ e ∷ later → MayFollow before e
+abbrev Follow : List EntryValue → Type 0
+Follow h = (before later : List EntryValue) (e : EntryValue) → h ≡ before ++ e ∷ later → MayFollow before e
 
-abbrev Answered : List Event → Type 0
-Answered h = (before later : List Event) (x : Call) → h ≡ before ++ calls x ∷ later → IsAnswered before x
+abbrev Answered : List EntryValue → Type 0
+Answered h = (before later : List EntryValue) (x : Call) → h ≡ before ++ calls x ∷ later → IsAnswered before x
 
-abbrev Left : List Event → Type 0
-Left h = (before later : List Event) (n : ℕ) (losses : List Loss) → h ≡ before ++ fails n losses ∷ later → IsRun opening (kept (before ++ fails n losses ∷ []))
+abbrev Left : List EntryValue → Type 0
+Left h = (before later : List EntryValue) (n : ℕ) (losses : List Loss) → h ≡ before ++ fails n losses ∷ later → IsRun opening (kept (before ++ fails n losses ∷ []))
 
-fits_enough : (h : List Event) (e : Event) → IsLegal h → MayFollow h e → Answered (h ++ e ∷ []) → Left (h ++ e ∷ []) → Fits h e
+fits_enough : (h : List EntryValue) (e : EntryValue) → IsLegal h → MayFollow h e → Answered (h ++ e ∷ []) → Left (h ++ e ∷ []) → Fits h e
 fits_enough h (opens c n u) legal may answered left = fits_quiet h (opens c n u) legal (kept-push h (opens c n u)) may
 fits_enough h (calls x) legal may answered left = fits_call h x legal may (answered h [] x refl)
 fits_enough h (crashes c) legal may answered left = fits_quiet h (crashes c) legal (kept-push h (crashes c)) may
 fits_enough h (fails n losses) legal may answered left = fits_failure h n losses may (left h [] n losses refl)
 fits_enough h (returns n) legal may answered left = fits_quiet h (returns n) legal (kept-push h (returns n)) may
 
--- a front of what stands in a list
-longer : (h before later : List Event) (x e : Event) → h ≡ before ++ x ∷ later → h ++ e ∷ [] ≡ before ++ x ∷ (later ++ e ∷ [])
+-- a prefix of what stands in a list
+longer : (h before later : List EntryValue) (x e : EntryValue) → h ≡ before ++ x ∷ later → h ++ e ∷ [] ≡ before ++ x ∷ (later ++ e ∷ [])
 longer h before later x e split = ap (λ g. g ++ e ∷ []) split ∙ append_assoc before (x ∷ later) (e ∷ [])
 
-pub legal_enough : (h : List Event) → Follow h → Answered h → Left h → IsLegal h
+pub legal_enough : (h : List EntryValue) → Follow h → Answered h → Left h → IsLegal h
 legal_enough = by_ends (λ h. Follow h → Answered h → Left h → IsLegal h)
     (λ follow answered left. legal-nil)
     (λ h e before follow answered left.

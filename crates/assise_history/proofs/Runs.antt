@@ -7,7 +7,7 @@ use Rattle.std.proofs.lemmas.Bool.{cases_Bool, lt-ltb}
 use Rattle.assise_seq_tree.specs.Tree.{Tree}
 use Rattle.assise_seq_tree.specs.Answer.{answer}
 use Rattle.assise_history.specs.declared.call.Call.{Call}
-use Rattle.assise_history.specs.Entries.{Event, opens, calls, crashes, fails, returns}
+use Rattle.assise_history.specs.Entries.{EntryValue, opens, calls, crashes, fails, returns}
 use Rattle.assise_history.specs.Kept.{loses, is_lost, kept, kept_more, IsRun, tree_after}
 
 -- what follows the first call is a run exactly if all of it is, where the first call's reply is right
@@ -34,7 +34,7 @@ or_false true = refl
 or_false false = refl
 
 -- a call more is kept
-pub is_lost-append : (es fs : List Event) (call : Call) → is_lost (es ++ fs) call ≡ (if is_lost es call then true else is_lost fs call)
+pub is_lost-append : (es fs : List EntryValue) (call : Call) → is_lost (es ++ fs) call ≡ (if is_lost es call then true else is_lost fs call)
 is_lost-append [] fs call = refl
 is_lost-append (opens c n u ∷ es) fs call = is_lost-append es fs call
 is_lost-append (calls other ∷ es) fs call = is_lost-append es fs call
@@ -46,7 +46,7 @@ is_lost-append (fails n losses ∷ es) fs call =
       | inr left ↦ rw left (is_lost-append es fs call)
     ]
 
-pub kept-call : (es : List Event) (call : Call) → kept (es ++ calls call ∷ []) ≡ kept es ++ call ∷ []
+pub kept-call : (es : List EntryValue) (call : Call) → kept (es ++ calls call ∷ []) ≡ kept es ++ call ∷ []
 kept-call [] call = refl
 kept-call (opens c n u ∷ es) call = kept-call es call
 kept-call (crashes c ∷ es) call = kept-call es call
@@ -60,7 +60,7 @@ kept-call (calls other ∷ es) call =
     ]
 
 -- a failure more keeps what it doesn't lose
-pub kept-fail : (es : List Event) (n : ℕ) (losses : _) → kept (es ++ fails n losses ∷ []) ≡ filter (λ call. not (loses losses call)) (kept es)
+pub kept-fail : (es : List EntryValue) (n : ℕ) (losses : _) → kept (es ++ fails n losses ∷ []) ≡ filter (λ call. not (loses losses call)) (kept es)
 kept-fail [] n losses = refl
 kept-fail (opens c m u ∷ es) n losses = kept-fail es n losses
 kept-fail (crashes c ∷ es) n losses = kept-fail es n losses
@@ -111,7 +111,7 @@ filter_mapped f p xs ys is long =
     ap (map f) (is ∙ filter_whole p xs (λ less. let short : nat_lt (length (filter p xs)) (length xs) ≡ true = lt-ltb (length (filter p xs)) (length xs) less in let bad : true ≡ false = sym short ∙ subst (λ zs. nat_lt (length zs) (length xs) ≡ false) is long in cc))
 
 -- an entry more that is no call and loses none
-kept-quiet : (es : List Event) (e : Event) → ((call : Call) → is_lost (e ∷ []) call ≡ false) → kept (e ∷ []) ≡ [] → kept (es ++ e ∷ []) ≡ kept es
+kept-quiet : (es : List EntryValue) (e : EntryValue) → ((call : Call) → is_lost (e ∷ []) call ≡ false) → kept (e ∷ []) ≡ [] → kept (es ++ e ∷ []) ≡ kept es
 kept-quiet [] e h none = none
 kept-quiet (opens c n u ∷ es) e h none = kept-quiet es e h none
 kept-quiet (crashes c ∷ es) e h none = kept-quiet es e h none
@@ -124,17 +124,17 @@ kept-quiet (calls other ∷ es) e h none =
       | inr left ↦ rw (same, left) (ap (λ xs. other ∷ xs) (kept-quiet es e h none))
     ]
 
-pub kept-push : (es : List Event) (e : Event) → kept (es ++ e ∷ []) ≡ kept_more (kept es) e
+pub kept-push : (es : List EntryValue) (e : EntryValue) → kept (es ++ e ∷ []) ≡ kept_more (kept es) e
 kept-push es (calls call) = kept-call es call
 kept-push es (fails n losses) = kept-fail es n losses
 kept-push es (opens c n u) = kept-quiet es (opens c n u) (λ call. refl) refl
 kept-push es (crashes c) = kept-quiet es (crashes c) (λ call. refl) refl
 kept-push es (returns n) = kept-quiet es (returns n) (λ call. refl) refl
 
--- a run's front is a run
-pub run-front : (t : Tree) (cs ds : List Call) → IsRun t (cs ++ ds) → IsRun t cs
-run-front t [] ds run = tt
-run-front t (c ∷ cs) ds run = (run.0, run-front (answer t c.op).1 cs ds run.1)
+-- a run's prefix is a run
+pub run-prefix : (t : Tree) (cs ds : List Call) → IsRun t (cs ++ ds) → IsRun t cs
+run-prefix t [] ds run = tt
+run-prefix t (c ∷ cs) ds run = (run.0, run-prefix (answer t c.op).1 cs ds run.1)
 
 -- the reply of its last call
 pub run-last : (t : Tree) (cs : List Call) (x : Call) → IsRun t (cs ++ x ∷ []) → x.reply ≡ (answer (tree_after t cs) x.op).0
@@ -161,9 +161,9 @@ played_wrong s cs t t' reply x is step wrong run =
 pub calls_more : (cs : List (Bor Call)) (i : ℕ) (d : Bor Call) → i < length cs → map (λ x. x.now) (take (i + 1) cs) ≡ map (λ x. x.now) (take i cs) ++ (get_or cs i d).now ∷ []
 calls_more cs i d h = ap (map (λ x. x.now)) (take_more cs i d h) ∙ map-append (λ x. x.now) (take i cs) (get_or cs i d ∷ [])
 
--- no front that ends with a wrong call is part of a run
+-- no prefix that ends with a wrong call is part of a run
 pub stops : (s : Tree) (cs : List (Bor Call)) (i : ℕ) (d : Bor Call) → i < length cs → (IsRun s (map (λ x. x.now) (take i cs) ++ (get_or cs i d).now ∷ []) → ⊥) → IsRun s (map (λ x. x.now) cs) → ⊥
 stops s cs i d h wrong run =
     let parts : map (λ x. x.now) cs ≡ map (λ x. x.now) (take (i + 1) cs) ++ map (λ x. x.now) (drop (i + 1) cs) =
     ap (map (λ x. x.now)) (sym (take-append-drop (i + 1) cs)) ∙ map-append (λ x. x.now) (take (i + 1) cs) (drop (i + 1) cs) in
-    wrong (subst (IsRun s) (calls_more cs i d h) (run-front s _ _ (subst (IsRun s) parts run)))
+    wrong (subst (IsRun s) (calls_more cs i d h) (run-prefix s _ _ (subst (IsRun s) parts run)))

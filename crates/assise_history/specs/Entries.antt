@@ -4,19 +4,19 @@ use Rattle.assise_names.specs.declared.durability.Durability.{Durability}
 use Rattle.assise_history.specs.declared.call.Call.{Call}
 use Rattle.assise_history.specs.declared.call.Loss.{Loss}
 
-pub data Event : Type 0 where
+pub data EntryValue : Type 0 where
   -- a client was opened on a node, to have its fsyncs served in one way
-  opens : ℕ → ℕ → Durability → Event
+  opens : ℕ → ℕ → Durability → EntryValue
   -- a call was answered
-  calls : Call → Event
+  calls : Call → EntryValue
   -- a client crashed
-  crashes : ℕ → Event
+  crashes : ℕ → EntryValue
   -- a node failed, and its clients lost calls
-  fails : ℕ → List Loss → Event
+  fails : ℕ → List Loss → EntryValue
   -- a node was taken in again
-  returns : ℕ → Event
+  returns : ℕ → EntryValue
 
 -- what happened, in order, and for how many more entries there is room
 pub record Recorded : Type 0 where
-  pub events : List Event
+  pub events : List EntryValue
   pub room : ℕ

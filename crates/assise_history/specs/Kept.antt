@@ -7,14 +7,14 @@ use Rattle.assise_names.specs.declared.reply.Reply.{Reply}
 use Rattle.assise_seq_tree.specs.Runs.{AreAnswered, tree_after_calls}
 use Rattle.assise_history.specs.declared.call.Call.{Call}
 use Rattle.assise_history.specs.declared.call.Loss.{Loss}
-use Rattle.assise_history.specs.Entries.{Event, opens, calls, crashes, fails, returns}
+use Rattle.assise_history.specs.Entries.{EntryValue, opens, calls, crashes, fails, returns}
 
 -- the failure loses the call
 abbrev pub loses : List Loss → Call → Bool
 loses losses x = list_any (λ l. (l.client == x.client) && nat_le l.first x.number) losses
 
 -- a failure among the entries loses the call
-abbrev pub is_lost : List Event → Call → Bool
+abbrev pub is_lost : List EntryValue → Call → Bool
 is_lost [] x = false
 is_lost (fails n losses ∷ es) x = if loses losses x then true else is_lost es x
 is_lost (opens c n u ∷ es) x = is_lost es x
@@ -23,7 +23,7 @@ is_lost (crashes c ∷ es) x = is_lost es x
 is_lost (returns n ∷ es) x = is_lost es x
 
 -- the calls that no later failure loses, in order
-abbrev pub kept : List Event → List Call
+abbrev pub kept : List EntryValue → List Call
 kept [] = []
 kept (calls x ∷ es) = if is_lost es x then kept es else x ∷ kept es
 kept (opens c n u ∷ es) = kept es
@@ -34,11 +34,11 @@ kept (returns n ∷ es) = kept es
 -- ---- the same by what stands in a history
 
 -- a later failure lists the call's client from it or from an earlier call on
-pub record IsTaken (later : List Event) (x : Call) : Type 0 where
+pub record IsTaken (later : List EntryValue) (x : Call) : Type 0 where
   pub node : ℕ
   pub losses : List Loss
-  pub before : List Event
-  pub behind : List Event
+  pub before : List EntryValue
+  pub behind : List EntryValue
   pub split : later ≡ before ++ fails node losses ∷ behind
   pub loss : Loss
   pub lower : List Loss
@@ -48,16 +48,16 @@ pub record IsTaken (later : List Event) (x : Call) : Type 0 where
   pub first : loss.first ≤ x.number
 
 -- the call was answered, and no later failure takes it
-pub record Stays (h : List Event) (x : Call) : Type 0 where
-  pub before : List Event
-  pub later : List Event
+pub record Stays (h : List EntryValue) (x : Call) : Type 0 where
+  pub before : List EntryValue
+  pub later : List EntryValue
   pub split : h ≡ before ++ calls x ∷ later
   pub safe : IsTaken later x → ⊥
 
 -- ---- one entry more, and runs
 
 -- the calls that are kept after an entry more
-abbrev pub kept_more : List Call → Event → List Call
+abbrev pub kept_more : List Call → EntryValue → List Call
 kept_more cs (calls x) = cs ++ x ∷ []
 kept_more cs (fails n losses) = filter (λ x. not (loses losses x)) cs
 kept_more cs (opens c n u) = cs

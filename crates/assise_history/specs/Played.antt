@@ -5,13 +5,13 @@ use Rattle.assise_history.specs.declared.call.Call.{Call}
 use Rattle.assise_history.specs.declared.played.Played.{Played}
 use Rattle.assise_history.specs.Kept.{IsRun, tree_after}
 
-abbrev pub calls_of : Played → List Call
-calls_of p = map (λ x. x.now) p.calls.items
+abbrev pub played_calls : Played → List Call
+played_calls p = map (λ x. x.now) p.calls.items
 
 -- the calls are a run, and the tree is the one that they leave
 abbrev pub IsPlayed : Played → Type 0
-IsPlayed p = IsRun opening (calls_of p) × (p.tree ≡ tree_after opening (calls_of p))
+IsPlayed p = IsRun opening (played_calls p) × (p.tree ≡ tree_after opening (played_calls p))
 
 -- these calls are a run, and were played; or they are none
 abbrev pub Goes : Bool → List Call → Played → Type 0
-Goes right cs p = MatchBool right ((calls_of p ≡ cs) × IsPlayed p) (IsRun opening cs → ⊥)
+Goes right cs p = MatchBool right ((played_calls p ≡ cs) × IsPlayed p) (IsRun opening cs → ⊥)

@@ -7,7 +7,7 @@ use Rattle.assise_names.specs.declared.durability.Durability.{Durability}
 use Rattle.assise_names.specs.declared.durability.Durability.TheVariants.{Pessimistic, Optimistic}
 use Rattle.assise_history.specs.declared.call.Call.{Call}
 use Rattle.assise_history.specs.declared.call.Loss.{Loss}
-use Rattle.assise_history.specs.Entries.{Event, opens, calls, crashes, fails, returns}
+use Rattle.assise_history.specs.Entries.{EntryValue, opens, calls, crashes, fails, returns}
 
 abbrev pub loss_text : Loss → List ℕ
 loss_text l = codes " " ++ decimal l.client ++ codes ":" ++ decimal l.first
@@ -24,7 +24,7 @@ abbrev pub durability_text : Durability → List ℕ
 durability_text Pessimistic = []
 durability_text Optimistic = codes " optimistic"
 
-abbrev pub entry_text : Event → List ℕ
+abbrev pub entry_text : EntryValue → List ℕ
 entry_text (opens c n u) = codes "open " ++ decimal c ++ codes " " ++ decimal n ++ durability_text u
 entry_text (calls x) = call_text x
 entry_text (crashes c) = codes "crash " ++ decimal c
@@ -32,9 +32,9 @@ entry_text (fails n losses) = codes "fail " ++ decimal n ++ losses_text losses
 entry_text (returns n) = codes "return " ++ decimal n
 
 -- a line feed, and then the entry
-abbrev pub entry_line : Event → List ℕ
+abbrev pub entry_line : EntryValue → List ℕ
 entry_line e = 10 ∷ entry_text e
 
 -- the count of the entries, and then a line for each
-abbrev pub history_text : List Event → List ℕ
+abbrev pub history_text : List EntryValue → List ℕ
 history_text h = codes "history " ++ decimal (length h) ++ flat_map entry_line h

@@ -4,9 +4,9 @@ ghost use Rattle.assise_history.specs.Legal.{IsLegal};
 ghost use Rattle.assise_names.specs.declared.refusal.Refusal.TheVariants.{OutOfMemory};
 
 use crate::entry::Entry;
-use crate::front::Front;
 use crate::history::History;
 use crate::played::Played;
+use crate::prefix::Prefix;
 use assise_names::refusal::Refusal;
 use std::alloc::Global;
 
@@ -24,16 +24,16 @@ fn is_legal(alloc: Global, entries: &[Entry]) -> Result<bool, Refusal>
     ensures decided { IfOk result (λ yes. IsTrue yes ↔ IsLegal entries.now) }
     ensures only_memory { IsOkUnless result OutOfMemory }
 {
-    let mut front = Front::new(alloc);
+    let mut prefix = Prefix::new(alloc);
     let mut played = Played::new(alloc);
     for entry in entries {
-        if !front.allows(entry) {
+        if !prefix.allows(entry) {
             return Ok(false);
         }
         if !played.take(alloc, entry)? {
             return Ok(false);
         }
-        front.note(entry)?;
+        prefix.note(entry)?;
     }
     Ok(true)
 }

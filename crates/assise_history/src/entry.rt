@@ -50,9 +50,9 @@ pub struct Entry {
 }
 
 impl Model for Entry {
-    ghost use Rattle.assise_history.specs.Entries.{Event};
+    ghost use Rattle.assise_history.specs.Entries.{EntryValue};
 
-    ghost Value = { Event };
+    ghost Value = { EntryValue };
 
     ghost use Rattle.assise_history.specs.Seen.{event_of};
 

@@ -12,7 +12,8 @@ use std::alloc::Global;
 /// The calls of a history that no later failure loses, in order, or [`Refusal::OutOfMemory`]. It costs the
 /// history's length, and for each failure the calls before it times the clients that lose calls.
 pub fn kept<'a>(alloc: Global, history: &'a History) -> Result<Vec<&'a Call>, Refusal>
-    ensures ok { IfOk result (λ calls. map (λ call. call.now) calls.items ≡ kept history.now.events) }
+    ensures ok { IfOk result (λ calls. map (λ call. call.now) calls.items ≡
+        kept history.now.events) }
     ensures only_memory { IsOkUnless result OutOfMemory }
 {
     kept_of(alloc, history.entries())
@@ -31,7 +32,8 @@ fn kept_of<'a>(alloc: Global, entries: &'a [Entry]) -> Result<Vec<&'a Call>, Ref
 
 /// What is kept after an entry more.
 fn keep<'a>(calls: &mut Vec<&'a Call>, entry: &'a Entry) -> Result<(), Refusal>
-    ensures ok { OnOk result (map (λ call. call.now) calls.new.items ≡ kept_more (map (λ call. call.now) calls.old.items) entry.now) }
+    ensures ok { OnOk result (map (λ call. call.now) calls.new.items ≡ kept_more
+        (map (λ call. call.now) calls.old.items) entry.now) }
     ensures only_memory { IsOkUnless result OutOfMemory }
 {
     match entry.kind() {

@@ -4,10 +4,10 @@
 pub mod call;
 pub mod check;
 pub mod entry;
-mod front;
 pub mod growing;
 pub mod history;
 pub mod kept;
 pub mod laws;
 mod played;
+mod prefix;
 pub mod replay;

@@ -1,7 +1,7 @@
-// The kept calls of a front, with the tree that they leave.
+// The kept calls of a prefix, with the tree that they leave.
 ghost use Rattle.std.specs.Prelude.{◌≡◌, ◌++◌, ◌∷◌, [], IfOk, IsOkUnless};
 ghost use Rattle.assise_history.specs.Kept.{kept_more};
-ghost use Rattle.assise_history.specs.Played.{IsPlayed, Goes, calls_of};
+ghost use Rattle.assise_history.specs.Played.{IsPlayed, Goes, played_calls};
 ghost use Rattle.assise_names.specs.declared.refusal.Refusal.TheVariants.{OutOfMemory};
 
 use crate::call::Call;
@@ -22,7 +22,7 @@ pub(crate) struct Played<'a> {
 
 impl<'a> Played<'a> {
     pub(crate) fn new(alloc: Global) -> Played<'a>
-        ensures calls { calls_of result ≡ [] }
+        ensures calls { played_calls result ≡ [] }
         ensures played { IsPlayed result }
     {
         Played {
@@ -34,7 +34,8 @@ impl<'a> Played<'a> {
     /// Takes an entry in, and says whether the kept calls still are a run.
     pub(crate) fn take(&mut self, alloc: Global, entry: &'a Entry) -> Result<bool, Refusal>
         requires { IsPlayed self.old }
-        ensures ok { IfOk result (λ yes. Goes yes (kept_more (calls_of self.old) entry.now) self.new) }
+        ensures ok { IfOk result (λ yes. Goes yes
+            (kept_more (played_calls self.old) entry.now) self.new) }
         ensures only_memory { IsOkUnless result OutOfMemory }
     {
         match entry.kind() {
@@ -55,7 +56,8 @@ impl<'a> Played<'a> {
     /// Plays one call more.
     fn play(&mut self, alloc: Global, call: &'a Call) -> Result<bool, Refusal>
         requires { IsPlayed self.old }
-        ensures ok { IfOk result (λ yes. Goes yes (calls_of self.old ++ call.now ∷ []) self.new) }
+        ensures ok { IfOk result (λ yes. Goes yes
+            (played_calls self.old ++ call.now ∷ []) self.new) }
         ensures only_memory { IsOkUnless result OutOfMemory }
     {
         self.calls.push(call)?;
@@ -65,7 +67,7 @@ impl<'a> Played<'a> {
 
     /// Plays the kept calls from the opening tree.
     fn replay(&mut self, alloc: Global) -> Result<bool, Refusal>
-        ensures ok { IfOk result (λ yes. Goes yes (calls_of self.old) self.new) }
+        ensures ok { IfOk result (λ yes. Goes yes (played_calls self.old) self.new) }
         ensures only_memory { IsOkUnless result OutOfMemory }
     {
         match replay(alloc, self.calls.as_slice())? {

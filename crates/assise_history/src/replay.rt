@@ -12,9 +12,12 @@ use assise_seq_tree::tree::Tree;
 use std::alloc::Global;
 
 /// The tree after a list of calls, if each was answered as the tree answers it, one after another from the
-/// opening tree; `None` if one wasn't. Want of memory is [`Refusal::OutOfMemory`].
+/// opening tree; `None` if one wasn't. Out of memory is [`Refusal::OutOfMemory`].
 pub fn replay(alloc: Global, calls: &[&Call]) -> Result<Option<Tree>, Refusal>
-    ensures ok { IfOk result (λ found. MatchOption found (IsRun opening (map (λ x. x.now) calls.now) → ⊥) (λ tree. IsRun opening (map (λ x. x.now) calls.now) × (tree ≡ tree_after opening (map (λ x. x.now) calls.now)))) }
+    ensures ok { IfOk result (λ found. MatchOption found
+        (IsRun opening (map (λ x. x.now) calls.now) → ⊥)
+        (λ tree. IsRun opening (map (λ x. x.now) calls.now) ×
+        (tree ≡ tree_after opening (map (λ x. x.now) calls.now)))) }
     ensures only_memory { IsOkUnless result OutOfMemory }
 {
     let mut tree = Tree::new(alloc);

@@ -78,7 +78,7 @@ fn names(alloc: Global, rt: &impl Abort, words: &str) -> NameList {
             .ok()
             .expect(rt, "no memory");
     }
-    assert!(rt; NameList::rise(names.as_slice()));
+    assert!(rt; NameList::ascend(names.as_slice()));
     NameList::from_vec(names)
 }
 
@@ -722,7 +722,7 @@ fn reads_of_65536_bytes_are_checked(rt: HostRuntime) {
 /// Makes 4,096 files, and writes a space and the name behind the names for each.
 fn write_creates(rt: &impl Abort, text: &mut String, names: &mut String) {
     for number in 0..4_096 {
-        // From 1000 to 5095, whose digits rise as the numbers do.
+        // From 1000 to 5095, whose digits ascend as the numbers do.
         let name = number + 1_000;
         writeln!(text, "call 1 {number} create /{name} = done").expect(rt, "no memory");
         write!(names, " {name}").expect(rt, "no memory");

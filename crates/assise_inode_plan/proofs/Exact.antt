@@ -15,8 +15,8 @@ use Rattle.assise_inode_table.proofs.CallEnds.{few_effects}
 use Rattle.assise_inode_table.specs.Whole.{CanBeMadeWhole}
 use Rattle.assise_inode_table.proofs.CallSteps.{step_replies, step_spells}
 use Rattle.assise_inode_table.proofs.Wholeness.{effects_whole}
-use Rattle.assise_inode_plan.specs.Leased.{Leases, for_reading, first_missing}
-use Rattle.assise_inode_plan.specs.Planning.{Answers, effects_planned, plan_lacking, visited_plan_of, ready, shown}
+use Rattle.assise_inode_plan.specs.Leased.{LeaseView, for_reading, first_missing}
+use Rattle.assise_inode_plan.specs.Planning.{PlanAnswers, effects_planned, plan_lacking, visited_plan_of, ready, shown}
 use Rattle.assise_inode_plan.specs.Walking.{plan_from}
 use Rattle.assise_inode_plan.specs.declared.plan.Planned.{Planned}
 
@@ -28,7 +28,7 @@ one_more_visit : (before : List ℕ) (i : ℕ) (v : Values) (next : Interaction)
 unfolding after_visits
 one_more_visit before i v next = ap (λ is. record { visits = is; reply = reply_of v next; effects = effects_of v next }) (append_assoc before (i ∷ []) (visits_of v next))
 
-step_by_step : (leased : Leases) (v : Values) (before : List ℕ) (x : Interaction) → plan_from leased v before x ≡ plan_lacking (after_visits before v x) (first_missing leased (for_reading (visits_of v x)))
+step_by_step : (leased : LeaseView) (v : Values) (before : List ℕ) (x : Interaction) → plan_from leased v before x ≡ plan_lacking (after_visits before v x) (first_missing leased (for_reading (visits_of v x)))
 unfolding after_visits
 step_by_step leased v before (finish reply es) = ap (λ is. ready (record { visits = is; reply = reply; effects = es })) (sym (append-nil before))
 step_by_step leased v before (visit i next) =
@@ -37,33 +37,33 @@ step_by_step leased v before (visit i next) =
       | inr bare ↦ rw bare refl
     ]
 
-pub whole_plan : (leased : Leases) (v : Values) (x : Interaction) → plan_from leased v [] x ≡ visited_plan_of leased (step_by v x)
+pub whole_plan : (leased : LeaseView) (v : Values) (x : Interaction) → plan_from leased v [] x ≡ visited_plan_of leased (step_by v x)
 unfolding after_visits
 whole_plan leased v x = step_by_step leased v [] x
 
-pub exact_plan : {E : Type 0} (r : Result Planned E) (leased : Leases) (v : Values) (op : Op) (fresh : ℕ) → IfOk r (λ p. shown p ≡ plan_from leased v [] (interaction op fresh)) → IfOk r (λ p. shown p ≡ visited_plan_of leased (step v op fresh))
+pub exact_plan : {E : Type 0} (r : Result Planned E) (leased : LeaseView) (v : Values) (op : Op) (fresh : ℕ) → IfOk r (λ p. shown p ≡ plan_from leased v [] (interaction op fresh)) → IfOk r (λ p. shown p ≡ visited_plan_of leased (step v op fresh))
 exact_plan (Ok p) leased v op fresh h = h ∙ whole_plan leased v (interaction op fresh)
 exact_plan (Err e) leased v op fresh h = tt
 
 -- ---- over inodes that spell a tree
 
-plan_answers : (v : Values) (t : Tree) (op : Op) (fresh : ℕ) (lack : Option (ℕ × Mode)) → Spells v t → v fresh ≡ None → Answers v (answer t op) (plan_lacking (step v op fresh) lack)
+plan_answers : (v : Values) (t : Tree) (op : Op) (fresh : ℕ) (lack : Option (ℕ × Mode)) → Spells v t → v fresh ≡ None → PlanAnswers v (answer t op) (plan_lacking (step v op fresh) lack)
 plan_answers v t op fresh None s new = (step_replies v t op fresh s, step_spells v t op fresh s (λ _. new))
 plan_answers v t op fresh (Some w) s new = tt
 
-pub plan_answers_call : {E : Type 0} (r : Result Planned E) (leased : Leases) (v : Values) (op : Op) (fresh : ℕ) → IfOk r (λ p. shown p ≡ plan_from leased v [] (interaction op fresh)) → (t : Tree) → Spells v t → v fresh ≡ None →
-    IfOk r (λ p. Answers v (answer t op) (shown p))
+pub plan_answers_call : {E : Type 0} (r : Result Planned E) (leased : LeaseView) (v : Values) (op : Op) (fresh : ℕ) → IfOk r (λ p. shown p ≡ plan_from leased v [] (interaction op fresh)) → (t : Tree) → Spells v t → v fresh ≡ None →
+    IfOk r (λ p. PlanAnswers v (answer t op) (shown p))
 plan_answers_call (Ok p) leased v op fresh h t s new =
-    subst (Answers v (answer t op)) (sym (h ∙ whole_plan leased v (interaction op fresh))) (plan_answers v t op fresh (first_missing leased (for_reading (step v op fresh).visits)) s new)
+    subst (PlanAnswers v (answer t op)) (sym (h ∙ whole_plan leased v (interaction op fresh))) (plan_answers v t op fresh (first_missing leased (for_reading (step v op fresh).visits)) s new)
 plan_answers_call (Err e) leased v op fresh h t s new = tt
 
 -- ---- how many effects
 
-few_planned : (leased : Leases) (v : Values) (op : Op) (fresh : ℕ) (lack : Option (ℕ × Mode)) → length (effects_planned (plan_lacking (step v op fresh) lack)) ≤ 4
+few_planned : (leased : LeaseView) (v : Values) (op : Op) (fresh : ℕ) (lack : Option (ℕ × Mode)) → length (effects_planned (plan_lacking (step v op fresh) lack)) ≤ 4
 few_planned leased v op fresh None = few_effects v op fresh
 few_planned leased v op fresh (Some w) = omega arith
 
-pub few_effects_planned : {E : Type 0} (r : Result Planned E) (leased : Leases) (v : Values) (op : Op) (fresh : ℕ) → IfOk r (λ p. shown p ≡ plan_from leased v [] (interaction op fresh)) →
+pub few_effects_planned : {E : Type 0} (r : Result Planned E) (leased : LeaseView) (v : Values) (op : Op) (fresh : ℕ) → IfOk r (λ p. shown p ≡ plan_from leased v [] (interaction op fresh)) →
     IfOk r (λ p. length (effects_planned (shown p)) ≤ 4)
 few_effects_planned (Ok p) leased v op fresh h =
     subst (λ plan. length (effects_planned plan) ≤ 4) (sym (h ∙ whole_plan leased v (interaction op fresh))) (few_planned leased v op fresh (first_missing leased (for_reading (step v op fresh).visits)))
@@ -75,7 +75,7 @@ whole_planned : (v : Values) (op : Op) (fresh : ℕ) (lack : Option (ℕ × Mode
 whole_planned v op fresh None = effects_whole v op fresh
 whole_planned v op fresh (Some w) = inr (inl tt)
 
-pub whole_effects_planned : {E : Type 0} (r : Result Planned E) (leased : Leases) (v : Values) (op : Op) (fresh : ℕ) → IfOk r (λ p. shown p ≡ plan_from leased v [] (interaction op fresh)) →
+pub whole_effects_planned : {E : Type 0} (r : Result Planned E) (leased : LeaseView) (v : Values) (op : Op) (fresh : ℕ) → IfOk r (λ p. shown p ≡ plan_from leased v [] (interaction op fresh)) →
     IfOk r (λ p. CanBeMadeWhole (effects_planned (shown p)))
 whole_effects_planned (Ok p) leased v op fresh h =
     subst (λ plan. CanBeMadeWhole (effects_planned plan)) (sym (h ∙ whole_plan leased v (interaction op fresh))) (whole_planned v op fresh (first_missing leased (for_reading (step v op fresh).visits)))

@@ -8,12 +8,12 @@ use Rattle.assise_seq_tree.specs.Contents.{is_within}
 use Rattle.assise_inode_table.specs.Calls.{then_or_error, as_regular, write_effects, write_call, truncate_call}
 use Rattle.assise_inode_table.specs.Contents.{Content, Values}
 use Rattle.assise_inode_table.specs.Interaction.{Interaction, finish}
-use Rattle.assise_inode_plan.specs.Leased.{Leases}
+use Rattle.assise_inode_plan.specs.Leased.{LeaseView}
 use Rattle.assise_inode_plan.specs.Walking.{plan_from}
 use Rattle.assise_inode_plan.specs.declared.walk.Stop.{Stop}
 use Rattle.assise_inode_plan.proofs.WalkEnds.{quiet, Ended, at_end}
 
-module _ (leased : Leases) (v : Values) (before : List ℕ) (names : List (List ℕ)) (reads : List ℕ) (end : Result (ℕ × Bor Content) Stop) (none : before ≡ [])
+module _ (leased : LeaseView) (v : Values) (before : List ℕ) (names : List (List ℕ)) (reads : List ℕ) (end : Result (ℕ × Bor Content) Stop) (none : before ≡ [])
     (ended : (next : ℕ → Content → Interaction) → Ended leased v before names reads end next) (r : ℕ × Bor Content) (is : end ≡ Ok r) where
   module _ (offset : ℕ) (new : List ℕ) where
     write_checked : (o : Result (List ℕ) TreeError) → as_regular r.1.now ≡ o →

@@ -10,13 +10,13 @@ use Rattle.assise_inode_table.specs.Calls.{then_or_error, walk, walk_from, walk_
 use Rattle.assise_inode_table.specs.Contents.{Content, Values}
 use Rattle.assise_inode_table.specs.Interaction.{Interaction}
 use Rattle.assise_inode_table.specs.Reach.{link_of}
-use Rattle.assise_inode_plan.specs.Leased.{Leases}
+use Rattle.assise_inode_plan.specs.Leased.{LeaseView}
 use Rattle.assise_inode_plan.specs.Planning.{Plan, ready}
 use Rattle.assise_inode_plan.specs.Walking.{plan_from, plan_stopped}
 use Rattle.assise_inode_plan.specs.declared.walk.Entry.{Entry}
 use Rattle.assise_inode_plan.specs.declared.walk.Stop.{Stop}
 use Rattle.assise_inode_plan.specs.declared.walk.Stop.TheVariants.{Fault}
-use Rattle.assise_inode_plan.proofs.Leaving.{Reached, reach_ends, reach_stops}
+use Rattle.assise_inode_plan.proofs.WalkRest.{Reached, reach_ends, reach_stops}
 
 -- the plan of a call that answers and changes nothing
 abbrev pub quiet : List ℕ → Reply → Plan
@@ -25,13 +25,13 @@ quiet reads reply = ready (record { visits = reads; reply = reply; effects = [] 
 -- ---- a walk along a path
 
 -- a walk ended so
-abbrev pub Ended : Leases → Values → List ℕ → List (List ℕ) → List ℕ → Result (ℕ × Bor Content) Stop → (ℕ → Content → Interaction) → Type 0
+abbrev pub Ended : LeaseView → Values → List ℕ → List (List ℕ) → List ℕ → Result (ℕ × Bor Content) Stop → (ℕ → Content → Interaction) → Type 0
 Ended leased v before names reads end next =
     MatchResult end
     (λ r. plan_from leased v before (walk names next) ≡ plan_from leased v reads (next r.0 r.1.now))
     (λ stop. plan_from leased v before (walk names next) ≡ plan_stopped reads stop)
 
-module _ (leased : Leases) (v : Values) (before : List ℕ) (names : List (List ℕ)) (reads : List ℕ) (end : Result (ℕ × Bor Content) Stop)
+module _ (leased : LeaseView) (v : Values) (before : List ℕ) (names : List (List ℕ)) (reads : List ℕ) (end : Result (ℕ × Bor Content) Stop)
     (ended : (next : ℕ → Content → Interaction) → Ended leased v before names reads end next) where
   pub walk_stops : (stop : Stop) → end ≡ Err stop → (next : ℕ → Content → Interaction) → plan_from leased v before (walk names next) ≡ plan_stopped reads stop
   walk_stops stop is next = subst (λ e. Ended leased v before names reads e next) is (ended next)
@@ -63,7 +63,7 @@ module _ (leased : Leases) (v : Values) (before : List ℕ) (names : List (List 
       entry_ends content found next = at_entry (Ok i) leads next ∙ reach_ends leased v reads more i last reached content found (next r.0)
 
 -- a walk to an entry ended so
-abbrev pub EndedAtEntry : Leases → Values → List ℕ → List (List ℕ) → List ℕ → List ℕ → Result Entry Stop → (ℕ → ℕ → Content → Interaction) → Type 0
+abbrev pub EndedAtEntry : LeaseView → Values → List ℕ → List (List ℕ) → List ℕ → List ℕ → Result Entry Stop → (ℕ → ℕ → Content → Interaction) → Type 0
 EndedAtEntry leased v before parent name reads end next =
     MatchResult end
     (λ e. plan_from leased v before (walk_to_entry parent name next) ≡ plan_from leased v reads (next e.directory e.inode e.content.now))
@@ -71,7 +71,7 @@ EndedAtEntry leased v before parent name reads end next =
 
 -- ---- a call that begins with a walk
 
-module _ (leased : Leases) (v : Values) (before : List ℕ) (names : List (List ℕ)) (reads : List ℕ) (end : Result (ℕ × Bor Content) Stop) (none : before ≡ [])
+module _ (leased : LeaseView) (v : Values) (before : List ℕ) (names : List (List ℕ)) (reads : List ℕ) (end : Result (ℕ × Bor Content) Stop) (none : before ≡ [])
     (ended : (next : ℕ → Content → Interaction) → Ended leased v before names reads end next) where
   from_nothing : (next : ℕ → Content → Interaction) → plan_from leased v before (walk names next) ≡ plan_from leased v [] (walk names next)
   from_nothing next = ap (λ rs. plan_from leased v rs (walk names next)) none
@@ -82,7 +82,7 @@ module _ (leased : Leases) (v : Values) (before : List ℕ) (names : List (List 
   pub at_end : (r : ℕ × Bor Content) → end ≡ Ok r → (next : ℕ → Content → Interaction) → plan_from leased v reads (next r.0 r.1.now) ≡ plan_from leased v [] (walk names next)
   at_end r is next = sym (walk_ends leased v before names reads end ended r is next) ∙ from_nothing next
 
-module _ (leased : Leases) (v : Values) (before : List ℕ) (parent : List (List ℕ)) (name : List ℕ) (reads : List ℕ) (end : Result Entry Stop) (none : before ≡ [])
+module _ (leased : LeaseView) (v : Values) (before : List ℕ) (parent : List (List ℕ)) (name : List ℕ) (reads : List ℕ) (end : Result Entry Stop) (none : before ≡ [])
     (ended : (next : ℕ → ℕ → Content → Interaction) → EndedAtEntry leased v before parent name reads end next) where
   entry_from_nothing : (next : ℕ → ℕ → Content → Interaction) → plan_from leased v before (walk_to_entry parent name next) ≡ plan_from leased v [] (walk_to_entry parent name next)
   entry_from_nothing next = ap (λ rs. plan_from leased v rs (walk_to_entry parent name next)) none
@@ -98,7 +98,7 @@ module _ (leased : Leases) (v : Values) (before : List ℕ) (parent : List (List
 pub name_is : (p : List (List ℕ)) (name : List ℕ) → 1 ≤ length p → name ≡ slice_index_or p (length p - 1) name → last_name p ≡ name
 name_is p name some is = get_or_default p (length p - 1) [] name (omega (arith, some)) ∙ sym is
 
-pub below_root : (leased : Leases) (v : Values) (at_root : Interaction) (below : List ℕ → Interaction) (p : List (List ℕ)) (name : List ℕ) → 1 ≤ length p → name ≡ slice_index_or p (length p - 1) name →
+pub below_root : (leased : LeaseView) (v : Values) (at_root : Interaction) (below : List ℕ → Interaction) (p : List (List ℕ)) (name : List ℕ) → 1 ≤ length p → name ≡ slice_index_or p (length p - 1) name →
     plan_from leased v [] (below name) ≡ plan_from leased v [] (if length p == 0 then at_root else below (last_name p))
 below_root leased v at_root below p name some is =
     ap (λ n. plan_from leased v [] (below n)) (sym (name_is p name some is))

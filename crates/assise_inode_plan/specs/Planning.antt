@@ -10,7 +10,7 @@ use Rattle.assise_inode_table.specs.Contents.{Values}
 use Rattle.assise_inode_table.specs.Effects.{after, touched}
 use Rattle.assise_inode_table.specs.Interaction.{Step}
 use Rattle.assise_inode_table.specs.Spelled.{Spells}
-use Rattle.assise_inode_plan.specs.Leased.{Leases, wants, for_reading, for_writing, first_missing}
+use Rattle.assise_inode_plan.specs.Leased.{LeaseView, wants, for_reading, for_writing, first_missing}
 use Rattle.assise_inode_plan.specs.declared.plan.Planned.{Planned}
 use Rattle.assise_inode_plan.specs.declared.plan.Planned.TheVariants.{Ready, Missing}
 
@@ -23,15 +23,15 @@ abbrev pub plan_lacking : Step → Option (ℕ × Mode) → Plan
 plan_lacking s None = ready s
 plan_lacking s (Some w) = missing w.0 w.1
 
-abbrev pub plan_of : Leases → Step → Plan
+abbrev pub plan_of : LeaseView → Step → Plan
 plan_of leased s = plan_lacking s (first_missing leased (wants s))
 
 -- planned by the visits alone: what the step changes needn't be leased
-abbrev pub visited_plan_of : Leases → Step → Plan
+abbrev pub visited_plan_of : LeaseView → Step → Plan
 visited_plan_of leased s = plan_lacking s (first_missing leased (for_reading s.visits))
 
 -- and then by what it changes
-abbrev pub changed_plan_of : Leases → Plan → Plan
+abbrev pub changed_plan_of : LeaseView → Plan → Plan
 changed_plan_of leased (missing inode mode) = missing inode mode
 changed_plan_of leased (ready s) = plan_lacking s (first_missing leased (for_writing (touched s.effects)))
 
@@ -46,9 +46,9 @@ shown (Ready reply reads effects) = ready (record { visits = reads.items; reply 
 shown (Missing inode mode) = missing inode mode
 
 -- a plan that is ready has this reply, and after its effects the inodes spell this tree
-abbrev pub Answers : Values → Reply × Tree → Plan → Type 0
-Answers v outcome (missing inode mode) = Unit {0}
-Answers v outcome (ready s) = (s.reply ≡ outcome.0) × Spells (after v s.effects) outcome.1
+abbrev pub PlanAnswers : Values → Reply × Tree → Plan → Type 0
+PlanAnswers v outcome (missing inode mode) = Unit {0}
+PlanAnswers v outcome (ready s) = (s.reply ≡ outcome.0) × Spells (after v s.effects) outcome.1
 
 -- one write takes 65,536 bytes at most
 abbrev pub IsWritable : Op → Type 0

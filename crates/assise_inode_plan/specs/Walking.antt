@@ -4,13 +4,13 @@ use Rattle.assise_names.specs.declared.mode.Mode.TheVariants.{Read}
 use Rattle.assise_names.specs.declared.reply.Reply.TheVariants.{Error}
 use Rattle.assise_inode_table.specs.Contents.{Values}
 use Rattle.assise_inode_table.specs.Interaction.{Interaction, visit, finish}
-use Rattle.assise_inode_plan.specs.Leased.{Leases}
+use Rattle.assise_inode_plan.specs.Leased.{LeaseView}
 use Rattle.assise_inode_plan.specs.Planning.{Plan, ready, missing}
 use Rattle.assise_inode_plan.specs.declared.walk.Stop.{Stop}
 use Rattle.assise_inode_plan.specs.declared.walk.Stop.TheVariants.{Fault, Unleased}
 
 -- each inode is looked at only where it is leased
-abbrev pub plan_from : Leases → Values → List ℕ → Interaction → Plan
+abbrev pub plan_from : LeaseView → Values → List ℕ → Interaction → Plan
 plan_from leased v before (visit i next) = if leased i Read then plan_from leased v (before ++ i ∷ []) (next (v i)) else missing i Read
 plan_from leased v before (finish reply es) = ready (record { visits = before; reply = reply; effects = es })
 

@@ -26,8 +26,10 @@ pub(crate) fn plan_create<V: View>(
     names: &[Name],
     fresh: u64,
 ) -> Result<Planned, Refusal>
-    ensures exact { IfOk result (λ p. shown p ≡ plan_from (V.leased view.now) (values (V.contents view.now)) [] (create_call names.now fresh)) }
-    ensures asked { OnErr result (NotesAVisit (V.leased view.now) (visits_of (values (V.contents view.now)) (create_call names.now fresh))) }
+    ensures exact { IfOk result (λ p. shown p ≡ plan_from (V.leased view.now)
+        (values (V.contents view.now)) [] (create_call names.now fresh)) }
+    ensures asked { OnErr result (NotesAVisit (V.leased view.now)
+        (visits_of (values (V.contents view.now)) (create_call names.now fresh))) }
     ensures only_memory { IsOkUnless result OutOfMemory }
 {
     let new = Effect::NewFile { inode: fresh };
@@ -41,8 +43,10 @@ pub(crate) fn plan_mkdir<V: View>(
     names: &[Name],
     fresh: u64,
 ) -> Result<Planned, Refusal>
-    ensures exact { IfOk result (λ p. shown p ≡ plan_from (V.leased view.now) (values (V.contents view.now)) [] (mkdir_call names.now fresh)) }
-    ensures asked { OnErr result (NotesAVisit (V.leased view.now) (visits_of (values (V.contents view.now)) (mkdir_call names.now fresh))) }
+    ensures exact { IfOk result (λ p. shown p ≡ plan_from (V.leased view.now)
+        (values (V.contents view.now)) [] (mkdir_call names.now fresh)) }
+    ensures asked { OnErr result (NotesAVisit (V.leased view.now)
+        (visits_of (values (V.contents view.now)) (mkdir_call names.now fresh))) }
     ensures only_memory { IsOkUnless result OutOfMemory }
 {
     let new = Effect::NewDir { inode: fresh };
@@ -57,8 +61,10 @@ fn plan_new<V: View>(
     new: &Effect,
     fresh: u64,
 ) -> Result<Planned, Refusal>
-    ensures exact { IfOk result (λ p. shown p ≡ plan_from (V.leased view.now) (values (V.contents view.now)) [] (make_call new.now names.now fresh)) }
-    ensures asked { OnErr result (NotesAVisit (V.leased view.now) (visits_of (values (V.contents view.now)) (make_call new.now names.now fresh))) }
+    ensures exact { IfOk result (λ p. shown p ≡ plan_from (V.leased view.now)
+        (values (V.contents view.now)) [] (make_call new.now names.now fresh)) }
+    ensures asked { OnErr result (NotesAVisit (V.leased view.now)
+        (visits_of (values (V.contents view.now)) (make_call new.now names.now fresh))) }
     ensures only_memory { IsOkUnless result OutOfMemory }
 {
     let mut reads = Vec::new(alloc);
@@ -88,7 +94,8 @@ fn new_inode_effects(
     name: &Name,
     fresh: u64,
 ) -> Result<Vec<Effect>, Refusal>
-    ensures effects { IfOk result (λ effects. effects.items ≡ new.now ∷ Link directory name.now fresh ∷ []) }
+    ensures effects { IfOk result (λ effects. effects.items ≡
+        new.now ∷ Link directory name.now fresh ∷ []) }
     ensures only_memory { IsOkUnless result OutOfMemory }
 {
     let mut effects = Vec::with_capacity(alloc, 2)?;

@@ -33,7 +33,12 @@ pub(crate) fn stopped(alloc: Global, stop: Stop, reads: Vec<u64>) -> Planned
 
 /// The plan of a call that has made its visits.
 pub(crate) fn finished(reply: Reply, reads: Vec<u64>, effects: Vec<Effect>) -> Planned
-    ensures { shown result ≡ ready (record { visits = reads.items; reply = reply; effects = effects.items }) }
+    ensures { shown result ≡ ready (record {
+      visits = reads.items;
+      reply = reply;
+      effects =
+          effects.items;
+    }) }
 {
     Planned::Ready {
         reply,

@@ -30,8 +30,10 @@ pub(crate) fn plan_write<V: View>(
     new: &ByteString,
 ) -> Result<Planned, Refusal>
     requires one_write { length new.now ≤ 65536 }
-    ensures exact { IfOk result (λ p. shown p ≡ plan_from (V.leased view.now) (values (V.contents view.now)) [] (write_call names.now offset new.now)) }
-    ensures asked { OnErr result (NotesAVisit (V.leased view.now) (visits_of (values (V.contents view.now)) (write_call names.now offset new.now))) }
+    ensures exact { IfOk result (λ p. shown p ≡ plan_from (V.leased view.now)
+        (values (V.contents view.now)) [] (write_call names.now offset new.now)) }
+    ensures asked { OnErr result (NotesAVisit (V.leased view.now)
+        (visits_of (values (V.contents view.now)) (write_call names.now offset new.now))) }
     ensures only_memory { IsOkUnless result OutOfMemory }
 {
     let mut reads = Vec::new(alloc);
@@ -56,8 +58,10 @@ pub(crate) fn plan_truncate<V: View>(
     names: &[Name],
     size: u64,
 ) -> Result<Planned, Refusal>
-    ensures exact { IfOk result (λ p. shown p ≡ plan_from (V.leased view.now) (values (V.contents view.now)) [] (truncate_call names.now size)) }
-    ensures asked { OnErr result (NotesAVisit (V.leased view.now) (visits_of (values (V.contents view.now)) (truncate_call names.now size))) }
+    ensures exact { IfOk result (λ p. shown p ≡ plan_from (V.leased view.now)
+        (values (V.contents view.now)) [] (truncate_call names.now size)) }
+    ensures asked { OnErr result (NotesAVisit (V.leased view.now)
+        (visits_of (values (V.contents view.now)) (truncate_call names.now size))) }
     ensures only_memory { IsOkUnless result OutOfMemory }
 {
     let mut reads = Vec::new(alloc);

@@ -2,7 +2,7 @@
 ghost use Rattle.std.specs.Prelude.{◌≡◌, ◌≤◌, IfOk, IsOkUnless, None, OnErr, [], length};
 ghost use Rattle.std.specs.FinMap as map;
 ghost use Rattle.assise_inode_plan.specs.Leased.{NotesAVisit};
-ghost use Rattle.assise_inode_plan.specs.Planning.{Answers, IsWritable, changed_plan_of, effects_planned, plan_of, shown, visited_plan_of};
+ghost use Rattle.assise_inode_plan.specs.Planning.{PlanAnswers, IsWritable, changed_plan_of, effects_planned, plan_of, shown, visited_plan_of};
 ghost use Rattle.assise_inode_plan.specs.Walking.{plan_from};
 ghost use Rattle.assise_inode_table.specs.Calls.{interaction, step};
 ghost use Rattle.assise_inode_table.specs.Contents.{Values, values};
@@ -74,7 +74,7 @@ pub enum Planned {
 /// - [`Op::Rmdir`]: the root is [`TreeError::Invalid`]; the walk as for [`Op::Unlink`]; a file is
 ///   [`TreeError::NotDir`]; a directory with entries is [`TreeError::NotEmpty`]. The effects are as those of
 ///   [`Op::Unlink`].
-/// - [`Op::List`]: the walk; a file is [`TreeError::NotDir`]. The names rise by their bytes.
+/// - [`Op::List`]: the walk; a file is [`TreeError::NotDir`]. The names ascend by their bytes.
 /// - [`Op::Stat`]: the walk.
 /// - [`Op::Fsync`], [`Op::Dsync`]: no check, no visit and no effect; it is done.
 ///
@@ -84,14 +84,17 @@ pub enum Planned {
 /// [`apply_all`](assise_inode_table::whole::apply_all)).
 pub fn plan<V: View>(alloc: Global, view: &V, op: &Op, fresh: u64) -> Result<Planned, Refusal>
     requires one_write { IsWritable op.now }
-    ensures exact { IfOk result (λ p. shown p ≡ plan_of (V.leased view.now) (step (values (V.contents view.now)) op.now fresh)) }
+    ensures exact { IfOk result (λ p. shown p ≡ plan_of (V.leased view.now)
+        (step (values (V.contents view.now)) op.now fresh)) }
 
     // Over inodes that spell a tree the reply is the tree's, and after the effects they spell the tree after the call.
-    ensures answers { (t : Tree) → Spells (values (V.contents view.now)) t → map.get (V.contents view.now) fresh ≡ None
-        → IfOk result (λ p. Answers (values (V.contents view.now)) (answer t op.now) (shown p)) }
+    ensures answers { (t : Tree) → Spells (values (V.contents view.now)) t →
+        map.get (V.contents view.now) fresh ≡ None →
+        IfOk result (λ p. PlanAnswers (values (V.contents view.now)) (answer t op.now) (shown p)) }
     ensures few_effects { IfOk result (λ p. length (effects_planned (shown p)) ≤ 4) }
     ensures whole { IfOk result (λ p. CanBeMadeWhole (effects_planned (shown p))) }
-    ensures asked { OnErr result (NotesAVisit (V.leased view.now) (step (values (V.contents view.now)) op.now fresh).visits) }
+    ensures asked { OnErr result (NotesAVisit (V.leased view.now)
+        (step (values (V.contents view.now)) op.now fresh).visits) }
     ensures only_memory { IsOkUnless result OutOfMemory }
 {
     let planned = plan_by_visits(alloc, view, op, fresh)?;
@@ -112,14 +115,17 @@ pub fn plan_by_visits<V: View>(
     fresh: u64,
 ) -> Result<Planned, Refusal>
     requires one_write { IsWritable op.now }
-    ensures exact { IfOk result (λ p. shown p ≡ visited_plan_of (V.leased view.now) (step (values (V.contents view.now)) op.now fresh)) }
+    ensures exact { IfOk result (λ p. shown p ≡ visited_plan_of (V.leased view.now)
+        (step (values (V.contents view.now)) op.now fresh)) }
 
     // Over inodes that spell a tree the reply is the tree's, and after the effects they spell the tree after the call.
-    ensures answers { (t : Tree) → Spells (values (V.contents view.now)) t → map.get (V.contents view.now) fresh ≡ None
-        → IfOk result (λ p. Answers (values (V.contents view.now)) (answer t op.now) (shown p)) }
+    ensures answers { (t : Tree) → Spells (values (V.contents view.now)) t →
+        map.get (V.contents view.now) fresh ≡ None →
+        IfOk result (λ p. PlanAnswers (values (V.contents view.now)) (answer t op.now) (shown p)) }
     ensures few_effects { IfOk result (λ p. length (effects_planned (shown p)) ≤ 4) }
     ensures whole { IfOk result (λ p. CanBeMadeWhole (effects_planned (shown p))) }
-    ensures asked { OnErr result (NotesAVisit (V.leased view.now) (step (values (V.contents view.now)) op.now fresh).visits) }
+    ensures asked { OnErr result (NotesAVisit (V.leased view.now)
+        (step (values (V.contents view.now)) op.now fresh).visits) }
     ensures only_memory { IsOkUnless result OutOfMemory }
 {
     plan_call(alloc, view, op, fresh)
@@ -141,8 +147,10 @@ fn plan_changes<V: View>(view: &V, planned: Planned) -> Planned
 /// Plans a call from its first visit on.
 fn plan_call<V: View>(alloc: Global, view: &V, op: &Op, fresh: u64) -> Result<Planned, Refusal>
     requires one_write { IsWritable op.now }
-    ensures exact { IfOk result (λ p. shown p ≡ plan_from (V.leased view.now) (values (V.contents view.now)) [] (interaction op.now fresh)) }
-    ensures asked { OnErr result (NotesAVisit (V.leased view.now) (visits_of (values (V.contents view.now)) (interaction op.now fresh))) }
+    ensures exact { IfOk result (λ p. shown p ≡ plan_from (V.leased view.now)
+        (values (V.contents view.now)) [] (interaction op.now fresh)) }
+    ensures asked { OnErr result (NotesAVisit (V.leased view.now)
+        (visits_of (values (V.contents view.now)) (interaction op.now fresh))) }
     ensures only_memory { IsOkUnless result OutOfMemory }
 {
     match op {

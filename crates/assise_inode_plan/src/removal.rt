@@ -25,8 +25,10 @@ pub(crate) fn plan_unlink<V: View>(
     view: &V,
     names: &[Name],
 ) -> Result<Planned, Refusal>
-    ensures exact { IfOk result (λ p. shown p ≡ plan_from (V.leased view.now) (values (V.contents view.now)) [] (unlink_call names.now)) }
-    ensures asked { OnErr result (NotesAVisit (V.leased view.now) (visits_of (values (V.contents view.now)) (unlink_call names.now))) }
+    ensures exact { IfOk result (λ p. shown p ≡ plan_from (V.leased view.now)
+        (values (V.contents view.now)) [] (unlink_call names.now)) }
+    ensures asked { OnErr result (NotesAVisit (V.leased view.now)
+        (visits_of (values (V.contents view.now)) (unlink_call names.now))) }
     ensures only_memory { IsOkUnless result OutOfMemory }
 {
     let mut reads = Vec::new(alloc);
@@ -50,8 +52,10 @@ pub(crate) fn plan_rmdir<V: View>(
     view: &V,
     names: &[Name],
 ) -> Result<Planned, Refusal>
-    ensures exact { IfOk result (λ p. shown p ≡ plan_from (V.leased view.now) (values (V.contents view.now)) [] (rmdir_call names.now)) }
-    ensures asked { OnErr result (NotesAVisit (V.leased view.now) (visits_of (values (V.contents view.now)) (rmdir_call names.now))) }
+    ensures exact { IfOk result (λ p. shown p ≡ plan_from (V.leased view.now)
+        (values (V.contents view.now)) [] (rmdir_call names.now)) }
+    ensures asked { OnErr result (NotesAVisit (V.leased view.now)
+        (visits_of (values (V.contents view.now)) (rmdir_call names.now))) }
     ensures only_memory { IsOkUnless result OutOfMemory }
 {
     let mut reads = Vec::new(alloc);
@@ -80,7 +84,8 @@ pub(crate) fn removal_effects(
     name: &Name,
     inode: u64,
 ) -> Result<Vec<Effect>, Refusal>
-    ensures effects { IfOk result (λ effects. effects.items ≡ Unlink directory name.now ∷ Free inode ∷ []) }
+    ensures effects { IfOk result (λ effects. effects.items ≡
+        Unlink directory name.now ∷ Free inode ∷ []) }
     ensures only_memory { IsOkUnless result OutOfMemory }
 {
     let mut effects = Vec::with_capacity(alloc, 2)?;

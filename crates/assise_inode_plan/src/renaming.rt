@@ -5,7 +5,7 @@ ghost use Rattle.assise_inode_plan.specs.Moving.{effects_of_move};
 ghost use Rattle.assise_inode_plan.specs.Leased.{NotesAVisit};
 ghost use Rattle.assise_inode_plan.specs.Planning.{shown};
 ghost use Rattle.assise_inode_plan.specs.Walking.{plan_from};
-ghost use Rattle.assise_inode_table.specs.Calls.{may_replace, move_to, receive, rename_call, replace_target};
+ghost use Rattle.assise_inode_table.specs.Calls.{content_may_replace, move_to, receive, rename_call, replace_target};
 ghost use Rattle.assise_inode_table.specs.Contents.{values};
 ghost use Rattle.assise_inode_table.specs.Interaction.{visits_of};
 ghost use Rattle.assise_names.specs.declared.refusal.Refusal.TheVariants.{OutOfMemory};
@@ -45,8 +45,10 @@ pub(crate) fn plan_rename<V: View>(
     from: &Path,
     to: &Path,
 ) -> Result<Planned, Refusal>
-    ensures exact { IfOk result (λ p. shown p ≡ plan_from (V.leased view.now) (values (V.contents view.now)) [] (rename_call from.now to.now)) }
-    ensures asked { OnErr result (NotesAVisit (V.leased view.now) (visits_of (values (V.contents view.now)) (rename_call from.now to.now))) }
+    ensures exact { IfOk result (λ p. shown p ≡ plan_from (V.leased view.now)
+        (values (V.contents view.now)) [] (rename_call from.now to.now)) }
+    ensures asked { OnErr result (NotesAVisit (V.leased view.now)
+        (visits_of (values (V.contents view.now)) (rename_call from.now to.now))) }
     ensures only_memory { IsOkUnless result OutOfMemory }
 {
     let mut reads = Vec::new(alloc);
@@ -74,7 +76,8 @@ fn plan_move<V: View>(
 ) -> Result<Planned, Refusal>
     requires from { 0 < length from.now }
     requires to { 0 < length to.now }
-    ensures exact { IfOk result (λ p. shown p ≡ plan_from (V.leased view.now) (values (V.contents view.now)) reads.items
+    ensures exact { IfOk result (λ p. shown p ≡ plan_from (V.leased view.now)
+        (values (V.contents view.now)) reads.items
         (move_to from.now to.now entry.now.directory entry.now.inode entry.now.content.now)) }
     ensures only_memory { IsOkUnless result OutOfMemory }
 {
@@ -110,8 +113,11 @@ fn plan_receiving<V: View>(
     links: &Directory,
     reads: Vec<u64>,
 ) -> Result<Planned, Refusal>
-    ensures exact { IfOk result (λ p. shown p ≡ plan_from (V.leased view.now) (values (V.contents view.now)) reads.items
-        (receive moving.now.from.content.now stays moving.now.directory links.now moving.now.new_name.now (effects_of_move moving.now) (map.get links.now moving.now.new_name.now))) }
+    ensures exact { IfOk result (λ p. shown p ≡ plan_from (V.leased view.now)
+        (values (V.contents view.now)) reads.items
+        (receive moving.now.from.content.now stays moving.now.directory links.now
+        moving.now.new_name.now (effects_of_move moving.now)
+        (map.get links.now moving.now.new_name.now))) }
     ensures only_memory { IsOkUnless result OutOfMemory }
 {
     if let Some(target) = links.get(moving.new_name) {
@@ -133,8 +139,10 @@ fn plan_replacing<V: View>(
     target: u64,
     mut reads: Vec<u64>,
 ) -> Result<Planned, Refusal>
-    ensures exact { IfOk result (λ p. shown p ≡ plan_from (V.leased view.now) (values (V.contents view.now)) reads.items
-        (replace_target moving.now.from.content.now moving.now.directory moving.now.new_name.now (effects_of_move moving.now) target)) }
+    ensures exact { IfOk result (λ p. shown p ≡ plan_from (V.leased view.now)
+        (values (V.contents view.now)) reads.items
+        (replace_target moving.now.from.content.now moving.now.directory moving.now.new_name.now
+        (effects_of_move moving.now) target)) }
     ensures only_memory { IsOkUnless result OutOfMemory }
 {
     let replaced = match reach(view, target, &mut reads)? {
@@ -152,7 +160,7 @@ fn plan_replacing<V: View>(
 /// Whether an inode may take the place of another: a file that of a file, and a directory that of a directory without
 /// entries.
 fn may_replace(moved: &Inode, target: &Inode) -> Result<(), TreeError>
-    ensures { result ≡ may_replace moved.now target.now }
+    ensures { result ≡ content_may_replace moved.now target.now }
 {
     if moved.file().is_ok() {
         target.file()?;
@@ -167,7 +175,8 @@ fn may_replace(moved: &Inode, target: &Inode) -> Result<(), TreeError>
 
 /// Appends what moves an entry: it is taken out of its directory, and then it is an entry of the other.
 fn push_move(effects: &mut Vec<Effect>, moving: &Move) -> Result<(), Refusal>
-    ensures moved { OnOk result (effects.new.items ≡ effects.old.items ++ effects_of_move moving.now) }
+    ensures moved { OnOk result (effects.new.items ≡ effects.old.items ++
+        effects_of_move moving.now) }
     ensures only_memory { IsOkUnless result OutOfMemory }
 {
     effects.push(Effect::Unlink {

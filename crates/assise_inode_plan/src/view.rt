@@ -1,7 +1,7 @@
 // Inodes of which some are leased.
 ghost use Rattle.std.specs.Prelude.{◌≡◌, MatchOption, None, Some, option_copied, true};
 ghost use Rattle.std.specs.FinMap as map;
-ghost use Rattle.assise_inode_plan.specs.Leased.{Leases, first_missing, for_writing};
+ghost use Rattle.assise_inode_plan.specs.Leased.{LeaseView, first_missing, for_writing};
 ghost use Rattle.assise_inode_table.specs.Effects.{touched};
 ghost use Rattle.assise_names.specs.declared.mode.Mode.TheVariants.{Read, Write};
 
@@ -13,7 +13,7 @@ use assise_record::effect::Effect;
 /// Inodes as a client sees them, with its leases. A contract sees the finite map of all inodes, and which of them are
 /// leased, and how.
 pub trait View: Inodes {
-    ghost leased: { Self → Leases };
+    ghost leased: { Self → LeaseView };
 
     /// Whether the inode is leased so.
     fn leases(&self, inode: u64, mode: Mode) -> bool
@@ -30,9 +30,10 @@ pub(crate) fn look_at<V: View>(view: &V, inode: u64) -> Option<&Inode>
 
 /// The first inode that effects change, in their order, and that isn't leased for writing.
 pub fn first_unleased<V: View>(view: &V, effects: &[Effect]) -> Option<u64>
-    ensures { MatchOption result
-        (first_missing (V.leased view.now) (for_writing (touched effects.now)) ≡ None)
-        (λ inode. first_missing (V.leased view.now) (for_writing (touched effects.now)) ≡ Some (inode, Write)) }
+    ensures { MatchOption result (first_missing (V.leased view.now)
+        (for_writing (touched effects.now)) ≡ None)
+        (λ inode. first_missing (V.leased view.now) (for_writing (touched effects.now)) ≡ Some
+        (inode, Write)) }
 {
     for effect in effects {
         let inode = effect.touches();

@@ -45,11 +45,12 @@ pub(crate) fn walk<'a, V: View>(
     names: &[Name],
     reads: &mut Vec<u64>,
 ) -> Result<Result<(u64, &'a Inode), Stop>, Refusal>
-    ensures left { IfOk result (λ end. (next : ℕ → Content → Interaction) → MatchResult end
-        (λ r. plan_from (V.leased view.now) (values (V.contents view.now)) reads.old.items (walk names.now next)
-        ≡ plan_from (V.leased view.now) (values (V.contents view.now)) reads.new.items (next r.0 r.1.now))
-        (λ stop. plan_from (V.leased view.now) (values (V.contents view.now)) reads.old.items (walk names.now next)
-        ≡ plan_stopped reads.new.items stop)) }
+    ensures left { IfOk result (λ end. (next : ℕ → Content → Interaction) →
+        MatchResult end (λ r. plan_from (V.leased view.now)
+        (values (V.contents view.now)) reads.old.items (walk names.now next) ≡ plan_from
+        (V.leased view.now) (values (V.contents view.now)) reads.new.items (next r.0 r.1.now))
+        (λ stop. plan_from (V.leased view.now) (values (V.contents view.now)) reads.old.items
+        (walk names.now next) ≡ plan_stopped reads.new.items stop)) }
     ensures seen { IfOk result (λ end. IfOk end (λ _. V.leased view.now 0 Read ≡ true)) }
     ensures asked { OnErr result (V.leased view.now 0 Read ≡ true) }
     ensures only_memory { IsOkUnless result OutOfMemory }
@@ -78,11 +79,13 @@ pub(crate) fn walk_to_entry<'a, V: View>(
     name: &Name,
     reads: &mut Vec<u64>,
 ) -> Result<Result<Entry<'a>, Stop>, Refusal>
-    ensures left { IfOk result (λ end. (next : ℕ → ℕ → Content → Interaction) → MatchResult end
-        (λ e. plan_from (V.leased view.now) (values (V.contents view.now)) reads.old.items (walk_to_entry parent.now name.now next)
-        ≡ plan_from (V.leased view.now) (values (V.contents view.now)) reads.new.items (next e.directory e.inode e.content.now))
-        (λ stop. plan_from (V.leased view.now) (values (V.contents view.now)) reads.old.items (walk_to_entry parent.now name.now next)
-        ≡ plan_stopped reads.new.items stop)) }
+    ensures left { IfOk result (λ end. (next : ℕ → ℕ → Content → Interaction) →
+        MatchResult end (λ e. plan_from (V.leased view.now)
+        (values (V.contents view.now)) reads.old.items (walk_to_entry parent.now name.now next) ≡
+        plan_from (V.leased view.now) (values (V.contents view.now)) reads.new.items
+        (next e.directory e.inode e.content.now))
+        (λ stop. plan_from (V.leased view.now) (values (V.contents view.now)) reads.old.items
+        (walk_to_entry parent.now name.now next) ≡ plan_stopped reads.new.items stop)) }
     ensures seen { IfOk result (λ end. IfOk end (λ _. V.leased view.now 0 Read ≡ true)) }
     ensures asked { OnErr result (V.leased view.now 0 Read ≡ true) }
     ensures only_memory { IsOkUnless result OutOfMemory }
@@ -111,11 +114,12 @@ pub(crate) fn reach<'a, V: View>(
     inode: u64,
     reads: &mut Vec<u64>,
 ) -> Result<Result<&'a Inode, Stop>, Refusal>
-    ensures left { IfOk result (λ end. (next : ℕ → Content → Interaction) → MatchResult end
-        (λ r. plan_from (V.leased view.now) (values (V.contents view.now)) reads.old.items (walk_from inode [] next)
-        ≡ plan_from (V.leased view.now) (values (V.contents view.now)) reads.new.items (next inode r.now))
-        (λ stop. plan_from (V.leased view.now) (values (V.contents view.now)) reads.old.items (walk_from inode [] next)
-        ≡ plan_stopped reads.new.items stop)) }
+    ensures left { IfOk result (λ end. (next : ℕ → Content → Interaction) →
+        MatchResult end (λ r. plan_from (V.leased view.now)
+        (values (V.contents view.now)) reads.old.items (walk_from inode [] next) ≡ plan_from
+        (V.leased view.now) (values (V.contents view.now)) reads.new.items (next inode r.now))
+        (λ stop. plan_from (V.leased view.now) (values (V.contents view.now)) reads.old.items
+        (walk_from inode [] next) ≡ plan_stopped reads.new.items stop)) }
     ensures seen { IfOk result (λ end. IfOk end (λ _. V.leased view.now inode Read ≡ true)) }
     ensures asked { OnErr result (V.leased view.now inode Read ≡ true) }
     ensures only_memory { IsOkUnless result OutOfMemory }
@@ -133,11 +137,13 @@ fn visit<'a, V: View>(
     inode: u64,
     reads: &mut Vec<u64>,
 ) -> Result<Result<Option<&'a Inode>, Stop>, Refusal>
-    ensures left { IfOk result (λ end. (next : Option Content → Interaction) → MatchResult end
-        (λ value. plan_from (V.leased view.now) (values (V.contents view.now)) reads.old.items (visit inode next)
-        ≡ plan_from (V.leased view.now) (values (V.contents view.now)) reads.new.items (next (option_copied value)))
-        (λ stop. plan_from (V.leased view.now) (values (V.contents view.now)) reads.old.items (visit inode next)
-        ≡ plan_stopped reads.new.items stop)) }
+    ensures left { IfOk result (λ end. (next : Option Content → Interaction) →
+        MatchResult end (λ value. plan_from (V.leased view.now)
+        (values (V.contents view.now)) reads.old.items (visit inode next) ≡ plan_from
+        (V.leased view.now) (values (V.contents view.now)) reads.new.items
+        (next (option_copied value))) (λ stop. plan_from (V.leased view.now)
+        (values (V.contents view.now)) reads.old.items (visit inode next) ≡
+        plan_stopped reads.new.items stop)) }
     ensures seen { IfOk result (λ end. IfOk end (λ _. V.leased view.now inode Read ≡ true)) }
     ensures asked { OnErr result (V.leased view.now inode Read ≡ true) }
     ensures only_memory { IsOkUnless result OutOfMemory }

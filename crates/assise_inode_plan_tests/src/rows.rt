@@ -12,7 +12,7 @@ use assise_inode_table::table::InodeTable;
 use assise_names::call::Op;
 use assise_names::refusal::Refusal;
 use assise_record::effect::MOST_EXTENT_BYTES;
-use assise_rows::{Subject, wrong_rows};
+use assise_test_rows::{Subject, wrong_rows};
 use std::alloc::{AllocError, Global};
 use std::process::Abort;
 

@@ -25,7 +25,7 @@ stat /g => file 0 [0, 4294967297]
 stat / => dir 2 [0]
 ";
 
-/// An entry that is there is not visited by a mkdir; the names of a list rise.
+/// An entry that is there is not visited by a mkdir; the names of a list ascend.
 const DIRECTORIES: &str = "\
 mkdir / => E2 Exists []
 mkdir /d/f => E1 NoEnt [0]

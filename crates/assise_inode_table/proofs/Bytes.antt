@@ -3,8 +3,8 @@ use Rattle.std.proofs.Common.{◌≡◌, ℕ, zero, suc, ◌+◌, ◌-◌, ◌<�
 use Rattle.std.proofs.lemmas.Bool.{cases_lt}
 use Rattle.std.proofs.lemmas.List.{length-take}
 use Rattle.assise_seq_tree.specs.Contents.{overwritten, resized}
-use Rattle.assise_seq_tree.proofs.Reading.{length-overwritten}
-use Rattle.assise_seq_tree.proofs.Resizing.{length-resized}
+use Rattle.assise_seq_tree.proofs.BytesRead.{length-overwritten}
+use Rattle.assise_seq_tree.proofs.FileResized.{length-resized}
 
 abbrev pub byte : List ℕ → ℕ → ℕ
 byte [] p = 0

@@ -4,7 +4,7 @@ use Rattle.std.specs.Prelude.{ok_or}
 use Rattle.std.specs.List.{list_any}
 use Rattle.std.specs.FinMap as map
 use Rattle.std.proofs.lemmas.Bool.{eqb-true}
-use Rattle.assise_names.specs.Path.{is_proper_front, same_path}
+use Rattle.assise_names.specs.Path.{is_proper_prefix, same_path}
 use Rattle.assise_names.specs.declared.call.Op.{Op}
 use Rattle.assise_names.specs.declared.call.Op.TheVariants.{Create, Mkdir, Read, Write as WriteCall, Truncate, Rename, Unlink as UnlinkCall, Rmdir, List as ListCall, Stat, Fsync, Dsync}
 use Rattle.assise_names.specs.declared.reply.Reply.{Reply}
@@ -15,7 +15,7 @@ use Rattle.assise_record.specs.declared.effect.Effect.{Effect}
 use Rattle.assise_record.specs.declared.effect.Effect.TheVariants.{NewFile, NewDir, Write, SetLen, Link, Unlink, Free}
 use Rattle.assise_seq_tree.specs.Answer.{parent_of, last_name}
 use Rattle.assise_seq_tree.specs.Contents.{bytes_from, is_within}
-use Rattle.assise_inode_table.specs.Calls.{then_or_error, walk_from, walk_to_entry, as_regular, as_links, room_among, vacant, may_replace, description_of, room_beside, receive, move_effects, make_call, write_effects, interaction, step}
+use Rattle.assise_inode_table.specs.Calls.{then_or_error, walk_from, walk_to_entry, as_regular, as_links, room_among, without_links, content_may_replace, stat_reply, room_beside, receive, move_effects, make_call, write_effects, interaction, step}
 use Rattle.assise_inode_table.specs.Contents.{Content, Links, Values}
 use Rattle.assise_inode_table.specs.Effects.{makes}
 use Rattle.assise_inode_table.specs.Interaction.{Interaction, finish, reply_of, effects_of}
@@ -35,7 +35,7 @@ HoldsWhereDone P (Rename p q) fresh =
 HoldsWhereDone P (UnlinkCall p) fresh = (d i : ℕ) → P Done (Unlink d (last_name p) ∷ Free i ∷ [])
 HoldsWhereDone P (Rmdir p) fresh = (d i : ℕ) → P Done (Unlink d (last_name p) ∷ Free i ∷ [])
 HoldsWhereDone P (ListCall p) fresh = (names : List (List ℕ)) → P (Names names) []
-HoldsWhereDone P (Stat p) fresh = (content : Content) → P (description_of content) []
+HoldsWhereDone P (Stat p) fresh = (content : Content) → P (stat_reply content) []
 HoldsWhereDone P Fsync fresh = P Done []
 HoldsWhereDone P Dsync fresh = P Done []
 
@@ -69,13 +69,13 @@ module _ (v : Values) (P : Reply → List Effect → Type 0) (faults : (e : Tree
       Ends (receive moved stays e links new moves o)
   received moved stays e links new moves None h k = or_error (room_beside stays links) _ (λ _. h)
   received moved stays e links new moves (Some g) h k =
-      walked g [] (λ j target. then_or_error (may_replace moved target) (λ _. finish Done (Unlink e new ∷ Free j ∷ moves)))
-      (λ j target. or_error (may_replace moved target) _ (λ _. k j))
+      walked g [] (λ j target. then_or_error (content_may_replace moved target) (λ _. finish Done (Unlink e new ∷ Free j ∷ moves)))
+      (λ j target. or_error (content_may_replace moved target) _ (λ _. k j))
 
   renamed : (p q : List (List ℕ)) (fresh : ℕ) → HoldsWhereDone P (Rename p q) fresh → Ends (interaction (Rename p q) fresh)
   renamed p q fresh h =
       chosen ((length p == 0) || (length q == 0)) _ _ (faults Invalid)
-      (chosen (is_proper_front p q) _ _ (faults Invalid)
+      (chosen (is_proper_prefix p q) _ _ (faults Invalid)
       (walked_to_entry _ _ _ (λ d i content. walked 0 _ _ (λ e goal. or_error (as_links goal) _ (λ links.
       chosen (same_path p q) _ _ h.0 (received content (same_path (parent_of p) (parent_of q)) e links (last_name q) (move_effects d (last_name p) e (last_name q) i) (map.get links (last_name q)) (h.1 d e i) (λ g. h.2 d e i g)))))))
 
@@ -91,7 +91,7 @@ module _ (v : Values) (P : Reply → List Effect → Type 0) (faults : (e : Tree
       (walked_to_entry _ _ _ (λ d i content. or_error (as_regular content) _ (λ _. h d i)))
   call_ends (Rmdir p) fresh h =
       chosen (length p == 0) _ _ (faults Invalid)
-      (walked_to_entry _ _ _ (λ d i content. or_error (as_links content) _ (λ links. or_error (vacant links) _ (λ _. h d i))))
+      (walked_to_entry _ _ _ (λ d i content. or_error (as_links content) _ (λ links. or_error (without_links links) _ (λ _. h d i))))
   call_ends (ListCall p) fresh h = walked 0 p _ (λ i content. or_error (as_links content) _ (λ links. h (map.keys links)))
   call_ends (Stat p) fresh h = walked 0 p _ (λ i content. h content)
   call_ends Fsync fresh h = h

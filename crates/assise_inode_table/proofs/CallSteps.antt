@@ -9,8 +9,8 @@ use Rattle.assise_inode_table.specs.Contents.{Values}
 use Rattle.assise_inode_table.specs.Effects.{after, makes}
 use Rattle.assise_inode_table.specs.Calls.{interaction, step}
 use Rattle.assise_inode_table.specs.Spelled.{Spells}
-use Rattle.assise_inode_table.proofs.Agreeing.{Agrees}
-use Rattle.assise_inode_table.proofs.Meeting.{settled}
+use Rattle.assise_inode_table.proofs.CallsAgree.{Agrees}
+use Rattle.assise_inode_table.proofs.WalkMeets.{settled}
 use Rattle.assise_inode_table.proofs.QuietCalls.{stat_agrees, read_agrees, list_agrees, sync_agrees}
 use Rattle.assise_inode_table.proofs.WritingCalls.{write_agrees, truncate_agrees}
 use Rattle.assise_inode_table.proofs.MakingCalls.{create_agrees, mkdir_agrees}

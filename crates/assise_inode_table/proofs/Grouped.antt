@@ -4,12 +4,12 @@ use Rattle.std.proofs.lemmas.Bool.{eqb-true}
 use Rattle.assise_record.specs.Groups.{AreGroups, all_records, all_coalesced, are_whole, were, coalesced_group}
 use Rattle.assise_record.specs.LogRecord.{LogRecord}
 use Rattle.assise_record.specs.Records.{all_effects}
-use Rattle.assise_record.proofs.Grouping.{group-effects}
+use Rattle.assise_record.proofs.GroupRest.{group-effects}
 use Rattle.assise_record.proofs.Records.{all_effects-append}
-use Rattle.assise_record.proofs.WholeGroups.{ends, part, part_none, part_past, part_from, were-none, were-past, were-rises, whole_none}
+use Rattle.assise_record.proofs.WholeGroups.{ends, part, part_none, part_past, part_from, were-none, were-past, were-ascends, whole_none}
 use Rattle.assise_inode_table.specs.Effects.{value_after, contains, touched, SameNetEffect}
-use Rattle.assise_inode_table.proofs.Making.{contains-both, value_after-append}
-use Rattle.assise_inode_table.proofs.Overriding.{same_net, same_touch}
+use Rattle.assise_inode_table.proofs.EffectValues.{contains-both, value_after-append}
+use Rattle.assise_inode_table.proofs.EffectOverrides.{same_net, same_touch}
 
 pub record ComeToSame (rs qs : List LogRecord) : Type 0 where
   pub net : SameNetEffect (all_effects rs) (all_effects qs)
@@ -80,7 +80,7 @@ parts_same (g ∷ gs) j k h bj bk le =
                 let sum_k : (length g + were gs (k - a)) - length g ≡ were gs (k - a) = omega arith in
                 let right : part (all_records (g ∷ gs)) (were (g ∷ gs) j) (were (g ∷ gs) k) ≡ part (all_records gs) (were gs (j - a)) (were gs (k - a)) =
                 ap (λ x. part (all_records (g ∷ gs)) x (were (g ∷ gs) k)) old_j ∙ ap (λ x. part (all_records (g ∷ gs)) (length g + were gs (j - a)) x) old_k
-                ∙ part_past g (all_records gs) (length g + were gs (j - a)) (length g + were gs (k - a)) (omega arith) (omega (arith, were-rises gs (j - a) (k - a) (omega (arith, le))))
+                ∙ part_past g (all_records gs) (length g + were gs (j - a)) (length g + were gs (k - a)) (omega arith) (omega (arith, were-ascends gs (j - a) (k - a) (omega (arith, le))))
                 ∙ ap (λ x. part (all_records gs) x ((length g + were gs (k - a)) - length g)) sum_j ∙ ap (λ x. part (all_records gs) (were gs (j - a)) x) sum_k in
                 subst (λ rs. ComeToSame rs (part (all_records (g ∷ gs)) (were (g ∷ gs) j) (were (g ∷ gs) k))) (sym left)
                 (subst (λ rs. ComeToSame (part (all_coalesced gs) (j - a) (k - a)) rs) (sym right) t)

@@ -5,41 +5,41 @@ use Rattle.std.proofs.lemmas.Bool.Decides.{nat_tests}
 use Rattle.assise_inode_table.specs.Contents.{Content, Values}
 use Rattle.assise_inode_table.specs.Effects.{touched, value_after, contains}
 use Rattle.assise_inode_table.specs.Interaction.{Step}
-use Rattle.assise_inode_table.specs.Traces.{NumberedCall, trace, Each, Rises, below, window}
+use Rattle.assise_inode_table.specs.Traces.{NumberedCall, trace, Each, NumbersAscend, below, window}
 use Rattle.assise_inode_table.specs.Unseen.{Clear, Unseen}
-use Rattle.assise_inode_table.specs.Late.{value_of, Quiet, NoneBetween, raised}
-use Rattle.assise_inode_table.proofs.Making.{untouched}
-use Rattle.assise_inode_table.proofs.Pairing.{each-both, clear_not, clear-right, RisesAlong, rises_along}
+use Rattle.assise_inode_table.specs.Late.{late_value, Quiet, NoneBetween, raised_at}
+use Rattle.assise_inode_table.proofs.EffectValues.{untouched}
+use Rattle.assise_inode_table.proofs.PairwiseLists.{each-both, clear_not, clear-right, AscendsAlong, ascends_along}
 
 abbrev Test : Type 0
 Test = NumberedCall → Bool
 
 -- an inode that no step whose call passes touches keeps its value
-quiet_value : (passes : Test) (i : ℕ) (old : Option Content) (xs : List (NumberedCall × Step)) → Quiet passes i xs → value_of passes i old xs ≡ old
+quiet_value : (passes : Test) (i : ℕ) (old : Option Content) (xs : List (NumberedCall × Step)) → Quiet passes i xs → late_value passes i old xs ≡ old
 quiet_value passes i old [] q = refl
 quiet_value passes i old (x ∷ xs) q =
-    elim (passes x.0) as (λ b. (b ≡ true → contains (touched x.1.effects) i ≡ false) → value_of passes i (if b then value_after i old x.1.effects else old) xs ≡ old) [
+    elim (passes x.0) as (λ b. (b ≡ true → contains (touched x.1.effects) i ≡ false) → late_value passes i (if b then value_after i old x.1.effects else old) xs ≡ old) [
       | true ↦ λ h. rw (untouched i old x.1.effects (h refl)) (quiet_value passes i old xs q.1)
       | false ↦ λ h. quiet_value passes i old xs q.1
     ] q.0
 
 pub late : (early later : Test) (i : ℕ) (old : Option Content) (xs : List (NumberedCall × Step)) → NoneBetween early later i xs →
-    value_of (λ x. early x || later x) i old xs ≡ value_of later i (value_of early i old xs) xs
+    late_value (λ x. early x || later x) i old xs ≡ late_value later i (late_value early i old xs) xs
 late early later i old [] h = refl
 late early later i old (x ∷ xs) h =
     let w : Option Content = value_after i old x.1.effects in
     elim (later x.0) as (λ b.
     (b ≡ true → (early x.0 ≡ false) × (contains (touched x.1.effects) i ≡ true → Quiet early i xs)) →
-    value_of (λ c. early c || later c) i (if early x.0 || b then w else old) xs
-    ≡ value_of later i (if b then value_after i (value_of early i (if early x.0 then w else old) xs) x.1.effects else value_of early i (if early x.0 then w else old) xs) xs) [
+    late_value (λ c. early c || later c) i (if early x.0 || b then w else old) xs
+    ≡ late_value later i (if b then value_after i (late_value early i (if early x.0 then w else old) xs) x.1.effects else late_value early i (if early x.0 then w else old) xs) xs) [
       | true ↦ λ p.
-          subst (λ k. value_of (λ c. early c || later c) i (if k || true then w else old) xs ≡ value_of later i (value_after i (value_of early i (if k then w else old) xs) x.1.effects) xs) (sym (p refl).0)
-          (elim (contains (touched x.1.effects) i) as (λ b. contains (touched x.1.effects) i ≡ b → (b ≡ true → Quiet early i xs) → value_of (λ c. early c || later c) i w xs ≡ value_of later i (value_after i (value_of early i old xs) x.1.effects) xs) [
-            | true ↦ λ e q. rw (quiet_value early i old xs (q refl)) (late early later i w xs h.1 ∙ ap (λ u. value_of later i u xs) (quiet_value early i w xs (q refl)))
-            | false ↦ λ e q. rw (untouched i old x.1.effects e, untouched i (value_of early i old xs) x.1.effects e) (late early later i old xs h.1)
+          subst (λ k. late_value (λ c. early c || later c) i (if k || true then w else old) xs ≡ late_value later i (value_after i (late_value early i (if k then w else old) xs) x.1.effects) xs) (sym (p refl).0)
+          (elim (contains (touched x.1.effects) i) as (λ b. contains (touched x.1.effects) i ≡ b → (b ≡ true → Quiet early i xs) → late_value (λ c. early c || later c) i w xs ≡ late_value later i (value_after i (late_value early i old xs) x.1.effects) xs) [
+            | true ↦ λ e q. rw (quiet_value early i old xs (q refl)) (late early later i w xs h.1 ∙ ap (λ u. late_value later i u xs) (quiet_value early i w xs (q refl)))
+            | false ↦ λ e q. rw (untouched i old x.1.effects e, untouched i (late_value early i old xs) x.1.effects e) (late early later i old xs h.1)
           ] refl (p refl).1)
       | false ↦ λ p.
-          elim (early x.0) as (λ k. value_of (λ c. early c || later c) i (if k || false then w else old) xs ≡ value_of later i (value_of early i (if k then w else old) xs) xs) [
+          elim (early x.0) as (λ k. late_value (λ c. early c || later c) i (if k || false then w else old) xs ≡ late_value later i (late_value early i (if k then w else old) xs) xs) [
             | true ↦ late early later i w xs h.1
             | false ↦ late early later i old xs h.1
           ]
@@ -47,7 +47,7 @@ late early later i old (x ∷ xs) h =
 
 -- ---- the next calls of a client
 
-pub value-same : (t u : Test) (i : ℕ) (old : Option Content) (xs : List (NumberedCall × Step)) → ((x : NumberedCall) → t x ≡ u x) → value_of t i old xs ≡ value_of u i old xs
+pub value-same : (t u : Test) (i : ℕ) (old : Option Content) (xs : List (NumberedCall × Step)) → ((x : NumberedCall) → t x ≡ u x) → late_value t i old xs ≡ late_value u i old xs
 value-same t u i old [] h = refl
 value-same t u i old (x ∷ xs) h = rw (h x.0) (value-same t u i (if u x.0 then value_after i old x.1.effects else old) xs h)
 
@@ -62,7 +62,7 @@ in_window c a b x e =
     (eqb-true x.client c p.0, leb-true a x.number q.0, ltb-true x.number b q.1)
 
 -- no call below the thresholds comes after one of the window and touches the same inode
-none_between : (a b : ℕ → ℕ) (c k i : ℕ) (xs : List (NumberedCall × Step)) → Unseen a xs → RisesAlong xs → a c ≤ b c → NoneBetween (below b) (window c (b c) k) i xs
+none_between : (a b : ℕ → ℕ) (c k i : ℕ) (xs : List (NumberedCall × Step)) → Unseen a xs → AscendsAlong xs → a c ≤ b c → NoneBetween (below b) (window c (b c) k) i xs
 none_between a b c k i [] u r le = tt
 none_between a b c k i (x ∷ xs) u r le = (
   (λ e.
@@ -75,12 +75,12 @@ none_between a b c k i (x ∷ xs) u r le = (
             (each-both (λ y. a x.0.client ≤ x.0.number → (y.0.client ≡ x.0.client → ⊥) → Clear (touched x.1.effects) (y.1.visits ++ touched y.1.effects))
             (λ y. y.0.client ≡ x.0.client → x.0.number < y.0.number)
             (λ y. below b y.0 ≡ true → contains (touched y.1.effects) i ≡ false) xs
-            (λ y clear rise kept.
+            (λ y clear ascend kept.
             elim (cases_eq y.0.client x.0.client) [
               | inl same ↦
                   let l : y.0.number < b y.0.client = ltb-true y.0.number (b y.0.client) kept in
                   let m : y.0.number < b x.0.client = subst (λ d. y.0.number < b d) same l in
-                  absurd (omega (arith, rise same, m, high))
+                  absurd (omega (arith, ascend same, m, high))
               | inr other ↦ clear_not (touched x.1.effects) (touched y.1.effects) i (clear-right (touched x.1.effects) y.1.visits (touched y.1.effects) (clear unseen other)) t
             ])
             u.0 r.0),
@@ -88,12 +88,12 @@ none_between a b c k i (x ∷ xs) u r le = (
   none_between a b c k i xs u.1 r.1 le,
 )
 
-raised_below : (b : ℕ → ℕ) (c k : ℕ) (x : NumberedCall) → b c ≤ k → below (raised b c k) x ≡ (below b x || window c (b c) k x)
+raised_below : (b : ℕ → ℕ) (c k : ℕ) (x : NumberedCall) → b c ≤ k → below (raised_at b c k) x ≡ (below b x || window c (b c) k x)
 raised_below b c k x h = grind (arith, nat_tests)
 
 -- the next calls of one client, after all others
-pub late_client : (v : Values) (a b : ℕ → ℕ) (c k i : ℕ) (old : Option Content) (xs : List NumberedCall) → Unseen a (trace v xs) → Rises xs → a c ≤ b c → b c ≤ k →
-    value_of (below (raised b c k)) i old (trace v xs) ≡ value_of (window c (b c) k) i (value_of (below b) i old (trace v xs)) (trace v xs)
+pub late_client : (v : Values) (a b : ℕ → ℕ) (c k i : ℕ) (old : Option Content) (xs : List NumberedCall) → Unseen a (trace v xs) → NumbersAscend xs → a c ≤ b c → b c ≤ k →
+    late_value (below (raised_at b c k)) i old (trace v xs) ≡ late_value (window c (b c) k) i (late_value (below b) i old (trace v xs)) (trace v xs)
 late_client v a b c k i old xs u r le up =
-    value-same (below (raised b c k)) (λ x. below b x || window c (b c) k x) i old (trace v xs) (λ x. raised_below b c k x up)
-    ∙ late (below b) (window c (b c) k) i old (trace v xs) (none_between a b c k i (trace v xs) u (rises_along v xs r) le)
+    value-same (below (raised_at b c k)) (λ x. below b x || window c (b c) k x) i old (trace v xs) (λ x. raised_below b c k x up)
+    ∙ late (below b) (window c (b c) k) i old (trace v xs) (none_between a b c k i (trace v xs) u (ascends_along v xs r) le)

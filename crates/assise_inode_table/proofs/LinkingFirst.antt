@@ -13,7 +13,7 @@ use Rattle.assise_seq_tree.proofs.Sets.{same_itself, one_name}
 use Rattle.assise_inode_table.specs.Contents.{Content, regular, directory, Links, InodeMap}
 use Rattle.assise_inode_table.specs.Effects.{TakesAway, all_applied, applied, effect_on, value_after}
 use Rattle.assise_inode_table.specs.Whole.{CanBeChangedWhole, OnlyFirstAsks, OnlyTakeAway, is_link, leaves_entry, takes_away}
-use Rattle.assise_inode_table.proofs.Applying.{append_applied, get-all_applied, same_inodes}
+use Rattle.assise_inode_table.proofs.EffectLists.{append_applied, get-all_applied, same_inodes}
 
 -- ---- the entries of one directory
 
@@ -21,23 +21,23 @@ same_links : (m n : Links) → ((x : List ℕ) → map.get m x ≡ map.get n x) 
 same_links m n same = map.same_map nat_list_cmp_total (map.slice_cmp-IsAntisymmetric map.nat_cmp-IsAntisymmetric) m n same
 
 two_entries : (a b : Bool) (i : ℕ) (o : Option ℕ) → (a ≡ true → b ≡ true → ⊥) → cond a (Some i) (cond b None o) ≡ cond b None (cond a (Some i) o)
-two_entries true true i o apart = absurd (apart refl refl)
-two_entries true false i o apart = refl
-two_entries false b i o apart = refl
+two_entries true true i o disjoint = absurd (disjoint refl refl)
+two_entries true false i o disjoint = refl
+two_entries false b i o disjoint = refl
 
 one_entry : (b : Bool) (i : ℕ) (o : Option ℕ) → cond b (Some i) (cond b None o) ≡ cond b (Some i) o
 one_entry true i o = refl
 one_entry false i o = refl
 
 not_both_names : (x name other : List ℕ) → same_name other name ≡ false → same_name x name ≡ true → same_name x other ≡ true → ⊥
-not_both_names x name other apart a b = let same : same_name other name ≡ true = ap (λ n. same_name n name) (sym (one_name x other b) ∙ one_name x name a) ∙ same_itself name in cc
+not_both_names x name other disjoint a b = let same : same_name other name ≡ true = ap (λ n. same_name n name) (sym (one_name x other b) ∙ one_name x name a) ∙ same_itself name in cc
 
 insert_other : (links : Links) (name other : List ℕ) (i : ℕ) → same_name other name ≡ false → map.insert (map.remove links other) name i ≡ map.remove (map.insert links name i) other
-insert_other links name other i apart =
+insert_other links name other i disjoint =
     same_links _ _ (λ x.
     map.get-insert nat_list_cmp_total (map.remove links other) name i x
     ∙ ap (cond (same_name x name) (Some i)) (map.get-remove nat_list_cmp_total links other x)
-    ∙ two_entries (same_name x name) (same_name x other) i (map.get links x) (not_both_names x name other apart)
+    ∙ two_entries (same_name x name) (same_name x other) i (map.get links x) (not_both_names x name other disjoint)
     ∙ sym (map.get-remove nat_list_cmp_total (map.insert links name i) other x ∙ ap (cond (same_name x other) None) (map.get-insert nat_list_cmp_total links name i x)))
 
 insert_again : (links : Links) (name : List ℕ) (i : ℕ) → map.insert (map.remove links name) name i ≡ map.insert links name i
@@ -52,9 +52,9 @@ insert_again links name i =
 
 other_entry_after : (o : Option Content) (c d : ℕ) (name other : List ℕ) (i : ℕ) → same_name other name ≡ false →
     effect_on (effect_on o (Unlink c other)) (Link d name i) ≡ effect_on (effect_on o (Link d name i)) (Unlink c other)
-other_entry_after None c d name other i apart = refl
-other_entry_after (Some (regular bytes)) c d name other i apart = refl
-other_entry_after (Some (directory links)) c d name other i apart = ap (λ l. Some (directory l)) (insert_other links name other i apart)
+other_entry_after None c d name other i disjoint = refl
+other_entry_after (Some (regular bytes)) c d name other i disjoint = refl
+other_entry_after (Some (directory links)) c d name other i disjoint = ap (λ l. Some (directory l)) (insert_other links name other i disjoint)
 
 same_entry_after : (o : Option Content) (c d : ℕ) (name other : List ℕ) (i : ℕ) → same_name other name ≡ true →
     effect_on (effect_on o (Unlink c other)) (Link d name i) ≡ effect_on o (Link d name i)
@@ -155,15 +155,15 @@ one_passed_over m p es k e h is passed = one_more m p es k e h is ∙ ap (λ b. 
 
 -- ---- which effects end with a link
 
-in_front : {A : Type 0} (xs ys : List A) (x y : A) → xs ++ x ∷ [] ≡ ys ++ y ∷ [] → (xs ≡ ys) × (x ≡ y)
-in_front [] [] x y same = (refl, cc)
-in_front [] (b ∷ []) x y same = cc
-in_front [] (b ∷ c ∷ ys) x y same = cc
-in_front (a ∷ []) [] x y same = cc
-in_front (a ∷ c ∷ xs) [] x y same = cc
-in_front (a ∷ xs) (b ∷ ys) x y same =
+in_prefix : {A : Type 0} (xs ys : List A) (x y : A) → xs ++ x ∷ [] ≡ ys ++ y ∷ [] → (xs ≡ ys) × (x ≡ y)
+in_prefix [] [] x y same = (refl, cc)
+in_prefix [] (b ∷ []) x y same = cc
+in_prefix [] (b ∷ c ∷ ys) x y same = cc
+in_prefix (a ∷ []) [] x y same = cc
+in_prefix (a ∷ c ∷ xs) [] x y same = cc
+in_prefix (a ∷ xs) (b ∷ ys) x y same =
     let first : a ≡ b = cc in
-    let both = in_front xs ys x y cc in
+    let both = in_prefix xs ys x y cc in
     (ap (λ c. c ∷ xs) first ∙ ap (λ cs. b ∷ cs) both.0, both.1)
 
 away_type : (e : Effect) → takes_away e ≡ true → TakesAway e
@@ -204,7 +204,7 @@ all_pass (e ∷ es) t = rw (away_test e t.0) (all_pass es t.1)
 pub made_in_order : (es before : List Effect) (last : Effect) → es ≡ before ++ last ∷ [] → CanBeChangedWhole es → (is_link last ≡ true → list_all takes_away before ≡ true → ⊥) → OnlyFirstAsks es
 made_in_order es before last are (inl asks) other = asks
 made_in_order es before last are (inr w) other =
-    let same = in_front w.before before w.last last (sym w.are ∙ are) in
+    let same = in_prefix w.before before w.last last (sym w.are ∙ are) in
     absurd (other (ap is_link (sym same.1) ∙ w.links) (ap (list_all takes_away) (sym same.0) ∙ all_pass w.before w.take_away))
 
 -- the effects before the last one, and the last one

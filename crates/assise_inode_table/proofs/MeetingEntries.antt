@@ -11,9 +11,9 @@ use Rattle.assise_inode_table.specs.Contents.{Content, directory, Links, Values}
 use Rattle.assise_inode_table.specs.Interaction.{Interaction}
 use Rattle.assise_inode_table.specs.Calls.{then_or_error, walk_from, walk_to_entry}
 use Rattle.assise_inode_table.specs.Reach.{Children, children, reach, link_of}
-use Rattle.assise_inode_table.proofs.Descending.{LinkTo, link_to}
-use Rattle.assise_inode_table.proofs.Meeting.{settled, found, walk_fails, walk_finds, found_there}
-use Rattle.assise_inode_table.proofs.Reaching.{then_ok}
+use Rattle.assise_inode_table.proofs.ReachedSpelling.{LinkTo, link_to}
+use Rattle.assise_inode_table.proofs.WalkMeets.{settled, found, walk_fails, walk_finds, found_there}
+use Rattle.assise_inode_table.proofs.PathReach.{then_ok}
 
 -- ---- the last step of a path
 

@@ -11,8 +11,8 @@ use Rattle.assise_inode_table.specs.Contents.{Values}
 use Rattle.assise_inode_table.specs.Interaction.{finish}
 use Rattle.assise_inode_table.specs.Calls.{read_call, list_call, stat_call}
 use Rattle.assise_inode_table.specs.Spelled.{Spells}
-use Rattle.assise_inode_table.proofs.Agreeing.{Agrees, agrees_quietly}
-use Rattle.assise_inode_table.proofs.Meeting.{settled, walk_fails, walk_to_file, walk_to_directory, Meets, nothing, a_file, a_directory, meets, same_count}
+use Rattle.assise_inode_table.proofs.CallsAgree.{Agrees, agrees_quietly}
+use Rattle.assise_inode_table.proofs.WalkMeets.{settled, walk_fails, walk_to_file, walk_to_directory, Meets, nothing, a_file, a_directory, meets, same_count}
 
 pub stat_agrees : (v : Values) (t : Tree) (p : Path) (fresh : ℕ) → Spells v t → Agrees v fresh (settled v (stat_call p)) (stat_answer t p)
 stat_agrees v t p fresh s = go (meets v t p s)

@@ -14,13 +14,13 @@ use Rattle.assise_seq_tree.proofs.Moves.{Path, parent_and_last}
 use Rattle.assise_inode_table.specs.Contents.{Content, regular, directory, Values}
 use Rattle.assise_inode_table.specs.Effects.{after}
 use Rattle.assise_inode_table.specs.Interaction.{Interaction, finish}
-use Rattle.assise_inode_table.specs.Calls.{then_or_error, as_regular, as_links, vacant, walk_to_entry, unlink_call, rmdir_call}
+use Rattle.assise_inode_table.specs.Calls.{then_or_error, as_regular, as_links, without_links, walk_to_entry, unlink_call, rmdir_call}
 use Rattle.assise_inode_table.specs.Reach.{children}
 use Rattle.assise_inode_table.specs.Spelled.{Spells}
-use Rattle.assise_inode_table.proofs.Agreeing.{Agrees, agrees, agrees_quietly}
-use Rattle.assise_inode_table.proofs.Freeing.{freed}
+use Rattle.assise_inode_table.proofs.CallsAgree.{Agrees, agrees, agrees_quietly}
+use Rattle.assise_inode_table.proofs.EntryFreed.{freed}
 use Rattle.assise_inode_table.proofs.Leaves.{LeadsNowhere, file_nowhere, vacant_nowhere}
-use Rattle.assise_inode_table.proofs.Meeting.{settled, Meets, nothing, a_file, a_directory, FindsFile, FindsDirectory, meets, same_count}
+use Rattle.assise_inode_table.proofs.WalkMeets.{settled, Meets, nothing, a_file, a_directory, FindsFile, FindsDirectory, meets, same_count}
 use Rattle.assise_inode_table.proofs.MeetingEntries.{HasEntry, entry_at, walk_finds_entry, walk_fails_entry}
 
 -- a list of length 0 has no items
@@ -81,7 +81,7 @@ module _ (v : Values) (t : Tree) (p : Path) (name : List ℕ) (fresh : ℕ) (s :
   -- ---- rmdir
 
   take_directory : ℕ → ℕ → Content → Interaction
-  take_directory d i content = then_or_error (as_links content) (λ links. then_or_error (vacant links) (λ _. finish Done (taken_out d name i)))
+  take_directory d i content = then_or_error (as_links content) (λ links. then_or_error (without_links links) (λ _. finish Done (taken_out d name i)))
 
   removed : Reply × Tree
   removed = removed_at t (p ++ name ∷ [])

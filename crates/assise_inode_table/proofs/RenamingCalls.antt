@@ -4,7 +4,7 @@ use Rattle.std.specs.Prelude.{ok_or, if◌then◌else◌}
 use Rattle.std.proofs.lemmas.Bool.{cases_Bool, eqb-true, eqb-false}
 use Rattle.std.proofs.lemmas.List.{append_assoc, append-nil}
 use Rattle.std.specs.FinMap as map
-use Rattle.assise_names.specs.Path.{is_proper_front, same_path}
+use Rattle.assise_names.specs.Path.{is_proper_prefix, same_path}
 use Rattle.assise_names.specs.declared.reply.Reply.{Reply}
 use Rattle.assise_names.specs.declared.reply.Reply.TheVariants.{Done, Error}
 use Rattle.assise_names.specs.declared.reply.TreeError.{TreeError}
@@ -13,25 +13,25 @@ use Rattle.assise_record.specs.declared.effect.Effect.{Effect}
 use Rattle.assise_record.specs.declared.effect.Effect.TheVariants.{Unlink, Free}
 use Rattle.assise_seq_tree.specs.Tree.{Tree, file, dir, Entries, find, names_of, at, put, without}
 use Rattle.assise_seq_tree.specs.Answer.{◌>>=◌, parent_of, last_name, as_directory, entries_at, may_receive, may_replace as tree_may_replace, reply_and_tree, tree_after_rename, rename_answer}
-use Rattle.assise_seq_tree.proofs.Moves.{Path, Apart, parent_and_last}
-use Rattle.assise_seq_tree.proofs.Paths.{apart_from}
+use Rattle.assise_seq_tree.proofs.Moves.{Path, Disjoint, parent_and_last}
+use Rattle.assise_seq_tree.proofs.Paths.{disjoint_from}
 use Rattle.assise_seq_tree.proofs.Checks.{same_is, not_begins}
-use Rattle.assise_seq_tree.proofs.Receiving.{entry_there}
+use Rattle.assise_seq_tree.proofs.MovedTreeRoom.{entry_there}
 use Rattle.assise_inode_table.specs.Contents.{Content, regular, directory, Links, Values}
 use Rattle.assise_inode_table.specs.Effects.{after}
 use Rattle.assise_inode_table.specs.Interaction.{finish}
-use Rattle.assise_inode_table.specs.Calls.{then_or_error, may_replace, vacant, move_effects, move_to, receive, replace_target, room_beside, walk_to_entry, rename_call}
+use Rattle.assise_inode_table.specs.Calls.{then_or_error, content_may_replace, without_links, move_effects, move_to, receive, replace_target, room_beside, walk_to_entry, rename_call}
 use Rattle.assise_inode_table.specs.Reach.{children, reach, link_of}
 use Rattle.assise_inode_table.specs.Spelled.{Spells}
-use Rattle.assise_inode_table.proofs.Agreeing.{Agrees, agrees, agrees_quietly}
-use Rattle.assise_inode_table.proofs.Displacing.{displaced_spells}
-use Rattle.assise_inode_table.proofs.Fronts.{past, past-Some}
+use Rattle.assise_inode_table.proofs.CallsAgree.{Agrees, agrees, agrees_quietly}
+use Rattle.assise_inode_table.proofs.EntryReplaced.{displaced_spells}
+use Rattle.assise_inode_table.proofs.Prefixes.{past, past-Some}
 use Rattle.assise_inode_table.proofs.Leaves.{LeadsNowhere, ends, file_nowhere, vacant_nowhere}
-use Rattle.assise_inode_table.proofs.Meeting.{settled, walk_fails, walk_to_file, walk_to_directory, Meets, nothing, a_file, a_directory, FindsDirectory, meets, same_count}
+use Rattle.assise_inode_table.proofs.WalkMeets.{settled, walk_fails, walk_to_file, walk_to_directory, Meets, nothing, a_file, a_directory, FindsDirectory, meets, same_count}
 use Rattle.assise_inode_table.proofs.MeetingEntries.{HasEntry, entry_at, walk_finds_entry, walk_fails_entry}
-use Rattle.assise_inode_table.proofs.Moving.{moved_spells}
-use Rattle.assise_inode_table.proofs.Naming.{same_found}
-use Rattle.assise_inode_table.proofs.Reaching.{reach_step, reach-append}
+use Rattle.assise_inode_table.proofs.EntryMoved.{moved_spells}
+use Rattle.assise_inode_table.proofs.DirectoryNames.{same_found}
+use Rattle.assise_inode_table.proofs.PathReach.{reach_step, reach-append}
 
 -- ---- what stands in the other's place
 
@@ -40,7 +40,7 @@ data SameKind (c : Content) (u : Tree) : Type 0 where
   files : (bytes : List ℕ) → c ≡ regular bytes → u ≡ file bytes → SameKind c u
   directories : (links : Links) (es : Entries) → c ≡ directory links → u ≡ dir es → names_of es ≡ map.keys links → SameKind c u
 
-same_replacing : (c d : Content) (m u : Tree) → SameKind c m → SameKind d u → may_replace c d ≡ tree_may_replace m u
+same_replacing : (c d : Content) (m u : Tree) → SameKind c m → SameKind d u → content_may_replace c d ≡ tree_may_replace m u
 same_replacing c d m u (files b is there) (files g be too) = rw (is, there, be, too) refl
 same_replacing c d m u (files b is there) (directories links es be too names) = rw (is, there, be, too) refl
 same_replacing c d m u (directories links es is there names) (files g be too) = rw (is, there, be, too) refl
@@ -50,7 +50,7 @@ no_keys : {X : Type 0} (xs : List X) → (length xs == 0) ≡ true → xs ≡ []
 no_keys [] h = refl
 no_keys (x ∷ xs) h = (let no = eqb-true (length (x ∷ xs)) 0 h in absurd (omega (arith, no)))
 
-is_vacant : (links : Links) → vacant links ≡ Ok tt → map.keys links ≡ []
+is_vacant : (links : Links) → without_links links ≡ Ok tt → map.keys links ≡ []
 is_vacant links h =
     elim (cases_Bool (length (map.keys links) == 0)) [
       | inl none ↦ no_keys (map.keys links) none
@@ -58,15 +58,15 @@ is_vacant links h =
     ]
 
 -- what may be replaced leads nowhere
-replaced_nowhere : (v : Values) (g : ℕ) (c d : Content) → v g ≡ Some d → may_replace c d ≡ Ok tt → LeadsNowhere (children v) g
+replaced_nowhere : (v : Values) (g : ℕ) (c d : Content) → v g ≡ Some d → content_may_replace c d ≡ Ok tt → LeadsNowhere (children v) g
 replaced_nowhere v g c (regular bytes) holds may = file_nowhere v g bytes holds
 replaced_nowhere v g (regular b) (directory links) holds may = cc
 replaced_nowhere v g (directory ks) (directory links) holds may = vacant_nowhere v g links holds (is_vacant links may)
 
--- ---- a rename of paths that have a last name, of which the first is no proper front of the second
+-- ---- a rename of paths that have a last name, of which the first is no proper prefix of the second
 
 module _ (v : Values) (t : Tree) (p q : Path) (fresh : ℕ) (s : Spells v t) (from_whole : p ≡ parent_of p ++ last_name p ∷ []) (to_whole : q ≡ parent_of q ++ last_name q ∷ [])
-    (ring : is_proper_front p q ≡ false) where
+    (ring : is_proper_prefix p q ≡ false) where
   abbrev stays : Bool
   stays = same_path (parent_of p) (parent_of q)
 
@@ -79,24 +79,24 @@ module _ (v : Values) (t : Tree) (p q : Path) (fresh : ℕ) (s : Spells v t) (fr
 
   -- ---- the paths
   differ : same_path p q ≡ false → p ≢ q
-  differ apart e = let same = (same_is p q).1 e in cc
+  differ disjoint e = let same = (same_is p q).1 e in cc
 
   no_ring : same_path p q ≡ false → (rest : Path) → q ≢ p ++ rest
-  no_ring apart rest e = not_begins p q ring (differ apart) rest e
+  no_ring disjoint rest e = not_begins p q ring (differ disjoint) rest e
 
   outside : same_path p q ≡ false → past (parent_of p ++ last_name p ∷ []) (parent_of q) ≡ None
-  outside apart = subst (λ x. past x (parent_of q) ≡ None) from_whole (go (past p (parent_of q)) refl)
+  outside disjoint = subst (λ x. past x (parent_of q) ≡ None) from_whole (go (past p (parent_of q)) refl)
     where
       go : (o : Option Path) → past p (parent_of q) ≡ o → o ≡ None
       go None is = refl
       go (Some rest) is =
-          absurd (no_ring apart (rest ++ last_name q ∷ [])
+          absurd (no_ring disjoint (rest ++ last_name q ∷ [])
           (to_whole ∙ ap (λ x. x ++ last_name q ∷ []) (past-Some p (parent_of q) rest is) ∙ append_assoc p rest (last_name q ∷ [])))
 
   -- ---- inode i with its content c, the entry of p, spells the tree m there
   module _ (i : ℕ) (c : Content) (m : Tree) (h : HasEntry v (parent_of p) (last_name p) i) (holds : v i ≡ Some c) (reached : reach (children v) 0 p ≡ Ok i) (there : at t p ≡ Ok m)
       (kind : SameKind c m) where
-    module _ (d : FindsDirectory v t (parent_of q)) (apart : same_path p q ≡ false) where
+    module _ (d : FindsDirectory v t (parent_of q)) (disjoint : same_path p q ≡ false) where
       abbrev moves : List Effect
       moves = move_effects h.parent (last_name p) d.inode (last_name q) i
 
@@ -104,7 +104,7 @@ module _ (v : Values) (t : Tree) (p q : Path) (fresh : ℕ) (s : Spells v t) (fr
       moved_tree = put (without t p) q m
 
       answered : (es : Result (Unit {0}) TreeError) → es ≡ Ok tt → answer_by (Ok m) es ≡ (Done, moved_tree)
-      answered es is = rw (is, apart) refl
+      answered es is = rw (is, disjoint) refl
 
       refused : (es : Result (Unit {0}) TreeError) (e : TreeError) → es ≡ Err e → answer_by (Ok m) es ≡ (Error e, t)
       refused es e is = rw is refl
@@ -115,7 +115,7 @@ module _ (v : Values) (t : Tree) (p q : Path) (fresh : ℕ) (s : Spells v t) (fr
           subst (λ x. Spells (after v moves) (put (without t x) q m)) (sym from_whole)
           (subst (λ y. Spells (after v moves) (put (without t (parent_of p ++ last_name p ∷ [])) y m)) (sym to_whole)
           (moved_spells v t m h.parent d.inode i (parent_of p) (parent_of q) (last_name p) (last_name q) h.links d.links s h.reached h.holds h.present (ap (at t) (sym from_whole) ∙ there)
-          d.reached d.holds none (outside apart)))
+          d.reached d.holds none (outside disjoint)))
 
       received_new : map.get d.links (last_name q) ≡ None → (r : Result (Unit {0}) TreeError) → room_beside stays d.links ≡ r → may_receive m stays d.entries None ≡ r →
           Agrees v fresh (settled v (then_or_error r (λ _. finish Done moves))) (answer_by (Ok m) r)
@@ -163,20 +163,20 @@ module _ (v : Values) (t : Tree) (p q : Path) (fresh : ℕ) (s : Spells v t) (fr
             let way : reach (children v) g rest ≡ Ok i =
             sym (reach-append (children v) 0 (parent_of q ++ last_name q ∷ []) rest g goal_reached) ∙ ap (λ x. reach (children v) 0 (x ++ rest)) (sym to_whole) ∙ ap (reach (children v) 0) (sym e) ∙ reached in
             let none : rest ≡ [] = ends (children v) g nowhere rest i way in
-            differ apart (e ∙ ap (λ x. q ++ x) none ∙ append-nil q)
+            differ disjoint (e ∙ ap (λ x. q ++ x) none ∙ append-nil q)
 
         displaced : LeadsNowhere (children v) g → Spells (after v replacing) moved_tree
         displaced nowhere =
-            let a : Apart p q = apart_from p q (not_below nowhere) (no_ring apart) in
-            let b : Apart q p = apart_from q p (no_ring apart) (not_below nowhere) in
-            let c : Apart (parent_of p ++ last_name p ∷ []) (parent_of q ++ last_name q ∷ []) = subst (λ x. Apart x (parent_of q ++ last_name q ∷ [])) from_whole (subst (Apart p) to_whole a) in
-            let e : Apart (parent_of q ++ last_name q ∷ []) (parent_of p ++ last_name p ∷ []) = subst (λ x. Apart x (parent_of p ++ last_name p ∷ [])) to_whole (subst (Apart q) from_whole b) in
+            let a : Disjoint p q = disjoint_from p q (not_below nowhere) (no_ring disjoint) in
+            let b : Disjoint q p = disjoint_from q p (no_ring disjoint) (not_below nowhere) in
+            let c : Disjoint (parent_of p ++ last_name p ∷ []) (parent_of q ++ last_name q ∷ []) = subst (λ x. Disjoint x (parent_of q ++ last_name q ∷ [])) from_whole (subst (Disjoint p) to_whole a) in
+            let e : Disjoint (parent_of q ++ last_name q ∷ []) (parent_of p ++ last_name p ∷ []) = subst (λ x. Disjoint x (parent_of p ++ last_name p ∷ [])) to_whole (subst (Disjoint q) from_whole b) in
             subst (λ x. Spells (after v replacing) (put (without t x) q m)) (sym from_whole)
             (subst (λ y. Spells (after v replacing) (put (without t (parent_of p ++ last_name p ∷ [])) y m)) (sym to_whole)
             (displaced_spells v t m h.parent d.inode i g (parent_of p) (parent_of q) (last_name p) (last_name q) h.links d.links s h.reached h.holds h.present (ap (at t) (sym from_whole) ∙ there)
-            d.reached d.holds target nowhere c e (outside apart)))
+            d.reached d.holds target nowhere c e (outside disjoint)))
 
-        replaced_by : (r : Result (Unit {0}) TreeError) → may_replace c seen.content ≡ r → tree_may_replace m u ≡ r →
+        replaced_by : (r : Result (Unit {0}) TreeError) → content_may_replace c seen.content ≡ r → tree_may_replace m u ≡ r →
             Agrees v fresh (settled v (then_or_error r (λ _. finish Done replacing))) (answer_by (Ok m) r)
         replaced_by (Ok x) is too = agrees v fresh _ _ Done replacing moved_tree refl (answered (Ok x) refl) (λ n. displaced (replaced_nowhere v g c seen.content seen.is is))
         replaced_by (Err e) is too = agrees_quietly v t fresh _ _ (Error e) s refl (refused (Err e) e refl)
@@ -184,11 +184,11 @@ module _ (v : Values) (t : Tree) (p q : Path) (fresh : ℕ) (s : Spells v t) (fr
         received_over : Agrees v fresh (settled v (replace_target c d.inode (last_name q) moves g)) (answer_by (Ok m) (may_receive m stays d.entries (Some u)))
         received_over =
             let same = same_replacing c seen.content m u kind seen.alike in
-            let at_target : settled v (replace_target c d.inode (last_name q) moves g) ≡ settled v (then_or_error (may_replace c seen.content) (λ _. finish Done replacing)) =
-            ap (λ o. settled v (then_or_error (ok_or o NoEnt) (λ x. then_or_error (may_replace c x) (λ _. finish Done replacing)))) seen.is in
+            let at_target : settled v (replace_target c d.inode (last_name q) moves g) ≡ settled v (then_or_error (content_may_replace c seen.content) (λ _. finish Done replacing)) =
+            ap (λ o. settled v (then_or_error (ok_or o NoEnt) (λ x. then_or_error (content_may_replace c x) (λ _. finish Done replacing)))) seen.is in
             subst (λ o. Agrees v fresh o (answer_by (Ok m) (tree_may_replace m u))) (sym at_target)
-            (subst (λ r. Agrees v fresh (settled v (then_or_error (may_replace c seen.content) (λ _. finish Done replacing))) (answer_by (Ok m) r)) same
-            (replaced_by (may_replace c seen.content) refl (sym same)))
+            (subst (λ r. Agrees v fresh (settled v (then_or_error (content_may_replace c seen.content) (λ _. finish Done replacing))) (answer_by (Ok m) r)) same
+            (replaced_by (content_may_replace c seen.content) refl (sym same)))
 
       received : (o : Option ℕ) (r : Option Tree) → map.get d.links (last_name q) ≡ o → find (last_name q) d.entries ≡ r → is_some r ≡ is_some o →
           Agrees v fresh (settled v (receive c stays d.inode d.links (last_name q) moves o)) (answer_by (Ok m) (may_receive m stays d.entries r))
@@ -207,12 +207,12 @@ module _ (v : Values) (t : Tree) (p q : Path) (fresh : ℕ) (s : Spells v t) (fr
             let way = walk_to_directory v t (parent_of q) _ d in
             elim (cases_Bool (same_path p q)) [
               | inl same ↦ agrees_quietly v t fresh _ _ Done s (way ∙ rw same refl) (rw (d.there, same) refl)
-              | inr apart ↦
-                  let done = received d apart (map.get d.links (last_name q)) (find (last_name q) d.entries) refl refl (same_found d.entries d.links d.names (last_name q)) in
+              | inr disjoint ↦
+                  let done = received d disjoint (map.get d.links (last_name q)) (find (last_name q) d.entries) refl refl (same_found d.entries d.links d.names (last_name q)) in
                   let ends : settled v (move_to p q h.parent i c) ≡ settled v (receive c stays d.inode d.links (last_name q) (move_effects h.parent (last_name p) d.inode (last_name q) i) (map.get d.links (last_name q))) =
-                  way ∙ rw apart refl in
+                  way ∙ rw disjoint refl in
                   let inside : (entries_at t (parent_of q) >>= entered m) ≡ may_receive m stays d.entries (find (last_name q) d.entries) =
-                  ap (λ o. (o >>= as_directory) >>= entered m) d.there ∙ ap (λ b. cond b (Ok tt) (may_receive m stays d.entries (find (last_name q) d.entries))) apart in
+                  ap (λ o. (o >>= as_directory) >>= entered m) d.there ∙ ap (λ b. cond b (Ok tt) (may_receive m stays d.entries (find (last_name q) d.entries))) disjoint in
                   subst (λ o. Agrees v fresh o (answer_by (Ok m) (entries_at t (parent_of q) >>= entered m))) (sym ends)
                   (subst (λ r. Agrees v fresh (settled v (receive c stays d.inode d.links (last_name q) (move_effects h.parent (last_name p) d.inode (last_name q) i) (map.get d.links (last_name q)))) (answer_by (Ok m) r)) (sym inside) done)
             ]
@@ -256,7 +256,7 @@ pub rename_agrees : (v : Values) (t : Tree) (p q : Path) (fresh : ℕ) → Spell
 rename_agrees v t p q fresh s =
     elim (cases_Bool ((length p == 0) || (length q == 0))) [
       | inl root ↦ agrees_quietly v t fresh (settled v (rename_call p q)) (rename_answer t p q) (Error Invalid) s (rw root refl) (rw root refl)
-      | inr deep ↦ elim (cases_Bool (is_proper_front p q)) [
+      | inr deep ↦ elim (cases_Bool (is_proper_prefix p q)) [
         | inl ring ↦ agrees_quietly v t fresh (settled v (rename_call p q)) (rename_answer t p q) (Error Invalid) s (rw (deep, ring) refl) (rw (deep, ring) refl)
         | inr free ↦
             let names = neither (length p == 0) (length q == 0) deep in

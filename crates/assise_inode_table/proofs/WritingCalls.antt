@@ -13,15 +13,15 @@ use Rattle.assise_inode_table.specs.Effects.{after}
 use Rattle.assise_inode_table.specs.Interaction.{finish}
 use Rattle.assise_inode_table.specs.Calls.{then_or_error, as_regular, write_effects, write_call, truncate_call}
 use Rattle.assise_inode_table.specs.Spelled.{Spells}
-use Rattle.assise_inode_table.proofs.Agreeing.{Agrees, agrees, agrees_quietly}
-use Rattle.assise_inode_table.proofs.Rewriting.{file_rewritten}
-use Rattle.assise_inode_table.proofs.Meeting.{settled, walk_fails, walk_to_file, walk_to_directory, Meets, nothing, a_file, a_directory, FindsFile, meets}
+use Rattle.assise_inode_table.proofs.CallsAgree.{Agrees, agrees, agrees_quietly}
+use Rattle.assise_inode_table.proofs.FileRewritten.{file_rewritten}
+use Rattle.assise_inode_table.proofs.WalkMeets.{settled, walk_fails, walk_to_file, walk_to_directory, Meets, nothing, a_file, a_directory, FindsFile, meets}
 
 module _ (v : Values) (t : Tree) (p : Path) (offset : ℕ) (new : List ℕ) (fresh : ℕ) (s : Spells v t) where
   written : (f : FindsFile v t p) → Spells (after v (Write f.inode (record { offset = offset; bytes = new }) ∷ [])) (put t p (file (overwritten f.bytes offset new)))
   written f =
       file_rewritten v (after v (Write f.inode (record { offset = offset; bytes = new }) ∷ [])) t p f.inode f.bytes (overwritten f.bytes offset new) s f.reached f.holds
-      (rw (eq-eqb f.inode f.inode refl, f.holds) refl) (λ j apart. rw (ne_eqb f.inode j (λ e. apart (sym e))) refl)
+      (rw (eq-eqb f.inode f.inode refl, f.holds) refl) (λ j disjoint. rw (ne_eqb f.inode j (λ e. disjoint (sym e))) refl)
 
   write_spells : (f : FindsFile v t p) → Spells (after v (write_effects f.inode offset new)) (tree_after_write t p offset new f.bytes)
   write_spells f =
@@ -50,7 +50,7 @@ module _ (v : Values) (t : Tree) (p : Path) (size fresh : ℕ) (s : Spells v t) 
   cut_or_filled : (f : FindsFile v t p) → Spells (after v (SetLen f.inode size ∷ [])) (put t p (file (resized f.bytes size)))
   cut_or_filled f =
       file_rewritten v (after v (SetLen f.inode size ∷ [])) t p f.inode f.bytes (resized f.bytes size) s f.reached f.holds
-      (rw (eq-eqb f.inode f.inode refl, f.holds) refl) (λ j apart. rw (ne_eqb f.inode j (λ e. apart (sym e))) refl)
+      (rw (eq-eqb f.inode f.inode refl, f.holds) refl) (λ j disjoint. rw (ne_eqb f.inode j (λ e. disjoint (sym e))) refl)
 
   truncate_file : (f : FindsFile v t p) → Agrees v fresh (settled v (truncate_call p size)) (truncate_answer t p size)
   truncate_file f =

@@ -2,7 +2,7 @@
 -- POSIX.1-2017, system interfaces: open() with O_CREAT and O_EXCL, mkdir(), read(), write(), truncate(), rename(), unlink(), rmdir(), readdir(), stat(), fsync(); base definitions: 4.13 Pathname Resolution.
 use Rattle.std.specs.Prelude.{ℕ, Bool, ◌||◌, if◌then◌else◌, nat_le, ◌==◌, List, [], ◌∷◌, length, is_some, Option, Some, None, Result, Ok, Err, ok_or}
 use Rattle.std.specs.FinMap as map
-use Rattle.assise_names.specs.Path.{is_proper_front, same_path}
+use Rattle.assise_names.specs.Path.{is_proper_prefix, same_path}
 use Rattle.assise_names.specs.declared.call.Op.{Op}
 use Rattle.assise_names.specs.declared.call.Op.TheVariants.{Create, Mkdir, Read, Write as WriteCall, Truncate, Rename, Unlink as UnlinkCall, Rmdir, List as ListCall, Stat, Fsync, Dsync}
 use Rattle.assise_names.specs.declared.reply.Reply.{Reply}
@@ -51,18 +51,18 @@ as_links (directory links) = Ok links
 abbrev pub room_among : List ℕ → Links → Result (Unit {0}) TreeError
 room_among name links = if is_some (map.get links name) then Err Exists else (if nat_le 4096 (length (map.keys links)) then Err DirFull else Ok tt)
 
-abbrev pub vacant : Links → Result (Unit {0}) TreeError
-vacant links = if length (map.keys links) == 0 then Ok tt else Err NotEmpty
+abbrev pub without_links : Links → Result (Unit {0}) TreeError
+without_links links = if length (map.keys links) == 0 then Ok tt else Err NotEmpty
 
 -- a file may take the place of a file, and a directory that of a directory without entries
-abbrev pub may_replace : Content → Content → Result (Unit {0}) TreeError
-may_replace (regular bytes) target = as_regular target >>= λ _. Ok tt
-may_replace (directory links) target = as_links target >>= λ others. vacant others
+abbrev pub content_may_replace : Content → Content → Result (Unit {0}) TreeError
+content_may_replace (regular bytes) target = as_regular target >>= λ _. Ok tt
+content_may_replace (directory links) target = as_links target >>= λ others. without_links others
 
 -- what a stat says of it
-abbrev pub description_of : Content → Reply
-description_of (regular bytes) = File (length bytes)
-description_of (directory links) = Dir (length (map.keys links))
+abbrev pub stat_reply : Content → Reply
+stat_reply (regular bytes) = File (length bytes)
+stat_reply (directory links) = Dir (length (map.keys links))
 
 -- ---- one definition for each call
 
@@ -100,7 +100,7 @@ move_effects d name e new i = Unlink d name ∷ Link e new i ∷ []
 
 -- the entry is visited, and goes
 abbrev pub replace_target : Content → ℕ → List ℕ → List Effect → ℕ → Interaction
-replace_target moved e new moves g = walk_from g [] (λ g target. then_or_error (may_replace moved target) (λ _. finish Done (Unlink e new ∷ Free g ∷ moves)))
+replace_target moved e new moves g = walk_from g [] (λ g target. then_or_error (content_may_replace moved target) (λ _. finish Done (Unlink e new ∷ Free g ∷ moves)))
 
 abbrev pub room_beside : Bool → Links → Result (Unit {0}) TreeError
 room_beside stays links = if stays then Ok tt else (if nat_le 4096 (length (map.keys links)) then Err DirFull else Ok tt)
@@ -121,7 +121,7 @@ move_to p q d i moved =
 abbrev pub rename_call : List (List ℕ) → List (List ℕ) → Interaction
 rename_call p q =
     if (length p == 0) || (length q == 0) then finish (Error Invalid) []
-    else (if is_proper_front p q then finish (Error Invalid) []
+    else (if is_proper_prefix p q then finish (Error Invalid) []
     else walk_to_entry (parent_of p) (last_name p) (move_to p q))
 
 abbrev pub unlink_call : List (List ℕ) → Interaction
@@ -132,15 +132,15 @@ unlink_call p =
 abbrev pub rmdir_call : List (List ℕ) → Interaction
 rmdir_call p =
     if length p == 0 then finish (Error Invalid) []
-    else walk_to_entry (parent_of p) (last_name p) (λ d i content. then_or_error (as_links content) (λ links. then_or_error (vacant links) (λ _.
+    else walk_to_entry (parent_of p) (last_name p) (λ d i content. then_or_error (as_links content) (λ links. then_or_error (without_links links) (λ _.
     finish Done (Unlink d (last_name p) ∷ Free i ∷ []))))
 
--- the names of a map rise
+-- the names of a map ascend
 abbrev pub list_call : List (List ℕ) → Interaction
 list_call p = walk p (λ i content. then_or_error (as_links content) (λ links. finish (Names (map.keys links)) []))
 
 abbrev pub stat_call : List (List ℕ) → Interaction
-stat_call p = walk p (λ i content. finish (description_of content) [])
+stat_call p = walk p (λ i content. finish (stat_reply content) [])
 
 -- a call; what it makes, if it makes an inode, is `fresh`
 abbrev pub interaction : Op → ℕ → Interaction

@@ -17,9 +17,9 @@ Lacks [] i = Unit {0}
 Lacks (c ∷ cs) i = (c.inode ≢ i) × Lacks cs i
 
 -- no inode twice
-abbrev pub AreApart : List Change → Type 0
-AreApart [] = Unit {0}
-AreApart (c ∷ cs) = Lacks cs c.inode × AreApart cs
+abbrev pub AreDistinctChanges : List Change → Type 0
+AreDistinctChanges [] = Unit {0}
+AreDistinctChanges (c ∷ cs) = Lacks cs c.inode × AreDistinctChanges cs
 
 -- the place of an inode's change
 pub record IsPlace (cs : List Change) (p i : ℕ) : Type 0 where
@@ -40,9 +40,9 @@ placed m [] = m
 placed m (c ∷ cs) = placed (placed_one m c.inode) cs
 
 -- the map without these inodes
-abbrev pub without : InodeMap → List ℕ → InodeMap
-without m [] = m
-without m (i ∷ is) = without (map.remove m i) is
+abbrev pub map_without : InodeMap → List ℕ → InodeMap
+map_without m [] = m
+map_without m (i ∷ is) = map_without (map.remove m i) is
 
 -- the inode of each change is there
 abbrev pub ArePlaced : InodeMap → List Change → Type 0

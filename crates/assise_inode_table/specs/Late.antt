@@ -7,9 +7,9 @@ use Rattle.assise_inode_table.specs.Interaction.{Step}
 use Rattle.assise_inode_table.specs.Traces.{NumberedCall}
 
 -- after the steps whose calls pass the test
-abbrev pub value_of : (NumberedCall → Bool) → ℕ → Option Content → List (NumberedCall × Step) → Option Content
-value_of passes i old [] = old
-value_of passes i old (x ∷ xs) = value_of passes i (if passes x.0 then value_after i old x.1.effects else old) xs
+abbrev pub late_value : (NumberedCall → Bool) → ℕ → Option Content → List (NumberedCall × Step) → Option Content
+late_value passes i old [] = old
+late_value passes i old (x ∷ xs) = late_value passes i (if passes x.0 then value_after i old x.1.effects else old) xs
 
 -- no step whose call passes touches the inode
 abbrev pub Quiet : (NumberedCall → Bool) → ℕ → List (NumberedCall × Step) → Type 0
@@ -23,5 +23,5 @@ NoneBetween early late i (x ∷ xs) =
     (late x.0 ≡ true → (early x.0 ≡ false) × (contains (touched x.1.effects) i ≡ true → Quiet early i xs)) × NoneBetween early late i xs
 
 -- the thresholds with one client's put at k
-abbrev pub raised : (ℕ → ℕ) → ℕ → ℕ → ℕ → ℕ
-raised a c k d = if d == c then k else a d
+abbrev pub raised_at : (ℕ → ℕ) → ℕ → ℕ → ℕ → ℕ
+raised_at a c k d = if d == c then k else a d

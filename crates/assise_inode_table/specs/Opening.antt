@@ -4,5 +4,5 @@ use Rattle.std.specs.FinMap as map
 use Rattle.assise_inode_table.specs.Contents.{directory, InodeMap}
 
 -- inode 0 as a directory without entries, and nothing else
-abbrev pub opening : InodeMap
-opening = map.insert map.empty 0 (directory map.empty)
+abbrev pub opening_inodes : InodeMap
+opening_inodes = map.insert map.empty 0 (directory map.empty)

@@ -38,11 +38,11 @@ AllMakeNew v [] = Unit {0}
 AllMakeNew v (x ∷ xs) = MakesNew v x × AllMakeNew (after v (step_of v x).effects) xs
 
 -- what a call asked, and what it was answered
-abbrev pub exchange : NumberedCall → Op × Reply
-exchange x = (x.op, x.reply)
+abbrev pub numbered_exchange : NumberedCall → Op × Reply
+numbered_exchange x = (x.op, x.reply)
 
 abbrev pub exchanges : List NumberedCall → List (Op × Reply)
-exchanges xs = map exchange xs
+exchanges xs = map numbered_exchange xs
 
 abbrev pub ops : List NumberedCall → List Op
 ops xs = map (λ x. x.op) xs
@@ -58,9 +58,9 @@ abbrev pub Pairs : {X : Type 0} → (X → X → Type 0) → List X → Type 0
 Pairs R [] = Unit {0}
 Pairs R (x ∷ xs) = Each (R x) xs × Pairs R xs
 
--- each client's numbers rise
-abbrev pub Rises : List NumberedCall → Type 0
-Rises xs = Pairs (λ x y. y.client ≡ x.client → x.number < y.number) xs
+-- each client's numbers ascend
+abbrev pub NumbersAscend : List NumberedCall → Type 0
+NumbersAscend xs = Pairs (λ x y. y.client ≡ x.client → x.number < y.number) xs
 
 -- the calls numbered below their client's threshold
 abbrev pub below : (ℕ → ℕ) → NumberedCall → Bool

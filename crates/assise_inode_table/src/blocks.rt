@@ -44,11 +44,12 @@ pub fn overwritten(
     offset: usize,
     new: &[u8],
 ) -> Result<Vec<Bytes>, AllocError>
-    requires shape { IsCut blocks.now }
+    requires cut { IsCut blocks.now }
     requires held { length (concat blocks.now) < 2 ^ 64 }
     requires fits { offset + length new.now < 2 ^ 64 }
-    ensures shape { IfOk result (λ made. IsCut made.items) }
-    ensures bytes { IfOk result (λ made. concat made.items ≡ overwritten (concat blocks.now) offset new.now) }
+    ensures cut { IfOk result (λ made. IsCut made.items) }
+    ensures bytes { IfOk result (λ made. concat made.items ≡ overwritten
+        (concat blocks.now) offset new.now) }
 {
     let count = blocks.len().max((offset + new.len()).div_ceil(BLOCK));
     let mut made = Vec::with_capacity(alloc, count)?;
@@ -107,7 +108,8 @@ pub fn replace(
     mut made: Vec<Bytes>,
 ) -> Result<(), AllocError>
     requires { (first ≤ until) × (until ≤ length blocks.old.items) }
-    ensures ok { OnOk result (blocks.new.items ≡ take first blocks.old.items ++ (made.items ++ drop until blocks.old.items)) }
+    ensures ok { OnOk result (blocks.new.items ≡ take first blocks.old.items ++
+        (made.items ++ drop until blocks.old.items)) }
     ensures err { OnErr result (blocks.new.items ≡ blocks.old.items) }
 {
     if until - first != 1 || made.len() != 1 {
@@ -129,12 +131,13 @@ pub fn overwrite(
     offset: usize,
     new: &[u8],
 ) -> Result<(), AllocError>
-    requires shape { IsCut blocks.old.items }
+    requires cut { IsCut blocks.old.items }
     requires bytes { size ≡ length (concat blocks.old.items) }
     requires some { 0 < length new.now + (offset - size) }
     requires fits { offset + length new.now < 2 ^ 64 }
-    ensures shape { OnOk result (IsCut blocks.new.items) }
-    ensures bytes { OnOk result (concat blocks.new.items ≡ overwritten (concat blocks.old.items) offset new.now) }
+    ensures cut { OnOk result (IsCut blocks.new.items) }
+    ensures bytes { OnOk result (concat blocks.new.items ≡ overwritten
+        (concat blocks.old.items) offset new.now) }
     ensures err { OnErr result (blocks.new.items ≡ blocks.old.items) }
 {
     let first = size.min(offset) / BLOCK;
@@ -150,11 +153,11 @@ pub fn overwrite(
 }
 
 /// Cuts blocks to a size. What stays of the last block is shared with its other owners.
-#[tactic(auto, using(crate::proofs::Cutting::cut_take, crate::proofs::Writing::bytes_between, crate::proofs::Writing::last_held, crate::proofs::Writing::cut_within, crate::proofs::Writing::bytes_within))]
+#[tactic(auto, using(crate::proofs::BlockBytes::cut_take, crate::proofs::BlockWrites::bytes_between, crate::proofs::BlockWrites::last_held, crate::proofs::BlockWrites::cut_within, crate::proofs::BlockWrites::bytes_within))]
 pub fn shorten(blocks: &mut Vec<Bytes>, size: usize)
-    requires shape { IsCut blocks.old.items }
+    requires cut { IsCut blocks.old.items }
     requires within { size ≤ length (concat blocks.old.items) }
-    ensures shape { IsCut blocks.new.items }
+    ensures cut { IsCut blocks.new.items }
     ensures bytes { concat blocks.new.items ≡ take size (concat blocks.old.items) }
 {
     let full = size / BLOCK;

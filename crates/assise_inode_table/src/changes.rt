@@ -1,7 +1,7 @@
 // What a few inodes become by effects, made on copies of them and put in all or none.
 ghost use Rattle.std.specs.Prelude.{◌≡◌, ◌||◌, ◌<◌, ◌==◌, [], ◌∷◌, IfOk, IsOkUnless, MatchOption, None, OnErr, OnOk, Option, false, if◌then◌else◌, is_some, length, option_copied, slice_index, ℕ};
 ghost use Rattle.std.specs.FinMap as map;
-ghost use Rattle.assise_inode_table.specs.Changes.{AreApart, IsPlace, Lacks, found, is_among, placed, placed_one, without};
+ghost use Rattle.assise_inode_table.specs.Changes.{AreDistinctChanges, IsPlace, Lacks, found, is_among, placed, placed_one, map_without};
 ghost use Rattle.assise_inode_table.specs.Contents.{Content};
 ghost use Rattle.assise_inode_table.specs.Effects.{all_applied, contains, effect_on, touched, value_after};
 ghost use Rattle.assise_names.specs.declared.refusal.Refusal.TheVariants.{OutOfMemory};
@@ -72,11 +72,14 @@ fn put_in<I: Inodes>(
     changes: &mut Vec<Change>,
     inode: u64,
 ) -> Result<usize, Refusal>
-    requires apart { AreApart changes.old.items }
-    ensures apart { OnOk result (AreApart changes.new.items) }
+    requires disjoint { AreDistinctChanges changes.old.items }
+    ensures disjoint { OnOk result (AreDistinctChanges changes.new.items) }
     ensures place { IfOk result (λ p. IsPlace changes.new.items p inode) }
-    ensures among { OnOk result ((i : ℕ) → is_among changes.new.items i ≡ ((inode == i) || is_among changes.old.items i)) }
-    ensures values { OnOk result ((i : ℕ) → found changes.new.items i (map.get (I.contents base.now) i) ≡ found changes.old.items i (map.get (I.contents base.now) i)) }
+    ensures among { OnOk result ((i : ℕ) → is_among changes.new.items i ≡
+        ((inode == i) || is_among changes.old.items i)) }
+    ensures values { OnOk result ((i : ℕ) → found changes.new.items i
+        (map.get (I.contents base.now) i) ≡ found changes.old.items i
+        (map.get (I.contents base.now) i)) }
     ensures only_memory { IsOkUnless result OutOfMemory }
 {
     if let Some(place) = place_of(changes, inode) {
@@ -95,11 +98,13 @@ fn make<I: Inodes>(
     changes: &mut Vec<Change>,
     effect: &Effect,
 ) -> Result<(), Refusal>
-    requires apart { AreApart changes.old.items }
-    ensures apart { OnOk result (AreApart changes.new.items) }
-    ensures values { OnOk result ((i : ℕ) → found changes.new.items i (map.get (I.contents base.now) i)
-        ≡ value_after i (found changes.old.items i (map.get (I.contents base.now) i)) (effect.now ∷ [])) }
-    ensures among { OnOk result ((i : ℕ) → is_among changes.new.items i ≡ ((touched_by effect.now == i) || is_among changes.old.items i)) }
+    requires disjoint { AreDistinctChanges changes.old.items }
+    ensures disjoint { OnOk result (AreDistinctChanges changes.new.items) }
+    ensures values { OnOk result ((i : ℕ) → found changes.new.items i
+        (map.get (I.contents base.now) i) ≡ value_after i
+        (found changes.old.items i (map.get (I.contents base.now) i)) (effect.now ∷ [])) }
+    ensures among { OnOk result ((i : ℕ) → is_among changes.new.items i ≡
+        ((touched_by effect.now == i) || is_among changes.old.items i)) }
     ensures only_memory { IsOkUnless result OutOfMemory }
 {
     let place = put_in(alloc, base, changes, effect.touches())?;
@@ -114,9 +119,12 @@ pub fn changes_over<I: Inodes>(
     base: &I,
     effects: &[Effect],
 ) -> Result<Vec<Change>, Refusal>
-    ensures apart { IfOk result (λ cs. AreApart cs.items) }
-    ensures values { IfOk result (λ cs. (i : ℕ) → found cs.items i (map.get (I.contents base.now) i) ≡ value_after i (map.get (I.contents base.now) i) effects.now) }
-    ensures among { IfOk result (λ cs. (i : ℕ) → is_among cs.items i ≡ contains (touched effects.now) i) }
+    ensures disjoint { IfOk result (λ cs. AreDistinctChanges cs.items) }
+    ensures values { IfOk result (λ cs. (i : ℕ) →
+        found cs.items i (map.get (I.contents base.now) i) ≡ value_after i
+        (map.get (I.contents base.now) i) effects.now) }
+    ensures among { IfOk result (λ cs. (i : ℕ) →
+        is_among cs.items i ≡ contains (touched effects.now) i) }
     ensures only_memory { IsOkUnless result OutOfMemory }
 {
     let mut changes = Vec::new(alloc);
@@ -130,7 +138,8 @@ pub fn changes_over<I: Inodes>(
 /// inodes are as they were.
 fn make_place<S: InodeStore>(store: &mut S, made: &mut Vec<u64>, inode: u64) -> Result<(), Refusal>
     ensures ok { OnOk result (S.contents store.new ≡ placed_one (S.contents store.old) inode) }
-    ensures noted { without (S.contents store.new) made.new.items ≡ without (S.contents store.old) made.old.items }
+    ensures noted { map_without (S.contents store.new) made.new.items ≡ map_without
+        (S.contents store.old) made.old.items }
     ensures setting { S.setting store.new ≡ S.setting store.old }
     ensures only_memory { IsOkUnless result OutOfMemory }
 {
@@ -144,7 +153,7 @@ fn make_place<S: InodeStore>(store: &mut S, made: &mut Vec<u64>, inode: u64) -> 
 
 /// Takes inodes out.
 fn take_out<S: InodeStore>(store: &mut S, mut inodes: Vec<u64>)
-    ensures gone { S.contents store.new ≡ without (S.contents store.old) inodes.items }
+    ensures gone { S.contents store.new ≡ map_without (S.contents store.old) inodes.items }
     ensures setting { S.setting store.new ≡ S.setting store.old }
 {
     while let Some(inode) = inodes.pop() {
@@ -172,8 +181,9 @@ fn make_places<S: InodeStore>(store: &mut S, changes: &[Change]) -> Result<(), R
 /// Puts changes in, all of them or none: each of the inodes becomes what its change says, and no other changes. The
 /// one refusal is [`Refusal::OutOfMemory`], and it leaves all inodes as they were.
 pub fn put_all<S: InodeStore>(store: &mut S, mut changes: Vec<Change>) -> Result<(), Refusal>
-    requires apart { AreApart changes.items }
-    ensures ok { OnOk result ((i : ℕ) → map.get (S.contents store.new) i ≡ found changes.items i (map.get (S.contents store.old) i)) }
+    requires disjoint { AreDistinctChanges changes.items }
+    ensures ok { OnOk result ((i : ℕ) → map.get (S.contents store.new) i ≡ found changes.items i
+        (map.get (S.contents store.old) i)) }
     ensures err { OnErr result (S.contents store.new ≡ S.contents store.old) }
     ensures setting { S.setting store.new ≡ S.setting store.old }
     ensures only_memory { IsOkUnless result OutOfMemory }
@@ -188,7 +198,8 @@ pub fn put_all<S: InodeStore>(store: &mut S, mut changes: Vec<Change>) -> Result
 /// Makes any effects, all of them in their order or none, at the cost of a copy of each inode that they touch. The one
 /// refusal is [`Refusal::OutOfMemory`], and it leaves all inodes as they were.
 pub fn apply_all_on_copies<S: InodeStore>(store: &mut S, effects: &[Effect]) -> Result<(), Refusal>
-    ensures ok { OnOk result (S.contents store.new ≡ all_applied (S.contents store.old) effects.now) }
+    ensures ok { OnOk result (S.contents store.new ≡ all_applied
+        (S.contents store.old) effects.now) }
     ensures err { OnErr result (S.contents store.new ≡ S.contents store.old) }
     ensures setting { S.setting store.new ≡ S.setting store.old }
     ensures only_memory { IsOkUnless result OutOfMemory }

@@ -62,7 +62,7 @@ impl Directory {
         self.len() == 0
     }
 
-    /// The names of the entries, which rise by their bytes. The one refusal is [`Refusal::OutOfMemory`].
+    /// The names of the entries, which ascend by their bytes. The one refusal is [`Refusal::OutOfMemory`].
     pub fn names(&self, alloc: Global) -> Result<NameList, Refusal>
         ensures names { IfOk result (λ names. names ≡ map.keys self.now) }
         ensures only_memory { IsOkUnless result OutOfMemory }

@@ -56,7 +56,7 @@ impl FileBytes {
 
     /// The bytes from an offset on, at most so many: none at or past the end (POSIX.1-2017, read()). The one
     /// refusal is [`Refusal::OutOfMemory`], where there is a byte to read.
-    #[tactic(auto, using(crate::proofs::Writing::read_within))]
+    #[tactic(auto, using(crate::proofs::BlockWrites::read_within))]
     pub fn read(&self, alloc: Global, offset: u64, most: u64) -> Result<ByteString, Refusal>
         ensures bytes { IfOk result (λ read. read ≡ bytes_from offset most self.now) }
         ensures asked { OnErr result ((0 < most) × (offset < length self.now)) }

@@ -2,7 +2,7 @@
 ghost use Rattle.std.specs.Prelude.{◌≡◌, IfOk, IsOk, IsOkUnless, MatchResult, OnErr, OnOk, []};
 ghost use Rattle.std.specs.FinMap as map;
 ghost use Rattle.assise_names.specs.declared.refusal.Refusal.TheVariants.{OutOfMemory};
-ghost use Rattle.assise_inode_table.specs.Calls.{as_links, as_regular, description_of};
+ghost use Rattle.assise_inode_table.specs.Calls.{as_links, as_regular, stat_reply};
 ghost use Rattle.assise_inode_table.specs.Contents.{directory, regular};
 ghost use Rattle.assise_inode_table.specs.Effects.{AddsContent, TakesAway, changed};
 ghost use Rattle.assise_inode_table.specs.Reach.{link_of};
@@ -63,7 +63,8 @@ impl Inode {
 
     /// The bytes of a file. A directory is [`TreeError::IsDir`].
     pub fn file(&self) -> Result<&FileBytes, TreeError>
-        ensures { MatchResult result (λ bytes. as_regular self.now ≡ Ok bytes.now) (λ e. as_regular self.now ≡ Err e) }
+        ensures { MatchResult result (λ bytes. as_regular self.now ≡ Ok bytes.now)
+            (λ e. as_regular self.now ≡ Err e) }
     {
         match &self.kind {
             Kind::File(bytes) => Ok(bytes),
@@ -73,7 +74,8 @@ impl Inode {
 
     /// The links of a directory. A file is [`TreeError::NotDir`].
     pub fn directory(&self) -> Result<&Directory, TreeError>
-        ensures { MatchResult result (λ links. as_links self.now ≡ Ok links.now) (λ e. as_links self.now ≡ Err e) }
+        ensures { MatchResult result (λ links. as_links self.now ≡ Ok links.now)
+            (λ e. as_links self.now ≡ Err e) }
     {
         match &self.kind {
             Kind::File(_) => Err(TreeError::NotDir),
@@ -94,7 +96,7 @@ impl Inode {
 
     /// What a stat says of it: a file with its size in bytes, or a directory with its count of entries.
     pub fn describe(&self) -> Reply
-        ensures { result ≡ description_of self.now }
+        ensures { result ≡ stat_reply self.now }
     {
         match &self.kind {
             Kind::File(bytes) => Reply::File(bytes.len() as u64),

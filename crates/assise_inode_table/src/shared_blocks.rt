@@ -33,7 +33,7 @@ impl Model for SharedBlocks {
 
 impl SharedBlocks {
     /// No bytes. It takes no memory.
-    #[tactic(auto, using(crate::proofs::Cutting::cut_none))]
+    #[tactic(auto, using(crate::proofs::BlockBytes::cut_none))]
     pub fn new() -> SharedBlocks
         ensures { result ≡ [] }
     {
@@ -54,7 +54,7 @@ impl SharedBlocks {
 
     /// The blocks that the bytes lie in.
     fn blocks(&self) -> &[Bytes]
-        ensures shape { IsCut result.now }
+        ensures cut { IsCut result.now }
         ensures bytes { concat result.now ≡ self.now }
     {
         match &self.list {
@@ -64,7 +64,7 @@ impl SharedBlocks {
     }
 
     /// The bytes from a start to an end, in one piece: shared with the block where one has them all.
-    #[tactic(auto, using(crate::proofs::Writing::end_held, crate::proofs::Writing::part_of))]
+    #[tactic(auto, using(crate::proofs::BlockWrites::end_held, crate::proofs::BlockWrites::part_of))]
     pub fn piece(&self, alloc: Global, start: usize, end: usize) -> Result<Bytes, AllocError>
         requires some { start < end }
         requires within { end ≤ length self.now }
@@ -126,13 +126,15 @@ fn overwrite(
     offset: usize,
     new: &[u8],
 ) -> Result<(), AllocError>
-    requires shape { IsCut (arc_value list.old).items }
+    requires cut { IsCut (arc_value list.old).items }
     requires within { size ≤ length (concat (arc_value list.old).items) }
     requires some { 0 < length new.now + (offset - size) }
     requires fits { offset + length new.now < 2 ^ 64 }
-    ensures shape { IsCut (arc_value list.new).items }
-    ensures ok { OnOk result (concat (arc_value list.new).items ≡ overwritten (take size (concat (arc_value list.old).items)) offset new.now) }
-    ensures err { OnErr result (take size (concat (arc_value list.new).items) ≡ take size (concat (arc_value list.old).items)) }
+    ensures cut { IsCut (arc_value list.new).items }
+    ensures ok { OnOk result (concat (arc_value list.new).items ≡ overwritten
+        (take size (concat (arc_value list.old).items)) offset new.now) }
+    ensures err { OnErr result (take size (concat (arc_value list.new).items) ≡ take size
+        (concat (arc_value list.old).items)) }
 {
     let own = Arc::make_mut(list)?;
     blocks::shorten(own, size);

@@ -22,7 +22,8 @@ pub trait InodeStore: Inodes {
     /// Gives a number an inode, and gives back the one that it had. The one refusal is [`Refusal::OutOfMemory`], where
     /// it had none, and it leaves all inodes as they were.
     fn insert(&mut self, inode: u64, content: Inode) -> Result<Option<Inode>, Refusal>
-        ensures ok { OnOk result (Self.contents self.new ≡ map.insert (Self.contents self.old) inode content) }
+        ensures ok { OnOk result (Self.contents self.new ≡ map.insert
+            (Self.contents self.old) inode content) }
         ensures replaced { IfOk result (λ had. had ≡ map.get (Self.contents self.old) inode) }
         ensures err { OnErr result (Self.contents self.new ≡ Self.contents self.old) }
         ensures asked { OnErr result (map.get (Self.contents self.old) inode ≡ None) }
@@ -41,10 +42,12 @@ pub trait InodeStore: Inodes {
     /// entry gets a new name, and it leaves all inodes as they were. What only takes away takes no memory, and neither
     /// does an effect for the other kind or on an inode that isn't there.
     fn apply(&mut self, effect: &Effect) -> Result<(), Refusal>
-        ensures ok { OnOk result (Self.contents self.new ≡ applied (Self.contents self.old) effect.now) }
+        ensures ok { OnOk result (Self.contents self.new ≡ applied
+            (Self.contents self.old) effect.now) }
         ensures taken_away { TakesAway effect.now → IsOk result }
         ensures err { OnErr result (Self.contents self.new ≡ Self.contents self.old) }
-        ensures asked { OnErr result (AsksForMemory effect.now (map.get (Self.contents self.old) (touched_by effect.now))) }
+        ensures asked { OnErr result (AsksForMemory effect.now
+            (map.get (Self.contents self.old) (touched_by effect.now))) }
         ensures setting { setting self.new ≡ setting self.old }
         ensures only_memory { IsOkUnless result OutOfMemory };
 }

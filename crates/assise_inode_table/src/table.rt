@@ -3,7 +3,7 @@ ghost use Rattle.std.specs.Prelude.{◌≡◌, IfOk, IsOk, IsOkUnless, None, OnE
 ghost use Rattle.std.specs.FinMap as map;
 ghost use Rattle.assise_names.specs.declared.refusal.Refusal.TheVariants.{OutOfMemory};
 ghost use Rattle.assise_inode_table.specs.Effects.{AsksForMemory, TakesAway, all_applied, applied, changed, with_value};
-ghost use Rattle.assise_inode_table.specs.Opening.{opening};
+ghost use Rattle.assise_inode_table.specs.Opening.{opening_inodes};
 ghost use Rattle.assise_inode_table.specs.Whole.{CanBeMadeWhole, OnlyTakeAway};
 ghost use Rattle.assise_record.specs.Touched.{touched_by};
 
@@ -52,7 +52,7 @@ impl InodeTable {
     /// What stands at the opening of a file system: the root as a directory without entries, and nothing else. The
     /// one refusal is [`Refusal::OutOfMemory`].
     pub fn opening(alloc: Global) -> Result<InodeTable, Refusal>
-        ensures root { IfOk result (λ table. table ≡ opening) }
+        ensures root { IfOk result (λ table. table ≡ opening_inodes) }
         ensures only_memory { IsOkUnless result OutOfMemory }
     {
         let mut table = InodeTable::new(alloc);
@@ -96,7 +96,8 @@ impl InodeTable {
         ensures ok { OnOk result (self.new ≡ applied self.old effect.now) }
         ensures taken_away { TakesAway effect.now → IsOk result }
         ensures err { OnErr result (self.new ≡ self.old) }
-        ensures asked { OnErr result (AsksForMemory effect.now (map.get self.old (touched_by effect.now))) }
+        ensures asked { OnErr result (AsksForMemory effect.now
+            (map.get self.old (touched_by effect.now))) }
         ensures only_memory { IsOkUnless result OutOfMemory }
     {
         match effect {
@@ -129,10 +130,12 @@ impl InodeTable {
     /// Changes the inode that an effect touches, where there is one.
     fn change(&mut self, effect: &Effect) -> Result<(), Refusal>
         ensures taken_away { TakesAway effect.now → IsOk result }
-        ensures ok { let inode = touched_by effect.now in
-            OnOk result (self.new ≡ with_value self.old inode (option_map (λ content. changed content effect.now) (map.get self.old inode))) }
+        ensures ok { let inode = touched_by effect.now in OnOk result
+            (self.new ≡ with_value self.old inode
+            (option_map (λ content. changed content effect.now) (map.get self.old inode))) }
         ensures err { OnErr result (self.new ≡ self.old) }
-        ensures asked { OnErr result (AsksForMemory effect.now (map.get self.old (touched_by effect.now))) }
+        ensures asked { OnErr result (AsksForMemory effect.now
+            (map.get self.old (touched_by effect.now))) }
         ensures only_memory { IsOkUnless result OutOfMemory }
     {
         let Some(inode) = self.inodes.get_mut(&effect.touches()) else {

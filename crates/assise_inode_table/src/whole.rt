@@ -21,7 +21,8 @@ use std::alloc::Global;
 /// or the last one is a link, and the others only take away: what a call plans is of these forms.
 pub fn apply_all<S: InodeStore>(store: &mut S, effects: &[Effect]) -> Result<(), Refusal>
     requires whole { CanBeMadeWhole effects.now }
-    ensures ok { OnOk result (S.contents store.new ≡ all_applied (S.contents store.old) effects.now) }
+    ensures ok { OnOk result (S.contents store.new ≡ all_applied
+        (S.contents store.old) effects.now) }
     ensures taken_away { OnlyTakeAway effects.now → IsOk result }
     ensures err { OnErr result (S.contents store.new ≡ S.contents store.old) }
     ensures setting { S.setting store.new ≡ S.setting store.old }
@@ -45,7 +46,8 @@ fn apply_making<S: InodeStore>(
     rest: &[Effect],
 ) -> Result<(), Refusal>
     requires asks { OnlyFirstAsks rest.now }
-    ensures ok { OnOk result (S.contents store.new ≡ all_applied (map.insert (S.contents store.old) inode made) rest.now) }
+    ensures ok { OnOk result (S.contents store.new ≡ all_applied
+        (map.insert (S.contents store.old) inode made) rest.now) }
     ensures err { OnErr result (S.contents store.new ≡ S.contents store.old) }
     ensures setting { S.setting store.new ≡ S.setting store.old }
     ensures only_memory { IsOkUnless result OutOfMemory }
@@ -61,7 +63,8 @@ fn apply_making<S: InodeStore>(
 /// Makes effects of which the first makes no inode: with their last one first where that is a link, and else in order.
 fn apply_changes<S: InodeStore>(store: &mut S, effects: &[Effect]) -> Result<(), Refusal>
     requires whole { CanBeChangedWhole effects.now }
-    ensures ok { OnOk result (S.contents store.new ≡ all_applied (S.contents store.old) effects.now) }
+    ensures ok { OnOk result (S.contents store.new ≡ all_applied
+        (S.contents store.old) effects.now) }
     ensures taken_away { OnlyTakeAway effects.now → IsOk result }
     ensures err { OnErr result (S.contents store.new ≡ S.contents store.old) }
     ensures setting { S.setting store.new ≡ S.setting store.old }
@@ -80,7 +83,8 @@ fn apply_changes<S: InodeStore>(store: &mut S, effects: &[Effect]) -> Result<(),
 /// Makes effects in order, of which only the first may be refused.
 fn apply_in_order<S: InodeStore>(store: &mut S, effects: &[Effect]) -> Result<(), Refusal>
     requires asks { OnlyFirstAsks effects.now }
-    ensures ok { OnOk result (S.contents store.new ≡ all_applied (S.contents store.old) effects.now) }
+    ensures ok { OnOk result (S.contents store.new ≡ all_applied
+        (S.contents store.old) effects.now) }
     ensures taken_away { OnlyTakeAway effects.now → IsOk result }
     ensures err { OnErr result (S.contents store.new ≡ S.contents store.old) }
     ensures setting { S.setting store.new ≡ S.setting store.old }
@@ -105,7 +109,8 @@ fn apply_link_first<S: InodeStore>(
 ) -> Result<(), Refusal>
     requires links { is_link link.now ≡ true }
     requires take_away { OnlyTakeAway before.now }
-    ensures ok { OnOk result (S.contents store.new ≡ all_applied (S.contents store.old) (before.now ++ link.now ∷ [])) }
+    ensures ok { OnOk result (S.contents store.new ≡ all_applied (S.contents store.old)
+        (before.now ++ link.now ∷ [])) }
     ensures err { OnErr result (S.contents store.new ≡ S.contents store.old) }
     ensures setting { S.setting store.new ≡ S.setting store.old }
     ensures only_memory { IsOkUnless result OutOfMemory }

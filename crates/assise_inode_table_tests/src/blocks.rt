@@ -1,7 +1,7 @@
 // Files that are written and cut around the ends of their blocks, beside plain bytes.
 use assise_inode_table::file_bytes::FileBytes;
-use assise_rows::split_word;
 use assise_seq_tree::contents;
+use assise_test_rows::split_word;
 use std::alloc::{AllocError, Global};
 
 /// A line for each pair of files: `left` or `right` with `write OFFSET COUNT` or `resize SIZE`, and `copy` to the one that gets what
@@ -144,7 +144,7 @@ fn line_agrees(alloc: Global, turns: &str) -> Option<bool> {
 }
 
 #[test]
-fn files_in_blocks_are_their_bytes_and_copies_change_apart(rt: HostRuntime) {
+fn files_in_blocks_are_their_bytes_and_copies_change_disjoint(rt: HostRuntime) {
     for turns in PAIRS.lines() {
         assert_eq!(rt; line_agrees(rt.alloc(), turns), Some(true), "{turns}");
     }

@@ -1,8 +1,8 @@
 // Effects on copies of inodes.
-use assise_effect_texts::effects::effect_of;
 use assise_inode_table::changes::apply_all_on_copies;
 use assise_inode_table::table::InodeTable;
 use assise_record::effect::Effect;
+use assise_test_effects::effects::effect_of;
 use std::alloc::Global;
 
 /// Makes effects, which have commas between them, on copies of the inodes that they touch.

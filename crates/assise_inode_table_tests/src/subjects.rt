@@ -1,15 +1,15 @@
 // What the rows of the tests ask.
 use crate::calls::{reply_on, reply_over};
 use crate::effects::make_on_copies;
-use assise_effect_texts::effects::make;
-use assise_effect_texts::inodes::put_inodes;
 use assise_inode_table::directory::Directory;
 use assise_inode_table::numbers::inode_number;
 use assise_inode_table::table::InodeTable;
 use assise_names::name::Name;
 use assise_names::reply::Reply;
-use assise_rows::{Subject, wrong_rows};
 use assise_seq_tree::tree::Tree;
+use assise_test_effects::effects::make;
+use assise_test_effects::inodes::put_inodes;
+use assise_test_rows::{Subject, wrong_rows};
 use std::alloc::{AllocError, Global};
 use std::process::Abort;
 

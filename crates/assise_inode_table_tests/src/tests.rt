@@ -1,10 +1,10 @@
 // Effects case by case, copies, and walks beside the sequential tree.
 use crate::subjects::{Copies, Effects, NewEntries, Numbers, OnTree, OverInodes, show};
-use assise_effect_texts::cases::CASES;
 use assise_inode_table::directory::Directory;
 use assise_inode_table::table::InodeTable;
 use assise_names::name::Name;
 use assise_seq_tree::tree::Tree;
+use assise_test_effects::cases::CASES;
 use std::alloc::Global;
 
 #[test]

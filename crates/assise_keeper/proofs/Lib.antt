@@ -1,4 +1,4 @@
-pub mod Adding
-pub mod Owning
-pub mod Stepping
+pub mod PassAdds
+pub mod ClientOwners
+pub mod StepsKeepRule
 pub mod Stages

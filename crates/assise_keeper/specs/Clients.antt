@@ -1,30 +1,30 @@
 -- Whose entries a history has, and what a pass may add to it.
 use Rattle.std.specs.Prelude.{◌≡◌, ℕ, List, [], ◌∷◌, ◌++◌, filter, length, drop, Option, Some, None}
-use Rattle.assise_history.specs.Entries.{Event, opens, calls, crashes, fails, returns}
+use Rattle.assise_history.specs.Entries.{EntryValue, opens, calls, crashes, fails, returns}
 use Rattle.assise_history.specs.Legal.{is_call_of}
 use Rattle.assise_history.specs.Opened.{is_opening_of}
 
 -- how often the client was opened
-abbrev pub openings : ℕ → List Event → ℕ
+abbrev pub openings : ℕ → List EntryValue → ℕ
 openings c h = length (filter (is_opening_of c) h)
 
 -- the client's calls, in order
-abbrev pub calls_by : ℕ → List Event → List Event
+abbrev pub calls_by : ℕ → List EntryValue → List EntryValue
 calls_by c h = filter (is_call_of c) h
 
 -- the same of a pass, which may have no client
-abbrev pub calls_of : Option ℕ → List Event → List Event
+abbrev pub calls_of : Option ℕ → List EntryValue → List EntryValue
 calls_of None h = []
 calls_of (Some c) h = calls_by c h
 
 -- the history begins with what was seen
-abbrev pub Extends : List Event → List Event → Type 0
-Extends h front = (more : List Event) × (h ≡ front ++ more)
+abbrev pub Extends : List EntryValue → List EntryValue → Type 0
+Extends h prefix = (more : List EntryValue) × (h ≡ prefix ++ more)
 
 -- ---- what a pass may add: calls of its client; where it has none, the opening of one; and what is nobody's
 
 -- the client of a pass that added the entry
-abbrev pub client_with : Option ℕ → Event → Option ℕ
+abbrev pub client_with : Option ℕ → EntryValue → Option ℕ
 client_with c (opens d n u) = Some d
 client_with c (calls x) = c
 client_with c (crashes d) = c
@@ -32,12 +32,12 @@ client_with c (fails n losses) = c
 client_with c (returns n) = c
 
 -- the client of a pass that added the entries
-abbrev pub client_after : Option ℕ → List Event → Option ℕ
+abbrev pub client_after : Option ℕ → List EntryValue → Option ℕ
 client_after c [] = c
 client_after c (e ∷ es) = client_after (client_with c e) es
 
 -- a pass with this client, or none, may add the entry
-abbrev pub MayAdd : Option ℕ → Event → Type 0
+abbrev pub MayAdd : Option ℕ → EntryValue → Type 0
 MayAdd c (opens d n u) = c ≡ None
 MayAdd c (calls x) = c ≡ Some x.client
 MayAdd c (crashes d) = Unit {0}
@@ -45,23 +45,23 @@ MayAdd c (fails n losses) = Unit {0}
 MayAdd c (returns n) = Unit {0}
 
 -- it may add the entries, one after another
-abbrev pub MayAddAll : Option ℕ → List Event → Type 0
+abbrev pub MayAddAll : Option ℕ → List EntryValue → Type 0
 MayAddAll c [] = Unit {0}
 MayAddAll c (e ∷ es) = MayAdd c e × MayAddAll (client_with c e) es
 
 -- the history goes on from the one that was taken, by entries that the pass may add
-abbrev pub MayGive : Option ℕ → List Event → List Event → Type 0
-MayGive c taken h = (more : List Event) × (h ≡ taken ++ more) × MayAddAll c more
+abbrev pub MayGive : Option ℕ → List EntryValue → List EntryValue → Type 0
+MayGive c taken h = (more : List EntryValue) × (h ≡ taken ++ more) × MayAddAll c more
 
 -- what a history has behind the one that was taken
-abbrev pub added : List Event → List Event → List Event
+abbrev pub added : List EntryValue → List EntryValue → List EntryValue
 added taken h = drop (length taken) h
 
 -- ---- what a call makes of what its caller has seen
 
 -- What was seen goes on by entries that aren't calls of the client, and then this call. The client's calls have grown by it.
-pub record ExtendsByOne (c : ℕ) (old new : List Event) (call : Event) : Type 0 where
-  pub between : List Event
+pub record ExtendsByOne (c : ℕ) (old new : List EntryValue) (call : EntryValue) : Type 0 where
+  pub between : List EntryValue
   pub split : new ≡ (old ++ between) ++ call ∷ []
   pub others : calls_by c between ≡ []
   pub grown : calls_by c new ≡ calls_by c old ++ call ∷ []

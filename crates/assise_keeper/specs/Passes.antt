@@ -1,6 +1,6 @@
 -- What a clause says of a pass.
 use Rattle.std.specs.Prelude.{◌≡◌, ℕ, List, [], ◌∷◌, Option, None}
-use Rattle.assise_history.specs.Entries.{Event}
+use Rattle.assise_history.specs.Entries.{EntryValue}
 use Rattle.assise_keeper.specs.declared.view.View.{View}
 use Rattle.assise_keeper.specs.declared.view.Stage.{Stage}
 use Rattle.assise_keeper.specs.declared.view.Stage.TheVariants.{Fresh, Idle, Holding}
@@ -8,7 +8,7 @@ use Rattle.assise_keeper.specs.declared.pass.Pass.{Pass}
 use Rattle.assise_keeper.specs.declared.keeper.Keeper.{Keeper}
 use Rattle.assise_keeper.specs.Clients.{calls_of}
 
-abbrev pub taken_at : Stage → List Event
+abbrev pub taken_at : Stage → List EntryValue
 taken_at Fresh = []
 taken_at Idle = []
 taken_at (Holding h) = h
@@ -18,7 +18,7 @@ module _ {S : Type 0} where
   view p = p.seat.me.0
 
   -- what the pass has seen of the history
-  abbrev pub seen : Pass S → List Event
+  abbrev pub seen : Pass S → List EntryValue
   seen p = p.seat.me.0.own.seen
 
   -- its client, if it has one
@@ -26,11 +26,11 @@ module _ {S : Type 0} where
   client p = p.seat.me.0.own.client
 
   -- the answered calls of its client, in order: exactly the client's calls in what the pass has seen
-  abbrev pub mine : Pass S → List Event
+  abbrev pub mine : Pass S → List EntryValue
   mine p = calls_of (client p) (seen p)
 
   -- the history that it took, while it holds
-  abbrev pub taken : Pass S → List Event
+  abbrev pub taken : Pass S → List EntryValue
   taken p = taken_at p.seat.me.0.stage
 
   -- both are passes of one keeper
@@ -46,7 +46,7 @@ module _ {S : Type 0} where
   IsPassOf k p = (p.seat.table_id ≡ k.table.shared.table_id) × (p.seat.me.1 ≡ []) × (p.seat.me.0.stage ≡ Idle)
 
   -- it is a pass of this keeper and holds a state that was taken with the history h
-  abbrev pub IsHoldingThis : Keeper S → Pass S → List Event → Type 0
+  abbrev pub IsHoldingThis : Keeper S → Pass S → List EntryValue → Type 0
   IsHoldingThis k p h = (p.seat.table_id ≡ k.table.shared.table_id) × (p.seat.me.1 ≡ (0, None) ∷ []) × (p.seat.me.0.stage ≡ Holding h)
 
   -- it is a pass of this keeper and holds the state

@@ -4,7 +4,7 @@ use mathlib.Core.Option.{some, none}
 use mathlib.Core.Option as maybe
 use lib.ListN.{get_elem?}
 use Rattle.atomic_table.specs.Table.{State}
-use Rattle.assise_history.specs.Entries.{Event}
+use Rattle.assise_history.specs.Entries.{EntryValue}
 use Rattle.assise_keeper.specs.declared.view.Half.{Half}
 use Rattle.assise_keeper.specs.declared.view.Stage.{Stage}
 use Rattle.assise_keeper.specs.declared.view.Stage.TheVariants.{Fresh, Idle, Holding}
@@ -13,45 +13,45 @@ use Rattle.assise_keeper.specs.Clients.{openings, calls_by, Extends}
 use Rattle.assise_keeper.specs.Views.{newcomer}
 
 -- where the state is: not in yet, at home, or out with a pass
-pub data Place : Type 0 where
-  not_in : Place
-  home : Place
-  out : ℕ → Place
+pub data StatePlace : Type 0 where
+  not_in : StatePlace
+  home : StatePlace
+  out : ℕ → StatePlace
 
 -- The word, the slot and who holds the state. Until the state is in, the word is 2, the slot is home and empty, and the
 -- one pass has seen nothing. Where the state is home, the word is 0. Where it is out, the word is 1, the slot is out, and
 -- there is a pass that holds it and noted the history.
-module _ {S : Type 0} (history : S → List Event) where
-  abbrev pub IsAt : List ℕ → List (maybe.Option (Option S)) → List View → List Event → Place → Type 0
+module _ {S : Type 0} (history : S → List EntryValue) where
+  abbrev pub IsAt : List ℕ → List (maybe.Option (Option S)) → List View → List EntryValue → StatePlace → Type 0
   IsAt words homes views h not_in = (words ≡ 2 ∷ []) × (homes ≡ some None ∷ []) × (views ≡ newcomer ∷ []) × (h ≡ [])
   IsAt words homes views h home = (words ≡ 0 ∷ []) × ((x : S) × (homes ≡ some (Some x) ∷ []) × (history x ≡ h))
   IsAt words homes views h (out j) = (words ≡ 1 ∷ []) × (homes ≡ none ∷ []) × ((v : View) × (get_elem? views j ≡ some v) × (v.stage ≡ Holding h))
 
 -- No other pass holds: a pass holds only where the state is out with it.
-abbrev pub IsStage : Place → List Event → ℕ → Stage → Type 0
+abbrev pub IsStage : StatePlace → List EntryValue → ℕ → Stage → Type 0
 IsStage p h j Fresh = p ≡ not_in
 IsStage p h j Idle = Unit {0}
 IsStage p h j (Holding taken) = (p ≡ out j) × (taken ≡ h)
 
 -- The history extends what was seen, and has no call of the client that wasn't seen.
-abbrev pub Covers : List Event → Half → Type 0
-Covers h v = Extends h v.seen × ((c : ℕ) → v.client ≡ Some c → calls_by c h ≡ calls_by c v.seen)
+abbrev pub CoversHalf : List EntryValue → Half → Type 0
+CoversHalf h v = Extends h v.seen × ((c : ℕ) → v.client ≡ Some c → calls_by c h ≡ calls_by c v.seen)
 
 -- Where a client is: with which pass, and whether with the pass itself (true) or with the one that it meets.
 abbrev pub Owner : Type 0
 Owner = ℕ × Bool
 
 -- The half is covered; its client was opened in what was seen, and is with this half alone.
-abbrev pub Fits : List Event → (ℕ → Owner) → ℕ → Bool → Half → Type 0
-Fits h owner pass side v = Covers h v × ((c : ℕ) → v.client ≡ Some c → (0 < openings c v.seen) × (owner c ≡ (pass, side)))
+abbrev pub HalfFits : List EntryValue → (ℕ → Owner) → ℕ → Bool → Half → Type 0
+HalfFits h owner pass side v = CoversHalf h v × ((c : ℕ) → v.client ≡ Some c → (0 < openings c v.seen) × (owner c ≡ (pass, side)))
 
-abbrev pub IsPassAt : Place → List Event → (ℕ → Owner) → ℕ → View → Type 0
-IsPassAt p h owner j v = Fits h owner j true v.own × Fits h owner j false v.guest × IsStage p h j v.stage
+abbrev pub IsPassAt : StatePlace → List EntryValue → (ℕ → Owner) → ℕ → View → Type 0
+IsPassAt p h owner j v = HalfFits h owner j true v.own × HalfFits h owner j false v.guest × IsStage p h j v.stage
 
 -- There is one history: that of the state at home, or as it was when it was taken. It covers what every pass knows.
-pub record IsKept {S : Type 0} (history : S → List Event) (s : State (Option S) View) : Type 0 where
-  pub h : List Event
-  pub place : Place
+pub record IsKept {S : Type 0} (history : S → List EntryValue) (s : State (Option S) View) : Type 0 where
+  pub h : List EntryValue
+  pub place : StatePlace
   pub owner : ℕ → Owner
   pub is_at : IsAt history s.words s.homes s.views h place
   pub each : (j : ℕ) (v : View) → get_elem? s.views j ≡ some v → IsPassAt place h owner j v

@@ -2,26 +2,26 @@
 use Rattle.std.specs.Prelude.{◌≡◌, ◌≢◌, ℕ, List, [], ◌∷◌, Option, Some, None}
 use mathlib.Core.Option.{some}
 use Rattle.atomic_table.specs.Table.{Me, Step}
-use Rattle.assise_history.specs.Entries.{Event}
+use Rattle.assise_history.specs.Entries.{EntryValue}
 use Rattle.assise_keeper.specs.declared.view.Stage.TheVariants.{Fresh, Holding}
 use Rattle.assise_keeper.specs.declared.view.View.{View}
 use Rattle.assise_keeper.specs.Views.{holding, given}
-use Rattle.assise_keeper.specs.Rule.{Covers}
+use Rattle.assise_keeper.specs.Rule.{CoversHalf}
 
 -- a pass as the table sees it: its view, and the slot with what lies in it while the pass carries it
 abbrev pub Sitting : Type 0 → Type 0
 Sitting S = Me (Option S) View
 
-module _ {S : Type 0} (history : S → List Event) where
+module _ {S : Type 0} (history : S → List EntryValue) where
   -- from 0 to 1: the pass carries the slot and notes the history, which covers what it knows
   abbrev pub taking : Step (Option S) → Sitting S → ℕ → Sitting S → Type 0
   taking st m found m' =
-      (found ≡ 0 → (x : S) × (m' ≡ (holding m.0 (history x), (0, Some x) ∷ m.1)) × Covers (history x) m.0.own × Covers (history x) m.0.guest)
+      (found ≡ 0 → (x : S) × (m' ≡ (holding m.0 (history x), (0, Some x) ∷ m.1)) × CoversHalf (history x) m.0.own × CoversHalf (history x) m.0.guest)
       × (found ≢ 0 → m' ≡ m)
 
   -- from 1 to 0: the slot goes home, and the pass has seen the history of the state in it
   abbrev pub releasing : Step (Option S) → Sitting S → ℕ → Sitting S → Type 0
-  releasing st m found m' = (x : S) (h : List Event) → m.1 ≡ (0, Some x) ∷ [] → m.0.stage ≡ Holding h → m' ≡ (given m.0 h (history x), [])
+  releasing st m found m' = (x : S) (h : List EntryValue) → m.1 ≡ (0, Some x) ∷ [] → m.0.stage ≡ Holding h → m' ≡ (given m.0 h (history x), [])
 
   -- from 2 to 1: the first pass carries the empty slot, and notes the history of the state that it is to put in
   abbrev pub setting_up : Step (Option S) → Sitting S → ℕ → Sitting S → Type 0

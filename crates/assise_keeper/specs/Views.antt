@@ -1,49 +1,49 @@
 -- What passes know, and how the steps change it.
 use Rattle.std.specs.Prelude.{ℕ, List, [], Option, None}
-use Rattle.assise_history.specs.Entries.{Event}
+use Rattle.assise_history.specs.Entries.{EntryValue}
 use Rattle.assise_keeper.specs.declared.view.Half.{Half}
 use Rattle.assise_keeper.specs.declared.view.Stage.{Stage}
 use Rattle.assise_keeper.specs.declared.view.Stage.TheVariants.{Fresh, Idle, Holding}
 use Rattle.assise_keeper.specs.declared.view.View.{View}
 use Rattle.assise_keeper.specs.Clients.{client_after, added}
 
-abbrev pub half : List Event → Option ℕ → Half
+abbrev pub half : List EntryValue → Option ℕ → Half
 half h c = record { seen = h; client = c }
 
 -- nothing was seen, and there is no client
-abbrev pub nobody : Half
-nobody = half [] None
+abbrev pub clientless : Half
+clientless = half [] None
 
 -- a pass that meets nobody
-abbrev pub alone : Half → Stage → View
-alone v stage = record { own = v; guest = nobody; stage = stage }
+abbrev pub unmet : Half → Stage → View
+unmet v stage = record { own = v; guest = clientless; stage = stage }
 
 -- the first pass, before the state is in
 abbrev pub newcomer : View
-newcomer = alone nobody Fresh
+newcomer = unmet clientless Fresh
 
 -- what is left of a pass that another took in
 abbrev pub spent : View
-spent = alone nobody Idle
+spent = unmet clientless Idle
 
 -- it has seen the same, and has no client
 abbrev pub with_no_client : View → View
-with_no_client v = alone (half v.own.seen None) Idle
+with_no_client v = unmet (half v.own.seen None) Idle
 
 -- a pass that took another in, until they part
 abbrev pub together : View → View → View
 together v w = record { own = v.own; guest = w.own; stage = v.stage }
 
 abbrev pub own_of : View → View
-own_of v = alone v.own v.stage
+own_of v = unmet v.own v.stage
 
 abbrev pub guest_of : View → View
-guest_of v = alone v.guest Idle
+guest_of v = unmet v.guest Idle
 
 -- it took the state, whose history is this
-abbrev pub holding : View → List Event → View
+abbrev pub holding : View → List EntryValue → View
 holding v h = record { own = v.own; guest = v.guest; stage = Holding h }
 
 -- it gave the state back, whose history went from the first to the second
-abbrev pub given : View → List Event → List Event → View
+abbrev pub given : View → List EntryValue → List EntryValue → View
 given v taken h = record { own = half h (client_after v.own.client (added taken h)); guest = half h v.guest.client; stage = Idle }

@@ -31,14 +31,15 @@ impl<S: Growing> Keeper<S> {
     ghost use Rattle.assise_names.specs.declared.refusal.Refusal.TheVariants.{OutOfMemory};
     ghost use Rattle.assise_keeper.specs.Clients.{Extends, calls_of, MayGive, client_after, added};
     ghost use Rattle.assise_keeper.specs.Views.{holding, given};
-    ghost use Rattle.assise_keeper.specs.Rule.{Covers};
+    ghost use Rattle.assise_keeper.specs.Rule.{CoversHalf};
     ghost use Rattle.assise_keeper.specs.Passes.{seen, client, mine, view, taken, IsPassOf, IsHolding, IsHoldingThis, IsFirst};
 
     /// Keeps the state, and gives the first pass, which has seen the state's whole history and has no client. Where
     /// there is no memory the state comes back with [`Refusal::OutOfMemory`].
     pub fn new(alloc: Global, state: S) -> Result<(Keeper<S>, Pass<S>), (Refusal, S)>
         ensures pass { IfOk result (λ made. IsPassOf made.0 made.1) }
-        ensures seen { IfOk result (λ made. (seen made.1 ≡ S.history state) × (client made.1 ≡ None)) }
+        ensures seen { IfOk result (λ made. (seen made.1 ≡ S.history state) ×
+            (client made.1 ≡ None)) }
         ensures refused { IfErr result (λ refused. refused ≡ (OutOfMemory, state)) }
     {
         let Ok((table, seat)) = Table::vacant(alloc, &[2], 1, &()) else {
@@ -53,7 +54,8 @@ impl<S: Growing> Keeper<S> {
     // The state goes in for the first time.
     fn set_up(&self, pass: &mut Pass<S>, state: S)
         requires { IsFirst self.now pass.old × (client pass.old ≡ None) }
-        ensures { IsPassOf self.now pass.new × (seen pass.new ≡ S.history state) × (client pass.new ≡ None) }
+        ensures { IsPassOf self.now pass.new × (seen pass.new ≡ S.history state) ×
+            (client pass.new ≡ None) }
     {
         let full = Some(state);
         self.table
@@ -65,7 +67,7 @@ impl<S: Growing> Keeper<S> {
 
     // The state goes back.
     fn put(&self, pass: &mut Pass<S>, state: S)
-        requires holds { IsHolding self.now pass.old }
+        requires holding { IsHolding self.now pass.old }
         requires grows { MayGive (client pass.old) (taken pass.old) (S.history state) }
         ensures free { IsPassOf self.now pass.new }
         ensures view { view pass.new ≡ given (view pass.old) (taken pass.old) (S.history state) }
@@ -78,8 +80,12 @@ impl<S: Growing> Keeper<S> {
 
     fn try_take(&self, pass: &mut Pass<S>) -> Option<S>
         requires { IsPassOf self.now pass.old }
-        ensures took { IfSome result (λ t. IsHoldingThis self.now pass.new (S.history t) × (view pass.new ≡ holding (view pass.old) (S.history t)) × Covers (S.history t) (view pass.old).own × Covers (S.history t) (view pass.old).guest) }
-        ensures none { IfNone result (IsPassOf self.now pass.new × (view pass.new ≡ view pass.old)) }
+        ensures took { IfSome result (λ t. IsHoldingThis self.now pass.new (S.history t) ×
+            (view pass.new ≡ holding (view pass.old) (S.history t)) ×
+            CoversHalf (S.history t) (view pass.old).own ×
+            CoversHalf (S.history t) (view pass.old).guest) }
+        ensures none { IfNone result (IsPassOf self.now pass.new ×
+            (view pass.new ≡ view pass.old)) }
     {
         let shared = &self.table.shared;
         if shared.compare_exchange::<Take>(&mut pass.seat, 0, 0, 1) != 0 {
@@ -96,8 +102,8 @@ impl<S: Growing> Keeper<S> {
         requires { IsPassOf self.now pass.old }
         ensures took { IsHoldingThis self.now pass.new (S.history result) }
         ensures view { view pass.new ≡ holding (view pass.old) (S.history result) }
-        ensures own { Covers (S.history result) (view pass.old).own }
-        ensures guest { Covers (S.history result) (view pass.old).guest }
+        ensures own { CoversHalf (S.history result) (view pass.old).own }
+        ensures guest { CoversHalf (S.history result) (view pass.old).guest }
     {
         let nap = Duration::from_micros(NAP_MICROS);
         let mut tries = 0;
@@ -131,11 +137,12 @@ impl<S: Growing> Keeper<S> {
     /// Gives the state back, and the pass has seen it. It waits for nobody and takes no memory. What was added to the
     /// history is what the pass may add: calls of its own client, and the opening of one client where it has none.
     pub fn give(&self, pass: &mut Pass<S>, held: Held<S>)
-        requires holds { IsHolding self.now pass.old }
+        requires holding { IsHolding self.now pass.old }
         requires grows { MayGive (client pass.old) (taken pass.old) (S.history held) }
         ensures free { IsPassOf self.now pass.new }
         ensures seen { seen pass.new ≡ S.history held }
-        ensures client { client pass.new ≡ client_after (client pass.old) (added (taken pass.old) (S.history held)) }
+        ensures client { client pass.new ≡ client_after (client pass.old)
+            (added (taken pass.old) (S.history held)) }
     {
         self.put(pass, held.into_state());
     }
@@ -178,8 +185,10 @@ impl<S: Growing> Keeper<S> {
     fn look<R: Wait>(&self, rt: &R, pass: &mut Pass<S>)
         requires { IsPassOf self.now pass.old }
         ensures free { IsPassOf self.now pass.new }
-        ensures own { ((view pass.new).own.client ≡ (view pass.old).own.client) × Covers (view pass.new).own.seen (view pass.old).own }
-        ensures guest { ((view pass.new).guest.client ≡ (view pass.old).guest.client) × Covers (view pass.new).guest.seen (view pass.old).guest }
+        ensures own { ((view pass.new).own.client ≡ (view pass.old).own.client) ×
+            CoversHalf (view pass.new).own.seen (view pass.old).own }
+        ensures guest { ((view pass.new).guest.client ≡ (view pass.old).guest.client) ×
+            CoversHalf (view pass.new).guest.seen (view pass.old).guest }
         ensures one { (view pass.new).own.seen ≡ (view pass.new).guest.seen }
         ensures known { (state : S) × ((view pass.new).own.seen ≡ S.history state) }
     {

@@ -4,7 +4,7 @@ use std::collections::LinkedList;
 
 /// What was seen of the history, and the client whose calls are known.
 pub struct Half {
-    /// A front of the history.
+    /// A prefix of the history.
     pub seen: LinkedList<Entry>,
     /// The client, if there is one.
     pub client: Option<u32>,

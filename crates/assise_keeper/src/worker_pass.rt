@@ -43,7 +43,7 @@ impl<S: Growing> WorkerPass<S> {
     /// Gives the state back with the history that was taken, and the pass has seen it. It waits for nobody and takes no
     /// memory.
     pub fn give(&mut self, keeper: &Keeper<S>, held: Held<S>)
-        requires holds { IsHolding keeper.now (pass_of self.old) }
+        requires holding { IsHolding keeper.now (pass_of self.old) }
         requires nothing_added { S.history held ≡ taken (pass_of self.old) }
         ensures free { IsPassOf keeper.now (pass_of self.new) }
         ensures seen { seen (pass_of self.new) ≡ S.history held }

@@ -65,7 +65,8 @@ impl Book {
 
     /// Makes a call of a client, and answers the call's number.
     pub fn call(&mut self, client: u32) -> Result<u64, Refusal>
-        ensures called { IfOk result (λ k. self.new.history.events ≡ self.old.history.events ++ made client k ∷ []) }
+        ensures called { IfOk result (λ k. self.new.history.events ≡ self.old.history.events ++
+            made client k ∷ []) }
         ensures refused { OnErr result (self.new.history.events ≡ self.old.history.events) }
     {
         let number = self.calls;

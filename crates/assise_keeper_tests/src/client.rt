@@ -41,7 +41,8 @@ pub fn call_as<R: Wait>(
     requires { IsPassOf keeper.now pass.old × (client pass.old ≡ Some caller) }
     ensures free { IsPassOf keeper.now pass.new × (client pass.new ≡ Some caller) }
     ensures seen { Extends (seen pass.new) (seen pass.old) }
-    ensures called { IfOk result (λ k. ExtendsByOne caller (seen pass.old) (seen pass.new) (made caller k)) }
+    ensures called { IfOk result (λ k. ExtendsByOne caller (seen pass.old) (seen pass.new)
+        (made caller k)) }
     ensures refused { OnErr result (mine pass.new ≡ mine pass.old) }
 {
     let mut held = keeper.take(rt, pass);
@@ -68,7 +69,8 @@ pub fn calls_as<R: Wait>(
 ) -> Result<Vec<u64>, Refusal>
     requires { IsPassOf keeper.now pass.old × (client pass.old ≡ Some caller) }
     ensures free { IsPassOf keeper.now pass.new × (client pass.new ≡ Some caller) }
-    ensures called { IfOk result (λ numbers. mine pass.new ≡ mine pass.old ++ map (made caller) numbers.items) }
+    ensures called { IfOk result (λ numbers. mine pass.new ≡ mine pass.old ++ map
+        (made caller) numbers.items) }
 {
     let mut numbers = Vec::new(alloc);
     for _ in 0..count {

@@ -67,7 +67,7 @@ fn see_all(alloc: Global, rt: &impl Abort, ended: &Ended, book: &Book) -> Result
     Ok(())
 }
 
-/// Whether the numbers of all calls rise by one from 0 on.
+/// Whether the numbers of all calls ascend by one from 0 on.
 fn is_in_order(alloc: Global, book: &Book) -> Result<bool, Fail> {
     let counted: Vec<u64> = (0..2000u64).collect(alloc)?;
     Ok(all_numbers(alloc, book)? == counted)

@@ -46,8 +46,10 @@ pub fn serve<R: Wait>(
     count: u32,
 ) -> Option<Served>
     requires { IsPassOf keeper.now pass × (client pass ≡ None) }
-    ensures free { IfSome result (λ s. IsPassOf keeper.now s.pass × (client s.pass ≡ Some s.client)) }
-    ensures made { IfSome result (λ s. EndsWith (mine s.pass) (map (made s.client) s.numbers.items)) }
+    ensures free { IfSome result (λ s. IsPassOf keeper.now s.pass ×
+        (client s.pass ≡ Some s.client)) }
+    ensures made { IfSome result (λ s. EndsWith (mine s.pass)
+        (map (made s.client) s.numbers.items)) }
 {
     let client = open_as(rt, keeper, &mut pass).ok()?;
     let numbers = calls_as(rt, alloc, keeper, &mut pass, client, count).ok()?;
@@ -69,8 +71,10 @@ fn serve_beside_worker<R: Threads + Wait + Sync>(
 ) -> (Option<Served>, u64)
     requires client { IsPassOf keeper.now pass × (client pass ≡ None) }
     requires worker { IsPassOf keeper.now (pass_of worker) }
-    ensures free { IfSome result.0 (λ s. IsPassOf keeper.now s.pass × (client s.pass ≡ Some s.client)) }
-    ensures made { IfSome result.0 (λ s. EndsWith (mine s.pass) (map (made s.client) s.numbers.items)) }
+    ensures free { IfSome result.0 (λ s. IsPassOf keeper.now s.pass ×
+        (client s.pass ≡ Some s.client)) }
+    ensures made { IfSome result.0 (λ s. EndsWith (mine s.pass)
+        (map (made s.client) s.numbers.items)) }
 {
     join(
         rt,
@@ -82,8 +86,10 @@ fn serve_beside_worker<R: Threads + Wait + Sync>(
 /// Two clients make so many calls each, in two threads, beside a worker in a third; then they meet.
 pub fn two_clients<R: Threads + Wait + Sync>(rt: &R, alloc: Global, count: u32) -> Option<Ended>
     ensures one { IfSome result (λ e. seen e.first.pass ≡ seen e.second.pass) }
-    ensures first { IfSome result (λ e. EndsWith (mine e.first.pass) (map (made e.first.client) e.first.numbers.items)) }
-    ensures second { IfSome result (λ e. EndsWith (mine e.second.pass) (map (made e.second.client) e.second.numbers.items)) }
+    ensures first { IfSome result (λ e. EndsWith (mine e.first.pass)
+        (map (made e.first.client) e.first.numbers.items)) }
+    ensures second { IfSome result (λ e. EndsWith (mine e.second.pass)
+        (map (made e.second.client) e.second.numbers.items)) }
 {
     let (keeper, mut first) = Keeper::new(alloc, Book::new(alloc)).ok()?;
     let second = keeper.split(&mut first);
@@ -92,9 +98,12 @@ pub fn two_clients<R: Threads + Wait + Sync>(rt: &R, alloc: Global, count: u32) 
         rt,
         || serve(rt, alloc, &keeper, first, count),
         || -> (Option<Served>, u64)
-            requires { IsPassOf keeper second × (client second ≡ None) × IsPassOf keeper (pass_of worker) }
-            ensures free { IfSome result.0 (λ s. IsPassOf keeper s.pass × (client s.pass ≡ Some s.client)) }
-            ensures made { IfSome result.0 (λ s. EndsWith (mine s.pass) (map (made s.client) s.numbers.items)) }
+            requires { IsPassOf keeper second × (client second ≡ None) ×
+                IsPassOf keeper (pass_of worker) }
+            ensures free { IfSome result.0 (λ s. IsPassOf keeper s.pass ×
+                (client s.pass ≡ Some s.client)) }
+            ensures made { IfSome result.0 (λ s. EndsWith (mine s.pass)
+                (map (made s.client) s.numbers.items)) }
         { serve_beside_worker(rt, alloc, &keeper, second, worker, count) },
     );
     let met = meet(rt, &keeper, first, second);
@@ -115,11 +124,15 @@ fn meet<R: Wait>(
     first: Option<Served>,
     second: Option<Served>,
 ) -> Option<(Served, Served)>
-    requires first { IfSome first (λ s. IsPassOf keeper.now s.pass × EndsWith (mine s.pass) (map (made s.client) s.numbers.items)) }
-    requires second { IfSome second (λ s. IsPassOf keeper.now s.pass × EndsWith (mine s.pass) (map (made s.client) s.numbers.items)) }
+    requires first { IfSome first (λ s. IsPassOf keeper.now s.pass ×
+        EndsWith (mine s.pass) (map (made s.client) s.numbers.items)) }
+    requires second { IfSome second (λ s. IsPassOf keeper.now s.pass ×
+        EndsWith (mine s.pass) (map (made s.client) s.numbers.items)) }
     ensures one { IfSome result (λ r. seen r.0.pass ≡ seen r.1.pass) }
-    ensures first { IfSome result (λ r. EndsWith (mine r.0.pass) (map (made r.0.client) r.0.numbers.items)) }
-    ensures second { IfSome result (λ r. EndsWith (mine r.1.pass) (map (made r.1.client) r.1.numbers.items)) }
+    ensures first { IfSome result (λ r. EndsWith (mine r.0.pass)
+        (map (made r.0.client) r.0.numbers.items)) }
+    ensures second { IfSome result (λ r. EndsWith (mine r.1.pass)
+        (map (made r.1.client) r.1.numbers.items)) }
 {
     let first = first?;
     let second = second?;

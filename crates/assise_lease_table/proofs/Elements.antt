@@ -110,9 +110,9 @@ module _ {X : Type 0} where
   among_map f (y ∷ ys) x a =
       elim a [ inl same ↦ (y, inl refl, same) | inr rest ↦ let found = among_map f ys x rest in (found.0, inr found.1, found.2) ]
 
-  pub among_front : (xs : List X) (y x : X) → Among xs x → Among (xs ++ y ∷ []) x
-  among_front [] y x a = absurd a
-  among_front (z ∷ zs) y x a = elim a [ inl same ↦ inl same | inr rest ↦ inr (among_front zs y x rest) ]
+  pub among_prefix : (xs : List X) (y x : X) → Among xs x → Among (xs ++ y ∷ []) x
+  among_prefix [] y x a = absurd a
+  among_prefix (z ∷ zs) y x a = elim a [ inl same ↦ inl same | inr rest ↦ inr (among_prefix zs y x rest) ]
 
   pub among_last : (xs : List X) (y : X) → Among (xs ++ y ∷ []) y
   among_last [] y = inl refl

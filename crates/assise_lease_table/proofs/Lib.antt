@@ -1,7 +1,7 @@
 pub mod Elements
 pub mod Compatibles
-pub mod Answering
-pub mod Becoming
+pub mod AskLoop
+pub mod LeaseChanges
 mod Lists
 mod Retained
 mod Unasked

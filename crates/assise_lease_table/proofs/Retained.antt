@@ -5,14 +5,14 @@ use Rattle.std.specs.List.{IsDistinct, AllByRecursion, list_any}
 use Rattle.std.specs.Map.{lookup, keys_of, values_of}
 use Rattle.std.specs.Map.Calls.{RetainsPairs}
 use Rattle.assise_lease_table.specs.declared.lease.Lease.{Lease}
-use Rattle.assise_lease_table.specs.Leases.{freeze}
-use Rattle.assise_lease_table.specs.Lists.{items_or_none, is_any, is_held}
+use Rattle.assise_lease_table.specs.Leases.{revoke}
+use Rattle.assise_lease_table.specs.Lists.{items_or_none, is_any, holds_lease}
 use Rattle.assise_lease_table.proofs.Compatibles.{same_number}
 use Rattle.assise_lease_table.proofs.Elements.{or_cases}
 
-pub freeze_any : (choice : Lease → Bool) (ls : List Lease) → is_any (freeze choice ls) ≡ is_any ls
-freeze_any choice [] = refl
-freeze_any choice (l ∷ ls) = refl
+pub revoke_any : (choice : Lease → Bool) (ls : List Lease) → is_any (revoke choice ls) ≡ is_any ls
+revoke_any choice [] = refl
+revoke_any choice (l ∷ ls) = refl
 
 nothing_left : (ls : List Lease) → is_any ls ≡ false → ls ≡ []
 nothing_left [] e = refl
@@ -34,16 +34,16 @@ module _ {F : Type 0} (T : F → ℕ → Vec Lease → Bool → Vec Lease → F 
       ap (λ z. items_or_none (lookup (nat_eq i) z)) (r.6 ∙ ap (λ b. cond b ((e.0, r.1) ∷ r.3) r.3) a.0)
       ∙ at_head (nat_eq i e.0) e.1 r.1 (lookup (nat_eq i) es) (lookup (nat_eq i) r.3) a.1 more
 
-  held_head : (b : Bool) (v w : Vec Lease) (old new : Option (Vec Lease)) → is_any w.items ≡ is_any v.items → is_held new ≡ is_held old → is_held (cond b (Some w) new) ≡ is_held (cond b (Some v) old)
+  held_head : (b : Bool) (v w : Vec Lease) (old new : Option (Vec Lease)) → is_any w.items ≡ is_any v.items → holds_lease new ≡ holds_lease old → holds_lease (cond b (Some w) new) ≡ holds_lease (cond b (Some v) old)
   held_head true v w old new written rest = written
   held_head false v w old new written rest = rest
 
-  pub held_after : ((ls : List Lease) → is_any (g ls) ≡ is_any ls) → (es kept : List (ℕ × Vec Lease)) → RetainsPairs T f es kept → (i : ℕ) → is_held (lookup (nat_eq i) kept) ≡ is_held (lookup (nat_eq i) es)
-  held_after keeps [] kept r i = ap (λ z. is_held (lookup (nat_eq i) z)) r
+  pub held_after : ((ls : List Lease) → is_any (g ls) ≡ is_any ls) → (es kept : List (ℕ × Vec Lease)) → RetainsPairs T f es kept → (i : ℕ) → holds_lease (lookup (nat_eq i) kept) ≡ holds_lease (lookup (nat_eq i) es)
+  held_after keeps [] kept r i = ap (λ z. holds_lease (lookup (nat_eq i) z)) r
   held_after keeps (e ∷ es) kept r i =
       let a = says e.0 e.1 r.0 r.1 r.2 r.4 in
       let more = held_after keeps es r.3 (subst (λ u. RetainsPairs T u es r.3) a.2 r.5) i in
-      ap (λ z. is_held (lookup (nat_eq i) z)) (r.6 ∙ ap (λ b. cond b ((e.0, r.1) ∷ r.3) r.3) a.0)
+      ap (λ z. holds_lease (lookup (nat_eq i) z)) (r.6 ∙ ap (λ b. cond b ((e.0, r.1) ∷ r.3) r.3) a.0)
       ∙ held_head (nat_eq i e.0) e.1 r.1 (lookup (nat_eq i) es) (lookup (nat_eq i) r.3) (ap is_any a.1 ∙ keeps e.1.items) more
 
 -- no list behind a key has it too
@@ -67,24 +67,24 @@ module _ {F : Type 0} (T : F → ℕ → Vec Lease → Bool → Vec Lease → F 
 
   pub kept_after : (es kept : List (ℕ × Vec Lease)) → IsDistinct nat_eq (keys_of es) → RetainsPairs T f es kept → (i : ℕ) → items_or_none (lookup (nat_eq i) kept) ≡ g (items_or_none (lookup (nat_eq i) es))
   unfolding IsDistinct
-  kept_after [] kept apart r i = ap (λ z. items_or_none (lookup (nat_eq i) z)) r ∙ sym none
-  kept_after (e ∷ es) kept apart r i =
+  kept_after [] kept disjoint r i = ap (λ z. items_or_none (lookup (nat_eq i) z)) r ∙ sym none
+  kept_after (e ∷ es) kept disjoint r i =
       let a = says e.0 e.1 r.0 r.1 r.2 r.4 in
-      let more = kept_after es r.3 apart.1 (subst (λ u. RetainsPairs T u es r.3) a.2 r.5) i in
+      let more = kept_after es r.3 disjoint.1 (subst (λ u. RetainsPairs T u es r.3) a.2 r.5) i in
       ap (λ z. items_or_none (lookup (nat_eq i) z)) r.6
-      ∙ kept_head r.0 (nat_eq i e.0) i e.0 e.1 r.1 r.3 (lookup (nat_eq i) es) refl a.0 a.1 more (λ same. absent i e.0 es same apart.0)
+      ∙ kept_head r.0 (nat_eq i e.0) i e.0 e.1 r.1 r.3 (lookup (nat_eq i) es) refl a.0 a.1 more (λ same. absent i e.0 es same disjoint.0)
 
-  all_head : (b m : Bool) (w : Vec Lease) (i k : ℕ) (rest : List (ℕ × Vec Lease)) → nat_eq i k ≡ m → b ≡ is_any w.items → is_held (lookup (nat_eq i) rest) ≡ true → is_held (lookup (nat_eq i) (cond b ((k, w) ∷ rest) rest)) ≡ true
-  all_head true true w i k rest at any more = ap (λ z. is_held (cond z (Some w) (lookup (nat_eq i) rest))) at ∙ sym any
-  all_head true false w i k rest at any more = ap (λ z. is_held (cond z (Some w) (lookup (nat_eq i) rest))) at ∙ more
+  all_head : (b m : Bool) (w : Vec Lease) (i k : ℕ) (rest : List (ℕ × Vec Lease)) → nat_eq i k ≡ m → b ≡ is_any w.items → holds_lease (lookup (nat_eq i) rest) ≡ true → holds_lease (lookup (nat_eq i) (cond b ((k, w) ∷ rest) rest)) ≡ true
+  all_head true true w i k rest at any more = ap (λ z. holds_lease (cond z (Some w) (lookup (nat_eq i) rest))) at ∙ sym any
+  all_head true false w i k rest at any more = ap (λ z. holds_lease (cond z (Some w) (lookup (nat_eq i) rest))) at ∙ more
   all_head false m w i k rest at any more = more
 
-  pub all_held : (es kept : List (ℕ × Vec Lease)) → RetainsPairs T f es kept → (i : ℕ) → is_held (lookup (nat_eq i) kept) ≡ true
-  all_held [] kept r i = ap (λ z. is_held (lookup (nat_eq i) z)) r
+  pub all_held : (es kept : List (ℕ × Vec Lease)) → RetainsPairs T f es kept → (i : ℕ) → holds_lease (lookup (nat_eq i) kept) ≡ true
+  all_held [] kept r i = ap (λ z. holds_lease (lookup (nat_eq i) z)) r
   all_held (e ∷ es) kept r i =
       let a = says e.0 e.1 r.0 r.1 r.2 r.4 in
       let more = all_held es r.3 (subst (λ u. RetainsPairs T u es r.3) a.2 r.5) i in
-      ap (λ z. is_held (lookup (nat_eq i) z)) r.6 ∙ all_head r.0 (nat_eq i e.0) r.1 i e.0 r.3 refl a.0 more
+      ap (λ z. holds_lease (lookup (nat_eq i) z)) r.6 ∙ all_head r.0 (nat_eq i e.0) r.1 i e.0 r.3 refl a.0 more
 
 -- ---- whether some list has a chosen lease
 
@@ -112,9 +112,9 @@ module _ (choice : Lease → Bool) where
 
   pub some_at : (es : List (ℕ × Vec Lease)) → IsDistinct nat_eq (keys_of es) → AnyIn es ≡ true → (i : ℕ) × (list_any choice (items_or_none (lookup (nat_eq i) es)) ≡ true)
   unfolding IsDistinct
-  some_at [] apart e = cc
-  some_at (x ∷ xs) apart e = elim (or_cases (list_any choice x.1.items) (AnyIn xs) e) [
+  some_at [] disjoint e = cc
+  some_at (x ∷ xs) disjoint e = elim (or_cases (list_any choice x.1.items) (AnyIn xs) e) [
     | inl here ↦ (x.0, ap (λ b. list_any choice (items_or_none (cond b (Some x.1) (lookup (nat_eq x.0) xs)))) (eq-eqb x.0 x.0 refl) ∙ here)
-    | inr rest ↦ let found = some_at xs apart.1 rest in
-        (found.0, behind_key (nat_eq found.0 x.0) x.1 (lookup (nat_eq found.0) xs) (λ same. absent found.0 x.0 xs same apart.0) found.1)
+    | inr rest ↦ let found = some_at xs disjoint.1 rest in
+        (found.0, behind_key (nat_eq found.0 x.0) x.1 (lookup (nat_eq found.0) xs) (λ same. absent found.0 x.0 xs same disjoint.0) found.1)
   ]

@@ -5,7 +5,7 @@ use Rattle.assise_lease_table.specs.declared.lease.Lease.{Lease}
 use Rattle.assise_lease_table.specs.declared.lease_map.LeaseMap.{LeaseMap}
 use Rattle.assise_lease_table.specs.LeaseMaps.{HasPlace}
 use Rattle.assise_lease_table.specs.Lists.{HasPlaceIn}
-use Rattle.assise_lease_table.specs.Leases.{lease_of, leave_out, without, is_own}
+use Rattle.assise_lease_table.specs.Leases.{lease_of, leave_out, without_holder, is_own}
 
 kept_or_not : (b : Bool) (l : Lease) (ls : List Lease) (n : ℕ) → length ls ≤ n → length (cond b (l ∷ ls) ls) ≤ suc n
 kept_or_not true l ls n h = omega (arith, h)
@@ -21,18 +21,18 @@ shorter_at true l rest ls found long less e = omega (arith, long)
 shorter_at false l rest ls found long less e = let now = less e in omega (arith, now)
 
 -- a list with a lease of the holder is shorter without it
-pub shorter : (h : ℕ) (ls : List Lease) → is_some (lease_of ls h) ≡ true → length (without h ls) < length ls
+pub shorter : (h : ℕ) (ls : List Lease) → is_some (lease_of ls h) ≡ true → length (without_holder h ls) < length ls
 shorter h [] e = cc
-shorter h (l ∷ ls) e = shorter_at (is_own h l) l (without h ls) ls (lease_of ls h) (not_longer (is_own h) ls) (shorter h ls) e
+shorter h (l ∷ ls) e = shorter_at (is_own h l) l (without_holder h ls) ls (lease_of ls h) (not_longer (is_own h) ls) (shorter h ls) e
 
 -- without the holder's lease, and perhaps without others, the list has a place for it
-pub place_without : (h : ℕ) (v w : Vec Lease) → HasPlaceIn h v → w.items ≡ without h v.items → vec_len w ≤ vec_len v → vec_capacity w ≡ vec_capacity v → vec_len w < vec_capacity w
+pub place_without : (h : ℕ) (v w : Vec Lease) → HasPlaceIn h v → w.items ≡ without_holder h v.items → vec_len w ≤ vec_len v → vec_capacity w ≡ vec_capacity v → vec_len w < vec_capacity w
 place_without h v w place items len capacity = elim place [
   | inl own ↦ let less = shorter h v.items own in let short = ap length items in omega (arith, less, short, w.ok.0, v.ok.0, v.ok.1, capacity)
   | inr room ↦ omega (arith, room, len, capacity)
 ]
 
-pub place_left : (m : LeaseMap) (h : ℕ) (o : Option (Vec Lease)) (v w : Vec Lease) → HasPlace m h o → o ≡ Some v → w.items ≡ without h v.items → vec_len w ≤ vec_len v → vec_capacity w ≡ vec_capacity v
+pub place_left : (m : LeaseMap) (h : ℕ) (o : Option (Vec Lease)) (v w : Vec Lease) → HasPlace m h o → o ≡ Some v → w.items ≡ without_holder h v.items → vec_len w ≤ vec_len v → vec_capacity w ≡ vec_capacity v
     → vec_len w < vec_capacity w
 place_left m h o v w place is items len capacity = place_without h v w (subst (HasPlace m h) is place) items len capacity
 

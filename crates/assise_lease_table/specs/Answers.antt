@@ -29,7 +29,7 @@ module _ {C : Type 0} (answers : C → NumberedLog → ℕ → ℕ → Type 0) (
     pub answered : IsRaisedAnswer answers revoker view inode a.cut
     pub covers : Covers view inode a.cut
 
-  -- those whose leases are chosen and were not frozen were asked, each once and in their order, and each has its answer
+  -- those whose leases are chosen and were not revoked were asked, each once and in their order, and each has its answer
   pub record AnswerAll (choice : Lease → Bool) (ls : List Lease) (asked : List Asked) : Type 0 where
     pub who : clients_of asked ≡ holders (filter (is_to_ask choice) ls)
     pub each : (a : Asked) → Among asked a → IsAnswer a

@@ -28,7 +28,7 @@ are_once (a ∷ asked) = not (is_asked asked a.client a.inode) && are_once asked
 abbrev pub are_uncut : List Asked → Bool
 are_uncut asked = list_all (λ (a : Asked). a.cut == 0) asked
 
--- the chosen leases of the inode that aren't frozen, in their order: nobody was asked yet, so the cuts are 0
+-- the chosen leases of the inode that aren't revoked, in their order: nobody was asked yet, so the cuts are 0
 abbrev pub asked_at : (Lease → Bool) → ℕ → List Lease → List Asked
 asked_at choice i [] = []
 asked_at choice i (l ∷ ls) = if is_to_ask choice l then record { client = l.holder; inode = i; cut = 0 } ∷ asked_at choice i ls else asked_at choice i ls
@@ -36,4 +36,4 @@ asked_at choice i (l ∷ ls) = if is_to_ask choice l then record { client = l.ho
 -- there is a lease, and it was not asked for
 abbrev pub is_unasked : Option Lease → Bool
 is_unasked None = false
-is_unasked (Some l) = not l.frozen
+is_unasked (Some l) = not l.revoked

@@ -25,5 +25,5 @@ HasPlace m h None = (vec_len m.spare < vec_capacity m.spare) × (0 < spare m.ino
 HasPlace m h (Some v) = HasPlaceIn h v
 
 -- a lease of the inode for the holder takes no memory
-abbrev pub HasRoom : LeaseMap → ℕ → ℕ → Type 0
-HasRoom m h i = HasPlace m h (get nat_eq m.inodes i)
+abbrev pub LeaseHasRoom : LeaseMap → ℕ → ℕ → Type 0
+LeaseHasRoom m h i = HasPlace m h (get nat_eq m.inodes i)

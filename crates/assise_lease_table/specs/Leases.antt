@@ -20,27 +20,27 @@ abbrev pub lease_of : List Lease → ℕ → Option Lease
 lease_of ls h = find (is_own h) ls
 
 -- two leases that can stand together: of two holders, and neither against the other
-abbrev pub apart : Lease → Lease → Bool
-apart a b = not (a.holder == b.holder) && not (against a.mode b.mode)
+abbrev pub disjoint : Lease → Lease → Bool
+disjoint a b = not (a.holder == b.holder) && not (against a.mode b.mode)
 
 -- compatible leases: each two of them can stand together
 abbrev pub compatible : List Lease → Bool
 compatible [] = true
-compatible (l ∷ ls) = list_all (apart l) ls && compatible ls
+compatible (l ∷ ls) = list_all (disjoint l) ls && compatible ls
 
 -- no holder but this one stands against the mode
 abbrev pub IsFree : List Lease → ℕ → Mode → Type 0
 IsFree ls h mode = (l : Lease) → Among ls l → l.holder ≢ h → against mode l.mode ≡ false
 
--- a lease may be given in this mode: the holder's own, if any, is neither frozen nor stronger
+-- a lease may be given in this mode: the holder's own, if any, is neither revoked nor stronger
 abbrev pub may_raise : Option Lease → Mode → Bool
 may_raise None mode = true
-may_raise (Some l) mode = not l.frozen && strong mode l.mode
+may_raise (Some l) mode = not l.revoked && strong mode l.mode
 
--- a lease serves where the mode is wanted: it is strong enough and not frozen
+-- a lease serves where the mode is wanted: it is strong enough and not revoked
 abbrev pub serves : Option Lease → Mode → Bool
 serves None mode = false
-serves (Some l) mode = not l.frozen && strong l.mode mode
+serves (Some l) mode = not l.revoked && strong l.mode mode
 
 -- the lease stands against the mode, and is not the holder's own
 abbrev pub is_rival : ℕ → Mode → Lease → Bool
@@ -50,39 +50,39 @@ is_rival h mode l = not (l.holder == h) && against mode l.mode
 abbrev pub may_be_held : List Lease → ℕ → Mode → Bool
 may_be_held ls h mode = may_raise (lease_of ls h) mode && not (list_any (is_rival h mode) ls)
 
--- a chosen lease that is not frozen yet
+-- a chosen lease that is not revoked yet
 abbrev pub is_to_ask : (Lease → Bool) → Lease → Bool
-is_to_ask choice l = not l.frozen && choice l
+is_to_ask choice l = not l.revoked && choice l
 
 -- a lease as it is given: it serves
 abbrev pub new_lease : ℕ → Mode → Lease
-new_lease h mode = record { holder = h; mode = mode; frozen = false }
+new_lease h mode = record { holder = h; mode = mode; revoked = false }
 
 -- the chosen leases are left out
 abbrev pub leave_out : (Lease → Bool) → List Lease → List Lease
 leave_out choice ls = filter (λ l. not (choice l)) ls
 
 -- without the holder's lease
-abbrev pub without : ℕ → List Lease → List Lease
-without h ls = leave_out (is_own h) ls
+abbrev pub without_holder : ℕ → List Lease → List Lease
+without_holder h ls = leave_out (is_own h) ls
 
 -- with this lease in place of the holder's old one
 abbrev pub with_lease : Lease → List Lease → List Lease
-with_lease lease ls = without lease.holder ls ++ lease ∷ []
+with_lease lease ls = without_holder lease.holder ls ++ lease ∷ []
 
-abbrev pub frozen_if : Bool → Lease → Lease
-frozen_if b l = record l { frozen = cond b true l.frozen }
+abbrev pub revoked_if : Bool → Lease → Lease
+revoked_if b l = record l { revoked = cond b true l.revoked }
 
--- the chosen leases are frozen: they serve no call any more
-abbrev pub freeze : (Lease → Bool) → List Lease → List Lease
-freeze choice ls = map (λ l. frozen_if (choice l) l) ls
+-- the chosen leases are revoked: they serve no call any more
+abbrev pub revoke : (Lease → Bool) → List Lease → List Lease
+revoke choice ls = map (λ l. revoked_if (choice l) l) ls
 
 abbrev pub raised_if : Bool → Mode → Lease → Lease
 raised_if b mode l = record l { mode = cond b (stronger l.mode mode) l.mode }
 
 -- the lease is the holder's, and wasn't asked for
 abbrev pub is_own_unasked : ℕ → Lease → Bool
-is_own_unasked h l = l.holder == h && not l.frozen
+is_own_unasked h l = l.holder == h && not l.revoked
 
 -- the holder's lease that wasn't asked for has this mode where its own is weaker
 abbrev pub raise : ℕ → Mode → List Lease → List Lease

@@ -13,9 +13,9 @@ items_or_none None = []
 items_or_none (Some v) = v.items
 
 -- a list that is there has a lease: nothing is kept for what is not held
-abbrev pub is_held : Option (Vec Lease) → Bool
-is_held None = true
-is_held (Some v) = is_any v.items
+abbrev pub holds_lease : Option (Vec Lease) → Bool
+holds_lease None = true
+holds_lease (Some v) = is_any v.items
 
 -- the list has a place for a lease of the holder: that of its old one, or one more
 abbrev pub HasPlaceIn : ℕ → Vec Lease → Type 0

@@ -4,7 +4,7 @@ use Rattle.indexmap.specs.IndexMap.{get}
 use Rattle.assise_lease_table.specs.declared.lease.Lease.{Lease}
 use Rattle.assise_lease_table.specs.declared.client_table.ClientTableOf.{ClientTableOf}
 use Rattle.assise_lease_table.specs.declared.node_table.NodeTable.{NodeTable}
-use Rattle.assise_lease_table.specs.LeaseMaps.{leases_at, HasRoom}
+use Rattle.assise_lease_table.specs.LeaseMaps.{leases_at, LeaseHasRoom}
 
 -- the leases that clients have of the inode
 abbrev pub client_leases : {C : Type 0} → ClientTableOf C → ℕ → List Lease
@@ -20,11 +20,11 @@ revoker_of t c = get nat_eq t.revokers c
 
 -- a lease of the inode for the client takes no memory
 abbrev pub HasClientRoom : {C : Type 0} → ClientTableOf C → ℕ → ℕ → Type 0
-HasClientRoom t c i = HasRoom t.leases c i
+HasClientRoom t c i = LeaseHasRoom t.leases c i
 
 -- a lease of the inode for the node takes no memory
 abbrev pub HasNodeRoom : NodeTable → ℕ → ℕ → Type 0
-HasNodeRoom t n i = HasRoom t.leases n i
+HasNodeRoom t n i = LeaseHasRoom t.leases n i
 
 -- the client has the revoker, and each other client what it had
 pub record Enrols {C : Type 0} (old new : ℕ → Option C) (client : ℕ) (revoker : C) : Type 0 where

@@ -34,7 +34,7 @@ impl<C: Revokes + Drop> ClientTableOf<C> {
     ghost use Rattle.std.specs.List.{list_any};
     ghost use Rattle.assise_lease_table.specs.Cuts.{is_asked, are_once, are_uncut};
     ghost use Rattle.assise_lease_table.specs.LeaseMaps.{Becomes, SameLeases};
-    ghost use Rattle.assise_lease_table.specs.Leases.{Among, with_lease, new_lease, without, freeze, is_own, is_rival, is_to_ask, lease_of, may_be_held, may_raise, serves, IsFree, compatible};
+    ghost use Rattle.assise_lease_table.specs.Leases.{Among, with_lease, new_lease, without_holder, revoke, is_own, is_rival, is_to_ask, lease_of, may_be_held, may_raise, serves, IsFree, compatible};
     ghost use Rattle.assise_lease_table.specs.Answers.{AnswerAll, IsAnswer};
     ghost use Rattle.assise_lease_table.specs.Tables.{client_leases, revoker_of, HasClientRoom, Enrols, SameRevokers};
 
@@ -60,7 +60,8 @@ impl<C: Revokes + Drop> ClientTableOf<C> {
     /// Takes a client in. The one refusal is [`Refusal::OutOfMemory`], which hands the revoker back.
     pub fn enrol(&mut self, client: u32, revoker: C) -> Result<(), (Refusal, C)>
         requires new { revoker_of self.old client ≡ None }
-        ensures ok { OnOk result (Enrols (revoker_of self.old) (revoker_of self.new) client revoker) }
+        ensures ok { OnOk result (Enrols (revoker_of self.old)
+            (revoker_of self.new) client revoker) }
         ensures err { OnErr result (SameRevokers (revoker_of self.old) (revoker_of self.new)) }
         ensures given_back { IfErr result (λ back. back ≡ (OutOfMemory, revoker)) }
         ensures leases { SameLeases (client_leases self.old) (client_leases self.new) }
@@ -75,25 +76,30 @@ impl<C: Revokes + Drop> ClientTableOf<C> {
     pub fn leases(&self, inode: u64) -> &[Lease]
         ensures leases { result.now ≡ client_leases self.now inode }
         ensures compatible { compatible (client_leases self.now inode) ≡ true }
-        ensures enrolled { (l : _) → Among (client_leases self.now inode) l → is_some (revoker_of self.now l.holder) ≡ true }
+        ensures enrolled { (l : _) → Among (client_leases self.now inode) l →
+            is_some (revoker_of self.now l.holder) ≡ true }
     {
         self.leases.leases(inode)
     }
 
     /// Whether some lease of some inode is chosen. It walks over all leases.
     pub fn is_any_chosen<T: Chooses>(&self, test: &T) -> bool
-        ensures none { result ≡ false → (i : ℕ) → list_any (T.choice test.now) (client_leases self.now i) ≡ false }
-        ensures some { result ≡ true → (i : ℕ) × (list_any (T.choice test.now) (client_leases self.now i) ≡ true) }
+        ensures none { result ≡ false → (i : ℕ) →
+            list_any (T.choice test.now) (client_leases self.now i) ≡ false }
+        ensures some { result ≡ true → (i : ℕ) ×
+            (list_any (T.choice test.now) (client_leases self.now i) ≡ true) }
     {
         self.leases.is_any_chosen(test)
     }
 
-    /// Each chosen lease that is not frozen, once, with 0 as its cut: no revoker is called. It walks over all leases. The
+    /// Each chosen lease that is not revoked, once, with 0 as its cut: no revoker is called. It walks over all leases. The
     /// one refusal is [`Refusal::OutOfMemory`].
     pub fn unasked<T: Chooses>(&self, test: &T) -> Result<Vec<Asked>, Refusal>
         ensures once { IfOk result (λ asked. are_once asked.items ≡ true) }
         ensures uncut { IfOk result (λ asked. are_uncut asked.items ≡ true) }
-        ensures which { IfOk result (λ asked. (c i : ℕ) → is_asked asked.items c i ≡ list_any (λ l. is_own c l && is_to_ask (T.choice test.now) l) (client_leases self.now i)) }
+        ensures which { IfOk result (λ asked. (c i : ℕ) →
+            is_asked asked.items c i ≡ list_any (λ l. is_own c l && is_to_ask (T.choice test.now) l)
+            (client_leases self.now i)) }
         ensures only_memory { IsOkUnless result OutOfMemory }
     {
         let asked = self.leases.unasked(test)?;
@@ -107,22 +113,24 @@ impl<C: Revokes + Drop> ClientTableOf<C> {
         lease_of_holder(self.leases.leases(inode), client)
     }
 
-    /// Whether a client's lease serves where the mode is wanted: it is strong enough and not frozen.
+    /// Whether a client's lease serves where the mode is wanted: it is strong enough and not revoked.
     pub fn holds(&self, client: u32, inode: u64, mode: Mode) -> bool
         ensures { result ≡ serves (lease_of (client_leases self.now inode) client) mode }
     {
         match self.lease(client, inode) {
-            Some(lease) => !lease.frozen && is_strong(lease.mode, mode),
+            Some(lease) => !lease.revoked && is_strong(lease.mode, mode),
             None => false,
         }
     }
 
     /// Whether [`ClientTableOf::hold`] may be called: the client was taken in, its own lease of the inode, if any, is
-    /// neither frozen nor stronger, and no other client's stands against the mode.
+    /// neither revoked nor stronger, and no other client's stands against the mode.
     pub fn may_hold(&self, client: u32, inode: u64, mode: Mode) -> bool
-        ensures exact { result ≡ (is_some (revoker_of self.now client) && may_be_held (client_leases self.now inode) client mode) }
+        ensures exact { result ≡ (is_some (revoker_of self.now client) && may_be_held
+            (client_leases self.now inode) client mode) }
         ensures enrolled { result ≡ true → is_some (revoker_of self.now client) ≡ true }
-        ensures own { result ≡ true → may_raise (lease_of (client_leases self.now inode) client) mode ≡ true }
+        ensures own { result ≡ true → may_raise
+            (lease_of (client_leases self.now inode) client) mode ≡ true }
         ensures free { result ≡ true → IsFree (client_leases self.now inode) client mode }
     {
         self.is_enrolled(client) && may_be_held(self.leases.leases(inode), client, mode)
@@ -133,7 +141,8 @@ impl<C: Revokes + Drop> ClientTableOf<C> {
     pub fn reserve(&mut self, client: u32, inode: u64) -> Result<(), Refusal>
         ensures same { SameLeases (client_leases self.old) (client_leases self.new) }
         ensures room { OnOk result (HasClientRoom self.new client inode) }
-        ensures held { is_some (lease_of (client_leases self.old inode) client) ≡ true → IsOk result }
+        ensures held { is_some (lease_of (client_leases self.old inode) client) ≡ true →
+            IsOk result }
         ensures only_memory { IsOkUnless result OutOfMemory }
         ensures revokers { SameRevokers (revoker_of self.old) (revoker_of self.new) }
     {
@@ -146,27 +155,30 @@ impl<C: Revokes + Drop> ClientTableOf<C> {
         requires enrolled { is_some (revoker_of self.old client) ≡ true }
         requires room { HasClientRoom self.old client inode }
         requires free { IsFree (client_leases self.old inode) client mode }
-        ensures becomes { Becomes (client_leases self.old) (client_leases self.new) inode (with_lease (new_lease client mode) (client_leases self.old inode)) }
+        ensures becomes { Becomes (client_leases self.old) (client_leases self.new) inode
+            (with_lease (new_lease client mode) (client_leases self.old inode)) }
         ensures revokers { SameRevokers (revoker_of self.old) (revoker_of self.new) }
     {
         let lease = Lease {
             holder: client,
             mode,
-            frozen: false,
+            revoked: false,
         };
         self.leases.put(inode, lease);
     }
 
-    /// Gives a client a lease that no other client's stands against, in place of its old one, which is neither frozen nor
+    /// Gives a client a lease that no other client's stands against, in place of its old one, which is neither revoked nor
     /// stronger. The one refusal is [`Refusal::OutOfMemory`], which leaves all leases as they were and never comes where
     /// the client has a lease of the inode.
     pub fn hold(&mut self, client: u32, inode: u64, mode: Mode) -> Result<(), Refusal>
         requires enrolled { is_some (revoker_of self.old client) ≡ true }
         requires own { may_raise (lease_of (client_leases self.old inode) client) mode ≡ true }
         requires free { IsFree (client_leases self.old inode) client mode }
-        ensures ok { OnOk result (Becomes (client_leases self.old) (client_leases self.new) inode (with_lease (new_lease client mode) (client_leases self.old inode))) }
+        ensures ok { OnOk result (Becomes (client_leases self.old) (client_leases self.new) inode
+            (with_lease (new_lease client mode) (client_leases self.old inode))) }
         ensures err { OnErr result (SameLeases (client_leases self.old) (client_leases self.new)) }
-        ensures held { is_some (lease_of (client_leases self.old inode) client) ≡ true → IsOk result }
+        ensures held { is_some (lease_of (client_leases self.old inode) client) ≡ true →
+            IsOk result }
         ensures only_memory { IsOkUnless result OutOfMemory }
         ensures revokers { SameRevokers (revoker_of self.old) (revoker_of self.new) }
     {
@@ -177,34 +189,38 @@ impl<C: Revokes + Drop> ClientTableOf<C> {
 
     /// Takes a client's lease of an inode away. It takes no memory.
     pub fn release(&mut self, client: u32, inode: u64)
-        ensures becomes { Becomes (client_leases self.old) (client_leases self.new) inode (without client (client_leases self.old inode)) }
+        ensures becomes { Becomes (client_leases self.old) (client_leases self.new) inode
+            (without_holder client (client_leases self.old inode)) }
         ensures revokers { SameRevokers (revoker_of self.old) (revoker_of self.new) }
     {
         self.leases.take(inode, &Own { holder: client });
     }
 
     /// Freezes all leases of a client. No revoker is called, and it takes no memory.
-    pub fn freeze(&mut self, client: u32)
-        ensures leases { (i : ℕ) → client_leases self.new i ≡ freeze (is_own client) (client_leases self.old i) }
+    pub fn revoke(&mut self, client: u32)
+        ensures leases { (i : ℕ) → client_leases self.new i ≡ revoke (is_own client)
+            (client_leases self.old i) }
         ensures revokers { SameRevokers (revoker_of self.old) (revoker_of self.new) }
     {
-        self.leases.freeze_all(client);
+        self.leases.revoke_all(client);
     }
 
     /// Freezes the chosen leases of all inodes. No revoker is called, and it takes no memory.
-    pub fn freeze_everywhere<T: Chooses>(&mut self, test: &T)
-        ensures leases { (i : ℕ) → client_leases self.new i ≡ freeze (T.choice test.now) (client_leases self.old i) }
+    pub fn revoke_everywhere<T: Chooses>(&mut self, test: &T)
+        ensures leases { (i : ℕ) → client_leases self.new i ≡ revoke (T.choice test.now)
+            (client_leases self.old i) }
         ensures revokers { SameRevokers (revoker_of self.old) (revoker_of self.new) }
     {
-        self.leases.freeze_everywhere(test);
+        self.leases.revoke_everywhere(test);
     }
 
     /// Freezes the chosen leases of an inode. No revoker is called, and it takes no memory.
-    pub fn freeze_chosen<T: Chooses>(&mut self, inode: u64, test: &T)
-        ensures becomes { Becomes (client_leases self.old) (client_leases self.new) inode (freeze (T.choice test.now) (client_leases self.old inode)) }
+    pub fn revoke_chosen<T: Chooses>(&mut self, inode: u64, test: &T)
+        ensures becomes { Becomes (client_leases self.old) (client_leases self.new) inode
+            (revoke (T.choice test.now) (client_leases self.old inode)) }
         ensures revokers { SameRevokers (revoker_of self.old) (revoker_of self.new) }
     {
-        self.leases.freeze(inode, test);
+        self.leases.revoke(inode, test);
     }
 
     /// What a client answers when its lease of an inode is asked for, raised to the end of its group.
@@ -212,7 +228,8 @@ impl<C: Revokes + Drop> ClientTableOf<C> {
         requires enrolled { is_some (revoker_of self.now client) ≡ true }
         requires viewed { is_some (V.view_of views.now client) ≡ true }
         ensures client_is { result.client ≡ client }
-        ensures answer { IsAnswer C.answers (revoker_of self.now) (V.view_of views.now) inode result }
+        ensures answer { IsAnswer C.answers (revoker_of self.now)
+            (V.view_of views.now) inode result }
     {
         let Some(revoker) = self.revokers.get(&client) else {
             unreachable!()
@@ -227,7 +244,7 @@ impl<C: Revokes + Drop> ClientTableOf<C> {
         }
     }
 
-    /// The answers of those whose leases are chosen and not frozen yet. Nothing is frozen. The one refusal is
+    /// The answers of those whose leases are chosen and not revoked yet. Nothing is revoked. The one refusal is
     /// [`Refusal::OutOfMemory`], which never comes where nobody is asked.
     pub fn answers<T: Chooses, V: Views>(
         &self,
@@ -235,9 +252,13 @@ impl<C: Revokes + Drop> ClientTableOf<C> {
         test: &T,
         views: &V,
     ) -> Result<Vec<Asked>, Refusal>
-        requires viewed { (l : _) → Among (client_leases self.now inode) l → is_to_ask (T.choice test.now) l ≡ true → is_some (V.view_of views.now l.holder) ≡ true }
-        ensures answers { IfOk result (λ asked. AnswerAll C.answers (revoker_of self.now) (V.view_of views.now) inode (T.choice test.now) (client_leases self.now inode) asked.items) }
-        ensures nobody { list_any (is_to_ask (T.choice test.now)) (client_leases self.now inode) ≡ false → IsOk result }
+        requires viewed { (l : _) → Among (client_leases self.now inode) l →
+            is_to_ask (T.choice test.now) l ≡ true → is_some (V.view_of views.now l.holder) ≡ true }
+        ensures answers { IfOk result (λ asked. AnswerAll C.answers (revoker_of self.now)
+            (V.view_of views.now) inode (T.choice test.now)
+            (client_leases self.now inode) asked.items) }
+        ensures nobody { list_any (is_to_ask (T.choice test.now)) (client_leases self.now inode) ≡
+            false → IsOk result }
         ensures only_memory { IsOkUnless result OutOfMemory }
     {
         let mut asked = Vec::new(self.alloc);
@@ -250,7 +271,7 @@ impl<C: Revokes + Drop> ClientTableOf<C> {
     }
 
     /// Asks each other client for its lease that stands against a mode: its revoker is called once, with the client's log,
-    /// and the lease is frozen. Who was asked before isn't asked again. The one refusal is [`Refusal::OutOfMemory`], which
+    /// and the lease is revoked. Who was asked before isn't asked again. The one refusal is [`Refusal::OutOfMemory`], which
     /// leaves all leases as they were and never comes where nobody is asked.
     pub fn ask<V: Views>(
         &mut self,
@@ -259,11 +280,18 @@ impl<C: Revokes + Drop> ClientTableOf<C> {
         client: u32,
         views: &V,
     ) -> Result<Vec<Asked>, Refusal>
-        requires viewed { (l : _) → Among (client_leases self.old inode) l → is_to_ask (is_rival client mode) l ≡ true → is_some (V.view_of views.now l.holder) ≡ true }
-        ensures asked { IfOk result (λ asked. AnswerAll C.answers (revoker_of self.old) (V.view_of views.now) inode (is_rival client mode) (client_leases self.old inode) asked.items) }
-        ensures frozen { OnOk result (Becomes (client_leases self.old) (client_leases self.new) inode (freeze (is_rival client mode) (client_leases self.old inode))) }
+        requires viewed { (l : _) → Among (client_leases self.old inode) l →
+            is_to_ask (is_rival client mode) l ≡ true →
+            is_some (V.view_of views.now l.holder) ≡ true }
+        ensures asked { IfOk result (λ asked. AnswerAll C.answers (revoker_of self.old)
+            (V.view_of views.now) inode (is_rival client mode)
+            (client_leases self.old inode) asked.items) }
+        ensures revoked { OnOk result (Becomes (client_leases self.old)
+            (client_leases self.new) inode (revoke (is_rival client mode)
+            (client_leases self.old inode))) }
         ensures err { OnErr result (SameLeases (client_leases self.old) (client_leases self.new)) }
-        ensures nobody { list_any (is_to_ask (is_rival client mode)) (client_leases self.old inode) ≡ false → IsOk result }
+        ensures nobody { list_any (is_to_ask (is_rival client mode))
+            (client_leases self.old inode) ≡ false → IsOk result }
         ensures only_memory { IsOkUnless result OutOfMemory }
         ensures revokers { SameRevokers (revoker_of self.old) (revoker_of self.new) }
     {
@@ -272,7 +300,7 @@ impl<C: Revokes + Drop> ClientTableOf<C> {
             mode,
         };
         let asked = self.answers(inode, &rivals, views)?;
-        self.freeze_chosen(inode, &rivals);
+        self.revoke_chosen(inode, &rivals);
         Ok(asked)
     }
 }

@@ -2,7 +2,7 @@
 ghost use Rattle.std.specs.Prelude.{◌≡◌, ◌≤◌, ◌++◌, true, OnOk, vec_len, vec_capacity};
 ghost use Rattle.assise_lease_table.specs.Cuts.{asked_at};
 ghost use Rattle.assise_lease_table.specs.Lists.{HasPlaceIn, is_any};
-ghost use Rattle.assise_lease_table.specs.Leases.{with_lease, leave_out, freeze, frozen_if, is_own_unasked, lease_of, is_own, may_be_held, may_raise, raise, raised_if, IsFree};
+ghost use Rattle.assise_lease_table.specs.Leases.{with_lease, leave_out, revoke, revoked_if, is_own_unasked, lease_of, is_own, may_be_held, may_raise, raise, raised_if, IsFree};
 
 use crate::lease::{
     Asked, Chooses, Lease, Own, Rivals, is_any_chosen, is_strong, is_to_ask, stronger_of,
@@ -22,7 +22,7 @@ pub(crate) fn lease_of_holder(leases: &[Lease], holder: u32) -> Option<Lease>
     None
 }
 
-/// Whether a holder may be given a lease in a mode: its own, if any, is neither frozen nor stronger, and no other holder's
+/// Whether a holder may be given a lease in a mode: its own, if any, is neither revoked nor stronger, and no other holder's
 /// stands against the mode.
 pub(crate) fn may_be_held(leases: &[Lease], holder: u32, mode: Mode) -> bool
     ensures exact { result ≡ may_be_held leases.now holder mode }
@@ -30,7 +30,7 @@ pub(crate) fn may_be_held(leases: &[Lease], holder: u32, mode: Mode) -> bool
     ensures free { result ≡ true → IsFree leases.now holder mode }
 {
     let may_raise = match lease_of_holder(leases, holder) {
-        Some(lease) => !lease.frozen && is_strong(mode, lease.mode),
+        Some(lease) => !lease.revoked && is_strong(mode, lease.mode),
         None => true,
     };
     may_raise && !is_any_chosen(&Rivals { holder, mode }, leases)
@@ -73,42 +73,42 @@ pub(crate) fn put_over<T: Chooses>(leases: &mut Vec<Lease>, lease: Lease, over: 
     leases.push_reserved(lease);
 }
 
-/// The lease, frozen if it is chosen.
-fn frozen_if_chosen<T: Chooses>(test: &T, lease: Lease) -> Lease
-    ensures { result ≡ frozen_if (T.choice test.now lease) lease }
+/// The lease, revoked if it is chosen.
+fn revoked_if_chosen<T: Chooses>(test: &T, lease: Lease) -> Lease
+    ensures { result ≡ revoked_if (T.choice test.now lease) lease }
 {
-    let frozen = test.chooses(&lease) || lease.frozen;
-    Lease { frozen, ..lease }
+    let revoked = test.chooses(&lease) || lease.revoked;
+    Lease { revoked, ..lease }
 }
 
 /// Freezes the chosen leases.
-pub(crate) fn freeze_chosen<T: Chooses>(leases: &mut [Lease], test: &T)
-    ensures { leases.new ≡ freeze (T.choice test.now) leases.old }
+pub(crate) fn revoke_chosen<T: Chooses>(leases: &mut [Lease], test: &T)
+    ensures { leases.new ≡ revoke (T.choice test.now) leases.old }
 {
     for lease in leases.iter_mut() {
-        *lease = frozen_if_chosen(test, *lease);
+        *lease = revoked_if_chosen(test, *lease);
     }
 }
 
 /// Freezes the chosen leases of a list.
-pub(crate) fn freeze_all<T: Chooses>(leases: &mut Vec<Lease>, test: &T)
-    ensures { leases.new.items ≡ freeze (T.choice test.now) leases.old.items }
+pub(crate) fn revoke_all<T: Chooses>(leases: &mut Vec<Lease>, test: &T)
+    ensures { leases.new.items ≡ revoke (T.choice test.now) leases.old.items }
 {
-    freeze_chosen(leases, test);
+    revoke_chosen(leases, test);
 }
 
-/// The lease, in this mode where its own is weaker, if it is the holder's and not frozen.
+/// The lease, in this mode where its own is weaker, if it is the holder's and not revoked.
 fn raised_if_own(lease: Lease, holder: u32, mode: Mode) -> Lease
     ensures { result ≡ raised_if (is_own_unasked holder lease) mode lease }
 {
-    if lease.holder == holder && !lease.frozen {
+    if lease.holder == holder && !lease.revoked {
         let mode = stronger_of(lease.mode, mode);
         return Lease { mode, ..lease };
     }
     lease
 }
 
-/// Raises the holder's lease to a mode where it is weaker, unless it is frozen.
+/// Raises the holder's lease to a mode where it is weaker, unless it is revoked.
 pub(crate) fn raise_own(leases: &mut [Lease], holder: u32, mode: Mode)
     ensures { leases.new ≡ raise holder mode leases.old }
 {
@@ -117,14 +117,15 @@ pub(crate) fn raise_own(leases: &mut [Lease], holder: u32, mode: Mode)
     }
 }
 
-/// Lists the chosen leases of an inode that are not frozen, with 0 as their cuts.
+/// Lists the chosen leases of an inode that are not revoked, with 0 as their cuts.
 pub(crate) fn push_unasked<T: Chooses>(
     asked: &mut Vec<Asked>,
     inode: u64,
     test: &T,
     leases: &[Lease],
 ) -> Result<(), AllocError>
-    ensures { OnOk result (asked.new.items ≡ asked.old.items ++ asked_at (T.choice test.now) inode leases.now) }
+    ensures { OnOk result (asked.new.items ≡ asked.old.items ++ asked_at
+        (T.choice test.now) inode leases.now) }
 {
     for lease in leases {
         if is_to_ask(test, lease) {

@@ -14,7 +14,7 @@ pub struct Lease {
     /// What it serves for.
     pub mode: Mode,
     /// It was asked for, and serves no call any more.
-    pub frozen: bool,
+    pub revoked: bool,
 }
 
 /// A client that was asked for its lease of an inode, and what its revoker answered, raised to the end of its group.
@@ -26,7 +26,7 @@ pub struct Asked {
     pub cut: u64,
 }
 
-/// A test of leases, by which some are asked for, frozen or left out.
+/// A test of leases, by which some are asked for, revoked or left out.
 pub trait Chooses {
     ghost use Rattle.std.specs.Prelude.{◌≡◌, Bool};
     ghost use Rattle.assise_lease_table.specs.declared.lease.Lease.{Lease};
@@ -71,11 +71,11 @@ impl Chooses for Rivals {
     }
 }
 
-/// Whether a lease is chosen and not frozen yet.
+/// Whether a lease is chosen and not revoked yet.
 pub fn is_to_ask<T: Chooses>(test: &T, lease: &Lease) -> bool
     ensures { result ≡ is_to_ask (T.choice test.now) lease.now }
 {
-    !lease.frozen && test.chooses(lease)
+    !lease.revoked && test.chooses(lease)
 }
 
 /// Whether some lease is chosen.

@@ -1,10 +1,10 @@
 // Leases by inodes.
 ghost use Rattle.std.specs.Prelude.{◌≡◌, ℕ, length, nat_eq, true};
 ghost use Rattle.indexmap.specs.IndexMap.{get};
-ghost use Rattle.assise_lease_table.specs.Lists.{is_held};
+ghost use Rattle.assise_lease_table.specs.Lists.{holds_lease};
 
 use crate::holders::{
-    freeze_all, freeze_chosen, lease_of_holder, leaves_others, push_unasked, put_over, raise_own,
+    lease_of_holder, leaves_others, push_unasked, put_over, raise_own, revoke_all, revoke_chosen,
     take_out, take_own_out,
 };
 use crate::lease::{Asked, Chooses, Lease, Own, is_any_chosen};
@@ -20,7 +20,7 @@ pub struct LeaseMap {
     alloc: Global,
     inodes: IndexMap<u64, Vec<Lease>>,
     spare: Vec<Lease>,
-    ghost held: { (i : ℕ) → is_held (get nat_eq inodes i) ≡ true },
+    ghost held: { (i : ℕ) → holds_lease (get nat_eq inodes i) ≡ true },
     ghost spared: { length spare.items ≡ 0 },
 }
 
@@ -29,8 +29,8 @@ impl LeaseMap {
     ghost use Rattle.std.specs.List.{list_any};
     ghost use Rattle.indexmap.specs.IndexMap.{values};
     ghost use Rattle.assise_lease_table.specs.Cuts.{is_asked, are_once, are_uncut};
-    ghost use Rattle.assise_lease_table.specs.LeaseMaps.{leases_at, HasRoom, Becomes, SameLeases};
-    ghost use Rattle.assise_lease_table.specs.Leases.{with_lease, without, leave_out, freeze, is_own, is_to_ask, lease_of, compatible, raise};
+    ghost use Rattle.assise_lease_table.specs.LeaseMaps.{leases_at, LeaseHasRoom, Becomes, SameLeases};
+    ghost use Rattle.assise_lease_table.specs.Leases.{with_lease, without_holder, leave_out, revoke, is_own, is_to_ask, lease_of, compatible, raise};
 
     /// No leases. It takes no memory.
     pub fn new(alloc: Global) -> LeaseMap
@@ -55,8 +55,10 @@ impl LeaseMap {
 
     /// Whether some lease of some inode is chosen.
     pub fn is_any_chosen<T: Chooses>(&self, test: &T) -> bool
-        ensures none { result ≡ false → (i : ℕ) → list_any (T.choice test.now) (leases_at self.now i) ≡ false }
-        ensures some { result ≡ true → (i : ℕ) × (list_any (T.choice test.now) (leases_at self.now i) ≡ true) }
+        ensures none { result ≡ false → (i : ℕ) →
+            list_any (T.choice test.now) (leases_at self.now i) ≡ false }
+        ensures some { result ≡ true → (i : ℕ) ×
+            (list_any (T.choice test.now) (leases_at self.now i) ≡ true) }
     {
         let _distinct = self.inodes.iter();
         self.is_any_list_chosen(test)
@@ -64,19 +66,22 @@ impl LeaseMap {
 
     /// Whether some list has a lease that is chosen.
     fn is_any_list_chosen<T: Chooses>(&self, test: &T) -> bool
-        ensures { result ≡ list_any (λ v. list_any (T.choice test.now) v.items) (values self.now.inodes) }
+        ensures { result ≡ list_any (λ v. list_any (T.choice test.now) v.items)
+            (values self.now.inodes) }
     {
         self.inodes
             .values()
             .any(|leases| is_any_chosen(test, leases))
     }
 
-    /// Each chosen lease that is not frozen, once, with 0 as its cut: nobody is asked. It walks over all leases.
+    /// Each chosen lease that is not revoked, once, with 0 as its cut: nobody is asked. It walks over all leases.
     pub fn unasked<T: Chooses>(&self, test: &T) -> Result<Vec<Asked>, AllocError>
         requires compatible { (i : ℕ) → compatible (leases_at self.now i) ≡ true }
         ensures once { IfOk result (λ asked. are_once asked.items ≡ true) }
         ensures uncut { IfOk result (λ asked. are_uncut asked.items ≡ true) }
-        ensures which { IfOk result (λ asked. (c i : ℕ) → is_asked asked.items c i ≡ list_any (λ l. is_own c l && is_to_ask (T.choice test.now) l) (leases_at self.now i)) }
+        ensures which { IfOk result (λ asked. (c i : ℕ) →
+            is_asked asked.items c i ≡ list_any (λ l. is_own c l && is_to_ask (T.choice test.now) l)
+            (leases_at self.now i)) }
     {
         let mut asked = Vec::new(self.alloc);
         for (inode, leases) in self.inodes.iter() {
@@ -88,7 +93,7 @@ impl LeaseMap {
     /// Makes room for a holder's lease of an inode. None is asked for where the holder has a lease of it.
     pub fn reserve(&mut self, holder: u32, inode: u64) -> Result<(), AllocError>
         ensures same { SameLeases (leases_at self.old) (leases_at self.new) }
-        ensures room { OnOk result (HasRoom self.new holder inode) }
+        ensures room { OnOk result (LeaseHasRoom self.new holder inode) }
         ensures held { is_some (lease_of (leases_at self.old inode) holder) ≡ true → IsOk result }
     {
         if let Some(leases) = self.inodes.get_mut(&inode) {
@@ -103,8 +108,9 @@ impl LeaseMap {
 
     /// Gives a holder a lease of an inode in place of its old one.
     pub fn put(&mut self, inode: u64, lease: Lease)
-        requires { HasRoom self.old lease.holder inode }
-        ensures { Becomes (leases_at self.old) (leases_at self.new) inode (with_lease lease (leases_at self.old inode)) }
+        requires { LeaseHasRoom self.old lease.holder inode }
+        ensures { Becomes (leases_at self.old) (leases_at self.new) inode
+            (with_lease lease (leases_at self.old inode)) }
     {
         if let Some(leases) = self.inodes.get_mut(&inode) {
             take_own_out(leases, lease.holder);
@@ -116,8 +122,9 @@ impl LeaseMap {
 
     /// Gives a holder a lease of an inode in place of its old one and of the chosen ones.
     pub fn put_over<T: Chooses>(&mut self, inode: u64, lease: Lease, over: &T)
-        requires { HasRoom self.old lease.holder inode }
-        ensures { Becomes (leases_at self.old) (leases_at self.new) inode (with_lease lease (leave_out (T.choice over.now) (leases_at self.old inode))) }
+        requires { LeaseHasRoom self.old lease.holder inode }
+        ensures { Becomes (leases_at self.old) (leases_at self.new) inode
+            (with_lease lease (leave_out (T.choice over.now) (leases_at self.old inode))) }
     {
         if let Some(leases) = self.inodes.get_mut(&inode) {
             put_over(leases, lease, over);
@@ -128,7 +135,7 @@ impl LeaseMap {
 
     /// Gives a holder the first lease of an inode.
     fn put_first(&mut self, inode: u64, lease: Lease)
-        requires room { HasRoom self.old lease.holder inode }
+        requires room { LeaseHasRoom self.old lease.holder inode }
         requires first { leases_at self.old inode ≡ [] }
         ensures { Becomes (leases_at self.old) (leases_at self.new) inode (lease ∷ []) }
     {
@@ -141,7 +148,8 @@ impl LeaseMap {
 
     /// Takes the chosen leases of an inode away.
     pub fn take<T: Chooses>(&mut self, inode: u64, test: &T)
-        ensures { Becomes (leases_at self.old) (leases_at self.new) inode (leave_out (T.choice test.now) (leases_at self.old inode)) }
+        ensures { Becomes (leases_at self.old) (leases_at self.new) inode
+            (leave_out (T.choice test.now) (leases_at self.old inode)) }
     {
         let Some(leases) = self.inodes.get_mut(&inode) else {
             return;
@@ -153,16 +161,17 @@ impl LeaseMap {
     }
 
     /// Freezes the chosen leases of an inode.
-    pub fn freeze<T: Chooses>(&mut self, inode: u64, test: &T)
-        ensures { Becomes (leases_at self.old) (leases_at self.new) inode (freeze (T.choice test.now) (leases_at self.old inode)) }
+    pub fn revoke<T: Chooses>(&mut self, inode: u64, test: &T)
+        ensures { Becomes (leases_at self.old) (leases_at self.new) inode
+            (revoke (T.choice test.now) (leases_at self.old inode)) }
     {
         let Some(leases) = self.inodes.get_mut(&inode) else {
             return;
         };
-        freeze_chosen(leases, test);
+        revoke_chosen(leases, test);
     }
 
-    /// Raises a holder's lease of an inode to a mode where it is weaker, unless it is frozen.
+    /// Raises a holder's lease of an inode to a mode where it is weaker, unless it is revoked.
     pub fn raise(&mut self, inode: u64, holder: u32, mode: Mode)
         ensures { Becomes (leases_at self.old) (leases_at self.new) inode
             (raise holder mode (leases_at self.old inode)) }
@@ -174,25 +183,26 @@ impl LeaseMap {
     }
 
     /// Freezes the chosen leases of all inodes.
-    pub fn freeze_everywhere<T: Chooses>(&mut self, test: &T)
-        ensures { (i : ℕ) → leases_at self.new i ≡ freeze (T.choice test.now) (leases_at self.old i) }
+    pub fn revoke_everywhere<T: Chooses>(&mut self, test: &T)
+        ensures { (i : ℕ) → leases_at self.new i ≡ revoke (T.choice test.now)
+            (leases_at self.old i) }
     {
         self.inodes.retain(|_, leases| {
-            freeze_all(leases, test);
+            revoke_all(leases, test);
             true
         });
     }
 
     /// Freezes all leases of a holder.
-    pub fn freeze_all(&mut self, holder: u32)
-        ensures { (i : ℕ) → leases_at self.new i ≡ freeze (is_own holder) (leases_at self.old i) }
+    pub fn revoke_all(&mut self, holder: u32)
+        ensures { (i : ℕ) → leases_at self.new i ≡ revoke (is_own holder) (leases_at self.old i) }
     {
-        self.freeze_everywhere(&Own { holder });
+        self.revoke_everywhere(&Own { holder });
     }
 
     /// Takes all leases of a holder away.
     pub fn take_all(&mut self, holder: u32)
-        ensures { (i : ℕ) → leases_at self.new i ≡ without holder (leases_at self.old i) }
+        ensures { (i : ℕ) → leases_at self.new i ≡ without_holder holder (leases_at self.old i) }
     {
         let _distinct = self.inodes.iter();
         self.inodes

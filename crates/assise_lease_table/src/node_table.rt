@@ -21,8 +21,8 @@ pub struct NodeTable {
 impl NodeTable {
     ghost use Rattle.std.specs.Prelude.{◌≡◌, ℕ, [], true, is_some, OnOk, OnErr, IsOk, IsOkUnless};
     ghost use Rattle.assise_names.specs.declared.refusal.Refusal.TheVariants.{OutOfMemory};
-    ghost use Rattle.assise_lease_table.specs.LeaseMaps.{HasRoom, Becomes, SameLeases};
-    ghost use Rattle.assise_lease_table.specs.Leases.{with_lease, new_lease, without, leave_out, freeze, is_own, is_rival, IsFree, compatible, lease_of, may_be_held, may_raise, raise_unopposed, serves};
+    ghost use Rattle.assise_lease_table.specs.LeaseMaps.{LeaseHasRoom, Becomes, SameLeases};
+    ghost use Rattle.assise_lease_table.specs.Leases.{with_lease, new_lease, without_holder, leave_out, revoke, is_own, is_rival, IsFree, compatible, lease_of, may_be_held, may_raise, raise_unopposed, serves};
     ghost use Rattle.assise_lease_table.specs.Tables.{node_leases, HasNodeRoom};
 
     /// No leases. It takes no memory.
@@ -49,21 +49,22 @@ impl NodeTable {
         lease_of_holder(self.leases.leases(inode), node)
     }
 
-    /// Whether a node's lease serves where the mode is wanted: it is strong enough and not frozen.
+    /// Whether a node's lease serves where the mode is wanted: it is strong enough and not revoked.
     pub fn holds(&self, node: u32, inode: u64, mode: Mode) -> bool
         ensures { result ≡ serves (lease_of (node_leases self.now inode) node) mode }
     {
         match self.lease(node, inode) {
-            Some(lease) => !lease.frozen && is_strong(lease.mode, mode),
+            Some(lease) => !lease.revoked && is_strong(lease.mode, mode),
             None => false,
         }
     }
 
-    /// Whether [`NodeTable::hold`] may be called: the node's own lease of the inode, if any, is neither frozen nor
+    /// Whether [`NodeTable::hold`] may be called: the node's own lease of the inode, if any, is neither revoked nor
     /// stronger, and no other node's stands against the mode.
     pub fn may_hold(&self, node: u32, inode: u64, mode: Mode) -> bool
         ensures exact { result ≡ may_be_held (node_leases self.now inode) node mode }
-        ensures own { result ≡ true → may_raise (lease_of (node_leases self.now inode) node) mode ≡ true }
+        ensures own { result ≡ true → may_raise (lease_of (node_leases self.now inode) node) mode ≡
+            true }
         ensures free { result ≡ true → IsFree (node_leases self.now inode) node mode }
     {
         may_be_held(self.leases.leases(inode), node, mode)
@@ -85,12 +86,13 @@ impl NodeTable {
     pub fn hold_reserved(&mut self, node: u32, inode: u64, mode: Mode)
         requires room { HasNodeRoom self.old node inode }
         requires free { IsFree (node_leases self.old inode) node mode }
-        ensures { Becomes (node_leases self.old) (node_leases self.new) inode (with_lease (new_lease node mode) (node_leases self.old inode)) }
+        ensures { Becomes (node_leases self.old) (node_leases self.new) inode
+            (with_lease (new_lease node mode) (node_leases self.old inode)) }
     {
         let lease = Lease {
             holder: node,
             mode,
-            frozen: false,
+            revoked: false,
         };
         self.leases.put(inode, lease);
     }
@@ -100,7 +102,8 @@ impl NodeTable {
     pub fn hold(&mut self, node: u32, inode: u64, mode: Mode) -> Result<(), Refusal>
         requires own { may_raise (lease_of (node_leases self.old inode) node) mode ≡ true }
         requires free { IsFree (node_leases self.old inode) node mode }
-        ensures ok { OnOk result (Becomes (node_leases self.old) (node_leases self.new) inode (with_lease (new_lease node mode) (node_leases self.old inode))) }
+        ensures ok { OnOk result (Becomes (node_leases self.old) (node_leases self.new) inode
+            (with_lease (new_lease node mode) (node_leases self.old inode))) }
         ensures err { OnErr result (SameLeases (node_leases self.old) (node_leases self.new)) }
         ensures held { is_some (lease_of (node_leases self.old inode) node) ≡ true → IsOk result }
         ensures only_memory { IsOkUnless result OutOfMemory }
@@ -113,36 +116,42 @@ impl NodeTable {
     /// Gives a node a lease for which there is room, in place of its old one and of the chosen ones. It takes no memory.
     pub fn hold_over<T: Chooses>(&mut self, node: u32, inode: u64, mode: Mode, over: &T)
         requires room { HasNodeRoom self.old node inode }
-        requires free { IsFree (leave_out (T.choice over.now) (node_leases self.old inode)) node mode }
-        ensures { Becomes (node_leases self.old) (node_leases self.new) inode (with_lease (new_lease node mode) (leave_out (T.choice over.now) (node_leases self.old inode))) }
+        requires free { IsFree (leave_out (T.choice over.now) (node_leases self.old inode)) node
+            mode }
+        ensures { Becomes (node_leases self.old) (node_leases self.new) inode
+            (with_lease (new_lease node mode)
+            (leave_out (T.choice over.now) (node_leases self.old inode))) }
     {
         let lease = Lease {
             holder: node,
             mode,
-            frozen: false,
+            revoked: false,
         };
         self.leases.put_over(inode, lease, over);
     }
 
     /// Takes a node's lease of an inode away. It takes no memory.
     pub fn release(&mut self, node: u32, inode: u64)
-        ensures { Becomes (node_leases self.old) (node_leases self.new) inode (without node (node_leases self.old inode)) }
+        ensures { Becomes (node_leases self.old) (node_leases self.new) inode
+            (without_holder node (node_leases self.old inode)) }
     {
         self.leases.take(inode, &Own { holder: node });
     }
 
     /// Takes the chosen leases of an inode away. It takes no memory.
     pub fn take<T: Chooses>(&mut self, inode: u64, test: &T)
-        ensures { Becomes (node_leases self.old) (node_leases self.new) inode (leave_out (T.choice test.now) (node_leases self.old inode)) }
+        ensures { Becomes (node_leases self.old) (node_leases self.new) inode
+            (leave_out (T.choice test.now) (node_leases self.old inode)) }
     {
         self.leases.take(inode, test);
     }
 
-    /// Asks each other node for its lease that stands against a mode: these leases are frozen. It takes no memory.
+    /// Asks each other node for its lease that stands against a mode: these leases are revoked. It takes no memory.
     pub fn ask(&mut self, inode: u64, mode: Mode, node: u32)
-        ensures { Becomes (node_leases self.old) (node_leases self.new) inode (freeze (is_rival node mode) (node_leases self.old inode)) }
+        ensures { Becomes (node_leases self.old) (node_leases self.new) inode
+            (revoke (is_rival node mode) (node_leases self.old inode)) }
     {
-        self.leases.freeze(inode, &Rivals { holder: node, mode });
+        self.leases.revoke(inode, &Rivals { holder: node, mode });
     }
 
     /// Raises a node's lease of an inode to a mode where it is weaker, unless it was asked for or another node's stands against
@@ -158,15 +167,15 @@ impl NodeTable {
     }
 
     /// Freezes all leases of a node. It takes no memory.
-    pub fn freeze(&mut self, node: u32)
-        ensures { (i : ℕ) → node_leases self.new i ≡ freeze (is_own node) (node_leases self.old i) }
+    pub fn revoke(&mut self, node: u32)
+        ensures { (i : ℕ) → node_leases self.new i ≡ revoke (is_own node) (node_leases self.old i) }
     {
-        self.leases.freeze_all(node);
+        self.leases.revoke_all(node);
     }
 
     /// Takes all leases of a node away. It takes no memory.
     pub fn free(&mut self, node: u32)
-        ensures { (i : ℕ) → node_leases self.new i ≡ without node (node_leases self.old i) }
+        ensures { (i : ℕ) → node_leases self.new i ≡ without_holder node (node_leases self.old i) }
     {
         self.leases.take_all(node);
     }

@@ -34,7 +34,8 @@ impl Revoker {
     /// A revoker of a closure. That each of its answers is a cut is the maker's to show.
     pub fn new(cut: Box<dyn Fn(&LogView, u64) -> u64 + Send>) -> Revoker
         requires callable { IsAlwaysCallable cut }
-        requires covers { (view : _) (inode cut_at : ℕ) → inode < 2 ^ 64 → post cut view inode cut_at → Covers view.now inode cut_at }
+        requires covers { (view : _) (inode cut_at : ℕ) → inode < 2 ^ 64 →
+            post cut view inode cut_at → Covers view.now inode cut_at }
     {
         Revoker { cut }
     }

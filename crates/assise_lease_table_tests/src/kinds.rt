@@ -6,7 +6,7 @@ use assise_lease_table::client_table::{ClientTable, ClientTableOf};
 use assise_names::mode::Mode;
 use assise_private_log::log_view::LogView;
 use assise_revokers::kinds::{eights, least, whole};
-use assise_rows::Subject;
+use assise_test_rows::Subject;
 use std::alloc::Global;
 
 /// `FIRST END LAST`: a log, with the last touch of inode 7; `FIRST END LAST GROUPED`: from the last number on its records are

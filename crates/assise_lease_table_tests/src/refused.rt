@@ -6,12 +6,12 @@ use assise_names::mode::Mode;
 use assise_names::refusal::Refusal;
 use std::alloc::Global;
 
-/// How many leases an inode has, and how many of them are frozen.
+/// How many leases an inode has, and how many of them are revoked.
 fn held(table: &ClientTable, inode: u64) -> (usize, usize) {
     let leases = table.leases(inode);
     (
         leases.len(),
-        leases.iter().filter(|lease| lease.frozen).count(),
+        leases.iter().filter(|lease| lease.revoked).count(),
     )
 }
 

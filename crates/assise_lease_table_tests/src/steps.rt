@@ -7,7 +7,7 @@ use assise_lease_table::revoker::Revoker;
 use assise_names::mode::Mode;
 use assise_private_log::log_view::LogView;
 use assise_revokers::kinds::{eights, least, whole};
-use assise_rows::{Subject, split_word, wrong_rows};
+use assise_test_rows::{Subject, split_word, wrong_rows};
 use std::alloc::{AllocError, Global};
 use std::process::Abort;
 
@@ -47,7 +47,7 @@ fn put_step(
     match word {
         "enrol" => enrol(alloc, table, client, rest),
         "freeze" => {
-            table.freeze(client);
+            table.revoke(client);
             Some(())
         }
         "enrolled" => write!(text, " {}", table.is_enrolled(client)).ok(),
@@ -142,7 +142,7 @@ fn put_asked(asked: &[Asked], text: &mut String) -> Result<(), AllocError> {
     Ok(())
 }
 
-/// Appends each lease of an inode: its holder, the mode, and whether it is frozen.
+/// Appends each lease of an inode: its holder, the mode, and whether it is revoked.
 fn put_leases(leases: &[Lease], text: &mut String) -> Result<(), AllocError> {
     write!(text, " [")?;
     for lease in leases {
@@ -150,8 +150,8 @@ fn put_leases(leases: &[Lease], text: &mut String) -> Result<(), AllocError> {
             Mode::Read => "r",
             Mode::Write => "w",
         };
-        let frozen = if lease.frozen { "*" } else { "" };
-        write!(text, "{}{mode}{frozen};", lease.holder)?;
+        let revoked = if lease.revoked { "*" } else { "" };
+        write!(text, "{}{mode}{revoked};", lease.holder)?;
     }
     write!(text, "]")
 }
@@ -175,7 +175,7 @@ fn put_node_step(table: &mut NodeTable, step: &str, text: &mut String) -> Option
     let (first, rest) = split_word(rest);
     let node = first.parse::<u32>().ok()?;
     match word {
-        "freeze" => table.freeze(node),
+        "freeze" => table.revoke(node),
         "free" => table.free(node),
         _ => return put_node_lease_step(table, word, node, rest.parse::<u64>().ok()?, text),
     }

@@ -1,4 +1,4 @@
-// Tables of leases step by step. The leases of an inode are told as holder, mode and a star where they are frozen.
+// Tables of leases step by step. The leases of an inode are told as holder, mode and a star where they are revoked.
 use crate::steps::{NewClients, NewNodes, show};
 
 const CLIENTS: &str = "\

@@ -6,7 +6,7 @@ use Rattle.assise_lease_table.specs.declared.lease.Lease.{Lease}
 use Rattle.assise_lease_table.specs.LeaseMaps.{Becomes, SameLeases}
 use Rattle.assise_lease_table.specs.Leases.{compatible}
 use Rattle.assise_lease_tree.specs.Levels.{Homes, Under, AskedBelow}
-use Rattle.assise_lease_tree.specs.TwoLevels.{TwoLevels, IsLawful, SameLevels, nobody}
+use Rattle.assise_lease_tree.specs.TwoLevels.{TwoLevels, LevelsInvariant, SameLevels, nobody}
 
 -- the leases of one inode are lawful
 pub record LawfulAt (home : Homes) (cs ns : List Lease) : Type 0 where
@@ -15,10 +15,10 @@ pub record LawfulAt (home : Homes) (cs ns : List Lease) : Type 0 where
   pub under : Under home cs ns
   pub asked : AskedBelow home cs ns
 
-pub lawful_at : {t : TwoLevels} → IsLawful t → (i : ℕ) → LawfulAt t.home (t.clients i) (t.nodes i)
+pub lawful_at : {t : TwoLevels} → LevelsInvariant t → (i : ℕ) → LawfulAt t.home (t.clients i) (t.nodes i)
 lawful_at l i = record { fits_c = l.clients_compatible i; fits_n = l.nodes_compatible i; under = l.under i; asked = l.asked i }
 
-pub from_each : (t : TwoLevels) → ((i : ℕ) → LawfulAt t.home (t.clients i) (t.nodes i)) → IsLawful t
+pub from_each : (t : TwoLevels) → ((i : ℕ) → LawfulAt t.home (t.clients i) (t.nodes i)) → LevelsInvariant t
 from_each t h = record { clients_compatible = λ i. (h i).fits_c; nodes_compatible = λ i. (h i).fits_n; under = λ i. (h i).under; asked = λ i. (h i).asked }
 
 same_at : {home later : Homes} {cs ds ns ms : List Lease} → ((c : ℕ) → later c ≡ home c) → ds ≡ cs → ms ≡ ns → LawfulAt home cs ns → LawfulAt later ds ms
@@ -28,21 +28,21 @@ same_at {home} {later} {cs} {ds} {ns} {ms} homes clients nodes l =
 
 -- where each inode's leases are known
 pub each_lawful : {home : Homes} (new : TwoLevels) (cs ns : ℕ → List Lease) → ((c : ℕ) → new.home c ≡ home c) → ((i : ℕ) → new.clients i ≡ cs i) → ((i : ℕ) → new.nodes i ≡ ns i)
-    → ((i : ℕ) → LawfulAt home (cs i) (ns i)) → IsLawful new
+    → ((i : ℕ) → LawfulAt home (cs i) (ns i)) → LevelsInvariant new
 each_lawful new cs ns homes clients nodes h = from_each new (λ i. same_at homes (clients i) (nodes i) (h i))
 
 -- where the leases of one inode change
 pub becomes_lawful : (old new : TwoLevels) {inode : ℕ} {cs ns : List Lease} → ((c : ℕ) → new.home c ≡ old.home c) → Becomes old.clients new.clients inode cs → Becomes old.nodes new.nodes inode ns
-    → LawfulAt old.home cs ns → IsLawful old → IsLawful new
+    → LawfulAt old.home cs ns → LevelsInvariant old → LevelsInvariant new
 becomes_lawful old new {inode} {cs} {ns} homes clients nodes here lawful = from_each new (λ i. dite (ℕ_discrete i inode)
     (λ e. same_at homes (ap new.clients e ∙ clients.here) (ap new.nodes e ∙ nodes.here) here)
     (λ n. same_at homes (clients.elsewhere i n) (nodes.elsewhere i n) (lawful_at lawful i)))
 
-pub same_lawful : {old new : TwoLevels} → SameLevels old new → IsLawful old → IsLawful new
+pub same_lawful : {old new : TwoLevels} → SameLevels old new → LevelsInvariant old → LevelsInvariant new
 same_lawful {old} {new} same lawful = each_lawful new old.clients old.nodes same.home same.clients same.nodes (lawful_at lawful)
 
-pub nobody_lawful : IsLawful nobody
-nobody_lawful = from_each nobody (λ i. record { fits_c = refl; fits_n = refl; under = λ l a. absurd a; asked = λ k a frozen. absurd a })
+pub nobody_lawful : LevelsInvariant nobody
+nobody_lawful = from_each nobody (λ i. record { fits_c = refl; fits_n = refl; under = λ l a. absurd a; asked = λ k a revoked. absurd a })
 
 -- a change after one that changed no leases
 pub becomes_after : {a b d : ℕ → List Lease} {inode : ℕ} {ls : List Lease} → SameLeases a b → Becomes b d inode ls → Becomes a d inode ls

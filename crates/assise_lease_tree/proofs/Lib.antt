@@ -1,9 +1,9 @@
-pub mod Homing
-mod Granting
-mod Asking
-mod Releasing
-mod Doing
+pub mod ClientHomes
+mod GrantSound
+mod AskSound
+mod ReleaseSound
+mod CallsOnLevels
 mod Lawful
-mod Listing
+mod HolderLists
 pub mod Lookups
 pub mod Steps

@@ -4,25 +4,25 @@ use Rattle.std.specs.List.{list_any}
 use Rattle.assise_names.specs.declared.mode.Mode.{Mode}
 use Rattle.assise_lease_table.specs.declared.lease.Lease.{Lease}
 use Rattle.assise_lease_table.specs.LeaseMaps.{SameLeases}
-use Rattle.assise_lease_table.specs.Leases.{compatible, lease_of, without, freeze, is_own}
+use Rattle.assise_lease_table.specs.Leases.{compatible, lease_of, without_holder, revoke, is_own}
 use Rattle.assise_lease_table.proofs.Elements.{both_true, not_true}
-use Rattle.assise_lease_table.proofs.Becoming.{leave_out_fits, freeze_fits}
-use Rattle.assise_lease_tree.specs.LeaseCalls.{LeaseCall, Does, AllDo}
-use Rattle.assise_lease_tree.specs.LeaseCalls.LeaseCall.{enrol, acquire, release, freeze_all, free_node}
-use Rattle.assise_lease_tree.specs.Levels.{Homes, in_way, is_frozen, is_free, is_busy}
-use Rattle.assise_lease_tree.specs.TwoLevels.{TwoLevels, nobody, IsLawful, EnrolsAt, is_free_for, IsGranted, IsAskedFor, IsReleased, IsFrozen, IsIdle, IsFreed}
-use Rattle.assise_lease_tree.proofs.Granting.{client_granted_compatible, node_granted_compatible, granted_under, granted_asked}
-use Rattle.assise_lease_tree.proofs.Asking.{asked_under, asked_asked, nodes_asked_compatible}
-use Rattle.assise_lease_tree.proofs.Releasing.{released_under, released_asked, frozen_under, frozen_asked, freed_under, freed_asked, enrolled_under, enrolled_asked}
+use Rattle.assise_lease_table.proofs.LeaseChanges.{leave_out_fits, revoke_fits}
+use Rattle.assise_lease_tree.specs.LeaseCalls.{LeaseCall, LeaseCallDoes, AllLeaseCalls}
+use Rattle.assise_lease_tree.specs.LeaseCalls.LeaseCall.{enrol, acquire, release, revoke_all, free_node}
+use Rattle.assise_lease_tree.specs.Levels.{Homes, in_way, is_revoked, is_free, is_busy}
+use Rattle.assise_lease_tree.specs.TwoLevels.{TwoLevels, nobody, LevelsInvariant, EnrolsAt, is_free_for, IsGranted, IsAskedFor, ReleasesLease, IsRevoked, IsIdle, IsFreed}
+use Rattle.assise_lease_tree.proofs.GrantSound.{client_granted_compatible, node_granted_compatible, granted_under, granted_asked}
+use Rattle.assise_lease_tree.proofs.AskSound.{asked_under, asked_asked, nodes_asked_compatible}
+use Rattle.assise_lease_tree.proofs.ReleaseSound.{released_under, released_asked, revoked_under, revoked_asked, freed_under, freed_asked, enrolled_under, enrolled_asked}
 use Rattle.assise_lease_tree.proofs.Lawful.{lawful_at, each_lawful, becomes_lawful, same_lawful, nobody_lawful}
 
 -- who is granted has nobody in the way
 pub nobody_in_way : (home : Homes) (cs ns : List Lease) (c n : ℕ) (mode : Mode) → is_free home cs ns c n mode ≡ true → list_any (in_way home ns c n mode) cs ≡ false
 nobody_in_way home cs ns c n mode free =
-    not_true (list_any (in_way home ns c n mode) cs) (both_true (not (list_any (in_way home ns c n mode) cs)) (not (is_frozen (lease_of cs c)) && not (is_frozen (lease_of ns n))) free).0
+    not_true (list_any (in_way home ns c n mode) cs) (both_true (not (list_any (in_way home ns c n mode) cs)) (not (is_revoked (lease_of cs c)) && not (is_revoked (lease_of ns n))) free).0
 
-module _ (old : TwoLevels) (lawful : IsLawful old) where
-  pub granted_lawful : (new : TwoLevels) (c n inode : ℕ) (mode : Mode) → old.home c ≡ Some n → is_free_for old c n inode mode ≡ true → IsGranted old new c n inode mode → IsLawful new
+module _ (old : TwoLevels) (lawful : LevelsInvariant old) where
+  pub granted_lawful : (new : TwoLevels) (c n inode : ℕ) (mode : Mode) → old.home c ≡ Some n → is_free_for old c n inode mode ≡ true → IsGranted old new c n inode mode → LevelsInvariant new
   granted_lawful new c n inode mode at_home free g =
       let l = lawful_at lawful inode in
       let cs = old.clients inode in
@@ -35,49 +35,49 @@ module _ (old : TwoLevels) (lawful : IsLawful old) where
         asked = granted_asked old.home cs ns c n mode at_home l.fits_c l.fits_n l.under l.asked none;
       }) lawful
 
-  pub asked_lawful : (new : TwoLevels) (c n inode : ℕ) (mode : Mode) → old.home c ≡ Some n → IsAskedFor old new c n inode mode → IsLawful new
+  pub asked_lawful : (new : TwoLevels) (c n inode : ℕ) (mode : Mode) → old.home c ≡ Some n → IsAskedFor old new c n inode mode → LevelsInvariant new
   asked_lawful new c n inode mode at_home a =
       let l = lawful_at lawful inode in
       let cs = old.clients inode in
       let ns = old.nodes inode in
       becomes_lawful old new a.home a.clients a.nodes (record {
-        fits_c = freeze_fits (in_way old.home ns c n mode) cs l.fits_c;
+        fits_c = revoke_fits (in_way old.home ns c n mode) cs l.fits_c;
         fits_n = nodes_asked_compatible old.home cs ns c n mode at_home l.under l.asked l.fits_n;
         under = asked_under old.home cs ns c n mode at_home l.under l.asked;
         asked = asked_asked old.home cs ns c n mode at_home l.under l.asked;
       }) lawful
 
-  released_fits : (gone : Bool) (n : ℕ) (ns : List Lease) → compatible ns ≡ true → compatible (cond gone (without n ns) ns) ≡ true
+  released_fits : (gone : Bool) (n : ℕ) (ns : List Lease) → compatible ns ≡ true → compatible (cond gone (without_holder n ns) ns) ≡ true
   released_fits true n ns fits = leave_out_fits (is_own n) ns fits
   released_fits false n ns fits = fits
 
-  pub released_lawful : (new : TwoLevels) (c n inode : ℕ) → old.home c ≡ Some n → IsReleased old new c n inode → IsLawful new
+  pub released_lawful : (new : TwoLevels) (c n inode : ℕ) → old.home c ≡ Some n → ReleasesLease old new c n inode → LevelsInvariant new
   released_lawful new c n inode at_home r =
       let l = lawful_at lawful inode in
       let cs = old.clients inode in
       let ns = old.nodes inode in
       becomes_lawful old new r.home r.clients r.nodes (record {
         fits_c = leave_out_fits (is_own c) cs l.fits_c;
-        fits_n = released_fits (is_frozen (lease_of ns n) && not (is_busy old.home (without c cs) n)) n ns l.fits_n;
+        fits_n = released_fits (is_revoked (lease_of ns n) && not (is_busy old.home (without_holder c cs) n)) n ns l.fits_n;
         under = released_under old.home cs ns l.fits_n l.under l.asked c n at_home;
         asked = released_asked old.home cs ns l.fits_n l.under l.asked c n at_home;
       }) lawful
 
-  pub all_frozen_lawful : (new : TwoLevels) (choice : Lease → Bool) → ((c : ℕ) → new.home c ≡ old.home c) → ((i : ℕ) → new.clients i ≡ freeze choice (old.clients i)) → SameLeases old.nodes new.nodes → IsLawful new
-  all_frozen_lawful new choice homes clients nodes = each_lawful new (λ i. freeze choice (old.clients i)) old.nodes homes clients nodes (λ i.
+  pub all_revoked_lawful : (new : TwoLevels) (choice : Lease → Bool) → ((c : ℕ) → new.home c ≡ old.home c) → ((i : ℕ) → new.clients i ≡ revoke choice (old.clients i)) → SameLeases old.nodes new.nodes → LevelsInvariant new
+  all_revoked_lawful new choice homes clients nodes = each_lawful new (λ i. revoke choice (old.clients i)) old.nodes homes clients nodes (λ i.
       let l = lawful_at lawful i in
       record {
-        fits_c = freeze_fits choice (old.clients i) l.fits_c;
+        fits_c = revoke_fits choice (old.clients i) l.fits_c;
         fits_n = l.fits_n;
-        under = frozen_under old.home (old.clients i) (old.nodes i) l.fits_n l.under l.asked choice;
-        asked = frozen_asked old.home (old.clients i) (old.nodes i) l.fits_n l.under l.asked choice;
+        under = revoked_under old.home (old.clients i) (old.nodes i) l.fits_n l.under l.asked choice;
+        asked = revoked_asked old.home (old.clients i) (old.nodes i) l.fits_n l.under l.asked choice;
       })
 
-  pub frozen_lawful : (new : TwoLevels) (c : ℕ) → IsFrozen old new c → IsLawful new
-  frozen_lawful new c f = all_frozen_lawful new (is_own c) f.home f.clients f.nodes
+  pub revoked_lawful : (new : TwoLevels) (c : ℕ) → IsRevoked old new c → LevelsInvariant new
+  revoked_lawful new c f = all_revoked_lawful new (is_own c) f.home f.clients f.nodes
 
-  pub freed_lawful : (new : TwoLevels) (n : ℕ) → IsIdle old n → IsFreed old new n → IsLawful new
-  freed_lawful new n idle f = each_lawful new old.clients (λ i. without n (old.nodes i)) f.home f.clients f.nodes (λ i.
+  pub freed_lawful : (new : TwoLevels) (n : ℕ) → IsIdle old n → IsFreed old new n → LevelsInvariant new
+  freed_lawful new n idle f = each_lawful new old.clients (λ i. without_holder n (old.nodes i)) f.home f.clients f.nodes (λ i.
       let l = lawful_at lawful i in
       record {
         fits_c = l.fits_c;
@@ -86,7 +86,7 @@ module _ (old : TwoLevels) (lawful : IsLawful old) where
         asked = freed_asked old.home (old.clients i) (old.nodes i) l.fits_n l.under l.asked n (idle i);
       })
 
-  pub enrolled_lawful : (new : TwoLevels) (c n : ℕ) → old.home c ≡ None → EnrolsAt old new c n → IsLawful new
+  pub enrolled_lawful : (new : TwoLevels) (c n : ℕ) → old.home c ≡ None → EnrolsAt old new c n → LevelsInvariant new
   enrolled_lawful new c n none e = each_lawful {home = new.home} new old.clients old.nodes (λ d. refl) e.clients e.nodes (λ i.
       let l = lawful_at lawful i in
       record {
@@ -96,24 +96,24 @@ module _ (old : TwoLevels) (lawful : IsLawful old) where
         asked = enrolled_asked old.home (old.clients i) (old.nodes i) l.fits_n l.under l.asked new.home c none e.home.elsewhere;
       })
 
-  pub call_lawful : (call : LeaseCall) (new : TwoLevels) → Does old call new → IsLawful new
+  pub call_lawful : (call : LeaseCall) (new : TwoLevels) → LeaseCallDoes old call new → LevelsInvariant new
   call_lawful (enrol c n) new d = enrolled_lawful new c n d.0 d.1
   call_lawful (acquire c n inode mode) new d = elim d.1 [
     | inl granted ↦ granted_lawful new c n inode mode d.0 granted.0 granted.1
     | inr asked ↦ asked_lawful new c n inode mode d.0 asked.1
   ]
   call_lawful (release c n inode) new d = released_lawful new c n inode d.0 d.1
-  call_lawful (freeze_all c) new d = frozen_lawful new c d
+  call_lawful (revoke_all c) new d = revoked_lawful new c d
   call_lawful (free_node n) new d = freed_lawful new n d.0 d.1
 
-pub all_lawful : (calls : List LeaseCall) (old new : TwoLevels) → IsLawful old → AllDo old calls new → IsLawful new
+pub all_lawful : (calls : List LeaseCall) (old new : TwoLevels) → LevelsInvariant old → AllLeaseCalls old calls new → LevelsInvariant new
 all_lawful [] old new lawful same = same_lawful same lawful
 all_lawful (call ∷ calls) old new lawful done =
-    let next : IsLawful done.0 = elim done.1 [
+    let next : LevelsInvariant done.0 = elim done.1 [
       | inl does ↦ call_lawful old lawful call done.0 does
       | inr refused ↦ same_lawful refused lawful
     ] in
     all_lawful calls done.0 new next done.2
 
-pub after_all : (calls : List LeaseCall) (new : TwoLevels) → AllDo nobody calls new → IsLawful new
+pub after_all : (calls : List LeaseCall) (new : TwoLevels) → AllLeaseCalls nobody calls new → LevelsInvariant new
 after_all calls new done = all_lawful calls nobody new nobody_lawful done

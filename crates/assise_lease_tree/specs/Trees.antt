@@ -1,7 +1,7 @@
 -- What is seen of a tree of leases: its two levels, and the revoker of each client.
 use Rattle.std.specs.Prelude.{ℕ, Option, nat_eq}
 use Rattle.indexmap.specs.IndexMap.{get}
-use Rattle.assise_lease_table.specs.Tables.{client_leases, node_leases, revoker_of}
+use Rattle.assise_lease_table.specs.Tables.{SameRevokers, client_leases, node_leases, revoker_of}
 use Rattle.assise_lease_tree.specs.declared.lease_tree.LeaseTreeOf.{LeaseTreeOf}
 use Rattle.assise_lease_tree.specs.TwoLevels.{TwoLevels}
 
@@ -11,3 +11,7 @@ levels_of t = record { home = get nat_eq t.homes; clients = client_leases t.clie
 -- what the client stored to be asked
 abbrev pub stored_by : {C : Type 0} → LeaseTreeOf C → ℕ → Option C
 stored_by t c = revoker_of t.clients c
+
+-- each client has stored the same
+abbrev pub KeepsRevokers : {C : Type 0} → LeaseTreeOf C → LeaseTreeOf C → Type 0
+KeepsRevokers old new = SameRevokers (stored_by old) (stored_by new)

@@ -5,7 +5,7 @@ ghost use Rattle.assise_lease_table.specs.Tables.{client_leases, node_leases, re
 ghost use Rattle.assise_lease_tree.specs.Levels.{Under, AskedBelow};
 
 use crate::acquired::Acquired;
-use crate::levels::{GivenUp, InTheWay, OfNode, is_busy, is_frozen, raised};
+use crate::levels::{GivenUp, InTheWay, OfNode, is_busy, is_revoked, raised};
 use crate::request::Request;
 use assise_lease_table::client_table::ClientTableOf;
 use assise_lease_table::lease::{Asked, Lease, Own, is_any_chosen};
@@ -41,12 +41,12 @@ impl<C: Revokes + Drop> LeaseTreeOf<C> {
     ghost use Rattle.assise_lease_table.specs.Answers.{AnswerAll};
     ghost use Rattle.assise_lease_table.specs.Cuts.{is_asked, is_unasked, are_once, are_uncut};
     ghost use Rattle.assise_lease_table.specs.LeaseMaps.{SameLeases};
-    ghost use Rattle.assise_lease_table.specs.Leases.{Among, lease_of, serves, is_to_ask, freeze};
-    ghost use Rattle.assise_lease_table.specs.Tables.{Enrols, SameRevokers};
+    ghost use Rattle.assise_lease_table.specs.Leases.{Among, lease_of, serves, is_to_ask, revoke};
+    ghost use Rattle.assise_lease_table.specs.Tables.{Enrols};
     ghost use Rattle.assise_lease_tree.specs.Levels.{in_way, is_busy, lives};
-    ghost use Rattle.assise_lease_tree.specs.Trees.{levels_of, stored_by};
+    ghost use Rattle.assise_lease_tree.specs.Trees.{KeepsRevokers, levels_of, stored_by};
     ghost use Rattle.assise_lease_tree.specs.Turns.{is_granted, MatchAcquired};
-    ghost use Rattle.assise_lease_tree.specs.TwoLevels.{nobody, IsLawful, SameLevels, EnrolsAt, is_free_for, IsGranted, IsAskedFor, IsReleased, IsFrozen, IsIdle, IsFreed};
+    ghost use Rattle.assise_lease_tree.specs.TwoLevels.{nobody, LevelsInvariant, SameLevels, EnrolsAt, is_free_for, IsGranted, IsAskedFor, ReleasesLease, IsRevoked, IsIdle, IsFreed};
 
     /// No clients and no leases. It takes no memory.
     pub fn new(alloc: Global) -> LeaseTreeOf<C>
@@ -72,9 +72,10 @@ impl<C: Revokes + Drop> LeaseTreeOf<C> {
     pub fn enrol(&mut self, client: u32, node: u32, revoker: C) -> Result<(), (Refusal, C)>
         requires new { (levels_of self.old).home client ≡ None }
         ensures ok { OnOk result (EnrolsAt (levels_of self.old) (levels_of self.new) client node) }
-        ensures revokers { OnOk result (Enrols (stored_by self.old) (stored_by self.new) client revoker) }
+        ensures revokers { OnOk result (Enrols (stored_by self.old)
+            (stored_by self.new) client revoker) }
         ensures err { OnErr result (SameLevels (levels_of self.old) (levels_of self.new)) }
-        ensures err_revokers { OnErr result (SameRevokers (stored_by self.old) (stored_by self.new)) }
+        ensures err_revokers { OnErr result (KeepsRevokers self.old self.new) }
         ensures given_back { IfErr result (λ back. back ≡ (OutOfMemory, revoker)) }
     {
         let Ok(()) = self.homes.reserve(1) else {
@@ -94,17 +95,19 @@ impl<C: Revokes + Drop> LeaseTreeOf<C> {
         self.clients.leases(inode)
     }
 
-    /// Whether a client's lease serves where the mode is wanted: it is strong enough and not frozen.
+    /// Whether a client's lease serves where the mode is wanted: it is strong enough and not revoked.
     pub fn holds(&self, client: u32, inode: u64, mode: Mode) -> bool
-        ensures holds { result ≡ serves (lease_of ((levels_of self.now).clients inode) client) mode }
-        ensures lawful { IsLawful (levels_of self.now) }
+        ensures holds { result ≡ serves (lease_of ((levels_of self.now).clients inode) client)
+            mode }
+        ensures lawful { LevelsInvariant (levels_of self.now) }
     {
         self.clients.holds(client, inode, mode)
     }
 
     /// Whether a request is granted at once: nobody stands in its way.
     pub fn is_free(&self, request: Request) -> bool
-        ensures { result ≡ is_free_for (levels_of self.now) request.client request.node request.inode request.mode }
+        ensures { result ≡ is_free_for (levels_of self.now) request.client request.node
+            request.inode request.mode }
     {
         let way = InTheWay {
             request,
@@ -112,8 +115,8 @@ impl<C: Revokes + Drop> LeaseTreeOf<C> {
             nodes: self.nodes.leases(request.inode),
         };
         !is_any_chosen(&way, self.clients.leases(request.inode))
-            && !is_frozen(self.clients.lease(request.client, request.inode))
-            && !is_frozen(self.nodes.lease(request.node, request.inode))
+            && !is_revoked(self.clients.lease(request.client, request.inode))
+            && !is_revoked(self.nodes.lease(request.node, request.inode))
     }
 
     /// Grants a request that nobody stands in the way of. The one refusal is [`Refusal::OutOfMemory`], which leaves all leases
@@ -121,12 +124,15 @@ impl<C: Revokes + Drop> LeaseTreeOf<C> {
     // All room is made before the first change.
     pub fn grant(&mut self, request: Request) -> Result<(), Refusal>
         requires at_home { (levels_of self.old).home request.client ≡ Some request.node }
-        requires free { is_free_for (levels_of self.old) request.client request.node request.inode request.mode ≡ true }
-        ensures granted { OnOk result (IsGranted (levels_of self.old) (levels_of self.new) request.client request.node request.inode request.mode) }
+        requires free { is_free_for (levels_of self.old) request.client request.node request.inode
+            request.mode ≡ true }
+        ensures granted { OnOk result (IsGranted (levels_of self.old)
+            (levels_of self.new) request.client request.node request.inode request.mode) }
         ensures err { OnErr result (SameLevels (levels_of self.old) (levels_of self.new)) }
-        ensures raised { is_some (lease_of ((levels_of self.old).clients request.inode) request.client) ≡ true → IsOk result }
+        ensures raised { is_some (lease_of ((levels_of self.old).clients request.inode)
+            request.client) ≡ true → IsOk result }
         ensures only_memory { IsOkUnless result OutOfMemory }
-        ensures revokers { SameRevokers (stored_by self.old) (stored_by self.new) }
+        ensures revokers { KeepsRevokers self.old self.new }
     {
         let Request {
             client,
@@ -151,17 +157,26 @@ impl<C: Revokes + Drop> LeaseTreeOf<C> {
     /// Asks those who stand in the way of a request, and answers their cuts. Who was asked before isn't asked again. Where no other
     /// node stands against the mode then, the manager raises the lease of the client's node at once, which takes no memory. The one
     /// refusal is [`Refusal::OutOfMemory`], which leaves all leases as they were; it never comes where nobody is asked.
-    // All answers are there before the first lease is frozen.
+    // All answers are there before the first lease is revoked.
     pub fn ask<V: Views>(&mut self, request: Request, views: &V) -> Result<Vec<Asked>, Refusal>
         requires at_home { (levels_of self.old).home request.client ≡ Some request.node }
-        requires blocked { is_free_for (levels_of self.old) request.client request.node request.inode request.mode ≡ false }
-        requires viewed { (l : _) → Among ((levels_of self.old).clients request.inode) l → l.frozen ≡ false → is_some (V.view_of views.now l.holder) ≡ true }
-        ensures asked { OnOk result (IsAskedFor (levels_of self.old) (levels_of self.new) request.client request.node request.inode request.mode) }
-        ensures answers { IfOk result (λ asked. AnswerAll C.answers (stored_by self.old) (V.view_of views.now) request.inode (in_way (levels_of self.old).home ((levels_of self.old).nodes request.inode) request.client request.node request.mode) ((levels_of self.old).clients request.inode) asked.items) }
+        requires blocked { is_free_for (levels_of self.old) request.client request.node
+            request.inode request.mode ≡ false }
+        requires viewed { (l : _) → Among ((levels_of self.old).clients request.inode) l →
+            l.revoked ≡ false → is_some (V.view_of views.now l.holder) ≡ true }
+        ensures asked { OnOk result (IsAskedFor (levels_of self.old)
+            (levels_of self.new) request.client request.node request.inode request.mode) }
+        ensures answers { IfOk result (λ asked. AnswerAll C.answers (stored_by self.old)
+            (V.view_of views.now) request.inode
+            (in_way (levels_of self.old).home
+            ((levels_of self.old).nodes request.inode) request.client request.node request.mode)
+            ((levels_of self.old).clients request.inode) asked.items) }
         ensures err { OnErr result (SameLevels (levels_of self.old) (levels_of self.new)) }
-        ensures nobody { list_any (is_to_ask (in_way (levels_of self.old).home ((levels_of self.old).nodes request.inode) request.client request.node request.mode)) ((levels_of self.old).clients request.inode) ≡ false → IsOk result }
+        ensures nobody { list_any (is_to_ask (in_way (levels_of self.old).home
+            ((levels_of self.old).nodes request.inode) request.client request.node request.mode))
+            ((levels_of self.old).clients request.inode) ≡ false → IsOk result }
         ensures only_memory { IsOkUnless result OutOfMemory }
-        ensures revokers { SameRevokers (stored_by self.old) (stored_by self.new) }
+        ensures revokers { KeepsRevokers self.old self.new }
     {
         let Request {
             node,
@@ -175,7 +190,7 @@ impl<C: Revokes + Drop> LeaseTreeOf<C> {
             nodes: self.nodes.leases(inode),
         };
         let asked = self.clients.answers(inode, &way, views)?;
-        self.clients.freeze_chosen(inode, &way);
+        self.clients.revoke_chosen(inode, &way);
         let given_up = GivenUp {
             request,
             homes: &self.homes,
@@ -201,19 +216,32 @@ impl<C: Revokes + Drop> LeaseTreeOf<C> {
         views: &V,
     ) -> Result<Acquired, Refusal>
         requires enrolled { is_some ((levels_of self.old).home client) ≡ true }
-        requires viewed { (l : _) → Among ((levels_of self.old).clients inode) l → l.frozen ≡ false → is_some (V.view_of views.now l.holder) ≡ true }
-        ensures granted { (node : ℕ) → (levels_of self.old).home client ≡ Some node → IfOk result (λ acquired. is_granted acquired ≡ is_free_for (levels_of self.old) client node inode mode) }
-        ensures levels { (node : ℕ) → (levels_of self.old).home client ≡ Some node → IfOk result (λ acquired. MatchAcquired acquired
+        requires viewed { (l : _) → Among ((levels_of self.old).clients inode) l →
+            l.revoked ≡ false → is_some (V.view_of views.now l.holder) ≡ true }
+        ensures granted { (node : ℕ) → (levels_of self.old).home client ≡ Some node →
+            IfOk result (λ acquired. is_granted acquired ≡ is_free_for
+            (levels_of self.old) client node inode mode) }
+        ensures levels { (node : ℕ) → (levels_of self.old).home client ≡ Some node →
+            IfOk result (λ acquired. MatchAcquired acquired
             (IsGranted (levels_of self.old) (levels_of self.new) client node inode mode)
-            (λ asked. IsAskedFor (levels_of self.old) (levels_of self.new) client node inode mode)) }
-        ensures answers { (node : ℕ) → (levels_of self.old).home client ≡ Some node → IfOk result (λ acquired. MatchAcquired acquired
-            ⊤
-            (AnswerAll C.answers (stored_by self.old) (V.view_of views.now) inode (in_way (levels_of self.old).home ((levels_of self.old).nodes inode) client node mode) ((levels_of self.old).clients inode))) }
+            (λ asked. IsAskedFor (levels_of self.old)
+            (levels_of self.new) client node inode mode)) }
+        ensures answers { (node : ℕ) → (levels_of self.old).home client ≡ Some node →
+            IfOk result (λ acquired. MatchAcquired acquired ⊤
+            (AnswerAll C.answers (stored_by self.old) (V.view_of views.now) inode
+            (in_way (levels_of self.old).home ((levels_of self.old).nodes inode) client node mode)
+            ((levels_of self.old).clients inode))) }
         ensures err { OnErr result (SameLevels (levels_of self.old) (levels_of self.new)) }
-        ensures raised { (node : ℕ) → (levels_of self.old).home client ≡ Some node → is_free_for (levels_of self.old) client node inode mode ≡ true → is_some (lease_of ((levels_of self.old).clients inode) client) ≡ true → IsOk result }
-        ensures nobody { (node : ℕ) → (levels_of self.old).home client ≡ Some node → is_free_for (levels_of self.old) client node inode mode ≡ false → list_any (is_to_ask (in_way (levels_of self.old).home ((levels_of self.old).nodes inode) client node mode)) ((levels_of self.old).clients inode) ≡ false → IsOk result }
+        ensures raised { (node : ℕ) → (levels_of self.old).home client ≡ Some node →
+            is_free_for (levels_of self.old) client node inode mode ≡ true →
+            is_some (lease_of ((levels_of self.old).clients inode) client) ≡ true → IsOk result }
+        ensures nobody { (node : ℕ) → (levels_of self.old).home client ≡ Some node →
+            is_free_for (levels_of self.old) client node inode mode ≡ false →
+            list_any (is_to_ask (in_way (levels_of self.old).home
+            ((levels_of self.old).nodes inode) client node mode))
+            ((levels_of self.old).clients inode) ≡ false → IsOk result }
         ensures only_memory { IsOkUnless result OutOfMemory }
-        ensures revokers { SameRevokers (stored_by self.old) (stored_by self.new) }
+        ensures revokers { KeepsRevokers self.old self.new }
     {
         let Some(home) = self.homes.get(&client) else {
             unreachable!()
@@ -235,16 +263,18 @@ impl<C: Revokes + Drop> LeaseTreeOf<C> {
     /// Takes a client's lease of an inode away, and the asked lease of its node with the last client below. A client that isn't
     /// enrolled has none, and nothing changes. It takes no memory.
     pub fn release(&mut self, client: u32, inode: u64)
-        ensures released { (node : ℕ) → (levels_of self.old).home client ≡ Some node → IsReleased (levels_of self.old) (levels_of self.new) client node inode }
-        ensures unknown { (levels_of self.old).home client ≡ None → SameLevels (levels_of self.old) (levels_of self.new) }
-        ensures revokers { SameRevokers (stored_by self.old) (stored_by self.new) }
+        ensures released { (node : ℕ) → (levels_of self.old).home client ≡ Some node →
+            ReleasesLease (levels_of self.old) (levels_of self.new) client node inode }
+        ensures unknown { (levels_of self.old).home client ≡ None →
+            SameLevels (levels_of self.old) (levels_of self.new) }
+        ensures revokers { KeepsRevokers self.old self.new }
     {
         let Some(home) = self.homes.get(&client) else {
             return;
         };
         let node = *home;
         self.clients.release(client, inode);
-        if is_frozen(self.nodes.lease(node, inode))
+        if is_revoked(self.nodes.lease(node, inode))
             && !is_busy(&self.homes, self.clients.leases(inode), node)
         {
             self.nodes.release(node, inode);
@@ -252,43 +282,48 @@ impl<C: Revokes + Drop> LeaseTreeOf<C> {
     }
 
     /// Freezes all leases of a client. No revoker is called, and it takes no memory.
-    pub fn freeze(&mut self, client: u32)
-        ensures frozen { IsFrozen (levels_of self.old) (levels_of self.new) client }
-        ensures revokers { SameRevokers (stored_by self.old) (stored_by self.new) }
+    pub fn revoke(&mut self, client: u32)
+        ensures revoked { IsRevoked (levels_of self.old) (levels_of self.new) client }
+        ensures revokers { KeepsRevokers self.old self.new }
     {
-        self.clients.freeze(client);
+        self.clients.revoke(client);
     }
 
     /// Freezes all leases of a node's clients. No revoker is called, and it takes no memory.
-    pub fn freeze_below(&mut self, node: u32)
+    pub fn revoke_below(&mut self, node: u32)
         ensures home { (c : ℕ) → (levels_of self.new).home c ≡ (levels_of self.old).home c }
-        ensures clients { (i : ℕ) → (levels_of self.new).clients i ≡ freeze (λ a. lives (levels_of self.old).home a.holder node) ((levels_of self.old).clients i) }
+        ensures clients { (i : ℕ) → (levels_of self.new).clients i ≡ revoke
+            (λ a. lives (levels_of self.old).home a.holder node) ((levels_of self.old).clients i) }
         ensures nodes { SameLeases (levels_of self.old).nodes (levels_of self.new).nodes }
-        ensures revokers { SameRevokers (stored_by self.old) (stored_by self.new) }
+        ensures revokers { KeepsRevokers self.old self.new }
     {
         let of_node = OfNode {
             homes: &self.homes,
             node,
         };
-        self.clients.freeze_everywhere(&of_node);
+        self.clients.revoke_everywhere(&of_node);
     }
 
-    /// Each lease of a client that is not frozen, once, with 0 as its cut: no revoker is called. It walks over all leases of
+    /// Each lease of a client that is not revoked, once, with 0 as its cut: no revoker is called. It walks over all leases of
     /// clients. The one refusal is [`Refusal::OutOfMemory`].
     pub fn unasked_of(&self, client: u32) -> Result<Vec<Asked>, Refusal>
         ensures once { IfOk result (λ asked. are_once asked.items ≡ true) }
         ensures uncut { IfOk result (λ asked. are_uncut asked.items ≡ true) }
-        ensures all { IfOk result (λ asked. (c i : ℕ) → is_asked asked.items c i ≡ ((c == client) && is_unasked (lease_of ((levels_of self.now).clients i) c))) }
+        ensures all { IfOk result (λ asked. (c i : ℕ) →
+            is_asked asked.items c i ≡ ((c == client) && is_unasked
+            (lease_of ((levels_of self.now).clients i) c))) }
         ensures only_memory { IsOkUnless result OutOfMemory }
     {
         self.clients.unasked(&Own { holder: client })
     }
 
-    /// Each lease of a node's clients that is not frozen, as [`LeaseTreeOf::unasked_of`] lists those of one client.
+    /// Each lease of a node's clients that is not revoked, as [`LeaseTreeOf::unasked_of`] lists those of one client.
     pub fn unasked_below(&self, node: u32) -> Result<Vec<Asked>, Refusal>
         ensures once { IfOk result (λ asked. are_once asked.items ≡ true) }
         ensures uncut { IfOk result (λ asked. are_uncut asked.items ≡ true) }
-        ensures all { IfOk result (λ asked. (c i : ℕ) → is_asked asked.items c i ≡ (lives (levels_of self.now).home c node && is_unasked (lease_of ((levels_of self.now).clients i) c))) }
+        ensures all { IfOk result (λ asked. (c i : ℕ) →
+            is_asked asked.items c i ≡ (lives (levels_of self.now).home c node && is_unasked
+            (lease_of ((levels_of self.now).clients i) c))) }
         ensures only_memory { IsOkUnless result OutOfMemory }
     {
         let of_node = OfNode {
@@ -298,10 +333,11 @@ impl<C: Revokes + Drop> LeaseTreeOf<C> {
         self.clients.unasked(&of_node)
     }
 
-    /// Whether no client of a node holds an inode, frozen or not. It walks over all leases of clients.
+    /// Whether no client of a node holds an inode, revoked or not. It walks over all leases of clients.
     pub fn is_idle(&self, node: u32) -> bool
         ensures idle { result ≡ true → IsIdle (levels_of self.now) node }
-        ensures busy { result ≡ false → (i : ℕ) × (is_busy (levels_of self.now).home ((levels_of self.now).clients i) node ≡ true) }
+        ensures busy { result ≡ false → (i : ℕ) ×
+            (is_busy (levels_of self.now).home ((levels_of self.now).clients i) node ≡ true) }
     {
         let of_node = OfNode {
             homes: &self.homes,
@@ -314,7 +350,7 @@ impl<C: Revokes + Drop> LeaseTreeOf<C> {
     pub fn free_node(&mut self, node: u32)
         requires idle { IsIdle (levels_of self.old) node }
         ensures freed { IsFreed (levels_of self.old) (levels_of self.new) node }
-        ensures revokers { SameRevokers (stored_by self.old) (stored_by self.new) }
+        ensures revokers { KeepsRevokers self.old self.new }
     {
         self.nodes.free(node);
     }

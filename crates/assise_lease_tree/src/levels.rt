@@ -4,7 +4,7 @@ ghost use Rattle.std.specs.List.{list_any};
 ghost use Rattle.indexmap.specs.IndexMap.{get};
 ghost use Rattle.assise_lease_table.specs.Leases.{is_rival};
 ghost use Rattle.assise_lease_table.specs.Modes.{against};
-ghost use Rattle.assise_lease_tree.specs.Levels.{lives, is_busy, is_frozen, raised};
+ghost use Rattle.assise_lease_tree.specs.Levels.{lives, is_busy, is_revoked, raised_mode};
 
 use crate::request::Request;
 use assise_lease_table::lease::{Chooses, Lease, Rivals, is_against, stronger_of};
@@ -22,15 +22,15 @@ pub(crate) fn is_home(homes: &IndexMap<u32, u32>, client: u32, node: u32) -> boo
 }
 
 /// Whether a lease is there and was asked for.
-pub(crate) fn is_frozen(lease: Option<Lease>) -> bool
-    ensures { result ≡ is_frozen lease }
+pub(crate) fn is_revoked(lease: Option<Lease>) -> bool
+    ensures { result ≡ is_revoked lease }
 {
-    lease.is_some_and(|lease| lease.frozen)
+    lease.is_some_and(|lease| lease.revoked)
 }
 
 /// The mode that a holder has once it is given one.
 pub(crate) fn raised(mode: Mode, lease: Option<Lease>) -> Mode
-    ensures { result ≡ raised mode lease }
+    ensures { result ≡ raised_mode mode lease }
 {
     match lease {
         Some(lease) => stronger_of(lease.mode, mode),
@@ -40,7 +40,8 @@ pub(crate) fn raised(mode: Mode, lease: Option<Lease>) -> Mode
 
 /// Whether the lease of the client's node stands against another node's mode.
 fn is_under_rival(homes: &IndexMap<u32, u32>, nodes: &[Lease], client: u32, rivals: &Rivals) -> bool
-    ensures { result ≡ list_any (λ k. lives (get nat_eq homes.now) client k.holder && is_rival rivals.now.holder rivals.now.mode k) nodes.now }
+    ensures { result ≡ list_any (λ k. lives (get nat_eq homes.now) client k.holder &&
+        is_rival rivals.now.holder rivals.now.mode k) nodes.now }
 {
     for lease in nodes {
         if is_home(homes, client, lease.holder) && rivals.chooses(lease) {
@@ -64,7 +65,8 @@ pub(crate) fn is_busy(homes: &IndexMap<u32, u32>, clients: &[Lease], node: u32) 
 
 /// Whether the lease is of a client of the node and stands against the mode.
 fn is_local_against(homes: &IndexMap<u32, u32>, lease: &Lease, node: u32, mode: Mode) -> bool
-    ensures { result ≡ (lives (get nat_eq homes.now) lease.now.holder node && against mode lease.now.mode) }
+    ensures { result ≡ (lives (get nat_eq homes.now) lease.now.holder node &&
+        against mode lease.now.mode) }
 {
     is_home(homes, lease.holder, node) && is_against(mode, lease.mode)
 }

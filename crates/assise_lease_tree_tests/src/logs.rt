@@ -37,7 +37,8 @@ impl Logs {
     }
 
     fn log(&self, client: u32) -> &Log
-        ensures { result.now ≡ cond (nat_eq client 1) self.now.first (cond (nat_eq client 2) self.now.second self.now.others) }
+        ensures { result.now ≡ cond (nat_eq client 1) self.now.first
+            (cond (nat_eq client 2) self.now.second self.now.others) }
     {
         match client {
             1 => &self.first,
@@ -63,7 +64,7 @@ impl Logs {
         Some(())
     }
 
-    /// Lets the front of the client's log go, if the number is one of the log.
+    /// Lets the prefix of the client's log go, if the number is one of the log.
     pub(crate) fn drop_front(&mut self, client: u32, to: u64) -> Option<()> {
         let log = self.log_mut(client);
         if to < log.first() || log.end() < to {

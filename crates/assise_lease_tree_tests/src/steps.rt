@@ -8,7 +8,7 @@ use assise_names::mode::Mode;
 use assise_names::refusal::Refusal;
 use assise_private_log::log_view::LogView;
 use assise_revokers::kinds::{eights, least, whole};
-use assise_rows::{Subject, split_word, wrong_rows};
+use assise_test_rows::{Subject, split_word, wrong_rows};
 use std::alloc::{AllocError, Global};
 use std::process::Abort;
 
@@ -68,12 +68,12 @@ fn put_step(
         }
         "drop" => logs.drop_front(number, rest.parse::<u64>().ok()?),
         "freeze" => {
-            tree.freeze(number);
+            tree.revoke(number);
             Some(())
         }
         "free" => free(tree, number, text),
         "below" => {
-            tree.freeze_below(number);
+            tree.revoke_below(number);
             Some(())
         }
         "list" => put_listed(tree.unasked_of(number), text),

@@ -43,14 +43,14 @@ enrol 1 1 least, write 1 7, release 2 7, holds 1 7, release 1 8, holds 1 7, home
 enrol 1 1 least, write 1 7, free 1, release 1 7, free 1, free 2, home 1, home 2 => granted busy Some(1) None
 ";
 
-/// All leases of one client are frozen, and nobody else's.
-const FROZEN: &str = "\
+/// All leases of one client are revoked, and nobody else's.
+const REVOKED: &str = "\
 enrol 1 1 least, enrol 2 1 least, read 1 7, write 1 8, read 2 7, freeze 1, holds 1 7, holds 1 8, holds 2 7, read 1 7, release 1 7, read 1 7, holds 1 7 => granted granted granted - - read asked granted read
 enrol 1 1 least, enrol 2 2 least, write 1 7, freeze 1, write 2 7, release 1 7, write 2 7 => granted asked granted
 ";
 
 /// The leases of a client and of a node's clients are listed once, but for those that were asked for; those below a node are
-/// frozen, and nobody else's.
+/// revoked, and nobody else's.
 const BELOW: &str = "\
 enrol 1 1 least, enrol 2 1 least, enrol 3 2 least, read 1 7, write 2 8, read 3 7, list 1, list 2, list-below 1, list-below 2, list-below 3 => granted granted granted left 1:7:0 left 2:8:0 left 1:7:0 2:8:0 left 3:7:0 left
 enrol 1 1 least, enrol 2 1 least, enrol 3 2 least, read 1 7, write 2 8, read 3 7, below 1, holds 1 7, holds 2 8, holds 3 7, list-below 1, list-below 2 => granted granted granted - - read left left 3:7:0
@@ -67,8 +67,8 @@ fn leases_are_acquired_step_by_step(rt: HostRuntime) {
 }
 
 #[test]
-fn nodes_give_their_leases_up_and_clients_are_frozen(rt: HostRuntime) {
+fn nodes_give_their_leases_up_and_clients_are_revoked(rt: HostRuntime) {
     show(rt.alloc(), &rt, &mut NewTree, NODES);
-    show(rt.alloc(), &rt, &mut NewTree, FROZEN);
+    show(rt.alloc(), &rt, &mut NewTree, REVOKED);
     show(rt.alloc(), &rt, &mut NewTree, BELOW);
 }

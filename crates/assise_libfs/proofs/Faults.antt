@@ -14,19 +14,19 @@ use Rattle.assise_names.specs.declared.refusal.Refusal.TheVariants.{BadClient, B
 use Rattle.assise_names.specs.declared.limits.TheConstants.{MOST_CLIENTS}
 use Rattle.assise_history.specs.Entries.{opens}
 use Rattle.assise_history.specs.Legal.{IsDown, durability_of, is_failure_of}
-use Rattle.assise_history.proofs.Counting.{next_opened, opened_within}
+use Rattle.assise_history.proofs.ClientCounts.{next_opened, opened_within}
 use Rattle.assise_history.proofs.Legality.{fits_in}
 use Rattle.assise_inode_table.specs.Numbers.{makes_inode}
 use Rattle.assise_inode_table.proofs.CallEnds.{makes_own}
 use Rattle.assise_manager.specs.Standings.{Standing, full, down, returning, standing_of}
-use Rattle.assise_machine_laws.specs.World.{IsClient, view}
-use Rattle.assise_machine_events.specs.ClientEvents.{Opening, Calling, Noting, Syncing, call_of_client, is_answered, is_awaited, is_full, is_noted, is_opened, is_refused, is_replicating, is_spent, is_synced, lacks_memory, last_world}
-use Rattle.assise_machine_events.specs.Dsyncs.{Coalescing, is_coalesced, is_refused, is_synced, lacks_memory}
-use Rattle.assise_machine_events.specs.Events.{Answer, not_yet, opened, refused, replied}
-use Rattle.assise_machine_events.specs.Faults.{client_fault, fault_if, is_client, is_too_large, or_else, unless_full}
-use Rattle.assise_machine_events.specs.Happenings.{Dsyncing, Fsyncing, Trying}
-use Rattle.assise_machine_events.specs.Machine.{Machine, Holds}
-use Rattle.assise_machine_events.proofs.Rejoined.{stands_is_node}
+use Rattle.assise_model_world.specs.World.{IsClient, view}
+use Rattle.assise_model_events.specs.ClientEvents.{Opening, Calling, Noting, Syncing, call_of_client, is_answered, is_awaited, is_full, is_noted, is_opened, is_refused, is_replicating, is_spent, is_synced, lacks_memory, last_world}
+use Rattle.assise_model_events.specs.Dsyncs.{Coalescing, is_coalesced, is_refused, is_synced, lacks_memory}
+use Rattle.assise_model_events.specs.Events.{Answer, not_yet, opened, refused, replied}
+use Rattle.assise_model_events.specs.Faults.{client_fault, fault_if, is_client, is_too_large, or_else, unless_full}
+use Rattle.assise_model_events.specs.Happenings.{Dsyncing, Fsyncing, Trying}
+use Rattle.assise_model_events.specs.Machine.{Machine, MachineInvariant}
+use Rattle.assise_model_events.proofs.Rejoined.{stands_is_node}
 use Rattle.assise_machine_calls.specs.Answers.{opening_answer}
 use Rattle.assise_libfs.specs.Calling.{MakesInode, MayRefuseTry, WritesTooMuch}
 use Rattle.assise_libfs.specs.Lives.{HasCrashed, HasLostNode, IsOpenedOn}
@@ -71,7 +71,7 @@ not_false false e = absurd (cc)
 no_proofs : (x y : ⊥) → x ≡ y
 no_proofs x y = absurd x
 
-module _ (m : Machine) (h : Holds m) (c : ℕ) where
+module _ (m : Machine) (h : MachineInvariant m) (c : ℕ) where
   client_of : is_client m.world c ≡ true → IsClient m.world c
   client_of e = (le_true 1 c (&&_left (nat_le 1 c) (nat_le c m.world.clients) e), le_true c m.world.clients (&&_right (nat_le 1 c) (nat_le c m.world.clients) e))
 
@@ -139,7 +139,7 @@ which_call_fault None false op r size e = absurd (cc)
 same_refusal : (q r : Refusal) (a : Answer) → a ≡ refused q → a ≡ refused r → r ≡ q
 same_refusal q r a e is = let x : refused q ≡ refused r = sym e ∙ is in cc
 
-module _ (m : Machine) (holds : ∥ Holds m ∥₁) where
+module _ (m : Machine) (holds : ∥ MachineInvariant m ∥₁) where
   client_refused : (c : ℕ) (op : Op) (r : Refusal) → ClientFault (is_client m.world c) (m.world.crashed c) (m.world.lives c) r → MayRefuseTry c op m.history r
   client_refused c op r (is_bad none is) = subst (MayRefuseTry c op m.history) (sym is) (λ n o. ∥∥₁_elim holds no_proofs (λ h. never_opened m h c none n o))
   client_refused c op r (is_gone known over is) = subst (MayRefuseTry c op m.history) (sym is) (∥∥₁_map holds (λ h. has_crashed m h c known over))
@@ -219,10 +219,10 @@ which_open_fault (Some full) false r e = absurd (cc)
 which_open_fault (Some (down since)) b r e = not_up (down since) refl (λ is. cc) (let x : Some NodeDown ≡ Some r = e in cc)
 which_open_fault (Some (returning since donor stale)) b r e = not_up (returning since donor stale) refl (λ is. cc) (let x : Some NodeDown ≡ Some r = e in cc)
 
-is_down : (m : Machine) (n : ℕ) (t : Standing) → Holds m → standing_of m.members.nodes n ≡ Some t → t ≢ full → IsDown m.history n
+is_down : (m : Machine) (n : ℕ) (t : Standing) → MachineInvariant m → standing_of m.members.nodes n ≡ Some t → t ≢ full → IsDown m.history n
 is_down m n t h at other = h.recorded.down n (stands_is_node m n t at) (λ f. other (let x : Some full ≡ Some t = sym (h.members.full_nodes n f) ∙ at in cc))
 
-module _ (m : Machine) (holds : ∥ Holds m ∥₁) (n : ℕ) (u : Durability) where
+module _ (m : Machine) (holds : ∥ MachineInvariant m ∥₁) (n : ℕ) (u : Durability) where
   faulty_open : (r : Refusal) → OpenFault (standing_of m.members.nodes n) r → MayRefuseOpen n m.history r
   faulty_open r (no_node is) = subst (MayRefuseOpen n m.history) (sym is) tt
   faulty_open r (no_client_left is) = subst (MayRefuseOpen n m.history) (sym is) tt

@@ -3,17 +3,17 @@ use Rattle.std.proofs.Common.{◌≡◌, ℕ, List, Option, Some, None, Result, 
 use Rattle.assise_names.specs.declared.call.Op.{Op}
 use Rattle.assise_names.specs.declared.refusal.Refusal.{Refusal}
 use Rattle.assise_names.specs.declared.reply.Reply.{Reply}
-use Rattle.assise_history.specs.Entries.{Event}
+use Rattle.assise_history.specs.Entries.{EntryValue}
 use Rattle.assise_history.specs.Legal.{calls_made}
 use Rattle.assise_keeper.specs.Clients.{Extends, ExtendsByOne, calls_by, calls_of}
-use Rattle.assise_keeper.proofs.Adding.{extends-same, extends_by_one}
+use Rattle.assise_keeper.proofs.PassAdds.{extends-same, extends_by_one}
 use Rattle.assise_libfs.specs.Calling.{ExtendsByOthers, SeesTry, Tries, told_call}
 use Rattle.assise_libfs.proofs.Tries.{by_others, others_then_one}
 
-same_calls : (c : ℕ) (o : Option ℕ) (h old : List Event) → o ≡ Some c → calls_of o h ≡ calls_of o old → calls_by c h ≡ calls_by c old
+same_calls : (c : ℕ) (o : Option ℕ) (h old : List EntryValue) → o ≡ Some c → calls_of o h ≡ calls_of o old → calls_by c h ≡ calls_by c old
 same_calls c o h old is same = subst (λ (z : Option ℕ). calls_of z h ≡ calls_of z old) is same
 
-sees-tried : (c : ℕ) (op : Op) (old h : List Event) (r : Result (Option Reply) Refusal) (h' : List Event) → Extends h old → calls_by c h ≡ calls_by c old → Tries c op h r h' → SeesTry c op old r h'
+sees-tried : (c : ℕ) (op : Op) (old h : List EntryValue) (r : Result (Option Reply) Refusal) (h' : List EntryValue) → Extends h old → calls_by c h ≡ calls_by c old → Tries c op h r h' → SeesTry c op old r h'
 sees-tried c op old h (Ok (Some reply)) h' extends same e =
     let x : _ = record { client = c; number = calls_made c h; op = op; reply = reply } in
     let one : ExtendsByOne c h h' (told_call c h op reply) = subst (λ z. ExtendsByOne c h z (told_call c h op reply)) (sym e) (extends_by_one c x h h refl (extends-same h) refl) in
@@ -22,5 +22,5 @@ sees-tried c op old h (Ok None) h' extends same e = subst (ExtendsByOthers c old
 sees-tried c op old h (Err refusal) h' extends same e = subst (ExtendsByOthers c old) (sym e) (by_others c old h extends same)
 
 -- the state was taken by a pass of this client, and is given back after the try
-pub sees : (c : ℕ) (o : Option ℕ) (op : Op) (old h : List Event) (r : Result (Option Reply) Refusal) (h' : List Event) → o ≡ Some c → Extends h old → calls_of o h ≡ calls_of o old → Tries c op h r h' → SeesTry c op old r h'
+pub sees : (c : ℕ) (o : Option ℕ) (op : Op) (old h : List EntryValue) (r : Result (Option Reply) Refusal) (h' : List EntryValue) → o ≡ Some c → Extends h old → calls_of o h ≡ calls_of o old → Tries c op h r h' → SeesTry c op old r h'
 sees c o op old h r h' is extends same e = sees-tried c op old h r h' extends (same_calls c o h old is same) e

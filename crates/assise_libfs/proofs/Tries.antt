@@ -3,26 +3,26 @@ use Rattle.std.proofs.Common.{◌≡◌, ℕ, ◌+◌, ◌≤◌, List, [], ◌�
 use Rattle.std.specs.Prelude.{IfOk}
 use Rattle.std.proofs.Math.Bridge.{le_prop}
 use Rattle.std.proofs.Math.Logic.{∥∥₁_elim}
-use Rattle.assise_history.proofs.Legality.{fits_in, front_in}
+use Rattle.assise_history.proofs.Legality.{fits_in, prefix_in}
 use Rattle.assise_names.specs.declared.call.Op.{Op}
 use Rattle.assise_names.specs.declared.durability.Durability.{Durability}
 use Rattle.assise_names.specs.declared.refusal.Refusal.{Refusal}
 use Rattle.assise_names.specs.declared.reply.Reply.{Reply}
-use Rattle.assise_history.specs.Entries.{Event, opens, calls}
+use Rattle.assise_history.specs.Entries.{EntryValue, opens, calls}
 use Rattle.assise_history.specs.Legal.{IsLegal, calls_made, clients_opened}
-use Rattle.assise_history.proofs.Counting.{early, next_opened}
-use Rattle.assise_history.proofs.Standing.{made-still}
+use Rattle.assise_history.proofs.ClientCounts.{early, next_opened}
+use Rattle.assise_history.proofs.LivesOneMore.{made-still}
 use Rattle.assise_keeper.specs.Clients.{calls_by, Extends, ExtendsByOne}
-use Rattle.assise_keeper.proofs.Adding.{calls-append}
+use Rattle.assise_keeper.proofs.PassAdds.{calls-append}
 use Rattle.assise_libfs.specs.Calling.{told_call, ExtendsByOthers, SeesTry, answers}
 use Rattle.assise_libfs.specs.Lives.{IsOpenedAs, IsOpenedOn}
 
-nothing_more : (xs ys : List Event) → xs ++ ys ≡ xs → ys ≡ []
+nothing_more : (xs ys : List EntryValue) → xs ++ ys ≡ xs → ys ≡ []
 nothing_more [] ys e = e
 nothing_more (x ∷ xs) ys e = nothing_more xs ys (cc)
 
 -- what was taken extends by others what was seen
-pub by_others : (c : ℕ) (old taken : List Event) → Extends taken old → calls_by c taken ≡ calls_by c old → ExtendsByOthers c old taken
+pub by_others : (c : ℕ) (old taken : List EntryValue) → Extends taken old → calls_by c taken ≡ calls_by c old → ExtendsByOthers c old taken
 by_others c old taken extends same = record {
   between = extends.0;
   split = extends.1;
@@ -30,11 +30,11 @@ by_others c old taken extends same = record {
   same = same;
 }
 
-pub others_itself : (c : ℕ) (h : List Event) → ExtendsByOthers c h h
+pub others_itself : (c : ℕ) (h : List EntryValue) → ExtendsByOthers c h h
 others_itself c h = record { between = []; split = sym (append-nil h); others = refl; same = refl }
 
 -- others, and then others
-pub others_then_others : (c : ℕ) (a b d : List Event) → ExtendsByOthers c a b → ExtendsByOthers c b d → ExtendsByOthers c a d
+pub others_then_others : (c : ℕ) (a b d : List EntryValue) → ExtendsByOthers c a b → ExtendsByOthers c b d → ExtendsByOthers c a d
 others_then_others c a b d o e = record {
   between = o.between ++ e.between;
   split = e.split ∙ (ap (λ z. z ++ e.between) o.split ∙ append_assoc a o.between e.between);
@@ -42,11 +42,11 @@ others_then_others c a b d o e = record {
   same = e.same ∙ o.same;
 }
 
-told_same : (c : ℕ) (a b : List Event) (op : Op) (reply : Reply) → calls_by c b ≡ calls_by c a → told_call c b op reply ≡ told_call c a op reply
+told_same : (c : ℕ) (a b : List EntryValue) (op : Op) (reply : Reply) → calls_by c b ≡ calls_by c a → told_call c b op reply ≡ told_call c a op reply
 told_same c a b op reply same = ap (λ (k : ℕ). calls (record { client = c; number = k; op = op; reply = reply })) (ap length same)
 
 -- others, and then the call
-pub others_then_one : (c : ℕ) (a b d : List Event) (op : Op) (reply : Reply) → ExtendsByOthers c a b → ExtendsByOne c b d (told_call c b op reply) → ExtendsByOne c a d (told_call c a op reply)
+pub others_then_one : (c : ℕ) (a b d : List EntryValue) (op : Op) (reply : Reply) → ExtendsByOthers c a b → ExtendsByOne c b d (told_call c b op reply) → ExtendsByOne c a d (told_call c a op reply)
 others_then_one c a b d op reply o e = let call = told_same c a b op reply o.same in record {
   between = o.between ++ e.between;
   split = e.split ∙ (ap (λ z. (z ++ e.between) ++ told_call c b op reply ∷ []) o.split ∙ (ap (λ z. z ++ told_call c b op reply ∷ []) (append_assoc a o.between e.between) ∙ ap (λ z. (a ++ (o.between ++ e.between)) ++ z ∷ []) call));
@@ -54,29 +54,29 @@ others_then_one c a b d op reply o e = let call = told_same c a b op reply o.sam
   grown = e.grown ∙ (ap (λ z. z ++ told_call c b op reply ∷ []) o.same ∙ ap (λ z. calls_by c a ++ z ∷ []) call);
 }
 
-others_then_own : (c : ℕ) (op : Op) (a b : List Event) (r : Result (Option Reply) Refusal) (e : List Event) → ExtendsByOthers c a b → SeesTry c op b r e → SeesTry c op a r e
+others_then_own : (c : ℕ) (op : Op) (a b : List EntryValue) (r : Result (Option Reply) Refusal) (e : List EntryValue) → ExtendsByOthers c a b → SeesTry c op b r e → SeesTry c op a r e
 others_then_own c op a b (Ok (Some reply)) e o s = others_then_one c a b e op reply o s
 others_then_own c op a b (Ok None) e o s = others_then_others c a b e o s
 others_then_own c op a b (Err refusal) e o s = others_then_others c a b e o s
 
 -- others, and then a try
-pub others_then_try : (c d : ℕ) (op : Op) (a b : List Event) (r : Result (Option Reply) Refusal) (e : List Event) → d ≡ c → ExtendsByOthers c a b → SeesTry d op b r e → SeesTry c op a r e
+pub others_then_try : (c d : ℕ) (op : Op) (a b : List EntryValue) (r : Result (Option Reply) Refusal) (e : List EntryValue) → d ≡ c → ExtendsByOthers c a b → SeesTry d op b r e → SeesTry c op a r e
 others_then_try c d op a b r e same o s = others_then_own c op a b r e o (subst (λ z. SeesTry z op b r e) same s)
 
 -- ---- what was seen goes on
 
-pub one-extends : (c : ℕ) (a d : List Event) (x : Event) → ExtendsByOne c a d x → Extends d a
+pub one-extends : (c : ℕ) (a d : List EntryValue) (x : EntryValue) → ExtendsByOne c a d x → Extends d a
 one-extends c a d x e = (e.between ++ x ∷ [], e.split ∙ append_assoc a e.between (x ∷ []))
 
-pub others-extends : (c : ℕ) (a d : List Event) → ExtendsByOthers c a d → Extends d a
+pub others-extends : (c : ℕ) (a d : List EntryValue) → ExtendsByOthers c a d → Extends d a
 others-extends c a d o = (o.between, o.split)
 
-pub try-extends : (c : ℕ) (op : Op) (a : List Event) (r : Result (Option Reply) Refusal) (d : List Event) → SeesTry c op a r d → Extends d a
+pub try-extends : (c : ℕ) (op : Op) (a : List EntryValue) (r : Result (Option Reply) Refusal) (d : List EntryValue) → SeesTry c op a r d → Extends d a
 try-extends c op a (Ok (Some reply)) d s = one-extends c a d (told_call c a op reply) s
 try-extends c op a (Ok None) d s = others-extends c a d s
 try-extends c op a (Err refusal) d s = others-extends c a d s
 
-pub opened-extends : (c n : ℕ) (a d : List Event) → Extends d a → IsOpenedOn c n a → IsOpenedOn c n d
+pub opened-extends : (c n : ℕ) (a d : List EntryValue) → Extends d a → IsOpenedOn c n a → IsOpenedOn c n d
 opened-extends c n a d e o = record {
   durability = o.durability;
   before = o.before;
@@ -84,18 +84,18 @@ opened-extends c n a d e o = record {
   split = e.1 ∙ (ap (λ z. z ++ e.0) o.split ∙ append_assoc o.before (opens c n o.durability ∷ o.since) e.0);
 }
 
-pub opened_on : (c n : ℕ) (u : Durability) (h : List Event) → IsOpenedAs c n u h → IsOpenedOn c n h
+pub opened_on : (c n : ℕ) (u : Durability) (h : List EntryValue) → IsOpenedAs c n u h → IsOpenedOn c n h
 opened_on c n u h o = record { durability = u; before = o.before; since = o.since; split = o.split }
 
 -- ---- counts
 
-pub one-counts : (c : ℕ) (a d : List Event) (x : Event) → ExtendsByOne c a d x → calls_made c d ≡ calls_made c a + 1
+pub one-counts : (c : ℕ) (a d : List EntryValue) (x : EntryValue) → ExtendsByOne c a d x → calls_made c d ≡ calls_made c a + 1
 one-counts c a d x e = ap length e.grown ∙ length-append (calls_by c a) (x ∷ [])
 
-pub others-counts : (c : ℕ) (a d : List Event) → ExtendsByOthers c a d → calls_made c d ≡ calls_made c a
+pub others-counts : (c : ℕ) (a d : List EntryValue) → ExtendsByOthers c a d → calls_made c d ≡ calls_made c a
 others-counts c a d o = ap length o.same
 
-pub try-counts : (c : ℕ) (op : Op) (a : List Event) (r : Result (Option Reply) Refusal) (d : List Event) → SeesTry c op a r d → calls_made c d ≡ calls_made c a + answers r
+pub try-counts : (c : ℕ) (op : Op) (a : List EntryValue) (r : Result (Option Reply) Refusal) (d : List EntryValue) → SeesTry c op a r d → calls_made c d ≡ calls_made c a + answers r
 try-counts c op a (Ok (Some reply)) d s = one-counts c a d (told_call c a op reply) s
 try-counts c op a (Ok None) d s = others-counts c a d s ∙ sym (add-zero (calls_made c a))
 try-counts c op a (Err refusal) d s = others-counts c a d s ∙ sym (add-zero (calls_made c a))
@@ -107,13 +107,13 @@ answers-few (Err refusal) = omega arith
 
 -- ---- a client that was just opened
 
-pub none_yet : (h : List Event) (c n : ℕ) (u : Durability) → IsLegal (h ++ opens c n u ∷ []) → calls_made c (h ++ opens c n u ∷ []) ≡ 0
+pub none_yet : (h : List EntryValue) (c n : ℕ) (u : Durability) → IsLegal (h ++ opens c n u ∷ []) → calls_made c (h ++ opens c n u ∷ []) ≡ 0
 none_yet h c n u legal =
     let next : c ≡ clients_opened h + 1 = next_opened h c n u (fits_in (h ++ opens c n u ∷ []) h [] (opens c n u) legal refl) in
-    made-still h (opens c n u) c refl ∙ early h (front_in (h ++ opens c n u ∷ []) h (opens c n u ∷ []) legal refl) c (omega arith)
+    made-still h (opens c n u) c refl ∙ early h (prefix_in (h ++ opens c n u ∷ []) h (opens c n u ∷ []) legal refl) c (omega arith)
 
 -- the client that was opened, if one was, has no calls
-pub none_of_opened : {X : Type 0} (h h' : List Event) (n : ℕ) (u : Durability) (r : Result ℕ X) → IfOk r (λ c. h' ≡ h ++ opens c n u ∷ []) → ∥ IsLegal h' ∥₁ → IfOk r (λ c. calls_made c h' ≡ 0)
+pub none_of_opened : {X : Type 0} (h h' : List EntryValue) (n : ℕ) (u : Durability) (r : Result ℕ X) → IfOk r (λ c. h' ≡ h ++ opens c n u ∷ []) → ∥ IsLegal h' ∥₁ → IfOk r (λ c. calls_made c h' ≡ 0)
 none_of_opened h h' n u (Ok c) e legal =
     let few : calls_made c h' ≤ 0 = ∥∥₁_elim legal le_prop (λ l. let none = none_yet h c n u (subst IsLegal e l) in let same = ap (calls_made c) e in omega arith) in
     omega arith

@@ -6,18 +6,18 @@ use Rattle.assise_names.specs.declared.call.Op.TheVariants.{Create, Mkdir, Read,
 use Rattle.assise_names.specs.declared.refusal.Refusal.{Refusal}
 use Rattle.assise_names.specs.declared.refusal.Refusal.TheVariants.{OutOfMemory, Busy, NodeDown, ClientGone, InodesSpent, TooLarge, LastNode, BadNode, BadClient, WrongPhase, StaleMessage, LogFull}
 use Rattle.assise_names.specs.declared.reply.Reply.{Reply}
-use Rattle.assise_history.specs.Entries.{Event, calls}
+use Rattle.assise_history.specs.Entries.{EntryValue, calls}
 use Rattle.assise_history.specs.Legal.{calls_made}
 use Rattle.assise_keeper.specs.Clients.{calls_by, ExtendsByOne}
 use Rattle.assise_libfs.specs.Lives.{IsOpenedOn, HasLostNode, HasCrashed}
 
 -- the client's next call after this history, with its reply
-abbrev pub told_call : ℕ → List Event → Op → Reply → Event
+abbrev pub told_call : ℕ → List EntryValue → Op → Reply → EntryValue
 told_call c h op reply = calls (record { client = c; number = calls_made c h; op = op; reply = reply })
 
 -- what was seen goes on by entries that aren't calls of the client
-pub record ExtendsByOthers (c : ℕ) (old new : List Event) : Type 0 where
-  pub between : List Event
+pub record ExtendsByOthers (c : ℕ) (old new : List EntryValue) : Type 0 where
+  pub between : List EntryValue
   pub split : new ≡ old ++ between
   pub others : calls_by c between ≡ []
   pub same : calls_by c new ≡ calls_by c old
@@ -25,13 +25,13 @@ pub record ExtendsByOthers (c : ℕ) (old new : List Event) : Type 0 where
 -- ---- one try: it is answered, it waits (None), or it is refused
 
 -- what it adds to a history: the call where it is answered, else nothing
-abbrev pub Tries : ℕ → Op → List Event → Result (Option Reply) Refusal → List Event → Type 0
+abbrev pub Tries : ℕ → Op → List EntryValue → Result (Option Reply) Refusal → List EntryValue → Type 0
 Tries c op h (Ok (Some reply)) h' = h' ≡ h ++ told_call c h op reply ∷ []
 Tries c op h (Ok None) h' = h' ≡ h
 Tries c op h (Err refusal) h' = h' ≡ h
 
 -- what its caller has seen then
-abbrev pub SeesTry : ℕ → Op → List Event → Result (Option Reply) Refusal → List Event → Type 0
+abbrev pub SeesTry : ℕ → Op → List EntryValue → Result (Option Reply) Refusal → List EntryValue → Type 0
 SeesTry c op old (Ok (Some reply)) new = ExtendsByOne c old new (told_call c old op reply)
 SeesTry c op old (Ok None) new = ExtendsByOthers c old new
 SeesTry c op old (Err refusal) new = ExtendsByOthers c old new
@@ -46,7 +46,7 @@ answers (Err refusal) = 0
 
 -- Where it is answered, what was seen goes on by entries that aren't the client's calls, and then by this call with its reply; its
 -- number is the count of the client's calls before. Where it is refused, what was seen has no call of the client more.
-abbrev pub SeesCall : ℕ → Op → List Event → Result Reply Refusal → List Event → Type 0
+abbrev pub SeesCall : ℕ → Op → List EntryValue → Result Reply Refusal → List EntryValue → Type 0
 SeesCall c op old (Ok reply) new = ExtendsByOne c old new (told_call c old op reply)
 SeesCall c op old (Err refusal) new = ExtendsByOthers c old new
 
@@ -83,7 +83,7 @@ WritesTooMuch Fsync = ⊥
 WritesTooMuch Dsync = ⊥
 
 -- a try may be refused so after this history: of a client that was never opened with BadClient
-abbrev pub MayRefuseTry : ℕ → Op → List Event → Refusal → Type 0
+abbrev pub MayRefuseTry : ℕ → Op → List EntryValue → Refusal → Type 0
 MayRefuseTry c op h OutOfMemory = Unit {0}
 MayRefuseTry c op h Busy = ⊥
 MayRefuseTry c op h NodeDown = ∥ HasLostNode c h ∥₁
@@ -98,7 +98,7 @@ MayRefuseTry c op h StaleMessage = ⊥
 MayRefuseTry c op h LogFull = Unit {0}
 
 -- a call may be refused so, when its caller has seen this history: Busy is for spent turns
-abbrev pub MayRefuse : ℕ → Op → List Event → Refusal → Type 0
+abbrev pub MayRefuse : ℕ → Op → List EntryValue → Refusal → Type 0
 MayRefuse c op h OutOfMemory = Unit {0}
 MayRefuse c op h Busy = Unit {0}
 MayRefuse c op h NodeDown = ∥ HasLostNode c h ∥₁

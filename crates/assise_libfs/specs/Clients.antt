@@ -1,6 +1,6 @@
 -- What is seen of a client's file system.
 use Rattle.std.specs.Prelude.{◌≡◌, ℕ, List}
-use Rattle.assise_history.specs.Entries.{Event}
+use Rattle.assise_history.specs.Entries.{EntryValue}
 use Rattle.assise_keeper.specs.declared.keeper.Keeper.{Keeper}
 use Rattle.assise_keeper.specs.declared.pass.Pass.{Pass}
 use Rattle.assise_keeper.specs.Passes.{seen}
@@ -22,7 +22,7 @@ module _ {S Stored : Type 0} where
   node_of l = l.node
 
   -- what it has seen of the history
-  abbrev pub seen_by : LibFs S Stored → List Event
+  abbrev pub seen_by : LibFs S Stored → List EntryValue
   seen_by l = seen l.pass
 
   -- it is the same client, at the same node and keeper

@@ -3,30 +3,30 @@
 use Rattle.std.specs.Prelude.{◌≡◌, ℕ, true, List, ◌∷◌, ◌++◌}
 use Rattle.std.specs.List.{list_any}
 use Rattle.assise_names.specs.declared.durability.Durability.{Durability}
-use Rattle.assise_history.specs.Entries.{Event, opens}
+use Rattle.assise_history.specs.Entries.{EntryValue, opens}
 use Rattle.assise_history.specs.Legal.{is_crash_of, is_failure_of}
 
 -- the client was opened on the node
-pub record IsOpenedOn (c n : ℕ) (h : List Event) : Type 0 where
+pub record IsOpenedOn (c n : ℕ) (h : List EntryValue) : Type 0 where
   pub durability : Durability
-  pub before : List Event
-  pub since : List Event
+  pub before : List EntryValue
+  pub since : List EntryValue
   pub split : h ≡ before ++ opens c n durability ∷ since
 
 -- and so
-pub record IsOpenedAs (c n : ℕ) (u : Durability) (h : List Event) : Type 0 where
-  pub before : List Event
-  pub since : List Event
+pub record IsOpenedAs (c n : ℕ) (u : Durability) (h : List EntryValue) : Type 0 where
+  pub before : List EntryValue
+  pub since : List EntryValue
   pub split : h ≡ before ++ opens c n u ∷ since
 
 -- the client's node has failed since the client was opened
-pub record HasLostNode (c : ℕ) (h : List Event) : Type 0 where
+pub record HasLostNode (c : ℕ) (h : List EntryValue) : Type 0 where
   pub node : ℕ
   pub opened : IsOpenedOn c node h
   pub failure : list_any (is_failure_of node) opened.since ≡ true
 
 -- the client has crashed since it was opened
-pub record HasCrashed (c : ℕ) (h : List Event) : Type 0 where
+pub record HasCrashed (c : ℕ) (h : List EntryValue) : Type 0 where
   pub node : ℕ
   pub opened : IsOpenedOn c node h
   pub crash : list_any (is_crash_of c) opened.since ≡ true

@@ -3,11 +3,11 @@
 use Rattle.std.specs.Prelude.{ℕ, List}
 use Rattle.assise_names.specs.declared.refusal.Refusal.{Refusal}
 use Rattle.assise_names.specs.declared.refusal.Refusal.TheVariants.{OutOfMemory, Busy, NodeDown, ClientGone, InodesSpent, TooLarge, LastNode, BadNode, BadClient, WrongPhase, StaleMessage, LogFull}
-use Rattle.assise_history.specs.Entries.{Event}
+use Rattle.assise_history.specs.Entries.{EntryValue}
 use Rattle.assise_history.specs.Legal.{IsDown}
 
 -- an open on the node may be refused so after this history
-abbrev pub MayRefuseOpen : ℕ → List Event → Refusal → Type 0
+abbrev pub MayRefuseOpen : ℕ → List EntryValue → Refusal → Type 0
 MayRefuseOpen n h OutOfMemory = Unit {0}
 MayRefuseOpen n h Busy = ⊥
 MayRefuseOpen n h NodeDown = ∥ IsDown h n ∥₁

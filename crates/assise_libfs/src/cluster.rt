@@ -32,5 +32,5 @@ impl<C: Revokes + Drop> Served for ClusterOf<C> {
         }
     }
 
-    ghost legal = { λ s. ∥∥₁_map s.sound.holds (λ h. h.recorded.legal) };
+    ghost legal = { λ s. ∥∥₁_map s.sound.invariant.holds (λ h. h.recorded.legal) };
 }

@@ -229,7 +229,7 @@ impl<'a, S: Served> LibFs<'a, S> {
         self.call(rt, alloc, &Op::Rmdir(path))
     }
 
-    /// Lists the names of a directory's entries, in rising order of their bytes.
+    /// Lists the names of a directory's entries, in ascending order of their bytes.
     pub fn list<R: Wait>(&mut self, rt: &R, alloc: Global, path: Path) -> Result<Reply, Refusal>
         ensures same { IsSameClient self.old self.new }
         ensures sees { SeesCall (client_of self.old) (Lists path)

@@ -1,6 +1,6 @@
 // A state that serves clients.
 ghost use Rattle.std.specs.Prelude.{◌≡◌, List, [], ◌∷◌, ◌++◌, IfErr, IfOk, OnErr};
-ghost use Rattle.assise_history.specs.Entries.{Event, opens};
+ghost use Rattle.assise_history.specs.Entries.{EntryValue, opens};
 ghost use Rattle.assise_history.specs.Legal.{IsLegal};
 ghost use Rattle.assise_libfs.specs.Calling.{MayRefuseTry, Tries};
 ghost use Rattle.assise_libfs.specs.Opening.{MayRefuseOpen};
@@ -28,8 +28,8 @@ pub trait Served: Growing {
         stored: Self::Stored,
         durability: Durability,
     ) -> Result<u32, (Refusal, Self::Stored)>
-        ensures opened { IfOk result (λ c.
-            Self.Growing.history self.new ≡ Self.Growing.history self.old ++ opens c node durability ∷ []) }
+        ensures opened { IfOk result (λ c. Self.Growing.history self.new ≡
+            Self.Growing.history self.old ++ opens c node durability ∷ []) }
         ensures unchanged { OnErr result
             (Self.Growing.history self.new ≡ Self.Growing.history self.old) }
         ensures refused { IfErr result (λ back.

@@ -6,12 +6,12 @@ use Rattle.std.proofs.Math.Logic.{∥∥₁_elim, ∥∥₁_map}
 use Rattle.assise_names.specs.declared.call.Op.TheVariants.{Fsync}
 use Rattle.assise_names.specs.declared.durability.Durability.{Durability}
 use Rattle.assise_names.specs.declared.reply.Reply.TheVariants.{Done}
-use Rattle.assise_history.specs.Entries.{Event, opens, calls}
+use Rattle.assise_history.specs.Entries.{EntryValue, opens, calls}
 use Rattle.assise_history.specs.Legal.{IsDown, MayCall, calls_made}
-use Rattle.assise_history.proofs.Counting.{next_opened, opened_within}
+use Rattle.assise_history.proofs.ClientCounts.{next_opened, opened_within}
 use Rattle.assise_history.proofs.Legality.{fits_in, legal-nil}
 use Rattle.assise_history.proofs.OneMore.{legal-call, legal-open}
-use Rattle.assise_history.proofs.Standing.{down-last, down-nil, may_call-opened, may_call-push, opened-push, opened-still}
+use Rattle.assise_history.proofs.LivesOneMore.{down-last, down-nil, may_call-opened, may_call-push, opened-push, opened-still}
 use Rattle.assise_libfs.specs.Calling.{told_call}
 use Rattle.assise_libfs.specs.Lives.{IsOpenedOn}
 use Rattle.assise_libfs_tests.specs.Ledgers.{IsLedger}
@@ -19,13 +19,13 @@ use Rattle.assise_libfs_tests.specs.Ledgers.{IsLedger}
 ledger-nil : IsLedger 0 []
 ledger-nil = record { legal = legal-nil; count = refl; calls = λ c lo hi. absurd (omega arith); up = down-nil }
 
-still_up : (h : List Event) (e : Event) → ((m : ℕ) (losses : _) → e ≢ Rattle.assise_history.specs.Entries.fails m losses) → ((m : ℕ) → IsDown h m → ⊥) → (m : ℕ) → IsDown (h ++ e ∷ []) m → ⊥
+still_up : (h : List EntryValue) (e : EntryValue) → ((m : ℕ) (losses : _) → e ≢ Rattle.assise_history.specs.Entries.fails m losses) → ((m : ℕ) → IsDown h m → ⊥) → (m : ℕ) → IsDown (h ++ e ∷ []) m → ⊥
 still_up h e none up m d = elim (down-last h e m d) [
   | inl failed ↦ none m failed.0 failed.1
   | inr still ↦ up m still.0
 ]
 
-ledger-open : (n : ℕ) (u : Durability) (h : List Event) → IsLedger n h → IsLedger (n + 1) (h ++ opens (n + 1) 1 u ∷ [])
+ledger-open : (n : ℕ) (u : Durability) (h : List EntryValue) → IsLedger n h → IsLedger (n + 1) (h ++ opens (n + 1) 1 u ∷ [])
 ledger-open n u h k = record {
   legal = legal-open h (n + 1) 1 u k.legal (record { next = ap (λ (z : ℕ). z + 1) k.count; up = k.up 1 });
   count = ap (λ (z : ℕ). z + 1) k.count ∙ sym (opened-push h (n + 1) 1 u);
@@ -35,7 +35,7 @@ ledger-open n u h k = record {
   up = still_up h (opens (n + 1) 1 u) (λ m losses e. cc) k.up;
 }
 
-ledger-call : (n : ℕ) (h : List Event) (c : ℕ) → 1 ≤ c → c ≤ n → IsLedger n h → IsLedger n (h ++ told_call c h Fsync Done ∷ [])
+ledger-call : (n : ℕ) (h : List EntryValue) (c : ℕ) → 1 ≤ c → c ≤ n → IsLedger n h → IsLedger n (h ++ told_call c h Fsync Done ∷ [])
 ledger-call n h c lo hi k = record {
   legal = legal-call h (record { client = c; number = calls_made c h; op = Fsync; reply = Done }) k.legal (record { ready = k.calls c lo hi; number = refl }) refl;
   count = k.count ∙ sym (opened-still h (told_call c h Fsync Done) refl);
@@ -46,20 +46,20 @@ ledger-call n h c lo hi k = record {
 pub begun : ∥ IsLedger 0 [] ∥₁
 begun = ∣ ledger-nil ∣₁
 
-pub opened : (n : ℕ) (u : Durability) (h h' : List Event) → ∥ IsLedger n h ∥₁ → h' ≡ h ++ opens (n + 1) 1 u ∷ [] → ∥ IsLedger (n + 1) h' ∥₁
+pub opened : (n : ℕ) (u : Durability) (h h' : List EntryValue) → ∥ IsLedger n h ∥₁ → h' ≡ h ++ opens (n + 1) 1 u ∷ [] → ∥ IsLedger (n + 1) h' ∥₁
 opened n u h h' k e = ∥∥₁_map k (λ l. subst (IsLedger (n + 1)) (sym e) (ledger-open n u h l))
 
-pub called : (n : ℕ) (h h' : List Event) (c : ℕ) → 1 ≤ c → c ≤ n → ∥ IsLedger n h ∥₁ → h' ≡ h ++ told_call c h Fsync Done ∷ [] → ∥ IsLedger n h' ∥₁
+pub called : (n : ℕ) (h h' : List EntryValue) (c : ℕ) → 1 ≤ c → c ≤ n → ∥ IsLedger n h ∥₁ → h' ≡ h ++ told_call c h Fsync Done ∷ [] → ∥ IsLedger n h' ∥₁
 called n h h' c lo hi k e = ∥∥₁_map k (λ l. subst (IsLedger n) (sym e) (ledger-call n h c lo hi l))
 
-pub unchanged : (n : ℕ) (h h' : List Event) → ∥ IsLedger n h ∥₁ → h' ≡ h → ∥ IsLedger n h' ∥₁
+pub unchanged : (n : ℕ) (h h' : List EntryValue) → ∥ IsLedger n h ∥₁ → h' ≡ h → ∥ IsLedger n h' ∥₁
 unchanged n h h' k e = subst (λ z. ∥ IsLedger n z ∥₁) (sym e) k
 
 no_proofs : (x y : ⊥) → x ≡ y
 no_proofs x y = absurd x
 
 -- no other client was ever opened
-pub no_other : (n : ℕ) (h : List Event) (c : ℕ) → ∥ IsLedger n h ∥₁ → (1 ≤ c → c ≤ n → ⊥) → (m : ℕ) → IsOpenedOn c m h → ⊥
+pub no_other : (n : ℕ) (h : List EntryValue) (c : ℕ) → ∥ IsLedger n h ∥₁ → (1 ≤ c → c ≤ n → ⊥) → (m : ℕ) → IsOpenedOn c m h → ⊥
 no_other n h c k other m o = ∥∥₁_elim k no_proofs (λ l.
     let first = next_opened o.before c m o.durability (fits_in h o.before o.since (opens c m o.durability) l.legal o.split) in
     let within = opened_within h o.before o.since c m o.durability l.legal o.split in

@@ -79,7 +79,7 @@ pub fn make_calls<S: Served, R: Wait>(
     Some(text)
 }
 
-/// Makes the call of a line `CALL = OUTCOME`, once more where it is refused for want of memory. Whether it came to that.
+/// Makes the call of a line `CALL = OUTCOME`, once more where it is refused as out of memory. Whether it came to that.
 pub fn is_answered_at_last<S: Served, R: Wait>(
     rt: &R,
     alloc: Global,

@@ -42,8 +42,10 @@ where
     S::Stored: Drop,
     requires first { IsPassOf keeper.now passes.0 × (client passes.0 ≡ None) }
     requires second { IsPassOf keeper.now passes.1 × (client passes.1 ≡ None) }
-    ensures no_calls { IfSome result (λ met. calls_made (client_of met.second) (seen_by met.second) ≡ 0) }
-    ensures seen { IfSome result (λ met. HasMade (client_of met.first) met.reply (seen_by met.second)) }
+    ensures no_calls { IfSome result (λ met. calls_made (client_of met.second)
+        (seen_by met.second) ≡ 0) }
+    ensures seen { IfSome result (λ met. HasMade (client_of met.first) met.reply
+        (seen_by met.second)) }
     ensures legal { IfSome result (λ met. ∥ IsLegal (seen_by met.second) ∥₁) }
 {
     let mut first = LibFs::open(

@@ -74,7 +74,7 @@ fn opened<'a, R: Wait>(
     }
 }
 
-/// Whether each call comes to what its line says, once it isn't refused for want of memory.
+/// Whether each call comes to what its line says, once it isn't refused as out of memory.
 fn are_answered<R: Wait>(
     rt: &R,
     alloc: Global,

@@ -1,3 +1,3 @@
-pub mod Fronts
+pub mod Prefixes
 pub mod Links
 pub mod TestLinks

@@ -4,12 +4,12 @@ use Rattle.std.specs.Prelude.{◌≡◌, ◌⊎◌, ℕ, ◌++◌, Contains, Lis
 use Rattle.assise_record.specs.LogFrame.{LogFrame}
 use Rattle.assise_record.specs.Spelling.{BeginsWith, spelling}
 
--- what came is a front of the bytes that were handed in, or of bytes that were stored
-pub record IsFrontOnLink (bytes : List ℕ) (stored : List (List ℕ)) (came : List ℕ) : Type 0 where
+-- what came is a prefix of the bytes that were handed in, or of bytes that were stored
+pub record IsPrefixOnLink (bytes : List ℕ) (stored : List (List ℕ)) (came : List ℕ) : Type 0 where
   pub whole : List ℕ
   pub known : (whole ≡ bytes) ⊎ Contains stored whole
   pub rest : List ℕ
-  pub front : whole ≡ came ++ rest
+  pub prefix : whole ≡ came ++ rest
 
 -- a link that gives so gives only what it is handed
 abbrev pub IsFaithful : (List ℕ → List ℕ → Type 0) → Type 0

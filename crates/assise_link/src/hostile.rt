@@ -12,7 +12,7 @@ pub struct LosingLink;
 
 impl Link for LosingLink {
     ghost use Rattle.std.specs.Prelude.{◌≡◌, [], false};
-    ghost use Rattle.assise_link.specs.Fronts.{not_true};
+    ghost use Rattle.assise_link.specs.Prefixes.{not_true};
 
     ghost stored = { λ _. [] };
 
@@ -30,7 +30,7 @@ impl Link for LosingLink {
         0
     }
 
-    ghost fronts = { λ _ bytes came is. absurd is };
+    ghost prefixes = { λ _ bytes came is. absurd is };
 
     ghost same = { λ _ is. absurd (not_true is) };
 }
@@ -58,7 +58,7 @@ impl RepeatingLink {
 impl Link for RepeatingLink {
     ghost use Rattle.assise_link.specs.TestLinks.{Repeats, kept_bytes};
     ghost use Rattle.std.specs.Prelude.{false};
-    ghost use Rattle.assise_link.specs.Fronts.{not_true, repeated};
+    ghost use Rattle.assise_link.specs.Prefixes.{not_true, repeated};
 
     ghost stored = { λ l. kept_bytes l.before };
 
@@ -83,7 +83,7 @@ impl Link for RepeatingLink {
         self.faults.count
     }
 
-    ghost fronts = { λ l bytes came is. repeated l.before bytes came is };
+    ghost prefixes = { λ l bytes came is. repeated l.before bytes came is };
 
     ghost same = { λ _ is. absurd (not_true is) };
 }
@@ -111,7 +111,7 @@ impl DelayingLink {
 impl Link for DelayingLink {
     ghost use Rattle.assise_link.specs.TestLinks.{Delays, kept_bytes};
     ghost use Rattle.std.specs.Prelude.{false};
-    ghost use Rattle.assise_link.specs.Fronts.{delayed, not_true};
+    ghost use Rattle.assise_link.specs.Prefixes.{delayed, not_true};
 
     ghost stored = { λ l. kept_bytes l.before };
 
@@ -132,7 +132,7 @@ impl Link for DelayingLink {
         self.faults.count
     }
 
-    ghost fronts = { λ l bytes came is. delayed l.before bytes came is };
+    ghost prefixes = { λ l bytes came is. delayed l.before bytes came is };
 
     ghost same = { λ _ is. absurd (not_true is) };
 }
@@ -159,7 +159,7 @@ impl CuttingLink {
 
 impl Link for CuttingLink {
     ghost use Rattle.std.specs.Prelude.{◌≡◌, [], false, take};
-    ghost use Rattle.assise_link.specs.Fronts.{cut, not_true};
+    ghost use Rattle.assise_link.specs.Prefixes.{cut, not_true};
 
     ghost stored = { λ _. [] };
 
@@ -170,8 +170,8 @@ impl Link for CuttingLink {
     ghost faithful = { λ _. false };
 
     fn carry(&mut self, alloc: Global, bytes: &[u8]) -> Result<Option<Vec<u8>>, LinkFault> {
-        let (front, _) = bytes.split_at(self.most.min(bytes.len()));
-        match copied(alloc, front) {
+        let (prefix, _) = bytes.split_at(self.most.min(bytes.len()));
+        match copied(alloc, prefix) {
             Some(came) => Ok(Some(came)),
             None => self.faults.add(LinkFault::Memory),
         }
@@ -181,7 +181,7 @@ impl Link for CuttingLink {
         self.faults.count
     }
 
-    ghost fronts = { λ l bytes came is. cut l.most bytes came is };
+    ghost prefixes = { λ l bytes came is. cut l.most bytes came is };
 
     ghost same = { λ _ is. absurd (not_true is) };
 }
@@ -205,7 +205,7 @@ impl FaultyLink {
 
 impl Link for FaultyLink {
     ghost use Rattle.std.specs.Prelude.{◌≡◌, [], false};
-    ghost use Rattle.assise_link.specs.Fronts.{not_true};
+    ghost use Rattle.assise_link.specs.Prefixes.{not_true};
 
     ghost stored = { λ _. [] };
 
@@ -223,7 +223,7 @@ impl Link for FaultyLink {
         self.faults.count
     }
 
-    ghost fronts = { λ _ bytes came is. absurd is };
+    ghost prefixes = { λ _ bytes came is. absurd is };
 
     ghost same = { λ _ is. absurd (not_true is) };
 }

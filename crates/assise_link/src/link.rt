@@ -1,6 +1,6 @@
 // What carries bytes from node to node.
 ghost use Rattle.std.specs.Prelude.{◌≡◌, ◌+◌, ◌⊎◌, ℕ, Bool, Contains, IfOk, IfSome, List, OnErr, OnOk, true};
-ghost use Rattle.assise_link.specs.Links.{IsFaithful, IsFrontOnLink};
+ghost use Rattle.assise_link.specs.Links.{IsFaithful, IsPrefixOnLink};
 
 use crate::faults::Faults;
 use std::alloc::Global;
@@ -23,7 +23,7 @@ pub(crate) fn copied(alloc: Global, bytes: &[u8]) -> Option<Vec<u8>>
     Some(copy)
 }
 
-/// What carries bytes from one node to another. What comes at the other end is a front of the bytes that it is handed, or of bytes that
+/// What carries bytes from one node to another. What comes at the other end is a prefix of the bytes that it is handed, or of bytes that
 /// it was handed before and stores; it may lose bytes, or keep them for later.
 pub trait Link: Send {
     /// The byte lists that it stores.
@@ -55,8 +55,8 @@ pub trait Link: Send {
     fn faults(&self) -> u64
         ensures { result ≡ count self.now };
 
-    ghost fronts: { (l : Self) (bytes came : List ℕ) → gives l bytes came
-        → IsFrontOnLink bytes (stored l) came };
+    ghost prefixes: { (l : Self) (bytes came : List ℕ) → gives l bytes came
+        → IsPrefixOnLink bytes (stored l) came };
 
     ghost same: { (l : Self) → faithful l ≡ true → IsFaithful (gives l) };
 }
@@ -80,7 +80,7 @@ impl PerfectLink {
 
 impl Link for PerfectLink {
     ghost use Rattle.std.specs.Prelude.{◌≡◌, [], true};
-    ghost use Rattle.assise_link.specs.Fronts.{whole};
+    ghost use Rattle.assise_link.specs.Prefixes.{whole};
 
     ghost stored = { λ _. [] };
 
@@ -101,7 +101,7 @@ impl Link for PerfectLink {
         self.faults.count
     }
 
-    ghost fronts = { λ _ bytes came is. whole bytes came [] is };
+    ghost prefixes = { λ _ bytes came is. whole bytes came [] is };
 
     ghost same = { λ _ _ bytes came is. is };
 }

@@ -77,7 +77,7 @@ impl TestLink {
 impl Link for TestLink {
     ghost use Rattle.std.specs.Prelude.{◌≡◌, true};
     ghost use Rattle.assise_link.specs.TestLinks.{GivesByKind, fault_count, is_perfect, kept_by};
-    ghost use Rattle.assise_link.specs.Fronts.{by_kind, same_by_kind};
+    ghost use Rattle.assise_link.specs.Prefixes.{by_kind, same_by_kind};
 
     ghost stored = { kept_by };
 
@@ -109,7 +109,7 @@ impl Link for TestLink {
         }
     }
 
-    ghost fronts = { by_kind };
+    ghost prefixes = { by_kind };
 
     ghost same = { same_by_kind };
 }

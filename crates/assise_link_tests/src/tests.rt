@@ -2,7 +2,7 @@
 use assise_link::hostile::{CuttingLink, DelayingLink, FaultyLink, LosingLink, RepeatingLink};
 use assise_link::link::{Link, LinkFault, PerfectLink};
 use assise_link::test_link::TestLink;
-use assise_rows::{Subject, split_word, wrong_rows};
+use assise_test_rows::{Subject, split_word, wrong_rows};
 use std::alloc::Global;
 use std::str;
 use std::test::Fail;

@@ -1,7 +1,7 @@
 -- How many inodes may be hot at the nodes of a new cluster.
 use Rattle.std.proofs.Common.{◌≡◌, ℕ, zero, suc, ◌<◌, length, get_or, refl, ap, subst, ◌∙◌, arith}
 use Rattle.assise_machine_state.specs.NodeValues.{new_regions, no_region, region_seen}
-use Rattle.assise_machine_state.specs.Places.{IsNumber, at}
+use Rattle.assise_machine_state.specs.Places.{IsNumber, item_at}
 use Rattle.assise_machine.specs.Clusters.{HaveCapacity}
 use Rattle.assise_machine.specs.declared.cluster.ClusterOf.{ClusterOf}
 
@@ -15,7 +15,7 @@ each_capacity (suc count) hot zero low = refl
 each_capacity (suc count) hot (suc k) low = each_capacity count hot k (omega (arith, low))
 
 seen_capacity : (count hot n : ℕ) → IsNumber (new_regions count hot) n → (region_seen (new_regions count hot) n).capacity ≡ hot
-unfolding region_seen at
+unfolding region_seen item_at
 seen_capacity count hot zero there = absurd (omega (arith, there.some))
 seen_capacity count hot (suc k) there = (let many = so_many count hot in each_capacity count hot k (omega (arith, there.there, many)))
 

@@ -8,13 +8,13 @@ use Rattle.assise_names.specs.declared.reply.Reply.{Reply}
 use Rattle.assise_seq_tree.specs.Answer.{answer}
 use Rattle.assise_seq_tree.specs.Runs.{AreAnswered}
 use Rattle.assise_seq_tree.specs.Tree.{Tree, opening}
-use Rattle.assise_history.specs.Entries.{Event}
+use Rattle.assise_history.specs.Entries.{EntryValue}
 use Rattle.assise_history.specs.Kept.{exchange, kept}
 use Rattle.assise_history.specs.Legal.{Fits, IsLegal}
 use Rattle.assise_history.specs.Summary.{follows, summary}
-use Rattle.assise_history.proofs.Agreeing.{is_allowed, may_follow}
-use Rattle.assise_history.proofs.Legality.{legal-front, legal-last, legal-nil, legal-push}
-use Rattle.assise_history.proofs.Passing.{by_ends}
+use Rattle.assise_history.proofs.SummaryAgrees.{is_allowed, may_follow}
+use Rattle.assise_history.proofs.Legality.{legal-prefix, legal-last, legal-nil, legal-push}
+use Rattle.assise_history.proofs.TestedElements.{by_ends}
 use Rattle.assise_history.proofs.Replies.{equal_replies}
 
 same_reply : (a b : Reply) → (a ≡ b) ⊎ (a ≡ b → ⊥)
@@ -35,7 +35,7 @@ is_answered t (x ∷ xs) =
       | inr wrong ↦ inr (λ all. wrong all.0)
     ]
 
-is_fit : (h : List Event) (e : Event) → IsLegal h → Fits h e ⊎ (Fits h e → ⊥)
+is_fit : (h : List EntryValue) (e : EntryValue) → IsLegal h → Fits h e ⊎ (Fits h e → ⊥)
 is_fit h e legal =
     elim (cases_Bool (follows (summary h) e)) [
       | inl rule ↦ elim (is_answered opening (map exchange (kept (h ++ e ∷ [])))) [
@@ -45,7 +45,7 @@ is_fit h e legal =
       | inr barred ↦ inr (λ fits. both_ways (follows (summary h) e) barred (is_allowed h e legal fits.follows))
     ]
 
-is_legal : (h : List Event) → IsLegal h ⊎ (IsLegal h → ⊥)
+is_legal : (h : List EntryValue) → IsLegal h ⊎ (IsLegal h → ⊥)
 is_legal =
     by_ends (λ h. IsLegal h ⊎ (IsLegal h → ⊥)) (inl legal-nil)
     (λ h e before.
@@ -54,10 +54,10 @@ is_legal =
         | inl fits ↦ inl (legal-push h e legal fits)
         | inr wrong ↦ inr (λ all. wrong (legal-last h e all))
       ]
-      | inr wrong ↦ inr (λ all. wrong (legal-front h (e ∷ []) all))
+      | inr wrong ↦ inr (λ all. wrong (legal-prefix h (e ∷ []) all))
     ])
 
-pub legal_known : (h : List Event) → ∥ IsLegal h ∥₁ → IsLegal h
+pub legal_known : (h : List EntryValue) → ∥ IsLegal h ∥₁ → IsLegal h
 legal_known h some =
     elim (is_legal h) [
       | inl legal ↦ legal

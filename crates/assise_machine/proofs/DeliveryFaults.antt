@@ -5,7 +5,7 @@ use Rattle.assise_names.specs.declared.refusal.Refusal.{Refusal}
 use Rattle.assise_names.specs.declared.refusal.Refusal.TheVariants.{BadClient, WrongPhase}
 use Rattle.assise_record.specs.LogFrame.{LogFrame}
 use Rattle.assise_manager.specs.Standings.{Standing, down, full, returning, standing_of}
-use Rattle.assise_machine_events.specs.Faults.{delivery_fault, fault_if, node_fault, or_else, unless_full}
+use Rattle.assise_model_events.specs.Faults.{delivery_fault, fault_if, node_fault, or_else, unless_full}
 use Rattle.assise_machine_state.specs.Observed.{is_full_in, observed, stands_full, world_of}
 use Rattle.assise_machine_state.specs.Places.{IsNumber}
 use Rattle.assise_machine_state.specs.StateValues.{StateValue, standings}

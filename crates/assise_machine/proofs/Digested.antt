@@ -14,27 +14,27 @@ use Rattle.assise_inode_table.specs.Effects.{contains, touched}
 use Rattle.assise_private_log.specs.Borders.{whole_count}
 use Rattle.assise_private_log.specs.NumberedLog.{NumberedLog, end as log_end, is_border}
 use Rattle.assise_private_log.proofs.Borders.{border_end, border_first, whole_here}
-use Rattle.assise_digest.specs.Region.{HasClient, ReceivedLog, RegionValue, TouchApart, ahead, digested_by, digested_further, log_at, log_of, no_log}
+use Rattle.assise_digest.specs.Region.{HasClient, ReceivedLog, RegionValue, TouchDisjoint, ahead, digested_by, digested_further, log_at, log_of, no_log}
 use Rattle.assise_manager.specs.Changes.{noted, stale_again, with_written}
 use Rattle.assise_manager.specs.Membership.{Membership}
 use Rattle.assise_manager.specs.Standings.{Standing, down, full, full_nodes, returning}
-use Rattle.assise_machine_laws.specs.Chances.{MayDigest}
-use Rattle.assise_machine_laws.specs.Sound.{Compatible, Guarded, IsSound, WritesAreHeld}
-use Rattle.assise_machine_laws.specs.World.{Full, World, ahead_below, received_by_all}
-use Rattle.assise_machine_laws.proofs.Digesting.{digest_sound}
-use Rattle.assise_machine_laws.proofs.Logs.{contains-drop, contains-take}
-use Rattle.assise_machine_laws.proofs.Observing.{received_by_all-below, received_by_all-border}
-use Rattle.assise_machine_returns.specs.Returns.{DigestsNoted}
-use Rattle.assise_machine_events.specs.NodeEvents.{undigested}
+use Rattle.assise_model_world.specs.Chances.{MayDigest}
+use Rattle.assise_model_world.specs.Invariant.{Compatible, Guarded, WorldInvariant, WritesAreHeld}
+use Rattle.assise_model_world.specs.World.{Full, World, undigested_below, received_by_all}
+use Rattle.assise_model_world.proofs.DigestKeeps.{digest_sound}
+use Rattle.assise_model_world.proofs.Logs.{contains-drop, contains-take}
+use Rattle.assise_model_world.proofs.WorldObserved.{received_by_all-below, received_by_all-border}
+use Rattle.assise_model_members.specs.Returns.{DigestsNoted}
+use Rattle.assise_model_events.specs.NodeEvents.{undigested}
 use Rattle.assise_machine_state.specs.NodeValues.{HasLog, log_in, log_seen, no_region, region_in, with_region}
 use Rattle.assise_machine_state.specs.Observed.{is_full_in, own_seen, world_of}
-use Rattle.assise_machine_state.specs.Places.{IsNumber, at}
-use Rattle.assise_machine_state.specs.Shape.{IsShaped}
+use Rattle.assise_machine_state.specs.Places.{IsNumber, item_at}
+use Rattle.assise_machine_state.specs.Invariant.{ShapeInvariant}
 use Rattle.assise_machine_state.specs.StateValues.{StateValue, standings}
-use Rattle.assise_machine_state.proofs.DigestSeen.{digest_shaped, noted_front}
+use Rattle.assise_machine_state.proofs.DigestSeen.{digest_shaped, noted_prefix}
 use Rattle.assise_machine_state.proofs.Fullness.{has_log, log_is, region_is, same_first, seen_full}
 use Rattle.assise_machine_state.proofs.Marks.{border_inside, so_many_marks}
-use Rattle.assise_machine_state.proofs.Reading.{ahead_first}
+use Rattle.assise_machine_state.proofs.ReadObserved.{ahead_first}
 use Rattle.assise_machine.specs.Digesting.{EndsWithGroup, NoneListed, digests_some}
 use Rattle.assise_machine.proofs.Unlisted.{nothing_noted}
 
@@ -127,7 +127,7 @@ log_after rs n c count has =
     ap (λ r. log_of r c) (get_or-set_same rs (n - 1) (digested_by (region_in rs n) c count) no_region (omega (arith, has.node.some, has.node.there)))
     ∙ get_or-set_same (region_in rs n).logs (c - 1) (digested_further (log_in rs n c) count) no_log (omega (arith, has.client.some, there))
 
-module _ (s : StateValue) (n c : ℕ) (shape : IsShaped s) (sound : ∥ IsSound (world_of s) ∥₁) (here : is_full_in (standings s) n ≡ true) (client : IsNumber s.clients c) where
+module _ (s : StateValue) (n c : ℕ) (shape : ShapeInvariant s) (sound : ∥ WorldInvariant (world_of s) ∥₁) (here : is_full_in (standings s) n ≡ true) (client : IsNumber s.clients c) where
   abbrev w : World
   w = world_of s
 
@@ -146,8 +146,8 @@ module _ (s : StateValue) (n c : ℕ) (shape : IsShaped s) (sound : ∥ IsSound 
   from_first : w.first c ≤ w.digested n c
   from_first = ∥∥₁_elim sound (search props) (λ h. (h.coherent.order n c full_here).begun)
 
-  pub acknowledged : w.digested n c ≤ received_by_all w c
-  acknowledged = ∥∥₁_elim sound (search props) (λ h. (h.coherent.order n c full_here).acknowledged)
+  pub replicated : w.digested n c ≤ received_by_all w c
+  replicated = ∥∥₁_elim sound (search props) (λ h. (h.coherent.order n c full_here).replicated)
 
   pub digested_is : w.digested n c ≡ (log_in s.nodes n c).digested
   unfolding world_of
@@ -173,25 +173,25 @@ module _ (s : StateValue) (n c : ℕ) (shape : IsShaped s) (sound : ∥ IsSound 
 
   -- no other client's records touch what these touch
 
-  written : IsSound w → (j i : ℕ) → contains (touched (all_effects (ahead (log_at (region_in s.nodes n) j)))) i ≡ true → w.writes (suc j) i ≡ true
-  unfolding world_of log_seen at Guarded
+  written : WorldInvariant w → (j i : ℕ) → contains (touched (all_effects (ahead (log_at (region_in s.nodes n) j)))) i ≡ true → w.writes (suc j) i ≡ true
+  unfolding world_of log_seen item_at Guarded
   written h j i touches =
       let l = log_at (region_in s.nodes n) j in
       let log : contains (touched (all_effects l.log.records)) i ≡ true = contains-drop l.log.records (l.digested - l.log.first) i touches in
       let seen : l.log.records ≡ w.log n (suc j) = ap (λ r. (log_at r j).log.records) (sym (region_is s n has_here.node)) in
-      let front : l.log.records ≡ take (w.received n (suc j) - w.first (suc j)) (w.records (suc j)) = seen ∙ h.fronts n (suc j) full_here in
+      let prefix : l.log.records ≡ take (w.received n (suc j) - w.first (suc j)) (w.records (suc j)) = seen ∙ h.prefixes n (suc j) full_here in
       h.coherent.guarded (suc j) i
-      (contains-take (w.records (suc j)) (w.received n (suc j) - w.first (suc j)) i (ap (λ rs. contains (touched (all_effects rs)) i) (sym front) ∙ log))
+      (contains-take (w.records (suc j)) (w.received n (suc j) - w.first (suc j)) i (ap (λ rs. contains (touched (all_effects rs)) i) (sym prefix) ∙ log))
 
-  apart_of : IsSound w → (j k : ℕ) → j ≢ k → (i : ℕ) → contains (touched (all_effects (ahead (log_at (region_in s.nodes n) j)))) i ≡ true →
+  disjoint_of : WorldInvariant w → (j k : ℕ) → j ≢ k → (i : ℕ) → contains (touched (all_effects (ahead (log_at (region_in s.nodes n) j)))) i ≡ true →
       contains (touched (all_effects (ahead (log_at (region_in s.nodes n) k)))) i ≡ false
   unfolding Compatible WritesAreHeld
-  apart_of h j k other i touches =
+  disjoint_of h j k other i touches =
       false_from_ne_true (contains (touched (all_effects (ahead (log_at (region_in s.nodes n) k)))) i)
       (λ there. h.coherent.compatible (suc j) (suc k) i (λ is. other (omega (arith, is))) (written h j i touches) (h.held (suc k) i (written h k i there)))
 
-  pub touch_apart : TouchApart (region_in s.nodes n)
-  touch_apart j k other i touches = ∥∥₁_elim sound (search props) (λ h. apart_of h j k other i touches)
+  pub touch_disjoint : TouchDisjoint (region_in s.nodes n)
+  touch_disjoint j k other i touches = ∥∥₁_elim sound (search props) (λ h. disjoint_of h j k other i touches)
 
   -- ---- groups
 
@@ -230,7 +230,7 @@ module _ (s : StateValue) (n c : ℕ) (shape : IsShaped s) (sound : ∥ IsSound 
         | inl some ↦
             let all : received_by_all w c ≤ w.received n c = received_by_all-below w n c full_here in
             let there : (log_in s.nodes n c).digested + count ≡ w.digested n c + count = omega (arith, digested_is) in
-            sym (border_there (w.digested n c + count) (omega (arith, few, all, acknowledged)))
+            sym (border_there (w.digested n c + count) (omega (arith, few, all, replicated)))
             ∙ ap (is_border (log_in s.nodes n c).log) (sym there)
             ∙ groups some
         | inr none ↦ (let zero_now : count ≡ 0 = omega (arith, none) in subst (EndsWithGroup w n c) (sym zero_now) none_whole)
@@ -243,7 +243,7 @@ module _ (s : StateValue) (n c : ℕ) (shape : IsShaped s) (sound : ∥ IsSound 
       let there : from ≡ w.digested n c = log ∙ ap (λ x. (log_of x c).digested) region ∙ sym digested_is in
       elim (cases_lt most 64) [
         | inl fewer ↦
-            let ends : from + most ≡ received_by_all w c = omega (arith, fewer, is, whole_most, all, there, acknowledged) in
+            let ends : from + most ≡ received_by_all w c = omega (arith, fewer, is, whole_most, all, there, replicated) in
             let high : received_by_all w c ≤ w.received n c = received_by_all-below w n c full_here in
             let border : is_border l (from + most) ≡ true =
             (λ i. is_border ((logs ∙ ap (λ x. (log_of x c).log) region) i) (ends i)) ∙ border_there (received_by_all w c) high ∙ all_border in
@@ -265,21 +265,21 @@ module _ (s : StateValue) (n c : ℕ) (shape : IsShaped s) (sound : ∥ IsSound 
 
     may : MayDigest w n c place
     unfolding world_of
-    may = record { full_node = full_here; from = omega arith; to = omega (arith, few, acknowledged); border_to = whole }
+    may = record { full_node = full_here; from = omega arith; to = omega (arith, few, replicated); border_to = whole }
 
-    below_is : ahead_below w n c place ≡ take count (ahead (log_in s.nodes n c))
-    unfolding ahead_below
+    below_is : undigested_below w n c place ≡ take count (ahead (log_in s.nodes n c))
+    unfolding undigested_below
     below_is =
         let so_many : place - w.digested n c ≡ count = omega arith in
         (λ i. take (so_many i) (ahead_first s n c first_is i)) ∙ ap (λ l. take count (ahead l)) was
 
     pub noted_so : DigestsNoted w s.members n c place inodes (world_of t) t.members
     noted_so =
-        noted_front s n c place inodes shape first_is client may
+        noted_prefix s n c place inodes shape first_is client may
         (λ i. contains-from_list_nat (touched (all_effects (take count (ahead (log_in s.nodes n c))))) i ∙ ap (λ rs. contains (touched (all_effects rs)) i) (sym below_is))
 
-    pub next_shape : IsShaped t
+    pub next_shape : ShapeInvariant t
     next_shape = digest_shaped s n c place inodes shape
 
-    pub next_sound : ∥ IsSound (world_of t) ∥₁
+    pub next_sound : ∥ WorldInvariant (world_of t) ∥₁
     next_sound = ∥∥₁_map sound (λ h. digest_sound w (world_of t) n c place h noted_so.digests)

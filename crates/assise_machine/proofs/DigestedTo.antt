@@ -1,6 +1,6 @@
 -- A node's digest of one client's records after another's, as the laws have it.
-use Rattle.std.proofs.Common.{◌≡◌, ℕ, zero, suc, ◌+◌, ◌-◌, ◌<◌, ◌≤◌, min, true, take, length, inl, inr, refl, ap, sym, subst, ◌∙◌, arith}
-use Rattle.std.proofs.lemmas.Bool.{cases_eq, cases_lt}
+use Rattle.std.proofs.Common.{◌≡◌, ℕ, zero, suc, ◌+◌, ◌-◌, ◌<◌, ◌≤◌, min, Bool, true, false, take, length, inl, inr, refl, ap, sym, subst, ◌∙◌, arith}
+use Rattle.std.proofs.lemmas.Bool.{both_ways, cases_eq, cases_lt}
 use Rattle.std.proofs.Math.Logic.{∥∥₁_elim}
 use Rattle.std.proofs.Props.{props}
 use Rattle.std.specs.FinSet as set
@@ -8,15 +8,15 @@ use Rattle.std.specs.Ordering.{nat_cmp}
 use Rattle.assise_record.specs.Records.{all_effects}
 use Rattle.assise_inode_table.specs.Effects.{contains, touched}
 use Rattle.assise_digest.specs.Region.{ahead}
-use Rattle.assise_machine_laws.specs.Sound.{IsSound}
-use Rattle.assise_machine_laws.specs.World.{World, received_by_all}
-use Rattle.assise_machine_returns.specs.Returns.{DigestsNoted}
-use Rattle.assise_machine_events.specs.NodeEvents.{DigestsTo, most_digested, part_of, undigested, undigested_to}
-use Rattle.assise_machine_events.proofs.Digestible.{same_received}
+use Rattle.assise_model_world.specs.Invariant.{WorldInvariant}
+use Rattle.assise_model_world.specs.World.{World, received_by_all}
+use Rattle.assise_model_members.specs.Returns.{DigestsNoted}
+use Rattle.assise_model_events.specs.NodeEvents.{DigestsTo, most_digested, part_of, undigested, undigested_to}
+use Rattle.assise_model_events.proofs.Digestible.{same_received}
 use Rattle.assise_machine_state.specs.NodeValues.{log_in}
 use Rattle.assise_machine_state.specs.Observed.{is_full_in, world_of}
 use Rattle.assise_machine_state.specs.Places.{IsNumber}
-use Rattle.assise_machine_state.specs.Shape.{IsShaped}
+use Rattle.assise_machine_state.specs.Invariant.{ShapeInvariant}
 use Rattle.assise_machine_state.specs.StateValues.{StateValue, standings}
 use Rattle.assise_machine_state.proofs.Fullness.{full_seen, seen_full}
 use Rattle.assise_machine.specs.Digesting.{EndWithGroups, EndsWithGroup, NoneListed, digests_some, digests_to}
@@ -37,12 +37,12 @@ pub record StillSame (s t : StateValue) (n m : ℕ) : Type 0 where
   pub received : (c : ℕ) → received_by_all (world_of t) c ≡ received_by_all (world_of s) c
   pub border : (c k : ℕ) → (world_of t).border c k ≡ (world_of s).border c k
   pub later : (c : ℕ) → m < c → (world_of t).digested n c ≡ (world_of s).digested n c
-  pub shape : IsShaped t
-  pub sound : ∥ IsSound (world_of t) ∥₁
+  pub shape : ShapeInvariant t
+  pub sound : ∥ WorldInvariant (world_of t) ∥₁
 
 -- ---- one client after another
 
-module _ (s : StateValue) (n : ℕ) (shape : IsShaped s) (sound : ∥ IsSound (world_of s) ∥₁) (here : is_full_in (standings s) n ≡ true) where
+module _ (s : StateValue) (n : ℕ) (shape : ShapeInvariant s) (sound : ∥ WorldInvariant (world_of s) ∥₁) (here : is_full_in (standings s) n ≡ true) where
   abbrev w : World
   w = world_of s
 
@@ -119,16 +119,16 @@ module _ (s : StateValue) (n : ℕ) (shape : IsShaped s) (sound : ∥ IsSound (w
   same_to count (suc m) last whole =
       next_same (digests_to s n count m) m (same_to count m (omega (arith, last)) (fewer_whole count m whole)) (omega (arith, last)) (part_of w n count (suc m)) (part_low count m) (whole m (omega arith))
 
-  pub course_to : (count m : ℕ) → m ≤ length s.clients → EndWithGroups w n count m → DigestsTo n count w w s.members m (world_of (digests_to s n count m)) (digests_to s n count m).members
-  course_to count zero last whole = (refl, refl)
-  course_to count (suc m) last whole =
+  pub trace_to : (count m : ℕ) → m ≤ length s.clients → EndWithGroups w n count m → DigestsTo n count w w s.members m (world_of (digests_to s n count m)) (digests_to s n count m).members
+  trace_to count zero last whole = (refl, refl)
+  trace_to count (suc m) last whole =
       let t : StateValue = digests_to s n count m in
       let same : StillSame s t n m = same_to count m (omega (arith, last)) (fewer_whole count m whole) in (
         world_of t,
         (
           t.members,
           (
-            course_to count m (omega (arith, last)) (fewer_whole count m whole),
+            trace_to count m (omega (arith, last)) (fewer_whole count m whole),
             record {
               inodes = set.from_list (touched (all_effects (take (part_of w n count (suc m)) (ahead (log_in t.nodes n (suc m))))));
               digests = next_noted t m same (omega (arith, last)) (part_of w n count (suc m)) (part_low count m) (whole m (omega arith));
@@ -218,7 +218,7 @@ module _ (s : StateValue) (n : ℕ) (shape : IsShaped s) (sound : ∥ IsSound (w
             (λ i. digests_some (before i) n (suc m) (part i))
       ]
 
-  -- ---- as the code finds it, which counts clients down from the last
+  -- ---- as the code finds it
 
   module _ (last m : ℕ) (next : suc m ≡ last) (there : last ≤ length s.clients) where
     low : m < length s.clients
@@ -234,10 +234,10 @@ module _ (s : StateValue) (n : ℕ) (shape : IsShaped s) (sound : ∥ IsSound (w
       pub client_as : IsNumber t.clients last
       client_as = subst (IsNumber t.clients) next (next_client t m same_as low)
 
-      pub shape_as : IsShaped t
+      pub shape_as : ShapeInvariant t
       shape_as = same_as.shape
 
-      pub sound_as : ∥ IsSound (world_of t) ∥₁
+      pub sound_as : ∥ WorldInvariant (world_of t) ∥₁
       sound_as = same_as.sound
 
       pub lists_as : NoneListed s.members → NoneListed t.members
@@ -294,3 +294,50 @@ module _ (s : StateValue) (n : ℕ) (shape : IsShaped s) (sound : ∥ IsSound (w
               | inl before ↦ omega (arith, before)
               | inr none ↦ (let here = own (omega (arith, none)) (omega (arith, none, all, some, sum_as, undigested_as)) in omega (arith, here))
             ]
+
+-- ---- where the code stands after clients 1 to m
+
+pub record GoesTo (s : StateValue) (n m : ℕ) (t : StateValue) (count : ℕ) (is_refused is_ended : Bool) : Type 0 where
+  pub digests : t ≡ digests_to s n count m
+  pub groups : EndWithGroups (world_of s) n count m
+  pub few : count ≤ min most_digested (undigested_to (world_of s) n m)
+  pub all : is_ended ≡ false → count ≡ min most_digested (undigested_to (world_of s) n m)
+  pub ended : is_ended ≡ true → count < undigested_to (world_of s) n m
+  pub refused : is_refused ≡ true → is_ended ≡ true
+  pub some : is_refused ≡ false → 0 < undigested_to (world_of s) n m → 0 < count
+
+module _ (s : StateValue) (n : ℕ) (shape : ShapeInvariant s) (sound : ∥ WorldInvariant (world_of s) ∥₁) (here : is_full_in (standings s) n ≡ true) where
+  -- it ended before the client
+  pub goes_past : (k : ℕ) → 1 ≤ k → k ≤ length s.clients → (t : StateValue) (count : ℕ) (is_refused is_ended : Bool) →
+      GoesTo s n (k - 1) t count is_refused is_ended → is_ended ≡ true → GoesTo s n k t count is_refused is_ended
+  goes_past k some low t count is_refused is_ended go stopped =
+      let next : suc (k - 1) ≡ k = omega (arith, some) in
+      let less = go.ended stopped in
+      record {
+        digests = stopped_as s n shape sound here k (k - 1) next low t count go.digests go.groups (omega (arith, less));
+        groups = stopped_groups s n shape sound here k (k - 1) next low t count go.digests go.groups (omega (arith, less));
+        few = still_few s n shape sound here k (k - 1) next low t count go.digests go.groups go.few;
+        all = λ fine. absurd (both_ways is_ended fine stopped);
+        ended = λ yes. still_ended s n shape sound here k (k - 1) next low t count go.digests go.groups less;
+        refused = go.refused;
+        some = λ fine more. go.some fine (omega (arith, less));
+      }
+
+  -- a part more
+  pub goes_on : (k : ℕ) → 1 ≤ k → k ≤ length s.clients → (t u : StateValue) (a : ℕ) (was_refused : Bool) → GoesTo s n (k - 1) t a was_refused false →
+      (b : ℕ) (is_refused is_ended : Bool) → u ≡ digests_some t n k b → EndsWithGroup (world_of t) n k b → b ≤ min (most_digested - a) (undigested (world_of t) n k) →
+      (is_ended ≡ false → b ≡ min (most_digested - a) (undigested (world_of t) n k)) → (is_ended ≡ true → b < min (most_digested - a) (undigested (world_of t) n k)) →
+      (is_refused ≡ true → is_ended ≡ true) → (is_refused ≡ false → most_digested - a ≡ 64 → 0 < undigested (world_of t) n k → 0 < b) →
+      GoesTo s n k u (a + b) is_refused is_ended
+  goes_on k some low t u a was_refused go b is_refused is_ended digests group few all ended refused own =
+      let next : suc (k - 1) ≡ k = omega (arith, some) in
+      let whole = go.all refl in
+      record {
+        digests = both_as s n shape sound here k (k - 1) next low t a go.digests go.groups b whole few u digests;
+        groups = groups_as s n shape sound here k (k - 1) next low t a go.digests go.groups b whole few group;
+        few = few_as s n shape sound here k (k - 1) next low t a go.digests go.groups b whole few;
+        all = λ fine. all_as s n shape sound here k (k - 1) next low t a go.digests go.groups b whole few (all fine);
+        ended = λ yes. ended_as s n shape sound here k (k - 1) next low t a go.digests go.groups b whole few (ended yes);
+        refused = refused;
+        some = λ fine more. some_as s n shape sound here k (k - 1) next low t a go.digests go.groups b whole few (own fine) more;
+      }

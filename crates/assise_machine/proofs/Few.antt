@@ -8,8 +8,8 @@ use Rattle.assise_machine.specs.declared.cluster.ClusterOf.{ClusterOf}
 use Rattle.assise_machine.specs.Clusters.{machine}
 
 pub few_clients : {C : Type 0} (cluster : ClusterOf C) → (machine cluster).world.clients ≤ MOST_CLIENTS
-few_clients cluster = ∥∥₁_elim cluster.sound.holds le_prop (λ h. h.clients)
+few_clients cluster = ∥∥₁_elim cluster.sound.invariant.holds le_prop (λ h. h.clients)
 
 pub few_nodes : {C : Type 0} (cluster : ClusterOf C) → length (machine cluster).members.nodes ≤ MOST_NODES
 unfolding observed
-few_nodes cluster = subst (λ n. n ≤ MOST_NODES) cluster.sound.shape.nodes cluster.sound.shape.few_nodes
+few_nodes cluster = subst (λ n. n ≤ MOST_NODES) cluster.sound.invariant.shape.nodes cluster.sound.invariant.shape.few_nodes

@@ -14,19 +14,19 @@ use Rattle.assise_record.specs.LogRecord.{LogRecord}
 use Rattle.assise_manager.specs.NodeLevels.{level_of, sends_marks}
 use Rattle.assise_chain.specs.Messages.{frame_of, message_of}
 use Rattle.assise_inode_table.specs.Effects.{contains}
-use Rattle.assise_inode_table.proofs.Making.{contains-append}
+use Rattle.assise_inode_table.proofs.EffectValues.{contains-append}
 use Rattle.assise_manager.specs.Standings.{Standing, down, full, full_nodes, returning, standing_of}
-use Rattle.assise_machine_events.specs.Faults.{node_fault, unless_full}
-use Rattle.assise_machine_events.specs.Machine.{Holds, Machine}
-use Rattle.assise_machine_events.specs.NodeEvents.{for_node, frame_for, frames_to, border_marks, next_node, node_log}
+use Rattle.assise_model_events.specs.Faults.{node_fault, unless_full}
+use Rattle.assise_model_events.specs.Machine.{MachineInvariant, Machine}
+use Rattle.assise_model_events.specs.NodeEvents.{for_node, frame_for, frames_to, border_marks, next_node, node_log}
 use Rattle.assise_machine_state.specs.ClientValues.{ClientValue, client_in}
 use Rattle.assise_machine_state.specs.NodeValues.{HasLog, log_in}
 use Rattle.assise_machine_state.specs.Observed.{is_full_in, observed, own_seen, stands_full, world_of}
 use Rattle.assise_machine_state.specs.Places.{IsNumber}
-use Rattle.assise_machine_state.specs.Shape.{IsMarked, IsShaped}
+use Rattle.assise_machine_state.specs.Invariant.{IsMarked, ShapeInvariant}
 use Rattle.assise_machine_state.specs.StateValues.{StateValue, standings}
 use Rattle.assise_machine_state.proofs.Fullness.{has_log, log_is, same_first, seen_full}
-use Rattle.assise_machine_state.proofs.Seeing.{client_is}
+use Rattle.assise_machine_state.proofs.ItemSeen.{client_is}
 use Rattle.assise_machine_state.proofs.Standings.{listed_is_full}
 
 -- ---- a node at which nothing is wrong is full
@@ -70,11 +70,11 @@ next_full nodes head n k is = listed_is_full nodes k (chain_there (full_nodes no
 
 -- ---- what there is to send of a client
 
-pub few_clients : (s : StateValue) → ∥ Holds (observed s) ∥₁ → length s.clients ≤ MOST_CLIENTS
+pub few_clients : (s : StateValue) → ∥ MachineInvariant (observed s) ∥₁ → length s.clients ≤ MOST_CLIENTS
 unfolding observed world_of
 few_clients s holds = ∥∥₁_elim holds (search props) (λ h. h.clients)
 
-module _ (s : StateValue) (n c : ℕ) (shape : IsShaped s) (holds : ∥ Holds (observed s) ∥₁) (client : IsNumber s.clients c)
+module _ (s : StateValue) (n c : ℕ) (shape : ShapeInvariant s) (holds : ∥ MachineInvariant (observed s) ∥₁) (client : IsNumber s.clients c)
   where
     -- the node behind this one in the chain
     abbrev next : Option ℕ

@@ -1,6 +1,6 @@
 -- The marks of a frame, one after another, beside the borders of a log.
 use Rattle.std.proofs.Common.{◌≡◌, ℕ, suc, ◌+◌, Bool, List, ◌∷◌, length, ap, sym, subst, ◌∙◌, arith}
-use Rattle.assise_machine_events.specs.Faults.{end_marks}
+use Rattle.assise_chain.specs.Messages.{end_marks}
 
 next_place : (from : ℕ) → from + 1 ≡ suc from
 next_place from = omega arith

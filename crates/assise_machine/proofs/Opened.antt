@@ -9,20 +9,20 @@ use Rattle.assise_names.specs.declared.call.Op.TheVariants.{Create, Mkdir, Read,
 use Rattle.assise_names.specs.declared.durability.Durability.{Durability}
 use Rattle.assise_names.specs.declared.durability.Durability.TheVariants.{Pessimistic, Optimistic}
 use Rattle.assise_history.specs.Legal.{clients_opened, durability_of}
-use Rattle.assise_history.proofs.Counting.{opened_append}
-use Rattle.assise_machine_events.specs.ClientEvents as client
-use Rattle.assise_machine_events.specs.ClientEvents.{Calling, Crashing, Noting, Opening, Syncing}
-use Rattle.assise_machine_events.specs.Dsyncs as dsync
-use Rattle.assise_machine_events.specs.Dsyncs.{Coalescing}
-use Rattle.assise_machine_events.specs.Events.{Answer, ClusterEvent, open_client, try_call, try_fsync, outgoing, deliver, digest, release_ready, set_hot, crash, fail, back, refill, join, raise, refused, opened, replied, not_yet, sent, received, digested, released, hot_set, crashed, failed, began, left, joined, raised, entries_of}
-use Rattle.assise_machine_events.specs.Happenings.{Dsyncing, Fsyncing, Happens, Trying}
-use Rattle.assise_machine_events.specs.Machine.{Holds, Machine}
-use Rattle.assise_machine_events.specs.MemberEvents as member
-use Rattle.assise_machine_events.specs.NodeEvents as node
+use Rattle.assise_history.proofs.ClientCounts.{opened_append}
+use Rattle.assise_model_events.specs.ClientEvents as client
+use Rattle.assise_model_events.specs.ClientEvents.{Calling, Crashing, Noting, Opening, Syncing}
+use Rattle.assise_model_events.specs.Dsyncs as dsync
+use Rattle.assise_model_events.specs.Dsyncs.{Coalescing}
+use Rattle.assise_model_events.specs.Events.{Answer, ClusterEvent, open_client, try_call, try_fsync, outgoing, deliver, digest, release_ready, set_hot, crash, fail, back, refill, join, raise, refused, opened, replied, not_yet, sent, received, digested, released, hot_set, crashed, failed, began, left, joined, raised, entries_of}
+use Rattle.assise_model_events.specs.Happenings.{Dsyncing, Fsyncing, Happens, Trying}
+use Rattle.assise_model_events.specs.Machine.{MachineInvariant, Machine}
+use Rattle.assise_model_events.specs.MemberEvents as member
+use Rattle.assise_model_events.specs.NodeEvents as node
 use Rattle.assise_machine.specs.declared.answer.Answer.{Answer as Answered}
 use Rattle.assise_machine.specs.declared.event.Event.{Event}
 use Rattle.assise_machine.specs.Running.{AllServed, IsServed, all_opened, answer_seen, event_seen, happens, lacks_revoker, last_first, opened_of, stock_after, stock_left, told}
-use Rattle.assise_machine.proofs.Running.{served_keeps, served_told, told_now}
+use Rattle.assise_machine.proofs.EventLists.{served_keeps, served_told, told_now}
 
 -- ---- an answer
 
@@ -172,9 +172,9 @@ served_next : (k : ℕ) (m m' : Machine) (e : ClusterEvent) (c : ℕ) → IsServ
 served_next k m m' e c (happens step) = event_next m m' e c step
 served_next k m m' e c (lacks_revoker n u is none fine answer same) = cc
 
--- ---- the clients are opened by rising numbers
+-- ---- the clients are opened by ascending numbers
 
-clients_grow : (k : ℕ) (m m' : Machine) (e : ClusterEvent) (a : Answer) → Holds m → IsServed k m e a m' → m.world.clients ≤ m'.world.clients
+clients_grow : (k : ℕ) (m m' : Machine) (e : ClusterEvent) (a : Answer) → MachineInvariant m → IsServed k m e a m' → m.world.clients ≤ m'.world.clients
 clients_grow k m m' e a h step =
     let h' = served_keeps k m m' e a h step in
     let old = h.recorded.count in
@@ -182,7 +182,7 @@ clients_grow k m m' e a h step =
     let told = ap clients_opened (served_told k m m' e a step) ∙ opened_append m.history (entries_of m.history e a) in
     omega (arith, old, new, told)
 
-all_grow : (k : ℕ) (m m' : Machine) (es : List (ClusterEvent × Answer)) → Holds m → AllServed k m es m' → m.world.clients ≤ m'.world.clients
+all_grow : (k : ℕ) (m m' : Machine) (es : List (ClusterEvent × Answer)) → MachineInvariant m → AllServed k m es m' → m.world.clients ≤ m'.world.clients
 all_grow k m m' [] h same = (let is = ap (λ x. x.world.clients) same in omega (arith, is))
 all_grow k m m' ((e, a) ∷ es) h (v, (step, rest)) =
     let first = clients_grow k m v e a h step in
@@ -190,7 +190,7 @@ all_grow k m m' ((e, a) ∷ es) h (v, (step, rest)) =
     omega (arith, first, then)
 
 -- those that were opened so far have no higher numbers than there are clients
-opened_low : (k : ℕ) (m m' : Machine) (es : List (ClusterEvent × Answer)) → Holds m → AllServed k m es m' → (c : ℕ) → Contains (all_opened es) c → c ≤ m'.world.clients
+opened_low : (k : ℕ) (m m' : Machine) (es : List (ClusterEvent × Answer)) → MachineInvariant m → AllServed k m es m' → (c : ℕ) → Contains (all_opened es) c → c ≤ m'.world.clients
 opened_low k m m' [] h same c here = absurd (in_none c here)
 opened_low k m m' ((e, a) ∷ es) h (v, (step, rest)) c here =
     let still = served_keeps k m v e a h step in
@@ -204,7 +204,7 @@ opened_low k m m' ((e, a) ∷ es) h (v, (step, rest)) c here =
     ]
 
 -- who is opened next is none of them
-pub opened_new : (k j : ℕ) (m v m' : Machine) (es : List (ClusterEvent × Answer)) (e : ClusterEvent) (a : Answer) → Holds m → AllServed k m es v → IsServed j v e a m' →
+pub opened_new : (k j : ℕ) (m v m' : Machine) (es : List (ClusterEvent × Answer)) (e : ClusterEvent) (a : Answer) → MachineInvariant m → AllServed k m es v → IsServed j v e a m' →
     (c : ℕ) → Contains (all_opened es) c → a ≢ opened c
 opened_new k j m v m' es e a h run step c here is =
     let next = (served_next j v m' e c (subst (λ b. IsServed j v e b m') is step)).next in
@@ -234,7 +234,7 @@ module _ {C : Type 0} where
       ((c : ℕ) → a ≡ opened c → ys ≡ zs ++ option_to_list (g c)) →
       ((c : ℕ) → (a ≡ opened c → ⊥) → g c ≡ f c) →
       length zs ≡ stock_after (length ys) a → zs ≡ take (length zs) ys → xs ≡ zs ++ last_first g (cs ++ opened_of a)
-  gets_on f g xs ys zs cs a before new gets others stock front =
+  gets_on f g xs ys zs cs a before new gets others stock prefix =
       let stay : last_first f cs ≡ last_first g cs = sym (same_stored f g cs (λ c here. others c (new c here))) in
       elim (opens_or a) [
         | inl (c, is) ↦
@@ -244,7 +244,7 @@ module _ {C : Type 0} where
             ∙ ap (λ rs. zs ++ rs) (sym (last_append g cs (c ∷ [])))
             ∙ ap (λ b. zs ++ last_first g (cs ++ opened_of b)) (sym is)
         | inr none ↦
-            let all : zs ≡ ys = front ∙ take_all (length zs) ys (omega (arith, stock, none.stock (length ys))) in
+            let all : zs ≡ ys = prefix ∙ take_all (length zs) ys (omega (arith, stock, none.stock (length ys))) in
             before
             ∙ (λ i. sym all i ++ stay i)
             ∙ ap (λ ds. zs ++ last_first g ds) (sym (append-nil cs))
@@ -267,6 +267,6 @@ opened_now k j m v m' es bs cs i e a count inside is grown stock =
     ap all_opened (told_now k j m v m' es bs cs i e a count inside is grown stock) ∙ opened_more (told (take i es) bs) (event_seen e) (answer_seen a)
 
 -- who is opened next is none of them, whatever proof there is that the first state holds
-pub opened_anew : (k j : ℕ) (m v m' : Machine) (es : List (ClusterEvent × Answer)) (e : ClusterEvent) (a : Answer) → ∥ Holds m ∥₁ → AllServed k m es v → IsServed j v e a m' →
+pub opened_anew : (k j : ℕ) (m v m' : Machine) (es : List (ClusterEvent × Answer)) (e : ClusterEvent) (a : Answer) → ∥ MachineInvariant m ∥₁ → AllServed k m es v → IsServed j v e a m' →
     (c : ℕ) → Contains (all_opened es) c → a ≢ opened c
 opened_anew k j m v m' es e a holds run step c here is = ∥∥₁_elim holds (λ x y. absurd x) (λ h. opened_new k j m v m' es e a h run step c here is)

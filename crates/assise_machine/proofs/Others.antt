@@ -11,34 +11,34 @@ use Rattle.assise_history.specs.Legal.{durability_of}
 use Rattle.assise_record.specs.LogFrame.{LogFrame}
 use Rattle.assise_inode_table.specs.Traces.{NumberedCall}
 use Rattle.assise_manager.specs.Membership.{Membership}
-use Rattle.assise_machine_laws.specs.ClientSteps.{MakesCall}
-use Rattle.assise_machine_laws.specs.NodeSteps.{Digests, Drops}
-use Rattle.assise_machine_laws.specs.Staying.{SameLogs, SameClients, SameNode, SameNodes}
-use Rattle.assise_machine_laws.specs.World.{World, Full, ahead, digested_by_all}
-use Rattle.assise_machine_laws.proofs.Observing.{digested_by_all-below}
-use Rattle.assise_machine_leases.specs.Leases.{Leases}
-use Rattle.assise_machine_events.specs.ClientEvents as client
-use Rattle.assise_machine_events.specs.ClientEvents.{Calling, Crashing, Gets, Granted, IsTried, KeepsGranted, Noting, Opening, Syncing, call_of_client, last_world}
-use Rattle.assise_machine_events.specs.Dsyncs as dsync
-use Rattle.assise_machine_events.specs.Dsyncs.{Coalescing}
-use Rattle.assise_machine_events.specs.Events.{Answer}
-use Rattle.assise_machine_events.specs.Happenings.{Dsyncing, Fsyncing, Trying}
-use Rattle.assise_machine_events.specs.Machine.{Machine}
-use Rattle.assise_machine_events.specs.MemberEvents as member
-use Rattle.assise_machine_events.specs.MemberEvents.{Joining, Raising, Refilling, Returning}
-use Rattle.assise_machine_events.specs.NodeEvents as node
-use Rattle.assise_machine_events.specs.NodeEvents.{Delivering, Digesting, DigestsTo, Gone, LetsGo, Releasing, Sending, SettingHot, world_after}
-use Rattle.assise_machine_events.proofs.Granting.{clients_after, full_after, logs_after, nodes_after}
+use Rattle.assise_model_world.specs.ClientSteps.{MakesCall}
+use Rattle.assise_model_world.specs.NodeSteps.{Digests, Drops}
+use Rattle.assise_model_world.specs.Staying.{SameLogs, SameClients, SameNode, SameNodes}
+use Rattle.assise_model_world.specs.World.{World, Full, undigested_records, digested_by_all}
+use Rattle.assise_model_world.proofs.WorldObserved.{digested_by_all-below}
+use Rattle.assise_model_leases.specs.Leases.{Leases}
+use Rattle.assise_model_events.specs.ClientEvents as client
+use Rattle.assise_model_events.specs.ClientEvents.{Calling, Crashing, Gets, Granted, IsTried, KeepsGranted, Noting, Opening, Syncing, call_of_client, last_world}
+use Rattle.assise_model_events.specs.Dsyncs as dsync
+use Rattle.assise_model_events.specs.Dsyncs.{Coalescing}
+use Rattle.assise_model_events.specs.Events.{Answer}
+use Rattle.assise_model_events.specs.Happenings.{Dsyncing, Fsyncing, Trying}
+use Rattle.assise_model_events.specs.Machine.{Machine}
+use Rattle.assise_model_events.specs.MemberEvents as member
+use Rattle.assise_model_events.specs.MemberEvents.{Joining, Raising, Refilling, Returning}
+use Rattle.assise_model_events.specs.NodeEvents as node
+use Rattle.assise_model_events.specs.NodeEvents.{Delivering, Digesting, DigestsTo, Gone, LetsGo, Releasing, Sending, SettingHot, world_after}
+use Rattle.assise_model_events.proofs.LeaseSteps.{clients_after, full_after, logs_after, nodes_after}
 
 -- ---- what one node has
 
 -- the node's area stays, and what it has of each client and has not digested
 pub record Leaves (w w' : World) (j : ℕ) : Type 0 where
   pub area : (i : ℕ) → w'.area j i ≡ w.area j i
-  pub ahead : (c : ℕ) → ahead w' j c ≡ ahead w j c
+  pub ahead : (c : ℕ) → undigested_records w' j c ≡ undigested_records w j c
 
-ahead_as : (w w' : World) (j c : ℕ) → w'.digested j c ≡ w.digested j c → w'.first c ≡ w.first c → w'.log j c ≡ w.log j c → ahead w' j c ≡ ahead w j c
-unfolding ahead
+ahead_as : (w w' : World) (j c : ℕ) → w'.digested j c ≡ w.digested j c → w'.first c ≡ w.first c → w'.log j c ≡ w.log j c → undigested_records w' j c ≡ undigested_records w j c
+unfolding undigested_records
 ahead_as w w' j c digested first log = λ i. drop (digested i - first i) (log i)
 
 pub leaves_node : (w w' : World) (j : ℕ) → SameLogs w w' → SameNode w w' j → Leaves w w' j
@@ -51,7 +51,7 @@ pub leaves_nodes : (w w' : World) (j : ℕ) → SameLogs w w' → SameNodes w w'
 leaves_nodes w w' j logs nodes there = leaves_node w w' j logs (nodes.same j there)
 
 pub leaves_all : (m m' : Machine) (j : ℕ) → m' ≡ m → Leaves m.world m'.world j
-leaves_all m m' j same = record { area = λ i. ap (λ x. x.world.area j i) same; ahead = λ c. ap (λ x. ahead x.world j c) same }
+leaves_all m m' j same = record { area = λ i. ap (λ x. x.world.area j i) same; ahead = λ c. ap (λ x. undigested_records x.world j c) same }
 
 -- ---- what leaves all full nodes as they are
 
@@ -143,7 +143,7 @@ releasing_leaves m m' a (node.is_released gone freed is e) j there =
 -- all areas stay, and what other nodes than the client's home have of it
 pub record LeavesElse (w w' : World) (c j : ℕ) : Type 0 where
   pub area : (i : ℕ) → w'.area j i ≡ w.area j i
-  pub ahead : j ≢ w.home c → (d : ℕ) → ahead w' j d ≡ ahead w j d
+  pub ahead : j ≢ w.home c → (d : ℕ) → undigested_records w' j d ≡ undigested_records w j d
 
 leaves_else : (w w' : World) (c j : ℕ) → Leaves w w' j → LeavesElse w w' c j
 leaves_else w w' c j e = record { area = e.area; ahead = λ other. e.ahead }
@@ -234,7 +234,7 @@ trying_leaves m m' c Dsync a s j there = dsyncing_leaves m m' (durability_of c m
 -- all areas stay, and what other nodes than this have
 pub record LeavesBeside (w w' : World) (n j : ℕ) : Type 0 where
   pub area : (i : ℕ) → w'.area j i ≡ w.area j i
-  pub ahead : j ≢ n → (c : ℕ) → ahead w' j c ≡ ahead w j c
+  pub ahead : j ≢ n → (c : ℕ) → undigested_records w' j c ≡ undigested_records w j c
 
 leaves_beside : (w w' : World) (n j : ℕ) → Leaves w w' j → LeavesBeside w w' n j
 leaves_beside w w' n j e = record { area = e.area; ahead = λ other. e.ahead }
@@ -250,7 +250,7 @@ delivering_leaves m m' f n a (node.is_refused r fault is same) j there = leaves_
 
 -- ---- a digest
 
-part_ahead : (w w' : World) (n c k j d : ℕ) → Digests w n c k w' → Full w j → j ≢ n → ahead w' j d ≡ ahead w j d
+part_ahead : (w w' : World) (n c k j d : ℕ) → Digests w n c k w' → Full w j → j ≢ n → undigested_records w' j d ≡ undigested_records w j d
 part_ahead w w' n c k j d e there other = ahead_as w w' j d (e.digested_else j d there (λ here of_client. other here)) (e.logs.first d) (e.log j d there)
 
 parts_full : (n count : ℕ) (w₀ w : World) (o : Membership) (c : ℕ) (u : World) (p : Membership) → DigestsTo n count w₀ w o c u p → u.full ≡ w.full
@@ -269,8 +269,8 @@ parts_leave n count w₀ w o (suc c) u p (v, (q, (before, step))) j there other 
     }
 
 -- what all have digested goes from the front
-pub dropped_ahead : (w w' : World) (j c : ℕ) → Drops w (digested_by_all w) w' → Full w j → ahead w' j c ≡ ahead w j c
-unfolding ahead
+pub dropped_ahead : (w w' : World) (j c : ℕ) → Drops w (digested_by_all w) w' → Full w j → undigested_records w' j c ≡ undigested_records w j c
+unfolding undigested_records
 dropped_ahead w w' j c e there =
     let low = e.low c in
     let high = digested_by_all-below w j c there in

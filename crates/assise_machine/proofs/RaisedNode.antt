@@ -1,4 +1,4 @@
--- A node that is raised: what holds between events stays.
+-- A node that is raised: the invariant between events stays.
 use Rattle.std.specs.Prelude.{⊤}
 use Rattle.std.proofs.Common.{◌≡◌, ℕ, None, Some, Option, Result, Ok, Err, IsSome, true, false, true≢false, OnErr, OnOk, ◌↔◌, IsOk, refl, ap, sym, subst, ◌∙◌, append-nil}
 use Rattle.std.proofs.Math.Logic.{∥∥₁_map}
@@ -7,28 +7,28 @@ use Rattle.assise_manager.specs.Changes.{raise_fault, raised as with_raised}
 use Rattle.assise_manager.specs.declared.phase.Phase.{Phase}
 use Rattle.assise_manager.specs.Membership.{Membership}
 use Rattle.assise_manager.specs.Standings.{Standing, full, down, returning, phase_of, standing_of}
-use Rattle.assise_machine_events.specs.Events.{raised}
-use Rattle.assise_machine_events.specs.Machine.{Holds}
-use Rattle.assise_machine_events.specs.MemberEvents.{IsRaised, Raising, is_raised, is_refused}
-use Rattle.assise_machine_events.proofs.Raised.{raise_holds}
+use Rattle.assise_model_events.specs.Events.{raised}
+use Rattle.assise_model_events.specs.Machine.{MachineInvariant}
+use Rattle.assise_model_events.specs.MemberEvents.{IsRaised, Raising, is_raised, is_refused}
+use Rattle.assise_model_events.proofs.Raised.{raise_holds}
 use Rattle.assise_machine_state.specs.NodeValues.{log_seen, region_seen}
 use Rattle.assise_machine_state.specs.Observed.{observed, own_seen, world_of}
-use Rattle.assise_machine_state.specs.Shape.{AreNoted, IsShaped}
+use Rattle.assise_machine_state.specs.Invariant.{CutsInvariant, ShapeInvariant}
 use Rattle.assise_machine_state.specs.StateValues.{StateValue, leases_of}
 use Rattle.assise_machine.specs.Answers.{raising_answer}
 
 -- what is to be shown of the state then
 pub record Raises (s : StateValue) (n : ℕ) (r : Result ⊤ Refusal) (t : StateValue) : Type 0 where
-  pub holds : ∥ Holds (observed t) ∥₁
-  pub shape : IsShaped t
-  pub noted : AreNoted t
+  pub holds : ∥ MachineInvariant (observed t) ∥₁
+  pub shape : ShapeInvariant t
+  pub noted : CutsInvariant t
   pub happens : Raising (observed s) n (raising_answer r) (observed t)
 
 module _ (s : StateValue) (n : ℕ) where
   abbrev after_raise : StateValue
   after_raise = record s { members = with_raised s.members n }
 
-  shape_kept : IsShaped s → IsShaped after_raise
+  shape_kept : ShapeInvariant s → ShapeInvariant after_raise
   unfolding own_seen log_seen region_seen
   shape_kept shape = record {
     nodes = shape.nodes;
@@ -43,7 +43,7 @@ module _ (s : StateValue) (n : ℕ) where
     durabilities = shape.durabilities;
   }
 
-  notes_kept : AreNoted s → AreNoted after_raise
+  notes_kept : CutsInvariant s → CutsInvariant after_raise
   notes_kept noted = record { once = noted.once; known = noted.known; noted = noted.noted }
 
   is_raised_now : IsRaised (observed s) n (observed after_raise)
@@ -54,7 +54,7 @@ module _ (s : StateValue) (n : ℕ) where
   unfolding observed
   members_as = refl
 
-  pub raises : ∥ Holds (observed s) ∥₁ → IsShaped s → AreNoted s → (r : Result ⊤ Refusal) (o : Membership)
+  pub raises : ∥ MachineInvariant (observed s) ∥₁ → ShapeInvariant s → CutsInvariant s → (r : Result ⊤ Refusal) (o : Membership)
       → ((e : Refusal) → raise_fault s.members n ≡ Some e → r ≡ Err e) → IsOk r ↔ (raise_fault s.members n ≡ None)
       → OnOk r (o ≡ with_raised s.members n) → OnErr r (o ≡ s.members) → Raises s n r (record s { members = o })
   raises holds shape noted (Ok u) o fault ok done kept =

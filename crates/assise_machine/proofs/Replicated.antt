@@ -1,4 +1,4 @@
--- What holds between events, in the words of the headline.
+-- The invariant between events, in the words of the headline.
 use Rattle.std.proofs.Common.{◌≡◌, ℕ, zero, suc, ◌<◌, ◌≤◌, nat_lt, true, false, None, if◌then◌else◌, List, [], ◌∷◌, filter, get_or, length, map, slice_index_or, inl, inr, refl, ap, sym, subst, ◌∙◌, arith}
 use Rattle.std.proofs.Math.Bridge.{le_prop}
 use Rattle.std.proofs.Math.Logic.{∥∥₁_elim, ∥∥₁_map}
@@ -12,41 +12,41 @@ use Rattle.assise_seq_tree.specs.Answer.{answer}
 use Rattle.assise_seq_tree.specs.Runs.{AreAnswered, tree_after_calls}
 use Rattle.assise_seq_tree.specs.Tree.{Tree, opening}
 use Rattle.assise_history.specs.declared.call.Call.{Call}
-use Rattle.assise_history.specs.Entries.{Event as Entry}
+use Rattle.assise_history.specs.Entries.{EntryValue}
 use Rattle.assise_history.specs.Kept.{IsRun, exchange, tree_after}
 use Rattle.assise_history.specs.Legal.{IsDown, IsPastSyncs, calls_made, clients_opened}
 use Rattle.assise_inode_table.specs.Effects.{contains, touched}
 use Rattle.assise_inode_table.specs.Interaction.{Step}
 use Rattle.assise_inode_table.specs.Spelled.{Spells}
 use Rattle.assise_inode_table.specs.Traces.{Each, NumberedCall, below, exchanges, ops}
-use Rattle.assise_inode_table.proofs.Pairing.{each-map}
+use Rattle.assise_inode_table.proofs.PairwiseLists.{each-map}
 use Rattle.assise_digest.specs.Region.{alone}
 use Rattle.assise_manager.specs.Changes.{fulls}
 use Rattle.assise_manager.specs.Membership.{lowest_full}
 use Rattle.assise_manager.specs.Standings.{full_nodes}
-use Rattle.assise_machine_laws.specs.World.{Full, alone as alone_observed, first_undigested, first_unreplicated, received_by_all, steps}
-use Rattle.assise_machine_laws.proofs.Rebuilding.{answered_at, first_undigested-below}
-use Rattle.assise_machine_history.specs.Courses.{IsLasting, firm_calls}
-use Rattle.assise_machine_history.specs.Numbered.{kept_numbered, plain_call}
-use Rattle.assise_machine_history.proofs.Numbering.{kept_plain}
-use Rattle.assise_machine_events.specs.Machine.{Holds, begun_as, state_of}
-use Rattle.assise_machine_events.specs.Faults.{node_fault, unless_full}
-use Rattle.assise_machine_events.proofs.Whatever.{handed_over_firm, safe}
+use Rattle.assise_model_world.specs.World.{Full, alone_at as alone_observed, first_undigested, first_unreplicated, received_by_all, steps}
+use Rattle.assise_model_world.proofs.RegionAlone.{answered_at, first_undigested-below}
+use Rattle.assise_model_history.specs.Traces.{IsLasting, numbered_replicated}
+use Rattle.assise_model_history.specs.Numbered.{kept_numbered, plain_call}
+use Rattle.assise_model_history.proofs.NumberedCalls.{kept_plain}
+use Rattle.assise_model_events.specs.Machine.{MachineInvariant, begun_as, state_of}
+use Rattle.assise_model_events.specs.Faults.{node_fault, unless_full}
+use Rattle.assise_model_events.proofs.Whatever.{handed_over_replicated, safe}
 use Rattle.assise_machine_state.specs.NodeValues.{region_seen}
 use Rattle.assise_machine_state.specs.Observed.{observed, world_of}
 use Rattle.assise_machine_state.specs.Places.{IsNumber}
-use Rattle.assise_machine_state.specs.Shape.{IsShaped}
+use Rattle.assise_machine_state.specs.Invariant.{ShapeInvariant}
 use Rattle.assise_machine_state.specs.StateValues.{StateValue, leases_of, standings}
 use Rattle.assise_machine_state.specs.Whole.{machine_of, value_of}
 use Rattle.assise_machine_state.proofs.Fullness.{full_number, full_seen, seen_full}
-use Rattle.assise_machine_state.proofs.Reading.{alone_same}
+use Rattle.assise_machine_state.proofs.ReadObserved.{alone_same}
 use Rattle.assise_machine_state.proofs.Standings.{lowest_listed, stands_so}
 use Rattle.assise_machine.specs.declared.cluster.ClusterOf.{ClusterOf}
 use Rattle.assise_machine.specs.HandedOver.{AreReplicated, has_write_lease, kept_steps}
 use Rattle.assise_machine.specs.Headline.{IsUp, acked_to, call_from, first_acked, history_of, kept_below, least_end, regions_of, replicated_calls, replicated_to}
 use Rattle.assise_machine.proofs.Alone.{fine_full}
-use Rattle.assise_machine.proofs.Acknowledged.{least_is, replicated_is}
-use Rattle.assise_machine.proofs.Spelling.{spells_known}
+use Rattle.assise_machine.proofs.ReplicatedUpTo.{least_is, replicated_is}
+use Rattle.assise_machine.proofs.SpellingIsProposition.{spells_known}
 
 -- ---- runs are known
 
@@ -72,7 +72,7 @@ plain_below b (x ∷ xs) =
       | false ↦ rest
     ]
 
-pub kept_below_is : (b : ℕ → ℕ) (h : List Entry) → kept_below b h ≡ map plain_call (filter (below b) (kept_numbered h))
+pub kept_below_is : (b : ℕ → ℕ) (h : List EntryValue) → kept_below b h ≡ map plain_call (filter (below b) (kept_numbered h))
 kept_below_is b h = ap (filter (λ x. nat_lt x.number (b x.client))) (sym (kept_plain h)) ∙ plain_below b (kept_numbered h)
 
 plain_exchanges : (xs : List NumberedCall) → map exchange (map plain_call xs) ≡ exchanges xs
@@ -101,26 +101,26 @@ first_at cluster (suc m) c low =
 
 -- ---- of a state
 
-module _ (s : StateValue) (shape : IsShaped s) (some : 0 < length (full_nodes (standings s))) (holds : ∥ Holds (observed s) ∥₁) where
+module _ (s : StateValue) (shape : ShapeInvariant s) (some : 0 < length (full_nodes (standings s))) (holds : ∥ MachineInvariant (observed s) ∥₁) where
   abbrev acked : ℕ → ℕ
   acked c = least_end c s.nodes (calls_made c s.history)
 
   abbrev bound : ℕ → ℕ
   bound c = call_from c (acked c) s.nodes (calls_made c s.history)
 
-  acked_is : Holds (observed s) → (c : ℕ) → acked c ≡ received_by_all (observed s).world c
+  acked_is : MachineInvariant (observed s) → (c : ℕ) → acked c ≡ received_by_all (observed s).world c
   unfolding observed
   acked_is h c = least_is s shape some h.sound h.recorded.next c
 
-  bound_is : Holds (observed s) → (c : ℕ) → bound c ≡ first_unreplicated (observed s).world c
+  bound_is : MachineInvariant (observed s) → (c : ℕ) → bound c ≡ first_unreplicated (observed s).world c
   unfolding observed
   bound_is h c = replicated_is s shape some h.sound h.recorded.next c
 
-  count_is : Holds (observed s) → clients_opened s.history ≡ length s.clients
+  count_is : MachineInvariant (observed s) → clients_opened s.history ≡ length s.clients
   unfolding observed world_of
   count_is h = sym h.recorded.count
 
-  same_bound : Holds (observed s) → bound ≡ first_unreplicated (observed s).world
+  same_bound : MachineInvariant (observed s) → bound ≡ first_unreplicated (observed s).world
   same_bound h = λ i c. bound_is h c i
 
   pub count_known : clients_opened s.history ≡ length s.clients
@@ -134,7 +134,7 @@ module _ (s : StateValue) (shape : IsShaped s) (some : 0 < length (full_nodes (s
 
   -- ---- which nodes are up
 
-  up_full : (n : ℕ) → Holds (observed s) → 1 ≤ n → n ≤ length s.nodes → (IsDown s.history n → ⊥) → Full (observed s).world n
+  up_full : (n : ℕ) → MachineInvariant (observed s) → 1 ≤ n → n ≤ length s.nodes → (IsDown s.history n → ⊥) → Full (observed s).world n
   unfolding observed
   up_full n h least most up =
       elim (cases_Bool (contains (observed s).world.full n)) [
@@ -145,7 +145,7 @@ module _ (s : StateValue) (shape : IsShaped s) (some : 0 < length (full_nodes (s
   pub full_known : (n : ℕ) → 1 ≤ n → n ≤ length s.nodes → (IsDown s.history n → ⊥) → Full (observed s).world n
   full_known n least most up = ∥∥₁_elim holds (Coded-set coded_bool (contains (observed s).world.full n) true) (λ h. up_full n h least most up)
 
-  full_up : (n : ℕ) → Full (observed s).world n → IsDown s.history n → Holds (observed s) → ⊥
+  full_up : (n : ℕ) → Full (observed s).world n → IsDown s.history n → MachineInvariant (observed s) → ⊥
   unfolding observed
   full_up n full down h = h.recorded.up n full down
 
@@ -167,14 +167,14 @@ module _ (s : StateValue) (shape : IsShaped s) (some : 0 < length (full_nodes (s
   -- ---- its region alone
 
   module _ (places : List ℕ) (count : length places ≡ length s.clients) (each : (c : ℕ) → c < length s.clients → slice_index_or places c 0 ≡ acked (suc c)) where
-    same_tree : Holds (observed s) → tree_after opening (kept_below bound s.history) ≡ tree_after_calls opening (ops (firm_calls (state_of (observed s))))
+    same_tree : MachineInvariant (observed s) → tree_after opening (kept_below bound s.history) ≡ tree_after_calls opening (ops (numbered_replicated (state_of (observed s))))
     unfolding observed
     same_tree h =
         ap (λ b. tree_after opening (kept_below b s.history)) (same_bound h)
         ∙ ap (tree_after opening) (kept_below_is (first_unreplicated (observed s).world) s.history)
         ∙ ap (tree_after_calls opening) (plain_ops (filter (below (first_unreplicated (observed s).world)) (kept_numbered s.history)))
 
-    same_values : (n : ℕ) → Holds (observed s) → Full (observed s).world n → (i : ℕ) → alone (region_seen s.nodes n) places i ≡ alone_observed (observed s).world n i
+    same_values : (n : ℕ) → MachineInvariant (observed s) → Full (observed s).world n → (i : ℕ) → alone (region_seen s.nodes n) places i ≡ alone_observed (observed s).world n i
     unfolding observed
     same_values n h full i = alone_same s n places shape h.sound full count (λ c low. each c low ∙ acked_is h (suc c)) i
 
@@ -196,7 +196,7 @@ module _ (s : StateValue) (shape : IsShaped s) (some : 0 < length (full_nodes (s
       (let low : x.number < first_unreplicated (observed s).world c = h.recorded.synced c before since x (sym history_is ∙ split) own sync in
       omega (arith, low, bound_is h c)))
 
-  run_of : (b : ℕ → ℕ) → Holds (observed s) → ((c : ℕ) → bound c ≤ b c) → IsRun opening (kept_below b s.history)
+  run_of : (b : ℕ → ℕ) → MachineInvariant (observed s) → ((c : ℕ) → bound c ≤ b c) → IsRun opening (kept_below b s.history)
   unfolding observed
   run_of b h past =
       let high : (c : ℕ) → first_undigested (observed s).world c ≤ b c = λ c. omega (arith, first_undigested-below (observed s).world h.sound.coherent c, bound_is h c, past c) in
@@ -219,29 +219,29 @@ module _ {C : Type 0} (cluster : ClusterOf C) where
 
   pub full_is_up : (n : ℕ) → Full (observed value).world n → IsUp cluster n
   full_is_up n full =
-      let there : IsNumber value.nodes n = full_there value cluster.sound.shape some_there cluster.sound.holds n full in
-      record { least = there.some; most = there.there; up = λ down. up_known value cluster.sound.shape some_there cluster.sound.holds n full down }
+      let there : IsNumber value.nodes n = full_there value cluster.sound.invariant.shape some_there cluster.sound.invariant.holds n full in
+      record { least = there.some; most = there.there; up = λ down. up_known value cluster.sound.invariant.shape some_there cluster.sound.invariant.holds n full down }
 
   pub up_is_full : (n : ℕ) → IsUp cluster n → Full (observed value).world n
-  up_is_full n up = full_known value cluster.sound.shape some_there cluster.sound.holds n up.least up.most up.up
+  up_is_full n up = full_known value cluster.sound.invariant.shape some_there cluster.sound.invariant.holds n up.least up.most up.up
 
   pub one_is_up : (n : ℕ) × IsUp cluster n
-  one_is_up = (lowest_full (standings value), full_is_up (lowest_full (standings value)) (some_full value cluster.sound.shape some_there cluster.sound.holds))
+  one_is_up = (lowest_full (standings value), full_is_up (lowest_full (standings value)) (some_full value cluster.sound.invariant.shape some_there cluster.sound.invariant.holds))
 
   pub fine_is_up : (n : ℕ) → node_fault (observed value) n ≡ None → IsUp cluster n
   fine_is_up n fine = full_is_up n (fine_full value n fine)
 
   pub up_is_fine : (n : ℕ) → IsUp cluster n → node_fault (observed value) n ≡ None
-  up_is_fine n up = no_fault value cluster.sound.shape some_there cluster.sound.holds n (up_is_full n up)
+  up_is_fine n up = no_fault value cluster.sound.invariant.shape some_there cluster.sound.invariant.holds n (up_is_full n up)
 
   pub acked_seen : (c : ℕ) → acked_to cluster c ≡ received_by_all (observed value).world c
-  acked_seen c = acked_known value cluster.sound.shape some_there cluster.sound.holds c
+  acked_seen c = acked_known value cluster.sound.invariant.shape some_there cluster.sound.invariant.holds c
 
   -- the tree of the replicated calls is that of the laws
-  pub replicated_tree : tree_after opening (replicated_calls cluster) ≡ tree_after_calls opening (ops (firm_calls (state_of (observed value))))
+  pub replicated_tree : tree_after opening (replicated_calls cluster) ≡ tree_after_calls opening (ops (numbered_replicated (state_of (observed value))))
   unfolding observed
   replicated_tree =
-      let same : replicated_to cluster ≡ first_unreplicated (observed value).world = λ i c. bound_known value cluster.sound.shape some_there cluster.sound.holds c i in
+      let same : replicated_to cluster ≡ first_unreplicated (observed value).world = λ i c. bound_known value cluster.sound.invariant.shape some_there cluster.sound.invariant.holds c i in
       ap (λ b. tree_after opening (kept_below b value.history)) same
       ∙ ap (tree_after opening) (kept_below_is (first_unreplicated (observed value).world) value.history)
       ∙ ap (tree_after_calls opening) (plain_ops (filter (below (first_unreplicated (observed value).world)) (kept_numbered value.history)))
@@ -255,15 +255,15 @@ module _ {C : Type 0} (cluster : ClusterOf C) where
   before_prop b c i [] = Unit-prop
   before_prop b c i (x ∷ xs) = ×_prop (λ f g. λ k own touches. le_prop (f own touches) (g own touches) k) (before_prop b c i xs)
 
-  handed : (c i : ℕ) → has_write_lease cluster c i ≡ false → Holds (observed value) → AreReplicated cluster c i
+  handed : (c i : ℕ) → has_write_lease cluster c i ≡ false → MachineInvariant (observed value) → AreReplicated cluster c i
   unfolding observed world_of steps leases_of
   handed c i away h =
       each-map (Before (first_unreplicated (observed value).world) c i) (Before (replicated_to cluster) c i) (kept_steps cluster)
-      (λ x low own touches. (let before = low own touches in let same = bound_known value cluster.sound.shape some_there cluster.sound.holds c in omega (arith, before, same)))
-      (handed_over_firm (observed value) h c i away)
+      (λ x low own touches. (let before = low own touches in let same = bound_known value cluster.sound.invariant.shape some_there cluster.sound.invariant.holds c in omega (arith, before, same)))
+      (handed_over_replicated (observed value) h c i away)
 
   pub handed_known : (c i : ℕ) → has_write_lease cluster c i ≡ false → AreReplicated cluster c i
-  handed_known c i away = ∥∥₁_elim cluster.sound.holds (before_prop (replicated_to cluster) c i (kept_steps cluster)) (λ h. handed c i away h)
+  handed_known c i away = ∥∥₁_elim cluster.sound.invariant.holds (before_prop (replicated_to cluster) c i (kept_steps cluster)) (λ h. handed c i away h)
 
 -- ---- at the start
 
@@ -273,17 +273,17 @@ as_many (suc n) = ap suc (as_many n)
 
 pub begun_so : {C : Type 0} (cluster : ClusterOf C) (nodes limit : ℕ) → machine_of cluster.sound.state ≡ begun_as nodes limit → (history_of cluster ≡ []) × (length (regions_of cluster) ≡ nodes)
 unfolding observed
-begun_so cluster nodes limit is = (ap (λ m. m.history) is, cluster.sound.shape.nodes ∙ ap (λ m. length m.members.nodes) is ∙ as_many nodes)
+begun_so cluster nodes limit is = (ap (λ m. m.history) is, cluster.sound.invariant.shape.nodes ∙ ap (λ m. length m.members.nodes) is ∙ as_many nodes)
 
 -- ---- from a state to a later one
 
-module _ (s t : StateValue) (shape : IsShaped s) (later_shape : IsShaped t) (some : 0 < length (full_nodes (standings s))) (later_some : 0 < length (full_nodes (standings t)))
-    (holds : ∥ Holds (observed s) ∥₁) (later_holds : ∥ Holds (observed t) ∥₁) (lasts : Holds (observed s) → IsLasting (state_of (observed s)) (state_of (observed t)))
+module _ (s t : StateValue) (shape : ShapeInvariant s) (later_shape : ShapeInvariant t) (some : 0 < length (full_nodes (standings s))) (later_some : 0 < length (full_nodes (standings t)))
+    (holds : ∥ MachineInvariant (observed s) ∥₁) (later_holds : ∥ MachineInvariant (observed t) ∥₁) (lasts : MachineInvariant (observed s) → IsLasting (state_of (observed s)) (state_of (observed t)))
   where
     abbrev old : ℕ → ℕ
     old c = bound s shape some holds c
 
-    nodes_same : Holds (observed s) → length t.nodes ≡ length s.nodes
+    nodes_same : MachineInvariant (observed s) → length t.nodes ≡ length s.nodes
     unfolding observed
     nodes_same h = later_shape.nodes ∙ (lasts h).nodes ∙ sym shape.nodes
 
@@ -295,7 +295,7 @@ module _ (s t : StateValue) (shape : IsShaped s) (later_shape : IsShaped t) (som
         (let no_less : first_unreplicated (observed s).world c ≤ first_unreplicated (observed t).world c = (lasts h).none_falls.unreplicated c in
         omega (arith, no_less, bound_known s shape some holds c, bound_known t later_shape later_some later_holds c)))
 
-    calls_same : Holds (observed s) → kept_below old t.history ≡ kept_below old s.history
+    calls_same : MachineInvariant (observed s) → kept_below old t.history ≡ kept_below old s.history
     unfolding observed
     calls_same h =
         let same : old ≡ first_unreplicated (observed s).world = same_bound s shape some holds h in

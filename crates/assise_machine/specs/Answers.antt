@@ -2,7 +2,7 @@
 use Rattle.std.specs.Prelude.{ℕ, ⊤, Result, Ok, Err}
 use Rattle.std.specs.Global.{Vec}
 use Rattle.assise_names.specs.declared.refusal.Refusal.{Refusal}
-use Rattle.assise_machine_events.specs.Events.{Answer, digested, hot_set, raised, received, refused, sent}
+use Rattle.assise_model_events.specs.Events.{Answer, digested, hot_set, raised, received, refused, sent}
 use Rattle.assise_record.specs.LogFrame.{LogFrame}
 
 abbrev pub delivery_answer : Result ℕ Refusal → Answer

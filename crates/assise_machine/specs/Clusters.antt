@@ -3,11 +3,11 @@ use Rattle.std.specs.Prelude.{◌≡◌, ℕ, suc, ◌<◌, List, length, slice_
 use Rattle.std.proofs.Math.Bridge.{le_prop}
 use Rattle.std.proofs.Math.Logic.{∥∥₁_elim}
 use Rattle.assise_history.specs.Opened.{OpensOnce}
-use Rattle.assise_history.proofs.Counting.{opens_once}
+use Rattle.assise_history.proofs.ClientCounts.{opens_once}
 use Rattle.assise_digest.specs.Region.{RegionValue}
 use Rattle.assise_lease_tree.specs.Trees.{stored_by}
-use Rattle.assise_machine_laws.specs.World.{World, received_by_all}
-use Rattle.assise_machine_events.specs.Machine.{Machine}
+use Rattle.assise_model_world.specs.World.{World, received_by_all}
+use Rattle.assise_model_events.specs.Machine.{Machine}
 use Rattle.assise_machine_state.specs.NodeValues.{region_seen}
 use Rattle.assise_machine_state.specs.Places.{IsNumber}
 use Rattle.assise_machine_state.specs.Whole.{machine_of}
@@ -36,4 +36,4 @@ pub record AreAcked (w : World) (acked : List ℕ) : Type 0 where
 
 -- in its history each client is opened once
 pub opened_once : {C : Type 0} (cluster : ClusterOf C) → OpensOnce (machine cluster).history
-opened_once cluster = λ c. ∥∥₁_elim cluster.sound.holds le_prop (λ h. opens_once (machine cluster).history h.recorded.legal c)
+opened_once cluster = λ c. ∥∥₁_elim cluster.sound.invariant.holds le_prop (λ h. opens_once (machine cluster).history h.recorded.legal c)

@@ -8,8 +8,8 @@ use Rattle.assise_inode_table.specs.Effects.{touched}
 use Rattle.assise_digest.specs.Region.{ahead}
 use Rattle.assise_manager.specs.Membership.{Membership}
 use Rattle.assise_manager.specs.Standings.{is_full}
-use Rattle.assise_machine_laws.specs.World.{World}
-use Rattle.assise_machine_events.specs.NodeEvents.{part_of}
+use Rattle.assise_model_world.specs.World.{World}
+use Rattle.assise_model_events.specs.NodeEvents.{part_of}
 use Rattle.assise_machine_state.specs.Changes.{after_digest}
 use Rattle.assise_machine_state.specs.NodeValues.{log_in}
 use Rattle.assise_machine_state.specs.Observed.{world_of}

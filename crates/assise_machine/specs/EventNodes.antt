@@ -1,7 +1,7 @@
 -- Where an event happens.
 use Rattle.std.specs.Prelude.{ℕ, Option, Some, None}
-use Rattle.assise_machine_laws.specs.World.{World}
-use Rattle.assise_machine_events.specs.Events.{ClusterEvent, open_client, try_call, try_fsync, outgoing, deliver, digest, release_ready, set_hot, crash, fail, back, refill, join, raise}
+use Rattle.assise_model_world.specs.World.{World}
+use Rattle.assise_model_events.specs.Events.{ClusterEvent, open_client, try_call, try_fsync, outgoing, deliver, digest, release_ready, set_hot, crash, fail, back, refill, join, raise}
 
 -- a client's event happens at the client's home, and leases are released at no one node
 abbrev pub node_of : World → ClusterEvent → Option ℕ

@@ -4,12 +4,12 @@ use Rattle.std.specs.Prelude.{◌≡◌, ℕ, ◌<◌, Bool, true, List}
 use Rattle.assise_inode_table.specs.Contents.{values}
 use Rattle.assise_inode_table.specs.Effects.{contains, touched}
 use Rattle.assise_inode_table.specs.Interaction.{Step}
-use Rattle.assise_inode_table.specs.Opening.{opening}
+use Rattle.assise_inode_table.specs.Opening.{opening_inodes}
 use Rattle.assise_inode_table.specs.Traces.{Each, NumberedCall, trace}
 use Rattle.assise_lease_table.specs.Leases.{lease_of}
 use Rattle.assise_lease_tree.specs.Trees.{levels_of}
-use Rattle.assise_machine_history.specs.Numbered.{kept_numbered}
-use Rattle.assise_machine_leases.specs.Leases.{is_written}
+use Rattle.assise_model_history.specs.Numbered.{kept_numbered}
+use Rattle.assise_model_leases.specs.Leases.{is_written}
 use Rattle.assise_machine.specs.declared.cluster.ClusterOf.{ClusterOf}
 use Rattle.assise_machine.specs.Headline.{history_of, replicated_to}
 
@@ -19,7 +19,7 @@ has_write_lease cluster c i = is_written (lease_of ((levels_of cluster.sound.sta
 
 -- the kept calls one after another, each with what it made of the inodes
 abbrev pub kept_steps : {C : Type 0} → ClusterOf C → List (NumberedCall × Step)
-kept_steps cluster = trace (values opening) (kept_numbered (history_of cluster))
+kept_steps cluster = trace (values opening_inodes) (kept_numbered (history_of cluster))
 
 -- each call of the client that changed the inode is replicated
 abbrev pub AreReplicated : {C : Type 0} → ClusterOf C → (c i : ℕ) → Type 0

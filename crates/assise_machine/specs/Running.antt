@@ -8,10 +8,10 @@ use Rattle.assise_names.specs.declared.refusal.Refusal.TheVariants.{BadClient}
 use Rattle.assise_private_log.specs.NumberedLog.{NumberedLog}
 use Rattle.assise_machine_calls.specs.Answers.{crashing_answer, turn_answer}
 use Rattle.assise_machine_calls.specs.Asked.{CutsAreAnswers}
-use Rattle.assise_machine_events.specs.Events.{Answer, ClusterEvent, back, crash, deliver, digest, fail, join, open_client, raise, opened, outgoing, refill, refused, release_ready, released, set_hot, try_call, try_fsync}
-use Rattle.assise_machine_events.specs.Faults.{open_fault}
-use Rattle.assise_machine_events.specs.Happenings.{Happens}
-use Rattle.assise_machine_events.specs.Machine.{Machine}
+use Rattle.assise_model_events.specs.Events.{Answer, ClusterEvent, back, crash, deliver, digest, fail, join, open_client, raise, opened, outgoing, refill, refused, release_ready, released, set_hot, try_call, try_fsync}
+use Rattle.assise_model_events.specs.Faults.{open_fault}
+use Rattle.assise_model_events.specs.Happenings.{Happens}
+use Rattle.assise_model_events.specs.Machine.{Machine}
 use Rattle.assise_machine_failures.specs.Answers.{failing_answer, joining_answer, refilling_answer, returning_answer}
 use Rattle.assise_machine.specs.declared.answer.Answer.{Answer as Answered}
 use Rattle.assise_machine.specs.declared.answer.Answer.TheVariants.{Opened, Called, Sent, Received, Digested, Released, HotSet, Crashed, Failed, Began, Left, Joined, Raised}
@@ -115,7 +115,7 @@ stocked cluster stock = record { observed = machine cluster; stored = revokers c
 pub record IsApplied {C : Type 0} (answers : C → NumberedLog → ℕ → ℕ → Type 0) (s : Stocked C) (e : ClusterEvent) (a : Answer) (t : Stocked C) : Type 0 where
   pub served : IsServed (length s.stock) s.observed e a t.observed
   pub left : length t.stock ≡ stock_after (length s.stock) a
-  pub front : t.stock ≡ take (length t.stock) s.stock
+  pub prefix : t.stock ≡ take (length t.stock) s.stock
   pub gets : (c : ℕ) → a ≡ opened c → s.stock ≡ t.stock ++ option_to_list (t.stored c)
   pub others : (c : ℕ) → (a ≡ opened c → ⊥) → t.stored c ≡ s.stored c
   pub cuts : (c : ℕ) (op : Op) → e ≡ try_call c op → CutsAreAnswers answers s.stored s.observed t.observed

@@ -6,7 +6,7 @@ use Rattle.assise_manager.specs.NodeLevels.{level_of, newest}
 use Rattle.assise_record.specs.LogFrame.{LogFrame, is_marked}
 use Rattle.assise_record.specs.LogRecord.{LogRecord}
 use Rattle.assise_private_log.specs.NumberedLog.{NumberedLog, is_border, records_from}
-use Rattle.assise_machine_events.specs.Faults.{end_marks}
+use Rattle.assise_chain.specs.Messages.{last_marks}
 use Rattle.assise_machine_state.specs.ClientValues.{client_in}
 use Rattle.assise_machine_state.specs.NodeValues.{log_in}
 use Rattle.assise_machine_state.specs.Observed.{own_node}
@@ -26,7 +26,7 @@ marks_past f received = drop (received - f.first) f.last
 
 -- where the frame has marks, those past a number are where groups of the log end
 abbrev pub HasMarksOf : NumberedLog → LogFrame → (received : ℕ) → Type 0
-HasMarksOf l f received = is_marked f.version ≡ true → marks_past f received ≡ end_marks (is_border l) received (length (lacking f received))
+HasMarksOf l f received = is_marked f.version ≡ true → marks_past f received ≡ last_marks l received (length (lacking f received))
 
 -- the frame is of the epoch and of a version that is read, it leaves no gap, and what lies past what was received stands next in the
 -- log, with its groups, and ends with one

@@ -50,15 +50,15 @@ impl<C: Revokes + Drop> ClusterOf<C> {
     ghost use Rattle.assise_names.specs.declared.limits.TheConstants.{MOST_NODES};
     ghost use Rattle.assise_manager.specs.NodeLevels.{level_of, newest};
     ghost use Rattle.assise_manager.specs.Standings.{standing_of};
-    ghost use Rattle.assise_machine_laws.specs.World.{IsClient, alone as alone_observed, received_by_all};
-    ghost use Rattle.assise_machine_history.specs.Courses.{firm_calls};
-    ghost use Rattle.assise_machine_events.specs.ClientEvents.{Crashing, Opening};
-    ghost use Rattle.assise_machine_events.specs.Events.{released};
-    ghost use Rattle.assise_machine_events.specs.Faults.{node_fault, open_fault};
-    ghost use Rattle.assise_machine_events.specs.Happenings.{Fsyncing, Trying};
-    ghost use Rattle.assise_machine_events.specs.Machine.{begun_as, state_of};
-    ghost use Rattle.assise_machine_events.specs.MemberEvents.{Failing, Joining, Raising, Refilling, Returning};
-    ghost use Rattle.assise_machine_events.specs.NodeEvents.{Delivering, Digesting, Releasing, Sending, SettingHot};
+    ghost use Rattle.assise_model_world.specs.World.{IsClient, alone_at as alone_observed, received_by_all};
+    ghost use Rattle.assise_model_history.specs.Traces.{numbered_replicated};
+    ghost use Rattle.assise_model_events.specs.ClientEvents.{Crashing, Opening};
+    ghost use Rattle.assise_model_events.specs.Events.{released};
+    ghost use Rattle.assise_model_events.specs.Faults.{node_fault, open_fault};
+    ghost use Rattle.assise_model_events.specs.Happenings.{Fsyncing, Trying};
+    ghost use Rattle.assise_model_events.specs.Machine.{begun_as, state_of};
+    ghost use Rattle.assise_model_events.specs.MemberEvents.{Failing, Joining, Raising, Refilling, Returning};
+    ghost use Rattle.assise_model_events.specs.NodeEvents.{Delivering, Digesting, Releasing, Sending, SettingHot};
     ghost use Rattle.assise_machine_calls.specs.Answers.{crashing_answer, opening_answer, turn_answer};
     ghost use Rattle.assise_machine_calls.specs.Asked.{CutsAreAnswers};
     ghost use Rattle.assise_machine_failures.specs.Answers.{failing_answer, joining_answer, refilling_answer, returning_answer};
@@ -102,14 +102,16 @@ impl<C: Revokes + Drop> ClusterOf<C> {
             (machine self.new) }
         ensures given_back { IfErr result (λ back. back.1 ≡ revoker) }
         ensures revokers { OnErr result (SameRevokers (revokers self.old) (revokers self.new)) }
-        ensures stored { OnOk result (Enrols (revokers self.old) (revokers self.new) ((machine self.old).world.clients + 1) revoker) }
+        ensures stored { OnOk result (Enrols (revokers self.old) (revokers self.new)
+            ((machine self.old).world.clients + 1) revoker) }
     {
         open(alloc, &mut self.sound, node, revoker, durability)
     }
 
     /// Tries a client's call, as [`try_call`](fn@try_call) says.
     pub fn try_call(&mut self, alloc: Global, client: u32, op: &Op) -> Result<Turn, Refusal>
-        ensures happens { Trying (machine self.old) client op.now (turn_answer result) (machine self.new) }
+        ensures happens { Trying (machine self.old) client op.now (turn_answer result)
+            (machine self.new) }
         ensures cuts { CutsAreAnswers C.answers (revokers self.old)
             (machine self.old) (machine self.new) }
         ensures revokers { SameRevokers (revokers self.old) (revokers self.new) }
@@ -127,7 +129,7 @@ impl<C: Revokes + Drop> ClusterOf<C> {
         try_fsync(&mut self.sound, client)
     }
 
-    /// What a node sends: for each client by rising number at most one frame, for the node behind it in the client's chain. Refused
+    /// What a node sends: for each client by ascending number at most one frame, for the node behind it in the client's chain. Refused
     /// with [`Refusal::BadNode`], [`Refusal::WrongPhase`] where the node isn't full, and [`Refusal::OutOfMemory`].
     pub fn outgoing(&self, alloc: Global, node: u32) -> Result<Vec<(Frame, u32)>, Refusal>
         ensures { Sending (machine self.now) node (sending_answer result) (machine self.now) }
@@ -140,7 +142,8 @@ impl<C: Revokes + Drop> ClusterOf<C> {
     /// [`Refusal::StaleMessage`] where the frame is of another epoch, leaves a gap, or has a record that isn't the client's own.
     /// What is refused leaves all as it was. It takes no memory.
     pub fn deliver(&mut self, frame: Frame, node: u32) -> Result<u64, Refusal>
-        ensures happens { Delivering (machine self.old) frame node (delivery_answer result) (machine self.new) }
+        ensures happens { Delivering (machine self.old) frame node (delivery_answer result)
+            (machine self.new) }
         ensures revokers { SameRevokers (revokers self.old) (revokers self.new) }
     {
         deliver(&mut self.sound, frame, node)
@@ -154,7 +157,8 @@ impl<C: Revokes + Drop> ClusterOf<C> {
         frame: &Frame,
         node: u32,
     ) -> Result<u64, Refusal>
-        ensures happens { Delivering (machine self.old) frame.now node (delivery_answer result) (machine self.new) }
+        ensures happens { Delivering (machine self.old) frame.now node (delivery_answer result)
+            (machine self.new) }
         ensures revokers { SameRevokers (revokers self.old) (revokers self.new) }
     {
         deliver_copy(alloc, &mut self.sound, frame, node)
@@ -167,11 +171,12 @@ impl<C: Revokes + Drop> ClusterOf<C> {
         open_refusal(&self.sound.state, node)
     }
 
-    /// A node digests records that all full nodes have, and answers how many: 64 at most, of clients by rising number. Then all
+    /// A node digests records that all full nodes have, and answers how many: 64 at most, of clients by ascending number. Then all
     /// nodes let go what all full nodes have digested. Refused with [`Refusal::BadNode`], [`Refusal::WrongPhase`] where the node
     /// isn't full, and with [`Refusal::OutOfMemory`] where memory runs out before the first record: then all stays as it was.
     pub fn digest(&mut self, alloc: Global, node: u32) -> Result<usize, Refusal>
-        ensures happens { Digesting (machine self.old) node (digesting_answer result) (machine self.new) }
+        ensures happens { Digesting (machine self.old) node (digesting_answer result)
+            (machine self.new) }
         ensures revokers { SameRevokers (revokers self.old) (revokers self.new) }
     {
         digest(alloc, &mut self.sound, node)
@@ -209,19 +214,21 @@ impl<C: Revokes + Drop> ClusterOf<C> {
     /// [`Refusal::NodeDown`] where its node has failed since it was opened, and [`Refusal::OutOfMemory`]; what is refused leaves all as
     /// it was.
     pub fn crash(&mut self, client: u32) -> Result<(), Refusal>
-        ensures happens { Crashing (machine self.old) client (crashing_answer result) (machine self.new) }
+        ensures happens { Crashing (machine self.old) client (crashing_answer result)
+            (machine self.new) }
         ensures revokers { SameRevokers (revokers self.old) (revokers self.new) }
     {
         crash(&mut self.sound, client)
     }
 
     /// A node fails. Of a full one the logs are gone, and its inodes stay; of each of its clients that lives the records are kept that
-    /// all other full nodes have, and the others cut the rest; an epoch begins. It answers each client that lost a record, by rising
+    /// all other full nodes have, and the others cut the rest; an epoch begins. It answers each client that lost a record, by ascending
     /// number, with its first lost call: after the client's last answered sync. A node that comes back is down again, and nothing
     /// is lost. Refused with [`Refusal::BadNode`] where there is no such node, [`Refusal::WrongPhase`] where it is down,
     /// [`Refusal::LastNode`] where it is the only full one, and [`Refusal::OutOfMemory`]; what is refused leaves all as it was.
     pub fn fail(&mut self, alloc: Global, node: u32) -> Result<Vec<(u32, u64)>, Refusal>
-        ensures happens { Failing (machine self.old) node (failing_answer result) (machine self.new) }
+        ensures happens { Failing (machine self.old) node (failing_answer result)
+            (machine self.new) }
         ensures revokers { SameRevokers (revokers self.old) (revokers self.new) }
     {
         fail(alloc, &mut self.sound, node)
@@ -231,7 +238,8 @@ impl<C: Revokes + Drop> ClusterOf<C> {
     /// be filled with the lowest full node's. It answers how many inodes it may lack. Refused with [`Refusal::BadNode`] where there is no
     /// such node, [`Refusal::WrongPhase`] where it isn't down, and [`Refusal::OutOfMemory`]; what is refused leaves all as it was.
     pub fn back(&mut self, node: u32) -> Result<usize, Refusal>
-        ensures happens { Returning (machine self.old) node (returning_answer result) (machine self.new) }
+        ensures happens { Returning (machine self.old) node (returning_answer result)
+            (machine self.new) }
         ensures revokers { SameRevokers (revokers self.old) (revokers self.new) }
     {
         back(&mut self.sound, node)
@@ -241,7 +249,8 @@ impl<C: Revokes + Drop> ClusterOf<C> {
     /// one has none. It answers how many inodes it may lack then. Refused with [`Refusal::BadNode`] where there is no such node,
     /// [`Refusal::WrongPhase`] where it doesn't come back, and [`Refusal::OutOfMemory`]; what is refused leaves all as it was.
     pub fn refill(&mut self, alloc: Global, node: u32) -> Result<usize, Refusal>
-        ensures happens { Refilling (machine self.old) node (refilling_answer result) (machine self.new) }
+        ensures happens { Refilling (machine self.old) node (refilling_answer result)
+            (machine self.new) }
         ensures revokers { SameRevokers (revokers self.old) (revokers self.new) }
     {
         refill(alloc, &mut self.sound, node)
@@ -251,7 +260,8 @@ impl<C: Revokes + Drop> ClusterOf<C> {
     /// begins. Refused with [`Refusal::BadNode`] where there is no such node, [`Refusal::WrongPhase`] where it doesn't come back,
     /// [`Refusal::Busy`] where it may lack an inode, and [`Refusal::OutOfMemory`]; what is refused leaves all as it was.
     pub fn join(&mut self, alloc: Global, node: u32) -> Result<(), Refusal>
-        ensures happens { Joining (machine self.old) node (joining_answer result) (machine self.new) }
+        ensures happens { Joining (machine self.old) node (joining_answer result)
+            (machine self.new) }
         ensures revokers { SameRevokers (revokers self.old) (revokers self.new) }
     {
         join(alloc, &mut self.sound, node)
@@ -295,21 +305,28 @@ impl<C: Revokes + Drop> ClusterOf<C> {
     /// What a full node has: it alone gives the tree of all calls that are replicated. Refused with [`Refusal::BadNode`] where there is
     /// no such node, and [`Refusal::WrongPhase`] where it isn't full.
     pub fn region(&self, node: u32) -> Result<&Region, Refusal>
-        ensures fault { (e : Refused) → node_fault (machine self.now) node ≡ Some e → result ≡ Err e }
+        ensures fault { (e : Refused) → node_fault (machine self.now) node ≡ Some e →
+            result ≡ Err e }
         ensures ok { IsOk result ↔ (node_fault (machine self.now) node ≡ None) }
         ensures up { IsOk result ↔ IsUp self.now node }
         ensures region { IfOk result (λ r. r.now ≡ region_of self.now node) }
-        ensures observed { IfOk result (λ r. (acked : List ℕ) → AreAcked (machine self.now).world acked → (i : ℕ) → alone r.now acked i ≡ alone_observed (machine self.now).world node i) }
-        ensures alone { IfOk result (λ r. (acked : List ℕ) → AreAcked (machine self.now).world acked → Spells (alone r.now acked) (tree_after_calls opening (ops (firm_calls (state_of (machine self.now)))))) }
+        ensures observed { IfOk result (λ r. (acked : List ℕ) →
+            AreAcked (machine self.now).world acked → (i : ℕ) →
+            alone r.now acked i ≡ alone_observed (machine self.now).world node i) }
+        ensures alone { IfOk result (λ r. (acked : List ℕ) →
+            AreAcked (machine self.now).world acked →
+            Spells (alone r.now acked) (tree_after_calls opening
+            (ops (numbered_replicated (state_of (machine self.now)))))) }
     {
         self.sound.region(node)
     }
 
-    /// The place up to which all full nodes have a client's log: its records below are acknowledged. The one refusal is
+    /// The place up to which all full nodes have a client's log: its records below are replicated. The one refusal is
     /// [`Refusal::BadClient`]. It costs the nodes.
     pub fn acked(&self, client: u32) -> Result<u64, Refusal>
         ensures seen { IfOk result (λ place. place ≡ acked_to self.now client) }
-        ensures acked { IfOk result (λ place. place ≡ received_by_all (machine self.now).world client) }
+        ensures acked { IfOk result (λ place. place ≡ received_by_all
+            (machine self.now).world client) }
         ensures ok { IsOk result ↔ IsClient (machine self.now).world client }
         ensures only_bad { IsOkUnless result BadClient }
     {

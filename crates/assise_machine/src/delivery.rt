@@ -2,14 +2,14 @@
 ghost use Rattle.std.specs.Prelude.{◌≡◌, ◌+◌, ◌<◌, ◌≤◌, ◌^◌, IfNone, IfOk, IfSome, IsOkUnless, None, Some, false, length, take, true};
 ghost use Rattle.assise_names.specs.declared.refusal.Refusal.{Refusal as Refused};
 ghost use Rattle.assise_names.specs.declared.refusal.Refusal.TheVariants.{OutOfMemory, StaleMessage};
-ghost use Rattle.assise_lease_table.specs.Tables.{SameRevokers};
-ghost use Rattle.assise_lease_tree.specs.Trees.{stored_by};
-ghost use Rattle.assise_private_log.specs.NumberedLog.{is_border, records_from};
+ghost use Rattle.assise_lease_tree.specs.Trees.{KeepsRevokers};
+ghost use Rattle.assise_private_log.specs.NumberedLog.{records_from};
 ghost use Rattle.assise_digest.specs.Region.{AreWhole};
-ghost use Rattle.assise_machine_events.specs.Faults.{IsTimely, delivery_fault, end_marks};
-ghost use Rattle.assise_machine_events.specs.NodeEvents.{Delivering};
+ghost use Rattle.assise_chain.specs.Messages.{last_marks};
+ghost use Rattle.assise_model_events.specs.Faults.{IsTimelyDelivery, delivery_fault};
+ghost use Rattle.assise_model_events.specs.NodeEvents.{Delivering};
 ghost use Rattle.assise_machine_state.specs.Places.{IsNumber};
-ghost use Rattle.assise_machine_state.specs.Shape.{IsShaped};
+ghost use Rattle.assise_machine_state.specs.Invariant.{ShapeInvariant};
 ghost use Rattle.assise_machine_state.specs.Whole.{machine_of, value_of};
 ghost use Rattle.assise_machine.specs.Answers.{delivery_answer};
 ghost use Rattle.assise_machine.specs.Taking.{HasMarksOf, HasRoomFor, IsNextOf, lacking, own_log};
@@ -38,8 +38,9 @@ pub(crate) fn deliver<C: Revokes + Drop>(
     frame: Frame,
     node: u32,
 ) -> Result<u64, Refusal>
-    ensures happens { Delivering (machine_of sound.old.state) frame node (delivery_answer result) (machine_of sound.new.state) }
-    ensures revokers { SameRevokers (stored_by sound.old.state.leases) (stored_by sound.new.state.leases) }
+    ensures happens { Delivering (machine_of sound.old.state) frame node (delivery_answer result)
+        (machine_of sound.new.state) }
+    ensures revokers { KeepsRevokers sound.old.state.leases sound.new.state.leases }
 {
     let state = &mut sound.state;
     if let Some(refusal) = delivery_refusal(state, &frame, node) {
@@ -70,8 +71,9 @@ pub(crate) fn deliver_copy<C: Revokes + Drop>(
     frame: &Frame,
     node: u32,
 ) -> Result<u64, Refusal>
-    ensures happens { Delivering (machine_of sound.old.state) frame.now node (delivery_answer result) (machine_of sound.new.state) }
-    ensures revokers { SameRevokers (stored_by sound.old.state.leases) (stored_by sound.new.state.leases) }
+    ensures happens { Delivering (machine_of sound.old.state) frame.now node
+        (delivery_answer result) (machine_of sound.new.state) }
+    ensures revokers { KeepsRevokers sound.old.state.leases sound.new.state.leases }
 {
     match frame.copy(alloc) {
         Ok(copy) => deliver(sound, copy, node),
@@ -81,11 +83,15 @@ pub(crate) fn deliver_copy<C: Revokes + Drop>(
 
 /// Why a frame isn't taken in at a node: as [`delivery_refusal`] says, and [`Refusal::StaleMessage`] as [`deliver`] says.
 fn frame_refusal<C: Revokes + Drop>(sound: &SoundOf<C>, frame: &Frame, node: u32) -> Option<Refusal>
-    ensures fault { (r : Refused) → delivery_fault (machine_of sound.now.state) frame.now node ≡ Some r → result ≡ Some r }
-    ensures stale { delivery_fault (machine_of sound.now.state) frame.now node ≡ None → IfSome result (λ r. r ≡ StaleMessage) }
-    ensures taken { delivery_fault (machine_of sound.now.state) frame.now node ≡ None → IsTimely (machine_of sound.now.state) frame.now node → result ≡ None }
-    ensures fine { IfNone result (delivery_fault (machine_of sound.now.state) frame.now node ≡ None) }
-    ensures timely { IfNone result (IsTimely (machine_of sound.now.state) frame.now node) }
+    ensures fault { (r : Refused) → delivery_fault (machine_of sound.now.state) frame.now node ≡
+        Some r → result ≡ Some r }
+    ensures stale { delivery_fault (machine_of sound.now.state) frame.now node ≡ None →
+        IfSome result (λ r. r ≡ StaleMessage) }
+    ensures taken { delivery_fault (machine_of sound.now.state) frame.now node ≡ None →
+        IsTimelyDelivery (machine_of sound.now.state) frame.now node → result ≡ None }
+    ensures fine { IfNone result (delivery_fault (machine_of sound.now.state) frame.now node ≡
+        None) }
+    ensures timely { IfNone result (IsTimelyDelivery (machine_of sound.now.state) frame.now node) }
 {
     let state = &sound.state;
     if let Some(refusal) = delivery_refusal(state, frame, node) {
@@ -122,11 +128,13 @@ pub(crate) fn delivery_refusal<C: Revokes + Drop>(
 /// client's own log does, with its groups, up to the end of one.
 fn is_next<C: Revokes + Drop>(state: &StateOf<C>, frame: &Frame, node: u32, received: u64) -> bool
     requires client { IsNumber state.now.clients frame.now.client }
-    requires shape { IsShaped (value_of state.now) }
+    requires shape { ShapeInvariant (value_of state.now) }
     requires begun { (own_log (value_of state.now) frame.now.client).first ≤ received }
     ensures timely { result ≡ true → IsNextOf (value_of state.now) frame.now node received }
     ensures stale { result ≡ false → IsNextOf (value_of state.now) frame.now node received → ⊥ }
-    ensures room { result ≡ true → 0 < length (lacking frame.now received) → HasRoomFor (own_log (value_of state.now) frame.now.client) received (length (lacking frame.now received)) }
+    ensures room { result ≡ true → 0 < length (lacking frame.now received) →
+        HasRoomFor (own_log (value_of state.now) frame.now.client) received
+        (length (lacking frame.now received)) }
     ensures whole { result ≡ true → AreWhole (lacking frame.now received) }
 {
     if !is_timely(frame, received, state.members.epoch()) {
@@ -167,10 +175,8 @@ fn has_own_marks(log: &Log, frame: &Frame, received: u64) -> bool
 /// Whether these are the marks of a log's records from a number on: whether each is the last of its group.
 fn has_marks(log: &Log, from: u64, marks: &[bool]) -> bool
     requires fits { from + length marks.now < 2 ^ 64 }
-    ensures same { result ≡ true →
-        marks.now ≡ end_marks (is_border log.now) from (length marks.now) }
-    ensures other { result ≡ false →
-        marks.now ≡ end_marks (is_border log.now) from (length marks.now) → ⊥ }
+    ensures same { result ≡ true → marks.now ≡ last_marks log.now from (length marks.now) }
+    ensures other { result ≡ false → marks.now ≡ last_marks log.now from (length marks.now) → ⊥ }
 {
     let Some((first, rest)) = marks.split_first() else {
         return true;
@@ -181,8 +187,10 @@ fn has_marks(log: &Log, from: u64, marks: &[bool]) -> bool
 /// Whether a log's records from a number on begin with these.
 fn goes_on_with(log: &Log, from: u64, records: &[Record]) -> bool
     requires begun { log.now.first ≤ from }
-    ensures same { result ≡ true → take (length records.now) (records_from log.now from) ≡ records.now }
-    ensures other { result ≡ false → take (length records.now) (records_from log.now from) ≡ records.now → ⊥ }
+    ensures same { result ≡ true → take (length records.now) (records_from log.now from) ≡
+        records.now }
+    ensures other { result ≡ false → take (length records.now) (records_from log.now from) ≡
+        records.now → ⊥ }
 {
     let Some((first, rest)) = records.split_first() else {
         return true;

@@ -2,15 +2,13 @@
 ghost use Rattle.std.specs.Prelude.{◌≡◌, ◌<◌, ◌≤◌, IfOk, IsOkUnless, OnErr, false, length, min, take, true};
 ghost use Rattle.assise_names.specs.declared.refusal.Refusal.TheVariants.{OutOfMemory};
 ghost use Rattle.assise_record.specs.Records.{all_effects};
-ghost use Rattle.assise_lease_table.specs.Tables.{SameRevokers};
-ghost use Rattle.assise_lease_tree.specs.Trees.{stored_by};
+ghost use Rattle.assise_lease_tree.specs.Trees.{KeepsRevokers};
 ghost use Rattle.assise_private_log.specs.NumberedLog.{records_from};
 ghost use Rattle.assise_manager.specs.Whole.{membership};
-ghost use Rattle.assise_machine_laws.specs.Sound.{IsSound};
-ghost use Rattle.assise_machine_events.specs.NodeEvents.{Digesting, most_digested, undigested, undigested_to};
+ghost use Rattle.assise_model_events.specs.NodeEvents.{Digesting, most_digested, undigested, undigested_to};
 ghost use Rattle.assise_machine_state.specs.Observed.{is_full_in, world_of};
 ghost use Rattle.assise_machine_state.specs.Places.{IsNumber};
-ghost use Rattle.assise_machine_state.specs.Shape.{IsShaped};
+ghost use Rattle.assise_machine_state.specs.Invariant.{PartsInvariant};
 ghost use Rattle.assise_machine_state.specs.StateValues.{standings};
 ghost use Rattle.assise_machine_state.specs.Whole.{machine_of, value_of};
 ghost use Rattle.assise_machine.specs.Answers.{digesting_answer};
@@ -30,7 +28,7 @@ use std::alloc::Global;
 /// The most records of one digest.
 const MOST_DIGESTED: usize = 64;
 
-/// A node digests records that all full nodes have, of clients by rising number, and 64 in all at most: each group whole, up to the
+/// A node digests records that all full nodes have, of clients by ascending number, and 64 in all at most: each group whole, up to the
 /// first that is longer than what is left of the 64. Then all nodes let go what all full nodes have digested. It answers how many
 /// records it digested: fewer than there are to digest where there are more than 64, or where memory runs out after the first
 /// group. Refused as [`node_refusal`] says, and with [`Refusal::OutOfMemory`] where memory
@@ -40,8 +38,9 @@ pub fn digest<C: Revokes + Drop>(
     sound: &mut SoundOf<C>,
     node: u32,
 ) -> Result<usize, Refusal>
-    ensures happens { Digesting (machine_of sound.old.state) node (digesting_answer result) (machine_of sound.new.state) }
-    ensures revokers { SameRevokers (stored_by sound.old.state.leases) (stored_by sound.new.state.leases) }
+    ensures happens { Digesting (machine_of sound.old.state) node (digesting_answer result)
+        (machine_of sound.new.state) }
+    ensures revokers { KeepsRevokers sound.old.state.leases sound.new.state.leases }
 {
     let state = &mut sound.state;
     if let Some(refusal) = node_refusal(state, node) {
@@ -66,12 +65,12 @@ fn digest_to<C: Revokes + Drop>(
 ) -> Progress
     requires full { is_full_in (standings (value_of state.old)) node ≡ true }
     requires last { last ≤ length state.old.clients }
-    requires sound { ∥ IsSound (world_of (value_of state.old)) ∥₁ }
-    requires shape { IsShaped (value_of state.old) }
+    requires parts { PartsInvariant (value_of state.old) }
     requires lists { NoneListed (value_of state.old).members }
     ensures digests { value_of state.new ≡ digests_to (value_of state.old) node result.count last }
     ensures groups { EndWithGroups (world_of (value_of state.old)) node result.count last }
-    ensures few { result.count ≤ min most_digested (undigested_to (world_of (value_of state.old)) node last) }
+    ensures few { result.count ≤ min most_digested
+        (undigested_to (world_of (value_of state.old)) node last) }
     ensures all { result.ended ≡ false →
         result.count ≡ min most_digested (undigested_to (world_of (value_of state.old)) node last) }
     ensures ended { result.ended ≡ true →
@@ -81,23 +80,22 @@ fn digest_to<C: Revokes + Drop>(
         0 < undigested_to (world_of (value_of state.old)) node last → 0 < result.count }
     ensures revokers { state.new.leases ≡ state.old.leases }
 {
-    if last == 0 {
-        return Progress {
-            count: 0,
-            refused: false,
-            ended: false,
-        };
+    let mut progress = Progress {
+        count: 0,
+        refused: false,
+        ended: false,
+    };
+    for client in 1..=last {
+        if !progress.ended {
+            let own = digest_of(alloc, state, node, client, MOST_DIGESTED - progress.count);
+            progress = Progress {
+                count: progress.count + own.count,
+                refused: own.refused,
+                ended: own.ended,
+            };
+        }
     }
-    let before = digest_to(alloc, state, node, last - 1);
-    if before.ended {
-        return before;
-    }
-    let own = digest_of(alloc, state, node, last, MOST_DIGESTED - before.count);
-    Progress {
-        count: before.count + own.count,
-        refused: own.refused,
-        ended: own.ended,
-    }
+    progress
 }
 
 /// A node digests records of a client, so many at most, until the next group is longer than what is left of them, or memory runs
@@ -112,12 +110,13 @@ fn digest_of<C: Revokes + Drop>(
     requires full { is_full_in (standings (value_of state.old)) node ≡ true }
     requires client { IsNumber state.old.clients client }
     requires few_most { at_most ≤ 64 }
-    requires sound { ∥ IsSound (world_of (value_of state.old)) ∥₁ }
-    requires shape { IsShaped (value_of state.old) }
+    requires parts { PartsInvariant (value_of state.old) }
     requires lists { NoneListed (value_of state.old).members }
-    ensures digests { value_of state.new ≡ digests_some (value_of state.old) node client result.count }
+    ensures digests { value_of state.new ≡ digests_some
+        (value_of state.old) node client result.count }
     ensures group { EndsWithGroup (world_of (value_of state.old)) node client result.count }
-    ensures few { result.count ≤ min at_most (undigested (world_of (value_of state.old)) node client) }
+    ensures few { result.count ≤ min at_most (undigested
+        (world_of (value_of state.old)) node client) }
     ensures all { result.ended ≡ false →
         result.count ≡ min at_most (undigested (world_of (value_of state.old)) node client) }
     ensures ended { result.ended ≡ true →
@@ -168,10 +167,10 @@ fn digest_wanted<C: Revokes + Drop>(
     requires client { IsNumber state.old.clients client }
     requires wanted { wanted ≤ undigested (world_of (value_of state.old)) node client }
     requires few_wanted { wanted ≤ 64 }
-    requires sound { ∥ IsSound (world_of (value_of state.old)) ∥₁ }
-    requires shape { IsShaped (value_of state.old) }
+    requires parts { PartsInvariant (value_of state.old) }
     requires lists { NoneListed (value_of state.old).members }
-    ensures ok { IfOk result (λ count. value_of state.new ≡ digests_some (value_of state.old) node client count) }
+    ensures ok { IfOk result (λ count. value_of state.new ≡ digests_some
+        (value_of state.old) node client count) }
     ensures group { IfOk result
         (λ count. EndsWithGroup (world_of (value_of state.old)) node client count) }
     ensures few { IfOk result (λ count. count ≤ wanted) }
@@ -200,9 +199,9 @@ fn digest_noted<C: Revokes + Drop>(
     requires client { IsNumber state.old.clients client }
     requires wanted { wanted ≤ undigested (world_of (value_of state.old)) node client }
     requires few_wanted { wanted ≤ 64 }
-    requires sound { ∥ IsSound (world_of (value_of state.old)) ∥₁ }
-    requires shape { IsShaped (value_of state.old) }
-    ensures ok { IfOk result (λ count. value_of state.new ≡ digests_some (value_of state.old) node client count) }
+    requires parts { PartsInvariant (value_of state.old) }
+    ensures ok { IfOk result (λ count. value_of state.new ≡ digests_some
+        (value_of state.old) node client count) }
     ensures group { IfOk result
         (λ count. EndsWithGroup (world_of (value_of state.old)) node client count) }
     ensures few { IfOk result (λ count. count ≤ wanted) }

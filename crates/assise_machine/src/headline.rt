@@ -20,10 +20,11 @@ pub fn headline<C: Revokes + Drop>(cluster: &ClusterOf<C>)
     // took, and a failure takes nothing but tails of its node's clients, each behind the client's last answered sync.
     ensures legal { IsLegal (history_of cluster.now) }
 
-    // Some node is up, and each that is has, alone, the tree of all replicated calls: its region gives it with the acknowledged numbers.
+    // Some node is up, and each that is has, alone, the tree of all replicated calls: its region gives it with the replicated numbers.
     ensures some_up { (n : ℕ) × IsUp cluster.now n }
     ensures alone { (n : ℕ) → IsUp cluster.now n →
-        Spells (alone (region_of cluster.now n) (all_acked cluster.now)) (tree_after opening (replicated_calls cluster.now)) }
+        Spells (alone (region_of cluster.now n) (all_acked cluster.now))
+        (tree_after opening (replicated_calls cluster.now)) }
 
     // Each client's calls are replicated up to its last answered sync.
     ensures synced { (c : ℕ) → IsSynced cluster.now c }
@@ -36,5 +37,6 @@ pub fn headline<C: Revokes + Drop>(cluster: &ClusterOf<C>)
 /// An inode is handed over only once what its client wrote is safe: all kept calls that changed an inode are replicated, where their
 /// client has no lease to write it.
 pub fn what_is_handed_over_is_replicated<C: Revokes + Drop>(cluster: &ClusterOf<C>)
-    ensures handed_over { (c i : ℕ) → has_write_lease cluster.now c i ≡ false → AreReplicated cluster.now c i }
+    ensures handed_over { (c i : ℕ) → has_write_lease cluster.now c i ≡ false →
+        AreReplicated cluster.now c i }
 {}

@@ -1,9 +1,8 @@
 // How many inodes may be hot at a node.
 ghost use Rattle.std.specs.Prelude.{◌≡◌, ◌<◌, ◌≤◌, ◌↔◌, Err, IfSome, IsSome, OnErr, OnOk};
 ghost use Rattle.assise_names.specs.declared.refusal.Refusal.TheVariants.{OutOfMemory};
-ghost use Rattle.assise_lease_table.specs.Tables.{SameRevokers};
-ghost use Rattle.assise_lease_tree.specs.Trees.{stored_by};
-ghost use Rattle.assise_machine_events.specs.NodeEvents.{SettingHot};
+ghost use Rattle.assise_lease_tree.specs.Trees.{KeepsRevokers};
+ghost use Rattle.assise_model_events.specs.NodeEvents.{SettingHot};
 ghost use Rattle.assise_machine_state.specs.NodeValues.{region_seen, with_hot_in};
 ghost use Rattle.assise_machine_state.specs.Whole.{machine_of};
 ghost use Rattle.assise_machine.specs.Answers.{setting_answer};
@@ -63,8 +62,7 @@ pub(crate) fn set_hot<C: Revokes + Drop>(
     ensures kept { OnErr result (sound.new.state.nodes ≡ sound.old.state.nodes) }
     ensures asked { result ≡ Err OutOfMemory →
         capacity < (region_seen sound.old.state.nodes node).capacity }
-    ensures revokers { SameRevokers (stored_by sound.old.state.leases)
-        (stored_by sound.new.state.leases) }
+    ensures revokers { KeepsRevokers sound.old.state.leases sound.new.state.leases }
 {
     let state = &mut sound.state;
     if let Some(refusal) = node_refusal(state, node) {

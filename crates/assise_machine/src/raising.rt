@@ -1,7 +1,6 @@
 // Nodes that are raised to the next version of frames.
-ghost use Rattle.assise_lease_table.specs.Tables.{SameRevokers};
-ghost use Rattle.assise_lease_tree.specs.Trees.{stored_by};
-ghost use Rattle.assise_machine_events.specs.MemberEvents.{Raising};
+ghost use Rattle.assise_lease_tree.specs.Trees.{KeepsRevokers};
+ghost use Rattle.assise_model_events.specs.MemberEvents.{Raising};
 ghost use Rattle.assise_machine_state.specs.Whole.{machine_of};
 ghost use Rattle.assise_machine.specs.Answers.{raising_answer};
 
@@ -15,8 +14,7 @@ use assise_names::refusal::Refusal;
 pub(crate) fn raise<C: Revokes + Drop>(sound: &mut SoundOf<C>, node: u32) -> Result<(), Refusal>
     ensures happens { Raising (machine_of sound.old.state) node (raising_answer result)
         (machine_of sound.new.state) }
-    ensures revokers { SameRevokers (stored_by sound.old.state.leases)
-        (stored_by sound.new.state.leases) }
+    ensures revokers { KeepsRevokers sound.old.state.leases sound.new.state.leases }
 {
     sound.state.members.raise(node)
 }

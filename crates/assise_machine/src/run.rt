@@ -5,7 +5,7 @@ ghost use Rattle.assise_names.specs.declared.call.Op.{Op};
 ghost use Rattle.assise_names.specs.declared.refusal.Refusal.TheVariants.{OutOfMemory};
 ghost use Rattle.assise_lease_table.specs.Tables.{SameRevokers};
 ghost use Rattle.assise_machine_calls.specs.Asked.{CutsAreAnswers};
-ghost use Rattle.assise_machine_events.specs.Events.{all_entries, open_client, opened, try_call};
+ghost use Rattle.assise_model_events.specs.Events.{all_entries, open_client, opened, try_call};
 ghost use Rattle.assise_machine.specs.Clusters.{machine, revokers};
 ghost use Rattle.assise_machine.specs.Headline.{history_after, history_of, kept_below, regions_of, replicated_calls, replicated_to};
 ghost use Rattle.assise_machine.specs.Running.{AllApplied, AllServed, IsServed, all_opened, answer_seen, event_seen, last_first, opened_answer, stock_after, stock_left, stocked, told};
@@ -28,29 +28,36 @@ pub fn run<C: Revokes + Drop>(
     events: &[Event],
     stock: &mut Vec<C>,
 ) -> Result<Vec<Answer>, Refusal>
-    ensures served { IfOk result (λ answers. AllServed (length stock.old.items) (machine cluster.old) (told events.now answers.items) (machine cluster.new)) }
+    ensures served { IfOk result (λ answers. AllServed (length stock.old.items)
+        (machine cluster.old) (told events.now answers.items) (machine cluster.new)) }
     ensures answered { IfOk result (λ answers. length answers.items ≡ length events.now) }
 
     // Whom each open gives the last revoker of the stock, and whose answer each cut of a lease is that a call froze.
     ensures applied { IfOk result (λ answers. AllApplied C.answers
-        (stocked cluster.old stock.old.items) (told events.now answers.items) (stocked cluster.new stock.new.items)) }
+        (stocked cluster.old stock.old.items) (told events.now answers.items)
+        (stocked cluster.new stock.new.items)) }
 
-    ensures extends { IfOk result (λ answers. (machine cluster.new).history ≡ (machine cluster.old).history ++ all_entries (machine cluster.old).history (told events.now answers.items)) }
+    ensures extends { IfOk result (λ answers. (machine cluster.new).history ≡
+        (machine cluster.old).history ++ all_entries (machine cluster.old).history
+        (told events.now answers.items)) }
 
     // The history gets exactly the entries of the answers, and no node goes or comes.
-    ensures grows { IfOk result (λ answers. history_of cluster.new ≡ history_after (history_of cluster.old) events.now answers.items) }
+    ensures grows { IfOk result (λ answers. history_of cluster.new ≡ history_after
+        (history_of cluster.old) events.now answers.items) }
     ensures nodes { length (regions_of cluster.new) ≡ length (regions_of cluster.old) }
 
     // No replicated call is lost again: no client's bound falls, and below the old bounds the kept calls are those of before.
     ensures never_falls { (c : ℕ) → replicated_to cluster.old c ≤ replicated_to cluster.new c }
-    ensures lasting { kept_below (replicated_to cluster.old) (history_of cluster.new) ≡ replicated_calls cluster.old }
+    ensures lasting { kept_below (replicated_to cluster.old) (history_of cluster.new) ≡
+        replicated_calls cluster.old }
 
-    ensures stock { IfOk result (λ answers. length stock.new.items ≡ stock_left (length stock.old.items) (told events.now answers.items)) }
-    ensures front { stock.new.items ≡ take (length stock.new.items) stock.old.items }
+    ensures stock { IfOk result (λ answers. length stock.new.items ≡ stock_left
+        (length stock.old.items) (told events.now answers.items)) }
+    ensures prefix { stock.new.items ≡ take (length stock.new.items) stock.old.items }
 
     // What went from the stock the opened clients store, the last revoker the first of them. All other clients store what they did.
-    ensures gets { IfOk result (λ answers. stock.old.items ≡
-        stock.new.items ++ last_first (revokers cluster.new) (all_opened (told events.now answers.items))) }
+    ensures gets { IfOk result (λ answers. stock.old.items ≡ stock.new.items ++ last_first
+        (revokers cluster.new) (all_opened (told events.now answers.items))) }
     ensures others { IfOk result (λ answers.
         (c : ℕ) → (Contains (all_opened (told events.now answers.items)) c → ⊥) →
         revokers cluster.new c ≡ revokers cluster.old c) }
@@ -69,20 +76,25 @@ pub fn run<C: Revokes + Drop>(
 }
 
 /// One event with its answer. A client that is opened is asked by the last revoker of the stock, and all others as before. Where a
-/// call freezes a lease, its cut is what the revoker that its holder stored answers.
+/// call revokes a lease, its cut is what the revoker that its holder stored answers.
 pub fn apply_event<C: Revokes + Drop>(
     alloc: Global,
     cluster: &mut ClusterOf<C>,
     event: &Event,
     stock: &mut Vec<C>,
 ) -> Answer
-    ensures served { IsServed (length stock.old.items) (machine cluster.old) (event_seen event.now) (answer_seen result) (machine cluster.new) }
-    ensures stock { length stock.new.items ≡ stock_after (length stock.old.items) (answer_seen result) }
-    ensures front { stock.new.items ≡ take (length stock.new.items) stock.old.items }
-    ensures gets { (c : ℕ) → answer_seen result ≡ opened c → stock.old.items ≡ stock.new.items ++ option_to_list (revokers cluster.new c) }
-    ensures others { (c : ℕ) → (answer_seen result ≡ opened c → ⊥) → revokers cluster.new c ≡ revokers cluster.old c }
+    ensures served { IsServed (length stock.old.items) (machine cluster.old) (event_seen event.now)
+        (answer_seen result) (machine cluster.new) }
+    ensures stock { length stock.new.items ≡ stock_after (length stock.old.items)
+        (answer_seen result) }
+    ensures prefix { stock.new.items ≡ take (length stock.new.items) stock.old.items }
+    ensures gets { (c : ℕ) → answer_seen result ≡ opened c →
+        stock.old.items ≡ stock.new.items ++ option_to_list (revokers cluster.new c) }
+    ensures others { (c : ℕ) → (answer_seen result ≡ opened c → ⊥) →
+        revokers cluster.new c ≡ revokers cluster.old c }
     ensures cuts { (c : ℕ) (op : Op) → event_seen event.now ≡ try_call c op →
-        CutsAreAnswers C.answers (revokers cluster.old) (machine cluster.old) (machine cluster.new) }
+        CutsAreAnswers C.answers (revokers cluster.old) (machine cluster.old)
+        (machine cluster.new) }
 {
     match event {
         Event::Open(node, durability) => {
@@ -116,11 +128,15 @@ pub fn open_next<C: Revokes + Drop>(
 ) -> Result<u32, Refusal>
     ensures served { IsServed (length stock.old.items) (machine cluster.old)
         (open_client node durability) (opened_answer result) (machine cluster.new) }
-    ensures stock { length stock.new.items ≡ stock_after (length stock.old.items) (opened_answer result) }
+    ensures stock { length stock.new.items ≡ stock_after (length stock.old.items)
+        (opened_answer result) }
     ensures refused { OnErr result (stock.new.items ≡ stock.old.items) }
-    ensures opened { OnOk result (stock.new.items ≡ take (length stock.old.items - 1) stock.old.items) }
-    ensures gets { (c : ℕ) → opened_answer result ≡ opened c → stock.old.items ≡ stock.new.items ++ option_to_list (revokers cluster.new c) }
-    ensures others { (c : ℕ) → (opened_answer result ≡ opened c → ⊥) → revokers cluster.new c ≡ revokers cluster.old c }
+    ensures opened { OnOk result (stock.new.items ≡ take
+        (length stock.old.items - 1) stock.old.items) }
+    ensures gets { (c : ℕ) → opened_answer result ≡ opened c →
+        stock.old.items ≡ stock.new.items ++ option_to_list (revokers cluster.new c) }
+    ensures others { (c : ℕ) → (opened_answer result ≡ opened c → ⊥) →
+        revokers cluster.new c ≡ revokers cluster.old c }
 {
     let Some(revoker) = stock.pop() else {
         return Err(cluster.open_refusal(node).unwrap_or(Refusal::BadClient));

@@ -8,18 +8,18 @@ use Rattle.assise_names.specs.declared.durability.Durability.TheVariants.{Pessim
 use Rattle.assise_private_log.specs.NumberedLog.{NumberedLog}
 use Rattle.assise_lease_table.specs.Answers.{IsRaisedAnswer}
 use Rattle.assise_lease_table.specs.Tables.{SameRevokers}
-use Rattle.assise_lease_tree.specs.Levels.{is_frozen}
-use Rattle.assise_machine_leases.specs.Leases.{Leases, client_lease}
-use Rattle.assise_machine_events.specs.ClientEvents.{Syncing, is_noted, is_refused, is_replicating, is_synced, lacks_memory}
-use Rattle.assise_machine_events.specs.Dsyncs.{is_coalesced, is_refused, is_synced, lacks_memory}
-use Rattle.assise_machine_events.specs.Events.{Answer}
-use Rattle.assise_machine_events.specs.Happenings.{Dsyncing, Fsyncing}
-use Rattle.assise_machine_events.specs.Machine.{Machine}
+use Rattle.assise_lease_tree.specs.Levels.{is_revoked}
+use Rattle.assise_model_leases.specs.Leases.{Leases, client_lease}
+use Rattle.assise_model_events.specs.ClientEvents.{Syncing, is_noted, is_refused, is_replicating, is_synced, lacks_memory}
+use Rattle.assise_model_events.specs.Dsyncs.{is_coalesced, is_refused, is_synced, lacks_memory}
+use Rattle.assise_model_events.specs.Events.{Answer}
+use Rattle.assise_model_events.specs.Happenings.{Dsyncing, Fsyncing}
+use Rattle.assise_model_events.specs.Machine.{Machine}
 use Rattle.assise_machine_calls.specs.Asked.{CutsAreAnswers, clients_log}
 
--- the same leases are frozen
-abbrev pub KeepsFrozen : Leases → Leases → Type 0
-KeepsFrozen l l' = (c i : ℕ) → is_frozen (client_lease l' c i) ≡ is_frozen (client_lease l c i)
+-- the same leases are revoked
+abbrev pub KeepsRevoked : Leases → Leases → Type 0
+KeepsRevoked l l' = (c i : ℕ) → is_revoked (client_lease l' c i) ≡ is_revoked (client_lease l c i)
 
 -- a sync leaves leases as they are, and so does an fsync that waits for nothing
 sync_leases : (m m' : Machine) (c : ℕ) (op : Op) (a : Answer) → Syncing m c op a m' → m'.leases ≡ m.leases
@@ -43,21 +43,21 @@ dsync_leases m m' c Optimistic a (lacks_memory fine is same) = ap (λ x. x.lease
 dsync_leases m m' c Optimistic a (is_refused r fault is same) = ap (λ x. x.leases) same
 
 module _ {C : Type 0} (answers : C → NumberedLog → ℕ → ℕ → Type 0) where
-  -- nothing is frozen
-  pub nothing_frozen : (stored : ℕ → Option C) (m m' : Machine) → KeepsFrozen m.leases m'.leases → CutsAreAnswers answers stored m m'
-  nothing_frozen stored m m' same c i fresh =
-      let parts = and_parts (not (is_frozen (client_lease m.leases c i))) (is_frozen (client_lease m'.leases c i)) fresh in
-      absurd (true≢false (sym parts.1 ∙ same c i ∙ not-true (is_frozen (client_lease m.leases c i)) parts.0))
+  -- nothing is revoked
+  pub nothing_revoked : (stored : ℕ → Option C) (m m' : Machine) → KeepsRevoked m.leases m'.leases → CutsAreAnswers answers stored m m'
+  nothing_revoked stored m m' same c i fresh =
+      let parts = and_parts (not (is_revoked (client_lease m.leases c i))) (is_revoked (client_lease m'.leases c i)) fresh in
+      absurd (true≢false (sym parts.1 ∙ same c i ∙ not-true (is_revoked (client_lease m.leases c i)) parts.0))
 
   -- or it is once leases were got
-  pub frozen_later : (stored kept : ℕ → Option C) (m v m' : Machine) → KeepsFrozen m.leases v.leases → ((c : ℕ) → clients_log v c ≡ clients_log m c) → SameRevokers stored kept →
+  pub revoked_later : (stored kept : ℕ → Option C) (m v m' : Machine) → KeepsRevoked m.leases v.leases → ((c : ℕ) → clients_log v c ≡ clients_log m c) → SameRevokers stored kept →
       CutsAreAnswers answers kept v m' → CutsAreAnswers answers stored m m'
-  frozen_later stored kept m v m' same logs stays cuts c i fresh =
-      let found = cuts c i (subst (λ b. (not b && is_frozen (client_lease m'.leases c i)) ≡ true) (sym (same c i)) fresh) in
+  revoked_later stored kept m v m' same logs stays cuts c i fresh =
+      let found = cuts c i (subst (λ b. (not b && is_revoked (client_lease m'.leases c i)) ≡ true) (sym (same c i)) fresh) in
       (found.0, sym (stays c) ∙ found.1, subst (λ l. IsRaisedAnswer answers found.0 l i (m'.leases.cut c i)) (logs c) found.2)
 
-  pub dsync_freezes_nothing : (stored : ℕ → Option C) (m m' : Machine) (c : ℕ) (u : Durability) (a : Answer) → Dsyncing u m c a m' → CutsAreAnswers answers stored m m'
-  dsync_freezes_nothing stored m m' c u a e = nothing_frozen stored m m' (λ d i. ap (λ l. is_frozen (client_lease l d i)) (dsync_leases m m' c u a e))
+  pub dsync_revokes_nothing : (stored : ℕ → Option C) (m m' : Machine) (c : ℕ) (u : Durability) (a : Answer) → Dsyncing u m c a m' → CutsAreAnswers answers stored m m'
+  dsync_revokes_nothing stored m m' c u a e = nothing_revoked stored m m' (λ d i. ap (λ l. is_revoked (client_lease l d i)) (dsync_leases m m' c u a e))
 
-  pub fsync_freezes_nothing : (stored : ℕ → Option C) (m m' : Machine) (c : ℕ) (u : Durability) (a : Answer) → Fsyncing u m c a m' → CutsAreAnswers answers stored m m'
-  fsync_freezes_nothing stored m m' c u a e = nothing_frozen stored m m' (λ d i. ap (λ l. is_frozen (client_lease l d i)) (fsync_leases m m' c u a e))
+  pub fsync_revokes_nothing : (stored : ℕ → Option C) (m m' : Machine) (c : ℕ) (u : Durability) (a : Answer) → Fsyncing u m c a m' → CutsAreAnswers answers stored m m'
+  fsync_revokes_nothing stored m m' c u a e = nothing_revoked stored m m' (λ d i. ap (λ l. is_revoked (client_lease l d i)) (fsync_leases m m' c u a e))

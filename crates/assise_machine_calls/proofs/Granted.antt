@@ -6,14 +6,14 @@ use Rattle.assise_names.specs.declared.reply.Reply.{Reply}
 use Rattle.assise_inode_table.specs.Effects.{contains}
 use Rattle.assise_inode_table.specs.Numbers.{inode_number}
 use Rattle.assise_inode_table.specs.Traces.{NumberedCall}
-use Rattle.assise_machine_laws.specs.World.{World}
-use Rattle.assise_machine_leases.specs.Handing.{Grants}
-use Rattle.assise_machine_leases.specs.Leases.{Leases}
-use Rattle.assise_machine_returns.specs.Returns.{OtherAreasStay}
-use Rattle.assise_machine_events.specs.ClientEvents.{Calling, Gets, Granted, IsAnswered, IsAwaited, IsFull, IsMissing, IsSpent, IsTried, KeepsGranted, call_of_client, is_answered, is_awaited, is_full, is_refused, is_spent, lacks_memory}
-use Rattle.assise_machine_events.specs.Events.{Answer}
-use Rattle.assise_machine_events.specs.Faults.{call_fault}
-use Rattle.assise_machine_events.specs.Machine.{Machine}
+use Rattle.assise_model_world.specs.World.{World}
+use Rattle.assise_model_leases.specs.Handing.{Grants}
+use Rattle.assise_model_leases.specs.Leases.{Leases}
+use Rattle.assise_model_members.specs.Returns.{OtherAreasStay}
+use Rattle.assise_model_events.specs.ClientEvents.{Calling, Gets, Granted, IsAnswered, IsAwaited, IsFull, IsMissing, IsSpent, IsTried, KeepsGranted, call_of_client, is_answered, is_awaited, is_full, is_refused, is_spent, lacks_memory}
+use Rattle.assise_model_events.specs.Events.{Answer}
+use Rattle.assise_model_events.specs.Faults.{call_fault}
+use Rattle.assise_model_events.specs.Machine.{Machine}
 use Rattle.assise_machine_calls.specs.Leasing.{next_call}
 
 -- the machine with other leases, and all that is seen of them

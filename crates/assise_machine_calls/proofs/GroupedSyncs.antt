@@ -7,30 +7,30 @@ use Rattle.assise_record.specs.Groups.{AllHaveEffects}
 use Rattle.assise_private_log.specs.NumberedLog.{IsNumberedLog, end as log_end, records_from}
 use Rattle.assise_digest.specs.Region.{RegionValue, regrouped_from}
 use Rattle.assise_manager.specs.Standings.{full_nodes}
-use Rattle.assise_machine_laws.specs.Sound.{IsSound}
-use Rattle.assise_machine_laws.specs.World.{end, received_by_all}
-use Rattle.assise_machine_events.specs.ClientEvents.{Syncing, is_refused, is_replicating, is_synced, lacks_memory}
-use Rattle.assise_machine_events.specs.Dsyncs.{Coalescing, coalesced_from, is_coalesced, is_refused, is_synced, lacks_memory}
-use Rattle.assise_machine_events.specs.Events.{Answer, not_yet}
-use Rattle.assise_machine_events.specs.Faults.{client_fault}
-use Rattle.assise_machine_events.specs.Machine.{Holds, Machine}
-use Rattle.assise_machine_events.proofs.Dsyncing.{coalesced_holds}
-use Rattle.assise_machine_events.proofs.Regroupable.{coalesced_high}
+use Rattle.assise_model_world.specs.Invariant.{WorldInvariant}
+use Rattle.assise_model_world.specs.World.{end_of_log, received_by_all}
+use Rattle.assise_model_events.specs.ClientEvents.{Syncing, is_refused, is_replicating, is_synced, lacks_memory}
+use Rattle.assise_model_events.specs.Dsyncs.{Coalescing, coalesced_from, is_coalesced, is_refused, is_synced, lacks_memory}
+use Rattle.assise_model_events.specs.Events.{Answer, not_yet}
+use Rattle.assise_model_events.specs.Faults.{client_fault}
+use Rattle.assise_model_events.specs.Machine.{MachineInvariant, Machine}
+use Rattle.assise_model_events.proofs.DsyncKeeps.{coalesced_holds}
+use Rattle.assise_model_events.proofs.Regroupable.{coalesced_high}
 use Rattle.assise_machine_state.specs.Changes.{after_coalescing, after_regrouping}
 use Rattle.assise_machine_state.specs.ClientValues.{ClientValue, client_in, client_seen, cut_of, with_client, with_goal}
 use Rattle.assise_machine_state.specs.NodeValues.{HasLog, log_in, log_seen, with_log_in}
 use Rattle.assise_machine_state.specs.Observed.{is_full_in, observed, own_seen, world_of}
 use Rattle.assise_machine_state.specs.Places.{IsNumber}
-use Rattle.assise_machine_state.specs.Shape.{AreNoted, IsShaped}
+use Rattle.assise_machine_state.specs.Invariant.{CutsInvariant, ShapeInvariant}
 use Rattle.assise_machine_state.specs.StateValues.{StateValue, leases_of, standings}
 use Rattle.assise_machine_state.proofs.CoalescingSeen.{coalesced_groups, coalesced_none, coalesced_shape, coalescing_areas, coalescing_noted, regrouped_shape}
 use Rattle.assise_machine_state.proofs.Fullness.{has_log, home_full, lives_unfailed, log_is, seen_full}
-use Rattle.assise_machine_state.proofs.Owning.{own_end, own_of_unfailed}
-use Rattle.assise_machine_state.proofs.Seeing.{client_is, client_same}
-use Rattle.assise_machine_calls.proofs.Syncing.{Gives, fine_lives, fine_number}
+use Rattle.assise_machine_state.proofs.OwnLogs.{own_end, own_of_unfailed}
+use Rattle.assise_machine_state.proofs.ItemSeen.{client_is, client_same}
+use Rattle.assise_machine_calls.proofs.SyncChanges.{Gives, fine_lives, fine_number}
 
 -- a sync that all full nodes have all for coalesces nothing
-pub as_coalescing : (m m' : Machine) (c : ℕ) (a : Answer) → received_by_all m.world c ≡ end m.world c → Syncing m c Dsync a m' → Coalescing m c a m'
+pub as_coalescing : (m m' : Machine) (c : ℕ) (a : Answer) → received_by_all m.world c ≡ end_of_log m.world c → Syncing m c Dsync a m' → Coalescing m c a m'
 as_coalescing m m' c a all (is_synced reply fine is e) = is_synced reply fine is e
 as_coalescing m m' c a all (is_replicating fine is e) = (let less = e.lacking in absurd (omega (arith, all, less)))
 as_coalescing m m' c a all (lacks_memory fine have is same) = lacks_memory fine is same
@@ -39,11 +39,11 @@ as_coalescing m m' c a all (is_refused r fault is same) = is_refused r fault is 
 abbrev pub CoalescesTo : StateValue → ℕ → Answer → StateValue → Type 0
 CoalescesTo s c a s' = Coalescing (observed s) c a (observed s')
 
-pub lacking_seen : (s : StateValue) (c : ℕ) → received_by_all (observed s).world c < end (observed s).world c → received_by_all (world_of s) c < end (world_of s) c
+pub lacking_seen : (s : StateValue) (c : ℕ) → received_by_all (observed s).world c < end_of_log (observed s).world c → received_by_all (world_of s) c < end_of_log (world_of s) c
 unfolding observed
 lacking_seen s c less = less
 
-module _ (s : StateValue) (c : ℕ) (shape : IsShaped s) (fine : client_fault (observed s) c ≡ None) where
+module _ (s : StateValue) (c : ℕ) (shape : ShapeInvariant s) (fine : client_fault (observed s) c ≡ None) where
   there : IsNumber s.clients c
   there = fine_number s c fine
 
@@ -67,27 +67,27 @@ module _ (s : StateValue) (c : ℕ) (shape : IsShaped s) (fine : client_fault (o
     unfolding own_seen
     own_at_home = sym (log_is s home c home_log) ∙ ap (λ n. log_seen s.nodes n c) (home_seen ∙ sym (own_of_unfailed (standings s) (client_seen s.clients c) unfailed))
 
-    own_ends : end (world_of s) c ≡ log_end (own_seen s c).log
-    unfolding world_of end
+    own_ends : end_of_log (world_of s) c ≡ log_end (own_seen s c).log
+    unfolding world_of end_of_log
     own_ends = refl
 
     digested_is : (world_of s).digested home c ≡ (log_in s.nodes home c).digested
     unfolding world_of
     digested_is = ap (λ x. x.digested) (log_is s home c home_log)
 
-    module _ (holds : ∥ Holds (observed s) ∥₁) (from : ℕ) (from_is : from ≡ coalesced_from (world_of s) c) where
-      sound : ∥ IsSound (world_of s) ∥₁
+    module _ (holds : ∥ MachineInvariant (observed s) ∥₁) (from : ℕ) (from_is : from ≡ coalesced_from (world_of s) c) where
+      sound : ∥ WorldInvariant (world_of s) ∥₁
       unfolding observed
       sound = ∥∥₁_map holds (λ h. h.sound)
 
       pub from_high : from ≤ log_end (log_in s.nodes home c).log
       from_high =
-          let known : coalesced_from (world_of s) c ≤ end (world_of s) c = ∥∥₁_elim sound (search props) (λ h. coalesced_high (world_of s) c h) in
+          let known : coalesced_from (world_of s) c ≤ end_of_log (world_of s) c = ∥∥₁_elim sound (search props) (λ h. coalesced_high (world_of s) c h) in
           omega (arith, known, from_is, own_ends, ap (λ x. log_end x.log) own_at_home)
 
       pub from_digested : (log_in s.nodes home c).digested ≤ from
       from_digested =
-          let known : (world_of s).digested home c ≤ received_by_all (world_of s) c = ∥∥₁_elim sound (search props) (λ h. (h.coherent.order home c (seen_full s home full_home)).acknowledged) in
+          let known : (world_of s).digested home c ≤ received_by_all (world_of s) c = ∥∥₁_elim sound (search props) (λ h. (h.coherent.order home c (seen_full s home full_home)).replicated) in
           omega (arith, known, from_is, digested_is)
 
       module _ (law : IsNumberedLog (log_in s.nodes home c).log) where
@@ -109,7 +109,7 @@ module _ (s : StateValue) (c : ℕ) (shape : IsShaped s) (fine : client_fault (o
         pub still_log : (nodes : List RegionValue) → nodes ≡ with_log_in s.nodes home c (regrouped_from (log_in s.nodes home c) from) → HasLog nodes home c
         still_log nodes is = subst (λ rs. HasLog rs home c) (sym (nodes_same nodes is)) (has_log t home c (regrouped_shape s c shape sound lives own_law) full_home there)
 
-        end_then : (nodes : List RegionValue) → nodes ≡ t.nodes → 0 < length (full_nodes (standings s)) → end (world_of t) c ≡ log_end (log_in nodes home c).log
+        end_then : (nodes : List RegionValue) → nodes ≡ t.nodes → 0 < length (full_nodes (standings s)) → end_of_log (world_of t) c ≡ log_end (log_in nodes home c).log
         end_then nodes is some =
             own_end t c (regrouped_shape s c shape sound lives own_law) there some
             ∙ ap (λ n. log_end (log_in t.nodes n c).log) (own_of_unfailed (standings s) (client_in s.clients c) (ap (λ y. y.failed) (sym (client_is s.clients c there)) ∙ unfailed) ∙ sym home_is)
@@ -117,12 +117,12 @@ module _ (s : StateValue) (c : ℕ) (shape : IsShaped s) (fine : client_fault (o
 
         leases_same : leases_of (after_coalescing s c start) ≡ leases_of s
         unfolding leases_of
-        leases_same = λ i. record { levels = s.levels; cut = λ d j. client_same (λ y. cut_of s.cuts d y j) s.clients c (with_goal (end (world_of t) c) (client_in s.clients c)) refl d i }
+        leases_same = λ i. record { levels = s.levels; cut = λ d j. client_same (λ y. cut_of s.cuts d y j) s.clients c (with_goal (end_of_log (world_of t) c) (client_in s.clients c)) refl d i }
 
         there_effects : AllHaveEffects (records_from (log_in s.nodes home c).log from) → AllHaveEffects (records_from (own_seen s c).log start)
         there_effects some = subst (λ k. AllHaveEffects (records_from (own_seen s c).log k)) from_is (subst (λ x. AllHaveEffects (records_from x.log from)) own_at_home some)
 
-        coalesced : received_by_all (world_of s) c < end (world_of s) c → AllHaveEffects (records_from (log_in s.nodes home c).log from) → CoalescesTo s c not_yet (after_coalescing s c start)
+        coalesced : received_by_all (world_of s) c < end_of_log (world_of s) c → AllHaveEffects (records_from (log_in s.nodes home c).log from) → CoalescesTo s c not_yet (after_coalescing s c start)
         unfolding observed
         coalesced lacking some = is_coalesced fine refl (record {
           lacking = lacking;
@@ -133,12 +133,12 @@ module _ (s : StateValue) (c : ℕ) (shape : IsShaped s) (fine : client_fault (o
           keeps = record { members = refl; others = coalescing_areas s c start };
         })
 
-        pub coalesced_given : AreNoted s → received_by_all (world_of s) c < end (world_of s) c → AllHaveEffects (records_from (log_in s.nodes home c).log from) → 0 < length (full_nodes (standings s)) →
+        pub coalesced_given : CutsInvariant s → received_by_all (world_of s) c < end_of_log (world_of s) c → AllHaveEffects (records_from (log_in s.nodes home c).log from) → 0 < length (full_nodes (standings s)) →
             (nodes : List RegionValue) (place : ℕ) (cs : List ClientValue) → nodes ≡ with_log_in s.nodes home c (regrouped_from (log_in s.nodes home c) from) → place ≡ log_end (log_in nodes home c).log →
             cs ≡ with_client s.clients c (with_goal place (client_in s.clients c)) → Gives (CoalescesTo s c not_yet) (record s { nodes = nodes; clients = cs })
         coalesced_given noted lacking some full nodes place cs nodes_are place_is clients_are =
             let same : nodes ≡ t.nodes = nodes_same nodes nodes_are in
-            let to : place ≡ end (world_of t) c = place_is ∙ sym (end_then nodes same full) in
+            let to : place ≡ end_of_log (world_of t) c = place_is ∙ sym (end_then nodes same full) in
             let clients_same : cs ≡ (after_coalescing s c start).clients = clients_are ∙ ap (λ k. with_client s.clients c (with_goal k (client_in s.clients c))) to in
             let happens = coalesced lacking some in
             subst (λ v. Gives (CoalescesTo s c not_yet) v) (λ i. record s { nodes = sym same i; clients = sym clients_same i })

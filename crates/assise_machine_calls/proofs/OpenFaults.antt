@@ -7,10 +7,10 @@ use Rattle.assise_names.specs.declared.limits.TheConstants.{MOST_CLIENTS}
 use Rattle.assise_manager.specs.Standings.{Standing, down, full, phase_of, returning, standing_of}
 use Rattle.assise_manager.specs.declared.phase.Phase.{Phase}
 use Rattle.assise_manager.specs.declared.phase.Phase.TheVariants.{Full}
-use Rattle.assise_machine_events.specs.Faults.{fault_if, open_fault, or_else, unless_full}
+use Rattle.assise_model_events.specs.Faults.{fault_if, open_fault, or_else, unless_full}
 use Rattle.assise_machine_state.specs.Observed.{is_full_in, observed, stands_full, world_of}
 use Rattle.assise_machine_state.specs.StateValues.{StateValue, standings}
-use Rattle.assise_machine_state.proofs.Asking.{away_refused, full_served, none_refused}
+use Rattle.assise_machine_state.proofs.NodesAway.{away_refused, full_served, none_refused}
 
 -- the fault, by what is known of the node and of how many clients there are
 fault_is : (s : StateValue) (n : ℕ) → open_fault (observed s) n ≡ or_else (unless_full NodeDown (standing_of (standings s) n)) (fault_if (nat_le MOST_CLIENTS (length s.clients)) BadClient)

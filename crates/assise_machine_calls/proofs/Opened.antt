@@ -5,33 +5,33 @@ use Rattle.std.proofs.Math.Logic.{∥∥₁_elim}
 use Rattle.std.proofs.lemmas.Bool.{cases_Bool, ne_eqb}
 use Rattle.std.proofs.lemmas.List.{length-append}
 use Rattle.assise_names.specs.declared.durability.Durability.{Durability}
-use Rattle.assise_history.specs.Entries.{Event, opens}
-use Rattle.assise_digest.specs.Region.{ReceivedLog, RegionValue, with_client}
+use Rattle.assise_history.specs.Entries.{EntryValue, opens}
+use Rattle.assise_digest.specs.Region.{ReceivedLog, RegionValue, region_with_client}
 use Rattle.assise_lease_tree.specs.TwoLevels.{EnrolsAt, SameLevels, TwoLevels}
-use Rattle.assise_machine_events.specs.ClientEvents.{Opening, is_opened}
-use Rattle.assise_machine_events.specs.Events.{opened}
-use Rattle.assise_machine_events.specs.Faults.{open_fault}
-use Rattle.assise_machine_events.specs.Machine.{Holds}
+use Rattle.assise_model_events.specs.ClientEvents.{Opening, is_opened}
+use Rattle.assise_model_events.specs.Events.{opened}
+use Rattle.assise_model_events.specs.Faults.{open_fault}
+use Rattle.assise_model_events.specs.Machine.{MachineInvariant}
 use Rattle.assise_machine_state.specs.Changes.{after_open}
 use Rattle.assise_machine_state.specs.ClientValues.{ClientValue, opened_on}
 use Rattle.assise_machine_state.specs.NodeValues.{begun_log, no_region, region_seen, with_logs_begun, with_logs_ended, without_log_of}
 use Rattle.assise_machine_state.specs.Observed.{is_full_in, observed, world_of}
-use Rattle.assise_machine_state.specs.Places.{at}
-use Rattle.assise_machine_state.specs.Shape.{AreNoted, IsShaped}
+use Rattle.assise_machine_state.specs.Places.{item_at}
+use Rattle.assise_machine_state.specs.Invariant.{CutsInvariant, ShapeInvariant}
 use Rattle.assise_machine_state.specs.StateValues.{StateValue, leases_of, standings}
 use Rattle.assise_machine_state.proofs.Fullness.{seen_full}
-use Rattle.assise_machine_state.proofs.Opening.{open_areas, open_seen, open_shaped}
+use Rattle.assise_machine_state.proofs.OpenObserved.{open_areas, open_seen, open_shaped}
 use Rattle.assise_machine_calls.specs.Answers.{begun_at}
 use Rattle.assise_machine_calls.proofs.OpenFaults.{fine_full}
 
 -- ---- the event
 
-module _ (s : StateValue) (n : ℕ) (u : Durability) (levels : TwoLevels) (shape : IsShaped s) (fine : open_fault (observed s) n ≡ None) where
+module _ (s : StateValue) (n : ℕ) (u : Durability) (levels : TwoLevels) (shape : ShapeInvariant s) (fine : open_fault (observed s) n ≡ None) where
   same_next : suc (length s.clients) ≡ suc (world_of s).clients
   unfolding world_of
   same_next = refl
 
-  pub is_event : AreNoted s → EnrolsAt s.levels levels (suc (length s.clients)) n → Opening (observed s) n u (opened (suc (length s.clients))) (observed (after_open s n u levels))
+  pub is_event : CutsInvariant s → EnrolsAt s.levels levels (suc (length s.clients)) n → Opening (observed s) n u (opened (suc (length s.clients))) (observed (after_open s n u levels))
   unfolding observed
   is_event noted enrols =
       is_opened fine (ap opened same_next) record {
@@ -40,22 +40,22 @@ module _ (s : StateValue) (n : ℕ) (u : Durability) (levels : TwoLevels) (shape
         keeps = record { members = refl; others = open_areas s n u levels };
       }
 
-  pub keeps_shape : IsShaped (after_open s n u levels)
+  pub keeps_shape : ShapeInvariant (after_open s n u levels)
   keeps_shape = open_shaped s n u levels shape (seen_full s n (fine_full s n fine))
 
 -- ---- what was begun ends
 
-last_gone : (r : RegionValue) (l : ReceivedLog) (c : ℕ) → length r.logs ≡ c → without_log_of (suc c) (with_client r l) ≡ r
+last_gone : (r : RegionValue) (l : ReceivedLog) (c : ℕ) → length r.logs ≡ c → without_log_of (suc c) (region_with_client r l) ≡ r
 last_gone r l c all =
     let more : length (r.logs ++ l ∷ []) ≡ length r.logs + 1 = length-append r.logs (l ∷ []) in
     let longer : length (r.logs ++ l ∷ []) ≡ suc c = omega (arith, more, all) in
     let shorter : length (r.logs ++ l ∷ []) - 1 ≡ length r.logs = omega (arith, longer, all) in
     rw (eq-eqb (length (r.logs ++ l ∷ [])) (suc c) longer)
-    (ap (λ k. record r { logs = take k (r.logs ++ l ∷ []) }) shorter ∙ ap (λ ls. record r { logs = ls }) (front r.logs))
+    (ap (λ k. record r { logs = take k (r.logs ++ l ∷ []) }) shorter ∙ ap (λ ls. record r { logs = ls }) (prefix r.logs))
   where
-    front : (ls : List ReceivedLog) → take (length ls) (ls ++ l ∷ []) ≡ ls
-    front [] = refl
-    front (x ∷ ls) = ap (λ ms. x ∷ ms) (front ls)
+    prefix : (ls : List ReceivedLog) → take (length ls) (ls ++ l ∷ []) ≡ ls
+    prefix [] = refl
+    prefix (x ∷ ls) = ap (λ ms. x ∷ ms) (prefix ls)
 
 none_gone : (r : RegionValue) (c : ℕ) → length r.logs ≡ 0 → without_log_of (suc c) r ≡ r
 none_gone r c none = (let other : length r.logs ≢ suc c = λ same. absurd (omega (arith, none, same)) in rw (ne_eqb (length r.logs) (suc c) other) refl)
@@ -76,10 +76,10 @@ all_ended full limit home m c (r ∷ rs) have none =
     ]
 
 seen_at : (rs : List RegionValue) (i : ℕ) → region_seen rs (1 + i) ≡ get_or rs i no_region
-unfolding region_seen at
+unfolding region_seen item_at
 seen_at rs i = (let next : 1 + i ≡ suc i = omega arith in rw next refl)
 
-pub ended : (s : StateValue) (n : ℕ) → IsShaped s → with_logs_ended (with_logs_begun (is_full_in (standings s)) s.limit n 1 s.nodes) (suc (length s.clients)) ≡ s.nodes
+pub ended : (s : StateValue) (n : ℕ) → ShapeInvariant s → with_logs_ended (with_logs_begun (is_full_in (standings s)) s.limit n 1 s.nodes) (suc (length s.clients)) ≡ s.nodes
 ended s n shape =
     all_ended (is_full_in (standings s)) s.limit n 1 (length s.clients) s.nodes
     (λ i f low. ap (λ r. length r.logs) (sym (seen_at s.nodes i)) ∙ shape.logs (1 + i) f)
@@ -92,14 +92,14 @@ same_levels old new same = λ i. record { home = λ c. same.home c i; clients = 
 
 -- ---- what the laws keep
 
-pub stranger : (s : StateValue) → ∥ Holds (observed s) ∥₁ → s.levels.home (suc (length s.clients)) ≡ None
+pub stranger : (s : StateValue) → ∥ MachineInvariant (observed s) ∥₁ → s.levels.home (suc (length s.clients)) ≡ None
 unfolding observed leases_of world_of
 stranger s holds = ∥∥₁_elim holds (Coded-set (coded_option coded_ℕ) (s.levels.home (suc (length s.clients))) None) (λ h. h.leases.strangers (suc (length s.clients)) (λ is. absurd (omega (arith, is.1))))
 
 -- ---- what is left of the state
 
 -- nothing changed after all
-pub undone : (s v : StateValue) (n : ℕ) (nodes : List RegionValue) (levels : TwoLevels) → IsShaped s → v ≡ begun_at s n → nodes ≡ with_logs_ended v.nodes (suc (length s.clients)) → SameLevels v.levels levels →
+pub undone : (s v : StateValue) (n : ℕ) (nodes : List RegionValue) (levels : TwoLevels) → ShapeInvariant s → v ≡ begun_at s n → nodes ≡ with_logs_ended v.nodes (suc (length s.clients)) → SameLevels v.levels levels →
     record v { nodes = nodes; levels = levels } ≡ s
 undone s v n nodes levels shape begun gone same =
     let back : nodes ≡ s.nodes = gone ∙ ap (λ u. with_logs_ended u.nodes (suc (length s.clients))) begun ∙ ended s n shape in
@@ -107,7 +107,7 @@ undone s v n nodes levels shape begun gone same =
     λ i. record { nodes = back i; members = (begun i).members; clients = (begun i).clients; levels = held i; cuts = (begun i).cuts; history = (begun i).history; limit = (begun i).limit }
 
 -- the client is opened
-pub done : (s v : StateValue) (n : ℕ) (u : Durability) (clients : List ClientValue) (levels : TwoLevels) (history : List Event) → v ≡ begun_at s n → clients ≡ v.clients ++ opened_on n u ∷ [] →
+pub done : (s v : StateValue) (n : ℕ) (u : Durability) (clients : List ClientValue) (levels : TwoLevels) (history : List EntryValue) → v ≡ begun_at s n → clients ≡ v.clients ++ opened_on n u ∷ [] →
     history ≡ v.history ++ opens (suc (length s.clients)) n u ∷ [] → record v { clients = clients; levels = levels; history = history } ≡ after_open s n u levels
 done s v n u clients levels history begun more told =
     let all : clients ≡ s.clients ++ opened_on n u ∷ [] = more ∙ ap (λ x. x.clients ++ opened_on n u ∷ []) begun in

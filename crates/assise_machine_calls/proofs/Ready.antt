@@ -2,20 +2,20 @@
 use Rattle.std.proofs.Common.{◌≡◌, ◌⊎◌, inl, inr, ℕ, nat_le, Bool, true, false, not, ◌||◌, if◌then◌else◌, List, [], ◌∷◌, filter, None, refl, ap, sym, subst, ◌∙◌, true≢false}
 use Rattle.std.proofs.lemmas.Bool.{and_parts, cases_Bool, cases_eq, not-true, or_cases, or_left, or_right}
 use Rattle.assise_lease_table.specs.declared.lease.Asked.{Asked}
-use Rattle.assise_lease_table.specs.Leases.{lease_of, without}
-use Rattle.assise_lease_tree.specs.Levels.{is_frozen}
+use Rattle.assise_lease_table.specs.Leases.{lease_of, without_holder}
+use Rattle.assise_lease_tree.specs.Levels.{is_revoked}
 use Rattle.assise_lease_tree.proofs.Lookups.{without_other, without_own}
-use Rattle.assise_machine_laws.specs.World.{World, digested_by_all}
-use Rattle.assise_machine_leases.specs.Handing.{ReleasesReady}
-use Rattle.assise_machine_leases.specs.Leases.{Leases, client_lease}
-use Rattle.assise_machine_events.specs.NodeEvents.{Gone, LetsGo, is_ready, leases_after}
+use Rattle.assise_model_world.specs.World.{World, digested_by_all}
+use Rattle.assise_model_leases.specs.Handing.{ReleasesReady}
+use Rattle.assise_model_leases.specs.Leases.{Leases, client_lease}
+use Rattle.assise_model_events.specs.NodeEvents.{Gone, LetsGo, is_ready, leases_after}
 use Rattle.assise_machine_state.specs.ClientValues.{client_seen, cut_once_asked}
 use Rattle.assise_lease_table.specs.Cuts.{are_once, cut_in, is_asked, is_of}
 use Rattle.assise_machine_state.specs.Observed.{world_of}
-use Rattle.assise_machine_state.specs.Shape.{AreNoted}
+use Rattle.assise_machine_state.specs.Invariant.{CutsInvariant}
 use Rattle.assise_machine_state.specs.StateValues.{StateValue, leases_of}
 use Rattle.assise_machine_calls.specs.Releasing.{LetsSomeGo, is_early, is_ripe}
-use Rattle.assise_machine_calls.proofs.Releasing.{answer_parts}
+use Rattle.assise_machine_calls.proofs.RipeReleases.{answer_parts}
 
 -- ---- a lease stays, or goes
 
@@ -31,8 +31,8 @@ stays_or_went w w' l l' c i d j r =
           ]
     ]
   where
-    without_its : (m : Leases) (k c d : ℕ) → d ≡ c → lease_of (without c (m.levels.clients k)) d ≡ None
-    without_its m k c d own = subst (λ e. lease_of (without c (m.levels.clients k)) e ≡ None) (sym own) (without_own (m.levels.clients k) c)
+    without_its : (m : Leases) (k c d : ℕ) → d ≡ c → lease_of (without_holder c (m.levels.clients k)) d ≡ None
+    without_its m k c d own = subst (λ e. lease_of (without_holder c (m.levels.clients k)) e ≡ None) (sym own) (without_own (m.levels.clients k) c)
 
 left_or_went : (w : World) (l : Leases) (gs : List Gone) (d j : ℕ) → LetsGo w l gs → (client_lease (leases_after l gs) d j ≡ client_lease l d j) ⊎ (client_lease (leases_after l gs) d j ≡ None)
 left_or_went w l [] d j goes = inl refl
@@ -91,26 +91,26 @@ early_one e (x ∷ xs) d j once asked =
           (rest.0, rest.1, rest.2, ap (λ b. if b then x.cut else cut_in xs d j) other ∙ rest.3)
     ]
 
-module _ (s t : StateValue) (many : ℕ) (noted : AreNoted s) (noted_there : AreNoted t) (goes : LetsSomeGo s many t) (left : t.cuts ≡ filter (is_early s) s.cuts) where
+module _ (s t : StateValue) (many : ℕ) (noted : CutsInvariant s) (noted_there : CutsInvariant t) (goes : LetsSomeGo s many t) (left : t.cuts ≡ filter (is_early s) s.cuts) where
   now_ripe : (c i : ℕ) (a : Asked) → a.client ≡ c → cut_in s.cuts c i ≡ a.cut → is_ready (world_of s) (leases_of s) c i ≡ true → is_ripe s a ≡ true
   unfolding leases_of
   now_ripe c i a is cut ready =
       (λ k. nat_le (cut_once_asked (client_seen s.clients (is k)) (sym cut k)) (digested_by_all (world_of s) (is k)))
-      ∙ (and_parts (is_frozen (client_lease (leases_of s) c i)) (nat_le ((leases_of s).cut c i) (digested_by_all (world_of s) c)) ready).1
+      ∙ (and_parts (is_revoked (client_lease (leases_of s) c i)) (nat_le ((leases_of s).cut c i) (digested_by_all (world_of s) c)) ready).1
 
-  frozen_then : (c i : ℕ) → is_ready (world_of s) (leases_of s) c i ≡ true → client_lease (leases_after (leases_of s) goes.gone) c i ≡ client_lease (leases_of s) c i →
-      is_frozen (lease_of (t.levels.clients i) c) ≡ true
+  revoked_then : (c i : ℕ) → is_ready (world_of s) (leases_of s) c i ≡ true → client_lease (leases_after (leases_of s) goes.gone) c i ≡ client_lease (leases_of s) c i →
+      is_revoked (lease_of (t.levels.clients i) c) ≡ true
   unfolding leases_of
-  frozen_then c i ready same =
-      ap is_frozen (ap (λ l. client_lease l c i) goes.leases ∙ same)
-      ∙ (and_parts (is_frozen (client_lease (leases_of s) c i)) (nat_le ((leases_of s).cut c i) (digested_by_all (world_of s) c)) ready).0
+  revoked_then c i ready same =
+      ap is_revoked (ap (λ l. client_lease l c i) goes.leases ∙ same)
+      ∙ (and_parts (is_revoked (client_lease (leases_of s) c i)) (nat_le ((leases_of s).cut c i) (digested_by_all (world_of s) c)) ready).0
 
   pub none_ready : (c i : ℕ) → is_ready (world_of s) (leases_of s) c i ≡ true → client_lease (leases_of t) c i ≡ None
   none_ready c i ready =
       elim (left_or_went (world_of s) (leases_of s) goes.gone c i goes.goes) [
         | inr none ↦ ap (λ l. client_lease l c i) goes.leases ∙ none
         | inl same ↦
-            let asked : is_asked (filter (is_early s) s.cuts) c i ≡ true = ap (λ l. is_asked l c i) (sym left) ∙ noted_there.noted c i ∙ frozen_then c i ready same in
+            let asked : is_asked (filter (is_early s) s.cuts) c i ≡ true = ap (λ l. is_asked l c i) (sym left) ∙ noted_there.noted c i ∙ revoked_then c i ready same in
             let one = early_one (is_early s) s.cuts c i noted.once asked in
             absurd (true≢false (sym (now_ripe c i one.0 one.1 one.3 ready) ∙ not-true (is_ripe s one.0) one.2))
       ]

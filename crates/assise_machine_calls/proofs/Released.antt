@@ -2,11 +2,11 @@
 use Rattle.std.proofs.Common.{◌≡◌, ℕ, ◌≤◌, true, List, [], ◌∷◌, length, None, ap, sym, subst, ◌∙◌, append-nil}
 use Rattle.assise_inode_table.specs.Effects.{contains}
 use Rattle.assise_lease_tree.specs.TwoLevels.{IsIdle}
-use Rattle.assise_machine_laws.specs.World.{World}
-use Rattle.assise_machine_leases.specs.Leases.{Leases, client_lease}
-use Rattle.assise_machine_events.specs.Events.{released}
-use Rattle.assise_machine_events.specs.NodeEvents.{Freed, Frees, Releasing, is_ready, leases_freed}
-use Rattle.assise_machine_events.specs.NodeEvents.Releasing.{is_released}
+use Rattle.assise_model_world.specs.World.{World}
+use Rattle.assise_model_leases.specs.Leases.{Leases, client_lease}
+use Rattle.assise_model_events.specs.Events.{released}
+use Rattle.assise_model_events.specs.NodeEvents.{Freed, Frees, Releasing, is_ready, leases_freed}
+use Rattle.assise_model_events.specs.NodeEvents.Releasing.{is_released}
 use Rattle.assise_machine_state.specs.Observed.{observed, world_of}
 use Rattle.assise_machine_state.specs.StateValues.{StateValue, leases_of, standings}
 use Rattle.assise_machine_calls.specs.Releasing.{FreesAmong, LetsSomeGo}

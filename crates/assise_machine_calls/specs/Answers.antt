@@ -1,7 +1,7 @@
 -- What calls answer, in the words of the laws, and what they change on the way.
 use Rattle.std.specs.Prelude.{ℕ, Result, Ok, Err, ⊤}
 use Rattle.assise_names.specs.declared.refusal.Refusal.{Refusal}
-use Rattle.assise_machine_events.specs.Events.{Answer, crashed, not_yet, opened, refused, replied}
+use Rattle.assise_model_events.specs.Events.{Answer, crashed, not_yet, opened, refused, replied}
 use Rattle.assise_machine_state.specs.NodeValues.{with_logs_begun}
 use Rattle.assise_machine_state.specs.Observed.{is_full_in}
 use Rattle.assise_machine_state.specs.StateValues.{StateValue, standings}

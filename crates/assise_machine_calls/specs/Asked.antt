@@ -6,17 +6,17 @@ use Rattle.assise_digest.specs.Region.{RegionValue}
 use Rattle.assise_lease_table.specs.Answers.{IsRaisedAnswer}
 use Rattle.assise_lease_tree.specs.declared.request.Request.{Request}
 use Rattle.assise_manager.specs.Standings.{Standing}
-use Rattle.assise_machine_leases.specs.Handing.{Asks, is_newly_frozen}
-use Rattle.assise_machine_events.specs.ClientEvents.{KeepsMembers}
-use Rattle.assise_machine_events.specs.Machine.{Adds, Machine}
-use Rattle.assise_machine_events.specs.NodeEvents.{border_marks}
+use Rattle.assise_model_leases.specs.Handing.{Asks, is_newly_revoked}
+use Rattle.assise_model_events.specs.ClientEvents.{KeepsMembers}
+use Rattle.assise_model_events.specs.Machine.{Adds, Machine}
+use Rattle.assise_model_events.specs.NodeEvents.{border_marks}
 use Rattle.assise_machine_state.specs.ClientValues.{ClientValue, client_in}
 use Rattle.assise_machine_state.specs.NodeValues.{log_in}
 use Rattle.assise_machine_state.specs.Observed.{own_node}
 
 -- the own log of a client, if there is one of this number
-abbrev pub own_log : List RegionValue → List Standing → List ClientValue → ℕ → Option NumberedLog
-own_log rs nodes cs c = if nat_le 1 c && nat_le c (length cs) then Some (log_in rs (own_node nodes (client_in cs c)) c).log else None
+abbrev pub client_log : List RegionValue → List Standing → List ClientValue → ℕ → Option NumberedLog
+client_log rs nodes cs c = if nat_le 1 c && nat_le c (length cs) then Some (log_in rs (own_node nodes (client_in cs c)) c).log else None
 
 -- all who stand in the way of the request are asked, and nothing else happens
 pub record AsksThem (m : Machine) (r : Request) (m' : Machine) : Type 0 where
@@ -33,8 +33,8 @@ clients_log m c = record {
   begins = border_marks (m.world.border c) (m.world.first c) (m.world.records c);
 }
 
--- the cut of each lease that is frozen now and wasn't before is what the revoker that its holder stored answers for the holder's
+-- the cut of each lease that is revoked now and wasn't before is what the revoker that its holder stored answers for the holder's
 -- own log and the inode, raised to the end of its group
 abbrev pub CutsAreAnswers : {C : Type 0} → (C → NumberedLog → ℕ → ℕ → Type 0) → (ℕ → Option C) → Machine → Machine → Type 0
-CutsAreAnswers {C} answers stored m m' = (c i : ℕ) → is_newly_frozen m.leases m'.leases c i ≡ true →
+CutsAreAnswers {C} answers stored m m' = (c i : ℕ) → is_newly_revoked m.leases m'.leases c i ≡ true →
     (revoker : C) × (stored c ≡ Some revoker) × IsRaisedAnswer answers revoker (clients_log m c) i (m'.leases.cut c i)

@@ -17,13 +17,13 @@ use Rattle.assise_inode_table.specs.Numbers.{inode_number}
 use Rattle.assise_inode_table.specs.Traces.{NumberedCall}
 use Rattle.assise_digest.specs.Region.{ReceivedLog}
 use Rattle.assise_lease_table.specs.Leases.{serves}
-use Rattle.assise_lease_tree.specs.Levels.{is_frozen}
-use Rattle.assise_machine_laws.specs.World.{World, step_at_home}
-use Rattle.assise_machine_leases.specs.Leases.{client_lease}
-use Rattle.assise_machine_events.specs.ClientEvents.{Calling, IsServed, call_of_client}
-use Rattle.assise_machine_events.specs.Events.{Answer}
-use Rattle.assise_machine_events.specs.Faults.{call_fault, fault_if, or_else}
-use Rattle.assise_machine_events.specs.Machine.{Holds, Machine}
+use Rattle.assise_lease_tree.specs.Levels.{is_revoked}
+use Rattle.assise_model_world.specs.World.{World, step_at_home}
+use Rattle.assise_model_leases.specs.Leases.{client_lease}
+use Rattle.assise_model_events.specs.ClientEvents.{Calling, HasServingLeases, call_of_client}
+use Rattle.assise_model_events.specs.Events.{Answer}
+use Rattle.assise_model_events.specs.Faults.{call_fault, fault_if, or_else}
+use Rattle.assise_model_events.specs.Machine.{MachineInvariant, Machine}
 use Rattle.assise_machine_state.specs.ClientValues.{ClientValue}
 use Rattle.assise_machine_calls.specs.declared.outcome.Outcome.{Outcome}
 
@@ -50,14 +50,14 @@ pub record IsVisited (m : Machine) (c : ℕ) (op : Op) (s : Step) : Type 0 where
 -- this is what the call does, and all leases serve that it needs
 pub record IsReady (m : Machine) (c : ℕ) (op : Op) (s : Step) : Type 0 where
   pub step : s ≡ next_step m.world c op
-  pub served : IsServed m.world m.leases (next_call m.world c op)
+  pub served : HasServingLeases m.world m.leases (next_call m.world c op)
 
--- the client got leases, of which none was frozen, and has all that the call needs: what comes of the call from here on comes of it
-pub record HasAll (m : Machine) (c : ℕ) (op : Op) (s : Step) (m' : Machine) : Type 0 where
+-- the client got leases, of which none was revoked, and has all that the call needs: what comes of the call from here on comes of it
+pub record HasAllLeases (m : Machine) (c : ℕ) (op : Op) (s : Step) (m' : Machine) : Type 0 where
   pub fine : call_fault m' c op ≡ None
-  pub holds : ∥ Holds m' ∥₁
+  pub holds : ∥ MachineInvariant m' ∥₁
   pub ready : IsReady m' c op s
-  pub unfrozen : (d i : ℕ) → is_frozen (client_lease m'.leases d i) ≡ is_frozen (client_lease m.leases d i)
+  pub unrevoked : (d i : ℕ) → is_revoked (client_lease m'.leases d i) ≡ is_revoked (client_lease m.leases d i)
   pub onward : (a : Answer) (last : Machine) → Calling m' c op a last → Calling m c op a last
 
 -- the client would make an inode and has made as many as it may, or its log has no room for the effects

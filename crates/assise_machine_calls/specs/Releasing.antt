@@ -4,8 +4,8 @@ use Rattle.std.specs.Prelude.{◌≡◌, ℕ, ◌≤◌, nat_le, Bool, not, List
 use Rattle.assise_lease_table.specs.declared.lease.Asked.{Asked}
 use Rattle.assise_lease_table.specs.Leases.{lease_of}
 use Rattle.assise_lease_tree.specs.TwoLevels.{IsIdle}
-use Rattle.assise_machine_laws.specs.World.{Full, digested_by_all}
-use Rattle.assise_machine_events.specs.NodeEvents.{Freed, Frees, Gone, LetsGo, leases_after, leases_freed, world_after}
+use Rattle.assise_model_world.specs.World.{Full, digested_by_all}
+use Rattle.assise_model_events.specs.NodeEvents.{Freed, Frees, Gone, LetsGo, leases_after, leases_freed, world_after}
 use Rattle.assise_machine_state.specs.Changes.{after_leases, after_letting_go}
 use Rattle.assise_machine_state.specs.ClientValues.{client_seen, cut_once_asked}
 use Rattle.assise_machine_state.specs.Observed.{world_of}

@@ -3,16 +3,14 @@ ghost use Rattle.std.specs.Prelude.{◌≡◌, ◌+◌, ◌≤◌, ◌++◌, Non
 ghost use Rattle.assise_names.specs.declared.refusal.Refusal.TheVariants.{OutOfMemory};
 ghost use Rattle.assise_lease_table.specs.declared.lease.Asked.{Asked as Answer};
 ghost use Rattle.assise_lease_table.specs.Leases.{Among};
-ghost use Rattle.assise_lease_table.specs.Tables.{SameRevokers};
-ghost use Rattle.assise_lease_tree.specs.Trees.{levels_of, stored_by};
+ghost use Rattle.assise_lease_tree.specs.Trees.{KeepsRevokers, levels_of, stored_by};
 ghost use Rattle.assise_lease_tree.specs.TwoLevels.{is_free_for};
-ghost use Rattle.assise_machine_events.specs.Faults.{client_fault};
-ghost use Rattle.assise_machine_events.specs.Machine.{Holds};
+ghost use Rattle.assise_model_events.specs.Faults.{client_fault};
 ghost use Rattle.assise_machine_state.specs.Changes.{with_goals};
 ghost use Rattle.assise_machine_state.specs.ClientValues.{client_in};
 ghost use Rattle.assise_machine_state.specs.Places.{IsNumber};
-ghost use Rattle.assise_machine_state.specs.Shape.{AreNoted, IsShaped};
-ghost use Rattle.assise_machine_state.specs.Whole.{machine_of, value_of};
+ghost use Rattle.assise_machine_state.specs.Invariant.{CutsInvariant, ShapeInvariant};
+ghost use Rattle.assise_machine_state.specs.Whole.{StateInvariant, machine_of, value_of};
 ghost use Rattle.assise_machine_calls.specs.Asked.{AsksThem, CutsAreAnswers};
 
 use crate::own_logs::OwnLogs;
@@ -24,7 +22,7 @@ use assise_machine_state::state::StateOf;
 use assise_names::refusal::Refusal;
 use std::vec::IntoIter;
 
-/// Asks those who stand in the way of a client that lives: their leases are frozen with what their revokers answer for their own
+/// Asks those who stand in the way of a client that lives: their leases are revoked with what their revokers answer for their own
 /// logs, and their logs are to be replicated up to there. The one refusal is [`Refusal::OutOfMemory`], and it leaves all as it was.
 pub(crate) fn ask<C: Revokes + Drop>(
     state: &mut StateOf<C>,
@@ -32,18 +30,17 @@ pub(crate) fn ask<C: Revokes + Drop>(
 ) -> Result<(), Refusal>
     requires fine { client_fault (machine_of state.old) request.client ≡ None }
     requires home { request.node ≡ (client_in state.old.clients request.client).home }
-    requires blocked { is_free_for (levels_of state.old.leases) request.client request.node request.inode request.mode ≡ false }
-    requires holds { ∥ Holds (machine_of state.old) ∥₁ }
-    requires shape { IsShaped (value_of state.old) }
-    requires noted { AreNoted (value_of state.old) }
+    requires blocked { is_free_for (levels_of state.old.leases) request.client request.node
+        request.inode request.mode ≡ false }
+    requires invariant { StateInvariant state.old }
     ensures ok { OnOk result (AsksThem (machine_of state.old) request (machine_of state.new)) }
     ensures err { OnErr result (machine_of state.new ≡ machine_of state.old) }
     ensures cuts { CutsAreAnswers C.answers (stored_by state.old.leases)
         (machine_of state.old) (machine_of state.new) }
-    ensures shape { IsShaped (value_of state.new) }
-    ensures noted { AreNoted (value_of state.new) }
+    ensures shape { ShapeInvariant (value_of state.new) }
+    ensures noted { CutsInvariant (value_of state.new) }
     ensures only_memory { IsOkUnless result OutOfMemory }
-    ensures revokers { SameRevokers (stored_by state.old.leases) (stored_by state.new.leases) }
+    ensures revokers { KeepsRevokers state.old.leases state.new.leases }
 {
     let holders = state.leases.leases(request.inode).len();
     state.cuts.reserve(holders)?;

@@ -1,17 +1,15 @@
 // A client's call.
 ghost use Rattle.std.specs.Prelude.{◌≡◌, IfErr, IfOk, None, false, true};
-ghost use Rattle.assise_lease_table.specs.Tables.{SameRevokers};
-ghost use Rattle.assise_lease_tree.specs.Trees.{stored_by};
-ghost use Rattle.assise_machine_events.specs.ClientEvents.{Calling};
-ghost use Rattle.assise_machine_events.specs.Events.{not_yet, refused};
-ghost use Rattle.assise_machine_events.specs.Faults.{call_fault};
-ghost use Rattle.assise_machine_events.specs.Happenings.{Trying};
-ghost use Rattle.assise_machine_events.specs.Machine.{Holds};
-ghost use Rattle.assise_machine_state.specs.Shape.{AreNoted, IsShaped};
-ghost use Rattle.assise_machine_state.specs.Whole.{machine_of, value_of};
+ghost use Rattle.assise_lease_tree.specs.Trees.{KeepsRevokers, stored_by};
+ghost use Rattle.assise_model_events.specs.ClientEvents.{Calling};
+ghost use Rattle.assise_model_events.specs.Events.{not_yet, refused};
+ghost use Rattle.assise_model_events.specs.Faults.{call_fault};
+ghost use Rattle.assise_model_events.specs.Happenings.{Trying};
+ghost use Rattle.assise_machine_state.specs.Invariant.{CutsInvariant, ShapeInvariant};
+ghost use Rattle.assise_machine_state.specs.Whole.{StateInvariant, machine_of, value_of};
 ghost use Rattle.assise_machine_calls.specs.Answers.{turn_answer};
 ghost use Rattle.assise_machine_calls.specs.Asked.{CutsAreAnswers};
-ghost use Rattle.assise_machine_calls.specs.Leasing.{HasAll, IsVisited, NeverSyncs, step_in};
+ghost use Rattle.assise_machine_calls.specs.Leasing.{HasAllLeases, IsVisited, NeverSyncs, step_in};
 
 use crate::asking::ask;
 use crate::commit::commit;
@@ -48,10 +46,11 @@ pub fn try_call<C: Revokes + Drop>(
     client: u32,
     op: &Op,
 ) -> Result<Turn, Refusal>
-    ensures happens { Trying (machine_of sound.old.state) client op.now (turn_answer result) (machine_of sound.new.state) }
+    ensures happens { Trying (machine_of sound.old.state) client op.now (turn_answer result)
+        (machine_of sound.new.state) }
     ensures cuts { CutsAreAnswers C.answers (stored_by sound.old.state.leases)
         (machine_of sound.old.state) (machine_of sound.new.state) }
-    ensures revokers { SameRevokers (stored_by sound.old.state.leases) (stored_by sound.new.state.leases) }
+    ensures revokers { KeepsRevokers sound.old.state.leases sound.new.state.leases }
 {
     match op {
         Op::Fsync => return try_fsync(sound, client),
@@ -74,15 +73,14 @@ fn call<C: Revokes + Drop>(
 ) -> Result<Turn, Refusal>
     requires fine { call_fault (machine_of state.old) client op.now ≡ None }
     requires call { NeverSyncs op.now }
-    requires holds { ∥ Holds (machine_of state.old) ∥₁ }
-    requires shape { IsShaped (value_of state.old) }
-    requires noted { AreNoted (value_of state.old) }
-    ensures happens { Calling (machine_of state.old) client op.now (turn_answer result) (machine_of state.new) }
+    requires invariant { StateInvariant state.old }
+    ensures happens { Calling (machine_of state.old) client op.now (turn_answer result)
+        (machine_of state.new) }
     ensures cuts { CutsAreAnswers C.answers (stored_by state.old.leases)
         (machine_of state.old) (machine_of state.new) }
-    ensures shape { IsShaped (value_of state.new) }
-    ensures noted { AreNoted (value_of state.new) }
-    ensures revokers { SameRevokers (stored_by state.old.leases) (stored_by state.new.leases) }
+    ensures shape { ShapeInvariant (value_of state.new) }
+    ensures noted { CutsInvariant (value_of state.new) }
+    ensures revokers { KeepsRevokers state.old.leases state.new.leases }
 {
     let known = state.clients.get(client);
     let (home, fresh) = (known.home(), inode_number(client, known.made()));
@@ -130,18 +128,20 @@ fn lease_changes<C: Revokes + Drop>(
 ) -> Result<bool, Refusal>
     requires fine { call_fault (machine_of state.old) client op.now ≡ None }
     requires call { NeverSyncs op.now }
-    requires holds { ∥ Holds (machine_of state.old) ∥₁ }
-    requires shape { IsShaped (value_of state.old) }
-    requires noted { AreNoted (value_of state.old) }
+    requires invariant { StateInvariant state.old }
     requires visited { IsVisited (machine_of state.old) client op.now (step_in outcome.now) }
-    ensures all { IfOk result (λ all. all ≡ true → HasAll (machine_of state.old) client op.now (step_in outcome.now) (machine_of state.new)) }
-    ensures waits { IfOk result (λ all. all ≡ false → Calling (machine_of state.old) client op.now not_yet (machine_of state.new)) }
-    ensures refused { IfErr result (λ r. Calling (machine_of state.old) client op.now (refused r) (machine_of state.new)) }
+    ensures all { IfOk result (λ all. all ≡ true →
+        HasAllLeases (machine_of state.old) client op.now (step_in outcome.now)
+        (machine_of state.new)) }
+    ensures waits { IfOk result (λ all. all ≡ false →
+        Calling (machine_of state.old) client op.now not_yet (machine_of state.new)) }
+    ensures refused { IfErr result (λ r. Calling (machine_of state.old) client op.now (refused r)
+        (machine_of state.new)) }
     ensures cuts { CutsAreAnswers C.answers (stored_by state.old.leases)
         (machine_of state.old) (machine_of state.new) }
-    ensures shape { IsShaped (value_of state.new) }
-    ensures noted { AreNoted (value_of state.new) }
-    ensures revokers { SameRevokers (stored_by state.old.leases) (stored_by state.new.leases) }
+    ensures shape { ShapeInvariant (value_of state.new) }
+    ensures noted { CutsInvariant (value_of state.new) }
+    ensures revokers { KeepsRevokers state.old.leases state.new.leases }
 {
     let view = state.view(client);
     let Some(inode) = first_unleased(&view, &outcome.effects) else {

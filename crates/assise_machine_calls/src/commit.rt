@@ -7,15 +7,14 @@ ghost use Rattle.assise_record.specs.Records.{has_some};
 ghost use Rattle.assise_inode_table.specs.Effects.{makes};
 ghost use Rattle.assise_inode_table.specs.Whole.{CanBeMadeWhole};
 ghost use Rattle.assise_private_log.specs.NumberedLog.{end};
-ghost use Rattle.assise_digest.specs.Region.{HasRoom};
-ghost use Rattle.assise_machine_events.specs.ClientEvents.{Calling};
-ghost use Rattle.assise_machine_events.specs.Faults.{call_fault};
-ghost use Rattle.assise_machine_events.specs.Machine.{Holds};
+ghost use Rattle.assise_digest.specs.Region.{LogHasRoom};
+ghost use Rattle.assise_model_events.specs.ClientEvents.{Calling};
+ghost use Rattle.assise_model_events.specs.Faults.{call_fault};
 ghost use Rattle.assise_machine_state.specs.ClientValues.{client_in};
 ghost use Rattle.assise_machine_state.specs.NodeValues.{HasLog, log_in, with_call_in};
 ghost use Rattle.assise_machine_state.specs.Places.{IsNumber};
-ghost use Rattle.assise_machine_state.specs.Shape.{AreNoted, IsShaped};
-ghost use Rattle.assise_machine_state.specs.Whole.{machine_of, value_of};
+ghost use Rattle.assise_machine_state.specs.Invariant.{CutsInvariant, ShapeInvariant};
+ghost use Rattle.assise_machine_state.specs.Whole.{StateInvariant, machine_of, value_of};
 ghost use Rattle.assise_machine_calls.specs.Answers.{turn_answer};
 ghost use Rattle.assise_machine_calls.specs.Leasing.{IsReady, room_fault, step_in};
 
@@ -49,15 +48,14 @@ pub(crate) fn commit<C: Revokes + Drop>(
     outcome: Outcome,
 ) -> Result<Turn, Refusal>
     requires fine { call_fault (machine_of state.old) client op.now ≡ None }
-    requires holds { ∥ Holds (machine_of state.old) ∥₁ }
-    requires shape { IsShaped (value_of state.old) }
-    requires noted { AreNoted (value_of state.old) }
+    requires invariant { StateInvariant state.old }
     requires ready { IsReady (machine_of state.old) client op.now (step_in outcome) }
     requires few { length outcome.effects.items ≤ 4 }
     requires whole { CanBeMadeWhole outcome.effects.items }
-    ensures happens { Calling (machine_of state.old) client op.now (turn_answer result) (machine_of state.new) }
-    ensures shape { IsShaped (value_of state.new) }
-    ensures noted { AreNoted (value_of state.new) }
+    ensures happens { Calling (machine_of state.old) client op.now (turn_answer result)
+        (machine_of state.new) }
+    ensures shape { ShapeInvariant (value_of state.new) }
+    ensures noted { CutsInvariant (value_of state.new) }
     ensures leases { state.new.leases ≡ state.old.leases }
 {
     if let Some(refusal) = room_refusal(state, client, &outcome.effects) {
@@ -96,7 +94,8 @@ fn room_refusal<C: Revokes + Drop>(
     requires client { IsNumber state.now.clients client }
     requires few { (client_in state.now.clients client).made ≤ 1048576 }
     requires log { HasLog state.now.nodes (client_in state.now.clients client).home client }
-    ensures { result ≡ room_fault (client_in state.now.clients client) client (log_in state.now.nodes (client_in state.now.clients client).home client) effects.now }
+    ensures { result ≡ room_fault (client_in state.now.clients client) client
+        (log_in state.now.nodes (client_in state.now.clients client).home client) effects.now }
 {
     let known = state.clients.get(client);
     if known.made() == MOST_INODES && makes_inode(effects, inode_number(client, known.made())) {
@@ -137,7 +136,7 @@ fn add_record(
 ) -> Result<(), Refusal>
     requires there { HasLog nodes.old home client }
     requires number_fits { end (log_in nodes.old home client).log + 1 < 2 ^ 64 }
-    requires room { has_some effects.items ≡ true → HasRoom (log_in nodes.old home client) }
+    requires room { has_some effects.items ≡ true → LogHasRoom (log_in nodes.old home client) }
     requires few { length effects.items ≤ 4 }
     requires whole { CanBeMadeWhole effects.items }
     ensures ok { OnOk result (nodes.new ≡ with_call_in nodes.old home client call effects.items) }

@@ -1,7 +1,6 @@
 // A client crashes.
-ghost use Rattle.assise_lease_table.specs.Tables.{SameRevokers};
-ghost use Rattle.assise_lease_tree.specs.Trees.{stored_by};
-ghost use Rattle.assise_machine_events.specs.ClientEvents.{Crashing};
+ghost use Rattle.assise_lease_tree.specs.Trees.{KeepsRevokers};
+ghost use Rattle.assise_model_events.specs.ClientEvents.{Crashing};
 ghost use Rattle.assise_machine_state.specs.Whole.{machine_of};
 ghost use Rattle.assise_machine_calls.specs.Answers.{crashing_answer};
 
@@ -15,8 +14,9 @@ use assise_names::refusal::Refusal;
 /// A client crashes: nothing of its log is lost, all of it is to be replicated, and its leases go once all of it is digested. Refused
 /// as [`client_refusal`] says, and with [`Refusal::OutOfMemory`]; what is refused leaves all as it was.
 pub fn crash<C: Revokes + Drop>(sound: &mut SoundOf<C>, client: u32) -> Result<(), Refusal>
-    ensures happens { Crashing (machine_of sound.old.state) client (crashing_answer result) (machine_of sound.new.state) }
-    ensures revokers { SameRevokers (stored_by sound.old.state.leases) (stored_by sound.new.state.leases) }
+    ensures happens { Crashing (machine_of sound.old.state) client (crashing_answer result)
+        (machine_of sound.new.state) }
+    ensures revokers { KeepsRevokers sound.old.state.leases sound.new.state.leases }
 {
     let state = &mut sound.state;
     if let Some(refusal) = client_refusal(state, client) {
@@ -27,7 +27,7 @@ pub fn crash<C: Revokes + Drop>(sound: &mut SoundOf<C>, client: u32) -> Result<(
     state.cuts.reserve(asked.len())?;
     let end = state.own_region(client).log(client as usize).end();
     state.clients.crash(client, end);
-    state.leases.freeze(client);
+    state.leases.revoke(client);
     note_all(&mut state.cuts, asked.into_iter());
     state.history.push(Entry::crash(client));
     Ok(())

@@ -1,6 +1,6 @@
 // Why a call is refused, whatever memory there is: the first fault that stands.
 ghost use Rattle.std.specs.Prelude.{◌≡◌};
-ghost use Rattle.assise_machine_events.specs.Faults.{call_fault, client_fault, is_too_large, open_fault};
+ghost use Rattle.assise_model_events.specs.Faults.{call_fault, client_fault, is_too_large, open_fault};
 ghost use Rattle.assise_machine_state.specs.Whole.{machine_of};
 
 use assise_lease_table::revoker::Revokes;

@@ -1,4 +1,4 @@
-//! Calls of clients on the machine's state: each is shown to be the event that the laws mean, and so keeps what holds between
+//! Calls of clients on the machine's state: each is shown to be the event that the laws mean, and so keeps the invariant between
 //! events.
 #![tactic(auto)]
 

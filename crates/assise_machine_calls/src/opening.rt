@@ -1,10 +1,10 @@
 // A client is opened.
 ghost use Rattle.std.specs.Prelude.{◌≡◌, ◌+◌, ◌<◌, IfErr, IsOkUnless, OnErr, OnOk, length};
 ghost use Rattle.assise_names.specs.declared.refusal.Refusal.TheVariants.{OutOfMemory};
-ghost use Rattle.assise_lease_table.specs.Tables.{Enrols, SameRevokers};
-ghost use Rattle.assise_lease_tree.specs.Trees.{stored_by};
-ghost use Rattle.assise_machine_events.specs.ClientEvents.{Opening};
-ghost use Rattle.assise_machine_state.specs.Shape.{IsShaped};
+ghost use Rattle.assise_lease_table.specs.Tables.{Enrols};
+ghost use Rattle.assise_lease_tree.specs.Trees.{KeepsRevokers, stored_by};
+ghost use Rattle.assise_model_events.specs.ClientEvents.{Opening};
+ghost use Rattle.assise_machine_state.specs.Invariant.{ShapeInvariant};
 ghost use Rattle.assise_machine_state.specs.Whole.{machine_of, value_of};
 ghost use Rattle.assise_machine_calls.specs.Answers.{begun_at, opening_answer};
 
@@ -29,8 +29,9 @@ pub fn open<C: Revokes + Drop>(
     ensures happens { Opening (machine_of sound.old.state) node durability (opening_answer result)
         (machine_of sound.new.state) }
     ensures given_back { IfErr result (λ back. back.1 ≡ revoker) }
-    ensures revokers { OnErr result (SameRevokers (stored_by sound.old.state.leases) (stored_by sound.new.state.leases)) }
-    ensures stored { OnOk result (Enrols (stored_by sound.old.state.leases) (stored_by sound.new.state.leases) (length sound.old.state.clients + 1) revoker) }
+    ensures revokers { OnErr result (KeepsRevokers sound.old.state.leases sound.new.state.leases) }
+    ensures stored { OnOk result (Enrols (stored_by sound.old.state.leases)
+        (stored_by sound.new.state.leases) (length sound.old.state.clients + 1) revoker) }
 {
     let state = &mut sound.state;
     if let Some(refusal) = open_refusal(state, node) {
@@ -52,7 +53,7 @@ pub fn open<C: Revokes + Drop>(
 /// Makes room for an entry, and begins the next client's logs at all full nodes. The one refusal is [`Refusal::OutOfMemory`], and
 /// it leaves all as it was.
 fn begin<C: Revokes + Drop>(alloc: Global, state: &mut StateOf<C>, node: u32) -> Result<(), Refusal>
-    requires shape { IsShaped (value_of state.old) }
+    requires shape { ShapeInvariant (value_of state.old) }
     ensures ok { OnOk result (value_of state.new ≡ begun_at (value_of state.old) node) }
     ensures room { OnOk result (0 < state.new.history.room) }
     ensures err { OnErr result (value_of state.new ≡ value_of state.old) }

@@ -24,9 +24,9 @@ pub(crate) struct OwnLogs<'a> {
 
 impl Views for OwnLogs<'_> {
     ghost use Rattle.assise_manager.specs.Whole.{membership};
-    ghost use Rattle.assise_machine_calls.specs.Asked.{own_log};
+    ghost use Rattle.assise_machine_calls.specs.Asked.{client_log};
 
-    ghost view_of = { λ v c. own_log v.nodes.now (membership v.members.now).nodes v.clients.now c };
+    ghost view_of = { λ v c. client_log v.nodes.now (membership v.members.now).nodes v.clients.now c };
 
     fn view(&self, client: u32) -> Option<&LogView> {
         if client == 0 || client as usize > self.clients.len() {

@@ -1,14 +1,13 @@
 // Leases that were asked for go, where they may.
 ghost use Rattle.std.specs.Prelude.{◌≡◌, ◌++◌, ◌≤◌, drop, filter, length, take};
-ghost use Rattle.assise_lease_table.specs.Tables.{SameRevokers};
-ghost use Rattle.assise_lease_tree.specs.Trees.{stored_by};
-ghost use Rattle.assise_machine_leases.specs.Leases.{AreLeases};
-ghost use Rattle.assise_machine_events.specs.Events.{released};
-ghost use Rattle.assise_machine_events.specs.NodeEvents.{Releasing};
+ghost use Rattle.assise_lease_tree.specs.Trees.{KeepsRevokers};
+ghost use Rattle.assise_model_leases.specs.Leases.{AreLeases};
+ghost use Rattle.assise_model_events.specs.Events.{released};
+ghost use Rattle.assise_model_events.specs.NodeEvents.{Releasing};
 ghost use Rattle.assise_manager.specs.Whole.{membership};
 ghost use Rattle.assise_machine_state.specs.Observed.{is_full_in, world_of};
 ghost use Rattle.assise_machine_state.specs.Places.{IsNumber};
-ghost use Rattle.assise_machine_state.specs.Shape.{AreNoted, IsShaped};
+ghost use Rattle.assise_machine_state.specs.Invariant.{CutsInvariant, ShapeInvariant};
 ghost use Rattle.assise_machine_state.specs.StateValues.{leases_of};
 ghost use Rattle.assise_machine_state.specs.Whole.{machine_of, value_of};
 ghost use Rattle.assise_machine_calls.specs.Releasing.{FreesAmong, LetsSomeGo, is_early, is_ripe};
@@ -23,8 +22,9 @@ use assise_manager::members::Members;
 /// nodes away that aren't full and whose clients hold nothing. It answers how many leases of clients went. It is never refused
 /// and takes no memory; it costs the leases that are asked for, and for each node that isn't full a walk over all leases.
 pub fn release_ready<C: Revokes + Drop>(sound: &mut SoundOf<C>) -> usize
-    ensures happens { Releasing (machine_of sound.old.state) (released result) (machine_of sound.new.state) }
-    ensures revokers { SameRevokers (stored_by sound.old.state.leases) (stored_by sound.new.state.leases) }
+    ensures happens { Releasing (machine_of sound.old.state) (released result)
+        (machine_of sound.new.state) }
+    ensures revokers { KeepsRevokers sound.old.state.leases sound.new.state.leases }
 {
     let state = &mut sound.state;
     let place = state.cuts.len();
@@ -38,15 +38,16 @@ pub fn release_ready<C: Revokes + Drop>(sound: &mut SoundOf<C>) -> usize
 pub(crate) fn release_before<C: Revokes + Drop>(state: &mut StateOf<C>, place: usize) -> usize
     requires place { place ≤ length state.old.cuts.items }
     requires leases { AreLeases (world_of (value_of state.old)) (leases_of (value_of state.old)) }
-    requires shape { IsShaped (value_of state.old) }
-    requires noted { AreNoted (value_of state.old) }
+    requires shape { ShapeInvariant (value_of state.old) }
+    requires noted { CutsInvariant (value_of state.old) }
     ensures goes { LetsSomeGo (value_of state.old) result (value_of state.new) }
-    ensures cuts { state.new.cuts.items ≡ filter (is_early (value_of state.old)) (take place state.old.cuts.items) ++ drop place state.old.cuts.items }
+    ensures cuts { state.new.cuts.items ≡ filter (is_early (value_of state.old))
+        (take place state.old.cuts.items) ++ drop place state.old.cuts.items }
     ensures few { result ≤ place }
     ensures leases { AreLeases (world_of (value_of state.new)) (leases_of (value_of state.new)) }
-    ensures shape { IsShaped (value_of state.new) }
-    ensures noted { AreNoted (value_of state.new) }
-    ensures revokers { SameRevokers (stored_by state.old.leases) (stored_by state.new.leases) }
+    ensures shape { ShapeInvariant (value_of state.new) }
+    ensures noted { CutsInvariant (value_of state.new) }
+    ensures revokers { KeepsRevokers state.old.leases state.new.leases }
 {
     if place == 0 {
         return 0;
@@ -63,7 +64,7 @@ pub(crate) fn release_before<C: Revokes + Drop>(state: &mut StateOf<C>, place: u
 /// Whether all full nodes have digested what lies before the cut of a client that answered.
 fn is_ripe<C: Revokes + Drop>(state: &StateOf<C>, answer: Asked) -> bool
     requires client { IsNumber state.now.clients answer.client }
-    requires shape { IsShaped (value_of state.now) }
+    requires shape { ShapeInvariant (value_of state.now) }
     ensures { result ≡ is_ripe (value_of state.now) answer }
 {
     let cut = state.clients.get(answer.client).cut(answer.cut);
@@ -73,28 +74,26 @@ fn is_ripe<C: Revokes + Drop>(state: &StateOf<C>, answer: Asked) -> bool
 /// Of nodes 1 to a last one, those that aren't full and whose clients hold nothing give up their leases. For each it walks over
 /// all leases of clients.
 pub(crate) fn free_to<C: Revokes + Drop>(state: &mut StateOf<C>, last: u32)
-    requires shape { IsShaped (value_of state.old) }
-    requires noted { AreNoted (value_of state.old) }
+    requires shape { ShapeInvariant (value_of state.old) }
+    requires noted { CutsInvariant (value_of state.old) }
     ensures frees { FreesAmong (value_of state.old) 1 last (value_of state.new) }
-    ensures shape { IsShaped (value_of state.new) }
-    ensures noted { AreNoted (value_of state.new) }
-    ensures revokers { SameRevokers (stored_by state.old.leases) (stored_by state.new.leases) }
+    ensures shape { ShapeInvariant (value_of state.new) }
+    ensures noted { CutsInvariant (value_of state.new) }
+    ensures revokers { KeepsRevokers state.old.leases state.new.leases }
 {
-    if last == 0 {
-        return;
+    for node in 1..=last {
+        free(state, node);
     }
-    free(state, last);
-    free_to(state, last - 1);
 }
 
 /// A node that isn't full and whose clients hold nothing gives up its leases.
 fn free<C: Revokes + Drop>(state: &mut StateOf<C>, node: u32)
-    requires shape { IsShaped (value_of state.old) }
-    requires noted { AreNoted (value_of state.old) }
+    requires shape { ShapeInvariant (value_of state.old) }
+    requires noted { CutsInvariant (value_of state.old) }
     ensures frees { FreesAmong (value_of state.old) node node (value_of state.new) }
-    ensures shape { IsShaped (value_of state.new) }
-    ensures noted { AreNoted (value_of state.new) }
-    ensures revokers { SameRevokers (stored_by state.old.leases) (stored_by state.new.leases) }
+    ensures shape { ShapeInvariant (value_of state.new) }
+    ensures noted { CutsInvariant (value_of state.new) }
+    ensures revokers { KeepsRevokers state.old.leases state.new.leases }
 {
     if is_full(&state.members, node) {
         return;

@@ -1,13 +1,12 @@
 // A client's syncs: an fsync, and a dsync.
 ghost use Rattle.std.specs.Prelude.{◌≡◌, ◌<◌, None};
 ghost use Rattle.assise_history.specs.Legal.{durability_of};
-ghost use Rattle.assise_lease_table.specs.Tables.{SameRevokers};
-ghost use Rattle.assise_lease_tree.specs.Trees.{stored_by};
-ghost use Rattle.assise_machine_laws.specs.World.{end, received_by_all};
-ghost use Rattle.assise_machine_events.specs.ClientEvents.{Noting, Syncing};
-ghost use Rattle.assise_machine_events.specs.Dsyncs.{Coalescing};
-ghost use Rattle.assise_machine_events.specs.Faults.{client_fault};
-ghost use Rattle.assise_machine_events.specs.Happenings.{Dsyncing, Fsyncing};
+ghost use Rattle.assise_lease_tree.specs.Trees.{KeepsRevokers};
+ghost use Rattle.assise_model_world.specs.World.{end_of_log, received_by_all};
+ghost use Rattle.assise_model_events.specs.ClientEvents.{Noting, Syncing};
+ghost use Rattle.assise_model_events.specs.Dsyncs.{Coalescing};
+ghost use Rattle.assise_model_events.specs.Faults.{client_fault};
+ghost use Rattle.assise_model_events.specs.Happenings.{Dsyncing, Fsyncing};
 ghost use Rattle.assise_machine_state.specs.Whole.{machine_of};
 ghost use Rattle.assise_machine_calls.specs.Answers.{turn_answer};
 ghost use Rattle.assise_machine_calls.specs.SyncCalls.{op_of};
@@ -31,8 +30,7 @@ pub fn try_fsync<C: Revokes + Drop>(sound: &mut SoundOf<C>, client: u32) -> Resu
     ensures happens { Fsyncing (durability_of client (machine_of sound.old.state).history)
         (machine_of sound.old.state) client (turn_answer result)
         (machine_of sound.new.state) }
-    ensures revokers { SameRevokers (stored_by sound.old.state.leases)
-        (stored_by sound.new.state.leases) }
+    ensures revokers { KeepsRevokers sound.old.state.leases sound.new.state.leases }
 {
     if let Some(refusal) = client_refusal(&sound.state, client) {
         return Err(refusal);
@@ -51,8 +49,7 @@ pub fn try_dsync<C: Revokes + Drop>(sound: &mut SoundOf<C>, client: u32) -> Resu
     ensures happens { Dsyncing (durability_of client (machine_of sound.old.state).history)
         (machine_of sound.old.state) client (turn_answer result)
         (machine_of sound.new.state) }
-    ensures revokers { SameRevokers (stored_by sound.old.state.leases)
-        (stored_by sound.new.state.leases) }
+    ensures revokers { KeepsRevokers sound.old.state.leases sound.new.state.leases }
 {
     if let Some(refusal) = client_refusal(&sound.state, client) {
         return Err(refusal);
@@ -91,8 +88,7 @@ fn sync<C: Revokes + Drop>(
     requires fine { client_fault (machine_of sound.old.state) client ≡ None }
     ensures happens { Syncing (machine_of sound.old.state) client (op_of which)
         (turn_answer result) (machine_of sound.new.state) }
-    ensures revokers { SameRevokers (stored_by sound.old.state.leases)
-        (stored_by sound.new.state.leases) }
+    ensures revokers { KeepsRevokers sound.old.state.leases sound.new.state.leases }
 {
     let state = &mut sound.state;
     let end = state.own_region(client).log(client as usize).end();
@@ -119,8 +115,7 @@ fn sync_groups<C: Revokes + Drop>(sound: &mut SoundOf<C>, client: u32) -> Result
     requires fine { client_fault (machine_of sound.old.state) client ≡ None }
     ensures happens { Coalescing (machine_of sound.old.state) client (turn_answer result)
         (machine_of sound.new.state) }
-    ensures revokers { SameRevokers (stored_by sound.old.state.leases)
-        (stored_by sound.new.state.leases) }
+    ensures revokers { KeepsRevokers sound.old.state.leases sound.new.state.leases }
 {
     let end = sound.state.own_region(client).log(client as usize).end();
     if sound.state.acked(client) < end {
@@ -134,11 +129,10 @@ fn sync_groups<C: Revokes + Drop>(sound: &mut SoundOf<C>, client: u32) -> Result
 fn coalesce<C: Revokes + Drop>(sound: &mut SoundOf<C>, client: u32) -> Result<Turn, Refusal>
     requires fine { client_fault (machine_of sound.old.state) client ≡ None }
     requires lacking { received_by_all (machine_of sound.old.state).world client
-        < end (machine_of sound.old.state).world client }
+        < end_of_log (machine_of sound.old.state).world client }
     ensures happens { Coalescing (machine_of sound.old.state) client (turn_answer result)
         (machine_of sound.new.state) }
-    ensures revokers { SameRevokers (stored_by sound.old.state.leases)
-        (stored_by sound.new.state.leases) }
+    ensures revokers { KeepsRevokers sound.old.state.leases sound.new.state.leases }
 {
     let state = &mut sound.state;
     let from = state.coalesced_from(client);
@@ -155,8 +149,7 @@ fn note<C: Revokes + Drop>(sound: &mut SoundOf<C>, client: u32) -> Result<Turn, 
     requires optimistic { durability_of client (machine_of sound.old.state).history ≡ Optimistic }
     ensures happens { Noting (machine_of sound.old.state) client (turn_answer result)
         (machine_of sound.new.state) }
-    ensures revokers { SameRevokers (stored_by sound.old.state.leases)
-        (stored_by sound.new.state.leases) }
+    ensures revokers { KeepsRevokers sound.old.state.leases sound.new.state.leases }
 {
     let state = &mut sound.state;
     state.history.reserve()?;

@@ -30,7 +30,7 @@ leases 4294967296 => 1 write
 leases 4294967297 => nobody
 ";
 
-/// Who reads is asked by a writer: its lease is frozen, and it serves no call. The asking one's own lease serves on. Who was asked
+/// Who reads is asked by a writer: its lease is revoked, and it serves no call. The asking one's own lease serves on. Who was asked
 /// isn't asked again, and the history, the logs and the goals stay.
 const READER_ASKED: &str = "\
 cluster 1 => begun
@@ -51,7 +51,7 @@ client 2 => at 1, calls 1, made 0, goal 0, end 0, acked 0, digested 0
 history => open 1 1; open 2 1; call 1 0 list / = names 0; call 2 0 stat / = dir 0; call 1 1 stat / = dir 0
 ";
 
-/// Who writes is asked by a reader. Its log is to be replicated up to its cut: past its last record of the inode. Its frozen lease
+/// Who writes is asked by a reader. Its log is to be replicated up to its cut: past its last record of the inode. Its revoked lease
 /// serves neither reads nor writes, and it gets nothing for a call that needs it; an fsync needs no lease.
 const WRITER_ASKED: &str = "\
 cluster 1 => begun

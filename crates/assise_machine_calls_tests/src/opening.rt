@@ -1,7 +1,7 @@
 // Clients that are opened, and what is asked of a state in which they were.
 use crate::rows::show;
 
-/// Clients have rising numbers, on whichever node.
+/// Clients have ascending numbers, on whichever node.
 const NUMBERS: &str = "\
 cluster 2 => begun
 open 2 least => client 1

@@ -1,4 +1,4 @@
-// Steps that are refused for want of memory: `checks/allocations state` refuses each allocation in turn. What is refused leaves all
+// Steps that are refused as out of memory: `checks/allocations state` refuses each allocation in turn. What is refused leaves all
 // as it was but for leases that it got, and the same step answers then.
 use crate::script::put_step;
 use crate::seen::seen;
@@ -7,7 +7,7 @@ use assise_machine_state::sound::Sound;
 use assise_names::refusal::Refusal;
 use std::alloc::Global;
 
-/// Makes the steps of rows, each once more where it is refused for want of memory. False where a refused step changed what is
+/// Makes the steps of rows, each once more where it is refused as out of memory. False where a refused step changed what is
 /// seen, or where a step comes to something else than its row says.
 fn ends_alike(alloc: Global, rows: &str) -> Result<bool, Refusal> {
     let mut sound = Sound::new(alloc, 1, 8, 1)?;
@@ -23,7 +23,7 @@ fn are_right(alloc: Global, sound: &mut Sound, rows: &str) -> Result<bool, Refus
     Ok(true)
 }
 
-/// Makes the step of a row, once more where it is refused for want of memory.
+/// Makes the step of a row, once more where it is refused as out of memory.
 fn is_right(alloc: Global, sound: &mut Sound, row: &str) -> Result<bool, Refusal> {
     let Some((step, wanted)) = row.split_once(" => ") else {
         return Ok(false);

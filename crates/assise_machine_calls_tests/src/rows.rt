@@ -2,7 +2,7 @@
 use crate::script::put_step;
 use assise_machine_state::sound::Sound;
 use assise_names::refusal::Refusal;
-use assise_rows::{Subject, wrong_rows};
+use assise_test_rows::{Subject, wrong_rows};
 use std::alloc::Global;
 use std::process::Abort;
 
@@ -12,7 +12,7 @@ pub(crate) fn show(alloc: Global, rt: &impl Abort, texts: &[&str]) {
     assert!(rt; shown.is_ok(), "no memory");
 }
 
-/// As [`show`], on a cluster that is made here. Refused for want of memory.
+/// As [`show`], on a cluster that is made here. Refused as out of memory.
 fn shown_anew(alloc: Global, rt: &impl Abort, texts: &[&str]) -> Result<(), Refusal> {
     let sound = Sound::new(alloc, 1, 8, 1)?;
     let mut stepped = Stepped { sound };

@@ -11,7 +11,7 @@ use assise_machine_calls::sync::try_fsync;
 use assise_machine_calls::turn::Turn;
 use assise_machine_state::sound::Sound;
 use assise_names::refusal::Refusal;
-use assise_rows::split_word;
+use assise_test_rows::split_word;
 use std::alloc::{AllocError, Global};
 
 /// Makes a step, and appends what it comes to: the command of a script, the fsync of a client, or a question. None where there is

@@ -12,7 +12,7 @@ const INODES: &[u64] = &[
     8_589_934_592,
 ];
 
-/// The history, the numbers of each client and node, what clients read and nodes have, and which leases are frozen. It takes memory
+/// The history, the numbers of each client and node, what clients read and nodes have, and which leases are revoked. It takes memory
 /// once. Of the other leases nothing is told: a refused call may have got some.
 pub(crate) fn seen(alloc: Global, sound: &Sound) -> Result<String, AllocError> {
     let mut text = String::with_capacity(alloc, 4096)?;
@@ -35,7 +35,7 @@ fn put_numbers(sound: &Sound, text: &mut String) -> Result<(), AllocError> {
     Ok(())
 }
 
-/// Appends what three clients read of an inode, what three nodes have, and whose lease is frozen.
+/// Appends what three clients read of an inode, what three nodes have, and whose lease is revoked.
 fn put_seen(sound: &Sound, inode: u64, text: &mut String) -> Result<(), AllocError> {
     for place in 1..4 {
         text.push_str("\n")?;
@@ -43,13 +43,13 @@ fn put_seen(sound: &Sound, inode: u64, text: &mut String) -> Result<(), AllocErr
         text.push_str(" ")?;
         let _ = put_inode(sound, inode, place, text);
     }
-    put_frozen(sound, inode, text)
+    put_revoked(sound, inode, text)
 }
 
-/// Appends whose lease of an inode is frozen.
-fn put_frozen(sound: &Sound, inode: u64, text: &mut String) -> Result<(), AllocError> {
+/// Appends whose lease of an inode is revoked.
+fn put_revoked(sound: &Sound, inode: u64, text: &mut String) -> Result<(), AllocError> {
     for lease in sound.state.leases.leases(inode) {
-        if lease.frozen {
+        if lease.revoked {
             let client = lease.holder;
             write!(text, " {client}")?;
         }

@@ -8,7 +8,7 @@ use assise_names::mode::Mode;
 use std::alloc::AllocError;
 
 /// Appends a client's home, how many of its calls were answered and how many inodes it made, the place up to which its log is to
-/// be replicated, and those up to which it ends, is acknowledged and is digested by all. None where there is no such client.
+/// be replicated, and those up to which it ends, is replicated and is digested by all. None where there is no such client.
 pub(crate) fn put_client(sound: &Sound, client: u32, text: &mut String) -> Option<()> {
     let state = &sound.state;
     if client == 0 || client as usize > state.clients.len() {
@@ -36,7 +36,7 @@ pub(crate) fn put_clients(sound: &Sound, node: u32, text: &mut String) -> Result
     }
 }
 
-/// Appends the place up to which a client's log is acknowledged.
+/// Appends the place up to which a client's log is replicated.
 pub(crate) fn put_acked(sound: &Sound, client: u32, text: &mut String) -> Result<(), AllocError> {
     match sound.acked(client) {
         Ok(acked) => write!(text, "{acked}"),
@@ -44,7 +44,7 @@ pub(crate) fn put_acked(sound: &Sound, client: u32, text: &mut String) -> Result
     }
 }
 
-/// Appends who holds an inode, by rising numbers, and in which mode.
+/// Appends who holds an inode, by ascending numbers, and in which mode.
 pub(crate) fn put_leases(sound: &Sound, inode: u64, text: &mut String) -> Result<(), AllocError> {
     let leases = sound.state.leases.leases(inode);
     if leases.is_empty() {
@@ -73,8 +73,8 @@ fn put_lease(lease: &Lease, text: &mut String) -> Result<(), AllocError> {
         Mode::Read => "read",
         Mode::Write => "write",
     };
-    let frozen = if lease.frozen { " frozen" } else { "" };
-    write!(text, "{client} {mode}{frozen}")
+    let revoked = if lease.revoked { " frozen" } else { "" };
+    write!(text, "{client} {mode}{revoked}")
 }
 
 /// Appends what an inode is in a node's area. None where there is no such node.

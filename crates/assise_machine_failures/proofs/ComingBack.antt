@@ -9,20 +9,20 @@ use Rattle.assise_names.specs.declared.refusal.Refusal.{Refusal}
 use Rattle.assise_manager.specs.Changes.{back, back_as, is_returning, return_fault, return_fault_of, stale_of}
 use Rattle.assise_manager.specs.Membership.{Membership, lowest_full, written_since}
 use Rattle.assise_manager.specs.Standings.{Standing, down, full, is_full, returning, standing_of, with_standing}
-use Rattle.assise_machine_returns.specs.Returns.{ComesBack}
-use Rattle.assise_machine_returns.proofs.Standing.{set_here}
-use Rattle.assise_machine_events.specs.Events.{Answer, began, refused}
-use Rattle.assise_machine_events.specs.MemberEvents.{IsBack, Returning, count_of, stale_at}
-use Rattle.assise_machine_events.specs.MemberEvents.Returning.{is_back, is_refused, lacks_memory}
+use Rattle.assise_model_members.specs.Returns.{BeginsReturn}
+use Rattle.assise_model_members.proofs.NodeStandings.{set_here}
+use Rattle.assise_model_events.specs.Events.{Answer, began, refused}
+use Rattle.assise_model_events.specs.MemberEvents.{IsBack, Returning, count_of, stale_at}
+use Rattle.assise_model_events.specs.MemberEvents.Returning.{is_back, is_refused, lacks_memory}
 use Rattle.assise_machine_state.specs.Changes.{after_members}
 use Rattle.assise_machine_state.specs.Observed.{is_full_in, observed, world_of}
-use Rattle.assise_machine_state.specs.Shape.{AreNoted, IsShaped}
+use Rattle.assise_machine_state.specs.Invariant.{CutsInvariant, ShapeInvariant}
 use Rattle.assise_machine_state.specs.StateValues.{StateValue, leases_of, standings}
-use Rattle.assise_machine_state.proofs.Resting.{members_areas, members_rest, members_shaped}
+use Rattle.assise_machine_state.proofs.AwayObserved.{members_areas, members_rest, members_shaped}
 use Rattle.assise_machine_state.proofs.Standings.{full_as, full_else, full_here, same_count}
 use Rattle.assise_machine_failures.specs.Copies.{LosesStale}
-use Rattle.assise_machine_failures.proofs.Dropping.{lost_else, lost_here, lost_is, lost_rests, lost_shaped, rests_more}
-use Rattle.assise_machine_failures.proofs.Refusing.{IsFaultOr, same_after}
+use Rattle.assise_machine_failures.proofs.DroppedCopies.{lost_else, lost_here, lost_is, lost_rests, lost_shaped, rests_more}
+use Rattle.assise_machine_failures.proofs.RefusedFailures.{IsFaultOr, same_after}
 
 -- ---- it is refused
 
@@ -56,7 +56,7 @@ counted (Some stale) n is = same_Some n (set.len stale) (sym is)
 
 -- node n was down, and begins to come back: m is the membership then
 pub record IsComing (s : StateValue) (n : ℕ) (m : Membership) : Type 0 where
-  pub shape : IsShaped s
+  pub shape : ShapeInvariant s
   pub fine : return_fault s.members n ≡ None
   pub members : m ≡ back s.members n
 
@@ -88,7 +88,7 @@ module _ {s : StateValue} {n : ℕ} {m : Membership} (comes : IsComing s n m) wh
   pub back_returning : is_returning (standing_of m.nodes n) ≡ true
   back_returning = ap is_returning stands_now
 
-  pub back_shaped : IsShaped t
+  pub back_shaped : ShapeInvariant t
   back_shaped = members_shaped s m comes.shape as_many as_full
 
   module _ {u : StateValue} (lost : LosesStale t n u) where
@@ -98,7 +98,7 @@ module _ {s : StateValue} {n : ℕ} {m : Membership} (comes : IsComing s n m) wh
     members_are : u.members ≡ back s.members n
     members_are = ap (λ v. v.members) rest_is ∙ comes.members
 
-    node_back : ComesBack (world_of s) s.members n (world_of u) u.members
+    node_back : BeginsReturn (world_of s) s.members n (world_of u) u.members
     node_back = record {
       fine = comes.fine;
       members = members_are;
@@ -127,8 +127,8 @@ module _ {s : StateValue} {n : ℕ} {m : Membership} (comes : IsComing s n m) wh
         let same : count ≡ stale_at u.members n = counted (stale_of (standing_of m.nodes n)) count some ∙ ap (λ o. stale_at o n) (sym (ap (λ v. v.members) rest_is)) in
         is_back comes.fine (ap began same) is_so
 
-    pub back_left : IsShaped u
+    pub back_left : ShapeInvariant u
     back_left = lost_shaped t n u back_shaped back_returning lost
 
-    pub back_noted : AreNoted s → AreNoted u
-    back_noted noted = subst AreNoted (sym rest_is) (record { once = noted.once; known = noted.known; noted = noted.noted })
+    pub back_noted : CutsInvariant s → CutsInvariant u
+    back_noted noted = subst CutsInvariant (sym rest_is) (record { once = noted.once; known = noted.known; noted = noted.noted })

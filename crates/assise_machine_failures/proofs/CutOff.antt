@@ -6,16 +6,16 @@ use Rattle.assise_digest.specs.Region.{HasClient, RegionValue, log_of, no_log, u
 use Rattle.assise_machine_state.specs.Changes.{with_clients_cut, with_clients_failed}
 use Rattle.assise_machine_state.specs.ClientValues.{ClientValue, client_in, client_seen, failed_at, with_client}
 use Rattle.assise_machine_state.specs.NodeValues.{AreUndigested, HasLog, IsUndigestedFrom, changed_in, log_in, log_seen, no_region, region_in, region_seen, with_tails_cut}
-use Rattle.assise_machine_state.specs.Places.{IsNumber, at}
+use Rattle.assise_machine_state.specs.Places.{IsNumber, item_at}
 use Rattle.assise_machine_state.proofs.CutSeen.{count_over}
-use Rattle.assise_machine_state.proofs.Logging.{beside_seen, count_seen, log_number}
-use Rattle.assise_machine_state.proofs.Seeing.{client_else, client_is, is_seen, less_one}
+use Rattle.assise_machine_state.proofs.LogChanges.{beside_seen, count_seen, log_number}
+use Rattle.assise_machine_state.proofs.ItemSeen.{client_else, client_is, is_seen, less_one}
 
 -- ---- a log that a node has
 
 pub seen_in : (rs : List RegionValue) (k c : ℕ) → HasLog rs k c → log_seen rs k c ≡ log_in rs k c
 unfolding log_seen region_seen
-seen_in rs k c has = ap (λ r. at no_log r.logs c) (is_seen no_region rs k has.node) ∙ is_seen no_log (region_in rs k).logs c (log_number rs k c has)
+seen_in rs k c has = ap (λ r. item_at no_log r.logs c) (is_seen no_region rs k has.node) ∙ is_seen no_log (region_in rs k).logs c (log_number rs k c has)
 
 pub count_in : (rs : List RegionValue) (k : ℕ) → IsNumber rs k → length (region_seen rs k).logs ≡ length (region_in rs k).logs
 unfolding region_seen

@@ -12,23 +12,23 @@ use Rattle.assise_private_log.specs.NumberedLog.{NumberedLog, end as log_end, re
 use Rattle.assise_inode_table.specs.Effects.{touched}
 use Rattle.assise_digest.specs.Region.{ReceivedLog}
 use Rattle.assise_manager.specs.Standings.{full_nodes}
-use Rattle.assise_machine_laws.specs.NodeSteps.{kept_at_failure}
-use Rattle.assise_machine_laws.specs.Sound.{IsSound}
-use Rattle.assise_machine_laws.specs.World.{World, call_at, end, records_between}
-use Rattle.assise_machine_history.specs.Lost.{is_cut, losses_to}
+use Rattle.assise_model_world.specs.NodeSteps.{kept_at_failure}
+use Rattle.assise_model_world.specs.Invariant.{WorldInvariant}
+use Rattle.assise_model_world.specs.World.{World, call_at, end_of_log, records_between}
+use Rattle.assise_model_history.specs.Lost.{is_cut, losses_to}
 use Rattle.assise_machine_state.specs.ClientValues.{client_in}
 use Rattle.assise_machine_state.specs.NodeValues.{log_in, log_seen}
 use Rattle.assise_machine_state.specs.Observed.{own_node, own_seen, world_of}
 use Rattle.assise_machine_state.specs.Places.{IsNumber}
-use Rattle.assise_machine_state.specs.Shape.{IsShaped}
+use Rattle.assise_machine_state.specs.Invariant.{ShapeInvariant}
 use Rattle.assise_machine_state.specs.StateValues.{StateValue, standings}
 use Rattle.assise_machine_state.proofs.Fullness.{log_is}
 use Rattle.assise_machine_state.proofs.Kept.{kept_from_first}
-use Rattle.assise_machine_state.proofs.Owning.{own_end, own_log}
-use Rattle.assise_machine_state.proofs.Seeing.{client_is, less_one}
+use Rattle.assise_machine_state.proofs.OwnLogs.{own_end, own_log}
+use Rattle.assise_machine_state.proofs.ItemSeen.{client_is, less_one}
 use Rattle.assise_machine_failures.specs.Answers.{loss_of}
 use Rattle.assise_machine_failures.specs.Listing.{kept_inodes, kept_to}
-use Rattle.assise_machine_failures.proofs.Keeping.{kept_count, kept_place}
+use Rattle.assise_machine_failures.proofs.KeptPlaces.{kept_count, kept_place}
 
 -- ---- one client more
 
@@ -123,7 +123,7 @@ nothing_lost l k first none =
 
 -- ---- a client's own log
 
-module _ (s : StateValue) (n c : ℕ) (shape : IsShaped s) (client : IsNumber s.clients c) (some : 0 < length (full_nodes (standings s))) where
+module _ (s : StateValue) (n c : ℕ) (shape : ShapeInvariant s) (client : IsNumber s.clients c) (some : 0 < length (full_nodes (standings s))) where
   abbrev own : ReceivedLog
   own = log_in s.nodes (own_node (standings s) (client_in s.clients c)) c
 
@@ -145,20 +145,20 @@ module _ (s : StateValue) (n c : ℕ) (shape : IsShaped s) (client : IsNumber s.
   first_is = ap (λ l. l.log.first) own_is
 
   -- it is kept from its first place on
-  pub first_kept : ∥ IsSound (world_of s) ∥₁ → own.log.first ≤ cut
+  pub first_kept : ∥ WorldInvariant (world_of s) ∥₁ → own.log.first ≤ cut
   first_kept sound = (let low : (world_of s).first c ≤ cut = ∥∥₁_elim sound (search props) (kept_from_first (world_of s) n c) in omega (arith, low, first_is))
 
   pub lost_here : (l : NumberedLog) (r : LogRecord) → l ≡ own.log → record_at l cut ≡ Some r → (is_cut (world_of s) n c ≡ true) × (call_at (world_of s) c cut ≡ r.call)
   unfolding call_at
   lost_here l r same is =
       let there = there_lost own.log cut ((world_of s).next c) r (ap (λ k. record_at k cut) (sym same) ∙ is) in
-      let low : cut < end (world_of s) c = subst (λ e. cut < e) (sym (own_end s c shape client some)) there.0 in
-      (lt-ltb cut (end (world_of s) c) low, (λ i. call_of (records_is i) (cut - first_is i) ((world_of s).next c)) ∙ there.1)
+      let low : cut < end_of_log (world_of s) c = subst (λ e. cut < e) (sym (own_end s c shape client some)) there.0 in
+      (lt-ltb cut (end_of_log (world_of s) c) low, (λ i. call_of (records_is i) (cut - first_is i) ((world_of s).next c)) ∙ there.1)
 
-  pub whole_here : (l : NumberedLog) → ∥ IsSound (world_of s) ∥₁ → l ≡ own.log → record_at l cut ≡ None → is_cut (world_of s) n c ≡ false
+  pub whole_here : (l : NumberedLog) → ∥ WorldInvariant (world_of s) ∥₁ → l ≡ own.log → record_at l cut ≡ None → is_cut (world_of s) n c ≡ false
   whole_here l sound same none =
       let past : log_end own.log ≤ cut = nothing_lost own.log cut (first_kept sound) (ap (λ k. record_at k cut) (sym same) ∙ none) in
-      le-ltb cut (end (world_of s) c) (subst (λ e. e ≤ cut) (sym (own_end s c shape client some)) past)
+      le-ltb cut (end_of_log (world_of s) c) (subst (λ e. e ≤ cut) (sym (own_end s c shape client some)) past)
 
   pub touched_here : (l : NumberedLog) → l ≡ own.log → touched (all_effects (take (cut - l.first) (records_from l l.first))) ≡ touched_kept (world_of s) n c
   unfolding records_between

@@ -8,26 +8,26 @@ use Rattle.assise_record.specs.Records.{all_effects}
 use Rattle.assise_inode_table.specs.Effects.{contains, touched}
 use Rattle.assise_lease_table.specs.declared.lease.Asked.{Asked}
 use Rattle.assise_lease_table.specs.LeaseMaps.{SameLeases as SameLeasesOf}
-use Rattle.assise_lease_table.specs.Leases.{Among, freeze, lease_of}
-use Rattle.assise_lease_tree.specs.Levels.{is_frozen, lives}
+use Rattle.assise_lease_table.specs.Leases.{Among, revoke, lease_of}
+use Rattle.assise_lease_tree.specs.Levels.{is_revoked, lives}
 use Rattle.assise_lease_tree.specs.TwoLevels.{TwoLevels}
 use Rattle.assise_manager.specs.Changes.{donor_of, failed, failure_fault, stale_of}
 use Rattle.assise_manager.specs.Standings.{full, standing_of}
-use Rattle.assise_machine_laws.specs.NodeSteps.{Drops, Fails}
-use Rattle.assise_machine_laws.specs.Sound.{IsSound}
-use Rattle.assise_machine_laws.specs.World.{Full, World, digested_by_all}
-use Rattle.assise_machine_laws.proofs.ClientsStaying.{rest_sound}
-use Rattle.assise_machine_laws.proofs.Failing.{fail_sound}
-use Rattle.assise_machine_leases.specs.Handing.{FailsWith as LeasesFail}
-use Rattle.assise_machine_returns.specs.Returns.{FailsWith}
-use Rattle.assise_machine_history.specs.Lost.{losses_of}
-use Rattle.assise_machine_events.specs.Events.{fail as fail_event, failed as failed_answer}
-use Rattle.assise_machine_events.specs.Machine.{Holds}
-use Rattle.assise_machine_events.specs.MemberEvents.{Failing, IsFailed, is_failed}
-use Rattle.assise_machine_events.proofs.EachEvent.{event_keeps}
+use Rattle.assise_model_world.specs.NodeSteps.{Drops, Fails}
+use Rattle.assise_model_world.specs.Invariant.{WorldInvariant}
+use Rattle.assise_model_world.specs.World.{Full, World, digested_by_all}
+use Rattle.assise_model_world.proofs.ClientsStaying.{rest_sound}
+use Rattle.assise_model_world.proofs.FailureKeeps.{fail_sound}
+use Rattle.assise_model_leases.specs.Handing.{FailsWithLeases as LeasesFail}
+use Rattle.assise_model_members.specs.Returns.{FailsWithMembers}
+use Rattle.assise_model_history.specs.Lost.{losses_of}
+use Rattle.assise_model_events.specs.Events.{fail as fail_event, failed as failed_answer}
+use Rattle.assise_model_events.specs.Machine.{MachineInvariant}
+use Rattle.assise_model_events.specs.MemberEvents.{Failing, IsFailed, is_failed}
+use Rattle.assise_model_events.proofs.EachEvent.{event_keeps}
 use Rattle.assise_machine_state.specs.Changes.{after_failure, drops_to}
 use Rattle.assise_machine_state.specs.Observed.{is_full_in, observed, world_of}
-use Rattle.assise_machine_state.specs.Shape.{AreLeft, AreNoted, IsShaped}
+use Rattle.assise_machine_state.specs.Invariant.{AreLeft, CutsInvariant, ShapeInvariant}
 use Rattle.assise_machine_state.specs.StateValues.{StateValue, leases_of, standings}
 use Rattle.assise_machine_state.proofs.Dropped.{StillDropping, all_dropped, same_dropping}
 use Rattle.assise_machine_state.proofs.FailureSeen.{failure_areas, failure_seen, failure_shaped}
@@ -35,7 +35,7 @@ use Rattle.assise_machine_state.proofs.Noted.{failure_noted, noted_known, still_
 use Rattle.assise_machine_state.proofs.Fullness.{seen_full}
 use Rattle.assise_machine_state.proofs.Standings.{survivor_left}
 use Rattle.assise_machine_failures.proofs.FailSettled.{fails_settled}
-use Rattle.assise_machine_failures.proofs.Losing.{AllLoseAt, StillLosing, all_still, one_loses, others_stay}
+use Rattle.assise_machine_failures.proofs.LostCopies.{AllLoseAt, StillLosing, all_still, one_loses, others_stay}
 use Rattle.assise_machine_failures.proofs.TakenDown.{few_clients}
 
 -- who holds what is the same where all is that it is made of
@@ -47,36 +47,36 @@ same_leases t v levels cuts clients = (λ i. leases_of (record t { levels = leve
 
 -- a full node that may fail, in a state where all invariants hold
 pub record MayFail (s : StateValue) (n : ℕ) : Type 0 where
-  pub holds : ∥ Holds (observed s) ∥₁
-  pub shape : IsShaped s
-  pub noted : AreNoted s
+  pub holds : ∥ MachineInvariant (observed s) ∥₁
+  pub shape : ShapeInvariant s
+  pub noted : CutsInvariant s
   pub stands : standing_of (standings s) n ≡ Some full
   pub fine : failure_fault s.members n ≡ None
 
 -- the node is down, and the records of its clients are cut
 pub record IsCut (s : StateValue) (n : ℕ) (t : StateValue) : Type 0 where
   pub fails : Fails (world_of s) n (world_of t)
-  pub shape : IsShaped t
+  pub shape : ShapeInvariant t
 
--- the event, with what holds after it
+-- the event, with the invariant after it
 pub record Gives (s : StateValue) (n : ℕ) (v : StateValue) : Type 0 where
   pub happens : Failing (observed s) n (failed_answer (losses_of (world_of s) n)) (observed v)
-  pub holds : ∥ Holds (observed v) ∥₁
-  pub shape : IsShaped v
-  pub noted : AreNoted v
+  pub holds : ∥ MachineInvariant (observed v) ∥₁
+  pub shape : ShapeInvariant v
+  pub noted : CutsInvariant v
 
--- the nodes that were filled from it have lost their copies, and the event has happened as soon as fronts are dropped
+-- the nodes that were filled from it have lost their copies, and the event has happened as soon as prefixes are dropped
 pub record IsRefreshed (s : StateValue) (n : ℕ) (u : StateValue) : Type 0 where
-  pub shape : IsShaped u
-  pub sound : ∥ IsSound (world_of u) ∥₁
+  pub shape : ShapeInvariant u
+  pub sound : ∥ WorldInvariant (world_of u) ∥₁
   pub few : length u.clients < 4294967296
   pub gives : Gives s n (drops_to u (length u.clients))
 
--- ---- what is frozen
+-- ---- what is revoked
 
-pub record FreezesBelow (s : StateValue) (n : ℕ) (levels : TwoLevels) (asked : List Asked) : Type 0 where
+pub record RevokesBelow (s : StateValue) (n : ℕ) (levels : TwoLevels) (asked : List Asked) : Type 0 where
   pub home : (c : ℕ) → levels.home c ≡ s.levels.home c
-  pub clients : (i : ℕ) → levels.clients i ≡ freeze (λ a. lives s.levels.home a.holder n) (s.levels.clients i)
+  pub clients : (i : ℕ) → levels.clients i ≡ revoke (λ a. lives s.levels.home a.holder n) (s.levels.clients i)
   pub nodes : SameLeasesOf s.levels.nodes levels.nodes
   pub left : AreLeft s (λ c. lives s.levels.home c n) asked
 
@@ -91,7 +91,7 @@ pub record AreFilled (s : StateValue) (n : ℕ) (ks : List ℕ) : Type 0 where
   pub all : (k : ℕ) → donor_of (standing_of (standings s) k) ≡ Some n → Among ks k
 
 module _ (s : StateValue) (n : ℕ) (inodes : set.FinSet nat_cmp) (levels : TwoLevels) (asked : List Asked) (may : MayFail s n)
-    (freezes : FreezesBelow s n levels asked) where
+    (revokes : RevokesBelow s n levels asked) where
   abbrev w : World
   w = world_of s
 
@@ -102,7 +102,7 @@ module _ (s : StateValue) (n : ℕ) (inodes : set.FinSet nat_cmp) (levels : TwoL
   unfolding observed
   seen_some =
       ∥∥₁_map may.holds
-      (λ h. failure_seen s n inodes levels asked may.shape may.stands h.sound may.fine freezes.clients freezes.home freezes.nodes freezes.left h.leases)
+      (λ h. failure_seen s n inodes levels asked may.shape may.stands h.sound may.fine revokes.clients revokes.home revokes.nodes revokes.left h.leases)
 
   survivor : (m : ℕ) × ((m ≢ n) × Full w m)
   survivor =
@@ -116,24 +116,24 @@ module _ (s : StateValue) (n : ℕ) (inodes : set.FinSet nat_cmp) (levels : TwoL
   unfolding leases_of
   seen = record {
     fails = node_fails;
-    home = freezes.home;
-    clients = freezes.clients;
-    nodes = freezes.nodes;
+    home = revokes.home;
+    clients = revokes.clients;
+    nodes = revokes.nodes;
     cut_here = λ c i here. ∥∥₁_elim seen_some (Coded-set coded_ℕ ((leases_of t).cut c i) _) (λ f. f.cut_here c i here);
     cut_else = λ c i other. ∥∥₁_elim seen_some (Coded-set coded_ℕ ((leases_of t).cut c i) _) (λ f. f.cut_else c i other);
   }
 
-  cut_shaped : IsShaped t
+  cut_shaped : ShapeInvariant t
   unfolding observed
   cut_shaped = failure_shaped s n inodes levels asked may.shape may.stands (∥∥₁_map may.holds (λ h. h.sound)) may.fine
 
-  cut_sound : ∥ IsSound (world_of t) ∥₁
+  cut_sound : ∥ WorldInvariant (world_of t) ∥₁
   unfolding observed
   cut_sound = ∥∥₁_map may.holds (λ h. fail_sound w (world_of t) n h.sound node_fails)
 
-  cut_noted : AreNoted t
+  cut_noted : CutsInvariant t
   unfolding observed
-  cut_noted = noted_known t (∥∥₁_map may.holds (λ h. failure_noted s n inodes levels asked may.noted h.leases freezes.clients freezes.left))
+  cut_noted = noted_known t (∥∥₁_map may.holds (λ h. failure_noted s n inodes levels asked may.noted h.leases revokes.clients revokes.left))
 
   pub is_cut : IsCut s n t
   is_cut = record { fails = node_fails; shape = cut_shaped }
@@ -142,7 +142,7 @@ module _ (s : StateValue) (n : ℕ) (inodes : set.FinSet nat_cmp) (levels : TwoL
     losing : StillLosing t u
     losing = all_still t ks u cut_shaped lose
 
-    lost_sound : ∥ IsSound (world_of u) ∥₁
+    lost_sound : ∥ WorldInvariant (world_of u) ∥₁
     lost_sound = ∥∥₁_map cut_sound (λ h. rest_sound (world_of t) (world_of u) h losing.rests)
 
     dropping : StillDropping u (drops_to u (length u.clients))
@@ -160,7 +160,7 @@ module _ (s : StateValue) (n : ℕ) (inodes : set.FinSet nat_cmp) (levels : TwoL
     members_end : v.members ≡ failed s.members n inodes
     members_end = dropping.members ∙ losing.members
 
-    fails_with : AreTouched (world_of t) inodes → FailsWith w s.members n inodes (world_of t) (world_of u) v.members
+    fails_with : AreTouched (world_of t) inodes → FailsWithMembers w s.members n inodes (world_of t) (world_of u) v.members
     fails_with touches = record {
       fails = node_fails;
       rests = losing.rests;
@@ -198,7 +198,7 @@ module _ (s : StateValue) (n : ℕ) (inodes : set.FinSet nat_cmp) (levels : TwoL
       shape = dropping.shape;
       noted =
           still_noted t v (dropping.cuts ∙ losing.cuts) (let same = ap length (dropping.clients ∙ losing.clients) in omega (arith, same))
-          (λ c i. ap (λ l. is_frozen (lease_of (l.clients i) c)) (dropping.levels ∙ losing.levels)) cut_noted;
+          (λ c i. ap (λ l. is_revoked (lease_of (l.clients i) c)) (dropping.levels ∙ losing.levels)) cut_noted;
     }
 
     pub is_refreshed : AreTouched (world_of t) inodes → IsRefreshed s n u

@@ -6,25 +6,25 @@ use Rattle.std.specs.FinSet as set
 use Rattle.assise_names.specs.declared.refusal.Refusal.{Refusal}
 use Rattle.assise_names.specs.declared.refusal.Refusal.TheVariants.{BadNode, WrongPhase}
 use Rattle.assise_history.specs.declared.call.Loss.{Loss}
-use Rattle.assise_history.specs.Entries.{Event, fails}
-use Rattle.assise_history.proofs.Counting.{durability-still}
+use Rattle.assise_history.specs.Entries.{EntryValue, fails}
+use Rattle.assise_history.proofs.ClientCounts.{durability-still}
 use Rattle.assise_manager.specs.declared.phase.Phase.{Phase}
 use Rattle.assise_manager.specs.declared.phase.Phase.TheVariants.{Full, Down, Returning}
 use Rattle.assise_manager.specs.Changes.{failed, failed_as, failure_fault_of, is_returning}
 use Rattle.assise_manager.specs.Membership.{Membership}
 use Rattle.assise_manager.specs.Standings.{Standing, down, full, phase_of, returning, standing_of, with_standing}
-use Rattle.assise_machine_laws.specs.NodeSteps.{Rests}
-use Rattle.assise_machine_history.proofs.Numbering.{kept_fail_none}
-use Rattle.assise_machine_events.specs.Events.{fail as fail_event, failed as failed_answer}
-use Rattle.assise_machine_events.specs.Machine.{Holds}
-use Rattle.assise_machine_events.specs.MemberEvents.{Failing, IsFailedAgain, is_failed_again}
-use Rattle.assise_machine_events.proofs.EachEvent.{event_keeps}
+use Rattle.assise_model_world.specs.NodeSteps.{Rests}
+use Rattle.assise_model_history.proofs.NumberedCalls.{kept_fail_none}
+use Rattle.assise_model_events.specs.Events.{fail as fail_event, failed as failed_answer}
+use Rattle.assise_model_events.specs.Machine.{MachineInvariant}
+use Rattle.assise_model_events.specs.MemberEvents.{Failing, IsFailedAgain, is_failed_again}
+use Rattle.assise_model_events.proofs.EachEvent.{event_keeps}
 use Rattle.assise_machine_state.specs.Changes.{after_members}
 use Rattle.assise_machine_state.specs.Observed.{is_full_in, observed, own_seen, world_of}
-use Rattle.assise_machine_state.specs.Shape.{AreNoted, IsShaped}
+use Rattle.assise_machine_state.specs.Invariant.{CutsInvariant, ShapeInvariant}
 use Rattle.assise_machine_state.specs.StateValues.{StateValue, leases_of, standings}
 use Rattle.assise_machine_state.proofs.Noted.{still_noted}
-use Rattle.assise_machine_state.proofs.Resting.{members_rest, members_shaped}
+use Rattle.assise_machine_state.proofs.AwayObserved.{members_rest, members_shaped}
 use Rattle.assise_machine_state.proofs.Standings.{full_as, full_else, full_here, same_count}
 
 -- ---- how it stood
@@ -82,9 +82,9 @@ module _ (m : Membership) (n : ℕ) where
 
 -- node n comes back, in a state where all invariants hold
 pub record WasReturning (s : StateValue) (n : ℕ) : Type 0 where
-  pub holds : ∥ Holds (observed s) ∥₁
-  pub shape : IsShaped s
-  pub noted : AreNoted s
+  pub holds : ∥ MachineInvariant (observed s) ∥₁
+  pub shape : ShapeInvariant s
+  pub noted : CutsInvariant s
   pub returning : is_returning (standing_of (standings s) n) ≡ true
 
 module _ {s : StateValue} {n : ℕ} (was : WasReturning s n) where
@@ -131,28 +131,28 @@ module _ {s : StateValue} {n : ℕ} (was : WasReturning s n) where
   unfolding observed
   again_happens = is_failed_again (back_fine s.members (standing_of (standings s) n) was.returning) refl fails_again
 
-  again_holds : ∥ Holds (observed t) ∥₁
+  again_holds : ∥ MachineInvariant (observed t) ∥₁
   again_holds = ∥∥₁_map was.holds (λ h. event_keeps (observed s) (observed t) (fail_event n) (failed_answer []) h again_happens)
 
-  again_shaped : IsShaped t
+  again_shaped : ShapeInvariant t
   unfolding own_seen
   again_shaped = of_members (members_shaped s m was.shape long same)
     where
-      of_members : IsShaped u → IsShaped t
+      of_members : ShapeInvariant u → ShapeInvariant t
       of_members h = record { nodes = h.nodes; few_nodes = h.few_nodes; logs = h.logs; no_logs = h.no_logs; at_home = h.at_home; limits = h.limits; least_limit = h.least_limit; most_limit = h.most_limit; marked = h.marked; durabilities = λ c. h.durabilities c ∙ sym (durability-still s.history (fails n []) c refl) }
 
-  again_noted : AreNoted t
+  again_noted : CutsInvariant t
   again_noted = still_noted s t refl (omega arith) (λ c i. refl) was.noted
 
 -- ---- as the code has it
 
 -- the membership and the history once node n is down again
-pub record IsDownAgain (s : StateValue) (n : ℕ) (now : Membership) (h : List Event) : Type 0 where
+pub record IsDownAgain (s : StateValue) (n : ℕ) (now : Membership) (h : List EntryValue) : Type 0 where
   pub was : WasReturning s n
   pub members : now ≡ failed s.members n (set.from_list [])
   pub told : h ≡ s.history ++ fails n [] ∷ []
 
-module _ {s : StateValue} {n : ℕ} {now : Membership} {h : List Event} (down_again : IsDownAgain s n now h) where
+module _ {s : StateValue} {n : ℕ} {now : Membership} {h : List EntryValue} (down_again : IsDownAgain s n now h) where
   abbrev x : StateValue
   x = record s { members = now; history = h }
 
@@ -164,11 +164,11 @@ module _ {s : StateValue} {n : ℕ} {now : Membership} {h : List Event} (down_ag
       subst (λ a. Failing (observed s) n (failed_answer a) (observed x)) (sym none)
       (subst (λ y. Failing (observed s) n (failed_answer []) (observed y)) (sym so) (again_happens down_again.was))
 
-  pub holds_again : ∥ Holds (observed x) ∥₁
-  holds_again = subst (λ y. ∥ Holds (observed y) ∥₁) (sym so) (again_holds down_again.was)
+  pub holds_again : ∥ MachineInvariant (observed x) ∥₁
+  holds_again = subst (λ y. ∥ MachineInvariant (observed y) ∥₁) (sym so) (again_holds down_again.was)
 
-  pub shaped_again : IsShaped x
-  shaped_again = subst IsShaped (sym so) (again_shaped down_again.was)
+  pub shaped_again : ShapeInvariant x
+  shaped_again = subst ShapeInvariant (sym so) (again_shaped down_again.was)
 
-  pub noted_again : AreNoted x
-  noted_again = subst AreNoted (sym so) (again_noted down_again.was)
+  pub noted_again : CutsInvariant x
+  noted_again = subst CutsInvariant (sym so) (again_noted down_again.was)

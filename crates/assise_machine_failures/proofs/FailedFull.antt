@@ -13,20 +13,20 @@ use Rattle.assise_lease_tree.specs.TwoLevels.{TwoLevels}
 use Rattle.assise_manager.specs.Changes.{donor_of, failed, failure_fault, failure_fault_of, is_returning, refilled_from, with_epoch, failed_as}
 use Rattle.assise_manager.specs.Membership.{Membership, lowest_full, written_since}
 use Rattle.assise_manager.specs.Standings.{Standing, full, full_nodes, down, returning, standing_of}
-use Rattle.assise_machine_returns.proofs.Standing.{mapped_at, set_else}
-use Rattle.assise_machine_events.specs.Events.{Answer, failed as failed_answer, refused}
-use Rattle.assise_machine_events.specs.MemberEvents.{Failing, is_refused, lacks_memory}
+use Rattle.assise_model_members.proofs.NodeStandings.{mapped_at, set_else}
+use Rattle.assise_model_events.specs.Events.{Answer, failed as failed_answer, refused}
+use Rattle.assise_model_events.specs.MemberEvents.{Failing, is_refused, lacks_memory}
 use Rattle.assise_machine_state.specs.Changes.{after_failure, drops_to}
 use Rattle.assise_machine_state.specs.Observed.{observed, world_of}
-use Rattle.assise_machine_state.specs.Shape.{IsShaped}
+use Rattle.assise_machine_state.specs.Invariant.{ShapeInvariant}
 use Rattle.assise_machine_state.specs.StateValues.{StateValue, standings}
 use Rattle.assise_machine_failures.specs.declared.failure.Failure.{Failure}
 use Rattle.assise_machine_failures.specs.Answers.{loss_of}
 use Rattle.assise_machine_failures.specs.Copies.{AllLose, AreReturning, LosesStale}
-use Rattle.assise_machine_failures.specs.Failures.{FreezesBelow, IsListed}
-use Rattle.assise_machine_failures.proofs.Failed.{AreFilled, AreTouched, FreezesBelow as Freezes, Gives, IsCut, IsRefreshed, MayFail, is_cut, is_refreshed}
+use Rattle.assise_machine_failures.specs.Failures.{RevokesBelow, IsListed}
+use Rattle.assise_machine_failures.proofs.Failed.{AreFilled, AreTouched, RevokesBelow as Revokes, Gives, IsCut, IsRefreshed, MayFail, is_cut, is_refreshed}
 use Rattle.assise_machine_failures.proofs.Listed.{filled_all, filled_only, touched_all, touched_only}
-use Rattle.assise_machine_failures.proofs.Losing.{all_at, lose_more}
+use Rattle.assise_machine_failures.proofs.LostCopies.{all_at, lose_more}
 
 -- ---- what is wrong about it
 
@@ -67,8 +67,8 @@ back_still written low n (Some (returning since from stale)) is =
     ]
 
 module _ (m : Membership) (n : ℕ) (inodes : set.FinSet nat_cmp) (stands : standing_of m.nodes n ≡ Some full) where
-  apart : (k : ℕ) → donor_of (standing_of m.nodes k) ≡ Some n → k ≢ n
-  apart k from same = absurd (let bad : ◌≡◌ {A = Option ℕ} None (Some n) = sym (ap donor_of (ap (standing_of m.nodes) same ∙ stands)) ∙ from in cc)
+  disjoint : (k : ℕ) → donor_of (standing_of m.nodes k) ≡ Some n → k ≢ n
+  disjoint k from same = absurd (let bad : ◌≡◌ {A = Option ℕ} None (Some n) = sym (ap donor_of (ap (standing_of m.nodes) same ∙ stands)) ∙ from in cc)
 
   filled_back : (k : ℕ) → donor_of (standing_of m.nodes k) ≡ Some n → is_returning (standing_of (failed m n inodes).nodes k) ≡ true
   filled_back k from =
@@ -77,7 +77,7 @@ module _ (m : Membership) (n : ℕ) (inodes : set.FinSet nat_cmp) (stands : stan
       ap (λ ns. is_returning (standing_of ns k)) (ap (λ o. (failed_by o).nodes) stands)
       ∙ ap is_returning (mapped_at (refilled_from (written_since begun) low n) begun.nodes k)
       ∙ ap (λ o. is_returning (option_map (refilled_from (written_since begun) low n) o))
-      (set_else m.nodes n k full (down (m.epoch + 1)) stands (apart k from))
+      (set_else m.nodes n k full (down (m.epoch + 1)) stands (disjoint k from))
       ∙ back_still (written_since begun) low n (standing_of m.nodes k) from
     where
       failed_by : Option Standing → Membership
@@ -90,16 +90,16 @@ all_back t (k ∷ ks) each = (each k (inl refl), all_back t ks (λ j there. each
 -- ---- copies that go, node by node
 
 -- the loop's copies are those of all nodes
-pub lose_all : (t u : StateValue) (ks js : List ℕ) (count : ℕ) → js ≡ ks → count ≡ length ks → AllLose t (take count js) u → AllLose t ks u
-lose_all t u ks js count is all lose = subst (λ l. AllLose t l u) ((λ i. take (all i) (is i)) ∙ take_all (length ks) ks (omega arith)) lose
+pub lose_all : (t u : StateValue) (ks : List ℕ) (count : ℕ) → count ≡ length ks → AllLose t (take count ks) u → AllLose t ks u
+lose_all t u ks count all lose = subst (λ l. AllLose t l u) (ap (λ k. take k ks) all ∙ take_all (length ks) ks (omega arith)) lose
 
 -- one node more
-pub lose_next : (t v u : StateValue) (ks : List ℕ) (count : ℕ) → 0 < count → count ≤ length ks → AllLose t (take (count - 1) ks) v →
-    LosesStale v (slice_index_or ks (count - 1) 0) u → AllLose t (take count ks) u
-lose_next t v u ks count some few all one =
-    let next : suc (count - 1) ≡ count = omega (arith, some) in
-    subst (λ l. AllLose t l u) (sym (take-suc ks (count - 1) 0 (omega (arith, some, few))) ∙ ap (λ k. take k ks) next)
-    (lose_more t v u (take (count - 1) ks) (slice_index_or ks (count - 1) 0) all one)
+pub lose_next : (t v u : StateValue) (ks : List ℕ) (count : ℕ) → count < length ks → AllLose t (take count ks) v →
+    LosesStale v (slice_index_or ks count 0) u → AllLose t (take (count + 1) ks) u
+lose_next t v u ks count few all one =
+    let next : suc count ≡ count + 1 = omega arith in
+    subst (λ l. AllLose t l u) (sym (take-suc ks count 0 few) ∙ ap (λ k. take k ks) next)
+    (lose_more t v u (take count ks) (slice_index_or ks count 0) all one)
 
 -- ---- what is known, step by step
 
@@ -108,7 +108,7 @@ pub record IsTakenDown (s : StateValue) (n : ℕ) (f : Failure) (t : StateValue)
   pub may : MayFail s n
   pub listed : IsListed s n f
   pub levels : TwoLevels
-  pub frozen : FreezesBelow s.levels levels n
+  pub revoked : RevokesBelow s.levels levels n
   pub down : t ≡ after_failure s n (set.from_list f.inodes.items) levels f.asked.items
   pub filled : ks ≡ f.filled.items
 
@@ -117,12 +117,10 @@ pub record AreCopiesDropped (s : StateValue) (n : ℕ) (f : Failure) (u : StateV
   pub taken : StateValue
   pub nodes : List ℕ
   pub is_down : IsTakenDown s n f taken nodes
-  pub count : ℕ
-  pub all : count ≡ length nodes
-  pub lose : AllLose taken (take count nodes) u
+  pub lose : AllLose taken nodes u
 
--- then the fronts of all clients are dropped, and x is the state
-pub record AreFrontsDropped (s : StateValue) (n : ℕ) (f : Failure) (x : StateValue) : Type 0 where
+-- then the prefixes of all clients are dropped, and x is the state
+pub record ArePrefixesDropped (s : StateValue) (n : ℕ) (f : Failure) (x : StateValue) : Type 0 where
   pub refreshed : StateValue
   pub copies : AreCopiesDropped s n f refreshed
   pub last : ℕ
@@ -132,18 +130,18 @@ pub record AreFrontsDropped (s : StateValue) (n : ℕ) (f : Failure) (x : StateV
 -- ---- what follows from the failure as it was listed
 
 module _ (s : StateValue) (n : ℕ) (f : Failure) (levels : TwoLevels) (may : MayFail s n) (listed : IsListed s n f)
-    (frozen : FreezesBelow s.levels levels n) where
+    (revoked : RevokesBelow s.levels levels n) where
   abbrev inodes : set.FinSet nat_cmp
   inodes = set.from_list f.inodes.items
 
   abbrev t : StateValue
   t = after_failure s n inodes levels f.asked.items
 
-  freezes : Freezes s n levels f.asked.items
-  freezes = record { home = frozen.home; clients = frozen.clients; nodes = frozen.nodes; left = listed.asked }
+  revokes : Revokes s n levels f.asked.items
+  revokes = record { home = revoked.home; clients = revoked.clients; nodes = revoked.nodes; left = listed.asked }
 
   cut : IsCut s n t
-  cut = is_cut s n inodes levels f.asked.items may freezes
+  cut = is_cut s n inodes levels f.asked.items may revokes
 
   touches : AreTouched (world_of t) inodes
   touches = record {
@@ -154,7 +152,7 @@ module _ (s : StateValue) (n : ℕ) (f : Failure) (levels : TwoLevels) (may : Ma
   filled : AreFilled s n f.filled.items
   filled = record { only = filled_only s n f.filled.items listed.filled; all = filled_all s n f.filled.items listed.filled may.shape }
 
-  down_shaped : IsShaped t
+  down_shaped : ShapeInvariant t
   down_shaped = cut.shape
 
   filled_returning : AreReturning t f.filled.items
@@ -162,29 +160,29 @@ module _ (s : StateValue) (n : ℕ) (f : Failure) (levels : TwoLevels) (may : Ma
 
   all_refreshed : (u : StateValue) → AllLose t f.filled.items u → IsRefreshed s n u
   all_refreshed u lose =
-      is_refreshed s n inodes levels f.asked.items may freezes f.filled.items u filled (all_at t f.filled.items u cut.shape filled_returning lose) touches
+      is_refreshed s n inodes levels f.asked.items may revokes f.filled.items u filled (all_at t f.filled.items u cut.shape filled_returning lose) touches
 
 -- ---- the same, by the states that the code comes to
 
 module _ {s : StateValue} {n : ℕ} {f : Failure} where
   pub returning_now : {t : StateValue} {ks : List ℕ} → IsTakenDown s n f t ks → AreReturning t ks
   returning_now {t} {ks} d =
-      subst (AreReturning t) (sym d.filled) (subst (λ x. AreReturning x f.filled.items) (sym d.down) (filled_returning s n f d.levels d.may d.listed d.frozen))
+      subst (AreReturning t) (sym d.filled) (subst (λ x. AreReturning x f.filled.items) (sym d.down) (filled_returning s n f d.levels d.may d.listed d.revoked))
 
-  pub shaped_now : {t : StateValue} {ks : List ℕ} → IsTakenDown s n f t ks → IsShaped t
-  shaped_now d = subst IsShaped (sym d.down) (down_shaped s n f d.levels d.may d.listed d.frozen)
+  pub shaped_now : {t : StateValue} {ks : List ℕ} → IsTakenDown s n f t ks → ShapeInvariant t
+  shaped_now d = subst ShapeInvariant (sym d.down) (down_shaped s n f d.levels d.may d.listed d.revoked)
 
   pub refreshed_now : {u : StateValue} → AreCopiesDropped s n f u → IsRefreshed s n u
   refreshed_now {u} c =
       let d = c.is_down in
-      all_refreshed s n f d.levels d.may d.listed d.frozen u
-      (lose_all _ u f.filled.items c.nodes c.count d.filled (c.all ∙ ap length d.filled) (subst (λ x. AllLose x (take c.count c.nodes) u) d.down c.lose))
+      all_refreshed s n f d.levels d.may d.listed d.revoked u
+      (subst (λ ks. AllLose (after_failure s n (set.from_list f.inodes.items) d.levels f.asked.items) ks u) d.filled (subst (λ x. AllLose x c.nodes u) d.down c.lose))
 
-  pub given_now : {x : StateValue} → AreFrontsDropped s n f x → Gives s n x
+  pub given_now : {x : StateValue} → ArePrefixesDropped s n f x → Gives s n x
   given_now d = subst (Gives s n) (sym (d.drops ∙ ap (drops_to d.refreshed) d.all)) (refreshed_now d.copies).gives
 
   -- the answer tells what was listed as lost
-  pub happens_now : {x : StateValue} (losses : List (ℕ × ℕ)) → AreFrontsDropped s n f x → losses ≡ f.losses.items →
+  pub happens_now : {x : StateValue} (losses : List (ℕ × ℕ)) → ArePrefixesDropped s n f x → losses ≡ f.losses.items →
       Failing (observed s) n (failed_answer (map loss_of losses)) (observed x)
   happens_now {x} losses d is =
       subst (λ ls. Failing (observed s) n (failed_answer ls) (observed x)) (sym (ap (map loss_of) is ∙ d.copies.is_down.listed.losses)) (given_now d).happens

@@ -4,7 +4,7 @@ use Rattle.std.specs.Result.{result_eq}
 use Rattle.assise_names.specs.declared.refusal.Refusal.{Refusal}
 use Rattle.assise_manager.specs.Changes.{donor_of, filling_fault_of}
 use Rattle.assise_manager.specs.Standings.{Standing, down, full, returning, standing_of}
-use Rattle.assise_machine_state.proofs.Seeing.{less_one}
+use Rattle.assise_machine_state.proofs.ItemSeen.{less_one}
 use Rattle.assise_machine_failures.specs.Listing.{filled_from, is_number}
 
 -- ---- one node more

@@ -9,19 +9,19 @@ use Rattle.std.specs.FinSet.{contains-from_list_nat}
 use Rattle.assise_record.specs.LogRecord.{LogRecord}
 use Rattle.assise_record.specs.Records.{all_effects}
 use Rattle.assise_inode_table.specs.Effects.{contains, touched}
-use Rattle.assise_inode_table.proofs.Making.{contains-append}
+use Rattle.assise_inode_table.proofs.EffectValues.{contains-append}
 use Rattle.assise_lease_table.specs.Leases.{Among}
-use Rattle.assise_lease_table.proofs.Elements.{among_front, among_last, among_push}
+use Rattle.assise_lease_table.proofs.Elements.{among_prefix, among_last, among_push}
 use Rattle.assise_digest.specs.Region.{no_log}
 use Rattle.assise_manager.specs.Changes.{donor_of}
 use Rattle.assise_manager.specs.Standings.{Standing, standing_of}
-use Rattle.assise_machine_laws.specs.NodeSteps.{kept_at_failure}
-use Rattle.assise_machine_laws.specs.World.{World, records_between}
+use Rattle.assise_model_world.specs.NodeSteps.{kept_at_failure}
+use Rattle.assise_model_world.specs.World.{World, records_between}
 use Rattle.assise_machine_state.specs.ClientValues.{client_seen}
 use Rattle.assise_machine_state.specs.NodeValues.{log_seen, region_seen}
 use Rattle.assise_machine_state.specs.Observed.{is_full_in, own_node, own_seen, world_of}
-use Rattle.assise_machine_state.specs.Places.{IsNumber, at}
-use Rattle.assise_machine_state.specs.Shape.{IsShaped}
+use Rattle.assise_machine_state.specs.Places.{IsNumber, item_at}
+use Rattle.assise_machine_state.specs.Invariant.{ShapeInvariant}
 use Rattle.assise_machine_state.specs.StateValues.{StateValue, standings}
 use Rattle.assise_machine_state.proofs.Fullness.{no_log_there}
 use Rattle.assise_machine_state.proofs.Standings.{numbers}
@@ -49,8 +49,8 @@ to_touched w n (suc m) c i low high there =
 
 -- ---- who is no client has no records
 
-not_seen : {X : Type 0} (none : X) (xs : List X) (d : ℕ) → (IsNumber xs d → ⊥) → at none xs d ≡ none
-unfolding at
+not_seen : {X : Type 0} (none : X) (xs : List X) (d : ℕ) → (IsNumber xs d → ⊥) → item_at none xs d ≡ none
+unfolding item_at
 not_seen none xs zero other = refl
 not_seen none xs (suc k) other =
     elim (cases_lt k (length xs)) [
@@ -58,7 +58,7 @@ not_seen none xs (suc k) other =
       | inr past ↦ get_or_past xs k none past
     ]
 
-no_log_seen : (s : StateValue) (m c : ℕ) → IsShaped s → (IsNumber s.clients c → ⊥) → log_seen s.nodes m c ≡ no_log
+no_log_seen : (s : StateValue) (m c : ℕ) → ShapeInvariant s → (IsNumber s.clients c → ⊥) → log_seen s.nodes m c ≡ no_log
 unfolding log_seen
 no_log_seen s m c shape other =
     elim (cases_Bool (is_full_in (standings s) m)) [
@@ -68,7 +68,7 @@ no_log_seen s m c shape other =
       | inr away ↦ no_log_there s m c shape away
     ]
 
-no_records : (s : StateValue) (c : ℕ) → IsShaped s → (IsNumber s.clients c → ⊥) → (world_of s).records c ≡ []
+no_records : (s : StateValue) (c : ℕ) → ShapeInvariant s → (IsNumber s.clients c → ⊥) → (world_of s).records c ≡ []
 unfolding world_of own_seen
 no_records s c shape other = ap (λ l. l.log.records) (no_log_seen s (own_node (standings s) (client_seen s.clients c)) c shape other)
 
@@ -81,7 +81,7 @@ none_between zero (suc k) = refl
 none_between (suc j) zero = refl
 none_between (suc j) (suc k) = refl
 
-none_kept : (s : StateValue) (n c i : ℕ) → IsShaped s → (IsNumber s.clients c → ⊥) → contains (touched_kept (world_of s) n c) i ≡ false
+none_kept : (s : StateValue) (n c i : ℕ) → ShapeInvariant s → (IsNumber s.clients c → ⊥) → contains (touched_kept (world_of s) n c) i ≡ false
 unfolding records_between
 none_kept s n c i shape other =
     let w : World = world_of s in
@@ -104,10 +104,10 @@ module _ (s : StateValue) (n : ℕ) (v : World) (inodes : List ℕ) (listed : in
     pub touched_only : (i : ℕ) → set.contains (set.from_list {R = nat_cmp} inodes) i ≡ true → (c : ℕ) × (contains (touched (all_effects (v.records c))) i ≡ true)
     touched_only i there = (let t = touched_to (world_of s) n (length s.clients) i (sym (has_listed i) ∙ there) in (t.0, as_kept t.0 i ∙ t.1))
 
-    no_client : (c i : ℕ) → IsShaped s → contains (touched (all_effects (v.records c))) i ≡ true → (IsNumber s.clients c → ⊥) → ⊥
+    no_client : (c i : ℕ) → ShapeInvariant s → contains (touched (all_effects (v.records c))) i ≡ true → (IsNumber s.clients c → ⊥) → ⊥
     no_client c i shape there other = true≢false (sym there ∙ as_kept c i ∙ none_kept s n c i shape other)
 
-    pub touched_all : IsShaped s → (c i : ℕ) → contains (touched (all_effects (v.records c))) i ≡ true → set.contains (set.from_list {R = nat_cmp} inodes) i ≡ true
+    pub touched_all : ShapeInvariant s → (c i : ℕ) → contains (touched (all_effects (v.records c))) i ≡ true → set.contains (set.from_list {R = nat_cmp} inodes) i ≡ true
     touched_all shape zero i there = absurd (no_client zero i shape there (λ is. omega (arith, is.some)))
     touched_all shape (suc k) i there =
         elim (cases_lt k (length s.clients)) [
@@ -142,7 +142,7 @@ of_filled nodes n (suc m) k low high from =
       | inr other ↦
           let before : Among (filled_from nodes n m) k = of_filled nodes n m k low (omega (arith, high, other)) from in
           elim (cases_Bool (is_number n (donor_of (standing_of nodes (suc m))))) [
-            | inl here ↦ rw here (among_front (filled_from nodes n m) (suc m) k before)
+            | inl here ↦ rw here (among_prefix (filled_from nodes n m) (suc m) k before)
             | inr none ↦ rw none (subst (λ ks. Among ks k) (sym (append-nil (filled_from nodes n m))) before)
           ]
     ]
@@ -158,7 +158,7 @@ module _ (s : StateValue) (n : ℕ) (nodes : List ℕ) (listed : nodes ≡ fille
   pub filled_only : (k : ℕ) → Among nodes k → donor_of (standing_of (standings s) k) ≡ Some n
   filled_only k there = filled_of (standings s) n (length s.nodes) k (subst (λ ks. Among ks k) listed there)
 
-  pub filled_all : IsShaped s → (k : ℕ) → donor_of (standing_of (standings s) k) ≡ Some n → Among nodes k
+  pub filled_all : ShapeInvariant s → (k : ℕ) → donor_of (standing_of (standings s) k) ≡ Some n → Among nodes k
   filled_all shape k from =
       let there : (1 ≤ k) × (k ≤ length (standings s)) = stands_somehow (standings s) k n from in
       subst (λ ks. Among ks k) (sym listed) (of_filled (standings s) n (length s.nodes) k there.0 (subst (λ m. k ≤ m) (sym shape.nodes) there.1) from)

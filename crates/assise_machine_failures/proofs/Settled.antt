@@ -11,8 +11,8 @@ use Rattle.assise_inode_table.specs.Contents.{coded_content}
 use Rattle.assise_manager.specs.Changes.{donor_of, join_fault, joined}
 use Rattle.assise_manager.specs.Membership.{Membership}
 use Rattle.assise_manager.specs.Standings.{returning, standing_of}
-use Rattle.assise_machine_laws.specs.World.{World}
-use Rattle.assise_machine_returns.specs.Returns.{Rejoins}
+use Rattle.assise_model_world.specs.World.{World}
+use Rattle.assise_model_members.specs.Returns.{Rejoins}
 use Rattle.assise_machine_failures.proofs.Codes.{coded_calls, coded_records}
 
 module _ (w w' : World) (m m' : Membership) (n since donor : ℕ) (stale : set.FinSet nat_cmp) (some : ∥ Rejoins w m n w' m' ∥₁)

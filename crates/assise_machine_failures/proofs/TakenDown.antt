@@ -6,42 +6,42 @@ use Rattle.std.proofs.lemmas.Bool.{cases_Bool, ne_eqb}
 use Rattle.std.specs.Ordering.{nat_cmp}
 use Rattle.std.specs.FinSet as set
 use Rattle.assise_names.specs.declared.limits.TheConstants.{MOST_CLIENTS}
-use Rattle.assise_history.specs.Entries.{Event, fails}
+use Rattle.assise_history.specs.Entries.{EntryValue, fails}
 use Rattle.assise_digest.specs.Region.{RegionValue}
 use Rattle.assise_lease_table.specs.declared.lease.Asked.{Asked}
 use Rattle.assise_lease_tree.specs.TwoLevels.{TwoLevels}
 use Rattle.assise_manager.specs.Changes.{failed}
 use Rattle.assise_manager.specs.Membership.{Membership}
 use Rattle.assise_manager.specs.Standings.{full, standing_of}
-use Rattle.assise_machine_laws.specs.NodeSteps.{kept_at_failure}
-use Rattle.assise_machine_laws.specs.Sound.{IsSound}
-use Rattle.assise_machine_laws.specs.World.{World, received_by_all}
-use Rattle.assise_machine_laws.proofs.Failing.{kept_low}
-use Rattle.assise_machine_history.specs.Lost.{losses_of}
-use Rattle.assise_machine_events.specs.Machine.{Holds}
+use Rattle.assise_model_world.specs.NodeSteps.{kept_at_failure}
+use Rattle.assise_model_world.specs.Invariant.{WorldInvariant}
+use Rattle.assise_model_world.specs.World.{World, received_by_all}
+use Rattle.assise_model_world.proofs.FailureKeeps.{kept_low}
+use Rattle.assise_model_history.specs.Lost.{losses_of}
+use Rattle.assise_model_events.specs.Machine.{MachineInvariant}
 use Rattle.assise_machine_state.specs.Changes.{after_failure, with_clients_cut, with_clients_failed}
 use Rattle.assise_machine_state.specs.ClientValues.{ClientValue, client_in, client_seen, failed_at, with_client}
 use Rattle.assise_machine_state.specs.NodeValues.{HasLog, IsUndigestedFrom, log_in, log_seen, region_in, region_seen, with_tails_cut, without_logs}
 use Rattle.assise_machine_state.specs.Observed.{is_full_in, observed, world_of}
 use Rattle.assise_machine_state.specs.Places.{IsNumber}
-use Rattle.assise_machine_state.specs.Shape.{IsShaped}
+use Rattle.assise_machine_state.specs.Invariant.{ShapeInvariant}
 use Rattle.assise_machine_state.specs.StateValues.{StateValue, standings}
 use Rattle.assise_machine_state.proofs.Fullness.{node_number, seen_full}
-use Rattle.assise_machine_state.proofs.Logging.{log_away, region_else, region_here}
-use Rattle.assise_machine_state.proofs.Seeing.{less_one}
+use Rattle.assise_machine_state.proofs.LogChanges.{log_away, region_else, region_here}
+use Rattle.assise_machine_state.proofs.ItemSeen.{less_one}
 use Rattle.assise_machine_failures.specs.Listing.{kept_in, kept_to}
 use Rattle.assise_machine_failures.proofs.CutOff.{count_in, seen_in}
-use Rattle.assise_machine_failures.proofs.Keeping.{kept_place}
+use Rattle.assise_machine_failures.proofs.KeptPlaces.{kept_place}
 
 -- ---- numbers
 
-pub few_clients : (s : StateValue) → ∥ Holds (observed s) ∥₁ → length s.clients < 4294967296
+pub few_clients : (s : StateValue) → ∥ MachineInvariant (observed s) ∥₁ → length s.clients < 4294967296
 unfolding observed world_of
 few_clients s holds =
     let few : length s.clients ≤ MOST_CLIENTS = ∥∥₁_elim holds le_prop (λ h. h.clients) in
     omega (arith, few)
 
-pub sound_so : (s : StateValue) → ∥ Holds (observed s) ∥₁ → ∥ IsSound (world_of s) ∥₁
+pub sound_so : (s : StateValue) → ∥ MachineInvariant (observed s) ∥₁ → ∥ WorldInvariant (world_of s) ∥₁
 unfolding observed
 sound_so s holds = ∥∥₁_map holds (λ h. h.sound)
 
@@ -75,7 +75,7 @@ same_ends n f g (suc m) cs same =
 
 -- ---- nothing is digested from there on, and no client of the node lives where it has a log
 
-module _ (s : StateValue) (n : ℕ) (shape : IsShaped s) (stands : standing_of (standings s) n ≡ Some full) (sound : ∥ IsSound (world_of s) ∥₁) where
+module _ (s : StateValue) (n : ℕ) (shape : ShapeInvariant s) (stands : standing_of (standings s) n ≡ Some full) (sound : ∥ WorldInvariant (world_of s) ∥₁) where
   pub number : IsNumber s.nodes n
   number = node_number s n full shape stands
 
@@ -95,8 +95,8 @@ module _ (s : StateValue) (n : ℕ) (shape : IsShaped s) (stands : standing_of (
       elim (cases_Bool (is_full_in (standings s) k)) [
         | inl f ↦ f
         | inr away ↦
-            let apart : k ≢ n = other_node k c has in
-            let same : length (region_seen (without_logs s.nodes n) k).logs ≡ length (region_seen s.nodes k).logs = ap (λ r. length r.logs) (region_else s.nodes n (record (region_in s.nodes n) { logs = [] }) number k apart) in
+            let disjoint : k ≢ n = other_node k c has in
+            let same : length (region_seen (without_logs s.nodes n) k).logs ≡ length (region_seen s.nodes k).logs = ap (λ r. length r.logs) (region_else s.nodes n (record (region_in s.nodes n) { logs = [] }) number k disjoint) in
             let none : length (region_seen s.nodes k).logs ≡ 0 = ap length (shape.no_logs k away) in
             let count = count_in (without_logs s.nodes n) k has.node in
             absurd (omega (arith, same, none, count, has.client.some, has.client.there))
@@ -104,7 +104,7 @@ module _ (s : StateValue) (n : ℕ) (shape : IsShaped s) (stands : standing_of (
 
   digested_low : (k c : ℕ) → is_full_in (standings s) k ≡ true → (world_of s).digested k c ≤ kept_at_failure (world_of s) n c
   digested_low k c f =
-      let acked : (world_of s).digested k c ≤ received_by_all (world_of s) c = ∥∥₁_elim sound le_prop (λ h. (h.coherent.order k c (seen_full s k f)).acknowledged) in
+      let acked : (world_of s).digested k c ≤ received_by_all (world_of s) c = ∥∥₁_elim sound le_prop (λ h. (h.coherent.order k c (seen_full s k f)).replicated) in
       let low : received_by_all (world_of s) c ≤ kept_at_failure (world_of s) n c = kept_low (world_of s) n c in
       omega (arith, acked, low)
 
@@ -112,10 +112,10 @@ module _ (s : StateValue) (n : ℕ) (shape : IsShaped s) (stands : standing_of (
       IsUndigestedFrom (log_in (without_logs s.nodes n) k c) (kept_in ks c)
   unfolding world_of
   undigested ks is k c client home has =
-      let apart : k ≢ n = other_node k c has in
+      let disjoint : k ≢ n = other_node k c has in
       let same : log_in (without_logs s.nodes n) k c ≡ log_seen s.nodes k c =
-      sym (seen_in (without_logs s.nodes n) k c has) ∙ log_away s.nodes n (record (region_in s.nodes n) { logs = [] }) number k c apart in
-      let elsewhere : (k == (client_seen s.clients c).home) ≡ false = ne_eqb k (client_seen s.clients c).home (λ e. apart (e ∙ home)) in
+      sym (seen_in (without_logs s.nodes n) k c has) ∙ log_away s.nodes n (record (region_in s.nodes n) { logs = [] }) number k c disjoint in
+      let elsewhere : (k == (client_seen s.clients c).home) ≡ false = ne_eqb k (client_seen s.clients c).home (λ e. disjoint (e ∙ home)) in
       let low : (log_seen s.nodes k c).digested ≤ kept_at_failure (world_of s) n c = digested_low k c (is_full_there k c has) in
       let place : kept_in ks c ≡ kept_at_failure (world_of s) n c = place_in (world_of s) n (length s.clients) c ks is client.some client.there in
       record {
@@ -125,7 +125,7 @@ module _ (s : StateValue) (n : ℕ) (shape : IsShaped s) (stands : standing_of (
 
 -- ---- it is the state after the failure
 
-pub is_after : (s : StateValue) (n : ℕ) (inodes : set.FinSet nat_cmp) (levels : TwoLevels) (asked : List Asked) (ks : List ℕ) (last : ℕ) (rs : List RegionValue) (m : Membership) (cs : List ClientValue) (cuts : List Asked) (h : List Event) →
+pub is_after : (s : StateValue) (n : ℕ) (inodes : set.FinSet nat_cmp) (levels : TwoLevels) (asked : List Asked) (ks : List ℕ) (last : ℕ) (rs : List RegionValue) (m : Membership) (cs : List ClientValue) (cuts : List Asked) (h : List EntryValue) →
     ks ≡ kept_to (world_of s) n (length s.clients) → last ≡ length s.clients → rs ≡ with_clients_cut n s.clients (kept_in ks) last (without_logs s.nodes n) → m ≡ failed s.members n inodes →
     cs ≡ with_clients_failed n (kept_in ks) last s.clients → cuts ≡ s.cuts ++ asked → h ≡ s.history ++ fails n (losses_of (world_of s) n) ∷ [] →
     ◌≡◌ {A = StateValue} (record { nodes = rs; members = m; clients = cs; levels = levels; cuts = cuts; history = h; limit = s.limit }) (after_failure s n inodes levels asked)

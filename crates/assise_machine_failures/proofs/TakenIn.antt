@@ -10,30 +10,30 @@ use Rattle.std.proofs.lemmas.List.{get_or-set_same, length-set, set-get_or, set-
 use Rattle.std.proofs.lemmas.Option.{none-some}
 use Rattle.assise_names.specs.declared.refusal.Refusal.{Refusal}
 use Rattle.assise_names.specs.declared.refusal.Refusal.TheVariants.{Busy, OutOfMemory}
-use Rattle.assise_history.specs.Entries.{Event, returns}
+use Rattle.assise_history.specs.Entries.{EntryValue, returns}
 use Rattle.assise_digest.specs.Region.{RegionValue, without_clients}
 use Rattle.assise_manager.specs.Changes.{IsLowestOf, filling_fault, filling_fault_of, join_fault, join_fault_of, joined as joined_members, stale_of}
 use Rattle.assise_manager.specs.Membership.{Membership}
 use Rattle.assise_manager.specs.Standings.{Standing, down, full, returning, standing_of}
-use Rattle.assise_machine_events.specs.Events.{Answer, joined, refused}
-use Rattle.assise_machine_events.specs.Machine.{Holds}
-use Rattle.assise_machine_events.specs.MemberEvents.{IsJoined, Joining}
-use Rattle.assise_machine_events.specs.MemberEvents.Joining.{is_joined, is_refused, lacks_memory}
-use Rattle.assise_machine_returns.specs.Returns.{Rejoins}
+use Rattle.assise_model_events.specs.Events.{Answer, joined, refused}
+use Rattle.assise_model_events.specs.Machine.{MachineInvariant}
+use Rattle.assise_model_events.specs.MemberEvents.{IsJoined, Joining}
+use Rattle.assise_model_events.specs.MemberEvents.Joining.{is_joined, is_refused, lacks_memory}
+use Rattle.assise_model_members.specs.Returns.{Rejoins}
 use Rattle.assise_machine_state.specs.Changes.{after_join}
 use Rattle.assise_machine_state.specs.NodeValues.{no_region, region_in, with_logs_of, without_logs}
 use Rattle.assise_machine_state.specs.Observed.{observed, world_of}
 use Rattle.assise_machine_state.specs.Places.{IsNumber}
-use Rattle.assise_machine_state.specs.Shape.{AreNoted, IsShaped}
+use Rattle.assise_machine_state.specs.Invariant.{CutsInvariant, ShapeInvariant}
 use Rattle.assise_machine_state.specs.StateValues.{StateValue, leases_of, standings}
-use Rattle.assise_machine_state.proofs.Returning.{join_shaped, node_rejoins}
-use Rattle.assise_machine_failures.proofs.Filling.{IsFilledFrom, filled_from, filled_stands}
-use Rattle.assise_machine_failures.proofs.Refusing.{IsFaultOr}
+use Rattle.assise_machine_state.proofs.JoinObserved.{join_shaped, node_rejoins}
+use Rattle.assise_machine_failures.proofs.RefillHappens.{IsFilledFrom, filled_from, filled_stands}
+use Rattle.assise_machine_failures.proofs.RefusedFailures.{IsFaultOr}
 use Rattle.assise_machine_failures.proofs.Settled.{settled}
 
 -- ---- the state is as it was
 
-pub same_all : (s : StateValue) {rs : List RegionValue} {m : Membership} {h : List Event} → rs ≡ s.nodes → m ≡ s.members → h ≡ s.history →
+pub same_all : (s : StateValue) {rs : List RegionValue} {m : Membership} {h : List EntryValue} → rs ≡ s.nodes → m ≡ s.members → h ≡ s.history →
     record s { nodes = rs; members = m; history = h } ≡ s
 same_all s nodes members history = (λ i. record s { nodes = nodes i; members = members i; history = history i })
 
@@ -54,7 +54,7 @@ got_number rs ls n d there got = record { some = there.some; there = subst (λ k
 
 -- ---- the epoch fits
 
-pub epoch_fits : (s : StateValue) → ∥ Holds (observed s) ∥₁ → length s.history < 9223372036854775808 → s.members.epoch + 1 < 18446744073709551616
+pub epoch_fits : (s : StateValue) → ∥ MachineInvariant (observed s) ∥₁ → length s.history < 9223372036854775808 → s.members.epoch + 1 < 18446744073709551616
 unfolding observed
 epoch_fits s holds few =
     let low : s.members.epoch ≤ suc (length s.history) = ∥∥₁_elim holds le_prop (λ h. h.epochs) in
@@ -106,15 +106,15 @@ module _ (s : StateValue) (n : ℕ) where
 -- ---- it is full again
 
 -- the nodes, the membership and the history once node n is full again, with the logs of node d
-pub record IsTakenIn (s : StateValue) (n d : ℕ) (rs : List RegionValue) (m : Membership) (h : List Event) : Type 0 where
-  pub holds : ∥ Holds (observed s) ∥₁
+pub record IsTakenIn (s : StateValue) (n d : ℕ) (rs : List RegionValue) (m : Membership) (h : List EntryValue) : Type 0 where
+  pub holds : ∥ MachineInvariant (observed s) ∥₁
   pub fills : IsFilledFrom s n d
   pub fine : join_fault s.members n ≡ None
   pub nodes : rs ≡ with_logs_of s.nodes n d
   pub members : m ≡ joined_members s.members n
   pub history : h ≡ s.history ++ returns n ∷ []
 
-module _ {s : StateValue} {n d : ℕ} {rs : List RegionValue} {m : Membership} {h : List Event} (taken : IsTakenIn s n d rs m h) where
+module _ {s : StateValue} {n d : ℕ} {rs : List RegionValue} {m : Membership} {h : List EntryValue} (taken : IsTakenIn s n d rs m h) where
   abbrev since : ℕ
   since = (filled_stands (standing_of (standings s) n) d taken.fills.from).0
 
@@ -154,9 +154,9 @@ module _ {s : StateValue} {n d : ℕ} {rs : List RegionValue} {m : Membership} {
   pub join_happens : Joining (observed s) n joined (observed w)
   join_happens = subst (λ x. Joining (observed s) n joined (observed x)) (sym same) happens_so
 
-  pub join_left : IsShaped w
+  pub join_left : ShapeInvariant w
   unfolding observed
-  join_left = subst IsShaped (sym same) (join_shaped s n since d stale taken.fills.shape taken.fills.lawful stands (∥∥₁_map taken.holds (λ h. h.sound)))
+  join_left = subst ShapeInvariant (sym same) (join_shaped s n since d stale taken.fills.shape taken.fills.lawful stands (∥∥₁_map taken.holds (λ h. h.sound)))
 
-  pub join_noted : AreNoted s → AreNoted w
+  pub join_noted : CutsInvariant s → CutsInvariant w
   join_noted noted = record { once = noted.once; known = noted.known; noted = noted.noted }

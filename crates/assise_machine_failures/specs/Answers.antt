@@ -3,7 +3,7 @@ use Rattle.std.specs.Prelude.{ℕ, map, Result, Ok, Err, ⊤}
 use Rattle.std.specs.Global.{Vec}
 use Rattle.assise_names.specs.declared.refusal.Refusal.{Refusal}
 use Rattle.assise_history.specs.declared.call.Loss.{Loss}
-use Rattle.assise_machine_events.specs.Events.{Answer, began, failed, joined, left, refused}
+use Rattle.assise_model_events.specs.Events.{Answer, began, failed, joined, left, refused}
 
 -- a client with the number of its first lost call
 abbrev pub loss_of : ℕ × ℕ → Loss

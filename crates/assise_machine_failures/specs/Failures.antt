@@ -1,12 +1,12 @@
 -- What a failure of a full node has listed before anything changes.
 use Rattle.std.specs.Prelude.{◌≡◌, ℕ, length, map}
 use Rattle.assise_lease_table.specs.LeaseMaps.{SameLeases}
-use Rattle.assise_lease_table.specs.Leases.{freeze}
+use Rattle.assise_lease_table.specs.Leases.{revoke}
 use Rattle.assise_lease_tree.specs.Levels.{lives}
 use Rattle.assise_lease_tree.specs.TwoLevels.{TwoLevels}
-use Rattle.assise_machine_history.specs.Lost.{losses_of}
+use Rattle.assise_model_history.specs.Lost.{losses_of}
 use Rattle.assise_machine_state.specs.Observed.{world_of}
-use Rattle.assise_machine_state.specs.Shape.{AreLeft}
+use Rattle.assise_machine_state.specs.Invariant.{AreLeft}
 use Rattle.assise_machine_state.specs.StateValues.{StateValue, standings}
 use Rattle.assise_machine_failures.specs.declared.failure.Failure.{Failure}
 use Rattle.assise_machine_failures.specs.Answers.{loss_of}
@@ -20,8 +20,8 @@ pub record IsListed (s : StateValue) (n : ℕ) (f : Failure) : Type 0 where
   pub asked : AreLeft s (λ c. lives s.levels.home c n) f.asked.items
   pub filled : f.filled.items ≡ filled_from (standings s) n (length s.nodes)
 
--- the leases of a node's clients are frozen, and nothing else
-pub record FreezesBelow (old new : TwoLevels) (n : ℕ) : Type 0 where
+-- the leases of a node's clients are revoked, and nothing else
+pub record RevokesBelow (old new : TwoLevels) (n : ℕ) : Type 0 where
   pub home : (c : ℕ) → new.home c ≡ old.home c
-  pub clients : (i : ℕ) → new.clients i ≡ freeze (λ a. lives old.home a.holder n) (old.clients i)
+  pub clients : (i : ℕ) → new.clients i ≡ revoke (λ a. lives old.home a.holder n) (old.clients i)
   pub nodes : SameLeases old.nodes new.nodes

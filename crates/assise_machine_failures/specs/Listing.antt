@@ -5,8 +5,8 @@ use Rattle.assise_record.specs.Records.{all_effects}
 use Rattle.assise_inode_table.specs.Effects.{touched}
 use Rattle.assise_manager.specs.Changes.{donor_of}
 use Rattle.assise_manager.specs.Standings.{Standing, standing_of}
-use Rattle.assise_machine_laws.specs.NodeSteps.{kept_at_failure}
-use Rattle.assise_machine_laws.specs.World.{World, records_between}
+use Rattle.assise_model_world.specs.NodeSteps.{kept_at_failure}
+use Rattle.assise_model_world.specs.World.{World, records_between}
 
 -- the places up to which the logs of clients 1 to m are kept
 abbrev pub kept_to : World → (n m : ℕ) → List ℕ

@@ -1,7 +1,6 @@
 // A node that was down comes back.
-ghost use Rattle.assise_lease_table.specs.Tables.{SameRevokers};
-ghost use Rattle.assise_lease_tree.specs.Trees.{stored_by};
-ghost use Rattle.assise_machine_events.specs.MemberEvents.{Returning};
+ghost use Rattle.assise_lease_tree.specs.Trees.{KeepsRevokers};
+ghost use Rattle.assise_model_events.specs.MemberEvents.{Returning};
 ghost use Rattle.assise_machine_state.specs.Whole.{machine_of};
 ghost use Rattle.assise_machine_failures.specs.Answers.{returning_answer};
 
@@ -14,8 +13,9 @@ use assise_names::refusal::Refusal;
 /// filled with the lowest full node's. It answers how many inodes it may lack. Refused with [`Refusal::BadNode`] where there is no such
 /// node, [`Refusal::WrongPhase`] where it isn't down, and [`Refusal::OutOfMemory`]; what is refused leaves all as it was.
 pub fn back<C: Revokes + Drop>(sound: &mut SoundOf<C>, node: u32) -> Result<usize, Refusal>
-    ensures happens { Returning (machine_of sound.old.state) node (returning_answer result) (machine_of sound.new.state) }
-    ensures revokers { SameRevokers (stored_by sound.old.state.leases) (stored_by sound.new.state.leases) }
+    ensures happens { Returning (machine_of sound.old.state) node (returning_answer result)
+        (machine_of sound.new.state) }
+    ensures revokers { KeepsRevokers sound.old.state.leases sound.new.state.leases }
 {
     let state = &mut sound.state;
     let stale = state.members.back(node)?;

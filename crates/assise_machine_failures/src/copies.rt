@@ -5,7 +5,7 @@ ghost use Rattle.assise_manager.specs.Changes.{is_returning, stale_of};
 ghost use Rattle.assise_manager.specs.Standings.{standing_of};
 ghost use Rattle.assise_machine_state.specs.NodeValues.{region_in};
 ghost use Rattle.assise_machine_state.specs.Places.{IsNumber};
-ghost use Rattle.assise_machine_state.specs.Shape.{IsShaped};
+ghost use Rattle.assise_machine_state.specs.Invariant.{ShapeInvariant};
 ghost use Rattle.assise_machine_state.specs.StateValues.{standings};
 ghost use Rattle.assise_machine_state.specs.Whole.{value_of};
 ghost use Rattle.assise_machine_failures.specs.Copies.{LosesStale, nodes_without};
@@ -18,7 +18,7 @@ use std::collections::VecDeque;
 /// A node that comes back loses its copies of the inodes that it may lack. It takes no memory.
 pub(crate) fn drop_copies<C: Revokes + Drop>(state: &mut StateOf<C>, node: u32)
     requires returning { is_returning (standing_of (standings (value_of state.old)) node) ≡ true }
-    requires shape { IsShaped (value_of state.old) }
+    requires shape { ShapeInvariant (value_of state.old) }
     ensures copies { LosesStale (value_of state.old) node (value_of state.new) }
     ensures leases { state.new.leases ≡ state.old.leases }
 {

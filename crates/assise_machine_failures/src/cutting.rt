@@ -13,17 +13,17 @@ use assise_machine_state::nodes::Nodes;
 pub(crate) fn cut_to(nodes: &mut Nodes, clients: &mut Clients, node: u32, kept: &[u64], last: u32)
     requires kept { length kept.now ≡ length clients.old }
     requires last { last ≤ length clients.old }
-    requires undigested { (n c : ℕ) → (client_seen clients.old c).home ≡ node → HasLog nodes.old n c → IsUndigestedFrom (log_in nodes.old n c) (kept_in kept.now c) }
-    ensures nodes { nodes.new ≡ with_clients_cut node clients.old (kept_in kept.now) last nodes.old }
+    requires undigested { (n c : ℕ) → (client_seen clients.old c).home ≡ node →
+        HasLog nodes.old n c → IsUndigestedFrom (log_in nodes.old n c) (kept_in kept.now c) }
+    ensures nodes { nodes.new ≡ with_clients_cut node clients.old
+        (kept_in kept.now) last nodes.old }
     ensures clients { clients.new ≡ with_clients_failed node (kept_in kept.now) last clients.old }
 {
-    if last == 0 {
-        return;
-    }
-    cut_to(nodes, clients, node, kept, last - 1);
-    if clients.get(last).home() == node {
-        let end = kept[last as usize - 1];
-        nodes.cut_tails(last, end);
-        clients.fail(last, end);
+    for client in 1..=last {
+        if clients.get(client).home() == node {
+            let end = kept[client as usize - 1];
+            nodes.cut_tails(client, end);
+            clients.fail(client, end);
+        }
     }
 }

@@ -1,9 +1,8 @@
 // What the failure of a full node comes to.
 ghost use Rattle.std.specs.Prelude.{◌<◌, ◌^◌, IfOk, IsOkUnless, length};
 ghost use Rattle.assise_names.specs.declared.refusal.Refusal.TheVariants.{OutOfMemory};
-ghost use Rattle.assise_machine_laws.specs.Sound.{IsSound};
 ghost use Rattle.assise_machine_state.specs.Observed.{world_of};
-ghost use Rattle.assise_machine_state.specs.Shape.{IsShaped};
+ghost use Rattle.assise_machine_state.specs.Invariant.{PartsInvariant};
 ghost use Rattle.assise_machine_state.specs.Whole.{value_of};
 ghost use Rattle.assise_machine_failures.specs.Failures.{IsListed};
 
@@ -26,7 +25,7 @@ pub(crate) struct Failure {
     pub(crate) entry: Vec<Loss>,
     /// The inodes that records touch which still stand in a log then.
     pub(crate) inodes: Vec<u64>,
-    /// The leases of the node's clients that are frozen by it.
+    /// The leases of the node's clients that are revoked by it.
     pub(crate) asked: Vec<Asked>,
     /// The nodes that are filled from it.
     pub(crate) filled: Vec<u32>,
@@ -40,8 +39,7 @@ impl Failure {
         node: u32,
     ) -> Result<Failure, Refusal>
         requires few { length state.now.clients < 2 ^ 32 }
-        requires sound { ∥ IsSound (world_of (value_of state.now)) ∥₁ }
-        requires shape { IsShaped (value_of state.now) }
+        requires parts { PartsInvariant (value_of state.now) }
         ensures listed { IfOk result (λ failure. IsListed (value_of state.now) node failure) }
         ensures only_memory { IsOkUnless result OutOfMemory }
     {

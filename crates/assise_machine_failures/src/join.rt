@@ -1,7 +1,6 @@
 // A node that came back is full again.
-ghost use Rattle.assise_lease_table.specs.Tables.{SameRevokers};
-ghost use Rattle.assise_lease_tree.specs.Trees.{stored_by};
-ghost use Rattle.assise_machine_events.specs.MemberEvents.{Joining};
+ghost use Rattle.assise_lease_tree.specs.Trees.{KeepsRevokers};
+ghost use Rattle.assise_model_events.specs.MemberEvents.{Joining};
 ghost use Rattle.assise_machine_state.specs.Whole.{machine_of};
 ghost use Rattle.assise_machine_failures.specs.Answers.{joining_answer};
 
@@ -19,8 +18,9 @@ pub fn join<C: Revokes + Drop>(
     sound: &mut SoundOf<C>,
     node: u32,
 ) -> Result<(), Refusal>
-    ensures happens { Joining (machine_of sound.old.state) node (joining_answer result) (machine_of sound.new.state) }
-    ensures revokers { SameRevokers (stored_by sound.old.state.leases) (stored_by sound.new.state.leases) }
+    ensures happens { Joining (machine_of sound.old.state) node (joining_answer result)
+        (machine_of sound.new.state) }
+    ensures revokers { KeepsRevokers sound.old.state.leases sound.new.state.leases }
 {
     let state = &mut sound.state;
     let donor = state.members.donor(node)?;

@@ -1,12 +1,11 @@
 // What a failure lists before anything changes.
 ghost use Rattle.std.specs.Prelude.{◌≡◌, ◌+◌, ◌^◌, ◌<◌, IfOk, IsOkUnless, length, map as mapped};
 ghost use Rattle.assise_names.specs.declared.refusal.Refusal.TheVariants.{OutOfMemory};
-ghost use Rattle.assise_machine_laws.specs.NodeSteps.{kept_at_failure};
-ghost use Rattle.assise_machine_laws.specs.Sound.{IsSound};
-ghost use Rattle.assise_machine_history.specs.Lost.{losses_of};
+ghost use Rattle.assise_model_world.specs.NodeSteps.{kept_at_failure};
+ghost use Rattle.assise_model_history.specs.Lost.{losses_of};
 ghost use Rattle.assise_machine_state.specs.Observed.{world_of};
 ghost use Rattle.assise_machine_state.specs.Places.{IsNumber};
-ghost use Rattle.assise_machine_state.specs.Shape.{IsShaped};
+ghost use Rattle.assise_machine_state.specs.Invariant.{ShapeInvariant, PartsInvariant};
 ghost use Rattle.assise_machine_state.specs.Whole.{value_of};
 ghost use Rattle.assise_machine_failures.specs.Answers.{loss_of};
 ghost use Rattle.assise_machine_state.specs.StateValues.{standings};
@@ -23,7 +22,7 @@ use std::alloc::Global;
 /// of another all. It costs the nodes.
 pub(crate) fn kept<C: Revokes + Drop>(state: &StateOf<C>, node: u32, client: u32) -> u64
     requires client { IsNumber state.now.clients client }
-    requires shape { IsShaped (value_of state.now) }
+    requires shape { ShapeInvariant (value_of state.now) }
     ensures { result ≡ kept_at_failure (world_of (value_of state.now)) node client }
 {
     let mut least = state.own_region(client).log(client as usize).end();
@@ -47,8 +46,9 @@ pub(crate) fn all_kept<C: Revokes + Drop>(
     node: u32,
 ) -> Result<Vec<u64>, Refusal>
     requires few { length state.now.clients < 2 ^ 32 }
-    requires shape { IsShaped (value_of state.now) }
-    ensures kept { IfOk result (λ kept. kept.items ≡ kept_to (world_of (value_of state.now)) node (length state.now.clients)) }
+    requires shape { ShapeInvariant (value_of state.now) }
+    ensures kept { IfOk result (λ kept. kept.items ≡ kept_to (world_of (value_of state.now)) node
+        (length state.now.clients)) }
     ensures only_memory { IsOkUnless result OutOfMemory }
 {
     let mut all = Vec::with_capacity(alloc, state.clients.len())?;
@@ -58,7 +58,7 @@ pub(crate) fn all_kept<C: Revokes + Drop>(
     Ok(all)
 }
 
-/// Each client that loses a record when a node fails, by rising number, with its first lost call. The one refusal is
+/// Each client that loses a record when a node fails, by ascending number, with its first lost call. The one refusal is
 /// [`Refusal::OutOfMemory`].
 pub(crate) fn losses<C: Revokes + Drop>(
     alloc: Global,
@@ -66,11 +66,12 @@ pub(crate) fn losses<C: Revokes + Drop>(
     node: u32,
     kept: &[u64],
 ) -> Result<Vec<(u32, u64)>, Refusal>
-    requires kept { kept.now ≡ kept_to (world_of (value_of state.now)) node (length state.now.clients) }
+    requires kept { kept.now ≡ kept_to (world_of (value_of state.now)) node
+        (length state.now.clients) }
     requires few { length state.now.clients < 2 ^ 32 }
-    requires sound { ∥ IsSound (world_of (value_of state.now)) ∥₁ }
-    requires shape { IsShaped (value_of state.now) }
-    ensures losses { IfOk result (λ losses. mapped loss_of losses.items ≡ losses_of (world_of (value_of state.now)) node) }
+    requires parts { PartsInvariant (value_of state.now) }
+    ensures losses { IfOk result (λ losses. mapped loss_of losses.items ≡ losses_of
+        (world_of (value_of state.now)) node) }
     ensures only_memory { IsOkUnless result OutOfMemory }
 {
     let mut losses = Vec::new(alloc);
@@ -106,11 +107,12 @@ pub(crate) fn touched_inodes<C: Revokes + Drop>(
     node: u32,
     kept: &[u64],
 ) -> Result<Vec<u64>, Refusal>
-    requires kept { kept.now ≡ kept_to (world_of (value_of state.now)) node (length state.now.clients) }
+    requires kept { kept.now ≡ kept_to (world_of (value_of state.now)) node
+        (length state.now.clients) }
     requires few { length state.now.clients < 2 ^ 32 }
-    requires sound { ∥ IsSound (world_of (value_of state.now)) ∥₁ }
-    requires shape { IsShaped (value_of state.now) }
-    ensures inodes { IfOk result (λ inodes. inodes.items ≡ kept_inodes (world_of (value_of state.now)) node (length state.now.clients)) }
+    requires parts { PartsInvariant (value_of state.now) }
+    ensures inodes { IfOk result (λ inodes. inodes.items ≡ kept_inodes
+        (world_of (value_of state.now)) node (length state.now.clients)) }
     ensures only_memory { IsOkUnless result OutOfMemory }
 {
     let mut inodes = Vec::new(alloc);
@@ -122,14 +124,15 @@ pub(crate) fn touched_inodes<C: Revokes + Drop>(
     Ok(inodes)
 }
 
-/// The nodes that come back and are filled from a node, by rising number. The one refusal is [`Refusal::OutOfMemory`].
+/// The nodes that come back and are filled from a node, by ascending number. The one refusal is [`Refusal::OutOfMemory`].
 pub(crate) fn filled_from<C: Revokes + Drop>(
     alloc: Global,
     state: &StateOf<C>,
     node: u32,
 ) -> Result<Vec<u32>, Refusal>
-    requires shape { IsShaped (value_of state.now) }
-    ensures nodes { IfOk result (λ nodes. nodes.items ≡ filled_from (standings (value_of state.now)) node (length state.now.nodes)) }
+    requires shape { ShapeInvariant (value_of state.now) }
+    ensures nodes { IfOk result (λ nodes. nodes.items ≡ filled_from
+        (standings (value_of state.now)) node (length state.now.nodes)) }
     ensures only_memory { IsOkUnless result OutOfMemory }
 {
     let mut nodes = Vec::new(alloc);

@@ -2,9 +2,8 @@
 ghost use Rattle.std.specs.Prelude.{◌≡◌, IfOk, IsOkUnless};
 ghost use Rattle.std.specs.FinMap as map;
 ghost use Rattle.assise_names.specs.declared.refusal.Refusal.TheVariants.{OutOfMemory};
-ghost use Rattle.assise_lease_table.specs.Tables.{SameRevokers};
-ghost use Rattle.assise_lease_tree.specs.Trees.{stored_by};
-ghost use Rattle.assise_machine_events.specs.MemberEvents.{Refilling};
+ghost use Rattle.assise_lease_tree.specs.Trees.{KeepsRevokers};
+ghost use Rattle.assise_model_events.specs.MemberEvents.{Refilling};
 ghost use Rattle.assise_machine_state.specs.NodeValues.{region_in};
 ghost use Rattle.assise_machine_state.specs.Places.{IsNumber};
 ghost use Rattle.assise_machine_state.specs.Whole.{machine_of};
@@ -25,8 +24,9 @@ pub fn refill<C: Revokes + Drop>(
     sound: &mut SoundOf<C>,
     node: u32,
 ) -> Result<usize, Refusal>
-    ensures happens { Refilling (machine_of sound.old.state) node (refilling_answer result) (machine_of sound.new.state) }
-    ensures revokers { SameRevokers (stored_by sound.old.state.leases) (stored_by sound.new.state.leases) }
+    ensures happens { Refilling (machine_of sound.old.state) node (refilling_answer result)
+        (machine_of sound.new.state) }
+    ensures revokers { KeepsRevokers sound.old.state.leases sound.new.state.leases }
 {
     let state = &mut sound.state;
     let donor = state.members.donor(node)?;
@@ -41,7 +41,8 @@ pub fn refill<C: Revokes + Drop>(
 /// A copy of a node's inode, if it has one of that number. The one refusal is [`Refusal::OutOfMemory`].
 fn copy_of(alloc: Global, nodes: &Nodes, node: u32, inode: u64) -> Result<Option<Inode>, Refusal>
     requires node { IsNumber nodes.now node }
-    ensures copied { IfOk result (λ copied. copied ≡ map.get (region_in nodes.now node).inodes inode) }
+    ensures copied { IfOk result (λ copied. copied ≡ map.get
+        (region_in nodes.now node).inodes inode) }
     ensures only_memory { IsOkUnless result OutOfMemory }
 {
     match nodes.region(node).peek(inode) {

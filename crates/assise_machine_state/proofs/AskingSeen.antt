@@ -16,30 +16,30 @@ use Rattle.assise_private_log.specs.Touches.{Covers as CoversLog, found_touches}
 use Rattle.assise_lease_table.specs.declared.lease.Asked.{Asked}
 use Rattle.assise_lease_table.specs.declared.lease.Lease.{Lease}
 use Rattle.assise_lease_table.specs.Answers.{clients_of}
-use Rattle.assise_lease_table.specs.Leases.{Among, apart, compatible, holders, is_to_ask, lease_of}
+use Rattle.assise_lease_table.specs.Leases.{Among, disjoint, compatible, holders, is_to_ask, lease_of}
 use Rattle.assise_lease_table.proofs.Compatibles.{differ, filter_compatible}
 use Rattle.assise_lease_table.proofs.Elements.{all_among, among_all, among_any, among_filter, not_both}
-use Rattle.assise_lease_tree.specs.Levels.{in_way, is_frozen}
+use Rattle.assise_lease_tree.specs.Levels.{in_way, is_revoked}
 use Rattle.assise_lease_tree.specs.TwoLevels.{IsAskedFor, TwoLevels, is_free_for}
-use Rattle.assise_machine_laws.specs.ClientSteps.{RaisesGoals}
-use Rattle.assise_machine_laws.specs.Staying.{SameClients, SameLeases, SameLogs, SameNodes}
-use Rattle.assise_machine_laws.specs.World.{end}
-use Rattle.assise_machine_laws.proofs.Logs.{contains-all_effects}
-use Rattle.assise_machine_leases.specs.Handing.{Asks, asked_goal, is_newly_frozen}
-use Rattle.assise_machine_leases.specs.Leases.{AreLeases, Covers, IsFrozenLease, Leases, client_lease, is_held, is_written, records_from}
-use Rattle.assise_machine_leases.proofs.Finding.{freeze_of, frozen_held, frozen_one, held_one, still_frozen, written_one}
+use Rattle.assise_model_world.specs.ClientSteps.{RaisesGoals}
+use Rattle.assise_model_world.specs.Staying.{SameClients, KeepsLeases, SameLogs, SameNodes}
+use Rattle.assise_model_world.specs.World.{end_of_log}
+use Rattle.assise_model_world.proofs.Logs.{contains-all_effects}
+use Rattle.assise_model_leases.specs.Handing.{Asks, asked_goal, is_newly_revoked}
+use Rattle.assise_model_leases.specs.Leases.{AreLeases, CoversFrom, IsRevokedLease, Leases, client_lease, is_held, is_written, client_records_from}
+use Rattle.assise_model_leases.proofs.LookUps.{revoke_of, revoked_held, revoked_one, held_one, still_revoked, written_one}
 use Rattle.assise_machine_state.specs.Changes.{after_asking, with_goals}
 use Rattle.assise_machine_state.specs.ClientValues.{ClientValue, client_in, client_seen, is_over, with_client, with_goal}
 use Rattle.assise_lease_table.specs.Cuts.{are_once, cut_in, is_asked, is_of}
 use Rattle.assise_machine_state.specs.Observed.{own_seen, world_of}
 use Rattle.assise_machine_state.specs.Places.{IsNumber}
-use Rattle.assise_machine_state.specs.Shape.{AreAnswers, AreNoted, IsShaped}
+use Rattle.assise_machine_state.specs.Invariant.{AreAnswers, CutsInvariant, ShapeInvariant}
 use Rattle.assise_machine_state.specs.StateValues.{StateValue, leases_of}
 use Rattle.assise_machine_state.proofs.Fullness.{lives_number}
 use Rattle.assise_machine_state.proofs.Noted.{asked_either, cut_before, none_cut, once_both}
-use Rattle.assise_machine_state.proofs.Seeing.{client_else, client_here, client_is, client_same}
-use Rattle.assise_machine_state.proofs.Shaping.{shaped_as, still_marked}
-use Rattle.assise_machine_state.proofs.Staying.{node_as}
+use Rattle.assise_machine_state.proofs.ItemSeen.{client_else, client_here, client_is, client_same}
+use Rattle.assise_machine_state.proofs.ShapeKept.{shaped_as, still_marked}
+use Rattle.assise_machine_state.proofs.SameObserved.{node_as}
 
 -- ---- the holders that are left of compatible leases
 
@@ -49,10 +49,10 @@ passes p None = false
 passes p (Some a) = p a
 
 -- a lease has no other of its holder beside it
-none_else : (l : Lease) (ls : List Lease) → list_all (apart l) ls ≡ true → contains (holders ls) l.holder ≡ false
+none_else : (l : Lease) (ls : List Lease) → list_all (disjoint l) ls ≡ true → contains (holders ls) l.holder ≡ false
 none_else l [] all = refl
 none_else l (k ∷ ks) all =
-    let parts = and_parts (apart l k) (list_all (apart l) ks) all in
+    let parts = and_parts (disjoint l k) (list_all (disjoint l) ks) all in
     let other : (l.holder == k.holder) ≡ false = not-true (l.holder == k.holder) (and_parts (not (l.holder == k.holder)) _ parts.0).0 in
     ap (λ b. b || contains (holders ks) l.holder) (ne_eqb k.holder l.holder (λ same. differ l.holder k.holder other (sym same)))
     ∙ none_else l ks parts.1
@@ -71,11 +71,11 @@ else_left false l ls d other = refl
 holder_left : (p : Lease → Bool) (ls : List Lease) (d : ℕ) → compatible ls ≡ true → contains (holders (filter p ls)) d ≡ passes p (lease_of ls d)
 holder_left p [] d fits = refl
 holder_left p (l ∷ ls) d fits =
-    let parts = and_parts (list_all (apart l) ls) (compatible ls) fits in
-    let apart_left : list_all (apart l) (filter p ls) ≡ true = among_all (apart l) (filter p ls) (λ x a. all_among (apart l) ls parts.0 x (among_filter p ls x a).0) in
+    let parts = and_parts (list_all (disjoint l) ls) (compatible ls) fits in
+    let disjoint_left : list_all (disjoint l) (filter p ls) ≡ true = among_all (disjoint l) (filter p ls) (λ x a. all_among (disjoint l) ls parts.0 x (among_filter p ls x a).0) in
     elim (cases_Bool (l.holder == d)) [
       | inl own ↦
-          own_left (p l) l (filter p ls) d own (ap (contains (holders (filter p ls))) (sym (eqb-true l.holder d own)) ∙ none_else l (filter p ls) apart_left)
+          own_left (p l) l (filter p ls) d own (ap (contains (holders (filter p ls))) (sym (eqb-true l.holder d own)) ∙ none_else l (filter p ls) disjoint_left)
           ∙ sym (ap (λ b. passes p (cond b (Some l) (lease_of ls d))) own)
       | inr other ↦
           else_left (p l) l (filter p ls) d other ∙ holder_left p ls d parts.1
@@ -90,13 +90,13 @@ AreDistinct (n ∷ ns) = (contains ns n ≡ false) × AreDistinct ns
 holders_distinct : (ls : List Lease) → compatible ls ≡ true → AreDistinct (holders ls)
 holders_distinct [] fits = tt
 holders_distinct (l ∷ ls) fits =
-    let parts = and_parts (list_all (apart l) ls) (compatible ls) fits in
+    let parts = and_parts (list_all (disjoint l) ls) (compatible ls) fits in
     (none_else l ls parts.0, holders_distinct ls parts.1)
 
--- what is frozen once the chosen leases are, and wasn't before, was to be asked for
-newly_one : (choice : Lease → Bool) (o : Option Lease) → (not (is_frozen o) && is_frozen (frozen_one choice o)) ≡ passes (is_to_ask choice) o
+-- what is revoked once the chosen leases are, and wasn't before, was to be asked for
+newly_one : (choice : Lease → Bool) (o : Option Lease) → (not (is_revoked o) && is_revoked (revoked_one choice o)) ≡ passes (is_to_ask choice) o
 newly_one choice None = refl
-newly_one choice (Some a) = both a.frozen (choice a)
+newly_one choice (Some a) = both a.revoked (choice a)
   where
     both : (f b : Bool) → (not f && cond b true f) ≡ (not f && b)
     both true b = refl
@@ -218,8 +218,8 @@ place_of l k =
     let place : (l.first + k) - l.first ≡ k = omega arith in
     rw high (ap (slice_get l.records) place)
 
-log_covers : (s : StateValue) (c i cut : ℕ) → CoversLog (own_seen s c).log i cut → Covers (world_of s) c i cut
-unfolding world_of end records_from
+log_covers : (s : StateValue) (c i cut : ℕ) → CoversLog (own_seen s c).log i cut → CoversFrom (world_of s) c i cut
+unfolding world_of end_of_log client_records_from
 log_covers s c i cut covers =
     let l : NumberedLog = (own_seen s c).log in
     record {
@@ -264,7 +264,7 @@ module _ (s : StateValue) (levels : TwoLevels) (asked : List Asked) where
   unfolding world_of
   nodes_stay = record { full = refl; same = λ n f. node_as s after n (λ j. refl) (λ d. refl) }
 
-  pub asking_shaped : IsShaped s → IsShaped after
+  pub asking_shaped : ShapeInvariant s → ShapeInvariant after
   asking_shaped shape = shaped_as s after shape record {
     nodes = refl;
     members = refl;
@@ -283,7 +283,7 @@ module _ (s : StateValue) (levels : TwoLevels) (asked : List Asked) where
 
 -- ---- leases that are asked for
 
-module _ (s : StateValue) (c i : ℕ) (mode : Mode) (levels : TwoLevels) (asked : List Asked) (noted : AreNoted s) (leases : AreLeases (world_of s) (leases_of s))
+module _ (s : StateValue) (c i : ℕ) (mode : Mode) (levels : TwoLevels) (asked : List Asked) (noted : CutsInvariant s) (leases : AreLeases (world_of s) (leases_of s))
     (asks : IsAskedFor s.levels levels c (client_seen s.clients c).home i mode) (answers : AreAnswers s c i mode asked) where
   abbrev way : Lease → Bool
   way = in_way s.levels.home (s.levels.nodes i) c (client_seen s.clients c).home mode
@@ -294,16 +294,16 @@ module _ (s : StateValue) (c i : ℕ) (mode : Mode) (levels : TwoLevels) (asked 
   abbrev l' : Leases
   l' = leases_of (after_asking s levels asked)
 
-  here : (d : ℕ) → client_lease l' d i ≡ frozen_one way (client_lease l d i)
+  here : (d : ℕ) → client_lease l' d i ≡ revoked_one way (client_lease l d i)
   unfolding leases_of
-  here d = ap (λ ls. lease_of ls d) asks.clients.here ∙ freeze_of way (s.levels.clients i) d
+  here d = ap (λ ls. lease_of ls d) asks.clients.here ∙ revoke_of way (s.levels.clients i) d
 
   elsewhere : (d j : ℕ) → j ≢ i → client_lease l' d j ≡ client_lease l d j
   unfolding leases_of
   elsewhere d j other = ap (λ ls. lease_of ls d) (asks.clients.elsewhere j other)
 
-  -- what holds of a lease and of what is left of it where it is frozen, and of a lease and itself
-  of_each : (P : Option Lease → Option Lease → Type 0) → ((o : Option Lease) → P (frozen_one way o) o) → ((o : Option Lease) → P o o) →
+  -- what holds of a lease and of what is left of it where it is revoked, and of a lease and itself
+  of_each : (P : Option Lease → Option Lease → Type 0) → ((o : Option Lease) → P (revoked_one way o) o) → ((o : Option Lease) → P o o) →
       (d j : ℕ) → P (client_lease l' d j) (client_lease l d j)
   of_each P one same d j =
       elim (cases_eq j i) [
@@ -314,22 +314,22 @@ module _ (s : StateValue) (c i : ℕ) (mode : Mode) (levels : TwoLevels) (asked 
   same_held : (d j : ℕ) → is_held (client_lease l' d j) ≡ is_held (client_lease l d j)
   same_held = of_each (λ x y. is_held x ≡ is_held y) (held_one way) (λ o. refl)
 
-  leases_stay : SameLeases (world_of s) (world_of (after_asking s levels asked))
+  leases_stay : KeepsLeases (world_of s) (world_of (after_asking s levels asked))
   unfolding world_of
   leases_stay = record {
     holds = same_held;
     writes = of_each (λ x y. is_written x ≡ is_written y) (written_one way) (λ o. refl);
   }
 
-  frozen_stays : (d j : ℕ) → IsFrozenLease l d j → IsFrozenLease l' d j
-  frozen_stays = of_each (λ x y. is_frozen y ≡ true → is_frozen x ≡ true) (still_frozen way) (λ o frozen. frozen)
+  revoked_stays : (d j : ℕ) → IsRevokedLease l d j → IsRevokedLease l' d j
+  revoked_stays = of_each (λ x y. is_revoked y ≡ true → is_revoked x ≡ true) (still_revoked way) (λ o revoked. revoked)
 
   -- ---- who is asked
 
-  newly : (d : ℕ) → is_newly_frozen l l' d i ≡ is_asked asked d i
+  newly : (d : ℕ) → is_newly_revoked l l' d i ≡ is_asked asked d i
   unfolding leases_of
   newly d =
-      ap (λ o. not (is_frozen (client_lease l d i)) && is_frozen o) (here d)
+      ap (λ o. not (is_revoked (client_lease l d i)) && is_revoked o) (here d)
       ∙ newly_one way (client_lease l d i)
       ∙ sym (asked_is asked i d answers.inodes ∙ ap (λ ns. contains ns d) answers.who ∙ holder_left (is_to_ask way) (s.levels.clients i) d (leases.lawful.clients_compatible i))
 
@@ -349,14 +349,14 @@ module _ (s : StateValue) (c i : ℕ) (mode : Mode) (levels : TwoLevels) (asked 
   asked_here : (d j : ℕ) → is_asked asked d j ≡ true → is_asked asked d i ≡ true
   asked_here d j h = subst (λ k. is_asked asked d k ≡ true) (at_inode d j h) h
 
-  frozen_now : (d : ℕ) → is_asked asked d i ≡ true → IsFrozenLease l' d i
-  frozen_now d h = (and_parts (not (is_frozen (client_lease l d i))) (is_frozen (client_lease l' d i)) (newly d ∙ h)).1
+  revoked_now : (d : ℕ) → is_asked asked d i ≡ true → IsRevokedLease l' d i
+  revoked_now d h = (and_parts (not (is_revoked (client_lease l d i))) (is_revoked (client_lease l' d i)) (newly d ∙ h)).1
 
-  unfrozen : (d : ℕ) → is_asked asked d i ≡ true → is_frozen (client_lease l d i) ≡ false
-  unfrozen d h = not-true (is_frozen (client_lease l d i)) (and_parts (not (is_frozen (client_lease l d i))) (is_frozen (client_lease l' d i)) (newly d ∙ h)).0
+  unrevoked : (d : ℕ) → is_asked asked d i ≡ true → is_revoked (client_lease l d i) ≡ false
+  unrevoked d h = not-true (is_revoked (client_lease l d i)) (and_parts (not (is_revoked (client_lease l d i))) (is_revoked (client_lease l' d i)) (newly d ∙ h)).0
 
   held : (d : ℕ) → is_asked asked d i ≡ true → is_held (client_lease l d i) ≡ true
-  held d h = sym (same_held d i) ∙ frozen_held (client_lease l' d i) (frozen_now d h)
+  held d h = sym (same_held d i) ∙ revoked_held (client_lease l' d i) (revoked_now d h)
 
   -- who is asked isn't over
 
@@ -364,14 +364,14 @@ module _ (s : StateValue) (c i : ℕ) (mode : Mode) (levels : TwoLevels) (asked 
   lives d h =
       elim (cases_Bool ((world_of s).lives d)) [
         | inl so ↦ so
-        | inr failed ↦ not_both (is_frozen (client_lease l d i)) (leases.failed d i failed (held d h)) (unfrozen d h)
+        | inr failed ↦ not_both (is_revoked (client_lease l d i)) (leases.failed d i failed (held d h)) (unrevoked d h)
       ]
 
   runs : (d : ℕ) → is_asked asked d i ≡ true → is_over (client_seen s.clients d) ≡ false
   unfolding world_of
   runs d h =
       let running : (client_seen s.clients d).crashed ≡ false =
-      false_from_ne_true (client_seen s.clients d).crashed (λ crashed. not_both (is_frozen (client_lease l d i)) (leases.crashed d i crashed (held d h)) (unfrozen d h)) in
+      false_from_ne_true (client_seen s.clients d).crashed (λ crashed. not_both (is_revoked (client_lease l d i)) (leases.crashed d i crashed (held d h)) (unrevoked d h)) in
       rw running (not-true (client_seen s.clients d).failed (lives d h))
 
   number : (d : ℕ) → is_asked asked d i ≡ true → IsNumber s.clients d
@@ -380,7 +380,7 @@ module _ (s : StateValue) (c i : ℕ) (mode : Mode) (levels : TwoLevels) (asked 
   -- nobody gave an answer before
   first_answer : (d : ℕ) → is_asked asked d i ≡ true → is_asked s.cuts d i ≡ false
   unfolding leases_of
-  first_answer d h = noted.noted d i ∙ unfrozen d h
+  first_answer d h = noted.noted d i ∙ unrevoked d h
 
   -- ---- cuts
 
@@ -416,7 +416,7 @@ module _ (s : StateValue) (c i : ℕ) (mode : Mode) (levels : TwoLevels) (asked 
       subst (λ e. is_border (own_seen s e).log (l'.cut d i) ≡ true) a.2
       (subst (λ k. is_border (own_seen s a.0.client).log k ≡ true) (sym (cut_now d h ∙ a.3)) (answers.borders a.0 a.1))
 
-  goals_known : (d : ℕ) → asked_goal l l' i d ≤ end (world_of s) d
+  goals_known : (d : ℕ) → asked_goal l l' i d ≤ end_of_log (world_of s) d
   goals_known d =
       elim (cases_Bool (is_asked asked d i)) [
         | inl h ↦ rw (newly d ∙ h) (log_covers s d i (l'.cut d i) (covers d h)).to_end
@@ -453,29 +453,29 @@ module _ (s : StateValue) (c i : ℕ) (mode : Mode) (levels : TwoLevels) (asked 
     goals = raises;
   }
 
-  -- the cut of a lease that is frozen by it is the answer of its holder
-  pub newly_answered : (d j : ℕ) → is_newly_frozen l l' d j ≡ true → (j ≡ i) × ((a : Asked) × Among asked a × (a.client ≡ d) × (l'.cut d i ≡ a.cut))
+  -- the cut of a lease that is revoked by it is the answer of its holder
+  pub newly_answered : (d j : ℕ) → is_newly_revoked l l' d j ≡ true → (j ≡ i) × ((a : Asked) × Among asked a × (a.client ≡ d) × (l'.cut d i ≡ a.cut))
   newly_answered d j fresh =
       elim (cases_eq j i) [
         | inl is ↦
-            let h : is_asked asked d i ≡ true = sym (newly d) ∙ subst (λ k. is_newly_frozen l l' d k ≡ true) is fresh in
+            let h : is_asked asked d i ≡ true = sym (newly d) ∙ subst (λ k. is_newly_revoked l l' d k ≡ true) is fresh in
             let a = answer_of asked d i h in
             (is, (a.0, a.1, a.2, cut_now d h ∙ a.3))
         | inr other ↦
-            let parts = and_parts (not (is_frozen (client_lease l d j))) (is_frozen (client_lease l' d j)) fresh in
-            not_both (is_frozen (client_lease l d j)) (sym (ap is_frozen (elsewhere d j other)) ∙ parts.1) (not-true (is_frozen (client_lease l d j)) parts.0)
+            let parts = and_parts (not (is_revoked (client_lease l d j))) (is_revoked (client_lease l' d j)) fresh in
+            not_both (is_revoked (client_lease l d j)) (sym (ap is_revoked (elsewhere d j other)) ∙ parts.1) (not-true (is_revoked (client_lease l d j)) parts.0)
       ]
 
   -- ---- what is noted
 
-  -- what is frozen was so before, or was asked for
-  frozen_or_asked : (d j : ℕ) → is_frozen (client_lease l' d j) ≡ (is_frozen (client_lease l d j) || is_asked asked d j)
-  frozen_or_asked d j =
+  -- what is revoked was so before, or was asked for
+  revoked_or_asked : (d j : ℕ) → is_revoked (client_lease l' d j) ≡ (is_revoked (client_lease l d j) || is_asked asked d j)
+  revoked_or_asked d j =
       elim (cases_eq j i) [
         | inl is ↦
-            subst (λ k. is_frozen (client_lease l' d k) ≡ (is_frozen (client_lease l d k) || is_asked asked d k)) (sym is)
-            (was_or_new (is_frozen (client_lease l d i)) (is_frozen (client_lease l' d i)) (frozen_stays d i) ∙ ap (λ b. is_frozen (client_lease l d i) || b) (newly d))
-        | inr other ↦ ap is_frozen (elsewhere d j other) ∙ sym (ap (λ b. is_frozen (client_lease l d j) || b) (unasked_elsewhere asked i d j answers.inodes other) ∙ or-false (is_frozen (client_lease l d j)))
+            subst (λ k. is_revoked (client_lease l' d k) ≡ (is_revoked (client_lease l d k) || is_asked asked d k)) (sym is)
+            (was_or_new (is_revoked (client_lease l d i)) (is_revoked (client_lease l' d i)) (revoked_stays d i) ∙ ap (λ b. is_revoked (client_lease l d i) || b) (newly d))
+        | inr other ↦ ap is_revoked (elsewhere d j other) ∙ sym (ap (λ b. is_revoked (client_lease l d j) || b) (unasked_elsewhere asked i d j answers.inodes other) ∙ or-false (is_revoked (client_lease l d j)))
       ]
     where
       was_or_new : (was now : Bool) → (was ≡ true → now ≡ true) → now ≡ (was || (not was && now))
@@ -487,11 +487,11 @@ module _ (s : StateValue) (c i : ℕ) (mode : Mode) (levels : TwoLevels) (asked 
       false_from_ne_true (is_asked asked d j)
       (λ h. not_both (is_asked s.cuts d i) (subst (λ k. is_asked s.cuts d k ≡ true) (at_inode d j h) before) (first_answer d (asked_here d j h)))
 
-  now_noted : (d j : ℕ) → is_asked (s.cuts ++ asked) d j ≡ is_frozen (lease_of (levels.clients j) d)
+  now_noted : (d j : ℕ) → is_asked (s.cuts ++ asked) d j ≡ is_revoked (lease_of (levels.clients j) d)
   unfolding leases_of
-  now_noted d j = list_any-append (is_of d j) s.cuts asked ∙ (λ k. noted.noted d j k || is_asked asked d j) ∙ sym (frozen_or_asked d j)
+  now_noted d j = list_any-append (is_of d j) s.cuts asked ∙ (λ k. noted.noted d j k || is_asked asked d j) ∙ sym (revoked_or_asked d j)
 
-  pub asking_noted : AreNoted (after_asking s levels asked)
+  pub asking_noted : CutsInvariant (after_asking s levels asked)
   asking_noted = record {
     once = once_both s.cuts asked noted.once (once_of asked i answers.inodes distinct) not_twice;
     known = λ d j h. same_number s.clients (with_goals asked s.clients) d (count_kept asked s.clients) (elim (asked_either s.cuts asked d j h) [

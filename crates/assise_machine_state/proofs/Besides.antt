@@ -4,18 +4,18 @@ use Rattle.std.proofs.lemmas.Bool.{cases_Bool, cases_eq, false≢true, ne_eqb}
 use Rattle.assise_inode_table.specs.Effects.{contains}
 use Rattle.assise_private_log.specs.NumberedLog.{end as log_end}
 use Rattle.assise_manager.specs.Standings.{full_nodes}
-use Rattle.assise_machine_laws.specs.World.{received_by_all}
-use Rattle.assise_machine_laws.proofs.Failing.{contains-filter, filter-contains}
-use Rattle.assise_machine_events.specs.Dsyncs.{besides, coalesced_from, full_elsewhere, most_of}
-use Rattle.assise_machine_events.proofs.Regroupable.{most-above, most-below}
+use Rattle.assise_model_world.specs.World.{received_by_all}
+use Rattle.assise_model_world.proofs.FailureKeeps.{contains-filter, filter-contains}
+use Rattle.assise_model_events.specs.Dsyncs.{besides, coalesced_from, full_elsewhere, most_of}
+use Rattle.assise_model_events.proofs.Regroupable.{most-above, most-below}
 use Rattle.assise_machine_state.specs.ClientValues.{client_in, client_seen}
 use Rattle.assise_machine_state.specs.NodeValues.{log_in}
 use Rattle.assise_machine_state.specs.Observed.{full_in, is_full_in, world_of}
 use Rattle.assise_machine_state.specs.Places.{IsNumber}
-use Rattle.assise_machine_state.specs.Shape.{IsShaped}
+use Rattle.assise_machine_state.specs.Invariant.{ShapeInvariant}
 use Rattle.assise_machine_state.specs.StateValues.{StateValue, standings}
 use Rattle.assise_machine_state.proofs.Fullness.{full_is, has_log, log_is}
-use Rattle.assise_machine_state.proofs.Seeing.{client_is}
+use Rattle.assise_machine_state.proofs.ItemSeen.{client_is}
 use Rattle.assise_machine_state.proofs.Standings.{is_listed, listed_is_full}
 
 -- ---- one node after another
@@ -70,7 +70,7 @@ no_less home ns ms f g there same = most-below (besides home ns) f (most_of (bes
     let low : g n ≤ most_of (besides home ms) g = most-above (besides home ms) g n (filter-contains (λ m. not (m == home)) ms n away (there n known)) in
     omega (arith, same n known, low))
 
-module _ (s : StateValue) (c : ℕ) (shape : IsShaped s) (client : IsNumber s.clients c) where
+module _ (s : StateValue) (c : ℕ) (shape : ShapeInvariant s) (client : IsNumber s.clients c) where
   abbrev received_in : ℕ → ℕ
   received_in n = log_end (log_in s.nodes n c).log
 

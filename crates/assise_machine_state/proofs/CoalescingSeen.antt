@@ -6,45 +6,45 @@ use Rattle.std.proofs.lemmas.Bool.{cases_Bool, cases_eq, ne_eqb}
 use Rattle.std.proofs.lemmas.List.{length-append, length-drop, length-set, length-take}
 use Rattle.assise_record.specs.Groups.{AllHaveEffects, all_coalesced, are_whole, groups_of}
 use Rattle.assise_record.specs.LogRecord.{LogRecord}
-use Rattle.assise_record.proofs.Marking.{groups-all, groups-are}
+use Rattle.assise_record.proofs.GroupMarks.{groups-all, groups-are}
 use Rattle.assise_record.proofs.WholeGroups.{whole_none}
 use Rattle.assise_inode_table.specs.Contents.{values}
 use Rattle.assise_private_log.specs.Groups.{regrouped}
 use Rattle.assise_private_log.specs.NumberedLog.{IsNumberedLog, NumberedLog, end as log_end, is_border, records_from}
 use Rattle.assise_private_log.proofs.LogGroups.{regrouped_all, regrouped_among, regrouped_before, regrouped_records}
 use Rattle.assise_digest.specs.Region.{ReceivedLog, regrouped_from, with_log}
-use Rattle.assise_machine_laws.specs.ClientSteps.{RaisesGoals}
-use Rattle.assise_machine_laws.specs.Coalescing.{GetsAll, HasNone}
-use Rattle.assise_machine_laws.specs.Regrouped.{Regroups}
-use Rattle.assise_machine_laws.specs.Sound.{IsSound}
-use Rattle.assise_machine_laws.specs.Staying.{SameLeases}
-use Rattle.assise_machine_laws.specs.World.{Full, World, end, received_by_all, records_between}
-use Rattle.assise_machine_laws.proofs.Observing.{end_is}
-use Rattle.assise_machine_laws.proofs.Staying.{end-same}
-use Rattle.assise_machine_returns.specs.Returns.{OtherAreasStay}
-use Rattle.assise_machine_events.specs.Dsyncs.{coalesced_from, new_groups}
-use Rattle.assise_machine_events.proofs.Regroupable.{between_length, coalesced_elsewhere, coalesced_first, coalesced_high}
+use Rattle.assise_model_world.specs.ClientSteps.{RaisesGoals}
+use Rattle.assise_model_world.specs.Coalescing.{GetsAll, HasNone}
+use Rattle.assise_model_world.specs.Regrouped.{Regroups}
+use Rattle.assise_model_world.specs.Invariant.{WorldInvariant}
+use Rattle.assise_model_world.specs.Staying.{KeepsLeases}
+use Rattle.assise_model_world.specs.World.{Full, World, end_of_log, received_by_all, records_between}
+use Rattle.assise_model_world.proofs.WorldObserved.{end_is}
+use Rattle.assise_model_world.proofs.QuietSteps.{end-same}
+use Rattle.assise_model_members.specs.Returns.{OtherAreasStay}
+use Rattle.assise_model_events.specs.Dsyncs.{coalesced_from, new_groups}
+use Rattle.assise_model_events.proofs.Regroupable.{between_length, coalesced_elsewhere, coalesced_first, coalesced_high}
 use Rattle.assise_machine_state.specs.Changes.{after_coalescing, after_regrouping, goal_of}
 use Rattle.assise_machine_state.specs.ClientValues.{client_seen}
 use Rattle.assise_machine_state.specs.NodeValues.{HasLog, log_in, log_seen, region_in}
 use Rattle.assise_machine_state.specs.Observed.{is_full_in, own_node, own_seen, world_of}
 use Rattle.assise_machine_state.specs.Places.{IsNumber}
-use Rattle.assise_machine_state.specs.Shape.{AreNoted, IsMarked, IsShaped}
+use Rattle.assise_machine_state.specs.Invariant.{CutsInvariant, IsMarked, ShapeInvariant}
 use Rattle.assise_machine_state.specs.StateValues.{StateValue, standings}
 use Rattle.assise_machine_state.proofs.Fullness.{has_log, home_full, lives_number, lives_unfailed, log_is, no_log_there, seen_full}
-use Rattle.assise_machine_state.proofs.Logging.{log_else, log_here, log_same, logs_count, region_kept}
+use Rattle.assise_machine_state.proofs.LogChanges.{log_else, log_here, log_same, logs_count, region_kept}
 use Rattle.assise_machine_state.proofs.Marks.{marked_as}
 use Rattle.assise_machine_state.proofs.Noted.{goal_noted}
-use Rattle.assise_machine_state.proofs.Raising.{goal_raised, goal_shaped}
+use Rattle.assise_machine_state.proofs.GoalObserved.{goal_raised, goal_shaped}
 use Rattle.assise_machine_state.proofs.RegroupedMarks.{regrouped_marked}
-use Rattle.assise_machine_state.proofs.Shaping.{AreMarked, own_marked, shaped_as}
+use Rattle.assise_machine_state.proofs.ShapeKept.{AreMarked, own_marked, shaped_as}
 use Rattle.assise_machine_state.proofs.ShapedClients.{areas_stay}
-use Rattle.assise_machine_state.proofs.Staying.{leases_as}
+use Rattle.assise_machine_state.proofs.SameObserved.{leases_as}
 
 -- ---- what is observed of a client's log
 
-own_ends : (s : StateValue) (c : ℕ) → end (world_of s) c ≡ log_end (own_seen s c).log
-unfolding world_of end
+own_ends : (s : StateValue) (c : ℕ) → end_of_log (world_of s) c ≡ log_end (own_seen s c).log
+unfolding world_of end_of_log
 own_ends s c = refl
 
 first_is : (s : StateValue) (c : ℕ) → (world_of s).first c ≡ (own_seen s c).log.first
@@ -93,10 +93,10 @@ module _ (s : StateValue) (c from : ℕ) where
   unfolding world_of
   coalescing_areas n i away = areas_stay t s' refl n i away ∙ area_kept n i
 
-  pub coalescing_noted : AreNoted s → AreNoted s'
-  coalescing_noted noted = goal_noted t c (end u c) (record { once = noted.once; known = noted.known; noted = noted.noted })
+  pub coalescing_noted : CutsInvariant s → CutsInvariant s'
+  coalescing_noted noted = goal_noted t c (end_of_log u c) (record { once = noted.once; known = noted.known; noted = noted.noted })
 
-  module _ (shape : IsShaped s) (lives : w.lives c ≡ true) where
+  module _ (shape : ShapeInvariant s) (lives : w.lives c ≡ true) where
     there : IsNumber s.clients c
     there = lives_number s c lives
 
@@ -176,7 +176,7 @@ module _ (s : StateValue) (c from : ℕ) where
                 (subst (λ x. IsMarked (is_border (own_seen s d).log) x.log) (sym (else_now n d (λ _ same. other same))) (shape.marked n d))
           ]
 
-      regrouped_shaped : IsShaped t
+      regrouped_shaped : ShapeInvariant t
       regrouped_shaped = shaped_as s t shape record {
         nodes = length-set s.nodes (home - 1) _;
         members = refl;
@@ -193,51 +193,51 @@ module _ (s : StateValue) (c from : ℕ) where
         opened = λ d. refl;
       }
 
-      pub coalescing_shaped : IsShaped s'
-      coalescing_shaped = goal_shaped t c (end u c) there regrouped_shaped
+      pub coalescing_shaped : ShapeInvariant s'
+      coalescing_shaped = goal_shaped t c (end_of_log u c) there regrouped_shaped
 
       -- ---- what is observed
 
       module _ (first_low : l.first ≤ from) (some : AllHaveEffects (records_from l from)) (low : received_by_all w c ≤ from) (goal_low : w.goal c ≤ from)
           (at_border : w.border c from ≡ true) (past : (n : ℕ) → Full w n → n ≢ w.home c → w.received n c ≤ from) where
         abbrev gs : List (List LogRecord)
-        gs = groups_of (end w c) (records_between w c from (end w c))
+        gs = groups_of (end_of_log w c) (records_between w c from (end_of_log w c))
 
         -- the records from there on are the last of the own log
-        tail_same : records_between w c from (end w c) ≡ records_from l from
-        unfolding records_between world_of end
+        tail_same : records_between w c from (end_of_log w c) ≡ records_from l from
+        unfolding records_between world_of end_of_log
         tail_same = take_all (log_end l - from) (records_from l from) (omega (arith, length-drop (from - l.first) l.records))
 
-        few : length (records_from l from) ≤ end w c
-        unfolding world_of end
+        few : length (records_from l from) ≤ end_of_log w c
+        unfolding world_of end_of_log
         few = omega (arith, length-drop (from - l.first) l.records)
 
-        to_end : from ≤ end w c
-        unfolding world_of end
+        to_end : from ≤ end_of_log w c
+        unfolding world_of end_of_log
         to_end = high
 
-        groups_same : groups_of (end w c) (records_from l from) ≡ gs
-        groups_same = ap (groups_of (end w c)) (sym tail_same)
+        groups_same : groups_of (end_of_log w c) (records_from l from) ≡ gs
+        groups_same = ap (groups_of (end_of_log w c)) (sym tail_same)
 
         records_now : u.records c ≡ take (from - w.first c) (w.records c) ++ all_coalesced gs
         unfolding world_of
         records_now =
             ap (λ x. x.log.records) own_now
-            ∙ regrouped_records l from (end w c) few
+            ∙ regrouped_records l from (end_of_log w c) few
             ∙ ap (λ hs. take (from - l.first) l.records ++ all_coalesced hs) groups_same
 
-        end_now : end u c ≡ from + length (all_coalesced gs)
+        end_now : end_of_log u c ≡ from + length (all_coalesced gs)
         unfolding world_of
         end_now =
             let first : u.first c ≡ l.first = ap (λ x. x.log.first) own_now ∙ ap (λ m. m.first) (regrouped_all l from) in
             omega (arith, end_is u c, first, ap length records_now, length-append (take (from - l.first) l.records) (all_coalesced gs), length-take (from - l.first) l.records, first_low, high)
 
         border_among : (k : ℕ) → k ≤ length (all_coalesced gs) → u.border c (from + k) ≡ are_whole gs k
-        unfolding world_of end
+        unfolding world_of end_of_log
         border_among k within =
-            let ends : log_end (regrouped l from) ≡ end u c = ap (λ x. log_end x.log) (sym own_now) in
+            let ends : log_end (regrouped l from) ≡ end_of_log u c = ap (λ x. log_end x.log) (sym own_now) in
             ap (λ x. is_border x.log (from + k)) own_now
-            ∙ regrouped_among l from (end w c) k law first_low high some few (omega (arith, within, end_now, ends))
+            ∙ regrouped_among l from (end_of_log w c) k law first_low high some few (omega (arith, within, end_now, ends))
             ∙ ap (λ hs. are_whole hs k) groups_same
 
         border_first : u.border c from ≡ true
@@ -251,18 +251,18 @@ module _ (s : StateValue) (c from : ℕ) where
               | inr other ↦ border_now k (omega (arith, old, other))
             ]
 
-        received_now : u.received home c ≡ end u c
-        unfolding world_of end
+        received_now : u.received home c ≡ end_of_log u c
+        unfolding world_of end_of_log
         received_now = ap (λ x. log_end x.log) (sym own_after)
 
-        raised : RaisesGoals u (goal_of c (end u c)) w'
-        raised = goal_raised t c (end u c) there (omega arith)
+        raised : RaisesGoals u (goal_of c (end_of_log u c)) w'
+        raised = goal_raised t c (end_of_log u c) there (omega arith)
 
         still_full : (n : ℕ) → Full w n → Full u n
         unfolding world_of
         still_full n f = f
 
-        ends_same : end w' c ≡ end u c
+        ends_same : end_of_log w' c ≡ end_of_log u c
         ends_same = end-same u w' raised.logs c
 
         gets : Full w home → GetsAll home c w'
@@ -280,19 +280,19 @@ module _ (s : StateValue) (c from : ℕ) where
           log = (raised.nodes.same n (still_full n f)).log c ∙ ap (λ x. x.log.records) (else_now n c (λ is _. away is));
         }
 
-        goal_now : w'.goal c ≡ end w' c
+        goal_now : w'.goal c ≡ end_of_log w' c
         unfolding world_of
         goal_now = (
-            let to : goal_of c (end u c) c ≡ end u c = rw (eq-eqb c c refl) refl in
+            let to : goal_of c (end_of_log u c) c ≡ end_of_log u c = rw (eq-eqb c c refl) refl in
             omega (arith, raised.goals c, to, goal_low, end_now, ends_same))
 
         goal_else : (d : ℕ) → d ≢ c → w'.goal d ≡ w.goal d
         unfolding world_of
         goal_else d other = (
-            let to : goal_of c (end u c) d ≡ 0 = rw (ne_eqb d c other) refl in
+            let to : goal_of c (end_of_log u c) d ≡ 0 = rw (ne_eqb d c other) refl in
             omega (arith, raised.goals d, to))
 
-        same_leases : SameLeases w u
+        same_leases : KeepsLeases w u
         same_leases = leases_as s t (λ i. refl)
 
         pub regroups : Regroups w c from gs w'
@@ -301,8 +301,8 @@ module _ (s : StateValue) (c from : ℕ) where
           lives = lives;
           low = low;
           high = to_end;
-          groups = groups-are (end w c) (records_between w c from (end w c)) (subst AllHaveEffects (sym tail_same) some);
-          cut = groups-all (end w c) (records_between w c from (end w c)) (between_length w c from first_low to_end);
+          groups = groups-are (end_of_log w c) (records_between w c from (end_of_log w c)) (subst AllHaveEffects (sym tail_same) some);
+          cut = groups-all (end_of_log w c) (records_between w c from (end_of_log w c)) (between_length w c from first_low to_end);
           records_own = raised.logs.records c ∙ records_now;
           records_else = λ d other. raised.logs.records d ∙ ap (λ x. x.log.records) (own_else d other);
           border_old = λ k old. raised.logs.border c k ∙ border_before k old;
@@ -331,14 +331,14 @@ module _ (s : StateValue) (c from : ℕ) where
 
 -- ---- where a dsync begins
 
-module _ (s : StateValue) (c : ℕ) (shape : IsShaped s) (sound : ∥ IsSound (world_of s) ∥₁) (lives : (world_of s).lives c ≡ true) (law : IsNumberedLog (own_seen s c).log) where
+module _ (s : StateValue) (c : ℕ) (shape : ShapeInvariant s) (sound : ∥ WorldInvariant (world_of s) ∥₁) (lives : (world_of s).lives c ≡ true) (law : IsNumberedLog (own_seen s c).log) where
   abbrev start : ℕ
   start = coalesced_from (world_of s) c
 
   start_first : (world_of s).first c ≤ start
   start_first = ∥∥₁_elim sound (search props) (λ h. coalesced_first (world_of s) c h)
 
-  start_high : start ≤ end (world_of s) c
+  start_high : start ≤ end_of_log (world_of s) c
   start_high = ∥∥₁_elim sound (search props) (λ h. coalesced_high (world_of s) c h)
 
   start_low : received_by_all (world_of s) c ≤ start
@@ -348,7 +348,7 @@ module _ (s : StateValue) (c : ℕ) (shape : IsShaped s) (sound : ∥ IsSound (w
   goal_low = omega arith
 
   start_border : (world_of s).border c start ≡ true
-  start_border = ∥∥₁_elim sound (search props) (λ h. h.apart c start lives start_first goal_low start_high)
+  start_border = ∥∥₁_elim sound (search props) (λ h. h.disjoint c start lives start_first goal_low start_high)
 
   others_low : (n : ℕ) → Full (world_of s) n → n ≢ (world_of s).home c → (world_of s).received n c ≤ start
   others_low n full away = ∥∥₁_elim sound (search props) (λ h. coalesced_elsewhere (world_of s) c h n full away)
@@ -359,10 +359,10 @@ module _ (s : StateValue) (c : ℕ) (shape : IsShaped s) (sound : ∥ IsSound (w
   others_end : (n : ℕ) → is_full_in (standings s) n ≡ true → n ≢ (client_seen s.clients c).home → log_end (log_seen s.nodes n c).log ≤ start
   others_end n full away = (let known = others_low n (seen_full s n full) (away_from s c n away) in omega (arith, known, received_is s n c))
 
-  pub regrouped_shape : IsShaped (after_regrouping s c start)
+  pub regrouped_shape : ShapeInvariant (after_regrouping s c start)
   regrouped_shape = regrouped_shaped s c start shape lives law within others_end
 
-  pub coalesced_shape : IsShaped (after_coalescing s c start)
+  pub coalesced_shape : ShapeInvariant (after_coalescing s c start)
   coalesced_shape = coalescing_shaped s c start shape lives law within others_end
 
   pub coalesced_groups : AllHaveEffects (records_from (own_seen s c).log start) → Regroups (world_of s) c start (new_groups (world_of s) c) (world_of (after_coalescing s c start))

@@ -4,31 +4,31 @@ use Rattle.std.proofs.lemmas.List.{length-map}
 use Rattle.std.specs.FinSet as set
 use Rattle.std.specs.Ordering.{nat_cmp}
 use Rattle.assise_record.specs.Records.{all_effects}
-use Rattle.assise_inode_table.proofs.Applying.{get-all_applied}
+use Rattle.assise_inode_table.proofs.EffectLists.{get-all_applied}
 use Rattle.assise_inode_table.specs.Contents.{InodeMap, values}
 use Rattle.assise_inode_table.specs.Effects.{all_applied, contains, touched, value_after}
 use Rattle.assise_private_log.specs.NumberedLog.{end as log_end, is_border}
 use Rattle.assise_digest.specs.Region.{ReceivedLog, RegionValue, ahead, digested_further}
 use Rattle.assise_manager.specs.Changes.{noted, stale_again}
 use Rattle.assise_manager.specs.Standings.{Standing, down, full, is_full, returning}
-use Rattle.assise_machine_laws.specs.Chances.{MayDigest}
-use Rattle.assise_machine_laws.specs.NodeSteps.{Digests}
-use Rattle.assise_machine_laws.specs.Sound.{IsSound}
-use Rattle.assise_machine_laws.specs.World.{Full, World, ahead_below}
-use Rattle.assise_machine_returns.specs.Returns.{DigestsNoted, OtherAreasStay}
+use Rattle.assise_model_world.specs.Chances.{MayDigest}
+use Rattle.assise_model_world.specs.NodeSteps.{Digests}
+use Rattle.assise_model_world.specs.Invariant.{WorldInvariant}
+use Rattle.assise_model_world.specs.World.{Full, World, undigested_below}
+use Rattle.assise_model_members.specs.Returns.{DigestsNoted, OtherAreasStay}
 use Rattle.assise_machine_state.specs.Changes.{after_digest}
 use Rattle.assise_machine_state.specs.ClientValues.{client_seen}
 use Rattle.assise_machine_state.specs.NodeValues.{HasLog, log_in, log_seen, region_in}
 use Rattle.assise_machine_state.specs.Observed.{is_full_in, own_node, own_seen, world_of}
 use Rattle.assise_machine_state.specs.Places.{IsNumber}
-use Rattle.assise_machine_state.specs.Shape.{IsShaped}
+use Rattle.assise_machine_state.specs.Invariant.{ShapeInvariant}
 use Rattle.assise_machine_state.specs.StateValues.{StateValue, standings}
 use Rattle.assise_machine_state.proofs.Fullness.{full_seen, has_log, log_is, region_is, same_first}
-use Rattle.assise_machine_state.proofs.Logging.{log_else, log_here, log_same, region_else, region_here, region_with}
-use Rattle.assise_machine_state.proofs.Reading.{ahead_first}
-use Rattle.assise_machine_state.proofs.Shaping.{shaped_log, still_marked}
+use Rattle.assise_machine_state.proofs.LogChanges.{log_else, log_here, log_same, region_else, region_here, region_with}
+use Rattle.assise_machine_state.proofs.ReadObserved.{ahead_first}
+use Rattle.assise_machine_state.proofs.ShapeKept.{shaped_log, still_marked}
 use Rattle.assise_machine_state.proofs.Standings.{mapped_full, same_full, same_own}
-use Rattle.assise_machine_state.proofs.Staying.{clients_as, goals_as, leases_as, logs_as}
+use Rattle.assise_machine_state.proofs.SameObserved.{clients_as, goals_as, leases_as, logs_as}
 
 -- ---- the same nodes are full after the manager noted inodes
 
@@ -64,12 +64,12 @@ own_log s n c k inodes d =
     ap (λ m. (log_seen t.nodes m d).log) (same_own (standings t) (standings s) (same_count (standings s) n inodes) (still_full (standings s) n inodes) (client_seen s.clients d))
     ∙ same_log s n c k inodes (own_node (standings s) (client_seen s.clients d)) d
 
-pub digest_shaped : (s : StateValue) (n c k : ℕ) (inodes : set.FinSet nat_cmp) → IsShaped s → IsShaped (after_digest s n c k inodes)
+pub digest_shaped : (s : StateValue) (n c k : ℕ) (inodes : set.FinSet nat_cmp) → ShapeInvariant s → ShapeInvariant (after_digest s n c k inodes)
 digest_shaped s n c k inodes shape =
     shaped_log s (noted s.members n inodes) n c (inodes_now s n c k) (further s n c k) shape refl refl
     (still_marked s (after_digest s n c k inodes) (same_log s n c k inodes) (own_log s n c k inodes)) (same_count (standings s) n inodes) (still_full (standings s) n inodes)
 
-module _ (s : StateValue) (n c k : ℕ) (inodes : set.FinSet nat_cmp) (shape : IsShaped s) (first : (log_seen s.nodes n c).log.first ≡ (world_of s).first c) (client : IsNumber s.clients c) (may : MayDigest (world_of s) n c k) where
+module _ (s : StateValue) (n c k : ℕ) (inodes : set.FinSet nat_cmp) (shape : ShapeInvariant s) (first : (log_seen s.nodes n c).log.first ≡ (world_of s).first c) (client : IsNumber s.clients c) (may : MayDigest (world_of s) n c k) where
   abbrev w : World
   w = world_of s
 
@@ -99,11 +99,11 @@ module _ (s : StateValue) (n c k : ℕ) (inodes : set.FinSet nat_cmp) (shape : I
       ap (λ x. x.digested) (log_here s.nodes n c (inodes_now s n c k) (further s n c k) has) ∙ sum
 
   -- the area has what the observed records make of it
-  below_is : ahead_below w n c k ≡ take (k - (log_in s.nodes n c).digested) (ahead (log_in s.nodes n c))
-  unfolding ahead_below world_of
+  below_is : undigested_below w n c k ≡ take (k - (log_in s.nodes n c).digested) (ahead (log_in s.nodes n c))
+  unfolding undigested_below world_of
   below_is = ap (take (k - (log_seen s.nodes n c).digested)) (ahead_first s n c first) ∙ ap (λ x. take (k - x.digested) (ahead x)) was
 
-  area_now : (i : ℕ) → w'.area n i ≡ value_after i (w.area n i) (all_effects (ahead_below w n c k))
+  area_now : (i : ℕ) → w'.area n i ≡ value_after i (w.area n i) (all_effects (undigested_below w n c k))
   unfolding world_of
   area_now i =
       ap (λ r. values r.inodes i) (region_here s.nodes n now has.node)
@@ -139,10 +139,10 @@ module _ (s : StateValue) (n c k : ℕ) (inodes : set.FinSet nat_cmp) (shape : I
   other_areas : OtherAreasStay w w'
   other_areas m i away = area_beside m i (λ is. away (subst (λ j. Full w j) (sym is) may.full_node))
 
-  pub noted_front : ((i : ℕ) → set.contains inodes i ≡ contains (touched (all_effects (ahead_below w n c k))) i) → DigestsNoted w s.members n c k inodes w' t.members
-  noted_front touches = record { digests = digested; touches = touches; members = refl; others = other_areas }
+  pub noted_prefix : ((i : ℕ) → set.contains inodes i ≡ contains (touched (all_effects (undigested_below w n c k))) i) → DigestsNoted w s.members n c k inodes w' t.members
+  noted_prefix touches = record { digests = digested; touches = touches; members = refl; others = other_areas }
 
-pub digest_noted : (s : StateValue) (n c k : ℕ) (inodes : set.FinSet nat_cmp) → IsShaped s → IsSound (world_of s) → IsNumber s.clients c → MayDigest (world_of s) n c k →
-    ((i : ℕ) → set.contains inodes i ≡ contains (touched (all_effects (ahead_below (world_of s) n c k))) i) →
+pub digest_noted : (s : StateValue) (n c k : ℕ) (inodes : set.FinSet nat_cmp) → ShapeInvariant s → WorldInvariant (world_of s) → IsNumber s.clients c → MayDigest (world_of s) n c k →
+    ((i : ℕ) → set.contains inodes i ≡ contains (touched (all_effects (undigested_below (world_of s) n c k))) i) →
     DigestsNoted (world_of s) s.members n c k inodes (world_of (after_digest s n c k inodes)) (after_digest s n c k inodes).members
-digest_noted s n c k inodes shape sound client may touches = noted_front s n c k inodes shape (same_first s n c sound may.full_node) client may touches
+digest_noted s n c k inodes shape sound client may touches = noted_prefix s n c k inodes shape (same_first s n c sound may.full_node) client may touches

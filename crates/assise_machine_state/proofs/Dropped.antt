@@ -1,4 +1,4 @@
--- Fronts that are dropped of one client's logs after another's, as the laws have it.
+-- Prefixes that are dropped of one client's logs after another's, as the laws have it.
 use Rattle.std.proofs.Common.{◌≡◌, ◌≢◌, ◌⊎◌, ℕ, zero, suc, ◌-◌, ◌<◌, ◌≤◌, ◌==◌, true, if◌then◌else◌, List, [], ◌∷◌, length, drop, slice_index_or, inl, inr, refl, ap, sym, subst, ◌∙◌, arith, eq-eqb}
 use Rattle.std.proofs.Math.Logic.{∥∥₁_elim, ∥∥₁_map}
 use Rattle.std.proofs.Props.{props}
@@ -7,29 +7,29 @@ use Rattle.assise_record.specs.LogRecord.{LogRecord}
 use Rattle.assise_private_log.specs.NumberedLog.{end as log_end}
 use Rattle.assise_private_log.proofs.Borders.{border_first}
 use Rattle.assise_digest.specs.Region.{HasClient, RegionValue, log_of, no_log}
-use Rattle.assise_machine_laws.specs.NodeSteps.{Drops}
-use Rattle.assise_machine_laws.specs.Sound.{IsSound}
-use Rattle.assise_machine_laws.specs.World.{World, digested_by_all, end}
-use Rattle.assise_machine_laws.proofs.Dropping.{drop_sound}
-use Rattle.assise_machine_laws.proofs.Observing.{digested_by_all-below, least_of-end}
-use Rattle.assise_machine_events.proofs.Failable.{digested_border}
+use Rattle.assise_model_world.specs.NodeSteps.{Drops}
+use Rattle.assise_model_world.specs.Invariant.{WorldInvariant}
+use Rattle.assise_model_world.specs.World.{World, digested_by_all, end_of_log}
+use Rattle.assise_model_world.proofs.DropKeeps.{drop_sound}
+use Rattle.assise_model_world.proofs.WorldObserved.{digested_by_all-below, least_of-end}
+use Rattle.assise_model_events.proofs.Failable.{digested_border}
 use Rattle.assise_machine_state.specs.Changes.{after_drop, drops_to, first_but}
 use Rattle.assise_machine_state.specs.ClientValues.{client_seen}
 use Rattle.assise_machine_state.specs.NodeValues.{AreDigested, IsDigestedTo, log_in, log_seen, no_region, region_in, region_seen}
 use Rattle.assise_machine_state.specs.Observed.{is_full_in, own_node, own_seen, world_of}
-use Rattle.assise_machine_state.specs.Places.{IsNumber, at}
-use Rattle.assise_machine_state.specs.Shape.{IsShaped}
+use Rattle.assise_machine_state.specs.Places.{IsNumber, item_at}
+use Rattle.assise_machine_state.specs.Invariant.{ShapeInvariant}
 use Rattle.assise_machine_state.specs.StateValues.{StateValue, standings}
-use Rattle.assise_machine_state.proofs.Fronts.{HasFronts, drop_areas, drop_shaped, dropped_fronts, dropped_twice, has_fronts, same_digested}
+use Rattle.assise_machine_state.proofs.Prefixes.{HasPrefixes, drop_areas, drop_shaped, dropped_prefixes, dropped_twice, has_prefixes, same_digested}
 use Rattle.assise_machine_state.proofs.Fullness.{has_log, log_is, no_log_there, region_is, seen_full}
-use Rattle.assise_machine_state.proofs.Seeing.{less_one, seen_past}
-use Rattle.assise_machine_state.proofs.Staying.{clients_as, goals_as, leases_as}
+use Rattle.assise_machine_state.proofs.ItemSeen.{less_one, seen_past}
+use Rattle.assise_machine_state.proofs.SameObserved.{clients_as, goals_as, leases_as}
 
 -- ---- who is no client has no log
 
-module _ (s : StateValue) (shape : IsShaped s) where
+module _ (s : StateValue) (shape : ShapeInvariant s) where
   nothing_seen : (n c : ℕ) → (length s.clients < c) ⊎ (c ≡ 0) → log_seen s.nodes n c ≡ no_log
-  unfolding log_seen at
+  unfolding log_seen item_at
   nothing_seen n c (inl past) =
       elim (cases_Bool (is_full_in (standings s) n)) [
         | inl full ↦ (let logs : length (region_seen s.nodes n).logs ≡ length s.clients = shape.logs n full in seen_past no_log (region_seen s.nodes n).logs c (omega (arith, logs, past)))
@@ -38,12 +38,12 @@ module _ (s : StateValue) (shape : IsShaped s) where
   nothing_seen n c (inr none) = rw none refl
 
   nothing_owned : (c : ℕ) → (length s.clients < c) ⊎ (c ≡ 0) → (world_of s).first c ≡ digested_by_all (world_of s) c
-  unfolding world_of own_seen digested_by_all end
-  nothing_owned c apart =
-      let none : log_seen s.nodes (own_node (standings s) (client_seen s.clients c)) c ≡ no_log = nothing_seen (own_node (standings s) (client_seen s.clients c)) c apart in
-      let high = least_of-end (world_of s).full (λ n. (world_of s).digested n c) (end (world_of s) c) in
+  unfolding world_of own_seen digested_by_all end_of_log
+  nothing_owned c disjoint =
+      let none : log_seen s.nodes (own_node (standings s) (client_seen s.clients c)) c ≡ no_log = nothing_seen (own_node (standings s) (client_seen s.clients c)) c disjoint in
+      let high = least_of-end (world_of s).full (λ n. (world_of s).digested n c) (end_of_log (world_of s) c) in
       let first : (world_of s).first c ≡ 0 = ap (λ l. l.log.first) none in
-      let ends : end (world_of s) c ≡ 0 = ap (λ l. log_end l.log) none in
+      let ends : end_of_log (world_of s) c ≡ 0 = ap (λ l. log_end l.log) none in
       omega (arith, high, first, ends)
 
 -- ---- what stays
@@ -56,8 +56,8 @@ pub record StillDropping (s t : StateValue) : Type 0 where
   pub history : t.history ≡ s.history
   pub limit : t.limit ≡ s.limit
   pub area : (k i : ℕ) → (world_of t).area k i ≡ (world_of s).area k i
-  pub shape : IsShaped t
-  pub sound : ∥ IsSound (world_of t) ∥₁
+  pub shape : ShapeInvariant t
+  pub sound : ∥ WorldInvariant (world_of t) ∥₁
 
 -- of clients 1 to m the logs begin where all full nodes have digested them, and the others' where they began
 abbrev first_to : World → ℕ → ℕ → ℕ
@@ -66,34 +66,34 @@ first_to w (suc m) d = if d == suc m then digested_by_all w (suc m) else first_t
 
 -- ---- where a log begins, at each full node
 
-fronts_of : (s : StateValue) (c : ℕ) → ∥ IsSound (world_of s) ∥₁ → HasFronts s c
-fronts_of s c sound = record {
-  first = λ n full. ∥∥₁_elim sound (search props) (λ h. (has_fronts s c h).first n full);
-  known = λ n full. ∥∥₁_elim sound (search props) (λ h. (has_fronts s c h).known n full);
-  begun = λ d. ∥∥₁_elim sound (search props) (λ h. (has_fronts s c h).begun d);
+prefixes_of : (s : StateValue) (c : ℕ) → ∥ WorldInvariant (world_of s) ∥₁ → HasPrefixes s c
+prefixes_of s c sound = record {
+  first = λ n full. ∥∥₁_elim sound (search props) (λ h. (has_prefixes s c h).first n full);
+  known = λ n full. ∥∥₁_elim sound (search props) (λ h. (has_prefixes s c h).known n full);
+  begun = λ d. ∥∥₁_elim sound (search props) (λ h. (has_prefixes s c h).begun d);
 }
 
 -- what all full nodes have digested ends at a border
-to_border : (s : StateValue) (c : ℕ) → ∥ IsSound (world_of s) ∥₁ → (world_of s).border c (digested_by_all (world_of s) c) ≡ true
+to_border : (s : StateValue) (c : ℕ) → ∥ WorldInvariant (world_of s) ∥₁ → (world_of s).border c (digested_by_all (world_of s) c) ≡ true
 to_border s c sound = ∥∥₁_elim sound (search props) (λ h. digested_border (world_of s) h c)
 
 each_digested : (rs : List RegionValue) (c to : ℕ) → ((k : ℕ) → k < length rs → HasClient (slice_index_or rs k no_region) c → IsDigestedTo (log_of (slice_index_or rs k no_region) c) to) → AreDigested rs c to
 each_digested [] c to each = tt
 each_digested (r ∷ rs) c to each = (each 0 (omega arith), each_digested rs c to (λ k low. each (suc k) (omega (arith, low))))
 
-module _ (s : StateValue) (c : ℕ) (shape : IsShaped s) (sound : ∥ IsSound (world_of s) ∥₁) (client : IsNumber s.clients c) where
+module _ (s : StateValue) (c : ℕ) (shape : ShapeInvariant s) (sound : ∥ WorldInvariant (world_of s) ∥₁) (client : IsNumber s.clients c) where
   -- a full node has digested what all have
   digested_here : (n : ℕ) → is_full_in (standings s) n ≡ true → IsDigestedTo (log_in s.nodes n c) (digested_by_all (world_of s) c)
   unfolding world_of
   digested_here n here =
       let full = seen_full s n here in
-      let fronts = fronts_of s c sound in
+      let prefixes = prefixes_of s c sound in
       let was : log_seen s.nodes n c ≡ log_in s.nodes n c = log_is s n c (has_log s n c shape here client) in
-      let first : (log_seen s.nodes n c).log.first ≡ (world_of s).first c = fronts.first n full in
+      let first : (log_seen s.nodes n c).log.first ≡ (world_of s).first c = prefixes.first n full in
       let same : (log_seen s.nodes n c).log.first ≡ (log_in s.nodes n c).log.first = ap (λ l. l.log.first) was in
       let low : digested_by_all (world_of s) c ≤ (world_of s).digested n c = digested_by_all-below (world_of s) n c full in
       let there : (log_seen s.nodes n c).digested ≡ (log_in s.nodes n c).digested = ap (λ l. l.digested) was in
-      record { from_first = omega (arith, first, same, fronts.begun c); digested = omega (arith, low, there) }
+      record { from_first = omega (arith, first, same, prefixes.begun c); digested = omega (arith, low, there) }
 
   -- who has the log is full
   digested_there : (n : ℕ) → IsNumber s.nodes n → HasClient (region_in s.nodes n) c → IsDigestedTo (log_in s.nodes n c) (digested_by_all (world_of s) c)
@@ -116,7 +116,7 @@ module _ (s : StateValue) (c : ℕ) (shape : IsShaped s) (sound : ∥ IsSound (w
 none_dropped : (k : ℕ) (rs : List LogRecord) → rs ≡ drop (k - k) rs
 none_dropped k rs = (let none : k - k ≡ 0 = omega arith in ap (λ j. drop j rs) (sym none))
 
-module _ (s : StateValue) (shape : IsShaped s) (sound : ∥ IsSound (world_of s) ∥₁) where
+module _ (s : StateValue) (shape : ShapeInvariant s) (sound : ∥ WorldInvariant (world_of s) ∥₁) where
   abbrev w : World
   w = world_of s
 
@@ -132,8 +132,8 @@ module _ (s : StateValue) (shape : IsShaped s) (sound : ∥ IsSound (world_of s)
 
     next_drops : Drops (world_of t) (first_but (world_of t) (suc m) to) (world_of u)
     next_drops =
-        let fronts = fronts_of t (suc m) same.sound in
-        dropped_fronts t (suc m) to same.shape fronts next_client (fronts.begun (suc m)) (omega arith) (to_border t (suc m) same.sound)
+        let prefixes = prefixes_of t (suc m) same.sound in
+        dropped_prefixes t (suc m) to same.shape prefixes next_client (prefixes.begun (suc m)) (omega arith) (to_border t (suc m) same.sound)
 
     next_same : StillDropping s u
     next_same = record {
@@ -145,8 +145,8 @@ module _ (s : StateValue) (shape : IsShaped s) (sound : ∥ IsSound (world_of s)
       limit = same.limit;
       area = λ k i. drop_areas t (suc m) to k i ∙ same.area k i;
       shape =
-          let fronts = fronts_of t (suc m) same.sound in
-          drop_shaped t (suc m) to same.shape fronts next_client (fronts.begun (suc m)) (omega arith) (to_border t (suc m) same.sound);
+          let prefixes = prefixes_of t (suc m) same.sound in
+          drop_shaped t (suc m) to same.shape prefixes next_client (prefixes.begun (suc m)) (omega arith) (to_border t (suc m) same.sound);
       sound = ∥∥₁_map same.sound (λ h. drop_sound (world_of t) (world_of u) (first_but (world_of t) (suc m) to) h next_drops);
     }
 
@@ -168,7 +168,7 @@ module _ (s : StateValue) (shape : IsShaped s) (sound : ∥ IsSound (world_of s)
   unfolding world_of
   nothing_drops = record {
     low = λ c. omega arith;
-    high = λ c. (fronts_of s c sound).begun c;
+    high = λ c. (prefixes_of s c sound).begun c;
     border_at = λ c. border_first (own_seen s c).log (own_seen s c).log.first (omega arith);
     calls = refl;
     records = λ c. none_dropped (w.first c) (w.records c);
@@ -197,24 +197,24 @@ module _ (s : StateValue) (shape : IsShaped s) (sound : ∥ IsSound (world_of s)
       subst (λ f. Drops w f (world_of (drops_to s (suc m)))) (λ i d. if d == suc m then same_digested w (world_of t) (first_to w m) before (suc m) i else before.first d i) both
 
   all_first : (m d : ℕ) → ((m < d) ⊎ (d ≡ 0) → w.first d ≡ digested_by_all w d) → first_to w m d ≡ digested_by_all w d
-  all_first zero zero apart = apart (inr refl)
-  all_first zero (suc d) apart = apart (inl (omega arith))
-  all_first (suc m) d apart =
+  all_first zero zero disjoint = disjoint (inr refl)
+  all_first zero (suc d) disjoint = disjoint (inl (omega arith))
+  all_first (suc m) d disjoint =
       elim (cases_eq d (suc m)) [
         | inl is ↦ rw (eq-eqb d (suc m) is) (ap (digested_by_all w) (sym is))
         | inr other ↦ rw (ne_eqb d (suc m) other) (all_first m d (each other))
       ]
     where
       each : d ≢ suc m → (m < d) ⊎ (d ≡ 0) → w.first d ≡ digested_by_all w d
-      each other (inl past) = apart (inl (omega (arith, past, other)))
-      each other (inr none) = apart (inr none)
+      each other (inl past) = disjoint (inl (omega (arith, past, other)))
+      each other (inr none) = disjoint (inr none)
 
   pub all_dropped : Drops w (digested_by_all w) (world_of (drops_to s (length s.clients)))
   all_dropped =
       subst (λ f. Drops w f (world_of (drops_to s (length s.clients)))) (λ i d. all_first (length s.clients) d (nothing_owned s shape d) i)
       (drops_first (length s.clients) (omega arith))
 
-  -- ---- as the code finds it, which counts clients down from the last
+  -- ---- as the code finds it
 
   module _ (last m : ℕ) (next : suc m ≡ last) (there : last ≤ length s.clients) (t : StateValue) (is : t ≡ drops_to s m) where
     low : m < length s.clients
@@ -226,13 +226,8 @@ module _ (s : StateValue) (shape : IsShaped s) (sound : ∥ IsSound (world_of s)
     pub client_as : IsNumber t.clients last
     client_as = subst (IsNumber t.clients) next (next_client t m same_as low)
 
-    pub shape_as : IsShaped t
+    pub shape_as : ShapeInvariant t
     shape_as = same_as.shape
 
     pub digested_as : AreDigested t.nodes last (digested_by_all (world_of t) last)
     digested_as = are_digested t last same_as.shape same_as.sound client_as
-
-    pub dropped_as : after_drop t last (digested_by_all (world_of t) last) ≡ drops_to s last
-    dropped_as =
-        subst (λ c. after_drop t c (digested_by_all (world_of t) c) ≡ drops_to s c) next
-        (ap (λ v. after_drop v (suc m) (digested_by_all (world_of v) (suc m))) is)

@@ -9,7 +9,7 @@ use Rattle.std.proofs.lemmas.Bool.{cases_Bool, cases_eq, cases_lt, ne_eqb}
 use Rattle.std.proofs.lemmas.List.{length-take, nil_from_length}
 use Rattle.assise_names.specs.declared.limits.TheConstants.{MOST_NODES}
 use Rattle.assise_history.specs.Entries.{fails}
-use Rattle.assise_history.proofs.Counting.{durability-still}
+use Rattle.assise_history.proofs.ClientCounts.{durability-still}
 use Rattle.assise_inode_table.specs.Contents.{values}
 use Rattle.assise_inode_table.specs.Traces.{NumberedCall, below}
 use Rattle.assise_private_log.specs.NumberedLog.{NumberedLog, end as log_end, is_border, without_tail}
@@ -18,37 +18,37 @@ use Rattle.assise_digest.specs.Region.{up_to_number}
 use Rattle.assise_lease_table.specs.declared.lease.Asked.{Asked}
 use Rattle.assise_lease_table.specs.declared.lease.Lease.{Lease}
 use Rattle.assise_lease_table.specs.LeaseMaps.{SameLeases as SameLeasesOf}
-use Rattle.assise_lease_table.specs.Leases.{freeze}
+use Rattle.assise_lease_table.specs.Leases.{revoke}
 use Rattle.assise_lease_tree.specs.Levels.{lives}
 use Rattle.assise_lease_tree.specs.TwoLevels.{TwoLevels}
 use Rattle.assise_manager.specs.Changes.{failure_fault}
 use Rattle.assise_manager.specs.Membership.{lowest_full}
 use Rattle.assise_manager.specs.Standings.{full, standing_of}
-use Rattle.assise_machine_laws.specs.NodeSteps.{Fails, kept_at_failure}
-use Rattle.assise_machine_laws.specs.Sound.{IsSound}
-use Rattle.assise_machine_laws.specs.Staying.{SameLeases}
-use Rattle.assise_machine_laws.specs.World.{Full, World, call_at, end}
-use Rattle.assise_machine_laws.proofs.Failing.{kept_border, kept_high}
-use Rattle.assise_machine_leases.specs.Handing.{FailsWith}
-use Rattle.assise_machine_leases.specs.Leases.{AreLeases}
-use Rattle.assise_machine_history.specs.Lost.{losses_of}
-use Rattle.assise_machine_history.proofs.Failing.{failure_takes}
-use Rattle.assise_machine_history.proofs.Numbering.{kept_fail}
+use Rattle.assise_model_world.specs.NodeSteps.{Fails, kept_at_failure}
+use Rattle.assise_model_world.specs.Invariant.{WorldInvariant}
+use Rattle.assise_model_world.specs.Staying.{KeepsLeases}
+use Rattle.assise_model_world.specs.World.{Full, World, call_at, end_of_log}
+use Rattle.assise_model_world.proofs.FailureKeeps.{kept_border, kept_high}
+use Rattle.assise_model_leases.specs.Handing.{FailsWithLeases}
+use Rattle.assise_model_leases.specs.Leases.{AreLeases}
+use Rattle.assise_model_history.specs.Lost.{losses_of}
+use Rattle.assise_model_history.proofs.FailureKeeps.{failure_takes}
+use Rattle.assise_model_history.proofs.NumberedCalls.{kept_fail}
 use Rattle.assise_machine_state.specs.Changes.{after_failure}
 use Rattle.assise_machine_state.specs.ClientValues.{ClientValue, client_seen, cut_of, failed_at}
 use Rattle.assise_machine_state.specs.NodeValues.{log_seen, region_seen}
 use Rattle.assise_machine_state.specs.Observed.{is_full_in, own_seen, world_of}
 use Rattle.assise_machine_state.specs.Places.{IsNumber}
-use Rattle.assise_machine_state.specs.Shape.{AreLeft, IsMarked, IsShaped}
+use Rattle.assise_machine_state.specs.Invariant.{AreLeft, IsMarked, ShapeInvariant}
 use Rattle.assise_machine_state.specs.StateValues.{StateValue, leases_of, standings}
 use Rattle.assise_machine_state.proofs.CutSeen.{client_fails, client_stays, count_over, home_number, inodes_left, log_cut_left, log_left, count_left, logs_gone, logs_left}
 use Rattle.assise_machine_state.proofs.Fullness.{full_seen, node_number, same_first, seen_full, no_log_in}
-use Rattle.assise_machine_state.proofs.Kept.{kept_elsewhere, kept_from_first, kept_received, part_first, front_kept, front_whole, all_kept, end_cut}
+use Rattle.assise_machine_state.proofs.Kept.{kept_elsewhere, kept_from_first, kept_received, part_first, prefix_kept, prefix_whole, all_kept, end_cut}
 use Rattle.assise_machine_state.proofs.Marks.{border_inside, borders_same, marked_as, marked_tail, so_many_marks, tail_border}
 use Rattle.assise_machine_state.proofs.Noted.{failed_over, left_else, lives_elsewhere, unasked_cut}
-use Rattle.assise_machine_state.proofs.Shaping.{KnowsHome, limit_seen, limits_all, own_marked}
+use Rattle.assise_machine_state.proofs.ShapeKept.{KnowsHome, limit_seen, limits_all, own_marked}
 use Rattle.assise_machine_state.proofs.Standings.{else_then, full_as, gone_then, lowest_is_full, survivor_left, count_then}
-use Rattle.assise_machine_state.proofs.Staying.{leases_frozen}
+use Rattle.assise_machine_state.proofs.SameObserved.{leases_revoked}
 
 -- the cut of a client whose node failed
 cut_once_failed : (asked : List Asked) (c k : ℕ) (x : ClientValue) (i : ℕ) → cut_of asked c (failed_at k x) i ≡ k
@@ -60,7 +60,7 @@ pub failure_areas : (s : StateValue) (n k i : ℕ) (inodes : set.FinSet nat_cmp)
 unfolding world_of
 failure_areas s n k i inodes levels asked = ap (λ m. values m i) (inodes_left s.nodes n s.clients (kept_at_failure (world_of s) n) k)
 
-module _ (s : StateValue) (n : ℕ) (inodes : set.FinSet nat_cmp) (levels : TwoLevels) (asked : List Asked) (shape : IsShaped s) (stands : standing_of (standings s) n ≡ Some full) where
+module _ (s : StateValue) (n : ℕ) (inodes : set.FinSet nat_cmp) (levels : TwoLevels) (asked : List Asked) (shape : ShapeInvariant s) (stands : standing_of (standings s) n ≡ Some full) where
   abbrev w : World
   w = world_of s
 
@@ -109,10 +109,10 @@ module _ (s : StateValue) (n : ℕ) (inodes : set.FinSet nat_cmp) (levels : TwoL
 
   -- logs of the nodes that are left
   log_there : (m c : ℕ) → m ≢ n → (client_seen s.clients c).home ≡ n → log_seen t.nodes m c ≡ up_to_number (log_seen s.nodes m c) (kept c)
-  log_there m c apart here = log_cut_left s.nodes n s.clients kept m c failed_there apart here
+  log_there m c disjoint here = log_cut_left s.nodes n s.clients kept m c failed_there disjoint here
 
   log_same : (m c : ℕ) → m ≢ n → (client_seen s.clients c).home ≢ n → log_seen t.nodes m c ≡ log_seen s.nodes m c
-  log_same m c apart other = log_left s.nodes n s.clients kept m c failed_there apart other
+  log_same m c disjoint other = log_left s.nodes n s.clients kept m c failed_there disjoint other
 
   -- ---- parts of its shape
 
@@ -143,17 +143,17 @@ module _ (s : StateValue) (n : ℕ) (inodes : set.FinSet nat_cmp) (levels : TwoL
       ]
 
   left_home : (k c : ℕ) → k ≢ n → KnowsHome t k c
-  left_home k c apart = elim (cases_eq (client_seen s.clients c).home n) [
+  left_home k c disjoint = elim (cases_eq (client_seen s.clients c).home n) [
     | inl here ↦
-        let elsewhere : (k == (client_seen s.clients c).home) ≡ false = ne_eqb k (client_seen s.clients c).home (λ e. apart (e ∙ here)) in
-        rw (log_there k c apart here, client_over c here, elsewhere) (shape.at_home k c ∙ rw elsewhere refl)
-    | inr other ↦ rw (log_same k c apart other, client_same c other) (shape.at_home k c)
+        let elsewhere : (k == (client_seen s.clients c).home) ≡ false = ne_eqb k (client_seen s.clients c).home (λ e. disjoint (e ∙ here)) in
+        rw (log_there k c disjoint here, client_over c here, elsewhere) (shape.at_home k c ∙ rw elsewhere refl)
+    | inr other ↦ rw (log_same k c disjoint other, client_same c other) (shape.at_home k c)
   ]
 
   same_limit : (k c : ℕ) → k ≢ n → (log_seen t.nodes k c).log.limit ≡ (log_seen s.nodes k c).log.limit
-  same_limit k c apart = elim (cases_eq (client_seen s.clients c).home n) [
-    | inl here ↦ ap (λ l. l.log.limit) (log_there k c apart here)
-    | inr other ↦ ap (λ l. l.log.limit) (log_same k c apart other)
+  same_limit k c disjoint = elim (cases_eq (client_seen s.clients c).home n) [
+    | inl here ↦ ap (λ l. l.log.limit) (log_there k c disjoint here)
+    | inr other ↦ ap (λ l. l.log.limit) (log_same k c disjoint other)
   ]
 
   left_limit : (k c : ℕ) → is_full_in (standings t) k ≡ true → IsNumber t.clients c → (log_seen t.nodes k c).log.limit ≡ s.limit
@@ -169,7 +169,7 @@ module _ (s : StateValue) (n : ℕ) (inodes : set.FinSet nat_cmp) (levels : TwoL
 
   -- ---- what the laws observe
 
-  module _ (sound : IsSound w) where
+  module _ (sound : WorldInvariant w) where
     cut_records : (m c : ℕ) → is_full_in (standings t) m ≡ true → w'.log m c ≡ take (kept c - w.first c) (w.log m c)
     unfolding world_of
     cut_records m c f =
@@ -177,7 +177,7 @@ module _ (s : StateValue) (n : ℕ) (inodes : set.FinSet nat_cmp) (levels : TwoL
           | inl here ↦
               ap (λ l. l.log.records) (log_there m c (not_failed m f) here)
               ∙ ap (λ k. take (kept c - k) (log_seen s.nodes m c).log.records) (same_first s m c sound (was_full m f))
-          | inr other ↦ ap (λ l. l.log.records) (log_same m c (not_failed m f) other) ∙ sym (front_whole w n m c sound (was_full m f) (kept_elsewhere w n c other))
+          | inr other ↦ ap (λ l. l.log.records) (log_same m c (not_failed m f) other) ∙ sym (prefix_whole w n m c sound (was_full m f) (kept_elsewhere w n c other))
         ]
 
     cut_first : (m c : ℕ) → is_full_in (standings t) m ≡ true → (log_seen t.nodes m c).log.first ≡ w.first c
@@ -195,8 +195,8 @@ module _ (s : StateValue) (n : ℕ) (inodes : set.FinSet nat_cmp) (levels : TwoL
               let low : (log_seen s.nodes m c).log.first ≤ kept c = subst (λ k. k ≤ kept c) (sym (same_first s m c sound (was_full m f))) (kept_from_first w n c sound) in
               ap (λ l. log_end l.log) (log_there m c (not_failed m f) here) ∙ end_cut (log_seen s.nodes m c).log (kept c) low
           | inr other ↦
-              let all : kept c ≡ end w c = kept_elsewhere w n c other in
-              let known : w.received m c ≤ end w c = (sound.coherent.order m c (was_full m f)).known in
+              let all : kept c ≡ end_of_log w c = kept_elsewhere w n c other in
+              let known : w.received m c ≤ end_of_log w c = (sound.coherent.order m c (was_full m f)).known in
               let whole : w.received m c ≡ min (w.received m c) (kept c) = omega (arith, all, known) in
               ap (λ l. log_end l.log) (log_same m c (not_failed m f) other) ∙ whole
         ]
@@ -216,8 +216,8 @@ module _ (s : StateValue) (n : ℕ) (inodes : set.FinSet nat_cmp) (levels : TwoL
         elim (cases_eq (client_seen s.clients c).home n) [
           | inl here ↦ ap (λ x. x.goal) (client_over c here)
           | inr other ↦
-              let all : kept c ≡ end w c = kept_elsewhere w n c other in
-              let low : w.goal c ≤ end w c = sound.goals c in
+              let all : kept c ≡ end_of_log w c = kept_elsewhere w n c other in
+              let low : w.goal c ≤ end_of_log w c = sound.goals c in
               let whole : w.goal c ≡ min (w.goal c) (kept c) = omega (arith, all, low) in
               ap (λ x. x.goal) (client_same c other) ∙ whole
         ]
@@ -255,26 +255,26 @@ module _ (s : StateValue) (n : ℕ) (inodes : set.FinSet nat_cmp) (levels : TwoL
       low_records : (c : ℕ) → (client_seen t.clients c).failed ≡ true → w'.log low c ≡ take (kept c - w.first c) (w.records c)
       low_records c over =
           cut_records low c low_stands
-          ∙ front_kept w n low c sound (was_full low low_stands) (kept_received w n low c sound (was_full low low_stands) (not_failed low low_stands) (has_ended c over))
+          ∙ prefix_kept w n low c sound (was_full low low_stands) (kept_received w n low c sound (was_full low low_stands) (not_failed low low_stands) (has_ended c over))
 
       -- and of one that lives on
-      lives_apart : (c : ℕ) → (client_seen t.clients c).failed ≡ false → (client_seen s.clients c).home ≢ n
-      lives_apart c unfailed here = true≢false (ap (λ x. x.failed) (sym (client_over c here)) ∙ unfailed)
+      lives_disjoint : (c : ℕ) → (client_seen t.clients c).failed ≡ false → (client_seen s.clients c).home ≢ n
+      lives_disjoint c unfailed here = true≢false (ap (λ x. x.failed) (sym (client_over c here)) ∙ unfailed)
 
       own_while_lives : (c : ℕ) → (client_seen t.clients c).failed ≡ false → own_seen t c ≡ own_seen s c
       unfolding own_seen
       own_while_lives c unfailed =
-          let apart : (client_seen s.clients c).home ≢ n = lives_apart c unfailed in
-          let before : (client_seen s.clients c).failed ≡ false = ap (λ x. x.failed) (sym (client_same c apart)) ∙ unfailed in
+          let disjoint : (client_seen s.clients c).home ≢ n = lives_disjoint c unfailed in
+          let before : (client_seen s.clients c).failed ≡ false = ap (λ x. x.failed) (sym (client_same c disjoint)) ∙ unfailed in
           rw (unfailed, before)
-          (ap (λ x. log_seen t.nodes x.home c) (client_same c apart) ∙ log_same (client_seen s.clients c).home c apart apart)
+          (ap (λ x. log_seen t.nodes x.home c) (client_same c disjoint) ∙ log_same (client_seen s.clients c).home c disjoint disjoint)
 
       own_records : (c : ℕ) → w'.records c ≡ take (kept c - w.first c) (w.records c)
       unfolding world_of
       own_records c =
           elim (cases_Bool (client_seen t.clients c).failed) [
             | inl over ↦ ap (λ l. l.log.records) (own_once_over c over) ∙ low_records c over
-            | inr unfailed ↦ ap (λ l. l.log.records) (own_while_lives c unfailed) ∙ sym (all_kept w n c (kept_elsewhere w n c (lives_apart c unfailed)))
+            | inr unfailed ↦ ap (λ l. l.log.records) (own_while_lives c unfailed) ∙ sym (all_kept w n c (kept_elsewhere w n c (lives_disjoint c unfailed)))
           ]
 
       own_first : (c : ℕ) → w'.first c ≡ w.first c
@@ -285,8 +285,8 @@ module _ (s : StateValue) (n : ℕ) (inodes : set.FinSet nat_cmp) (levels : TwoL
             | inr unfailed ↦ ap (λ l. l.log.first) (own_while_lives c unfailed)
           ]
 
-      own_end : (c : ℕ) → end w' c ≡ kept c
-      unfolding end
+      own_end : (c : ℕ) → end_of_log w' c ≡ kept c
+      unfolding end_of_log
       own_end c =
           let first : w.first c ≤ kept c = kept_from_first w n c sound in
           let top : kept c ≤ w.first c + length (w.records c) = kept_high w n c in
@@ -338,10 +338,10 @@ module _ (s : StateValue) (n : ℕ) (inodes : set.FinSet nat_cmp) (levels : TwoL
 
       -- of one whose node failed before
       left_border : (c k : ℕ) → (client_seen t.clients c).failed ≡ true → (client_seen s.clients c).home ≢ n → is_border (own_seen t c).log k ≡ is_border (own c) k
-      unfolding world_of end
+      unfolding world_of end_of_log
       left_border c k over other =
           let ended : w.lives c ≡ false = ap (λ x. not x.failed) (sym (client_same c other)) ∙ ap not over in
-          let all : w.received low c ≡ end w c = sound.left low c ended (was_full low low_stands) in
+          let all : w.received low c ≡ end_of_log w c = sound.left low c ended (was_full low low_stands) in
           ap (λ l. is_border l.log k) (own_once_over c over ∙ log_same low c (not_failed low low_stands) other)
           ∙ borders_same (own c) (lowest c) k (own_marks c) (shape.marked low c) (lowest_first c) all
 
@@ -357,18 +357,18 @@ module _ (s : StateValue) (n : ℕ) (inodes : set.FinSet nat_cmp) (levels : TwoL
 
       -- a log that is cut has the groups that are left
       marked_cut : (k c : ℕ) → k ≢ n → (client_seen s.clients c).home ≡ n → IsMarked (is_border (own_seen t c).log) (log_seen t.nodes k c).log
-      marked_cut k c apart here =
+      marked_cut k c disjoint here =
           let l : NumberedLog = (log_seen s.nodes k c).log in
           let cut : NumberedLog = without_tail l (kept c) in
-          subst (λ x. IsMarked (is_border (own_seen t c).log) x.log) (sym (log_there k c apart here))
+          subst (λ x. IsMarked (is_border (own_seen t c).log) x.log) (sym (log_there k c disjoint here))
           (marked_as (is_border (own c)) (is_border (own_seen t c).log) cut
           (λ j low high. sym (own_border c j (omega (arith, low, high, length-take (kept c - l.first) l.records))))
           (marked_tail (is_border (own c)) l (kept c) (shape.marked k c)))
 
       marked_left : (k c : ℕ) → k ≢ n → (client_seen s.clients c).home ≢ n → IsMarked (is_border (own_seen t c).log) (log_seen t.nodes k c).log
-      marked_left k c apart other =
+      marked_left k c disjoint other =
           let l : NumberedLog = (log_seen s.nodes k c).log in
-          subst (λ x. IsMarked (is_border (own_seen t c).log) x.log) (sym (log_same k c apart other))
+          subst (λ x. IsMarked (is_border (own_seen t c).log) x.log) (sym (log_same k c disjoint other))
           (elim (cases_Bool (client_seen t.clients c).failed) [
             | inl over ↦ marked_as (is_border (own c)) (is_border (own_seen t c).log) l (λ j low high. sym (left_border c j over other)) (shape.marked k c)
             | inr unfailed ↦ subst (λ x. IsMarked (is_border x.log) l) (sym (own_while_lives c unfailed)) (shape.marked k c)
@@ -377,9 +377,9 @@ module _ (s : StateValue) (n : ℕ) (inodes : set.FinSet nat_cmp) (levels : TwoL
       left_marked : (k c : ℕ) → IsMarked (is_border (own_seen t c).log) (log_seen t.nodes k c).log
       left_marked k c = elim (cases_eq k n) [
         | inl is ↦ subst (λ m. IsMarked (is_border (own_seen t c).log) (log_seen t.nodes m c).log) (sym is) (subst (λ l. IsMarked (is_border (own_seen t c).log) l.log) (sym (no_log_in t.nodes n c emptied)) refl)
-        | inr apart ↦ (elim (cases_eq (client_seen s.clients c).home n) [
-          | inl here ↦ marked_cut k c apart here
-          | inr other ↦ marked_left k c apart other
+        | inr disjoint ↦ (elim (cases_eq (client_seen s.clients c).home n) [
+          | inl here ↦ marked_cut k c disjoint here
+          | inr other ↦ marked_left k c disjoint other
         ])
       ]
 
@@ -388,12 +388,12 @@ module _ (s : StateValue) (n : ℕ) (inodes : set.FinSet nat_cmp) (levels : TwoL
       survivor : (m : ℕ) × ((m ≢ n) × Full w m)
       survivor = (let k : (m : ℕ) × ((m ≢ n) × (is_full_in (standings s) m ≡ true)) = survivor_left s.members n stands fine in (k.0, (k.1.0, seen_full s k.0 k.1.1)))
 
-      module _ (frozen : (i : ℕ) → levels.clients i ≡ freeze (λ a. lives s.levels.home a.holder n) (s.levels.clients i)) where
+      module _ (revoked : (i : ℕ) → levels.clients i ≡ revoke (λ a. lives s.levels.home a.holder n) (s.levels.clients i)) where
         abbrev choice : Lease → Bool
         choice a = lives s.levels.home a.holder n
 
-        held : SameLeases w w'
-        held = leases_frozen s t choice frozen
+        held : KeepsLeases w w'
+        held = leases_revoked s t choice revoked
 
         -- where the calls are those that are kept
         with_calls : (xs : List NumberedCall) → xs ≡ filter (below (λ c. call_at w c (kept c))) w.calls → Fails w n (record w' { calls = xs })
@@ -434,12 +434,12 @@ module _ (s : StateValue) (n : ℕ) (inodes : set.FinSet nat_cmp) (levels : TwoL
         node_fails = with_calls w'.calls calls_kept
 
         pub failure_seen : ((c : ℕ) → levels.home c ≡ s.levels.home c) → SameLeasesOf s.levels.nodes levels.nodes → AreLeft s (λ c. lives s.levels.home c n) asked → AreLeases w (leases_of s) →
-            FailsWith w (leases_of s) n w' (leases_of t)
+            FailsWithLeases w (leases_of s) n w' (leases_of t)
         unfolding world_of leases_of
         failure_seen homes nodes left leases = record {
           fails = node_fails;
           home = homes;
-          clients = frozen;
+          clients = revoked;
           nodes = nodes;
           cut_here = λ c i here. ap (λ x. cut_of t.cuts c x i) (client_over c here) ∙ cut_once_failed t.cuts c (kept c) (client_seen s.clients c) i ∙ sym (own_end c);
           cut_else = λ c i other.
@@ -449,13 +449,13 @@ module _ (s : StateValue) (n : ℕ) (inodes : set.FinSet nat_cmp) (levels : TwoL
 
   -- ---- its shape is one
 
-  pub failure_shaped : ∥ IsSound w ∥₁ → failure_fault s.members n ≡ None → IsShaped t
+  pub failure_shaped : ∥ WorldInvariant w ∥₁ → failure_fault s.members n ≡ None → ShapeInvariant t
   failure_shaped sound fine = record {
     nodes = count_left s.nodes n s.clients kept ∙ shape.nodes ∙ sym (count_then s.members n inodes stands);
     few_nodes = subst (λ k. k ≤ MOST_NODES) (sym (count_left s.nodes n s.clients kept)) shape.few_nodes;
     logs = left_logs;
     no_logs = left_none;
-    at_home = λ k c. elim (cases_eq k n) [ inl is ↦ subst (λ m. KnowsHome t m c) (sym is) (gone_home c) | inr apart ↦ left_home k c apart ];
+    at_home = λ k c. elim (cases_eq k n) [ inl is ↦ subst (λ m. KnowsHome t m c) (sym is) (gone_home c) | inr disjoint ↦ left_home k c disjoint ];
     limits = limits_all t left_logs left_none left_limit;
     least_limit = shape.least_limit;
     most_limit = shape.most_limit;

@@ -6,19 +6,19 @@ use Rattle.std.proofs.lemmas.Map.Views.{any-filter_same}
 use Rattle.assise_inode_table.specs.Effects.{contains}
 use Rattle.assise_digest.specs.Region.{RegionValue, no_log}
 use Rattle.assise_manager.specs.Standings.{Standing, full, standing_of}
-use Rattle.assise_machine_laws.specs.Sound.{IsSound}
-use Rattle.assise_machine_laws.specs.World.{Full, IsClient, World, end}
-use Rattle.assise_machine_laws.proofs.Observing.{received_by_all-below}
-use Rattle.assise_machine_history.specs.State.{down_from}
-use Rattle.assise_machine_history.proofs.Running.{of_node}
+use Rattle.assise_model_world.specs.Invariant.{WorldInvariant}
+use Rattle.assise_model_world.specs.World.{Full, IsClient, World, end_of_log}
+use Rattle.assise_model_world.proofs.WorldObserved.{received_by_all-below}
+use Rattle.assise_model_history.specs.State.{down_from}
+use Rattle.assise_model_history.proofs.TracesKeep.{of_node}
 use Rattle.assise_machine_state.specs.ClientValues.{ClientValue, client_seen, no_client}
 use Rattle.assise_machine_state.specs.NodeValues.{HasLog, log_in, log_seen, no_region, region_in, region_seen}
 use Rattle.assise_machine_state.specs.Observed.{full_in, is_full_in, observed, world_of}
-use Rattle.assise_machine_state.specs.Places.{IsNumber, at}
-use Rattle.assise_machine_state.specs.Shape.{IsShaped}
+use Rattle.assise_machine_state.specs.Places.{IsNumber, item_at}
+use Rattle.assise_machine_state.specs.Invariant.{ShapeInvariant}
 use Rattle.assise_machine_state.specs.StateValues.{StateValue, standings}
-use Rattle.assise_machine_state.proofs.Logging.{log_number}
-use Rattle.assise_machine_state.proofs.Seeing.{is_seen, seen_nothing, seen_number}
+use Rattle.assise_machine_state.proofs.LogChanges.{log_number}
+use Rattle.assise_machine_state.proofs.ItemSeen.{is_seen, seen_nothing, seen_number}
 use Rattle.assise_machine_state.proofs.Standings.{numbers, stands_so}
 
 -- ---- the list of full nodes
@@ -43,10 +43,10 @@ pub seen_full : (s : StateValue) (n : ℕ) → is_full_in (standings s) n ≡ tr
 unfolding world_of
 seen_full s n f = full_is (standings s) n ∙ f
 
-pub node_number : (s : StateValue) (n : ℕ) (x : Standing) → IsShaped s → standing_of (standings s) n ≡ Some x → IsNumber s.nodes n
+pub node_number : (s : StateValue) (n : ℕ) (x : Standing) → ShapeInvariant s → standing_of (standings s) n ≡ Some x → IsNumber s.nodes n
 node_number s n x shape stands = (let g : (1 ≤ n) × (n ≤ length (standings s)) = numbers (standings s) n x stands in record { some = g.0; there = subst (λ k. n ≤ k) (sym shape.nodes) g.1 })
 
-pub full_number : (s : StateValue) (n : ℕ) → IsShaped s → is_full_in (standings s) n ≡ true → IsNumber s.nodes n
+pub full_number : (s : StateValue) (n : ℕ) → ShapeInvariant s → is_full_in (standings s) n ≡ true → IsNumber s.nodes n
 full_number s n shape f = node_number s n full shape (stands_so (standings s) n f)
 
 -- ---- logs
@@ -55,7 +55,7 @@ pub region_is : (s : StateValue) (n : ℕ) → IsNumber s.nodes n → region_see
 unfolding region_seen
 region_is s n there = is_seen no_region s.nodes n there
 
-pub has_log : (s : StateValue) (n c : ℕ) → IsShaped s → is_full_in (standings s) n ≡ true → IsNumber s.clients c → HasLog s.nodes n c
+pub has_log : (s : StateValue) (n c : ℕ) → ShapeInvariant s → is_full_in (standings s) n ≡ true → IsNumber s.clients c → HasLog s.nodes n c
 has_log s n c shape f client =
     let there : IsNumber s.nodes n = full_number s n shape f in
     let all : length (region_in s.nodes n).logs ≡ length s.clients = ap (λ r. length r.logs) (sym (region_is s n there)) ∙ shape.logs n f in
@@ -64,15 +64,15 @@ has_log s n c shape f client =
 pub log_is : (s : StateValue) (n c : ℕ) → HasLog s.nodes n c → log_seen s.nodes n c ≡ log_in s.nodes n c
 unfolding log_seen
 log_is s n c has =
-    ap (λ r. at no_log r.logs c) (region_is s n has.node)
+    ap (λ r. item_at no_log r.logs c) (region_is s n has.node)
     ∙ is_seen no_log (region_in s.nodes n).logs c (log_number s.nodes n c has)
 
 -- a node that isn't full has no log
 pub no_log_in : (rs : List RegionValue) (n c : ℕ) → (region_seen rs n).logs ≡ [] → log_seen rs n c ≡ no_log
 unfolding log_seen
-no_log_in rs n c none = ap (λ ls. at no_log ls c) none ∙ seen_nothing no_log c
+no_log_in rs n c none = ap (λ ls. item_at no_log ls c) none ∙ seen_nothing no_log c
 
-pub no_log_there : (s : StateValue) (n c : ℕ) → IsShaped s → is_full_in (standings s) n ≡ false → log_seen s.nodes n c ≡ no_log
+pub no_log_there : (s : StateValue) (n c : ℕ) → ShapeInvariant s → is_full_in (standings s) n ≡ false → log_seen s.nodes n c ≡ no_log
 no_log_there s n c shape away = no_log_in s.nodes n c (shape.no_logs n away)
 
 -- ---- clients that live
@@ -89,7 +89,7 @@ pub lives_number : (s : StateValue) (c : ℕ) → (world_of s).lives c ≡ true 
 lives_number s c lives = unfailed_number s.clients c (lives_unfailed s c lives)
 
 -- its home is full
-pub home_full : (s : StateValue) (c : ℕ) → IsShaped s → (client_seen s.clients c).failed ≡ false → is_full_in (standings s) (client_seen s.clients c).home ≡ true
+pub home_full : (s : StateValue) (c : ℕ) → ShapeInvariant s → (client_seen s.clients c).failed ≡ false → is_full_in (standings s) (client_seen s.clients c).home ≡ true
 home_full s c shape unfailed =
     let home : ℕ = (client_seen s.clients c).home in
     let here : (log_seen s.nodes home c).at_home ≡ true = shape.at_home home c ∙ rw (unfailed, eq-eqb home home refl) refl in
@@ -98,18 +98,18 @@ home_full s c shape unfailed =
       | inr away ↦ (let none : log_seen s.nodes home c ≡ no_log = no_log_there s home c shape away in absurd (cc (ap (λ l. l.at_home) none, here)))
     ]
 
--- ---- a full node's log of a client is a front of the client's own, and begins where that does
+-- ---- a full node's log of a client is a prefix of the client's own, and begins where that does
 
-pub front_length : (w : World) (n c : ℕ) → IsSound w → Full w n → length (w.log n c) ≡ min (w.received n c - w.first c) (length (w.records c))
-front_length w n c sound f = ap length (sound.fronts n c f) ∙ length-take (w.received n c - w.first c) (w.records c)
+pub prefix_length : (w : World) (n c : ℕ) → WorldInvariant w → Full w n → length (w.log n c) ≡ min (w.received n c - w.first c) (length (w.records c))
+prefix_length w n c sound f = ap length (sound.prefixes n c f) ∙ length-take (w.received n c - w.first c) (w.records c)
 
-pub same_first : (s : StateValue) (n c : ℕ) → IsSound (world_of s) → Full (world_of s) n → (log_seen s.nodes n c).log.first ≡ (world_of s).first c
-unfolding world_of end
+pub same_first : (s : StateValue) (n c : ℕ) → WorldInvariant (world_of s) → Full (world_of s) n → (log_seen s.nodes n c).log.first ≡ (world_of s).first c
+unfolding world_of end_of_log
 same_first s n c sound f =
     let order = sound.coherent.order n c f in
-    let all : (world_of s).digested n c ≤ (world_of s).received n c = omega (arith, order.acknowledged, received_by_all-below (world_of s) n c f) in
-    let front : length ((world_of s).log n c) ≡ min ((world_of s).received n c - (world_of s).first c) (length ((world_of s).records c)) = front_length (world_of s) n c sound f in
-    omega (arith, order.begun, order.known, all, front)
+    let all : (world_of s).digested n c ≤ (world_of s).received n c = omega (arith, order.replicated, received_by_all-below (world_of s) n c f) in
+    let prefix : length ((world_of s).log n c) ≡ min ((world_of s).received n c - (world_of s).first c) (length ((world_of s).records c)) = prefix_length (world_of s) n c sound f in
+    omega (arith, order.begun, order.known, all, prefix)
 
 -- ---- what a client and a node are to the laws
 

@@ -4,18 +4,18 @@ use Rattle.std.proofs.lemmas.List.{length-set}
 use Rattle.assise_inode_table.specs.Contents.{InodeMap, values}
 use Rattle.assise_private_log.specs.NumberedLog.{end, is_border}
 use Rattle.assise_digest.specs.Region.{ReceivedLog, RegionValue, no_log, with_hot_capacity}
-use Rattle.assise_machine_leases.specs.Leases.{client_lease, is_held, is_written}
-use Rattle.assise_machine_history.specs.Numbered.{kept_numbered}
-use Rattle.assise_machine_events.specs.Machine.{Machine}
+use Rattle.assise_model_leases.specs.Leases.{client_lease, is_held, is_written}
+use Rattle.assise_model_history.specs.Numbered.{kept_numbered}
+use Rattle.assise_model_events.specs.Machine.{Machine}
 use Rattle.assise_machine_state.specs.Changes.{after_hot}
 use Rattle.assise_machine_state.specs.ClientValues.{client_seen}
 use Rattle.assise_machine_state.specs.NodeValues.{log_seen, no_region, region_in, region_seen}
 use Rattle.assise_machine_state.specs.Observed.{full_in, observed, own_node, own_seen, world_of}
-use Rattle.assise_machine_state.specs.Places.{at}
-use Rattle.assise_machine_state.specs.Shape.{AreNoted, IsShaped}
+use Rattle.assise_machine_state.specs.Places.{item_at}
+use Rattle.assise_machine_state.specs.Invariant.{CutsInvariant, ShapeInvariant}
 use Rattle.assise_machine_state.specs.StateValues.{StateValue, leases_of, standings}
-use Rattle.assise_machine_state.proofs.Seeing.{seen_kept}
-use Rattle.assise_machine_state.proofs.Shaping.{shaped_as, still_marked}
+use Rattle.assise_machine_state.proofs.ItemSeen.{seen_kept}
+use Rattle.assise_machine_state.proofs.ShapeKept.{shaped_as, still_marked}
 
 -- what is observed, by what is seen of the nodes' inodes and logs
 observed_by : StateValue → (inodes : ℕ → InodeMap) → (logs : ℕ → List ReceivedLog) → Machine
@@ -25,16 +25,16 @@ observed_by s inodes logs = record {
   world = record {
     full = full_in (standings s);
     area = λ n. values (inodes n);
-    log = λ n c. (at no_log (logs n) c).log.records;
-    received = λ n c. end (at no_log (logs n) c).log;
-    digested = λ n c. (at no_log (logs n) c).digested;
+    log = λ n c. (item_at no_log (logs n) c).log.records;
+    received = λ n c. end (item_at no_log (logs n) c).log;
+    digested = λ n c. (item_at no_log (logs n) c).digested;
     clients = length s.clients;
     home = λ c. (client_seen s.clients c).home;
     lives = λ c. not (client_seen s.clients c).failed;
     crashed = λ c. (client_seen s.clients c).crashed;
-    records = λ c. (at no_log (logs (own_node (standings s) (client_seen s.clients c))) c).log.records;
-    first = λ c. (at no_log (logs (own_node (standings s) (client_seen s.clients c))) c).log.first;
-    border = λ c k. is_border (at no_log (logs (own_node (standings s) (client_seen s.clients c))) c).log k;
+    records = λ c. (item_at no_log (logs (own_node (standings s) (client_seen s.clients c))) c).log.records;
+    first = λ c. (item_at no_log (logs (own_node (standings s) (client_seen s.clients c))) c).log.first;
+    border = λ c k. is_border (item_at no_log (logs (own_node (standings s) (client_seen s.clients c))) c).log k;
     goal = λ c. (client_seen s.clients c).goal;
     next = λ c. (client_seen s.clients c).next;
     made = λ c. (client_seen s.clients c).made;
@@ -65,7 +65,7 @@ module _ (s : StateValue) (n capacity : ℕ) where
   unfolding observed world_of own_seen log_seen observed_by leases_of
   machine_same = λ i. observed_by s (λ k. inodes_same k i) (λ k. logs_same k i)
 
-  pub shape_kept : IsShaped s → IsShaped t
+  pub shape_kept : ShapeInvariant s → ShapeInvariant t
   unfolding log_seen own_seen
   shape_kept shape = shaped_as s t shape record {
     nodes = length-set s.nodes (n - 1) changed;
@@ -76,13 +76,13 @@ module _ (s : StateValue) (n capacity : ℕ) where
     home = λ c. refl;
     failed = λ c. refl;
     limit = refl;
-    limits = λ k c. ap (λ ls. (at no_log ls c).log.limit) (logs_same k);
-    at_home = λ k c. ap (λ ls. (at no_log ls c).at_home) (logs_same k);
-    marked = still_marked s t (λ k c. ap (λ ls. (at no_log ls c).log) (logs_same k))
-        (λ c. ap (λ ls. (at no_log ls c).log) (logs_same (own_node (standings s) (client_seen s.clients c))));
+    limits = λ k c. ap (λ ls. (item_at no_log ls c).log.limit) (logs_same k);
+    at_home = λ k c. ap (λ ls. (item_at no_log ls c).at_home) (logs_same k);
+    marked = still_marked s t (λ k c. ap (λ ls. (item_at no_log ls c).log) (logs_same k))
+        (λ c. ap (λ ls. (item_at no_log ls c).log) (logs_same (own_node (standings s) (client_seen s.clients c))));
     durability = λ c. refl;
     opened = λ c. refl;
   }
 
-  pub notes_kept : AreNoted s → AreNoted t
+  pub notes_kept : CutsInvariant s → CutsInvariant t
   notes_kept noted = record { once = noted.once; known = noted.known; noted = noted.noted }

@@ -3,33 +3,33 @@ use Rattle.std.proofs.Common.{◌≡◌, ◌≢◌, ◌⊎◌, ℕ, ◌-◌, ◌
 use Rattle.std.proofs.lemmas.Bool.{and_right, cases_Bool, ne_eqb}
 use Rattle.std.proofs.lemmas.List.{length-take, take-take, take_all}
 use Rattle.assise_private_log.specs.NumberedLog.{NumberedLog, end as log_end, without_tail}
-use Rattle.assise_machine_laws.specs.NodeSteps.{kept_at_failure}
-use Rattle.assise_machine_laws.specs.Sound.{IsSound}
-use Rattle.assise_machine_laws.specs.World.{Full, World, end, records_between}
-use Rattle.assise_machine_laws.proofs.Failing.{kept_low}
-use Rattle.assise_machine_laws.proofs.Observing.{first-received_by_all, least_of-below}
-use Rattle.assise_machine_history.proofs.Listing.{cut_there, is_left, least_kept, others_of}
-use Rattle.assise_machine_state.proofs.Fullness.{front_length}
+use Rattle.assise_model_world.specs.NodeSteps.{kept_at_failure}
+use Rattle.assise_model_world.specs.Invariant.{WorldInvariant}
+use Rattle.assise_model_world.specs.World.{Full, World, end_of_log, records_between}
+use Rattle.assise_model_world.proofs.FailureKeeps.{kept_low}
+use Rattle.assise_model_world.proofs.WorldObserved.{first-received_by_all, least_of-below}
+use Rattle.assise_model_history.proofs.FailureList.{cut_there, is_left, least_kept, others_of}
+use Rattle.assise_machine_state.proofs.Fullness.{prefix_length}
 
-pub kept_elsewhere : (w : World) (n c : ℕ) → w.home c ≢ n → kept_at_failure w n c ≡ end w c
+pub kept_elsewhere : (w : World) (n c : ℕ) → w.home c ≢ n → kept_at_failure w n c ≡ end_of_log w c
 unfolding kept_at_failure
 kept_elsewhere w n c other = rw (and_right (w.lives c) (w.home c == n) (ne_eqb (w.home c) n other)) refl
 
-kept_once_over : (w : World) (n c : ℕ) → w.lives c ≡ false → kept_at_failure w n c ≡ end w c
+kept_once_over : (w : World) (n c : ℕ) → w.lives c ≡ false → kept_at_failure w n c ≡ end_of_log w c
 unfolding kept_at_failure
 kept_once_over w n c over = rw over refl
 
-pub kept_from_first : (w : World) (n c : ℕ) → IsSound w → w.first c ≤ kept_at_failure w n c
+pub kept_from_first : (w : World) (n c : ℕ) → WorldInvariant w → w.first c ≤ kept_at_failure w n c
 kept_from_first w n c sound = omega (arith, first-received_by_all w sound.coherent c, kept_low w n c)
 
 -- of a client whose node fails, or failed before, each other full node has what is kept
-pub kept_received : (w : World) (n m c : ℕ) → IsSound w → Full w m → m ≢ n → (w.lives c ≡ false) ⊎ (w.home c ≡ n) → kept_at_failure w n c ≤ w.received m c
+pub kept_received : (w : World) (n m c : ℕ) → WorldInvariant w → Full w m → m ≢ n → (w.lives c ≡ false) ⊎ (w.home c ≡ n) → kept_at_failure w n c ≤ w.received m c
 kept_received w n m c sound f other ends =
     elim (cases_Bool (w.lives c)) [
       | inl lives ↦
           let here : w.home c ≡ n = elim ends [ inl over ↦ absurd (true≢false (sym lives ∙ over)) | inr here ↦ here ] in
           let least : kept_at_failure w n c ≡ least_kept w n c = cut_there w n c lives here in
-          subst (λ k. k ≤ w.received m c) (sym least) (least_of-below (others_of w n) (λ k. w.received k c) (end w c) m (is_left w.full n m f other))
+          subst (λ k. k ≤ w.received m c) (sym least) (least_of-below (others_of w n) (λ k. w.received k c) (end_of_log w c) m (is_left w.full n m f other))
       | inr over ↦ omega (arith, kept_once_over w n c over, sound.left m c over f)
     ]
 
@@ -37,21 +37,21 @@ pub part_first : (w : World) (c k : ℕ) → records_between w c (w.first c) k �
 unfolding records_between
 part_first w c k = (let none : w.first c - w.first c ≡ 0 = omega arith in rw none refl)
 
--- the front of a node's log, as far as it is kept
-pub front_kept : (w : World) (n m c : ℕ) → IsSound w → Full w m → kept_at_failure w n c ≤ w.received m c →
+-- the prefix of a node's log, as far as it is kept
+pub prefix_kept : (w : World) (n m c : ℕ) → WorldInvariant w → Full w m → kept_at_failure w n c ≤ w.received m c →
     take (kept_at_failure w n c - w.first c) (w.log m c) ≡ take (kept_at_failure w n c - w.first c) (w.records c)
-front_kept w n m c sound f low =
-    ap (take (kept_at_failure w n c - w.first c)) (sound.fronts m c f)
+prefix_kept w n m c sound f low =
+    ap (take (kept_at_failure w n c - w.first c)) (sound.prefixes m c f)
     ∙ take-take (kept_at_failure w n c - w.first c) (w.received m c - w.first c) (w.records c) (omega (arith, low))
 
-pub front_whole : (w : World) (n m c : ℕ) → IsSound w → Full w m → kept_at_failure w n c ≡ end w c → take (kept_at_failure w n c - w.first c) (w.log m c) ≡ w.log m c
-unfolding end
-front_whole w n m c sound f all =
-    let front : length (w.log m c) ≡ min (w.received m c - w.first c) (length (w.records c)) = front_length w m c sound f in
-    take_all (kept_at_failure w n c - w.first c) (w.log m c) (omega (arith, all, front))
+pub prefix_whole : (w : World) (n m c : ℕ) → WorldInvariant w → Full w m → kept_at_failure w n c ≡ end_of_log w c → take (kept_at_failure w n c - w.first c) (w.log m c) ≡ w.log m c
+unfolding end_of_log
+prefix_whole w n m c sound f all =
+    let prefix : length (w.log m c) ≡ min (w.received m c - w.first c) (length (w.records c)) = prefix_length w m c sound f in
+    take_all (kept_at_failure w n c - w.first c) (w.log m c) (omega (arith, all, prefix))
 
-pub all_kept : (w : World) (n c : ℕ) → kept_at_failure w n c ≡ end w c → take (kept_at_failure w n c - w.first c) (w.records c) ≡ w.records c
-unfolding end
+pub all_kept : (w : World) (n c : ℕ) → kept_at_failure w n c ≡ end_of_log w c → take (kept_at_failure w n c - w.first c) (w.records c) ≡ w.records c
+unfolding end_of_log
 all_kept w n c all = take_all (kept_at_failure w n c - w.first c) (w.records c) (omega (arith, all))
 
 -- a log that is cut ends there

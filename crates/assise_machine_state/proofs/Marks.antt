@@ -5,13 +5,13 @@ use Rattle.std.proofs.lemmas.List.{get_or-drop}
 use Rattle.assise_record.specs.declared.effect.Effect.{Effect}
 use Rattle.assise_record.specs.LogRecord.{LogRecord}
 use Rattle.assise_record.specs.Records.{has_some, record_of}
-use Rattle.assise_private_log.specs.NumberedLog.{NumberedLog, end, is_border, without_front, without_tail}
+use Rattle.assise_private_log.specs.NumberedLog.{NumberedLog, end, is_border, without_prefix, without_tail}
 use Rattle.assise_private_log.proofs.Borders.{border_end, border_first, border_grouped, border_marked}
 use Rattle.assise_digest.specs.Region.{ReceivedLog}
-use Rattle.assise_machine_events.specs.NodeEvents.{border_marks}
+use Rattle.assise_model_events.specs.NodeEvents.{border_marks}
 use Rattle.assise_machine_state.specs.NodeValues.{with_records}
-use Rattle.assise_machine_state.specs.Shape.{IsMarked}
-use Rattle.assise_machine_state.proofs.Logging.{none_more}
+use Rattle.assise_machine_state.specs.Invariant.{IsMarked}
+use Rattle.assise_machine_state.proofs.LogChanges.{none_more}
 
 -- ---- marks
 
@@ -96,33 +96,33 @@ marked_called l call es marked =
     let now : ℕ → Bool = is_border (called call es l).log in
     let marks : length l.log.begins ≡ length l.log.records = so_many_marks own l.log marked in
     let same : (k : ℕ) → now k ≡ own k = λ k. called_border l call es k marks in
-    let front : l.log.begins ≡ border_marks now l.log.first l.log.records = marked ∙ marks-same own now l.log.first l.log.records (λ j low high. sym (same j)) in
+    let prefix : l.log.begins ≡ border_marks now l.log.first l.log.records = marked ∙ marks-same own now l.log.first l.log.records (λ j low high. sym (same j)) in
     let behind : border_marks (λ k. true) (end l.log) (record_of call es) ≡ border_marks now (end l.log) (record_of call es) =
     marks-same (λ k. true) now (end l.log) (record_of call es) (λ j low high. sym (same j ∙ border_end l.log j marks low)) in
-    (λ i. front i ++ behind i) ∙ sym (marks-append now l.log.first l.log.records (record_of call es))
+    (λ i. prefix i ++ behind i) ∙ sym (marks-append now l.log.first l.log.records (record_of call es))
 
 -- ---- where records go from the front or from the end
 
 -- a log that begins at a border has the borders from there on that it had
-pub front_border : (l : NumberedLog) (to k : ℕ) → l.first ≤ to → is_border l to ≡ true → to ≤ k → is_border (without_front l to) k ≡ is_border l k
-front_border l to k from_first at_border low =
+pub prefix_border : (l : NumberedLog) (to k : ℕ) → l.first ≤ to → is_border l to ≡ true → to ≤ k → is_border (without_prefix l to) k ≡ is_border l k
+prefix_border l to k from_first at_border low =
     elim (cases_eq k to) [
-      | inl here ↦ border_first (without_front l to) k (omega (arith, here)) ∙ sym (ap (is_border l) here ∙ at_border)
+      | inl here ↦ border_first (without_prefix l to) k (omega (arith, here)) ∙ sym (ap (is_border l) here ∙ at_border)
       | inr other ↦
           let place : (to - l.first) + (k - to) ≡ k - l.first = omega (arith, from_first, low) in
-          border_marked (without_front l to) k (omega (arith, low, other))
+          border_marked (without_prefix l to) k (omega (arith, low, other))
           ∙ get_or-drop (to - l.first) l.begins (k - to) true
           ∙ ap (λ i. get_or l.begins i true) place
           ∙ sym (border_marked l k (omega (arith, from_first, low, other)))
     ]
 
-pub marked_front : (own l : NumberedLog) (to : ℕ) → own.first ≤ to → is_border own to ≡ true → l.first ≤ to → IsMarked (is_border own) l → IsMarked (is_border (without_front own to)) (without_front l to)
-marked_front own l to own_first at_border low marked =
+pub marked_prefix : (own l : NumberedLog) (to : ℕ) → own.first ≤ to → is_border own to ≡ true → l.first ≤ to → IsMarked (is_border own) l → IsMarked (is_border (without_prefix own to)) (without_prefix l to)
+marked_prefix own l to own_first at_border low marked =
     let there : l.first + (to - l.first) ≡ to = omega (arith, low) in
     ap (drop (to - l.first)) marked
     ∙ marks-drop (is_border own) l.first (to - l.first) l.records
     ∙ ap (λ k. border_marks (is_border own) k (drop (to - l.first) l.records)) there
-    ∙ marks-same (is_border own) (is_border (without_front own to)) to (drop (to - l.first) l.records) (λ j from below. sym (front_border own to j own_first at_border from))
+    ∙ marks-same (is_border own) (is_border (without_prefix own to)) to (drop (to - l.first) l.records) (λ j from below. sym (prefix_border own to j own_first at_border from))
 
 -- a log that ends at a place has the borders before it
 taken_mark : (ms : List Bool) (n i : ℕ) → i < n → get_or (take n ms) i true ≡ get_or ms i true

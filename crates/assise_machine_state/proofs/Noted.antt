@@ -1,4 +1,4 @@
--- Answers stay noted where they stay, and where more come with the leases that are frozen.
+-- Answers stay noted where they stay, and where more come with the leases that are revoked.
 use Rattle.std.proofs.Common.{◌≡◌, ◌≢◌, ◌⊎◌, ℕ, suc, ◌-◌, ◌≤◌, ◌==◌, if◌then◌else◌, Bool, true, false, cond, not, ◌&&◌, ◌||◌, List, [], ◌∷◌, ◌++◌, length, Option, Some, None, inl, inr, refl, ap, sym, ◌∙◌, arith, true≢false, eq-eqb}
 use Rattle.std.proofs.Math.Logic.{∥∥₁_elim}
 use Rattle.std.proofs.Props.{props}
@@ -11,24 +11,24 @@ use Rattle.assise_names.specs.declared.durability.Durability.{Durability}
 use Rattle.assise_inode_table.specs.Traces.{NumberedCall}
 use Rattle.assise_lease_table.specs.declared.lease.Asked.{Asked}
 use Rattle.assise_lease_table.specs.declared.lease.Lease.{Lease}
-use Rattle.assise_lease_table.specs.Leases.{freeze, is_own, lease_of}
-use Rattle.assise_lease_tree.specs.Levels.{is_frozen, is_node, lives}
-use Rattle.assise_lease_tree.specs.TwoLevels.{EnrolsAt, IsFrozen, TwoLevels}
-use Rattle.assise_lease_tree.proofs.Homing.{lease_among}
-use Rattle.assise_machine_laws.specs.NodeSteps.{kept_at_failure}
-use Rattle.assise_machine_laws.specs.World.{call_makes_inode, end}
-use Rattle.assise_machine_leases.specs.Leases.{AreLeases, is_held}
-use Rattle.assise_machine_leases.proofs.Finding.{freeze_of, frozen_one}
-use Rattle.assise_machine_leases.proofs.Keeping.{holder_home}
+use Rattle.assise_lease_table.specs.Leases.{revoke, is_own, lease_of}
+use Rattle.assise_lease_tree.specs.Levels.{is_revoked, is_node, lives}
+use Rattle.assise_lease_tree.specs.TwoLevels.{EnrolsAt, IsRevoked, TwoLevels}
+use Rattle.assise_lease_tree.proofs.ClientHomes.{lease_among}
+use Rattle.assise_model_world.specs.NodeSteps.{kept_at_failure}
+use Rattle.assise_model_world.specs.World.{call_makes_inode, end_of_log}
+use Rattle.assise_model_leases.specs.Leases.{AreLeases, is_held}
+use Rattle.assise_model_leases.proofs.LookUps.{revoke_of, revoked_one}
+use Rattle.assise_model_leases.proofs.QuietLeases.{holder_home}
 use Rattle.assise_machine_state.specs.Changes.{after_call, after_crash, after_failure, after_goal, after_leases, after_open}
 use Rattle.assise_machine_state.specs.ClientValues.{ClientValue, client_in, client_seen, crashed_at, cut_of, failed_at, is_over, no_client, opened_on, with_call, with_goal}
 use Rattle.assise_lease_table.specs.Cuts.{are_once, cut_in, is_asked, is_of, is_unasked}
 use Rattle.assise_machine_state.specs.Observed.{world_of}
 use Rattle.assise_machine_state.specs.Places.{IsNumber}
-use Rattle.assise_machine_state.specs.Shape.{AreLeft, AreNoted, SameFrozen}
+use Rattle.assise_machine_state.specs.Invariant.{AreLeft, CutsInvariant, SameRevoked}
 use Rattle.assise_machine_state.specs.StateValues.{StateValue, leases_of}
 use Rattle.assise_machine_state.proofs.CutSeen.{count_over}
-use Rattle.assise_machine_state.proofs.Seeing.{seen_number}
+use Rattle.assise_machine_state.proofs.ItemSeen.{seen_number}
 
 -- ---- one client
 
@@ -79,59 +79,59 @@ left_else s who asked left c i other = left.all c i ∙ ap (λ b. b && is_unaske
 
 -- ---- answers that stay
 
-pub still_noted : (s t : StateValue) → t.cuts ≡ s.cuts → length s.clients ≤ length t.clients → SameFrozen s t.levels → AreNoted s → AreNoted t
-still_noted s t same more frozen old = record {
+pub still_noted : (s t : StateValue) → t.cuts ≡ s.cuts → length s.clients ≤ length t.clients → SameRevoked s t.levels → CutsInvariant s → CutsInvariant t
+still_noted s t same more revoked old = record {
   once = ap are_once same ∙ old.once;
   known = λ c i asked. (let there : IsNumber s.clients c = old.known c i (ap (λ answers. is_asked answers c i) (sym same) ∙ asked) in
       record { some = there.some; there = omega (arith, there.there, more) });
-  noted = λ c i. ap (λ answers. is_asked answers c i) same ∙ old.noted c i ∙ sym (frozen c i);
+  noted = λ c i. ap (λ answers. is_asked answers c i) same ∙ old.noted c i ∙ sym (revoked c i);
 }
 
 -- where nobody holds anything, nobody was asked
-pub none_noted : (s : StateValue) → s.cuts ≡ [] → ((i : ℕ) → s.levels.clients i ≡ []) → AreNoted s
+pub none_noted : (s : StateValue) → s.cuts ≡ [] → ((i : ℕ) → s.levels.clients i ≡ []) → CutsInvariant s
 none_noted s nothing free = record {
   once = ap are_once nothing;
   known = λ c i asked. absurd (true≢false (sym asked ∙ ap (λ answers. is_asked answers c i) nothing));
-  noted = λ c i. ap (λ answers. is_asked answers c i) nothing ∙ sym (ap (λ ls. is_frozen (lease_of ls c)) (free i));
+  noted = λ c i. ap (λ answers. is_asked answers c i) nothing ∙ sym (ap (λ ls. is_revoked (lease_of ls c)) (free i));
 }
 
 -- that they are noted has one proof at most
-pub noted_known : (s : StateValue) → ∥ AreNoted s ∥₁ → AreNoted s
+pub noted_known : (s : StateValue) → ∥ CutsInvariant s ∥₁ → CutsInvariant s
 noted_known s some = ∥∥₁_elim some (hlevel props) (λ noted. noted)
 
-pub call_noted : (s : StateValue) (x : NumberedCall) → AreNoted s → AreNoted (after_call s x)
+pub call_noted : (s : StateValue) (x : NumberedCall) → CutsInvariant s → CutsInvariant (after_call s x)
 call_noted s x noted =
     let now : ClientValue = with_call (call_makes_inode (world_of s) x) (client_in s.clients x.client) in
     still_noted s (after_call s x) refl (omega (arith, length-set s.clients (x.client - 1) now)) (λ c i. refl) noted
 
-pub goal_noted : (s : StateValue) (c to : ℕ) → AreNoted s → AreNoted (after_goal s c to)
+pub goal_noted : (s : StateValue) (c to : ℕ) → CutsInvariant s → CutsInvariant (after_goal s c to)
 goal_noted s c to noted =
     let now : ClientValue = with_goal to (client_in s.clients c) in
     still_noted s (after_goal s c to) refl (omega (arith, length-set s.clients (c - 1) now)) (λ d i. refl) noted
 
-pub leases_noted : (s : StateValue) (levels : TwoLevels) → AreNoted s → SameFrozen s levels → AreNoted (after_leases s levels)
+pub leases_noted : (s : StateValue) (levels : TwoLevels) → CutsInvariant s → SameRevoked s levels → CutsInvariant (after_leases s levels)
 leases_noted s levels noted same = still_noted s (after_leases s levels) refl (omega arith) same noted
 
 -- ---- a client more
 
 -- it wasn't asked
-pub new_unasked : (s : StateValue) → AreNoted s → (i : ℕ) → is_asked s.cuts (suc (length s.clients)) i ≡ false
+pub new_unasked : (s : StateValue) → CutsInvariant s → (i : ℕ) → is_asked s.cuts (suc (length s.clients)) i ≡ false
 new_unasked s noted i =
     let next : ℕ = suc (length s.clients) in
     false_from_ne_true (is_asked s.cuts next i) (λ asked. let there : IsNumber s.clients next = noted.known next i asked in omega (arith, there.there))
 
-pub open_noted : (s : StateValue) (n : ℕ) (u : Durability) (levels : TwoLevels) → AreNoted s → EnrolsAt s.levels levels (suc (length s.clients)) n → AreNoted (after_open s n u levels)
+pub open_noted : (s : StateValue) (n : ℕ) (u : Durability) (levels : TwoLevels) → CutsInvariant s → EnrolsAt s.levels levels (suc (length s.clients)) n → CutsInvariant (after_open s n u levels)
 open_noted s n u levels noted enrols =
-    still_noted s (after_open s n u levels) refl (omega (arith, length_push s.clients (opened_on n u))) (λ c i. ap (λ ls. is_frozen (lease_of ls c)) (enrols.clients i)) noted
+    still_noted s (after_open s n u levels) refl (omega (arith, length_push s.clients (opened_on n u))) (λ c i. ap (λ ls. is_revoked (lease_of ls c)) (enrols.clients i)) noted
 
 -- ---- more answers
 
--- one lease, once those of some clients are frozen
-frozen_then : (choice : Lease → Bool) (chosen : Bool) (o : Option Lease) → ((a : Lease) → o ≡ Some a → choice a ≡ chosen) →
-    is_frozen (frozen_one choice o) ≡ (is_frozen o || (chosen && is_unasked o))
-frozen_then choice true None who = refl
-frozen_then choice false None who = refl
-frozen_then choice chosen (Some a) who = rw (who a refl) (either a.frozen chosen)
+-- one lease, once those of some clients are revoked
+revoked_then : (choice : Lease → Bool) (chosen : Bool) (o : Option Lease) → ((a : Lease) → o ≡ Some a → choice a ≡ chosen) →
+    is_revoked (revoked_one choice o) ≡ (is_revoked o || (chosen && is_unasked o))
+revoked_then choice true None who = refl
+revoked_then choice false None who = refl
+revoked_then choice chosen (Some a) who = rw (who a refl) (either a.revoked chosen)
   where
     either : (f b : Bool) → cond b true f ≡ (f || (b && not f))
     either true true = refl
@@ -139,9 +139,9 @@ frozen_then choice chosen (Some a) who = rw (who a refl) (either a.frozen chosen
     either false true = refl
     either false false = refl
 
-unfrozen : (o : Option Lease) → is_unasked o ≡ true → is_frozen o ≡ false
-unfrozen None free = cc
-unfrozen (Some a) free = not-true a.frozen free
+unrevoked : (o : Option Lease) → is_unasked o ≡ true → is_revoked o ≡ false
+unrevoked None free = cc
+unrevoked (Some a) free = not-true a.revoked free
 
 unasked_held : (o : Option Lease) → is_unasked o ≡ true → is_held o ≡ true
 unasked_held None free = cc
@@ -178,10 +178,10 @@ holder_number s leases c i held =
     none_some : (m : ℕ) → None ≡ Some m → ⊥
     none_some m same = cc
 
--- the leases of some clients are frozen, and their answers come
+-- the leases of some clients are revoked, and their answers come
 module _ (s t : StateValue) (who : ℕ → Bool) (choice : Lease → Bool) (asked : List Asked) (cuts : t.cuts ≡ s.cuts ++ asked) (more : length s.clients ≤ length t.clients)
-    (leases : AreLeases (world_of s) (leases_of s)) (left : AreLeft s who asked) (noted : AreNoted s)
-    (frozen : (i : ℕ) → t.levels.clients i ≡ freeze choice (s.levels.clients i)) (chosen : (c i : ℕ) (a : Lease) → lease_of (s.levels.clients i) c ≡ Some a → choice a ≡ who c) where
+    (leases : AreLeases (world_of s) (leases_of s)) (left : AreLeft s who asked) (noted : CutsInvariant s)
+    (revoked : (i : ℕ) → t.levels.clients i ≡ revoke choice (s.levels.clients i)) (chosen : (c i : ℕ) (a : Lease) → lease_of (s.levels.clients i) c ≡ Some a → choice a ≡ who c) where
   abbrev held_before : ℕ → ℕ → Option Lease
   held_before c i = lease_of (s.levels.clients i) c
 
@@ -190,9 +190,9 @@ module _ (s t : StateValue) (who : ℕ → Bool) (choice : Lease → Bool) (aske
 
   first_answer : (c i : ℕ) → is_asked s.cuts c i ≡ true → is_asked asked c i ≡ false
   first_answer c i before =
-      false_from_ne_true (is_asked asked c i) (λ now. true≢false (sym before ∙ noted.noted c i ∙ unfrozen (held_before c i) (free c i now)))
+      false_from_ne_true (is_asked asked c i) (λ now. true≢false (sym before ∙ noted.noted c i ∙ unrevoked (held_before c i) (free c i now)))
 
-  pub more_noted : AreNoted t
+  pub more_noted : CutsInvariant t
   more_noted = record {
     once = ap are_once cuts ∙ once_both s.cuts asked noted.once left.once first_answer;
     known = λ c i h. (let there : IsNumber s.clients c = elim (asked_either s.cuts asked c i (ap (λ answers. is_asked answers c i) (sym cuts) ∙ h)) [
@@ -203,18 +203,18 @@ module _ (s t : StateValue) (who : ℕ → Bool) (choice : Lease → Bool) (aske
         ap (λ answers. is_asked answers c i) cuts
         ∙ list_any-append (is_of c i) s.cuts asked
         ∙ (λ k. noted.noted c i k || left.all c i k)
-        ∙ sym (ap (λ ls. is_frozen (lease_of ls c)) (frozen i) ∙ ap is_frozen (freeze_of choice (s.levels.clients i) c) ∙ frozen_then choice (who c) (held_before c i) (chosen c i));
+        ∙ sym (ap (λ ls. is_revoked (lease_of ls c)) (revoked i) ∙ ap is_revoked (revoke_of choice (s.levels.clients i) c) ∙ revoked_then choice (who c) (held_before c i) (chosen c i));
   }
 
-pub crash_noted : (s : StateValue) (c : ℕ) (levels : TwoLevels) (asked : List Asked) → AreNoted s → AreLeases (world_of s) (leases_of s) → IsFrozen s.levels levels c → AreLeft s (λ d. d == c) asked →
-    AreNoted (after_crash s c levels asked)
-crash_noted s c levels asked noted leases frozen left =
-    more_noted s (after_crash s c levels asked) (λ d. d == c) (is_own c) asked refl (omega (arith, length-set s.clients (c - 1) (crashed_at (end (world_of s) c) (client_in s.clients c)))) leases left noted
-    frozen.clients (λ d i a is. ap (λ h. h == c) (lease_among (s.levels.clients i) d a is).1)
+pub crash_noted : (s : StateValue) (c : ℕ) (levels : TwoLevels) (asked : List Asked) → CutsInvariant s → AreLeases (world_of s) (leases_of s) → IsRevoked s.levels levels c → AreLeft s (λ d. d == c) asked →
+    CutsInvariant (after_crash s c levels asked)
+crash_noted s c levels asked noted leases revoked left =
+    more_noted s (after_crash s c levels asked) (λ d. d == c) (is_own c) asked refl (omega (arith, length-set s.clients (c - 1) (crashed_at (end_of_log (world_of s) c) (client_in s.clients c)))) leases left noted
+    revoked.clients (λ d i a is. ap (λ h. h == c) (lease_among (s.levels.clients i) d a is).1)
 
-pub failure_noted : (s : StateValue) (n : ℕ) (inodes : set.FinSet nat_cmp) (levels : TwoLevels) (asked : List Asked) → AreNoted s → AreLeases (world_of s) (leases_of s) →
-    ((i : ℕ) → levels.clients i ≡ freeze (λ a. lives s.levels.home a.holder n) (s.levels.clients i)) → AreLeft s (λ c. lives s.levels.home c n) asked → AreNoted (after_failure s n inodes levels asked)
-failure_noted s n inodes levels asked noted leases frozen left =
+pub failure_noted : (s : StateValue) (n : ℕ) (inodes : set.FinSet nat_cmp) (levels : TwoLevels) (asked : List Asked) → CutsInvariant s → AreLeases (world_of s) (leases_of s) →
+    ((i : ℕ) → levels.clients i ≡ revoke (λ a. lives s.levels.home a.holder n) (s.levels.clients i)) → AreLeft s (λ c. lives s.levels.home c n) asked → CutsInvariant (after_failure s n inodes levels asked)
+failure_noted s n inodes levels asked noted leases revoked left =
     more_noted s (after_failure s n inodes levels asked) (λ c. lives s.levels.home c n) (λ a. lives s.levels.home a.holder n) asked refl
     (omega (arith, count_over n (kept_at_failure (world_of s) n) s.clients (length s.clients))) leases left noted
-    frozen (λ d i a is. ap (λ h. lives s.levels.home h n) (lease_among (s.levels.clients i) d a is).1)
+    revoked (λ d i a is. ap (λ h. lives s.levels.home h n) (lease_among (s.levels.clients i) d a is).1)

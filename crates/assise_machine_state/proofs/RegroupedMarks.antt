@@ -8,8 +8,8 @@ use Rattle.assise_private_log.specs.Groups.{groups_from, regrouped}
 use Rattle.assise_private_log.specs.NumberedLog.{NumberedLog, is_border, without_tail}
 use Rattle.assise_private_log.proofs.Borders.{border_first, border_marked}
 use Rattle.assise_private_log.proofs.LogGroups.{regrouped_all, with_all}
-use Rattle.assise_machine_events.specs.NodeEvents.{border_marks}
-use Rattle.assise_machine_state.specs.Shape.{IsMarked}
+use Rattle.assise_model_events.specs.NodeEvents.{border_marks}
+use Rattle.assise_machine_state.specs.Invariant.{IsMarked}
 use Rattle.assise_machine_state.proofs.Marks.{so_many_marks}
 
 marks_at : (f : ℕ → Bool) (k : ℕ) (ms : List Bool) (rs : List LogRecord) → length ms ≡ length rs → ((i : ℕ) → i < length rs → get_or ms i true ≡ f (k + i)) → ms ≡ border_marks f k rs
@@ -43,9 +43,9 @@ first_begins ([] ∷ gs) = first_begins gs
 first_begins ((r ∷ rs) ∷ gs) = refl
 
 first_of_both : (n : ℕ) (ms more : List Bool) → get_or ms 0 true ≡ true → get_or more 0 true ≡ true → get_or (take n ms ++ more) 0 true ≡ true
-first_of_both zero ms more front behind = behind
-first_of_both (suc n) [] more front behind = behind
-first_of_both (suc n) (m ∷ ms) more front behind = front
+first_of_both zero ms more prefix behind = behind
+first_of_both (suc n) [] more prefix behind = behind
+first_of_both (suc n) (m ∷ ms) more prefix behind = prefix
 
 group_marks : (rs : List LogRecord) → length (marks_of rs) ≡ length rs
 group_marks [] = refl

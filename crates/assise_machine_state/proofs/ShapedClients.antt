@@ -2,25 +2,25 @@
 use Rattle.std.proofs.Common.{◌≡◌, ℕ, ◌-◌, not, List, length, refl, ap}
 use Rattle.std.proofs.lemmas.List.{length-set}
 use Rattle.assise_history.specs.Legal.{durability_of}
-use Rattle.assise_history.specs.Entries.{Event}
+use Rattle.assise_history.specs.Entries.{EntryValue}
 use Rattle.assise_private_log.specs.NumberedLog.{is_border}
 use Rattle.assise_lease_table.specs.declared.lease.Asked.{Asked}
 use Rattle.assise_lease_tree.specs.TwoLevels.{TwoLevels}
-use Rattle.assise_machine_laws.specs.Staying.{SameClients, SameLogs, SameNodes}
-use Rattle.assise_machine_leases.specs.Handing.{Holds}
-use Rattle.assise_machine_returns.specs.Returns.{OtherAreasStay}
-use Rattle.assise_machine_history.specs.Numbered.{kept_numbered}
+use Rattle.assise_model_world.specs.Staying.{SameClients, SameLogs, SameNodes}
+use Rattle.assise_model_leases.specs.Handing.{HoldsAsLeased}
+use Rattle.assise_model_members.specs.Returns.{OtherAreasStay}
+use Rattle.assise_model_history.specs.Numbered.{kept_numbered}
 use Rattle.assise_machine_state.specs.Changes.{after_leases}
 use Rattle.assise_machine_state.specs.ClientValues.{ClientValue, client_in, client_seen, with_client}
 use Rattle.assise_machine_state.specs.Observed.{own_seen, world_of}
-use Rattle.assise_machine_state.specs.Shape.{IsShaped}
+use Rattle.assise_machine_state.specs.Invariant.{ShapeInvariant}
 use Rattle.assise_machine_state.specs.StateValues.{StateValue, leases_of}
-use Rattle.assise_machine_state.proofs.Seeing.{client_same}
-use Rattle.assise_machine_state.proofs.Shaping.{shaped_as, still_marked}
-use Rattle.assise_machine_state.proofs.Staying.{clients_as, goals_as, logs_as, node_as}
+use Rattle.assise_machine_state.proofs.ItemSeen.{client_same}
+use Rattle.assise_machine_state.proofs.ShapeKept.{shaped_as, still_marked}
+use Rattle.assise_machine_state.proofs.SameObserved.{clients_as, goals_as, logs_as, node_as}
 
 -- another value of one client, and maybe other leases, other answers and another history
-abbrev pub changed : StateValue → ℕ → ClientValue → TwoLevels → List Asked → List Event → StateValue
+abbrev pub changed : StateValue → ℕ → ClientValue → TwoLevels → List Asked → List EntryValue → StateValue
 changed s c x levels cuts h = record s { clients = with_client s.clients c x; levels = levels; cuts = cuts; history = h }
 
 -- the client's own log is where it was, and its counts are what they were
@@ -37,7 +37,7 @@ unfolding world_of
 areas_stay s s' same k i away = rw same refl
 
 -- leases alone
-pub leases_held : (s : StateValue) (levels : TwoLevels) → Holds (world_of s) (world_of (after_leases s levels)) (leases_of (after_leases s levels))
+pub leases_held : (s : StateValue) (levels : TwoLevels) → HoldsAsLeased (world_of s) (world_of (after_leases s levels)) (leases_of (after_leases s levels))
 unfolding world_of own_seen
 leases_held s levels = record {
   logs = logs_as s (after_leases s levels) refl refl (λ c. refl) (λ c. refl) (λ c k. refl);
@@ -47,7 +47,7 @@ leases_held s levels = record {
   held = record { holds = λ c i. refl; writes = λ c i. refl };
 }
 
-pub leases_shaped : (s : StateValue) (levels : TwoLevels) → IsShaped s → IsShaped (after_leases s levels)
+pub leases_shaped : (s : StateValue) (levels : TwoLevels) → ShapeInvariant s → ShapeInvariant (after_leases s levels)
 unfolding own_seen
 leases_shaped s levels shape = record {
   nodes = shape.nodes;
@@ -62,7 +62,7 @@ leases_shaped s levels shape = record {
   durabilities = shape.durabilities;
 }
 
-module _ (s : StateValue) (c : ℕ) (x : ClientValue) (levels : TwoLevels) (cuts : List Asked) (h : List Event) where
+module _ (s : StateValue) (c : ℕ) (x : ClientValue) (levels : TwoLevels) (cuts : List Asked) (h : List EntryValue) where
   pub nodes_stay : SameNodes (world_of s) (world_of (changed s c x levels cuts h))
   unfolding world_of
   nodes_stay = record { full = refl; same = λ n f. node_as s (changed s c x levels cuts h) n (λ i. refl) (λ d. refl) }
@@ -105,7 +105,7 @@ module _ (s : StateValue) (c : ℕ) (x : ClientValue) (levels : TwoLevels) (cuts
       crashed = client_same (λ y. y.crashed) s.clients c x same;
     }
 
-    pub still_shaped : ((d : ℕ) → durability_of d h ≡ durability_of d s.history) → IsShaped s → IsShaped (changed s c x levels cuts h)
+    pub still_shaped : ((d : ℕ) → durability_of d h ≡ durability_of d s.history) → ShapeInvariant s → ShapeInvariant (changed s c x levels cuts h)
     still_shaped opened shape = shaped_as s (changed s c x levels cuts h) shape record {
       nodes = refl;
       members = refl;

@@ -12,11 +12,11 @@ use Rattle.assise_manager.specs.Changes.{failed, failed_as, failure_fault, failu
 use Rattle.assise_manager.specs.Membership.{Membership, lowest_full, written_since}
 use Rattle.assise_manager.specs.Standings.{Standing, down, full, full_from, full_nodes, is_full, returning, standing_of, with_standing}
 use Rattle.assise_manager.proofs.Nodes.{one_full_less}
-use Rattle.assise_machine_returns.proofs.Standing.{full_listed, listed_full, lowest_stands, mapped_at, refilled_full, set_else, set_here}
-use Rattle.assise_machine_history.specs.State.{down_from}
+use Rattle.assise_model_members.proofs.NodeStandings.{full_listed, listed_full, lowest_stands, mapped_at, refilled_full, set_else, set_here}
+use Rattle.assise_model_history.specs.State.{down_from}
 use Rattle.assise_machine_state.specs.ClientValues.{ClientValue}
 use Rattle.assise_machine_state.specs.Observed.{full_in, is_full_in, own_node, stands_full}
-use Rattle.assise_machine_state.proofs.Seeing.{less_one}
+use Rattle.assise_machine_state.proofs.ItemSeen.{less_one}
 
 -- ---- lists of nodes of which the same are full
 

@@ -1,7 +1,7 @@
 -- The inodes that the first records of a list touch.
 use Rattle.std.proofs.Common.{◌≡◌, ℕ, suc, ◌+◌, List, ◌∷◌, take, ap, ◌∙◌, arith}
 
--- the first item of a front
+-- the first item of a prefix
 pub taken_first : {X : Type 0} (n m : ℕ) (xs ys : List X) (x : X) → m + 1 ≡ n → xs ≡ x ∷ ys → take n xs ≡ x ∷ take m ys
 taken_first n m xs ys x next is =
     let same : n ≡ suc m = omega (arith, next) in

@@ -13,12 +13,12 @@ use Rattle.assise_lease_table.specs.declared.lease.Asked.{Asked}
 use Rattle.assise_lease_tree.specs.TwoLevels.{TwoLevels}
 use Rattle.assise_manager.specs.Changes.{failed, joined, noted}
 use Rattle.assise_manager.specs.Membership.{Membership}
-use Rattle.assise_machine_laws.specs.NodeSteps.{kept_at_failure}
-use Rattle.assise_machine_laws.specs.World.{World, call_makes_inode, digested_by_all, end, records_between, step_at_home}
-use Rattle.assise_machine_history.specs.Lost.{losses_of}
-use Rattle.assise_machine_history.specs.Numbered.{plain_call}
+use Rattle.assise_model_world.specs.NodeSteps.{kept_at_failure}
+use Rattle.assise_model_world.specs.World.{World, call_makes_inode, digested_by_all, end_of_log, records_between, step_at_home}
+use Rattle.assise_model_history.specs.Lost.{losses_of}
+use Rattle.assise_model_history.specs.Numbered.{plain_call}
 use Rattle.assise_machine_state.specs.ClientValues.{ClientValue, client_in, client_seen, crashed_at, failed_at, opened_on, with_call, with_client, with_goal}
-use Rattle.assise_machine_state.specs.NodeValues.{log_in, region_in, with_call_in, with_fronts_dropped, with_hot_in, with_log_in, with_logs_begun, with_logs_of, with_records, with_region, with_tails_cut, without_logs}
+use Rattle.assise_machine_state.specs.NodeValues.{log_in, region_in, with_call_in, with_prefixes_dropped, with_hot_in, with_log_in, with_logs_begun, with_logs_of, with_records, with_region, with_tails_cut, without_logs}
 use Rattle.assise_machine_state.specs.Observed.{is_full_in, own_seen, world_of}
 use Rattle.assise_machine_state.specs.StateValues.{StateValue, standings}
 
@@ -53,7 +53,7 @@ after_regrouping s c from = record s {
 
 -- and all of its log is to be replicated
 abbrev pub after_coalescing : StateValue → (c from : ℕ) → StateValue
-after_coalescing s c from = after_goal (after_regrouping s c from) c (end (world_of (after_regrouping s c from)) c)
+after_coalescing s c from = after_goal (after_regrouping s c from) c (end_of_log (world_of (after_regrouping s c from)) c)
 
 abbrev pub goal_of : (c to : ℕ) → ℕ → ℕ
 goal_of c to d = if d == c then to else 0
@@ -63,7 +63,7 @@ abbrev pub with_goals : List Asked → List ClientValue → List ClientValue
 with_goals [] cs = cs
 with_goals (a ∷ asked) cs = with_goals asked (with_client cs a.client (with_goal a.cut (client_in cs a.client)))
 
--- those who stood in the way of a call were asked, and gave these answers: their leases are frozen
+-- those who stood in the way of a call were asked, and gave these answers: their leases are revoked
 abbrev pub after_asking : StateValue → TwoLevels → List Asked → StateValue
 after_asking s levels asked = record s { clients = with_goals asked s.clients; levels = levels; cuts = s.cuts ++ asked }
 
@@ -78,7 +78,7 @@ after_leases s levels = record s { levels = levels }
 -- a client crashes: these are the leases then, and its answers for those that it was not asked for
 abbrev pub after_crash : StateValue → ℕ → TwoLevels → List Asked → StateValue
 after_crash s c levels asked = record s {
-  clients = with_client s.clients c (crashed_at (end (world_of s) c) (client_in s.clients c));
+  clients = with_client s.clients c (crashed_at (end_of_log (world_of s) c) (client_in s.clients c));
   levels = levels;
   cuts = s.cuts ++ asked;
   history = s.history ++ crashes c ∷ [];
@@ -99,7 +99,7 @@ after_digest s n c k inodes = record s {
 
 -- the logs of client c begin at a place
 abbrev pub after_drop : StateValue → (c to : ℕ) → StateValue
-after_drop s c to = record s { nodes = with_fronts_dropped s.nodes c to }
+after_drop s c to = record s { nodes = with_prefixes_dropped s.nodes c to }
 
 -- of clients 1 to m, all nodes let the records go that all full nodes have digested
 abbrev pub drops_to : StateValue → ℕ → StateValue

@@ -7,7 +7,7 @@ use Rattle.assise_names.specs.declared.durability.Durability.{Durability}
 use Rattle.assise_names.specs.declared.durability.Durability.TheVariants.{Pessimistic, Optimistic}
 use Rattle.assise_lease_table.specs.declared.lease.Asked.{Asked}
 use Rattle.assise_lease_table.specs.Cuts.{cut_in}
-use Rattle.assise_machine_state.specs.Places.{at, item, put}
+use Rattle.assise_machine_state.specs.Places.{item_at, item, with_item}
 
 -- ---- one client
 
@@ -54,7 +54,7 @@ coded_client =
 abbrev pub is_over : ClientValue → Bool
 is_over c = c.crashed || c.failed
 
--- the cut of a frozen lease of it: what it answered, and one serves all its leases once it is over
+-- the cut of a revoked lease of it: what it answered, and one serves all its leases once it is over
 abbrev pub cut_once_asked : ClientValue → (answered : ℕ) → ℕ
 cut_once_asked x k = if is_over x then x.last_cut else k
 
@@ -93,8 +93,8 @@ abbrev pub client_in : List ClientValue → ℕ → ClientValue
 client_in cs c = item no_client cs c
 
 abbrev pub with_client : List ClientValue → ℕ → ClientValue → List ClientValue
-with_client cs c x = put cs c x
+with_client cs c x = with_item cs c x
 
 -- the client of any number
 unfoldable pub client_seen : List ClientValue → ℕ → ClientValue
-client_seen cs c = at no_client cs c
+client_seen cs c = item_at no_client cs c

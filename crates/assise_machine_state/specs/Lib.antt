@@ -4,5 +4,5 @@ pub mod NodeValues
 pub mod StateValues
 pub mod Observed
 pub mod Changes
-pub mod Shape
+pub mod Invariant
 pub mod Whole

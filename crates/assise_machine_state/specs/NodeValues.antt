@@ -2,17 +2,17 @@
 -- Assise (OSDI 2020), section 3 (CC-NVM: update logs, shared areas, recovery).
 use Rattle.std.specs.Prelude.{◌≡◌, ℕ, zero, suc, ◌<◌, ◌≤◌, nat_le, Bool, true, false, ◌==◌, if◌then◌else◌, List, [], ◌∷◌, ◌++◌, length, map}
 use Rattle.assise_record.specs.Records.{has_some}
-use Rattle.assise_inode_table.specs.Opening.{opening}
+use Rattle.assise_inode_table.specs.Opening.{opening_inodes}
 use Rattle.assise_record.specs.declared.effect.Effect.{Effect}
 use Rattle.assise_record.specs.LogRecord.{LogRecord}
 use Rattle.assise_private_log.specs.NumberedLog.{NumberedLog, empty_log, end, is_border}
-use Rattle.assise_digest.specs.Region.{AreWhole, HasClient, IsBegun, ReceivedLog, RegionValue, from_number, log_of, no_log, up_to_number, with_client, with_hot_capacity, with_log, with_more, with_one, without_clients, without_last_client}
-use Rattle.assise_machine_events.specs.NodeEvents.{border_marks}
-use Rattle.assise_machine_state.specs.Places.{IsNumber, at, item, put}
+use Rattle.assise_digest.specs.Region.{AreWhole, HasClient, IsBegun, ReceivedLog, RegionValue, from_number, log_of, no_log, up_to_number, region_with_client, with_hot_capacity, with_log, with_more, with_one, without_clients, without_last_client}
+use Rattle.assise_model_events.specs.NodeEvents.{border_marks}
+use Rattle.assise_machine_state.specs.Places.{IsNumber, item_at, item, with_item}
 
 -- a node that received nothing, of which so many inodes may be hot
 abbrev pub new_region : (hot : ℕ) → RegionValue
-new_region hot = record { inodes = opening; logs = []; capacity = hot }
+new_region hot = record { inodes = opening_inodes; logs = []; capacity = hot }
 
 -- so many of them
 abbrev pub new_regions : (count hot : ℕ) → List RegionValue
@@ -38,15 +38,15 @@ pub record HasLog (rs : List RegionValue) (n c : ℕ) : Type 0 where
 -- ---- of any number
 
 unfoldable pub region_seen : List RegionValue → ℕ → RegionValue
-region_seen rs n = at no_region rs n
+region_seen rs n = item_at no_region rs n
 
 unfoldable pub log_seen : List RegionValue → ℕ → ℕ → ReceivedLog
-log_seen rs n c = at no_log (region_seen rs n).logs c
+log_seen rs n c = item_at no_log (region_seen rs n).logs c
 
 -- ---- changes at one node
 
 abbrev pub with_region : List RegionValue → ℕ → RegionValue → List RegionValue
-with_region rs n r = put rs n r
+with_region rs n r = with_item rs n r
 
 abbrev pub with_log_in : List RegionValue → ℕ → ℕ → ReceivedLog → List RegionValue
 with_log_in rs n c l = with_region rs n (with_log (region_in rs n) c l)
@@ -109,7 +109,7 @@ begun_log limit at_home = record { log = empty_log limit; digested = 0; at_home 
 -- of the nodes, which are numbered from n on, the full ones begin a log of the client
 abbrev pub with_logs_begun : (full : ℕ → Bool) (limit home n : ℕ) → List RegionValue → List RegionValue
 with_logs_begun full limit home n [] = []
-with_logs_begun full limit home n (r ∷ rs) = (if full n then with_client r (begun_log limit (n == home)) else r) ∷ with_logs_begun full limit home (suc n) rs
+with_logs_begun full limit home n (r ∷ rs) = (if full n then region_with_client r (begun_log limit (n == home)) else r) ∷ with_logs_begun full limit home (suc n) rs
 
 -- the log of the client of the greatest number goes again
 abbrev pub without_log_of : ℕ → RegionValue → RegionValue
@@ -124,8 +124,8 @@ abbrev pub changed_in : ℕ → (ReceivedLog → ReceivedLog) → RegionValue �
 changed_in c f r = if nat_le c (length r.logs) then with_log r c (f (log_of r c)) else r
 
 -- their logs of client c begin at a place
-abbrev pub with_fronts_dropped : List RegionValue → ℕ → ℕ → List RegionValue
-with_fronts_dropped rs c to = map (changed_in c (λ l. from_number l to)) rs
+abbrev pub with_prefixes_dropped : List RegionValue → ℕ → ℕ → List RegionValue
+with_prefixes_dropped rs c to = map (changed_in c (λ l. from_number l to)) rs
 
 -- what lies before this place of the log is digested
 pub record IsDigestedTo (l : ReceivedLog) (to : ℕ) : Type 0 where

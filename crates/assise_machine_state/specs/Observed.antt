@@ -8,11 +8,11 @@ use Rattle.assise_private_log.specs.NumberedLog.{end, is_border}
 use Rattle.assise_digest.specs.Region.{ReceivedLog, ahead}
 use Rattle.assise_manager.specs.Membership.{lowest_full}
 use Rattle.assise_manager.specs.Standings.{Standing, is_full, standing_of}
-use Rattle.assise_machine_laws.specs.World.{World}
-use Rattle.assise_machine_leases.specs.Leases.{client_lease, is_held, is_written}
-use Rattle.assise_machine_history.specs.Numbered.{kept_numbered}
-use Rattle.assise_machine_history.specs.State.{down_from}
-use Rattle.assise_machine_events.specs.Machine.{Machine}
+use Rattle.assise_model_world.specs.World.{World}
+use Rattle.assise_model_leases.specs.Leases.{client_lease, is_held, is_written}
+use Rattle.assise_model_history.specs.Numbered.{kept_numbered}
+use Rattle.assise_model_history.specs.State.{down_from}
+use Rattle.assise_model_events.specs.Machine.{Machine}
 use Rattle.assise_machine_state.specs.ClientValues.{ClientValue, client_in, client_seen}
 use Rattle.assise_machine_state.specs.NodeValues.{log_in, log_seen, region_in, region_seen}
 use Rattle.assise_machine_state.specs.StateValues.{StateValue, leases_of, standings}

@@ -11,9 +11,9 @@ abbrev pub item : {X : Type 0} → X → List X → ℕ → X
 item none xs n = slice_index_or xs (n - 1) none
 
 -- with another item of a number
-abbrev pub put : {X : Type 0} → List X → ℕ → X → List X
-put xs n x = slice_set xs (n - 1) x
+abbrev pub with_item : {X : Type 0} → List X → ℕ → X → List X
+with_item xs n x = slice_set xs (n - 1) x
 
 -- the item of a number, or the default where there is none of that number
-unfoldable pub at : {X : Type 0} → X → List X → ℕ → X
-at none xs n = slice_index_or (none ∷ xs) n none
+unfoldable pub item_at : {X : Type 0} → X → List X → ℕ → X
+item_at none xs n = slice_index_or (none ∷ xs) n none

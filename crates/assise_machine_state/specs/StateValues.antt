@@ -1,13 +1,13 @@
 -- The whole state as one value.
 -- Assise (OSDI 2020), section 3 (CC-NVM: update logs, shared areas, leases, cluster manager).
 use Rattle.std.specs.Prelude.{ℕ, List}
-use Rattle.assise_history.specs.Entries.{Event}
+use Rattle.assise_history.specs.Entries.{EntryValue}
 use Rattle.assise_digest.specs.Region.{RegionValue}
 use Rattle.assise_lease_table.specs.declared.lease.Asked.{Asked}
 use Rattle.assise_lease_tree.specs.TwoLevels.{TwoLevels}
 use Rattle.assise_manager.specs.Membership.{Membership}
 use Rattle.assise_manager.specs.Standings.{Standing}
-use Rattle.assise_machine_leases.specs.Leases.{Leases}
+use Rattle.assise_model_leases.specs.Leases.{Leases}
 use Rattle.assise_machine_state.specs.ClientValues.{ClientValue, client_seen, cut_of}
 
 pub record StateValue : Type 0 where
@@ -21,7 +21,7 @@ pub record StateValue : Type 0 where
   -- what clients answered that were asked for their leases
   pub cuts : List Asked
   -- what was answered and what happened, in order
-  pub history : List Event
+  pub history : List EntryValue
   -- the most records of a client's log
   pub limit : ℕ
 
@@ -29,6 +29,6 @@ pub record StateValue : Type 0 where
 abbrev pub standings : StateValue → List Standing
 standings s = s.members.nodes
 
--- who holds which inode, with the cuts of what is frozen
+-- who holds which inode, with the cuts of what is revoked
 unfoldable pub leases_of : StateValue → Leases
 leases_of s = record { levels = s.levels; cut = λ c i. cut_of s.cuts c (client_seen s.clients c) i }

@@ -95,7 +95,7 @@ impl Client {
         self.last_cut
     }
 
-    /// The cut of a frozen lease of it for which it gave an answer: the answer, or its last cut once it is over.
+    /// The cut of a revoked lease of it for which it gave an answer: the answer, or its last cut once it is over.
     pub fn cut(&self, answered: u64) -> u64
         ensures { result ≡ cut_once_asked self.now answered }
     {

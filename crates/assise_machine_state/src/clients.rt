@@ -86,7 +86,8 @@ impl Clients {
         requires client { IsNumber self.old client }
         requires next { (client_in self.old client).next + 1 < 2 ^ 64 }
         requires made { (client_in self.old client).made + 1 < 2 ^ 64 }
-        ensures { self.new ≡ with_client self.old client (with_call makes (client_in self.old client)) }
+        ensures { self.new ≡ with_client self.old client
+            (with_call makes (client_in self.old client)) }
     {
         let it = &mut self.clients[client as usize - 1];
         it.next += 1;
@@ -98,7 +99,8 @@ impl Clients {
     /// A client's log is to be replicated up to a place, or further where it was. It takes no memory.
     pub fn raise_goal(&mut self, client: u32, to: u64)
         requires client { IsNumber self.old client }
-        ensures { self.new ≡ with_client self.old client (with_goal to (client_in self.old client)) }
+        ensures { self.new ≡ with_client self.old client
+            (with_goal to (client_in self.old client)) }
     {
         let it = &mut self.clients[client as usize - 1];
         it.goal = it.goal.max(to);
@@ -107,7 +109,8 @@ impl Clients {
     /// A client crashes, and its log ends at a place. It takes no memory.
     pub fn crash(&mut self, client: u32, end: u64)
         requires client { IsNumber self.old client }
-        ensures { self.new ≡ with_client self.old client (crashed_at end (client_in self.old client)) }
+        ensures { self.new ≡ with_client self.old client
+            (crashed_at end (client_in self.old client)) }
     {
         let it = &mut self.clients[client as usize - 1];
         it.goal = end;
@@ -118,7 +121,8 @@ impl Clients {
     /// A client's node fails, and its log is kept up to a place. It takes no memory.
     pub fn fail(&mut self, client: u32, end: u64)
         requires client { IsNumber self.old client }
-        ensures { self.new ≡ with_client self.old client (failed_at end (client_in self.old client)) }
+        ensures { self.new ≡ with_client self.old client
+            (failed_at end (client_in self.old client)) }
     {
         let it = &mut self.clients[client as usize - 1];
         it.goal = it.goal.min(end);

@@ -1,9 +1,8 @@
 // Records go from all nodes once all full nodes have digested them.
 ghost use Rattle.std.specs.Prelude.{◌≡◌, ◌≤◌, length};
-ghost use Rattle.assise_machine_laws.specs.Sound.{IsSound};
 ghost use Rattle.assise_machine_state.specs.Changes.{drops_to};
 ghost use Rattle.assise_machine_state.specs.Observed.{world_of};
-ghost use Rattle.assise_machine_state.specs.Shape.{IsShaped};
+ghost use Rattle.assise_machine_state.specs.Invariant.{PartsInvariant};
 ghost use Rattle.assise_machine_state.specs.Whole.{value_of};
 
 use crate::state::StateOf;
@@ -12,15 +11,12 @@ use assise_lease_table::revoker::Revokes;
 /// Of clients 1 to a last one, all nodes let the records go that all full nodes have digested. It takes no memory.
 pub fn drop_digested<C: Revokes + Drop>(state: &mut StateOf<C>, last: u32)
     requires last { last ≤ length state.old.clients }
-    requires sound { ∥ IsSound (world_of (value_of state.old)) ∥₁ }
-    requires shape { IsShaped (value_of state.old) }
+    requires parts { PartsInvariant (value_of state.old) }
     ensures drops { value_of state.new ≡ drops_to (value_of state.old) last }
     ensures leases { state.new.leases ≡ state.old.leases }
 {
-    if last == 0 {
-        return;
+    for client in 1..=last {
+        let digested = state.digested(client);
+        state.nodes.drop_fronts(client, digested);
     }
-    drop_digested(state, last - 1);
-    let digested = state.digested(last);
-    state.nodes.drop_fronts(last, digested);
 }

@@ -5,9 +5,9 @@ ghost use Rattle.assise_names.specs.declared.refusal.Refusal.TheVariants.{LogFul
 ghost use Rattle.assise_inode_table.specs.Whole.{CanBeMadeWhole};
 ghost use Rattle.assise_record.specs.Groups.{AllHaveEffects};
 ghost use Rattle.assise_private_log.specs.NumberedLog.{IsNumberedLog, end, is_border, records_from};
-ghost use Rattle.assise_digest.specs.Region.{AreWhole, HasClient, HasRoom, IsFull, IsQuiet, ReceivedLog, TouchApart, ahead_below, digested_by, from_number, log_of, regrouped_from, up_to_number, whole_ahead, with_client, with_inode, with_log, with_more, without_clients};
+ghost use Rattle.assise_digest.specs.Region.{AreWhole, HasClient, LogHasRoom, IsLogFull, IsQuiet, ReceivedLog, TouchDisjoint, ahead_below, digested_by, from_number, log_of, regrouped_from, up_to_number, whole_ahead, region_with_client, with_inode, with_log, with_more, without_clients};
 ghost use Rattle.assise_manager.specs.Whole.{membership};
-ghost use Rattle.assise_machine_state.specs.NodeValues.{AreDigested, AreTaken, AreUndigested, HasGroupsOf, HasLog, IsDigestedTo, IsUndigestedFrom, away, begun_log, changed_in, copied, log_in, new_regions, region_in, with_copies, with_fronts_dropped, with_hot_in, with_log_in, with_logs_begun, with_logs_ended, with_logs_of, with_next, with_records, with_region, with_tails_cut, without_log_of, without_logs};
+ghost use Rattle.assise_machine_state.specs.NodeValues.{AreDigested, AreTaken, AreUndigested, HasGroupsOf, HasLog, IsDigestedTo, IsUndigestedFrom, away, begun_log, changed_in, copied, log_in, new_regions, region_in, with_copies, with_prefixes_dropped, with_hot_in, with_log_in, with_logs_begun, with_logs_ended, with_logs_of, with_next, with_records, with_region, with_tails_cut, without_log_of, without_logs};
 ghost use Rattle.assise_machine_state.specs.Observed.{is_full_in};
 ghost use Rattle.assise_machine_state.specs.Places.{IsNumber};
 
@@ -84,7 +84,8 @@ impl Nodes {
         requires numbers_fit { length self.old + 1 < 2 ^ 32 }
         requires least { 8 ≤ limit }
         requires most { limit ≤ 4096 }
-        ensures ok { OnOk result (self.new ≡ with_logs_begun (is_full_in (membership members.now).nodes) limit home 1 self.old) }
+        ensures ok { OnOk result (self.new ≡ with_logs_begun
+            (is_full_in (membership members.now).nodes) limit home 1 self.old) }
         ensures err { OnErr result (self.new ≡ self.old) }
         ensures only_memory { IsOkUnless result OutOfMemory }
     {
@@ -103,14 +104,18 @@ impl Nodes {
     pub fn extend(&mut self, node: u32, client: u32, own: u32, records: Vec<Record>, skipped: usize)
         requires there { HasLog self.old node client }
         requires own { HasLog self.old own client }
-        requires apart { own ≢ node }
-        requires groups { HasGroupsOf (log_in self.old own client).log (log_in self.old node client).log }
+        requires disjoint { own ≢ node }
+        requires groups { HasGroupsOf (log_in self.old own client).log
+            (log_in self.old node client).log }
         requires elsewhere { (log_in self.old node client).at_home ≡ false }
-        requires room { length (log_in self.old node client).log.records + length (drop skipped records.items) ≤ (log_in self.old node client).log.limit }
-        requires numbers_fit { end (log_in self.old node client).log + length (drop skipped records.items) < 2 ^ 64 }
+        requires room { length (log_in self.old node client).log.records + length
+            (drop skipped records.items) ≤ (log_in self.old node client).log.limit }
+        requires numbers_fit { end (log_in self.old node client).log + length
+            (drop skipped records.items) < 2 ^ 64 }
         requires whole { AreWhole (drop skipped records.items) }
         ensures { self.new ≡ with_log_in self.old node client
-            (with_records (is_border (log_in self.old own client).log) (log_in self.old node client) (drop skipped records.items)) }
+            (with_records (is_border (log_in self.old own client).log) (log_in self.old node client)
+            (drop skipped records.items)) }
     {
         self.take_in(node, client, own, records.into_iter(), skipped);
     }
@@ -126,14 +131,18 @@ impl Nodes {
     )
         requires there { HasLog self.old node client }
         requires own { HasLog self.old own client }
-        requires apart { own ≢ node }
-        requires groups { HasGroupsOf (log_in self.old own client).log (log_in self.old node client).log }
+        requires disjoint { own ≢ node }
+        requires groups { HasGroupsOf (log_in self.old own client).log
+            (log_in self.old node client).log }
         requires elsewhere { (log_in self.old node client).at_home ≡ false }
-        requires room { length (log_in self.old node client).log.records + length (drop skipped records.rest.items) ≤ (log_in self.old node client).log.limit }
-        requires numbers_fit { end (log_in self.old node client).log + length (drop skipped records.rest.items) < 2 ^ 64 }
+        requires room { length (log_in self.old node client).log.records + length
+            (drop skipped records.rest.items) ≤ (log_in self.old node client).log.limit }
+        requires numbers_fit { end (log_in self.old node client).log + length
+            (drop skipped records.rest.items) < 2 ^ 64 }
         requires whole { AreWhole (drop skipped records.rest.items) }
         ensures { self.new ≡ with_log_in self.old node client
-            (with_records (is_border (log_in self.old own client).log) (log_in self.old node client) (drop skipped records.rest.items)) }
+            (with_records (is_border (log_in self.old own client).log) (log_in self.old node client)
+            (drop skipped records.rest.items)) }
     {
         let Some(added) = records.next() else {
             return;
@@ -149,10 +158,12 @@ impl Nodes {
     fn take_one(&mut self, node: u32, client: u32, own: u32, added: Record)
         requires there { HasLog self.old node client }
         requires own { HasLog self.old own client }
-        requires apart { own ≢ node }
-        requires groups { HasGroupsOf (log_in self.old own client).log (log_in self.old node client).log }
+        requires disjoint { own ≢ node }
+        requires groups { HasGroupsOf (log_in self.old own client).log
+            (log_in self.old node client).log }
         requires elsewhere { (log_in self.old node client).at_home ≡ false }
-        requires room { length (log_in self.old node client).log.records < (log_in self.old node client).log.limit }
+        requires room { length (log_in self.old node client).log.records <
+            (log_in self.old node client).log.limit }
         requires number_fits { end (log_in self.old node client).log + 1 < 2 ^ 64 }
         requires whole { CanBeMadeWhole added.effects }
         ensures next { self.new ≡
@@ -160,7 +171,8 @@ impl Nodes {
         ensures there { HasLog self.new node client }
         ensures own { HasLog self.new own client }
         ensures own_log { log_in self.new own client ≡ log_in self.old own client }
-        ensures groups { HasGroupsOf (log_in self.new own client).log (log_in self.new node client).log }
+        ensures groups { HasGroupsOf (log_in self.new own client).log
+            (log_in self.new node client).log }
         ensures elsewhere { (log_in self.new node client).at_home ≡ false }
         ensures limit { (log_in self.new node client).log.limit ≡
             (log_in self.old node client).log.limit }
@@ -225,12 +237,15 @@ impl Nodes {
         requires there { HasLog self.old node client }
         requires number_fits { end (log_in self.old node client).log + 1 < 2 ^ 64 }
         requires whole { CanBeMadeWhole added.effects }
-        ensures ok { OnOk result (self.new ≡ with_log_in self.old node client (with_more (log_in self.old node client) added)) }
+        ensures ok { OnOk result (self.new ≡ with_log_in self.old node client
+            (with_more (log_in self.old node client) added)) }
         ensures err { OnErr result (self.new ≡ self.old) }
         ensures given_back { IfErr result (λ back. back.1 ≡ added) }
-        ensures room { IsOk result → HasRoom (log_in self.old node client) }
-        ensures refused { IfErr result (λ back. ((back.0 ≡ LogFull) × IsFull (log_in self.old node client))
-            ⊎ ((back.0 ≡ OutOfMemory) × HasRoom (log_in self.old node client) × ((log_in self.old node client).at_home ≡ true))) }
+        ensures room { IsOk result → LogHasRoom (log_in self.old node client) }
+        ensures refused { IfErr result (λ back.
+            ((back.0 ≡ LogFull) × IsLogFull (log_in self.old node client)) ⊎
+            ((back.0 ≡ OutOfMemory) × LogHasRoom (log_in self.old node client) ×
+            ((log_in self.old node client).at_home ≡ true))) }
     {
         self.regions[node as usize - 1].append(client as usize, added)
     }
@@ -252,7 +267,7 @@ impl Nodes {
         self.regions[node as usize - 1].coalesce(client as usize, from)
     }
 
-    /// A node digests records of a client that are numbered below what is acknowledged, so many at most, each group whole or
+    /// A node digests records of a client that are numbered below what is replicated, so many at most, each group whole or
     /// not at all, and answers how many. The one refusal is [`Refusal::OutOfMemory`], where there was one to digest, and it
     /// changes nothing.
     pub fn digest_some(
@@ -263,16 +278,20 @@ impl Nodes {
         at_most: usize,
     ) -> Result<usize, Refusal>
         requires there { HasLog self.old node client }
-        requires apart { TouchApart (region_in self.old node) }
-        ensures ok { IfOk result (λ n. self.new ≡ with_region self.old node (digested_by (region_in self.old node) client n)) }
+        requires disjoint { TouchDisjoint (region_in self.old node) }
+        ensures ok { IfOk result (λ n. self.new ≡ with_region self.old node
+            (digested_by (region_in self.old node) client n)) }
         ensures at_most { IfOk result (λ n. n ≤ at_most) }
-        ensures acked { IfOk result (λ n. n ≤ length (ahead_below (log_in self.old node client) acked)) }
+        ensures acked { IfOk result (λ n. n ≤ length
+            (ahead_below (log_in self.old node client) acked)) }
         ensures groups { IfOk result (λ n. 0 < n →
-            is_border (log_in self.old node client).log ((log_in self.old node client).digested + n) ≡ true) }
+            is_border (log_in self.old node client).log
+            ((log_in self.old node client).digested + n) ≡ true) }
         ensures none { IfOk result (λ n. n ≡ 0 →
             whole_ahead (log_in self.old node client) acked at_most ≡ 0) }
         ensures err { OnErr result (self.new ≡ self.old) }
-        ensures asked { OnErr result ((0 < at_most) × (0 < length (ahead_below (log_in self.old node client) acked))) }
+        ensures asked { OnErr result ((0 < at_most) ×
+            (0 < length (ahead_below (log_in self.old node client) acked))) }
         ensures only_memory { IsOkUnless result OutOfMemory }
     {
         self.regions[node as usize - 1].digest_some(client as usize, acked, at_most)
@@ -282,7 +301,8 @@ impl Nodes {
     pub fn stale(&mut self, node: u32, inode: u64)
         requires node { IsNumber self.old node }
         requires quiet { IsQuiet (region_in self.old node) inode }
-        ensures { self.new ≡ with_region self.old node (with_inode (region_in self.old node) inode None) }
+        ensures { self.new ≡ with_region self.old node
+            (with_inode (region_in self.old node) inode None) }
     {
         self.regions[node as usize - 1].stale(inode);
     }
@@ -292,7 +312,8 @@ impl Nodes {
     pub fn refill_one(&mut self, node: u32, inode: u64, value: Option<Inode>) -> Result<(), Refusal>
         requires node { IsNumber self.old node }
         requires quiet { IsQuiet (region_in self.old node) inode }
-        ensures ok { OnOk result (self.new ≡ with_region self.old node (with_inode (region_in self.old node) inode value)) }
+        ensures ok { OnOk result (self.new ≡ with_region self.old node
+            (with_inode (region_in self.old node) inode value)) }
         ensures err { OnErr result (self.new ≡ self.old) }
         ensures asked { OnErr result (map.get (region_in self.old node).inodes inode ≡ None) }
         ensures only_memory { IsOkUnless result OutOfMemory }
@@ -313,7 +334,7 @@ impl Nodes {
     pub fn drop_fronts(&mut self, client: u32, to: u64)
         requires client { 0 < client }
         requires digested { AreDigested self.old client to }
-        ensures { self.new ≡ with_fronts_dropped self.old client to }
+        ensures { self.new ≡ with_prefixes_dropped self.old client to }
     {
         drop_all(&mut self.regions, client, to);
     }
@@ -333,7 +354,7 @@ impl Nodes {
 fn begin_log(alloc: Global, region: &mut Region, here: bool, limit: usize) -> Result<(), Refusal>
     requires least { 8 ≤ limit }
     requires most { limit ≤ 4096 }
-    ensures ok { OnOk result (region.new ≡ with_client region.old (begun_log limit here)) }
+    ensures ok { OnOk result (region.new ≡ region_with_client region.old (begun_log limit here)) }
     ensures err { OnErr result (region.new ≡ region.old) }
     ensures only_memory { IsOkUnless result OutOfMemory }
 {
@@ -358,7 +379,8 @@ fn begin_all(
     requires numbers_fit { length regions.old + node < 2 ^ 32 }
     requires least { 8 ≤ limit }
     requires most { limit ≤ 4096 }
-    ensures ok { OnOk result (regions.new ≡ with_logs_begun (is_full_in (membership members.now).nodes) limit home node regions.old) }
+    ensures ok { OnOk result (regions.new ≡ with_logs_begun
+        (is_full_in (membership members.now).nodes) limit home node regions.old) }
     ensures err { OnErr result (regions.new ≡ regions.old) }
     ensures only_memory { IsOkUnless result OutOfMemory }
 {
@@ -398,7 +420,8 @@ fn end_all(regions: &mut [Region], client: u32)
 
 /// Copies of all logs of a node, each with the number up to which it is digested.
 fn copies_of(alloc: Global, region: &Region) -> Result<Vec<(Log, u64)>, Refusal>
-    ensures copies { IfOk result (λ copies. mapped copied copies.items ≡ mapped away region.now.logs) }
+    ensures copies { IfOk result (λ copies. mapped copied copies.items ≡
+        mapped away region.now.logs) }
     ensures sound { IfOk result (λ copies. AreTaken copies.items) }
     ensures only_memory { IsOkUnless result OutOfMemory }
 {
@@ -442,7 +465,7 @@ fn drop_front(region: &mut Region, client: u32, to: u64)
 fn drop_all(regions: &mut [Region], client: u32, to: u64)
     requires client { 0 < client }
     requires digested { AreDigested regions.old client to }
-    ensures { regions.new ≡ with_fronts_dropped regions.old client to }
+    ensures { regions.new ≡ with_prefixes_dropped regions.old client to }
 {
     let Some((first, rest)) = regions.split_first_mut() else {
         return;
@@ -454,7 +477,8 @@ fn drop_all(regions: &mut [Region], client: u32, to: u64)
 /// A node that has a log of a client lets its records from a place on go.
 fn cut_tail(region: &mut Region, client: u32, from: u64)
     requires client { 0 < client }
-    requires elsewhere { HasClient region.old client → IsUndigestedFrom (log_of region.old client) from }
+    requires elsewhere { HasClient region.old client →
+        IsUndigestedFrom (log_of region.old client) from }
     ensures { region.new ≡ changed_in client (λ l. up_to_number l from) region.old }
 {
     if client as usize <= region.clients() {

@@ -6,52 +6,67 @@ ghost use Rattle.std.specs.FinSet as set;
 ghost use Rattle.assise_record.specs.Records.{all_effects};
 ghost use Rattle.assise_inode_table.specs.Effects.{contains, touched};
 ghost use Rattle.assise_digest.specs.Region.{alone};
-ghost use Rattle.assise_machine_laws.specs.Chances.{MayDeliver, MayDigest};
-ghost use Rattle.assise_machine_laws.specs.NodeSteps.{Delivers, Drops};
-ghost use Rattle.assise_machine_laws.specs.Sound.{IsSound};
-ghost use Rattle.assise_machine_laws.specs.World.{Full, World, ahead_below, alone as alone_observed, digested_by_all, received_by_all, view};
-ghost use Rattle.assise_machine_returns.specs.Returns.{DigestsNoted, OtherAreasStay};
+ghost use Rattle.assise_model_world.specs.Chances.{MayDeliver, MayDigest};
+ghost use Rattle.assise_model_world.specs.NodeSteps.{Delivers, Drops};
+ghost use Rattle.assise_model_world.specs.Invariant.{WorldInvariant};
+ghost use Rattle.assise_model_world.specs.World.{Full, World, undigested_below, alone_at as alone_observed, digested_by_all, received_by_all, view};
+ghost use Rattle.assise_model_members.specs.Returns.{DigestsNoted, OtherAreasStay};
 ghost use Rattle.assise_machine_state.specs.Changes.{after_delivery, after_digest, after_drop, after_hot, first_but};
 ghost use Rattle.assise_machine_state.specs.NodeValues.{region_seen};
 ghost use Rattle.assise_machine_state.specs.Observed.{inodes_read, observed, world_of};
 ghost use Rattle.assise_machine_state.specs.Places.{IsNumber};
-ghost use Rattle.assise_machine_state.specs.Shape.{AreNoted, IsShaped};
+ghost use Rattle.assise_machine_state.specs.Invariant.{CutsInvariant, ShapeInvariant};
 ghost use Rattle.assise_machine_state.specs.StateValues.{StateValue};
 
 /// Records that come to a node.
 pub fn a_delivery_is_observed()
-    ensures delivers { (s : StateValue) (n c k : ℕ) → IsShaped s → IsSound (world_of s) → IsNumber s.clients c → MayDeliver (world_of s) n c k → Delivers (world_of s) n c k (world_of (after_delivery s n c k)) }
-    ensures others { (s : StateValue) (n c k : ℕ) → OtherAreasStay (world_of s) (world_of (after_delivery s n c k)) }
-    ensures shape { (s : StateValue) (n c k : ℕ) → IsShaped s → IsSound (world_of s) →
-        IsNumber s.clients c → MayDeliver (world_of s) n c k → IsShaped (after_delivery s n c k) }
+    ensures delivers { (s : StateValue) (n c k : ℕ) → ShapeInvariant s →
+        WorldInvariant (world_of s) → IsNumber s.clients c → MayDeliver (world_of s) n c k →
+        Delivers (world_of s) n c k (world_of (after_delivery s n c k)) }
+    ensures others { (s : StateValue) (n c k : ℕ) →
+        OtherAreasStay (world_of s) (world_of (after_delivery s n c k)) }
+    ensures shape { (s : StateValue) (n c k : ℕ) → ShapeInvariant s → WorldInvariant (world_of s) →
+        IsNumber s.clients c → MayDeliver (world_of s) n c k →
+        ShapeInvariant (after_delivery s n c k) }
 {}
 
 /// Records that a node digests, with what the manager notes of them.
 pub fn a_digest_is_observed()
-    ensures digests { (s : StateValue) (n c k : ℕ) (inodes : set.FinSet nat_cmp) → IsShaped s → IsSound (world_of s) → IsNumber s.clients c → MayDigest (world_of s) n c k →
-        ((i : ℕ) → set.contains inodes i ≡ contains (touched (all_effects (ahead_below (world_of s) n c k))) i) →
-        DigestsNoted (world_of s) s.members n c k inodes (world_of (after_digest s n c k inodes)) (after_digest s n c k inodes).members }
-    ensures shape { (s : StateValue) (n c k : ℕ) (inodes : set.FinSet nat_cmp) → IsShaped s → IsNumber s.clients c → Full (world_of s) n → IsShaped (after_digest s n c k inodes) }
+    ensures digests { (s : StateValue) (n c k : ℕ) (inodes : set.FinSet nat_cmp) →
+        ShapeInvariant s → WorldInvariant (world_of s) → IsNumber s.clients c →
+        MayDigest (world_of s) n c k → ((i : ℕ) →
+        set.contains inodes i ≡ contains (touched
+        (all_effects (undigested_below (world_of s) n c k))) i) →
+        DigestsNoted (world_of s) s.members n c k inodes (world_of (after_digest s n c k inodes))
+        (after_digest s n c k inodes).members }
+    ensures shape { (s : StateValue) (n c k : ℕ) (inodes : set.FinSet nat_cmp) → ShapeInvariant s →
+        IsNumber s.clients c → Full (world_of s) n → ShapeInvariant (after_digest s n c k inodes) }
 {}
 
-/// Fronts of one client's logs that are dropped at all nodes. Where fronts are dropped one after another, they are dropped.
-pub fn dropped_fronts_are_observed()
-    ensures drops { (s : StateValue) (c to : ℕ) → IsShaped s → IsSound (world_of s) →
+/// Prefixes of one client's logs that are dropped at all nodes. Where prefixes are dropped one after another, they are dropped.
+pub fn dropped_prefixes_are_observed()
+    ensures drops { (s : StateValue) (c to : ℕ) → ShapeInvariant s → WorldInvariant (world_of s) →
         IsNumber s.clients c → (world_of s).first c ≤ to → to ≤ digested_by_all (world_of s) c →
         (world_of s).border c to ≡ true →
         Drops (world_of s) (first_but (world_of s) c to) (world_of (after_drop s c to)) }
-    ensures areas { (s : StateValue) (c to n i : ℕ) → (world_of (after_drop s c to)).area n i ≡ (world_of s).area n i }
-    ensures shape { (s : StateValue) (c to : ℕ) → IsShaped s → IsSound (world_of s) →
+    ensures areas { (s : StateValue) (c to n i : ℕ) →
+        (world_of (after_drop s c to)).area n i ≡ (world_of s).area n i }
+    ensures shape { (s : StateValue) (c to : ℕ) → ShapeInvariant s → WorldInvariant (world_of s) →
         IsNumber s.clients c → (world_of s).first c ≤ to → to ≤ digested_by_all (world_of s) c →
-        (world_of s).border c to ≡ true → IsShaped (after_drop s c to) }
-    ensures one_after_another { (w v u : World) (f g : ℕ → ℕ) → Drops w f v → Drops v g u → Drops w g u }
+        (world_of s).border c to ≡ true → ShapeInvariant (after_drop s c to) }
+    ensures one_after_another { (w v u : World) (f g : ℕ → ℕ) → Drops w f v → Drops v g u →
+        Drops w g u }
 {}
 
-/// What a client that lives reads at its home, and what the region of a full node alone gives with what is acknowledged.
+/// What a client that lives reads at its home, and what the region of a full node alone gives with what is replicated.
 pub fn what_is_read_is_observed()
-    ensures client { (s : StateValue) (c i : ℕ) → IsShaped s → IsSound (world_of s) → (world_of s).lives c ≡ true → map.get (inodes_read s c) i ≡ view (world_of s) ((world_of s).home c) c i }
-    ensures region { (s : StateValue) (n i : ℕ) (acked : List ℕ) → IsShaped s → IsSound (world_of s) → Full (world_of s) n → length acked ≡ length s.clients →
-        ((c : ℕ) → c < length s.clients → slice_index_or acked c 0 ≡ received_by_all (world_of s) (suc c)) → alone (region_seen s.nodes n) acked i ≡ alone_observed (world_of s) n i }
+    ensures client { (s : StateValue) (c i : ℕ) → ShapeInvariant s → WorldInvariant (world_of s) →
+        (world_of s).lives c ≡ true → map.get (inodes_read s c) i ≡ view (world_of s)
+        ((world_of s).home c) c i }
+    ensures region { (s : StateValue) (n i : ℕ) (acked : List ℕ) → ShapeInvariant s →
+        WorldInvariant (world_of s) → Full (world_of s) n → length acked ≡ length s.clients →
+        ((c : ℕ) → c < length s.clients → slice_index_or acked c 0 ≡ received_by_all (world_of s)
+        (suc c)) → alone (region_seen s.nodes n) acked i ≡ alone_observed (world_of s) n i }
 {}
 
 /// How many inodes may be hot at a node isn't observed.
@@ -59,7 +74,7 @@ pub fn what_may_be_hot_is_not_observed()
     ensures machine { (s : StateValue) (n capacity : ℕ) →
         observed (after_hot s n capacity) ≡ observed s }
     ensures shape { (s : StateValue) (n capacity : ℕ) →
-        IsShaped s → IsShaped (after_hot s n capacity) }
+        ShapeInvariant s → ShapeInvariant (after_hot s n capacity) }
     ensures noted { (s : StateValue) (n capacity : ℕ) →
-        AreNoted s → AreNoted (after_hot s n capacity) }
+        CutsInvariant s → CutsInvariant (after_hot s n capacity) }
 {}

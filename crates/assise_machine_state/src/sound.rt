@@ -1,7 +1,5 @@
 // The state as it is between events.
-ghost use Rattle.assise_machine_events.specs.Machine.{Holds};
-ghost use Rattle.assise_machine_state.specs.Shape.{AreNoted, IsShaped};
-ghost use Rattle.assise_machine_state.specs.Whole.{machine_of, value_of};
+ghost use Rattle.assise_machine_state.specs.Whole.{StateInvariant, machine_of};
 
 use crate::state::StateOf;
 use assise_digest::region::Region;
@@ -11,14 +9,12 @@ use assise_manager::phase::Phase;
 use assise_names::refusal::Refusal;
 use std::alloc::Global;
 
-/// A state in which all holds that holds between events. An event that changes it gives it back so.
+/// A state that keeps the invariant between events. An event that changes it gives it back so.
 #[derive(Drop)]
 pub struct SoundOf<C> {
     /// The state.
     pub state: StateOf<C>,
-    ghost holds: { ∥ Holds (machine_of state) ∥₁ },
-    ghost shape: { IsShaped (value_of state) },
-    ghost noted: { AreNoted (value_of state) },
+    ghost invariant: { StateInvariant state },
 }
 
 /// A state whose clients store a [`Revoker`].
@@ -29,9 +25,9 @@ impl<C: Revokes + Drop> SoundOf<C> {
     ghost use Rattle.assise_names.specs.declared.refusal.Refusal.{Refusal as Refused};
     ghost use Rattle.assise_names.specs.declared.refusal.Refusal.TheVariants.{BadClient, OutOfMemory};
     ghost use Rattle.assise_names.specs.declared.limits.TheConstants.{MOST_NODES};
-    ghost use Rattle.assise_machine_laws.specs.World.{IsClient, received_by_all};
-    ghost use Rattle.assise_machine_events.specs.Faults.{node_fault};
-    ghost use Rattle.assise_machine_events.specs.Machine.{begun_as};
+    ghost use Rattle.assise_model_world.specs.World.{IsClient, received_by_all};
+    ghost use Rattle.assise_model_events.specs.Faults.{node_fault};
+    ghost use Rattle.assise_model_events.specs.Machine.{begun_as};
     ghost use Rattle.assise_machine_state.specs.NodeValues.{new_regions, region_seen};
 
     /// A cluster in which nothing happened: 1 to `MOST_NODES` full nodes, whose clients' logs have 8 to 4,096 records at most, and 1 to
@@ -67,7 +63,8 @@ impl<C: Revokes + Drop> SoundOf<C> {
     /// What a full node has. Refused with [`Refusal::BadNode`] where there is no such node, and [`Refusal::WrongPhase`] where
     /// it isn't full.
     pub fn region(&self, node: u32) -> Result<&Region, Refusal>
-        ensures fault { (e : Refused) → node_fault (machine_of self.now.state) node ≡ Some e → result ≡ Err e }
+        ensures fault { (e : Refused) → node_fault (machine_of self.now.state) node ≡ Some e →
+            result ≡ Err e }
         ensures ok { IsOk result ↔ (node_fault (machine_of self.now.state) node ≡ None) }
         ensures region { IfOk result (λ r. r.now ≡ region_seen self.now.state.nodes node) }
     {
@@ -77,10 +74,11 @@ impl<C: Revokes + Drop> SoundOf<C> {
         }
     }
 
-    /// The place up to which all full nodes have a client's log: its records below are acknowledged. The one refusal is
+    /// The place up to which all full nodes have a client's log: its records below are replicated. The one refusal is
     /// [`Refusal::BadClient`]. It costs the nodes.
     pub fn acked(&self, client: u32) -> Result<u64, Refusal>
-        ensures acked { IfOk result (λ place. place ≡ received_by_all (machine_of self.now.state).world client) }
+        ensures acked { IfOk result (λ place. place ≡ received_by_all
+            (machine_of self.now.state).world client) }
         ensures ok { IsOk result ↔ IsClient (machine_of self.now.state).world client }
         ensures only_bad { IsOkUnless result BadClient }
     {

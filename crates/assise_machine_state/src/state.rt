@@ -44,14 +44,14 @@ impl<C: Revokes + Drop> StateOf<C> {
     ghost use Rattle.assise_private_log.specs.NumberedLog.{end};
     ghost use Rattle.assise_manager.specs.Standings.{full_nodes};
     ghost use Rattle.assise_manager.specs.Whole.{membership};
-    ghost use Rattle.assise_machine_laws.specs.World.{digested_by_all, received_by_all};
-    ghost use Rattle.assise_machine_events.specs.Dsyncs.{besides, coalesced_from, most_of};
-    ghost use Rattle.assise_machine_events.specs.Machine.{begun_as};
+    ghost use Rattle.assise_model_world.specs.World.{digested_by_all, received_by_all};
+    ghost use Rattle.assise_model_events.specs.Dsyncs.{besides, coalesced_from, most_of};
+    ghost use Rattle.assise_model_events.specs.Machine.{begun_as};
     ghost use Rattle.assise_machine_state.specs.ClientValues.{client_in};
     ghost use Rattle.assise_machine_state.specs.NodeValues.{HasLog, log_in, new_regions, region_in};
     ghost use Rattle.assise_machine_state.specs.Observed.{inodes_read, own_node, world_of};
     ghost use Rattle.assise_machine_state.specs.Places.{IsNumber};
-    ghost use Rattle.assise_machine_state.specs.Shape.{AreNoted, IsShaped};
+    ghost use Rattle.assise_machine_state.specs.Invariant.{CutsInvariant, ShapeInvariant};
     ghost use Rattle.assise_machine_state.specs.Whole.{machine_of, value_of};
 
     /// A cluster in which nothing happened: 1 to `MOST_NODES` full nodes, whose clients' logs have 8 to 4,096 records at most, and 1 to
@@ -69,8 +69,8 @@ impl<C: Revokes + Drop> StateOf<C> {
         requires least_hot { 1 ≤ hot_capacity }
         requires most_hot { hot_capacity ≤ 4096 }
         ensures begun { IfOk result (λ s. machine_of s ≡ begun_as nodes limit) }
-        ensures shape { IfOk result (λ s. IsShaped (value_of s)) }
-        ensures noted { IfOk result (λ s. AreNoted (value_of s)) }
+        ensures shape { IfOk result (λ s. ShapeInvariant (value_of s)) }
+        ensures noted { IfOk result (λ s. CutsInvariant (value_of s)) }
         ensures regions { IfOk result (λ s. s.nodes ≡ new_regions nodes hot_capacity) }
         ensures only_memory { IsOkUnless result OutOfMemory }
     {
@@ -85,10 +85,10 @@ impl<C: Revokes + Drop> StateOf<C> {
         })
     }
 
-    /// The place up to which all full nodes have a client's log: its records below are acknowledged. It costs the nodes.
+    /// The place up to which all full nodes have a client's log: its records below are replicated. It costs the nodes.
     pub fn acked(&self, client: u32) -> u64
         requires client { IsNumber self.now.clients client }
-        requires shape { IsShaped (value_of self.now) }
+        requires shape { ShapeInvariant (value_of self.now) }
         ensures { result ≡ received_by_all (world_of (value_of self.now)) client }
     {
         let mut least = self.own_region(client).log(client as usize).end();
@@ -102,7 +102,7 @@ impl<C: Revokes + Drop> StateOf<C> {
     /// The place up to which all full nodes have digested a client's log. It costs the nodes.
     pub fn digested(&self, client: u32) -> u64
         requires client { IsNumber self.now.clients client }
-        requires shape { IsShaped (value_of self.now) }
+        requires shape { ShapeInvariant (value_of self.now) }
         ensures { result ≡ digested_by_all (world_of (value_of self.now)) client }
     {
         let mut least = self.own_region(client).log(client as usize).end();
@@ -117,7 +117,7 @@ impl<C: Revokes + Drop> StateOf<C> {
     /// its home has. It costs the nodes.
     pub fn coalesced_from(&self, client: u32) -> u64
         requires client { IsNumber self.now.clients client }
-        requires shape { IsShaped (value_of self.now) }
+        requires shape { ShapeInvariant (value_of self.now) }
         ensures { result ≡ coalesced_from (world_of (value_of self.now)) client }
     {
         let known = self.clients.get(client);
@@ -128,7 +128,7 @@ impl<C: Revokes + Drop> StateOf<C> {
     /// The greatest place up to which a full node besides this one has a client's log, or 0.
     fn received_besides(&self, client: u32, home: u32) -> u64
         requires client { IsNumber self.now.clients client }
-        requires shape { IsShaped (value_of self.now) }
+        requires shape { ShapeInvariant (value_of self.now) }
         ensures { result ≡ most_of
             (besides home (full_nodes (membership self.now.members).nodes))
             (λ n. end (log_in self.now.nodes n client).log) }
@@ -147,7 +147,7 @@ impl<C: Revokes + Drop> StateOf<C> {
     /// nodes have the same then.
     pub fn own_node(&self, client: u32) -> u32
         requires client { IsNumber self.now.clients client }
-        requires shape { IsShaped (value_of self.now) }
+        requires shape { ShapeInvariant (value_of self.now) }
         ensures node { result ≡
             own_node (membership self.now.members).nodes (client_in self.now.clients client) }
         ensures log { HasLog self.now.nodes result client }
@@ -163,9 +163,9 @@ impl<C: Revokes + Drop> StateOf<C> {
     /// The region of that node.
     pub fn own_region(&self, client: u32) -> &Region
         requires client { IsNumber self.now.clients client }
-        requires shape { IsShaped (value_of self.now) }
-        ensures region { result.now ≡
-            region_in self.now.nodes (own_node (membership self.now.members).nodes (client_in self.now.clients client)) }
+        requires shape { ShapeInvariant (value_of self.now) }
+        ensures region { result.now ≡ region_in self.now.nodes
+            (own_node (membership self.now.members).nodes (client_in self.now.clients client)) }
         ensures log { HasClient result.now client }
     {
         self.nodes.region(self.own_node(client))
@@ -175,7 +175,7 @@ impl<C: Revokes + Drop> StateOf<C> {
     pub fn view(&self, client: u32) -> ClientView<'_, C>
         requires client { IsNumber self.now.clients client }
         requires lives { (client_in self.now.clients client).failed ≡ false }
-        requires shape { IsShaped (value_of self.now) }
+        requires shape { ShapeInvariant (value_of self.now) }
         ensures client { result.client ≡ client }
         ensures inodes { result.inodes ≡ inodes_read (value_of self.now) client }
         ensures leases { result.leases.now ≡ self.now.leases }

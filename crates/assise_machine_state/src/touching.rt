@@ -16,7 +16,8 @@ pub fn push_touched_from(
     from: u64,
     count: usize,
 ) -> Result<(), Refusal>
-    ensures added { OnOk result (inodes.new.items ≡ inodes.old.items ++ touched (all_effects (take count (records_from log.now from)))) }
+    ensures added { OnOk result (inodes.new.items ≡ inodes.old.items ++ touched
+        (all_effects (take count (records_from log.now from)))) }
     ensures only_memory { IsOkUnless result OutOfMemory }
 {
     for record in log.since(from).take(count) {

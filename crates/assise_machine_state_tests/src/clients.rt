@@ -7,7 +7,7 @@ use assise_machine_state::client::Client;
 use assise_machine_state::clients::Clients;
 use assise_names::durability::Durability;
 use assise_names::limits::MOST_CLIENTS;
-use assise_rows::{Subject, split_word};
+use assise_test_rows::{Subject, split_word};
 use std::alloc::{AllocError, Global};
 
 /// `STEPS`: what is done to clients, and what is asked of them, the first of whom isn't opened yet.

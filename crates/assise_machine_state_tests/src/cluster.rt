@@ -10,7 +10,7 @@ use assise_machine_state::nodes::Nodes;
 use assise_manager::members::Members;
 use assise_record::effect::Effect;
 use assise_record::record::Record;
-use assise_rows::split_word;
+use assise_test_rows::split_word;
 use std::alloc::Global;
 
 /// Whether a node has a log of a client.

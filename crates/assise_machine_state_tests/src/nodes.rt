@@ -56,7 +56,7 @@ fn see_roots_alone(alloc: Global, rt: &impl Abort, nodes: &Nodes) {
 }
 
 #[test]
-fn no_front_and_no_tail_go_of_a_client_without_logs(rt: HostRuntime) {
+fn no_prefix_and_no_tail_go_of_a_client_without_logs(rt: HostRuntime) {
     let mut nodes = three_nodes(rt.alloc()).expect(&rt, "no memory");
     nodes.drop_fronts(1, 4);
     nodes.cut_tails(1, 4);

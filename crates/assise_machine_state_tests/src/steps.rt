@@ -6,7 +6,7 @@ use crate::cluster::{
 use crate::seen::{found, logs_of};
 use assise_machine_state::nodes::Nodes;
 use assise_manager::members::Members;
-use assise_rows::{Subject, split_word, wrong_rows};
+use assise_test_rows::{Subject, split_word, wrong_rows};
 use std::alloc::Global;
 use std::process::Abort;
 

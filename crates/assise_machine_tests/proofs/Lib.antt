@@ -1,1 +1,1 @@
-pub mod Acking
+pub mod AckedLists

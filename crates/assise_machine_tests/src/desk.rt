@@ -11,7 +11,7 @@ use assise_names::refusal::Refusal;
 use assise_private_log::log_view::LogView;
 use assise_record::frame::Frame;
 use assise_revokers::kinds::{eights, least, whole};
-use assise_rows::{Subject, split_word};
+use assise_test_rows::{Subject, split_word};
 use std::alloc::Global;
 
 /// What a client answers when a lease is asked for: no closure is stored, so a cluster of such clients can be given away.

@@ -54,7 +54,7 @@ log 1 at 2 => 8..8, digested 8
 1 read /f 0 9 => bytes 2 x686f
 ";
 
-/// No more than 64 records are digested at once, of clients by rising number.
+/// No more than 64 records are digested at once, of clients by ascending number.
 const MANY: &str = "\
 cluster 1 128 => begun
 open 1 least => client 1
@@ -84,7 +84,7 @@ digest 1 => digested 0
 tree at 1 => / names 2 a b; /b names 1 g; /b/g bytes 2 x0079; /a names 1 f; /a/f bytes 1 x78
 ";
 
-/// A node alone, whose clients' records are acknowledged at once.
+/// A node alone, whose clients' records are replicated at once.
 const ALONE: &str = "\
 cluster 1 128 => begun
 open 1 least => client 1

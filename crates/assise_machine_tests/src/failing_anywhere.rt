@@ -2,7 +2,7 @@
 use crate::desk::{Desk, HOT};
 use crate::faults::{fault_at_the_end, fault_behind};
 use crate::tasks::{Task, on_desk};
-use assise_rows::scripts::{
+use assise_test_rows::scripts::{
     BACK_AND_ALONE, BACK_BY_HAND, CARRIED_IN_PART, CRASHED, CROSSING, CUT_AT_AN_FSYNC, DONOR_FAILS,
     FAILS_AGAIN, HANDED_BY_HAND, HANDED_LEAST, HANDED_WHOLE, LOST_FILE, OUT_OF_ORDER, SHARED_FILE,
 };

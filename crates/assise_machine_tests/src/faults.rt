@@ -66,7 +66,7 @@ fn settle(alloc: Global, desk: &mut Desk) -> Option<()> {
     Some(())
 }
 
-/// Whether all that a client wrote is acknowledged, and has gone from the log of each of so many full nodes.
+/// Whether all that a client wrote is replicated, and has gone from the log of each of so many full nodes.
 fn has_digested(cluster: &Cluster, nodes: u32, client: u32) -> bool {
     let Ok(acked) = cluster.acked(client) else {
         return true;
@@ -118,7 +118,7 @@ fn is_below(bounds: &[u64], call: &Call) -> bool {
     }
 }
 
-/// Of each client the number of its first call that has a record which isn't acknowledged, or more than any.
+/// Of each client the number of its first call that has a record which isn't replicated, or more than any.
 fn bounds(alloc: Global, cluster: &Cluster) -> Option<Vec<u64>> {
     let mut bounds = Vec::new(alloc);
     for client in 1..17 {

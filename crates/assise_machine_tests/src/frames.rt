@@ -3,7 +3,7 @@ use crate::words::{number_in, small_in};
 use assise_record::decode::decode_up_to;
 use assise_record::encode::encode;
 use assise_record::frame::{Frame, MARKED_VERSION, MOST_RECORDS};
-use assise_rows::split_word;
+use assise_test_rows::split_word;
 use std::alloc::Global;
 
 /// A copy of a frame, as it is or of another epoch, client or first number. None where there is no such frame, or no memory.

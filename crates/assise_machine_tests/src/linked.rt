@@ -5,7 +5,7 @@ use assise_link::carrying::carry_frame;
 use assise_link::test_link::TestLink;
 use assise_names::limits::MOST_NODES;
 use assise_record::frame::Frame;
-use assise_rows::split_word;
+use assise_test_rows::split_word;
 use std::alloc::Global;
 use std::array;
 

@@ -3,7 +3,7 @@ use crate::desk::{Desk, HOT};
 use crate::dice::Dice;
 use crate::faults::{fault_at_the_end, fault_behind};
 use crate::tasks::{Task, on_desk};
-use assise_rows::split_word;
+use assise_test_rows::split_word;
 use std::alloc::{AllocError, Global};
 use std::process::Abort;
 
@@ -233,7 +233,7 @@ fn fault_of(
         }
         strike(missing, desk.outcome.as_str());
         unseen = unseen.saturating_add(1);
-        if unseen < lists.apart {
+        if unseen < lists.disjoint {
             continue;
         }
         unseen = 0;
@@ -259,7 +259,7 @@ pub(crate) struct Lists {
     pub(crate) lists: u32,
     pub(crate) steps: u32,
     /// After so many steps each it is looked at what is wrong.
-    pub(crate) apart: u32,
+    pub(crate) disjoint: u32,
 }
 
 /// Sees that nothing is wrong behind the steps of lists, and that these have each outcome.
@@ -295,7 +295,7 @@ fn lists_by_chance_end_well(rt: HostRuntime) {
         seed: 1,
         lists: 60,
         steps: 200,
-        apart: 1,
+        disjoint: 1,
     };
     see(rt.alloc(), &rt, lists);
 }
@@ -306,7 +306,7 @@ fn see_long(alloc: Global, rt: &impl Abort, seed: u64) {
         seed,
         lists: 40,
         steps: 500,
-        apart: 250,
+        disjoint: 250,
     };
     see(alloc, rt, lists);
 }

@@ -40,7 +40,7 @@ fn tree_of(
     region.rebuild(alloc, acked)
 }
 
-/// Of each client the number below which its records are acknowledged.
+/// Of each client the number below which its records are replicated.
 fn acked_places(alloc: Global, cluster: &Cluster) -> Result<Vec<u64>, Refusal>
     ensures { IfOk result (λ places. AreAcked (machine cluster.now).world places.items) }
 {

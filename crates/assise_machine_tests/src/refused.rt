@@ -1,4 +1,4 @@
-// Steps that are refused for want of memory, where each allocation of a run is refused in turn. What is refused leaves all as it
+// Steps that are refused as out of memory, where each allocation of a run is refused in turn. What is refused leaves all as it
 // was, and the same step answers then.
 use crate::desk::Desk;
 use crate::seen::seen;
@@ -12,7 +12,7 @@ use assise_names::refusal::Refusal;
 use std::alloc::Global;
 use std::process::Abort;
 
-/// Makes the steps of rows, each once more where it is refused for want of memory. Sees that no refused step changed what is seen,
+/// Makes the steps of rows, each once more where it is refused as out of memory. Sees that no refused step changed what is seen,
 /// and that each step comes to what its row says then.
 pub(crate) fn see_made_again(alloc: Global, rt: &impl Abort, desk: &mut Desk, texts: &[&str]) {
     for rows in texts {
@@ -36,7 +36,7 @@ fn are_right(alloc: Global, desk: &mut Desk, rows: &str) -> Result<bool, Refusal
     Ok(true)
 }
 
-/// Makes a step, once more where it is refused for want of memory.
+/// Makes a step, once more where it is refused as out of memory.
 fn is_right(alloc: Global, desk: &mut Desk, step: &str, wanted: &str) -> Result<bool, Refusal> {
     if let Some(node) = step.strip_prefix("digest ") {
         return digests(alloc, desk, node, wanted);
@@ -66,7 +66,7 @@ fn digests(alloc: Global, desk: &mut Desk, node: &str, wanted: &str) -> Result<b
     }
 }
 
-/// How many of the records that a node is to digest are left once it did: all, where that is refused for want of memory and changes
+/// How many of the records that a node is to digest are left once it did: all, where that is refused as out of memory and changes
 /// nothing. None, where something else comes out.
 fn left_of_digest(
     alloc: Global,

@@ -1,7 +1,7 @@
 // Rows `STEP => OUTCOME` of a cluster.
 use crate::desk::Desk;
 use crate::tasks::{Task, on_desk};
-use assise_rows::wrong_rows;
+use assise_test_rows::wrong_rows;
 use std::alloc::Global;
 use std::process::Abort;
 

@@ -6,7 +6,7 @@ use crate::told::{keep, put_told};
 use assise_machine::answer::Answer;
 use assise_machine::event::Event;
 use assise_machine::run::run;
-use assise_rows::steps_in;
+use assise_test_rows::steps_in;
 use std::alloc::Global;
 use std::process::Abort;
 

@@ -1,7 +1,7 @@
 // What nodes send.
 use crate::rows::show;
 
-/// For each client by rising number one frame at most, for the node behind in the client's chain. The last node sends none.
+/// For each client by ascending number one frame at most, for the node behind in the client's chain. The last node sends none.
 const CHAINS: &str = "\
 cluster 3 8 => begun
 open 1 least => client 1
@@ -39,7 +39,7 @@ fsync 2 => done
 ";
 
 /// A node sends frames of all clients whose chains it stands in.
-const RISING: &str = "\
+const ASCENDING: &str = "\
 cluster 3 8 => begun
 open 1 least => client 1
 open 2 least => client 2
@@ -150,6 +150,6 @@ fn records_are_sent_along_chains(rt: HostRuntime) {
     show(
         rt.alloc(),
         &rt,
-        &[CHAINS, RISING, UP_TO_THE_GOAL, MANY, ALONE],
+        &[CHAINS, ASCENDING, UP_TO_THE_GOAL, MANY, ALONE],
     );
 }

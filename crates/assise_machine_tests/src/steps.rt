@@ -12,7 +12,7 @@ use assise_machine::hot::HotCapacity;
 use assise_machine::run::apply_event;
 use assise_names::call::Op;
 use assise_names::durability::Durability;
-use assise_rows::split_word;
+use assise_test_rows::split_word;
 use std::alloc::Global;
 
 /// Makes a step, and appends what it comes to: a question, an event, or `cluster NODES LOG HOT`, `stock KINDS`,

@@ -16,7 +16,7 @@ pub(crate) enum Task<'a> {
     Rows(&'a [&'a str]),
     /// The rows of texts, each as one list of events.
     Lists(&'a [&'a str]),
-    /// The rows of texts, each step once more where it is refused for want of memory.
+    /// The rows of texts, each step once more where it is refused as out of memory.
     Again(&'a [&'a str]),
     /// Scripts in which a node fails before each step, and comes back so many steps further.
     Failures(usize, &'a [&'a str]),
@@ -24,7 +24,7 @@ pub(crate) enum Task<'a> {
     Chance(Lists),
 }
 
-/// Makes what is to be made on a new desk. Refused for want of memory.
+/// Makes what is to be made on a new desk. Refused as out of memory.
 pub(crate) fn on_desk(alloc: Global, rt: &impl Abort, task: Task<'_>) -> Result<(), Refusal> {
     let mut desk = Desk::new(alloc)?;
     make(alloc, rt, &mut desk, task);

@@ -5,7 +5,7 @@ use crate::words::{number_in, small_in};
 use assise_machine::answer::Answer;
 use assise_machine::turn::Turn;
 use assise_names::refusal::Refusal;
-use assise_rows::split_word;
+use assise_test_rows::split_word;
 use std::alloc::{AllocError, Global};
 use std::fmt::Display;
 
@@ -107,7 +107,7 @@ fn put_losses(losses: &[(u32, u64)], text: &mut String) -> Result<(), AllocError
     Ok(())
 }
 
-/// Appends what is told of a client's acknowledged records, of its log at a node, of an inode at a node and whether it is hot
+/// Appends what is told of a client's replicated records, of its log at a node, of an inode at a node and whether it is hot
 /// there, of how many may be hot, of the tree that a node has, or of the history.
 pub(crate) fn put_answer(
     alloc: Global,

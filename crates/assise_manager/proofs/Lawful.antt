@@ -18,12 +18,12 @@ use Rattle.assise_manager.specs.Membership.{Membership, IsMembership, first_list
 use Rattle.assise_manager.specs.Membership.{is_known}
 use Rattle.assise_manager.specs.Changes.{fulls, all_full, with_node, refilled_from, with_new_donor, with_epoch, failed_as, failed}
 use Rattle.assise_manager.specs.Changes.{failure_fault_of, failure_fault, back_as, back, return_fault_of, return_fault, is_away}
-use Rattle.assise_manager.specs.Changes.{filling_fault_of, filling_fault, copied_as, copied, joined, join_fault, with_written, stale_again}
+use Rattle.assise_manager.specs.Changes.{filling_fault_of, filling_fault, copied_as, with_copied, joined, join_fault, with_written, stale_again}
 use Rattle.assise_manager.specs.Changes.{donor_of, noted, raised}
 use Rattle.assise_manager.specs.NodeLevels.{greater, joined_levels, level_of, plains}
 use Rattle.assise_manager.specs.declared.level.Level.{Level}
 use Rattle.assise_manager.specs.declared.level.Level.TheVariants.{Marked}
-use Rattle.assise_manager.specs.MemberCalls.{MemberCall, Does, AllDo}
+use Rattle.assise_manager.specs.MemberCalls.{MemberCall, MemberCallDoes, AllMemberCalls}
 use Rattle.assise_manager.specs.MemberCalls.MemberCall.{fail, come_back, note_copied, join, note_written, raise}
 use Rattle.assise_manager.proofs.Sets.{Numbers, all_push}
 use Rattle.assise_manager.proofs.Nodes.{never, full_from_set_away, full_from_map, all_full_map, full_there, list_all_set, list_all_map}
@@ -438,7 +438,7 @@ copied_as_lawful m node inode lawful (Some (returning since donor stale)) at fin
 
 -- a node that comes back got an inode
 pub copied_lawful : (m : Membership) (node : ℕ) → IsMembership m → filling_fault m node ≡ None → (inode : ℕ)
-    → IsMembership (copied m node inode)
+    → IsMembership (with_copied m node inode)
 copied_lawful m node lawful fine inode = copied_as_lawful m node inode lawful (standing_of m.nodes node) refl fine
 
 joined_length : (levels : List Level) (node : ℕ) (o : Option ℕ) → length (joined_levels levels node o) ≡ length levels
@@ -575,7 +575,7 @@ raised_lawful m node lawful = record {
 -- ---- calls
 
 -- each call that isn't refused
-pub call_lawful : (old new : Membership) (call : MemberCall) → IsMembership old → Does old call new → IsMembership new
+pub call_lawful : (old new : Membership) (call : MemberCall) → IsMembership old → MemberCallDoes old call new → IsMembership new
 call_lawful old new (fail node inodes) lawful done = subst IsMembership (sym done.1) (failed_lawful old node inodes lawful done.0)
 call_lawful old new (come_back node) lawful done = subst IsMembership (sym done.1) (back_lawful old node lawful done.0)
 call_lawful old new (note_copied node inode) lawful done = subst IsMembership (sym done.1) (copied_lawful old node lawful done.0 inode)
@@ -583,7 +583,7 @@ call_lawful old new (join node) lawful done = subst IsMembership (sym done.1) (j
 call_lawful old new (note_written node inodes) lawful done = subst IsMembership (sym done) (noted_lawful old node inodes lawful)
 call_lawful old new (raise node) lawful done = subst IsMembership (sym done.1) (raised_lawful old node lawful)
 
-all_lawful : (calls : List MemberCall) (old new : Membership) → IsMembership old → AllDo old calls new → IsMembership new
+all_lawful : (calls : List MemberCall) (old new : Membership) → IsMembership old → AllMemberCalls old calls new → IsMembership new
 all_lawful [] old new lawful done = subst IsMembership (sym done) lawful
 all_lawful (call ∷ calls) old new lawful done =
     let next : IsMembership done.0 = elim done.1 [
@@ -593,7 +593,7 @@ all_lawful (call ∷ calls) old new lawful done =
     all_lawful calls done.0 new next done.2
 
 -- any list of calls, from the start on
-pub after_all : (count : ℕ) (calls : List MemberCall) (new : Membership) → 0 < count → AllDo (all_full count) calls new → IsMembership new
+pub after_all : (count : ℕ) (calls : List MemberCall) (new : Membership) → 0 < count → AllMemberCalls (all_full count) calls new → IsMembership new
 after_all count calls new some done = all_lawful calls (all_full count) new (all_full_lawful count some) done
 
 -- ---- what a lawful membership says of one node

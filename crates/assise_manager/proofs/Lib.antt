@@ -1,5 +1,5 @@
 pub mod Sets
-pub mod Rising
+pub mod AscendingSets
 pub mod Places
 pub mod Nodes
 pub mod Lawful

@@ -23,7 +23,7 @@ use Rattle.assise_manager.specs.declared.written_list.WrittenList.{WrittenList}
 use Rattle.assise_manager.specs.Membership.{Membership, IsMembership, is_known, is_listed, first_listed, all_inodes, written_since, lowest_full}
 use Rattle.assise_manager.proofs.Nodes.{full_from_set_away, count_all_full, all_full_count}
 use Rattle.assise_manager.proofs.Lawful.{known_of, copied_lawful}
-use Rattle.assise_manager.proofs.Rising.{lowest_or_none}
+use Rattle.assise_manager.proofs.AscendingSets.{lowest_or_none}
 use Rattle.assise_manager.specs.Standings.{Standing, full, down, returning, standing_of, with_standing, full_from, full_nodes, is_full}
 
 -- a slice that was changed in the place of a vector's items
@@ -191,7 +191,7 @@ pub copied_either : (epoch : ℕ) (written : List (set.FinSet nat_cmp)) (node : 
     (IsLowestOf (stale_of (standing_of old node)) None → new ≡ old) →
     IsMembership (record { epoch = epoch; nodes = new; written = written; levels = levels })
 copied_either epoch written node r old new levels lawful at copies none =
-    elim (lowest_or_none r.stale.inodes.items r.stale.rising) [
+    elim (lowest_or_none r.stale.inodes.items r.stale.ascending) [
       | inl empty ↦ subst (λ ns. IsMembership (record { epoch = epoch; nodes = ns; written = written; levels = levels })) (sym (none (subst (λ o. IsLowestOf (stale_of o) None) (sym at) empty))) lawful
       | inr (inode, low) ↦ subst (λ ns. IsMembership (record { epoch = epoch; nodes = ns; written = written; levels = levels })) (sym (copies inode (subst (λ o. IsLowestOf (stale_of o) (Some inode)) (sym at) low)))
           (copied_lawful (record { epoch = epoch; nodes = old; written = written; levels = levels }) node lawful (filling (record { epoch = epoch; nodes = old; written = written; levels = levels }) node r.since r.donor (stale_inodes r.stale) at) inode)

@@ -63,7 +63,7 @@ from_append xs ys = same _ _ (λ q. grind (members, rules, list_any-append (eq_b
 pub from_permutation : (xs ys : List ℕ) → IsPermutation xs ys → set.from_list {R = nat_cmp} ys ≡ set.from_list xs
 from_permutation xs ys p = same_list ys xs (λ q. sym (list_any-IsPermutation (eq_by_cmp nat_cmp q) xs ys p))
 
--- the numbers of a list's front, and of one place more
+-- the numbers of a list's prefix, and of one place more
 pub union_take : (s : Numbers) (xs : List ℕ) (i d : ℕ) → i < length xs → set.union s (set.from_list {R = nat_cmp} (take (i + 1) xs)) ≡ set.insert (set.union s (set.from_list (take i xs))) (get_or xs i d)
 union_take s xs i d inside =
     ap (λ n. set.union s (set.from_list {R = nat_cmp} (take n xs))) (next i)
@@ -76,7 +76,7 @@ pub all_push : (ls : List Numbers) (l : Numbers) → all_inodes (ls ++ l ∷ [])
 all_push [] l = same _ _ (λ q. grind (members, rules))
 all_push (k ∷ ls) l = ap (set.union k) (all_push ls l) ∙ same _ _ (λ q. grind (members, rules))
 
--- the lists of a front, and of one place more
+-- the lists of a prefix, and of one place more
 pub all_take : {X : Type 0} (f : X → Numbers) (xs : List X) (i : ℕ) (d : X) → i < length xs → set.union (all_inodes (map f (take i xs))) (f (get_or xs i d)) ≡ all_inodes (map f (take (i + 1) xs))
 all_take f xs i d inside =
     sym (all_push (map f (take i xs)) (f (get_or xs i d)))

@@ -144,8 +144,8 @@ abbrev pub copied_as : List Standing → ℕ → ℕ → Option Standing → Lis
 copied_as nodes node inode None = nodes
 copied_as nodes node inode (Some s) = with_standing nodes node (without_stale inode s)
 
-abbrev pub copied : Membership → ℕ → ℕ → Membership
-copied m node inode = record { epoch = m.epoch; nodes = copied_as m.nodes node inode (standing_of m.nodes node); written = m.written; levels = m.levels }
+abbrev pub with_copied : Membership → ℕ → ℕ → Membership
+with_copied m node inode = record { epoch = m.epoch; nodes = copied_as m.nodes node inode (standing_of m.nodes node); written = m.written; levels = m.levels }
 
 -- the lists while some node isn't full; where all are, none
 abbrev pub listed_while : List Standing → List (set.FinSet nat_cmp) → List (set.FinSet nat_cmp)

@@ -3,7 +3,7 @@ use Rattle.std.specs.Prelude.{◌≡◌, ℕ, List, [], ◌∷◌, None, ◌⊎�
 use Rattle.std.specs.Ordering.{nat_cmp}
 use Rattle.std.specs.FinSet as set
 use Rattle.assise_manager.specs.Membership.{Membership}
-use Rattle.assise_manager.specs.Changes.{failed, failure_fault, back, return_fault, copied, filling_fault, joined, join_fault, noted, raised, raise_fault}
+use Rattle.assise_manager.specs.Changes.{failed, failure_fault, back, return_fault, with_copied, filling_fault, joined, join_fault, noted, raised, raise_fault}
 
 pub data MemberCall : Type 0 where
   -- a node failed, while these inodes may not be everywhere
@@ -20,19 +20,19 @@ pub data MemberCall : Type 0 where
   raise : (node : ℕ) → MemberCall
 
 -- what a call that isn't refused does, where its condition holds
-abbrev pub Does : Membership → MemberCall → Membership → Type 0
-Does old (fail node inodes) new = (failure_fault old node ≡ None) × (new ≡ failed old node inodes)
-Does old (come_back node) new = (return_fault old node ≡ None) × (new ≡ back old node)
-Does old (note_copied node inode) new = (filling_fault old node ≡ None) × (new ≡ copied old node inode)
-Does old (join node) new = (join_fault old node ≡ None) × (new ≡ joined old node)
-Does old (note_written node inodes) new = new ≡ noted old node inodes
-Does old (raise node) new = (raise_fault old node ≡ None) × (new ≡ raised old node)
+abbrev pub MemberCallDoes : Membership → MemberCall → Membership → Type 0
+MemberCallDoes old (fail node inodes) new = (failure_fault old node ≡ None) × (new ≡ failed old node inodes)
+MemberCallDoes old (come_back node) new = (return_fault old node ≡ None) × (new ≡ back old node)
+MemberCallDoes old (note_copied node inode) new = (filling_fault old node ≡ None) × (new ≡ with_copied old node inode)
+MemberCallDoes old (join node) new = (join_fault old node ≡ None) × (new ≡ joined old node)
+MemberCallDoes old (note_written node inodes) new = new ≡ noted old node inodes
+MemberCallDoes old (raise node) new = (raise_fault old node ≡ None) × (new ≡ raised old node)
 
 -- a refused call leaves all as it was
-abbrev pub MayDo : Membership → MemberCall → Membership → Type 0
-MayDo old call new = Does old call new ⊎ (new ≡ old)
+abbrev pub MemberCallMayDo : Membership → MemberCall → Membership → Type 0
+MemberCallMayDo old call new = MemberCallDoes old call new ⊎ (new ≡ old)
 
 -- what a list of calls does, one after another
-abbrev pub AllDo : Membership → List MemberCall → Membership → Type 0
-AllDo old [] new = new ≡ old
-AllDo old (call ∷ calls) new = (next : Membership) × MayDo old call next × AllDo next calls new
+abbrev pub AllMemberCalls : Membership → List MemberCall → Membership → Type 0
+AllMemberCalls old [] new = new ≡ old
+AllMemberCalls old (call ∷ calls) new = (next : Membership) × MemberCallMayDo old call next × AllMemberCalls next calls new

@@ -33,7 +33,7 @@ standing_or (Some r) old = returning r.since r.donor (stale_inodes r.stale)
 abbrev pub listed_since : List WrittenList → ℕ → ℕ → set.FinSet nat_cmp
 listed_since lists first since = all_inodes (drop (since - first) (map listed_inodes lists))
 
--- the first number besides one, where numbers rise
+-- the first number besides one, where numbers ascend
 abbrev pub lowest_besides : List ℕ → ℕ → ℕ
 lowest_besides numbers node = if slice_index_or numbers 0 0 == node then slice_index_or numbers 1 0 else slice_index_or numbers 0 0
 

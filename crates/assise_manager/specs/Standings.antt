@@ -10,7 +10,7 @@ use Rattle.assise_manager.specs.declared.phase.Phase.{Phase}
 use Rattle.assise_manager.specs.declared.phase.Phase.TheVariants.{Full, Down, Returning}
 
 pub data Standing : Type 0 where
-  -- it has all that is acknowledged
+  -- it has all that is replicated
   full : Standing
   -- it failed: with the epoch that its first failure began
   down : (since : ℕ) → Standing
@@ -31,7 +31,7 @@ standing_of nodes (suc place) = slice_get nodes place
 abbrev pub with_standing : List Standing → ℕ → Standing → List Standing
 with_standing nodes node s = slice_set nodes (node - 1) s
 
--- the numbers of the full nodes, rising, where the first in the list has this number
+-- the numbers of the full nodes, ascending, where the first in the list has this number
 abbrev pub full_from : ℕ → List Standing → List ℕ
 full_from n [] = []
 full_from n (s ∷ nodes) = if is_full s then n ∷ full_from (suc n) nodes else full_from (suc n) nodes

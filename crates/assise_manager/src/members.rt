@@ -40,7 +40,7 @@ impl Members {
     ghost use Rattle.std.specs.Ordering.{nat_cmp};
     ghost use Rattle.assise_names.specs.declared.refusal.Refusal.{Refusal as Refused};
     ghost use Rattle.assise_names.specs.declared.refusal.Refusal.TheVariants.{BadNode, OutOfMemory};
-    ghost use Rattle.assise_manager.specs.Changes.{is_away, is_returning, with_node, donor_of, IsLowestOf, all_full, failed, failure_fault, back, return_fault, stale_of, filling_fault, IsLowest, copied, joined, join_fault, noted, raised, raise_fault};
+    ghost use Rattle.assise_manager.specs.Changes.{is_away, is_returning, with_node, donor_of, IsLowestOf, all_full, failed, failure_fault, back, return_fault, stale_of, filling_fault, IsLowest, with_copied, joined, join_fault, noted, raised, raise_fault};
     ghost use Rattle.assise_manager.specs.Membership.{IsMembership, first_listed, is_known, written_in};
     ghost use Rattle.assise_manager.specs.NodeLevels.{level_of};
     ghost use Rattle.assise_manager.specs.Seen.{standing, stale_inodes};
@@ -91,7 +91,7 @@ impl Members {
         }
     }
 
-    /// The numbers of the full nodes, rising. There is one at least.
+    /// The numbers of the full nodes, ascending. There is one at least.
     pub fn full_nodes(&self) -> &[u32]
         ensures { result.now ≡ full_nodes (membership self.now).nodes }
     {
@@ -101,28 +101,34 @@ impl Members {
     /// The full node that a node which comes back is filled from. Refused with [`Refusal::BadNode`] where there is no such
     /// node, and [`Refusal::WrongPhase`] where it doesn't come back.
     pub fn donor(&self, node: u32) -> Result<u32, Refusal>
-        ensures fault { (e : Refused) → filling_fault (membership self.now) node ≡ Some e → result ≡ Err e }
+        ensures fault { (e : Refused) → filling_fault (membership self.now) node ≡ Some e →
+            result ≡ Err e }
         ensures ok { IsOk result ↔ (filling_fault (membership self.now) node ≡ None) }
-        ensures donor { IfOk result (λ d. donor_of (standing_of (membership self.now).nodes node) ≡ Some d) }
+        ensures donor { IfOk result (λ d. donor_of (standing_of (membership self.now).nodes node) ≡
+            Some d) }
     {
         Ok(self.returning(node)?.donor)
     }
 
-    /// The inodes that a node which comes back may lack, rising. Refused as [`Members::donor`] is.
+    /// The inodes that a node which comes back may lack, ascending. Refused as [`Members::donor`] is.
     pub fn stale(&self, node: u32) -> Result<&VecDeque<u64>, Refusal>
-        ensures fault { (e : Refused) → filling_fault (membership self.now) node ≡ Some e → result ≡ Err e }
+        ensures fault { (e : Refused) → filling_fault (membership self.now) node ≡ Some e →
+            result ≡ Err e }
         ensures ok { IsOk result ↔ (filling_fault (membership self.now) node ≡ None) }
-        ensures stale { IfOk result (λ s. stale_of (standing_of (membership self.now).nodes node) ≡ Some (set.from_list s.now.items)) }
-        ensures rising { IfOk result (λ s. IsStrictlySortedBy nat_cmp s.now.items) }
+        ensures stale { IfOk result (λ s. stale_of (standing_of (membership self.now).nodes node) ≡
+            Some (set.from_list s.now.items)) }
+        ensures ascending { IfOk result (λ s. IsStrictlySortedBy nat_cmp s.now.items) }
     {
         Ok(self.returning(node)?.stale.inodes())
     }
 
     /// The lowest inode that a node which comes back may lack, if there is one. Refused as [`Members::donor`] is.
     pub fn lowest_stale(&self, node: u32) -> Result<Option<u64>, Refusal>
-        ensures fault { (e : Refused) → filling_fault (membership self.now) node ≡ Some e → result ≡ Err e }
+        ensures fault { (e : Refused) → filling_fault (membership self.now) node ≡ Some e →
+            result ≡ Err e }
         ensures ok { IsOk result ↔ (filling_fault (membership self.now) node ≡ None) }
-        ensures lowest { IfOk result (λ o. IsLowestOf (stale_of (standing_of (membership self.now).nodes node)) o) }
+        ensures lowest { IfOk result (λ o. IsLowestOf
+            (stale_of (standing_of (membership self.now).nodes node)) o) }
     {
         Ok(self.returning(node)?.stale.lowest())
     }
@@ -131,7 +137,8 @@ impl Members {
     /// those that may not have been everywhere when it began. None, where the epoch has no list: each since the first failure
     /// of a node that isn't full has one.
     pub fn written_in(&self, epoch: u64) -> Option<&[u64]>
-        ensures listed { IfSome result (λ inodes. written_in (membership self.now) epoch ≡ Some (set.from_list inodes.now)) }
+        ensures listed { IfSome result (λ inodes. written_in (membership self.now) epoch ≡ Some
+            (set.from_list inodes.now)) }
         ensures once { IfSome result (λ inodes. IsDistinct nat_eq inodes.now) }
         ensures none { IfNone result (written_in (membership self.now) epoch ≡ None) }
     {
@@ -150,12 +157,16 @@ impl Members {
     /// was. The failure of a node that comes back takes no memory.
     pub fn fail(&mut self, node: u32, inodes: &[u64]) -> Result<(), Refusal>
         requires epoch_fits { (membership self.old).epoch + 1 < 2 ^ 64 }
-        ensures fault { (e : Refused) → failure_fault (membership self.old) node ≡ Some e → result ≡ Err e }
-        ensures only_memory { failure_fault (membership self.old) node ≡ None → IsOkUnless result OutOfMemory }
+        ensures fault { (e : Refused) → failure_fault (membership self.old) node ≡ Some e →
+            result ≡ Err e }
+        ensures only_memory { failure_fault (membership self.old) node ≡ None →
+            IsOkUnless result OutOfMemory }
         ensures faultless { OnOk result (failure_fault (membership self.old) node ≡ None) }
-        ensures ok { OnOk result (membership self.new ≡ failed (membership self.old) node (set.from_list inodes.now)) }
+        ensures ok { OnOk result (membership self.new ≡ failed (membership self.old) node
+            (set.from_list inodes.now)) }
         ensures err { OnErr result (membership self.new ≡ membership self.old) }
-        ensures again { is_returning (standing_of (membership self.old).nodes node) ≡ true → IsOk result }
+        ensures again { is_returning (standing_of (membership self.old).nodes node) ≡ true →
+            IsOk result }
     {
         match self.node(node)? {
             Node::Full if self.full.len() == 1 => Err(Refusal::LastNode),
@@ -173,11 +184,14 @@ impl Members {
     /// that were written since its first failure. Refused with [`Refusal::BadNode`] where there is no such node,
     /// [`Refusal::WrongPhase`] where it isn't down, and [`Refusal::OutOfMemory`]; then all is as it was.
     pub fn back(&mut self, node: u32) -> Result<usize, Refusal>
-        ensures fault { (e : Refused) → return_fault (membership self.old) node ≡ Some e → result ≡ Err e }
-        ensures only_memory { return_fault (membership self.old) node ≡ None → IsOkUnless result OutOfMemory }
+        ensures fault { (e : Refused) → return_fault (membership self.old) node ≡ Some e →
+            result ≡ Err e }
+        ensures only_memory { return_fault (membership self.old) node ≡ None →
+            IsOkUnless result OutOfMemory }
         ensures faultless { OnOk result (return_fault (membership self.old) node ≡ None) }
         ensures ok { OnOk result (membership self.new ≡ back (membership self.old) node) }
-        ensures count { IfOk result (λ n. option_map set.len (stale_of (standing_of (membership self.new).nodes node)) ≡ Some n) }
+        ensures count { IfOk result (λ n. option_map set.len
+            (stale_of (standing_of (membership self.new).nodes node)) ≡ Some n) }
         ensures err { OnErr result (membership self.new ≡ membership self.old) }
     {
         let Node::Down(since) = self.node(node)? else {
@@ -200,11 +214,16 @@ impl Members {
     /// A node that comes back has got the lowest inode that it may have lacked, if there was one. Answers how many are left.
     /// Refused as [`Members::donor`] is. It takes no memory.
     pub fn note_copied(&mut self, node: u32) -> Result<usize, Refusal>
-        ensures fault { (e : Refused) → filling_fault (membership self.old) node ≡ Some e → result ≡ Err e }
+        ensures fault { (e : Refused) → filling_fault (membership self.old) node ≡ Some e →
+            result ≡ Err e }
         ensures ok { IsOk result ↔ (filling_fault (membership self.old) node ≡ None) }
-        ensures copied { (inode : ℕ) → IsLowestOf (stale_of (standing_of (membership self.old).nodes node)) (Some inode) → membership self.new ≡ copied (membership self.old) node inode }
-        ensures none { IsLowestOf (stale_of (standing_of (membership self.old).nodes node)) None → membership self.new ≡ membership self.old }
-        ensures count { IfOk result (λ n. option_map set.len (stale_of (standing_of (membership self.new).nodes node)) ≡ Some n) }
+        ensures copied { (inode : ℕ) → IsLowestOf
+            (stale_of (standing_of (membership self.old).nodes node)) (Some inode) →
+            membership self.new ≡ with_copied (membership self.old) node inode }
+        ensures none { IsLowestOf (stale_of (standing_of (membership self.old).nodes node)) None →
+            membership self.new ≡ membership self.old }
+        ensures count { IfOk result (λ n. option_map set.len
+            (stale_of (standing_of (membership self.new).nodes node)) ≡ Some n) }
         ensures err { OnErr result (membership self.new ≡ membership self.old) }
     {
         let _returning = self.returning(node)?;
@@ -216,8 +235,10 @@ impl Members {
     /// back, [`Refusal::Busy`] where it may lack an inode, and [`Refusal::OutOfMemory`]; then all is as it was.
     pub fn join(&mut self, node: u32) -> Result<(), Refusal>
         requires epoch_fits { (membership self.old).epoch + 1 < 2 ^ 64 }
-        ensures fault { (e : Refused) → join_fault (membership self.old) node ≡ Some e → result ≡ Err e }
-        ensures only_memory { join_fault (membership self.old) node ≡ None → IsOkUnless result OutOfMemory }
+        ensures fault { (e : Refused) → join_fault (membership self.old) node ≡ Some e →
+            result ≡ Err e }
+        ensures only_memory { join_fault (membership self.old) node ≡ None →
+            IsOkUnless result OutOfMemory }
         ensures faultless { OnOk result (join_fault (membership self.old) node ≡ None) }
         ensures ok { OnOk result (membership self.new ≡ joined (membership self.old) node) }
         ensures err { OnErr result (membership self.new ≡ membership self.old) }
@@ -275,7 +296,8 @@ impl Members {
     /// filled from it may lack them. It takes no memory, as room was made before.
     pub fn note_reserved(&mut self, node: u32, inodes: &[u64])
         requires room { has_room_for self.old node (length inodes.now) ≡ true }
-        ensures { membership self.new ≡ noted (membership self.old) node (set.from_list inodes.now) }
+        ensures { membership self.new ≡ noted (membership self.old) node
+            (set.from_list inodes.now) }
     {
         insert_last(&mut self.written, inodes);
         note_all(&mut self.nodes, node, inodes);
@@ -284,7 +306,8 @@ impl Members {
     /// Inodes are written at a full node, as [`Members::note_reserved`] says. The one refusal is [`Refusal::OutOfMemory`],
     /// and then all is as it was.
     pub fn note_written(&mut self, node: u32, inodes: &[u64]) -> Result<(), Refusal>
-        ensures ok { OnOk result (membership self.new ≡ noted (membership self.old) node (set.from_list inodes.now)) }
+        ensures ok { OnOk result (membership self.new ≡ noted (membership self.old) node
+            (set.from_list inodes.now)) }
         ensures err { OnErr result (membership self.new ≡ membership self.old) }
         ensures only_memory { IsOkUnless result OutOfMemory }
     {
@@ -295,7 +318,8 @@ impl Members {
 
     /// How a node stands.
     fn node(&self, node: u32) -> Result<&Node, Refusal>
-        ensures ok { IfOk result (λ n. standing_of (membership self.now).nodes node ≡ Some (standing n.now)) }
+        ensures ok { IfOk result (λ n. standing_of (membership self.now).nodes node ≡ Some
+            (standing n.now)) }
         ensures none { OnErr result (standing_of (membership self.now).nodes node ≡ None) }
         ensures only_bad { IsOkUnless result BadNode }
     {
@@ -304,8 +328,10 @@ impl Members {
 
     /// What is known of a node that comes back.
     fn returning(&self, node: u32) -> Result<&Return, Refusal>
-        ensures ok { IfOk result (λ r. standing_of (membership self.now).nodes node ≡ Some (returning r.now.since r.now.donor (stale_inodes r.now.stale))) }
-        ensures fault { (e : Refused) → filling_fault (membership self.now) node ≡ Some e → result ≡ Err e }
+        ensures ok { IfOk result (λ r. standing_of (membership self.now).nodes node ≡ Some
+            (returning r.now.since r.now.donor (stale_inodes r.now.stale))) }
+        ensures fault { (e : Refused) → filling_fault (membership self.now) node ≡ Some e →
+            result ≡ Err e }
         ensures faultless { OnErr result (IsSome (filling_fault (membership self.now) node)) }
     {
         match self.node(node)? {
@@ -326,9 +352,11 @@ impl Members {
 
     /// Of a node that comes back and lacks no inode the node that it was filled from.
     fn may_join(&self, node: u32) -> Result<u32, Refusal>
-        ensures fault { (e : Refused) → join_fault (membership self.now) node ≡ Some e → result ≡ Err e }
+        ensures fault { (e : Refused) → join_fault (membership self.now) node ≡ Some e →
+            result ≡ Err e }
         ensures faultless { IsOk result ↔ (join_fault (membership self.now) node ≡ None) }
-        ensures returning { OnOk result (is_returning (standing_of (membership self.now).nodes node) ≡ true) }
+        ensures returning { OnOk result (is_returning
+            (standing_of (membership self.now).nodes node) ≡ true) }
         ensures donor { IfOk result
             (λ d. donor_of (standing_of (membership self.now).nodes node) ≡ Some d) }
     {
@@ -353,7 +381,8 @@ impl Members {
         requires epoch_fits { (membership self.old).epoch + 1 < 2 ^ 64 }
         requires full { standing_of (membership self.old).nodes node ≡ Some full }
         requires others { 1 < length (full_nodes (membership self.old).nodes) }
-        ensures ok { OnOk result (membership self.new ≡ failed (membership self.old) node (set.from_list inodes.now)) }
+        ensures ok { OnOk result (membership self.new ≡ failed (membership self.old) node
+            (set.from_list inodes.now)) }
         ensures err { OnErr result (membership self.new ≡ membership self.old) }
         ensures only_memory { IsOkUnless result OutOfMemory }
     {

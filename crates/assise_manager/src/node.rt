@@ -57,7 +57,8 @@ impl Node {
     /// Inodes were written at a node. It takes no memory.
     pub(crate) fn note_reserved(&mut self, node: u32, inodes: &[u64])
         requires room { has_node_room node (length inodes.now) self.old ≡ true }
-        ensures { standing self.new ≡ stale_again node (set.from_list inodes.now) (standing self.old) }
+        ensures { standing self.new ≡ stale_again node (set.from_list inodes.now)
+            (standing self.old) }
     {
         if let Node::Returning(returning) = self {
             if returning.donor == node {
@@ -69,8 +70,10 @@ impl Node {
     /// Lets the lowest inode that it may lack go, if there is one, and says how many are left.
     fn drop_lowest(&mut self) -> usize
         requires returning { is_returning (Some (standing self.old)) ≡ true }
-        ensures copied { (inode : ℕ) → IsLowestOf (stale_of (Some (standing self.old))) (Some inode) → standing self.new ≡ without_stale inode (standing self.old) }
-        ensures none { IsLowestOf (stale_of (Some (standing self.old))) None → standing self.new ≡ standing self.old }
+        ensures copied { (inode : ℕ) → IsLowestOf (stale_of (Some (standing self.old)))
+            (Some inode) → standing self.new ≡ without_stale inode (standing self.old) }
+        ensures none { IsLowestOf (stale_of (Some (standing self.old))) None →
+            standing self.new ≡ standing self.old }
         ensures returning { is_returning (Some (standing self.new)) ≡ true }
         ensures count { option_map set.len (stale_of (Some (standing self.new))) ≡ Some result }
     {
@@ -85,7 +88,9 @@ impl Node {
 
     /// What is known of it once a full node failed, if that changes: who was filled from there starts over from another.
     fn started_over(&self, refill: &Refill<'_>) -> Result<Option<Return>, Refusal>
-        ensures over { IfOk result (λ r. standing_or r (standing self.now) ≡ refilled_from (listed_since refill.now.lists.now refill.now.first) refill.now.donor refill.now.failed (standing self.now)) }
+        ensures over { IfOk result (λ r. standing_or r (standing self.now) ≡ refilled_from
+            (listed_since refill.now.lists.now refill.now.first) refill.now.donor refill.now.failed
+            (standing self.now)) }
         ensures only_memory { IsOkUnless result OutOfMemory }
     {
         let Node::Returning(returning) = self else {
@@ -128,7 +133,9 @@ pub(crate) fn written_since(lists: &[WrittenList], first: u64, since: u64) -> &[
 /// Nodes that were filled from a failed one start over from another. Where there is no memory nothing changes.
 pub(crate) fn refill_all(nodes: &mut [Node], refill: &Refill<'_>) -> Result<(), Refusal>
     ensures len { length nodes.new ≡ length nodes.old }
-    ensures ok { OnOk result (map standing nodes.new ≡ map (refilled_from (listed_since refill.now.lists.now refill.now.first) refill.now.donor refill.now.failed) (map standing nodes.old)) }
+    ensures ok { OnOk result (map standing nodes.new ≡ map
+        (refilled_from (listed_since refill.now.lists.now refill.now.first) refill.now.donor
+        refill.now.failed) (map standing nodes.old)) }
     ensures err { OnErr result (map standing nodes.new ≡ map standing nodes.old) }
     ensures only_memory { IsOkUnless result OutOfMemory }
 {
@@ -160,7 +167,8 @@ pub(crate) fn reserve_all(nodes: &mut [Node], node: u32, count: usize) -> Result
 pub(crate) fn note_all(nodes: &mut [Node], node: u32, inodes: &[u64])
     requires room { list_all (has_node_room node (length inodes.now)) nodes.old ≡ true }
     ensures len { length nodes.new ≡ length nodes.old }
-    ensures nodes { map standing nodes.new ≡ map (stale_again node (set.from_list inodes.now)) (map standing nodes.old) }
+    ensures nodes { map standing nodes.new ≡ map (stale_again node (set.from_list inodes.now))
+        (map standing nodes.old) }
 {
     let Some((first, rest)) = nodes.split_first_mut() else {
         return;
@@ -188,7 +196,8 @@ pub(crate) fn list_full(full: &mut Vec<u32>, nodes: &[Node])
 
 /// The node of a number, which counts from 1.
 pub(crate) fn node_at(nodes: &[Node], node: u32) -> Option<&Node>
-    ensures { option_map standing (option_copied result) ≡ standing_of (map standing nodes.now) node }
+    ensures { option_map standing (option_copied result) ≡ standing_of
+        (map standing nodes.now) node }
 {
     nodes.get((node as usize).checked_sub(1)?)
 }
@@ -197,7 +206,8 @@ pub(crate) fn node_at(nodes: &[Node], node: u32) -> Option<&Node>
 pub(crate) fn put(nodes: &mut [Node], node: u32, now: Node)
     requires there { IsSome (standing_of (map standing nodes.old) node) }
     ensures len { length nodes.new ≡ length nodes.old }
-    ensures nodes { map standing nodes.new ≡ with_standing (map standing nodes.old) node (standing now) }
+    ensures nodes { map standing nodes.new ≡ with_standing (map standing nodes.old) node
+        (standing now) }
 {
     nodes[node as usize - 1] = now;
 }
@@ -206,10 +216,14 @@ pub(crate) fn put(nodes: &mut [Node], node: u32, now: Node)
 pub(crate) fn drop_lowest(nodes: &mut [Node], node: u32) -> usize
     requires returning { is_returning (standing_of (map standing nodes.old) node) ≡ true }
     ensures len { length nodes.new ≡ length nodes.old }
-    ensures copied { (inode : ℕ) → IsLowestOf (stale_of (standing_of (map standing nodes.old) node)) (Some inode) → map standing nodes.new ≡ copied_as (map standing nodes.old) node inode (standing_of (map standing nodes.old) node) }
-    ensures none { IsLowestOf (stale_of (standing_of (map standing nodes.old) node)) None → map standing nodes.new ≡ map standing nodes.old }
+    ensures copied { (inode : ℕ) → IsLowestOf (stale_of (standing_of (map standing nodes.old) node))
+        (Some inode) → map standing nodes.new ≡ copied_as (map standing nodes.old) node inode
+        (standing_of (map standing nodes.old) node) }
+    ensures none { IsLowestOf (stale_of (standing_of (map standing nodes.old) node)) None →
+        map standing nodes.new ≡ map standing nodes.old }
     ensures away { full_nodes (map standing nodes.new) ≡ full_nodes (map standing nodes.old) }
-    ensures count { option_map set.len (stale_of (standing_of (map standing nodes.new) node)) ≡ Some result }
+    ensures count { option_map set.len (stale_of (standing_of (map standing nodes.new) node)) ≡
+        Some result }
 {
     nodes[node as usize - 1].drop_lowest()
 }

@@ -3,7 +3,7 @@
 /// How a node stands in the cluster (Assise, OSDI 2020, section 3, on recovery).
 #[derive(Clone, Copy, PartialEq, Eq, Debug)]
 pub enum Phase {
-    /// It takes part in replication, and has all that is acknowledged.
+    /// It takes part in replication, and has all that is replicated.
     Full,
     /// It failed.
     Down,

@@ -8,11 +8,11 @@ use assise_names::refusal::Refusal;
 use std::alloc::{AllocError, Global};
 use std::collections::VecDeque;
 
-/// The inodes that a node may lack, rising. They go from the front, and others come in where room was made before.
+/// The inodes that a node may lack, ascending. They go from the front, and others come in where room was made before.
 #[derive(Drop)]
 pub(crate) struct StaleSet {
     inodes: VecDeque<u64>,
-    ghost rising: { IsStrictlySortedBy nat_cmp inodes.items } by { Prim.hlevel props },
+    ghost ascending: { IsStrictlySortedBy nat_cmp inodes.items } by { Prim.hlevel props },
 }
 
 impl StaleSet {
@@ -26,7 +26,8 @@ impl StaleSet {
 
     /// All inodes of some lists.
     pub(crate) fn of(alloc: Global, lists: &[WrittenList]) -> Result<StaleSet, Refusal>
-        ensures inodes { IfOk result (λ s. stale_inodes s ≡ all_inodes (map listed_inodes lists.now)) }
+        ensures inodes { IfOk result (λ s. stale_inodes s ≡ all_inodes
+            (map listed_inodes lists.now)) }
         ensures only_memory { IsOkUnless result OutOfMemory }
     {
         let mut inodes = Vec::new(alloc);
@@ -39,10 +40,10 @@ impl StaleSet {
         Ok(StaleSet { inodes })
     }
 
-    /// The inodes, rising.
+    /// The inodes, ascending.
     pub(crate) fn inodes(&self) -> &VecDeque<u64>
         ensures inodes { set.from_list result.now.items ≡ stale_inodes self.now }
-        ensures rising { IsStrictlySortedBy nat_cmp result.now.items }
+        ensures ascending { IsStrictlySortedBy nat_cmp result.now.items }
     {
         &self.inodes
     }
@@ -80,7 +81,8 @@ impl StaleSet {
     /// Takes inodes in. It takes no memory.
     pub(crate) fn insert_reserved(&mut self, inodes: &[u64])
         requires room { has_stale_room (length inodes.now) self.old ≡ true }
-        ensures { stale_inodes self.new ≡ set.union (stale_inodes self.old) (set.from_list inodes.now) }
+        ensures { stale_inodes self.new ≡ set.union (stale_inodes self.old)
+            (set.from_list inodes.now) }
     {
         for &inode in inodes {
             self.insert(inode);
@@ -97,8 +99,10 @@ impl StaleSet {
 
     /// Lets the lowest inode go, if there is one.
     pub(crate) fn drop_lowest(&mut self)
-        ensures taken { (inode : ℕ) → IsLowest (stale_inodes self.old) inode → stale_inodes self.new ≡ set.remove (stale_inodes self.old) inode }
-        ensures none { stale_inodes self.old ≡ set.empty → stale_inodes self.new ≡ stale_inodes self.old }
+        ensures taken { (inode : ℕ) → IsLowest (stale_inodes self.old) inode →
+            stale_inodes self.new ≡ set.remove (stale_inodes self.old) inode }
+        ensures none { stale_inodes self.old ≡ set.empty →
+            stale_inodes self.new ≡ stale_inodes self.old }
     {
         let _ = self.inodes.pop_front();
     }

@@ -48,7 +48,8 @@ impl WrittenList {
     /// Takes inodes in. It takes no memory.
     pub(crate) fn insert_reserved(&mut self, inodes: &[u64])
         requires room { has_list_room (length inodes.now) self.old ≡ true }
-        ensures { listed_inodes self.new ≡ set.union (listed_inodes self.old) (set.from_list inodes.now) }
+        ensures { listed_inodes self.new ≡ set.union (listed_inodes self.old)
+            (set.from_list inodes.now) }
     {
         for &inode in inodes {
             let Ok(_) = self.inodes.insert(inode) else {
@@ -82,7 +83,8 @@ pub(crate) fn reserve_last(lists: &mut [WrittenList], count: usize) -> Result<()
 pub(crate) fn insert_last(lists: &mut [WrittenList], inodes: &[u64])
     requires room { has_last_room (length inodes.now) lists.old ≡ true }
     ensures len { length lists.new ≡ length lists.old }
-    ensures lists { map listed_inodes lists.new ≡ with_written (map listed_inodes lists.old) (set.from_list inodes.now) }
+    ensures lists { map listed_inodes lists.new ≡ with_written (map listed_inodes lists.old)
+        (set.from_list inodes.now) }
 {
     if let Some(last) = lists.len().checked_sub(1) {
         lists[last].insert_reserved(inodes);

@@ -1,7 +1,7 @@
 // What is done to members and asked of them, as text.
 use assise_manager::members::Members;
 use assise_names::refusal::Refusal;
-use assise_rows::{Subject, split_word, wrong_rows};
+use assise_test_rows::{Subject, split_word, wrong_rows};
 use std::alloc::{AllocError, Global};
 use std::collections::VecDeque;
 use std::process::Abort;
@@ -178,17 +178,17 @@ fn put_nodes(nodes: &[u32], text: &mut String) -> Result<(), AllocError> {
     Ok(())
 }
 
-/// Appends the inodes of a list, rising, or `none` where there is no list.
+/// Appends the inodes of a list, ascending, or `none` where there is no list.
 fn put_written(alloc: Global, inodes: Option<&[u64]>, text: &mut String) -> Result<(), AllocError> {
     let Some(inodes) = inodes else {
         return write!(text, " none");
     };
-    let mut rising = VecDeque::new(alloc);
+    let mut ascending = VecDeque::new(alloc);
     for inode in inodes {
-        let place = rising.partition_point(|&other| other < *inode);
-        rising.insert(place, *inode)?;
+        let place = ascending.partition_point(|&other| other < *inode);
+        ascending.insert(place, *inode)?;
     }
-    put_inodes(&rising, text)
+    put_inodes(&ascending, text)
 }
 
 /// Appends inodes with points between them, or a line where there are none.

@@ -1,5 +1,5 @@
-pub mod Fronts
+pub mod Prefixes
 pub mod HexDigits
 pub mod PathLemmas
-pub mod Rising
+pub mod AscendingNames
 pub mod Spellings

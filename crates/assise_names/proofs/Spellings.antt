@@ -8,12 +8,12 @@ use Rattle.std.proofs.lemmas.List.Splits.{slice_split_at, slice_split_none, join
 use Rattle.std.specs.List.{slice_split, join_with_byte, list_any}
 use Rattle.std.specs.Str.{is_utf8}
 use Rattle.assise_names.specs.Name.{is_name, is_barred, is_dots, name_of}
-use Rattle.assise_names.specs.Path.{◌>>=◌, IsPath, Spells, spelling, names_of, no_deeper, names_behind, path_of, Gives}
+use Rattle.assise_names.specs.Path.{◌>>=◌, IsPath, SpellsPath, path_spelling, pieces_as_names, no_deeper, names_behind, path_of, GivesPath}
 use Rattle.assise_names.specs.declared.path.PathFault.{PathFault}
 use Rattle.assise_names.specs.declared.path.PathFault.TheVariants.{EmptyName, NameTooLong, BadName, Memory}
 
-abbrev IsLawful : List ℕ → Type 0
-IsLawful name = IsTrue (is_name name)
+abbrev LevelsInvariant : List ℕ → Type 0
+LevelsInvariant name = IsTrue (is_name name)
 
 abbrev is_slash : ℕ → Bool
 is_slash b = b == 47
@@ -26,14 +26,14 @@ record Parts (name : List ℕ) : Type 0 where
   few : nat_lt 255 (length name) ≡ false
   good : (list_any is_barred name || is_dots name) ≡ false
 
-parts_of : (name : List ℕ) → IsLawful name → Parts name
+parts_of : (name : List ℕ) → LevelsInvariant name → Parts name
 parts_of name h =
     let a = and_parts _ _ h in
     let b = and_parts _ _ a.1 in
     let c = and_parts _ _ b.1 in
     record { some = not-true _ b.0; few = le-ltb 255 (length name) (leb-true _ _ c.0); good = not-true _ c.1 }
 
-name_of-lawful : (name : List ℕ) → IsLawful name → name_of name ≡ Ok name
+name_of-lawful : (name : List ℕ) → LevelsInvariant name → name_of name ≡ Ok name
 name_of-lawful name h = let p = parts_of name h in rw (p.some, p.few, p.good)
 
 same_name : (text name : List ℕ) → name_of text ≡ Ok name → name ≡ text
@@ -92,20 +92,20 @@ is_faultless text (Err fault) utf8 h =
 
 -- ---- the names of a path
 
-names_of-lawful : (names : List (List ℕ)) → All IsLawful names → names_of names ≡ Ok names
+names_of-lawful : (names : List (List ℕ)) → All LevelsInvariant names → pieces_as_names names ≡ Ok names
 names_of-lawful [] h = refl
-names_of-lawful (name ∷ names) h = rw (name_of-lawful name (All-head IsLawful name names h), names_of-lawful names (All-tail IsLawful name names h))
+names_of-lawful (name ∷ names) h = rw (name_of-lawful name (All-head LevelsInvariant name names h), names_of-lawful names (All-tail LevelsInvariant name names h))
 
 -- a result that is there came from one that was
 came_from : {A B : Type 0} (r : Result A PathFault) (f : A → Result B PathFault) (y : B) → (r >>= f) ≡ Ok y → (x : A) × ((r ≡ Ok x) × (f x ≡ Ok y))
 came_from (Ok x) f y h = (x, (refl, h))
 came_from (Err e) f y h = cc
 
-same_names : (pieces names : List (List ℕ)) → names_of pieces ≡ Ok names → names ≡ pieces
+same_names : (pieces names : List (List ℕ)) → pieces_as_names pieces ≡ Ok names → names ≡ pieces
 same_names [] names h = cc
 same_names (piece ∷ pieces) names h =
-    let one = came_from (name_of piece) (λ name. names_of pieces >>= λ names. Ok (name ∷ names)) names h in
-    let others = came_from (names_of pieces) (λ names. Ok (one.0 ∷ names)) names one.1.1 in
+    let one = came_from (name_of piece) (λ name. pieces_as_names pieces >>= λ names. Ok (name ∷ names)) names h in
+    let others = came_from (pieces_as_names pieces) (λ names. Ok (one.0 ∷ names)) names one.1.1 in
     let head : one.0 ≡ piece = same_name piece one.0 one.1.0 in
     let tail : others.0 ≡ pieces = same_names pieces others.0 others.1.0 in
     let whole : names ≡ one.0 ∷ others.0 = let e = others.1.1 in cc in
@@ -114,16 +114,16 @@ same_names (piece ∷ pieces) names h =
 -- ---- the spelling, and its pieces
 
 -- a slash before each name is a slash, and then the names with slashes between them
-spelling-join : (name : List ℕ) (names : List (List ℕ)) → spelling (name ∷ names) ≡ 47 ∷ join_with_byte 47 (name ∷ names)
+spelling-join : (name : List ℕ) (names : List (List ℕ)) → path_spelling (name ∷ names) ≡ 47 ∷ join_with_byte 47 (name ∷ names)
 spelling-join name [] = ap (λ t. 47 ∷ t) (append-nil name)
 spelling-join name (next ∷ names) = ap (λ t. 47 ∷ (name ++ t)) (spelling-join next names)
 
-pieces_of-join : (name : List ℕ) (names : List (List ℕ)) → All IsLawful (name ∷ names) → slice_split is_slash (join_with_byte 47 (name ∷ names)) ≡ name ∷ names
+pieces_of-join : (name : List ℕ) (names : List (List ℕ)) → All LevelsInvariant (name ∷ names) → slice_split is_slash (join_with_byte 47 (name ∷ names)) ≡ name ∷ names
 pieces_of-join name [] h =
-    slice_split_none is_slash name (no_slashes name (or_left _ _ (parts_of name (All-head IsLawful name [] h)).good))
+    slice_split_none is_slash name (no_slashes name (or_left _ _ (parts_of name (All-head LevelsInvariant name [] h)).good))
 pieces_of-join name (next ∷ names) h =
-    slice_split_at is_slash name 47 (join_with_byte 47 (next ∷ names)) (no_slashes name (or_left _ _ (parts_of name (All-head IsLawful name (next ∷ names) h)).good)) refl
-    ∙ ap (λ ps. name ∷ ps) (pieces_of-join next names (All-tail IsLawful name (next ∷ names) h))
+    slice_split_at is_slash name 47 (join_with_byte 47 (next ∷ names)) (no_slashes name (or_left _ _ (parts_of name (All-head LevelsInvariant name (next ∷ names) h)).good)) refl
+    ∙ ap (λ ps. name ∷ ps) (pieces_of-join next names (All-tail LevelsInvariant name (next ∷ names) h))
 
 join-some : (name : List ℕ) (names : List (List ℕ)) → (length name == 0) ≡ false → (length (join_with_byte 47 (name ∷ names)) == 0) ≡ false
 join-some [] names h = cc
@@ -132,39 +132,39 @@ join-some (b ∷ bytes) (next ∷ names) h = grind (arith, nat_tests)
 
 -- ---- both directions
 
-names_behind-join : (name : List ℕ) (names : List (List ℕ)) → All IsLawful (name ∷ names) → names_behind (join_with_byte 47 (name ∷ names)) ≡ Ok (name ∷ names)
+names_behind-join : (name : List ℕ) (names : List (List ℕ)) → All LevelsInvariant (name ∷ names) → names_behind (join_with_byte 47 (name ∷ names)) ≡ Ok (name ∷ names)
 names_behind-join name names h =
-    rw (join-some name names (parts_of name (All-head IsLawful name names h)).some, pieces_of-join name names h) (names_of-lawful (name ∷ names) h)
+    rw (join-some name names (parts_of name (All-head LevelsInvariant name names h)).some, pieces_of-join name names h) (names_of-lawful (name ∷ names) h)
 
 not_deep : (names : List (List ℕ)) → length names ≤ 32 → no_deeper names ≡ Ok names
 not_deep names h = rw (le-leb (length names) 32 h)
 
-path_of-spelling : (path : List (List ℕ)) → IsPath path → path_of (spelling path) ≡ Ok path
+path_of-spelling : (path : List (List ℕ)) → IsPath path → path_of (path_spelling path) ≡ Ok path
 path_of-spelling [] h = refl
 path_of-spelling (name ∷ names) h =
     ap path_of (spelling-join name names) ∙ ap (λ r. r >>= no_deeper) (names_behind-join name names h.names) ∙ not_deep (name ∷ names) h.depth
 
 -- a text that spells a path has no fault
-pub complete : (text : List ℕ) (r : Result (List (List ℕ)) PathFault) → Gives r (path_of text) → (path : List (List ℕ)) → Spells text path → IsOkUnless r Memory
+pub complete : (text : List ℕ) (r : Result (List (List ℕ)) PathFault) → GivesPath r (path_of text) → (path : List (List ℕ)) → SpellsPath text path → IsOkUnless r Memory
 complete text (Ok p) h path s = tt
 complete text (Err e) (inl memory) path s = memory
 complete text (Err e) (inr fault) path s = let is : path_of text ≡ Ok path = ap path_of s.spelled ∙ path_of-spelling path s.lawful in cc
 
-behind-some : (b : ℕ) (rest : List ℕ) → names_behind (b ∷ rest) ≡ names_of (slice_split is_slash (b ∷ rest))
+behind-some : (b : ℕ) (rest : List ℕ) → names_behind (b ∷ rest) ≡ pieces_as_names (slice_split is_slash (b ∷ rest))
 behind-some b rest = let some : (length (b ∷ rest) == 0) ≡ false = grind (arith, nat_tests) in rw some
 
 -- the names behind the first slash, joined again
-joined : (rest : List ℕ) (names : List (List ℕ)) → names_behind rest ≡ Ok names → 47 ∷ rest ≡ spelling names
-joined [] names h = let none : names ≡ [] = cc in ap spelling (sym none)
+joined : (rest : List ℕ) (names : List (List ℕ)) → names_behind rest ≡ Ok names → 47 ∷ rest ≡ path_spelling names
+joined [] names h = let none : names ≡ [] = cc in ap path_spelling (sym none)
 joined (b ∷ rest) names h =
     let same : names ≡ slice_split is_slash (b ∷ rest) = same_names (slice_split is_slash (b ∷ rest)) names (sym (behind-some b rest) ∙ h) in
     let whole : join_with_byte 47 names ≡ b ∷ rest = ap (join_with_byte 47) same ∙ join_with_byte-slice_split 47 (b ∷ rest) in
     respelled names (b ∷ rest) whole (λ none. let bad : [] ≡ b ∷ rest = rw none at whole in cc)
   where
-    respelled : (names : List (List ℕ)) (rest : List ℕ) → join_with_byte 47 names ≡ rest → (names ≡ [] → ⊥) → 47 ∷ rest ≡ spelling names
+    respelled : (names : List (List ℕ)) (rest : List ℕ) → join_with_byte 47 names ≡ rest → (names ≡ [] → ⊥) → 47 ∷ rest ≡ path_spelling names
     respelled [] rest e some = absurd (some refl)
     respelled (name ∷ names) rest e some = ap (λ t. 47 ∷ t) (sym e) ∙ sym (spelling-join name names)
 
 -- the text that gave a path is its spelling
-pub spelled : (rest : List ℕ) (names : List (List ℕ)) → names_behind rest ≡ Ok names → All (λ name. IsTrue (is_name name)) names → length names ≤ 32 → Spells (47 ∷ rest) names
+pub spelled : (rest : List ℕ) (names : List (List ℕ)) → names_behind rest ≡ Ok names → All (λ name. IsTrue (is_name name)) names → length names ≤ 32 → SpellsPath (47 ∷ rest) names
 spelled rest names h lawful depth = record { lawful = record { names = lawful; depth = depth }; spelled = joined rest names h }

@@ -15,25 +15,25 @@ pub record IsPath (path : List (List ℕ)) : Type 0 where
   pub depth : length path ≤ 32
 
 -- a slash before each name, and one alone for the root
-abbrev pub spelling : List (List ℕ) → List ℕ
-spelling [] = 47 ∷ []
-spelling (name ∷ names) = flat_map (λ n. 47 ∷ n) (name ∷ names)
+abbrev pub path_spelling : List (List ℕ) → List ℕ
+path_spelling [] = 47 ∷ []
+path_spelling (name ∷ names) = flat_map (λ n. 47 ∷ n) (name ∷ names)
 
 -- the text is the spelling of this path
-pub record Spells (text : List ℕ) (path : List (List ℕ)) : Type 0 where
+pub record SpellsPath (text : List ℕ) (path : List (List ℕ)) : Type 0 where
   pub lawful : IsPath path
-  pub spelled : text ≡ spelling path
+  pub spelled : text ≡ path_spelling path
 
 -- q goes on from p by at least a name
-abbrev pub IsProperFront : List (List ℕ) → List (List ℕ) → Type 0
-IsProperFront p q = (name : List ℕ) × ((rest : List (List ℕ)) × (q ≡ p ++ name ∷ rest))
+abbrev pub IsProperPrefix : List (List ℕ) → List (List ℕ) → Type 0
+IsProperPrefix p q = (name : List ℕ) × ((rest : List (List ℕ)) × (q ≡ p ++ name ∷ rest))
 
 abbrev pub same_path : List (List ℕ) → List (List ℕ) → Bool
 same_path p q = pointwise (pointwise ◌==◌) p q
 
 -- whether q goes on from p
-abbrev pub is_proper_front : List (List ℕ) → List (List ℕ) → Bool
-is_proper_front p q = nat_lt (length p) (length q) && same_path p (take (length p) q)
+abbrev pub is_proper_prefix : List (List ℕ) → List (List ℕ) → Bool
+is_proper_prefix p q = nat_lt (length p) (length q) && same_path p (take (length p) q)
 
 -- ---- the path that a text spells, or its first fault
 
@@ -43,30 +43,30 @@ abbrev pub ◌>>=◌ : {A B : Type 0} → Result A PathFault → (A → Result B
 (Err e) >>= f = Err e
 
 -- each piece as a name, from the left
-abbrev pub names_of : List (List ℕ) → Result (List (List ℕ)) PathFault
-names_of [] = Ok []
-names_of (piece ∷ pieces) = name_of piece >>= λ name. names_of pieces >>= λ names. Ok (name ∷ names)
+abbrev pub pieces_as_names : List (List ℕ) → Result (List (List ℕ)) PathFault
+pieces_as_names [] = Ok []
+pieces_as_names (piece ∷ pieces) = name_of piece >>= λ name. pieces_as_names pieces >>= λ names. Ok (name ∷ names)
 
 abbrev pub no_deeper : List (List ℕ) → Result (List (List ℕ)) PathFault
 no_deeper names = if nat_le (length names) 32 then Ok names else Err TooDeep
 
 -- the names of what stands behind the first slash
 abbrev pub names_behind : List ℕ → Result (List (List ℕ)) PathFault
-names_behind rest = if length rest == 0 then Ok [] else names_of (slice_split (λ b. b == 47) rest)
+names_behind rest = if length rest == 0 then Ok [] else pieces_as_names (slice_split (λ b. b == 47) rest)
 
 abbrev pub path_of : List ℕ → Result (List (List ℕ)) PathFault
 path_of [] = Err NotAbsolute
 path_of (b ∷ rest) = if b == 47 then (names_behind rest >>= no_deeper) else Err NotAbsolute
 
 -- how many names there are, or the first fault
-abbrev pub count_of : Result (List (List ℕ)) PathFault → Result ℕ PathFault
-count_of (Ok names) = Ok (length names)
-count_of (Err fault) = Err fault
+abbrev pub name_count : Result (List (List ℕ)) PathFault → Result ℕ PathFault
+name_count (Ok names) = Ok (length names)
+name_count (Err fault) = Err fault
 
 -- what is wanted was given, or memory ran out
-abbrev pub Gives : {X : Type 0} → Result X PathFault → Result X PathFault → Type 0
-Gives (Ok x) wanted = wanted ≡ Ok x
-Gives (Err e) wanted = (e ≡ Memory) ⊎ (wanted ≡ Err e)
+abbrev pub GivesPath : {X : Type 0} → Result X PathFault → Result X PathFault → Type 0
+GivesPath (Ok x) wanted = wanted ≡ Ok x
+GivesPath (Err e) wanted = (e ≡ Memory) ⊎ (wanted ≡ Err e)
 
 -- the same of a vector of names
 abbrev pub GivesNames : {X : Type 0} → (X → List (List ℕ)) → Result X PathFault → Result (List (List ℕ)) PathFault → Type 0

@@ -2,7 +2,7 @@
 use Rattle.std.specs.Prelude.{ℕ, ◌/◌, ◌%◌, false, List, ◌∷◌, ◌++◌, length, codes}
 use Rattle.std.specs.List.{flat_map}
 use Rattle.std.specs.Fmt.{decimal, digits}
-use Rattle.assise_names.specs.Path.{spelling}
+use Rattle.assise_names.specs.Path.{path_spelling}
 use Rattle.assise_names.specs.declared.call.Op.{Op}
 use Rattle.assise_names.specs.declared.call.Op.TheVariants.{Create, Mkdir, Read, Write, Truncate, Rename, Unlink, Rmdir, List as ListCall, Stat, Fsync, Dsync}
 use Rattle.assise_names.specs.declared.path.PathFault.{PathFault}
@@ -67,15 +67,15 @@ reply_text (Error error) = error_text error
 
 -- a call's name and words, with the count of a write's bytes in place of the bytes
 abbrev pub op_text : Op → List ℕ
-op_text (Create path) = codes "create " ++ spelling path
-op_text (Mkdir path) = codes "mkdir " ++ spelling path
-op_text (Read path offset length) = codes "read " ++ spelling path ++ codes " " ++ decimal offset ++ codes " " ++ decimal length
-op_text (Write path offset bytes) = codes "write " ++ spelling path ++ codes " " ++ decimal offset ++ codes " " ++ decimal (length bytes)
-op_text (Truncate path size) = codes "truncate " ++ spelling path ++ codes " " ++ decimal size
-op_text (Rename from to) = codes "rename " ++ spelling from ++ codes " " ++ spelling to
-op_text (Unlink path) = codes "unlink " ++ spelling path
-op_text (Rmdir path) = codes "rmdir " ++ spelling path
-op_text (ListCall path) = codes "list " ++ spelling path
-op_text (Stat path) = codes "stat " ++ spelling path
+op_text (Create path) = codes "create " ++ path_spelling path
+op_text (Mkdir path) = codes "mkdir " ++ path_spelling path
+op_text (Read path offset length) = codes "read " ++ path_spelling path ++ codes " " ++ decimal offset ++ codes " " ++ decimal length
+op_text (Write path offset bytes) = codes "write " ++ path_spelling path ++ codes " " ++ decimal offset ++ codes " " ++ decimal (length bytes)
+op_text (Truncate path size) = codes "truncate " ++ path_spelling path ++ codes " " ++ decimal size
+op_text (Rename from to) = codes "rename " ++ path_spelling from ++ codes " " ++ path_spelling to
+op_text (Unlink path) = codes "unlink " ++ path_spelling path
+op_text (Rmdir path) = codes "rmdir " ++ path_spelling path
+op_text (ListCall path) = codes "list " ++ path_spelling path
+op_text (Stat path) = codes "stat " ++ path_spelling path
 op_text Fsync = codes "fsync"
 op_text Dsync = codes "dsync"

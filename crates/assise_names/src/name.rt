@@ -7,7 +7,7 @@ ghost use Rattle.std.specs.Cmp.Rules.{comparing};
 ghost use Rattle.std.specs.Cmp.Lexicographic.{slice_cmp, pointwise};
 ghost use Rattle.std.specs.Ordering.{nat_cmp, on, as_partial_cmp};
 ghost use Rattle.assise_names.specs.Name.{is_name, name_of, is_barred};
-ghost use Rattle.assise_names.specs.Path.{Gives};
+ghost use Rattle.assise_names.specs.Path.{GivesPath};
 ghost use Rattle.assise_names.specs.declared.path.PathFault.{PathFault};
 ghost use Rattle.assise_names.specs.declared.refusal.Refusal.TheVariants.{OutOfMemory};
 
@@ -48,7 +48,7 @@ impl Name {
     /// The name that a text is. A text without bytes is [`PathFault::EmptyName`], one of more than 255 bytes
     /// [`PathFault::NameTooLong`], and any other that is no name [`PathFault::BadName`], where memory is wanting too.
     pub fn parse(alloc: Global, text: &str) -> Result<Name, PathFault>
-        ensures first_fault { Gives result (name_of text.now) }
+        ensures first_fault { GivesPath result (name_of text.now) }
         ensures faults { (fault : PathFault) → name_of text.now ≡ Err fault → result ≡ Err fault }
         ensures lawful { IfOk result (λ name. IsTrue (is_name name)) }
     {
@@ -118,7 +118,8 @@ pub(crate) fn copy_names(alloc: Global, names: &[Name]) -> Result<Vec<Name>, Ref
 
 /// What is wrong with a text as a name.
 pub(crate) fn check(text: &str) -> Result<(), PathFault>
-    ensures { MatchResult result (λ _. name_of text.now ≡ Ok text.now) (λ fault. name_of text.now ≡ Err fault) }
+    ensures { MatchResult result (λ _. name_of text.now ≡ Ok text.now)
+        (λ fault. name_of text.now ≡ Err fault) }
 {
     if text.is_empty() {
         return Err(PathFault::EmptyName);

@@ -14,7 +14,7 @@ use std::alloc::Global;
 use std::collections::BTreeMap;
 use std::marker::Model;
 
-/// Names that a call lists, rising strictly by their bytes. A contract sees the list of them, and nothing of where
+/// Names that a call lists, ascending strictly by their bytes. A contract sees the list of them, and nothing of where
 /// they lie.
 #[derive(Debug, Drop)]
 pub struct NameList {
@@ -36,8 +36,8 @@ impl Model for NameList {
 }
 
 impl NameList {
-    /// Whether names rise strictly by their bytes, as those of a list do.
-    pub fn rise(names: &[Name]) -> bool
+    /// Whether names ascend strictly by their bytes, as those of a list do.
+    pub fn ascend(names: &[Name]) -> bool
         ensures { IsTrue result ↔ IsStrictlySortedBy (slice_cmp nat_cmp) names.now }
     {
         for i in 1..names.len() {
@@ -56,10 +56,10 @@ impl NameList {
         NameList { names }
     }
 
-    /// The keys of an ordered map, which rise by their bytes. The one refusal is [`Refusal::OutOfMemory`].
+    /// The keys of an ordered map, which ascend by their bytes. The one refusal is [`Refusal::OutOfMemory`].
     pub fn of_keys<V: Drop>(alloc: Global, map: &BTreeMap<Name, V>) -> Result<NameList, Refusal>
         ensures keys { IfOk result (λ names. names ≡ keys_of map.now.entries) }
-        ensures rising { IfOk result (λ names. IsStrictlySortedBy (slice_cmp nat_cmp) names) }
+        ensures ascending { IfOk result (λ names. IsStrictlySortedBy (slice_cmp nat_cmp) names) }
         ensures only_memory { IsOkUnless result OutOfMemory }
     {
         let mut names = Vec::with_capacity(alloc, map.len())?;
@@ -72,7 +72,7 @@ impl NameList {
     /// The names as a slice.
     pub fn as_slice(&self) -> &[Name]
         ensures names { result.now ≡ self.now }
-        ensures rising { IsStrictlySortedBy (slice_cmp nat_cmp) self.now }
+        ensures ascending { IsStrictlySortedBy (slice_cmp nat_cmp) self.now }
     {
         self.names.as_slice()
     }

@@ -5,7 +5,7 @@ ghost use Rattle.std.specs.Cmp.Rules.{comparing};
 ghost use Rattle.std.specs.Cmp.Lexicographic.{pointwise};
 ghost use Rattle.std.specs.Ordering.{on};
 ghost use Rattle.assise_names.specs.Name.{is_name};
-ghost use Rattle.assise_names.specs.Path.{Gives, GivesNames, IsProperFront, Spells, count_of, is_proper_front, no_deeper, path_of, names_behind, spelling};
+ghost use Rattle.assise_names.specs.Path.{GivesPath, GivesNames, IsProperPrefix, SpellsPath, name_count, is_proper_prefix, no_deeper, path_of, names_behind, path_spelling};
 ghost use Rattle.assise_names.specs.Text.{path_fault_text};
 ghost use Rattle.assise_names.specs.declared.path.PathFault.{PathFault};
 ghost use Rattle.assise_names.specs.declared.refusal.Refusal.TheVariants.{OutOfMemory};
@@ -103,12 +103,13 @@ impl Path {
     /// [`PathFault::TooDeep`]. A text with a fault is answered by it where memory is wanting too, and the root takes
     /// no memory.
     pub fn parse(alloc: Global, text: &str) -> Result<Path, PathFault>
-        ensures first_fault { Gives result (path_of text.now) }
+        ensures first_fault { GivesPath result (path_of text.now) }
         ensures faults { (fault : PathFault) → path_of text.now ≡ Err fault → result ≡ Err fault }
         ensures memory { result ≡ Err PathFault.Memory → IsOk (path_of text.now) }
-        ensures root { text.now ≡ spelling [] → IsOk result }
-        ensures spelled { IfOk result (Spells text.now) }
-        ensures complete { (path : List (List ℕ)) → Spells text.now path → IsOkUnless result PathFault.Memory }
+        ensures root { text.now ≡ path_spelling [] → IsOk result }
+        ensures spelled { IfOk result (SpellsPath text.now) }
+        ensures complete { (path : List (List ℕ)) → SpellsPath text.now path →
+            IsOkUnless result PathFault.Memory }
     {
         path_of(alloc, text)
     }
@@ -137,8 +138,8 @@ impl Path {
 
     /// Whether the other path goes on from this one by at least a name.
     pub fn is_front_of(&self, other: &Path) -> bool
-        ensures exact { result ≡ is_proper_front self.now other.now }
-        ensures front { IsTrue result ↔ IsProperFront self.now other.now }
+        ensures exact { result ≡ is_proper_prefix self.now other.now }
+        ensures prefix { IsTrue result ↔ IsProperPrefix self.now other.now }
     {
         self.names.len() < other.names.len()
             && other.names.as_slice().starts_with(self.names.as_slice())
@@ -171,11 +172,11 @@ impl Eq for Path {
 
 /// The path that a text spells, or its first fault. Where memory is refused, the text is looked through for a fault first.
 fn path_of(alloc: Global, text: &str) -> Result<Path, PathFault>
-    ensures first_fault { Gives result (path_of text.now) }
+    ensures first_fault { GivesPath result (path_of text.now) }
     ensures faults { (fault : PathFault) → path_of text.now ≡ Err fault → result ≡ Err fault }
     ensures memory { result ≡ Err PathFault.Memory → IsOk (path_of text.now) }
-    ensures root { text.now ≡ spelling [] → IsOk result }
-    ensures spelled { IfOk result (Spells text.now) }
+    ensures root { text.now ≡ path_spelling [] → IsOk result }
+    ensures spelled { IfOk result (SpellsPath text.now) }
 {
     let Some(rest) = text.strip_prefix('/') else {
         return Err(PathFault::NotAbsolute);
@@ -192,7 +193,8 @@ fn path_of(alloc: Global, text: &str) -> Result<Path, PathFault>
 
 /// The path of these names, unless they are too many.
 fn path_of_names(names: Vec<Name>) -> Result<Path, PathFault>
-    ensures { MatchResult result (λ path. (path ≡ names.items) × (no_deeper names.items ≡ Ok names.items)) (λ fault. no_deeper names.items ≡ Err fault) }
+    ensures { MatchResult result (λ path. (path ≡ names.items) ×
+        (no_deeper names.items ≡ Ok names.items)) (λ fault. no_deeper names.items ≡ Err fault) }
 {
     if names.len() > MOST_NAMES {
         return Err(PathFault::TooDeep);
@@ -202,7 +204,7 @@ fn path_of_names(names: Vec<Name>) -> Result<Path, PathFault>
 
 /// How many names stand between slashes, or the first fault of one. There is none where there is no text.
 fn count_names(text: &str) -> Result<usize, PathFault>
-    ensures { result ≡ count_of (names_behind text.now) }
+    ensures { result ≡ name_count (names_behind text.now) }
 {
     if text.is_empty() {
         return Ok(0);
@@ -238,7 +240,7 @@ fn names_of(alloc: Global, text: &str) -> Result<Vec<Name>, PathFault>
 }
 
 impl Display for Path {
-    ghost output = { λ path. Some (spelling path) };
+    ghost output = { λ path. Some (path_spelling path) };
 
     fn fmt<W: fmt::Write>(&self, f: &mut Formatter<W>) -> fmt::Result {
         let names = self.names();

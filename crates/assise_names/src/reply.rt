@@ -61,7 +61,7 @@ pub enum Reply {
     Done,
     /// The bytes that were read.
     Bytes(ByteString),
-    /// The names of a directory's entries, rising by their bytes.
+    /// The names of a directory's entries, ascending by their bytes.
     Names(NameList),
     /// A file, with its size in bytes.
     File(u64),

@@ -9,11 +9,11 @@ use std::process::Abort;
 pub(crate) fn repeated(
     alloc: Global,
     rt: &impl Abort,
-    front: &str,
+    prefix: &str,
     piece: &str,
     count: usize,
 ) -> String {
-    let mut text = String::from_str(alloc, front).expect(rt, "no memory");
+    let mut text = String::from_str(alloc, prefix).expect(rt, "no memory");
     for _ in 0..count {
         text.push_str(piece).expect(rt, "no memory");
     }
@@ -96,8 +96,8 @@ static LONG: [(&str, &str, usize, &str); 3] = [
 
 #[test]
 fn the_first_fault_of_a_long_text_is_named(rt: HostRuntime) {
-    for (front, piece, count, fault) in LONG {
-        let text = repeated(rt.alloc(), &rt, front, piece, count);
+    for (prefix, piece, count, fault) in LONG {
+        let text = repeated(rt.alloc(), &rt, prefix, piece, count);
         says(rt.alloc(), &rt, text.as_str(), fault);
     }
 }
@@ -107,8 +107,8 @@ fn path(alloc: Global, rt: &impl Abort, text: &str) -> Path {
     Path::parse(alloc, text).ok().expect(rt, "no path")
 }
 
-/// Paths, and whether the one is a proper front of the other.
-static FRONTS: [(&str, &str, bool); 7] = [
+/// Paths, and whether the one is a proper prefix of the other.
+static PREFIXES: [(&str, &str, bool); 7] = [
     ("/", "/a", true),
     ("/", "/", false),
     ("/a", "/a", false),
@@ -119,16 +119,16 @@ static FRONTS: [(&str, &str, bool); 7] = [
 ];
 
 #[test]
-fn a_front_is_proper(rt: HostRuntime) {
-    for (front, text, yes) in FRONTS {
-        let path_of_front = path(rt.alloc(), &rt, front);
+fn a_prefix_is_proper(rt: HostRuntime) {
+    for (prefix, text, yes) in PREFIXES {
+        let path_of_prefix = path(rt.alloc(), &rt, prefix);
         let other = path(rt.alloc(), &rt, text);
         assert_eq!(rt;
-            path_of_front.is_front_of(&other),
+            path_of_prefix.is_front_of(&other),
             yes,
-            "{front} and {text}"
+            "{prefix} and {text}"
         );
-        assert!(rt; !yes || path_of_front != other, "{front} is {text}");
+        assert!(rt; !yes || path_of_prefix != other, "{prefix} is {text}");
     }
 }
 
@@ -142,7 +142,7 @@ fn names_of(alloc: Global, rt: &impl Abort, text: &str) -> Vec<Name> {
     names
 }
 
-/// Names, and whether they rise.
+/// Names, and whether they ascend.
 static NAMES: [(&str, bool); 7] = [
     ("a", true),
     ("a a", false),
@@ -154,12 +154,12 @@ static NAMES: [(&str, bool); 7] = [
 ];
 
 #[test]
-fn names_rise_by_their_bytes(rt: HostRuntime) {
-    for (text, rise) in NAMES {
+fn names_ascend_by_their_bytes(rt: HostRuntime) {
+    for (text, ascend) in NAMES {
         let names = names_of(rt.alloc(), &rt, text);
-        assert_eq!(rt; NameList::rise(names.as_slice()), rise, "{text}");
+        assert_eq!(rt; NameList::ascend(names.as_slice()), ascend, "{text}");
     }
-    assert!(rt; NameList::rise(&[]));
+    assert!(rt; NameList::ascend(&[]));
 }
 
 #[test]

@@ -89,7 +89,7 @@ fn names(alloc: Global, rt: &impl Abort, text: &str) -> Reply {
         let name = Name::parse(alloc, piece).ok().expect(rt, "no name");
         names.push(name).expect(rt, "no memory");
     }
-    assert!(rt; NameList::rise(names.as_slice()), "the names don't rise");
+    assert!(rt; NameList::ascend(names.as_slice()), "the names don't rise");
     Reply::Names(NameList::from_vec(names))
 }
 
@@ -185,22 +185,22 @@ fn refusals_are_printed_by_number_and_name(rt: HostRuntime) {
 }
 
 /// So many bytes 0x5a are printed so.
-fn prints_digits(alloc: Global, rt: &impl Abort, count: usize, front: &str) {
+fn prints_digits(alloc: Global, rt: &impl Abort, count: usize, prefix: &str) {
     let mut text = String::new(alloc);
     add_line(alloc, rt, &mut text, &bytes(alloc, rt, 0x5a, count));
-    let wanted = repeated(alloc, rt, front, "5a", count);
+    let wanted = repeated(alloc, rt, prefix, "5a", count);
     assert!(rt; text.trim_end() == wanted.as_str(), "{count} bytes");
 }
 
 #[test]
 fn many_bytes_are_printed(rt: HostRuntime) {
-    for (count, front) in [
+    for (count, prefix) in [
         (255, "bytes 255 x"),
         (256, "bytes 256 x"),
         (257, "bytes 257 x"),
         (65_536, "bytes 65536 x"),
     ] {
-        prints_digits(rt.alloc(), &rt, count, front);
+        prints_digits(rt.alloc(), &rt, count, prefix);
     }
 }
 

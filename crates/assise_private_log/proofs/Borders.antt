@@ -8,7 +8,7 @@ use Rattle.circular_buffer.specs.Buffer.{Buffer, buffer, keep_last}
 use Rattle.assise_record.specs.LogRecord.{LogRecord}
 use Rattle.assise_private_log.specs.Borders.{IsNextBorder, IsWholeCount, group_end, whole_count}
 use Rattle.assise_private_log.specs.Touches.{Covers}
-use Rattle.assise_private_log.specs.NumberedLog.{HasOpenGroup, IsNumberedLog, NumberedLog, end, is_border, with_grouped, without_front, without_tail}
+use Rattle.assise_private_log.specs.NumberedLog.{HasOpenGroup, IsNumberedLog, NumberedLog, end, is_border, with_grouped, without_prefix, without_tail}
 
 -- ---- where they lie
 
@@ -57,17 +57,17 @@ border_grouped l r begins k marks same =
 
 -- ---- without those in front, or behind
 
-pub border_front : (l : NumberedLog) (to k : ℕ) → l.first ≤ to → is_border l k ≡ true → is_border (without_front l to) k ≡ true
-border_front l to k from_first is =
+pub border_prefix : (l : NumberedLog) (to k : ℕ) → l.first ≤ to → is_border l k ≡ true → is_border (without_prefix l to) k ≡ true
+border_prefix l to k from_first is =
     elim (cases_lt to k) [
       | inl later ↦
           let place : (to - l.first) + (k - to) ≡ k - l.first = omega arith in
-          border_marked (without_front l to) k later
+          border_marked (without_prefix l to) k later
           ∙ get_or-drop (to - l.first) l.begins (k - to) true
           ∙ ap (λ i. get_or l.begins i true) place
           ∙ sym (border_marked l k (omega arith))
           ∙ is
-      | inr low ↦ border_first (without_front l to) k low
+      | inr low ↦ border_first (without_prefix l to) k low
     ]
 
 taken : (ms : List Bool) (n i : ℕ) → get_or ms i true ≡ true → get_or (take n ms) i true ≡ true
@@ -127,14 +127,14 @@ lawful_grouped l r begins law room_in_group fits room = record {
   groups = near_grouped l r begins law.marks room_in_group law.groups;
 }
 
-pub lawful_front : (l : NumberedLog) (to : ℕ) → IsNumberedLog l → l.first ≤ to → to ≤ end l → IsNumberedLog (without_front l to)
-lawful_front l to law from_first to_end = record {
+pub lawful_prefix : (l : NumberedLog) (to : ℕ) → IsNumberedLog l → l.first ≤ to → to ≤ end l → IsNumberedLog (without_prefix l to)
+lawful_prefix l to law from_first to_end = record {
   numbers = omega (arith, law.numbers, length-drop (to - l.first) l.records);
   room = omega (arith, law.room, length-drop (to - l.first) l.records);
   least = law.least;
   most = law.most;
   marks = omega (arith, law.marks, length-drop (to - l.first) l.records, length-drop (to - l.first) l.begins);
-  groups = near_kept l (without_front l to) (λ k. border_front l to k from_first) law.groups;
+  groups = near_kept l (without_prefix l to) (λ k. border_prefix l to k from_first) law.groups;
 }
 
 pub lawful_tail : (l : NumberedLog) (from : ℕ) → IsNumberedLog l → IsNumberedLog (without_tail l from)
@@ -331,12 +331,12 @@ rings_grouped first records begins r b records' begins' law room_in_group fits r
     (subst (λ a. IsNumberedLog (of_rings first (buffer (records.items ++ r ∷ []) records.capacity) a) × (a.capacity ≡ records.capacity)) (sym marked)
     (lawful_grouped (of_rings first records begins) r b law.0 room_in_group fits room, law.1))
 
-pub rings_front : (first to kept : ℕ) (records : Buffer LogRecord) (begins : Buffer Bool) (records' : Buffer LogRecord) (begins' : Buffer Bool)
+pub rings_prefix : (first to kept : ℕ) (records : Buffer LogRecord) (begins : Buffer Bool) (records' : Buffer LogRecord) (begins' : Buffer Bool)
     → IsNumberedLog (of_rings first records begins) × (begins.capacity ≡ records.capacity) → first ≤ to → to ≤ first + length records.items
     → kept ≡ length records.items - (to - first)
     → records' ≡ buffer (keep_last kept records.items) records.capacity → begins' ≡ buffer (keep_last kept begins.items) begins.capacity
     → IsNumberedLog (of_rings to records' begins') × (begins'.capacity ≡ records'.capacity)
-rings_front first to kept records begins records' begins' law from_first to_end keeps less marked =
+rings_prefix first to kept records begins records' begins' law from_first to_end keeps less marked =
     let l : NumberedLog = of_rings first records begins in
     let gone : length records.items - kept ≡ to - first = omega arith in
     let unmarked : length begins.items - kept ≡ to - first = omega (arith, law.0.marks) in
@@ -344,7 +344,7 @@ rings_front first to kept records begins records' begins' law from_first to_end 
     let marks : begins' ≡ buffer (drop (to - first) begins.items) begins.capacity = marked ∙ ap (λ n. buffer (drop n begins.items) begins.capacity) unmarked in
     subst (λ a. IsNumberedLog (of_rings to a begins') × (begins'.capacity ≡ a.capacity)) (sym fewer)
     (subst (λ a. IsNumberedLog (of_rings to (buffer (drop (to - first) records.items) records.capacity) a) × (a.capacity ≡ records.capacity)) (sym marks)
-    (lawful_front l to law.0 from_first to_end, law.1))
+    (lawful_prefix l to law.0 from_first to_end, law.1))
 
 pub rings_tail : (first from kept : ℕ) (records : Buffer LogRecord) (begins : Buffer Bool) (records' : Buffer LogRecord) (begins' : Buffer Bool)
     → IsNumberedLog (of_rings first records begins) × (begins.capacity ≡ records.capacity) → kept ≡ from - first

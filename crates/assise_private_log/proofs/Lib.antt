@@ -1,4 +1,4 @@
 pub mod Borders
 pub mod LogGroups
-mod Fronts
-mod Touching
+mod Prefixes
+mod TouchedNumbers

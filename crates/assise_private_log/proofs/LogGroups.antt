@@ -8,8 +8,8 @@ use Rattle.assise_record.specs.Coalesced.{overridden, overrides}
 use Rattle.assise_record.specs.Groups.{AllHaveEffects, all_coalesced, all_marks, all_records, are_whole, begun_by, coalesced_group, groups_of, left_in, left_of, marks_of}
 use Rattle.assise_record.specs.LogRecord.{LogRecord}
 use Rattle.assise_record.specs.Records.{all_effects, call_of, record_of}
-use Rattle.assise_record.proofs.Grouping.{group-shorter}
-use Rattle.assise_record.proofs.Marking.{all-coalesced, groups-are, groups-steps, marked}
+use Rattle.assise_record.proofs.GroupRest.{group-shorter}
+use Rattle.assise_record.proofs.GroupMarks.{all-coalesced, groups-are, groups-steps, marked}
 use Rattle.assise_record.proofs.WholeGroups.{whole_none}
 use Rattle.assise_private_log.specs.Groups.{groups_from, regrouped, with_group, with_groups, with_left}
 use Rattle.assise_private_log.specs.NumberedLog.{HasOpenGroup, IsNumberedLog, NumberedLog, end, is_border, records_from, with_grouped, without_tail}
@@ -110,13 +110,13 @@ drop_less (suc n) (x ∷ xs) =
     ap (λ k. drop k (x ∷ xs)) less ∙ drop_less n xs
 
 -- a loop over the groups goes on
-pub groups_more : (done : List (List LogRecord)) (rest front behind : List LogRecord) (g : List LogRecord) (n : ℕ) → 0 < length rest → n ≡ min (length rest) 64 → front ≡ take n rest → behind ≡ drop n rest → g ≡ coalesced_group front
+pub groups_more : (done : List (List LogRecord)) (rest prefix behind : List LogRecord) (g : List LogRecord) (n : ℕ) → 0 < length rest → n ≡ min (length rest) 64 → prefix ≡ take n rest → behind ≡ drop n rest → g ≡ coalesced_group prefix
     → (done ++ g ∷ []) ++ map coalesced_group (groups_of (length behind) behind) ≡ done ++ map coalesced_group (groups_of (length rest) rest)
-groups_more done rest front behind g n some count is_front is_behind is =
-    let fronts : front ≡ take 64 rest = is_front ∙ ap (λ k. take k rest) count ∙ take_less 64 rest in
+groups_more done rest prefix behind g n some count is_prefix is_behind is =
+    let prefixes : prefix ≡ take 64 rest = is_prefix ∙ ap (λ k. take k rest) count ∙ take_less 64 rest in
     let others : behind ≡ drop 64 rest = is_behind ∙ ap (λ k. drop k rest) count ∙ drop_less 64 rest in
     append_assoc done (g ∷ []) (map coalesced_group (groups_of (length behind) behind))
-    ∙ ap (λ h. done ++ h ∷ map coalesced_group (groups_of (length behind) behind)) (is ∙ ap coalesced_group fronts)
+    ∙ ap (λ h. done ++ h ∷ map coalesced_group (groups_of (length behind) behind)) (is ∙ ap coalesced_group prefixes)
     ∙ ap (λ b. done ++ coalesced_group (take 64 rest) ∷ map coalesced_group (groups_of (length b) b)) others
     ∙ ap (λ gs. done ++ map coalesced_group gs) (sym (first_group rest some))
 
@@ -185,8 +185,8 @@ total_less zero rs = omega arith
 total_less (suc n) [] = omega arith
 total_less (suc n) (r ∷ rs) =
     let rest = total_less n (drop 64 (r ∷ rs)) in
-    let front = group-shorter (take 64 (r ∷ rs)) in
-    omega (arith, rest, front, length-take 64 (r ∷ rs), length-drop 64 (r ∷ rs))
+    let prefix = group-shorter (take 64 (r ∷ rs)) in
+    omega (arith, rest, prefix, length-take 64 (r ∷ rs), length-drop 64 (r ∷ rs))
 
 -- there is room for the next
 pub room_for_group : (l now : NumberedLog) (from : ℕ) (done rest : List (List LogRecord)) (g : List LogRecord) → IsNumberedLog l → now ≡ with_groups (without_tail l from) done → done ++ g ∷ rest ≡ groups_from l from
@@ -195,9 +195,9 @@ room_for_group l now from done rest g law is all =
     let same : HasMore (without_tail l from) now (total done) = subst (λ m. HasMore (without_tail l from) m (total done)) (sym is) (with_groups_more (without_tail l from) done) in
     let whole : total done + (length g + total rest) ≡ total (groups_from l from) = sym (total-append done (g ∷ rest)) ∙ ap total all in
     let less = total_less (length (records_from l from)) (records_from l from) in
-    let front = length-take (from - l.first) l.records in
+    let prefix = length-take (from - l.first) l.records in
     let tail = length-drop (from - l.first) l.records in
-    let fits : length now.records + length g ≤ length l.records = omega (arith, same.count, whole, less, front, tail) in
+    let fits : length now.records + length g ≤ length l.records = omega (arith, same.count, whole, less, prefix, tail) in
     (omega (arith, law.numbers, same.first), omega (arith, law.room, same.limit))
 
 -- ---- loops that take groups in
@@ -260,13 +260,13 @@ regrouped_shorter l from =
 -- before them the marks are as they were
 pub regrouped_before : (l : NumberedLog) (from number : ℕ) → IsNumberedLog l → from ≤ end l → number < from → is_border (regrouped l from) number ≡ is_border l number
 regrouped_before l from number law last before =
-    let front : List Bool = take (from - l.first) l.begins in
-    let kept : length front ≡ from - l.first = omega (arith, law.marks, length-take (from - l.first) l.begins) in
+    let prefix : List Bool = take (from - l.first) l.begins in
+    let kept : length prefix ≡ from - l.first = omega (arith, law.marks, length-take (from - l.first) l.begins) in
     ap (λ m. is_border m number) (regrouped_all l from)
     ∙ elim (cases_lt l.first number) [
       | inl high ↦
           border_marked (with_all (without_tail l from) (groups_from l from)) number high
-          ∙ get_or_append_left front (all_marks (groups_from l from)) true (number - l.first) (omega arith)
+          ∙ get_or_append_left prefix (all_marks (groups_from l from)) true (number - l.first) (omega arith)
           ∙ get_or-take (from - l.first) l.begins (number - l.first) true (omega arith)
           ∙ sym (border_marked l number high)
       | inr low ↦ border_first (with_all (without_tail l from) (groups_from l from)) number low ∙ sym (border_first l number low)
@@ -292,9 +292,9 @@ regrouped_among l from n k law low last some enough within =
     elim (cases_lt l.first (from + k)) [
       | inl high ↦
           let first : (regrouped l from).first ≡ l.first = ap (λ m. m.first) (regrouped_all l from) in
-          let front : length (take (from - l.first) l.records) ≡ from - l.first = omega (arith, length-take (from - l.first) l.records) in
+          let prefix : length (take (from - l.first) l.records) ≡ from - l.first = omega (arith, length-take (from - l.first) l.records) in
           let all = length-append (take (from - l.first) l.records) (all_coalesced gs) in
-          let short : k ≤ length (all_coalesced gs) = omega (arith, within, first, front, all, ap length (regrouped_records l from n enough)) in
+          let short : k ≤ length (all_coalesced gs) = omega (arith, within, first, prefix, all, ap length (regrouped_records l from n enough)) in
           border_among l from k law high low last
           ∙ ap (λ hs. get_or (all_marks (map coalesced_group hs)) k true) (cut_same l from n enough)
           ∙ marked gs k (groups-are n (records_from l from) some) short
@@ -307,10 +307,10 @@ regrouped_among l from n k law low last some enough within =
 -- ---- each record has effects
 
 effects_both : (n : ℕ) (rs : List LogRecord) → AllHaveEffects (take n rs) → AllHaveEffects (drop n rs) → AllHaveEffects rs
-effects_both zero rs front behind = behind
-effects_both (suc n) [] front behind = tt
-effects_both (suc n) (r ∷ rs) front behind = (front.0, effects_both n rs front.1 behind)
+effects_both zero rs prefix behind = behind
+effects_both (suc n) [] prefix behind = tt
+effects_both (suc n) (r ∷ rs) prefix behind = (prefix.0, effects_both n rs prefix.1 behind)
 
 -- a group and what lies behind it
 pub effects_more : (rest group behind : List LogRecord) (n : ℕ) → group ≡ take n rest → behind ≡ drop n rest → AllHaveEffects group → AllHaveEffects behind → AllHaveEffects rest
-effects_more rest group behind n front back here there = effects_both n rest (subst AllHaveEffects front here) (subst AllHaveEffects back there)
+effects_more rest group behind n prefix back here there = effects_both n rest (subst AllHaveEffects prefix here) (subst AllHaveEffects back there)

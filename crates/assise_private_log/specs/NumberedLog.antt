@@ -1,5 +1,5 @@
 -- A log of updates: the records of one client, numbered without a gap from a first number on, at most as many as a limit.
--- Assise (OSDI 2020), section 3: a client's update log, which is appended to at its end and cut from its front as it is
+-- Assise (OSDI 2020), section 3: a client's update log, which is appended to at its end and cut from its prefix as it is
 -- digested, and whose records are replicated and digested in groups (CC-NVM); Strata (SOSP 2017), section 3.
 use Rattle.std.specs.Prelude.{◌≡◌, ℕ, ◌+◌, ◌-◌, ◌^◌, ◌<◌, ◌≤◌, nat_lt, nat_le, max, min, Bool, true, ◌||◌, if◌then◌else◌, List, [], ◌∷◌, ◌++◌, length, take, drop, Option, None}
 use Rattle.std.specs.List.{slice_get, slice_index_or}
@@ -54,8 +54,8 @@ abbrev pub records_from : NumberedLog → ℕ → List LogRecord
 records_from l from = drop (from - l.first) l.records
 
 -- without the records below a number of the log, which is the first number then
-abbrev pub without_front : NumberedLog → ℕ → NumberedLog
-without_front l to = record { first = to; limit = l.limit; records = records_from l to; begins = drop (to - l.first) l.begins }
+abbrev pub without_prefix : NumberedLog → ℕ → NumberedLog
+without_prefix l to = record { first = to; limit = l.limit; records = records_from l to; begins = drop (to - l.first) l.begins }
 
 -- the number of the log that is the nearest to a number: itself, the first, or that behind the last record
 abbrev pub nearest : NumberedLog → ℕ → ℕ

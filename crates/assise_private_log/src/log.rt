@@ -5,7 +5,7 @@ ghost use Rattle.assise_names.specs.declared.refusal.Refusal.TheVariants.{LogFul
 ghost use Rattle.assise_record.specs.Groups.{AllHaveEffects};
 ghost use Rattle.assise_private_log.specs.Borders.{group_end, whole_count};
 ghost use Rattle.assise_private_log.specs.Groups.{groups_from, regrouped, with_group};
-ghost use Rattle.assise_private_log.specs.NumberedLog.{HasOpenGroup, IsNumberedLog, empty_log, end, is_border, nearest, record_at, records_from, with_grouped, with_record, without_front, without_tail};
+ghost use Rattle.assise_private_log.specs.NumberedLog.{HasOpenGroup, IsNumberedLog, empty_log, end, is_border, nearest, record_at, records_from, with_grouped, with_record, without_prefix, without_tail};
 ghost use Rattle.assise_private_log.specs.Touches.{UntouchedFrom, touches_after};
 
 use crate::group::{Group, MOST_GROUPED};
@@ -128,7 +128,7 @@ impl Log {
     }
 
     /// Whether a record of this number or a greater one touches an inode.
-    #[tactic(auto, using(crate::proofs::Touching::untouched_exactly))]
+    #[tactic(auto, using(crate::proofs::TouchedNumbers::untouched_exactly))]
     pub fn touches_after(&self, inode: u64, from: u64) -> bool
         ensures exact { result ≡ touches_after self.now inode from }
         ensures untouched { (result ≡ false) ↔ UntouchedFrom self.now inode from }
@@ -198,7 +198,7 @@ impl Log {
     /// Lets the records below a number go: none, where it lies before the first, and all, where it lies behind the last. The
     /// number is the first one then, or as near to it as a number of the log is. What is left of a group is one.
     pub fn drop_front(&mut self, to: u64)
-        ensures { self.new ≡ without_front self.old (nearest self.old to) }
+        ensures { self.new ≡ without_prefix self.old (nearest self.old to) }
     {
         let to = to.clamp(self.first(), self.end());
         let dropped = (to - self.view.first) as usize;

@@ -110,7 +110,8 @@ impl LogView {
     /// and no further than to that record.
     pub fn last_touch(&self, inode: u64) -> Option<u64>
         ensures last { IsLastTouch self.now inode result }
-        ensures within { IfSome result (λ number. (self.now.first ≤ number) × (number < end self.now)) }
+        ensures within { IfSome result (λ number. (self.now.first ≤ number) ×
+            (number < end self.now)) }
     {
         let place = self.last_place(inode)?;
         Some(self.first + place as u64)
@@ -119,9 +120,13 @@ impl LogView {
     /// How many records stand before the last that touches an inode, if one does.
     fn last_place(&self, inode: u64) -> Option<usize>
         ensures inside { IfSome result (λ place. place < length self.now.records) }
-        ensures found { IfSome result (λ place. (r : LogRecord) → record_touches (slice_index_or self.now.records place r) inode ≡ true) }
-        ensures none_behind { IfSome result (λ place. (k : ℕ) (r : LogRecord) → place < k → k < length self.now.records → record_touches (slice_index_or self.now.records k r) inode ≡ false) }
-        ensures none { result ≡ None → (k : ℕ) (r : LogRecord) → k < length self.now.records → record_touches (slice_index_or self.now.records k r) inode ≡ false }
+        ensures found { IfSome result (λ place. (r : LogRecord) →
+            record_touches (slice_index_or self.now.records place r) inode ≡ true) }
+        ensures none_behind { IfSome result (λ place. (k : ℕ) (r : LogRecord) → place < k →
+            k < length self.now.records → record_touches
+            (slice_index_or self.now.records k r) inode ≡ false) }
+        ensures none { result ≡ None → (k : ℕ) (r : LogRecord) → k < length self.now.records →
+            record_touches (slice_index_or self.now.records k r) inode ≡ false }
     {
         let mut records = self.since(self.first);
         let place = records.rposition(|record| record_touches(record, inode))?;

@@ -3,7 +3,7 @@ use assise_private_log::log::Log;
 use std::alloc::{AllocError, Global};
 
 /// The inodes that the records touch, one each, from a first number on. Nothing is taken out: records that went from the
-/// front stay in the list.
+/// prefix stay in the list.
 #[derive(Drop)]
 pub(crate) struct Plain {
     first: u64,

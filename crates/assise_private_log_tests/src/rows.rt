@@ -1,7 +1,7 @@
 // Rows of what is done to a log and of what comes out.
 use crate::steps::put_steps;
 use assise_private_log::log::{LEAST_LIMIT, Log, MOST_LIMIT};
-use assise_rows::{Subject, wrong_rows};
+use assise_test_rows::{Subject, wrong_rows};
 use std::alloc::Global;
 use std::process::Abort;
 

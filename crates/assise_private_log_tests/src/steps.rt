@@ -3,7 +3,7 @@ use assise_names::refusal::Refusal;
 use assise_private_log::log::Log;
 use assise_record::effect::Effect;
 use assise_record::record::Record;
-use assise_rows::split_word;
+use assise_test_rows::split_word;
 use std::alloc::{AllocError, Global};
 
 /// Makes steps, which have commas between them, and appends what they answer.

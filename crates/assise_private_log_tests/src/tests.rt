@@ -106,12 +106,12 @@ fn turns_alike(
     plain: &mut Plain,
     turn: (u64, u64, u64),
 ) -> Option<bool> {
-    let (added, front, back) = turn;
+    let (added, prefix, back) = turn;
     let mut same = true;
     for _ in 0..added {
         same = adds_alike(alloc, log, plain)? && same;
     }
-    let to = log.first().saturating_add(front).min(log.end());
+    let to = log.first().saturating_add(prefix).min(log.end());
     log.drop_front(to);
     plain.drop_front(to);
     same = is_alike(log, plain) && same;

@@ -7,7 +7,7 @@ use Rattle.assise_record.specs.declared.effect.Effect.TheVariants.{NewFile, NewD
 use Rattle.assise_record.specs.declared.fault.FrameFault.{FrameFault}
 use Rattle.assise_record.specs.declared.fault.FrameFault.TheVariants.{BadLength}
 use Rattle.assise_record.specs.Spelling.{IsEffect, tag_of, fields_of, effect_spelling, patch_spelling, name_spelling}
-use Rattle.assise_record.specs.Reading.{◌>>=◌, number_at, extent_at, size_at, name_at, new_file_at, new_dir_at, write_at, set_len_at, link_at, unlink_at, free_at, fields_at, effect_at}
+use Rattle.assise_record.specs.Reading.{◌>>=◌, number_at, extent_at, read_size, name_at, new_file_at, new_dir_at, write_at, set_len_at, link_at, unlink_at, free_at, fields_at, effect_at}
 use Rattle.assise_record.proofs.Loop.{ok_is}
 use Rattle.assise_record.proofs.FieldLaws.{IsBytes, Takes, Takes-then, Reads, seq_takes, byte_reads, u64_reads, extent_reads, size_reads, name_reads}
 
@@ -49,7 +49,7 @@ write_takes bytes x fits e =
 set_len_takes : (bytes : List ℕ) (x : Effect × List ℕ) → IsBytes bytes → set_len_at bytes ≡ Ok x → TakesFields 4 bytes x
 unfolding set_len_at
 set_len_takes bytes x fits e =
-    let a = seq_takes (u64_reads BadLength) (λ inode. size_at inode.1 >>= λ size. made (SetLen inode.0 size.0) size.1) x bytes fits e in
+    let a = seq_takes (u64_reads BadLength) (λ inode. read_size inode.1 >>= λ size. made (SetLen inode.0 size.0) size.1) x bytes fits e in
     let b = seq_takes size_reads (λ size. made (SetLen a.0.0 size.0) size.1) x a.0.1 a.1.rest_fits a.3 in
     let both = Takes-then bytes (big_bytes 8 a.0.0) a.0.1 (big_bytes 4 b.0.0) b.0.1 a.1 b.1 in
     subst (TakesFields 4 bytes) (ok_is (SetLen a.0.0 b.0.0, b.0.1) x b.3) (refl, both, (a.2, b.2))

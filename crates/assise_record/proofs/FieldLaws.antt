@@ -12,7 +12,7 @@ use Rattle.assise_record.specs.declared.fault.FrameFault.{FrameFault}
 use Rattle.assise_record.specs.declared.fault.FrameFault.TheVariants.{BadLength, BadValue}
 use Rattle.assise_record.specs.Patch.{Patch, IsPatch}
 use Rattle.assise_record.specs.Spelling.{patch_spelling, name_spelling}
-use Rattle.assise_record.specs.Reading.{◌>>=◌, guard, Read, byte_at, bytes_at, number_at, is_extent, extent_at, size_at, name_in, name_at}
+use Rattle.assise_record.specs.Reading.{◌>>=◌, guard, Read, byte_at, bytes_at, number_at, is_extent, extent_at, read_size, name_in, name_at}
 use Rattle.assise_record.proofs.Loop.{bind_ok, ok_is}
 use Rattle.assise_record.proofs.Names.{named, some_bytes}
 
@@ -109,8 +109,8 @@ number_takes : (n : ℕ) → IsWidth n → (fault : FrameFault) (bytes : List �
 number_takes n width fault bytes x fits e =
     let g = cond_ok (ltb (length bytes) n) fault (big_number n (take n bytes), drop n bytes) x e in
     let long : n ≤ length bytes = ltb-false _ _ g.0 in
-    let front : big_bytes n (big_number n (take n bytes)) ≡ take n bytes = width (take n bytes) (omega (arith, length-take n bytes)) (IsBytes-take n bytes fits) in
-    let parts : bytes ≡ big_bytes n (big_number n (take n bytes)) ++ drop n bytes = sym (take-append-drop n bytes) ∙ ap (λ (t : List ℕ). t ++ drop n bytes) (sym front) in
+    let prefix : big_bytes n (big_number n (take n bytes)) ≡ take n bytes = width (take n bytes) (omega (arith, length-take n bytes)) (IsBytes-take n bytes fits) in
+    let parts : bytes ≡ big_bytes n (big_number n (take n bytes)) ++ drop n bytes = sym (take-append-drop n bytes) ∙ ap (λ (t : List ℕ). t ++ drop n bytes) (sym prefix) in
     subst (λ (y : ℕ × List ℕ). Takes bytes (big_bytes n y.0) y.1 × (y.0 < 256 ^ n)) g.1
     (record { parts = parts; rest_fits = IsBytes-drop n bytes fits }, big_from-lt 0 n (take n bytes) (IsBytes-take n bytes fits))
 
@@ -180,18 +180,18 @@ extent_reads = record { takes = extent_takes; again = extent_again }
 
 -- ---- the length of a file
 
-size_takes : (bytes : List ℕ) (x : ℕ × List ℕ) → IsBytes bytes → size_at bytes ≡ Ok x → Takes bytes (big_bytes 4 x.0) x.1 × (x.0 ≤ 1048576)
-unfolding size_at
+size_takes : (bytes : List ℕ) (x : ℕ × List ℕ) → IsBytes bytes → read_size bytes ≡ Ok x → Takes bytes (big_bytes 4 x.0) x.1 × (x.0 ≤ 1048576)
+unfolding read_size
 size_takes bytes x fits e =
     let a = seq_takes (u32_reads BadLength) (λ size. guard (nat_le size.0 1048576) BadValue >>= λ _. Ok size) x bytes fits e in
     let g = guard_ok (nat_le a.0.0 1048576) BadValue (λ _. Ok a.0) x a.3 in
     subst (λ (y : ℕ × List ℕ). Takes bytes (big_bytes 4 y.0) y.1 × (y.0 ≤ 1048576)) (ok_is a.0 x g.1) (a.1, leb-true a.0.0 1048576 g.0)
 
-size_again : (size : ℕ) (rest : List ℕ) → size ≤ 1048576 → size_at (big_bytes 4 size ++ rest) ≡ Ok (size, rest)
-unfolding size_at
+size_again : (size : ℕ) (rest : List ℕ) → size ≤ 1048576 → read_size (big_bytes 4 size ++ rest) ≡ Ok (size, rest)
+unfolding read_size
 size_again size rest h = rw ((u32_reads BadLength).again size rest (omega (arith, h)), le-leb size 1048576 h) refl
 
-pub size_reads : Reads size_at (big_bytes 4) (λ size. size ≤ 1048576)
+pub size_reads : Reads read_size (big_bytes 4) (λ size. size ≤ 1048576)
 size_reads = record { takes = size_takes; again = size_again }
 
 -- ---- names

@@ -8,8 +8,8 @@ use Rattle.assise_record.specs.Header.{Header}
 use Rattle.assise_record.specs.declared.fault.FrameFault.{FrameFault}
 use Rattle.assise_record.specs.declared.fault.FrameFault.TheVariants.{Short, BadMagic, BadVersion, BadValue}
 use Rattle.assise_record.specs.LogFrame.{LogFrame, is_marked}
-use Rattle.assise_record.specs.Spelling.{IsLogFrame, body_of, spelling, Spells, BeginsWith}
-use Rattle.assise_record.specs.Reading.{◌>>=◌, guard, HasCount, IsVersion, has_count, is_version, byte_at, bytes_at, number_at, body_at, version_at, numbers_at, header_at, frame_of, frame_at}
+use Rattle.assise_record.specs.Spelling.{IsLogFrame, body_of, spelling, SpellsFrame, BeginsWith}
+use Rattle.assise_record.specs.Reading.{◌>>=◌, guard, HasCount, IsVersion, has_count, is_version, byte_at, bytes_at, number_at, body_at, version_at, numbers_at, header_at, read_frame, frame_at}
 use Rattle.assise_record.proofs.Loop.{bind_ok, ok_is}
 use Rattle.assise_record.proofs.FieldLaws.{IsBytes, Takes, Takes-then, Reads, seq_takes, guard_ok, bytes_take, bytes_again, byte_reads, u16_reads, u32_reads, u64_reads}
 use Rattle.assise_record.proofs.RecordLaws.{IsBody, Records, body_takes, body_again}
@@ -151,7 +151,7 @@ header_again newest h rest is =
 
 -- the parts of a frame that was read
 is_spelled : (newest : ℕ) (h : Header) (body : List ℕ) (records : Records) → newest ≤ 2 → IsHeader newest h → IsBody (is_marked h.version) h.count body records → length body ≡ h.size
-    → Spells newest (header_spelling h ++ body) (frame_of h records)
+    → SpellsFrame newest (header_spelling h ++ body) (read_frame h records)
 is_spelled newest h body records known is b len = record {
   lawful = record {
     ranges = record {
@@ -174,7 +174,7 @@ is_spelled newest h body records known is b len = record {
 pub frame_takes : (newest : ℕ) (bytes : List ℕ) (x : LogFrame × ℕ) → newest ≤ 2 → IsBytes bytes → frame_at newest bytes ≡ Ok x → BeginsWith newest bytes x.0 x.1
 unfolding frame_at
 frame_takes newest bytes x known fits e =
-    let last = λ (h : Header) (records : Records). let made : Result (LogFrame × ℕ) FrameFault = Ok (frame_of h records, 29 + h.size) in made in
+    let last = λ (h : Header) (records : Records). let made : Result (LogFrame × ℕ) FrameFault = Ok (read_frame h records, 29 + h.size) in made in
     let a = bind_ok (header_at newest bytes) (λ head. bytes_at head.0.size Short head.1 >>= λ body. body_at (is_marked head.0.version) head.0.count body.0 >>= last head.0) x e in
     let t = header_takes newest bytes a.0 fits a.1 in
     let b = bind_ok (bytes_at a.0.0.size Short a.0.1) (λ body. body_at (is_marked a.0.0.version) a.0.0.count body.0 >>= last a.0.0) x a.2 in
@@ -185,11 +185,11 @@ frame_takes newest bytes x known fits e =
     let both = Takes-then bytes (header_spelling a.0.0) a.0.1 b.0.0 b.0.1 t.0 bt.0 in
     let spelled = is_spelled newest a.0.0 b.0.0 c.0 known t.1 ct bt.1 in
     let len : length text ≡ 29 + a.0.0.size = omega (arith, bt.1, length-append (header_spelling a.0.0) b.0.0) in
-    let front : take (29 + a.0.0.size) bytes ≡ text = ap (take (29 + a.0.0.size)) both.parts ∙ take_at text b.0.1 (29 + a.0.0.size) len in
+    let prefix : take (29 + a.0.0.size) bytes ≡ text = ap (take (29 + a.0.0.size)) both.parts ∙ take_at text b.0.1 (29 + a.0.0.size) len in
     let inside : 29 + a.0.0.size ≤ length bytes = omega (arith, len, ap length both.parts, length-append text b.0.1) in
-    let made : LogFrame = frame_of a.0.0 c.0 in
+    let made : LogFrame = read_frame a.0.0 c.0 in
     subst (λ (y : LogFrame × ℕ). BeginsWith newest bytes y.0 y.1) (ok_is (made, 29 + a.0.0.size) x c.2)
-    (record { inside = inside; front = subst (λ (t : List ℕ). Spells newest t made) (sym front) spelled })
+    (record { inside = inside; prefix = subst (λ (t : List ℕ). SpellsFrame newest t made) (sym prefix) spelled })
 
 pub frame_again : (newest : ℕ) (f : LogFrame) (rest : List ℕ) → f.version ≤ newest → IsLogFrame f → frame_at newest (spelling f ++ rest) ≡ Ok (f, length (spelling f))
 unfolding frame_at
@@ -208,6 +208,6 @@ frame_again newest f rest known is =
 -- what is read where the bytes begin with a frame
 pub begins_again : (newest : ℕ) (bytes : List ℕ) (f : LogFrame) (n : ℕ) → BeginsWith newest bytes f n → frame_at newest bytes ≡ Ok (f, n)
 begins_again newest bytes f n h =
-    let parts : bytes ≡ spelling f ++ drop n bytes = sym (take-append-drop n bytes) ∙ ap (λ (t : List ℕ). t ++ drop n bytes) h.front.spelled in
-    let len : length (spelling f) ≡ n = ap length (sym h.front.spelled) ∙ omega (arith, length-take n bytes, h.inside) in
-    ap (frame_at newest) parts ∙ frame_again newest f (drop n bytes) h.front.version h.front.lawful ∙ ap (λ (k : ℕ). Ok (f, k)) len
+    let parts : bytes ≡ spelling f ++ drop n bytes = sym (take-append-drop n bytes) ∙ ap (λ (t : List ℕ). t ++ drop n bytes) h.prefix.spelled in
+    let len : length (spelling f) ≡ n = ap length (sym h.prefix.spelled) ∙ omega (arith, length-take n bytes, h.inside) in
+    ap (frame_at newest) parts ∙ frame_again newest f (drop n bytes) h.prefix.version h.prefix.lawful ∙ ap (λ (k : ℕ). Ok (f, k)) len

@@ -2,10 +2,10 @@ pub mod EffectLaws
 pub mod Equality
 pub mod FieldLaws
 pub mod FrameLaws
-pub mod Grouping
+pub mod GroupRest
 pub mod Headers
 pub mod Loop
-pub mod Marking
+pub mod GroupMarks
 pub mod Marks
 pub mod Names
 pub mod Never

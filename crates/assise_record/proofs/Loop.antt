@@ -2,7 +2,7 @@
 use Rattle.std.proofs.Common.{◌≡◌, ℕ, zero, suc, ◌-◌, ◌+◌, ◌≤◌, ◌<◌, Bool, List, [], ◌∷◌, ◌++◌, length, Option, Result, Ok, Err, refl, sym, ap, ◌∙◌, arith}
 use Rattle.std.specs.Option.{option_to_list}
 use Rattle.assise_record.specs.LogRecord.{LogRecord}
-use Rattle.assise_record.specs.Reading.{◌>>=◌, Read, Fails, many_at, effect_at, record_at, records_at, rest_of}
+use Rattle.assise_record.specs.Reading.{◌>>=◌, Read, FailsReading, many_at, effect_at, read_record, records_at, rest_of}
 use Rattle.assise_record.specs.declared.fault.FrameFault.{FrameFault}
 use Rattle.assise_record.specs.declared.fault.FrameFault.TheVariants.{Short, BadMagic, BadVersion, BadTag, BadLength, BadValue, Memory}
 
@@ -13,15 +13,15 @@ pub record IsMany {A C : Type 0} (read : ℕ → List ℕ → Read A) (add : A �
 
 -- what is still read, put behind what was read before
 abbrev pub through : {C : Type 0} → (C → C) → Read C → Read C
-through front read = read >>= λ x. Ok (front x.0, x.1)
+through prefix read = read >>= λ x. Ok (prefix x.0, x.1)
 
 -- nothing was read before
-pub through_none : {C : Type 0} (front : C → C) (r : Read C) → ((y : C) → front y ≡ y) → through front r ≡ r
-through_none {C} front (Ok y) same = ap (λ (c : C). Ok (c, y.1)) (same y.0)
-through_none front (Err fault) same = refl
+pub through_none : {C : Type 0} (prefix : C → C) (r : Read C) → ((y : C) → prefix y ≡ y) → through prefix r ≡ r
+through_none {C} prefix (Ok y) same = ap (λ (c : C). Ok (c, y.1)) (same y.0)
+through_none prefix (Err fault) same = refl
 
--- a fault other than want of memory
-fails_as : {A B : Type 0} (fault : FrameFault) (one : Result A FrameFault) (total : Result B FrameFault) → Fails fault one → (one ≡ Err fault → total ≡ Err fault) → Fails fault total
+-- a fault other than out of memory
+fails_as : {A B : Type 0} (fault : FrameFault) (one : Result A FrameFault) (total : Result B FrameFault) → FailsReading fault one → (one ≡ Err fault → total ≡ Err fault) → FailsReading fault total
 fails_as Memory one total h f = tt
 fails_as Short one total h f = f h
 fails_as BadMagic one total h f = f h
@@ -42,33 +42,33 @@ pub ok_is : {A : Type 0} (x y : A) → done x ≡ done y → x ≡ y
 ok_is x y e = cc
 
 module _ {A C : Type 0} (read : ℕ → List ℕ → Read A) (add : A → C → C) (none : C) (many : ℕ → List ℕ → Read C) (m : IsMany read add none many) where
-  regroup : (front next : C → C) (x : A) → ((y : C) → front (add x y) ≡ next y) → (others : Read C) → through front (others >>= λ y. Ok (add x y.0, y.1)) ≡ through next others
-  regroup front next x same (Ok y) = ap (λ (c : C). Ok (c, y.1)) (same y.0)
-  regroup front next x same (Err f) = refl
+  regroup : (prefix next : C → C) (x : A) → ((y : C) → prefix (add x y) ≡ next y) → (others : Read C) → through prefix (others >>= λ y. Ok (add x y.0, y.1)) ≡ through next others
+  regroup prefix next x same (Ok y) = ap (λ (c : C). Ok (c, y.1)) (same y.0)
+  regroup prefix next x same (Err f) = refl
 
-  pub goes_on : (front next : C → C) (count i : ℕ) (bytes : List ℕ) (x : A) (after : List ℕ) (total : Read C) → ((y : C) → front (add x y) ≡ next y) → i < count
-      → read (count - (i + 1)) bytes ≡ Ok (x, after) → through front (many (count - i) bytes) ≡ total → through next (many (count - (i + 1)) after) ≡ total
-  goes_on front next count i bytes x after total same lt h so_far =
+  pub goes_on : (prefix next : C → C) (count i : ℕ) (bytes : List ℕ) (x : A) (after : List ℕ) (total : Read C) → ((y : C) → prefix (add x y) ≡ next y) → i < count
+      → read (count - (i + 1)) bytes ≡ Ok (x, after) → through prefix (many (count - i) bytes) ≡ total → through next (many (count - (i + 1)) after) ≡ total
+  goes_on prefix next count i bytes x after total same lt h so_far =
       let k : count - i ≡ suc (count - (i + 1)) = omega arith in
-      let one : through front (many (count - i) bytes) ≡ through next (many (count - (i + 1)) after) =
-      rw (k, m.step (count - (i + 1)) bytes, h) (regroup front next x same (many (count - (i + 1)) after)) in
+      let one : through prefix (many (count - i) bytes) ≡ through next (many (count - (i + 1)) after) =
+      rw (k, m.step (count - (i + 1)) bytes, h) (regroup prefix next x same (many (count - (i + 1)) after)) in
       sym one ∙ so_far
 
-  stops : (fault : FrameFault) (front : C → C) (count i : ℕ) (bytes : List ℕ) (total : Read C) → i < count
-      → through front (many (count - i) bytes) ≡ total → read (count - (i + 1)) bytes ≡ Err fault → total ≡ Err fault
-  stops fault front count i bytes total lt so_far h =
+  stops : (fault : FrameFault) (prefix : C → C) (count i : ℕ) (bytes : List ℕ) (total : Read C) → i < count
+      → through prefix (many (count - i) bytes) ≡ total → read (count - (i + 1)) bytes ≡ Err fault → total ≡ Err fault
+  stops fault prefix count i bytes total lt so_far h =
       let k : count - i ≡ suc (count - (i + 1)) = omega arith in
-      let one : through front (many (count - i) bytes) ≡ Err fault = rw (k, m.step (count - (i + 1)) bytes, h) refl in
+      let one : through prefix (many (count - i) bytes) ≡ Err fault = rw (k, m.step (count - (i + 1)) bytes, h) refl in
       sym so_far ∙ one
 
-  pub ends : (fault : FrameFault) (front : C → C) (count i : ℕ) (bytes : List ℕ) (total : Read C) → i < count → Fails fault (read (count - (i + 1)) bytes)
-      → through front (many (count - i) bytes) ≡ total → Fails fault total
-  ends fault front count i bytes total lt h so_far = fails_as fault (read (count - (i + 1)) bytes) total h (stops fault front count i bytes total lt so_far)
+  pub ends : (fault : FrameFault) (prefix : C → C) (count i : ℕ) (bytes : List ℕ) (total : Read C) → i < count → FailsReading fault (read (count - (i + 1)) bytes)
+      → through prefix (many (count - i) bytes) ≡ total → FailsReading fault total
+  ends fault prefix count i bytes total lt h so_far = fails_as fault (read (count - (i + 1)) bytes) total h (stops fault prefix count i bytes total lt so_far)
 
-  pub is_done : (front : C → C) (count i : ℕ) (bytes : List ℕ) (whole : C) (total : Read C) → front none ≡ whole → count ≤ i → through front (many (count - i) bytes) ≡ total → total ≡ Ok (whole, bytes)
-  is_done front count i bytes whole total same le so_far =
+  pub is_done : (prefix : C → C) (count i : ℕ) (bytes : List ℕ) (whole : C) (total : Read C) → prefix none ≡ whole → count ≤ i → through prefix (many (count - i) bytes) ≡ total → total ≡ Ok (whole, bytes)
+  is_done prefix count i bytes whole total same le so_far =
       let k : count - i ≡ 0 = omega arith in
-      let one : through front (many (count - i) bytes) ≡ Ok (whole, bytes) = rw (k, m.start bytes) (ap (λ (c : C). Ok (c, bytes)) same) in
+      let one : through prefix (many (count - i) bytes) ≡ Ok (whole, bytes) = rw (k, m.start bytes) (ap (λ (c : C). Ok (c, bytes)) same) in
       sym so_far ∙ one
 
   -- ---- the same where what is read is passed over
@@ -112,7 +112,7 @@ effects_are_many = record { start = λ bytes. refl; step = λ left bytes. refl }
 abbrev pub add_record : LogRecord × Option Bool → List LogRecord × List Bool → List LogRecord × List Bool
 add_record x others = (x.0 ∷ others.0, option_to_list x.1 ++ others.1)
 
-pub records_are_many : (marked : Bool) → IsMany (record_at marked) add_record ([], []) (records_at marked)
+pub records_are_many : (marked : Bool) → IsMany (read_record marked) add_record ([], []) (records_at marked)
 unfolding records_at
 records_are_many marked = record { start = λ bytes. refl; step = λ left bytes. refl }
 

@@ -7,9 +7,9 @@ use Rattle.assise_record.specs.declared.effect.Effect.TheVariants.{NewFile, NewD
 use Rattle.assise_record.specs.LogFrame.{is_marked}
 use Rattle.assise_record.specs.declared.fault.FrameFault.{FrameFault}
 use Rattle.assise_record.specs.declared.fault.FrameFault.TheVariants.{Short, BadMagic, BadVersion, BadTag, BadLength, BadValue, Memory}
-use Rattle.assise_record.specs.Reading.{◌>>=◌, guard, Read, byte_at, bytes_at, number_at, many_at, is_extent, extent_at, size_at, name_in, name_at}
+use Rattle.assise_record.specs.Reading.{◌>>=◌, guard, Read, byte_at, bytes_at, number_at, many_at, is_extent, extent_at, read_size, name_in, name_at}
 use Rattle.assise_record.specs.Reading.{new_file_at, new_dir_at, write_at, set_len_at, link_at, unlink_at, free_at, fields_at, effect_at}
-use Rattle.assise_record.specs.Reading.{is_mark, mark_at, record_at, records_at, body_at, has_count, is_version, version_at, numbers_at, header_at, frame_at}
+use Rattle.assise_record.specs.Reading.{is_mark, mark_at, read_record, records_at, body_at, has_count, is_version, version_at, numbers_at, header_at, frame_at}
 
 -- it is none of the faults of a body's fields
 pub record IsNoBodyFault (bad : FrameFault) : Type 0 where
@@ -83,8 +83,8 @@ module _ (bad : FrameFault) (others : IsNoBodyFault bad) where
       (then_never (bytes_at size BadLength) _ (bytes_never size) (λ p. done_never (record { offset = offset; bytes = p }))) in
       then_never (number_at 4 BadLength) _ (number_never 4) (λ offset. then_never (number_at 4 BadLength) _ (number_never 4) (sized offset))
 
-  size_never : Never size_at
-  unfolding size_at
+  size_never : Never read_size
+  unfolding read_size
   size_never = then_never (number_at 4 BadLength) _ (number_never 4) (λ size. guard_never (nat_le size 1048576) BadValue _ bad_value (done_never size))
 
   text_never : (text : List ℕ) → Never (λ rest. name_in text >>= λ name. let made : Read (List ℕ) = Ok (name, rest) in made)
@@ -106,7 +106,7 @@ module _ (bad : FrameFault) (others : IsNoBodyFault bad) where
       let new_file = inode_never _ (λ n. done_never (NewFile n)) bytes in
       let new_dir = inode_never _ (λ n. done_never (NewDir n)) bytes in
       let write = inode_never _ (λ n. then_never extent_at _ extent_never (λ p. done_never (Write n p))) bytes in
-      let set_len = inode_never _ (λ n. then_never size_at _ size_never (λ size. done_never (SetLen n size))) bytes in
+      let set_len = inode_never _ (λ n. then_never read_size _ size_never (λ size. done_never (SetLen n size))) bytes in
       let link = inode_never _ (λ d. then_never name_at _ name_never (λ name. inode_never _ (λ n. done_never (Link d name n)))) bytes in
       let unlink = inode_never _ (λ d. then_never name_at _ name_never (λ name. done_never (Unlink d name))) bytes in
       let free = inode_never _ (λ n. done_never (Free n)) bytes in
@@ -128,8 +128,8 @@ module _ (bad : FrameFault) (others : IsNoBodyFault bad) where
   mark_never false left bytes = value_is (None, bytes)
   mark_never true left bytes = then_never (byte_at BadLength) _ byte_never (λ mark. guard_never (is_mark left mark) BadValue _ bad_value (done_never (Some (mark == 1)))) bytes
 
-  record_never : (marked : Bool) (left : ℕ) → Never (record_at marked left)
-  unfolding record_at
+  record_never : (marked : Bool) (left : ℕ) → Never (read_record marked left)
+  unfolding read_record
   record_never marked left =
       let counted = λ (call : ℕ) (mark : Option Bool) (count : ℕ). guard_never (nat_lt 0 count && nat_le count 4) BadValue _ bad_value
       (then_never (many_at effect_at count) _ (many_never effect_at effect_never count) (λ effects. done_never (record { call = call; effects = effects }, mark))) in
@@ -139,7 +139,7 @@ module _ (bad : FrameFault) (others : IsNoBodyFault bad) where
   records_never : (marked : Bool) (n : ℕ) → Never (records_at marked n)
   unfolding records_at
   records_never marked zero bytes = value_is (([], []), bytes)
-  records_never marked (suc n) bytes = then_never (record_at marked n) _ (record_never marked n)
+  records_never marked (suc n) bytes = then_never (read_record marked n) _ (record_never marked n)
       (λ first. then_never (records_at marked n) _ (records_never marked n) (λ others. done_never (first.0 ∷ others.0, option_to_list first.1 ++ others.1))) bytes
 
   pub body_never : (marked : Bool) (count : ℕ) → Never (body_at marked count)
@@ -152,7 +152,7 @@ module _ (bad : FrameFault) (others : IsNoBodyFault bad) where
   result_never (Ok x) f h g = g x
   result_never (Err fault) f h g = fault_is fault h
 
--- ---- want of memory
+-- ---- out of memory
 
 abbrev HasMemory : {A : Type 0} → Result A FrameFault → Type 0
 HasMemory r = IsOther Memory not_memory r
@@ -200,7 +200,7 @@ header_always newest =
     (then_never Memory not_memory numbers_at _ numbers_always (λ numbers. then_never Memory not_memory (number_at 4 Short) _ (number_always 4) (λ size.
     done_never Memory not_memory (record { version = version; epoch = epoch; client = client; first = numbers.0; count = numbers.1; size = size })))))))
 
--- no bytes are read as want of memory
+-- no bytes are read as out of memory
 pub frame_always : (newest : ℕ) (bytes : List ℕ) → HasMemory (frame_at newest bytes)
 unfolding frame_at
 frame_always newest bytes =

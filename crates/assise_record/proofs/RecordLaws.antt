@@ -12,7 +12,7 @@ use Rattle.assise_record.specs.declared.fault.FrameFault.TheVariants.{BadLength,
 use Rattle.assise_record.specs.LogRecord.{LogRecord}
 use Rattle.assise_record.specs.LogFrame.{HasMarks}
 use Rattle.assise_record.specs.Spelling.{IsLogRecord, effect_spelling, mark_spelling, record_spelling, body_of}
-use Rattle.assise_record.specs.Reading.{◌>>=◌, guard, Read, byte_at, number_at, many_at, effect_at, mark_at, record_at, records_at, body_at}
+use Rattle.assise_record.specs.Reading.{◌>>=◌, guard, Read, byte_at, number_at, many_at, effect_at, mark_at, read_record, records_at, body_at}
 use Rattle.assise_record.proofs.Loop.{bind_ok, ok_is}
 use Rattle.assise_record.proofs.FieldLaws.{IsBytes, Takes, Takes-then, Reads, seq_takes, guard_ok, byte_reads, u64_reads}
 use Rattle.assise_record.proofs.Marks.{IsMark, mark_is, mark_reads, no_marks, marks_more, body_more, parts_of}
@@ -56,8 +56,8 @@ marked_spelling x = record_spelling x.1 x.0
 abbrev pub IsMarked : Bool → ℕ → Marked → Type 0
 IsMarked marked left x = IsLogRecord x.0 × IsMark marked left x.1
 
-record_takes : (marked : Bool) (left : ℕ) (bytes : List ℕ) (x : Marked × List ℕ) → IsBytes bytes → record_at marked left bytes ≡ Ok x → Takes bytes (marked_spelling x.0) x.1 × IsMarked marked left x.0
-unfolding record_at
+record_takes : (marked : Bool) (left : ℕ) (bytes : List ℕ) (x : Marked × List ℕ) → IsBytes bytes → read_record marked left bytes ≡ Ok x → Takes bytes (marked_spelling x.0) x.1 × IsMarked marked left x.0
+unfolding read_record
 record_takes marked left bytes x fits e =
     let last = λ (call : ℕ) (mark : Option Bool) (p : List Effect × List ℕ). let made : Result (Marked × List ℕ) FrameFault = Ok ((record { call = call; effects = p.0 }, mark), p.1) in made in
     let behind = λ (call : ℕ) (mark : Option Bool) (count : ℕ × List ℕ). guard (nat_lt 0 count.0 && nat_le count.0 4) BadValue >>= λ _. many_at effect_at count.0 count.1 >>= last call mark in
@@ -77,8 +77,8 @@ record_takes marked left bytes x fits e =
     subst (λ (y : Marked × List ℕ). Takes bytes (marked_spelling y.0) y.1 × IsMarked marked left y.0) (ok_is ((record { call = a.0.0; effects = d.0.0 }, m.0.0), d.0.1) x d.2)
     (whole, (record { call = a.2; some = omega (arith, some, t.1); few = omega (arith, few, t.1); effects = t.2 }, m.2))
 
-record_again : (marked : Bool) (left : ℕ) (x : Marked) (rest : List ℕ) → IsMarked marked left x → record_at marked left (marked_spelling x ++ rest) ≡ Ok (x, rest)
-unfolding record_at
+record_again : (marked : Bool) (left : ℕ) (x : Marked) (rest : List ℕ) → IsMarked marked left x → read_record marked left (marked_spelling x ++ rest) ≡ Ok (x, rest)
+unfolding read_record
 record_again marked left x rest h =
     let r : LogRecord = x.0 in
     let counted : List ℕ = length r.effects ∷ (flat_map effect_spelling r.effects ++ rest) in
@@ -88,9 +88,9 @@ record_again marked left x rest h =
     let first = (u64_reads BadLength).again r.call (mark_spelling x.1 ++ counted) h.0.call in
     let mark = (mark_reads marked left).again x.1 counted h.1 in
     let count = and_from _ _ (lt-ltb 0 (length r.effects) h.0.some) (le-leb (length r.effects) 4 h.0.few) in
-    ap (record_at marked left) regrouped ∙ rw (first, mark, count, many_again effect_reads r.effects rest h.0.effects) refl
+    ap (read_record marked left) regrouped ∙ rw (first, mark, count, many_again effect_reads r.effects rest h.0.effects) refl
 
-pub record_reads : (marked : Bool) (left : ℕ) → Reads (record_at marked left) marked_spelling (IsMarked marked left)
+pub record_reads : (marked : Bool) (left : ℕ) → Reads (read_record marked left) marked_spelling (IsMarked marked left)
 record_reads marked left = record { takes = record_takes marked left; again = record_again marked left }
 
 -- ---- records and their marks
@@ -142,8 +142,8 @@ records_again marked (r ∷ rs) last rest h fits =
     ap (records_at marked (suc (length rs))) regrouped ∙ rw (first, others) (ap (λ (t : List Bool). Ok ((r ∷ rs, t), rest)) p.parts)
 
 -- whatever the bytes are
-record_is : (marked : Bool) (left : ℕ) (bytes : List ℕ) (x : Marked × List ℕ) → record_at marked left bytes ≡ Ok x → IsMark marked left x.0.1
-unfolding record_at
+record_is : (marked : Bool) (left : ℕ) (bytes : List ℕ) (x : Marked × List ℕ) → read_record marked left bytes ≡ Ok x → IsMark marked left x.0.1
+unfolding read_record
 record_is marked left bytes x e =
     let last = λ (call : ℕ) (mark : Option Bool) (p : List Effect × List ℕ). let made : Result (Marked × List ℕ) FrameFault = Ok ((record { call = call; effects = p.0 }, mark), p.1) in made in
     let behind = λ (call : ℕ) (mark : Option Bool) (count : ℕ × List ℕ). guard (nat_lt 0 count.0 && nat_le count.0 4) BadValue >>= λ _. many_at effect_at count.0 count.1 >>= last call mark in
@@ -160,7 +160,7 @@ records_are marked zero bytes x e =
     subst (λ (y : Records × List ℕ). (length y.0.0 ≡ 0) × HasMarks marked y.0.0 y.0.1) (ok_is (([], []), bytes) x e) (refl, no_marks marked)
 records_are marked (suc n) bytes x e =
     let last = λ (first : Marked) (others : Records × List ℕ). let made : Result (Records × List ℕ) FrameFault = Ok ((first.0 ∷ others.0.0, option_to_list first.1 ++ others.0.1), others.1) in made in
-    let a = bind_ok (record_at marked n bytes) (λ first. records_at marked n first.1 >>= last first.0) x e in
+    let a = bind_ok (read_record marked n bytes) (λ first. records_at marked n first.1 >>= last first.0) x e in
     let b = bind_ok (records_at marked n a.0.1) (last a.0.0) x a.2 in
     let t = records_are marked n a.0.1 b.0 b.1 in
     let mark : IsMark marked (length b.0.0.0) a.0.0.1 = subst (λ (k : ℕ). IsMark marked k a.0.0.1) (sym t.0) (record_is marked n bytes a.0 a.1) in

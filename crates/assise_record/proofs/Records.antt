@@ -2,7 +2,7 @@
 use Rattle.std.proofs.Common.{◌≡◌, ℕ, ◌<◌, List, [], ◌∷◌, ◌++◌, refl, ap, sym, ◌∙◌, append_assoc, append-nil}
 use Rattle.assise_record.specs.declared.effect.Effect.{Effect}
 use Rattle.assise_record.specs.LogRecord.{LogRecord}
-use Rattle.assise_record.specs.Records.{all_effects, record_of, call_of, Rising}
+use Rattle.assise_record.specs.Records.{all_effects, record_of, call_of, Ascending}
 
 pub all_effects-append : (rs zs : List LogRecord) → all_effects (rs ++ zs) ≡ all_effects rs ++ all_effects zs
 all_effects-append [] zs = refl
@@ -16,9 +16,9 @@ pub all_effects-record_of : (n : ℕ) (es : List Effect) → all_effects (record
 all_effects-record_of n [] = refl
 all_effects-record_of n (e ∷ es) = all_effects-one n (e ∷ es)
 
-pub rising-append : (rs zs : List LogRecord) (d : ℕ) → Rising rs (call_of zs 0 d) → Rising zs d → Rising (rs ++ zs) d
-rising-append [] zs d h k = k
-rising-append (r ∷ rs) zs d h k = (first_of rs h.0, rising-append rs zs d h.1 k)
+pub ascending-append : (rs zs : List LogRecord) (d : ℕ) → Ascending rs (call_of zs 0 d) → Ascending zs d → Ascending (rs ++ zs) d
+ascending-append [] zs d h k = k
+ascending-append (r ∷ rs) zs d h k = (first_of rs h.0, ascending-append rs zs d h.1 k)
   where
     first_of : (qs : List LogRecord) → r.call < call_of qs 0 (call_of zs 0 d) → r.call < call_of (qs ++ zs) 0 d
     first_of [] g = g

@@ -57,24 +57,24 @@ body_then (s ∷ rs) (m ∷ last) (suc i) r lt is =
     ∙ sym (append_assoc (record_spelling (Some m) s) (body_of (take i rs) (take i last)) (record_spelling (slice_get last i) r))
 
 -- no more bytes than the whole
-pub front_fits : (records : List LogRecord) (last : List Bool) (i : ℕ) → length (body_of (take i records) (take i last)) ≤ length (body_of records last)
-front_fits [] last zero = omega arith
-front_fits [] last (suc i) = omega arith
-front_fits (s ∷ rs) [] zero = omega arith
-front_fits (s ∷ rs) (m ∷ last) zero = omega arith
-front_fits (s ∷ rs) [] (suc i) =
+pub prefix_fits : (records : List LogRecord) (last : List Bool) (i : ℕ) → length (body_of (take i records) (take i last)) ≤ length (body_of records last)
+prefix_fits [] last zero = omega arith
+prefix_fits [] last (suc i) = omega arith
+prefix_fits (s ∷ rs) [] zero = omega arith
+prefix_fits (s ∷ rs) (m ∷ last) zero = omega arith
+prefix_fits (s ∷ rs) [] (suc i) =
     let others : length (body_of (take i rs) []) ≤ length (body_of rs []) =
-    subst (λ (t : List Bool). length (body_of (take i rs) t) ≤ length (body_of rs [])) (take_none i) (front_fits rs [] i) in
+    subst (λ (t : List Bool). length (body_of (take i rs) t) ≤ length (body_of rs [])) (take_none i) (prefix_fits rs [] i) in
     omega (arith, others, length-append (record_spelling None s) (body_of (take i rs) []), length-append (record_spelling None s) (body_of rs []))
-front_fits (s ∷ rs) (m ∷ last) (suc i) =
-    let others = front_fits rs last i in
+prefix_fits (s ∷ rs) (m ∷ last) (suc i) =
+    let others = prefix_fits rs last i in
     omega (arith, others, length-append (record_spelling (Some m) s) (body_of (take i rs) (take i last)), length-append (record_spelling (Some m) s) (body_of rs last))
 
 -- a record has no more bytes than what is left
 pub record_fits : (records : List LogRecord) (last : List Bool) (i : ℕ) (r : LogRecord) → i < length records → r ≡ get_or records i r
     → length (body_of (take i records) (take i last)) + length (record_spelling (slice_get last i) r) ≤ length (body_of records last)
 record_fits records last i r lt is =
-    let whole = front_fits records last (suc i) in
+    let whole = prefix_fits records last (suc i) in
     let more = ap length (body_then records last i r lt is) in
     omega (arith, whole, more, length-append (body_of (take i records) (take i last)) (record_spelling (slice_get last i) r))
 

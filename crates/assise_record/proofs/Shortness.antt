@@ -9,7 +9,7 @@ use Rattle.assise_record.specs.declared.fault.FrameFault.{FrameFault}
 use Rattle.assise_record.specs.declared.fault.FrameFault.TheVariants.{Short}
 use Rattle.assise_record.proofs.Never.{body_never, not_short, result_never, value_is}
 use Rattle.assise_record.specs.Reading.{◌>>=◌, Read, bytes_at}
-use Rattle.assise_record.specs.Reading.{body_at, header_at, frame_of, frame_at}
+use Rattle.assise_record.specs.Reading.{body_at, header_at, read_frame, frame_at}
 use Rattle.assise_record.specs.Unfinished.{IsUnfinished}
 use Rattle.assise_record.proofs.Headers.{ends_inside, header_says, header_then}
 
@@ -24,7 +24,7 @@ short A = Err Short
 
 -- what is read behind a header
 abbrev behind : Header → List ℕ → Result (LogFrame × ℕ) FrameFault
-behind h rest = bytes_at h.size Short rest >>= λ body. body_at (is_marked h.version) h.count body.0 >>= λ records. Ok (frame_of h records, 29 + h.size)
+behind h rest = bytes_at h.size Short rest >>= λ body. body_at (is_marked h.version) h.count body.0 >>= λ records. Ok (read_frame h records, 29 + h.size)
 
 few_behind : (h : Header) (rest : List ℕ) → behind h rest ≡ short (LogFrame × ℕ) → length rest < h.size
 few_behind h rest e =
@@ -32,7 +32,7 @@ few_behind h rest e =
       | inl lt ↦ lt
       | inr le ↦
           let enough = le-ltb (length rest) h.size le in
-          let read : (body_at (is_marked h.version) h.count (take h.size rest) >>= λ records. Ok (frame_of h records, 29 + h.size)) ≡ short (LogFrame × ℕ) =
+          let read : (body_at (is_marked h.version) h.count (take h.size rest) >>= λ records. Ok (read_frame h records, 29 + h.size)) ≡ short (LogFrame × ℕ) =
           rw enough at e in
           absurd (result_never Short not_short (body_at (is_marked h.version) h.count (take h.size rest)) _ (body_never Short not_short (is_marked h.version) h.count (take h.size rest)) (λ records. value_is Short not_short _) read)
     ]

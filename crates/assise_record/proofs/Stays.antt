@@ -6,7 +6,7 @@ use Rattle.assise_record.specs.Header.{Header}
 use Rattle.assise_record.specs.declared.fault.FrameFault.{FrameFault}
 use Rattle.assise_record.specs.declared.fault.FrameFault.TheVariants.{Short, BadMagic, BadVersion, BadValue}
 use Rattle.assise_record.specs.LogFrame.{LogFrame, is_marked}
-use Rattle.assise_record.specs.Reading.{◌>>=◌, guard, Read, has_count, is_version, byte_at, bytes_at, number_at, body_at, version_at, numbers_at, header_at, frame_of, frame_at}
+use Rattle.assise_record.specs.Reading.{◌>>=◌, guard, Read, has_count, is_version, byte_at, bytes_at, number_at, body_at, version_at, numbers_at, header_at, read_frame, frame_at}
 
 abbrev short : (A : Type 0) → Result A FrameFault
 short A = Err Short
@@ -103,7 +103,7 @@ parts_stay : (newest : ℕ) → Stays (parts_at newest)
 parts_stay newest = then_stays (header_at newest) _ (header_stays newest) (λ h. then_stays (bytes_at h.size Short) _ (bytes_stay h.size) (λ body. value_stays (h, body)))
 
 abbrev finish : Header → List ℕ → Result (LogFrame × ℕ) FrameFault
-finish h body = body_at (is_marked h.version) h.count body >>= λ records. Ok (frame_of h records, 29 + h.size)
+finish h body = body_at (is_marked h.version) h.count body >>= λ records. Ok (read_frame h records, 29 + h.size)
 
 one_step : {A B C : Type 0} (x : A) (s : Read B) (f : A → B → Result C FrameFault) → (both x s >>= λ z. f z.0.0 z.0.1) ≡ (s >>= λ y. f x y.0)
 one_step x (Ok y) f = refl

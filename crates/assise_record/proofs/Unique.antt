@@ -7,7 +7,7 @@ use Rattle.assise_record.specs.declared.fault.FrameFault.{FrameFault}
 use Rattle.assise_record.specs.declared.fault.FrameFault.TheVariants.{Short, BadMagic, BadVersion, BadTag, BadLength, BadValue, Memory}
 use Rattle.assise_record.specs.LogFrame.{LogFrame}
 use Rattle.assise_record.specs.Reading.{frame_at}
-use Rattle.assise_record.specs.Spelling.{BeginsWith, Spells}
+use Rattle.assise_record.specs.Spelling.{BeginsWith, SpellsFrame}
 use Rattle.assise_record.proofs.FieldLaws.{IsBytes}
 use Rattle.assise_record.proofs.FrameLaws.{frame_again, frame_takes}
 use Rattle.assise_record.proofs.Loop.{ok_is}
@@ -22,10 +22,10 @@ frame_of_size f n = Ok (f, n)
 abbrev short : Outcome
 short = Err Short
 
-pub again : (newest : ℕ) (f : LogFrame) (text rest : List ℕ) → Spells newest text f → frame_at newest (text ++ rest) ≡ Ok (f, length text)
+pub again : (newest : ℕ) (f : LogFrame) (text rest : List ℕ) → SpellsFrame newest text f → frame_at newest (text ++ rest) ≡ Ok (f, length text)
 again newest f text rest h = ap (λ (t : List ℕ). frame_at newest (t ++ rest)) h.spelled ∙ frame_again newest f rest h.version h.lawful ∙ ap (λ (t : List ℕ). frame_of_size f (length t)) (sym h.spelled)
 
-alone : (newest : ℕ) (f : LogFrame) (text : List ℕ) → Spells newest text f → frame_at newest text ≡ frame_of_size f (length text)
+alone : (newest : ℕ) (f : LogFrame) (text : List ℕ) → SpellsFrame newest text f → frame_at newest text ≡ frame_of_size f (length text)
 alone newest f text h = ap (frame_at newest) (sym (append-nil text)) ∙ again newest f text [] h
 
 same : (f g : LogFrame) (n m : ℕ) → frame_of_size f n ≡ frame_of_size g m → (f ≡ g) × (n ≡ m)
@@ -33,13 +33,13 @@ same f g n m e =
     let pair : (f, n) ≡ (g, m) = ok_is (f, n) (g, m) e in
     (ap (λ (x : LogFrame × ℕ). x.0) pair, ap (λ (x : LogFrame × ℕ). x.1) pair)
 
-pub one_text : (newest : ℕ) (f : LogFrame) (s t : List ℕ) → Spells newest s f → Spells newest t f → s ≡ t
+pub one_text : (newest : ℕ) (f : LogFrame) (s t : List ℕ) → SpellsFrame newest s f → SpellsFrame newest t f → s ≡ t
 one_text newest f s t p q = p.spelled ∙ sym q.spelled
 
-pub one_frame : (newest : ℕ) (f g : LogFrame) (text : List ℕ) → Spells newest text f → Spells newest text g → f ≡ g
+pub one_frame : (newest : ℕ) (f g : LogFrame) (text : List ℕ) → SpellsFrame newest text f → SpellsFrame newest text g → f ≡ g
 one_frame newest f g text p q = (same f g (length text) (length text) (sym (alone newest f text p) ∙ alone newest g text q)).0
 
-pub no_more : (newest : ℕ) (f g : LogFrame) (text rest : List ℕ) → Spells newest text f → Spells newest (text ++ rest) g → rest ≡ []
+pub no_more : (newest : ℕ) (f g : LogFrame) (text rest : List ℕ) → SpellsFrame newest text f → SpellsFrame newest (text ++ rest) g → rest ≡ []
 no_more newest f g text rest p q =
     let sizes = (same f g (length text) (length (text ++ rest)) (sym (again newest f text rest p) ∙ alone newest g (text ++ rest) q)).1 in
     nil_from_length rest (omega (arith, sizes, length-append text rest))
@@ -64,13 +64,13 @@ is_short (Err BadLength) = inr (λ e. absurd cc)
 is_short (Err BadValue) = inr (λ e. absurd cc)
 is_short (Err Memory) = inr (λ e. absurd cc)
 
-pub cut : (newest : ℕ) (f : LogFrame) (front rest : List ℕ) → newest ≤ 2 → All (λ b. b < 256) front → 0 < length rest → Spells newest (front ++ rest) f → frame_at newest front ≡ Err Short
-cut newest f front rest known fits some h =
-    elim (is_short (frame_at newest front)) [
+pub cut : (newest : ℕ) (f : LogFrame) (prefix rest : List ℕ) → newest ≤ 2 → All (λ b. b < 256) prefix → 0 < length rest → SpellsFrame newest (prefix ++ rest) f → frame_at newest prefix ≡ Err Short
+cut newest f prefix rest known fits some h =
+    elim (is_short (frame_at newest prefix)) [
       | inl is ↦ is
       | inr other ↦
-          let whole : frame_at newest front ≡ frame_of_size f (length (front ++ rest)) = sym (frame_stays newest front rest other) ∙ alone newest f (front ++ rest) h in
-          let begins = frame_takes newest front (f, length (front ++ rest)) known (all_bytes front fits) whole in
+          let whole : frame_at newest prefix ≡ frame_of_size f (length (prefix ++ rest)) = sym (frame_stays newest prefix rest other) ∙ alone newest f (prefix ++ rest) h in
+          let begins = frame_takes newest prefix (f, length (prefix ++ rest)) known (all_bytes prefix fits) whole in
           let inside = begins.inside in
-          absurd (omega (arith, inside, some, length-append front rest))
+          absurd (omega (arith, inside, some, length-append prefix rest))
     ]

@@ -7,7 +7,7 @@ use Rattle.std.proofs.lemmas.List.Concat.{flat_map-cons}
 use Rattle.assise_record.specs.declared.fault.FrameFault.TheVariants.{BadVersion}
 use Rattle.assise_record.specs.LogRecord.{LogRecord}
 use Rattle.assise_record.specs.LogFrame.{HasMarks, LogFrame, is_marked}
-use Rattle.assise_record.specs.Spelling.{Spells, body_of, header_of, record_spelling}
+use Rattle.assise_record.specs.Spelling.{SpellsFrame, body_of, header_of, record_spelling}
 use Rattle.assise_record.specs.Reading.{is_version, version_at, header_at, frame_at}
 use Rattle.assise_record.proofs.FrameLaws.{version_again, version_is}
 
@@ -53,22 +53,22 @@ later_reads newest later bytes le h =
       | inr same ↦ rw same refl
     ]
 
-pub later_spells : (newest later : ℕ) (f : LogFrame) (text : List ℕ) → newest ≤ later → Spells newest text f → Spells later text f
+pub later_spells : (newest later : ℕ) (f : LogFrame) (text : List ℕ) → newest ≤ later → SpellsFrame newest text f → SpellsFrame later text f
 later_spells newest later f text le h = let known = h.version in record { lawful = h.lawful; version = omega (arith, le, known); spelled = h.spelled }
 
 -- ---- version 1
 
-is_1 : (f : LogFrame) (text : List ℕ) → Spells 1 text f → f.version ≡ 1
+is_1 : (f : LogFrame) (text : List ℕ) → SpellsFrame 1 text f → f.version ≡ 1
 is_1 f text h = let some = h.lawful.ranges.some_version in let known = h.version in omega (arith, some, known)
 
-pub no_marks_in_1 : (f : LogFrame) (text : List ℕ) → Spells 1 text f → f.last ≡ []
+pub no_marks_in_1 : (f : LogFrame) (text : List ℕ) → SpellsFrame 1 text f → f.last ≡ []
 no_marks_in_1 f text h = subst (λ (version : ℕ). HasMarks (is_marked version) f.records f.last) (is_1 f text h) h.lawful.ranges.marks
 
 plain : (records : List LogRecord) → body_of records [] ≡ flat_map (record_spelling None) records
 plain [] = refl
 plain (r ∷ rs) = ap (λ (t : List ℕ). record_spelling None r ++ t) (plain rs) ∙ sym (flat_map-cons (record_spelling None) r rs)
 
-pub spelled_in_1 : (f : LogFrame) (text : List ℕ) → Spells 1 text f
+pub spelled_in_1 : (f : LogFrame) (text : List ℕ) → SpellsFrame 1 text f
     → text ≡ 65 ∷ 83 ∷ 1 ∷ (header_of f (length (flat_map (record_spelling None) f.records)) ++ flat_map (record_spelling None) f.records)
 spelled_in_1 f text h =
     let body : body_of f.records f.last ≡ flat_map (record_spelling None) f.records = ap (body_of f.records) (no_marks_in_1 f text h) ∙ plain f.records in

@@ -4,9 +4,9 @@ use Rattle.std.proofs.lemmas.Bool.{cases_lt, eqb-true, le-leb, leb-true, lt-leb,
 use Rattle.std.proofs.Math.Seq.{drop-append-add, take-append-add}
 use Rattle.assise_record.specs.Groups.{AreGroups, all_records, all_coalesced, are_whole, were, coalesced_group}
 use Rattle.assise_record.specs.LogRecord.{LogRecord}
-use Rattle.assise_record.specs.Records.{call_of, Rising}
-use Rattle.assise_record.proofs.Grouping.{group-begins, group-rising, group-shorter, group-some}
-use Rattle.assise_record.proofs.Records.{rising-append}
+use Rattle.assise_record.specs.Records.{call_of, Ascending}
+use Rattle.assise_record.proofs.GroupRest.{group-begins, group-ascending, group-shorter, group-some}
+use Rattle.assise_record.proofs.Records.{ascending-append}
 
 -- ---- where groups end
 
@@ -36,13 +36,13 @@ pub were-none : (gs : List (List LogRecord)) → AreGroups gs → were gs 0 ≡ 
 were-none [] h = refl
 were-none (g ∷ gs) h = were-before g gs 0 (group-some g h.0.0 h.0.1)
 
-pub were-rises : (gs : List (List LogRecord)) (j k : ℕ) → j ≤ k → were gs j ≤ were gs k
-were-rises [] j k h = h
-were-rises (g ∷ gs) j k h =
+pub were-ascends : (gs : List (List LogRecord)) (j k : ℕ) → j ≤ k → were gs j ≤ were gs k
+were-ascends [] j k h = h
+were-ascends (g ∷ gs) j k h =
     elim (cases_lt j (length (coalesced_group g))) [
       | inl before ↦ omega (arith, were-before g gs j before)
       | inr past ↦
-          omega (arith, were-past g gs j past, were-past g gs k (omega arith), were-rises gs (j - length (coalesced_group g)) (k - length (coalesced_group g)) (omega arith))
+          omega (arith, were-past g gs j past, were-past g gs k (omega arith), were-ascends gs (j - length (coalesced_group g)) (k - length (coalesced_group g)) (omega arith))
     ]
 
 pub were-all : (gs : List (List LogRecord)) → were gs (length (all_coalesced gs)) ≡ length (all_records gs)
@@ -124,20 +124,20 @@ calls_same (g ∷ gs) k d h bk =
           ∙ ap (λ n. call_of (all_records gs) n d) sum)
     ]
 
-rising_left : (g rs : List LogRecord) (d : ℕ) → Rising (g ++ rs) d → Rising g (call_of rs 0 d)
-rising_left [] rs d h = tt
-rising_left (r ∷ g) rs d h = (omega (arith, h.0, at-first g rs d), rising_left g rs d h.1)
+ascending_left : (g rs : List LogRecord) (d : ℕ) → Ascending (g ++ rs) d → Ascending g (call_of rs 0 d)
+ascending_left [] rs d h = tt
+ascending_left (r ∷ g) rs d h = (omega (arith, h.0, at-first g rs d), ascending_left g rs d h.1)
 
-rising_right : (g rs : List LogRecord) (d : ℕ) → Rising (g ++ rs) d → Rising rs d
-rising_right [] rs d h = h
-rising_right (r ∷ g) rs d h = rising_right g rs d h.1
+ascending_right : (g rs : List LogRecord) (d : ℕ) → Ascending (g ++ rs) d → Ascending rs d
+ascending_right [] rs d h = h
+ascending_right (r ∷ g) rs d h = ascending_right g rs d h.1
 
-pub all-rising : (gs : List (List LogRecord)) (d : ℕ) → AreGroups gs → Rising (all_records gs) d → Rising (all_coalesced gs) d
-all-rising [] d h r = tt
-all-rising (g ∷ gs) d h r =
-    rising-append (coalesced_group g) (all_coalesced gs) d
-    (subst (Rising (coalesced_group g)) (sym (begins-same gs d h.1)) (group-rising g (call_of (all_records gs) 0 d) (rising_left g (all_records gs) d r)))
-    (all-rising gs d h.1 (rising_right g (all_records gs) d r))
+pub all-ascending : (gs : List (List LogRecord)) (d : ℕ) → AreGroups gs → Ascending (all_records gs) d → Ascending (all_coalesced gs) d
+all-ascending [] d h r = tt
+all-ascending (g ∷ gs) d h r =
+    ascending-append (coalesced_group g) (all_coalesced gs) d
+    (subst (Ascending (coalesced_group g)) (sym (begins-same gs d h.1)) (group-ascending g (call_of (all_records gs) 0 d) (ascending_left g (all_records gs) d r)))
+    (all-ascending gs d h.1 (ascending_right g (all_records gs) d r))
 
 pub all-shorter : (gs : List (List LogRecord)) → length (all_coalesced gs) ≤ length (all_records gs)
 all-shorter [] = omega arith

@@ -61,8 +61,8 @@ extent_at bytes = do
   payload ← bytes_at size.0 BadLength size.1
   Ok (record { offset = offset.0; bytes = payload.0 }, payload.1)
 
-unfoldable pub size_at : List ℕ → Read ℕ
-size_at bytes = do
+unfoldable pub read_size : List ℕ → Read ℕ
+read_size bytes = do
   size ← number_at 4 BadLength bytes
   _ ← guard (nat_le size.0 1048576) BadValue
   Ok size
@@ -97,7 +97,7 @@ write_at bytes = do
 unfoldable pub set_len_at : List ℕ → Read Effect
 set_len_at bytes = do
   inode ← number_at 8 BadLength bytes
-  size ← size_at inode.1
+  size ← read_size inode.1
   Ok (SetLen inode.0 size.0, size.1)
 
 unfoldable pub link_at : List ℕ → Read Effect
@@ -149,8 +149,8 @@ mark_at true left bytes = do
   _ ← guard (is_mark left mark.0) BadValue
   Ok (Some (mark.0 == 1), mark.1)
 
-unfoldable pub record_at : Bool → ℕ → List ℕ → Read (LogRecord × Option Bool)
-record_at marked left bytes = do
+unfoldable pub read_record : Bool → ℕ → List ℕ → Read (LogRecord × Option Bool)
+read_record marked left bytes = do
   call ← number_at 8 BadLength bytes
   mark ← mark_at marked left call.1
   count ← byte_at BadLength mark.1
@@ -162,7 +162,7 @@ record_at marked left bytes = do
 unfoldable pub records_at : Bool → ℕ → List ℕ → Read (List LogRecord × List Bool)
 records_at marked zero bytes = Ok (([], []), bytes)
 records_at marked (suc left) bytes = do
-  first ← record_at marked left bytes
+  first ← read_record marked left bytes
   others ← records_at marked left first.1
   Ok ((first.0.0 ∷ others.0.0, option_to_list first.0.1 ++ others.0.1), others.1)
 
@@ -223,30 +223,30 @@ header_at newest bytes = do
 
 -- ---- frames: the frame of a version up to the newest that the bytes begin with, and of how many bytes it is
 
-abbrev pub frame_of : Header → List LogRecord × List Bool → LogFrame
-frame_of h records = record { version = h.version; epoch = h.epoch; client = h.client; first = h.first; records = records.0; last = records.1 }
+abbrev pub read_frame : Header → List LogRecord × List Bool → LogFrame
+read_frame h records = record { version = h.version; epoch = h.epoch; client = h.client; first = h.first; records = records.0; last = records.1 }
 
 unfoldable pub frame_at : ℕ → List ℕ → Result (LogFrame × ℕ) FrameFault
 frame_at newest bytes = do
   head ← header_at newest bytes
   body ← bytes_at head.0.size Short head.1
   records ← body_at (is_marked head.0.version) head.0.count body.0
-  Ok (frame_of head.0 records, 29 + head.0.size)
+  Ok (read_frame head.0 records, 29 + head.0.size)
 
 -- ---- what is left of a reading
 
 -- the value that is seen of it
-abbrev pub seen : {A B : Type 0} → (A → B) → Result A FrameFault → Result B FrameFault
-seen view (Ok x) = Ok (view x)
-seen view (Err fault) = Err fault
+abbrev pub frame_seen : {A B : Type 0} → (A → B) → Result A FrameFault → Result B FrameFault
+frame_seen view (Ok x) = Ok (view x)
+frame_seen view (Err fault) = Err fault
 
 -- what stands behind it
 abbrev pub rest_of : {A : Type 0} → Read A → Result (List ℕ) FrameFault
-rest_of read = seen (λ x. x.1) read
+rest_of read = frame_seen (λ x. x.1) read
 
 -- that there is one
 abbrev pub checked : {A : Type 0} → Result A FrameFault → Result (Unit {0}) FrameFault
-checked read = seen (λ x. tt) read
+checked read = frame_seen (λ x. tt) read
 
 -- ---- what a function returned, seen by view, is what reading gives
 
@@ -256,15 +256,15 @@ Exactly view (Err fault) read = read ≡ Err fault
 
 -- ---- the same, unless memory ran out
 
-abbrev pub Fails : {Y : Type 0} → FrameFault → Result Y FrameFault → Type 0
-Fails Memory read = Unit {0}
-Fails Short read = read ≡ Err Short
-Fails BadMagic read = read ≡ Err BadMagic
-Fails BadVersion read = read ≡ Err BadVersion
-Fails BadTag read = read ≡ Err BadTag
-Fails BadLength read = read ≡ Err BadLength
-Fails BadValue read = read ≡ Err BadValue
+abbrev pub FailsReading : {Y : Type 0} → FrameFault → Result Y FrameFault → Type 0
+FailsReading Memory read = Unit {0}
+FailsReading Short read = read ≡ Err Short
+FailsReading BadMagic read = read ≡ Err BadMagic
+FailsReading BadVersion read = read ≡ Err BadVersion
+FailsReading BadTag read = read ≡ Err BadTag
+FailsReading BadLength read = read ≡ Err BadLength
+FailsReading BadValue read = read ≡ Err BadValue
 
-abbrev pub Gives : {X Y : Type 0} → (X → Y) → Result X FrameFault → Result Y FrameFault → Type 0
-Gives view (Ok x) read = read ≡ Ok (view x)
-Gives view (Err fault) read = Fails fault read
+abbrev pub GivesFrame : {X Y : Type 0} → (X → Y) → Result X FrameFault → Result Y FrameFault → Type 0
+GivesFrame view (Ok x) read = read ≡ Ok (view x)
+GivesFrame view (Err fault) read = FailsReading fault read

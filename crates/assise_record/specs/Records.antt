@@ -23,7 +23,7 @@ call_of [] k next = next
 call_of (r ∷ rs) zero next = r.call
 call_of (r ∷ rs) (suc k) next = call_of rs k next
 
--- the calls of the records rise, and are below next
-abbrev pub Rising : List LogRecord → ℕ → Type 0
-Rising [] next = Unit {0}
-Rising (r ∷ rs) next = (r.call < call_of rs 0 next) × Rising rs next
+-- the calls of the records ascend, and are below next
+abbrev pub Ascending : List LogRecord → ℕ → Type 0
+Ascending [] next = Unit {0}
+Ascending (r ∷ rs) next = (r.call < call_of rs 0 next) × Ascending rs next

@@ -3,8 +3,8 @@ use Rattle.std.specs.Prelude.{◌≡◌, ℕ, ◌+◌, ◌≤◌, List, ◌++◌
 use Rattle.std.specs.Global.{Vec}
 
 -- the bytes fit behind what is there, without a growth
-abbrev pub HasRoom : Vec ℕ → List ℕ → Type 0
-HasRoom v bytes = vec_len v + length bytes ≤ vec_capacity v
+abbrev pub BytesFit : Vec ℕ → List ℕ → Type 0
+BytesFit v bytes = vec_len v + length bytes ≤ vec_capacity v
 
 -- the bytes were appended, and no room was lost
 pub record Appends (old new : Vec ℕ) (bytes : List ℕ) : Type 0 where

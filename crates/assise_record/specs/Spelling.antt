@@ -89,7 +89,7 @@ abbrev pub spelling : LogFrame → List ℕ
 spelling f = 65 ∷ 83 ∷ f.version ∷ (header_of f (length (body_of f.records f.last)) ++ body_of f.records f.last)
 
 -- the bytes are the spelling of this frame, whose version is no newer than the newest
-pub record Spells (newest : ℕ) (text : List ℕ) (f : LogFrame) : Type 0 where
+pub record SpellsFrame (newest : ℕ) (text : List ℕ) (f : LogFrame) : Type 0 where
   pub lawful : IsLogFrame f
   pub version : f.version ≤ newest
   pub spelled : text ≡ spelling f
@@ -97,4 +97,4 @@ pub record Spells (newest : ℕ) (text : List ℕ) (f : LogFrame) : Type 0 where
 -- the first n bytes spell this frame
 pub record BeginsWith (newest : ℕ) (bytes : List ℕ) (f : LogFrame) (n : ℕ) : Type 0 where
   pub inside : n ≤ length bytes
-  pub front : Spells newest (take n bytes) f
+  pub prefix : SpellsFrame newest (take n bytes) f

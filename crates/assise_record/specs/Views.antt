@@ -18,11 +18,11 @@ effect_of (Unlink directory name) = effects.Unlink directory name.now
 effect_of (Free inode) = effects.Free inode
 
 -- its parts are lawful
-abbrev pub IsLawful : EffectView → Type 0
-IsLawful (NewFile inode) = Unit {0}
-IsLawful (NewDir inode) = Unit {0}
-IsLawful (Write inode offset bytes) = IsPatch (record { offset = offset; bytes = bytes.now })
-IsLawful (SetLen inode size) = size ≤ 1048576
-IsLawful (Link directory name inode) = IsTrue (is_name name.now)
-IsLawful (Unlink directory name) = IsTrue (is_name name.now)
-IsLawful (Free inode) = Unit {0}
+abbrev pub IsLawfulEffect : EffectView → Type 0
+IsLawfulEffect (NewFile inode) = Unit {0}
+IsLawfulEffect (NewDir inode) = Unit {0}
+IsLawfulEffect (Write inode offset bytes) = IsPatch (record { offset = offset; bytes = bytes.now })
+IsLawfulEffect (SetLen inode size) = size ≤ 1048576
+IsLawfulEffect (Link directory name inode) = IsTrue (is_name name.now)
+IsLawfulEffect (Unlink directory name) = IsTrue (is_name name.now)
+IsLawfulEffect (Free inode) = Unit {0}

@@ -5,7 +5,7 @@ ghost use Rattle.assise_record.specs.LogFrame.{HasMarks, LogFrame, is_marked};
 ghost use Rattle.assise_record.specs.Spelling.{BeginsWith};
 ghost use Rattle.assise_record.specs.declared.fault.FrameFault.{FrameFault};
 ghost use Rattle.assise_record.specs.declared.fault.FrameFault.TheVariants.{Memory};
-ghost use Rattle.assise_record.specs.Reading.{Exactly, Gives, HasCount, IsVersion, checked, mark_at, record_at, records_at, body_at, version_at, numbers_at, header_at, frame_of, frame_at, rest_of};
+ghost use Rattle.assise_record.specs.Reading.{Exactly, GivesFrame, HasCount, IsVersion, checked, mark_at, read_record, records_at, body_at, version_at, numbers_at, header_at, read_frame, frame_at, rest_of};
 
 use crate::effects::{effects_at, skip_effects};
 use crate::fault::FrameFault;
@@ -62,14 +62,15 @@ fn mark_at(marked: bool, left: u16, bytes: &[u8]) -> Result<(Option<bool>, &[u8]
 }
 
 /// A record with so many records behind it, and its mark.
-#[tactic(auto, unfolding(crate::specs::Reading::record_at))]
+#[tactic(auto, unfolding(crate::specs::Reading::read_record))]
 fn record_at(
     alloc: Global,
     marked: bool,
     left: u16,
     bytes: &[u8],
 ) -> Result<((Record, Option<bool>), &[u8]), FrameFault>
-    ensures { Gives (λ x. ((x.0.0, x.0.1), x.1.now)) result (record_at marked left bytes.now) }
+    ensures { GivesFrame (λ x. ((x.0.0, x.0.1), x.1.now)) result
+        (read_record marked left bytes.now) }
 {
     let (call, rest) = u64_at(bytes, FrameFault::BadLength)?;
     let (mark, rest) = mark_at(marked, left, rest)?;
@@ -82,9 +83,9 @@ fn record_at(
 }
 
 /// What stands behind a record with so many records behind it, of which nothing is copied.
-#[tactic(auto, unfolding(crate::specs::Reading::record_at))]
+#[tactic(auto, unfolding(crate::specs::Reading::read_record))]
 fn skip_record(marked: bool, left: u16, bytes: &[u8]) -> Result<&[u8], FrameFault>
-    ensures { Exactly (λ rest. rest.now) result (rest_of (record_at marked left bytes.now)) }
+    ensures { Exactly (λ rest. rest.now) result (rest_of (read_record marked left bytes.now)) }
 {
     let (_, rest) = u64_at(bytes, FrameFault::BadLength)?;
     let (_, rest) = mark_at(marked, left, rest)?;
@@ -136,7 +137,8 @@ fn records_at(
     count: u16,
     bytes: &[u8],
 ) -> Result<((Vec<Record>, Vec<bool>), &[u8]), FrameFault>
-    ensures { Gives (λ x. ((x.0.0.items, x.0.1.items), x.1.now)) result (records_at marked count bytes.now) }
+    ensures { GivesFrame (λ x. ((x.0.0.items, x.0.1.items), x.1.now)) result
+        (records_at marked count bytes.now) }
 {
     let mut records = Vec::new(alloc);
     let mut last = Vec::new(alloc);
@@ -158,7 +160,7 @@ fn body_at(
     count: u16,
     body: &[u8],
 ) -> Result<(Vec<Record>, Vec<bool>), FrameFault>
-    ensures read { Gives (λ x. (x.0.items, x.1.items)) result (body_at marked count body.now) }
+    ensures read { GivesFrame (λ x. (x.0.items, x.1.items)) result (body_at marked count body.now) }
     ensures counted { IfOk result (λ x. length x.0.items ≡ count) }
     ensures marks { IfOk result (λ x. HasMarks marked x.0.items x.1.items) }
 {
@@ -235,15 +237,19 @@ pub fn decode(alloc: Global, bytes: &[u8]) -> Result<(Frame, usize), FrameFault>
     // What is read is spelled so.
     ensures found { IfOk result (λ x. BeginsWith 1 bytes.now x.0 x.1) }
     // What is spelled so is read, unless memory runs out.
-    ensures only { (f : LogFrame) (n : ℕ) → BeginsWith 1 bytes.now f n → (result ≡ Ok (f, n)) ⊎ (result ≡ Err Memory) }
+    ensures only { (f : LogFrame) (n : ℕ) → BeginsWith 1 bytes.now f n →
+        (result ≡ Ok (f, n)) ⊎ (result ≡ Err Memory) }
     // Which fault it is.
-    ensures first_fault { IfErr result (λ fault. (fault ≡ Memory) ⊎ (frame_at 1 bytes.now ≡ Err fault)) }
-    // A fault is answered, and not want of memory.
+    ensures first_fault { IfErr result (λ fault. (fault ≡ Memory) ⊎
+        (frame_at 1 bytes.now ≡ Err fault)) }
+    // A fault is answered, and not out of memory.
     ensures faults { (fault : FrameFault) → frame_at 1 bytes.now ≡ Err fault → result ≡ Err fault }
     // Memory is asked for only where the bytes begin with a frame.
-    ensures memory { IfErr result (λ fault. fault ≡ Memory → (f : LogFrame) × ((n : ℕ) × BeginsWith 1 bytes.now f n)) }
+    ensures memory { IfErr result (λ fault. fault ≡ Memory →
+        (f : LogFrame) × ((n : ℕ) × BeginsWith 1 bytes.now f n)) }
     // With a fault the bytes begin with no frame.
-    ensures no_frame { IfErr result (λ fault. (fault ≡ Memory) ⊎ ((f : LogFrame) (n : ℕ) → ¬ (BeginsWith 1 bytes.now f n))) }
+    ensures no_frame { IfErr result (λ fault. (fault ≡ Memory) ⊎
+        ((f : LogFrame) (n : ℕ) → ¬ (BeginsWith 1 bytes.now f n))) }
 {
     decode_up_to(alloc, bytes, PLAIN_VERSION)
 }
@@ -258,15 +264,20 @@ pub fn decode_up_to(alloc: Global, bytes: &[u8], newest: u8) -> Result<(Frame, u
     // What is read is spelled so.
     ensures found { IfOk result (λ x. BeginsWith newest bytes.now x.0 x.1) }
     // What is spelled so is read, unless memory runs out.
-    ensures only { (f : LogFrame) (n : ℕ) → BeginsWith newest bytes.now f n → (result ≡ Ok (f, n)) ⊎ (result ≡ Err Memory) }
+    ensures only { (f : LogFrame) (n : ℕ) → BeginsWith newest bytes.now f n →
+        (result ≡ Ok (f, n)) ⊎ (result ≡ Err Memory) }
     // Which fault it is.
-    ensures first_fault { IfErr result (λ fault. (fault ≡ Memory) ⊎ (frame_at newest bytes.now ≡ Err fault)) }
-    // A fault is answered, and not want of memory.
-    ensures faults { (fault : FrameFault) → frame_at newest bytes.now ≡ Err fault → result ≡ Err fault }
+    ensures first_fault { IfErr result (λ fault. (fault ≡ Memory) ⊎
+        (frame_at newest bytes.now ≡ Err fault)) }
+    // A fault is answered, and not out of memory.
+    ensures faults { (fault : FrameFault) → frame_at newest bytes.now ≡ Err fault →
+        result ≡ Err fault }
     // Memory is asked for only where the bytes begin with a frame.
-    ensures memory { IfErr result (λ fault. fault ≡ Memory → (f : LogFrame) × ((n : ℕ) × BeginsWith newest bytes.now f n)) }
+    ensures memory { IfErr result (λ fault. fault ≡ Memory →
+        (f : LogFrame) × ((n : ℕ) × BeginsWith newest bytes.now f n)) }
     // With a fault the bytes begin with no frame.
-    ensures no_frame { IfErr result (λ fault. (fault ≡ Memory) ⊎ ((f : LogFrame) (n : ℕ) → ¬ (BeginsWith newest bytes.now f n))) }
+    ensures no_frame { IfErr result (λ fault. (fault ≡ Memory) ⊎
+        ((f : LogFrame) (n : ℕ) → ¬ (BeginsWith newest bytes.now f n))) }
 {
     frame_at(alloc, newest, bytes)
 }
@@ -274,8 +285,9 @@ pub fn decode_up_to(alloc: Global, bytes: &[u8], newest: u8) -> Result<(Frame, u
 #[tactic(auto, unfolding(crate::specs::Reading::frame_at))]
 fn frame_at(alloc: Global, newest: u8, bytes: &[u8]) -> Result<(Frame, usize), FrameFault>
     requires known_version { newest ≤ 2 }
-    ensures read { Gives (λ x. x) result (frame_at newest bytes.now) }
-    ensures faults { (fault : FrameFault) → frame_at newest bytes.now ≡ Err fault → result ≡ Err fault }
+    ensures read { GivesFrame (λ x. x) result (frame_at newest bytes.now) }
+    ensures faults { (fault : FrameFault) → frame_at newest bytes.now ≡ Err fault →
+        result ≡ Err fault }
 {
     let (header, rest) = header_at(newest, bytes)?;
     let size = header.size as usize;
@@ -294,7 +306,7 @@ fn frame_of(header: Header, records: Vec<Record>, last: Vec<bool>) -> Frame
     requires fits { HasCount header.first header.count }
     requires counted { length records.items ≡ header.count }
     requires marks { HasMarks (is_marked header.version) records.items last.items }
-    ensures { result ≡ frame_of header (records.items, last.items) }
+    ensures { result ≡ read_frame header (records.items, last.items) }
 {
     let Header {
         version,

@@ -1,8 +1,8 @@
 // The effects of a record, as they stand in the body of a frame.
 ghost use Rattle.std.specs.Prelude.{◌≡◌, IfOk, IsOkUnless, IsTrue, length};
-ghost use Rattle.assise_record.specs.Reading.{Exactly, Gives, many_at, effect_at, fields_at, rest_of, write_at, set_len_at, link_at, unlink_at};
+ghost use Rattle.assise_record.specs.Reading.{Exactly, GivesFrame, many_at, effect_at, fields_at, rest_of, write_at, set_len_at, link_at, unlink_at};
 ghost use Rattle.assise_names.specs.Name.{is_name};
-ghost use Rattle.assise_record.specs.Views.{IsLawful, effect_of};
+ghost use Rattle.assise_record.specs.Views.{IsLawfulEffect, effect_of};
 ghost use Rattle.assise_record.specs.declared.fault.FrameFault.TheVariants.{Memory};
 
 use crate::effect::{Effect, Extent, FileSize};
@@ -61,7 +61,7 @@ pub(crate) enum EffectView<'a> {
 impl EffectView<'_> {
     /// The effect, with a copy of its name and bytes. The one fault is [`FrameFault::Memory`].
     fn to_effect(self, alloc: Global) -> Result<Effect, FrameFault>
-        requires { IsLawful self }
+        requires { IsLawfulEffect self }
         ensures equal { IfOk result (λ effect. effect ≡ effect_of self.entry) }
         ensures only_memory { IsOkUnless result Memory }
     {
@@ -120,7 +120,8 @@ pub(crate) fn effects_at(
     count: u8,
     bytes: &[u8],
 ) -> Result<(Vec<Effect>, &[u8]), FrameFault>
-    ensures read { Gives (λ x. (x.0.items, x.1.now)) result (many_at effect_at count bytes.now) }
+    ensures read { GivesFrame (λ x. (x.0.items, x.1.now)) result
+        (many_at effect_at count bytes.now) }
     ensures counted { IfOk result (λ x. length x.0.items ≡ count) }
 {
     let mut effects = Vec::new(alloc);
@@ -135,7 +136,7 @@ pub(crate) fn effects_at(
 
 /// An effect, with a copy of its name and bytes.
 fn own_effect_at(alloc: Global, bytes: &[u8]) -> Result<(Effect, &[u8]), FrameFault>
-    ensures { Gives (λ x. (x.0, x.1.now)) result (effect_at bytes.now) }
+    ensures { GivesFrame (λ x. (x.0, x.1.now)) result (effect_at bytes.now) }
 {
     let (view, rest) = effect_at(bytes)?;
     Ok((view.to_effect(alloc)?, rest))
@@ -157,7 +158,7 @@ pub(crate) fn skip_effects(count: u8, bytes: &[u8]) -> Result<&[u8], FrameFault>
 #[tactic(auto, unfolding(crate::specs::Reading::effect_at))]
 fn effect_at(bytes: &[u8]) -> Result<(EffectView<'_>, &[u8]), FrameFault>
     ensures read { Exactly (λ x. (effect_of x.0, x.1.now)) result (effect_at bytes.now) }
-    ensures lawful { IfOk result (λ x. IsLawful x.0) }
+    ensures lawful { IfOk result (λ x. IsLawfulEffect x.0) }
 {
     let (tag, rest) = u8_at(bytes, FrameFault::BadLength)?;
     fields_at(tag, rest)
@@ -167,7 +168,7 @@ fn effect_at(bytes: &[u8]) -> Result<(EffectView<'_>, &[u8]), FrameFault>
 #[tactic(auto, unfolding(crate::specs::Reading::fields_at, crate::specs::Reading::new_file_at, crate::specs::Reading::new_dir_at, crate::specs::Reading::free_at))]
 fn fields_at(tag: u8, bytes: &[u8]) -> Result<(EffectView<'_>, &[u8]), FrameFault>
     ensures read { Exactly (λ x. (effect_of x.0, x.1.now)) result (fields_at tag bytes.now) }
-    ensures lawful { IfOk result (λ x. IsLawful x.0) }
+    ensures lawful { IfOk result (λ x. IsLawfulEffect x.0) }
 {
     match tag {
         NEW_FILE => {
@@ -193,7 +194,7 @@ fn fields_at(tag: u8, bytes: &[u8]) -> Result<(EffectView<'_>, &[u8]), FrameFaul
 #[tactic(auto, unfolding(crate::specs::Reading::write_at))]
 fn write_at(bytes: &[u8]) -> Result<(EffectView<'_>, &[u8]), FrameFault>
     ensures read { Exactly (λ x. (effect_of x.0, x.1.now)) result (write_at bytes.now) }
-    ensures lawful { IfOk result (λ x. IsLawful x.0) }
+    ensures lawful { IfOk result (λ x. IsLawfulEffect x.0) }
 {
     let (inode, rest) = u64_at(bytes, FrameFault::BadLength)?;
     let ((offset, bytes), rest) = payload_at(rest)?;
@@ -208,7 +209,7 @@ fn write_at(bytes: &[u8]) -> Result<(EffectView<'_>, &[u8]), FrameFault>
 #[tactic(auto, unfolding(crate::specs::Reading::set_len_at))]
 fn set_len_at(bytes: &[u8]) -> Result<(EffectView<'_>, &[u8]), FrameFault>
     ensures read { Exactly (λ x. (effect_of x.0, x.1.now)) result (set_len_at bytes.now) }
-    ensures lawful { IfOk result (λ x. IsLawful x.0) }
+    ensures lawful { IfOk result (λ x. IsLawfulEffect x.0) }
 {
     let (inode, rest) = u64_at(bytes, FrameFault::BadLength)?;
     let (size, rest) = size_at(rest)?;
@@ -218,7 +219,7 @@ fn set_len_at(bytes: &[u8]) -> Result<(EffectView<'_>, &[u8]), FrameFault>
 #[tactic(auto, unfolding(crate::specs::Reading::link_at))]
 fn link_at(bytes: &[u8]) -> Result<(EffectView<'_>, &[u8]), FrameFault>
     ensures read { Exactly (λ x. (effect_of x.0, x.1.now)) result (link_at bytes.now) }
-    ensures lawful { IfOk result (λ x. IsLawful x.0) }
+    ensures lawful { IfOk result (λ x. IsLawfulEffect x.0) }
 {
     let (directory, rest) = u64_at(bytes, FrameFault::BadLength)?;
     let (name, rest) = name_at(rest)?;
@@ -234,7 +235,7 @@ fn link_at(bytes: &[u8]) -> Result<(EffectView<'_>, &[u8]), FrameFault>
 #[tactic(auto, unfolding(crate::specs::Reading::unlink_at))]
 fn unlink_at(bytes: &[u8]) -> Result<(EffectView<'_>, &[u8]), FrameFault>
     ensures read { Exactly (λ x. (effect_of x.0, x.1.now)) result (unlink_at bytes.now) }
-    ensures lawful { IfOk result (λ x. IsLawful x.0) }
+    ensures lawful { IfOk result (λ x. IsLawfulEffect x.0) }
 {
     let (directory, rest) = u64_at(bytes, FrameFault::BadLength)?;
     let (name, rest) = name_at(rest)?;

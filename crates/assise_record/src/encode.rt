@@ -4,10 +4,10 @@ ghost use Rattle.std.specs.List.{AllByRecursion};
 ghost use Rattle.byteorder.specs.Endian.{big_bytes};
 ghost use Rattle.assise_names.specs.declared.refusal.Refusal.TheVariants.{OutOfMemory};
 ghost use Rattle.assise_record.specs.declared.effect.Effect.TheVariants.{Link, SetLen, Unlink, Write};
-ghost use Rattle.assise_record.specs.Room.{HasRoom, Appends};
+ghost use Rattle.assise_record.specs.Room.{BytesFit, Appends};
 ghost use Rattle.assise_names.specs.Name.{is_name};
 ghost use Rattle.assise_record.specs.Patch.{IsPatch};
-ghost use Rattle.assise_record.specs.Spelling.{IsEffect, IsLogRecord, spelling, tag_of, name_spelling, patch_spelling, fields_of, effect_spelling, mark_spelling, record_spelling, body_of, header_of, Spells};
+ghost use Rattle.assise_record.specs.Spelling.{IsEffect, IsLogRecord, spelling, tag_of, name_spelling, patch_spelling, fields_of, effect_spelling, mark_spelling, record_spelling, body_of, header_of, SpellsFrame};
 
 use crate::decode::{HEADER_BYTES, LAST, MAGIC, NOT_LAST};
 use crate::effect::{Effect, Extent, FileSize};
@@ -23,11 +23,12 @@ use byteorder::{BigEndian, ByteOrder};
 /// growth, by as many bytes as the frame has, and none where they fit.
 pub fn encode(frame: &Frame, out: &mut Vec<u8>) -> Result<(), Refusal>
     ensures ok { OnOk result (out.new.items ≡ out.old.items ++ spelling frame.now) }
-    ensures spelled { (newest : ℕ) → frame.now.version ≤ newest → OnOk result (Spells newest (spelling frame.now) frame.now) }
+    ensures spelled { (newest : ℕ) → frame.now.version ≤ newest →
+        OnOk result (SpellsFrame newest (spelling frame.now) frame.now) }
     ensures known_version { frame.now.version ≤ 2 }
     ensures err { OnErr result (out.new.items ≡ out.old.items) }
     ensures room { OnErr result (vec_capacity out.new ≡ vec_capacity out.old) }
-    ensures fits { HasRoom out.old (spelling frame.now) → IsOk result }
+    ensures fits { BytesFit out.old (spelling frame.now) → IsOk result }
     ensures only_memory { IsOkUnless result OutOfMemory }
 {
     let size = body_size(frame);
@@ -39,7 +40,7 @@ pub fn encode(frame: &Frame, out: &mut Vec<u8>) -> Result<(), Refusal>
 
 /// Appends bytes for which there is room.
 fn put(out: &mut Vec<u8>, bytes: &[u8])
-    requires { HasRoom out.old bytes.now }
+    requires { BytesFit out.old bytes.now }
     ensures { Appends out.old out.new bytes.now }
 {
     if out.extend_from_slice(bytes).is_err() {
@@ -48,7 +49,7 @@ fn put(out: &mut Vec<u8>, bytes: &[u8])
 }
 
 fn put_u16(out: &mut Vec<u8>, number: u16)
-    requires { HasRoom out.old (big_bytes 2 number) }
+    requires { BytesFit out.old (big_bytes 2 number) }
     ensures { Appends out.old out.new (big_bytes 2 number) }
 {
     let mut bytes = [0; 2];
@@ -57,7 +58,7 @@ fn put_u16(out: &mut Vec<u8>, number: u16)
 }
 
 fn put_u32(out: &mut Vec<u8>, number: u32)
-    requires { HasRoom out.old (big_bytes 4 number) }
+    requires { BytesFit out.old (big_bytes 4 number) }
     ensures { Appends out.old out.new (big_bytes 4 number) }
 {
     let mut bytes = [0; 4];
@@ -66,7 +67,7 @@ fn put_u32(out: &mut Vec<u8>, number: u32)
 }
 
 fn put_u64(out: &mut Vec<u8>, number: u64)
-    requires { HasRoom out.old (big_bytes 8 number) }
+    requires { BytesFit out.old (big_bytes 8 number) }
     ensures { Appends out.old out.new (big_bytes 8 number) }
 {
     let mut bytes = [0; 8];
@@ -75,7 +76,7 @@ fn put_u64(out: &mut Vec<u8>, number: u64)
 }
 
 fn put_extent(out: &mut Vec<u8>, extent: &Extent)
-    requires { HasRoom out.old (patch_spelling extent.now) }
+    requires { BytesFit out.old (patch_spelling extent.now) }
     ensures appended { Appends out.old out.new (patch_spelling extent.now) }
     ensures lawful { IsPatch extent.now }
 {
@@ -86,7 +87,7 @@ fn put_extent(out: &mut Vec<u8>, extent: &Extent)
 }
 
 fn put_name(out: &mut Vec<u8>, name: &Name)
-    requires { HasRoom out.old (name_spelling name.now) }
+    requires { BytesFit out.old (name_spelling name.now) }
     ensures appended { Appends out.old out.new (name_spelling name.now) }
     ensures lawful { IsTrue (is_name name.now) }
 {
@@ -110,7 +111,7 @@ fn tag_of(effect: &Effect) -> u8
 }
 
 fn put_write(out: &mut Vec<u8>, inode: u64, extent: &Extent)
-    requires { HasRoom out.old (fields_of (Write inode extent.now)) }
+    requires { BytesFit out.old (fields_of (Write inode extent.now)) }
     ensures appended { Appends out.old out.new (fields_of (Write inode extent.now)) }
     ensures lawful { IsEffect (Write inode extent.now) }
 {
@@ -119,7 +120,7 @@ fn put_write(out: &mut Vec<u8>, inode: u64, extent: &Extent)
 }
 
 fn put_set_len(out: &mut Vec<u8>, inode: u64, size: FileSize)
-    requires { HasRoom out.old (fields_of (SetLen inode size)) }
+    requires { BytesFit out.old (fields_of (SetLen inode size)) }
     ensures appended { Appends out.old out.new (fields_of (SetLen inode size)) }
     ensures lawful { IsEffect (SetLen inode size) }
 {
@@ -128,7 +129,7 @@ fn put_set_len(out: &mut Vec<u8>, inode: u64, size: FileSize)
 }
 
 fn put_unlink(out: &mut Vec<u8>, directory: u64, name: &Name)
-    requires { HasRoom out.old (fields_of (Unlink directory name.now)) }
+    requires { BytesFit out.old (fields_of (Unlink directory name.now)) }
     ensures appended { Appends out.old out.new (fields_of (Unlink directory name.now)) }
     ensures lawful { IsEffect (Unlink directory name.now) }
 {
@@ -137,7 +138,7 @@ fn put_unlink(out: &mut Vec<u8>, directory: u64, name: &Name)
 }
 
 fn put_link(out: &mut Vec<u8>, directory: u64, name: &Name, inode: u64)
-    requires { HasRoom out.old (fields_of (Link directory name.now inode)) }
+    requires { BytesFit out.old (fields_of (Link directory name.now inode)) }
     ensures appended { Appends out.old out.new (fields_of (Link directory name.now inode)) }
     ensures lawful { IsEffect (Link directory name.now inode) }
 {
@@ -147,7 +148,7 @@ fn put_link(out: &mut Vec<u8>, directory: u64, name: &Name, inode: u64)
 }
 
 fn put_fields(out: &mut Vec<u8>, effect: &Effect)
-    requires { HasRoom out.old (fields_of effect.now) }
+    requires { BytesFit out.old (fields_of effect.now) }
     ensures appended { Appends out.old out.new (fields_of effect.now) }
     ensures lawful { IsEffect effect.now }
 {
@@ -167,7 +168,7 @@ fn put_fields(out: &mut Vec<u8>, effect: &Effect)
 }
 
 fn put_effect(out: &mut Vec<u8>, effect: &Effect)
-    requires { HasRoom out.old (effect_spelling effect.now) }
+    requires { BytesFit out.old (effect_spelling effect.now) }
     ensures appended { Appends out.old out.new (effect_spelling effect.now) }
     ensures lawful { IsEffect effect.now }
 {
@@ -176,7 +177,7 @@ fn put_effect(out: &mut Vec<u8>, effect: &Effect)
 }
 
 fn put_effects(out: &mut Vec<u8>, effects: &[Effect])
-    requires { HasRoom out.old (flat_map effect_spelling effects.now) }
+    requires { BytesFit out.old (flat_map effect_spelling effects.now) }
     ensures appended { Appends out.old out.new (flat_map effect_spelling effects.now) }
     ensures lawful { AllByRecursion IsEffect effects.now }
 {
@@ -186,7 +187,7 @@ fn put_effects(out: &mut Vec<u8>, effects: &[Effect])
 }
 
 fn put_mark(out: &mut Vec<u8>, mark: Option<bool>)
-    requires { HasRoom out.old (mark_spelling mark) }
+    requires { BytesFit out.old (mark_spelling mark) }
     ensures { Appends out.old out.new (mark_spelling mark) }
 {
     match mark {
@@ -197,7 +198,7 @@ fn put_mark(out: &mut Vec<u8>, mark: Option<bool>)
 }
 
 fn put_record(out: &mut Vec<u8>, mark: Option<bool>, logged: &Record)
-    requires { HasRoom out.old (record_spelling mark logged.now) }
+    requires { BytesFit out.old (record_spelling mark logged.now) }
     ensures appended { Appends out.old out.new (record_spelling mark logged.now) }
     ensures lawful { IsLogRecord logged.now }
 {
@@ -209,7 +210,7 @@ fn put_record(out: &mut Vec<u8>, mark: Option<bool>, logged: &Record)
 }
 
 fn put_records(out: &mut Vec<u8>, records: &[Record], last: &[bool])
-    requires { HasRoom out.old (body_of records.now last.now) }
+    requires { BytesFit out.old (body_of records.now last.now) }
     ensures appended { Appends out.old out.new (body_of records.now last.now) }
     ensures lawful { AllByRecursion IsLogRecord records.now }
 {
@@ -219,7 +220,7 @@ fn put_records(out: &mut Vec<u8>, records: &[Record], last: &[bool])
 }
 
 fn put_header(out: &mut Vec<u8>, frame: &Frame, size: u32)
-    requires { HasRoom out.old (65 ∷ 83 ∷ frame.now.version ∷ header_of frame.now size) }
+    requires { BytesFit out.old (65 ∷ 83 ∷ frame.now.version ∷ header_of frame.now size) }
     ensures { Appends out.old out.new (65 ∷ 83 ∷ frame.now.version ∷ header_of frame.now size) }
 {
     put(out, &[MAGIC[0], MAGIC[1], frame.version()]);

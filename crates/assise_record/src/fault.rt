@@ -1,6 +1,6 @@
 // Why bytes are no frame.
 ghost use Rattle.std.specs.Prelude.{Some};
-ghost use Rattle.assise_record.specs.FaultText.{fault_text};
+ghost use Rattle.assise_record.specs.FaultText.{frame_fault_text};
 
 use std::alloc::{AllocError, AllocFailed};
 use std::error::Error;
@@ -28,7 +28,7 @@ pub enum FrameFault {
 
 /// The fault in words.
 impl Display for FrameFault {
-    ghost output = { λ fault. Some (fault_text fault) };
+    ghost output = { λ fault. Some (frame_fault_text fault) };
 
     fn fmt<W: fmt::Write>(&self, f: &mut Formatter<W>) -> fmt::Result {
         match self {

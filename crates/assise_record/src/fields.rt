@@ -2,7 +2,7 @@
 ghost use Rattle.std.specs.Prelude.{◌≡◌, ◌≤◌, IfOk, IsTrue, length};
 ghost use Rattle.assise_names.specs.Name.{is_name};
 ghost use Rattle.assise_record.specs.Patch.{IsPatch};
-ghost use Rattle.assise_record.specs.Reading.{Exactly, byte_at, bytes_at, number_at, is_extent, extent_at, size_at, name_in, name_at};
+ghost use Rattle.assise_record.specs.Reading.{Exactly, byte_at, bytes_at, number_at, is_extent, extent_at, read_size, name_in, name_at};
 
 use crate::effect::{MOST_EXTENT_BYTES, MOST_FILE_BYTES};
 use crate::fault::FrameFault;
@@ -38,30 +38,31 @@ pub(crate) fn slice_at(
 pub(crate) fn u16_at(bytes: &[u8], short: FrameFault) -> Result<(u16, &[u8]), FrameFault>
     ensures { Exactly (λ x. (x.0, x.1.now)) result (number_at 2 short bytes.now) }
 {
-    let (front, rest) = slice_at(bytes, 2, short)?;
-    Ok((BigEndian::read_u16(front), rest))
+    let (prefix, rest) = slice_at(bytes, 2, short)?;
+    Ok((BigEndian::read_u16(prefix), rest))
 }
 
 /// A number of 32 bits.
 pub(crate) fn u32_at(bytes: &[u8], short: FrameFault) -> Result<(u32, &[u8]), FrameFault>
     ensures { Exactly (λ x. (x.0, x.1.now)) result (number_at 4 short bytes.now) }
 {
-    let (front, rest) = slice_at(bytes, 4, short)?;
-    Ok((BigEndian::read_u32(front), rest))
+    let (prefix, rest) = slice_at(bytes, 4, short)?;
+    Ok((BigEndian::read_u32(prefix), rest))
 }
 
 /// A number of 64 bits.
 pub(crate) fn u64_at(bytes: &[u8], short: FrameFault) -> Result<(u64, &[u8]), FrameFault>
     ensures { Exactly (λ x. (x.0, x.1.now)) result (number_at 8 short bytes.now) }
 {
-    let (front, rest) = slice_at(bytes, 8, short)?;
-    Ok((BigEndian::read_u64(front), rest))
+    let (prefix, rest) = slice_at(bytes, 8, short)?;
+    Ok((BigEndian::read_u64(prefix), rest))
 }
 
 /// An offset, and the bytes to be written there.
 #[tactic(auto, unfolding(crate::specs::Reading::extent_at))]
 pub(crate) fn payload_at(bytes: &[u8]) -> Result<((u32, &[u8]), &[u8]), FrameFault>
-    ensures read { Exactly (λ x. (record { offset = x.0.0; bytes = x.0.1.now }, x.1.now)) result (extent_at bytes.now) }
+    ensures read { Exactly (λ x. (record { offset = x.0.0; bytes = x.0.1.now }, x.1.now)) result
+        (extent_at bytes.now) }
     ensures lawful { IfOk result (λ x. IsPatch (record { offset = x.0.0; bytes = x.0.1.now })) }
 {
     let (offset, rest) = u32_at(bytes, FrameFault::BadLength)?;
@@ -83,9 +84,9 @@ fn is_extent(offset: u32, size: u32) -> bool
 }
 
 /// The length of a file.
-#[tactic(auto, unfolding(crate::specs::Reading::size_at))]
+#[tactic(auto, unfolding(crate::specs::Reading::read_size))]
 pub(crate) fn size_at(bytes: &[u8]) -> Result<(u32, &[u8]), FrameFault>
-    ensures read { Exactly (λ x. (x.0, x.1.now)) result (size_at bytes.now) }
+    ensures read { Exactly (λ x. (x.0, x.1.now)) result (read_size bytes.now) }
     ensures fits { IfOk result (λ x. x.0 ≤ 1048576) }
 {
     let (size, rest) = u32_at(bytes, FrameFault::BadLength)?;

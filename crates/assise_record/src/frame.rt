@@ -45,7 +45,14 @@ impl Frame {
         requires some_records { 0 < length records.items }
         requires few_records { length records.items ≤ 64 }
         requires numbers_fit { first + length records.items ≤ 18446744073709551615 }
-        ensures { result ≡ record { version = 1; epoch = epoch; client = client; first = first; records = records.items; last = [] } }
+        ensures { result ≡ record {
+          version = 1;
+          epoch = epoch;
+          client = client;
+          first = first;
+          records = records.items;
+          last = [];
+        } }
     {
         Frame {
             epoch,
@@ -70,7 +77,14 @@ impl Frame {
         requires numbers_fit { first + length records.items ≤ 18446744073709551615 }
         requires one_each { length last.items ≡ length records.items }
         requires whole_groups { get_or last.items (length records.items - 1) true ≡ true }
-        ensures { result ≡ record { version = 2; epoch = epoch; client = client; first = first; records = records.items; last = last.items } }
+        ensures { result ≡ record {
+          version = 2;
+          epoch = epoch;
+          client = client;
+          first = first;
+          records = records.items;
+          last = last.items;
+        } }
     {
         Frame {
             epoch,

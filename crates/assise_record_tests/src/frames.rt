@@ -355,10 +355,10 @@ fn each_long_row_is_read_as_it_says(rt: HostRuntime) -> Result<(), Fail> {
     Ok(())
 }
 
-/// The front of a record of call 0 with one effect.
+/// The prefix of a record of call 0 with one effect.
 const ONE: &[u8] = b"\0\0\0\0\0\0\0\0\x01";
 
-/// The front of a record of call 7 with four effects.
+/// The prefix of a record of call 7 with four effects.
 const FOUR: &[u8] = b"\0\0\0\0\0\0\0\x07\x04";
 
 const LONG_ROWS: &[LongRow<'_>] = &[

@@ -24,8 +24,8 @@ fn room_taken(
     })
 }
 
-/// How many fronts of the bytes of a frame are [`FrameFault::Short`], up to the first that isn't.
-fn short_fronts(alloc: Global, frame: &Frame, bytes: &[u8]) -> usize {
+/// How many prefixes of the bytes of a frame are [`FrameFault::Short`], up to the first that isn't.
+fn short_prefixes(alloc: Global, frame: &Frame, bytes: &[u8]) -> usize {
     for count in 0..bytes.len() {
         if !matches!(
             decode_up_to(alloc, &bytes[..count], frame.version()),
@@ -56,7 +56,7 @@ fn put_content(text: &mut String, frame: &Frame, count: usize) -> Result<(), All
     write!(text, "{records} records, {effects} effects")
 }
 
-/// The words of a frame that is spelled by these bytes: what its copy says, how many bytes it has, how many of their fronts
+/// The words of a frame that is spelled by these bytes: what its copy says, how many bytes it has, how many of their prefixes
 /// are short, and what room its spelling takes, in a vector without room and in one with as much as the frame needs.
 fn frame_words(alloc: Global, frame: &Frame, bytes: &[u8]) -> Result<String, AllocError> {
     let mut text = String::new(alloc);
@@ -84,10 +84,10 @@ fn put_counts(
     bytes: &[u8],
 ) -> Result<(), AllocError> {
     let count = bytes.len();
-    let fronts = short_fronts(alloc, frame, bytes);
+    let prefixes = short_prefixes(alloc, frame, bytes);
     let grown = room_taken(alloc, frame, bytes, 0)?;
     let kept = room_taken(alloc, frame, bytes, count)?;
-    write!(text, " in {count}, {fronts} fronts, room {grown} {kept}")
+    write!(text, " in {count}, {prefixes} fronts, room {grown} {kept}")
 }
 
 /// The words of the frame that bytes begin with, of version 1 or of either, or their fault.

@@ -24,7 +24,7 @@ pub const SEVEN_EFFECTS: &[u8] =
 /// what all these bytes are read as.
 pub type Row<'a> = (usize, &'a [u8], usize, &'a str);
 
-/// The header, how many records follow, the front of each record, how many effects it has, the front of each effect, how
+/// The header, how many records follow, the prefix of each record, how many effects it has, the prefix of each effect, how
 /// many `x` end it, and what all these bytes are read as.
 pub type LongRow<'a> = (&'a [u8], usize, &'a [u8], usize, &'a [u8], usize, &'a str);
 
@@ -46,9 +46,9 @@ fn repeated(
 
 /// The bytes of a row of a frame.
 fn bytes_of(alloc: Global, frame: &[u8], row: &Row<'_>) -> Result<Vec<u8>, AllocError> {
-    let front = frame.get(..row.0).unwrap_or_default();
+    let prefix = frame.get(..row.0).unwrap_or_default();
     let back = frame.get(row.2..).unwrap_or_default();
-    repeated(alloc, front, row.1, back, 1)
+    repeated(alloc, prefix, row.1, back, 1)
 }
 
 /// The bytes of a long row.

@@ -4,8 +4,8 @@ use Rattle.std.proofs.Common.{◌≡◌, Bool, false, not, List, [], ◌∷◌, 
 use Rattle.std.proofs.lemmas.List.Folds.{list_any-append}
 use Rattle.std.proofs.Math.Bool.{or-false}
 use Rattle.std.proofs.Math.Dec.{eqb-suc-zero}
-use Rattle.assise_machine_events.specs.Events.{Answer, ClusterEvent, sent}
-use Rattle.assise_rounds.specs.Courses.{Told}
+use Rattle.assise_model_events.specs.Events.{Answer, ClusterEvent, sent}
+use Rattle.assise_rounds.specs.Traces.{Told}
 use Rattle.assise_rounds.specs.Rounds.{Carried, deliveries, did_work, is_work, letter}
 
 pub one_work : (e : ClusterEvent) (a : Answer) → is_work a ≡ did_work ((e, a) ∷ [])

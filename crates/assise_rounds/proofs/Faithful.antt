@@ -2,9 +2,9 @@
 use Rattle.std.proofs.Common.{◌≤◌, ℕ, zero, suc, Bool, Option, None, Some, arith}
 use Rattle.assise_names.specs.declared.refusal.Refusal.{Refusal}
 use Rattle.assise_names.specs.declared.limits.TheConstants.{MOST_NODES}
-use Rattle.assise_machine_events.specs.Faults.{node_fault}
-use Rattle.assise_machine_events.specs.Machine.{Machine}
-use Rattle.assise_rounds.specs.Courses.{Told}
+use Rattle.assise_model_events.specs.Faults.{node_fault}
+use Rattle.assise_model_events.specs.Machine.{Machine}
+use Rattle.assise_rounds.specs.Traces.{Told}
 use Rattle.assise_rounds.specs.Rounds.{EachFull, RoundsOver, TakesTurn, UnlessAtFault, WithWork, is_refused, replicates}
 
 turn_of : (F G : Type 0) → (F → G) → (n : ℕ) (m : Machine) (es : Told) (m' : Machine) → TakesTurn G n m es m' → TakesTurn F n m es m'

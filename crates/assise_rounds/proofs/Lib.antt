@@ -1,7 +1,7 @@
-pub mod Courses
-pub mod Coming
+pub mod Traces
+pub mod ReturnTrace
 mod Busy
-mod Carrying
+mod CarriedFrames
 mod Faithful
 pub mod NodeLinks
-mod Rounding
+mod RoundSteps

@@ -2,10 +2,10 @@
 -- Assise (OSDI 2020), section 3 (recovery: the inodes written in each epoch).
 use Rattle.std.specs.Prelude.{◌≡◌, ℕ, zero, suc, ◌<◌, ⊤, Result, Err}
 use Rattle.assise_names.specs.declared.refusal.Refusal.{Refusal}
-use Rattle.assise_machine_events.specs.Events.{back, began, join, left, refill, refused}
-use Rattle.assise_machine_events.specs.Machine.{Machine}
+use Rattle.assise_model_events.specs.Events.{back, began, join, left, refill, refused}
+use Rattle.assise_model_events.specs.Machine.{Machine}
 use Rattle.assise_machine_failures.specs.Answers.{joining_answer}
-use Rattle.assise_rounds.specs.Courses.{IsEvent, Nothing, Then, Told}
+use Rattle.assise_rounds.specs.Traces.{IsEvent, Nothing, Then, Told}
 
 -- ---- a node is filled
 

@@ -6,11 +6,11 @@ use Rattle.std.specs.List.{AllByRecursion, list_any}
 use Rattle.assise_names.specs.declared.refusal.Refusal.{Refusal}
 use Rattle.assise_names.specs.declared.limits.TheConstants.{MOST_NODES}
 use Rattle.assise_record.specs.LogFrame.{LogFrame}
-use Rattle.assise_machine_events.specs.Events.{Answer, deliver, digest, digested, outgoing, received, refused, release_ready, released, sent}
-use Rattle.assise_machine_events.specs.Faults.{node_fault}
-use Rattle.assise_machine_events.specs.Happenings.{AllHappen}
-use Rattle.assise_machine_events.specs.Machine.{Machine}
-use Rattle.assise_rounds.specs.Courses.{IsEvent, Nothing, Then, Told}
+use Rattle.assise_model_events.specs.Events.{Answer, deliver, digest, digested, outgoing, received, refused, release_ready, released, sent}
+use Rattle.assise_model_events.specs.Faults.{node_fault}
+use Rattle.assise_model_events.specs.Happenings.{AllHappen}
+use Rattle.assise_model_events.specs.Machine.{Machine}
+use Rattle.assise_rounds.specs.Traces.{IsEvent, Nothing, Then, Told}
 
 -- ---- a replicate turn
 
@@ -48,7 +48,7 @@ abbrev pub AreSame : List Carried → Type 0
 AreSame carried = AllByRecursion (λ c. IsSame c.frame c.came) carried
 
 -- a frame goes over a link to node n, which takes in what comes or doesn't; over a faithful link that frame comes, if any does
-pub record Delivers (faithful : Type 0) (f : LogFrame) (n : ℕ) (is_in : Bool) (m m' : Machine) : Type 0 where
+pub record DeliversOver (faithful : Type 0) (f : LogFrame) (n : ℕ) (is_in : Bool) (m m' : Machine) : Type 0 where
   pub came : Option (LogFrame × Answer)
   pub same : faithful → IsSame f came
   pub taken : is_in ≡ is_taken_in came
@@ -95,7 +95,7 @@ UnlessAtFault (Some r) Does m es m' = Nothing m es m'
 abbrev pub IfFull : (ℕ → Machine → Told → Machine → Type 0) → ℕ → Machine → Told → Machine → Type 0
 IfFull Does n m es m' = UnlessAtFault (node_fault m n) (Does n) m es m'
 
--- each full node of nodes 1 to this does it, by rising number
+-- each full node of nodes 1 to this does it, by ascending number
 abbrev pub EachFull : (ℕ → Machine → Told → Machine → Type 0) → ℕ → Machine → Told → Machine → Type 0
 EachFull Does zero m es m' = Nothing m es m'
 EachFull Does (suc n) m es m' = Then (EachFull Does n) (IfFull Does (suc n)) m es m'
@@ -108,7 +108,7 @@ pub record IsRound (faithful : ℕ → Type 0) (m : Machine) (es : Told) (m' : M
 -- ---- whether there was anything to do
 
 -- the answer tells of work that was done, or is left: frames were sent, though they may be lost on their way; records were digested;
--- leases went; or the event was refused, which in a round is for want of memory
+-- leases went; or the event was refused, which in a round is as out of memory
 abbrev pub is_work : Answer → Bool
 is_work (sent frames) = not (length frames == 0)
 is_work (digested count) = not (count == 0)

@@ -5,9 +5,9 @@ use Rattle.assise_names.specs.declared.call.Op.{Op}
 use Rattle.assise_names.specs.declared.refusal.Refusal.{Refusal}
 use Rattle.assise_names.specs.declared.refusal.Refusal.TheVariants.{Busy}
 use Rattle.assise_names.specs.declared.reply.Reply.{Reply}
-use Rattle.assise_machine_events.specs.Events.{Answer, not_yet, refused, replied, try_call}
-use Rattle.assise_machine_events.specs.Machine.{Machine}
-use Rattle.assise_rounds.specs.Courses.{IsEvent, Nothing, Then, Told}
+use Rattle.assise_model_events.specs.Events.{Answer, not_yet, refused, replied, try_call}
+use Rattle.assise_model_events.specs.Machine.{Machine}
+use Rattle.assise_rounds.specs.Traces.{IsEvent, Nothing, Then, Told}
 use Rattle.assise_rounds.specs.Rounds.{RoundsOver}
 
 -- what a call that isn't awaited any more is answered with

@@ -1,7 +1,7 @@
 // How a node that failed comes back.
 ghost use Rattle.std.specs.Prelude.{IfErr, OnOk};
 ghost use Rattle.assise_machine.specs.Clusters.{machine};
-ghost use Rattle.assise_rounds.specs.Courses.{Told};
+ghost use Rattle.assise_rounds.specs.Traces.{Told};
 ghost use Rattle.assise_rounds.specs.Returning.{ComesBack, IsFilled, StopsFilling};
 
 use assise_lease_table::revoker::Revokes;

@@ -1,13 +1,13 @@
 // What a cluster does between the tries of a call: replicate turns, and rounds.
 ghost use Rattle.std.specs.Prelude.{◌≡◌, ◌≤◌, IfErr, IfOk, is_none, length, map, true};
 ghost use Rattle.assise_names.specs.declared.limits.TheConstants.{MOST_NODES};
-ghost use Rattle.assise_machine_events.specs.Events.{refused, released};
-ghost use Rattle.assise_machine_events.specs.Faults.{node_fault};
-ghost use Rattle.assise_machine_events.specs.NodeEvents.{Releasing, Sending};
+ghost use Rattle.assise_model_events.specs.Events.{refused, released};
+ghost use Rattle.assise_model_events.specs.Faults.{node_fault};
+ghost use Rattle.assise_model_events.specs.NodeEvents.{Releasing, Sending};
 ghost use Rattle.assise_machine.specs.Clusters.{machine};
-ghost use Rattle.assise_rounds.specs.Courses.{Told};
+ghost use Rattle.assise_rounds.specs.Traces.{Told};
 ghost use Rattle.assise_rounds.specs.NodeLinks.{FaithfulAt};
-ghost use Rattle.assise_rounds.specs.Rounds.{AreCarried, Delivers, DigestsOnce, EachFull, Replicates, RoundsOnce, RoundsOver, TakesTurn, WithWork};
+ghost use Rattle.assise_rounds.specs.Rounds.{AreCarried, DeliversOver, DigestsOnce, EachFull, Replicates, RoundsOnce, RoundsOver, TakesTurn, WithWork};
 
 use assise_lease_table::revoker::Revokes;
 use assise_link::carrying::carry_frame;
@@ -28,7 +28,8 @@ pub fn replicate<C: Revokes + Drop, L: Link>(
     node: u32,
 ) -> Result<u64, Refusal>
     ensures ok { IfOk result (λ count. (es : Told) ×
-        Replicates (L.faithful link.old ≡ true) node count (machine cluster.old) es (machine cluster.new)) }
+        Replicates (L.faithful link.old ≡ true) node count (machine cluster.old) es
+        (machine cluster.new)) }
     ensures err { IfErr result (λ refusal.
         Sending (machine cluster.old) node (refused refusal) (machine cluster.new)) }
     ensures stays { L.faithful link.new ≡ L.faithful link.old }
@@ -67,7 +68,7 @@ fn deliver<C: Revokes + Drop, L: Link>(
     frame: &Frame,
     node: u32,
 ) -> bool
-    ensures delivers { Delivers (L.faithful link.old ≡ true) frame.now node result
+    ensures delivers { DeliversOver (L.faithful link.old ≡ true) frame.now node result
         (machine cluster.old) (machine cluster.new) }
     ensures stays { L.faithful link.new ≡ L.faithful link.old }
 {
@@ -107,15 +108,15 @@ pub fn round_over<C: Revokes + Drop, L: Link>(
     busy
 }
 
-/// Each full node makes a replicate turn over its link, by rising number. Whether there was anything to send.
+/// Each full node makes a replicate turn over its link, by ascending number. Whether there was anything to send.
 fn replicate_all<C: Revokes + Drop, L: Link>(
     alloc: Global,
     cluster: &mut ClusterOf<C>,
     links: &mut [L],
 ) -> bool
     requires { MOST_NODES ≤ length links.old }
-    ensures each { (es : Told) ×
-        WithWork (EachFull (λ n. TakesTurn (FaithfulAt (map L.faithful links.old) n) n) MOST_NODES) result
+    ensures each { (es : Told) × WithWork (EachFull
+        (λ n. TakesTurn (FaithfulAt (map L.faithful links.old) n) n) MOST_NODES) result
         (machine cluster.old) es (machine cluster.new) }
     ensures stay { map L.faithful links.new ≡ map L.faithful links.old }
 {
@@ -149,7 +150,7 @@ fn take_turn<C: Revokes + Drop, L: Link>(
     }
 }
 
-/// Each full node digests once, by rising number. Whether there was anything to digest.
+/// Each full node digests once, by ascending number. Whether there was anything to digest.
 fn digest_all<C: Revokes + Drop>(alloc: Global, cluster: &mut ClusterOf<C>) -> bool
     ensures { (es : Told) × WithWork (EachFull DigestsOnce MOST_NODES) result
         (machine cluster.old) es (machine cluster.new) }

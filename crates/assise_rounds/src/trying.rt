@@ -2,7 +2,7 @@
 ghost use Rattle.std.specs.Prelude.{◌≡◌, ◌≤◌, length, map};
 ghost use Rattle.assise_names.specs.declared.limits.TheConstants.{MOST_NODES};
 ghost use Rattle.assise_machine.specs.Clusters.{machine};
-ghost use Rattle.assise_rounds.specs.Courses.{Told};
+ghost use Rattle.assise_rounds.specs.Traces.{Told};
 ghost use Rattle.assise_rounds.specs.NodeLinks.{FaithfulAt};
 ghost use Rattle.assise_rounds.specs.Trying.{TriesOften};
 

@@ -11,12 +11,12 @@ use Rattle.assise_seq_tree.specs.Answer.{◌>>=◌, answer, as_directory, parent
 use Rattle.assise_seq_tree.specs.Contents.{overwritten, is_within, resized}
 use Rattle.assise_seq_tree.specs.Tree.{Tree, file, dir, Entries, no_entries, find, count, at, put, without, IsWithinLimits}
 use Rattle.assise_seq_tree.proofs.Moves.{Path, parent_and_last}
-use Rattle.assise_seq_tree.proofs.Reading.{length-overwritten}
+use Rattle.assise_seq_tree.proofs.BytesRead.{length-overwritten}
 use Rattle.assise_seq_tree.proofs.Writes.{file_there}
-use Rattle.assise_seq_tree.proofs.Resizing.{length-resized}
+use Rattle.assise_seq_tree.proofs.FileResized.{length-resized}
 use Rattle.assise_seq_tree.proofs.Calls.{second, read_leaves, list_leaves, stat_leaves}
 use Rattle.assise_seq_tree.proofs.Limits.{put_there, put_new, within-without, within-at}
-use Rattle.assise_seq_tree.proofs.Receiving.{received}
+use Rattle.assise_seq_tree.proofs.MovedTreeRoom.{received}
 use Rattle.assise_names.specs.Path.{same_path}
 
 -- ---- what the checks found
@@ -82,7 +82,7 @@ removed t p (Err e) s = s
 renamed : (t : Tree) (p q : Path) (found : Result Tree TreeError) (may : Result (Unit {0}) TreeError) (same : Bool) → at t p ≡ found → may_rename t p q ≡ may → same_path p q ≡ same → IsWithinLimits t
     → IsWithinLimits (reply_and_tree t (may >>= λ _. found >>= λ moved. Ok (Done, cond same t (put (without t p) q moved)))).1
 renamed t p q (Ok moved) (Ok x) true there passes same s = s
-renamed t p q (Ok moved) (Ok x) false there passes apart s = received t moved p q there passes apart s
+renamed t p q (Ok moved) (Ok x) false there passes disjoint s = received t moved p q there passes disjoint s
 renamed t p q (Err e) (Ok x) same there passes is s = s
 renamed t p q found (Err e) same there passes is s = s
 

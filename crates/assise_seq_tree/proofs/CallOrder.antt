@@ -13,7 +13,7 @@ use Rattle.assise_seq_tree.specs.Tree.{Tree, file, dir, no_entries, opening, at,
 use Rattle.assise_seq_tree.proofs.Calls.{read_leaves, list_leaves, stat_leaves}
 use Rattle.assise_seq_tree.proofs.Moves.{Path, ordered-without}
 use Rattle.assise_seq_tree.proofs.Order.{ordered-put}
-use Rattle.assise_seq_tree.proofs.Placing.{ordered-at}
+use Rattle.assise_seq_tree.proofs.TreePlaced.{ordered-at}
 
 -- create and mkdir
 made : (t x : Tree) (p : Path) → IsOrdered t → IsOrdered x → (r : Result (Unit {0}) TreeError) → IsOrdered (reply_and_tree t (r >>= λ _. Ok (Done, put t p x))).1

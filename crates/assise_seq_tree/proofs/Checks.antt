@@ -6,12 +6,12 @@ use Rattle.std.proofs.lemmas.Bool.{cases_Bool}
 use Rattle.std.proofs.lemmas.Bool.Decides.{nat_tests}
 use Rattle.std.proofs.lemmas.Slice.Eq.{slice_eq-Decides, bytes_eq-Decides, starts_is}
 use Rattle.std.proofs.lemmas.List.{append-nil}
-use Rattle.assise_names.specs.Path.{is_proper_front, same_path}
+use Rattle.assise_names.specs.Path.{is_proper_prefix, same_path}
 use Rattle.assise_names.specs.declared.reply.TreeError.{TreeError}
 use Rattle.assise_names.specs.declared.reply.TreeError.TheVariants.{Invalid}
-use Rattle.assise_seq_tree.specs.Tree.{Tree, file, dir, Entries, no_entries, entry, find, count, at, LieApart}
+use Rattle.assise_seq_tree.specs.Tree.{Tree, file, dir, Entries, no_entries, entry, find, count, at, AreDisjointPaths}
 use Rattle.assise_seq_tree.specs.Answer.{◌>>=◌, parent_of, last_name, as_directory, entries_at, may_receive, may_rename}
-use Rattle.assise_seq_tree.proofs.Replacing.{cases_option}
+use Rattle.assise_seq_tree.proofs.TreePut.{cases_option}
 use Rattle.assise_seq_tree.proofs.Moves.{Path, parent_and_last}
 
 -- ---- what the tests of paths say
@@ -27,15 +27,15 @@ longer (n ∷ p) rest =
       | inr more ↦ inr (omega (arith, more))
     ]
 
-pub not_begins : (p q : Path) → is_proper_front p q ≡ false → p ≢ q → (rest : Path) → q ≢ p ++ rest
-not_begins p q below apart rest e =
+pub not_begins : (p q : Path) → is_proper_prefix p q ≡ false → p ≢ q → (rest : Path) → q ≢ p ++ rest
+not_begins p q below disjoint rest e =
     let starts : same_path p (take (length p) q) ≡ true = (starts_is bytes_eq-Decides q p (same_path p (take (length p) q)) refl).1 rest e in
     elim (longer p rest) [
-      | inl same ↦ apart (same ∙ sym e)
+      | inl same ↦ disjoint (same ∙ sym e)
       | inr more ↦
           let lens : length q ≡ length (p ++ rest) = ap length e in
           let longer_too : nat_lt (length p) (length q) ≡ true = grind (arith, nat_tests) in
-          let both : is_proper_front p q ≡ true = rw (longer_too, starts) refl in
+          let both : is_proper_prefix p q ≡ true = rw (longer_too, starts) refl in
           cc
     ]
 
@@ -82,7 +82,7 @@ then_ok (Err e) f y h = cc
 
 -- what the checks found
 pub record Passed (p q : Path) (t : Tree) : Type 0 where
-  pub apart : LieApart p q
+  pub disjoint : AreDisjointPaths p q
   pub entries : Entries
   pub parent : at t (parent_of q) ≡ Ok (dir entries)
   pub moved : Tree
@@ -120,8 +120,8 @@ otherwise false r other h = h
 
 pub passed : (p q : Path) (t : Tree) → may_rename t p q ≡ Ok tt → same_path p q ≡ false → Passed p q t
 passed p q t h other =
-    let below = no_error (length p == 0 || length q == 0) Invalid (if is_proper_front p q then Err Invalid else (at t p >>= λ moved. entries_at t (parent_of q) >>= λ es. entered p q moved es)) tt h in
-    let checked = no_error (is_proper_front p q) Invalid (at t p >>= λ moved. entries_at t (parent_of q) >>= λ es. entered p q moved es) tt below.1 in
+    let below = no_error (length p == 0 || length q == 0) Invalid (if is_proper_prefix p q then Err Invalid else (at t p >>= λ moved. entries_at t (parent_of q) >>= λ es. entered p q moved es)) tt h in
+    let checked = no_error (is_proper_prefix p q) Invalid (at t p >>= λ moved. entries_at t (parent_of q) >>= λ es. entered p q moved es) tt below.1 in
     let roots = neither (length p == 0) (length q == 0) below.0 in
     let source = then_ok (at t p) (λ moved. entries_at t (parent_of q) >>= λ es. entered p q moved es) tt checked.1 in
     walked (is_some_name (length p) roots.0) (is_some_name (length q) roots.1) checked.0 source.0 source.1 source.2
@@ -129,17 +129,17 @@ passed p q t h other =
     differ : p ≢ q
     differ e = let same = (same_is p q).1 e in cc
 
-    front_of : (rest : Path) → p ≡ q ++ rest → (moved : Tree) (es : Entries) → 0 < length q → at t p ≡ Ok moved → at t (parent_of q) ≡ Ok (dir es) → may_receive moved (same_path (parent_of p) (parent_of q)) es (find (last_name q) es) ≡ Ok tt → ⊥
-    front_of [] e moved es some source parent received = differ (e ∙ append-nil q)
-    front_of (r ∷ rest) e moved es some source parent received =
+    prefix_of : (rest : Path) → p ≡ q ++ rest → (moved : Tree) (es : Entries) → 0 < length q → at t p ≡ Ok moved → at t (parent_of q) ≡ Ok (dir es) → may_receive moved (same_path (parent_of p) (parent_of q)) es (find (last_name q) es) ≡ Ok tt → ⊥
+    prefix_of [] e moved es some source parent received = differ (e ∙ append-nil q)
+    prefix_of (r ∷ rest) e moved es some source parent received =
         let way = on_the_way q rest r t moved (ap (at t) (sym e) ∙ source) in
         let target = last_step (parent_of q) (last_name q) t (dir way.0) es parent (ap (at t) (sym (parent_and_last q some)) ∙ way.1) in
         no_place moved (same_path (parent_of p) (parent_of q)) es way.0 way.2 (ap (may_receive moved (same_path (parent_of p) (parent_of q)) es) (sym target) ∙ received)
 
-    entering : 0 < length p → 0 < length q → is_proper_front p q ≡ false → (moved : Tree) (es : Entries) → at t p ≡ Ok moved → at t (parent_of q) ≡ Ok (dir es) → may_receive moved (same_path (parent_of p) (parent_of q)) es (find (last_name q) es) ≡ Ok tt → Passed p q t
+    entering : 0 < length p → 0 < length q → is_proper_prefix p q ≡ false → (moved : Tree) (es : Entries) → at t p ≡ Ok moved → at t (parent_of q) ≡ Ok (dir es) → may_receive moved (same_path (parent_of p) (parent_of q)) es (find (last_name q) es) ≡ Ok tt → Passed p q t
     entering from to below moved es source parent received = record {
-      apart = record {
-        first = λ begins. front_of begins.0 begins.1 moved es to source parent received;
+      disjoint = record {
+        first = λ begins. prefix_of begins.0 begins.1 moved es to source parent received;
         second = λ begins. not_begins p q below differ begins.0 begins.1;
       };
       entries = es;
@@ -151,7 +151,7 @@ passed p q t h other =
       to_name = to;
     }
 
-    walked : 0 < length p → 0 < length q → is_proper_front p q ≡ false → (moved : Tree) → at t p ≡ Ok moved → (entries_at t (parent_of q) >>= entered p q moved) ≡ Ok tt → Passed p q t
+    walked : 0 < length p → 0 < length q → is_proper_prefix p q ≡ false → (moved : Tree) → at t p ≡ Ok moved → (entries_at t (parent_of q) >>= entered p q moved) ≡ Ok tt → Passed p q t
     walked from to below moved source rest =
         let inside = then_ok (entries_at t (parent_of q)) (entered p q moved) tt rest in
         let parent = then_ok (at t (parent_of q)) as_directory inside.0 inside.1 in

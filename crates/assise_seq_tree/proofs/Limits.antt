@@ -4,7 +4,7 @@ use Rattle.std.specs.Ordering.{match_ordering}
 use Rattle.std.specs.Cmp.Lexicographic.{slice_cmp}
 use Rattle.std.proofs.lemmas.Bool.{cases_Bool}
 use Rattle.assise_seq_tree.specs.Tree.{Tree, file, dir, Entries, no_entries, entry, same_name, find, replace, insert, set, remove, count, at, put, without, IsWithinLimits, AreWithinLimits}
-use Rattle.assise_seq_tree.proofs.Replacing.{cases_option, put_step}
+use Rattle.assise_seq_tree.proofs.TreePut.{cases_option, put_step}
 use Rattle.assise_seq_tree.proofs.Moves.{Path, below}
 
 -- ---- entries
@@ -47,7 +47,7 @@ within-find n no_entries u s h = cc
 within-find n (entry k t es) u s h =
     elim (cases_Bool (same_name n k)) [
       | inl same ↦ let is : Some t ≡ Some u = rw same at h in let one : t ≡ u = cc in subst IsWithinLimits one s.0
-      | inr apart ↦ within-find n es u s.1 (rw apart at h)
+      | inr disjoint ↦ within-find n es u s.1 (rw disjoint at h)
     ]
 
 within-set : (n : List ℕ) (x : Tree) (es : Entries) → count es < 4096 → AreWithinLimits es → IsWithinLimits x → IsWithinLimits (dir (set n x es))

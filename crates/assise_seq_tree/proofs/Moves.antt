@@ -6,7 +6,7 @@ use Rattle.std.proofs.lemmas.Bool.{cases_Bool}
 use Rattle.assise_names.specs.declared.reply.TreeError.TheVariants.{NoEnt}
 use Rattle.assise_seq_tree.specs.Tree.{Tree, file, dir, Entries, no_entries, entry, same_name, find, replace, set, remove, at, put, without, IsOrdered, AreOrdered}
 use Rattle.assise_seq_tree.specs.Answer.{parent_of, last_name}
-use Rattle.assise_seq_tree.proofs.Replacing.{cases_option}
+use Rattle.assise_seq_tree.proofs.TreePut.{cases_option}
 use Rattle.assise_seq_tree.proofs.Order.{ordered-replace, ordered-find, ordered-put}
 use Rattle.assise_seq_tree.proofs.Sets.{same_itself, one_name, shadowed, swapped, not_both, find-set, find-replace_any, find-remove, ordered-remove, ordered-set, same_entries}
 
@@ -14,10 +14,10 @@ abbrev pub Path : Type 0
 Path = List (List ℕ)
 
 -- neither path begins with the other, step by step
-abbrev pub Apart : Path → Path → Type 0
-Apart [] q = ⊥
-Apart (n ∷ p) [] = ⊥
-Apart (n ∷ p) (m ∷ q) = same_name n m ≡ true → Apart p q
+abbrev pub Disjoint : Path → Path → Type 0
+Disjoint [] q = ⊥
+Disjoint (n ∷ p) [] = ⊥
+Disjoint (n ∷ p) (m ∷ q) = same_name n m ≡ true → Disjoint p q
 
 -- what an entry leads to, or the empty directory
 abbrev pub below : List ℕ → Entries → Tree
@@ -28,22 +28,22 @@ find_set_same : (n : List ℕ) (x : Tree) (es : Entries) → find n (set n x es)
 find_set_same n x es = find-set n n x es ∙ ap (λ b. cond b (Some x) (find n es)) (same_itself n)
 
 find_set_other : (q n : List ℕ) (x : Tree) (es : Entries) → same_name q n ≡ false → find q (set n x es) ≡ find q es
-find_set_other q n x es apart = find-set q n x es ∙ ap (λ b. cond b (Some x) (find q es)) apart
+find_set_other q n x es disjoint = find-set q n x es ∙ ap (λ b. cond b (Some x) (find q es)) disjoint
 
 -- entries in any order
 pub find_remove_other : (q n : List ℕ) (es : Entries) → same_name q n ≡ false → find q (remove n es) ≡ find q es
-find_remove_other q n no_entries apart = refl
-find_remove_other q n (entry k t es) apart =
+find_remove_other q n no_entries disjoint = refl
+find_remove_other q n (entry k t es) disjoint =
     elim (cases_Bool (same_name n k)) [
-      | inl same ↦ let other : same_name q k ≡ false = subst (λ m. same_name q m ≡ false) (one_name n k same) apart in rw (same, other) refl
-      | inr not_same ↦ rw not_same (ap (cond (same_name q k) (Some t)) (find_remove_other q n es apart))
+      | inl same ↦ let other : same_name q k ≡ false = subst (λ m. same_name q m ≡ false) (one_name n k same) disjoint in rw (same, other) refl
+      | inr not_same ↦ rw not_same (ap (cond (same_name q k) (Some t)) (find_remove_other q n es disjoint))
     ]
 
 turned : (q n : List ℕ) → same_name q n ≡ false → same_name n q ≡ false
-turned q n apart =
+turned q n disjoint =
     elim (cases_Bool (same_name n q)) [
       | inl same ↦ let one = one_name n q same in let is : same_name q n ≡ true = ap (same_name q) one ∙ same_itself q in cc
-      | inr apart_too ↦ apart_too
+      | inr disjoint_too ↦ disjoint_too
     ]
 
 pub replace_absent : (n : List ℕ) (x : Tree) (es : Entries) → find n es ≡ None → replace n x es ≡ es
@@ -51,17 +51,17 @@ replace_absent n x no_entries h = refl
 replace_absent n x (entry k t es) h =
     elim (cases_Bool (same_name n k)) [
       | inl same ↦ let no = rw same at h in cc
-      | inr apart ↦ rw apart (ap (entry k t) (replace_absent n x es (rw apart at h)))
+      | inr disjoint ↦ rw disjoint (ap (entry k t) (replace_absent n x es (rw disjoint at h)))
     ]
 
 pub find_replace_there : (q n : List ℕ) (x u : Tree) (es : Entries) → find n es ≡ Some u → find q (replace n x es) ≡ cond (same_name q n) (Some x) (find q es)
 find_replace_there q n x u es there = find-replace_any q n x es (ap is_some there)
 
 pub find_replace_other : (q n : List ℕ) (x : Tree) (es : Entries) → same_name q n ≡ false → find q (replace n x es) ≡ find q es
-find_replace_other q n x es apart =
+find_replace_other q n x es disjoint =
     elim (cases_option (find n es)) [
       | inl none ↦ ap (find q) (replace_absent n x es none)
-      | inr some ↦ find_replace_there q n x some.0 es some.1 ∙ ap (λ b. cond b (Some x) (find q es)) apart
+      | inr some ↦ find_replace_there q n x some.0 es some.1 ∙ ap (λ b. cond b (Some x) (find q es)) disjoint
     ]
 
 -- ---- two changes of entries
@@ -71,19 +71,19 @@ set-set n x y es s o k =
     (λ q. find-set q n y (set n x es) ∙ ap (cond (same_name q n) (Some y)) (find-set q n x es) ∙ sym (shadowed (same_name q n) (Some y) (Some x) (find q es)) ∙ sym (find-set q n y es))
 
 remove-set : (n m : List ℕ) (x : Tree) (es : Entries) → AreOrdered es → IsOrdered x → same_name n m ≡ false → remove n (set m x es) ≡ set m x (remove n es)
-remove-set n m x es s o apart =
+remove-set n m x es s o disjoint =
     let set_first = ordered-set m x es s o in
     same_entries (remove n (set m x es)) (set m x (remove n es)) (ordered-remove n (set m x es) set_first) (ordered-set m x (remove n es) (ordered-remove n es s) o)
-    (λ q. find-remove q n (set m x es) set_first ∙ ap (cond (same_name q n) None) (find-set q m x es) ∙ swapped (same_name q n) (same_name q m) None (Some x) (find q es) (λ a b. not_both q n m apart b a)
+    (λ q. find-remove q n (set m x es) set_first ∙ ap (cond (same_name q n) None) (find-set q m x es) ∙ swapped (same_name q n) (same_name q m) None (Some x) (find q es) (λ a b. not_both q n m disjoint b a)
     ∙ ap (cond (same_name q m) (Some x)) (sym (find-remove q n es s)) ∙ sym (find-set q m x (remove n es)))
 
 replace-set : (n m : List ℕ) (w x : Tree) (es : Entries) → AreOrdered es → IsOrdered w → IsOrdered x → same_name n m ≡ false → replace n w (set m x es) ≡ set m x (replace n w es)
-replace-set n m w x es s v o apart =
+replace-set n m w x es s v o disjoint =
     elim (cases_option (find n es)) [
-      | inl none ↦ replace_absent n w (set m x es) (find_set_other n m x es apart ∙ none) ∙ ap (set m x) (sym (replace_absent n w es none))
+      | inl none ↦ replace_absent n w (set m x es) (find_set_other n m x es disjoint ∙ none) ∙ ap (set m x) (sym (replace_absent n w es none))
       | inr some ↦
           same_entries (replace n w (set m x es)) (set m x (replace n w es)) (ordered-replace n w (set m x es) (ordered-set m x es s o) v) (ordered-set m x (replace n w es) (ordered-replace n w es s v) o)
-          (λ q. find_replace_there q n w some.0 (set m x es) (find_set_other n m x es apart ∙ some.1) ∙ ap (cond (same_name q n) (Some w)) (find-set q m x es) ∙ swapped (same_name q n) (same_name q m) (Some w) (Some x) (find q es) (λ a b. not_both q n m apart b a)
+          (λ q. find_replace_there q n w some.0 (set m x es) (find_set_other n m x es disjoint ∙ some.1) ∙ ap (cond (same_name q n) (Some w)) (find-set q m x es) ∙ swapped (same_name q n) (same_name q m) (Some w) (Some x) (find q es) (λ a b. not_both q n m disjoint b a)
           ∙ ap (cond (same_name q m) (Some x)) (sym (find_replace_there q n w some.0 es some.1)) ∙ sym (find-set q m x (replace n w es)))
     ]
 
@@ -118,24 +118,24 @@ unfolding without
 without_empty k [] = refl
 without_empty k (n ∷ p) = refl
 
-at_empty : (p q : Path) → Apart p q → at (dir no_entries) p ≡ Err NoEnt
+at_empty : (p q : Path) → Disjoint p q → at (dir no_entries) p ≡ Err NoEnt
 unfolding at
-at_empty [] q apart = absurd apart
-at_empty (n ∷ p) q apart = refl
+at_empty [] q disjoint = absurd disjoint
+at_empty (n ∷ p) q disjoint = refl
 
 -- what is put at q leaves what stands at p
-pub at-put_apart : (p q : Path) (t x : Tree) → Apart p q → at (put t q x) p ≡ at t p
+pub at-put_disjoint : (p q : Path) (t x : Tree) → Disjoint p q → at (put t q x) p ≡ at t p
 unfolding at put
-at-put_apart [] q t x apart = absurd apart
-at-put_apart (n ∷ p) [] t x apart = absurd apart
-at-put_apart (n ∷ p) (m ∷ q) (file bytes) x apart = refl
-at-put_apart (n ∷ p) (m ∷ q) (dir es) x apart =
+at-put_disjoint [] q t x disjoint = absurd disjoint
+at-put_disjoint (n ∷ p) [] t x disjoint = absurd disjoint
+at-put_disjoint (n ∷ p) (m ∷ q) (file bytes) x disjoint = refl
+at-put_disjoint (n ∷ p) (m ∷ q) (dir es) x disjoint =
     elim (cases_Bool (same_name n m)) [
       | inl same ↦
           let one : n ≡ m = one_name n m same in
-          let far = apart same in
+          let far = disjoint same in
           ap (λ o. option_map_or (λ t. at t p) o (Err NoEnt)) (ap (λ k. find k (set m (put (below m es) q x) es)) one ∙ find_set_same m (put (below m es) q x) es)
-          ∙ at-put_apart p q (below m es) x far
+          ∙ at-put_disjoint p q (below m es) x far
           ∙ elim (cases_option (find m es)) [
             | inl none ↦ ap (λ o. at (unwrap_or o (dir no_entries)) p) none ∙ at_empty p q far ∙ ap (λ o. option_map_or (λ t. at t p) o (Err NoEnt)) (sym none)
             | inr some ↦ ap (λ o. at (unwrap_or o (dir no_entries)) p) some.1 ∙ ap (λ o. option_map_or (λ t. at t p) o (Err NoEnt)) (sym some.1)
@@ -145,17 +145,17 @@ at-put_apart (n ∷ p) (m ∷ q) (dir es) x apart =
     ]
 
 -- what is taken out at p leaves what stands at q
-pub at-without_apart : (p q : Path) (t : Tree) → Apart p q → at (without t p) q ≡ at t q
+pub at-without_disjoint : (p q : Path) (t : Tree) → Disjoint p q → at (without t p) q ≡ at t q
 unfolding at without
-at-without_apart [] q t apart = absurd apart
-at-without_apart (n ∷ p) [] t apart = absurd apart
-at-without_apart (n ∷ p) (m ∷ q) (file bytes) apart = refl
-at-without_apart (n ∷ []) (m ∷ q) (dir es) apart =
+at-without_disjoint [] q t disjoint = absurd disjoint
+at-without_disjoint (n ∷ p) [] t disjoint = absurd disjoint
+at-without_disjoint (n ∷ p) (m ∷ q) (file bytes) disjoint = refl
+at-without_disjoint (n ∷ []) (m ∷ q) (dir es) disjoint =
     elim (cases_Bool (same_name n m)) [
-      | inl same ↦ absurd (apart same)
+      | inl same ↦ absurd (disjoint same)
       | inr other ↦ ap (λ o. option_map_or (λ t. at t q) o (Err NoEnt)) (find_remove_other m n es (turned n m other))
     ]
-at-without_apart (n ∷ k ∷ p) (m ∷ q) (dir es) apart =
+at-without_disjoint (n ∷ k ∷ p) (m ∷ q) (dir es) disjoint =
     elim (cases_Bool (same_name n m)) [
       | inl same ↦
           let one : n ≡ m = one_name n m same in
@@ -164,31 +164,31 @@ at-without_apart (n ∷ k ∷ p) (m ∷ q) (dir es) apart =
             | inr some ↦
                 let child : below n es ≡ some.0 = ap (λ o. unwrap_or o (dir no_entries)) some.1 in
                 ap (λ o. option_map_or (λ t. at t q) o (Err NoEnt)) (find_replace_there m n (without (below n es) (k ∷ p)) some.0 es some.1 ∙ ap (λ b. cond b (Some (without (below n es) (k ∷ p))) (find m es)) (ap (λ j. same_name j n) (sym one) ∙ same_itself n))
-                ∙ at-without_apart (k ∷ p) q (below n es) (apart same)
+                ∙ at-without_disjoint (k ∷ p) q (below n es) (disjoint same)
                 ∙ ap (λ u. at u q) child ∙ ap (λ o. option_map_or (λ t. at t q) o (Err NoEnt)) (sym some.1) ∙ ap (λ j. option_map_or (λ t. at t q) (find j es) (Err NoEnt)) one
           ]
       | inr other ↦ ap (λ o. option_map_or (λ t. at t q) o (Err NoEnt)) (find_replace_other m n (without (below n es) (k ∷ p)) es (turned n m other))
     ]
 
 -- the one that is put and the one that is taken out may change places
-pub without-put : (p q : Path) (t x : Tree) → IsOrdered t → IsOrdered x → Apart p q → without (put t q x) p ≡ put (without t p) q x
+pub without-put : (p q : Path) (t x : Tree) → IsOrdered t → IsOrdered x → Disjoint p q → without (put t q x) p ≡ put (without t p) q x
 unfolding put without
-without-put [] q t x s o apart = absurd apart
-without-put (n ∷ p) [] t x s o apart = absurd apart
-without-put (n ∷ p) (m ∷ q) (file bytes) x s o apart = refl
-without-put (n ∷ []) (m ∷ q) (dir es) x s o apart =
+without-put [] q t x s o disjoint = absurd disjoint
+without-put (n ∷ p) [] t x s o disjoint = absurd disjoint
+without-put (n ∷ p) (m ∷ q) (file bytes) x s o disjoint = refl
+without-put (n ∷ []) (m ∷ q) (dir es) x s o disjoint =
     elim (cases_Bool (same_name n m)) [
-      | inl same ↦ absurd (apart same)
+      | inl same ↦ absurd (disjoint same)
       | inr other ↦
           let new = ordered-put q (below m es) x (ordered_below m es s) o in
           ap dir (remove-set n m (put (below m es) q x) es s new other
           ∙ ap (λ c. set m (put (unwrap_or c (dir no_entries)) q x) (remove n es)) (sym (find_remove_other m n es (turned n m other))))
     ]
-without-put (n ∷ k ∷ p) (m ∷ q) (dir es) x s o apart =
+without-put (n ∷ k ∷ p) (m ∷ q) (dir es) x s o disjoint =
     elim (cases_Bool (same_name n m)) [
       | inl same ↦
           let one : m ≡ n = sym (one_name n m same) in
-          subst (λ j. without (put (dir es) (j ∷ q) x) (n ∷ k ∷ p) ≡ put (without (dir es) (n ∷ k ∷ p)) (j ∷ q) x) (sym one) (inside (without-put (k ∷ p) q (below n es) x (ordered_below n es s) o (apart same)))
+          subst (λ j. without (put (dir es) (j ∷ q) x) (n ∷ k ∷ p) ≡ put (without (dir es) (n ∷ k ∷ p)) (j ∷ q) x) (sym one) (inside (without-put (k ∷ p) q (below n es) x (ordered_below n es s) o (disjoint same)))
       | inr other ↦
           let new = ordered-put q (below m es) x (ordered_below m es s) o in
           let left = ordered-without (k ∷ p) (below n es) (ordered_below n es s) in

@@ -4,27 +4,27 @@ use Rattle.std.specs.Prelude.{unwrap_or}
 use Rattle.std.specs.Option.{option_map_or}
 use Rattle.assise_names.specs.declared.reply.TreeError.TheVariants.{NoEnt}
 use Rattle.assise_seq_tree.specs.Answer.{parent_of, last_name}
-use Rattle.assise_seq_tree.specs.Tree.{Tree, file, dir, Entries, no_entries, find, at, put, without, IsOrdered, LieApart}
-use Rattle.assise_seq_tree.proofs.Replacing.{cases_option}
+use Rattle.assise_seq_tree.specs.Tree.{Tree, file, dir, Entries, no_entries, find, at, put, without, IsOrdered, AreDisjointPaths}
+use Rattle.assise_seq_tree.proofs.TreePut.{cases_option}
 use Rattle.assise_seq_tree.proofs.Order.{ordered-find}
 use Rattle.assise_seq_tree.proofs.Sets.{same_itself, one_name, find-remove}
-use Rattle.assise_seq_tree.proofs.Moves.{Path, Apart, below, find_replace_there, at-put_new, parent_and_last}
+use Rattle.assise_seq_tree.proofs.Moves.{Path, Disjoint, below, find_replace_there, at-put_new, parent_and_last}
 
 -- two paths of which neither begins with the other part at some step
-pub apart_from : (p q : Path) → ((rest : Path) → p ≡ q ++ rest → ⊥) → ((rest : Path) → q ≡ p ++ rest → ⊥) → Apart p q
-apart_from p [] a b = absurd (a p refl)
-apart_from [] (m ∷ q) a b = b (m ∷ q) refl
-apart_from (n ∷ p) (m ∷ q) a b = λ same.
+pub disjoint_from : (p q : Path) → ((rest : Path) → p ≡ q ++ rest → ⊥) → ((rest : Path) → q ≡ p ++ rest → ⊥) → Disjoint p q
+disjoint_from p [] a b = absurd (a p refl)
+disjoint_from [] (m ∷ q) a b = b (m ∷ q) refl
+disjoint_from (n ∷ p) (m ∷ q) a b = λ same.
     let one : n ≡ m = one_name n m same in
-    apart_from p q
+    disjoint_from p q
     (λ rest e. a rest (ap (λ k. k ∷ p) one ∙ ap (λ s. m ∷ s) e))
     (λ rest e. b rest (ap (λ k. k ∷ q) (sym one) ∙ ap (λ s. n ∷ s) e))
 
-pub step_apart : (p q : Path) → LieApart p q → Apart p q
-step_apart p q h = apart_from p q (λ rest e. h.first (rest, e)) (λ rest e. h.second (rest, e))
+pub step_disjoint : (p q : Path) → AreDisjointPaths p q → Disjoint p q
+step_disjoint p q h = disjoint_from p q (λ rest e. h.first (rest, e)) (λ rest e. h.second (rest, e))
 
-pub turned_apart : (p q : Path) → LieApart p q → Apart q p
-turned_apart p q h = apart_from q p (λ rest e. h.second (rest, e)) (λ rest e. h.first (rest, e))
+pub turned_disjoint : (p q : Path) → AreDisjointPaths p q → Disjoint q p
+turned_disjoint p q h = disjoint_from q p (λ rest e. h.second (rest, e)) (λ rest e. h.first (rest, e))
 
 -- what is put stands there
 pub put_stands : (t x : Tree) (p : Path) (es : Entries) → at t (parent_of p) ≡ Ok (dir es) → at (put t p x) p ≡ Ok x

@@ -1,4 +1,4 @@
--- The places of a tree are the paths below its root, each once, by rising names.
+-- The places of a tree are the paths below its root, each once, by ascending names.
 use Rattle.std.proofs.Common.{◌≡◌, ℕ, ◌<◌, true, false, List, [], ◌∷◌, ◌++◌, length, Ok, Ordering, Less, nat_cmp, refl, ap, sym, ◌∙◌, inl, inr, subst, arith, append_assoc}
 use Rattle.std.proofs.lemmas.Bool.{cases_Bool}
 use Rattle.std.proofs.lemmas.List.Elements.{Contains-append_left, Contains-append_right, Contains-append_cases, Contains-push, Contains-push_cases}
@@ -74,7 +74,7 @@ unfolding at
 at_later n m t u es p below h =
     elim (cases_Bool (same_name m n)) [
       | inl same ↦ let none = find_below m es (subst (λ k. IsBelow k es) (sym (one_name m n same)) below) in let no = rw none at h in cc
-      | inr apart ↦ rw apart h
+      | inr disjoint ↦ rw disjoint h
     ]
 
 -- what a name leads to stands behind the names below which the entries are not
@@ -84,7 +84,7 @@ is_above n m u no_entries p below h = cc
 is_above n m u (entry k t es) p below h =
     elim (cases_Bool (same_name m k)) [
       | inl same ↦ subst (λ j. slice_cmp nat_cmp n j ≡ Less) (sym (one_name m k same)) below.0
-      | inr apart ↦ is_above n m u es p below.1 (rw apart at h)
+      | inr disjoint ↦ is_above n m u es p below.1 (rw disjoint at h)
     ]
 
 nothing_in_file : {P : Type 0} (bytes name : List ℕ) (p : Path) (u : Tree) → at (file bytes) (name ∷ p) ≡ Ok u → P
@@ -109,7 +109,7 @@ found_first n m t u es p same h = rw same at h
 
 found_later : (n m : List ℕ) (t u : Tree) (es : Entries) (p : Path) → same_name m n ≡ false → at (dir (entry n t es)) (m ∷ p) ≡ Ok u → at (dir es) (m ∷ p) ≡ Ok u
 unfolding at
-found_later n m t u es p apart h = rw apart at h
+found_later n m t u es p disjoint h = rw disjoint at h
 
 -- ---- each place is a path, and what stands there
 
@@ -154,7 +154,7 @@ mutual
             subst (λ m. Contains (places_of q (entry n t es)) (q ++ m ∷ p, u)) (sym (one_name name n same))
             (Contains-append_left ((q ++ n ∷ [], t) ∷ places_below (q ++ n ∷ []) t) (places_of q es) (q ++ n ∷ p, u)
             (here p (λ m r more. placed (q ++ n ∷ []) m r t u more) (found_first n name t u es p same h)))
-        | inr apart ↦ Contains-append_right ((q ++ n ∷ [], t) ∷ places_below (q ++ n ∷ []) t) (places_of q es) (q ++ name ∷ p, u) (placed_dir q name p es u (found_later n name t u es p apart h))
+        | inr disjoint ↦ Contains-append_right ((q ++ n ∷ [], t) ∷ places_below (q ++ n ∷ []) t) (places_of q es) (q ++ name ∷ p, u) (placed_dir q name p es u (found_later n name t u es p disjoint h))
       ]
     where
       here : (p : Path) → ((m : List ℕ) (r : Path) → at t (m ∷ r) ≡ Ok u → Contains (places_below (q ++ n ∷ []) t) ((q ++ n ∷ []) ++ m ∷ r, u)) → at t p ≡ Ok u → Contains ((q ++ n ∷ [], t) ∷ places_below (q ++ n ∷ []) t) (q ++ n ∷ p, u)
@@ -163,19 +163,19 @@ mutual
           Contains-append_right ((q ++ n ∷ [], t) ∷ []) (places_below (q ++ n ∷ []) t) (q ++ n ∷ m ∷ r, u)
           (subst (λ path. Contains (places_below (q ++ n ∷ []) t) (path, u)) (append_assoc q (n ∷ []) (m ∷ r)) (more m r h))
 
--- ---- the paths rise
+-- ---- the paths ascend
 
 mutual
-  rises : (q : Path) (t : Tree) → IsOrdered t → IsStrictlySortedBy place_cmp (places_below q t)
-  rises q (file bytes) s = sorted_none place_cmp
-  rises q (dir es) s = rises_dir q es s
+  ascends : (q : Path) (t : Tree) → IsOrdered t → IsStrictlySortedBy place_cmp (places_below q t)
+  ascends q (file bytes) s = sorted_none place_cmp
+  ascends q (dir es) s = ascends_dir q es s
 
-  rises_dir : (q : Path) (es : Entries) → AreOrdered es → IsStrictlySortedBy place_cmp (places_of q es)
-  rises_dir q no_entries s = sorted_none place_cmp
-  rises_dir q (entry n t es) s =
+  ascends_dir : (q : Path) (es : Entries) → AreOrdered es → IsStrictlySortedBy place_cmp (places_of q es)
+  ascends_dir q no_entries s = sorted_none place_cmp
+  ascends_dir q (entry n t es) s =
       sorted_append place_cmp ((q ++ n ∷ [], t) ∷ places_below (q ++ n ∷ []) t) (places_of q es)
-      (sorted_cons place_cmp (q ++ n ∷ [], t) (places_below (q ++ n ∷ []) t) (all_from (λ y. place_cmp (q ++ n ∷ [], t) y ≡ Less) (places_below (q ++ n ∷ []) t) (λ y there. below y (under (q ++ n ∷ []) t y s.1 there))) (rises (q ++ n ∷ []) t s.1))
-      (rises_dir q es s.2)
+      (sorted_cons place_cmp (q ++ n ∷ [], t) (places_below (q ++ n ∷ []) t) (all_from (λ y. place_cmp (q ++ n ∷ [], t) y ≡ Less) (places_below (q ++ n ∷ []) t) (λ y there. below y (under (q ++ n ∷ []) t y s.1 there))) (ascends (q ++ n ∷ []) t s.1))
+      (ascends_dir q es s.2)
       (λ x y here there. across x y (inside x here) (under_dir q es y s.2 there))
     where
       below : (y : Place) → IsUnder (q ++ n ∷ []) t y → place_cmp (q ++ n ∷ [], t) y ≡ Less
@@ -202,5 +202,5 @@ pub path_is_placed : (t u : Tree) (p : Path) → at t p ≡ Ok u → 0 < length 
 path_is_placed t u [] h some = absurd (omega (arith, some))
 path_is_placed t u (name ∷ p) h some = placed [] name p t u h
 
-pub places_rise : (t : Tree) → IsOrdered t → IsStrictlySortedBy place_cmp (places_below [] t)
-places_rise t s = rises [] t s
+pub places_ascend : (t : Tree) → IsOrdered t → IsStrictlySortedBy place_cmp (places_below [] t)
+places_ascend t s = ascends [] t s

@@ -7,10 +7,10 @@ use Rattle.assise_names.specs.declared.reply.TreeError.{TreeError}
 use Rattle.assise_names.specs.declared.reply.TreeError.TheVariants.{NoEnt}
 use Rattle.assise_seq_tree.specs.Answer.{◌>>=◌, parent_of, last_name, may_rename, reply_and_tree, rename_answer}
 use Rattle.assise_seq_tree.specs.Tree.{Tree, at, put, without, IsOrdered}
-use Rattle.assise_seq_tree.proofs.Moves.{Path, at-put_apart, parent_and_last}
-use Rattle.assise_seq_tree.proofs.Paths.{step_apart, put_stands, gone}
+use Rattle.assise_seq_tree.proofs.Moves.{Path, at-put_disjoint, parent_and_last}
+use Rattle.assise_seq_tree.proofs.Paths.{step_disjoint, put_stands, gone}
 use Rattle.assise_seq_tree.proofs.Checks.{Passed, passed}
-use Rattle.assise_seq_tree.proofs.Receiving.{stays_directory}
+use Rattle.assise_seq_tree.proofs.MovedTreeRoom.{stays_directory}
 
 -- the checks passed, and the tree is moved
 pub record Renamed (t u : Tree) (p q : Path) (moved : Tree) : Type 0 where
@@ -36,7 +36,7 @@ stands_at_its_new_path t u p q moved h other there =
     let r = renamed t u p q moved h other there in
     let c = r.checks in
     let d = stays_directory (parent_of q) p t c.entries c.parent
-    (λ rest is. c.apart.second (rest ++ last_name q ∷ [], parent_and_last q c.to_name ∙ ap (λ x. x ++ last_name q ∷ []) is ∙ append_assoc p rest (last_name q ∷ []))) in
+    (λ rest is. c.disjoint.second (rest ++ last_name q ∷ [], parent_and_last q c.to_name ∙ ap (λ x. x ++ last_name q ∷ []) is ∙ append_assoc p rest (last_name q ∷ []))) in
     ap (λ v. at v q) r.tree ∙ put_stands (without t p) moved q d.entries d.there
 
 -- and not at its old one
@@ -44,4 +44,4 @@ pub gone_from_its_old_path : (t u : Tree) (p q : Path) (moved : Tree) → IsOrde
 gone_from_its_old_path t u p q moved s h other there =
     let r = renamed t u p q moved h other there in
     let c = r.checks in
-    ap (λ v. at v p) r.tree ∙ at-put_apart p q (without t p) moved (step_apart p q c.apart) ∙ gone p t moved s c.from_name there
+    ap (λ v. at v p) r.tree ∙ at-put_disjoint p q (without t p) moved (step_disjoint p q c.disjoint) ∙ gone p t moved s c.from_name there

@@ -29,9 +29,9 @@ shadowed true x y z = refl
 shadowed false x y z = refl
 
 pub swapped : {A : Type 0} (a b : Bool) (x y z : A) → (a ≡ true → b ≡ true → ⊥) → cond a x (cond b y z) ≡ cond b y (cond a x z)
-swapped true true x y z apart = absurd (apart refl refl)
-swapped true false x y z apart = refl
-swapped false b x y z apart = refl
+swapped true true x y z disjoint = absurd (disjoint refl refl)
+swapped true false x y z disjoint = refl
+swapped false b x y z disjoint = refl
 
 pub not_both : (q n k : List ℕ) → same_name n k ≡ false → same_name q k ≡ true → same_name q n ≡ true → ⊥
 not_both q n k e a b = two_names n k e (sym (one_name q n b) ∙ one_name q k a)
@@ -90,7 +90,7 @@ below-remove a n no_entries below = tt
 below-remove a n (entry k t es) below =
     elim (cases_Bool (same_name n k)) [
       | inl same ↦ rw same below.1
-      | inr apart ↦ rw apart (below.0, below-remove a n es below.1)
+      | inr disjoint ↦ rw disjoint (below.0, below-remove a n es below.1)
     ]
 
 pub ordered-remove : (n : List ℕ) (es : Entries) → AreOrdered es → AreOrdered (remove n es)
@@ -98,7 +98,7 @@ ordered-remove n no_entries s = tt
 ordered-remove n (entry k t es) s =
     elim (cases_Bool (same_name n k)) [
       | inl same ↦ rw same s.2
-      | inr apart ↦ rw apart (below-remove k n es s.0, s.1, ordered-remove n es s.2)
+      | inr disjoint ↦ rw disjoint (below-remove k n es s.0, s.1, ordered-remove n es s.2)
     ]
 
 pub ordered-set : (n : List ℕ) (x : Tree) (es : Entries) → AreOrdered es → IsOrdered x → AreOrdered (set n x es)

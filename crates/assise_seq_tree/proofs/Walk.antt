@@ -7,7 +7,7 @@ use Rattle.assise_names.specs.declared.reply.TreeError.{TreeError}
 use Rattle.assise_names.specs.declared.reply.TreeError.TheVariants.{NoEnt, NotDir}
 use Rattle.std.proofs.lemmas.List.{take_rest}
 use Rattle.assise_seq_tree.specs.Tree.{Tree, file, dir, Entries, no_entries, find, at, put, without}
-use Rattle.assise_seq_tree.specs.View.{entries_of}
+use Rattle.assise_seq_tree.specs.View.{map_entries}
 use Rattle.std.specs.Option.{option_copied_mut}
 use Rattle.std.proofs.lemmas.Map.Steps.{set_value_same}
 use Rattle.std.specs.Map.{set_value, lookup, remove_entry}
@@ -27,10 +27,10 @@ first_and_rest [] x h e = absurd (omega arith)
 first_and_rest (y ∷ ys) x h e = ap (λ z. z ∷ ys) (sym e) ∙ ap (λ zs. x ∷ zs) (sym (take_rest (y ∷ ys) 1))
 
 -- what a look-up in the map says of the entries
-pub found : (name : List ℕ) (m : BTreeMap (List ℕ) Tree) (r : Option (Bor Tree)) (x : Bor Tree) → r ≡ Some x → option_copied r ≡ get_by (at_text name) m → find name (entries_of m.entries) ≡ Some x.now
+pub found : (name : List ℕ) (m : BTreeMap (List ℕ) Tree) (r : Option (Bor Tree)) (x : Bor Tree) → r ≡ Some x → option_copied r ≡ get_by (at_text name) m → find name (map_entries m.entries) ≡ Some x.now
 found name m r x is value = find-entries_of name m.entries ∙ sym (rw is at value)
 
-pub missing : (name : List ℕ) (m : BTreeMap (List ℕ) Tree) (r : Option (Bor Tree)) → r ≡ None → option_copied r ≡ get_by (at_text name) m → find name (entries_of m.entries) ≡ None
+pub missing : (name : List ℕ) (m : BTreeMap (List ℕ) Tree) (r : Option (Bor Tree)) → r ≡ None → option_copied r ≡ get_by (at_text name) m → find name (map_entries m.entries) ≡ None
 missing name m r is value = find-entries_of name m.entries ∙ sym (rw is at value)
 
 -- the walk
@@ -63,8 +63,8 @@ put_file t x names bytes name p e is = rw (e, is)
 
 -- what stands at the name is changed in its place
 pub put_found : (t x : Tree) (names : List (List ℕ)) (name : List ℕ) (p : List (List ℕ)) (m n : BTreeMap (List ℕ) Tree) (r : Option (MutBor Tree)) (u : MutBor Tree) (w : Tree)
-    → names ≡ name ∷ p → t ≡ dir (entries_of m.entries) → r ≡ Some u → option_copied_mut r ≡ get_by (at_text name) m
-    → n.entries ≡ set_value (is_at (at_text name)) m.entries w → w ≡ put u.now p x → dir (entries_of n.entries) ≡ put t names x
+    → names ≡ name ∷ p → t ≡ dir (map_entries m.entries) → r ≡ Some u → option_copied_mut r ≡ get_by (at_text name) m
+    → n.entries ≡ set_value (is_at (at_text name)) m.entries w → w ≡ put u.now p x → dir (map_entries n.entries) ≡ put t names x
 unfolding put
 put_found t x names name p m n r u w e is some value written ends =
     let there : lookup (is_at (at_text name)) m.entries ≡ Some u.now = sym (rw some at value) in
@@ -72,8 +72,8 @@ put_found t x names name p m n r u w e is some value written ends =
 
 -- what is missing is made at its sorted place
 pub put_missing : (t x : Tree) (names : List (List ℕ)) (name : List ℕ) (p : List (List ℕ)) (m n : BTreeMap (List ℕ) Tree) (r : Option (MutBor Tree)) (key : List ℕ) (w : Tree)
-    → names ≡ name ∷ p → t ≡ dir (entries_of m.entries) → r ≡ None → option_copied_mut r ≡ get_by (at_text name) m
-    → key ≡ name → n.entries ≡ insert_entry (slice_cmp nat_cmp) m.entries key w → w ≡ put (dir no_entries) p x → dir (entries_of n.entries) ≡ put t names x
+    → names ≡ name ∷ p → t ≡ dir (map_entries m.entries) → r ≡ None → option_copied_mut r ≡ get_by (at_text name) m
+    → key ≡ name → n.entries ≡ insert_entry (slice_cmp nat_cmp) m.entries key w → w ≡ put (dir no_entries) p x → dir (map_entries n.entries) ≡ put t names x
 unfolding put
 put_missing t x names name p m n r key w e is none value spelled written ends =
     let missing : lookup (is_at (at_text name)) m.entries ≡ None = sym (rw none at value) in
@@ -81,15 +81,15 @@ put_missing t x names name p m n r key w e is none value spelled written ends =
 
 -- a child that stays as it was leaves the tree as it was
 pub kept_found : (t : Tree) (name : List ℕ) (m n : BTreeMap (List ℕ) Tree) (r : Option (MutBor Tree)) (u : MutBor Tree) (w : Tree)
-    → t ≡ dir (entries_of m.entries) → r ≡ Some u → option_copied_mut r ≡ get_by (at_text name) m → n.entries ≡ set_value (is_at (at_text name)) m.entries w → w ≡ u.now → dir (entries_of n.entries) ≡ t
+    → t ≡ dir (map_entries m.entries) → r ≡ Some u → option_copied_mut r ≡ get_by (at_text name) m → n.entries ≡ set_value (is_at (at_text name)) m.entries w → w ≡ u.now → dir (map_entries n.entries) ≡ t
 kept_found t name m n r u w is some value written same =
-    rw (is, written) (ap (λ es. dir (entries_of es)) (set_value_same (is_at (at_text name)) m.entries w (sym (rw some at value) ∙ ap Some (sym same))))
+    rw (is, written) (ap (λ es. dir (map_entries es)) (set_value_same (is_at (at_text name)) m.entries w (sym (rw some at value) ∙ ap Some (sym same))))
 
 -- the same of a look-up that lends
-pub found_mut : (name : List ℕ) (m : BTreeMap (List ℕ) Tree) (r : Option (MutBor Tree)) (x : MutBor Tree) → r ≡ Some x → option_copied_mut r ≡ get_by (at_text name) m → find name (entries_of m.entries) ≡ Some x.now
+pub found_mut : (name : List ℕ) (m : BTreeMap (List ℕ) Tree) (r : Option (MutBor Tree)) (x : MutBor Tree) → r ≡ Some x → option_copied_mut r ≡ get_by (at_text name) m → find name (map_entries m.entries) ≡ Some x.now
 found_mut name m r x is value = find-entries_of name m.entries ∙ sym (rw is at value)
 
-pub missing_mut : (name : List ℕ) (m : BTreeMap (List ℕ) Tree) (r : Option (MutBor Tree)) → r ≡ None → option_copied_mut r ≡ get_by (at_text name) m → find name (entries_of m.entries) ≡ None
+pub missing_mut : (name : List ℕ) (m : BTreeMap (List ℕ) Tree) (r : Option (MutBor Tree)) → r ≡ None → option_copied_mut r ≡ get_by (at_text name) m → find name (map_entries m.entries) ≡ None
 missing_mut name m r is value = find-entries_of name m.entries ∙ sym (rw is at value)
 
 pub at_below : (t : Tree) (names : List (List ℕ)) (es : Entries) (name : List ℕ) (p : List (List ℕ)) (x : Tree) → names ≡ name ∷ p → t ≡ dir es → find name es ≡ Some x → at t names ≡ at x p
@@ -111,11 +111,11 @@ same_tree r x y a b = cc
 -- ---- taking out
 -- what stands at one name alone
 pub taken_last : (t x : Tree) (names : List (List ℕ)) (name : List ℕ) (p : List (List ℕ)) (m : BTreeMap (List ℕ) Tree) (r : Option Tree)
-    → names ≡ name ∷ p → length p ≡ 0 → t ≡ dir (entries_of m.entries) → r ≡ get_by (at_text name) m → at t names ≡ Ok x → r ≡ Some x
+    → names ≡ name ∷ p → length p ≡ 0 → t ≡ dir (map_entries m.entries) → r ≡ get_by (at_text name) m → at t names ≡ Ok x → r ≡ Some x
 unfolding at
 taken_last t x names name [] m r e none is value h =
     let there = rw (e, is) at h in
-    value ∙ sym (find-entries_of name m.entries) ∙ only (find name (entries_of m.entries)) there
+    value ∙ sym (find-entries_of name m.entries) ∙ only (find name (map_entries m.entries)) there
   where
     only : (o : Option Tree) → option_map_or (λ t. Ok t) o (Err NoEnt) ≡ Ok x → o ≡ Some x
     only None f = cc
@@ -127,15 +127,15 @@ unfolding without
 without_file t names bytes name p e is = rw (e, is)
 
 pub without_last : (t : Tree) (names : List (List ℕ)) (name : List ℕ) (p : List (List ℕ)) (m n : BTreeMap (List ℕ) Tree)
-    → names ≡ name ∷ p → length p ≡ 0 → t ≡ dir (entries_of m.entries) → n.entries ≡ remove_entry (is_at (at_text name)) m.entries → dir (entries_of n.entries) ≡ without t names
+    → names ≡ name ∷ p → length p ≡ 0 → t ≡ dir (map_entries m.entries) → n.entries ≡ remove_entry (is_at (at_text name)) m.entries → dir (map_entries n.entries) ≡ without t names
 unfolding without
 without_last t names name [] m n e none is left = rw (e, is, left) (ap dir (sym (remove-entries_of name m.entries)))
 without_last t names name (k ∷ p) m n e none is left = absurd (omega arith)
 
 -- what stands at the name is changed in its place
 pub without_found : (t : Tree) (names : List (List ℕ)) (name : List ℕ) (p : List (List ℕ)) (m n : BTreeMap (List ℕ) Tree) (r : Option (MutBor Tree)) (u : MutBor Tree) (w : Tree)
-    → names ≡ name ∷ p → 0 < length p → t ≡ dir (entries_of m.entries) → r ≡ Some u → option_copied_mut r ≡ get_by (at_text name) m
-    → n.entries ≡ set_value (is_at (at_text name)) m.entries w → w ≡ without u.now p → dir (entries_of n.entries) ≡ without t names
+    → names ≡ name ∷ p → 0 < length p → t ≡ dir (map_entries m.entries) → r ≡ Some u → option_copied_mut r ≡ get_by (at_text name) m
+    → n.entries ≡ set_value (is_at (at_text name)) m.entries w → w ≡ without u.now p → dir (map_entries n.entries) ≡ without t names
 unfolding without
 without_found t names name [] m n r u w e some is found value written ends = absurd (omega arith)
 without_found t names name (k ∷ p) m n r u w e some is found value written ends =
@@ -143,11 +143,11 @@ without_found t names name (k ∷ p) m n r u w e some is found value written end
     rw (e, is, find-entries_of name m.entries, there, written, ← ends) (ap dir (sym (replace-entries_of name w m.entries)))
 
 pub without_missing : (t : Tree) (names : List (List ℕ)) (name : List ℕ) (p : List (List ℕ)) (m : BTreeMap (List ℕ) Tree) (r : Option (MutBor Tree))
-    → names ≡ name ∷ p → 0 < length p → t ≡ dir (entries_of m.entries) → r ≡ None → option_copied_mut r ≡ get_by (at_text name) m → t ≡ without t names
+    → names ≡ name ∷ p → 0 < length p → t ≡ dir (map_entries m.entries) → r ≡ None → option_copied_mut r ≡ get_by (at_text name) m → t ≡ without t names
 unfolding without
 without_missing t names name [] m r e some is none value = absurd (omega arith)
 without_missing t names name (k ∷ p) m r e some is none value =
-    rw (e, is) (ap dir (sym (replace_absent name _ (entries_of m.entries) (missing_mut name m r none value))))
+    rw (e, is) (ap dir (sym (replace_absent name _ (map_entries m.entries) (missing_mut name m r none value))))
 
 -- what the test of a length says
 pub is_none : (b : Bool) (n : ℕ) → b ≡ (n == 0) → b ≡ true → n ≡ 0

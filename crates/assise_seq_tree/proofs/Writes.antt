@@ -8,9 +8,9 @@ use Rattle.assise_names.specs.declared.reply.TreeError.TheVariants.{TooBig}
 use Rattle.assise_seq_tree.specs.Answer.{◌>>=◌, as_file, file_at, reply_and_tree, read_answer, write_answer, stat_answer, tree_after_write}
 use Rattle.assise_seq_tree.specs.Contents.{bytes_from, overwritten, is_within}
 use Rattle.assise_seq_tree.specs.Tree.{Tree, file, dir, at, put}
-use Rattle.assise_seq_tree.proofs.Replacing.{at-put}
+use Rattle.assise_seq_tree.proofs.TreePut.{at-put}
 use Rattle.assise_seq_tree.proofs.Moves.{Path}
-use Rattle.assise_seq_tree.proofs.Reading.{read_new, read_again, read_kept, read_behind, read_gap, length-overwritten}
+use Rattle.assise_seq_tree.proofs.BytesRead.{read_new, read_again, read_kept, read_behind, read_gap, length-overwritten}
 
 -- the bytes that the file has after the write
 abbrev pub bytes_after : List ℕ → ℕ → List ℕ → List ℕ
@@ -77,14 +77,14 @@ written_is_read t u p offset new h =
     back bytes (b ∷ new) = let some : (length (b ∷ new) == 0) ≡ false = some_bytes (b ∷ new) (omega arith) in rw some (read_new bytes offset (b ∷ new))
 
 pub kept_before : (t u : Tree) (p : Path) (offset from most : ℕ) (new old : List ℕ) → write_answer t p offset new ≡ (Done, u) → read_answer t p from most ≡ (Bytes old, t) → from + length old ≤ offset → read_answer u p from (length old) ≡ (Bytes old, u)
-kept_before t u p offset from most new old h r front =
+kept_before t u p offset from most new old h r prefix =
     let w = wrote t u p offset new h in
     let is = have_read t p from most w.bytes old w.there r in
     reads u p from (length old) (bytes_after w.bytes offset new) w.after ∙ ap (λ bytes. (Bytes bytes, u)) (same w.bytes is (length new == 0))
   where
     same : (bytes : List ℕ) → bytes_from from most bytes ≡ old → (b : Bool) → bytes_from from (length old) (cond b bytes (overwritten bytes offset new)) ≡ old
     same bytes is true = rw (← is) (read_again from most bytes)
-    same bytes is false = rw (← is) (read_kept bytes offset new from most (omega (arith, front, ap length is)))
+    same bytes is false = rw (← is) (read_kept bytes offset new from most (omega (arith, prefix, ap length is)))
 
 pub kept_behind : (t u : Tree) (p : Path) (offset from most : ℕ) (new old : List ℕ) → write_answer t p offset new ≡ (Done, u) → read_answer t p from most ≡ (Bytes old, t) → offset + length new ≤ from → read_answer u p from most ≡ (Bytes old, u)
 kept_behind t u p offset from most new old h r behind =

@@ -1,7 +1,7 @@
 -- What each call answers, and the tree that it leaves.
 -- POSIX.1-2017, system interfaces: open() with O_CREAT and O_EXCL, mkdir(), read(), write(), truncate(), rename(), unlink(), rmdir(), readdir(), stat(), fsync(); base definitions: 4.13 Pathname Resolution.
 use Rattle.std.specs.Prelude.{ℕ, ◌-◌, Bool, ◌||◌, if◌then◌else◌, nat_le, ◌==◌, List, [], length, take, slice_index_or, is_some, Option, Some, None, Result, Ok, Err}
-use Rattle.assise_names.specs.Path.{is_proper_front, same_path}
+use Rattle.assise_names.specs.Path.{is_proper_prefix, same_path}
 use Rattle.assise_names.specs.declared.call.Op.{Op}
 use Rattle.assise_names.specs.declared.call.Op.TheVariants.{Create, Mkdir, Read, Write, Truncate, Rename, Unlink, Rmdir, List as ListCall, Stat, Fsync, Dsync}
 use Rattle.assise_names.specs.declared.reply.Reply.{Reply}
@@ -9,7 +9,7 @@ use Rattle.assise_names.specs.declared.reply.Reply.TheVariants.{Done, Bytes, Nam
 use Rattle.assise_names.specs.declared.reply.TreeError.{TreeError}
 use Rattle.assise_names.specs.declared.reply.TreeError.TheVariants.{Exists, NotDir, IsDir, NotEmpty, Invalid, TooBig, DirFull}
 use Rattle.assise_seq_tree.specs.Contents.{bytes_from, overwritten, is_within, resized}
-use Rattle.assise_seq_tree.specs.Tree.{Tree, file, dir, Entries, no_entries, LieApart, find, names_of, count, at, put, without}
+use Rattle.assise_seq_tree.specs.Tree.{Tree, file, dir, Entries, no_entries, AreDisjointPaths, find, names_of, count, at, put, without}
 
 -- ---- the checks, of which the first that fails decides
 
@@ -74,7 +74,7 @@ may_receive moved stays es None = if stays then Ok tt else (if nat_le 4096 (coun
 abbrev pub may_rename : Tree → List (List ℕ) → List (List ℕ) → Result (Unit {0}) TreeError
 may_rename t p q =
     if (length p == 0) || (length q == 0) then Err Invalid
-    else (if is_proper_front p q then Err Invalid
+    else (if is_proper_prefix p q then Err Invalid
     else (at t p >>= λ moved. entries_at t (parent_of q) >>= λ es.
     if same_path p q then Ok tt else may_receive moved (same_path (parent_of p) (parent_of q)) es (find (last_name q) es)))
 
@@ -117,7 +117,7 @@ unlink_answer t p = reply_and_tree t (may_unlink t p >>= λ _. Ok (Done, without
 abbrev pub rmdir_answer : Tree → List (List ℕ) → Reply × Tree
 rmdir_answer t p = reply_and_tree t (may_rmdir t p >>= λ _. Ok (Done, without t p))
 
--- the entries of a directory rise by their names
+-- the entries of a directory ascend by their names
 abbrev pub list_answer : Tree → List (List ℕ) → Reply × Tree
 list_answer t p = reply_and_tree t (entries_at t p >>= λ es. Ok (Names (names_of es), t))
 
@@ -143,17 +143,17 @@ answer t (Stat p) = stat_answer t p
 answer t Fsync = (Done, t)
 answer t Dsync = (Done, t)
 
--- the path lies apart from those that the call names
-abbrev pub IsApartFrom : Op → List (List ℕ) → Type 0
-IsApartFrom (Create p) q = LieApart p q
-IsApartFrom (Mkdir p) q = LieApart p q
-IsApartFrom (Read p offset most) q = LieApart p q
-IsApartFrom (Write p offset new) q = LieApart p q
-IsApartFrom (Truncate p size) q = LieApart p q
-IsApartFrom (Rename p r) q = LieApart p q × LieApart r q
-IsApartFrom (Unlink p) q = LieApart p q
-IsApartFrom (Rmdir p) q = LieApart p q
-IsApartFrom (ListCall p) q = LieApart p q
-IsApartFrom (Stat p) q = LieApart p q
-IsApartFrom Fsync q = Unit {0}
-IsApartFrom Dsync q = Unit {0}
+-- the path is disjoint from those that the call names
+abbrev pub IsDisjointFrom : Op → List (List ℕ) → Type 0
+IsDisjointFrom (Create p) q = AreDisjointPaths p q
+IsDisjointFrom (Mkdir p) q = AreDisjointPaths p q
+IsDisjointFrom (Read p offset most) q = AreDisjointPaths p q
+IsDisjointFrom (Write p offset new) q = AreDisjointPaths p q
+IsDisjointFrom (Truncate p size) q = AreDisjointPaths p q
+IsDisjointFrom (Rename p r) q = AreDisjointPaths p q × AreDisjointPaths r q
+IsDisjointFrom (Unlink p) q = AreDisjointPaths p q
+IsDisjointFrom (Rmdir p) q = AreDisjointPaths p q
+IsDisjointFrom (ListCall p) q = AreDisjointPaths p q
+IsDisjointFrom (Stat p) q = AreDisjointPaths p q
+IsDisjointFrom Fsync q = Unit {0}
+IsDisjointFrom Dsync q = Unit {0}

@@ -3,14 +3,14 @@
 use Rattle.std.specs.Prelude.{ℕ, ◌-◌, ◌^◌, min, List, [], ◌∷◌, ◌++◌, length, codes}
 use Rattle.std.specs.List.{flat_map}
 use Rattle.std.specs.Fmt.{decimal}
-use Rattle.assise_names.specs.Path.{spelling}
+use Rattle.assise_names.specs.Path.{path_spelling}
 use Rattle.assise_seq_tree.specs.Tree.{Tree, file, dir, Entries, no_entries, entry}
 
 -- an entry's path, and what stands there
 abbrev pub Place : Type 0
 Place = List (List ℕ) × Tree
 
--- the entries at every depth of what stands at a path: by rising names in a directory, and each before what it holds
+-- the entries at every depth of what stands at a path: by ascending names in a directory, and each before what it holds
 abbrev mutual
   pub places_below : List (List ℕ) → Tree → List Place
   places_below path (file bytes) = []
@@ -27,7 +27,7 @@ kind_text (dir es) = codes "dir"
 
 -- a line feed, and then the entry
 abbrev pub place_line : Place → List ℕ
-place_line place = 10 ∷ spelling place.0 ++ 32 ∷ kind_text place.1
+place_line place = 10 ∷ path_spelling place.0 ++ 32 ∷ kind_text place.1
 
 -- how many entries are counted; of more than 2^64 - 1 this many
 abbrev pub counted : List Place → ℕ

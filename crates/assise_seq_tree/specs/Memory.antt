@@ -16,16 +16,16 @@ abbrev pub size_at : Tree → List (List ℕ) → ℕ
 size_at t p = length_of_found (file_at t p)
 
 -- the call makes an entry where there was none, makes a file longer, or reads names or at least a byte
-abbrev pub AsksForMemory : Tree → Op → Type 0
-AsksForMemory t (Create p) = Unit {0}
-AsksForMemory t (Mkdir p) = Unit {0}
-AsksForMemory t (Read p offset most) = (0 < most) × (offset < size_at t p)
-AsksForMemory t (Write p offset new) = (0 < length new) × (size_at t p < offset + length new)
-AsksForMemory t (Truncate p size) = size_at t p < size
-AsksForMemory t (Rename p q) = IsErr (at t q)
-AsksForMemory t (Unlink p) = ⊥
-AsksForMemory t (Rmdir p) = ⊥
-AsksForMemory t (ListCall p) = Unit {0}
-AsksForMemory t (Stat p) = ⊥
-AsksForMemory t Fsync = ⊥
-AsksForMemory t Dsync = ⊥
+abbrev pub CallAsksForMemory : Tree → Op → Type 0
+CallAsksForMemory t (Create p) = Unit {0}
+CallAsksForMemory t (Mkdir p) = Unit {0}
+CallAsksForMemory t (Read p offset most) = (0 < most) × (offset < size_at t p)
+CallAsksForMemory t (Write p offset new) = (0 < length new) × (size_at t p < offset + length new)
+CallAsksForMemory t (Truncate p size) = size_at t p < size
+CallAsksForMemory t (Rename p q) = IsErr (at t q)
+CallAsksForMemory t (Unlink p) = ⊥
+CallAsksForMemory t (Rmdir p) = ⊥
+CallAsksForMemory t (ListCall p) = Unit {0}
+CallAsksForMemory t (Stat p) = ⊥
+CallAsksForMemory t Fsync = ⊥
+CallAsksForMemory t Dsync = ⊥

@@ -8,7 +8,7 @@ use Rattle.std.specs.Cmp.Lexicographic.{slice_cmp}
 use Rattle.assise_names.specs.declared.reply.TreeError.{TreeError}
 use Rattle.assise_names.specs.declared.reply.TreeError.TheVariants.{NoEnt, NotDir}
 
--- a file with its bytes, or a directory with its entries by rising names
+-- a file with its bytes, or a directory with its entries by ascending names
 mutual
   pub data Tree : Type 0 where
     file : List ℕ → Tree
@@ -82,14 +82,14 @@ without (file bytes) (name ∷ p) = file bytes
 without (dir es) (name ∷ []) = dir (remove name es)
 without (dir es) (name ∷ next ∷ p) = dir (replace name (without (unwrap_or (find name es) (dir no_entries)) (next ∷ p)) es)
 
--- the path begins with this front, which may be the whole of it
-abbrev pub BeginsWith : List (List ℕ) → List (List ℕ) → Type 0
-BeginsWith path front = (rest : List (List ℕ)) × (path ≡ front ++ rest)
+-- the path begins with this prefix, which may be the whole of it
+abbrev pub HasPrefix : List (List ℕ) → List (List ℕ) → Type 0
+HasPrefix path prefix = (rest : List (List ℕ)) × (path ≡ prefix ++ rest)
 
 -- neither path begins with the other
-pub record LieApart (p q : List (List ℕ)) : Type 0 where
-  pub first : BeginsWith p q → ⊥
-  pub second : BeginsWith q p → ⊥
+pub record AreDisjointPaths (p q : List (List ℕ)) : Type 0 where
+  pub first : HasPrefix p q → ⊥
+  pub second : HasPrefix q p → ⊥
 
 -- ---- order, limits and size
 
@@ -98,7 +98,7 @@ abbrev pub IsBelow : List ℕ → Entries → Type 0
 IsBelow name no_entries = Unit {0}
 IsBelow name (entry other t es) = (slice_cmp nat_cmp name other ≡ Less) × IsBelow name es
 
--- the names of each directory rise, at every depth
+-- the names of each directory ascend, at every depth
 abbrev mutual
   pub IsOrdered : Tree → Type 0
   IsOrdered (file bytes) = Unit {0}

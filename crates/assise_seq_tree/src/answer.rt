@@ -5,8 +5,8 @@ ghost use Rattle.assise_names.specs.declared.refusal.Refusal.TheVariants.{OutOfM
 ghost use Rattle.assise_names.specs.declared.reply.Reply.TheVariants.{Error};
 ghost use Rattle.assise_names.specs.declared.reply.TreeError.{TreeError};
 ghost use Rattle.assise_seq_tree.specs.Answer.{answer, create_answer, entries_at, file_at, list_answer, may_rmdir, may_unlink, mkdir_answer, read_answer, rmdir_answer, room_at, room_for, stat_answer, truncate_answer, unlink_answer, vacant, write_answer};
-ghost use Rattle.assise_seq_tree.specs.Memory.{AsksForMemory, size_at};
-ghost use Rattle.assise_seq_tree.specs.View.{entries_of};
+ghost use Rattle.assise_seq_tree.specs.Memory.{CallAsksForMemory, size_at};
+ghost use Rattle.assise_seq_tree.specs.View.{map_entries};
 
 use crate::contents::{MOST_FILE_BYTES, bytes_from, copied, is_within};
 use crate::renaming::rename;
@@ -48,7 +48,7 @@ pub const MOST_ENTRIES: usize = 4096;
 /// - [`Op::Unlink`]: the root is [`TreeError::IsDir`]; the walk; a directory is [`TreeError::IsDir`].
 /// - [`Op::Rmdir`]: the root is [`TreeError::Invalid`]; the walk; a file is [`TreeError::NotDir`]; a directory with
 ///   entries is [`TreeError::NotEmpty`].
-/// - [`Op::List`]: the walk; a file is [`TreeError::NotDir`]. The names rise by their bytes.
+/// - [`Op::List`]: the walk; a file is [`TreeError::NotDir`]. The names ascend by their bytes.
 /// - [`Op::Stat`]: the walk.
 /// - [`Op::Fsync`], [`Op::Dsync`]: no check.
 ///
@@ -57,10 +57,11 @@ pub const MOST_ENTRIES: usize = 4096;
 /// or read names or at least a byte.
 pub fn answer(alloc: Global, tree: &mut Tree, op: &Op) -> Result<Reply, Refusal>
     ensures ok { IfOk result (λ reply. (reply, tree.new) ≡ answer tree.old op.now) }
-    ensures reads_change_nothing { IfOk result (λ reply. HoldsWhatWasRead reply → tree.new ≡ tree.old) }
+    ensures reads_change_nothing { IfOk result
+        (λ reply. HoldsWhatWasRead reply → tree.new ≡ tree.old) }
     ensures err { OnErr result (tree.new ≡ tree.old) }
     ensures errors { (error : TreeError) → (answer tree.old op.now).0 ≡ Error error → IsOk result }
-    ensures asked { OnErr result (AsksForMemory tree.old op.now) }
+    ensures asked { OnErr result (CallAsksForMemory tree.old op.now) }
     ensures only_memory { IsOkUnless result OutOfMemory }
 {
     match op {
@@ -89,7 +90,8 @@ pub fn answer(alloc: Global, tree: &mut Tree, op: &Op) -> Result<Reply, Refusal>
 fn create(alloc: Global, tree: &mut Tree, names: &[Name]) -> Result<Reply, Refusal>
     ensures ok { IfOk result (λ reply. (reply, tree.new) ≡ create_answer tree.old names.now) }
     ensures err { OnErr result (tree.new ≡ tree.old) }
-    ensures errors { (error : TreeError) → (create_answer tree.old names.now).0 ≡ Error error → IsOk result }
+    ensures errors { (error : TreeError) → (create_answer tree.old names.now).0 ≡ Error error →
+        IsOk result }
     ensures only_memory { IsOkUnless result OutOfMemory }
 {
     if let Err(error) = room_at(tree, names) {
@@ -103,7 +105,8 @@ fn create(alloc: Global, tree: &mut Tree, names: &[Name]) -> Result<Reply, Refus
 fn mkdir(alloc: Global, tree: &mut Tree, names: &[Name]) -> Result<Reply, Refusal>
     ensures ok { IfOk result (λ reply. (reply, tree.new) ≡ mkdir_answer tree.old names.now) }
     ensures err { OnErr result (tree.new ≡ tree.old) }
-    ensures errors { (error : TreeError) → (mkdir_answer tree.old names.now).0 ≡ Error error → IsOk result }
+    ensures errors { (error : TreeError) → (mkdir_answer tree.old names.now).0 ≡ Error error →
+        IsOk result }
     ensures only_memory { IsOkUnless result OutOfMemory }
 {
     if let Err(error) = room_at(tree, names) {
@@ -121,8 +124,10 @@ fn read(
     offset: u64,
     length: u64,
 ) -> Result<Reply, Refusal>
-    ensures ok { IfOk result (λ reply. (reply, tree.now) ≡ read_answer tree.now names.now offset length) }
-    ensures errors { (error : TreeError) → (read_answer tree.now names.now offset length).0 ≡ Error error → IsOk result }
+    ensures ok { IfOk result (λ reply. (reply, tree.now) ≡
+        read_answer tree.now names.now offset length) }
+    ensures errors { (error : TreeError) → (read_answer tree.now names.now offset length).0 ≡
+        Error error → IsOk result }
     ensures asked { OnErr result ((0 < length) × (offset < size_at tree.now names.now)) }
     ensures only_memory { IsOkUnless result OutOfMemory }
 {
@@ -143,10 +148,13 @@ fn write(
     offset: u64,
     new: &[u8],
 ) -> Result<Reply, Refusal>
-    ensures ok { IfOk result (λ reply. (reply, tree.new) ≡ write_answer tree.old names.now offset new.now) }
+    ensures ok { IfOk result (λ reply. (reply, tree.new) ≡
+        write_answer tree.old names.now offset new.now) }
     ensures err { OnErr result (tree.new ≡ tree.old) }
-    ensures errors { (error : TreeError) → (write_answer tree.old names.now offset new.now).0 ≡ Error error → IsOk result }
-    ensures asked { OnErr result ((0 < length new.now) × (size_at tree.old names.now < offset + length new.now)) }
+    ensures errors { (error : TreeError) → (write_answer tree.old names.now offset new.now).0 ≡
+        Error error → IsOk result }
+    ensures asked { OnErr result ((0 < length new.now) ×
+        (size_at tree.old names.now < offset + length new.now)) }
     ensures only_memory { IsOkUnless result OutOfMemory }
 {
     if let Err(error) = file_at(tree, names) {
@@ -164,9 +172,11 @@ fn write(
 
 /// Gives a file another size.
 fn truncate(alloc: Global, tree: &mut Tree, names: &[Name], size: u64) -> Result<Reply, Refusal>
-    ensures ok { IfOk result (λ reply. (reply, tree.new) ≡ truncate_answer tree.old names.now size) }
+    ensures ok { IfOk result (λ reply. (reply, tree.new) ≡
+        truncate_answer tree.old names.now size) }
     ensures err { OnErr result (tree.new ≡ tree.old) }
-    ensures errors { (error : TreeError) → (truncate_answer tree.old names.now size).0 ≡ Error error → IsOk result }
+    ensures errors { (error : TreeError) → (truncate_answer tree.old names.now size).0 ≡
+        Error error → IsOk result }
     ensures asked { OnErr result (size_at tree.old names.now < size) }
     ensures only_memory { IsOkUnless result OutOfMemory }
 {
@@ -209,7 +219,8 @@ fn rmdir(tree: &mut Tree, names: &[Name]) -> Reply
 /// Lists the names of a directory's entries.
 fn list(alloc: Global, tree: &Tree, names: &[Name]) -> Result<Reply, Refusal>
     ensures ok { IfOk result (λ reply. (reply, tree.now) ≡ list_answer tree.now names.now) }
-    ensures errors { (error : TreeError) → (list_answer tree.now names.now).0 ≡ Error error → IsOk result }
+    ensures errors { (error : TreeError) → (list_answer tree.now names.now).0 ≡ Error error →
+        IsOk result }
     ensures only_memory { IsOkUnless result OutOfMemory }
 {
     match entries_at(tree, names) {
@@ -230,7 +241,8 @@ fn stat(tree: &Tree, names: &[Name]) -> Reply
 
 /// The bytes of the file at a path.
 fn file_at<'a>(tree: &'a Tree, names: &[Name]) -> Result<&'a [u8], TreeError>
-    ensures { MatchResult result (λ bytes. file_at tree.now names.now ≡ Ok bytes.now) (λ e. file_at tree.now names.now ≡ Err e) }
+    ensures { MatchResult result (λ bytes. file_at tree.now names.now ≡ Ok bytes.now)
+        (λ e. file_at tree.now names.now ≡ Err e) }
 {
     tree.at(names)?.bytes()
 }
@@ -240,7 +252,8 @@ pub(crate) fn entries_at<'a>(
     tree: &'a Tree,
     names: &[Name],
 ) -> Result<&'a BTreeMap<Name, Tree>, TreeError>
-    ensures { MatchResult result (λ m. entries_at tree.now names.now ≡ Ok (entries_of m.now.entries)) (λ e. entries_at tree.now names.now ≡ Err e) }
+    ensures { MatchResult result (λ m. entries_at tree.now names.now ≡ Ok
+        (map_entries m.now.entries)) (λ e. entries_at tree.now names.now ≡ Err e) }
 {
     tree.at(names)?.entries()
 }
@@ -269,7 +282,7 @@ fn may_rmdir(tree: &Tree, names: &[Name]) -> Result<(), TreeError>
 /// Whether there are no entries.
 #[tactic(auto, using(crate::proofs::Entries::entry_facts))]
 pub(crate) fn vacant(entries: &BTreeMap<Name, Tree>) -> Result<(), TreeError>
-    ensures { result ≡ vacant (entries_of entries.now.entries) }
+    ensures { result ≡ vacant (map_entries entries.now.entries) }
 {
     if entries.is_empty() {
         Ok(())
@@ -291,7 +304,7 @@ fn room_at(tree: &Tree, names: &[Name]) -> Result<(), TreeError>
 /// Whether a new entry of this name may join the entries of a directory.
 #[tactic(auto, using(crate::proofs::Entries::entry_facts))]
 fn room_for(entries: &BTreeMap<Name, Tree>, name: &Name) -> Result<(), TreeError>
-    ensures { result ≡ room_for name.now (entries_of entries.now.entries) }
+    ensures { result ≡ room_for name.now (map_entries entries.now.entries) }
 {
     if entries.contains_key(name) {
         return Err(TreeError::Exists);

@@ -69,7 +69,8 @@ pub fn resize(bytes: &mut Vec<u8>, size: usize) -> Result<(), Refusal>
 /// Writes over bytes that are there.
 fn copy_at(bytes: &mut [u8], offset: usize, new: &[u8])
     requires { offset + length new.now ≤ length bytes.old }
-    ensures { bytes.new ≡ take offset bytes.old ++ new.now ++ drop (offset + length new.now) bytes.old }
+    ensures { bytes.new ≡ take offset bytes.old ++ new.now ++ drop
+        (offset + length new.now) bytes.old }
 {
     bytes[offset..offset + new.len()].copy_from_slice(new);
 }

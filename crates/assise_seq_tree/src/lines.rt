@@ -18,7 +18,7 @@ enum Way<'a> {
     Below(&'a Way<'a>, &'a Name),
 }
 
-/// The count of the entries at every depth, and then each in a line of its own: those of a directory by rising names, and
+/// The count of the entries at every depth, and then each in a line of its own: those of a directory by ascending names, and
 /// a directory before what it holds. The root has no line. The last line has no end.
 impl Display for Tree {
     ghost output = { λ tree. Some (tree_text tree) };
@@ -49,7 +49,8 @@ fn write_lines<'a, W: fmt::Write>(
     tree: &'a Tree,
     f: &mut Formatter<W>,
 ) -> fmt::Result
-    ensures { WritesOnOk W.write_str_gives f.old result (flat_map place_line (places_below (names_of_way way.now) tree.now)) f.new }
+    ensures { WritesOnOk W.write_str_gives f.old result
+        (flat_map place_line (places_below (names_of_way way.now) tree.now)) f.new }
 {
     match tree.entries() {
         Ok(entries) => {
@@ -66,7 +67,8 @@ fn write_lines<'a, W: fmt::Write>(
 
 /// The line of what stands at the end of the way.
 fn write_line<W: fmt::Write>(way: &Way<'_>, tree: &Tree, f: &mut Formatter<W>) -> fmt::Result
-    ensures { WritesOnOk W.write_str_gives f.old result (10 ∷ slashed (names_of_way way.now) ++ 32 ∷ kind_text tree.now) f.new }
+    ensures { WritesOnOk W.write_str_gives f.old result
+        (10 ∷ slashed (names_of_way way.now) ++ 32 ∷ kind_text tree.now) f.new }
 {
     f.write_str("\n")?;
     write_path(way, f)?;

@@ -5,7 +5,7 @@ ghost use Rattle.assise_names.specs.declared.reply.Reply.TheVariants.{Error};
 ghost use Rattle.assise_names.specs.declared.reply.TreeError.{TreeError};
 ghost use Rattle.assise_seq_tree.specs.Answer.{may_receive, may_rename, rename_answer};
 ghost use Rattle.assise_seq_tree.specs.Tree.{at, find};
-ghost use Rattle.assise_seq_tree.specs.View.{entries_of};
+ghost use Rattle.assise_seq_tree.specs.View.{map_entries};
 
 use crate::answer::{MOST_ENTRIES, entries_at};
 use crate::tree::Tree;
@@ -25,7 +25,8 @@ pub(crate) fn rename(
 ) -> Result<Reply, Refusal>
     ensures ok { IfOk result (λ reply. (reply, tree.new) ≡ rename_answer tree.old from.now to.now) }
     ensures err { OnErr result (tree.new ≡ tree.old) }
-    ensures errors { (error : TreeError) → (rename_answer tree.old from.now to.now).0 ≡ Error error → IsOk result }
+    ensures errors { (error : TreeError) → (rename_answer tree.old from.now to.now).0 ≡
+        Error error → IsOk result }
     ensures asked { OnErr result (IsErr (at tree.old to.now)) }
     ensures only_memory { IsOkUnless result OutOfMemory }
 {
@@ -64,7 +65,8 @@ fn may_receive(
     entries: &BTreeMap<Name, Tree>,
     name: &Name,
 ) -> Result<(), TreeError>
-    ensures { result ≡ may_receive moved.now stays (entries_of entries.now.entries) (find name.now (entries_of entries.now.entries)) }
+    ensures { result ≡ may_receive moved.now stays (map_entries entries.now.entries)
+        (find name.now (map_entries entries.now.entries)) }
 {
     match entries.get(name) {
         Some(target) => target.may_be_replaced(moved),

@@ -3,8 +3,8 @@ ghost use Rattle.std.specs.Prelude.{◌≡◌, ◌∷◌, ◌+◌, ◌^◌, ◌<
 ghost use Rattle.assise_names.specs.declared.refusal.Refusal.TheVariants.{OutOfMemory};
 ghost use Rattle.assise_seq_tree.specs.Answer.{as_directory, as_file, description_of, may_replace, parent_of};
 ghost use Rattle.assise_seq_tree.specs.Contents.{overwritten, resized};
-ghost use Rattle.assise_seq_tree.specs.Tree.{LieApart, at, dir, file, opening, put, without};
-ghost use Rattle.assise_seq_tree.specs.View.{entries_of};
+ghost use Rattle.assise_seq_tree.specs.Tree.{AreDisjointPaths, at, dir, file, opening, put, without};
+ghost use Rattle.assise_seq_tree.specs.View.{map_entries};
 
 use crate::answer::vacant;
 use crate::contents;
@@ -88,7 +88,8 @@ impl Tree {
     /// The subtree at a path. Where a file stands on the way it is [`TreeError::NotDir`], where a name is
     /// missing [`TreeError::NoEnt`].
     pub(crate) fn at(&self, names: &[Name]) -> Result<&Tree, TreeError>
-        ensures { MatchResult result (λ t. at self.now names.now ≡ Ok t.now) (λ e. at self.now names.now ≡ Err e) }
+        ensures { MatchResult result (λ t. at self.now names.now ≡ Ok t.now)
+            (λ e. at self.now names.now ≡ Err e) }
     {
         let [name, rest @ ..] = names else {
             return Ok(self);
@@ -104,7 +105,8 @@ impl Tree {
 
     /// The entries of a directory. A file is [`TreeError::NotDir`].
     pub(crate) fn entries(&self) -> Result<&BTreeMap<Name, Tree>, TreeError>
-        ensures { MatchResult result (λ m. as_directory self.now ≡ Ok (entries_of m.now.entries)) (λ e. as_directory self.now ≡ Err e) }
+        ensures { MatchResult result (λ m. as_directory self.now ≡ Ok (map_entries m.now.entries))
+            (λ e. as_directory self.now ≡ Err e) }
     {
         match &self.node {
             Node::File(_) => Err(TreeError::NotDir),
@@ -114,7 +116,8 @@ impl Tree {
 
     /// The bytes of a file. A directory is [`TreeError::IsDir`].
     pub(crate) fn bytes(&self) -> Result<&[u8], TreeError>
-        ensures { MatchResult result (λ bytes. as_file self.now ≡ Ok bytes.now) (λ e. as_file self.now ≡ Err e) }
+        ensures { MatchResult result (λ bytes. as_file self.now ≡ Ok bytes.now)
+            (λ e. as_file self.now ≡ Err e) }
     {
         match &self.node {
             Node::File(bytes) => Ok(bytes.as_slice()),
@@ -200,8 +203,10 @@ impl Tree {
 
     /// Exchanges the tree at a path with another, where there is one.
     pub(crate) fn swap(&mut self, names: &[Name], other: &mut Tree)
-        ensures there { (found : _) → at self.old names.now ≡ Ok found → (other.new ≡ found) × (self.new ≡ put self.old names.now other.old) }
-        ensures absent { (e : _) → at self.old names.now ≡ Err e → (other.new ≡ other.old) × (self.new ≡ self.old) }
+        ensures there { (found : _) → at self.old names.now ≡ Ok found →
+            (other.new ≡ found) × (self.new ≡ put self.old names.now other.old) }
+        ensures absent { (e : _) → at self.old names.now ≡ Err e →
+            (other.new ≡ other.old) × (self.new ≡ self.old) }
     {
         let [name, rest @ ..] = names else {
             mem::swap(self, other);
@@ -253,9 +258,10 @@ impl Tree {
         from: &[Name],
         to: &[Name],
     ) -> Result<(), Refusal>
-        requires apart { LieApart from.now to.now }
+        requires disjoint { AreDisjointPaths from.now to.now }
         requires parent { (es : _) × (at self.old (parent_of to.now) ≡ Ok (dir es)) }
-        ensures ok { (moved : _) → at self.old from.now ≡ Ok moved → OnOk result (self.new ≡ put (without self.old from.now) to.now moved) }
+        ensures ok { (moved : _) → at self.old from.now ≡ Ok moved →
+            OnOk result (self.new ≡ put (without self.old from.now) to.now moved) }
         ensures err { OnErr result (self.new ≡ self.old) }
         ensures asked { OnErr result (IsErr (at self.old to.now)) }
         ensures only_memory { IsOkUnless result OutOfMemory }
@@ -272,9 +278,11 @@ impl Tree {
     /// Writes into the file of which this tree consists, if it is one.
     fn overwrite(&mut self, offset: usize, new: &[u8]) -> Result<(), Refusal>
         requires { offset + length new.now < 2 ^ 64 }
-        ensures ok { (bytes : List ℕ) → self.old ≡ file bytes → OnOk result (self.new ≡ file (overwritten bytes offset new.now)) }
+        ensures ok { (bytes : List ℕ) → self.old ≡ file bytes →
+            OnOk result (self.new ≡ file (overwritten bytes offset new.now)) }
         ensures err { OnErr result (self.new ≡ self.old) }
-        ensures asked { (bytes : List ℕ) → self.old ≡ file bytes → OnErr result (length bytes < offset + length new.now) }
+        ensures asked { (bytes : List ℕ) → self.old ≡ file bytes →
+            OnErr result (length bytes < offset + length new.now) }
         ensures only_memory { IsOkUnless result OutOfMemory }
     {
         match &mut self.node {
@@ -292,9 +300,13 @@ impl Tree {
         new: &[u8],
     ) -> Result<(), Refusal>
         requires { offset + length new.now < 2 ^ 64 }
-        ensures ok { (bytes : List ℕ) → at self.old names.now ≡ Ok (file bytes) → OnOk result (self.new ≡ put self.old names.now (file (overwritten bytes offset new.now))) }
-        ensures err { (bytes : List ℕ) → at self.old names.now ≡ Ok (file bytes) → OnErr result (self.new ≡ self.old) }
-        ensures asked { (bytes : List ℕ) → at self.old names.now ≡ Ok (file bytes) → OnErr result (length bytes < offset + length new.now) }
+        ensures ok { (bytes : List ℕ) → at self.old names.now ≡ Ok (file bytes) →
+            OnOk result (self.new ≡ put self.old names.now
+            (file (overwritten bytes offset new.now))) }
+        ensures err { (bytes : List ℕ) → at self.old names.now ≡ Ok (file bytes) →
+            OnErr result (self.new ≡ self.old) }
+        ensures asked { (bytes : List ℕ) → at self.old names.now ≡ Ok (file bytes) →
+            OnErr result (length bytes < offset + length new.now) }
         ensures only_memory { IsOkUnless result OutOfMemory }
     {
         let mut tree = Tree::empty_file(alloc);
@@ -306,9 +318,11 @@ impl Tree {
 
     /// Gives the file of which this tree consists another size, if it is one.
     fn resize(&mut self, size: usize) -> Result<(), Refusal>
-        ensures ok { (bytes : List ℕ) → self.old ≡ file bytes → OnOk result (self.new ≡ file (resized bytes size)) }
+        ensures ok { (bytes : List ℕ) → self.old ≡ file bytes →
+            OnOk result (self.new ≡ file (resized bytes size)) }
         ensures err { OnErr result (self.new ≡ self.old) }
-        ensures asked { (bytes : List ℕ) → self.old ≡ file bytes → OnErr result (length bytes < size) }
+        ensures asked { (bytes : List ℕ) → self.old ≡ file bytes →
+            OnErr result (length bytes < size) }
         ensures only_memory { IsOkUnless result OutOfMemory }
     {
         match &mut self.node {
@@ -324,9 +338,12 @@ impl Tree {
         names: &[Name],
         size: usize,
     ) -> Result<(), Refusal>
-        ensures ok { (bytes : List ℕ) → at self.old names.now ≡ Ok (file bytes) → OnOk result (self.new ≡ put self.old names.now (file (resized bytes size))) }
-        ensures err { (bytes : List ℕ) → at self.old names.now ≡ Ok (file bytes) → OnErr result (self.new ≡ self.old) }
-        ensures asked { (bytes : List ℕ) → at self.old names.now ≡ Ok (file bytes) → OnErr result (length bytes < size) }
+        ensures ok { (bytes : List ℕ) → at self.old names.now ≡ Ok (file bytes) →
+            OnOk result (self.new ≡ put self.old names.now (file (resized bytes size))) }
+        ensures err { (bytes : List ℕ) → at self.old names.now ≡ Ok (file bytes) →
+            OnErr result (self.new ≡ self.old) }
+        ensures asked { (bytes : List ℕ) → at self.old names.now ≡ Ok (file bytes) →
+            OnErr result (length bytes < size) }
         ensures only_memory { IsOkUnless result OutOfMemory }
     {
         let mut tree = Tree::empty_file(alloc);

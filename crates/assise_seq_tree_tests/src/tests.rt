@@ -545,7 +545,7 @@ stat / = dir 7
 ";
 
 #[test]
-fn names_are_told_apart_by_each_byte(rt: HostRuntime) {
+fn names_are_told_disjoint_by_each_byte(rt: HostRuntime) {
     let lines = repeated(rt.alloc(), &rt, NAMES, "LONG", "a", 254);
     show(rt.alloc(), &rt, lines.as_str());
 }

@@ -44,9 +44,9 @@ one_more : (l : NumberedCommand) (ls : List NumberedCommand) → CallOrNot l.com
 one_more l ls (is_call call counts) more = rw (counts (calls_ahead ls)) (call, more)
 one_more l ls (is_none other counts) more = rw (counts (calls_ahead ls)) tt
 
-pub calls_in_front : (ls : List NumberedCommand) → AreCalls (take (calls_ahead ls) ls)
-calls_in_front [] = tt
-calls_in_front (l ∷ ls) = one_more l ls (call_or_not l.command) (calls_in_front ls)
+pub calls_in_prefix : (ls : List NumberedCommand) → AreCalls (take (calls_ahead ls) ls)
+calls_in_prefix [] = tt
+calls_in_prefix (l ∷ ls) = one_more l ls (call_or_not l.command) (calls_in_prefix ls)
 
 none_there : (l : NumberedCommand) (ls : List NumberedCommand) → CallOrNot l.command → calls_ahead (l ∷ ls) ≡ 0 → IsClientCall l.command → ⊥
 none_there l ls (is_call is counts) none call = let n = counts (calls_ahead ls) in omega (arith, n, none)

@@ -2,7 +2,7 @@
 use Rattle.std.proofs.Common.{◌≡◌, ◌∙◌, ℕ, Bool, true, false, List, [], ◌∷◌, ◌++◌, ◌==◌, if◌then◌else◌, Option, None, Some, IfSome, refl, sym, ap, ap₂, subst, append-nil}
 use Rattle.std.proofs.lemmas.Grind.{flat_map-append}
 use Rattle.std.specs.Io.KnownBytes.{Appends}
-use Rattle.assise_history.specs.Entries.{Event}
+use Rattle.assise_history.specs.Entries.{EntryValue}
 use Rattle.assise_history.specs.Legal.{IsLegal}
 use Rattle.assise_history.proofs.Legality.{legal-nil}
 use Rattle.assise_fault_script.specs.declared.parse.NumberedCommand.{NumberedCommand}
@@ -29,7 +29,7 @@ nothing_said old = record {
 lines-append : (ss ts : List Said) → said_lines (ss ++ ts) ≡ said_lines ss ++ said_lines ts
 lines-append ss ts = flat_map-append said_line ss ts
 
-module _ (done : List NumberedCommand) (seen : List Event) (before : Sights) (old mid : Option (List ℕ)) (all : AreAllSaid done seen before old mid) where
+module _ (done : List NumberedCommand) (seen : List EntryValue) (before : Sights) (old mid : Option (List ℕ)) (all : AreAllSaid done seen before old mid) where
   pub stretch_added : (stretch : List NumberedCommand) (after : Sights) (new : Option (List ℕ)) → IsStretchSaid stretch seen before after mid new → AreAllSaid (done ++ stretch) seen after old new
   stretch_added stretch after new more = record {
     said = all.said ++ more.said;
@@ -39,7 +39,7 @@ module _ (done : List NumberedCommand) (seen : List Event) (before : Sights) (ol
     heard = λ c. heard_then c all.said more.said (sight_of c before) (sight_of c after) (all.heard c) (more.clients c);
   }
 
-  pub one_added : (l : NumberedCommand) (now : List Event) (after : Sights) (new : Option (List ℕ)) → (IsClientCall l.command → ⊥) → IsOneSaid l seen before now after mid new → AreAllSaid (done ++ l ∷ []) now after old new
+  pub one_added : (l : NumberedCommand) (now : List EntryValue) (after : Sights) (new : Option (List ℕ)) → (IsClientCall l.command → ⊥) → IsOneSaid l seen before now after mid new → AreAllSaid (done ++ l ∷ []) now after old new
   one_added l now after new none one =
       let s : Said = record { command = l; answer = one.answer; history = now } in
       record {
@@ -62,11 +62,11 @@ all_legal c (l ∷ ls) = either (client_of l == c) (all_legal c ls)
     either true behind = l.legal
     either false behind = behind
 
-is_heard : (c : ℕ) (ss : List Said) (sight : Option (List Event)) → HasHeard c ss sight → IfSome sight (λ h. ∥ IsLegal h ∥₁) → IsHeard c ss
+is_heard : (c : ℕ) (ss : List Said) (sight : Option (List EntryValue)) → HasHeard c ss sight → IfSome sight (λ h. ∥ IsLegal h ∥₁) → IsHeard c ss
 is_heard c ss (Some h) heard legal = record { history = h; outcomes = heard.outcomes; legal = legal; tells = heard.tells; calls = heard.calls }
 is_heard c ss None heard legal = record { history = []; outcomes = heard.outcomes; legal = ∣ legal-nil ∣₁; tells = heard.tells; calls = heard.calls }
 
-pub is_run : {S Stored : Type 0} (commands : List NumberedCommand) (seen : List Event) (ls : List (LibFs S Stored)) (old new : Option (List ℕ)) (all : AreAllSaid commands seen (sights ls) old new) → IsThreadRun commands all.said
+pub is_run : {S Stored : Type 0} (commands : List NumberedCommand) (seen : List EntryValue) (ls : List (LibFs S Stored)) (old new : Option (List ℕ)) (all : AreAllSaid commands seen (sights ls) old new) → IsThreadRun commands all.said
 is_run commands seen ls old new all = record {
   each = all.each;
   seen = seen;

@@ -7,7 +7,7 @@ use Rattle.std.specs.Io.KnownBytes.{Appends}
 use Rattle.assise_names.specs.declared.call.Op.{Op}
 use Rattle.assise_names.specs.declared.refusal.Refusal.{Refusal}
 use Rattle.assise_names.specs.declared.reply.Reply.{Reply}
-use Rattle.assise_history.specs.Entries.{Event}
+use Rattle.assise_history.specs.Entries.{EntryValue}
 use Rattle.assise_fault_script.specs.declared.command.Command.{Command}
 use Rattle.assise_fault_script.specs.declared.command.Command.TheVariants.{Cluster, Manual, Open, Call, Carry, Link, Hot, Digest, Release, Crash, Fail, Back, Refill, Join, Raise, Tree, History, Check}
 use Rattle.assise_fault_script.specs.declared.parse.NumberedCommand.{NumberedCommand}
@@ -29,7 +29,7 @@ LeavesToTell c ss rest None (Some left) = ⊥
 LeavesToTell c ss rest (Some all) None = ⊥
 
 -- the calls so far were said, and so much is left to tell of the rest
-pub record AreSaidSoFar (done rest : List NumberedCommand) (seen : List Event) (first now : Untold) (old new : Option (List ℕ)) : Type 0 where
+pub record AreSaidSoFar (done rest : List NumberedCommand) (seen : List EntryValue) (first now : Untold) (old new : Option (List ℕ)) : Type 0 where
   pub said : List Said
   pub each : commands_said said ≡ done
   pub main : IsSaid seen said seen
@@ -42,7 +42,7 @@ all_left : (c : ℕ) (stretch : List NumberedCommand) (first : Option (List (Res
 all_left c stretch None h = ([], (refl, (refl, λ k. refl)))
 all_left c stretch (Some all) h = ([], (refl, (refl, h)))
 
-pub none_said : (stretch : List NumberedCommand) (seen : List Event) (first : Untold) (old : Option (List ℕ)) → HasAllOf stretch first → AreSaidSoFar [] stretch seen first first old old
+pub none_said : (stretch : List NumberedCommand) (seen : List EntryValue) (first : Untold) (old : Option (List ℕ)) → HasAllOf stretch first → AreSaidSoFar [] stretch seen first first old old
 none_said stretch seen first old all = record {
   said = [];
   each = refl;
@@ -53,10 +53,10 @@ none_said stretch seen first old all = record {
 
 -- ---- one more
 
-abbrev said_now : NumberedCommand → List Event → Option (Result Reply Refusal) → Said
+abbrev said_now : NumberedCommand → List EntryValue → Option (Result Reply Refusal) → Said
 said_now l seen outcome = record { command = l; answer = outcome_answer (next_or_none outcome); history = seen }
 
-is_answered : (command : Command) (seen : List Event) (r : Result Reply Refusal) → IsClientCall command → AnswersCommand command (outcome_answer r) seen seen
+is_answered : (command : Command) (seen : List EntryValue) (r : Result Reply Refusal) → IsClientCall command → AnswersCommand command (outcome_answer r) seen seen
 is_answered (Call c op) seen (Ok reply) is = is_replied reply refl refl
 is_answered (Call c op) seen (Err refusal) is = is_refused refusal refl refl
 is_answered (Cluster nodes log hot) seen r is = absurd is
@@ -77,7 +77,7 @@ is_answered (Tree node) seen r is = absurd is
 is_answered History seen r is = absurd is
 is_answered Check seen r is = absurd is
 
-line_same : (n : ℕ) (h : List Event) (r : Result Reply Refusal) → line_text n [] (outcome_answer r) ≡ line_text n h (outcome_answer r)
+line_same : (n : ℕ) (h : List EntryValue) (r : Result Reply Refusal) → line_text n [] (outcome_answer r) ≡ line_text n h (outcome_answer r)
 line_same n h (Ok reply) = refl
 line_same n h (Err refusal) = refl
 
@@ -106,7 +106,7 @@ one_or_none c (Tree node) = inl refl
 one_or_none c History = inl refl
 one_or_none c Check = inl refl
 
-module _ (c : ℕ) (ss : List Said) (l : NumberedCommand) (seen : List Event) (outcome : Option (Result Reply Refusal)) where
+module _ (c : ℕ) (ss : List Said) (l : NumberedCommand) (seen : List EntryValue) (outcome : Option (Result Reply Refusal)) where
   abbrev s : Said
   s = said_now l seen outcome
 
@@ -154,7 +154,7 @@ module _ (c : ℕ) (ss : List Said) (l : NumberedCommand) (seen : List Event) (o
   is-told rest None (Some left) later op one takes e = absurd e
   is-told rest (Some all) None later op one takes e = absurd e
 
-module _ (done rest : List NumberedCommand) (l : NumberedCommand) (seen : List Event) (first now later : Untold) (old mid new : Option (List ℕ)) where
+module _ (done rest : List NumberedCommand) (l : NumberedCommand) (seen : List EntryValue) (first now later : Untold) (old mid new : Option (List ℕ)) where
   goes_on : (c : ℕ) (ss : List Said) (is : IsCallSaid l now later mid new) → LeavesToTell c ss (l ∷ rest) (outcomes_of c first) (outcomes_of c now)
       → LeavesToTell c (ss ++ said_now l seen is.outcome ∷ []) rest (outcomes_of c first) (outcomes_of c later)
   goes_on c ss is left = by_case (one_or_none c l.command)
@@ -185,7 +185,7 @@ module _ (stretch : List NumberedCommand) (i : ℕ) (l : NumberedCommand) (withi
   pub calls_left : AreCalls (drop i stretch) → IsClientCall l.command × AreCalls (drop (i + 1) stretch)
   calls_left calls = subst AreCalls left_is calls
 
-  pub line_said : (seen : List Event) (first now later : Untold) (old mid new : Option (List ℕ)) → AreSaidSoFar (take i stretch) (drop i stretch) seen first now old mid → IsClientCall l.command → IsCallSaid l now later mid new
+  pub line_said : (seen : List EntryValue) (first now later : Untold) (old mid new : Option (List ℕ)) → AreSaidSoFar (take i stretch) (drop i stretch) seen first now old mid → IsClientCall l.command → IsCallSaid l now later mid new
       → AreSaidSoFar (take (i + 1) stretch) (drop (i + 1) stretch) seen first later old new
   line_said seen first now later old mid new before call one =
       subst (λ z. AreSaidSoFar z (drop (i + 1) stretch) seen first later old new) (ap (λ x. take i stretch ++ x ∷ []) is ∙ sym (take_more stretch i l within))
@@ -200,7 +200,7 @@ nothing_left c ss (Some all) (Some (x ∷ xs)) (rs, (tells, (is, count))) = absu
 nothing_left c ss None (Some left) e = absurd e
 nothing_left c ss (Some all) None e = absurd e
 
-all_said : (stretch : List NumberedCommand) (seen : List Event) (first now : Untold) (old new : Option (List ℕ)) → AreSaidSoFar stretch [] seen first now old new → AreCallsSaid stretch seen first old new
+all_said : (stretch : List NumberedCommand) (seen : List EntryValue) (first now : Untold) (old new : Option (List ℕ)) → AreSaidSoFar stretch [] seen first now old new → AreCallsSaid stretch seen first old new
 all_said stretch seen first now old new so_far = record {
   said = so_far.said;
   each = so_far.each;
@@ -209,7 +209,7 @@ all_said stretch seen first now old new so_far = record {
   told = λ c. nothing_left c so_far.said (outcomes_of c first) (outcomes_of c now) (so_far.left c);
 }
 
-pub stretch_said : (stretch : List NumberedCommand) (i : ℕ) (seen : List Event) (first now : Untold) (old new : Option (List ℕ)) → length stretch ≤ i → AreSaidSoFar (take i stretch) (drop i stretch) seen first now old new
+pub stretch_said : (stretch : List NumberedCommand) (i : ℕ) (seen : List EntryValue) (first now : Untold) (old new : Option (List ℕ)) → length stretch ≤ i → AreSaidSoFar (take i stretch) (drop i stretch) seen first now old new
     → AreCallsSaid stretch seen first old new
 stretch_said stretch i seen first now old new done so_far =
     all_said stretch seen first now old new

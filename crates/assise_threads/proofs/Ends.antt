@@ -4,7 +4,7 @@ use Rattle.std.specs.List.{AllZip}
 use Rattle.std.proofs.lemmas.Bool.Decides.{eqb_tells}
 use Rattle.assise_names.specs.declared.refusal.Refusal.{Refusal}
 use Rattle.assise_names.specs.declared.reply.Reply.{Reply}
-use Rattle.assise_history.specs.Entries.{Event}
+use Rattle.assise_history.specs.Entries.{EntryValue}
 use Rattle.assise_fault_script.specs.declared.parse.NumberedCommand.{NumberedCommand}
 use Rattle.assise_libfs.specs.Clients.{IsSameClient, client_of, seen_by}
 use Rattle.assise_libfs.specs.declared.libfs.LibFs.{LibFs}
@@ -18,7 +18,7 @@ use Rattle.assise_threads.specs.Spoken.{IsStretchSaid}
 use Rattle.assise_threads.specs.Stretches.{AreCallsSaid, AreTold, HasAllOf, HasCalls, MakesCalls, outcomes_at, outcomes_of, sight_at}
 
 -- a client isn't there, or it made its calls of the stretch, with these outcomes
-abbrev pub HasEnded : ℕ → List NumberedCommand → Option (List Event) → Option (List Event) → Option (List (Result Reply Refusal)) → Type 0
+abbrev pub HasEnded : ℕ → List NumberedCommand → Option (List EntryValue) → Option (List EntryValue) → Option (List (Result Reply Refusal)) → Type 0
 HasEnded c stretch None None None = Unit {0}
 HasEnded c stretch (Some old) (Some new) (Some rs) = SeesAll c (calls_in c stretch) old rs new
 HasEnded c stretch None None (Some rs) = ⊥
@@ -31,7 +31,7 @@ HasEnded c stretch (Some old) (Some new) None = ⊥
 -- ---- of all clients
 
 module _ (c : ℕ) (stretch : List NumberedCommand) where
-  first_or_behind : (a : ℕ) (old new : List Event) (rs : List (Result Reply Refusal)) (u v : Option (List Event)) (w : Option (List (Result Reply Refusal))) → (a ≡ c → SeesAll c (calls_in c stretch) old rs new) → HasEnded c stretch u v w
+  first_or_behind : (a : ℕ) (old new : List EntryValue) (rs : List (Result Reply Refusal)) (u v : Option (List EntryValue)) (w : Option (List (Result Reply Refusal))) → (a ≡ c → SeesAll c (calls_in c stretch) old rs new) → HasEnded c stretch u v w
       → HasEnded c stretch (if a == c then Some old else u) (if a == c then Some new else v) (if a == c then Some rs else w)
   first_or_behind a old new rs u v w here behind = by_case (eqb_tells a c)
     where
@@ -55,7 +55,7 @@ module _ (c : ℕ) (stretch : List NumberedCommand) where
 
 -- ---- what follows
 
-as_many : (c : ℕ) (stretch : List NumberedCommand) (u v : Option (List Event)) (w : Option (List (Result Reply Refusal))) → HasEnded c stretch u v w → IfSome w (λ all. length all ≡ length (calls_in c stretch))
+as_many : (c : ℕ) (stretch : List NumberedCommand) (u v : Option (List EntryValue)) (w : Option (List (Result Reply Refusal))) → HasEnded c stretch u v w → IfSome w (λ all. length all ≡ length (calls_in c stretch))
 as_many c stretch None None None served = tt
 as_many c stretch (Some old) (Some new) (Some rs) served = served.count
 as_many c stretch None None (Some rs) served = absurd served
@@ -65,7 +65,7 @@ as_many c stretch (Some old) None None served = absurd served
 as_many c stretch (Some old) None (Some rs) served = absurd served
 as_many c stretch (Some old) (Some new) None served = absurd served
 
-hears : (c : ℕ) (stretch : List NumberedCommand) (ss : List Said) (u v : Option (List Event)) (w : Option (List (Result Reply Refusal))) → commands_said ss ≡ stretch → HasEnded c stretch u v w → AreTold c ss w → HearsStretch c ss u v
+hears : (c : ℕ) (stretch : List NumberedCommand) (ss : List Said) (u v : Option (List EntryValue)) (w : Option (List (Result Reply Refusal))) → commands_said ss ≡ stretch → HasEnded c stretch u v w → AreTold c ss w → HearsStretch c ss u v
 hears c stretch ss None None None each served told = told
 hears c stretch ss (Some old) (Some new) (Some rs) each served told = (rs, (told, subst (λ z. SeesAll c (calls_in c z) old rs new) (sym each) served))
 hears c stretch ss None None (Some rs) each served told = absurd served
@@ -79,7 +79,7 @@ module _ {S Stored : Type 0} (stretch : List NumberedCommand) (ls : List (LibFs 
   pub has_all : HasAllOf stretch (map outcomes_at ends)
   has_all c = as_many c stretch (sight_of c (sights ls)) (sight_of c (map sight_at ends)) (outcomes_of c (map outcomes_at ends)) (all_served c stretch ls ends made)
 
-  pub is_said : (seen : List Event) (old new : Option (List ℕ)) → AreCallsSaid stretch seen (map outcomes_at ends) old new → IsStretchSaid stretch seen (sights ls) (map sight_at ends) old new
+  pub is_said : (seen : List EntryValue) (old new : Option (List ℕ)) → AreCallsSaid stretch seen (map outcomes_at ends) old new → IsStretchSaid stretch seen (sights ls) (map sight_at ends) old new
   is_said seen old new are = record {
     said = are.said;
     each = are.each;

@@ -6,7 +6,7 @@ use Rattle.std.proofs.lemmas.Bool.Decides.{eqb_tells}
 use Rattle.assise_names.specs.declared.call.Op.{Op}
 use Rattle.assise_names.specs.declared.refusal.Refusal.{Refusal}
 use Rattle.assise_names.specs.declared.reply.Reply.{Reply}
-use Rattle.assise_history.specs.Entries.{Event}
+use Rattle.assise_history.specs.Entries.{EntryValue}
 use Rattle.assise_keeper.specs.Clients.{calls_by}
 use Rattle.assise_fault_script.specs.declared.command.Command.{Command}
 use Rattle.assise_fault_script.specs.declared.command.Command.TheVariants.{Cluster, Manual, Open, Call, Carry, Link, Hot, Digest, Release, Crash, Fail, Back, Refill, Join, Raise, Tree, History, Check}
@@ -47,7 +47,7 @@ module _ (c : ℕ) (ss ts : List Said) where
       let at : so_far ≡ 0 + so_far = omega arith in
       ap (λ (k : ℕ). told_all c 0 before rs ++ told_all c k behind came) at ∙ sym (told-append c 0 before rs behind came some) ∙ ap (λ z. told_all c 0 z (rs ++ came)) (sym (calls-said-append c ss ts))
 
-  pub heard_then : (sight now : Option (List Event)) → HasHeard c ss sight → HearsStretch c ts sight now → HasHeard c (ss ++ ts) now
+  pub heard_then : (sight now : Option (List EntryValue)) → HasHeard c ss sight → HearsStretch c ts sight now → HasHeard c (ss ++ ts) now
   heard_then None None h (came, (tells, (count, none))) = record {
     outcomes = h.outcomes ++ came;
     count = counts h.outcomes came h.count count;
@@ -55,7 +55,7 @@ module _ (c : ℕ) (ss ts : List Said) where
     calls = ap₂ (λ x y. x ++ y) h.calls (sym (none (length (told_all c 0 before h.outcomes)))) ∙ goes-on h.outcomes came h.count;
   }
   heard_then (Some old) (Some new) h (came, (tells, sees)) =
-      let told : told_all c (length (calls_by c old)) behind came ≡ told_all c (length (told_all c 0 before h.outcomes)) behind came = ap (λ (z : List Event). told_all c (length z) behind came) h.calls in record {
+      let told : told_all c (length (calls_by c old)) behind came ≡ told_all c (length (told_all c 0 before h.outcomes)) behind came = ap (λ (z : List EntryValue). told_all c (length z) behind came) h.calls in record {
         outcomes = h.outcomes ++ came;
         count = counts h.outcomes came h.count sees.count;
         tells = tells-append c ss ts h.outcomes came h.tells tells;
@@ -87,12 +87,12 @@ no_call c History none = refl
 no_call c Check none = refl
 
 -- what is seen of client c of the first client's or, where that has another number, of those behind it
-first_keeps : (c : ℕ) (b : Bool) (h : List Event) (u v : Option (List Event)) → calls_of_sight c v ≡ calls_of_sight c u → calls_of_sight c (if b then Some h else v) ≡ calls_of_sight c (if b then Some h else u)
+first_keeps : (c : ℕ) (b : Bool) (h : List EntryValue) (u v : Option (List EntryValue)) → calls_of_sight c v ≡ calls_of_sight c u → calls_of_sight c (if b then Some h else v) ≡ calls_of_sight c (if b then Some h else u)
 first_keeps c true h u v same = refl
 first_keeps c false h u v same = same
 
 -- a client that comes last made no call
-last_made_none : (c d : ℕ) (h : List Event) (xs : List (ℕ × List Event)) → calls_by d h ≡ [] → calls_of_sight c (sight_of c (xs ++ (d, h) ∷ [])) ≡ calls_of_sight c (sight_of c xs)
+last_made_none : (c d : ℕ) (h : List EntryValue) (xs : List (ℕ × List EntryValue)) → calls_by d h ≡ [] → calls_of_sight c (sight_of c (xs ++ (d, h) ∷ [])) ≡ calls_of_sight c (sight_of c xs)
 last_made_none c d h [] none = by_case (eqb_tells d c)
   where
     by_case : (((d == c) ≡ true) × (d ≡ c)) ⊎ (((d == c) ≡ false) × (d ≢ c)) → calls_of_sight c (if d == c then Some h else None) ≡ []

@@ -1,27 +1,27 @@
 -- What the main thread does in one take opens no client and answers no call.
 use Rattle.std.proofs.Common.{◌≡◌, ◌∙◌, ℕ, List, [], ◌∷◌, refl, sym, ap, subst, append-nil, drop, length, Option, None}
 use Rattle.std.proofs.Math.Logic.{∥∥₁_map}
-use Rattle.assise_history.specs.Entries.{Event, opens, calls, crashes, fails, returns}
+use Rattle.assise_history.specs.Entries.{EntryValue, opens, calls, crashes, fails, returns}
 use Rattle.assise_history.specs.Legal.{IsLegal}
 use Rattle.assise_keeper.specs.Clients.{Extends, MayAddAll, MayGive, added, client_after}
-use Rattle.assise_keeper.proofs.Adding.{drop-front}
-use Rattle.assise_machine_events.specs.Events.{Answer as EventAnswer, back, crash, digest, fail, join, raise, refill, release_ready}
-use Rattle.assise_machine_events.specs.ClientEvents.{Crashing, is_crashed, is_refused as not_crashed, lacks_memory as crash_lacks}
-use Rattle.assise_machine_events.specs.Machine.{Machine}
-use Rattle.assise_machine_events.specs.MemberEvents.{Failing, Returning, Refilling, Joining, Raising, is_back, is_failed, is_failed_again, is_joined, is_raised, is_refilled, is_refused, is_whole, lacks_memory}
-use Rattle.assise_machine_events.specs.NodeEvents.{Digesting, Releasing, SettingHot, is_digested, is_refused as not_digested, is_released, is_set, lacks_memory as digest_lacks}
+use Rattle.assise_keeper.proofs.PassAdds.{drop-prefix}
+use Rattle.assise_model_events.specs.Events.{Answer, back, crash, digest, fail, join, raise, refill, release_ready}
+use Rattle.assise_model_events.specs.ClientEvents.{Crashing, is_crashed, is_refused as not_crashed, lacks_memory as crash_lacks}
+use Rattle.assise_model_events.specs.Machine.{Machine}
+use Rattle.assise_model_events.specs.MemberEvents.{Failing, Returning, Refilling, Joining, Raising, is_back, is_failed, is_failed_again, is_joined, is_raised, is_refilled, is_refused, is_whole, lacks_memory}
+use Rattle.assise_model_events.specs.NodeEvents.{Digesting, Releasing, SettingHot, is_digested, is_refused as not_digested, is_released, is_set, lacks_memory as digest_lacks}
 use Rattle.assise_machine.specs.Clusters.{machine}
 use Rattle.assise_machine.specs.declared.cluster.ClusterOf.{ClusterOf}
 use Rattle.assise_workers.proofs.Lists.{extends-on}
-use Rattle.assise_console.specs.declared.answer.Answer.{Answer}
-use Rattle.assise_rounds.specs.Courses.{Told}
+use Rattle.assise_console.specs.declared.response.Response.{Response}
+use Rattle.assise_rounds.specs.Traces.{Told}
 use Rattle.assise_console.specs.OneEvent.{IsOne, IsOneAt}
 use Rattle.assise_console.specs.Steps.{SetsHot, is_made, is_out}
 use Rattle.assise_threads.specs.Takes.{AddsNobodys, AreNobodys}
 
 -- ---- a pass without a client may give such entries
 
-may_add : (es : List Event) → AreNobodys es → MayAddAll None es
+may_add : (es : List EntryValue) → AreNobodys es → MayAddAll None es
 may_add [] q = tt
 may_add (opens c n u ∷ es) q = absurd q
 may_add (calls x ∷ es) q = absurd q
@@ -29,7 +29,7 @@ may_add (crashes c ∷ es) q = (tt, may_add es q)
 may_add (fails n losses ∷ es) q = (tt, may_add es q)
 may_add (returns n ∷ es) q = (tt, may_add es q)
 
-no_client : (es : List Event) → AreNobodys es → client_after None es ≡ None
+no_client : (es : List EntryValue) → AreNobodys es → client_after None es ≡ None
 no_client [] q = refl
 no_client (opens c n u ∷ es) q = absurd q
 no_client (calls x ∷ es) q = absurd q
@@ -37,82 +37,82 @@ no_client (crashes c ∷ es) q = no_client es q
 no_client (fails n losses ∷ es) q = no_client es q
 no_client (returns n ∷ es) q = no_client es q
 
-pub may_give : (client : Option ℕ) (taken old new : List Event) → client ≡ None → taken ≡ old → AddsNobodys old new → MayGive client taken new
+pub may_give : (client : Option ℕ) (taken old new : List EntryValue) → client ≡ None → taken ≡ old → AddsNobodys old new → MayGive client taken new
 may_give client taken old new nobody is adds = rw (nobody, is) (adds.more, adds.split, may_add adds.more adds.nobodys)
 
-pub stays_nobody : (client : Option ℕ) (taken old new : List Event) → client ≡ None → taken ≡ old → AddsNobodys old new → client_after client (added taken new) ≡ None
+pub stays_nobody : (client : Option ℕ) (taken old new : List EntryValue) → client ≡ None → taken ≡ old → AddsNobodys old new → client_after client (added taken new) ≡ None
 stays_nobody client taken old new nobody is adds =
-    rw (nobody, is) (ap (λ z. client_after None (drop (length old) z)) adds.split ∙ (ap (client_after None) (drop-front old adds.more) ∙ no_client adds.more adds.nobodys))
+    rw (nobody, is) (ap (λ z. client_after None (drop (length old) z)) adds.split ∙ (ap (client_after None) (drop-prefix old adds.more) ∙ no_client adds.more adds.nobodys))
 
 -- the same where nothing is added
-pub may_give_same : (client : Option ℕ) (taken now : List Event) → taken ≡ now → MayGive client taken now
+pub may_give_same : (client : Option ℕ) (taken now : List EntryValue) → taken ≡ now → MayGive client taken now
 may_give_same client taken now is = ([], sym (append-nil taken ∙ is), tt)
 
-pub stays_nobody_same : (client : Option ℕ) (taken now : List Event) → client ≡ None → taken ≡ now → client_after client (added taken now) ≡ None
+pub stays_nobody_same : (client : Option ℕ) (taken now : List EntryValue) → client ≡ None → taken ≡ now → client_after client (added taken now) ≡ None
 stays_nobody_same client taken now nobody is = stays_nobody client taken now now nobody is record { more = []; split = sym (append-nil now); nobodys = tt }
 
-pub extends_as_it_is : (new old : List Event) → new ≡ old → Extends new old
+pub extends_as_it_is : (new old : List EntryValue) → new ≡ old → Extends new old
 extends_as_it_is new old is = ([], is ∙ sym (append-nil old))
 
--- what was seen before the take is a front of what is given
-pub given_extends : (seen before after given : List Event) → Extends before seen → AddsNobodys before after → given ≡ after → Extends given seen
-given_extends seen before after given front adds is = subst (λ h. Extends h seen) (sym is) (extends-on after before seen (adds.more, adds.split) front)
+-- what was seen before the take is a prefix of what is given
+pub given_extends : (seen before after given : List EntryValue) → Extends before seen → AddsNobodys before after → given ≡ after → Extends given seen
+given_extends seen before after given prefix adds is = subst (λ h. Extends h seen) (sym is) (extends-on after before seen (adds.more, adds.split) prefix)
 
-pub is_legal : {C : Type 0} (cluster : ClusterOf C) (h : List Event) → h ≡ (machine cluster).history → ∥ IsLegal h ∥₁
-is_legal cluster h is = subst (λ z. ∥ IsLegal z ∥₁) (sym is) (∥∥₁_map cluster.sound.holds (λ holds. holds.recorded.legal))
+pub is_legal : {C : Type 0} (cluster : ClusterOf C) (h : List EntryValue) → h ≡ (machine cluster).history → ∥ IsLegal h ∥₁
+is_legal cluster h is = subst (λ z. ∥ IsLegal z ∥₁) (sym is) (∥∥₁_map cluster.sound.invariant.holds (λ holds. holds.recorded.legal))
 
 -- ---- what each adds
 
 pub adds_none : (m m' : Machine) → m' ≡ m → AddsNobodys m.history m'.history
 adds_none m m' same = record { more = []; split = ap (λ x. x.history) same ∙ sym (append-nil m.history); nobodys = tt }
 
-crash_adds : (m m' : Machine) (c : ℕ) (a : EventAnswer) → Crashing m c a m' → AddsNobodys m.history m'.history
+crash_adds : (m m' : Machine) (c : ℕ) (a : Answer) → Crashing m c a m' → AddsNobodys m.history m'.history
 crash_adds m m' c a (is_crashed fine is e) = record { more = crashes c ∷ []; split = e.adds.history; nobodys = tt }
 crash_adds m m' c a (crash_lacks fine is same) = adds_none m m' same
 crash_adds m m' c a (not_crashed r fault is same) = adds_none m m' same
 
-digest_adds : (m m' : Machine) (n : ℕ) (a : EventAnswer) → Digesting m n a m' → AddsNobodys m.history m'.history
+digest_adds : (m m' : Machine) (n : ℕ) (a : Answer) → Digesting m n a m' → AddsNobodys m.history m'.history
 digest_adds m m' n a (is_digested count fine is e) = record { more = []; split = e.adds.history; nobodys = tt }
 digest_adds m m' n a (digest_lacks fine some is same) = adds_none m m' same
 digest_adds m m' n a (not_digested r fault is same) = adds_none m m' same
 
-release_adds : (m m' : Machine) (a : EventAnswer) → Releasing m a m' → AddsNobodys m.history m'.history
+release_adds : (m m' : Machine) (a : Answer) → Releasing m a m' → AddsNobodys m.history m'.history
 release_adds m m' a (is_released gone freed is e) = record { more = []; split = e.adds.history; nobodys = tt }
 
-hot_adds : (m m' : Machine) (n : ℕ) (a : EventAnswer) → SettingHot m n a m' → AddsNobodys m.history m'.history
+hot_adds : (m m' : Machine) (n : ℕ) (a : Answer) → SettingHot m n a m' → AddsNobodys m.history m'.history
 hot_adds m m' n a (is_set fine is same) = adds_none m m' same
 hot_adds m m' n a (digest_lacks fine is same) = adds_none m m' same
 hot_adds m m' n a (not_digested r fault is same) = adds_none m m' same
 
-fail_adds : (m m' : Machine) (n : ℕ) (a : EventAnswer) → Failing m n a m' → AddsNobodys m.history m'.history
+fail_adds : (m m' : Machine) (n : ℕ) (a : Answer) → Failing m n a m' → AddsNobodys m.history m'.history
 fail_adds m m' n a (is_failed fine is e) = record { more = _; split = e.adds.history; nobodys = tt }
 fail_adds m m' n a (is_failed_again fine is e) = record { more = _; split = e.adds.history; nobodys = tt }
 fail_adds m m' n a (lacks_memory fine is same) = adds_none m m' same
 fail_adds m m' n a (is_refused r fault is same) = adds_none m m' same
 
-back_adds : (m m' : Machine) (n : ℕ) (a : EventAnswer) → Returning m n a m' → AddsNobodys m.history m'.history
+back_adds : (m m' : Machine) (n : ℕ) (a : Answer) → Returning m n a m' → AddsNobodys m.history m'.history
 back_adds m m' n a (is_back fine is e) = record { more = []; split = e.adds.history; nobodys = tt }
 back_adds m m' n a (lacks_memory fine is same) = adds_none m m' same
 back_adds m m' n a (is_refused r fault is same) = adds_none m m' same
 
-refill_adds : (m m' : Machine) (n : ℕ) (a : EventAnswer) → Refilling m n a m' → AddsNobodys m.history m'.history
+refill_adds : (m m' : Machine) (n : ℕ) (a : Answer) → Refilling m n a m' → AddsNobodys m.history m'.history
 refill_adds m m' n a (is_refilled fine is e) = record { more = []; split = e.adds.history; nobodys = tt }
 refill_adds m m' n a (is_whole fine none is same) = adds_none m m' same
 refill_adds m m' n a (lacks_memory fine some is same) = adds_none m m' same
 refill_adds m m' n a (is_refused r fault is same) = adds_none m m' same
 
-join_adds : (m m' : Machine) (n : ℕ) (a : EventAnswer) → Joining m n a m' → AddsNobodys m.history m'.history
+join_adds : (m m' : Machine) (n : ℕ) (a : Answer) → Joining m n a m' → AddsNobodys m.history m'.history
 join_adds m m' n a (is_joined fine is e) = record { more = returns n ∷ []; split = e.adds.history; nobodys = tt }
 join_adds m m' n a (lacks_memory fine is same) = adds_none m m' same
 join_adds m m' n a (is_refused r fault is same) = adds_none m m' same
 
-raise_adds : (m m' : Machine) (n : ℕ) (a : EventAnswer) → Raising m n a m' → AddsNobodys m.history m'.history
+raise_adds : (m m' : Machine) (n : ℕ) (a : Answer) → Raising m n a m' → AddsNobodys m.history m'.history
 raise_adds m m' n a (is_raised fine is e) = record { more = []; split = e.adds.history; nobodys = tt }
 raise_adds m m' n a (is_refused r fault is same) = adds_none m m' same
 
 -- ---- the same, by what their functions say
 
-module _ (a : Answer) (m m' : Machine) where
+module _ (a : Response) (m m' : Machine) where
   pub digested_adds : (n : ℕ) → (es : Told) × IsOne (digest n) a m es m' → AddsNobodys m.history m'.history
   digested_adds n (es, h) = digest_adds m m' n h.answer h.event.happens
 

@@ -2,22 +2,22 @@
 use Rattle.std.proofs.Common.{◌≡◌, ◌∙◌, ℕ, ◌+◌, true, false, List, [], ◌∷◌, ◌++◌, take, drop, Option, None, Some, refl, sym, ap, subst, take-add, slice_get, Result, Ok, Err, OnOk}
 use Rattle.std.proofs.lemmas.List.{map-append, nil_from_length}
 use Rattle.std.specs.Io.KnownBytes.{Appends, Keeps}
-use Rattle.assise_history.specs.Entries.{Event}
+use Rattle.assise_history.specs.Entries.{EntryValue}
 use Rattle.assise_history.specs.Legal.{calls_made}
 use Rattle.assise_keeper.specs.Clients.{calls_by}
 use Rattle.assise_libfs.specs.Clients.{client_of, seen_by}
 use Rattle.assise_fault_script.specs.declared.command.Command.{Command}
 use Rattle.assise_fault_script.specs.declared.command.Command.TheVariants.{Cluster, Manual, Open, Call, Carry, Link, Hot, Digest, Release, Crash, Fail, Back, Refill, Join, Raise, Tree, History, Check}
 use Rattle.assise_fault_script.specs.declared.parse.NumberedCommand.{NumberedCommand}
-use Rattle.assise_console.specs.declared.answer.Answer.{Answer}
-use Rattle.assise_console.specs.declared.answer.Answer.TheVariants.{Quiet, Client, Replied, Waits, Refused, Carried, Digested, Released, Linked, HotSet, Crashed, Failed, Began, Left, Returned, Raised, Tree as Shown, History as Whole, Checked}
+use Rattle.assise_console.specs.declared.response.Response.{Response}
+use Rattle.assise_console.specs.declared.response.Response.TheVariants.{Quiet, Client, Replied, Waits, Refused, Carried, Digested, Released, Linked, HotSet, Crashed, Failed, Began, Left, Returned, Raised, Tree as Shown, History as Whole, Checked}
 use Rattle.assise_names.specs.declared.refusal.Refusal.TheVariants.{Busy, OutOfMemory}
-use Rattle.assise_machine_events.specs.Machine.{Machine}
+use Rattle.assise_model_events.specs.Machine.{Machine}
 use Rattle.assise_console.specs.declared.fault.EngineFault.{EngineFault}
 use Rattle.assise_console.specs.declared.fault.EngineFault.TheVariants.{Read, Script, Memory, Write, NeedsSerial, NoThread}
 use Rattle.assise_console.specs.Engines.{IsReadFault}
 use Rattle.assise_console.specs.Lines.{line_text}
-use Rattle.assise_rounds.specs.Courses.{Told}
+use Rattle.assise_rounds.specs.Traces.{Told}
 use Rattle.assise_console.specs.Steps.{IsVerdict, SetsHot, Shows, is_verdict, is_made, is_out, is_shown, lacks_memory, lacks_room, is_refused as not_shown}
 use Rattle.assise_libfs.specs.declared.libfs.LibFs.{LibFs}
 use Rattle.assise_threads.specs.Answered.{AnswersCommand, joins, stops_filling, is_refused, is_busy, is_opened, is_carried, is_replied}
@@ -28,21 +28,21 @@ use Rattle.assise_threads.specs.Said.{said_lines}
 use Rattle.assise_threads.specs.Spoken.{AreAllSaid, MayGain, Sights, gains}
 use Rattle.assise_threads.proofs.AllSaid.{is_run, nothing_said, one_added, stretch_added}
 
-pub nothing_yet : (seen : List Event) (clients : Sights) (old : Option (List ℕ)) → seen ≡ [] → clients ≡ [] → AreAllSaid [] seen clients old old
+pub nothing_yet : (seen : List EntryValue) (clients : Sights) (old : Option (List ℕ)) → seen ≡ [] → clients ≡ [] → AreAllSaid [] seen clients old old
 nothing_yet seen clients old none nobody = rw (none, nobody) (nothing_said old)
 
-said_then : (done next : List NumberedCommand) (seen now : List Event) (before after : Sights) (old mid new : Option (List ℕ)) → AreAllSaid done seen before old mid → AreSaidNext next seen before now after mid new → AreAllSaid (done ++ next) now after old new
+said_then : (done next : List NumberedCommand) (seen now : List EntryValue) (before after : Sights) (old mid new : Option (List ℕ)) → AreAllSaid done seen before old mid → AreSaidNext next seen before now after mid new → AreAllSaid (done ++ next) now after old new
 said_then done next seen now before after old mid new all (is_stretch same more) = subst (λ z. AreAllSaid (done ++ next) z after old new) (sym same) (stretch_added done seen before old mid all next after new more)
 said_then done next seen now before after old mid new all (is_one l is none one) = subst (λ z. AreAllSaid (done ++ z) now after old new) (sym is) (one_added done seen before old mid all l now after new none one)
 
 -- so many more of the commands
-pub goes_further : (ls rest : List NumberedCommand) (i count : ℕ) (seen now : List Event) (before after : Sights) (old mid new : Option (List ℕ)) → rest ≡ drop i ls → AreAllSaid (take i ls) seen before old mid
+pub goes_further : (ls rest : List NumberedCommand) (i count : ℕ) (seen now : List EntryValue) (before after : Sights) (old mid new : Option (List ℕ)) → rest ≡ drop i ls → AreAllSaid (take i ls) seen before old mid
     → AreSaidNext (take count rest) seen before now after mid new → AreAllSaid (take (i + count) ls) now after old new
 goes_further ls rest i count seen now before after old mid new is all more =
     subst (λ z. AreAllSaid z now after old new) (sym (take-add i count ls))
     (said_then (take i ls) (take count (drop i ls)) seen now before after old mid new all (subst (λ z. AreSaidNext (take count z) seen before now after mid new) is more))
 
-pub is_run_said : {S Stored : Type 0} (commands : List NumberedCommand) (seen : List Event) (ls : List (LibFs S Stored)) (old new : Option (List ℕ)) → AreAllSaid commands seen (sights ls) old new → IsRunSaid commands old new
+pub is_run_said : {S Stored : Type 0} (commands : List NumberedCommand) (seen : List EntryValue) (ls : List (LibFs S Stored)) (old new : Option (List ℕ)) → AreAllSaid commands seen (sights ls) old new → IsRunSaid commands old new
 is_run_said commands seen ls old new all = record { said = all.said; run = is_run commands seen ls old new all; appends = all.appends }
 
 pub nothing_run : (commands : List NumberedCommand) (old : Option (List ℕ)) → slice_get commands 0 ≡ None → IsRunSaid commands old old
@@ -77,7 +77,7 @@ hot_not_whole : (n capacity : ℕ) (m : Machine) (es : Told) (m' : Machine) → 
 hot_not_whole n capacity m es m' (is_made least most h) = h.tells
 hot_not_whole n capacity m es m' (is_out out is h) = let x : Whole ≡ Quiet = is in cc
 
-not_whole : (command : Command) (old new : List Event) → (command ≡ History → ⊥) → AnswersCommand command Whole old new → ⊥
+not_whole : (command : Command) (old new : List EntryValue) → (command ≡ History → ⊥) → AnswersCommand command Whole old new → ⊥
 not_whole (Cluster nodes log hot) old new other h = let x : Whole ≡ Quiet = h.answer in cc
 not_whole Manual old new other h = let x : Whole ≡ Quiet = h.answer in cc
 not_whole (Open node kind u) old new other (is_opened c seen is e o m s) = let x : Whole ≡ Client c = is in cc
@@ -113,7 +113,7 @@ not_whole (Tree node) old new other h = no_tree h.does.shows
 not_whole History old new other h = other refl
 
 -- so a line shows no history where another command was answered
-pub line_shows_none : (n : ℕ) (command : Command) (a : Answer) (shown old new : List Event) → (command ≡ History → ⊥) → AnswersCommand command a old new → line_text n shown a ≡ line_text n new a
+pub line_shows_none : (n : ℕ) (command : Command) (a : Response) (shown old new : List EntryValue) → (command ≡ History → ⊥) → AnswersCommand command a old new → line_text n shown a ≡ line_text n new a
 line_shows_none n command Whole shown old new other h = absurd (not_whole command old new other h)
 line_shows_none n command Quiet shown old new other h = refl
 line_shows_none n command (Client c) shown old new other h = refl

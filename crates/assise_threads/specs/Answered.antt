@@ -5,66 +5,66 @@ use Rattle.assise_names.specs.declared.durability.Durability.{Durability}
 use Rattle.assise_names.specs.declared.refusal.Refusal.{Refusal}
 use Rattle.assise_names.specs.declared.refusal.Refusal.TheVariants.{Busy}
 use Rattle.assise_names.specs.declared.reply.Reply.{Reply}
-use Rattle.assise_history.specs.Entries.{Event}
+use Rattle.assise_history.specs.Entries.{EntryValue}
 use Rattle.assise_history.specs.Legal.{IsLegal, calls_made}
 use Rattle.assise_keeper.specs.Clients.{Extends}
 use Rattle.assise_libfs.specs.Lives.{IsOpenedAs}
 use Rattle.assise_fault_script.specs.declared.command.Command.{Command}
 use Rattle.assise_fault_script.specs.declared.command.Command.TheVariants.{Cluster, Manual, Open, Call, Carry, Link, Hot, Digest, Release, Crash, Fail, Back, Refill, Join, Raise, Tree as TreeOf, History, Check}
-use Rattle.assise_machine_events.specs.Events.{back, crash, digest, fail, join, raise, refill, release_ready}
-use Rattle.assise_machine_events.specs.Machine.{Machine}
-use Rattle.assise_console.specs.declared.answer.Answer.{Answer}
-use Rattle.assise_console.specs.declared.answer.Answer.TheVariants.{Quiet, Client, Replied, Refused, Carried, History as Whole}
-use Rattle.assise_rounds.specs.Courses.{Told}
+use Rattle.assise_model_events.specs.Events.{back, crash, digest, fail, join, raise, refill, release_ready}
+use Rattle.assise_model_events.specs.Machine.{Machine}
+use Rattle.assise_console.specs.declared.response.Response.{Response}
+use Rattle.assise_console.specs.declared.response.Response.TheVariants.{Quiet, Client, Replied, Refused, Carried, History as Whole}
+use Rattle.assise_rounds.specs.Traces.{Told}
 use Rattle.assise_console.specs.Steps.{IsVerdict, SetsHot, Shows}
 use Rattle.assise_console.specs.OneEvent.{IsOne, IsOneAt}
 use Rattle.assise_threads.specs.Takes.{InOneTake}
 
 -- nothing is printed
-pub record IsSilent (a : Answer) (old new : List Event) : Type 0 where
+pub record IsSilent (a : Response) (old new : List EntryValue) : Type 0 where
   pub answer : a ≡ Quiet
   pub stays : new ≡ old
 
 -- a client is opened on node n, and so, in a history that it has seen, and made no call; or the open is refused, and more may have been seen
-pub data OpensOne (n : ℕ) (u : Durability) (a : Answer) (old new : List Event) : Type 0 where
-  is_opened : (c : ℕ) (h : List Event) → a ≡ Client c → Extends h old → ∥ IsOpenedAs c n u h ∥₁ → calls_made c h ≡ 0 → new ≡ old → OpensOne n u a old new
+pub data OpensOne (n : ℕ) (u : Durability) (a : Response) (old new : List EntryValue) : Type 0 where
+  is_opened : (c : ℕ) (h : List EntryValue) → a ≡ Client c → Extends h old → ∥ IsOpenedAs c n u h ∥₁ → calls_made c h ≡ 0 → new ≡ old → OpensOne n u a old new
   is_refused : (r : Refusal) → a ≡ Refused r → Extends new old → OpensOne n u a old new
 
 -- a call is answered with a reply or a refusal, which its client's thread has seen
-pub data IsCallAnswered (a : Answer) (old new : List Event) : Type 0 where
+pub data IsCallAnswered (a : Response) (old new : List EntryValue) : Type 0 where
   is_replied : (reply : Reply) → a ≡ Replied reply → new ≡ old → IsCallAnswered a old new
   is_refused : (r : Refusal) → a ≡ Refused r → new ≡ old → IsCallAnswered a old new
 
 -- frames were carried, and so many were taken in; or nothing is sent
-pub data CarriesSome (a : Answer) (old new : List Event) : Type 0 where
+pub data CarriesSome (a : Response) (old new : List EntryValue) : Type 0 where
   is_carried : (count : ℕ) → a ≡ Carried count → new ≡ old → CarriesSome a old new
   is_refused : (r : Refusal) → a ≡ Refused r → new ≡ old → CarriesSome a old new
 
 -- the tree that node n's region alone spells, in a machine that stays as it is
-pub record ShowsTree (n : ℕ) (a : Answer) (m : Machine) (es : Told) (m' : Machine) : Type 0 where
+pub record ShowsTree (n : ℕ) (a : Response) (m : Machine) (es : Told) (m' : Machine) : Type 0 where
   pub shows : Shows n a m
   pub stays : m' ≡ m
 
 -- whether the history is legal, of a machine that stays as it is
-pub record ChecksHistory (a : Answer) (m : Machine) (es : Told) (m' : Machine) : Type 0 where
+pub record ChecksHistory (a : Response) (m : Machine) (es : Told) (m' : Machine) : Type 0 where
   pub verdict : IsVerdict a m
   pub stays : m' ≡ m
 
 -- node n joined, behind takes in which it began to come back and was filled; or one of these is refused; or its turns are spent
-pub data ComesBackInTakes (n : ℕ) (a : Answer) (old new : List Event) : Type 0 where
-  joins : (between : List Event) → Extends between old → InOneTake (IsOneAt join n a) between new → ComesBackInTakes n a old new
-  stops_filling : (r : Refusal) (between : List Event) → a ≡ Refused r → Extends between old → InOneTake (IsOneAt refill n a) between new → ComesBackInTakes n a old new
+pub data ComesBackInTakes (n : ℕ) (a : Response) (old new : List EntryValue) : Type 0 where
+  joins : (between : List EntryValue) → Extends between old → InOneTake (IsOneAt join n a) between new → ComesBackInTakes n a old new
+  stops_filling : (r : Refusal) (between : List EntryValue) → a ≡ Refused r → Extends between old → InOneTake (IsOneAt refill n a) between new → ComesBackInTakes n a old new
   is_refused : (r : Refusal) → a ≡ Refused r → InOneTake (IsOneAt back n a) old new → ComesBackInTakes n a old new
   is_busy : a ≡ Refused Busy → Extends new old → ∥ IsLegal new ∥₁ → ComesBackInTakes n a old new
 
 -- the history that was seen is printed, and it is legal
-pub record PrintsHistory (a : Answer) (old new : List Event) : Type 0 where
+pub record PrintsHistory (a : Response) (old new : List EntryValue) : Type 0 where
   pub answer : a ≡ Whole
   pub extends : Extends new old
   pub legal : ∥ IsLegal new ∥₁
 
 -- the command is answered so, where the main thread had seen the first history before and has seen the second then
-abbrev pub AnswersCommand : Command → Answer → List Event → List Event → Type 0
+abbrev pub AnswersCommand : Command → Response → List EntryValue → List EntryValue → Type 0
 AnswersCommand (Cluster nodes log hot) a old new = IsSilent a old new
 AnswersCommand Manual a old new = IsSilent a old new
 AnswersCommand (Open n kind u) a old new = OpensOne n u a old new

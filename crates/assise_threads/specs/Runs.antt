@@ -1,7 +1,7 @@
 -- What a run with threads writes for a script, and what its faults say.
 use Rattle.std.specs.Prelude.{◌≡◌, ℕ, List, [], ◌∷◌, Option, None, Some}
 use Rattle.std.specs.Io.KnownBytes.{Appends}
-use Rattle.assise_history.specs.Entries.{Event}
+use Rattle.assise_history.specs.Entries.{EntryValue}
 use Rattle.assise_fault_script.specs.declared.command.Command.{Command}
 use Rattle.assise_fault_script.specs.declared.command.Command.TheVariants.{Manual, Link}
 use Rattle.assise_fault_script.specs.declared.parse.NumberedCommand.{NumberedCommand}
@@ -14,14 +14,14 @@ use Rattle.assise_threads.specs.Answered.{AnswersCommand}
 use Rattle.assise_threads.specs.Said.{IsHeard, Said, commands_said, said_lines}
 
 -- each command is answered behind those before it: what the main thread has seen goes on from command to command
-abbrev pub IsSaid : List Event → List Said → List Event → Type 0
+abbrev pub IsSaid : List EntryValue → List Said → List EntryValue → Type 0
 IsSaid old [] new = new ≡ old
 IsSaid old (s ∷ ss) new = AnswersCommand s.command.command s.answer old s.history × IsSaid s.history ss new
 
 -- these commands were run with threads, and this was said
 pub record IsThreadRun (commands : List NumberedCommand) (ss : List Said) : Type 0 where
   pub each : commands_said ss ≡ commands
-  pub seen : List Event
+  pub seen : List EntryValue
   pub main : IsSaid [] ss seen
   pub clients : (c : ℕ) → IsHeard c ss
 

@@ -5,22 +5,22 @@ use Rattle.std.specs.List.{flat_map}
 use Rattle.assise_names.specs.declared.call.Op.{Op}
 use Rattle.assise_names.specs.declared.refusal.Refusal.{Refusal}
 use Rattle.assise_names.specs.declared.reply.Reply.{Reply}
-use Rattle.assise_history.specs.Entries.{Event}
+use Rattle.assise_history.specs.Entries.{EntryValue}
 use Rattle.assise_history.specs.Legal.{IsLegal}
 use Rattle.assise_keeper.specs.Clients.{calls_by}
 use Rattle.assise_fault_script.specs.declared.command.Command.{Command}
 use Rattle.assise_fault_script.specs.declared.command.Command.TheVariants.{Cluster, Manual, Open, Call, Carry, Link, Hot, Digest, Release, Crash, Fail, Back, Refill, Join, Raise, Tree, History, Check}
 use Rattle.assise_fault_script.specs.declared.parse.NumberedCommand.{NumberedCommand}
-use Rattle.assise_console.specs.declared.answer.Answer.{Answer}
-use Rattle.assise_console.specs.declared.answer.Answer.TheVariants.{Replied, Refused}
+use Rattle.assise_console.specs.declared.response.Response.{Response}
+use Rattle.assise_console.specs.declared.response.Response.TheVariants.{Replied, Refused}
 use Rattle.assise_console.specs.Lines.{line_text}
 use Rattle.assise_workers.specs.Told.{told_all}
 
 -- a command, its answer, and the history that was seen when it was answered
 pub record Said : Type 0 where
   pub command : NumberedCommand
-  pub answer : Answer
-  pub history : List Event
+  pub answer : Response
+  pub history : List EntryValue
 
 -- the lines that are written, in the order of the commands
 abbrev pub said_line : Said → List ℕ
@@ -60,12 +60,12 @@ abbrev pub calls_in : ℕ → List NumberedCommand → List Op
 calls_in c ls = flat_map (λ l. call_in c l.command) ls
 
 -- what a call is answered with: a reply or a refusal
-abbrev pub outcome_answer : Result Reply Refusal → Answer
+abbrev pub outcome_answer : Result Reply Refusal → Response
 outcome_answer (Ok reply) = Replied reply
 outcome_answer (Err refusal) = Refused refusal
 
 -- the answers of the calls of client c are these outcomes, in the order of the lines
-abbrev pub TellsCall : List Op → Answer → List (Result Reply Refusal) → Type 0
+abbrev pub TellsCall : List Op → Response → List (Result Reply Refusal) → Type 0
 TellsCall [] a rs = rs ≡ []
 TellsCall (op ∷ ops) a rs = (r : Result Reply Refusal) × ((a ≡ outcome_answer r) × (rs ≡ r ∷ []))
 
@@ -75,7 +75,7 @@ TellsClient c (s ∷ ss) rs = (now : List (Result Reply Refusal)) × ((later : L
 
 -- client c was told, in the order of the lines, what its calls in one legal history answer: a refused call is none of them
 pub record IsHeard (c : ℕ) (ss : List Said) : Type 0 where
-  pub history : List Event
+  pub history : List EntryValue
   pub outcomes : List (Result Reply Refusal)
   pub legal : ∥ IsLegal history ∥₁
   pub tells : TellsClient c ss outcomes

@@ -2,11 +2,11 @@
 -- Assise (OSDI 2020), section 3.
 use Rattle.std.specs.Prelude.{◌≡◌, ℕ, List, [], ◌∷◌, ◌++◌, Option}
 use Rattle.std.specs.Io.KnownBytes.{Appends}
-use Rattle.assise_history.specs.Entries.{Event}
+use Rattle.assise_history.specs.Entries.{EntryValue}
 use Rattle.assise_history.specs.Legal.{IsLegal}
 use Rattle.assise_keeper.specs.Clients.{calls_by}
 use Rattle.assise_fault_script.specs.declared.parse.NumberedCommand.{NumberedCommand}
-use Rattle.assise_console.specs.declared.answer.Answer.{Answer}
+use Rattle.assise_console.specs.declared.response.Response.{Response}
 use Rattle.assise_console.specs.Lines.{line_text}
 use Rattle.assise_threads.specs.Answered.{AnswersCommand}
 use Rattle.assise_threads.specs.Hearing.{HasHeard, HearsStretch, sight_of}
@@ -15,10 +15,10 @@ use Rattle.assise_threads.specs.Said.{Said, commands_said, said_lines}
 
 -- clients with what they have seen
 abbrev pub Sights : Type 0
-Sights = List (ℕ × List Event)
+Sights = List (ℕ × List EntryValue)
 
 -- the lines of a stretch of calls were written, and each client heard its own
-pub record IsStretchSaid (stretch : List NumberedCommand) (seen : List Event) (before after : Sights) (old new : Option (List ℕ)) : Type 0 where
+pub record IsStretchSaid (stretch : List NumberedCommand) (seen : List EntryValue) (before after : Sights) (old new : Option (List ℕ)) : Type 0 where
   pub said : List Said
   pub each : commands_said said ≡ stretch
   pub main : IsSaid seen said seen
@@ -28,17 +28,17 @@ pub record IsStretchSaid (stretch : List NumberedCommand) (seen : List Event) (b
 -- the clients stay, or one comes behind them that made no call
 pub data MayGain (before after : Sights) : Type 0 where
   stays : after ≡ before → MayGain before after
-  gains : (c : ℕ) (h : List Event) → after ≡ before ++ (c, h) ∷ [] → calls_by c h ≡ [] → ∥ IsLegal h ∥₁ → MayGain before after
+  gains : (c : ℕ) (h : List EntryValue) → after ≡ before ++ (c, h) ∷ [] → calls_by c h ≡ [] → ∥ IsLegal h ∥₁ → MayGain before after
 
 -- a command of the main thread was answered, and its line was written
-pub record IsOneSaid (l : NumberedCommand) (seen : List Event) (before : Sights) (now : List Event) (after : Sights) (old new : Option (List ℕ)) : Type 0 where
-  pub answer : Answer
+pub record IsOneSaid (l : NumberedCommand) (seen : List EntryValue) (before : Sights) (now : List EntryValue) (after : Sights) (old new : Option (List ℕ)) : Type 0 where
+  pub answer : Response
   pub answered : AnswersCommand l.command answer seen now
   pub appends : Appends old new (line_text l.line now answer)
   pub clients : MayGain before after
 
 -- all commands so far were answered, their lines were written, and each client heard its own
-pub record AreAllSaid (commands : List NumberedCommand) (seen : List Event) (clients : Sights) (old new : Option (List ℕ)) : Type 0 where
+pub record AreAllSaid (commands : List NumberedCommand) (seen : List EntryValue) (clients : Sights) (old new : Option (List ℕ)) : Type 0 where
   pub said : List Said
   pub each : commands_said said ≡ commands
   pub main : IsSaid [] said seen

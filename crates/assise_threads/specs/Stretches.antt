@@ -6,7 +6,7 @@ use Rattle.assise_names.specs.declared.refusal.Refusal.{Refusal}
 use Rattle.assise_names.specs.declared.refusal.Refusal.TheVariants.{BadClient}
 use Rattle.assise_names.specs.declared.reply.Reply.{Reply}
 use Rattle.assise_names.specs.declared.call.Op.{Op}
-use Rattle.assise_history.specs.Entries.{Event}
+use Rattle.assise_history.specs.Entries.{EntryValue}
 use Rattle.assise_fault_script.specs.declared.command.Command.{Command}
 use Rattle.assise_fault_script.specs.declared.command.Command.TheVariants.{Cluster, Manual, Open, Call, Carry, Link, Hot, Digest, Release, Crash, Fail, Back, Refill, Join, Raise, Tree, History, Check}
 use Rattle.assise_fault_script.specs.declared.parse.NumberedCommand.{NumberedCommand}
@@ -70,7 +70,7 @@ abbrev pub untold : List Outcomes → Untold
 untold os = map (λ o. (o.client, o.left.rest.items)) os
 
 -- of a client's end: what it has seen, and what came of its calls
-abbrev pub sight_at : {S Stored : Type 0} → ClientEnd S Stored → ℕ × List Event
+abbrev pub sight_at : {S Stored : Type 0} → ClientEnd S Stored → ℕ × List EntryValue
 sight_at e = (client_of e.libfs, seen_by e.libfs)
 
 abbrev pub outcomes_at : {S Stored : Type 0} → ClientEnd S Stored → ℕ × List (Result Reply Refusal)
@@ -99,7 +99,7 @@ abbrev pub AreTold : ℕ → List Said → Option (List (Result Reply Refusal)) 
 AreTold c ss None = (rs : List (Result Reply Refusal)) × (TellsClient c ss rs × ((length rs ≡ length (calls_in c (commands_said ss))) × ((k : ℕ) → told_all c k (calls_in c (commands_said ss)) rs ≡ [])))
 AreTold c ss (Some all) = TellsClient c ss all
 
-pub record AreCallsSaid (stretch : List NumberedCommand) (seen : List Event) (first : Untold) (old new : Option (List ℕ)) : Type 0 where
+pub record AreCallsSaid (stretch : List NumberedCommand) (seen : List EntryValue) (first : Untold) (old new : Option (List ℕ)) : Type 0 where
   pub said : List Said
   pub each : commands_said said ≡ stretch
   pub main : IsSaid seen said seen

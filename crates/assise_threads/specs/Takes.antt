@@ -1,14 +1,14 @@
 -- What the main thread does with the cluster between a take and its give.
 -- Assise (OSDI 2020), section 3 (digests, process crash, fail-over, recovery).
 use Rattle.std.specs.Prelude.{◌≡◌, List, [], ◌∷◌, ◌++◌}
-use Rattle.assise_history.specs.Entries.{Event, opens, calls, crashes, fails, returns}
+use Rattle.assise_history.specs.Entries.{EntryValue, opens, calls, crashes, fails, returns}
 use Rattle.assise_history.specs.Legal.{IsLegal}
 use Rattle.assise_keeper.specs.Clients.{Extends}
-use Rattle.assise_machine_events.specs.Machine.{Machine}
-use Rattle.assise_rounds.specs.Courses.{Told}
+use Rattle.assise_model_events.specs.Machine.{Machine}
+use Rattle.assise_rounds.specs.Traces.{Told}
 
 -- in one take of a cluster whose history extends what was seen this was done, and this history was given back, which is legal
-pub record InOneTake (Does : Machine → Told → Machine → Type 0) (old new : List Event) : Type 0 where
+pub record InOneTake (Does : Machine → Told → Machine → Type 0) (old new : List EntryValue) : Type 0 where
   pub before : Machine
   pub after : Machine
   pub told : Told
@@ -18,7 +18,7 @@ pub record InOneTake (Does : Machine → Told → Machine → Type 0) (old new :
   pub legal : ∥ IsLegal new ∥₁
 
 -- no client is opened and no call answered by these entries
-abbrev pub AreNobodys : List Event → Type 0
+abbrev pub AreNobodys : List EntryValue → Type 0
 AreNobodys [] = Unit {0}
 AreNobodys (opens c n u ∷ es) = ⊥
 AreNobodys (calls x ∷ es) = ⊥
@@ -27,7 +27,7 @@ AreNobodys (fails n losses ∷ es) = AreNobodys es
 AreNobodys (returns n ∷ es) = AreNobodys es
 
 -- the history goes on by such entries
-pub record AddsNobodys (old new : List Event) : Type 0 where
-  pub more : List Event
+pub record AddsNobodys (old new : List EntryValue) : Type 0 where
+  pub more : List EntryValue
   pub split : new ≡ old ++ more
   pub nobodys : AreNobodys more

@@ -1,12 +1,12 @@
 -- What is seen of the main thread, and what it does in one take.
 -- Assise (OSDI 2020), section 3 (digests, process crash, fail-over, recovery).
 use Rattle.std.specs.Prelude.{List}
-use Rattle.assise_history.specs.Entries.{Event}
+use Rattle.assise_history.specs.Entries.{EntryValue}
 use Rattle.assise_keeper.specs.Passes.{seen}
-use Rattle.assise_machine_events.specs.Events.{back, crash, digest, fail, join, raise, refill, release_ready}
-use Rattle.assise_machine_events.specs.Machine.{Machine}
-use Rattle.assise_console.specs.declared.answer.Answer.{Answer}
-use Rattle.assise_rounds.specs.Courses.{Told}
+use Rattle.assise_model_events.specs.Events.{back, crash, digest, fail, join, raise, refill, release_ready}
+use Rattle.assise_model_events.specs.Machine.{Machine}
+use Rattle.assise_console.specs.declared.response.Response.{Response}
+use Rattle.assise_rounds.specs.Traces.{Told}
 use Rattle.assise_console.specs.OneEvent.{IsOne, IsOneAt}
 use Rattle.assise_console.specs.Steps.{SetsHot}
 use Rattle.assise_threads.specs.Answered.{ChecksHistory, ShowsTree}
@@ -15,10 +15,10 @@ use Rattle.assise_threads.specs.declared.takes.Take.{Take}
 use Rattle.assise_threads.specs.declared.takes.Take.TheVariants.{Digest, Release, SetHot, Crash, Fail, BeginReturn, Refill, Join, Raise, Tree, Check}
 
 -- what the main thread's pass has seen
-abbrev pub main_seen : {C : Type 0} → MainThreadOf C → List Event
+abbrev pub main_seen : {C : Type 0} → MainThreadOf C → List EntryValue
 main_seen t = seen t.pass
 
-abbrev pub DoesTake : Take → Answer → Machine → Told → Machine → Type 0
+abbrev pub DoesTake : Take → Response → Machine → Told → Machine → Type 0
 DoesTake (Digest n) a = IsOne (digest n) a
 DoesTake Release a = IsOne release_ready a
 DoesTake (SetHot n capacity) a = SetsHot n capacity a

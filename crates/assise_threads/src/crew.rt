@@ -8,9 +8,9 @@ ghost use Rattle.assise_threads.specs.Runs.{EndsRun};
 use crate::main_thread::MainThread;
 use crate::stretch::serve;
 use crate::takes::Take;
-use assise_console::answer::Answer;
 use assise_console::engine::print;
 use assise_console::fault::EngineFault;
+use assise_console::response::Response;
 use assise_console::stock::Stock;
 use assise_fault_script::command::{Command, RevokerKind};
 use assise_fault_script::parse::NumberedCommand;
@@ -58,7 +58,7 @@ fn write_answer<W: Write>(
     alloc: Global,
     writer: &mut W,
     line: u64,
-    answer: Answer,
+    answer: Response,
 ) -> Result<(), EngineFault>
     ensures written { OnOk result (Appends (W.contents writer.old) (W.contents writer.new)
         (line_text line [] answer)) }
@@ -74,7 +74,7 @@ impl<'a> Crew<'a> {
     ghost use Rattle.assise_history.specs.Legal.{IsLegal};
     ghost use Rattle.assise_history.specs.Text.{history_text};
     ghost use Rattle.assise_keeper.specs.Clients.{Extends};
-    ghost use Rattle.assise_console.specs.Lines.{numbered};
+    ghost use Rattle.assise_console.specs.Lines.{numbered_line};
     ghost use Rattle.assise_threads.specs.Answered.{AnswersCommand, OpensOne};
     ghost use Rattle.assise_threads.specs.CallsAhead.{AreSaidNext};
     ghost use Rattle.assise_threads.specs.Hearing.{sights};
@@ -230,7 +230,7 @@ impl<'a> Crew<'a> {
         ensures extends { Extends (main_seen self.new.main) (main_seen self.old.main) }
         ensures legal { ∥ IsLegal (main_seen self.new.main) ∥₁ }
         ensures text { OnOk result (Appends (W.contents writer.old) (W.contents writer.new)
-            (numbered line (history_text (main_seen self.new.main)))) }
+            (numbered_line line (history_text (main_seen self.new.main)))) }
         ensures fault { IfErr result EndsRun }
     {
         let Ok(text) = self.main.history(rt, alloc) else {
@@ -249,7 +249,7 @@ impl<'a> Crew<'a> {
         alloc: Global,
         clients: &mut Vec<LibFs<'a, Cluster>>,
         command: &Command,
-    ) -> Result<Answer, EngineFault>
+    ) -> Result<Response, EngineFault>
         requires no_call { IsClientCall command.now → ⊥ }
         requires no_history { command.now ≡ WholeHistory → ⊥ }
         ensures answered { IfOk result (λ answer. AnswersCommand command.now answer
@@ -279,9 +279,9 @@ impl<'a> Crew<'a> {
             Command::Raise { node } => Ok(main.in_one_take(rt, alloc, Take::Raise(*node))),
             Command::Tree { node } => Ok(main.in_one_take(rt, alloc, Take::Tree(*node))),
             Command::Check => Ok(main.in_one_take(rt, alloc, Take::Check)),
-            Command::Cluster { .. } => Ok(Answer::Quiet),
-            Command::Manual => Ok(Answer::Quiet),
-            Command::Link { .. } => Ok(Answer::Quiet),
+            Command::Cluster { .. } => Ok(Response::Quiet),
+            Command::Manual => Ok(Response::Quiet),
+            Command::Link { .. } => Ok(Response::Quiet),
             Command::Call { .. } => unreachable!(),
             Command::History => unreachable!(),
         }
@@ -296,7 +296,7 @@ impl<'a> Crew<'a> {
         node: u64,
         kind: RevokerKind,
         durability: Durability,
-    ) -> Result<Answer, EngineFault>
+    ) -> Result<Response, EngineFault>
         ensures opens { IfOk result (λ answer. OpensOne node durability answer
             (main_seen self.old.main) (main_seen self.new.main)) }
         ensures clients { OnOk result (MayGain (sights clients.old.items) (sights
@@ -304,13 +304,13 @@ impl<'a> Crew<'a> {
         ensures fault { IfErr result EndsRun }
     {
         let Ok(node) = u32::try_from(node) else {
-            return Ok(Answer::Refused(Refusal::BadNode));
+            return Ok(Response::Refused(Refusal::BadNode));
         };
         let Ok(()) = clients.reserve(1) else {
             return Err(EngineFault::Memory);
         };
         let Some(revoker) = self.stock.take(kind) else {
-            return Ok(Answer::Refused(self.main.refuse_open(rt, node)));
+            return Ok(Response::Refused(self.main.refuse_open(rt, node)));
         };
         match self
             .main
@@ -319,11 +319,11 @@ impl<'a> Crew<'a> {
             Ok(libfs) => {
                 let client = libfs.client();
                 clients.push_reserved(libfs);
-                Ok(Answer::Client(client))
+                Ok(Response::Client(client))
             }
             Err((refusal, revoker)) => {
                 let _ = self.stock.put_back(kind, revoker);
-                Ok(Answer::Refused(refusal))
+                Ok(Response::Refused(refusal))
             }
         }
     }

@@ -4,7 +4,7 @@ ghost use Rattle.assise_history.specs.Text.{history_text};
 ghost use Rattle.assise_keeper.specs.Passes.{IsPassOf, client as client_of_pass, seen};
 
 use crate::takes::{Take, apply};
-use assise_console::answer::Answer;
+use assise_console::response::Response;
 use assise_history::history::History;
 use assise_keeper::keeper::Keeper;
 use assise_keeper::pass::Pass;
@@ -111,23 +111,23 @@ impl<'a, C: Revokes + Drop> MainThreadOf<'a, C> {
     }
 
     /// One replicate turn of a node, over a perfect link: how many frames were taken in.
-    pub(crate) fn carry<R: Wait>(&mut self, rt: &R, alloc: Global, node: u64) -> Answer
+    pub(crate) fn carry<R: Wait>(&mut self, rt: &R, alloc: Global, node: u64) -> Response
         ensures { CarriesSome result (main_seen self.old) (main_seen self.new) }
     {
         let Ok(node) = u32::try_from(node) else {
-            return Answer::Refused(Refusal::BadNode);
+            return Response::Refused(Refusal::BadNode);
         };
         let mut worker = Worker::new(self.keeper, &mut self.pass);
         let mut link = PerfectLink::new();
         match worker.replicate_turn(rt, alloc, node, &mut link, &OpenGate) {
-            TurnEnd::Did(count) => Answer::Carried(count),
-            TurnEnd::Refused(refusal) => Answer::Refused(refusal),
-            TurnEnd::Stopped => Answer::Carried(0),
+            TurnEnd::Did(count) => Response::Carried(count),
+            TurnEnd::Refused(refusal) => Response::Refused(refusal),
+            TurnEnd::Stopped => Response::Carried(0),
         }
     }
 
     /// Does something in one take.
-    pub(crate) fn in_one_take<R: Wait>(&mut self, rt: &R, alloc: Global, take: Take) -> Answer
+    pub(crate) fn in_one_take<R: Wait>(&mut self, rt: &R, alloc: Global, take: Take) -> Response
         ensures does { InOneTake (DoesTake take result) (main_seen self.old) (main_seen self.new) }
         ensures extends { Extends (main_seen self.new) (main_seen self.old) }
     {
@@ -144,16 +144,16 @@ impl<'a, C: Revokes + Drop> MainThreadOf<'a, C> {
         alloc: Global,
         node: u64,
         turns: u32,
-    ) -> Answer
+    ) -> Response
         ensures { ComesBackInTakes node result (main_seen self.old) (main_seen self.new) }
     {
         let begun = self.in_one_take(rt, alloc, Take::BeginReturn(node));
-        if let Answer::Refused(_) = begun {
+        if let Response::Refused(_) = begun {
             return begun;
         }
         for _ in 0..turns {
             let filled = self.in_one_take(rt, alloc, Take::Refill(node));
-            if let Answer::Refused(_) = filled {
+            if let Response::Refused(_) = filled {
                 return filled;
             }
             let joined = self.in_one_take(rt, alloc, Take::Join(node));
@@ -161,7 +161,7 @@ impl<'a, C: Revokes + Drop> MainThreadOf<'a, C> {
                 return joined;
             }
         }
-        Answer::Refused(Refusal::Busy)
+        Response::Refused(Refusal::Busy)
     }
 
     /// The text of the history so far.
@@ -178,8 +178,8 @@ impl<'a, C: Revokes + Drop> MainThreadOf<'a, C> {
 }
 
 /// Whether something is to be tried again.
-fn is_busy(answer: &Answer) -> bool {
-    matches!(answer, Answer::Refused(Refusal::Busy))
+fn is_busy(answer: &Response) -> bool {
+    matches!(answer, Response::Refused(Refusal::Busy))
 }
 
 /// Why no client is opened on a node where all revokers are taken.

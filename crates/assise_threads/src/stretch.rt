@@ -1,6 +1,6 @@
 // Calls that stand together: each client's are made in a thread of its own, and the lines are written in order.
 ghost use Rattle.std.specs.Prelude.{◌≡◌, IfErr, IfOk, List, OnOk};
-ghost use Rattle.assise_history.specs.Entries.{Event};
+ghost use Rattle.assise_history.specs.Entries.{EntryValue};
 ghost use Rattle.assise_threads.specs.Hearing.{sights};
 ghost use Rattle.assise_threads.specs.Runs.{EndsRun};
 ghost use Rattle.assise_threads.specs.Spoken.{IsStretchSaid};
@@ -11,9 +11,9 @@ ghost use Rattle.assise_threads.specs.Threads.{main_seen};
 use crate::lists::lists_of;
 use crate::main_thread::MainThread;
 use crate::outcomes::{Outcomes, next_outcome, parted};
-use assise_console::answer::Answer;
 use assise_console::engine::print;
 use assise_console::fault::EngineFault;
+use assise_console::response::Response;
 use assise_fault_script::command::Command;
 use assise_fault_script::parse::NumberedCommand;
 use assise_history::history::History;
@@ -29,13 +29,13 @@ use std::sync::Wait;
 use std::thread::Threads;
 
 /// What a call is answered for which there is this outcome: none is left where there is no such client.
-fn answer_of(outcome: Option<Result<Reply, Refusal>>) -> Answer
+fn answer_of(outcome: Option<Result<Reply, Refusal>>) -> Response
     ensures { result ≡ outcome_answer (next_or_none outcome) }
 {
     match outcome {
-        Some(Ok(reply)) => Answer::Replied(reply),
-        Some(Err(refusal)) => Answer::Refused(refusal),
-        None => Answer::Refused(Refusal::BadClient),
+        Some(Ok(reply)) => Response::Replied(reply),
+        Some(Err(refusal)) => Response::Refused(refusal),
+        None => Response::Refused(Refusal::BadClient),
     }
 }
 
@@ -67,7 +67,7 @@ fn write_calls<W: Write>(
 ) -> Result<(), EngineFault>
     requires calls { AreCalls stretch.now }
     requires all { HasAllOf stretch.now (untold outcomes.old) }
-    ensures said { (seen : List Event) → OnOk result (AreCallsSaid stretch.now seen
+    ensures said { (seen : List EntryValue) → OnOk result (AreCallsSaid stretch.now seen
         (untold outcomes.old) (W.contents writer.old) (W.contents writer.new)) }
     ensures fault { IfErr result EndsRun }
 {

@@ -1,13 +1,13 @@
 // What the main thread does to the cluster in one take.
 ghost use Rattle.assise_machine.specs.Clusters.{machine};
-ghost use Rattle.assise_rounds.specs.Courses.{Told};
+ghost use Rattle.assise_rounds.specs.Traces.{Told};
 ghost use Rattle.assise_threads.specs.Takes.{AddsNobodys};
 ghost use Rattle.assise_threads.specs.Threads.{DoesTake};
 
-use assise_console::answer::Answer;
 use assise_console::commands::{
     begin_return, check, crash, digest, fail, join, raise, refill, release, set_hot, tree,
 };
+use assise_console::response::Response;
 use assise_lease_table::revoker::Revokes;
 use assise_machine::cluster::ClusterOf;
 use std::alloc::Global;
@@ -44,7 +44,7 @@ pub(crate) fn apply<C: Revokes + Drop>(
     alloc: Global,
     cluster: &mut ClusterOf<C>,
     take: Take,
-) -> Answer
+) -> Response
     ensures does { (es : Told) × DoesTake take result (machine cluster.old) es (machine
         cluster.new) }
     ensures nobodys { AddsNobodys (machine cluster.old).history (machine cluster.new).history }

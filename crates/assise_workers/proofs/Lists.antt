@@ -3,15 +3,15 @@ use Rattle.std.proofs.Common.{◌≡◌, ℕ, suc, ◌+◌, ◌<◌, ◌≤◌, 
 use Rattle.assise_names.specs.declared.call.Op.{Op}
 use Rattle.assise_names.specs.declared.refusal.Refusal.{Refusal}
 use Rattle.assise_names.specs.declared.reply.Reply.{Reply}
-use Rattle.assise_history.specs.Entries.{Event, calls}
+use Rattle.assise_history.specs.Entries.{EntryValue, calls}
 use Rattle.assise_history.specs.Legal.{calls_made}
 use Rattle.assise_keeper.specs.Clients.{calls_by, Extends}
-use Rattle.assise_keeper.proofs.Adding.{extends-same}
+use Rattle.assise_keeper.proofs.PassAdds.{extends-same}
 use Rattle.assise_libfs.specs.Calling.{SeesCall, told_call}
 use Rattle.assise_libfs.proofs.Tries.{one-extends, others-extends}
 use Rattle.assise_workers.specs.Told.{told_all, SeesAll}
 
-pub extends-on : (d b a : List Event) → Extends d b → Extends b a → Extends d a
+pub extends-on : (d b a : List EntryValue) → Extends d b → Extends b a → Extends d a
 extends-on d b a e f = (f.0 ++ e.0, e.1 ∙ (ap (λ z. z ++ e.0) f.1 ∙ append_assoc a f.0 e.0))
 
 -- the calls of a list behind another go on where those end
@@ -28,17 +28,17 @@ told-append c k (o ∷ ops) (Ok reply ∷ rs) more came same =
     ap (λ z. first ∷ z) (rest ∙ ap (λ (j : ℕ). told_all c (k + 1) ops rs ++ told_all c j more came) at)
 told-append c k (o ∷ ops) (Err refusal ∷ rs) more came same = let n : length rs ≡ length ops = omega (arith, same) in told-append c k ops rs more came n
 
-pub none_seen : (c : ℕ) (h : List Event) → SeesAll c [] h [] h
+pub none_seen : (c : ℕ) (h : List EntryValue) → SeesAll c [] h [] h
 none_seen c h = record { count = refl; extends = extends-same h; told = sym (append-nil (calls_by c h)) }
 
-module _ (c : ℕ) (ops : List Op) (a : List Event) (rs : List (Result Reply Refusal)) (b : List Event) (s : SeesAll c ops a rs b) where
+module _ (c : ℕ) (ops : List Op) (a : List EntryValue) (rs : List (Result Reply Refusal)) (b : List EntryValue) (s : SeesAll c ops a rs b) where
   count_more : (op : Op) (r : Result Reply Refusal) → length (rs ++ r ∷ []) ≡ length (ops ++ op ∷ [])
   count_more op r = let n = s.count in omega (arith, length-append rs (r ∷ []), length-append ops (op ∷ []))
 
   number : calls_made c b ≡ calls_made c a + length (told_all c (calls_made c a) ops rs)
   number = ap length s.told ∙ length-append (calls_by c a) (told_all c (calls_made c a) ops rs)
 
-  pub one_more : (op : Op) (r : Result Reply Refusal) (d : List Event) → SeesCall c op b r d → SeesAll c (ops ++ op ∷ []) a (rs ++ r ∷ []) d
+  pub one_more : (op : Op) (r : Result Reply Refusal) (d : List EntryValue) → SeesCall c op b r d → SeesAll c (ops ++ op ∷ []) a (rs ++ r ∷ []) d
   one_more op (Ok reply) d one =
       let so_far = told_all c (calls_made c a) ops rs in
       let call : told_call c b op reply ∷ [] ≡ told_all c (calls_made c a + length so_far) (op ∷ []) (Ok reply ∷ []) = ap (λ (k : ℕ). calls (record { client = c; number = k; op = op; reply = reply }) ∷ []) number in
@@ -56,6 +56,6 @@ module _ (c : ℕ) (ops : List Op) (a : List Event) (rs : List (Result Reply Ref
         told = one.same ∙ (s.told ∙ ap (λ z. calls_by c a ++ z) (sym (append-nil so_far) ∙ sym (told-append c (calls_made c a) ops rs (op ∷ []) (Err refusal ∷ []) s.count)));
       }
 
-pub one_more_of : (c d : ℕ) (ops : List Op) (a : List Event) (rs : List (Result Reply Refusal)) (b : List Event) (op : Op) (r : Result Reply Refusal) (e : List Event) → d ≡ c
+pub one_more_of : (c d : ℕ) (ops : List Op) (a : List EntryValue) (rs : List (Result Reply Refusal)) (b : List EntryValue) (op : Op) (r : Result Reply Refusal) (e : List EntryValue) → d ≡ c
     → SeesAll c ops a rs b → SeesCall d op b r e → SeesAll c (ops ++ op ∷ []) a (rs ++ r ∷ []) e
 one_more_of c d ops a rs b op r e same s one = one_more c ops a rs b s op r e (subst (λ z. SeesCall z op b r e) same one)

@@ -1,7 +1,7 @@
 -- What is seen of a worker.
 -- Assise (OSDI 2020), section 3 (a process of each node replicates and digests).
 use Rattle.std.specs.Prelude.{◌≡◌, List}
-use Rattle.assise_history.specs.Entries.{Event}
+use Rattle.assise_history.specs.Entries.{EntryValue}
 use Rattle.assise_keeper.specs.declared.keeper.Keeper.{Keeper}
 use Rattle.assise_keeper.specs.Clients.{Extends}
 use Rattle.assise_keeper.specs.Passes.{seen}
@@ -13,7 +13,7 @@ module _ {S : Type 0} where
   abbrev pub keeper_at : Worker S → Keeper S
   keeper_at w = w.keeper.now
 
-  abbrev pub seen_at : Worker S → List Event
+  abbrev pub seen_at : Worker S → List EntryValue
   seen_at w = seen (pass_of w.pass)
 
   -- it is a worker of the same keeper, and has seen what it had seen, and maybe more

@@ -1,4 +1,4 @@
-// Turns of workers, where each allocation of a run is refused in turn: what a turn doesn't do for want of memory the next one does.
+// Turns of workers, where each allocation of a run is refused in turn: what a turn doesn't do as out of memory the next one does.
 ghost use Rattle.assise_keeper.specs.Passes.{IsPassOf};
 
 use crate::scripts::{Cut, calls_in};
@@ -37,7 +37,7 @@ fn begin(alloc: Global, cluster: &mut Cluster, revoker: Revoker, calls: &[Op]) -
     Some(())
 }
 
-/// Whether a turn did its one thing, or nothing for want of memory.
+/// Whether a turn did its one thing, or nothing as out of memory.
 fn is_done(end: TurnEnd) -> Option<bool> {
     match end {
         TurnEnd::Did(1) => Some(true),

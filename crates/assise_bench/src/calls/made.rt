@@ -72,10 +72,10 @@ fn writes_of(alloc: Global, bytes: u64, piece: u64) -> Option<Vec<Op>> {
 }
 
 /// So many files are made in the directory.
-pub(crate) fn creates(alloc: Global, front: &str, count: u64) -> Option<Vec<Op>> {
+pub(crate) fn creates(alloc: Global, prefix: &str, count: u64) -> Option<Vec<Op>> {
     let mut calls = Vec::new(alloc);
     for number in 0..count {
-        let text = format!(in alloc; "{DIRECTORY}/{front}-{number}").ok()?;
+        let text = format!(in alloc; "{DIRECTORY}/{prefix}-{number}").ok()?;
         calls.push(Op::Create(path(alloc, text.as_str())?)).ok()?;
     }
     Some(calls)

@@ -70,17 +70,17 @@ fn directory(alloc: Global) -> Option<Inode> {
 }
 
 /// An entry of a numbered name in the directory.
-pub(crate) fn link(alloc: Global, front: &str, number: u64) -> Option<Effect> {
+pub(crate) fn link(alloc: Global, prefix: &str, number: u64) -> Option<Effect> {
     Some(Effect::Link {
         directory: DIRECTORY,
-        name: name(alloc, front, number)?,
+        name: name(alloc, prefix, number)?,
         inode: FIRST_NEW.saturating_add(number),
     })
 }
 
 /// A numbered name.
-pub(crate) fn name(alloc: Global, front: &str, number: u64) -> Option<Name> {
-    let text = format!(in alloc; "{front}-{number}").ok()?;
+pub(crate) fn name(alloc: Global, prefix: &str, number: u64) -> Option<Name> {
+    let text = format!(in alloc; "{prefix}-{number}").ok()?;
     Name::parse(alloc, text.as_str()).ok()
 }
 

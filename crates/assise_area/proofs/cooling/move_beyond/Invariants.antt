@@ -6,7 +6,7 @@ use Rattle.assise_area.proofs.cooling.move_beyond.Given as goal
 abbrev pub invariant-loop-hot : goal.invariant-loop-hot
 invariant-loop-hot l = record {
   cap : l.hot.cap ≡ l.fn.hot.cap;
-  front : l.hot.entries ≡ take (length l.hot.entries) l.fn.hot.entries;
+  prefix : l.hot.entries ≡ take (length l.hot.entries) l.fn.hot.entries;
   stays : take l.fn.first l.hot.entries ≡ take l.fn.first l.fn.hot.entries;
   moved : (q : ℕ) → cold_at l.cold.entries q ≡ option_or (hot_at (drop (length l.hot.entries) l.fn.hot.entries) q) (cold_at l.fn.cold.entries q);
 }

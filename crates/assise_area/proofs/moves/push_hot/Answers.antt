@@ -1,5 +1,5 @@
 use Rattle.std.proofs.Common.{Some, ap, sym, ◌∙◌}
-use Rattle.assise_area.proofs.Warming.{put_new}
+use Rattle.assise_area.proofs.ColdToHot.{put_new}
 use Rattle.assise_area.proofs.moves.push_hot.Goals as goal
 
 pub returns-in-Ok-clause-pushed : goal.returns-in-Ok-clause-pushed

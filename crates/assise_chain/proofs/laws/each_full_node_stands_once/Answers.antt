@@ -1,5 +1,5 @@
 use Rattle.assise_chain.proofs.Rows.{chain_differs}
-use Rattle.assise_chain.proofs.Standing.{head_first}
+use Rattle.assise_chain.proofs.ChainOrder.{head_first}
 use Rattle.assise_chain.proofs.laws.each_full_node_stands_once.Goals as goal
 
 pub returns-clause-once : goal.returns-clause-once

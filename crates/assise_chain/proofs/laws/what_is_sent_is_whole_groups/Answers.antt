@@ -1,4 +1,4 @@
-use Rattle.assise_chain.proofs.Taking.{sent_border, some_sent}
+use Rattle.assise_chain.proofs.RecordPrefixes.{sent_border, some_sent}
 use Rattle.assise_chain.proofs.laws.what_is_sent_is_whole_groups.Goals as goal
 
 pub returns-clause-border : goal.returns-clause-border

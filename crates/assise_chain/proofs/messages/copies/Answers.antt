@@ -1,6 +1,6 @@
 use Rattle.std.proofs.Common.{List, [], ◌∷◌, take, append_assoc}
 use Rattle.assise_record.specs.LogRecord.{LogRecord}
-use Rattle.assise_chain.proofs.Taking.{taken_first}
+use Rattle.assise_chain.proofs.RecordPrefixes.{taken_first}
 use Rattle.assise_chain.proofs.messages.copies.Goals as goal
 
 pub loop-record-preserved : goal.loop-record-preserved

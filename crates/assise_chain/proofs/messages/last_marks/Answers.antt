@@ -1,5 +1,5 @@
 use Rattle.std.proofs.Common.{◌∙◌}
-use Rattle.assise_chain.proofs.Taking.{marks_next}
+use Rattle.assise_chain.proofs.RecordPrefixes.{marks_next}
 use Rattle.assise_chain.proofs.messages.last_marks.Goals as goal
 
 pub loop-place-preserved : goal.loop-place-preserved

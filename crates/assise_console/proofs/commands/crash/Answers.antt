@@ -1,5 +1,5 @@
 use Rattle.std.proofs.Common.{refl, arith}
-use Rattle.assise_machine_events.specs.Events.{crash}
+use Rattle.assise_model_events.specs.Events.{crash}
 use Rattle.assise_machine.specs.Clusters.{machine}
 use Rattle.assise_machine.proofs.Few.{few_clients}
 use Rattle.assise_console.proofs.OneCommand.{crashes_none, does_at}

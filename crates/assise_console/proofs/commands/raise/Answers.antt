@@ -1,5 +1,5 @@
 use Rattle.std.proofs.Common.{refl, arith}
-use Rattle.assise_machine_events.specs.Events.{raise}
+use Rattle.assise_model_events.specs.Events.{raise}
 use Rattle.assise_machine.specs.Clusters.{machine}
 use Rattle.assise_machine.proofs.Few.{few_nodes}
 use Rattle.assise_console.proofs.OneCommand.{raises_none, does_at}

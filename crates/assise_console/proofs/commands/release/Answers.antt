@@ -1,7 +1,7 @@
 use Rattle.std.proofs.Common.{refl}
-use Rattle.assise_machine_events.specs.Events.{released}
+use Rattle.assise_model_events.specs.Events.{released}
 use Rattle.assise_machine.specs.Clusters.{machine}
-use Rattle.assise_console.specs.declared.answer.Answer.TheVariants.{Released}
+use Rattle.assise_console.specs.declared.response.Response.TheVariants.{Released}
 use Rattle.assise_console.proofs.OneCommand.{releases_by}
 use Rattle.assise_console.proofs.commands.release.Goals as goal
 

@@ -3,9 +3,9 @@ use Rattle.assise_seq_tree.specs.Runs.{tree_after_calls}
 use Rattle.assise_seq_tree.specs.Tree.{opening}
 use Rattle.assise_inode_table.specs.Spelled.{Spells}
 use Rattle.assise_inode_table.specs.Traces.{ops}
-use Rattle.assise_machine_laws.specs.World.{alone}
-use Rattle.assise_machine_history.specs.Courses.{firm_calls}
-use Rattle.assise_machine_events.specs.Machine.{state_of}
+use Rattle.assise_model_world.specs.World.{alone_at}
+use Rattle.assise_model_history.specs.Traces.{numbered_replicated}
+use Rattle.assise_model_events.specs.Machine.{state_of}
 use Rattle.assise_machine.specs.Clusters.{machine}
 use Rattle.assise_machine.proofs.Replicated.{replicated_tree}
 use Rattle.assise_machine.proofs.Results.{if_ok_as}
@@ -15,11 +15,11 @@ use Rattle.assise_console.proofs.trees.tree_at.Goals as goal
 pub returns-in-Ok-clause-tree : goal.returns-in-Ok-clause-tree
 returns-in-Ok-clause-tree g c =
     let m = machine c.args.cluster.now in
-    let t = tree_after_calls opening (ops (firm_calls (state_of m))) in
+    let t = tree_after_calls opening (ops (numbered_replicated (state_of m))) in
     let acked = some_acked m.world in
     let observed = c.in-Ok.ensures.observed acked.0 acked.1 in
-    let spelled : Spells (alone m.world c.args.node) t = subst (λ v. Spells v t) (λ i j. observed j i) (c.in-Ok.ensures.alone acked.0 acked.1) in
-    if_ok_as c.tree_of.result _ _ c.tree_of.ensures.tree (λ found is. subst (Spells (alone m.world c.args.node)) (sym is) spelled)
+    let spelled : Spells (alone_at m.world c.args.node) t = subst (λ v. Spells v t) (λ i j. observed j i) (c.in-Ok.ensures.alone acked.0 acked.1) in
+    if_ok_as c.tree_of.result _ _ c.tree_of.ensures.tree (λ found is. subst (Spells (alone_at m.world c.args.node)) (sym is) spelled)
 
 pub returns-in-Ok-clause-replicated : goal.returns-in-Ok-clause-replicated
 returns-in-Ok-clause-replicated g c = if_ok_as c.tree_of.result _ _ c.tree_of.ensures.tree (λ found is. is ∙ sym (replicated_tree c.args.cluster.now))

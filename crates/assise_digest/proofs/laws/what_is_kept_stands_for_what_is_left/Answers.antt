@@ -1,4 +1,4 @@
-use Rattle.assise_digest.proofs.Renoting.{renoted}
+use Rattle.assise_digest.proofs.RegroupedKept.{renoted}
 use Rattle.assise_digest.proofs.laws.what_is_kept_stands_for_what_is_left.Goals as goal
 
 pub returns : goal.returns

@@ -1,6 +1,6 @@
 use Rattle.std.proofs.Common.{◌∙◌, ap, sym}
 use Rattle.assise_inode_table.specs.Effects.{with_value}
-use Rattle.assise_digest.proofs.Keeping.{nothing_removed}
+use Rattle.assise_digest.proofs.KeptInodes.{nothing_removed}
 use Rattle.assise_digest.proofs.pending.set_value.Goals as goal
 
 pub returns-in-None-clause-ok : goal.returns-in-None-clause-ok

@@ -1,7 +1,7 @@
 use Rattle.std.proofs.Common.{◌≡◌, ◌∷◌, [], length, map, reverse, sym, ap, ◌∙◌, append-nil, arith}
 use Rattle.assise_digest.specs.Postorder.{postorder, shape}
 use Rattle.assise_digest.proofs.Forests.{enough, same_end}
-use Rattle.assise_digest.proofs.Assembling.{opened, closed, whole_tree}
+use Rattle.assise_digest.proofs.PostorderTrees.{opened, closed, whole_tree}
 use Rattle.assise_digest.proofs.spelled.assembled.Goals as goal
 
 pub grown-requires : goal.grown-requires

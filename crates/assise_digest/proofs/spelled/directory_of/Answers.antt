@@ -1,7 +1,7 @@
 use Rattle.std.proofs.Common.{◌≡◌, ◌∷◌, ◌++◌, [], ◌<◌, length, arith, sym, ap, ◌∙◌, append_assoc}
 use Rattle.assise_seq_tree.specs.Tree.{dir, entry, names_of, put}
 use Rattle.assise_digest.specs.Postorder.{subtrees_of}
-use Rattle.assise_digest.proofs.Growing.{grows, some_left}
+use Rattle.assise_digest.proofs.DirectoryGrowth.{grows, some_left}
 use Rattle.assise_digest.proofs.spelled.directory_of.Goals as goal
 
 pub unreachable-requires : goal.unreachable-requires
@@ -17,7 +17,7 @@ loop-name-preserved c =
     let before = c.in-Some.before.now in
     let names : before ++ name ∷ names_of i.0 ≡ c.args.names.now = sym (append_assoc before (name ∷ []) (names_of i.0)) ∙ ap (λ rest. rest ++ names_of i.0) (sym c.in-Some.ensures.cases.0) ∙ i.2 in
     let tree : c.insert.new.self ≡ dir (entry name c.in-Some-pop.subtree i.0) = c.in_ok-insert.ensures.ok ∙ ap (λ u. put u (c.in_ok-copy.field-0 ∷ []) c.in-Some-pop.subtree) i.1
-    ∙ ap (λ key. put (dir i.0) (key ∷ []) c.in-Some-pop.subtree) c.in_ok-copy.ensures.equal ∙ grows c.args.names.now before name i.0 c.in-Some-pop.subtree c.as_slice-rest.ensures.rising names in (
+    ∙ ap (λ key. put (dir i.0) (key ∷ []) c.in-Some-pop.subtree) c.in_ok-copy.ensures.equal ∙ grows c.args.names.now before name i.0 c.in-Some-pop.subtree c.as_slice-rest.ensures.ascending names in (
       entry name c.in-Some-pop.subtree i.0,
       tree,
       names,

@@ -6,7 +6,7 @@ use Rattle.std.specs.Prelude.{is_some}
 use Rattle.assise_inode_table.specs.Contents.{Content, values}
 use Rattle.assise_digest.specs.Postorder.{postorder, shape}
 use Rattle.assise_digest.specs.Targets.{targets}
-use Rattle.assise_digest.proofs.Assembling.{shapes_more, one_more}
+use Rattle.assise_digest.proofs.PostorderTrees.{shapes_more, one_more}
 use Rattle.assise_digest.proofs.Listed.{listed_as, listed_first, listed_next, next_is_there, not_more}
 use Rattle.assise_digest.proofs.spelled.places_of.Goals as goal
 

@@ -2,8 +2,8 @@ use Rattle.std.proofs.Common.{rules, ◌≡◌, ◌+◌, Ok, Err, subst, arith}
 use Rattle.assise_names.specs.declared.refusal.Refusal.TheVariants.{LogFull}
 use Rattle.assise_machine.specs.Clusters.{machine}
 use Rattle.assise_machine_calls.specs.Answers.{turn_answer}
-use Rattle.assise_machine_events.specs.Events.{refused}
-use Rattle.assise_machine_events.specs.Happenings.{Trying}
+use Rattle.assise_model_events.specs.Events.{refused}
+use Rattle.assise_model_events.specs.Happenings.{Trying}
 use Rattle.assise_files.proofs.VainTries.{awaited_in_vain, found_full, tried_idle, tried_settled, tried_full}
 use Rattle.assise_files.proofs.attempts.settle_call.Goals as goal
 use Rattle.assise_files.proofs.attempts.settle_call.Goals.{in-Ok-NotYet+else-not-round, in-Err+else-ne+else-not-make_room}

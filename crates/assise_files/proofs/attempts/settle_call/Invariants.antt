@@ -1,6 +1,6 @@
 use Rattle.std.proofs.Common.{◌≤◌}
 use Rattle.assise_machine.specs.Clusters.{machine}
-use Rattle.assise_rounds.specs.Courses.{Told}
+use Rattle.assise_rounds.specs.Traces.{Told}
 use Rattle.assise_files.specs.CallTries.{InVain}
 use Rattle.assise_files.proofs.attempts.settle_call.Given as goal
 

@@ -1,14 +1,14 @@
 use Rattle.std.proofs.Common.{◌≡◌, ◌∙◌, ap, sym, take, true, false, subst}
 use Rattle.assise_seq_tree.specs.Tree.{opening}
 use Rattle.assise_history.specs.Kept.{kept, kept_more, IsRun}
-use Rattle.assise_history.specs.Summary.{summary, follows, after}
-use Rattle.assise_history.specs.Played.{Goes, calls_of}
+use Rattle.assise_history.specs.Summary.{summary, follows, summary_after}
+use Rattle.assise_history.specs.Played.{Goes, played_calls}
 use Rattle.assise_history.proofs.Legality.{legal-nil}
-use Rattle.assise_history.proofs.Checking.{not_allowed, no_run, checked_more, kept_at, summary_at}
+use Rattle.assise_history.proofs.CheckLoop.{not_allowed, no_run, checked_more, kept_at, summary_at}
 use Rattle.assise_history.proofs.check.is_legal.Goals as goal
 
 pub loop-entry-init : goal.loop-entry-init
-loop-entry-init c = record { legal = legal-nil; known = c.new-front.ensures; kept_is = c.new-played.ensures.calls; played_is = c.new-played.ensures.played }
+loop-entry-init c = record { legal = legal-nil; known = c.new-prefix.ensures; kept_is = c.new-played.ensures.calls; played_is = c.new-played.ensures.played }
 
 pub returns-then-not-allows-clause-decided : goal.returns-then-not-allows-clause-decided
 returns-then-not-allows-clause-decided c =
@@ -23,7 +23,7 @@ returns-then-not-branch-clause-decided c =
     let es = c.args.entries.now in
     let i = c.loop-entry.entry-index in
     let e = c.entry-item.result in
-    let goes : Goes false (kept_more (calls_of c.loop-entry.played) e) c.take.new.self = subst (λ b. Goes b (kept_more (calls_of c.loop-entry.played) e) c.take.new.self) c.if-not-branch.true c.in_ok-take.ensures.ok in
+    let goes : Goes false (kept_more (played_calls c.loop-entry.played) e) c.take.new.self = subst (λ b. Goes b (kept_more (played_calls c.loop-entry.played) e) c.take.new.self) c.if-not-branch.true c.in_ok-take.ensures.ok in
     ((λ h. cc), λ legal. absurd (no_run es i e c.loop-entry-test.true c.entry-item.is (λ run. goes (rw c.loop-entry.invariant.kept_is run)) legal))
 
 pub loop-entry-preserved : goal.loop-entry-preserved
@@ -32,12 +32,12 @@ loop-entry-preserved c =
     let i = c.loop-entry.entry-index in
     let e = c.entry-item.result in
     let h = c.loop-entry-test.true in
-    let goes : Goes true (kept_more (calls_of c.loop-entry.played) e) c.take.new.self = subst (λ b. Goes b (kept_more (calls_of c.loop-entry.played) e) c.take.new.self) c.if-not-branch.false c.in_ok-take.ensures.ok in
+    let goes : Goes true (kept_more (played_calls c.loop-entry.played) e) c.take.new.self = subst (λ b. Goes b (kept_more (played_calls c.loop-entry.played) e) c.take.new.self) c.if-not-branch.false c.in_ok-take.ensures.ok in
     let rule : follows (summary (take i es)) e ≡ true = ap (λ s. follows s e) (sym c.loop-entry.invariant.known) ∙ sym c.allows.ensures ∙ c.if-not-allows.false in
-    let kept_is : calls_of c.take.new.self ≡ kept_more (kept (take i es)) e = goes.0 ∙ ap (λ cs. kept_more cs e) c.loop-entry.invariant.kept_is in
+    let kept_is : played_calls c.take.new.self ≡ kept_more (kept (take i es)) e = goes.0 ∙ ap (λ cs. kept_more cs e) c.loop-entry.invariant.kept_is in
     record {
       legal = checked_more es i e h c.entry-item.is c.loop-entry.invariant.legal rule (subst (IsRun opening) kept_is goes.1.0);
-      known = c.in_ok-note.ensures ∙ ap (λ s. after s e) c.loop-entry.invariant.known ∙ sym (summary_at es i e h c.entry-item.is);
+      known = c.in_ok-note.ensures ∙ ap (λ s. summary_after s e) c.loop-entry.invariant.known ∙ sym (summary_at es i e h c.entry-item.is);
       kept_is = kept_is ∙ sym (kept_at es i e h c.entry-item.is);
       played_is = goes.1;
     }

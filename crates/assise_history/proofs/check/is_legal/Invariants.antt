@@ -2,13 +2,13 @@ use Rattle.std.proofs.Common.{◌≡◌, take}
 use Rattle.assise_history.specs.Kept.{kept}
 use Rattle.assise_history.specs.Legal.{IsLegal}
 use Rattle.assise_history.specs.Summary.{summary}
-use Rattle.assise_history.specs.Played.{IsPlayed, calls_of}
+use Rattle.assise_history.specs.Played.{IsPlayed, played_calls}
 use Rattle.assise_history.proofs.check.is_legal.Given as goal
 
 abbrev pub invariant-loop-entry : goal.invariant-loop-entry
 invariant-loop-entry l = record {
   legal : IsLegal (take l.entry-index l.entries);
-  known : l.front ≡ summary (take l.entry-index l.entries);
-  kept_is : calls_of l.played ≡ kept (take l.entry-index l.entries);
+  known : l.prefix ≡ summary (take l.entry-index l.entries);
+  kept_is : played_calls l.played ≡ kept (take l.entry-index l.entries);
   played_is : IsPlayed l.played;
 }

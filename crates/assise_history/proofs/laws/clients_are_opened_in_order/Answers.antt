@@ -1,6 +1,6 @@
 use Rattle.assise_history.specs.Entries.{opens, returns}
 use Rattle.assise_history.specs.Legal.{MayOpen}
-use Rattle.assise_history.proofs.Counting.{opens_once}
+use Rattle.assise_history.proofs.ClientCounts.{opens_once}
 use Rattle.assise_history.proofs.OneMore.{follows_in}
 use Rattle.assise_history.proofs.laws.clients_are_opened_in_order.Goals as goal
 

@@ -3,7 +3,7 @@ use Rattle.assise_names.specs.declared.reply.Reply.TheVariants.{Done}
 use Rattle.assise_inode_table.specs.Contents.{values}
 use Rattle.assise_inode_table.specs.Interaction.{finish}
 use Rattle.assise_inode_plan.specs.Walking.{plan_from}
-use Rattle.assise_inode_plan.proofs.Making.{make_stops, make_under_file, make_without_room, make_ends}
+use Rattle.assise_inode_plan.proofs.CreatePlans.{make_stops, make_under_file, make_without_room, make_ends}
 use Rattle.assise_inode_plan.proofs.creation.plan_new.Goals as goal
 
 pub returns-in-Err-clause-exact : goal.returns-in-Err-clause-exact

@@ -7,8 +7,8 @@ use Rattle.assise_inode_plan.specs.Walking.{plan_from}
 use Rattle.assise_inode_plan.proofs.WalkEnds.{at_stop}
 use Rattle.assise_inode_plan.proofs.FileChanging.{write_ends, write_fails, write_is_big}
 use Rattle.assise_inode_table.proofs.TableView.{on_err}
-use Rattle.assise_inode_plan.proofs.Leaving.{seen_here}
-use Rattle.assise_inode_plan.proofs.Noting.{note_walk}
+use Rattle.assise_inode_plan.proofs.WalkRest.{seen_here}
+use Rattle.assise_inode_plan.proofs.FirstVisit.{note_walk}
 use Rattle.assise_inode_plan.proofs.file_changes.plan_write.Goals as goal
 
 pub returns-in-Err-clause-exact : goal.returns-in-Err-clause-exact

@@ -2,8 +2,8 @@ use Rattle.std.proofs.Common.{◌∙◌, ap, sym, subst}
 use Rattle.assise_inode_table.specs.Calls.{step}
 use Rattle.assise_inode_table.specs.Contents.{values}
 use Rattle.assise_seq_tree.specs.Answer.{answer}
-use Rattle.assise_inode_plan.specs.Planning.{Answers, changed_plan_of, shown}
-use Rattle.assise_inode_plan.proofs.Changing.{answers_kept, visits_then_changes}
+use Rattle.assise_inode_plan.specs.Planning.{PlanAnswers, changed_plan_of, shown}
+use Rattle.assise_inode_plan.proofs.WholeStepPlan.{answers_kept, visits_then_changes}
 use Rattle.assise_inode_plan.proofs.plan.plan.Goals as goal
 
 pub returns-clause-exact : goal.returns-clause-exact
@@ -15,5 +15,5 @@ returns-clause-exact g c =
 pub returns-clause-answers : goal.returns-clause-answers
 returns-clause-answers g c = λ t spells new.
     let v = values (g.V.Inodes.contents c.args.view.now) in
-    subst (Answers v (answer t c.args.op.now)) (sym c.plan_changes.ensures)
+    subst (PlanAnswers v (answer t c.args.op.now)) (sym c.plan_changes.ensures)
     (answers_kept v (answer t c.args.op.now) (g.V.View.leased c.args.view.now) (shown c.in_ok-planned.planned) (c.in_ok-planned.ensures.answers t spells new))

@@ -2,10 +2,10 @@ use Rattle.std.proofs.Common.{ap, ◌∙◌}
 use Rattle.assise_names.specs.declared.reply.Reply.TheVariants.{Bytes}
 use Rattle.assise_inode_table.specs.Contents.{values}
 use Rattle.assise_inode_plan.proofs.WalkEnds.{quiet, at_stop}
-use Rattle.assise_inode_plan.proofs.Asking.{read_ends, read_fails}
+use Rattle.assise_inode_plan.proofs.QuietPlans.{read_ends, read_fails}
 use Rattle.assise_inode_table.proofs.TableView.{on_err}
-use Rattle.assise_inode_plan.proofs.Leaving.{seen_here}
-use Rattle.assise_inode_plan.proofs.Noting.{note_walk}
+use Rattle.assise_inode_plan.proofs.WalkRest.{seen_here}
+use Rattle.assise_inode_plan.proofs.FirstVisit.{note_walk}
 use Rattle.assise_inode_plan.proofs.queries.plan_read.Goals as goal
 
 pub returns-in-Err-clause-exact : goal.returns-in-Err-clause-exact

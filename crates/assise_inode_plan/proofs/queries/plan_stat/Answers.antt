@@ -1,9 +1,9 @@
 use Rattle.std.proofs.Common.{ap, ◌∙◌}
 use Rattle.assise_inode_table.specs.Contents.{values}
 use Rattle.assise_inode_plan.proofs.WalkEnds.{quiet, at_stop}
-use Rattle.assise_inode_plan.proofs.Asking.{stat_ends}
+use Rattle.assise_inode_plan.proofs.QuietPlans.{stat_ends}
 use Rattle.assise_inode_table.proofs.TableView.{on_err}
-use Rattle.assise_inode_plan.proofs.Noting.{note_walk}
+use Rattle.assise_inode_plan.proofs.FirstVisit.{note_walk}
 use Rattle.assise_inode_plan.proofs.queries.plan_stat.Goals as goal
 
 pub returns-in-Ok-clause-exact : goal.returns-in-Ok-clause-exact

@@ -3,7 +3,7 @@ use Rattle.assise_names.specs.declared.reply.Reply.TheVariants.{Done}
 use Rattle.assise_inode_table.specs.Contents.{values}
 use Rattle.assise_inode_table.specs.Interaction.{finish}
 use Rattle.assise_inode_plan.specs.Walking.{plan_from}
-use Rattle.assise_inode_plan.proofs.Removing.{rmdir_stops, rmdir_fails, rmdir_has_entries, rmdir_ends}
+use Rattle.assise_inode_plan.proofs.RemovePlans.{rmdir_stops, rmdir_fails, rmdir_has_entries, rmdir_ends}
 use Rattle.assise_inode_plan.proofs.removal.plan_rmdir.Goals as goal
 
 pub returns-in-Err-clause-exact : goal.returns-in-Err-clause-exact

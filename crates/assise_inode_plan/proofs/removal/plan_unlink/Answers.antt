@@ -3,7 +3,7 @@ use Rattle.assise_names.specs.declared.reply.Reply.TheVariants.{Done}
 use Rattle.assise_inode_table.specs.Contents.{values}
 use Rattle.assise_inode_table.specs.Interaction.{finish}
 use Rattle.assise_inode_plan.specs.Walking.{plan_from}
-use Rattle.assise_inode_plan.proofs.Removing.{unlink_stops, unlink_fails, unlink_ends}
+use Rattle.assise_inode_plan.proofs.RemovePlans.{unlink_stops, unlink_fails, unlink_ends}
 use Rattle.assise_inode_plan.proofs.removal.plan_unlink.Goals as goal
 
 pub returns-in-Err-clause-exact : goal.returns-in-Err-clause-exact

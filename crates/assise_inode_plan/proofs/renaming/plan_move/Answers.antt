@@ -1,6 +1,6 @@
 use Rattle.std.proofs.Common.{sym, ◌∙◌}
 use Rattle.assise_inode_table.specs.Contents.{values}
-use Rattle.assise_inode_plan.proofs.Moving.{planned_for, move_stops, move_under_file, move_to_itself, move_elsewhere}
+use Rattle.assise_inode_plan.proofs.RenamePlans.{planned_for, move_stops, move_under_file, move_to_itself, move_elsewhere}
 use Rattle.assise_inode_plan.proofs.renaming.plan_move.Goals as goal
 
 pub returns-in-Err-clause-exact : goal.returns-in-Err-clause-exact

@@ -4,7 +4,7 @@ use Rattle.assise_inode_table.specs.Contents.{values}
 use Rattle.assise_inode_table.specs.Interaction.{finish}
 use Rattle.assise_inode_plan.specs.Moving.{effects_of_move}
 use Rattle.assise_inode_plan.specs.Walking.{plan_from}
-use Rattle.assise_inode_plan.proofs.Moving.{target_stops, target_remains, target_goes}
+use Rattle.assise_inode_plan.proofs.RenamePlans.{target_stops, target_remains, target_goes}
 use Rattle.assise_inode_plan.proofs.renaming.plan_replacing.Goals as goal
 
 pub returns-in-Err-clause-exact : goal.returns-in-Err-clause-exact

@@ -1,5 +1,5 @@
 use Rattle.assise_inode_table.specs.Contents.{values}
-use Rattle.assise_inode_plan.proofs.Leaving.{last_found, last_missing, last_stops}
+use Rattle.assise_inode_plan.proofs.WalkRest.{last_found, last_missing, last_stops}
 use Rattle.assise_inode_plan.proofs.walk.reach.Goals as goal
 
 pub returns-in-Ok-Some-clause-left : goal.returns-in-Ok-Some-clause-left

@@ -1,6 +1,6 @@
 use Rattle.std.proofs.Common.{refl, sym, ◌∙◌, inl, inr}
 use Rattle.assise_inode_table.specs.Contents.{values}
-use Rattle.assise_inode_plan.proofs.Leaving.{root_seen, seen_here, left_stops, left_fault, left_on, left_ends, left_ends_early}
+use Rattle.assise_inode_plan.proofs.WalkRest.{root_seen, seen_here, left_stops, left_fault, left_on, left_ends, left_ends_early}
 use Rattle.assise_inode_plan.proofs.walk.walk.Goals as goal
 
 pub loop-name-init : goal.loop-name-init

@@ -1,5 +1,5 @@
 use Rattle.assise_inode_table.specs.Contents.{values}
-use Rattle.assise_inode_plan.proofs.Leaving.{Left, RootIsSeen}
+use Rattle.assise_inode_plan.proofs.WalkRest.{Left, RootIsSeen}
 use Rattle.assise_inode_plan.proofs.walk.walk.Given as goal
 
 abbrev pub invariant-loop-name : goal.invariant-loop-name

@@ -1,5 +1,5 @@
 use Rattle.std.proofs.Common.{◌∙◌}
-use Rattle.assise_inode_table.proofs.Cutting.{block_at, block_past}
+use Rattle.assise_inode_table.proofs.BlockBytes.{block_at, block_past}
 use Rattle.assise_inode_table.proofs.blocks.bytes_of.Goals as goal
 
 pub returns-in-Some : goal.returns-in-Some

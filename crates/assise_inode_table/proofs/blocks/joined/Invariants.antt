@@ -1,5 +1,5 @@
 use Rattle.std.proofs.Common.{take}
-use Rattle.assise_inode_table.proofs.Cutting.{JoinedSoFar}
+use Rattle.assise_inode_table.proofs.BlockBytes.{JoinedSoFar}
 use Rattle.assise_inode_table.proofs.blocks.joined.Given as goal
 
 abbrev pub invariant-loop-block : goal.invariant-loop-block

@@ -3,9 +3,9 @@ use Rattle.std.proofs.lemmas.List.{take_all}
 use Rattle.std.specs.Int.{div_ceil}
 use Rattle.std.specs.List.{concat}
 use Rattle.assise_seq_tree.specs.Contents.{bytes_from, overwritten}
-use Rattle.assise_seq_tree.proofs.Reading.{length-overwritten}
-use Rattle.assise_inode_table.proofs.Cutting.{CutSoFar, cut_nothing, cut_more}
-use Rattle.assise_inode_table.proofs.Writing.{part_over, over_more, over_room}
+use Rattle.assise_seq_tree.proofs.BytesRead.{length-overwritten}
+use Rattle.assise_inode_table.proofs.BlockBytes.{CutSoFar, cut_nothing, cut_more}
+use Rattle.assise_inode_table.proofs.BlockWrites.{part_over, over_more, over_room}
 use Rattle.assise_inode_table.proofs.blocks.overwritten.Goals as goal
 
 pub loop-index-init : goal.loop-index-init
@@ -16,7 +16,7 @@ overflow_mul-start c =
     let bs = c.args.blocks.now in
     let new = c.args.new.now in
     let count : c.max-count.result ≡ max (length bs) (div_ceil (c.args.offset + length new) 4096) = c.max-count.ensures ∙ ap (max (length bs)) c.div_ceil.ensures in
-    let more = over_more bs c.args.offset new c.max-count.result c.loop-index.index c.requires.shape count c.loop-index-test.true in
+    let more = over_more bs c.args.offset new c.max-count.result c.loop-index.index c.requires.cut count c.loop-index-test.true in
     omega (arith, more, length-overwritten (concat bs) c.args.offset new, c.requires.held, c.requires.fits)
 
 pub loop-index-preserved : goal.loop-index-preserved
@@ -26,7 +26,7 @@ loop-index-preserved c =
     let o = c.args.offset in
     let k = 4096 * c.loop-index.index in
     let count : c.max-count.result ≡ max (length bs) (div_ceil (o + length new) 4096) = c.max-count.ensures ∙ ap (max (length bs)) c.div_ceil.ensures in
-    let more = over_more bs o new c.max-count.result c.loop-index.index c.requires.shape count c.loop-index-test.true in
+    let more = over_more bs o new c.max-count.result c.loop-index.index c.requires.cut count c.loop-index-test.true in
     let at : c.min-at.result ≡ min (o - k) 4096 = omega (arith, c.min-at.ensures, c.saturating_sub.ensures) in
     let skipped : c.saturating_sub-skipped.result ≡ k - o = omega (arith, c.saturating_sub-skipped.ensures) in
     let part : c.bytes_from-part.result.now ≡ bytes_from (k - o) (4096 - min (o - k) 4096) new =
@@ -46,5 +46,5 @@ returns-clause-bytes c =
     let new = c.args.new.now in
     let o = c.args.offset in
     let count : c.max-count.result ≡ max (length bs) (div_ceil (o + length new) 4096) = c.max-count.ensures ∙ ap (max (length bs)) c.div_ceil.ensures in
-    let room = over_room bs o new c.max-count.result c.requires.shape count in
+    let room = over_room bs o new c.max-count.result c.requires.cut count in
     c.loop-index.invariant.whole ∙ take_all (4096 * c.loop-index.index) (overwritten (concat bs) o new) (omega (arith, room, c.loop-index-test.false))

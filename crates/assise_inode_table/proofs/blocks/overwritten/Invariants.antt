@@ -1,6 +1,6 @@
 use Rattle.std.specs.List.{concat}
 use Rattle.assise_seq_tree.specs.Contents.{overwritten}
-use Rattle.assise_inode_table.proofs.Cutting.{CutSoFar}
+use Rattle.assise_inode_table.proofs.BlockBytes.{CutSoFar}
 use Rattle.assise_inode_table.proofs.blocks.overwritten.Given as goal
 
 abbrev pub invariant-loop-index : goal.invariant-loop-index

@@ -13,9 +13,9 @@ put_one : {X : Type 0} (bs made rest : List X) (k until : ℕ) (b : X) → k < l
     → set bs k b ≡ take k bs ++ (made ++ drop until bs)
 put_one bs made rest k until b held one alone is =
     let next : suc k ≡ until = omega arith in
-    let front = none_of rest (omega (arith, alone, ap length is, length-append rest (b ∷ []))) in
+    let prefix = none_of rest (omega (arith, alone, ap length is, length-append rest (b ∷ []))) in
     set_split bs k b held ∙ ap (λ n. take k bs ++ b ∷ drop n bs) next
-    ∙ ap (λ ys. take k bs ++ (ys ++ drop until bs)) (sym (is ∙ ap (λ ys. ys ++ b ∷ []) front))
+    ∙ ap (λ ys. take k bs ++ (ys ++ drop until bs)) (sym (is ∙ ap (λ ys. ys ++ b ∷ []) prefix))
 
 pub returns-then-until-first-ne1-clause-ok : goal.returns-then-until-first-ne1-clause-ok
 returns-then-until-first-ne1-clause-ok c =

@@ -1,5 +1,5 @@
 use Rattle.std.proofs.lemmas.Result.{on_ok_weaker}
-use Rattle.assise_inode_table.proofs.Putting.{made_on_copies}
+use Rattle.assise_inode_table.proofs.MapChanges.{made_on_copies}
 use Rattle.assise_inode_table.proofs.changes.apply_all_on_copies.Goals as goal
 
 pub returns-clause-ok : goal.returns-clause-ok

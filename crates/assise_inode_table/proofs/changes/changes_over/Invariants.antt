@@ -1,14 +1,14 @@
 use Rattle.std.proofs.Common.{◌≡◌, ◌||◌, ℕ, drop}
 use Rattle.std.specs.FinMap as map
 use Rattle.assise_inode_table.specs.Effects.{contains, touched, value_after}
-use Rattle.assise_inode_table.specs.Changes.{AreApart, found, is_among}
+use Rattle.assise_inode_table.specs.Changes.{AreDistinctChanges, found, is_among}
 use Rattle.assise_inode_table.proofs.changes.changes_over.Given as goal
 
 abbrev pub invariant-loop-effect : goal.invariant-loop-effect
 invariant-loop-effect g l =
     let base : ℕ → _ = λ i. map.get (g.I.Inodes.contents l.base) i in
     record {
-      apart : AreApart l.changes.items;
+      disjoint : AreDistinctChanges l.changes.items;
       values : (i : ℕ) → value_after i (found l.changes.items i (base i)) (drop l.effect-index l.effects) ≡ value_after i (base i) l.effects;
       among : (i : ℕ) → (is_among l.changes.items i || contains (touched (drop l.effect-index l.effects)) i) ≡ contains (touched l.effects) i;
     }

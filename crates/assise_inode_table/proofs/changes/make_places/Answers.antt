@@ -1,6 +1,6 @@
 use Rattle.std.proofs.Common.{◌∙◌, ap, sym}
 use Rattle.assise_inode_table.specs.Changes.{placed_one}
-use Rattle.assise_inode_table.proofs.Putting.{one_more_placed}
+use Rattle.assise_inode_table.proofs.MapChanges.{one_more_placed}
 use Rattle.assise_inode_table.proofs.changes.make_places.Goals as goal
 
 pub loop-change-preserved : goal.loop-change-preserved

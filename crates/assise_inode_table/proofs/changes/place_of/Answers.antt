@@ -1,5 +1,5 @@
 use Rattle.std.proofs.Common.{ap, ◌∙◌}
-use Rattle.assise_inode_table.proofs.Changing.{lacks_next}
+use Rattle.assise_inode_table.proofs.FewChanges.{lacks_next}
 use Rattle.assise_inode_table.proofs.changes.place_of.Goals as goal
 
 pub loop-place-preserved : goal.loop-place-preserved

@@ -1,12 +1,12 @@
 use Rattle.std.proofs.Common.{◌∙◌, ap}
 use Rattle.assise_inode_table.specs.Changes.{placed}
-use Rattle.assise_inode_table.proofs.Putting.{all_left, next_left, next_there}
+use Rattle.assise_inode_table.proofs.MapChanges.{all_left, next_left, next_there}
 use Rattle.assise_inode_table.proofs.changes.put_all.Goals as goal
 
 pub loop-change-init : goal.loop-change-init
 loop-change-init g c =
     record {
-      left = all_left (g.S.Inodes.contents c.args.store.now) (g.S.Inodes.contents c.make_places.new.store) c.args.changes.items c.requires.apart
+      left = all_left (g.S.Inodes.contents c.args.store.now) (g.S.Inodes.contents c.make_places.new.store) c.args.changes.items c.requires.disjoint
           (c.in_ok-make_places.ensures.ok ∙ ap (placed (g.S.Inodes.contents c.args.store.now)) c.as_slice.ensures.value);
       setting = c.make_places.ensures.setting;
     }

@@ -1,11 +1,11 @@
 use Rattle.std.proofs.Common.{◌≡◌}
-use Rattle.assise_inode_table.specs.Changes.{without}
+use Rattle.assise_inode_table.specs.Changes.{map_without}
 use Rattle.assise_inode_table.proofs.changes.take_out.Given as goal
 
 abbrev pub invariant-loop-inode : goal.invariant-loop-inode
 invariant-loop-inode g l =
     record {
-      left : without (g.S.Inodes.contents l.store) l.inodes.items ≡ without (g.S.Inodes.contents l.fn.store) l.fn.inodes.items;
+      left : map_without (g.S.Inodes.contents l.store) l.inodes.items ≡ map_without (g.S.Inodes.contents l.fn.store) l.fn.inodes.items;
       setting : g.S.InodeStore.setting l.store ≡ g.S.InodeStore.setting l.fn.store;
     }
 

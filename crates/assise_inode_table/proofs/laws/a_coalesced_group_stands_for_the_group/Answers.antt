@@ -1,4 +1,4 @@
-use Rattle.assise_record.proofs.Grouping.{group-effects, group-begins, group-rising, group-shorter}
+use Rattle.assise_record.proofs.GroupRest.{group-effects, group-begins, group-ascending, group-shorter}
 use Rattle.assise_inode_table.proofs.Grouped.{same_group}
 use Rattle.assise_inode_table.proofs.laws.a_coalesced_group_stands_for_the_group.Goals as goal
 
@@ -14,8 +14,8 @@ returns-clause-touch c = λ rs. (same_group rs).touch
 pub returns-clause-begins : goal.returns-clause-begins
 returns-clause-begins c = group-begins
 
-pub returns-clause-rising : goal.returns-clause-rising
-returns-clause-rising c = group-rising
+pub returns-clause-ascending : goal.returns-clause-ascending
+returns-clause-ascending c = group-ascending
 
 pub returns-clause-shorter : goal.returns-clause-shorter
 returns-clause-shorter c = group-shorter

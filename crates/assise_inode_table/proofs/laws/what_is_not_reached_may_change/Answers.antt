@@ -1,4 +1,4 @@
-use Rattle.assise_inode_table.proofs.Reaching.{kept_spells}
+use Rattle.assise_inode_table.proofs.PathReach.{kept_spells}
 use Rattle.assise_inode_table.proofs.laws.what_is_not_reached_may_change.Goals as goal
 
 pub returns : goal.returns

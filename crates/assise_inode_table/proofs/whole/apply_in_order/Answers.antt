@@ -3,7 +3,7 @@ use Rattle.std.proofs.lemmas.List.{take_all}
 use Rattle.assise_record.specs.declared.effect.Effect.{Effect}
 use Rattle.assise_inode_table.specs.Effects.{all_applied, applied}
 use Rattle.assise_inode_table.specs.Whole.{OnlyFirstAsks}
-use Rattle.assise_inode_table.proofs.Applying.{first_ahead, one_more_applied, takes_away_at}
+use Rattle.assise_inode_table.proofs.EffectLists.{first_ahead, one_more_applied, takes_away_at}
 use Rattle.assise_inode_table.proofs.whole.apply_in_order.Goals as goal
 
 pub take_away-requires : goal.take_away-requires

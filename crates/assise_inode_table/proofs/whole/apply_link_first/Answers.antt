@@ -4,7 +4,7 @@ use Rattle.std.specs.List.{filter}
 use Rattle.assise_inode_table.specs.Effects.{all_applied, applied}
 use Rattle.assise_inode_table.specs.Whole.{leaves_entry}
 use Rattle.assise_inode_table.proofs.LinkingFirst.{link_first, one_more_left, one_passed_over}
-use Rattle.assise_inode_table.proofs.Applying.{takes_away_at}
+use Rattle.assise_inode_table.proofs.EffectLists.{takes_away_at}
 use Rattle.assise_inode_table.proofs.whole.apply_link_first.Goals.{then-leaves_entry, else-leaves_entry}
 use Rattle.assise_inode_table.proofs.whole.apply_link_first.Goals as goal
 

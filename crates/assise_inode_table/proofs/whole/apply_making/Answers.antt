@@ -2,7 +2,7 @@ use Rattle.std.proofs.Common.{◌∙◌, ap}
 use Rattle.std.specs.Option.{is_some}
 use Rattle.std.specs.FinMap as map
 use Rattle.assise_inode_table.specs.Effects.{with_value}
-use Rattle.assise_inode_table.proofs.Applying.{given_back, inserted_there}
+use Rattle.assise_inode_table.proofs.EffectLists.{given_back, inserted_there}
 use Rattle.assise_inode_table.proofs.whole.apply_making.Goals as goal
 
 pub put_value-requires : goal.put_value-requires

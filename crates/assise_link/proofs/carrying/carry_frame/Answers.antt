@@ -1,5 +1,5 @@
 use Rattle.std.proofs.Common.{◌≡◌, ◌∙◌, sym, subst, IfSome}
-use Rattle.assise_record.specs.Spelling.{BeginsWith, Spells, spelling}
+use Rattle.assise_record.specs.Spelling.{BeginsWith, SpellsFrame, spelling}
 use Rattle.assise_link.proofs.WholeFrames.{same_frame}
 use Rattle.assise_link.proofs.carrying.carry_frame.Goals as goal
 
@@ -25,5 +25,5 @@ returns-in-Ok-decode_up_to-clause-same g c = λ faithful.
     let bytes : c.as_slice.result.now ≡ spelling sent = c.as_slice.ensures.value ∙ rw begun at appended in
     let given : g.L.Link.gives c.args.link.now c.as_slice.result.now c.in-Ok-Some.came.items = subst (λ o. IfSome o (λ v. g.L.Link.gives c.args.link.now c.as_slice.result.now v.items)) c.in-Ok-Some.field-0-is c.in-Ok-Some.ensures.gives in
     let came : c.as_slice-2.result.now ≡ spelling sent = c.as_slice-2.ensures.value ∙ ((g.met.L.Link g.world.𝓛 g.world.𝓜 g.world.𝓡 ((λ s x. x), (λ x. x), (λ x. x), λ x. x)).same _ faithful _ _ given ∙ bytes) in
-    let spells : Spells 2 c.as_slice-2.result.now sent = subst (λ x. Spells 2 x sent) (sym came) (c.in-Ok.ensures.spelled 2 c.in-Ok.ensures.known_version) in
+    let spells : SpellsFrame 2 c.as_slice-2.result.now sent = subst (λ x. SpellsFrame 2 x sent) (sym came) (c.in-Ok.ensures.spelled 2 c.in-Ok.ensures.known_version) in
     same_frame c.args.newest c.in-Ok-decode_up_to.field-0-1 c.as_slice-2.result.now c.in-Ok-decode_up_to.frame sent c.requires.known_version c.in-Ok-decode_up_to.ensures.found spells

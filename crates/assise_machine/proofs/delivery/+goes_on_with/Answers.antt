@@ -2,7 +2,7 @@ use Rattle.std.proofs.Common.{◌≡◌, ◌+◌, ◌∙◌, length, take, ap, s
 use Rattle.std.specs.Option.{option_copied}
 use Rattle.assise_private_log.specs.NumberedLog.{records_from}
 use Rattle.assise_record.proofs.Equality.{records_decided}
-use Rattle.assise_machine.proofs.Agreeing.{first_agrees, goes_on, more_agrees, nothing_agrees, nothing_there, rest_agrees}
+use Rattle.assise_machine.proofs.LogAgrees.{first_agrees, goes_on, more_agrees, nothing_agrees, nothing_there, rest_agrees}
 use Rattle.assise_machine.proofs.delivery.+goes_on_with.Goals as goal
 
 pub returns-then-eq-clause-same : goal.returns-then-eq-clause-same

@@ -1,7 +1,7 @@
 use Rattle.std.proofs.Common.{◌∙◌, ap}
 use Rattle.std.specs.Option.{unwrap_or}
 use Rattle.assise_machine_state.specs.Whole.{machine_of}
-use Rattle.assise_machine.proofs.Copying.{not_delivered}
+use Rattle.assise_machine.proofs.DeliveryCopy.{not_delivered}
 use Rattle.assise_machine.proofs.delivery.deliver_copy.Goals as goal
 
 pub returns-in-Err-clause-happens : goal.returns-in-Err-clause-happens

@@ -1,6 +1,6 @@
 use Rattle.std.proofs.Common.{◌-◌, drop, ap, sym, subst}
 use Rattle.assise_digest.specs.Region.{AreWhole}
-use Rattle.assise_machine.proofs.Agreeing.{whole_new}
+use Rattle.assise_machine.proofs.LogAgrees.{whole_new}
 use Rattle.assise_machine.proofs.delivery.is_next.Goals as goal
 
 pub returns-then-is_border-clause-whole : goal.returns-then-is_border-clause-whole

@@ -10,20 +10,20 @@ use Rattle.assise_manager.specs.Changes.{noted}
 use Rattle.assise_manager.specs.Whole.{membership}
 use Rattle.assise_machine_state.specs.NodeValues.{HasLog, log_in}
 use Rattle.assise_machine_state.specs.Whole.{value_of}
-use Rattle.assise_machine.proofs.Digested.{digests_as, has_after, has_here, log_after, touch_apart, whole_as}
+use Rattle.assise_machine.proofs.Digested.{digests_as, has_after, has_here, log_after, touch_disjoint, whole_as}
 use Rattle.assise_machine.proofs.Fewer.{room_for_fewer}
-use Rattle.assise_machine.proofs.Touching.{fewer_effects, front_touched}
+use Rattle.assise_machine.proofs.TouchedInodes.{fewer_effects, prefix_touched}
 use Rattle.assise_machine.proofs.digesting.digest_noted.Given as given
 use Rattle.assise_machine.proofs.digesting.digest_noted.Goals as goal
 
 -- the node's log of the client, before the digest and after it
 
 has_now : (g : given.Over) (c : goal.After-region-region g) → HasLog (value_of c.args.state.now).nodes c.args.node c.args.client
-has_now g c = has_here (value_of c.args.state.now) c.args.node c.args.client c.requires.shape c.requires.sound c.requires.full c.requires.client
+has_now g c = has_here (value_of c.args.state.now) c.args.node c.args.client c.requires.parts.shape c.requires.parts.world c.requires.full c.requires.client
 
 pub region-region-requires : goal.region-region-requires
 region-region-requires g c = record {
-  node = (has_here (value_of c.args.state.now) c.args.node c.args.client c.requires.shape c.requires.sound c.requires.full c.requires.client).node;
+  node = (has_here (value_of c.args.state.now) c.args.node c.args.client c.requires.parts.shape c.requires.parts.world c.requires.full c.requires.client).node;
 }
 
 pub digested-from-requires : goal.digested-from-requires
@@ -33,16 +33,16 @@ pub log-requires : goal.log-requires
 log-requires g c = digested-from-requires g c.before.before.before
 
 pub digest_some-requires-clause-there : goal.digest_some-requires-clause-there
-digest_some-requires-clause-there g c = has_here (value_of c.args.state.now) c.args.node c.args.client c.requires.shape c.requires.sound c.requires.full c.requires.client
+digest_some-requires-clause-there g c = has_here (value_of c.args.state.now) c.args.node c.args.client c.requires.parts.shape c.requires.parts.world c.requires.full c.requires.client
 
-pub digest_some-requires-clause-apart : goal.digest_some-requires-clause-apart
-digest_some-requires-clause-apart g c = touch_apart (value_of c.args.state.now) c.args.node c.args.client c.requires.shape c.requires.sound c.requires.full c.requires.client
+pub digest_some-requires-clause-disjoint : goal.digest_some-requires-clause-disjoint
+digest_some-requires-clause-disjoint g c = touch_disjoint (value_of c.args.state.now) c.args.node c.args.client c.requires.parts.shape c.requires.parts.world c.requires.full c.requires.client
 
 then_has : (g : given.Over) (c : goal.After-region-arg-2-1 g) → HasLog c.digest_some.new.self c.args.node c.args.client
 then_has g c =
     let s = value_of c.args.state.now in
     subst (λ rs. HasLog rs c.args.node c.args.client) (sym c.in_ok-count.ensures.ok)
-    (has_after s.nodes c.args.node c.args.client c.in_ok-count.count (has_here s c.args.node c.args.client c.requires.shape c.requires.sound c.requires.full c.requires.client))
+    (has_after s.nodes c.args.node c.args.client c.in_ok-count.count (has_here s c.args.node c.args.client c.requires.parts.shape c.requires.parts.world c.requires.full c.requires.client))
 
 pub region-requires : goal.region-requires
 region-requires g c = record { node = (then_has g c).node }
@@ -67,7 +67,7 @@ counted_now : (g : given.Over) (c : goal.After-deref g) →
     c.effects_from-written.result ≡ length (all_effects (take c.in_ok-count.count (ahead (log_in (value_of c.args.state.now).nodes c.args.node c.args.client))))
 counted_now g c =
     let s = value_of c.args.state.now in
-    let has = has_here s c.args.node c.args.client c.requires.shape c.requires.sound c.requires.full c.requires.client in
+    let has = has_here s c.args.node c.args.client c.requires.parts.shape c.requires.parts.world c.requires.full c.requires.client in
     let log =
     c.log-2.ensures.log
     ∙ ap (λ r. (log_of r c.args.client).log) c.region.ensures
@@ -99,13 +99,13 @@ pub returns-clause-ok : goal.returns-clause-ok
 returns-clause-ok g c =
     let s = value_of c.args.state.now in
     let rs = ahead (log_in s.nodes c.args.node c.args.client) in
-    let has = has_here s c.args.node c.args.client c.requires.shape c.requires.sound c.requires.full c.requires.client in
-    let inodes = (λ i. take (counted_now g c.before.before i) (all_touched g c.before.before i)) ∙ front_touched rs c.in_ok-count.count c.args.wanted c.in_ok-count.ensures.at_most in
+    let has = has_here s c.args.node c.args.client c.requires.parts.shape c.requires.parts.world c.requires.full c.requires.client in
+    let inodes = (λ i. take (counted_now g c.before.before i) (all_touched g c.before.before i)) ∙ prefix_touched rs c.in_ok-count.count c.args.wanted c.in_ok-count.ensures.at_most in
     let members = c.note_reserved.ensures ∙ ap (λ m. noted m c.args.node (set.from_list (take c.effects_from-written.result c.deref.result.now))) c.reserve_written.ensures.same in
     digests_as s c.args.node c.args.client c.in_ok-count.count has c.digest_some.new.self (membership c.note_reserved.new.self) (take c.effects_from-written.result c.deref.result.now)
     c.in_ok-count.ensures.ok members inodes
 
 pub returns-clause-group : goal.returns-clause-group
 returns-clause-group g c =
-    whole_as (value_of c.args.state.now) c.args.node c.args.client c.requires.shape c.requires.sound c.requires.full c.requires.client c.in_ok-count.count (omega (arith, c.in_ok-count.ensures.at_most, c.requires.wanted))
+    whole_as (value_of c.args.state.now) c.args.node c.args.client c.requires.parts.shape c.requires.parts.world c.requires.full c.requires.client c.in_ok-count.count (omega (arith, c.in_ok-count.ensures.at_most, c.requires.wanted))
     c.in_ok-count.ensures.groups

@@ -3,7 +3,7 @@ use Rattle.assise_record.specs.Records.{all_effects}
 use Rattle.assise_private_log.specs.NumberedLog.{records_from}
 use Rattle.assise_machine.proofs.digesting.effects_from.Given as goal
 
--- what was counted are the effects of the front of the records, of which each has four at most
+-- what was counted are the effects of the prefix of the records, of which each has four at most
 abbrev pub invariant-loop-record : goal.invariant-loop-record
 invariant-loop-record l =
     (l.effects + length (all_effects (take l.record-iterator.n l.record-iterator.iter)) ≡ length (all_effects (take l.count (records_from l.log l.from))))

@@ -10,17 +10,17 @@ use Rattle.assise_machine.proofs.headline.headline.Goals as goal
 
 pub returns-clause-legal : goal.returns-clause-legal
 unfolding observed
-returns-clause-legal g c = legal_known (history_of c.args.cluster.now) (∥∥₁_map c.args.cluster.now.sound.holds (λ h. h.recorded.legal))
+returns-clause-legal g c = legal_known (history_of c.args.cluster.now) (∥∥₁_map c.args.cluster.now.sound.invariant.holds (λ h. h.recorded.legal))
 
 pub returns-clause-synced : goal.returns-clause-synced
 returns-clause-synced g c =
     let sound = c.args.cluster.now.sound in
-    λ d. synced_known (value_of sound.state) sound.shape sound.state.members.lawful.some_full sound.holds d
+    λ d. synced_known (value_of sound.state) sound.invariant.shape sound.state.members.lawful.some_full sound.invariant.holds d
 
 pub returns-clause-unseen : goal.returns-clause-unseen
 returns-clause-unseen g c =
     let sound = c.args.cluster.now.sound in
-    λ b past. run_known (value_of sound.state) sound.shape sound.state.members.lawful.some_full sound.holds b past
+    λ b past. run_known (value_of sound.state) sound.invariant.shape sound.state.members.lawful.some_full sound.invariant.holds b past
 
 pub returns-clause-alone : goal.returns-clause-alone
 returns-clause-alone g c =
@@ -28,8 +28,8 @@ returns-clause-alone g c =
     let sound = cluster.sound in
     let s = value_of sound.state in
     let some = sound.state.members.lawful.some_full in
-    let opened = count_known s sound.shape some sound.holds in
-    λ n up. alone_gives s sound.shape some sound.holds (all_acked cluster)
+    let opened = count_known s sound.invariant.shape some sound.invariant.holds in
+    λ n up. alone_gives s sound.invariant.shape some sound.invariant.holds (all_acked cluster)
     (first_length cluster (clients_opened s.history) ∙ opened)
     (λ d low. first_at cluster (clients_opened s.history) d (subst (λ k. d < k) (sym opened) low))
     n (up_is_full cluster n up)

@@ -1,6 +1,6 @@
 use Rattle.std.proofs.Common.{◌≡◌, ℕ, sym, subst}
-use Rattle.assise_machine_events.specs.Events.{Answer}
-use Rattle.assise_machine_events.specs.Machine.{Machine}
+use Rattle.assise_model_events.specs.Events.{Answer}
+use Rattle.assise_model_events.specs.Machine.{Machine}
 use Rattle.assise_machine.specs.declared.event.Event.{Event}
 use Rattle.assise_machine.specs.Running.{IsServed, event_seen, happens}
 use Rattle.assise_machine.proofs.run.apply_event.Goals as goal

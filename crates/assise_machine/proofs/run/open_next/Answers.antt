@@ -1,7 +1,7 @@
 use Rattle.std.proofs.Common.{◌≡◌, length, arith}
 use Rattle.assise_machine.specs.Clusters.{machine}
 use Rattle.assise_machine.specs.Running.{happens}
-use Rattle.assise_machine.proofs.Running.{opened_bare}
+use Rattle.assise_machine.proofs.EventLists.{opened_bare}
 use Rattle.assise_machine.proofs.run.open_next.Goals as goal
 
 pub returns-in_default-clause-served : goal.returns-in_default-clause-served

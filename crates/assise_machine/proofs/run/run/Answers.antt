@@ -7,8 +7,8 @@ use Rattle.assise_machine.specs.Headline.{history_of}
 use Rattle.assise_machine.specs.Running.{all_opened, answer_seen, event_seen, last_first, stocked, told}
 use Rattle.assise_machine.proofs.Opened.{gets_on, opened_anew, opened_now, others_on}
 use Rattle.assise_machine.proofs.Replicated.{bounds_stay, calls_stay, nodes_stay}
-use Rattle.assise_machine.proofs.Running.{all_last, applied_on, count_on, front_on, left_on, served_on, told_all}
-use Rattle.assise_machine.proofs.Telling.{history_told}
+use Rattle.assise_machine.proofs.EventLists.{all_last, applied_on, count_on, prefix_on, left_on, served_on, told_all}
+use Rattle.assise_machine.proofs.ToldEntries.{history_told}
 use Rattle.assise_machine.proofs.run.run.Goals as goal
 
 pub loop-event-preserved : goal.loop-event-preserved
@@ -36,13 +36,13 @@ loop-event-preserved g c =
       applied =
           applied_on k j m v u es bs ds i e a before.count c.loop-event-test.true c.event-item.is pushed.items before.stock
           g.C.Revokes.answers (stocked c.args.cluster.now c.args.stock.now.items) (stocked c.loop-event.cluster c.loop-event.stock.items) (stocked c.apply_event-answer.new.cluster c.apply_event-answer.new.stock.items)
-          before.applied (record { served = step.served; left = step.stock; front = step.front; gets = step.gets; others = step.others; cuts = step.cuts });
+          before.applied (record { served = step.served; left = step.stock; prefix = step.prefix; gets = step.gets; others = step.others; cuts = step.cuts });
       stock = step.stock ∙ left_on k j m v u es bs ds i e a before.count c.loop-event-test.true c.event-item.is pushed.items before.stock;
-      front = front_on c.args.stock.now.items c.loop-event.stock.items c.apply_event-answer.new.stock.items before.front step.front;
+      prefix = prefix_on c.args.stock.now.items c.loop-event.stock.items c.apply_event-answer.new.stock.items before.prefix step.prefix;
       count = count_on k j m v u es bs ds i e a before.count c.loop-event-test.true c.event-item.is pushed.items before.stock;
       gets = subst (λ cs. c.args.stock.now.items ≡ c.apply_event-answer.new.stock.items ++ last_first f' cs) (sym grown)
           (gets_on f f' c.args.stock.now.items c.loop-event.stock.items c.apply_event-answer.new.stock.items (all_opened ts) (answer_seen a) before.gets
-          (opened_anew k j m v u ts (event_seen e) (answer_seen a) c.args.cluster.now.sound.holds before.served step.served) step.gets step.others step.stock step.front);
+          (opened_anew k j m v u ts (event_seen e) (answer_seen a) c.args.cluster.now.sound.invariant.holds before.served step.served) step.gets step.others step.stock step.prefix);
       others = subst (λ cs. (d : ℕ) → (Contains cs d → ⊥) → f' d ≡ revokers c.args.cluster.now d) (sym grown)
           (others_on (revokers c.args.cluster.now) f f' (all_opened ts) (answer_seen a) before.others step.others);
       room = omega (arith, before.room, pushed.capacity);
@@ -65,7 +65,7 @@ returns-clause-never_falls g c =
     let old = c.args.cluster.now.sound in
     let new = c.loop-event.cluster.sound in
     let es = told (take c.loop-event.event-index c.args.events.now) c.loop-event.answers.items in
-    λ d. bounds_stay (value_of old.state) (value_of new.state) old.shape new.shape old.state.members.lawful.some_full new.state.members.lawful.some_full old.holds new.holds
+    λ d. bounds_stay (value_of old.state) (value_of new.state) old.invariant.shape new.invariant.shape old.state.members.lawful.some_full new.state.members.lawful.some_full old.invariant.holds new.invariant.holds
     (λ h. all_last (length c.args.stock.now.items) (machine c.args.cluster.now) (machine c.loop-event.cluster) es h c.loop-event.invariant.served) d
 
 pub returns-clause-lasting : goal.returns-clause-lasting
@@ -73,7 +73,7 @@ returns-clause-lasting g c =
     let old = c.args.cluster.now.sound in
     let new = c.loop-event.cluster.sound in
     let es = told (take c.loop-event.event-index c.args.events.now) c.loop-event.answers.items in
-    calls_stay (value_of old.state) (value_of new.state) old.shape new.shape old.state.members.lawful.some_full new.state.members.lawful.some_full old.holds new.holds
+    calls_stay (value_of old.state) (value_of new.state) old.invariant.shape new.invariant.shape old.state.members.lawful.some_full new.state.members.lawful.some_full old.invariant.holds new.invariant.holds
     (λ h. all_last (length c.args.stock.now.items) (machine c.args.cluster.now) (machine c.loop-event.cluster) es h c.loop-event.invariant.served)
 
 pub returns-clause-nodes : goal.returns-clause-nodes
@@ -81,7 +81,7 @@ returns-clause-nodes g c =
     let old = c.args.cluster.now.sound in
     let new = c.loop-event.cluster.sound in
     let es = told (take c.loop-event.event-index c.args.events.now) c.loop-event.answers.items in
-    nodes_stay (value_of old.state) (value_of new.state) old.shape new.shape old.state.members.lawful.some_full new.state.members.lawful.some_full old.holds new.holds
+    nodes_stay (value_of old.state) (value_of new.state) old.invariant.shape new.invariant.shape old.state.members.lawful.some_full new.state.members.lawful.some_full old.invariant.holds new.invariant.holds
     (λ h. all_last (length c.args.stock.now.items) (machine c.args.cluster.now) (machine c.loop-event.cluster) es h c.loop-event.invariant.served)
 
 pub returns-clause-gets : goal.returns-clause-gets

@@ -1,5 +1,5 @@
 use Rattle.std.proofs.Common.{◌≡◌, ◌+◌, ◌-◌, ◌≤◌, length}
-use Rattle.assise_machine_events.specs.NodeEvents.{frames_to}
+use Rattle.assise_model_events.specs.NodeEvents.{frames_to}
 use Rattle.assise_machine_state.specs.Whole.{machine_of}
 use Rattle.assise_machine.proofs.sending.outgoing.Given as goal
 

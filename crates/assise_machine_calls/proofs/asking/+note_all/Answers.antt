@@ -1,7 +1,7 @@
 use Rattle.std.proofs.Common.{◌≡◌, ◌+◌, ◌<◌, inl, inr, length, refl, ap, subst, sym, ◌∙◌, arith}
 use Rattle.std.proofs.lemmas.List.{length_push}
 use Rattle.assise_lease_table.specs.Leases.{Among}
-use Rattle.assise_machine_calls.proofs.Answering.{still_known}
+use Rattle.assise_machine_calls.proofs.RevokerAnswers.{still_known}
 use Rattle.assise_machine_calls.proofs.asking.+note_all.Goals as goal
 
 pub raise_goal-requires : goal.raise_goal-requires

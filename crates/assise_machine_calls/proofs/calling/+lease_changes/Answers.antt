@@ -5,36 +5,36 @@ use Rattle.assise_names.specs.declared.mode.Mode.TheVariants.{Write}
 use Rattle.assise_names.specs.declared.refusal.Refusal.{Refusal}
 use Rattle.assise_lease_tree.specs.Trees.{levels_of, stored_by}
 use Rattle.assise_lease_tree.specs.TwoLevels.{IsGranted, is_free_for}
-use Rattle.assise_machine_events.specs.ClientEvents.{Calling}
-use Rattle.assise_machine_events.specs.Events.{refused}
+use Rattle.assise_model_events.specs.ClientEvents.{Calling}
+use Rattle.assise_model_events.specs.Events.{refused}
 use Rattle.assise_machine_state.specs.Changes.{after_leases}
 use Rattle.assise_machine_state.specs.Observed.{observed, world_of}
 use Rattle.assise_machine_state.specs.Whole.{machine_of, value_of}
 use Rattle.assise_machine_calls.specs.Leasing.{next_step, step_in}
-use Rattle.assise_machine_calls.proofs.AnsweredCuts.{nothing_frozen}
-use Rattle.assise_machine_calls.proofs.Committing.{call_number, call_unfailed}
-use Rattle.assise_machine_calls.proofs.Leasing.{home_known}
-use Rattle.assise_machine_calls.proofs.Trying.{all_onward, awaited, cuts_then, fewer_then, fine_then, goes_on, holds_then, lacked_now, lacking_as, lacks_change, noted_then, ready_now, refused_onward, same_levels, same_levels_frozen, served, shape_then, unfrozen_then, visited_then, waits_onward}
-use Rattle.assise_machine_calls.proofs.Wanting.{unserved}
+use Rattle.assise_machine_calls.proofs.AnsweredCuts.{nothing_revoked}
+use Rattle.assise_machine_calls.proofs.CallCommits.{call_number, call_unfailed}
+use Rattle.assise_machine_calls.proofs.LeaseFacts.{home_known}
+use Rattle.assise_machine_calls.proofs.CallTries.{all_onward, awaited, cuts_then, fewer_then, fine_then, goes_on, holds_then, lacked_now, lacking_as, lacks_change, noted_then, ready_now, refused_onward, same_levels, same_levels_revoked, served, shape_then, unrevoked_then, visited_then, waits_onward}
+use Rattle.assise_machine_calls.proofs.FewerLacked.{unserved}
 use Rattle.assise_machine_calls.proofs.calling.+lease_changes.Goals as goal
 
 pub view-view-requires-clause-client : goal.view-view-requires-clause-client
 view-view-requires-clause-client g t c = call_number (value_of c.args.state.now) c.args.client c.args.op.now c.requires.fine
 
 pub view-view-requires-clause-lives : goal.view-view-requires-clause-lives
-view-view-requires-clause-lives g t c = call_unfailed (value_of c.args.state.now) c.args.client c.args.op.now c.requires.shape c.requires.fine
+view-view-requires-clause-lives g t c = call_unfailed (value_of c.args.state.now) c.args.client c.args.op.now c.requires.invariant.shape c.requires.fine
 
 pub returns-in_default-clause-all : goal.returns-in_default-clause-all
 returns-in_default-clause-all g t c = λ is.
     let s = value_of c.args.state.now in
     record {
       fine = c.requires.fine;
-      holds = c.requires.holds;
+      holds = c.requires.invariant.holds;
       ready =
-          ready_now s c.args.client c.args.op.now c.requires.shape c.requires.holds c.requires.fine (step_in c.args.outcome.now) c.requires.visited
-          (lacked_now s c.args.client c.args.op.now c.requires.shape c.requires.holds c.requires.fine None c.view-view.result.client (levels_of c.view-view.result.leases.now).clients c.deref.result.now c.args.outcome.now.effects.items
+          ready_now s c.args.client c.args.op.now c.requires.invariant.shape c.requires.invariant.holds c.requires.fine (step_in c.args.outcome.now) c.requires.visited
+          (lacked_now s c.args.client c.args.op.now c.requires.invariant.shape c.requires.invariant.holds c.requires.fine None c.view-view.result.client (levels_of c.view-view.result.leases.now).clients c.deref.result.now c.args.outcome.now.effects.items
           c.in_default.ensures c.view-view.ensures.client (ap (λ l. (levels_of l).clients) c.view-view.ensures.leases) c.deref.ensures.value);
-      unfrozen = λ d i. refl;
+      unrevoked = λ d i. refl;
       onward = λ a last e. e;
     }
 
@@ -54,15 +54,15 @@ unfolding observed world_of
 returns-then-not-is_free-clause-waits g t c = λ is.
     let s = value_of c.args.state.now in
     let lack =
-    lacks_change s c.args.client c.args.op.now c.requires.shape c.requires.holds c.requires.fine (step_in c.args.outcome.now) c.in-Some.inode c.requires.visited
-    (lacked_now s c.args.client c.args.op.now c.requires.shape c.requires.holds c.requires.fine (Some (c.in-Some.inode, Write)) c.view-view.result.client (levels_of c.view-view.result.leases.now).clients c.deref.result.now c.args.outcome.now.effects.items
+    lacks_change s c.args.client c.args.op.now c.requires.invariant.shape c.requires.invariant.holds c.requires.fine (step_in c.args.outcome.now) c.in-Some.inode c.requires.visited
+    (lacked_now s c.args.client c.args.op.now c.requires.invariant.shape c.requires.invariant.holds c.requires.fine (Some (c.in-Some.inode, Write)) c.view-view.result.client (levels_of c.view-view.result.leases.now).clients c.deref.result.now c.args.outcome.now.effects.items
     c.in-Some.ensures c.view-view.ensures.client (ap (λ l. (levels_of l).clients) c.view-view.ensures.leases) c.deref.ensures.value) in
     awaited (observed s) (machine_of c.ask.new.state) c.args.client c.args.op.now c.in-Some.inode Write c.home.result c.requires.fine
     lack c.in_ok-ask.ensures.ok
 
 pub grant-requires-clause-at_home : goal.grant-requires-clause-at_home
 grant-requires-clause-at_home g t c =
-    home_known (value_of c.args.state.now) c.requires.holds c.args.client (call_number (value_of c.args.state.now) c.args.client c.args.op.now c.requires.fine)
+    home_known (value_of c.args.state.now) c.requires.invariant.holds c.args.client (call_number (value_of c.args.state.now) c.args.client c.args.op.now c.requires.fine)
     ∙ ap Some (sym (c.home.ensures ∙ ap (λ x. x.home) c.get.ensures))
 
 pub returns-in_err-grant-clause-refused : goal.returns-in_err-grant-clause-refused
@@ -80,28 +80,26 @@ lease_changes-requires g t c κs within =
     let s = value_of c.args.state.now in
     let home = c.home.ensures ∙ ap (λ x. x.home) c.get.ensures in
     let lack =
-    lacks_change s c.args.client c.args.op.now c.requires.shape c.requires.holds c.requires.fine (step_in c.args.outcome.now) c.in-Some.inode c.requires.visited
-    (lacked_now s c.args.client c.args.op.now c.requires.shape c.requires.holds c.requires.fine (Some (c.in-Some.inode, Write)) c.view-view.result.client (levels_of c.view-view.result.leases.now).clients c.deref.result.now c.args.outcome.now.effects.items
+    lacks_change s c.args.client c.args.op.now c.requires.invariant.shape c.requires.invariant.holds c.requires.fine (step_in c.args.outcome.now) c.in-Some.inode c.requires.visited
+    (lacked_now s c.args.client c.args.op.now c.requires.invariant.shape c.requires.invariant.holds c.requires.fine (Some (c.in-Some.inode, Write)) c.view-view.result.client (levels_of c.view-view.result.leases.now).clients c.deref.result.now c.args.outcome.now.effects.items
     c.in-Some.ensures c.view-view.ensures.client (ap (λ l. (levels_of l).clients) c.view-view.ensures.leases) c.deref.ensures.value) in
     let free = subst (λ n. is_free_for s.levels c.args.client n c.in-Some.inode Write ≡ true) home (sym c.is_free.ensures ∙ c.if-not-is_free.false) in
     let granted = subst (λ n. IsGranted s.levels (levels_of c.grant.new.self) c.args.client n c.in-Some.inode Write) home c.in_ok-grant.ensures.granted in (
       subst (λ k. unserved (served (after_leases s (levels_of c.grant.new.self)) c.args.client) (wants (next_step (world_of (after_leases s (levels_of c.grant.new.self))) c.args.client c.args.op.now)) < k) c.decreases
-          (fewer_then s c.args.client c.args.op.now c.requires.shape c.requires.holds c.requires.fine c.in-Some.inode Write (levels_of c.grant.new.self) lack free granted),
+          (fewer_then s c.args.client c.args.op.now c.requires.invariant.shape c.requires.invariant.holds c.requires.fine c.in-Some.inode Write (levels_of c.grant.new.self) lack free granted),
       (
         within,
         (
-          fine_then s c.args.client c.args.op.now c.requires.shape c.requires.holds c.requires.fine c.in-Some.inode Write (levels_of c.grant.new.self) lack free granted,
+          fine_then s c.args.client c.args.op.now c.requires.invariant.shape c.requires.invariant.holds c.requires.fine c.in-Some.inode Write (levels_of c.grant.new.self) lack free granted,
           (
             c.requires.call,
             (
-              holds_then s c.args.client c.args.op.now c.requires.shape c.requires.holds c.requires.fine c.in-Some.inode Write (levels_of c.grant.new.self) lack free granted c.requires.call,
-              (
-                shape_then s c.args.client c.args.op.now c.requires.shape c.requires.holds c.requires.fine c.in-Some.inode Write (levels_of c.grant.new.self) lack free granted,
-                (
-                  noted_then s c.args.client c.args.op.now c.requires.shape c.requires.holds c.requires.fine c.in-Some.inode Write (levels_of c.grant.new.self) lack free granted c.requires.noted,
-                  visited_then s c.args.client c.args.op.now c.requires.shape c.requires.holds c.requires.fine c.in-Some.inode Write (levels_of c.grant.new.self) lack free granted (step_in c.args.outcome.now) c.requires.visited,
-                ),
-              ),
+              record {
+                holds = holds_then s c.args.client c.args.op.now c.requires.invariant.shape c.requires.invariant.holds c.requires.fine c.in-Some.inode Write (levels_of c.grant.new.self) lack free granted c.requires.call;
+                shape = shape_then s c.args.client c.args.op.now c.requires.invariant.shape c.requires.invariant.holds c.requires.fine c.in-Some.inode Write (levels_of c.grant.new.self) lack free granted;
+                noted = noted_then s c.args.client c.args.op.now c.requires.invariant.shape c.requires.invariant.holds c.requires.fine c.in-Some.inode Write (levels_of c.grant.new.self) lack free granted c.requires.invariant.noted;
+              },
+              visited_then s c.args.client c.args.op.now c.requires.invariant.shape c.requires.invariant.holds c.requires.fine c.in-Some.inode Write (levels_of c.grant.new.self) lack free granted (step_in c.args.outcome.now) c.requires.visited,
             ),
           ),
         ),
@@ -113,59 +111,59 @@ returns-clause-all g t c =
     let s = value_of c.args.state.now in
     let home = c.home.ensures ∙ ap (λ x. x.home) c.get.ensures in
     let lack =
-    lacks_change s c.args.client c.args.op.now c.requires.shape c.requires.holds c.requires.fine (step_in c.args.outcome.now) c.in-Some.inode c.requires.visited
-    (lacked_now s c.args.client c.args.op.now c.requires.shape c.requires.holds c.requires.fine (Some (c.in-Some.inode, Write)) c.view-view.result.client (levels_of c.view-view.result.leases.now).clients c.deref.result.now c.args.outcome.now.effects.items
+    lacks_change s c.args.client c.args.op.now c.requires.invariant.shape c.requires.invariant.holds c.requires.fine (step_in c.args.outcome.now) c.in-Some.inode c.requires.visited
+    (lacked_now s c.args.client c.args.op.now c.requires.invariant.shape c.requires.invariant.holds c.requires.fine (Some (c.in-Some.inode, Write)) c.view-view.result.client (levels_of c.view-view.result.leases.now).clients c.deref.result.now c.args.outcome.now.effects.items
     c.in-Some.ensures c.view-view.ensures.client (ap (λ l. (levels_of l).clients) c.view-view.ensures.leases) c.deref.ensures.value) in
     let free = subst (λ n. is_free_for s.levels c.args.client n c.in-Some.inode Write ≡ true) home (sym c.is_free.ensures ∙ c.if-not-is_free.false) in
     let granted = subst (λ n. IsGranted s.levels (levels_of c.grant.new.self) c.args.client n c.in-Some.inode Write) home c.in_ok-grant.ensures.granted in
     all_onward (observed s) (observed (after_leases s (levels_of c.grant.new.self))) (machine_of c.lease_changes.new.state) c.args.client c.args.op.now c.lease_changes.result
-    (goes_on s c.args.client c.args.op.now c.requires.shape c.requires.holds c.requires.fine c.in-Some.inode Write (levels_of c.grant.new.self) lack free granted) (step_in c.args.outcome.now)
-    (unfrozen_then s c.args.client c.args.op.now c.requires.shape c.requires.holds c.requires.fine c.in-Some.inode Write (levels_of c.grant.new.self) lack free granted) c.lease_changes.ensures.all
+    (goes_on s c.args.client c.args.op.now c.requires.invariant.shape c.requires.invariant.holds c.requires.fine c.in-Some.inode Write (levels_of c.grant.new.self) lack free granted) (step_in c.args.outcome.now)
+    (unrevoked_then s c.args.client c.args.op.now c.requires.invariant.shape c.requires.invariant.holds c.requires.fine c.in-Some.inode Write (levels_of c.grant.new.self) lack free granted) c.lease_changes.ensures.all
 
 pub returns-clause-waits : goal.returns-clause-waits
 returns-clause-waits g t c =
     let s = value_of c.args.state.now in
     let home = c.home.ensures ∙ ap (λ x. x.home) c.get.ensures in
     let lack =
-    lacks_change s c.args.client c.args.op.now c.requires.shape c.requires.holds c.requires.fine (step_in c.args.outcome.now) c.in-Some.inode c.requires.visited
-    (lacked_now s c.args.client c.args.op.now c.requires.shape c.requires.holds c.requires.fine (Some (c.in-Some.inode, Write)) c.view-view.result.client (levels_of c.view-view.result.leases.now).clients c.deref.result.now c.args.outcome.now.effects.items
+    lacks_change s c.args.client c.args.op.now c.requires.invariant.shape c.requires.invariant.holds c.requires.fine (step_in c.args.outcome.now) c.in-Some.inode c.requires.visited
+    (lacked_now s c.args.client c.args.op.now c.requires.invariant.shape c.requires.invariant.holds c.requires.fine (Some (c.in-Some.inode, Write)) c.view-view.result.client (levels_of c.view-view.result.leases.now).clients c.deref.result.now c.args.outcome.now.effects.items
     c.in-Some.ensures c.view-view.ensures.client (ap (λ l. (levels_of l).clients) c.view-view.ensures.leases) c.deref.ensures.value) in
     let free = subst (λ n. is_free_for s.levels c.args.client n c.in-Some.inode Write ≡ true) home (sym c.is_free.ensures ∙ c.if-not-is_free.false) in
     let granted = subst (λ n. IsGranted s.levels (levels_of c.grant.new.self) c.args.client n c.in-Some.inode Write) home c.in_ok-grant.ensures.granted in
     waits_onward (observed s) (observed (after_leases s (levels_of c.grant.new.self))) (machine_of c.lease_changes.new.state) c.args.client c.args.op.now c.lease_changes.result
-    (goes_on s c.args.client c.args.op.now c.requires.shape c.requires.holds c.requires.fine c.in-Some.inode Write (levels_of c.grant.new.self) lack free granted) c.lease_changes.ensures.waits
+    (goes_on s c.args.client c.args.op.now c.requires.invariant.shape c.requires.invariant.holds c.requires.fine c.in-Some.inode Write (levels_of c.grant.new.self) lack free granted) c.lease_changes.ensures.waits
 
 pub returns-clause-refused : goal.returns-clause-refused
 returns-clause-refused g t c =
     let s = value_of c.args.state.now in
     let home = c.home.ensures ∙ ap (λ x. x.home) c.get.ensures in
     let lack =
-    lacks_change s c.args.client c.args.op.now c.requires.shape c.requires.holds c.requires.fine (step_in c.args.outcome.now) c.in-Some.inode c.requires.visited
-    (lacked_now s c.args.client c.args.op.now c.requires.shape c.requires.holds c.requires.fine (Some (c.in-Some.inode, Write)) c.view-view.result.client (levels_of c.view-view.result.leases.now).clients c.deref.result.now c.args.outcome.now.effects.items
+    lacks_change s c.args.client c.args.op.now c.requires.invariant.shape c.requires.invariant.holds c.requires.fine (step_in c.args.outcome.now) c.in-Some.inode c.requires.visited
+    (lacked_now s c.args.client c.args.op.now c.requires.invariant.shape c.requires.invariant.holds c.requires.fine (Some (c.in-Some.inode, Write)) c.view-view.result.client (levels_of c.view-view.result.leases.now).clients c.deref.result.now c.args.outcome.now.effects.items
     c.in-Some.ensures c.view-view.ensures.client (ap (λ l. (levels_of l).clients) c.view-view.ensures.leases) c.deref.ensures.value) in
     let free = subst (λ n. is_free_for s.levels c.args.client n c.in-Some.inode Write ≡ true) home (sym c.is_free.ensures ∙ c.if-not-is_free.false) in
     let granted = subst (λ n. IsGranted s.levels (levels_of c.grant.new.self) c.args.client n c.in-Some.inode Write) home c.in_ok-grant.ensures.granted in
     refused_onward (observed s) (observed (after_leases s (levels_of c.grant.new.self))) (machine_of c.lease_changes.new.state) c.args.client c.args.op.now c.lease_changes.result
-    (goes_on s c.args.client c.args.op.now c.requires.shape c.requires.holds c.requires.fine c.in-Some.inode Write (levels_of c.grant.new.self) lack free granted) c.lease_changes.ensures.refused
+    (goes_on s c.args.client c.args.op.now c.requires.invariant.shape c.requires.invariant.holds c.requires.fine c.in-Some.inode Write (levels_of c.grant.new.self) lack free granted) c.lease_changes.ensures.refused
 
 pub returns-in_default-clause-cuts : goal.returns-in_default-clause-cuts
-returns-in_default-clause-cuts g t c = nothing_frozen g.C.Revokes.answers (stored_by c.args.state.now.leases) (machine_of c.args.state.now) (machine_of c.args.state.now) (λ d i. refl)
+returns-in_default-clause-cuts g t c = nothing_revoked g.C.Revokes.answers (stored_by c.args.state.now.leases) (machine_of c.args.state.now) (machine_of c.args.state.now) (λ d i. refl)
 
 pub returns-in_err-grant-clause-cuts : goal.returns-in_err-grant-clause-cuts
 returns-in_err-grant-clause-cuts g t c =
     let s = value_of c.args.state.now in
     let same : levels_of c.grant.new.self ≡ s.levels = same_levels s.levels (levels_of c.grant.new.self) c.in_err-grant.ensures.err in
-    nothing_frozen g.C.Revokes.answers (stored_by c.args.state.now.leases) (observed s) (observed (after_leases s (levels_of c.grant.new.self))) (same_levels_frozen s (levels_of c.grant.new.self) same)
+    nothing_revoked g.C.Revokes.answers (stored_by c.args.state.now.leases) (observed s) (observed (after_leases s (levels_of c.grant.new.self))) (same_levels_revoked s (levels_of c.grant.new.self) same)
 
 pub returns-clause-cuts : goal.returns-clause-cuts
 returns-clause-cuts g t c =
     let s = value_of c.args.state.now in
     let home = c.home.ensures ∙ ap (λ x. x.home) c.get.ensures in
     let lack =
-    lacks_change s c.args.client c.args.op.now c.requires.shape c.requires.holds c.requires.fine (step_in c.args.outcome.now) c.in-Some.inode c.requires.visited
-    (lacked_now s c.args.client c.args.op.now c.requires.shape c.requires.holds c.requires.fine (Some (c.in-Some.inode, Write)) c.view-view.result.client (levels_of c.view-view.result.leases.now).clients c.deref.result.now c.args.outcome.now.effects.items
+    lacks_change s c.args.client c.args.op.now c.requires.invariant.shape c.requires.invariant.holds c.requires.fine (step_in c.args.outcome.now) c.in-Some.inode c.requires.visited
+    (lacked_now s c.args.client c.args.op.now c.requires.invariant.shape c.requires.invariant.holds c.requires.fine (Some (c.in-Some.inode, Write)) c.view-view.result.client (levels_of c.view-view.result.leases.now).clients c.deref.result.now c.args.outcome.now.effects.items
     c.in-Some.ensures c.view-view.ensures.client (ap (λ l. (levels_of l).clients) c.view-view.ensures.leases) c.deref.ensures.value) in
     let free = subst (λ n. is_free_for s.levels c.args.client n c.in-Some.inode Write ≡ true) home (sym c.is_free.ensures ∙ c.if-not-is_free.false) in
     let granted = subst (λ n. IsGranted s.levels (levels_of c.grant.new.self) c.args.client n c.in-Some.inode Write) home c.in_ok-grant.ensures.granted in
-    cuts_then s c.args.client c.args.op.now c.requires.shape c.requires.holds c.requires.fine c.in-Some.inode Write (levels_of c.grant.new.self) lack free granted
+    cuts_then s c.args.client c.args.op.now c.requires.invariant.shape c.requires.invariant.holds c.requires.fine c.in-Some.inode Write (levels_of c.grant.new.self) lack free granted
     g.C.Revokes.answers (stored_by c.args.state.now.leases) (stored_by c.grant.new.self) (machine_of c.lease_changes.new.state) c.grant.ensures.revokers c.lease_changes.ensures.cuts

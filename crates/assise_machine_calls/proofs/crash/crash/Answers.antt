@@ -1,13 +1,13 @@
 use Rattle.std.proofs.Common.{◌≡◌, ◌++◌, ◌∷◌, [], None, ap, refl, sym, ◌∙◌}
 use Rattle.assise_lease_tree.specs.Trees.{levels_of}
-use Rattle.assise_machine_laws.specs.World.{end}
-use Rattle.assise_machine_events.specs.ClientEvents.Crashing.{is_refused}
-use Rattle.assise_machine_events.specs.Faults.{client_fault}
+use Rattle.assise_model_world.specs.World.{end_of_log}
+use Rattle.assise_model_events.specs.ClientEvents.Crashing.{is_refused}
+use Rattle.assise_model_events.specs.Faults.{client_fault}
 use Rattle.assise_machine_state.specs.ClientValues.{client_in, crashed_at, with_client}
 use Rattle.assise_machine_state.specs.Observed.{observed, world_of}
 use Rattle.assise_machine_state.specs.StateValues.{StateValue}
 use Rattle.assise_machine_state.specs.Whole.{value_of}
-use Rattle.assise_machine_calls.proofs.Syncing.{fine_number, place_is}
+use Rattle.assise_machine_calls.proofs.SyncChanges.{fine_number, place_is}
 use Rattle.assise_machine_calls.proofs.Crashed.{HasCrashed, given}
 use Rattle.assise_machine_calls.proofs.crash.crash.Given as over
 use Rattle.assise_machine_calls.proofs.crash.crash.Goals as goal
@@ -23,20 +23,20 @@ crash-requires g c = record { client = fine_number (value_of c.args.sound.now.st
 
 -- the client has crashed
 has_crashed : (g : over.Over) (c : goal.After-push g) →
-    HasCrashed (value_of c.args.sound.now.state) c.args.client c.crash.new.self (levels_of c.freeze.new.self) c.note_all.new.cuts.items c.push.new.self.events
+    HasCrashed (value_of c.args.sound.now.state) c.args.client c.crash.new.self (levels_of c.revoke.new.self) c.note_all.new.cuts.items c.push.new.self.events
 has_crashed g c =
     let s : StateValue = value_of c.args.sound.now.state in
     let fine : client_fault (observed s) c.args.client ≡ None = sym c.client_refusal.ensures ∙ c.in_default.is in
-    let place : c.end-end.result ≡ end (world_of s) c.args.client =
-    place_is s c.args.client c.end-end.result c.own_region.result.now c.log.result.now c.args.sound.now.shape fine c.args.sound.now.state.members.lawful.some_full
+    let place : c.end-end.result ≡ end_of_log (world_of s) c.args.client =
+    place_is s c.args.client c.end-end.result c.own_region.result.now c.log.result.now c.args.sound.now.invariant.shape fine c.args.sound.now.state.members.lawful.some_full
     c.own_region.ensures.region c.log.ensures.log c.end-end.ensures.end in
     record {
-      holds = c.args.sound.now.holds;
-      shape = c.args.sound.now.shape;
-      noted = c.args.sound.now.noted;
+      holds = c.args.sound.now.invariant.holds;
+      shape = c.args.sound.now.invariant.shape;
+      noted = c.args.sound.now.invariant.noted;
       fine = fine;
       asked = c.in_ok-asked.asked.items;
-      frozen = c.freeze.ensures.frozen;
+      revoked = c.revoke.ensures.revoked;
       left = record { once = c.in_ok-asked.ensures.once; all = c.in_ok-asked.ensures.all };
       clients = c.crash.ensures ∙ ap (λ k. with_client s.clients c.args.client (crashed_at k (client_in s.clients c.args.client))) place;
       cuts = c.note_all.ensures ∙ (λ i. c.reserve-2.ensures.items i ++ c.into_iter.ensures.rest i);
@@ -44,7 +44,7 @@ has_crashed g c =
     }
 
 pub invariant_of-sound-2 : goal.invariant_of-sound-2
-invariant_of-sound-2 g c = let done = given (has_crashed g c) in record { holds = done.holds; shape = done.shape; noted = done.noted }
+invariant_of-sound-2 g c = let done = given (has_crashed g c) in record { invariant = record { holds = done.holds; shape = done.shape; noted = done.noted } }
 
 pub returns-clause-happens : goal.returns-clause-happens
 returns-clause-happens g c = (given (has_crashed g c.before)).happens

@@ -4,15 +4,15 @@ use Rattle.assise_names.specs.declared.limits.TheConstants.{MOST_CLIENTS}
 use Rattle.assise_lease_tree.specs.Trees.{levels_of}
 use Rattle.assise_lease_tree.specs.TwoLevels.{EnrolsAt}
 use Rattle.assise_history.specs.Entries.{opens}
-use Rattle.assise_machine_events.specs.ClientEvents.{Opening, is_refused, lacks_memory}
-use Rattle.assise_machine_events.specs.Events.{opened, open_client, refused}
-use Rattle.assise_machine_events.specs.Faults.{open_fault}
-use Rattle.assise_machine_events.specs.Machine.{Holds}
-use Rattle.assise_machine_events.proofs.EachEvent.{event_keeps}
+use Rattle.assise_model_events.specs.ClientEvents.{Opening, is_refused, lacks_memory}
+use Rattle.assise_model_events.specs.Events.{opened, open_client, refused}
+use Rattle.assise_model_events.specs.Faults.{open_fault}
+use Rattle.assise_model_events.specs.Machine.{MachineInvariant}
+use Rattle.assise_model_events.proofs.EachEvent.{event_keeps}
 use Rattle.assise_machine_state.specs.Changes.{after_open}
 use Rattle.assise_machine_state.specs.NodeValues.{with_logs_ended}
 use Rattle.assise_machine_state.specs.Observed.{observed}
-use Rattle.assise_machine_state.specs.Shape.{AreNoted, IsShaped}
+use Rattle.assise_machine_state.specs.Invariant.{CutsInvariant, ShapeInvariant}
 use Rattle.assise_machine_state.specs.Whole.{value_of}
 use Rattle.assise_machine_state.proofs.Noted.{open_noted}
 use Rattle.assise_machine_calls.proofs.OpenFaults.{fine_few}
@@ -40,7 +40,7 @@ enrol-requires g c =
       new =
           ap (λ t. (levels_of t).home (c.len.result + 1)) c.begin.ensures.revokers
           ∙ ap (λ k. s.levels.home k) number
-          ∙ stranger s c.args.sound.now.holds;
+          ∙ stranger s c.args.sound.now.invariant.holds;
     }
 
 pub invariant_of-sound-in-Err-enrol : goal.invariant_of-sound-in-Err-enrol
@@ -48,11 +48,13 @@ invariant_of-sound-in-Err-enrol g c =
     let s = value_of c.args.sound.now.state in
     let v = value_of c.begin.new.state in
     let number : c.len.result + 1 ≡ suc (length c.args.sound.now.state.clients) = omega (arith, c.len.ensures) in
-    let same = undone s v c.args.node c.end_logs.new.self (levels_of c.enrol.new.self) c.args.sound.now.shape c.in_default-begin.ensures.ok (c.end_logs.ensures ∙ ap (with_logs_ended v.nodes) number) c.in-Err-enrol.ensures.err in
+    let same = undone s v c.args.node c.end_logs.new.self (levels_of c.enrol.new.self) c.args.sound.now.invariant.shape c.in_default-begin.ensures.ok (c.end_logs.ensures ∙ ap (with_logs_ended v.nodes) number) c.in-Err-enrol.ensures.err in
     record {
-      holds = subst (λ u. ∥ Holds (observed u) ∥₁) (sym same) c.args.sound.now.holds;
-      shape = subst IsShaped (sym same) c.args.sound.now.shape;
-      noted = subst AreNoted (sym same) c.args.sound.now.noted;
+      invariant = record {
+        holds = subst (λ u. ∥ MachineInvariant (observed u) ∥₁) (sym same) c.args.sound.now.invariant.holds;
+        shape = subst ShapeInvariant (sym same) c.args.sound.now.invariant.shape;
+        noted = subst CutsInvariant (sym same) c.args.sound.now.invariant.noted;
+      };
     }
 
 pub returns-in-Err-enrol-clause-happens : goal.returns-in-Err-enrol-clause-happens
@@ -60,7 +62,7 @@ returns-in-Err-enrol-clause-happens g c =
     let s = value_of c.args.sound.now.state in
     let v = value_of c.begin.new.state in
     let number : c.len.result + 1 ≡ suc (length c.args.sound.now.state.clients) = omega (arith, c.len.ensures) in
-    let same = undone s v c.args.node c.end_logs.new.self (levels_of c.enrol.new.self) c.args.sound.now.shape c.in_default-begin.ensures.ok (c.end_logs.ensures ∙ ap (with_logs_ended v.nodes) number) c.in-Err-enrol.ensures.err in
+    let same = undone s v c.args.node c.end_logs.new.self (levels_of c.enrol.new.self) c.args.sound.now.invariant.shape c.in_default-begin.ensures.ok (c.end_logs.ensures ∙ ap (with_logs_ended v.nodes) number) c.in-Err-enrol.ensures.err in
     lacks_memory (sym c.open_refusal.ensures ∙ c.in_default.is) (ap (λ b. refused b.0) c.in-Err-enrol.ensures.given_back) (ap observed same)
 
 pub open-requires : goal.open-requires
@@ -80,10 +82,12 @@ invariant_of-sound-2 g c =
     let enrols : EnrolsAt s.levels levels (suc (length s.clients)) c.args.node =
     subst (λ t. EnrolsAt (levels_of t) levels (suc (length s.clients)) c.args.node) c.begin.ensures.revokers (subst (λ k. EnrolsAt (levels_of c.begin.new.state.leases) levels k c.args.node) number c.in_default-enrol.ensures.ok) in
     record {
-      holds = subst (λ u. ∥ Holds (observed u) ∥₁) (sym same)
-          (∥∥₁_map c.args.sound.now.holds (λ h. event_keeps (observed s) (observed (after_open s c.args.node c.args.durability levels)) (open_client c.args.node c.args.durability) (opened (suc (length s.clients))) h (is_event s c.args.node c.args.durability levels c.args.sound.now.shape fine c.args.sound.now.noted enrols)));
-      shape = subst IsShaped (sym same) (keeps_shape s c.args.node c.args.durability levels c.args.sound.now.shape fine);
-      noted = subst AreNoted (sym same) (open_noted s c.args.node c.args.durability levels c.args.sound.now.noted enrols);
+      invariant = record {
+        holds = subst (λ u. ∥ MachineInvariant (observed u) ∥₁) (sym same)
+            (∥∥₁_map c.args.sound.now.invariant.holds (λ h. event_keeps (observed s) (observed (after_open s c.args.node c.args.durability levels)) (open_client c.args.node c.args.durability) (opened (suc (length s.clients))) h (is_event s c.args.node c.args.durability levels c.args.sound.now.invariant.shape fine c.args.sound.now.invariant.noted enrols)));
+        shape = subst ShapeInvariant (sym same) (keeps_shape s c.args.node c.args.durability levels c.args.sound.now.invariant.shape fine);
+        noted = subst CutsInvariant (sym same) (open_noted s c.args.node c.args.durability levels c.args.sound.now.invariant.noted enrols);
+      };
     }
 
 pub returns-clause-happens : goal.returns-clause-happens
@@ -98,4 +102,4 @@ returns-clause-happens g c =
     let enrols : EnrolsAt s.levels levels (suc (length s.clients)) c.args.node =
     subst (λ t. EnrolsAt (levels_of t) levels (suc (length s.clients)) c.args.node) c.begin.ensures.revokers (subst (λ k. EnrolsAt (levels_of c.begin.new.state.leases) levels k c.args.node) number c.in_default-enrol.ensures.ok) in
     subst (λ u. Opening (observed s) c.args.node c.args.durability (opened (c.len.result + 1)) (observed u)) (sym same)
-    (subst (λ k. Opening (observed s) c.args.node c.args.durability (opened k) (observed (after_open s c.args.node c.args.durability levels))) (sym number) (is_event s c.args.node c.args.durability levels c.args.sound.now.shape fine c.args.sound.now.noted enrols))
+    (subst (λ k. Opening (observed s) c.args.node c.args.durability (opened k) (observed (after_open s c.args.node c.args.durability levels))) (sym number) (is_event s c.args.node c.args.durability levels c.args.sound.now.invariant.shape fine c.args.sound.now.invariant.noted enrols))

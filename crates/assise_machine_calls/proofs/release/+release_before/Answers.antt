@@ -1,7 +1,7 @@
 use Rattle.std.proofs.Common.{◌-◌, ◌<◌, sym, subst, ◌∙◌, arith}
 use Rattle.assise_lease_tree.specs.Trees.{levels_of}
 use Rattle.assise_machine_state.specs.Whole.{value_of}
-use Rattle.assise_machine_calls.proofs.Releasing.{answer_known, gone_now, leases_now, noted_now, ripe_cuts, room_now, shape_now}
+use Rattle.assise_machine_calls.proofs.RipeReleases.{answer_known, gone_now, leases_now, noted_now, ripe_cuts, room_now, shape_now}
 use Rattle.assise_machine_calls.proofs.release.+release_before.Goals as goal
 
 pub is_ripe-requires-clause-client : goal.is_ripe-requires-clause-client

@@ -2,7 +2,7 @@ use Rattle.std.proofs.Common.{sym, ◌∙◌}
 use Rattle.assise_lease_tree.specs.Trees.{levels_of}
 use Rattle.assise_machine_state.specs.Whole.{value_of}
 use Rattle.assise_machine_state.proofs.ShapedClients.{leases_shaped}
-use Rattle.assise_machine_calls.proofs.Freeing.{busy_kept, freed_as, freed_noted, full_kept}
+use Rattle.assise_machine_calls.proofs.NodeFreed.{busy_kept, freed_as, freed_noted, full_kept}
 use Rattle.assise_machine_calls.proofs.release.free.Goals as goal
 
 pub returns-then-is_full-clause-frees : goal.returns-then-is_full-clause-frees

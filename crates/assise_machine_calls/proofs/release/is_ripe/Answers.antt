@@ -1,5 +1,5 @@
 use Rattle.assise_machine_state.specs.Whole.{value_of}
-use Rattle.assise_machine_calls.proofs.Releasing.{ripe_as}
+use Rattle.assise_machine_calls.proofs.RipeReleases.{ripe_as}
 use Rattle.assise_machine_calls.proofs.release.is_ripe.Goals as goal
 
 pub returns : goal.returns

@@ -1,14 +1,14 @@
 use Rattle.std.proofs.Common.{◌≡◌, ◌++◌, ◌≤◌, filter, length, ap, ◌∙◌, append-nil, arith}
 use Rattle.std.proofs.Math.Logic.{∥∥₁_map}
 use Rattle.std.proofs.lemmas.List.{drop_all, take_all}
-use Rattle.assise_machine_events.specs.Events.{release_ready as let_ready_go, released}
-use Rattle.assise_machine_events.specs.NodeEvents.{Releasing}
-use Rattle.assise_machine_events.proofs.EachEvent.{event_keeps}
+use Rattle.assise_model_events.specs.Events.{release_ready as let_ready_go, released}
+use Rattle.assise_model_events.specs.NodeEvents.{Releasing}
+use Rattle.assise_model_events.proofs.EachEvent.{event_keeps}
 use Rattle.assise_machine_state.specs.Observed.{observed}
 use Rattle.assise_machine_state.specs.StateValues.{standings}
 use Rattle.assise_machine_state.specs.Whole.{value_of}
 use Rattle.assise_machine_calls.specs.Releasing.{is_early}
-use Rattle.assise_machine_calls.proofs.Leasing.{are_leases}
+use Rattle.assise_machine_calls.proofs.LeaseFacts.{are_leases}
 use Rattle.assise_machine_calls.proofs.Ready.{none_ready}
 use Rattle.assise_machine_calls.proofs.Released.{all_released}
 use Rattle.assise_machine_calls.proofs.release.release_ready.Given as given
@@ -20,24 +20,26 @@ released_now g c =
     let t = value_of c.release_before-count.new.state in
     let u = value_of c.free_to.new.state in
     let goes = c.release_before-count.ensures.goes in
-    let many : length t.nodes ≡ length (standings s) = ap (λ v. length v.nodes) goes.rest ∙ c.args.sound.now.shape.nodes in
+    let many : length t.nodes ≡ length (standings s) = ap (λ v. length v.nodes) goes.rest ∙ c.args.sound.now.invariant.shape.nodes in
     let whole : length s.cuts ≤ c.len-place.result = omega (arith, c.len-place.ensures) in
     let left : t.cuts ≡ filter (is_early s) s.cuts =
     c.release_before-count.ensures.cuts
     ∙ (λ k. filter (is_early s) (take_all c.len-place.result s.cuts whole k) ++ drop_all c.len-place.result s.cuts whole k) ∙ append-nil (filter (is_early s) s.cuts) in
     all_released s t u c.release_before-count.result c.len-last.result goes c.free_to.ensures.frees (c.len-last.ensures ∙ many)
-    (none_ready s t c.release_before-count.result c.args.sound.now.noted c.release_before-count.ensures.noted goes left)
+    (none_ready s t c.release_before-count.result c.args.sound.now.invariant.noted c.release_before-count.ensures.noted goes left)
 
 pub returns-clause-happens : goal.returns-clause-happens
 returns-clause-happens g c = released_now g c.before
 
 pub release_before-count-requires-clause-leases : goal.release_before-count-requires-clause-leases
-release_before-count-requires-clause-leases g c = are_leases (value_of c.args.sound.now.state) c.args.sound.now.holds
+release_before-count-requires-clause-leases g c = are_leases (value_of c.args.sound.now.state) c.args.sound.now.invariant.holds
 
 pub invariant_of-sound : goal.invariant_of-sound
 invariant_of-sound g c = record {
-  holds = ∥∥₁_map c.args.sound.now.holds
-      (λ h. event_keeps (observed (value_of c.args.sound.now.state)) (observed (value_of c.free_to.new.state)) let_ready_go (released c.release_before-count.result) h (released_now g c));
-  shape = c.free_to.ensures.shape;
-  noted = c.free_to.ensures.noted;
+  invariant = record {
+    holds = ∥∥₁_map c.args.sound.now.invariant.holds
+        (λ h. event_keeps (observed (value_of c.args.sound.now.state)) (observed (value_of c.free_to.new.state)) let_ready_go (released c.release_before-count.result) h (released_now g c));
+    shape = c.free_to.ensures.shape;
+    noted = c.free_to.ensures.noted;
+  };
 }

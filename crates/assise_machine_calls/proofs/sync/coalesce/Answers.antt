@@ -2,15 +2,15 @@ use Rattle.std.proofs.Common.{ap, refl, subst, sym, ◌∙◌}
 use Rattle.std.proofs.lemmas.Result.{err_from_is_err_and}
 use Rattle.assise_private_log.specs.NumberedLog.{end}
 use Rattle.assise_digest.specs.Region.{HasClient, log_of}
-use Rattle.assise_machine_events.specs.Dsyncs.Coalescing.{lacks_memory}
-use Rattle.assise_machine_events.specs.Events.{refused}
-use Rattle.assise_machine_events.specs.Machine.{Holds}
+use Rattle.assise_model_events.specs.Dsyncs.Coalescing.{lacks_memory}
+use Rattle.assise_model_events.specs.Events.{refused}
+use Rattle.assise_model_events.specs.Machine.{MachineInvariant}
 use Rattle.assise_machine_state.specs.Observed.{observed}
-use Rattle.assise_machine_state.specs.Shape.{AreNoted, IsShaped}
+use Rattle.assise_machine_state.specs.Invariant.{CutsInvariant, ShapeInvariant}
 use Rattle.assise_machine_state.specs.Whole.{value_of}
 use Rattle.assise_machine_calls.specs.Answers.{turn_answer}
 use Rattle.assise_machine_calls.proofs.GroupedSyncs.{coalesced_given, from_digested, from_high, home_log, lacking_seen, still_log}
-use Rattle.assise_machine_calls.proofs.Syncing.{fine_number}
+use Rattle.assise_machine_calls.proofs.SyncChanges.{fine_number}
 use Rattle.assise_machine_calls.proofs.sync.coalesce.Goals as goal
 
 pub coalesced_from-from-requires-clause-client : goal.coalesced_from-from-requires-clause-client
@@ -25,23 +25,23 @@ coalesce-requires g c =
     let x = c.args.sound.now in
     let home = c.home-home.ensures ∙ ap (λ y. y.home) c.get.ensures in
     record {
-      there = home_log s c.args.client x.shape c.requires.fine c.home-home.result home;
-      digested = from_digested s c.args.client x.shape c.requires.fine c.home-home.result home x.holds c.coalesced_from-from.result c.coalesced_from-from.ensures;
-      to_end = from_high s c.args.client x.shape c.requires.fine c.home-home.result home x.holds c.coalesced_from-from.result c.coalesced_from-from.ensures;
+      there = home_log s c.args.client x.invariant.shape c.requires.fine c.home-home.result home;
+      digested = from_digested s c.args.client x.invariant.shape c.requires.fine c.home-home.result home x.invariant.holds c.coalesced_from-from.result c.coalesced_from-from.ensures;
+      to_end = from_high s c.args.client x.invariant.shape c.requires.fine c.home-home.result home x.invariant.holds c.coalesced_from-from.result c.coalesced_from-from.ensures;
     }
 
 pub region-requires : goal.region-requires
 region-requires g c =
     let s = value_of c.args.sound.now.state in
     let home = c.home-home.ensures ∙ ap (λ y. y.home) c.get.ensures in
-    let has = still_log s c.args.client c.args.sound.now.shape c.requires.fine c.home-home.result home c.args.sound.now.holds c.coalesced_from-from.result c.coalesced_from-from.ensures c.coalesce.ensures.lawful c.coalesce.new.self c.in_ok-coalesce.ensures.ok in
+    let has = still_log s c.args.client c.args.sound.now.invariant.shape c.requires.fine c.home-home.result home c.args.sound.now.invariant.holds c.coalesced_from-from.result c.coalesced_from-from.ensures c.coalesce.ensures.lawful c.coalesce.new.self c.in_ok-coalesce.ensures.ok in
     record { node = has.node }
 
 pub log-requires : goal.log-requires
 log-requires g c =
     let s = value_of c.args.sound.now.state in
     let home = c.home-home.ensures ∙ ap (λ y. y.home) c.get.ensures in
-    let has = still_log s c.args.client c.args.sound.now.shape c.requires.fine c.home-home.result home c.args.sound.now.holds c.coalesced_from-from.result c.coalesced_from-from.ensures c.coalesce.ensures.lawful c.coalesce.new.self c.in_ok-coalesce.ensures.ok in
+    let has = still_log s c.args.client c.args.sound.now.invariant.shape c.requires.fine c.home-home.result home c.args.sound.now.invariant.holds c.coalesced_from-from.result c.coalesced_from-from.ensures c.coalesce.ensures.lawful c.coalesce.new.self c.in_ok-coalesce.ensures.ok in
     record { client = subst (λ r. HasClient r c.args.client) (sym c.region.ensures) has.client }
 
 pub raise_goal-requires : goal.raise_goal-requires
@@ -53,9 +53,11 @@ invariant_of-sound g c =
     let x = c.args.sound.now in
     let same = ap (λ ns. record s { nodes = ns }) (sym c.in_err-coalesce.ensures.err) in
     record {
-      holds = subst (λ v. ∥ Holds (observed v) ∥₁) same x.holds;
-      shape = subst IsShaped same x.shape;
-      noted = subst AreNoted same x.noted;
+      invariant = record {
+        holds = subst (λ v. ∥ MachineInvariant (observed v) ∥₁) same x.invariant.holds;
+        shape = subst ShapeInvariant same x.invariant.shape;
+        noted = subst CutsInvariant same x.invariant.noted;
+      };
     }
 
 pub returns-in_err-coalesce : goal.returns-in_err-coalesce
@@ -74,9 +76,9 @@ invariant_of-sound-2 g c =
     let x = c.args.sound.now in
     let home = c.home-home.ensures ∙ ap (λ y. y.home) c.get.ensures in
     let place = c.end-end.ensures.end ∙ ap end c.log.ensures.log ∙ ap (λ r. end (log_of r c.args.client).log) c.region.ensures in
-    let given = coalesced_given s c.args.client x.shape c.requires.fine c.home-home.result home x.holds c.coalesced_from-from.result c.coalesced_from-from.ensures c.coalesce.ensures.lawful
-    x.noted (lacking_seen s c.args.client c.requires.lacking) c.in_ok-coalesce.ensures.effects x.state.members.lawful.some_full c.coalesce.new.self c.end-end.result c.raise_goal.new.self c.in_ok-coalesce.ensures.ok place c.raise_goal.ensures in
-    record { holds = given.holds; shape = given.shape; noted = given.noted }
+    let given = coalesced_given s c.args.client x.invariant.shape c.requires.fine c.home-home.result home x.invariant.holds c.coalesced_from-from.result c.coalesced_from-from.ensures c.coalesce.ensures.lawful
+    x.invariant.noted (lacking_seen s c.args.client c.requires.lacking) c.in_ok-coalesce.ensures.effects x.state.members.lawful.some_full c.coalesce.new.self c.end-end.result c.raise_goal.new.self c.in_ok-coalesce.ensures.ok place c.raise_goal.ensures in
+    record { invariant = record { holds = given.holds; shape = given.shape; noted = given.noted } }
 
 pub returns : goal.returns
 returns g c =
@@ -84,6 +86,6 @@ returns g c =
     let x = c.args.sound.now in
     let home = c.home-home.ensures ∙ ap (λ y. y.home) c.get.ensures in
     let place = c.end-end.ensures.end ∙ ap end c.log.ensures.log ∙ ap (λ r. end (log_of r c.args.client).log) c.region.ensures in
-    let given = coalesced_given s c.args.client x.shape c.requires.fine c.home-home.result home x.holds c.coalesced_from-from.result c.coalesced_from-from.ensures c.coalesce.ensures.lawful
-    x.noted (lacking_seen s c.args.client c.requires.lacking) c.in_ok-coalesce.ensures.effects x.state.members.lawful.some_full c.coalesce.new.self c.end-end.result c.raise_goal.new.self c.in_ok-coalesce.ensures.ok place c.raise_goal.ensures in
+    let given = coalesced_given s c.args.client x.invariant.shape c.requires.fine c.home-home.result home x.invariant.holds c.coalesced_from-from.result c.coalesced_from-from.ensures c.coalesce.ensures.lawful
+    x.invariant.noted (lacking_seen s c.args.client c.requires.lacking) c.in_ok-coalesce.ensures.effects x.state.members.lawful.some_full c.coalesce.new.self c.end-end.result c.raise_goal.new.self c.in_ok-coalesce.ensures.ok place c.raise_goal.ensures in
     record { happens = given.happens; revokers = λ d. refl }

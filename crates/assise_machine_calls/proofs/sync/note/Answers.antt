@@ -1,14 +1,14 @@
 use Rattle.std.proofs.Common.{◌≡◌, ◌+◌, ◌++◌, ◌∷◌, [], length, refl, ap, sym, ◌∙◌, arith}
 use Rattle.std.proofs.lemmas.List.{length_push}
 use Rattle.std.proofs.lemmas.Result.{err_from_is_err_and}
-use Rattle.assise_machine_events.specs.ClientEvents.Noting.{lacks_memory}
-use Rattle.assise_machine_events.specs.Events.{refused}
+use Rattle.assise_model_events.specs.ClientEvents.Noting.{lacks_memory}
+use Rattle.assise_model_events.specs.Events.{refused}
 use Rattle.assise_machine_state.specs.ClientValues.{client_in}
 use Rattle.assise_machine_state.specs.Observed.{observed}
 use Rattle.assise_machine_state.specs.Whole.{value_of}
-use Rattle.assise_machine_state.proofs.Seeing.{client_is}
+use Rattle.assise_machine_state.proofs.ItemSeen.{client_is}
 use Rattle.assise_machine_calls.specs.Answers.{turn_answer}
-use Rattle.assise_machine_calls.proofs.Syncing.{fine_number, made_fits, next_fits, noted_given}
+use Rattle.assise_machine_calls.proofs.SyncChanges.{fine_number, made_fits, next_fits, noted_given}
 use Rattle.assise_machine_calls.proofs.sync.note.Goals as goal
 
 pub returns-in_err-reserve : goal.returns-in_err-reserve
@@ -34,29 +34,29 @@ note_call-requires-clause-next g c =
     let more : length c.push.new.self.events ≡ length s.history + 1 =
     ap length (c.push.ensures.grown ∙ ap (λ h. h ++ c.call.result ∷ []) c.reserve.ensures.same) ∙ length_push s.history c.call.result in
     let now = sym (client_is s.clients c.args.client (fine_number s c.args.client c.requires.fine)) in
-    next_fits s c.args.client c.requires.fine c.args.sound.now.holds (client_in s.clients c.args.client) (ap (λ y. y.next) now) (omega (arith, more, c.push.ensures.few))
+    next_fits s c.args.client c.requires.fine c.args.sound.now.invariant.holds (client_in s.clients c.args.client) (ap (λ y. y.next) now) (omega (arith, more, c.push.ensures.few))
 
 pub note_call-requires-clause-made : goal.note_call-requires-clause-made
 note_call-requires-clause-made g c =
     let s = value_of c.args.sound.now.state in
     let now = sym (client_is s.clients c.args.client (fine_number s c.args.client c.requires.fine)) in
-    made_fits s c.args.client c.requires.fine c.args.sound.now.holds (client_in s.clients c.args.client) (ap (λ y. y.made) now)
+    made_fits s c.args.client c.requires.fine c.args.sound.now.invariant.holds (client_in s.clients c.args.client) (ap (λ y. y.made) now)
 
 pub invariant_of-sound-2 : goal.invariant_of-sound-2
 invariant_of-sound-2 g c =
     let s = value_of c.args.sound.now.state in
     let given =
-    noted_given s c.args.client c.args.sound.now.shape c.requires.fine c.args.sound.now.holds c.requires.optimistic c.args.sound.now.noted
+    noted_given s c.args.client c.args.sound.now.invariant.shape c.requires.fine c.args.sound.now.invariant.holds c.requires.optimistic c.args.sound.now.invariant.noted
     c.next-number.result c.call.result c.note_call.new.self c.reserve.new.self.events c.push.new.self.events
     (c.next-number.ensures ∙ ap (λ x. x.next) c.get.ensures) c.call.ensures c.note_call.ensures c.reserve.ensures.same c.push.ensures.grown
     in
-    record { holds = given.holds; shape = given.shape; noted = given.noted }
+    record { invariant = record { holds = given.holds; shape = given.shape; noted = given.noted } }
 
 pub returns : goal.returns
 returns g c =
     let s = value_of c.args.sound.now.state in
     let given =
-    noted_given s c.args.client c.args.sound.now.shape c.requires.fine c.args.sound.now.holds c.requires.optimistic c.args.sound.now.noted
+    noted_given s c.args.client c.args.sound.now.invariant.shape c.requires.fine c.args.sound.now.invariant.holds c.requires.optimistic c.args.sound.now.invariant.noted
     c.next-number.result c.call.result c.note_call.new.self c.reserve.new.self.events c.push.new.self.events
     (c.next-number.ensures ∙ ap (λ x. x.next) c.get.ensures) c.call.ensures c.note_call.ensures c.reserve.ensures.same c.push.ensures.grown
     in

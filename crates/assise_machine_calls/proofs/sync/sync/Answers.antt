@@ -3,14 +3,14 @@ use Rattle.std.proofs.lemmas.List.{length_push}
 use Rattle.std.proofs.lemmas.Result.{err_from_is_err_and}
 use Rattle.assise_names.specs.declared.reply.Reply.TheVariants.{Done}
 use Rattle.assise_history.specs.Entries.{calls}
-use Rattle.assise_machine_laws.specs.World.{end, received_by_all}
-use Rattle.assise_machine_events.specs.ClientEvents.Syncing.{lacks_memory}
-use Rattle.assise_machine_events.specs.Events.{refused}
+use Rattle.assise_model_world.specs.World.{end_of_log, received_by_all}
+use Rattle.assise_model_events.specs.ClientEvents.Syncing.{lacks_memory}
+use Rattle.assise_model_events.specs.Events.{refused}
 use Rattle.assise_machine_state.specs.ClientValues.{client_in}
 use Rattle.assise_machine_state.specs.Observed.{observed, world_of}
 use Rattle.assise_machine_state.specs.Whole.{value_of}
 use Rattle.assise_machine_calls.specs.Answers.{turn_answer}
-use Rattle.assise_machine_calls.proofs.Syncing.{all_received, answered_given, awaited_given, client_now, fine_number, made_fits, next_fits, place_is, still_number, syncs_some}
+use Rattle.assise_machine_calls.proofs.SyncChanges.{all_received, answered_given, awaited_given, client_now, fine_number, made_fits, next_fits, place_is, still_number, syncs_some}
 use Rattle.assise_machine_calls.specs.SyncCalls.{op_of}
 use Rattle.assise_machine_calls.proofs.sync.sync.Goals as goal
 
@@ -26,31 +26,31 @@ raise_goal-requires g c = record { client = fine_number (value_of c.args.sound.n
 pub invariant_of-sound : goal.invariant_of-sound
 invariant_of-sound g c =
     let s = value_of c.args.sound.now.state in
-    let place : c.end-end.result ≡ end (world_of s) c.args.client =
-    place_is s c.args.client c.end-end.result c.own_region.result.now c.log.result.now c.args.sound.now.shape c.requires.fine c.args.sound.now.state.members.lawful.some_full
+    let place : c.end-end.result ≡ end_of_log (world_of s) c.args.client =
+    place_is s c.args.client c.end-end.result c.own_region.result.now c.log.result.now c.args.sound.now.invariant.shape c.requires.fine c.args.sound.now.state.members.lawful.some_full
     c.own_region.ensures.region c.log.ensures.log c.end-end.ensures.end in
-    let given = awaited_given s c.args.client (op_of c.args.which) c.end-end.result c.raise_goal.new.self c.args.sound.now.shape c.requires.fine c.args.sound.now.holds c.raise_goal.ensures
-    place (syncs_some c.args.which) c.args.sound.now.noted c.acked.result c.acked.ensures c.if-acked-end.true in
-    record { holds = given.holds; shape = given.shape; noted = given.noted }
+    let given = awaited_given s c.args.client (op_of c.args.which) c.end-end.result c.raise_goal.new.self c.args.sound.now.invariant.shape c.requires.fine c.args.sound.now.invariant.holds c.raise_goal.ensures
+    place (syncs_some c.args.which) c.args.sound.now.invariant.noted c.acked.result c.acked.ensures c.if-acked-end.true in
+    record { invariant = record { holds = given.holds; shape = given.shape; noted = given.noted } }
 
 pub returns-then-acked-end : goal.returns-then-acked-end
 returns-then-acked-end g c =
     let s = value_of c.args.sound.now.state in
-    let place : c.end-end.result ≡ end (world_of s) c.args.client =
-    place_is s c.args.client c.end-end.result c.own_region.result.now c.log.result.now c.args.sound.now.shape c.requires.fine c.args.sound.now.state.members.lawful.some_full
+    let place : c.end-end.result ≡ end_of_log (world_of s) c.args.client =
+    place_is s c.args.client c.end-end.result c.own_region.result.now c.log.result.now c.args.sound.now.invariant.shape c.requires.fine c.args.sound.now.state.members.lawful.some_full
     c.own_region.ensures.region c.log.ensures.log c.end-end.ensures.end in
-    let given = awaited_given s c.args.client (op_of c.args.which) c.end-end.result c.raise_goal.new.self c.args.sound.now.shape c.requires.fine c.args.sound.now.holds c.raise_goal.ensures
-    place (syncs_some c.args.which) c.args.sound.now.noted c.acked.result c.acked.ensures c.if-acked-end.true in
+    let given = awaited_given s c.args.client (op_of c.args.which) c.end-end.result c.raise_goal.new.self c.args.sound.now.invariant.shape c.requires.fine c.args.sound.now.invariant.holds c.raise_goal.ensures
+    place (syncs_some c.args.which) c.args.sound.now.invariant.noted c.acked.result c.acked.ensures c.if-acked-end.true in
     record { happens = given.happens; revokers = λ d. refl }
 
 pub returns-in_err-reserve : goal.returns-in_err-reserve
 unfolding observed
 returns-in_err-reserve g c =
     let s = value_of c.args.sound.now.state in
-    let place : c.end-end.result ≡ end (world_of s) c.args.client =
-    place_is s c.args.client c.end-end.result c.own_region.result.now c.log.result.now c.args.sound.now.shape c.requires.fine c.args.sound.now.state.members.lawful.some_full
+    let place : c.end-end.result ≡ end_of_log (world_of s) c.args.client =
+    place_is s c.args.client c.end-end.result c.own_region.result.now c.log.result.now c.args.sound.now.invariant.shape c.requires.fine c.args.sound.now.state.members.lawful.some_full
     c.own_region.ensures.region c.log.ensures.log c.end-end.ensures.end in
-    let all : received_by_all (world_of s) c.args.client ≡ end (world_of s) c.args.client =
+    let all : received_by_all (world_of s) c.args.client ≡ end_of_log (world_of s) c.args.client =
     all_received s c.args.client c.acked.result c.end-end.result c.acked.ensures place c.if-acked-end.false in
     let error = err_from_is_err_and c.from_residual.result c.from_residual.ensures.1 in
     record {
@@ -68,47 +68,47 @@ raise_goal-requires-2 g c = record { client = fine_number (value_of c.args.sound
 pub note_call-requires-clause-client : goal.note_call-requires-clause-client
 note_call-requires-clause-client g c =
     let s = value_of c.args.sound.now.state in
-    still_number s c.args.client (op_of c.args.which) c.end-end.result c.raise_goal-2.new.self c.args.sound.now.shape c.requires.fine c.args.sound.now.holds c.raise_goal-2.ensures
+    still_number s c.args.client (op_of c.args.which) c.end-end.result c.raise_goal-2.new.self c.args.sound.now.invariant.shape c.requires.fine c.args.sound.now.invariant.holds c.raise_goal-2.ensures
 
 pub note_call-requires-clause-next : goal.note_call-requires-clause-next
 note_call-requires-clause-next g c =
     let s = value_of c.args.sound.now.state in
     let more : length c.push.new.self.events ≡ length s.history + 1 =
     ap length (c.push.ensures.grown ∙ ap (λ h. h ++ c.call.result ∷ []) c.reserve.ensures.same) ∙ length_push s.history c.call.result in
-    let now = client_now s c.args.client (op_of c.args.which) c.end-end.result c.raise_goal-2.new.self c.args.sound.now.shape c.requires.fine c.args.sound.now.holds c.raise_goal-2.ensures in
-    next_fits s c.args.client c.requires.fine c.args.sound.now.holds (client_in c.raise_goal-2.new.self c.args.client) (ap (λ y. y.next) now) (omega (arith, more, c.push.ensures.few))
+    let now = client_now s c.args.client (op_of c.args.which) c.end-end.result c.raise_goal-2.new.self c.args.sound.now.invariant.shape c.requires.fine c.args.sound.now.invariant.holds c.raise_goal-2.ensures in
+    next_fits s c.args.client c.requires.fine c.args.sound.now.invariant.holds (client_in c.raise_goal-2.new.self c.args.client) (ap (λ y. y.next) now) (omega (arith, more, c.push.ensures.few))
 
 pub note_call-requires-clause-made : goal.note_call-requires-clause-made
 note_call-requires-clause-made g c =
     let s = value_of c.args.sound.now.state in
-    let now = client_now s c.args.client (op_of c.args.which) c.end-end.result c.raise_goal-2.new.self c.args.sound.now.shape c.requires.fine c.args.sound.now.holds c.raise_goal-2.ensures in
-    made_fits s c.args.client c.requires.fine c.args.sound.now.holds (client_in c.raise_goal-2.new.self c.args.client) (ap (λ y. y.made) now)
+    let now = client_now s c.args.client (op_of c.args.which) c.end-end.result c.raise_goal-2.new.self c.args.sound.now.invariant.shape c.requires.fine c.args.sound.now.invariant.holds c.raise_goal-2.ensures in
+    made_fits s c.args.client c.requires.fine c.args.sound.now.invariant.holds (client_in c.raise_goal-2.new.self c.args.client) (ap (λ y. y.made) now)
 
 pub invariant_of-sound-2 : goal.invariant_of-sound-2
 invariant_of-sound-2 g c =
     let s = value_of c.args.sound.now.state in
-    let place : c.end-end.result ≡ end (world_of s) c.args.client =
-    place_is s c.args.client c.end-end.result c.own_region.result.now c.log.result.now c.args.sound.now.shape c.requires.fine c.args.sound.now.state.members.lawful.some_full
+    let place : c.end-end.result ≡ end_of_log (world_of s) c.args.client =
+    place_is s c.args.client c.end-end.result c.own_region.result.now c.log.result.now c.args.sound.now.invariant.shape c.requires.fine c.args.sound.now.state.members.lawful.some_full
     c.own_region.ensures.region c.log.ensures.log c.end-end.ensures.end in
-    let all : received_by_all (world_of s) c.args.client ≡ end (world_of s) c.args.client =
+    let all : received_by_all (world_of s) c.args.client ≡ end_of_log (world_of s) c.args.client =
     all_received s c.args.client c.acked.result c.end-end.result c.acked.ensures place c.if-acked-end.false in
     let given =
-    answered_given s c.args.client (op_of c.args.which) c.end-end.result c.raise_goal-2.new.self c.args.sound.now.shape c.requires.fine c.args.sound.now.holds c.raise_goal-2.ensures place (syncs_some c.args.which) c.args.sound.now.noted all
+    answered_given s c.args.client (op_of c.args.which) c.end-end.result c.raise_goal-2.new.self c.args.sound.now.invariant.shape c.requires.fine c.args.sound.now.invariant.holds c.raise_goal-2.ensures place (syncs_some c.args.which) c.args.sound.now.invariant.noted all
     c.next-number.result c.call.result c.note_call.new.self c.reserve.new.self.events c.push.new.self.events
     (c.next-number.ensures ∙ ap (λ x. x.next) c.get.ensures) (c.call.ensures ∙ ap (λ o. calls (record { client = c.args.client; number = c.next-number.result; op = o; reply = Done })) c.op_of.ensures) c.note_call.ensures c.reserve.ensures.same c.push.ensures.grown
     in
-    record { holds = given.holds; shape = given.shape; noted = given.noted }
+    record { invariant = record { holds = given.holds; shape = given.shape; noted = given.noted } }
 
 pub returns : goal.returns
 returns g c =
     let s = value_of c.args.sound.now.state in
-    let place : c.end-end.result ≡ end (world_of s) c.args.client =
-    place_is s c.args.client c.end-end.result c.own_region.result.now c.log.result.now c.args.sound.now.shape c.requires.fine c.args.sound.now.state.members.lawful.some_full
+    let place : c.end-end.result ≡ end_of_log (world_of s) c.args.client =
+    place_is s c.args.client c.end-end.result c.own_region.result.now c.log.result.now c.args.sound.now.invariant.shape c.requires.fine c.args.sound.now.state.members.lawful.some_full
     c.own_region.ensures.region c.log.ensures.log c.end-end.ensures.end in
-    let all : received_by_all (world_of s) c.args.client ≡ end (world_of s) c.args.client =
+    let all : received_by_all (world_of s) c.args.client ≡ end_of_log (world_of s) c.args.client =
     all_received s c.args.client c.acked.result c.end-end.result c.acked.ensures place c.if-acked-end.false in
     let given =
-    answered_given s c.args.client (op_of c.args.which) c.end-end.result c.raise_goal-2.new.self c.args.sound.now.shape c.requires.fine c.args.sound.now.holds c.raise_goal-2.ensures place (syncs_some c.args.which) c.args.sound.now.noted all
+    answered_given s c.args.client (op_of c.args.which) c.end-end.result c.raise_goal-2.new.self c.args.sound.now.invariant.shape c.requires.fine c.args.sound.now.invariant.holds c.raise_goal-2.ensures place (syncs_some c.args.which) c.args.sound.now.invariant.noted all
     c.next-number.result c.call.result c.note_call.new.self c.reserve.new.self.events c.push.new.self.events
     (c.next-number.ensures ∙ ap (λ x. x.next) c.get.ensures) (c.call.ensures ∙ ap (λ o. calls (record { client = c.args.client; number = c.next-number.result; op = o; reply = Done })) c.op_of.ensures) c.note_call.ensures c.reserve.ensures.same c.push.ensures.grown
     in

@@ -1,10 +1,10 @@
 use Rattle.std.proofs.Common.{◌≡◌, arith}
-use Rattle.assise_machine_laws.specs.World.{end, received_by_all}
+use Rattle.assise_model_world.specs.World.{end_of_log, received_by_all}
 use Rattle.assise_machine_state.specs.Observed.{observed, world_of}
 use Rattle.assise_machine_state.specs.Whole.{machine_of, value_of}
 use Rattle.assise_machine_calls.specs.Answers.{turn_answer}
 use Rattle.assise_machine_calls.proofs.GroupedSyncs.{as_coalescing}
-use Rattle.assise_machine_calls.proofs.Syncing.{all_received, fine_number, place_is}
+use Rattle.assise_machine_calls.proofs.SyncChanges.{all_received, fine_number, place_is}
 use Rattle.assise_machine_calls.proofs.sync.sync_groups.Goals as goal
 
 pub own_region-requires-clause-client : goal.own_region-requires-clause-client
@@ -17,8 +17,8 @@ pub coalesce-requires-clause-lacking : goal.coalesce-requires-clause-lacking
 unfolding observed
 coalesce-requires-clause-lacking g c =
     let s = value_of c.args.sound.now.state in
-    let place : c.end-end.result ≡ end (world_of s) c.args.client =
-    place_is s c.args.client c.end-end.result c.own_region.result.now c.log.result.now c.args.sound.now.shape c.requires.fine c.args.sound.now.state.members.lawful.some_full
+    let place : c.end-end.result ≡ end_of_log (world_of s) c.args.client =
+    place_is s c.args.client c.end-end.result c.own_region.result.now c.log.result.now c.args.sound.now.invariant.shape c.requires.fine c.args.sound.now.state.members.lawful.some_full
     c.own_region.ensures.region c.log.ensures.log c.end-end.ensures.end in
     omega (arith, place, c.acked.ensures, c.if-acked-end.true)
 
@@ -26,10 +26,10 @@ pub returns : goal.returns
 unfolding observed
 returns g c =
     let s = value_of c.args.sound.now.state in
-    let place : c.end-end.result ≡ end (world_of s) c.args.client =
-    place_is s c.args.client c.end-end.result c.own_region.result.now c.log.result.now c.args.sound.now.shape c.requires.fine c.args.sound.now.state.members.lawful.some_full
+    let place : c.end-end.result ≡ end_of_log (world_of s) c.args.client =
+    place_is s c.args.client c.end-end.result c.own_region.result.now c.log.result.now c.args.sound.now.invariant.shape c.requires.fine c.args.sound.now.state.members.lawful.some_full
     c.own_region.ensures.region c.log.ensures.log c.end-end.ensures.end in
-    let all : received_by_all (world_of s) c.args.client ≡ end (world_of s) c.args.client = all_received s c.args.client c.acked.result c.end-end.result c.acked.ensures place c.if-acked-end.false in
+    let all : received_by_all (world_of s) c.args.client ≡ end_of_log (world_of s) c.args.client = all_received s c.args.client c.acked.result c.end-end.result c.acked.ensures place c.if-acked-end.false in
     record {
       happens = as_coalescing (observed s) (machine_of c.sync.new.sound.state) c.args.client (turn_answer c.sync.result) all c.sync.ensures.happens;
       revokers = c.sync.ensures.revokers;

@@ -3,14 +3,14 @@ use Rattle.std.proofs.Math.Logic.{∥∥₁_map}
 use Rattle.std.proofs.lemmas.Result.{err_from_is_err_and}
 use Rattle.assise_manager.specs.Changes.{return_fault}
 use Rattle.assise_manager.specs.Whole.{membership}
-use Rattle.assise_machine_events.specs.Events.{back as back_event, began, refused}
-use Rattle.assise_machine_events.specs.MemberEvents.{Returning}
-use Rattle.assise_machine_events.proofs.EachEvent.{event_keeps}
+use Rattle.assise_model_events.specs.Events.{back as back_event, began, refused}
+use Rattle.assise_model_events.specs.MemberEvents.{Returning}
+use Rattle.assise_model_events.proofs.EachEvent.{event_keeps}
 use Rattle.assise_machine_state.specs.Observed.{observed}
 use Rattle.assise_machine_state.specs.Whole.{value_of}
 use Rattle.assise_machine_failures.specs.Answers.{returning_answer}
 use Rattle.assise_machine_failures.proofs.ComingBack.{IsComing, back_happens, back_left, back_noted, back_refused, back_shaped}
-use Rattle.assise_machine_failures.proofs.Refusing.{fault_or}
+use Rattle.assise_machine_failures.proofs.RefusedFailures.{fault_or}
 use Rattle.assise_machine_failures.proofs.back.back.Given as given
 use Rattle.assise_machine_failures.proofs.back.back.Goals as goal
 
@@ -23,7 +23,7 @@ returns-in_err-stale-clause-happens g c =
 
 -- the node begins to come back
 coming : (g : given.Over) (c : goal.In_ok-stale g) → IsComing (value_of c.args.sound.now.state) c.args.node (membership c.back.new.self)
-coming g c = record { shape = c.args.sound.now.shape; fine = c.in_ok-stale.ensures.faultless; members = c.in_ok-stale.ensures.ok }
+coming g c = record { shape = c.args.sound.now.invariant.shape; fine = c.in_ok-stale.ensures.faultless; members = c.in_ok-stale.ensures.ok }
 
 pub drop_copies-requires-clause-shape : goal.drop_copies-requires-clause-shape
 drop_copies-requires-clause-shape g c = back_shaped (coming g c)
@@ -38,9 +38,11 @@ invariant_of-sound-2 g c =
     let u = value_of c.drop_copies.new.state in
     let comes = coming g c.before in
     record {
-      holds = ∥∥₁_map c.args.sound.now.holds (λ h. event_keeps (observed s) (observed u) (back_event c.args.node) (began c.in_ok-stale.stale) h (happens_now g c));
-      shape = back_left comes c.drop_copies.ensures.copies;
-      noted = back_noted comes c.drop_copies.ensures.copies c.args.sound.now.noted;
+      invariant = record {
+        holds = ∥∥₁_map c.args.sound.now.invariant.holds (λ h. event_keeps (observed s) (observed u) (back_event c.args.node) (began c.in_ok-stale.stale) h (happens_now g c));
+        shape = back_left comes c.drop_copies.ensures.copies;
+        noted = back_noted comes c.drop_copies.ensures.copies c.args.sound.now.invariant.noted;
+      };
     }
 
 pub returns-clause-happens : goal.returns-clause-happens

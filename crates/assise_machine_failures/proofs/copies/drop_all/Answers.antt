@@ -3,7 +3,7 @@ use Rattle.std.specs.VecDeque.Iter.{deque_iter_rest}
 use Rattle.assise_machine_state.specs.NodeValues.{region_in}
 use Rattle.assise_machine_state.specs.Places.{IsNumber}
 use Rattle.assise_machine_failures.specs.Copies.{nodes_without}
-use Rattle.assise_machine_failures.proofs.Dropping.{logless_quiet, one_logless, one_number}
+use Rattle.assise_machine_failures.proofs.DroppedCopies.{logless_quiet, one_logless, one_number}
 use Rattle.assise_machine_failures.proofs.copies.drop_all.Goals as goal
 
 none_left : (xs : List ℕ) → length xs ≡ 0 → xs ≡ []

@@ -1,5 +1,5 @@
 use Rattle.assise_machine_state.specs.Whole.{value_of}
-use Rattle.assise_machine_failures.proofs.Dropping.{loses, returning_logless}
+use Rattle.assise_machine_failures.proofs.DroppedCopies.{loses, returning_logless}
 use Rattle.assise_machine_failures.proofs.copies.drop_copies.Goals as goal
 
 pub drop_all-requires-clause-no_logs : goal.drop_all-requires-clause-no_logs

@@ -1,6 +1,6 @@
 use Rattle.std.proofs.Common.{Ok, ap, sym, ◌∙◌}
 use Rattle.std.proofs.lemmas.Result.{err_from_is_err_and}
-use Rattle.assise_machine_events.specs.Events.{refused}
+use Rattle.assise_model_events.specs.Events.{refused}
 use Rattle.assise_machine_state.specs.Whole.{value_of}
 use Rattle.assise_machine_failures.specs.Answers.{failing_answer}
 use Rattle.assise_machine_failures.proofs.FailedAgain.{bad_node, down_fault}

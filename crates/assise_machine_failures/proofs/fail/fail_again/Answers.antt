@@ -2,7 +2,7 @@ use Rattle.std.proofs.Common.{◌≡◌, ◌<◌, ◌++◌, ◌∷◌, [], lengt
 use Rattle.std.proofs.lemmas.Result.{err_from_is_err_and}
 use Rattle.assise_history.specs.Entries.{fails}
 use Rattle.assise_manager.specs.Whole.{membership}
-use Rattle.assise_machine_events.specs.Events.{refused}
+use Rattle.assise_model_events.specs.Events.{refused}
 use Rattle.assise_machine_state.specs.Whole.{value_of}
 use Rattle.assise_machine_failures.specs.Answers.{failing_answer, loss_of}
 use Rattle.assise_machine_failures.proofs.FailedAgain.{IsDownAgain, back_fine, happens_again, holds_again, noted_again, shaped_again}
@@ -23,16 +23,16 @@ fail-requires g c =
     let s = value_of c.args.sound.now.state in
     let so_many : length c.entries-entries.result.now ≡ length s.history = ap length (c.entries-entries.ensures ∙ c.reserve.ensures.same) in
     let few : length s.history < 9223372036854775808 = omega (arith, so_many, c.entries-entries.type_inv.1) in
-    record { epoch_fits = epoch_fits s c.args.sound.now.holds few }
+    record { epoch_fits = epoch_fits s c.args.sound.now.invariant.holds few }
 
 -- the node is down again
 down_again : (g : given.Over) (c : goal.After-push g) →
     IsDownAgain (value_of c.args.sound.now.state) c.args.node (membership c.fail.new.self) c.push.new.self.events
 down_again g c = record {
   was = record {
-    holds = c.args.sound.now.holds;
-    shape = c.args.sound.now.shape;
-    noted = c.args.sound.now.noted;
+    holds = c.args.sound.now.invariant.holds;
+    shape = c.args.sound.now.invariant.shape;
+    noted = c.args.sound.now.invariant.noted;
     returning = c.requires.returning;
   };
   members = c.in_ok-fail.ensures.ok;
@@ -42,7 +42,7 @@ down_again g c = record {
 pub invariant_of-sound-2 : goal.invariant_of-sound-2
 invariant_of-sound-2 g c =
     let down = down_again g c in
-    record { holds = holds_again down; shape = shaped_again down; noted = noted_again down }
+    record { invariant = record { holds = holds_again down; shape = shaped_again down; noted = noted_again down } }
 
 pub returns-clause-happens : goal.returns-clause-happens
 returns-clause-happens g c = happens_again (down_again g c.before.before) (map loss_of c.new-2.result.items) (ap (map loss_of) c.new-2.ensures.items)

@@ -1,32 +1,32 @@
 use Rattle.std.proofs.Common.{length, ap, refl, ◌∙◌, arith}
 use Rattle.std.proofs.lemmas.Result.{err_from_is_err_and}
 use Rattle.assise_lease_tree.specs.Trees.{levels_of}
-use Rattle.assise_machine_events.specs.Events.{refused}
+use Rattle.assise_model_events.specs.Events.{refused}
 use Rattle.assise_machine_state.specs.Whole.{value_of}
 use Rattle.assise_machine_failures.specs.Answers.{failing_answer}
 use Rattle.assise_machine_failures.proofs.Failed.{IsRefreshed}
-use Rattle.assise_machine_failures.proofs.FailedFull.{AreCopiesDropped, AreFrontsDropped, IsTakenDown, given_now, happens_now, refreshed_now}
+use Rattle.assise_machine_failures.proofs.FailedFull.{AreCopiesDropped, ArePrefixesDropped, IsTakenDown, given_now, happens_now, refreshed_now}
 use Rattle.assise_machine_failures.proofs.FailedFull.{lacks_so, last_fault, no_fault, refused_so, returning_now, shaped_now}
 use Rattle.assise_machine_failures.proofs.TakenDown.{few_clients, sound_so}
 use Rattle.assise_machine_failures.proofs.fail.fail_full.Given as given
 use Rattle.assise_machine_failures.proofs.fail.fail_full.Goals as goal
 
 -- the node is taken down
-taken_down : (g : given.Over) (c : goal.After-len g) →
+taken_down : (g : given.Over) (c : goal.After-deref g) →
     IsTakenDown (value_of c.args.sound.now.state) c.args.node c.in_ok-failure.failure (value_of c.take_down.new.state) c.deref.result.now
 taken_down g c =
     let m = (value_of c.args.sound.now.state).members in
     record {
       may = record {
-        holds = c.args.sound.now.holds;
-        shape = c.args.sound.now.shape;
-        noted = c.args.sound.now.noted;
+        holds = c.args.sound.now.invariant.holds;
+        shape = c.args.sound.now.invariant.shape;
+        noted = c.args.sound.now.invariant.noted;
         stands = c.requires.full;
         fine = no_fault m c.args.node c.full_nodes.result.now c.requires.full c.full_nodes.ensures c.if-full_nodes-eq1.false;
       };
       listed = c.in_ok-failure.ensures.listed;
       levels = levels_of c.take_down.new.state.leases;
-      frozen = c.in_ok-losses.ensures.frozen;
+      revoked = c.in_ok-losses.ensures.revoked;
       down = c.in_ok-losses.ensures.down;
       filled = c.deref.ensures.value ∙ ap (λ p. p.1.items) c.in_ok-losses.ensures.answer;
     }
@@ -38,18 +38,16 @@ copies_dropped g c = record {
   taken = value_of c.take_down.new.state;
   nodes = c.deref.result.now;
   is_down = taken_down g c.before.before.before;
-  count = c.len.result;
-  all = (let many = ap length c.deref.ensures.value in omega (arith, c.len.ensures, many));
   lose = c.drop_filled.ensures.copies;
 }
 
 refreshed : (g : given.Over) (c : goal.After-len-last g) → IsRefreshed (value_of c.args.sound.now.state) c.args.node (value_of c.drop_filled.new.state)
 refreshed g c = refreshed_now (copies_dropped g c)
 
--- the fronts are dropped
-fronts_dropped : (g : given.Over) (c : goal.After-drop_digested g) →
-    AreFrontsDropped (value_of c.args.sound.now.state) c.args.node c.in_ok-failure.failure (value_of c.drop_digested.new.state)
-fronts_dropped g c = record {
+-- the prefixes are dropped
+prefixes_dropped : (g : given.Over) (c : goal.After-drop_digested g) →
+    ArePrefixesDropped (value_of c.args.sound.now.state) c.args.node c.in_ok-failure.failure (value_of c.drop_digested.new.state)
+prefixes_dropped g c = record {
   refreshed = value_of c.drop_filled.new.state;
   copies = copies_dropped g c.before;
   last = c.len-last.result;
@@ -63,10 +61,13 @@ returns-then-full_nodes-eq1-clause-happens g c =
     refused_so s c.args.node _ (last_fault s.members c.args.node c.full_nodes.result.now c.requires.full c.full_nodes.ensures c.if-full_nodes-eq1.true)
 
 pub list-requires-clause-few : goal.list-requires-clause-few
-list-requires-clause-few g c = few_clients (value_of c.args.sound.now.state) c.args.sound.now.holds
+list-requires-clause-few g c = few_clients (value_of c.args.sound.now.state) c.args.sound.now.invariant.holds
 
-pub list-requires-clause-sound : goal.list-requires-clause-sound
-list-requires-clause-sound g c = sound_so (value_of c.args.sound.now.state) c.args.sound.now.holds
+pub list-requires-clause-parts : goal.list-requires-clause-parts
+list-requires-clause-parts g c = record {
+  world = sound_so (value_of c.args.sound.now.state) c.args.sound.now.invariant.holds;
+  shape = c.args.sound.now.invariant.shape;
+}
 
 pub returns-in_err-failure-clause-happens : goal.returns-in_err-failure-clause-happens
 returns-in_err-failure-clause-happens g c =
@@ -93,15 +94,15 @@ drop_filled-requires-clause-shape g c = shaped_now (taken_down g c)
 pub overflow_cast-last : goal.overflow_cast-last
 overflow_cast-last g c = (let few = (refreshed g c).few in omega (arith, few, c.len-last.ensures))
 
-pub drop_digested-requires-clause-sound : goal.drop_digested-requires-clause-sound
-drop_digested-requires-clause-sound g c = (refreshed g c).sound
-
-pub drop_digested-requires-clause-shape : goal.drop_digested-requires-clause-shape
-drop_digested-requires-clause-shape g c = (refreshed g c).shape
+pub drop_digested-requires-clause-parts : goal.drop_digested-requires-clause-parts
+drop_digested-requires-clause-parts g c = record {
+  world = (refreshed g c).sound;
+  shape = (refreshed g c).shape;
+}
 
 pub invariant_of-sound-2 : goal.invariant_of-sound-2
-invariant_of-sound-2 g c = let done = given_now (fronts_dropped g c) in record { holds = done.holds; shape = done.shape; noted = done.noted }
+invariant_of-sound-2 g c = let done = given_now (prefixes_dropped g c) in record { invariant = record { holds = done.holds; shape = done.shape; noted = done.noted } }
 
 pub returns-clause-happens : goal.returns-clause-happens
 returns-clause-happens g c =
-    happens_now c.in_ok-losses.losses.items (fronts_dropped g c.before.before) (ap (λ p. p.0.items) c.in_ok-losses.ensures.answer)
+    happens_now c.in_ok-losses.losses.items (prefixes_dropped g c.before.before) (ap (λ p. p.0.items) c.in_ok-losses.ensures.answer)

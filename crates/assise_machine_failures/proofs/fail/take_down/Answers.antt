@@ -10,7 +10,7 @@ use Rattle.assise_machine_state.specs.Places.{IsNumber}
 use Rattle.assise_machine_state.specs.Whole.{value_of}
 use Rattle.assise_machine_state.proofs.CutSeen.{home_number}
 use Rattle.assise_machine_failures.specs.Listing.{kept_in}
-use Rattle.assise_machine_failures.proofs.Keeping.{kept_count}
+use Rattle.assise_machine_failures.proofs.KeptPlaces.{kept_count}
 use Rattle.assise_machine_failures.proofs.TakenDown.{few_clients, is_after, number, sound_so, undigested}
 use Rattle.assise_machine_failures.proofs.TakenIn.{epoch_fits}
 use Rattle.assise_machine_failures.proofs.fail.take_down.Goals as goal
@@ -43,7 +43,7 @@ cut_to-requires-clause-undigested g c k d home has =
 pub returns-clause-down : goal.returns-clause-down
 returns-clause-down g c =
     let s = value_of c.args.state.now in
-    is_after s c.args.node (set.from_list c.args.failure.inodes.items) (levels_of c.freeze_below.new.self) c.args.failure.asked.items c.deref-2.result.now c.len-last.result c.cut_to.new.nodes (membership c.fail.new.self) c.cut_to.new.clients
+    is_after s c.args.node (set.from_list c.args.failure.inodes.items) (levels_of c.revoke_below.new.self) c.args.failure.asked.items c.deref-2.result.now c.len-last.result c.cut_to.new.nodes (membership c.fail.new.self) c.cut_to.new.clients
     c.note_all.new.cuts.items c.push.new.self.events (c.deref-2.ensures.value ∙ c.requires.listed.kept) c.len-last.ensures
     (c.cut_to.ensures.nodes ∙ ap (with_clients_cut c.args.node s.clients (kept_in c.deref-2.result.now) c.len-last.result) c.remove_logs.ensures)
     (c.in_ok-fail.ensures.ok ∙ ap (λ is. failed s.members c.args.node (set.from_list is)) c.deref.ensures.value) c.cut_to.ensures.clients

@@ -3,16 +3,16 @@ use Rattle.std.proofs.Math.Logic.{∥∥₁_map}
 use Rattle.std.proofs.lemmas.Result.{err_from_is_err_and}
 use Rattle.assise_manager.specs.Changes.{filling_fault}
 use Rattle.assise_manager.specs.Whole.{membership}
-use Rattle.assise_machine_events.specs.Events.{join as join_event, joined, refused}
-use Rattle.assise_machine_events.specs.Machine.{Holds}
-use Rattle.assise_machine_events.proofs.EachEvent.{event_keeps}
+use Rattle.assise_model_events.specs.Events.{join as join_event, joined, refused}
+use Rattle.assise_model_events.specs.Machine.{MachineInvariant}
+use Rattle.assise_model_events.proofs.EachEvent.{event_keeps}
 use Rattle.assise_machine_state.specs.Observed.{observed}
-use Rattle.assise_machine_state.specs.Shape.{AreNoted, IsShaped}
+use Rattle.assise_machine_state.specs.Invariant.{CutsInvariant, ShapeInvariant}
 use Rattle.assise_machine_state.specs.StateValues.{StateValue}
 use Rattle.assise_machine_state.specs.Whole.{value_of}
 use Rattle.assise_machine_failures.specs.Answers.{joining_answer}
-use Rattle.assise_machine_failures.proofs.Filling.{donor_number, filled_logless, filled_number, filling}
-use Rattle.assise_machine_failures.proofs.Refusing.{fault_or, never}
+use Rattle.assise_machine_failures.proofs.RefillHappens.{donor_number, filled_logless, filled_number, filling}
+use Rattle.assise_machine_failures.proofs.RefusedFailures.{fault_or, never}
 use Rattle.assise_machine_failures.proofs.TakenIn.{IsTakenIn, epoch_fits, got_number, join_busy, join_fine, join_happens}
 use Rattle.assise_machine_failures.proofs.TakenIn.{join_lacks, join_left, join_noted, join_refused, logs_back, same_all}
 use Rattle.assise_machine_failures.proofs.join.join.Given as given
@@ -61,7 +61,7 @@ join-requires g c =
     let s = value_of c.args.sound.now.state in
     let so_many : length c.entries-entries.result.now ≡ length s.history = ap length (c.entries-entries.ensures ∙ c.reserve.ensures.same) in
     let few : length s.history < 9223372036854775808 = omega (arith, so_many, c.entries-entries.type_inv.1) in
-    record { epoch_fits = epoch_fits s c.args.sound.now.holds few }
+    record { epoch_fits = epoch_fits s c.args.sound.now.invariant.holds few }
 
 pub remove_logs-requires : goal.remove_logs-requires
 remove_logs-requires g c =
@@ -79,9 +79,11 @@ invariant_of-sound-in-Err g c =
     let s = value_of c.args.sound.now.state in
     let same = same_all s (back_again g c) c.in-Err.ensures.err c.reserve.ensures.same in
     record {
-      holds = subst (λ u. ∥ Holds (observed u) ∥₁) (sym same) c.args.sound.now.holds;
-      shape = subst IsShaped (sym same) c.args.sound.now.shape;
-      noted = subst AreNoted (sym same) c.args.sound.now.noted;
+      invariant = record {
+        holds = subst (λ u. ∥ MachineInvariant (observed u) ∥₁) (sym same) c.args.sound.now.invariant.holds;
+        shape = subst ShapeInvariant (sym same) c.args.sound.now.invariant.shape;
+        noted = subst CutsInvariant (sym same) c.args.sound.now.invariant.noted;
+      };
     }
 
 pub returns-in-Err-clause-happens : goal.returns-in-Err-clause-happens
@@ -95,7 +97,7 @@ returns-in-Err-clause-happens g c =
 taken_in : (g : given.Over) (c : goal.After-push g) →
     IsTakenIn (value_of c.args.sound.now.state) c.args.node c.in_ok-donor.donor c.copy_logs.new.self (membership c.join.new.self) c.push.new.self.events
 taken_in g c = record {
-  holds = c.args.sound.now.holds;
+  holds = c.args.sound.now.invariant.holds;
   fills = filling c.args.sound.now c.args.node c.in_ok-donor.donor c.in_ok-donor.ensures.donor;
   fine = join_fine (value_of c.args.sound.now.state) c.args.node _ c.in_ok-lowest_stale.ensures.lowest (sym c.is_some.ensures ∙ c.if-is_some.false);
   nodes = c.in_ok-copy_logs.ensures.ok;
@@ -109,9 +111,11 @@ invariant_of-sound-2 g c =
     let u : StateValue = record s { nodes = c.copy_logs.new.self; members = membership c.join.new.self; history = c.push.new.self.events } in
     let taken = taken_in g c in
     record {
-      holds = ∥∥₁_map c.args.sound.now.holds (λ h. event_keeps (observed s) (observed u) (join_event c.args.node) joined h (join_happens taken));
-      shape = join_left taken;
-      noted = join_noted taken c.args.sound.now.noted;
+      invariant = record {
+        holds = ∥∥₁_map c.args.sound.now.invariant.holds (λ h. event_keeps (observed s) (observed u) (join_event c.args.node) joined h (join_happens taken));
+        shape = join_left taken;
+        noted = join_noted taken c.args.sound.now.invariant.noted;
+      };
     }
 
 pub returns-clause-happens : goal.returns-clause-happens

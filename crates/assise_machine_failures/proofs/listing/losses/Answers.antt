@@ -1,8 +1,8 @@
 use Rattle.std.proofs.Common.{◌≡◌, ◌+◌, option_copied, ap, sym, ◌∙◌, arith}
 use Rattle.assise_private_log.specs.NumberedLog.{record_at}
 use Rattle.assise_digest.specs.Region.{log_of}
-use Rattle.assise_machine_laws.specs.NodeSteps.{kept_at_failure}
-use Rattle.assise_machine_history.specs.Lost.{losses_to}
+use Rattle.assise_model_world.specs.NodeSteps.{kept_at_failure}
+use Rattle.assise_model_history.specs.Lost.{losses_to}
 use Rattle.assise_machine_state.specs.Observed.{world_of}
 use Rattle.assise_machine_state.specs.Whole.{value_of}
 use Rattle.assise_machine_failures.proofs.Cuts.{all_places, lost_here, none_lost, one_lost, place_client, place_kept, place_within, whole_here}
@@ -31,10 +31,10 @@ loop-place-preserved g c =
     let some = c.args.state.now.members.lawful.some_full in
     elim c.match-get.branch [
       | in-Some+in_ok-push b ↦
-          let lost = lost_here s n (k + 1) c.requires.shape client some c.log-log.result.now b.in-Some.lost.now log (sym get ∙ ap option_copied b.in-Some.is) in
+          let lost = lost_here s n (k + 1) c.requires.parts.shape client some c.log-log.result.now b.in-Some.lost.now log (sym get ∙ ap option_copied b.in-Some.is) in
           one_lost w n k b.call.result c.loop-place.losses.items c.match-get.losses.items c.loop-place.invariant (ap (λ v. v.items) b.losses-is ∙ b.in_ok-push.ensures.items) lost.0 (lost.1 ∙ sym b.call.ensures)
       | in_default b ↦
-          let whole = whole_here s n (k + 1) c.requires.shape client some c.log-log.result.now c.requires.sound log (sym get ∙ ap option_copied b.in_default.is) in
+          let whole = whole_here s n (k + 1) c.requires.parts.shape client some c.log-log.result.now c.requires.parts.world log (sym get ∙ ap option_copied b.in_default.is) in
           none_lost w n k c.loop-place.losses.items c.match-get.losses.items c.loop-place.invariant (ap (λ v. v.items) b.losses-is) whole
     ]
 

@@ -24,7 +24,7 @@ overflow_sub-end g c =
     let k = c.loop-place.place in
     let client = place_client s c.args.node c.args.kept.now c.requires.kept k c.loop-place-test.true in
     let log = c.log-log.ensures.log ∙ ap (λ r. (log_of r (k + 1)).log) c.own_region.ensures.region in
-    let low = first_kept s c.args.node (k + 1) c.requires.shape client c.args.state.now.members.lawful.some_full c.requires.sound in
+    let low = first_kept s c.args.node (k + 1) c.requires.parts.shape client c.args.state.now.members.lawful.some_full c.requires.parts.world in
     omega (arith, low, c.first-first.ensures, ap (λ l. l.first) log, place_kept s c.args.node c.args.kept.now c.requires.kept k c.loop-place-test.true)
 
 pub loop-place-preserved : goal.loop-place-preserved
@@ -37,7 +37,7 @@ loop-place-preserved g c =
     let own = c.log-log.result.now in
     let kept = place_kept s n c.args.kept.now c.requires.kept k c.loop-place-test.true in
     let first = c.first-first.ensures in
-    let added = (λ i. touched (all_effects (take (kept i - first i) (records_from own (first i))))) ∙ touched_here s n (k + 1) c.requires.shape client c.args.state.now.members.lawful.some_full own log in
+    let added = (λ i. touched (all_effects (take (kept i - first i) (records_from own (first i))))) ∙ touched_here s n (k + 1) c.requires.parts.shape client c.args.state.now.members.lawful.some_full own log in
     one_touched (world_of s) n k c.loop-place.inodes.items c.push_touched_from.new.inodes.items c.loop-place.invariant (c.in_ok-push_touched_from.ensures.added ∙ ap (λ is. c.loop-place.inodes.items ++ is) added)
 
 pub returns-clause-inodes : goal.returns-clause-inodes

@@ -4,18 +4,18 @@ use Rattle.std.proofs.lemmas.Result.{err_from_is_err_and}
 use Rattle.assise_manager.specs.Changes.{IsLowestOf, filling_fault, stale_of}
 use Rattle.assise_manager.specs.Standings.{standing_of}
 use Rattle.assise_manager.specs.Whole.{membership}
-use Rattle.assise_machine_events.specs.Events.{refill as refill_event, refused}
-use Rattle.assise_machine_events.specs.MemberEvents.{Refilling}
-use Rattle.assise_machine_events.proofs.EachEvent.{event_keeps}
+use Rattle.assise_model_events.specs.Events.{refill as refill_event, refused}
+use Rattle.assise_model_events.specs.MemberEvents.{Refilling}
+use Rattle.assise_model_events.proofs.EachEvent.{event_keeps}
 use Rattle.assise_machine_state.specs.NodeValues.{region_in}
 use Rattle.assise_machine_state.specs.Observed.{observed}
 use Rattle.assise_machine_state.specs.StateValues.{StateValue, standings}
 use Rattle.assise_machine_state.specs.Whole.{value_of}
 use Rattle.assise_machine_failures.specs.Answers.{refilling_answer}
-use Rattle.assise_machine_failures.proofs.Dropping.{logless_quiet}
-use Rattle.assise_machine_failures.proofs.Filling.{IsCopied, donor_number, filled_fine, filled_logless, filled_number, filling, lacks_memory_so}
-use Rattle.assise_machine_failures.proofs.Filling.{refill_answers, refill_noted, refill_refused, refill_shaped, whole_so}
-use Rattle.assise_machine_failures.proofs.Refusing.{fault_or, never}
+use Rattle.assise_machine_failures.proofs.DroppedCopies.{logless_quiet}
+use Rattle.assise_machine_failures.proofs.RefillHappens.{IsCopied, donor_number, filled_fine, filled_logless, filled_number, filling, lacks_memory_so}
+use Rattle.assise_machine_failures.proofs.RefillHappens.{refill_answers, refill_noted, refill_refused, refill_shaped, whole_so}
+use Rattle.assise_machine_failures.proofs.RefusedFailures.{fault_or, never}
 use Rattle.assise_machine_failures.proofs.refill.refill.Given as given
 use Rattle.assise_machine_failures.proofs.refill.refill.Goals as goal
 
@@ -91,9 +91,11 @@ invariant_of-sound-2 g c =
     let u : StateValue = record s { nodes = c.refill_one.new.self; members = membership c.note_copied.new.self } in
     let a = refilling_answer c.note_copied.result in
     record {
-      holds = ∥∥₁_map c.args.sound.now.holds (λ h. event_keeps (observed s) (observed u) (refill_event c.args.node) a h (happens_now g c));
-      shape = refill_shaped (copied_now g c);
-      noted = refill_noted (copied_now g c) c.args.sound.now.noted;
+      invariant = record {
+        holds = ∥∥₁_map c.args.sound.now.invariant.holds (λ h. event_keeps (observed s) (observed u) (refill_event c.args.node) a h (happens_now g c));
+        shape = refill_shaped (copied_now g c);
+        noted = refill_noted (copied_now g c) c.args.sound.now.invariant.noted;
+      };
     }
 
 pub returns-clause-happens : goal.returns-clause-happens

@@ -5,7 +5,7 @@ use Rattle.assise_manager.specs.Standings.{full_nodes}
 use Rattle.assise_manager.specs.Whole.{membership}
 use Rattle.assise_machine_state.specs.NodeValues.{with_logs_begun}
 use Rattle.assise_machine_state.specs.Observed.{is_full_in}
-use Rattle.assise_machine_state.proofs.Asking.{begins, begins_none}
+use Rattle.assise_machine_state.proofs.NodesAway.{begins, begins_none}
 use Rattle.assise_machine_state.proofs.nodes.+begin_all.Goals as goal
 
 pub returns-then-not-contains-clause-ok : goal.returns-then-not-contains-clause-ok

@@ -1,7 +1,7 @@
 use Rattle.std.proofs.Common.{◌≡◌, ◌<◌, ◌-◌, ◌+◌, ◌∙◌, get_or, length, map, ap, subst, sym, arith}
 use Rattle.assise_digest.specs.Region.{IsBegun, log_of, no_log}
 use Rattle.assise_machine_state.specs.NodeValues.{AreTaken, copied}
-use Rattle.assise_machine_state.proofs.Taking.{one_copied, one_sound}
+use Rattle.assise_machine_state.proofs.RecordsTaken.{one_copied, one_sound}
 use Rattle.assise_machine_state.proofs.nodes.copies_of.Goals as goal
 
 pub loop-place-preserved : goal.loop-place-preserved

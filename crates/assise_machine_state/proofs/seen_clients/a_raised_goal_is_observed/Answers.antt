@@ -1,7 +1,7 @@
 use Rattle.std.proofs.Common.{refl}
 use Rattle.assise_machine_state.specs.Changes.{after_goal}
 use Rattle.assise_machine_state.proofs.Noted.{goal_noted}
-use Rattle.assise_machine_state.proofs.Raising.{goal_raised, goal_shaped}
+use Rattle.assise_machine_state.proofs.GoalObserved.{goal_raised, goal_shaped}
 use Rattle.assise_machine_state.proofs.ShapedClients.{areas_stay}
 use Rattle.assise_machine_state.proofs.seen_clients.a_raised_goal_is_observed.Goals as goal
 

@@ -1,4 +1,4 @@
-use Rattle.assise_machine_state.proofs.Reading.{alone_same, read_at_home}
+use Rattle.assise_machine_state.proofs.ReadObserved.{alone_same, read_at_home}
 use Rattle.assise_machine_state.proofs.seen_nodes.what_is_read_is_observed.Goals as goal
 
 pub returns-clause-client : goal.returns-clause-client

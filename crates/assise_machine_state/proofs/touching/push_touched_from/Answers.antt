@@ -2,7 +2,7 @@ use Rattle.std.proofs.Common.{◌≡◌, ◌++◌, List, take, ap, sym, ◌∙�
 use Rattle.assise_record.specs.LogRecord.{LogRecord}
 use Rattle.assise_record.specs.Records.{all_effects}
 use Rattle.assise_inode_table.specs.Effects.{touched}
-use Rattle.assise_inode_table.proofs.Making.{touched-append}
+use Rattle.assise_inode_table.proofs.EffectValues.{touched-append}
 use Rattle.assise_machine_state.proofs.TouchedFrom.{taken_first}
 use Rattle.assise_machine_state.proofs.touching.push_touched_from.Goals as goal
 

@@ -1,5 +1,5 @@
 use Rattle.std.proofs.Common.{◌≡◌, false, refl, true}
-use Rattle.assise_machine_tests.proofs.Acking.{first_all, first_more, first_none}
+use Rattle.assise_machine_tests.proofs.AckedLists.{first_all, first_more, first_none}
 use Rattle.assise_machine_tests.proofs.reading.acked_places.Goals as goal
 
 pub loop-client-init : goal.loop-client-init

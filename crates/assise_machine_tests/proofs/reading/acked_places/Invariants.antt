@@ -1,5 +1,5 @@
 use Rattle.assise_machine.specs.Clusters.{machine}
-use Rattle.assise_machine_tests.proofs.Acking.{AreFirst}
+use Rattle.assise_machine_tests.proofs.AckedLists.{AreFirst}
 use Rattle.assise_machine_tests.proofs.reading.acked_places.Given as goal
 
 -- those of the clients before

@@ -1,14 +1,14 @@
 use Rattle.std.proofs.Common.{◌≡◌, ◌==◌, ◌+◌, ◌≤◌, length}
 use Rattle.std.specs.List.{slice_split}
 use Rattle.std.specs.Str.{IsUtf8}
-use Rattle.assise_names.specs.Path.{count_of, names_of}
+use Rattle.assise_names.specs.Path.{name_count, pieces_as_names}
 use Rattle.assise_names.proofs.PathLemmas.{count_on}
 use Rattle.assise_names.proofs.path.count_names.Given as goal
 
 abbrev pub invariant-loop-piece : goal.invariant-loop-piece
 invariant-loop-piece l = record {
   text : IsUtf8 l.rest;
-  same : count_on l.count (names_of (slice_split (λ b. b == 47) l.rest)) ≡ count_of (names_of (slice_split (λ b. b == 47) l.fn.text));
+  same : count_on l.count (pieces_as_names (slice_split (λ b. b == 47) l.rest)) ≡ name_count (pieces_as_names (slice_split (λ b. b == 47) l.fn.text));
   few : l.count + length l.rest ≤ length l.fn.text;
 }
 

@@ -2,14 +2,14 @@ use Rattle.std.proofs.Common.{◌≡◌, ◌==◌, length, All, IsTrue}
 use Rattle.std.specs.List.{slice_split}
 use Rattle.std.specs.Str.{IsUtf8}
 use Rattle.assise_names.specs.Name.{is_name}
-use Rattle.assise_names.specs.Path.{names_of}
-use Rattle.assise_names.proofs.PathLemmas.{with_front}
+use Rattle.assise_names.specs.Path.{pieces_as_names}
+use Rattle.assise_names.proofs.PathLemmas.{with_prefix}
 use Rattle.assise_names.proofs.path.names_of.Given as goal
 
 abbrev pub invariant-loop-piece : goal.invariant-loop-piece
 invariant-loop-piece l = record {
   text : IsUtf8 l.rest;
-  same : with_front l.names.items (names_of (slice_split (λ b. b == 47) l.rest)) ≡ names_of (slice_split (λ b. b == 47) l.fn.text);
+  same : with_prefix l.names.items (pieces_as_names (slice_split (λ b. b == 47) l.rest)) ≡ pieces_as_names (slice_split (λ b. b == 47) l.fn.text);
   lawful : All (λ name. IsTrue (is_name name)) l.names.items;
 }
 

@@ -1,9 +1,9 @@
 use Rattle.std.proofs.Common.{true, refl}
-use Rattle.assise_private_log.proofs.Borders.{border_front, border_grouped, border_tail}
+use Rattle.assise_private_log.proofs.Borders.{border_prefix, border_grouped, border_tail}
 use Rattle.assise_private_log.proofs.laws.borders_stay.Goals as goal
 
-pub returns-clause-front : goal.returns-clause-front
-returns-clause-front c = border_front
+pub returns-clause-prefix : goal.returns-clause-prefix
+returns-clause-prefix c = border_prefix
 
 pub returns-clause-tail : goal.returns-clause-tail
 returns-clause-tail c = border_tail

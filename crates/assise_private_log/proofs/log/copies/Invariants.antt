@@ -1,6 +1,6 @@
 use Rattle.std.proofs.Common.{◌≡◌, ◌++◌}
 use Rattle.assise_private_log.proofs.log.copies.Given as goal
 
--- what was copied is the front of the ring
+-- what was copied is the prefix of the ring
 abbrev pub invariant-loop-record : goal.invariant-loop-record
 invariant-loop-record l = (l.copied.items ++ l.record-iterator ≡ l.records.items) × (l.copied.capacity ≡ l.records.capacity)

@@ -1,6 +1,6 @@
 use Rattle.std.proofs.Common.{◌≡◌, ◌+◌, ◌∙◌, List, Option, Bool, ℕ, suc, subst, sym, take, arith}
 use Rattle.std.specs.List.{AllByRecursion}
-use Rattle.assise_record.specs.Room.{Appends, HasRoom}
+use Rattle.assise_record.specs.Room.{Appends, BytesFit}
 use Rattle.assise_record.specs.Spelling.{IsLogRecord, body_of, record_spelling}
 use Rattle.assise_record.proofs.RoomLaws.{Appends-then, body_all, body_then, lawful_then, mark_is, record_fits}
 use Rattle.assise_record.proofs.encode.put_records.Goals as goal
@@ -12,7 +12,7 @@ put_record-requires c =
     let left = record_fits c.args.records.now c.args.last.now place item c.loop-place-test.true c.index-records-place.is in
     let written = c.loop-place.invariant.appended in
     let mark = c.copied.ensures ∙ mark_is c.args.last.now place c.get.result c.get.ensures.lookup.0 c.get.ensures.lookup.1 in
-    subst (λ (m : Option Bool). HasRoom c.loop-place.out (record_spelling m item)) (sym mark) (omega (arith, left, written.len, written.capacity, c.requires))
+    subst (λ (m : Option Bool). BytesFit c.loop-place.out (record_spelling m item)) (sym mark) (omega (arith, left, written.len, written.capacity, c.requires))
 
 pub loop-place-preserved : goal.loop-place-preserved
 loop-place-preserved c =

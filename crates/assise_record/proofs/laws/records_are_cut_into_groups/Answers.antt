@@ -1,4 +1,4 @@
-use Rattle.assise_record.proofs.Marking.{groups-all, groups-are, marked}
+use Rattle.assise_record.proofs.GroupMarks.{groups-all, groups-are, marked}
 use Rattle.assise_record.proofs.WholeGroups.{calls_same}
 use Rattle.assise_record.proofs.laws.records_are_cut_into_groups.Goals as goal
 

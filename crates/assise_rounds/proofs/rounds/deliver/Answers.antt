@@ -1,6 +1,6 @@
 use Rattle.std.proofs.Common.{◌≡◌, true}
 use Rattle.assise_machine.specs.Clusters.{machine}
-use Rattle.assise_rounds.proofs.Carrying.{is_delivered, is_lost}
+use Rattle.assise_rounds.proofs.CarriedFrames.{is_delivered, is_lost}
 use Rattle.assise_rounds.proofs.rounds.deliver.Goals as goal
 
 pub returns-in-Some-clause-delivers : goal.returns-in-Some-clause-delivers

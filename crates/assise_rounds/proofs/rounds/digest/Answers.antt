@@ -1,6 +1,6 @@
-use Rattle.assise_machine_events.specs.Events.{digested, refused}
+use Rattle.assise_model_events.specs.Events.{digested, refused}
 use Rattle.assise_machine.specs.Clusters.{machine}
-use Rattle.assise_rounds.proofs.Rounding.{digests_once}
+use Rattle.assise_rounds.proofs.RoundSteps.{digests_once}
 use Rattle.assise_rounds.proofs.rounds.digest.Goals as goal
 
 pub returns-in-Ok : goal.returns-in-Ok

@@ -1,9 +1,9 @@
 use Rattle.std.proofs.Common.{◌≡◌, ◌-◌, [], refl, sym, subst, ◌∙◌, arith}
 use Rattle.assise_names.specs.declared.limits.TheConstants.{MOST_NODES}
 use Rattle.assise_machine.specs.Clusters.{machine}
-use Rattle.assise_rounds.specs.Courses.{Told}
+use Rattle.assise_rounds.specs.Traces.{Told}
 use Rattle.assise_rounds.specs.Rounds.{EachFull, DigestsOnce, WithWork}
-use Rattle.assise_rounds.proofs.Rounding.{faulty_next, full_next}
+use Rattle.assise_rounds.proofs.RoundSteps.{faulty_next, full_next}
 use Rattle.assise_rounds.proofs.rounds.digest_all.Goals as goal
 use Rattle.assise_rounds.proofs.rounds.digest_all.Goals.{else-is_full, then-is_full}
 

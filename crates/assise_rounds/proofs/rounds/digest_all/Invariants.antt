@@ -1,6 +1,6 @@
 use Rattle.std.proofs.Common.{◌-◌}
 use Rattle.assise_machine.specs.Clusters.{machine}
-use Rattle.assise_rounds.specs.Courses.{Told}
+use Rattle.assise_rounds.specs.Traces.{Told}
 use Rattle.assise_rounds.specs.Rounds.{EachFull, DigestsOnce, WithWork}
 use Rattle.assise_rounds.proofs.rounds.digest_all.Given as goal
 

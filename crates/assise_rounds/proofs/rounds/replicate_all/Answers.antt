@@ -1,12 +1,12 @@
 use Rattle.std.proofs.Common.{map, ◌≡◌, ◌-◌, [], refl, sym, subst, ◌∙◌, arith}
 use Rattle.assise_names.specs.declared.limits.TheConstants.{MOST_NODES}
 use Rattle.assise_machine.specs.Clusters.{machine}
-use Rattle.assise_rounds.specs.Courses.{Told}
+use Rattle.assise_rounds.specs.Traces.{Told}
 use Rattle.assise_rounds.specs.NodeLinks.{FaithfulAt}
 use Rattle.assise_rounds.specs.Rounds.{EachFull, TakesTurn, WithWork}
 use Rattle.assise_rounds.proofs.Faithful.{turn_over}
 use Rattle.assise_rounds.proofs.NodeLinks.{at_node, set_same, still}
-use Rattle.assise_rounds.proofs.Rounding.{faulty_next, full_next}
+use Rattle.assise_rounds.proofs.RoundSteps.{faulty_next, full_next}
 use Rattle.assise_rounds.proofs.rounds.replicate_all.Goals as goal
 use Rattle.assise_rounds.proofs.rounds.replicate_all.Goals.{else-is_full, then-is_full}
 

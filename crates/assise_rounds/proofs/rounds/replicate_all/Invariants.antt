@@ -1,6 +1,6 @@
 use Rattle.std.proofs.Common.{◌≡◌, map, ◌-◌}
 use Rattle.assise_machine.specs.Clusters.{machine}
-use Rattle.assise_rounds.specs.Courses.{Told}
+use Rattle.assise_rounds.specs.Traces.{Told}
 use Rattle.assise_rounds.specs.NodeLinks.{FaithfulAt}
 use Rattle.assise_rounds.specs.Rounds.{EachFull, TakesTurn, WithWork}
 use Rattle.assise_rounds.proofs.rounds.replicate_all.Given as goal

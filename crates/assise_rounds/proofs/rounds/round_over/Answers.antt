@@ -1,8 +1,8 @@
 use Rattle.std.proofs.Common.{map}
-use Rattle.assise_machine_events.specs.Events.{released}
+use Rattle.assise_model_events.specs.Events.{released}
 use Rattle.assise_machine.specs.Clusters.{machine}
 use Rattle.assise_rounds.specs.NodeLinks.{FaithfulAt}
-use Rattle.assise_rounds.proofs.Rounding.{releases_once, whole_round}
+use Rattle.assise_rounds.proofs.RoundSteps.{releases_once, whole_round}
 use Rattle.assise_rounds.proofs.rounds.round_over.Goals as goal
 
 pub returns-clause-rounds : goal.returns-clause-rounds

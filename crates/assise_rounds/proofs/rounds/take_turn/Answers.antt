@@ -1,6 +1,6 @@
 use Rattle.std.proofs.Common.{◌≡◌, true}
 use Rattle.assise_machine.specs.Clusters.{machine}
-use Rattle.assise_rounds.proofs.Rounding.{turn_refused, turn_taken}
+use Rattle.assise_rounds.proofs.RoundSteps.{turn_refused, turn_taken}
 use Rattle.assise_rounds.proofs.rounds.take_turn.Goals as goal
 
 pub returns-in-Ok-clause-turn : goal.returns-in-Ok-clause-turn

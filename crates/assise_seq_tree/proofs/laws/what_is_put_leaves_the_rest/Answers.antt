@@ -1,6 +1,6 @@
-use Rattle.assise_seq_tree.proofs.Moves.{at-put_apart}
-use Rattle.assise_seq_tree.proofs.Paths.{turned_apart}
+use Rattle.assise_seq_tree.proofs.Moves.{at-put_disjoint}
+use Rattle.assise_seq_tree.proofs.Paths.{turned_disjoint}
 use Rattle.assise_seq_tree.proofs.laws.what_is_put_leaves_the_rest.Goals as goal
 
 pub returns : goal.returns
-returns c = λ t x p q h. at-put_apart q p t x (turned_apart p q h)
+returns c = λ t x p q h. at-put_disjoint q p t x (turned_disjoint p q h)

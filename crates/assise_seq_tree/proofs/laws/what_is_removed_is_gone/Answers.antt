@@ -1,4 +1,4 @@
-use Rattle.assise_seq_tree.proofs.Removing.{unlinked_is_gone, removed_is_gone}
+use Rattle.assise_seq_tree.proofs.EntryRemoved.{unlinked_is_gone, removed_is_gone}
 use Rattle.assise_seq_tree.proofs.laws.what_is_removed_is_gone.Goals as goal
 
 pub returns-clause-unlinked : goal.returns-clause-unlinked

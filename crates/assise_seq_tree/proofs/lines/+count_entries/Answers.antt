@@ -1,5 +1,5 @@
 use Rattle.std.proofs.Common.{◌∙◌}
-use Rattle.assise_seq_tree.proofs.Printing.{counted_all}
+use Rattle.assise_seq_tree.proofs.TreePrinted.{counted_all}
 use Rattle.assise_seq_tree.proofs.lines.+count_entries.Goals as goal
 
 pub returns-in-None : goal.returns-in-None

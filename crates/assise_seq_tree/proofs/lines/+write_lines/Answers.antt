@@ -1,19 +1,19 @@
 use Rattle.std.proofs.Common.{rules, Ok, [], ◌∷◌, ◌++◌, ap, sym, ◌∙◌, subst}
 use Rattle.std.specs.Fmt.{HasWritten}
-use Rattle.assise_seq_tree.specs.View.{entries_of}
+use Rattle.assise_seq_tree.specs.View.{map_entries}
 use Rattle.assise_seq_tree.specs.Ways.{names_of_way}
 use Rattle.assise_seq_tree.specs.Lines.{places_below}
 use Rattle.assise_seq_tree.specs.declared.lines.Way.{Below}
-use Rattle.assise_seq_tree.proofs.Printing.{below_directory, entry_line, entry_lines, few, fewer, lines_of, lines_more, names_of_way-Below, written_more}
+use Rattle.assise_seq_tree.proofs.TreePrinted.{below_directory, entry_line, entry_lines, few, fewer, lines_of, lines_more, names_of_way-Below, written_more}
 use Rattle.assise_seq_tree.proofs.lines.+write_lines.Goals as goal
 
 pub loop-name-init : goal.loop-name-init
 loop-name-init g t c =
     let given = c.into_iter-name-iterator.ensures.into_iter_gives in
-    let is = c.in-Ok.ensures ∙ ap (λ left. Ok (entries_of left)) (sym given.0) in
+    let is = c.in-Ok.ensures ∙ ap (λ left. Ok (map_entries left)) (sym given.0) in
     record {
-      few = few c.args.tree.now (entries_of c.into_iter-name-iterator.result) is;
-      lines = ([], sym (ap lines_of (below_directory c.args.tree.now (entries_of c.into_iter-name-iterator.result) is (names_of_way c.args.way.now))), λ plain. search rules);
+      few = few c.args.tree.now (map_entries c.into_iter-name-iterator.result) is;
+      lines = ([], sym (ap lines_of (below_directory c.args.tree.now (map_entries c.into_iter-name-iterator.result) is (names_of_way c.args.way.now))), λ plain. search rules);
     }
 
 pub loop-name-preserved : goal.loop-name-preserved

@@ -2,10 +2,10 @@ use Rattle.std.proofs.Common.{sym, ◌∙◌}
 use Rattle.assise_seq_tree.proofs.Checks.{passed, not_true}
 use Rattle.assise_seq_tree.proofs.renaming.rename.Goals as goal
 
-pub move_entry-requires-clause-apart : goal.move_entry-requires-clause-apart
-move_entry-requires-clause-apart c =
+pub move_entry-requires-clause-disjoint : goal.move_entry-requires-clause-disjoint
+move_entry-requires-clause-disjoint c =
     rw (c.names.ensures.names, c.names-then-ne.ensures.names)
-    (passed c.args.from.now c.args.to.now c.args.tree.now (sym (c.may_rename.ensures) ∙ c.in_default.is) (not_true _ _ (c.ne.ensures) c.if-ne.true)).apart
+    (passed c.args.from.now c.args.to.now c.args.tree.now (sym (c.may_rename.ensures) ∙ c.in_default.is) (not_true _ _ (c.ne.ensures) c.if-ne.true)).disjoint
 
 pub move_entry-requires-clause-parent : goal.move_entry-requires-clause-parent
 move_entry-requires-clause-parent c =

@@ -7,9 +7,9 @@ use Rattle.assise_inode_table.proofs.TableView.{on_err}
 use Rattle.assise_inode_table.specs.Effects.{AsksForMemory, changed, with_value}
 use Rattle.assise_record.specs.Touched.{touched_by}
 use Rattle.assise_area.specs.Hot.{with_inodes}
-use Rattle.assise_area.specs.Parts.{IsSound, cold_at, hot_at, seen}
+use Rattle.assise_area.specs.Parts.{AreaInvariant, cold_at, hot_at, area_seen}
 use Rattle.assise_area.proofs.Seen.{either, err_map, is_there, ok_map, value_of_cold, value_of_hot}
-use Rattle.assise_area.proofs.Writing.{seen_cold, seen_set, sound_cold, sound_set}
+use Rattle.assise_area.proofs.WrittenValues.{seen_cold, seen_set, sound_cold, sound_set}
 use Rattle.assise_area.proofs.area.Area.change.Goals as goal
 
 pub invariant_of-self : goal.invariant_of-self
@@ -20,7 +20,7 @@ invariant_of-self c =
     let none : hot_at hot.entries (touched_by effect) ≡ None = ap (hot_at hot.entries) (sym c.touches.ensures) ∙ sym c.in_default.ensures.value in
     either c.change_cold.result c.change_cold.ensures.ok c.change_cold.ensures.err
     (λ updates. sound_cold hot cold c.change_cold.new.cold.entries (touched_by effect) (option_map (λ content. changed content effect) (cold_at cold (touched_by effect))) none updates c.self.invariant)
-    (λ same. subst (IsSound hot) (sym same) c.self.invariant)
+    (λ same. subst (AreaInvariant hot) (sym same) c.self.invariant)
 
 pub returns-in_default-clause-ok : goal.returns-in_default-clause-ok
 returns-in_default-clause-ok c =
@@ -48,7 +48,7 @@ returns-in_err-change-clause-err c =
     let hot = c.self.inside.hot in
     let kept = sym c.in-Some.ensures.value ∙ ap Some (sym c.in_err-change.ensures.err) in
     let same = set_value_same (nat_eq c.touches.result) hot.entries c.change.new.self kept in
-    on_err c.from_residual.result _ (ap (λ es. seen (lru_cache es hot.cap) c.self.inside.cold.entries) same ∙ c.self.view_is)
+    on_err c.from_residual.result _ (ap (λ es. area_seen (lru_cache es hot.cap) c.self.inside.cold.entries) same ∙ c.self.view_is)
 
 pub returns-in_err-change-clause-asked : goal.returns-in_err-change-clause-asked
 returns-in_err-change-clause-asked c =

@@ -1,6 +1,6 @@
 use Rattle.std.proofs.Common.{◌≤◌, sym, subst}
 use Rattle.std.specs.NonZero.{non_zero_usize_get}
-use Rattle.assise_area.proofs.Writing.{sound_new}
+use Rattle.assise_area.proofs.WrittenValues.{sound_new}
 use Rattle.assise_area.proofs.area.Area.new.Goals as goal
 
 pub invariant_of-result : goal.invariant_of-result

@@ -3,7 +3,7 @@ use Rattle.std.specs.FinMap as map
 use Rattle.assise_inode_table.proofs.TableView.{on_err}
 use Rattle.assise_area.specs.Hot.{with_inodes}
 use Rattle.assise_area.proofs.Seen.{is_there, value_of_cold, value_of_hot}
-use Rattle.assise_area.proofs.Writing.{seen_cold, seen_set, sound_cold, sound_set}
+use Rattle.assise_area.proofs.WrittenValues.{seen_cold, seen_set, sound_cold, sound_set}
 use Rattle.assise_area.proofs.area.Area.put.Goals as goal
 
 pub returns-in_err-insert-clause-asked : goal.returns-in_err-insert-clause-asked

@@ -1,6 +1,6 @@
 use Rattle.std.proofs.Common.{sym, ◌∙◌}
 use Rattle.assise_area.proofs.Seen.{is_there, value_of_cold, value_of_hot}
-use Rattle.assise_area.proofs.Writing.{seen_out_of_cold, seen_out_of_hot, sound_out_of_cold, sound_out_of_hot}
+use Rattle.assise_area.proofs.WrittenValues.{seen_out_of_cold, seen_out_of_hot, sound_out_of_cold, sound_out_of_hot}
 use Rattle.assise_area.proofs.area.Area.remove.Goals as goal
 
 pub invariant_of-self : goal.invariant_of-self
@@ -15,7 +15,7 @@ returns-in-Some-clause-removed c = sym (value_of_hot c.args.self.now c.self.insi
 
 pub returns-in-Some-clause-others : goal.returns-in-Some-clause-others
 returns-in-Some-clause-others c =
-    seen_out_of_hot c.args.self.now c.self.inside.hot c.pop.new.self c.self.inside.cold.entries c.args.inode c.self.view_is c.in-Some.ensures.entries c.see_order.ensures.0 c.self.invariant.apart
+    seen_out_of_hot c.args.self.now c.self.inside.hot c.pop.new.self c.self.inside.cold.entries c.args.inode c.self.view_is c.in-Some.ensures.entries c.see_order.ensures.0 c.self.invariant.disjoint
     (is_there c.in-Some.content _ c.in-Some.ensures.value)
 
 pub returns-in-None-clause-removed : goal.returns-in-None-clause-removed

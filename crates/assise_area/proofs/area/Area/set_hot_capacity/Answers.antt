@@ -2,7 +2,7 @@ use Rattle.std.proofs.Common.{ap, ◌∙◌, take}
 use Rattle.lru.specs.LruCache.{lru_cache}
 use Rattle.assise_inode_table.proofs.TableView.{on_err}
 use Rattle.assise_area.proofs.Cooled.{seen_resized}
-use Rattle.assise_area.proofs.Using.{seen_same, sound_same}
+use Rattle.assise_area.proofs.HotUse.{seen_same, sound_same}
 use Rattle.assise_area.proofs.area.Area.set_hot_capacity.Goals as goal
 
 pub invariant_of-self : goal.invariant_of-self

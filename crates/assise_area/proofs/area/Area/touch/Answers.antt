@@ -1,7 +1,7 @@
 use Rattle.std.proofs.Common.{◌≡◌, sym, ap, ◌∙◌}
-use Rattle.assise_area.specs.Parts.{IsSound, hot_at, seen}
+use Rattle.assise_area.specs.Parts.{AreaInvariant, hot_at, area_seen}
 use Rattle.assise_area.proofs.Seen.{either_two, nothing}
-use Rattle.assise_area.proofs.Using.{seen_promoted, seen_same, seen_warmed, sound_promoted, sound_same, sound_warmed, touched_hot, touched_kept, touched_warm, unmoved}
+use Rattle.assise_area.proofs.HotUse.{seen_promoted, seen_same, seen_warmed, sound_promoted, sound_same, sound_warmed, touched_hot, touched_kept, touched_warm, unmoved}
 use Rattle.assise_area.proofs.area.Area.touch.Goals as goal
 
 pub invariant_of-self : goal.invariant_of-self
@@ -13,7 +13,7 @@ returns-then-promote c =
     let hot = c.self.inside.hot in
     let cold = c.self.inside.cold.entries in
     let there = sym c.if-promote.ensures.value in
-    touched_hot a (seen c.promote.new.self cold) hot cold c.args.inode c.self.view_is there
+    touched_hot a (area_seen c.promote.new.self cold) hot cold c.args.inode c.self.view_is there
     (seen_promoted a hot c.promote.new.self cold c.args.inode c.self.view_is c.promote.ensures.entries there c.see_order.ensures.1)
 
 pub invariant_of-self-then-not-contains_key : goal.invariant_of-self-then-not-contains_key
@@ -24,13 +24,13 @@ returns-then-not-contains_key c =
     let hot = c.self.inside.hot in
     let cold = c.self.inside.cold.entries in
     let none = nothing (hot_at hot.entries c.args.inode) c.if-promote.ensures.value in
-    touched_kept c.args.self.now (seen c.promote.new.self cold) hot cold c.args.inode c.self.view_is none
-    (ap (λ h. seen h cold) (unmoved hot c.promote.new.self c.args.inode c.promote.ensures.entries none) ∙ c.self.view_is)
+    touched_kept c.args.self.now (area_seen c.promote.new.self cold) hot cold c.args.inode c.self.view_is none
+    (ap (λ h. area_seen h cold) (unmoved hot c.promote.new.self c.args.inode c.promote.ensures.entries none) ∙ c.self.view_is)
 
-pub warm-requires-clause-apart : goal.warm-requires-clause-apart
-warm-requires-clause-apart c =
-    let sound : IsSound c.promote.new.self c.self.inside.cold.entries = sound_promoted c.self.inside.hot c.promote.new.self c.self.inside.cold.entries c.args.inode c.promote.ensures.entries c.self.invariant in
-    sound.apart
+pub warm-requires-clause-disjoint : goal.warm-requires-clause-disjoint
+warm-requires-clause-disjoint c =
+    let sound : AreaInvariant c.promote.new.self c.self.inside.cold.entries = sound_promoted c.self.inside.hot c.promote.new.self c.self.inside.cold.entries c.args.inode c.promote.ensures.entries c.self.invariant in
+    sound.disjoint
 
 pub warm-requires-clause-absent : goal.warm-requires-clause-absent
 warm-requires-clause-absent c =
@@ -52,10 +52,10 @@ returns c =
     let i = c.args.inode in
     let hot = c.self.inside.hot in
     let cold = c.self.inside.cold.entries in
-    let now = seen c.warm.new.hot c.warm.new.cold.entries in
+    let now = area_seen c.warm.new.hot c.warm.new.cold.entries in
     let none = nothing (hot_at hot.entries i) c.if-promote.ensures.value in
     let kept = unmoved hot c.promote.new.self i c.promote.ensures.entries none in
-    let view : seen c.promote.new.self cold ≡ a = ap (λ h. seen h cold) kept ∙ c.self.view_is in
+    let view : area_seen c.promote.new.self cold ≡ a = ap (λ h. area_seen h cold) kept ∙ c.self.view_is in
     let absent = ap (λ h. hot_at h.entries i) kept ∙ none in
     either_two c.warm.result c.warm.ensures.ok c.warm.ensures.err c.warm.ensures.err_cold
     (λ w. touched_warm a now hot cold i c.self.view_is none (sym c.if-not-contains_key.ensures) (seen_warmed a c.promote.new.self c.warm.new.hot cold c.warm.new.cold.entries i view absent w))

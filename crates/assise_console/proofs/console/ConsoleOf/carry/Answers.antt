@@ -2,11 +2,11 @@ use Rattle.std.proofs.Common.{rules, ◌≡◌, ◌-◌, ◌<◌, Some, length, 
 use Rattle.assise_names.specs.declared.refusal.Refusal.TheVariants.{BadNode}
 use Rattle.assise_names.specs.declared.limits.TheConstants.{MOST_NODES}
 use Rattle.assise_link.specs.TestLinks.{is_perfect}
-use Rattle.assise_machine_events.specs.Faults.{node_fault}
+use Rattle.assise_model_events.specs.Faults.{node_fault}
 use Rattle.assise_machine.specs.Clusters.{machine}
 use Rattle.assise_machine.proofs.Few.{few_nodes}
 use Rattle.assise_rounds.proofs.NodeLinks.{at_node, set_same}
-use Rattle.assise_console.specs.Consoles.{seen}
+use Rattle.assise_console.specs.Consoles.{console_seen}
 use Rattle.assise_console.proofs.Links.{below_most}
 use Rattle.assise_console.proofs.OneCommand.{carries_none, carries_nowhere, carries_refused, carries_some}
 use Rattle.assise_console.proofs.console.ConsoleOf.carry.Goals as goal
@@ -15,12 +15,12 @@ pub returns-in_default : goal.returns-in_default
 returns-in_default g c =
     let few = few_nodes c.args.self.now.cluster in
     let large = c.number_of.ensures.none c.in_default.is in
-    carries_none (seen c.args.self.now) c.args.node (omega (arith, few, large))
+    carries_none (console_seen c.args.self.now) c.args.node (omega (arith, few, large))
 
 pub returns-then-not-has_node : goal.returns-then-not-has_node
 returns-then-not-has_node g c =
     let nowhere = c.has_node.ensures.no c.if-not-has_node.true in
-    carries_nowhere (seen c.args.self.now) c.args.node (subst (λ n. node_fault (machine c.args.self.now.cluster) n ≡ Some BadNode) c.in-Some.ensures.some nowhere)
+    carries_nowhere (console_seen c.args.self.now) c.args.node (subst (λ n. node_fault (machine c.args.self.now.cluster) n ≡ Some BadNode) c.in-Some.ensures.some nowhere)
 
 pub listed : goal.listed
 listed g c =
@@ -35,12 +35,12 @@ returns-in-Ok g c =
     let links = c.args.self.now.links in
     let k = c.in-Some.node in
     let link = c.index-self-node.result in
-    carries_some (seen c.args.self.now) c.args.node k c.in-Ok.taken (machine c.replicate.new.cluster) _ _ c.in-Some.ensures.some (λ faithful. at_node is_perfect links k link faithful)
+    carries_some (console_seen c.args.self.now) c.args.node k c.in-Ok.taken (machine c.replicate.new.cluster) _ _ c.in-Some.ensures.some (λ faithful. at_node is_perfect links k link faithful)
     (set_same is_perfect links (k - 1) link c.replicate.new.link c.in-Ok.ensures.stays) c.in-Ok.ensures.ok
 
 pub returns-in-Err : goal.returns-in-Err
 returns-in-Err g c =
     let links = c.args.self.now.links in
     let k = c.in-Some.node in
-    carries_refused (seen c.args.self.now) c.args.node k c.in-Err.refusal (machine c.replicate.new.cluster) _ c.in-Some.ensures.some
+    carries_refused (console_seen c.args.self.now) c.args.node k c.in-Err.refusal (machine c.replicate.new.cluster) _ c.in-Some.ensures.some
     (set_same is_perfect links (k - 1) c.index-self-node.result c.replicate.new.link c.in-Err.ensures.stays) c.in-Err.ensures.err

@@ -1,7 +1,7 @@
 use Rattle.std.proofs.Common.{rules, ◌≡◌, ◌-◌, ◌<◌, length, refl, subst, sym, arith}
 use Rattle.assise_names.specs.declared.limits.TheConstants.{MOST_NODES}
 use Rattle.assise_machine.proofs.Few.{few_nodes}
-use Rattle.assise_console.specs.Consoles.{seen}
+use Rattle.assise_console.specs.Consoles.{console_seen}
 use Rattle.assise_console.proofs.Links.{below_most, links_nowhere, sets_link}
 use Rattle.assise_console.proofs.console.ConsoleOf.link.Goals as goal
 
@@ -9,7 +9,7 @@ pub returns-in_default : goal.returns-in_default
 returns-in_default g c =
     let few = few_nodes c.args.self.now.cluster in
     let large = c.number_of.ensures.none c.in_default.is in
-    links_nowhere (seen c.args.self.now) c.args.node c.args.kind (omega (arith, few, large))
+    links_nowhere (console_seen c.args.self.now) c.args.node c.args.kind (omega (arith, few, large))
 
 pub listed : goal.listed
 listed g c =
@@ -21,4 +21,4 @@ way_replace-self g c = below_most c.args.self.now.cluster c.in-Some.node (c.has_
 
 pub returns : goal.returns
 returns g c =
-    sets_link (seen c.args.self.now) c.args.node c.in-Some.node c.args.kind c.args.self.now.links c.link_of.result c.in-Some.ensures.some (c.has_node.ensures.yes c.if-not-has_node.false) refl c.link_of.ensures
+    sets_link (console_seen c.args.self.now) c.args.node c.in-Some.node c.args.kind c.args.self.now.links c.link_of.result c.in-Some.ensures.some (c.has_node.ensures.yes c.if-not-has_node.false) refl c.link_of.ensures

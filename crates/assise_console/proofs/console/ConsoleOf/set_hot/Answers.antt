@@ -1,8 +1,8 @@
 use Rattle.assise_machine.specs.Clusters.{machine}
-use Rattle.assise_console.specs.Consoles.{seen}
+use Rattle.assise_console.specs.Consoles.{console_seen}
 use Rattle.assise_console.specs.Steps.{SetsHot}
 use Rattle.assise_console.proofs.OneCommand.{changes}
 use Rattle.assise_console.proofs.console.ConsoleOf.set_hot.Goals as goal
 
 pub returns : goal.returns
-returns g c = changes (SetsHot c.args.node c.args.capacity c.set_hot.result) (seen c.args.self.now) (machine c.set_hot.new.cluster) c.set_hot.ensures
+returns g c = changes (SetsHot c.args.node c.args.capacity c.set_hot.result) (console_seen c.args.self.now) (machine c.set_hot.new.cluster) c.set_hot.ensures

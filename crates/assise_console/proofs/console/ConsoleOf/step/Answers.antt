@@ -1,7 +1,7 @@
 use Rattle.std.proofs.Common.{[], refl}
-use Rattle.assise_machine_events.specs.Events.{release_ready}
+use Rattle.assise_model_events.specs.Events.{release_ready}
 use Rattle.assise_machine.specs.Clusters.{machine}
-use Rattle.assise_console.specs.Consoles.{seen}
+use Rattle.assise_console.specs.Consoles.{console_seen}
 use Rattle.assise_console.specs.OneEvent.{IsOne}
 use Rattle.assise_console.proofs.OneCommand.{changes}
 use Rattle.assise_console.proofs.console.ConsoleOf.step.Goals as goal
@@ -11,7 +11,7 @@ returns-in-Carry-clause-does g c = rw c.in-Carry.is c.carry.ensures
 
 pub returns-in-Release-clause-does : goal.returns-in-Release-clause-does
 returns-in-Release-clause-does g c =
-    rw c.in-Release.is (changes (IsOne release_ready c.release.result) (seen c.args.self.now) (machine c.release.new.cluster) c.release.ensures)
+    rw c.in-Release.is (changes (IsOne release_ready c.release.result) (console_seen c.args.self.now) (machine c.release.new.cluster) c.release.ensures)
 
 pub returns-in-Tree-clause-does : goal.returns-in-Tree-clause-does
 returns-in-Tree-clause-does g c = rw c.in-Tree.is ([], (c.tree.ensures, (refl, refl)))

@@ -1,9 +1,9 @@
 use Rattle.std.proofs.Common.{take}
 use Rattle.std.specs.List.{flat_map}
 use Rattle.std.specs.Fmt.{HasWritten, IsPlainFormatter}
-use Rattle.assise_console.specs.Lines.{loss_text}
+use Rattle.assise_console.specs.Lines.{lost_call_text}
 use Rattle.assise_console.proofs.text.LossesDisplay.fmt.Given as goal
 
 abbrev pub invariant-loop-loss : goal.invariant-loop-loss
 invariant-loop-loss g l =
-    IsPlainFormatter l.initial.f → HasWritten g.W.Write.write_str_gives l.initial.f (flat_map loss_text (take l.loss-index l.loss-items)) l.f
+    IsPlainFormatter l.initial.f → HasWritten g.W.Write.write_str_gives l.initial.f (flat_map lost_call_text (take l.loss-index l.loss-items)) l.f

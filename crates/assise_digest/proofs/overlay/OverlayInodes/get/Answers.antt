@@ -1,6 +1,6 @@
 use Rattle.std.proofs.Common.{◌∙◌, ap, sym, cond}
 use Rattle.std.specs.FinMap as map
-use Rattle.assise_digest.proofs.Laying.{get-overlaid}
+use Rattle.assise_digest.proofs.InodesUnderRecords.{get-overlaid}
 use Rattle.assise_digest.proofs.overlay.OverlayInodes.get.Goals as goal
 
 pub returns-then-has : goal.returns-then-has

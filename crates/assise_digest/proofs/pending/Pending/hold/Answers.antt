@@ -1,6 +1,6 @@
 use Rattle.std.proofs.Common.{◌≡◌, None, ◌∙◌, ap, sym}
 use Rattle.std.specs.FinMap as map
-use Rattle.assise_digest.proofs.Keeping.{none_of, put_and_removed}
+use Rattle.assise_digest.proofs.KeptInodes.{none_of, put_and_removed}
 use Rattle.assise_digest.proofs.pending.Pending.hold.Goals as goal
 
 pub returns-in-Err-clause-err : goal.returns-in-Err-clause-err

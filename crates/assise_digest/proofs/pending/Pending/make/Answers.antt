@@ -1,7 +1,7 @@
 use Rattle.std.proofs.Common.{◌≡◌, ◌+◌, ◌∙◌, ap, sym, subst, drop, refl}
 use Rattle.assise_record.specs.Touched.{touched_by}
 use Rattle.assise_digest.specs.Pending.{KeepsNoMore, all_held, forgotten, held}
-use Rattle.assise_digest.proofs.Keeping.{forgotten_again, held_no_more, left_after, nothing_forgotten, touched_item}
+use Rattle.assise_digest.proofs.KeptInodes.{forgotten_again, held_no_more, left_after, nothing_forgotten, touched_item}
 use Rattle.assise_digest.proofs.pending.Pending.make.Goals as goal
 
 pub loop-effect-init : goal.loop-effect-init

@@ -1,6 +1,6 @@
 use Rattle.std.proofs.Common.{◌≡◌, ◌+◌, ◌≤◌, length}
 use Rattle.assise_record.specs.Records.{all_effects}
-use Rattle.assise_digest.specs.Pending.{HasAll, all_noted}
+use Rattle.assise_digest.specs.Pending.{HasAllNumbers, all_noted}
 use Rattle.assise_digest.proofs.pending.Pending.note_all.Given as goal
 
 -- the first of them are noted
@@ -9,5 +9,5 @@ invariant-loop-record l = record {
   noted : all_noted l.self.last l.number l.record-iterator ≡ all_noted l.fn.self.last l.first l.fn.records;
   inodes : l.self.inodes ≡ l.fn.self.inodes;
   fits : l.number + length l.record-iterator ≤ l.first + length l.fn.records;
-  there : HasAll l.self.last (all_effects l.record-iterator);
+  there : HasAllNumbers l.self.last (all_effects l.record-iterator);
 }

@@ -1,5 +1,5 @@
 use Rattle.std.proofs.Common.{◌∙◌, ap, sym, subst}
-use Rattle.assise_digest.specs.Sound.{IsSoundLog}
+use Rattle.assise_digest.specs.Invariant.{LogInvariant}
 use Rattle.assise_digest.proofs.RegroupedLogs.{all_there, numbers_fit, sound_regrouped}
 use Rattle.assise_digest.proofs.received.Received.coalesce.Goals as goal
 
@@ -18,7 +18,7 @@ returns-clause-sound c = λ m s.
     let x = c.args.self.now in
     let n = c.note_from.new.self in
     let log = c.regroup.new.self in
-    subst (IsSoundLog m)
+    subst (LogInvariant m)
     (sym (ap (λ l. record { log = l; digested = n.digested; pending = n.pending }) c.note_from.ensures.log
     ∙ ap (λ d. record { log = log; digested = d; pending = n.pending }) c.note_from.ensures.digested))
     (sound_regrouped x c.args.from s.begun c.requires.digested c.requires.to_end m log n.pending s c.in_ok-regroup.ensures.ok c.note_from.ensures.pending)

@@ -2,7 +2,7 @@ use Rattle.std.proofs.Common.{◌≡◌, take, ap, subst, ◌∙◌, arith}
 use Rattle.assise_inode_table.specs.Effects.{all_applied}
 use Rattle.assise_record.specs.Records.{all_effects}
 use Rattle.assise_digest.specs.Region.{ahead, digested_further}
-use Rattle.assise_digest.specs.Sound.{IsSoundLog, seen_log}
+use Rattle.assise_digest.specs.Invariant.{LogInvariant, seen_log}
 use Rattle.assise_digest.proofs.Grouped.{applied_next, further_next, further_none, has_next}
 use Rattle.assise_digest.proofs.received.Received.count_all_digested.Goals as goal
 
@@ -22,7 +22,7 @@ loop-done-preserved c = record {
   within = omega arith;
   seen = further_next (seen_log c.args.self.now) (seen_log c.loop-done.self) (seen_log c.count_digested.new.self) c.loop-done.done c.loop-done.invariant.seen c.count_digested.ensures.seen;
   sound = λ m s.
-      subst (λ w. IsSoundLog w c.count_digested.new.self) (applied_next m (seen_log c.args.self.now) (seen_log c.loop-done.self) c.loop-done.done c.requires.begun c.loop-done.invariant.seen)
+      subst (λ w. LogInvariant w c.count_digested.new.self) (applied_next m (seen_log c.args.self.now) (seen_log c.loop-done.self) c.loop-done.done c.requires.begun c.loop-done.invariant.seen)
       (c.count_digested.ensures.sound (all_applied m (all_effects (take c.loop-done.done (ahead (seen_log c.args.self.now))))) (c.loop-done.invariant.sound m s));
 }
 
@@ -34,4 +34,4 @@ returns-clause-seen c =
 pub returns-clause-sound : goal.returns-clause-sound
 returns-clause-sound c = λ m s.
     let all : c.loop-done.done ≡ c.args.count = omega arith in
-    subst (λ n. IsSoundLog (all_applied m (all_effects (take n (ahead (seen_log c.args.self.now))))) c.loop-done.self) all (c.loop-done.invariant.sound m s)
+    subst (λ n. LogInvariant (all_applied m (all_effects (take n (ahead (seen_log c.args.self.now))))) c.loop-done.self) all (c.loop-done.invariant.sound m s)

@@ -3,7 +3,7 @@ use Rattle.assise_inode_table.specs.Contents.{InodeMap}
 use Rattle.assise_inode_table.specs.Effects.{all_applied}
 use Rattle.assise_record.specs.Records.{all_effects}
 use Rattle.assise_digest.specs.Region.{ahead, digested_further}
-use Rattle.assise_digest.specs.Sound.{IsSoundLog, seen_log}
+use Rattle.assise_digest.specs.Invariant.{LogInvariant, seen_log}
 use Rattle.assise_digest.proofs.received.Received.count_all_digested.Given as goal
 
 -- so many were counted
@@ -11,7 +11,7 @@ abbrev pub invariant-loop-done : goal.invariant-loop-done
 invariant-loop-done l = record {
   within : l.done ≤ l.count;
   seen : seen_log l.self ≡ digested_further (seen_log l.fn.self) l.done;
-  sound : (m : InodeMap) → IsSoundLog m l.fn.self → IsSoundLog (all_applied m (all_effects (take l.done (ahead (seen_log l.fn.self))))) l.self;
+  sound : (m : InodeMap) → LogInvariant m l.fn.self → LogInvariant (all_applied m (all_effects (take l.done (ahead (seen_log l.fn.self))))) l.self;
 }
 
 abbrev pub decreases-loop-done : goal.decreases-loop-done

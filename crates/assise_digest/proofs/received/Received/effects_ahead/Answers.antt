@@ -1,8 +1,8 @@
 use Rattle.std.proofs.Common.{◌-◌, ◌++◌, [], ◌∷◌, take, ap, sym, ◌∙◌}
 use Rattle.assise_record.specs.Records.{all_effects}
 use Rattle.assise_digest.specs.Region.{ahead}
-use Rattle.assise_digest.specs.Sound.{seen_log}
-use Rattle.assise_digest.proofs.Laying.{appended_last, one_more_ahead}
+use Rattle.assise_digest.specs.Invariant.{seen_log}
+use Rattle.assise_digest.proofs.InodesUnderRecords.{appended_last, one_more_ahead}
 use Rattle.assise_record.proofs.Records.{all_effects-append}
 use Rattle.assise_digest.proofs.received.Received.effects_ahead.Goals as goal
 

@@ -1,7 +1,7 @@
 use Rattle.std.proofs.Common.{◌≡◌, ◌-◌, take}
 use Rattle.assise_record.specs.Records.{all_effects}
 use Rattle.assise_digest.specs.Region.{ahead}
-use Rattle.assise_digest.specs.Sound.{seen_log}
+use Rattle.assise_digest.specs.Invariant.{seen_log}
 use Rattle.assise_digest.proofs.received.Received.effects_ahead.Given as goal
 
 -- the effects of the records so far

@@ -1,8 +1,8 @@
 use Rattle.std.proofs.Common.{◌≡◌, Some, option_map, ◌∙◌, ap, sym}
 use Rattle.assise_digest.specs.Pending.{forgotten}
 use Rattle.assise_digest.specs.Region.{first_effects, next_effects}
-use Rattle.assise_digest.specs.Sound.{seen_log}
-use Rattle.assise_digest.proofs.Receiving.{ahead_next}
+use Rattle.assise_digest.specs.Invariant.{seen_log}
+use Rattle.assise_digest.proofs.ReceivedLogs.{ahead_next}
 use Rattle.assise_digest.proofs.received.Received.forget_next.Goals as goal
 
 pub returns-in-Some-pending-clause-pending : goal.returns-in-Some-pending-clause-pending

@@ -1,8 +1,8 @@
 use Rattle.std.proofs.Common.{◌∙◌, OnOk, Result, Ok, Err, ap, subst, sym}
 use Rattle.assise_digest.specs.Pending.{StandsFor, taken_in}
 use Rattle.assise_digest.specs.Region.{ahead, with_more}
-use Rattle.assise_digest.specs.Sound.{StandsHere, seen_log}
-use Rattle.assise_digest.proofs.Receiving.{kept_more, kept_new}
+use Rattle.assise_digest.specs.Invariant.{StandsHere, seen_log}
+use Rattle.assise_digest.proofs.ReceivedLogs.{kept_more, kept_new}
 use Rattle.assise_digest.proofs.received.Received.keep.Goals as goal
 
 pub take_in-requires-clause-fresh : goal.take_in-requires-clause-fresh

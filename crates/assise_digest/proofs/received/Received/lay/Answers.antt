@@ -4,9 +4,9 @@ use Rattle.assise_record.proofs.Records.{all_effects-append}
 use Rattle.assise_inode_table.specs.Whole.{CanBeMadeWhole}
 use Rattle.assise_digest.specs.Pending.{Lays}
 use Rattle.assise_digest.specs.Region.{ahead}
-use Rattle.assise_digest.specs.Sound.{seen_log}
-use Rattle.assise_digest.proofs.Receiving.{count_ahead}
-use Rattle.assise_digest.proofs.Laying.{appended_last, laid_no_more, lays_more, one_more_ahead, record_here, take_same, whole_at}
+use Rattle.assise_digest.specs.Invariant.{seen_log}
+use Rattle.assise_digest.proofs.ReceivedLogs.{count_ahead}
+use Rattle.assise_digest.proofs.InodesUnderRecords.{appended_last, laid_no_more, lays_more, one_more_ahead, record_here, take_same, whole_at}
 use Rattle.assise_digest.proofs.received.Received.lay.Goals as goal
 
 pub make-requires-clause-whole : goal.make-requires-clause-whole

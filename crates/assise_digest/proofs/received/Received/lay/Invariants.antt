@@ -3,7 +3,7 @@ use Rattle.assise_record.specs.declared.effect.Effect.{Effect}
 use Rattle.assise_record.specs.Records.{all_effects}
 use Rattle.assise_digest.specs.Pending.{KeepsNoMore, Lays}
 use Rattle.assise_digest.specs.Region.{ahead}
-use Rattle.assise_digest.specs.Sound.{seen_log}
+use Rattle.assise_digest.specs.Invariant.{seen_log}
 use Rattle.assise_digest.proofs.received.Received.lay.Given as goal
 
 abbrev pub invariant-loop-number : goal.invariant-loop-number

@@ -1,5 +1,5 @@
 use Rattle.std.proofs.Common.{◌-◌, ap}
-use Rattle.assise_digest.specs.Sound.{seen_log}
+use Rattle.assise_digest.specs.Invariant.{seen_log}
 use Rattle.assise_digest.proofs.Grouped.{is_next_group}
 use Rattle.assise_digest.proofs.received.Received.next_group.Goals as goal
 

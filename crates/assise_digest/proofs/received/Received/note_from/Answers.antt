@@ -2,13 +2,13 @@ use Rattle.std.proofs.Common.{Some, option_map, ◌∙◌, ap, subst, sym}
 use Rattle.std.specs.Option.{IfSome}
 use Rattle.assise_private_log.specs.NumberedLog.{records_from}
 use Rattle.assise_record.specs.Records.{all_effects}
-use Rattle.assise_digest.specs.Pending.{HasAll, noted_from}
+use Rattle.assise_digest.specs.Pending.{HasAllNumbers, noted_from}
 use Rattle.assise_digest.proofs.received.Received.note_from.Goals as goal
 
 pub note_all-requires-clause-there : goal.note_all-requires-clause-there
 note_all-requires-clause-there c =
-    subst (λ rs. HasAll c.in-Some.pending.last (all_effects rs)) (sym c.since.ensures.rest)
-    (subst (λ o. IfSome o (λ p. HasAll p.last (all_effects (records_from c.args.self.now.log c.args.from)))) c.in-Some.is c.requires.there)
+    subst (λ rs. HasAllNumbers c.in-Some.pending.last (all_effects rs)) (sym c.since.ensures.rest)
+    (subst (λ o. IfSome o (λ p. HasAllNumbers p.last (all_effects (records_from c.args.self.now.log c.args.from)))) c.in-Some.is c.requires.there)
 
 pub returns-in-Some-clause-pending : goal.returns-in-Some-clause-pending
 returns-in-Some-clause-pending c =

@@ -1,4 +1,4 @@
-use Rattle.assise_digest.proofs.Placing.{sound_empty}
+use Rattle.assise_digest.proofs.RegionLogs.{sound_empty}
 use Rattle.assise_digest.proofs.region.Region.add_own_client.Goals as goal
 
 pub add-requires : goal.add-requires

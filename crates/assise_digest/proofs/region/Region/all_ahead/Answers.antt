@@ -3,9 +3,9 @@ use Rattle.std.proofs.lemmas.List.{get_or-map, length-map}
 use Rattle.assise_record.specs.Records.{all_effects}
 use Rattle.assise_digest.specs.Pending.{Lays}
 use Rattle.assise_digest.specs.Region.{ahead_below, all_ahead, no_log}
-use Rattle.assise_digest.specs.Sound.{seen_log, seen_logs}
-use Rattle.assise_digest.proofs.Laying.{lays_no_more, lays_nothing}
-use Rattle.assise_digest.proofs.Rebuilding.{all_clients, one_more_client}
+use Rattle.assise_digest.specs.Invariant.{seen_log, seen_logs}
+use Rattle.assise_digest.proofs.InodesUnderRecords.{lays_no_more, lays_nothing}
+use Rattle.assise_digest.proofs.RebuiltInodes.{all_clients, one_more_client}
 use Rattle.assise_digest.proofs.region.Region.all_ahead.Goals as goal
 
 pub loop-place-init : goal.loop-place-init

@@ -1,7 +1,7 @@
 use Rattle.std.proofs.Common.{take}
 use Rattle.assise_digest.specs.Pending.{KeepsNoMore, Lays}
 use Rattle.assise_digest.specs.Region.{all_ahead}
-use Rattle.assise_digest.specs.Sound.{seen_logs}
+use Rattle.assise_digest.specs.Invariant.{seen_logs}
 use Rattle.assise_digest.proofs.region.Region.all_ahead.Given as goal
 
 abbrev pub invariant-loop-place : goal.invariant-loop-place

@@ -2,7 +2,7 @@ use Rattle.std.proofs.Common.{OnOk, Result, Ok, Err, ap, subst, sym, ◌∙◌}
 use Rattle.assise_record.specs.Groups.{AllHaveEffects}
 use Rattle.assise_private_log.specs.NumberedLog.{IsNumberedLog, records_from}
 use Rattle.assise_digest.specs.Region.{IsBegun, log_of, read_by, regrouped_from}
-use Rattle.assise_digest.proofs.Placing.{changed_there, in_place, log_there, sound_set, sound_there}
+use Rattle.assise_digest.proofs.RegionLogs.{changed_there, in_place, log_there, sound_set, sound_there}
 use Rattle.assise_digest.proofs.RegroupedLogs.{coalesced_read}
 use Rattle.assise_digest.proofs.region.Region.coalesce.Goals as goal
 

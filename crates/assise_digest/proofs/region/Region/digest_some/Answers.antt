@@ -1,7 +1,7 @@
 use Rattle.std.proofs.Common.{◌≡◌, ◌+◌, ◌∙◌, ap, subst, sym, arith}
 use Rattle.assise_private_log.specs.NumberedLog.{is_border}
-use Rattle.assise_digest.specs.Region.{IsNextGroup, TouchApart, digested_by, digested_further, log_of}
-use Rattle.assise_digest.proofs.Digesting.{apart_digested, digested_more, digested_none, given_alone, given_read, log_digested}
+use Rattle.assise_digest.specs.Region.{IsNextGroup, TouchDisjoint, digested_by, digested_further, log_of}
+use Rattle.assise_digest.proofs.DigestKeepsReads.{disjoint_digested, digested_more, digested_none, given_alone, given_read, log_digested}
 use Rattle.assise_digest.proofs.Grouped.{none_asked, none_whole}
 use Rattle.assise_digest.proofs.region.Region.digest_some.Goals as goal
 
@@ -21,11 +21,11 @@ returns-then-most-count-clause-read c =
 
 pub returns-then-most-count-clause-alone : goal.returns-then-most-count-clause-alone
 returns-then-most-count-clause-alone c =
-    given_alone c.args.self.now c.loop-count.self c.args.client c.loop-count.count c.loop-count.invariant.digested c.requires.client c.count_ahead.ensures.begun c.requires.apart
+    given_alone c.args.self.now c.loop-count.self c.args.client c.loop-count.count c.loop-count.invariant.digested c.requires.client c.count_ahead.ensures.begun c.requires.disjoint
 
-pub digest_group-requires-clause-apart : goal.digest_group-requires-clause-apart
-digest_group-requires-clause-apart c =
-    subst TouchApart (sym c.loop-count.invariant.digested) (apart_digested c.args.self.now c.args.client c.loop-count.count c.requires.client c.count_ahead.ensures.begun c.requires.apart)
+pub digest_group-requires-clause-disjoint : goal.digest_group-requires-clause-disjoint
+digest_group-requires-clause-disjoint c =
+    subst TouchDisjoint (sym c.loop-count.invariant.digested) (disjoint_digested c.args.self.now c.args.client c.loop-count.count c.requires.client c.count_ahead.ensures.begun c.requires.disjoint)
 
 pub returns-else-count-eq0-clause-read : goal.returns-else-count-eq0-clause-read
 returns-else-count-eq0-clause-read c =
@@ -33,7 +33,7 @@ returns-else-count-eq0-clause-read c =
 
 pub returns-else-count-eq0-clause-alone : goal.returns-else-count-eq0-clause-alone
 returns-else-count-eq0-clause-alone c =
-    given_alone c.args.self.now c.digest_group.new.self c.args.client c.loop-count.count (c.in-Err.ensures.err ∙ c.loop-count.invariant.digested) c.requires.client c.count_ahead.ensures.begun c.requires.apart
+    given_alone c.args.self.now c.digest_group.new.self c.args.client c.loop-count.count (c.in-Err.ensures.err ∙ c.loop-count.invariant.digested) c.requires.client c.count_ahead.ensures.begun c.requires.disjoint
 
 pub loop-count-preserved : goal.loop-count-preserved
 loop-count-preserved c =
@@ -57,4 +57,4 @@ returns-clause-read c = given_read c.args.self.now c.loop-count.self c.args.clie
 
 pub returns-clause-alone : goal.returns-clause-alone
 returns-clause-alone c =
-    given_alone c.args.self.now c.loop-count.self c.args.client c.loop-count.count c.loop-count.invariant.digested c.requires.client c.count_ahead.ensures.begun c.requires.apart
+    given_alone c.args.self.now c.loop-count.self c.args.client c.loop-count.count c.loop-count.invariant.digested c.requires.client c.count_ahead.ensures.begun c.requires.disjoint

@@ -1,5 +1,5 @@
 use Rattle.assise_digest.specs.Region.{from_number}
-use Rattle.assise_digest.proofs.Placing.{changed_there, in_place, sound_set, sound_there}
+use Rattle.assise_digest.proofs.RegionLogs.{changed_there, in_place, sound_set, sound_there}
 use Rattle.assise_digest.proofs.region.Region.drop_front.Goals as goal
 
 pub invariant_of-self : goal.invariant_of-self

@@ -1,7 +1,7 @@
 use Rattle.std.proofs.Common.{◌<◌, subst, sym}
 use Rattle.assise_private_log.specs.NumberedLog.{end}
 use Rattle.assise_digest.specs.Region.{IsNextGroup}
-use Rattle.assise_digest.proofs.Placing.{in_place, log_there, sound_there}
+use Rattle.assise_digest.proofs.RegionLogs.{in_place, log_there, sound_there}
 use Rattle.assise_digest.proofs.region.Region.next_group.Goals as goal
 
 pub next_group-requires-clause-begun : goal.next_group-requires-clause-begun

@@ -1,8 +1,8 @@
 use Rattle.std.proofs.Common.{◌≡◌, ◌∙◌, ◌-◌, length, take, ap, sym, arith}
 use Rattle.std.proofs.lemmas.List.{length-map, take-map}
 use Rattle.assise_digest.specs.Region.{without_last_client}
-use Rattle.assise_digest.specs.Sound.{seen_log, seen_logs}
-use Rattle.assise_digest.proofs.Placing.{region}
+use Rattle.assise_digest.specs.Invariant.{seen_log, seen_logs}
+use Rattle.assise_digest.proofs.RegionLogs.{region}
 use Rattle.assise_digest.proofs.region.Region.remove_last_client.Goals as goal
 
 pub returns : goal.returns

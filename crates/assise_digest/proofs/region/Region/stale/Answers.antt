@@ -1,5 +1,5 @@
 use Rattle.std.proofs.Common.{None, ap}
-use Rattle.assise_digest.proofs.Placing.{sound_changed}
+use Rattle.assise_digest.proofs.RegionLogs.{sound_changed}
 use Rattle.assise_digest.proofs.region.Region.stale.Goals as goal
 
 pub invariant_of-self : goal.invariant_of-self

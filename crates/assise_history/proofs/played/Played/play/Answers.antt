@@ -1,4 +1,4 @@
-use Rattle.assise_history.proofs.Playing.{goes_play}
+use Rattle.assise_history.proofs.PlayedCalls.{goes_play}
 use Rattle.assise_history.proofs.played.Played.play.Goals as goal
 
 pub returns-clause-ok : goal.returns-clause-ok

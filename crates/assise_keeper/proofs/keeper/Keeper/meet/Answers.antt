@@ -1,5 +1,5 @@
 use Rattle.std.proofs.Common.{rules}
-use Rattle.assise_keeper.proofs.Stepping.{meets_for, parts_for}
+use Rattle.assise_keeper.proofs.StepsKeepRule.{meets_for, parts_for}
 use Rattle.assise_keeper.proofs.keeper.Keeper.meet.Goals as goal
 
 pub join_seat-requires : goal.join_seat-requires

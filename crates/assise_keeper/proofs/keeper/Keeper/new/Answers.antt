@@ -1,4 +1,4 @@
-use Rattle.assise_keeper.proofs.Stepping.{starts}
+use Rattle.assise_keeper.proofs.StepsKeepRule.{starts}
 use Rattle.assise_keeper.proofs.keeper.Keeper.new.Goals as goal
 
 pub vacant-requires : goal.vacant-requires

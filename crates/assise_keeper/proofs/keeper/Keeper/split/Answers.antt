@@ -1,5 +1,5 @@
 use Rattle.std.proofs.Common.{rules}
-use Rattle.assise_keeper.proofs.Stepping.{cuts_for}
+use Rattle.assise_keeper.proofs.StepsKeepRule.{cuts_for}
 use Rattle.assise_keeper.proofs.keeper.Keeper.split.Goals as goal
 
 pub split_seat-requires : goal.split_seat-requires

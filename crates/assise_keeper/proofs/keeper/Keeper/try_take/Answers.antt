@@ -1,6 +1,6 @@
 use Rattle.std.proofs.Common.{rules, ◌≡◌, Some, [], ◌∷◌, ap, sym, ◌∙◌}
 use Rattle.atomic_table.specs.Table.{rest}
-use Rattle.assise_keeper.proofs.Stepping.{takes_for}
+use Rattle.assise_keeper.proofs.StepsKeepRule.{takes_for}
 use Rattle.assise_keeper.proofs.keeper.Keeper.try_take.Goals as goal
 
 pub compare_exchange-requires : goal.compare_exchange-requires

@@ -3,7 +3,7 @@ use Rattle.std.specs.Global.{Vec}
 use Rattle.assise_lease_table.specs.declared.lease.Asked.{Asked}
 use Rattle.assise_lease_table.specs.Answers.{AnswerAll}
 use Rattle.assise_lease_table.specs.Tables.{client_leases, revoker_of}
-use Rattle.assise_lease_table.proofs.Answering.{no_lease, lease_at, asked_more, asked_same}
+use Rattle.assise_lease_table.proofs.AskLoop.{no_lease, lease_at, asked_more, asked_same}
 use Rattle.assise_lease_table.proofs.client_table.ClientTableOf.answers.Goals as goal
 use Rattle.assise_lease_table.proofs.client_table.ClientTableOf.answers.Goals.{then-is_to_ask+in_ok-push, else-is_to_ask}
 

@@ -2,7 +2,7 @@ use Rattle.std.proofs.Common.{ℕ, nat_eq, is_some}
 use Rattle.indexmap.specs.IndexMap.{get}
 use Rattle.assise_lease_table.specs.LeaseMaps.{leases_at}
 use Rattle.assise_lease_table.specs.Leases.{is_own}
-use Rattle.assise_lease_table.proofs.Becoming.{Fits, Known, becomes_each, leave_out_fits, leave_out_known}
+use Rattle.assise_lease_table.proofs.LeaseChanges.{Fits, Known, becomes_each, leave_out_fits, leave_out_known}
 use Rattle.assise_lease_table.proofs.client_table.ClientTableOf.release.Goals as goal
 
 pub invariant_of-self : goal.invariant_of-self

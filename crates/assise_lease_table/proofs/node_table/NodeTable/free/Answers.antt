@@ -1,6 +1,6 @@
 use Rattle.assise_lease_table.specs.LeaseMaps.{leases_at}
 use Rattle.assise_lease_table.specs.Leases.{leave_out, is_own}
-use Rattle.assise_lease_table.proofs.Becoming.{Fits, all_each, leave_out_fits}
+use Rattle.assise_lease_table.proofs.LeaseChanges.{Fits, all_each, leave_out_fits}
 use Rattle.assise_lease_table.proofs.node_table.NodeTable.free.Goals as goal
 
 pub invariant_of-self : goal.invariant_of-self

@@ -2,7 +2,7 @@ use Rattle.std.proofs.Common.{ap, sym, ◌∙◌}
 use Rattle.std.specs.List.{list_any}
 use Rattle.assise_lease_table.specs.LeaseMaps.{leases_at}
 use Rattle.assise_lease_table.specs.Leases.{is_rival}
-use Rattle.assise_lease_table.proofs.Becoming.{Fits, becomes_each}
+use Rattle.assise_lease_table.proofs.LeaseChanges.{Fits, becomes_each}
 use Rattle.assise_lease_table.proofs.Compatibles.{no_rivals, raise_compatible}
 use Rattle.assise_lease_table.proofs.node_table.NodeTable.raise.Goals as goal
 

@@ -1,6 +1,6 @@
 use Rattle.assise_lease_table.specs.LeaseMaps.{leases_at}
 use Rattle.assise_lease_table.specs.Leases.{is_own}
-use Rattle.assise_lease_table.proofs.Becoming.{Fits, becomes_each, leave_out_fits}
+use Rattle.assise_lease_table.proofs.LeaseChanges.{Fits, becomes_each, leave_out_fits}
 use Rattle.assise_lease_table.proofs.node_table.NodeTable.release.Goals as goal
 
 pub invariant_of-self : goal.invariant_of-self

@@ -5,7 +5,7 @@ use Rattle.assise_lease_table.specs.Tables.{client_leases, node_leases, revoker_
 use Rattle.assise_lease_tree.specs.Trees.{levels_of}
 use Rattle.indexmap.specs.IndexMap.{Updates}
 use Rattle.assise_lease_table.proofs.Compatibles.{other_number}
-use Rattle.assise_lease_tree.proofs.Doing.{tree_lawful, known_after, on_ok}
+use Rattle.assise_lease_tree.proofs.CallsOnLevels.{tree_lawful, known_after, on_ok}
 use Rattle.assise_lease_tree.proofs.Lawful.{same_lawful}
 use Rattle.assise_lease_tree.proofs.Steps.{enrolled_lawful}
 use Rattle.assise_lease_tree.proofs.lease_tree.LeaseTreeOf.enrol.Goals as goal

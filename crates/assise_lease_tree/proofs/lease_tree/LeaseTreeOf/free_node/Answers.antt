@@ -2,7 +2,7 @@ use Rattle.std.proofs.Common.{nat_eq, refl}
 use Rattle.indexmap.specs.IndexMap.{get}
 use Rattle.assise_lease_table.specs.Tables.{client_leases, node_leases}
 use Rattle.assise_lease_tree.specs.Trees.{levels_of}
-use Rattle.assise_lease_tree.proofs.Doing.{tree_lawful}
+use Rattle.assise_lease_tree.proofs.CallsOnLevels.{tree_lawful}
 use Rattle.assise_lease_tree.proofs.Steps.{freed_lawful}
 use Rattle.assise_lease_tree.proofs.lease_tree.LeaseTreeOf.free_node.Goals as goal
 

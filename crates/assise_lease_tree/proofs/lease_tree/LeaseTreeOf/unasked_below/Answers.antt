@@ -2,7 +2,7 @@ use Rattle.std.proofs.Common.{nat_eq}
 use Rattle.indexmap.specs.IndexMap.{get}
 use Rattle.assise_lease_table.specs.Tables.{client_leases}
 use Rattle.assise_lease_tree.specs.Levels.{lives}
-use Rattle.assise_lease_tree.proofs.Listing.{all_listed}
+use Rattle.assise_lease_tree.proofs.HolderLists.{all_listed}
 use Rattle.assise_lease_tree.proofs.lease_tree.LeaseTreeOf.unasked_below.Goals as goal
 
 pub returns-clause-all : goal.returns-clause-all

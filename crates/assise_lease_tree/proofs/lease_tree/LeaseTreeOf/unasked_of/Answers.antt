@@ -1,6 +1,6 @@
 use Rattle.std.proofs.Common.{◌==◌}
 use Rattle.assise_lease_table.specs.Tables.{client_leases}
-use Rattle.assise_lease_tree.proofs.Listing.{all_listed}
+use Rattle.assise_lease_tree.proofs.HolderLists.{all_listed}
 use Rattle.assise_lease_tree.proofs.lease_tree.LeaseTreeOf.unasked_of.Goals as goal
 
 pub returns-clause-all : goal.returns-clause-all

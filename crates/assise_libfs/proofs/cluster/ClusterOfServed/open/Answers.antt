@@ -2,4 +2,4 @@ use Rattle.assise_libfs.proofs.Faults.{opened_or_refused}
 use Rattle.assise_libfs.proofs.cluster.ClusterOfServed.open.Goals as goal
 
 pub returns-clause-refused : goal.returns-clause-refused
-returns-clause-refused g c = opened_or_refused _ c.args.self.now.sound.holds c.args.node c.args.durability _ c.open.result c.open.ensures.happens
+returns-clause-refused g c = opened_or_refused _ c.args.self.now.sound.invariant.holds c.args.node c.args.durability _ c.open.result c.open.ensures.happens

@@ -5,4 +5,4 @@ use Rattle.assise_libfs.proofs.cluster.ClusterOfServed.try_call.Goals as goal
 
 pub returns-in-Err-clause-refused : goal.returns-in-Err-clause-refused
 returns-in-Err-clause-refused g c =
-    trying_refused _ c.args.self.now.sound.holds _ c.args.client c.args.op.now _ c.in-Err.refusal c.try_call.ensures.happens (ap turn_answer c.in-Err.is)
+    trying_refused _ c.args.self.now.sound.invariant.holds _ c.args.client c.args.op.now _ c.in-Err.refusal c.try_call.ensures.happens (ap turn_answer c.in-Err.is)

@@ -1,5 +1,5 @@
 use Rattle.std.proofs.Common.{◌≡◌, IfOk, ◌∙◌, subst, sym}
-use Rattle.assise_machine_laws.specs.World.{received_by_all}
+use Rattle.assise_model_world.specs.World.{received_by_all}
 use Rattle.assise_machine_state.specs.Whole.{machine_of}
 use Rattle.assise_machine.proofs.Alone.{if_ok_from}
 use Rattle.assise_machine.proofs.Replicated.{acked_seen}

@@ -2,7 +2,7 @@ use Rattle.std.proofs.Common.{◌≡◌, ℕ, Bool, List, ◌∷◌, ◌∙◌, 
 use Rattle.assise_record.specs.LogRecord.{LogRecord}
 use Rattle.assise_private_log.specs.NumberedLog.{is_border}
 use Rattle.assise_machine_state.specs.NodeValues.{log_in, with_log_in, with_records}
-use Rattle.assise_machine_state.proofs.Taking.{one_taken}
+use Rattle.assise_machine_state.proofs.RecordsTaken.{one_taken}
 use Rattle.assise_machine_state.proofs.nodes.Nodes.+take_in.Goals as goal
 
 pub returns : goal.returns

@@ -17,7 +17,7 @@ returns-then-client-eq0-clause-ok g c = (
 )
 
 pub acked-requires-clause-shape : goal.acked-requires-clause-shape
-acked-requires-clause-shape g c = c.args.self.now.shape
+acked-requires-clause-shape g c = c.args.self.now.invariant.shape
 
 pub returns-clause-acked : goal.returns-clause-acked
 unfolding observed

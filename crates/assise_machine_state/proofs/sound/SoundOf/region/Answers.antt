@@ -7,7 +7,7 @@ use Rattle.assise_manager.specs.Standings.{standing_of}
 use Rattle.assise_manager.specs.Whole.{membership}
 use Rattle.assise_machine_state.specs.Observed.{is_full_in, observed}
 use Rattle.assise_machine_state.specs.Whole.{value_of}
-use Rattle.assise_machine_state.proofs.Asking.{away_apart, away_refused, full_served, none_refused, phase_full}
+use Rattle.assise_machine_state.proofs.NodesAway.{away_disjoint, away_refused, full_served, none_refused, phase_full}
 use Rattle.assise_machine_state.proofs.Fullness.{full_number, region_is}
 use Rattle.assise_machine_state.proofs.sound.SoundOf.region.Goals as goal
 
@@ -43,7 +43,7 @@ pub region-requires : goal.region-requires
 region-requires g c =
     let nodes = (membership c.args.self.now.state.members).nodes in
     let f : is_full_in nodes c.args.node ≡ true = phase_full nodes c.args.node (sym c.phase.ensures ∙ c.in_ok-phase.was ∙ ap Ok c.in-Full.is) in
-    record { node = full_number (value_of c.args.self.now.state) c.args.node c.args.self.now.shape f }
+    record { node = full_number (value_of c.args.self.now.state) c.args.node c.args.self.now.invariant.shape f }
 
 pub returns-in-Full-clause-fault : goal.returns-in-Full-clause-fault
 unfolding observed
@@ -64,13 +64,13 @@ returns-in-Full-clause-region g c =
     let nodes = (membership c.args.self.now.state.members).nodes in
     let f : is_full_in nodes c.args.node ≡ true = phase_full nodes c.args.node (sym c.phase.ensures ∙ c.in_ok-phase.was ∙ ap Ok c.in-Full.is) in
     let s = value_of c.args.self.now.state in
-    c.region.ensures ∙ sym (region_is s c.args.node (full_number s c.args.node c.args.self.now.shape f))
+    c.region.ensures ∙ sym (region_is s c.args.node (full_number s c.args.node c.args.self.now.invariant.shape f))
 
 pub returns-in-Down : goal.returns-in-Down
 unfolding observed
 returns-in-Down g c =
     let o = standing_of (membership c.args.self.now.state.members).nodes c.args.node in
-    let other : c.in_ok-phase.field-0 ≢ Full = away_apart c.in_ok-phase.field-0 c.in-Down.is in
+    let other : c.in_ok-phase.field-0 ≢ Full = away_disjoint c.in_ok-phase.field-0 c.in-Down.is in
     let why = away_refused WrongPhase o c.in_ok-phase.field-0 (sym c.phase.ensures ∙ c.in_ok-phase.was) other in
     record {
       fault = λ e fault. ap Err (same_refusal WrongPhase e (sym why ∙ fault));

@@ -3,12 +3,12 @@ use Rattle.assise_private_log.specs.NumberedLog.{end}
 use Rattle.assise_digest.specs.Region.{HasClient, log_of}
 use Rattle.assise_manager.specs.Standings.{full_nodes}
 use Rattle.assise_manager.specs.Whole.{membership}
-use Rattle.assise_machine_laws.specs.World.{least_of}
+use Rattle.assise_model_world.specs.World.{least_of}
 use Rattle.assise_machine_state.specs.ClientValues.{client_in}
 use Rattle.assise_machine_state.specs.NodeValues.{log_in}
 use Rattle.assise_machine_state.specs.Observed.{own_node}
 use Rattle.assise_machine_state.specs.Whole.{value_of}
-use Rattle.assise_machine_state.proofs.Owning.{all_taken, least_digested, next_least, next_log}
+use Rattle.assise_machine_state.proofs.OwnLogs.{all_taken, least_digested, next_least, next_log}
 use Rattle.assise_machine_state.proofs.state.StateOf.digested.Goals as goal
 
 pub region-requires : goal.region-requires

@@ -2,7 +2,7 @@ use Rattle.std.proofs.Common.{◌≡◌, take}
 use Rattle.assise_private_log.specs.NumberedLog.{end}
 use Rattle.assise_manager.specs.Standings.{full_nodes}
 use Rattle.assise_manager.specs.Whole.{membership}
-use Rattle.assise_machine_laws.specs.World.{least_of}
+use Rattle.assise_model_world.specs.World.{least_of}
 use Rattle.assise_machine_state.specs.ClientValues.{client_in}
 use Rattle.assise_machine_state.specs.NodeValues.{log_in}
 use Rattle.assise_machine_state.specs.Observed.{own_node}

@@ -4,7 +4,7 @@ use Rattle.assise_machine_state.specs.ClientValues.{client_in}
 use Rattle.assise_machine_state.specs.NodeValues.{HasLog}
 use Rattle.assise_machine_state.specs.Observed.{own_node}
 use Rattle.assise_machine_state.specs.Whole.{value_of}
-use Rattle.assise_machine_state.proofs.Owning.{own_log, own_of_failed, own_of_unfailed}
+use Rattle.assise_machine_state.proofs.OwnLogs.{own_log, own_of_failed, own_of_unfailed}
 use Rattle.assise_machine_state.proofs.state.StateOf.own_node.Given as given
 use Rattle.assise_machine_state.proofs.state.StateOf.own_node.Goals as goal
 

@@ -2,11 +2,11 @@ use Rattle.std.proofs.Common.{◌≡◌, ℕ, ◌+◌, ◌∙◌, take, get_or, 
 use Rattle.std.proofs.lemmas.Bool.{eq-eqb, ne_eqb}
 use Rattle.assise_private_log.specs.NumberedLog.{end}
 use Rattle.assise_digest.specs.Region.{HasClient, log_of}
-use Rattle.assise_machine_events.specs.Dsyncs.{besides, most_of}
+use Rattle.assise_model_events.specs.Dsyncs.{besides, most_of}
 use Rattle.assise_machine_state.specs.NodeValues.{log_in}
 use Rattle.assise_machine_state.specs.Whole.{value_of}
 use Rattle.assise_machine_state.proofs.Besides.{next_most, next_same}
-use Rattle.assise_machine_state.proofs.Owning.{all_taken, next_log}
+use Rattle.assise_machine_state.proofs.OwnLogs.{all_taken, next_log}
 use Rattle.assise_machine_state.proofs.state.StateOf.received_besides.Goals as goal
 use Rattle.assise_machine_state.proofs.state.StateOf.received_besides.Goals.{then-node-home, else-node-home}
 

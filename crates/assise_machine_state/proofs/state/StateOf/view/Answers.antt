@@ -1,5 +1,5 @@
 use Rattle.assise_machine_state.specs.Whole.{value_of}
-use Rattle.assise_machine_state.proofs.Owning.{home_known, home_log}
+use Rattle.assise_machine_state.proofs.OwnLogs.{home_known, home_log}
 use Rattle.assise_machine_state.proofs.state.StateOf.view.Goals as goal
 
 pub region-requires : goal.region-requires

@@ -16,5 +16,5 @@ loop-name-preserved g c =
 pub returns-clause-keys : goal.returns-clause-keys
 returns-clause-keys g c = sym (append-nil c.loop-name.names.items) ∙ ap (λ ns. c.loop-name.names.items ++ ns) (sym c.in-None.ensures.steps.0) ∙ c.loop-name.invariant
 
-pub returns-clause-rising : goal.returns-clause-rising
-returns-clause-rising g c = subst (IsStrictlySortedBy (slice_cmp nat_cmp)) (sym (returns-clause-keys g c)) c.keys-name-items.ensures.ordered
+pub returns-clause-ascending : goal.returns-clause-ascending
+returns-clause-ascending g c = subst (IsStrictlySortedBy (slice_cmp nat_cmp)) (sym (returns-clause-keys g c)) c.keys-name-items.ensures.ordered

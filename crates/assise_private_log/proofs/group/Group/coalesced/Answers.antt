@@ -1,6 +1,6 @@
 use Rattle.std.proofs.Common.{◌≡◌, length, ap, sym, ◌∙◌, arith}
 use Rattle.assise_record.specs.Groups.{coalesced_group}
-use Rattle.assise_record.proofs.Grouping.{group-shorter}
+use Rattle.assise_record.proofs.GroupRest.{group-shorter}
 use Rattle.assise_private_log.proofs.LogGroups.{left_all}
 use Rattle.assise_private_log.proofs.group.Group.coalesced.Goals as goal
 

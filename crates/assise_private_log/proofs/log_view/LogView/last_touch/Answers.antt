@@ -1,5 +1,5 @@
 use Rattle.std.proofs.Common.{rules}
-use Rattle.assise_private_log.proofs.Touching.{last_of_place, no_last}
+use Rattle.assise_private_log.proofs.TouchedNumbers.{last_of_place, no_last}
 use Rattle.assise_private_log.proofs.log_view.LogView.last_touch.Goals as goal
 
 pub returns-in_err-place-clause-last : goal.returns-in_err-place-clause-last

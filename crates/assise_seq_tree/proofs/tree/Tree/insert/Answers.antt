@@ -3,7 +3,7 @@ use Rattle.assise_seq_tree.specs.Tree.{IsOrdered}
 use Rattle.assise_seq_tree.specs.View.{tree_of}
 use Rattle.assise_seq_tree.proofs.Walk.{fails_at_none, put_file}
 use Rattle.assise_seq_tree.proofs.Order.{ordered-after}
-use Rattle.assise_seq_tree.proofs.Entering.{put_entry, new_entry}
+use Rattle.assise_seq_tree.proofs.EntryAdded.{put_entry, new_entry}
 use Rattle.assise_seq_tree.proofs.tree.Tree.insert.Goals as goal
 use Rattle.assise_seq_tree.proofs.tree.Tree.insert.Goals.{in-File, in-Directory+in_ok-insert-in-Directory}
 

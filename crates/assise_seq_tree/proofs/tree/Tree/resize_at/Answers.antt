@@ -1,7 +1,7 @@
 use Rattle.std.proofs.Common.{◌∙◌, ap}
 use Rattle.std.proofs.lemmas.Result.{on_ok_weaker, on_err_weaker}
 use Rattle.assise_seq_tree.specs.Tree.{file, at, put}
-use Rattle.assise_seq_tree.proofs.Replacing.{at-put, put-at, exchanged}
+use Rattle.assise_seq_tree.proofs.TreePut.{at-put, put-at, exchanged}
 use Rattle.assise_seq_tree.proofs.tree.Tree.resize_at.Goals as goal
 
 pub returns-clause-ok : goal.returns-clause-ok

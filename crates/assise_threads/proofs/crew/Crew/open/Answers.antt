@@ -1,6 +1,6 @@
 use Rattle.std.proofs.Common.{rules, ◌≡◌, ap, refl, subst}
-use Rattle.assise_keeper.proofs.Adding.{extends-same}
-use Rattle.assise_console.specs.declared.answer.Answer.TheVariants.{Client}
+use Rattle.assise_keeper.proofs.PassAdds.{extends-same}
+use Rattle.assise_console.specs.declared.response.Response.TheVariants.{Client}
 use Rattle.assise_libfs.specs.Clients.{client_of, seen_by}
 use Rattle.assise_libfs.specs.Lives.{IsOpenedAs}
 use Rattle.assise_threads.specs.Answered.{is_opened, is_refused}

@@ -1,7 +1,7 @@
 use Rattle.std.proofs.Common.{◌≡◌, ◌≤◌, ◌∙◌, ap, length, sym, subst, take, arith}
 use Rattle.assise_threads.specs.CallsAhead.{calls_ahead, is_one}
 use Rattle.assise_threads.specs.Stretches.{AreCalls}
-use Rattle.assise_threads.proofs.Ahead.{calls_in_front, few_ahead, first_is_none, first_taken}
+use Rattle.assise_threads.proofs.Ahead.{calls_in_prefix, few_ahead, first_is_none, first_taken}
 use Rattle.assise_threads.proofs.crew.Crew.run_next.Goals as goal
 
 pub returns-then-calls-eq0-clause-said : goal.returns-then-calls-eq0-clause-said
@@ -15,7 +15,7 @@ pub split_at-requires : goal.split_at-requires
 split_at-requires g c = let few : calls_ahead c.args.commands.now ≤ length c.args.commands.now = few_ahead c.args.commands.now in omega (arith, few, c.calls_ahead-calls.ensures)
 
 pub run_calls-requires-clause-calls : goal.run_calls-requires-clause-calls
-run_calls-requires-clause-calls g c = λ bounds lives. subst AreCalls (ap (λ n. take n c.args.commands.now) (sym c.calls_ahead-calls.ensures) ∙ sym c.split_at.ensures.front) (calls_in_front c.args.commands.now)
+run_calls-requires-clause-calls g c = λ bounds lives. subst AreCalls (ap (λ n. take n c.args.commands.now) (sym c.calls_ahead-calls.ensures) ∙ sym c.split_at.ensures.front) (calls_in_prefix c.args.commands.now)
 
 pub returns-clause-some : goal.returns-clause-some
 returns-clause-some g c =

@@ -1,6 +1,6 @@
 use Rattle.std.proofs.Common.{[], refl, subst}
 use Rattle.std.specs.Io.KnownBytes.{Appends}
-use Rattle.assise_console.specs.declared.answer.Answer.TheVariants.{History as Whole}
+use Rattle.assise_console.specs.declared.response.Response.TheVariants.{History as Whole}
 use Rattle.assise_threads.specs.Spoken.{stays}
 use Rattle.assise_threads.specs.Threads.{main_seen}
 use Rattle.assise_threads.proofs.RunOn.{line_shows_none, on_ok}

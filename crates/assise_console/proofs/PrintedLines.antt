@@ -1,0 +1,74 @@
+-- One line more of what is printed.
+use Rattle.std.proofs.Common.{ℕ, List, [], ◌∷◌, ◌++◌, Option, Some, None, Result, Ok, Err, OnOk, refl, ap, sym, subst, ◌∙◌, append_assoc, append-nil}
+use Rattle.std.specs.Io.KnownBytes.{Appends, Keeps}
+use Rattle.assise_fault_script.specs.declared.parse.NumberedCommand.{NumberedCommand}
+use Rattle.assise_console.specs.declared.response.Response.{Response}
+use Rattle.assise_console.specs.declared.fault.EngineFault.{EngineFault}
+use Rattle.assise_console.specs.declared.fault.EngineFault.TheVariants.{Read, Script, Memory, Write, NeedsSerial, NoThread}
+use Rattle.assise_console.specs.Engines.{FaultFrom, FaultOf, IsInput, IsReadFault}
+use Rattle.assise_rounds.specs.Traces.{Told}
+use Rattle.assise_console.specs.Lines.{Prints, line_text}
+use Rattle.assise_console.specs.State.{ConsoleState}
+use Rattle.assise_console.specs.Steps.{Serves}
+
+pub appends-none : (u : Option (List ℕ)) → Appends u u []
+appends-none None = tt
+appends-none (Some xs) = sym (append-nil xs)
+
+pub appends-then : (u v w : Option (List ℕ)) (a b : List ℕ) → Appends u v a → Appends v w b → Appends u w (a ++ b)
+appends-then None v w a b x y = tt
+appends-then (Some xs) None w a b x y = absurd x
+appends-then (Some xs) (Some ys) None a b x y = y
+appends-then (Some xs) (Some ys) (Some zs) a b x y = y ∙ ap (λ (t : List ℕ). t ++ b) x ∙ append_assoc xs a b
+
+pub appends-keeps : (u v w : Option (List ℕ)) (a : List ℕ) → Appends u v a → Keeps v w → Appends u w a
+appends-keeps None v w a x y = tt
+appends-keeps (Some xs) None w a x y = absurd x
+appends-keeps (Some xs) (Some ys) None a x y = y
+appends-keeps (Some xs) (Some ys) (Some zs) a x y = y ∙ x
+
+pub prints-push : (s : ConsoleState) (ls : List NumberedCommand) (es : Told) (text : List ℕ) (t : ConsoleState) (l : NumberedCommand) (fs : Told) (a : Response) (u : ConsoleState) → Prints s ls es text t → Serves t l.command fs a u → Prints s (ls ++ l ∷ []) (es ++ fs) (text ++ line_text l.line u.machine.history a) u
+prints-push s [] es text t l fs a u p q = record {
+  answer = a;
+  next = u;
+  now = fs;
+  later = [];
+  rest = [];
+  serves = subst (λ v. Serves v l.command fs a u) p.1.1 q;
+  told = ap (λ xs. xs ++ fs) p.0 ∙ sym (append-nil fs);
+  line = ap (λ xs. xs ++ line_text l.line u.machine.history a) p.1.0 ∙ sym (append-nil (line_text l.line u.machine.history a));
+  others = (refl, (refl, refl));
+}
+prints-push s (k ∷ ls) es text t l fs a u p q = record {
+  answer = p.answer;
+  next = p.next;
+  now = p.now;
+  later = p.later ++ fs;
+  rest = p.rest ++ line_text l.line u.machine.history a;
+  serves = p.serves;
+  told = ap (λ xs. xs ++ fs) p.told ∙ append_assoc p.now p.later fs;
+  line = ap (λ xs. xs ++ line_text l.line u.machine.history a) p.line ∙ append_assoc (line_text k.line p.next.machine.history p.answer) p.rest (line_text l.line u.machine.history a);
+  others = prints-push p.next ls p.later p.rest t l fs a u p.others q;
+}
+
+pub on_ok : {X E : Type 0} (r : Result X E) (P Q : Type 0) → OnOk r P → (P → Q) → OnOk r Q
+on_ok (Ok x) P Q p f = f p
+on_ok (Err e) P Q p f = tt
+
+-- a reader's failure leaves what was written
+pub read_failed : (e : EngineFault) (known old : Option (List ℕ)) → IsReadFault e → FaultFrom e known old old
+read_failed Read known old h = refl
+read_failed Memory known old h = refl
+read_failed (Script line fault) known old h = absurd h
+read_failed Write known old h = absurd h
+read_failed (NeedsSerial line command) known old h = absurd h
+read_failed NoThread known old h = absurd h
+
+-- a fault of the bytes that were read is one of what the reader gave
+pub fault_from : (e : EngineFault) (known old new : Option (List ℕ)) (input : List ℕ) → IsInput known input → FaultOf e input old new → FaultFrom e known old new
+fault_from Read known old new input read h = absurd h
+fault_from Memory known old new input read h = h.1
+fault_from (Script line fault) known old new input read h = (input, (read, h))
+fault_from Write known old new input read h = (input, (read, h))
+fault_from (NeedsSerial line command) known old new input read h = absurd h
+fault_from NoThread known old new input read h = absurd h

@@ -1,0 +1,47 @@
+// What commands answer.
+use assise_names::refusal::Refusal;
+use assise_names::reply::Reply;
+use assise_seq_tree::tree::Tree;
+
+/// What a command answers.
+#[derive(Drop)]
+pub enum Response {
+    /// Nothing is printed.
+    Quiet,
+    /// The client that was opened.
+    Client(u32),
+    /// The reply of a call.
+    Replied(Reply),
+    /// A lease or a replication is awaited, and the call isn't tried again.
+    Waits,
+    /// What was asked for isn't done.
+    Refused(Refusal),
+    /// How many frames were taken in.
+    Carried(u64),
+    /// How many records were digested.
+    Digested(usize),
+    /// How many leases of clients went.
+    Released(usize),
+    /// The node whose link is another now.
+    Linked(u32),
+    /// The node at which so many inodes may be hot now.
+    HotSet(u32),
+    /// The client that crashed.
+    Crashed(u32),
+    /// The node that failed, and each client that lost a record, with its first lost call.
+    Failed(u32, Vec<(u32, u64)>),
+    /// The node that begins to come back, and how many inodes it may lack.
+    Began(u32, usize),
+    /// How many inodes a node may lack then.
+    Left(usize),
+    /// The node that is full again.
+    Returned(u32),
+    /// The node that reads and sends version 2 of frames now.
+    Raised(u32),
+    /// The tree of a node is printed.
+    Tree(Tree),
+    /// The history so far is printed.
+    History,
+    /// Whether the history so far is legal.
+    Checked(bool),
+}

@@ -1,0 +1,28 @@
+-- What a request does to the cluster that it finds is a trace of events.
+use Rattle.std.proofs.Common.{ℕ, List, Result}
+use Rattle.assise_names.specs.declared.reply.Reply.{Reply}
+use Rattle.assise_model_events.specs.Machine.{Machine}
+use Rattle.assise_rounds.specs.Traces.{IsEventTrace, Told}
+use Rattle.assise_rounds.proofs.ReturnTrace.{return_trace}
+use Rattle.assise_rounds.proofs.Traces.{event_trace, nothing_trace, round_trace}
+use Rattle.assise_files.proofs.TriesTrace.{call_trace}
+use Rattle.assise_desk.specs.declared.desk_call.ClientCall.{ClientCall}
+use Rattle.assise_desk.specs.declared.desk_call.ClusterCall.{ClusterCall}
+use Rattle.assise_desk.specs.declared.desk_call.ClusterCall.TheVariants.{Open, Crash, Fail, Back, Legal, Round, History}
+use Rattle.assise_desk.specs.declared.desk_fault.DeskFault.{DeskFault}
+use Rattle.assise_desk.specs.declared.desk_request.DeskRequest.{DeskRequest}
+use Rattle.assise_desk.specs.DeskAnswers.{CallsAt, DoesAt, asks_for_none, is_called}
+
+pub cluster_trace : (call : ClusterCall) (r : DeskRequest) (result : Result ℕ DeskFault) (out : List ℕ) (m : Machine) (es : Told) (m' : Machine) → DoesAt call r result out m es m' → IsEventTrace m es m'
+cluster_trace Open r result out m es m' h = event_trace _ _ m es m' h.event
+cluster_trace Crash r result out m es m' h = event_trace _ _ m es m' h.event
+cluster_trace Fail r result out m es m' h = event_trace _ _ m es m' h.event
+cluster_trace Back r result out m es m' h = return_trace r.node h.returned m es m' h.comes_back
+cluster_trace Legal r result out m es m' h = nothing_trace m es m' h.nothing
+cluster_trace Round r result out m es m' h = round_trace m es m' h.round.does
+cluster_trace History r result out m es m' h = nothing_trace m es m' h.nothing
+
+pub client_trace : (turns : ℕ) (call : ClientCall) (r : DeskRequest) (bytes : List ℕ) (result : Result Reply DeskFault) (m : Machine) (es : Told) (m' : Machine) →
+    CallsAt turns call r bytes result m es m' → IsEventTrace m es m'
+client_trace turns call r bytes result m es m' (is_called op answer asked tried result_is) = call_trace turns r.client op answer m es m' tried
+client_trace turns call r bytes result m es m' (asks_for_none fault none result_is nothing) = nothing_trace m es m' nothing

@@ -1,0 +1,241 @@
+-- What is kept of inodes beside the area, inode by inode.
+use Rattle.std.proofs.Common.{◌≡◌, ◌≢◌, ◌⊎◌, ◌||◌, ◌==◌, ◌+◌, ◌<◌, ℕ, zero, suc, length, drop, slice_index_or, arith, Bool, true, false, cond, if◌then◌else◌, List, [], ◌∷◌, Option, Some, None, IsSome, refl, sym, ap, subst, ◌∙◌, inl, inr, is_some, true≢false}
+use Rattle.std.proofs.lemmas.Bool.{eq-eqb, ne_eqb, cases_eq}
+use Rattle.std.proofs.lemmas.List.{at_drop_more}
+use Rattle.std.specs.Cmp.{nat_cmp_total}
+use Rattle.std.specs.Ordering.{nat_cmp}
+use Rattle.std.specs.Option.{option_map_or}
+use Rattle.std.specs.FinMap as map
+use Rattle.assise_record.specs.declared.effect.Effect.{Effect}
+use Rattle.assise_record.specs.Touched.{touched_by}
+use Rattle.assise_inode_table.specs.Contents.{Content, InodeMap}
+use Rattle.assise_inode_table.specs.Effects.{contains, touched, with_value}
+use Rattle.assise_inode_table.proofs.EffectValues.{get-with_value, same_number}
+use Rattle.assise_digest.specs.Pending.{HasAllNumbers, IsNew, KeepsNoMore, all_held, forgotten, held, loaded_in_turn, is_last, let_go, last_noted}
+use Rattle.assise_digest.specs.declared.pending.Pending.{Pending}
+
+-- ---- finite maps of numbers
+
+pub get-set : (l : map.FinMap nat_cmp ℕ) (i n q : ℕ) → map.get (map.insert l i n) q ≡ (if i == q then Some n else map.get l q)
+get-set l i n q = map.get-insert nat_cmp_total l i n q ∙ ap (λ b. cond b (Some n) (map.get l q)) (same_number q i)
+
+pub get-cut : {X : Type 0} (l : map.FinMap nat_cmp X) (i q : ℕ) → map.get (map.remove l i) q ≡ (if i == q then None else map.get l q)
+get-cut l i q = map.get-remove nat_cmp_total l i q ∙ ap (λ b. cond b None (map.get l q)) (same_number q i)
+
+-- ---- what is kept of one inode: the number of a record, and the value
+
+abbrev pub point : Pending → ℕ → Option ℕ × Option Content
+point p q = (map.get p.last q, map.get p.inodes q)
+
+pub same_pending : (p r : Pending) → ((q : ℕ) → point p q ≡ point r q) → p ≡ r
+same_pending p r same =
+    ap (λ m. record { inodes = m; last = p.last }) (map.same_map nat_cmp_total map.nat_cmp-IsAntisymmetric p.inodes r.inodes (λ q. ap (λ x. x.1) (same q)))
+    ∙ ap (λ l. record { inodes = r.inodes; last = l }) (map.same_map nat_cmp_total map.nat_cmp-IsAntisymmetric p.last r.last (λ q. ap (λ x. x.0) (same q)))
+
+-- a step at each inode of a list, of which a second one at the same inode changes nothing more
+module _ (step : Pending → ℕ → Pending) (f : ℕ → Option ℕ × Option Content → Option ℕ × Option Content)
+    (stepped : (p : Pending) (i q : ℕ) → point (step p i) q ≡ (if i == q then f q (point p q) else point p q))
+    (once : (q : ℕ) (x : Option ℕ × Option Content) → f q (f q x) ≡ f q x) where
+  pub points : (p : Pending) (is : List ℕ) (q : ℕ) → point (loaded_in_turn step p is) q ≡ (if contains is q then f q (point p q) else point p q)
+  points p [] q = refl
+  points p (i ∷ is) q = points (step p i) is q ∙ ap (λ x. if contains is q then f q x else x) (stepped p i q) ∙ go (i == q) (contains is q)
+    where
+      go : (a b : Bool) → (if b then f q (if a then f q (point p q) else point p q) else (if a then f q (point p q) else point p q)) ≡ (if (a || b) then f q (point p q) else point p q)
+      go true true = once q (point p q)
+      go true false = refl
+      go false true = refl
+      go false false = refl
+
+-- ---- an inode is kept as it is
+
+abbrev pub kept_at : InodeMap → ℕ → ℕ → Option ℕ × Option Content → Option ℕ × Option Content
+kept_at m n q x = if is_some x.0 then x else (Some n, map.get m q)
+
+kept_once : (m : InodeMap) (n q : ℕ) (x : Option ℕ × Option Content) → kept_at m n q (kept_at m n q x) ≡ kept_at m n q x
+kept_once m n q (None, v) = refl
+kept_once m n q (Some k, v) = refl
+
+pub held_point : (m : InodeMap) (n : ℕ) (p : Pending) (i q : ℕ) → point (held p m n i) q ≡ (if i == q then kept_at m n q (point p q) else point p q)
+held_point m n p i q =
+    elim (cases_eq i q) [
+      | inl same ↦ at_same q same ∙ sym (ap (λ b. if b then kept_at m n q (point p q) else point p q) (eq-eqb i q same))
+      | inr other ↦ at_other q other (is_some (map.get p.last i)) ∙ sym (ap (λ b. if b then kept_at m n q (point p q) else point p q) (ne_eqb i q other))
+    ]
+  where
+    put : Pending
+    put = record { inodes = with_value p.inodes i (map.get m i); last = map.insert p.last i n }
+
+    at_put : (q : ℕ) → (b : Bool) → (i == q) ≡ b → point put q ≡ (if b then (Some n, map.get m i) else point p q)
+    at_put q true e =
+        ap (λ o. (o, map.get put.inodes q)) (get-set p.last i n q ∙ ap (λ b. if b then Some n else map.get p.last q) e)
+        ∙ ap (λ v. (Some n, v)) (get-with_value p.inodes i (map.get m i) q ∙ ap (λ b. if b then map.get m i else map.get p.inodes q) e)
+    at_put q false e =
+        ap (λ o. (o, map.get put.inodes q)) (get-set p.last i n q ∙ ap (λ b. if b then Some n else map.get p.last q) e)
+        ∙ ap (λ v. (map.get p.last q, v)) (get-with_value p.inodes i (map.get m i) q ∙ ap (λ b. if b then map.get m i else map.get p.inodes q) e)
+
+    at_itself : (b : Bool) → point (if b then p else put) i ≡ (if b then point p i else (Some n, map.get m i))
+    at_itself true = refl
+    at_itself false = at_put i true (eq-eqb i i refl)
+
+    at_same : (q : ℕ) → i ≡ q → point (held p m n i) q ≡ kept_at m n q (point p q)
+    at_same q same = subst (λ r. point (held p m n i) r ≡ kept_at m n r (point p r)) same (at_itself (is_some (map.get p.last i)))
+
+    at_other : (q : ℕ) → i ≢ q → (b : Bool) → point (if b then p else put) q ≡ point p q
+    at_other q other true = refl
+    at_other q other false = at_put q false (ne_eqb i q other)
+
+pub all_held_point : (m : InodeMap) (n : ℕ) (p : Pending) (es : List Effect) (q : ℕ) → point (all_held p m n es) q ≡ (if contains (touched es) q then kept_at m n q (point p q) else point p q)
+all_held_point m n p es q = points (λ r i. held r m n i) (kept_at m n) (held_point m n) (kept_once m n) p (touched es) q
+
+-- ---- an inode goes that no other record touches
+
+abbrev pub left_at : ℕ → Option ℕ × Option Content → Option ℕ × Option Content
+left_at n x = if option_map_or (λ k. k == n) x.0 false then (None, None) else x
+
+left_once : (n q : ℕ) (x : Option ℕ × Option Content) → left_at n (left_at n x) ≡ left_at n x
+left_once n q (None, v) = refl
+left_once n q (Some k, v) = go (k == n) refl
+  where
+    go : (b : Bool) → (k == n) ≡ b → left_at n (if b then (None, None) else (Some k, v)) ≡ (if b then (None, None) else (Some k, v))
+    go true e = refl
+    go false e = ap (λ b. if b then (None, None) else (Some k, v)) e
+
+pub let_go_point : (n : ℕ) (p : Pending) (i q : ℕ) → point (let_go p n i) q ≡ (if i == q then left_at n (point p q) else point p q)
+let_go_point n p i q =
+    elim (cases_eq i q) [
+      | inl same ↦ at_same q same ∙ sym (ap (λ b. if b then left_at n (point p q) else point p q) (eq-eqb i q same))
+      | inr other ↦ at_other q other (is_last p n i) ∙ sym (ap (λ b. if b then left_at n (point p q) else point p q) (ne_eqb i q other))
+    ]
+  where
+    cut : Pending
+    cut = record { inodes = map.remove p.inodes i; last = map.remove p.last i }
+
+    at_cut : (q : ℕ) → (b : Bool) → (i == q) ≡ b → point cut q ≡ (if b then (None, None) else point p q)
+    at_cut q true e =
+        ap (λ o. (o, map.get cut.inodes q)) (get-cut p.last i q ∙ ap (λ b. if b then None else map.get p.last q) e)
+        ∙ ap (λ v. (None, v)) (get-cut p.inodes i q ∙ ap (λ b. if b then None else map.get p.inodes q) e)
+    at_cut q false e =
+        ap (λ o. (o, map.get cut.inodes q)) (get-cut p.last i q ∙ ap (λ b. if b then None else map.get p.last q) e)
+        ∙ ap (λ v. (map.get p.last q, v)) (get-cut p.inodes i q ∙ ap (λ b. if b then None else map.get p.inodes q) e)
+
+    at_itself : (b : Bool) → point (if b then cut else p) i ≡ (if b then (None, None) else point p i)
+    at_itself true = at_cut i true (eq-eqb i i refl)
+    at_itself false = refl
+
+    at_same : (q : ℕ) → i ≡ q → point (let_go p n i) q ≡ left_at n (point p q)
+    at_same q same = subst (λ r. point (let_go p n i) r ≡ left_at n (point p r)) same (at_itself (is_last p n i))
+
+    at_other : (q : ℕ) → i ≢ q → (b : Bool) → point (if b then cut else p) q ≡ point p q
+    at_other q other true = at_cut q false (ne_eqb i q other)
+    at_other q other false = refl
+
+pub forgotten_point : (n : ℕ) (p : Pending) (es : List Effect) (q : ℕ) → point (forgotten p n es) q ≡ (if contains (touched es) q then left_at n (point p q) else point p q)
+forgotten_point n p es q = points (λ r i. let_go r n i) (λ q. left_at n) (let_go_point n) (left_once n) p (touched es) q
+
+-- ---- what was kept is let go again
+
+-- nothing goes where no inode has the number
+pub nothing_forgotten : (p : Pending) (n : ℕ) (es : List Effect) → IsNew p n → forgotten p n es ≡ p
+nothing_forgotten p n es new = same_pending _ _ (λ q. forgotten_point n p es q ∙ go q (contains (touched es) q))
+  where
+    go : (q : ℕ) (b : Bool) → (if b then left_at n (point p q) else point p q) ≡ point p q
+    go q true = ap (λ b. if b then (None, None) else point p q) (new q)
+    go q false = refl
+
+-- an inode that is kept for an effect goes with the others
+pub forgotten_again : (p : Pending) (m : InodeMap) (n i : ℕ) (es : List Effect) → KeepsNoMore p → contains (touched es) i ≡ true → forgotten (held p m n i) n es ≡ forgotten p n es
+forgotten_again p m n i es no_more among =
+    same_pending _ _ (λ q.
+    forgotten_point n (held p m n i) es q ∙ ap (λ x. if contains (touched es) q then left_at n x else x) (held_point m n p i q)
+    ∙ go q (i == q) (contains (touched es) q) refl refl ∙ sym (forgotten_point n p es q))
+  where
+    both : (q : ℕ) (o : Option ℕ) → map.get p.last q ≡ o → left_at n (kept_at m n q (o, map.get p.inodes q)) ≡ left_at n (o, map.get p.inodes q)
+    both q None e = ap (λ b. if b then (None, None) else (Some n, map.get m q)) (eq-eqb n n refl) ∙ sym (ap (λ v. (None, v)) (no_more q e))
+    both q (Some k) e = refl
+
+    go : (q : ℕ) (a b : Bool) → (i == q) ≡ a → contains (touched es) q ≡ b
+        → (if b then left_at n (if a then kept_at m n q (point p q) else point p q) else (if a then kept_at m n q (point p q) else point p q)) ≡ (if b then left_at n (point p q) else point p q)
+    go q true true e f = both q (map.get p.last q) refl
+    go q false true e f = refl
+    go q false false e f = refl
+    go q true false e f =
+        elim (cases_eq i q) [
+          | inl same ↦ absurd (true≢false (sym among ∙ ap (contains (touched es)) same ∙ f))
+          | inr other ↦ absurd (true≢false (sym e ∙ ne_eqb i q other))
+        ]
+
+pub held_no_more : (p : Pending) (m : InodeMap) (n i : ℕ) → KeepsNoMore p → KeepsNoMore (held p m n i)
+held_no_more p m n i no_more q none = go (i == q) (ap (λ x. x.0) (held_point m n p i q)) (ap (λ x. x.1) (held_point m n p i q))
+  where
+    some : (b : Bool) (o : Option ℕ) → None ≡ (kept_at m n q (o, map.get p.inodes q)).0 → ⊥
+    some b None e = absurd (true≢false (sym (ap is_some e)))
+    some b (Some k) e = absurd (true≢false (sym (ap is_some e)))
+
+    go : (b : Bool) → map.get (held p m n i).last q ≡ (if b then kept_at m n q (point p q) else point p q).0
+        → map.get (held p m n i).inodes q ≡ (if b then kept_at m n q (point p q) else point p q).1 → map.get (held p m n i).inodes q ≡ None
+    go true last value = absurd (some true (map.get p.last q) (sym none ∙ last))
+    go false last value = value ∙ no_more q (sym last ∙ none)
+
+-- ---- numbers
+
+pub get-noted : (l : map.FinMap nat_cmp ℕ) (n : ℕ) (es : List Effect) (q : ℕ) → map.get (last_noted l n es) q ≡ (if contains (touched es) q then Some n else map.get l q)
+get-noted l n [] q = refl
+get-noted l n (e ∷ es) q = get-noted (map.insert l (touched_by e) n) n es q ∙ ap (λ o. if contains (touched es) q then Some n else o) (get-set l (touched_by e) n q) ∙ go (touched_by e == q) (contains (touched es) q)
+  where
+    go : (a b : Bool) → (if b then Some n else (if a then Some n else map.get l q)) ≡ (if (a || b) then Some n else map.get l q)
+    go true true = refl
+    go true false = refl
+    go false true = refl
+    go false false = refl
+
+pub all_held_has : (p : Pending) (m : InodeMap) (n : ℕ) (es : List Effect) → HasAllNumbers (all_held p m n es).last es
+all_held_has p m n es q among =
+    subst IsSome (sym (ap (λ x. x.0) (all_held_point m n p es q ∙ ap (λ b. if b then kept_at m n q (point p q) else point p q) among))) (some (map.get p.last q))
+  where
+    some : (o : Option ℕ) → IsSome (kept_at m n q (o, map.get p.inodes q)).0
+    some None = refl
+    some (Some k) = refl
+
+pub set_has : (l : map.FinMap nat_cmp ℕ) (i n : ℕ) (es : List Effect) → HasAllNumbers l es → HasAllNumbers (map.insert l i n) es
+set_has l i n es has q among = subst IsSome (sym (get-set l i n q)) (go (i == q))
+  where
+    go : (b : Bool) → IsSome (if b then Some n else map.get l q)
+    go true = refl
+    go false = has q among
+
+-- ---- an effect of a list
+
+-- it is among those that are left
+pub left_after : {Y : Type 0} (F : List Effect → Y) (es : List Effect) (k : ℕ) (e : Effect) → k < length es → e ≡ slice_index_or es k e → F (e ∷ drop (k + 1) es) ≡ F (drop k es)
+left_after F es k e h is = ap (λ x. F (x ∷ drop (k + 1) es)) is ∙ sym (at_drop_more F es k e h)
+
+-- the inode that it touches is touched by the list
+pub touched_item : (es : List Effect) (k : ℕ) (e : Effect) → k < length es → e ≡ slice_index_or es k e → contains (touched es) (touched_by e) ≡ true
+touched_item [] k e h is = absurd (omega (arith, h))
+touched_item (x ∷ es) zero e h is = ap (λ b. b || contains (touched es) (touched_by e)) (eq-eqb (touched_by x) (touched_by e) (ap touched_by (sym is)))
+touched_item (x ∷ es) (suc k) e h is = ap (λ b. (touched_by x == touched_by e) || b) (touched_item es k e (omega (arith, h)) is) ∙ or_true (touched_by x == touched_by e)
+  where
+    or_true : (a : Bool) → (a || true) ≡ true
+    or_true true = refl
+    or_true false = refl
+
+-- an inode that was put in and is taken out again leaves what there was
+pub put_and_removed : (m : InodeMap) (i : ℕ) (v : Option Content) → map.get m i ≡ None → map.remove (with_value m i v) i ≡ m
+put_and_removed m i v none = map.same_map nat_cmp_total map.nat_cmp-IsAntisymmetric _ _ (λ q.
+    get-cut (with_value m i v) i q ∙ ap (λ x. if i == q then None else x) (get-with_value m i v q) ∙ go q (cases_eq i q))
+  where
+    go : (q : ℕ) → (i ≡ q) ⊎ (i ≢ q) → (if i == q then None else (if i == q then v else map.get m q)) ≡ map.get m q
+    go q (inl same) = ap (λ b. if b then None else (if b then v else map.get m q)) (eq-eqb i q same) ∙ sym none ∙ ap (map.get m) same
+    go q (inr other) = ap (λ b. if b then None else (if b then v else map.get m q)) (ne_eqb i q other)
+
+-- where a number has no inode, taking it out changes nothing
+pub nothing_removed : (m : InodeMap) (i : ℕ) → map.get m i ≡ None → m ≡ with_value m i None
+nothing_removed m i none = sym (map.same_map nat_cmp_total map.nat_cmp-IsAntisymmetric _ _ (λ q. get-with_value m i None q ∙ go q (cases_eq i q)))
+  where
+    go : (q : ℕ) → (i ≡ q) ⊎ (i ≢ q) → (if i == q then None else map.get m q) ≡ map.get m q
+    go q (inl same) = ap (λ b. if b then None else map.get m q) (eq-eqb i q same) ∙ sym none ∙ ap (map.get m) same
+    go q (inr other) = ap (λ b. if b then None else map.get m q) (ne_eqb i q other)
+
+pub none_of : {X : Type 0} (o : Option X) → is_some o ≡ false → o ≡ None
+none_of None e = refl
+none_of (Some x) e = absurd (true≢false e)

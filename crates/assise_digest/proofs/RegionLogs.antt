@@ -1,0 +1,162 @@
+-- The logs of a region, of which one changes.
+use Rattle.std.proofs.Common.{◌≡◌, ◌≢◌, ◌<◌, ◌-◌, ℕ, zero, suc, false, List, [], ◌∷◌, length, take, drop, is_some, if◌then◌else◌, true≢false, slice_index_or, slice_set, Option, Some, None, refl, sym, ap, subst, ◌∙◌, inl, inr, true, arith}
+use Rattle.std.proofs.lemmas.Bool.{cases_eq, ne_eqb}
+use Rattle.std.proofs.lemmas.List.{get_or-map, get_or-set_same, get_or-set_other, length-map, length-set, map-set}
+use Rattle.std.specs.FinMap as map
+use Rattle.assise_record.specs.Records.{all_effects}
+use Rattle.assise_inode_table.specs.Contents.{Content, InodeMap}
+use Rattle.assise_record.specs.LogRecord.{LogRecord}
+use Rattle.assise_inode_table.specs.Effects.{all_applied, contains, touched, value_after, with_value}
+use Rattle.assise_inode_table.specs.Whole.{CanBeMadeWhole}
+use Rattle.assise_inode_table.proofs.EffectLists.{append_applied, get-all_applied}
+use Rattle.assise_inode_table.proofs.EffectValues.{get-with_value, or_left, untouched, contains-both}
+use Rattle.assise_private_log.specs.NumberedLog.{NumberedLog, record_at}
+use Rattle.assise_digest.specs.Pending.{StandsFor, pending_seen}
+use Rattle.assise_digest.specs.Region.{AreWhole, HasClient, IsBegun, IsQuiet, ReceivedLog, RegionValue, TouchDisjoint, ahead, digested_by, digested_further, log_at, log_of, no_log, read_by, with_log}
+use Rattle.assise_digest.specs.Invariant.{LogsInvariant, LogInvariant, StandsHere, seen_log, seen_logs}
+use Rattle.assise_digest.specs.declared.pending.Pending.{Pending}
+use Rattle.assise_digest.specs.declared.received.Received.{Received}
+use Rattle.assise_digest.proofs.ReceivedLogs.{ahead_next, whole_drop}
+use Rattle.assise_digest.proofs.KeptStands.{seen_after, stands_beside, stands_for_none}
+
+abbrev pub region : InodeMap → ℕ → List Received → RegionValue
+region m hot xs = record { inodes = m; logs = seen_logs xs; capacity = hot }
+
+-- the place of a client
+pub in_place : {hot : ℕ} (m : InodeMap) (xs : List Received) (r : RegionValue) (c : ℕ) → region m hot xs ≡ r → HasClient r c → c - 1 < length xs
+in_place m xs r c view has =
+    let counted : length r.logs ≡ length xs = sym (ap (λ s. length s.logs) view) ∙ length-map xs seen_log in
+    omega (arith, has.some, has.there, counted)
+
+-- what stands there
+pub log_there : {hot : ℕ} (m : InodeMap) (xs : List Received) (r : RegionValue) (c : ℕ) (x : Received) → region m hot xs ≡ r → HasClient r c → x ≡ slice_index_or xs (c - 1) x → log_of r c ≡ seen_log x
+log_there m xs r c x view has is =
+    sym (ap (λ s. log_of s c) view) ∙ get_or-map seen_log xs (c - 1) x no_log (in_place m xs r c view has) ∙ ap seen_log (sym is)
+
+pub sound_there : (m : InodeMap) (xs : List Received) (k : ℕ) (x : Received) → LogsInvariant m xs → k < length xs → x ≡ slice_index_or xs k x → LogInvariant m x
+sound_there m xs k x sound h is = subst (LogInvariant m) (sym is) (sound k x h)
+
+-- another log stands in a place, and the others are as sound as before
+pub sound_others : (m w : InodeMap) (xs : List Received) (k : ℕ) (y : Received) → ((j : ℕ) (none : Received) → j ≢ k → j < length xs → LogInvariant w (slice_index_or xs j none)) → LogInvariant w y → LogsInvariant w (slice_set xs k y)
+sound_others m w xs k y others here j none h =
+    elim (cases_eq j k) [
+      | inl same ↦ subst (LogInvariant w) (sym (ap (λ n. slice_index_or (slice_set xs k y) n none) same ∙ get_or-set_same xs k y none (omega (arith, within, same)))) here
+      | inr other ↦ subst (LogInvariant w) (sym (get_or-set_other xs k j y none other)) (others j none other within)
+    ]
+  where
+    within : j < length xs
+    within = subst (λ n. j < n) (length-set xs k y) h
+
+pub sound_set : (m : InodeMap) (xs : List Received) (k : ℕ) (y : Received) → LogsInvariant m xs → LogInvariant m y → LogsInvariant m (slice_set xs k y)
+sound_set m xs k y sound here = sound_others m m xs k y (λ j none other h. sound j none h) here
+
+-- the region with another log
+pub with_one : {hot : ℕ} (m w : InodeMap) (xs : List Received) (r : RegionValue) (c : ℕ) (y : Received) → region m hot xs ≡ r
+    → region w hot (slice_set xs (c - 1) y) ≡ record { inodes = w; logs = slice_set r.logs (c - 1) (seen_log y); capacity = r.capacity }
+with_one {hot = hot} m w xs r c y view =
+    ap (λ ls. record { inodes = w; logs = ls; capacity = hot }) (map-set seen_log xs (c - 1) y ∙ ap (λ s. slice_set s.logs (c - 1) (seen_log y)) view)
+    ∙ ap (λ s. record { inodes = w; logs = slice_set r.logs (c - 1) (seen_log y); capacity = s.capacity }) view
+
+pub read_there : {hot : ℕ} (m : InodeMap) (xs : List Received) (r : RegionValue) (c i : ℕ) (x : Received) (p : Pending) → region m hot xs ≡ r → LogsInvariant m xs → HasClient r c
+    → x ≡ slice_index_or xs (c - 1) x → x.pending ≡ Some p → pending_seen p i (map.get m i) ≡ read_by r c i
+read_there m xs r c i x p view sound has is kept =
+    let here = sound_there m xs (c - 1) x sound (in_place m xs r c view has) is in
+    seen_after p m x.digested (ahead (seen_log x)) (subst (StandsHere m (seen_log x)) kept here.stands) i
+    ∙ ap (λ l. value_after i (map.get m i) (all_effects (ahead l))) (sym (log_there m xs r c x view has is))
+    ∙ ap (λ n. value_after i (map.get n i) (all_effects (ahead (log_of r c)))) (ap (λ s. s.inodes) view)
+
+-- a log changed in its place
+pub changed_there : {hot : ℕ} (F : ReceivedLog → ReceivedLog) (m : InodeMap) (xs : List Received) (r : RegionValue) (c : ℕ) (x y : Received) → region m hot xs ≡ r → HasClient r c
+    → x ≡ slice_index_or xs (c - 1) x → seen_log y ≡ F (seen_log x) → region m hot (slice_set xs (c - 1) y) ≡ with_log r c (F (log_of r c))
+changed_there F m xs r c x y view has is step =
+    with_one m m xs r c y view ∙ ap (λ n. record r { inodes = n; logs = slice_set r.logs (c - 1) (seen_log y) }) (ap (λ s. s.inodes) view)
+    ∙ ap (λ l. with_log r c l) (step ∙ ap F (sym (log_there m xs r c x view has is)))
+
+-- ---- the next record is digested
+
+pub next_whole : (x : Received) (next : LogRecord) → IsBegun (seen_log x) → AreWhole x.log.records → Some next ≡ record_at x.log x.digested → CanBeMadeWhole next.effects
+next_whole x next b w is =
+    (subst AreWhole (ahead_next (seen_log x) next b is) (whole_drop (x.digested - x.log.first) x.log.records w)).0
+
+pub digested_view : {hot : ℕ} (m w : InodeMap) (kept : ℕ) (xs : List Received) (r : RegionValue) (c : ℕ) (x y : Received) (next : LogRecord) → region m hot xs ≡ r → HasClient r c → x ≡ slice_index_or xs (c - 1) x
+    → IsBegun (seen_log x) → Some next ≡ record_at x.log x.digested → w ≡ all_applied m next.effects → kept ≡ hot → seen_log y ≡ digested_further (seen_log x) 1
+    → region w kept (slice_set xs (c - 1) y) ≡ digested_by r c 1
+digested_view m w kept xs r c x y next view has at b is applied same step =
+    let here = log_there m xs r c x view has at in
+    let prefix : take 1 (ahead (log_of r c)) ≡ next ∷ [] = ap (λ l. take 1 (ahead l)) here ∙ ap (take 1) (ahead_next (seen_log x) next b is) in
+    ap (λ n. region w n (slice_set xs (c - 1) y)) same ∙ with_one m w xs r c y view
+    ∙ ap (λ n. record r { inodes = n; logs = slice_set r.logs (c - 1) (seen_log y) })
+    (applied ∙ sym (append_applied m next.effects []) ∙ ap (λ n. all_applied n (all_effects (next ∷ []))) (ap (λ s. s.inodes) view) ∙ ap (λ rs. all_applied r.inodes (all_effects rs)) (sym prefix))
+    ∙ ap (λ l. record r { inodes = all_applied r.inodes (all_effects (take 1 (ahead (log_of r c)))); logs = slice_set r.logs (c - 1) l }) (step ∙ ap (λ l. digested_further l 1) (sym here))
+
+-- what is kept for other clients is untouched
+pub sound_beside : (m w : InodeMap) (x : Received) → LogInvariant m x → ((i : ℕ) → contains (touched (all_effects (ahead (seen_log x)))) i ≡ true → map.get w i ≡ map.get m i) → LogInvariant w x
+sound_beside m w x s same = record { begun = s.begun; whole = s.whole; stands = go x.pending s.stands }
+  where
+    go : (o : Option Pending) → StandsHere m (seen_log x) o → StandsHere w (seen_log x) o
+    go None h = tt
+    go (Some p) h = stands_beside p m w x.digested (ahead (seen_log x)) h same
+
+pub digested_sound : {hot : ℕ} (m w : InodeMap) (xs : List Received) (r : RegionValue) (c : ℕ) (x y : Received) (next : LogRecord) → region m hot xs ≡ r → HasClient r c → TouchDisjoint r → LogsInvariant m xs
+    → x ≡ slice_index_or xs (c - 1) x → Some next ≡ record_at x.log x.digested → w ≡ all_applied m next.effects → LogInvariant w y → LogsInvariant w (slice_set xs (c - 1) y)
+digested_sound m w xs r c x y next view has disjoint sound at is applied here =
+    sound_others m w xs (c - 1) y
+    (λ j none other h.
+    sound_beside m w (slice_index_or xs j none) (sound j none h)
+    (λ i among. ap (λ n. map.get n i) applied ∙ get-all_applied m next.effects i ∙ untouched i (map.get m i) next.effects (quiet j none other h i among)))
+    here
+  where
+    b : IsBegun (seen_log x)
+    b = (sound_there m xs (c - 1) x sound (in_place m xs r c view has) at).begun
+
+    seen_other : (j : ℕ) (none : Received) → j < length xs → log_at r j ≡ seen_log (slice_index_or xs j none)
+    seen_other j none h = sym (ap (λ s. log_at s j) view) ∙ get_or-map seen_log xs j none no_log h
+
+    quiet : (j : ℕ) (none : Received) → j ≢ c - 1 → j < length xs → (i : ℕ) → contains (touched (all_effects (ahead (seen_log (slice_index_or xs j none))))) i ≡ true → contains (touched next.effects) i ≡ false
+    quiet j none other h i among =
+        let theirs : contains (touched (all_effects (ahead (log_at r j)))) i ≡ true = ap (λ l. contains (touched (all_effects (ahead l))) i) (seen_other j none h) ∙ among in
+        let ours = disjoint j (c - 1) other i theirs in
+        let first : ahead (log_of r c) ≡ next ∷ ahead (digested_further (seen_log x) 1) = ap ahead (log_there m xs r c x view has at) ∙ ahead_next (seen_log x) next b is in
+        or_left (contains (touched next.effects) i) _
+        (sym (contains-both next.effects (all_effects (ahead (digested_further (seen_log x) 1))) i) ∙ sym (ap (λ rs. contains (touched (all_effects rs)) i) first) ∙ ours)
+
+pub same_item : {X : Type 0} (xs : List X) (k : ℕ) (x y : X) → k < length xs → x ≡ slice_index_or xs k x → y ≡ slice_index_or xs k y → x ≡ y
+same_item [] k x y h a b = absurd (omega (arith, h))
+same_item (z ∷ xs) zero x y h a b = a ∙ sym b
+same_item (z ∷ xs) (suc k) x y h a b = same_item xs k x y (omega (arith, h)) a b
+
+-- ---- one inode changes that no client's records touch that lives here
+
+pub sound_changed : {hot : ℕ} (m w : InodeMap) (xs : List Received) (r : RegionValue) (i : ℕ) (v : Option Content) → region m hot xs ≡ r → LogsInvariant m xs → IsQuiet r i → w ≡ with_value m i v → LogsInvariant w xs
+sound_changed m w xs r i v view sound quiet is k none h = record { begun = here.begun; whole = here.whole; stands = go x.pending refl here.stands }
+  where
+    x : Received
+    x = slice_index_or xs k none
+
+    here : LogInvariant m x
+    here = sound k none h
+
+    there : log_at r k ≡ seen_log x
+    there = sym (ap (λ s. log_at s k) view) ∙ get_or-map seen_log xs k none no_log h
+
+    value : (j : ℕ) → (j ≡ i → ⊥) → map.get w j ≡ map.get m j
+    value j other = ap (λ n. map.get n j) is ∙ get-with_value m i v j ∙ ap (λ b. if b then v else map.get m j) (ne_eqb i j (λ same. other (sym same)))
+
+    go : (o : Option Pending) → x.pending ≡ o → StandsHere m (seen_log x) o → StandsHere w (seen_log x) o
+    go None e s = tt
+    go (Some p) e s = stands_beside p m w x.digested (ahead (seen_log x)) s (λ j among. value j (λ same.
+        true≢false (sym among ∙ ap (contains (touched (all_effects (ahead (seen_log x))))) same ∙ sym (ap (λ l. contains (touched (all_effects (ahead l))) i) there) ∙ quiet k (ap (λ l. l.at_home) there ∙ ap is_some e))))
+
+-- ---- a client without records
+
+drop_nothing : {X : Type 0} (n : ℕ) → ◌≡◌ {A = List X} (drop n []) []
+drop_nothing zero = refl
+drop_nothing (suc n) = refl
+
+pub sound_empty : (m : InodeMap) (l : NumberedLog) (d : ℕ) (p : Pending) → l.records ≡ [] → d ≡ l.first → p.inodes ≡ map.empty → p.last ≡ map.empty
+    → LogInvariant m (record { log = l; digested = d; pending = Some p })
+sound_empty m l d p empty is inodes last = record {
+  begun = record { from_first = omega (arith, is); to_end = omega (arith, is) };
+  whole = subst AreWhole (sym empty) tt;
+  stands = subst (StandsFor p m d) (sym (ap (λ rs. drop (d - l.first) rs) empty ∙ drop_nothing (d - l.first))) (stands_for_none p m d inodes last);
+}

@@ -1,0 +1,81 @@
+-- What is kept beside an area stands for records that give way to others with the same net effect, once their numbers are noted.
+use Rattle.std.proofs.Common.{◌≡◌, ℕ, suc, ◌+◌, ◌||◌, Bool, true, false, if◌then◌else◌, List, [], ◌∷◌, ◌++◌, length, Option, Some, None, refl, ap, sym, ◌∙◌, arith}
+use Rattle.std.specs.Option.{option_or, is_some}
+use Rattle.std.proofs.lemmas.Bool.{false≢true}
+use Rattle.std.specs.FinMap as map
+use Rattle.std.specs.Ordering.{nat_cmp}
+use Rattle.assise_record.specs.LogRecord.{LogRecord}
+use Rattle.assise_record.specs.Records.{all_effects}
+use Rattle.assise_record.proofs.Records.{all_effects-append}
+use Rattle.assise_inode_table.specs.Contents.{InodeMap}
+use Rattle.assise_inode_table.specs.Effects.{contains, touched, value_after}
+use Rattle.assise_inode_table.proofs.Grouped.{ComeToSame}
+use Rattle.assise_inode_table.proofs.EffectValues.{contains-both, value_after-append}
+use Rattle.assise_digest.specs.Ahead.{last_touch}
+use Rattle.assise_digest.specs.Pending.{StandsFor, all_noted, last_noted}
+use Rattle.assise_digest.specs.declared.pending.Pending.{Pending}
+use Rattle.assise_digest.proofs.KeptInodes.{get-noted}
+use Rattle.assise_digest.proofs.KeptStands.{is_touched}
+
+get-all_noted : (l : map.FinMap nat_cmp ℕ) (n : ℕ) (rs : List LogRecord) (i : ℕ) → map.get (all_noted l n rs) i ≡ option_or (last_touch n rs i) (map.get l i)
+get-all_noted l n [] i = refl
+get-all_noted l n (r ∷ rs) i =
+    get-all_noted (last_noted l n r.effects) (n + 1) rs i ∙ ap (option_or (last_touch (n + 1) rs i)) (get-noted l n r.effects i)
+    ∙ go (last_touch (n + 1) rs i) (contains (touched r.effects) i) (map.get l i)
+  where
+    go : (o : Option ℕ) (b : Bool) (x : Option ℕ) → option_or o (if b then Some n else x) ≡ option_or (option_or o (if b then Some n else None)) x
+    go None true x = refl
+    go None false x = refl
+    go (Some k) b x = refl
+
+or_none : (o : Option ℕ) → o ≡ option_or o None
+or_none None = refl
+or_none (Some k) = refl
+
+or_both : (a b c : Option ℕ) → option_or (option_or a b) c ≡ option_or a (option_or b c)
+or_both None b c = refl
+or_both (Some k) b c = refl
+
+last-both : (n : ℕ) (fs rs : List LogRecord) (i : ℕ) → last_touch n (fs ++ rs) i ≡ option_or (last_touch (n + length fs) rs i) (last_touch n fs i)
+last-both n [] rs i = (let same : n ≡ n + 0 = omega arith in ap (λ k. last_touch k rs i) same ∙ or_none (last_touch (n + 0) rs i))
+last-both n (f ∷ fs) rs i =
+    (let same : (n + 1) + length fs ≡ n + suc (length fs) = omega arith in
+    ap (λ o. option_or o (if contains (touched f.effects) i then Some n else None)) (last-both (n + 1) fs rs i ∙ ap (λ k. option_or (last_touch k rs i) (last_touch (n + 1) fs i)) same)
+    ∙ or_both (last_touch (n + suc (length fs)) rs i) (last_touch (n + 1) fs i) (if contains (touched f.effects) i then Some n else None))
+
+pub renoted : (p : Pending) (m : InodeMap) (n : ℕ) (fs old new : List LogRecord) → StandsFor p m n (fs ++ old) → ComeToSame new old →
+    StandsFor (record { inodes = p.inodes; last = all_noted p.last (n + length fs) new }) m n (fs ++ new)
+renoted p m n fs old new s e = record { last = last_is; values = values_are }
+  where
+    same_some : (i : ℕ) → is_some (last_touch (n + length fs) new i) ≡ is_some (last_touch (n + length fs) old i)
+    same_some i = is_touched (n + length fs) new i ∙ e.touch i ∙ sym (is_touched (n + length fs) old i)
+
+    over : (a b c : Option ℕ) → is_some a ≡ is_some b → option_or a (option_or b c) ≡ option_or a c
+    over None None c h = refl
+    over None (Some j) c h = absurd (false≢true h)
+    over (Some j) b c h = refl
+
+    last_is : (i : ℕ) → map.get (all_noted p.last (n + length fs) new) i ≡ last_touch n (fs ++ new) i
+    last_is i =
+        get-all_noted p.last (n + length fs) new i ∙ ap (option_or (last_touch (n + length fs) new i)) (s.last i ∙ last-both n fs old i)
+        ∙ over (last_touch (n + length fs) new i) (last_touch (n + length fs) old i) (last_touch n fs i) (same_some i) ∙ sym (last-both n fs new i)
+
+    touched_same : (i : ℕ) → contains (touched (all_effects (fs ++ old))) i ≡ contains (touched (all_effects (fs ++ new))) i
+    touched_same i =
+        ap (λ es. contains (touched es) i) (all_effects-append fs old) ∙ contains-both (all_effects fs) (all_effects old) i
+        ∙ ap (λ b. contains (touched (all_effects fs)) i || b) (sym (e.touch i))
+        ∙ sym (ap (λ es. contains (touched es) i) (all_effects-append fs new) ∙ contains-both (all_effects fs) (all_effects new) i)
+
+    kept_same : (i : ℕ) → is_some (last_touch n (fs ++ old) i) ≡ is_some (last_touch n (fs ++ new) i)
+    kept_same i = is_touched n (fs ++ old) i ∙ touched_same i ∙ sym (is_touched n (fs ++ new) i)
+
+    value_same : (i : ℕ) → value_after i (map.get m i) (all_effects (fs ++ old)) ≡ value_after i (map.get m i) (all_effects (fs ++ new))
+    value_same i =
+        ap (value_after i (map.get m i)) (all_effects-append fs old) ∙ value_after-append i (map.get m i) (all_effects fs) (all_effects old)
+        ∙ sym (e.net i (value_after i (map.get m i) (all_effects fs)))
+        ∙ sym (ap (value_after i (map.get m i)) (all_effects-append fs new) ∙ value_after-append i (map.get m i) (all_effects fs) (all_effects new))
+
+    values_are : (i : ℕ) → map.get p.inodes i ≡ (if is_some (last_touch n (fs ++ new) i) then value_after i (map.get m i) (all_effects (fs ++ new)) else None)
+    values_are i =
+        s.values i ∙ ap (λ b. if b then value_after i (map.get m i) (all_effects (fs ++ old)) else None) (kept_same i)
+        ∙ ap (λ v. if is_some (last_touch n (fs ++ new) i) then v else None) (value_same i)

@@ -1,0 +1,229 @@
+-- What stands in a history with an entry more: which entries keep that a client is alive or may call, and that a node is
+-- down, and what they add to the counts. For whoever makes a history one entry at a time.
+use Rattle.std.proofs.Common.{◌≡◌, ℕ, ◌+◌, ◌<◌, Bool, true, false, ◌||◌, ◌==◌, List, [], ◌∷◌, ◌++◌, refl, ap, sym, subst, ◌∙◌, ◌⊎◌, inl, inr, arith, append_assoc, eq-eqb}
+use Rattle.std.specs.List.{list_any}
+use Rattle.std.proofs.lemmas.Bool.{or_parts, or_from}
+use Rattle.std.proofs.lemmas.List.Folds.{list_any-append}
+use Rattle.assise_names.specs.declared.durability.Durability.{Durability}
+use Rattle.assise_history.specs.declared.call.Call.{Call}
+use Rattle.assise_history.specs.declared.call.Loss.{Loss}
+use Rattle.assise_history.specs.Entries.{EntryValue, opens, calls, fails}
+use Rattle.assise_history.specs.Legal.{IsLegal, Fits, IsAlive, IsDown, IsOn, IsPastSyncs, MayCall, calls_made, clients_opened, is_call_of, is_crash_of, is_failure_of, is_opening, is_return_of, syncs}
+use Rattle.assise_history.proofs.TestedElements.{cut_end, not_nil}
+use Rattle.assise_history.proofs.Legality.{along}
+use Rattle.assise_history.proofs.ClientCounts.{made_append, next_opened, opened_append, opened_within}
+
+-- none passes of a list and one more
+none_more : {X : Type 0} (p : X → Bool) (xs : List X) (x : X) → list_any p xs ≡ false → p x ≡ false → list_any p (xs ++ x ∷ []) ≡ false
+none_more p xs x none not_it = list_any-append p xs (x ∷ []) ∙ or_from (list_any p xs) (p x || false) none (or_from (p x) false not_it refl)
+
+none_before : {X : Type 0} (p : X → Bool) (xs : List X) (x : X) → list_any p (xs ++ x ∷ []) ≡ false → (list_any p xs ≡ false) × (p x ≡ false)
+none_before p xs x none =
+    let parts = or_parts (list_any p xs) (p x || false) (sym (list_any-append p xs (x ∷ [])) ∙ none) in
+    (parts.0, (or_parts (p x) false parts.1).0)
+
+-- where an entry stood it stands with an entry more
+further : (h before since : List EntryValue) (x e : EntryValue) → h ≡ before ++ x ∷ since → h ++ e ∷ [] ≡ before ++ x ∷ (since ++ e ∷ [])
+further h before since x e split = ap (λ g. g ++ e ∷ []) split ∙ append_assoc before (x ∷ since) (e ∷ [])
+
+-- ---- a client that may call
+
+pub may_call-opened : (h : List EntryValue) (c n : ℕ) (u : Durability) → MayCall (h ++ opens c n u ∷ []) c
+may_call-opened h c n u = record { node = n; durability = u; before = h; since = []; split = refl; no_crash = refl; no_failure = refl }
+
+pub may_call-push : (h : List EntryValue) (e : EntryValue) (c : ℕ) (m : MayCall h c) → is_crash_of c e ≡ false → is_failure_of m.node e ≡ false → MayCall (h ++ e ∷ []) c
+may_call-push h e c m crash failure = record {
+  node = m.node;
+  durability = m.durability;
+  before = m.before;
+  since = m.since ++ e ∷ [];
+  split = further h m.before m.since (opens c m.node m.durability) e m.split;
+  no_crash = none_more (is_crash_of c) m.since e m.no_crash crash;
+  no_failure = none_more (is_failure_of m.node) m.since e m.no_failure failure;
+}
+
+-- it might call before the entry, which is neither its crash nor its node's failure
+pub record StillCalls (h : List EntryValue) (e : EntryValue) (c : ℕ) : Type 0 where
+  pub could : MayCall h c
+  pub no_crash : is_crash_of c e ≡ false
+  pub no_failure : is_failure_of could.node e ≡ false
+
+pub may_call-last : (h : List EntryValue) (e : EntryValue) (c : ℕ) → MayCall (h ++ e ∷ []) c → ((n : ℕ) × ((u : Durability) × (e ≡ opens c n u))) ⊎ StillCalls h e c
+may_call-last h e c m =
+    elim (cut_end h e m.before (opens c m.node m.durability) m.since m.split) [
+      | inl last ↦ inl (m.node, (m.durability, last.last_is))
+      | inr earlier ↦
+          let crash = none_before (is_crash_of c) earlier.rest e (subst (λ es. list_any (is_crash_of c) es ≡ false) earlier.more_is m.no_crash) in
+          let failure = none_before (is_failure_of m.node) earlier.rest e (subst (λ es. list_any (is_failure_of m.node) es ≡ false) earlier.more_is m.no_failure) in
+          inr record {
+            could = record { node = m.node; durability = m.durability; before = m.before; since = earlier.rest; split = earlier.split; no_crash = crash.0; no_failure = failure.0 };
+            no_crash = crash.1;
+            no_failure = failure.1;
+          }
+    ]
+
+-- ---- a client that is alive
+
+pub alive-opened : (h : List EntryValue) (c n : ℕ) (u : Durability) → IsAlive (h ++ opens c n u ∷ []) c
+alive-opened h c n u = record { node = n; durability = u; before = h; since = []; split = refl; no_crash = refl }
+
+pub alive-push : (h : List EntryValue) (e : EntryValue) (c : ℕ) → IsAlive h c → is_crash_of c e ≡ false → IsAlive (h ++ e ∷ []) c
+alive-push h e c a crash = record {
+  node = a.node;
+  durability = a.durability;
+  before = a.before;
+  since = a.since ++ e ∷ [];
+  split = further h a.before a.since (opens c a.node a.durability) e a.split;
+  no_crash = none_more (is_crash_of c) a.since e a.no_crash crash;
+}
+
+pub alive-last : (h : List EntryValue) (e : EntryValue) (c : ℕ) → IsAlive (h ++ e ∷ []) c → ((n : ℕ) × ((u : Durability) × (e ≡ opens c n u))) ⊎ (IsAlive h c × (is_crash_of c e ≡ false))
+alive-last h e c a =
+    elim (cut_end h e a.before (opens c a.node a.durability) a.since a.split) [
+      | inl last ↦ inl (a.node, (a.durability, last.last_is))
+      | inr earlier ↦
+          let crash = none_before (is_crash_of c) earlier.rest e (subst (λ es. list_any (is_crash_of c) es ≡ false) earlier.more_is a.no_crash) in
+          inr (record { node = a.node; durability = a.durability; before = a.before; since = earlier.rest; split = earlier.split; no_crash = crash.0 }, crash.1)
+    ]
+
+-- ---- a client on a node that hasn't failed since
+
+pub on-opened : (h : List EntryValue) (c n : ℕ) (u : Durability) → IsOn (h ++ opens c n u ∷ []) c n
+on-opened h c n u = record { durability = u; before = h; since = []; split = refl; no_failure = refl }
+
+pub on-push : (h : List EntryValue) (e : EntryValue) (c n : ℕ) → IsOn h c n → is_failure_of n e ≡ false → IsOn (h ++ e ∷ []) c n
+on-push h e c n o failure = record {
+  durability = o.durability;
+  before = o.before;
+  since = o.since ++ e ∷ [];
+  split = further h o.before o.since (opens c n o.durability) e o.split;
+  no_failure = none_more (is_failure_of n) o.since e o.no_failure failure;
+}
+
+pub on-last : (h : List EntryValue) (e : EntryValue) (c n : ℕ) → IsOn (h ++ e ∷ []) c n → ((u : Durability) × (e ≡ opens c n u)) ⊎ (IsOn h c n × (is_failure_of n e ≡ false))
+on-last h e c n o =
+    elim (cut_end h e o.before (opens c n o.durability) o.since o.split) [
+      | inl last ↦ inl (o.durability, last.last_is)
+      | inr earlier ↦
+          let failure = none_before (is_failure_of n) earlier.rest e (subst (λ es. list_any (is_failure_of n) es ≡ false) earlier.more_is o.no_failure) in
+          inr (record { durability = o.durability; before = o.before; since = earlier.rest; split = earlier.split; no_failure = failure.0 }, failure.1)
+    ]
+
+-- ---- a node that is down
+
+pub down-failed : (h : List EntryValue) (n : ℕ) (losses : List Loss) → IsDown (h ++ fails n losses ∷ []) n
+down-failed h n losses = record { losses = losses; before = h; since = []; split = refl; no_return = refl }
+
+pub down-push : (h : List EntryValue) (e : EntryValue) (n : ℕ) → IsDown h n → is_return_of n e ≡ false → IsDown (h ++ e ∷ []) n
+down-push h e n d return = record {
+  losses = d.losses;
+  before = d.before;
+  since = d.since ++ e ∷ [];
+  split = further h d.before d.since (fails n d.losses) e d.split;
+  no_return = none_more (is_return_of n) d.since e d.no_return return;
+}
+
+pub down-last : (h : List EntryValue) (e : EntryValue) (n : ℕ) → IsDown (h ++ e ∷ []) n → ((losses : List Loss) × (e ≡ fails n losses)) ⊎ (IsDown h n × (is_return_of n e ≡ false))
+down-last h e n d =
+    elim (cut_end h e d.before (fails n d.losses) d.since d.split) [
+      | inl last ↦ inl (d.losses, last.last_is)
+      | inr earlier ↦
+          let return = none_before (is_return_of n) earlier.rest e (subst (λ es. list_any (is_return_of n) es ≡ false) earlier.more_is d.no_return) in
+          inr (record { losses = d.losses; before = d.before; since = earlier.rest; split = earlier.split; no_return = return.0 }, return.1)
+    ]
+
+-- ---- where nothing happened
+
+pub may_call-nil : (c : ℕ) → MayCall [] c → ⊥
+may_call-nil c m = not_nil m.before m.since (opens c m.node m.durability) m.split
+
+pub alive-nil : (c : ℕ) → IsAlive [] c → ⊥
+alive-nil c a = not_nil a.before a.since (opens c a.node a.durability) a.split
+
+pub on-nil : (c n : ℕ) → IsOn [] c n → ⊥
+on-nil c n o = not_nil o.before o.since (opens c n o.durability) o.split
+
+pub down-nil : (n : ℕ) → IsDown [] n → ⊥
+down-nil n d = not_nil d.before d.since (fails n d.losses) d.split
+
+-- ---- syncs
+
+pub past_syncs-push : (h : List EntryValue) (e : EntryValue) (l : Loss) → ((x : Call) → e ≡ calls x → x.client ≡ l.client → syncs h x ≡ true → x.number < l.first) → IsPastSyncs h l → IsPastSyncs (h ++ e ∷ []) l
+past_syncs-push h e l last all before since x split client sync =
+    elim (cut_end h e before (calls x) since split) [
+      | inl end ↦ last x end.last_is client (subst (λ g. syncs g x ≡ true) (sym end.prefix_is) sync)
+      | inr earlier ↦ all before earlier.rest x earlier.split client sync
+    ]
+
+pub past_syncs-prefix : (h : List EntryValue) (e : EntryValue) (l : Loss) → IsPastSyncs (h ++ e ∷ []) l → IsPastSyncs h l
+past_syncs-prefix h e l all before since x split = all before (since ++ e ∷ []) x (further h before since (calls x) e split)
+
+-- ---- counts
+
+pub opened-push : (h : List EntryValue) (c n : ℕ) (u : Durability) → clients_opened (h ++ opens c n u ∷ []) ≡ clients_opened h + 1
+opened-push h c n u = opened_append h (opens c n u ∷ [])
+
+pub opened-still : (h : List EntryValue) (e : EntryValue) → is_opening e ≡ false → clients_opened (h ++ e ∷ []) ≡ clients_opened h
+opened-still h e other = let all = opened_append h (e ∷ []) in let still = rw other at all in omega arith
+
+pub made-push : (h : List EntryValue) (x : Call) (c : ℕ) → x.client ≡ c → calls_made c (h ++ calls x ∷ []) ≡ calls_made c h + 1
+made-push h x c client =
+    let own : (c == x.client) ≡ true = eq-eqb c x.client (sym client) in
+    let all = made_append c h (calls x ∷ []) in
+    let grown = rw own at all in
+    grown
+
+pub made-still : (h : List EntryValue) (e : EntryValue) (c : ℕ) → is_call_of c e ≡ false → calls_made c (h ++ e ∷ []) ≡ calls_made c h
+made-still h e c other = let all = made_append c h (e ∷ []) in let still = rw other at all in omega arith
+
+-- ---- one open of each client
+
+-- two places of an open are one
+pub record SamePlace (before since : List EntryValue) (n : ℕ) (u : Durability) (before2 since2 : List EntryValue) (n2 : ℕ) (u2 : Durability) : Type 0 where
+  pub prefix : before ≡ before2
+  pub rest : since ≡ since2
+  pub node : n ≡ n2
+  pub durability : u ≡ u2
+
+abbrev OnePlace : List EntryValue → Type 0
+OnePlace h = (c n n2 : ℕ) (u u2 : Durability) (before since before2 since2 : List EntryValue) → h ≡ before ++ opens c n u ∷ since → h ≡ before2 ++ opens c n2 u2 ∷ since2 → SamePlace before since n u before2 since2 n2 u2
+
+opened_late : (h : List EntryValue) (c n m : ℕ) (u v : Durability) (before since : List EntryValue) → IsLegal h → Fits h (opens c n u) → h ≡ before ++ opens c m v ∷ since → ⊥
+opened_late h c n m u v before since legal fits split =
+    let next = next_opened h c n u fits in
+    let within = opened_within h before since c m v legal split in
+    omega arith
+
+one_place_more : (h : List EntryValue) (e : EntryValue) → IsLegal h → Fits h e → OnePlace h → OnePlace (h ++ e ∷ [])
+one_place_more h e legal fits place c n n2 u u2 before since before2 since2 split split2 =
+    elim (cut_end h e before (opens c n u) since split) [
+      | inl a ↦ elim (cut_end h e before2 (opens c n2 u2) since2 split2) [
+        | inl b ↦
+            let same : opens c n u ≡ opens c n2 u2 = sym a.last_is ∙ b.last_is in
+            let node : n ≡ n2 = cc in
+            let durability : u ≡ u2 = cc in
+            record { prefix = sym a.prefix_is ∙ b.prefix_is; rest = a.more_is ∙ sym b.more_is; node = node; durability = durability }
+        | inr b ↦ absurd (opened_late h c n n2 u u2 before2 b.rest legal (subst (Fits h) a.last_is fits) b.split)
+      ]
+      | inr a ↦ elim (cut_end h e before2 (opens c n2 u2) since2 split2) [
+        | inl b ↦ absurd (opened_late h c n2 n u2 u before a.rest legal (subst (Fits h) b.last_is fits) a.split)
+        | inr b ↦
+            let same = place c n n2 u u2 before a.rest before2 b.rest a.split b.split in
+            record { prefix = same.prefix; rest = a.more_is ∙ ap (λ es. es ++ e ∷ []) same.rest ∙ sym b.more_is; node = same.node; durability = same.durability }
+      ]
+    ]
+
+pub one_place : (h : List EntryValue) → IsLegal h → (c n n2 : ℕ) (u u2 : Durability) (before since before2 since2 : List EntryValue) → h ≡ before ++ opens c n u ∷ since → h ≡ before2 ++ opens c n2 u2 ∷ since2 → SamePlace before since n u before2 since2 n2 u2
+one_place = along OnePlace (λ c n n2 u u2 before since before2 since2 split split2. absurd (not_nil before since (opens c n u) split)) one_place_more
+
+-- a client may call that is alive, and whose node hasn't failed
+pub may_call-from : (h : List EntryValue) (c n : ℕ) → IsLegal h → IsAlive h c → IsOn h c n → MayCall h c
+may_call-from h c n legal a o =
+    let same = one_place h legal c n a.node o.durability a.durability o.before o.since a.before a.since o.split a.split in
+    record { node = n; durability = o.durability; before = o.before; since = o.since; split = o.split; no_crash = subst (λ es. list_any (is_crash_of c) es ≡ false) (sym same.rest) a.no_crash; no_failure = o.no_failure }
+
+pub alive_from : (h : List EntryValue) (c : ℕ) → MayCall h c → IsAlive h c
+alive_from h c m = record { node = m.node; durability = m.durability; before = m.before; since = m.since; split = m.split; no_crash = m.no_crash }
+
+pub on_from : (h : List EntryValue) (c : ℕ) (m : MayCall h c) → IsOn h c m.node
+on_from h c m = record { durability = m.durability; before = m.before; since = m.since; split = m.split; no_failure = m.no_failure }

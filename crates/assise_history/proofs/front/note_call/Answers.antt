@@ -1,6 +1,0 @@
-use Rattle.assise_history.proofs.Steps.{changed_more}
-use Rattle.assise_history.specs.Summary.{with_call}
-use Rattle.assise_history.proofs.front.note_call.Goals as goal
-
-pub loop-k-preserved : goal.loop-k-preserved
-loop-k-preserved c = changed_more (with_call c.args.call.now) c.args.clients.now c.loop-k.clients _ _ _ c.loop-k-test.true c.loop-k.auto.clients c.loop-k.invariant c.with_call.ensures

@@ -1,6 +1,0 @@
-use Rattle.std.proofs.Common.{◌≡◌, ◌++◌, map, take, drop}
-use Rattle.assise_history.specs.Summary.{with_failure}
-use Rattle.assise_history.proofs.front.note_failure.Given as goal
-
-abbrev pub invariant-loop-k : goal.invariant-loop-k
-invariant-loop-k l = l.clients ≡ map (with_failure l.node) (take l.k-index l.initial.clients) ++ drop l.k-index l.initial.clients

@@ -1,0 +1,6 @@
+use Rattle.std.proofs.Common.{◌≡◌, ◌++◌, map, take, drop}
+use Rattle.assise_history.specs.Summary.{with_crash}
+use Rattle.assise_history.proofs.prefix.note_crash.Given as goal
+
+abbrev pub invariant-loop-k : goal.invariant-loop-k
+invariant-loop-k l = l.clients ≡ map (with_crash l.client) (take l.k-index l.initial.clients) ++ drop l.k-index l.initial.clients

@@ -1,0 +1,89 @@
+-- Which leases a plan lacks.
+use Rattle.std.proofs.Common.{◌≡◌, ℕ, true, false, List, [], ◌∷◌, ◌++◌, Option, Some, None, refl, ap, sym, subst, ◌∙◌, inl, inr}
+use Rattle.std.proofs.lemmas.Bool.{cases_Bool}
+use Rattle.assise_names.specs.declared.call.Op.{Op}
+use Rattle.assise_names.specs.declared.mode.Mode.{Mode}
+use Rattle.assise_names.specs.declared.mode.Mode.TheVariants.{Read}
+use Rattle.assise_inode_table.specs.Calls.{interaction, step}
+use Rattle.assise_inode_table.specs.Contents.{Values}
+use Rattle.assise_inode_table.specs.Interaction.{Interaction, visit, finish, Step, AgreeOn}
+use Rattle.assise_inode_table.proofs.Local.{step_local}
+use Rattle.assise_inode_plan.specs.Leased.{AreLeased, LeaseView, first_missing}
+use Rattle.assise_inode_plan.specs.Planning.{changed_plan_of, ready, missing, plan_lacking, plan_of, visited_plan_of}
+use Rattle.assise_inode_plan.specs.Walking.{plan_from}
+use Rattle.assise_inode_plan.proofs.WholeStepPlan.{visits_then_changes}
+use Rattle.assise_inode_plan.proofs.Exact.{whole_plan}
+
+-- where the first one that is lacking stands
+pub record Lacks (leased : LeaseView) (ws : List (ℕ × Mode)) (w : ℕ × Mode) : Type 0 where
+  pub before : List (ℕ × Mode)
+  pub after : List (ℕ × Mode)
+  pub split : ws ≡ before ++ w ∷ after
+  pub held : AreLeased leased before
+  pub bare : leased w.0 w.1 ≡ false
+
+lacks : (leased : LeaseView) (ws : List (ℕ × Mode)) (w : ℕ × Mode) → first_missing leased ws ≡ Some w → Lacks leased ws w
+lacks leased [] w h = cc
+lacks leased (x ∷ ws) w h =
+    elim (cases_Bool (leased x.0 x.1)) [
+      | inl held ↦
+          let rest : Lacks leased ws w = lacks leased ws w (rw held at h) in
+          record { before = x ∷ rest.before; after = rest.after; split = ap (λ ys. x ∷ ys) rest.split; held = (held, rest.held); bare = rest.bare }
+      | inr bare ↦
+          let one : x ≡ w = same_one x w (rw bare at h) in
+          record { before = []; after = ws; split = ap (λ y. y ∷ ws) one; held = tt; bare = subst (λ y. leased y.0 y.1 ≡ false) one bare }
+    ]
+  where
+    same_one : (x w : ℕ × Mode) → Some x ≡ Some w → x ≡ w
+    same_one x w e = cc
+
+all_leased : (leased : LeaseView) (ws : List (ℕ × Mode)) → first_missing leased ws ≡ None → AreLeased leased ws
+all_leased leased [] h = tt
+all_leased leased (x ∷ ws) h =
+    elim (cases_Bool (leased x.0 x.1)) [
+      | inl held ↦ (held, all_leased leased ws (rw held at h))
+      | inr bare ↦ let no_more = rw bare at h in cc
+    ]
+
+missing_from : (s : Step) (o : Option (ℕ × Mode)) (i : ℕ) (mode : Mode) → plan_lacking s o ≡ missing i mode → o ≡ Some (i, mode)
+missing_from s None i mode e = cc
+missing_from s (Some w) i mode e =
+    let number : w.0 ≡ i = cc in
+    let kind : w.1 ≡ mode = cc in
+    ap (λ j. Some (j, w.1)) number ∙ ap (λ m. Some (i, m)) kind
+
+-- of these leases that a step wants
+pub missing_is_first : (leased : LeaseView) (s : Step) (ws : List (ℕ × Mode)) (i : ℕ) (mode : Mode) → plan_lacking s (first_missing leased ws) ≡ missing i mode →
+    (before : List (ℕ × Mode)) × (after : List (ℕ × Mode)) × (ws ≡ before ++ (i, mode) ∷ after) × AreLeased leased before × (leased i mode ≡ false)
+missing_is_first leased s ws i mode e =
+    let l : Lacks leased ws (i, mode) = lacks leased ws (i, mode) (missing_from s (first_missing leased ws) i mode e) in
+    (l.before, l.after, l.split, l.held, l.bare)
+
+ready_from : (s u : Step) (o : Option (ℕ × Mode)) → plan_lacking s o ≡ ready u → (o ≡ None) × (u ≡ s)
+ready_from s u None e = (refl, cc)
+ready_from s u (Some w) e = cc
+
+pub ready_has_all : (leased : LeaseView) (s u : Step) (ws : List (ℕ × Mode)) → plan_lacking s (first_missing leased ws) ≡ ready u → (u ≡ s) × AreLeased leased ws
+ready_has_all leased s u ws e =
+    let r = ready_from s u (first_missing leased ws) e in
+    (r.1, all_leased leased ws r.0)
+
+-- ---- inodes that agree
+
+same_from : (leased : LeaseView) (v w : Values) (before : List ℕ) (x : Interaction) → ((i : ℕ) → leased i Read ≡ true → v i ≡ w i) → plan_from leased v before x ≡ plan_from leased w before x
+same_from leased v w before (finish reply es) same = refl
+same_from leased v w before (visit i next) same =
+    elim (cases_Bool (leased i Read)) [
+      | inl held ↦ rw held (same_from leased v w (before ++ i ∷ []) (next (v i)) same ∙ ap (λ o. plan_from leased w (before ++ i ∷ []) (next o)) (same i held))
+      | inr bare ↦ rw bare refl
+    ]
+
+pub same_visits : (leased : LeaseView) (v w : Values) (op : Op) (fresh : ℕ) → ((i : ℕ) → leased i Read ≡ true → v i ≡ w i) → visited_plan_of leased (step v op fresh) ≡ visited_plan_of leased (step w op fresh)
+same_visits leased v w op fresh same = sym (whole_plan leased v (interaction op fresh)) ∙ same_from leased v w [] (interaction op fresh) same ∙ whole_plan leased w (interaction op fresh)
+
+pub same_leased : (leased : LeaseView) (v w : Values) (op : Op) (fresh : ℕ) → ((i : ℕ) → leased i Read ≡ true → v i ≡ w i) → plan_of leased (step v op fresh) ≡ plan_of leased (step w op fresh)
+same_leased leased v w op fresh same =
+    sym (visits_then_changes leased (step v op fresh)) ∙ ap (changed_plan_of leased) (same_visits leased v w op fresh same) ∙ visits_then_changes leased (step w op fresh)
+
+pub same_visited : (leased : LeaseView) (v w : Values) (op : Op) (fresh : ℕ) → AgreeOn (step v op fresh).visits v w → plan_of leased (step v op fresh) ≡ plan_of leased (step w op fresh)
+same_visited leased v w op fresh agree = ap (plan_of leased) (step_local v w op fresh agree)

@@ -1,0 +1,345 @@
+-- Writes, reads and cuts of bytes in blocks.
+use Rattle.std.proofs.Common.{◌≡◌, ℕ, zero, suc, ◌+◌, ◌-◌, ◌*◌, ◌/◌, ◌%◌, ◌<◌, ◌≤◌, ◌≢◌, List, [], ◌∷◌, ◌++◌, length, take, drop, replicate, refl, ap, sym, ◌∙◌, subst, get_or, set, arith, min, max, append_assoc, append-nil, length-append, take-append-drop}
+use Rattle.std.proofs.lemmas.List.{length-take, length-drop, length-replicate, take_all, drop_all, take-take, drop-take, drop-drop, drop_more, set_split, take-append-le, take_more_set}
+use Rattle.std.proofs.lemmas.List.Folds.{concat-append}
+use Rattle.std.proofs.Math.Seq.{take-add}
+use Rattle.std.specs.Int.{div_ceil}
+use Rattle.std.specs.List.{concat}
+use Rattle.assise_seq_tree.specs.Contents.{bytes_from, overwritten}
+use Rattle.assise_seq_tree.proofs.BytesRead.{length-overwritten}
+use Rattle.assise_inode_table.specs.Blocks.{IsCut}
+use Rattle.assise_inode_table.proofs.BlockBytes.{cut_take, cut_drop, cut_append, cut_one, concat_take, concat_drop, least, most, full, as_many}
+
+-- ---- plain lists
+same_take : (n m : ℕ) (xs : List ℕ) → min n (length xs) ≡ min m (length xs) → take n xs ≡ take m xs
+same_take zero zero xs e = refl
+same_take zero (suc m) [] e = refl
+same_take zero (suc m) (x ∷ xs) e = absurd (omega arith)
+same_take (suc n) zero [] e = refl
+same_take (suc n) zero (x ∷ xs) e = absurd (omega arith)
+same_take (suc n) (suc m) [] e = refl
+same_take (suc n) (suc m) (x ∷ xs) e = ap (λ zs. x ∷ zs) (same_take n m xs (omega arith))
+
+same_drop : (n m : ℕ) (xs : List ℕ) → min n (length xs) ≡ min m (length xs) → drop n xs ≡ drop m xs
+same_drop zero zero xs e = refl
+same_drop zero (suc m) [] e = refl
+same_drop zero (suc m) (x ∷ xs) e = absurd (omega arith)
+same_drop (suc n) zero [] e = refl
+same_drop (suc n) zero (x ∷ xs) e = absurd (omega arith)
+same_drop (suc n) (suc m) [] e = refl
+same_drop (suc n) (suc m) (x ∷ xs) e = same_drop n m xs (omega arith)
+
+abbrev zeros : ℕ → List ℕ
+zeros n = replicate n 0
+
+length-zeros : (n : ℕ) → length (zeros n) ≡ n
+length-zeros n = let none : ℕ = 0 in length-replicate n none
+
+-- a write into a part that it lies in
+pub written_within : (xs : List ℕ) (f p o : ℕ) (new : List ℕ) → f ≤ length xs → f ≤ o → o + length new ≤ p
+    → take f xs ++ (overwritten (take (p - f) (drop f xs)) (o - f) new ++ drop p xs) ≡ overwritten xs o new
+written_within xs f p o new held before behind =
+    let ys = drop f xs in
+    let r = take (p - f) (drop f xs) in
+    let e = o + length new in
+    let prefix : take f xs ++ take (o - f) r ≡ take o xs =
+    ap (λ zs. take f xs ++ zs) (take-take (o - f) (p - f) (drop f xs) (omega arith)) ∙ sym (take-add f (o - f) xs) ∙ ap (λ n. take n xs) (omega arith) in
+    let gap : (o - f) - length r ≡ o - length xs = omega (arith, length-take (p - f) (drop f xs), length-drop f xs) in
+    let whole : p - f ≡ ((o - f) + length new) + (p - e) = omega arith in
+    let inner : drop ((o - f) + length new) r ≡ take (p - e) (drop e xs) =
+    ap (λ n. drop ((o - f) + length new) (take n (drop f xs))) whole ∙ drop-take ((o - f) + length new) (p - e) (drop f xs)
+    ∙ ap (take (p - e)) (drop-drop ((o - f) + length new) f xs ∙ ap (λ n. drop n xs) (omega arith)) in
+    let outer : drop p xs ≡ drop (p - e) (drop e xs) = sym (drop-drop (p - e) e xs ∙ ap (λ n. drop n xs) (omega arith)) in
+    let back : drop ((o - f) + length new) r ++ drop p xs ≡ drop e xs = ap (λ zs. zs ++ drop p xs) inner ∙ ap (λ zs. take (p - e) (drop e xs) ++ zs) outer ∙ take-append-drop (p - e) (drop e xs) in
+    joined (take f xs) (take (o - f) r) (zeros ((o - f) - length r)) (zeros (o - length xs)) new (drop ((o - f) + length new) r) (drop p xs) (take o xs) (drop e xs) prefix (ap zeros gap) back
+  where
+    joined : (a b z y n d t u v : List ℕ) → a ++ b ≡ u → z ≡ y → d ++ t ≡ v → a ++ ((((b ++ z) ++ n) ++ d) ++ t) ≡ ((u ++ y) ++ n) ++ v
+    joined a b z y n d t u v p q r = rw (← p, ← q, ← r) (simp append_assoc)
+
+pub written_nothing : (xs : List ℕ) (o : ℕ) (new : List ℕ) → min (length xs) o ≡ o + length new → xs ≡ overwritten xs o new
+written_nothing xs o [] h =
+    let none : o - length xs ≡ 0 = omega arith in
+    let same : o + 0 ≡ o = omega arith in
+    rw (none, same) (simp append-nil (sym (take-append-drop o xs)))
+written_nothing xs o (x ∷ new) h = absurd (omega arith)
+
+-- ---- a part of what is written over
+nothing_over : (xs : List ℕ) → overwritten xs 0 [] ≡ xs
+nothing_over xs = let none : 0 - length xs ≡ 0 = omega arith in rw none refl
+
+over_first : (x : ℕ) (new xs : List ℕ) → overwritten xs 0 (x ∷ new) ≡ x ∷ overwritten (drop 1 xs) 0 new
+over_first x new xs =
+    let none : 0 - length xs ≡ 0 = omega arith in
+    let still : 0 - length (drop 1 xs) ≡ 0 = omega arith in
+    let rest : drop (0 + length (x ∷ new)) xs ≡ drop (0 + length new) (drop 1 xs) = sym (drop-drop (0 + length new) 1 xs ∙ ap (λ n. drop n xs) (omega arith)) in
+    rw (none, still, rest) refl
+
+over_later : (x o : ℕ) (xs new : List ℕ) → overwritten (x ∷ xs) (suc o) new ≡ x ∷ overwritten xs o new
+over_later x o xs new =
+    let gap : suc o - length (x ∷ xs) ≡ o - length xs = omega arith in
+    let more : suc o + length new ≡ suc (o + length new) = omega arith in
+    let rest : drop (suc o + length new) (x ∷ xs) ≡ drop (o + length new) xs = ap (λ n. drop n (x ∷ xs)) more in
+    rw (gap, rest) refl
+
+over_none : (o : ℕ) (new : List ℕ) → overwritten [] (suc o) new ≡ 0 ∷ overwritten [] o new
+over_none o new =
+    let gap : suc o - 0 ≡ suc (o - 0) = omega arith in
+    let prefix : take {A = ℕ} o [] ≡ [] = take_all o [] (omega arith) in
+    let rest : drop {A = ℕ} (suc o + length new) [] ≡ [] = drop_all (suc o + length new) [] (omega arith) in
+    let still : drop {A = ℕ} (o + length new) [] ≡ [] = drop_all (o + length new) [] (omega arith) in
+    rw (gap, prefix, rest, still) refl
+
+dropped : (s : ℕ) (xs : List ℕ) (o : ℕ) (new : List ℕ) → drop s (overwritten xs o new) ≡ overwritten (drop s xs) (o - s) (drop (s - o) new)
+dropped zero xs o new =
+    let same : o - 0 ≡ o = omega arith in
+    let all : 0 - o ≡ 0 = omega arith in
+    rw (same, all) refl
+dropped (suc s) xs zero [] =
+    let same : 0 - suc s ≡ 0 = omega arith in
+    let none : drop {A = ℕ} (suc s - 0) [] ≡ [] = drop_all (suc s - 0) [] (omega arith) in
+    rw (same, none) (ap (drop (suc s)) (nothing_over xs) ∙ sym (nothing_over (drop (suc s) xs)))
+dropped (suc s) xs zero (x ∷ new) =
+    let still : 0 - suc s ≡ 0 - s = omega arith in
+    let more : suc s - 0 ≡ suc (s - 0) = omega arith in
+    let rest : drop (suc s - 0) (x ∷ new) ≡ drop (s - 0) new = ap (λ n. drop n (x ∷ new)) more in
+    let one : 1 + s ≡ suc s = omega arith in
+    let back : drop (suc s) xs ≡ drop s (drop 1 xs) = sym (drop-drop s 1 xs ∙ ap (λ n. drop n xs) one) in
+    rw (still, rest, back) (ap (drop (suc s)) (over_first x new xs) ∙ dropped s (drop 1 xs) zero new)
+dropped (suc s) [] (suc o) new =
+    let at : suc o - suc s ≡ o - s = omega arith in
+    let rest : suc s - suc o ≡ s - o = omega arith in
+    let none : drop {A = ℕ} s [] ≡ [] = drop_all s [] (omega arith) in
+    rw (at, rest) (ap (drop (suc s)) (over_none o new) ∙ dropped s [] o new ∙ ap (λ ys. overwritten ys (o - s) (drop (s - o) new)) none)
+dropped (suc s) (x ∷ xs) (suc o) new =
+    let at : suc o - suc s ≡ o - s = omega arith in
+    let rest : suc s - suc o ≡ s - o = omega arith in
+    rw (at, rest) (ap (drop (suc s)) (over_later x o xs new) ∙ dropped s xs o new)
+
+behind_one : (n : ℕ) (xs : List ℕ) → drop 1 (take (suc n) xs) ≡ take n (drop 1 xs)
+behind_one n [] = sym (take_all n [] (omega arith))
+behind_one n (x ∷ xs) = refl
+
+taken : (n : ℕ) (xs : List ℕ) (o : ℕ) (new : List ℕ) → take n (overwritten xs o new) ≡ overwritten (take n xs) (min o n) (take (n - min o n) new)
+taken zero xs o new =
+    let at : min o 0 ≡ 0 = omega arith in
+    rw at refl
+taken (suc n) xs zero [] =
+    let at : min 0 (suc n) ≡ 0 = omega arith in
+    let none : take {A = ℕ} (suc n - 0) [] ≡ [] = take_all (suc n - 0) [] (omega arith) in
+    rw (at, none) (ap (take (suc n)) (nothing_over xs) ∙ sym (nothing_over (take (suc n) xs)))
+taken (suc n) xs zero (x ∷ new) =
+    let at : min 0 (suc n) ≡ 0 = omega arith in
+    let still : min 0 n ≡ 0 = omega arith in
+    let more : suc n - 0 ≡ suc (n - 0) = omega arith in
+    let part : take (suc n - 0) (x ∷ new) ≡ x ∷ take (n - 0) new = ap (λ k. take k (x ∷ new)) more in
+    let later : take n (overwritten (drop 1 xs) 0 new) ≡ overwritten (take n (drop 1 xs)) 0 (take (n - 0) new) = taken n (drop 1 xs) zero new ∙ rw still refl in
+    rw (at, part)
+    (ap (take (suc n)) (over_first x new xs) ∙ ap (λ ys. x ∷ ys) later
+    ∙ ap (λ ys. x ∷ overwritten ys 0 (take (n - 0) new)) (sym (behind_one n xs)) ∙ sym (over_first x (take (n - 0) new) (take (suc n) xs)))
+taken (suc n) [] (suc o) new =
+    let at : min (suc o) (suc n) ≡ suc (min o n) = omega arith in
+    let rest : suc n - suc (min o n) ≡ n - min o n = omega arith in
+    let none : take {A = ℕ} n [] ≡ [] = take_all n [] (omega arith) in
+    rw (at, rest)
+    (ap (take (suc n)) (over_none o new) ∙ ap (λ ys. 0 ∷ ys) (taken n [] o new)
+    ∙ ap (λ ys. 0 ∷ overwritten ys (min o n) (take (n - min o n) new)) none ∙ sym (over_none (min o n) (take (n - min o n) new)))
+taken (suc n) (x ∷ xs) (suc o) new =
+    let at : min (suc o) (suc n) ≡ suc (min o n) = omega arith in
+    let rest : suc n - suc (min o n) ≡ n - min o n = omega arith in
+    rw (at, rest)
+    (ap (take (suc n)) (over_later x o xs new) ∙ ap (λ ys. x ∷ ys) (taken n xs o new)
+    ∙ sym (over_later x (min o n) (take n xs) (take (n - min o n) new)))
+
+-- a part of what is written over is a part that is written over
+pub part_over : (k n : ℕ) (xs : List ℕ) (o : ℕ) (new : List ℕ)
+    → bytes_from k n (overwritten xs o new) ≡ overwritten (bytes_from k n xs) (min (o - k) n) (bytes_from (k - o) (n - min (o - k) n) new)
+part_over k n xs o new = ap (take n) (dropped k xs o new) ∙ taken n (drop k xs) (o - k) (drop (k - o) new)
+
+-- so many blocks hold it, and no fewer
+pub over_more : (bs : List (List ℕ)) (o : ℕ) (new : List ℕ) (count k : ℕ) → IsCut bs → count ≡ max (length bs) (div_ceil (o + length new) 4096) → k < count → 4096 * k < length (overwritten (concat bs) o new)
+over_more bs o new count k cut is more = go bs refl
+  where
+    go : (cs : List (List ℕ)) → cs ≡ bs → 4096 * k < length (overwritten (concat bs) o new)
+    go [] e = omega (arith, is, more, length-overwritten (concat bs) o new, ap length e)
+    go (c ∷ cs) e = omega (arith, is, more, length-overwritten (concat bs) o new, least bs cut (omega (arith, ap length e)))
+
+pub over_room : (bs : List (List ℕ)) (o : ℕ) (new : List ℕ) (count : ℕ) → IsCut bs → count ≡ max (length bs) (div_ceil (o + length new) 4096) → length (overwritten (concat bs) o new) ≤ 4096 * count
+over_room bs o new count cut is = omega (arith, is, length-overwritten (concat bs) o new, most bs cut)
+
+-- ---- writes
+-- the blocks that a write reaches
+pub record Reach (bs : List (List ℕ)) (size o : ℕ) (new : List ℕ) (first past until : ℕ) : Type 0 where
+  pub cut : IsCut bs
+  pub bytes : size ≡ length (concat bs)
+  pub held : 4096 * first ≤ size
+  pub before : 4096 * first ≤ o
+  pub behind : o + length new ≤ 4096 * past
+  pub some : first < past
+  pub stop : until ≡ min (length bs) past
+
+pub reach : (bs : List (List ℕ)) (size o : ℕ) (new : List ℕ) (start held until : ℕ) → IsCut bs → size ≡ length (concat bs) → 0 < length new + (o - size) → start ≡ min size o → held ≡ length bs
+    → until ≡ min held ((o + length new - 1) / 4096 + 1) → Reach bs size o new (start / 4096) ((o + length new - 1) / 4096 + 1) until
+reach bs size o new start held until cut bytes some s h u =
+    record { cut = cut; bytes = bytes; held = omega arith; before = omega arith; behind = omega arith; some = omega arith; stop = omega (arith, h, u) }
+
+module _ {bs : List (List ℕ)} {size o : ℕ} {new : List ℕ} {first past until : ℕ} (r : Reach bs size o new first past until) where
+  pub first_held : first ≤ until
+  first_held = omega (arith, most bs r.cut, r.bytes, r.held, r.some, r.stop)
+
+  pub until_held : until ≤ length bs
+  until_held = omega (arith, r.stop)
+
+  pub cut_reached : IsCut (take (until - first) (drop first bs))
+  cut_reached = cut_take (drop first bs) (until - first) (cut_drop bs first r.cut)
+
+  reached_is : concat (take (until - first) (drop first bs)) ≡ take (4096 * (until - first)) (drop (4096 * first) (concat bs))
+  reached_is =
+      concat_take (drop first bs) (until - first) (cut_drop bs first r.cut) (omega (arith, r.stop, length-drop first bs))
+      ∙ ap (take (4096 * (until - first))) (concat_drop bs first r.cut (omega (arith, r.stop, first_held)))
+
+  pub reached_held : length (concat (take (until - first) (drop first bs))) ≤ size
+  reached_held =
+      omega (arith, ap length reached_is, length-take (4096 * (until - first)) (drop (4096 * first) (concat bs)), length-drop (4096 * first) (concat bs), r.bytes)
+
+  pub made_is : (bytes : List ℕ) → bytes ≡ overwritten (concat (take (until - first) (drop first bs))) (o - first * 4096) new
+      → bytes ≡ overwritten (take (4096 * past - 4096 * first) (drop (4096 * first) (concat bs))) (o - 4096 * first) new
+  made_is bytes is =
+      let region : take (4096 * (until - first)) (drop (4096 * first) (concat bs)) ≡ take (4096 * past - 4096 * first) (drop (4096 * first) (concat bs)) =
+      same_take (4096 * (until - first)) (4096 * past - 4096 * first) (drop (4096 * first) (concat bs))
+      (omega (arith, length-drop (4096 * first) (concat bs), most bs r.cut, r.stop, first_held)) in
+      let same : o - first * 4096 ≡ o - 4096 * first = omega arith in
+      is ∙ ap (λ n. overwritten (concat (take (until - first) (drop first bs))) n new) same
+      ∙ ap (λ xs. overwritten xs (o - 4096 * first) new) (reached_is ∙ region)
+
+  past_same : concat (drop until bs) ≡ drop (4096 * past) (concat bs)
+  past_same =
+      concat_drop bs until r.cut (omega (arith, r.stop)) ∙ same_drop (4096 * until) (4096 * past) (concat bs) (omega (arith, r.stop, most bs r.cut))
+
+  pub written : (made : List (List ℕ)) → concat made ≡ overwritten (take (4096 * past - 4096 * first) (drop (4096 * first) (concat bs))) (o - 4096 * first) new
+      → concat (take first bs ++ (made ++ drop until bs)) ≡ overwritten (concat bs) o new
+  written made is =
+      concat-append (take first bs) (made ++ drop until bs)
+      ∙ ap (λ zs. concat (take first bs) ++ zs) (concat-append made (drop until bs))
+      ∙ ap (λ zs. zs ++ (concat made ++ concat (drop until bs))) (concat_take bs first r.cut (omega (arith, r.stop, first_held)))
+      ∙ ap (λ zs. take (4096 * first) (concat bs) ++ (zs ++ concat (drop until bs))) is
+      ∙ ap (λ zs. take (4096 * first) (concat bs) ++ (overwritten (take (4096 * past - 4096 * first) (drop (4096 * first) (concat bs))) (o - 4096 * first) new ++ zs)) past_same
+      ∙ written_within (concat bs) (4096 * first) (4096 * past) o new (omega (arith, r.held, r.bytes)) r.before r.behind
+
+  pub still_cut : (made : List (List ℕ)) → IsCut made → concat made ≡ overwritten (take (4096 * past - 4096 * first) (drop (4096 * first) (concat bs))) (o - 4096 * first) new
+      → IsCut (take first bs ++ (made ++ drop until bs))
+  still_cut made cut is =
+      let fits = first_held in
+      let tail : 0 < length (drop until bs) → length (concat made) ≡ 4096 * length made = λ p.
+      let room : length (concat (take until bs)) ≡ 4096 * until = full bs until r.cut (omega (arith, length-drop until bs)) in
+      let prefix = concat_take bs until r.cut (omega (arith, r.stop)) in
+      let bytes : length (concat made) ≡ 4096 * (past - first) =
+      ap length is ∙ length-overwritten (take (4096 * past - 4096 * first) (drop (4096 * first) (concat bs))) (o - 4096 * first) new
+      ∙ omega (arith, length-take (4096 * past - 4096 * first) (drop (4096 * first) (concat bs)), length-drop (4096 * first) (concat bs), length-take (4096 * until) (concat bs), ap length prefix, room, r.stop, r.behind, r.before, r.some, length-drop until bs, p) in
+      omega (arith, bytes, as_many made (past - first) cut bytes) in
+      let head : length (concat (take first bs)) ≡ 4096 * length (take first bs) =
+      ap length (concat_take bs first r.cut (omega (arith, r.stop, fits))) ∙ omega (arith, length-take (4096 * first) (concat bs), length-take first bs, r.held, r.bytes, r.stop, fits) in
+      cut_append (take first bs) (made ++ drop until bs) (cut_take bs first r.cut) (cut_append made (drop until bs) cut (cut_drop bs until r.cut) tail) (λ p. head)
+
+  -- where the write reaches one block alone, that one changes
+  pub one_written : suc first ≡ until → (d b : List ℕ) → o - first * 4096 + length new ≤ 4096 → b ≡ overwritten (get_or bs first d) (o - first * 4096) new
+      → IsCut (set bs first b) × (concat (set bs first b) ≡ overwritten (concat bs) o new)
+  one_written next d b fits is =
+      let old = get_or bs first d in
+      let held : first < length bs = omega (arith, next, until_held) in
+      let one : until - first ≡ 1 = omega (arith, next) in
+      let reached : take (until - first) (drop first bs) ≡ old ∷ [] = ap (λ n. take n (drop first bs)) one ∙ ap (take 1) (drop_more bs first d held) in
+      let cut : IsCut (old ∷ []) = subst IsCut reached cut_reached in
+      let size = length-overwritten old (o - first * 4096) new in
+      let bytes = made_is (concat (b ∷ [])) (append-nil b ∙ is ∙ ap (λ xs. overwritten xs (o - first * 4096) new) (sym (append-nil old) ∙ sym (ap concat reached))) in
+      let made = cut_one b (omega (arith, ap length is, size, least (old ∷ []) cut, ap length (append-nil old))) (omega (arith, ap length is, size, fits, most (old ∷ []) cut, ap length (append-nil old))) in
+      let put : set bs first b ≡ take first bs ++ b ∷ drop until bs = set_split bs first b held ∙ ap (λ n. take first bs ++ b ∷ drop n bs) next in
+      (subst IsCut (sym put) (still_cut (b ∷ []) made bytes), ap concat put ∙ written (b ∷ []) bytes)
+
+-- ---- reads
+pub end_held : (bs : List (List ℕ)) (start end : ℕ) → IsCut bs → start < end → end ≤ length (concat bs) → (end - 1) / 4096 + 1 ≤ length bs
+end_held bs start end cut some within = omega (arith, most bs cut)
+
+pub part_of : (bs : List (List ℕ)) (start end : ℕ) → IsCut bs → start < end → end ≤ length (concat bs)
+    → bytes_from (start - start / 4096 * 4096) (end - start) (concat (take ((end - 1) / 4096 + 1 - start / 4096) (drop (start / 4096) bs))) ≡ bytes_from start (end - start) (concat bs)
+part_of bs start end cut some within =
+    let first = start / 4096 in
+    let until = (end - 1) / 4096 + 1 in
+    let held = end_held bs start end cut some within in
+    let part : concat (take (until - first) (drop first bs)) ≡ take (4096 * (until - first)) (drop (4096 * first) (concat bs)) =
+    concat_take (drop first bs) (until - first) (cut_drop bs first cut) (omega (arith, length-drop first bs, held))
+    ∙ ap (take (4096 * (until - first))) (concat_drop bs first cut (omega (arith, held))) in
+    let same : start - first * 4096 ≡ start - 4096 * first = omega arith in
+    let room : 4096 * (until - first) ≡ (start - 4096 * first) + (4096 * (until - first) - (start - 4096 * first)) = omega arith in
+    ap (λ n. bytes_from n (end - start) (concat (take (until - first) (drop first bs)))) same
+    ∙ ap (bytes_from (start - 4096 * first) (end - start)) part
+    ∙ ap (λ n. bytes_from (start - 4096 * first) (end - start) (take n (drop (4096 * first) (concat bs)))) room
+    ∙ ap (take (end - start)) (drop-take (start - 4096 * first) (4096 * (until - first) - (start - 4096 * first)) (drop (4096 * first) (concat bs)))
+    ∙ take-take (end - start) (4096 * (until - first) - (start - 4096 * first)) (drop (start - 4096 * first) (drop (4096 * first) (concat bs))) (omega arith)
+    ∙ ap (take (end - start)) (drop-drop (start - 4096 * first) (4096 * first) (concat bs) ∙ ap (λ n. drop n (concat bs)) (omega arith))
+
+-- a read that starts before the size reads the bytes up to it
+pub read_within : (xs : List ℕ) (size offset most start end : ℕ) → size ≤ length xs → start ≡ min size offset → end ≡ start + min (size - start) most → start < end
+    → bytes_from start (end - start) xs ≡ bytes_from offset most (take size xs)
+read_within xs size offset most start end held s e some =
+    let at : start ≡ offset = omega arith in
+    let ys = drop offset xs in
+    let left = size - offset in
+    let whole : size ≡ offset + left = omega arith in
+    let count : min most (length (take left ys)) ≡ min (end - start) (length (take left ys)) = omega (arith, length-take left ys, length-drop offset xs) in
+    sym (ap (λ n. take most (drop offset (take n xs))) whole ∙ ap (take most) (drop-take offset left xs) ∙ same_take most (end - start) (take left ys) count
+    ∙ take-take (end - start) left ys (omega arith) ∙ ap (λ n. take (end - start) (drop n xs)) (sym at))
+
+-- ---- cuts
+pub bytes_between : (bs : List (List ℕ)) (size : ℕ) → IsCut bs → size ≤ length (concat bs) → size % 4096 ≡ 0 → concat (take (size / 4096) bs) ≡ take size (concat bs)
+bytes_between bs size cut within e =
+    let held : size / 4096 ≤ length bs = omega (arith, most bs cut) in
+    concat_take bs (size / 4096) cut held ∙ ap (λ n. take n (concat bs)) (omega arith)
+
+-- the first block has so many bytes
+first_long : (rest : ℕ) (b : List ℕ) (bs : List (List ℕ)) → IsCut (b ∷ bs) → rest ≤ length (concat (b ∷ bs)) → rest < 4096 → rest ≤ length b
+unfolding IsCut
+first_long rest b [] cut within small = omega (arith, length-append b [])
+first_long rest b (c ∷ bs) cut within small = let one = cut.2 (omega arith) in omega (arith, one)
+
+block_long : (bs : List (List ℕ)) (k rest : ℕ) (d : List ℕ) → IsCut bs → k < length bs → 4096 * k + rest ≤ length (concat bs) → rest < 4096 → rest ≤ length (get_or bs k d)
+unfolding IsCut
+block_long [] k rest d cut held within small = absurd (omega arith)
+block_long (b ∷ bs) zero rest d cut held within small = first_long rest b bs cut (omega arith) small
+block_long (b ∷ bs) (suc k) rest d cut held within small =
+    let one = cut.2 (omega arith) in
+    block_long bs k rest d cut.3 (omega arith) (omega (arith, one, length-append b (concat bs))) small
+
+block_taken : (bs : List (List ℕ)) (k rest : ℕ) (d : List ℕ) → IsCut bs → k < length bs → 4096 * k + rest ≤ length (concat bs) → rest < 4096 → concat (take k bs) ++ take rest (get_or bs k d) ≡ take (4096 * k + rest) (concat bs)
+unfolding IsCut
+block_taken bs k rest d cut held within small =
+    let xs = concat bs in
+    let rests : concat (drop k bs) ≡ get_or bs k d ++ concat (drop (k + 1) bs) = ap concat (drop_more bs k d held) in
+    let long = block_long bs k rest d cut held within small in
+    let prefix = concat_take bs k cut (omega arith) in
+    let back : take rest (drop (4096 * k) (concat bs)) ≡ take rest (get_or bs k d) =
+    ap (take rest) (sym (concat_drop bs k cut (omega arith)) ∙ rests) ∙ take-append-le rest (get_or bs k d) (concat (drop (k + 1) bs)) long in
+    ap (λ zs. zs ++ take rest (get_or bs k d)) prefix ∙ ap (λ zs. take (4096 * k) (concat bs) ++ zs) (sym back) ∙ sym (take-add (4096 * k) rest (concat bs))
+
+one_more : (xs : List (List ℕ)) (y : List ℕ) → concat (xs ++ y ∷ []) ≡ concat xs ++ y
+one_more xs y = concat-append xs (y ∷ []) ∙ ap (λ zs. concat xs ++ zs) (append-nil y)
+
+pub last_held : (bs : List (List ℕ)) (size : ℕ) → IsCut bs → size ≤ length (concat bs) → size % 4096 ≢ 0 → size / 4096 < length bs
+last_held bs size cut within some = omega (arith, most bs cut)
+
+pub cut_within : (bs : List (List ℕ)) (size : ℕ) (b d : List ℕ) → IsCut bs → size ≤ length (concat bs) → size % 4096 ≢ 0
+    → b ≡ take (size % 4096) (get_or bs (size / 4096) d) → IsCut (take (size / 4096 + 1) (set bs (size / 4096) b))
+cut_within bs size b d cut within some part =
+    let k = size / 4096 in
+    let held = last_held bs size cut within some in
+    let long = block_long bs k (size % 4096) d cut held (omega arith) (omega arith) in
+    let last : length b ≡ size % 4096 = ap length part ∙ omega (arith, length-take (size % 4096) (get_or bs k d)) in
+    let room : length (concat (take k bs)) ≡ 4096 * length (take k bs) = full bs k cut held ∙ omega (arith, length-take k bs) in
+    subst IsCut (sym (take_more_set bs k b held)) (cut_append (take k bs) (b ∷ []) (cut_take bs k cut) (cut_one b (omega arith) (omega arith)) (λ p. room))
+
+pub bytes_within : (bs : List (List ℕ)) (size : ℕ) (b d : List ℕ) → IsCut bs → size ≤ length (concat bs) → size % 4096 ≢ 0
+    → b ≡ take (size % 4096) (get_or bs (size / 4096) d) → concat (take (size / 4096 + 1) (set bs (size / 4096) b)) ≡ take size (concat bs)
+bytes_within bs size b d cut within some part =
+    let k = size / 4096 in
+    let held = last_held bs size cut within some in
+    ap concat (take_more_set bs k b held) ∙ one_more (take k bs) b ∙ ap (λ zs. concat (take k bs) ++ zs) part
+    ∙ block_taken bs k (size % 4096) d cut held (omega arith) (omega arith) ∙ ap (λ n. take n (concat bs)) (omega arith)

@@ -1,0 +1,116 @@
+-- Effects made one after another.
+use Rattle.std.proofs.Common.{◌≡◌, ℕ, zero, suc, true, ◌+◌, ◌<◌, cond, List, [], ◌∷◌, ◌++◌, ◌≤◌, ◌-◌, length, take, drop, slice_index_or, Option, Some, None, IsSome, refl, ap, sym, subst, ◌∙◌, inl, inr, arith}
+use Rattle.std.proofs.lemmas.Bool.{eq-eqb, ne_eqb, cases_eq}
+use Rattle.std.proofs.lemmas.List.{take_all, take_more}
+use Rattle.std.specs.Cmp.{nat_cmp_total}
+use Rattle.std.specs.Option.{is_some}
+use Rattle.std.specs.FinMap as map
+use Rattle.assise_record.specs.declared.effect.Effect.{Effect}
+use Rattle.assise_record.specs.declared.effect.Effect.TheVariants.{NewFile, NewDir, Write, SetLen, Link, Unlink, Free}
+use Rattle.assise_record.specs.Touched.{touched_by}
+use Rattle.assise_inode_table.specs.Contents.{Content, InodeMap, values}
+use Rattle.assise_inode_table.specs.Effects.{TakesAway, after, all_applied, applied, made_by, value_after, with_value}
+use Rattle.assise_inode_table.specs.Whole.{CanBeChangedWhole, CanBeMadeWhole, OnlyFirstAsks, OnlyTakeAway, is_link}
+use Rattle.assise_inode_table.proofs.EffectValues.{get-applied, get-with_value}
+
+-- ---- one after another
+
+pub append_applied : (m : InodeMap) (es fs : List Effect) → all_applied m (es ++ fs) ≡ all_applied (all_applied m es) fs
+append_applied m [] fs = refl
+append_applied m (e ∷ es) fs = append_applied (applied m e) es fs
+
+pub one_more_applied : (m : InodeMap) (es : List Effect) (i : ℕ) (e : Effect) → i < length es → e ≡ slice_index_or es i e → all_applied m (take (i + 1) es) ≡ applied (all_applied m (take i es)) e
+one_more_applied m es i e h is = ap (all_applied m) (take_more es i e h ∙ ap (λ x. take i es ++ x ∷ []) (sym is)) ∙ append_applied m (take i es) (e ∷ [])
+
+pub get-all_applied : (m : InodeMap) (es : List Effect) (i : ℕ) → map.get (all_applied m es) i ≡ value_after i (map.get m i) es
+get-all_applied m [] i = refl
+get-all_applied m (e ∷ es) i = get-all_applied (applied m e) es i ∙ ap (λ old. value_after i old es) (get-applied m e i)
+
+-- what is made of a map is what is made of its values
+pub values-all_applied : (m : InodeMap) (es : List Effect) → values (all_applied m es) ≡ after (values m) es
+values-all_applied m es = λ t i. get-all_applied m es i t
+
+pub same_inodes : (m n : InodeMap) → ((i : ℕ) → map.get m i ≡ map.get n i) → m ≡ n
+same_inodes m n same = map.same_map nat_cmp_total map.nat_cmp-IsAntisymmetric m n same
+
+pub takes_away_at : (es : List Effect) (k : ℕ) (e : Effect) → OnlyTakeAway es → k < length es → e ≡ slice_index_or es k e → TakesAway e
+takes_away_at [] k e t h is = absurd (omega (arith, h))
+takes_away_at (x ∷ es) zero e t h is = subst TakesAway (sym is) t.0
+takes_away_at (x ∷ es) (suc k) e t h is = takes_away_at es k e t.1 (omega (arith, h)) is
+
+-- ---- behind a new inode
+
+-- an effect that makes an inode puts it in place of what its number had
+pub applied_made : (m : InodeMap) (e : Effect) (c : Content) → Some c ≡ made_by e → applied m e ≡ map.insert m (touched_by e) c
+applied_made m (NewFile i) c is = ap (with_value m i) (sym is)
+applied_made m (NewDir i) c is = ap (with_value m i) (sym is)
+applied_made m (Write i patch) c is = cc
+applied_made m (SetLen i size) c is = cc
+applied_made m (Link d name i) c is = cc
+applied_made m (Unlink d name) c is = cc
+applied_made m (Free i) c is = cc
+
+-- the number has again what it had
+pub given_back : (m : InodeMap) (i : ℕ) (c : Content) (had : Option Content) → had ≡ map.get m i → with_value (map.insert m i c) i had ≡ m
+given_back m i c had is =
+    same_inodes _ _ (λ q. get-with_value (map.insert m i c) i had q
+    ∙ elim (cases_eq i q) [
+      | inl same ↦ rw (eq-eqb i q same) (is ∙ ap (map.get m) same)
+      | inr disjoint ↦ rw (ne_eqb i q disjoint) (get-with_value m i (Some c) q ∙ rw (ne_eqb i q disjoint) refl)
+    ])
+
+pub inserted_there : (m : InodeMap) (i : ℕ) (c : Content) → IsSome (map.get (map.insert m i c) i)
+inserted_there m i c = ap is_some (get-with_value m i (Some c) i ∙ ap (λ b. cond b (Some c) (map.get m i)) (eq-eqb i i refl))
+
+pub some_not_none : {A : Type 0} (o : Option A) → IsSome o → o ≡ None → ⊥
+some_not_none None some none = cc
+some_not_none (Some x) some none = cc
+
+-- ---- which effects may ask for memory
+
+makes_no_link : (e : Effect) → IsSome (made_by e) → is_link e ≡ true → ⊥
+makes_no_link (NewFile i) made link = cc
+makes_no_link (NewDir i) made link = cc
+makes_no_link (Write i patch) made link = cc
+makes_no_link (SetLen i size) made link = cc
+makes_no_link (Link d name i) made link = cc
+makes_no_link (Unlink d name) made link = cc
+makes_no_link (Free i) made link = cc
+
+pub makes_not_away : (e : Effect) → IsSome (made_by e) → TakesAway e → ⊥
+makes_not_away (NewFile i) made away = away
+makes_not_away (NewDir i) made away = away
+makes_not_away (Write i patch) made away = cc
+makes_not_away (SetLen i size) made away = cc
+makes_not_away (Link d name i) made away = cc
+makes_not_away (Unlink d name) made away = cc
+makes_not_away (Free i) made away = cc
+
+pub first_of_away : (es : List Effect) → OnlyTakeAway es → OnlyFirstAsks es
+first_of_away [] t = tt
+first_of_away (e ∷ es) t = t.1
+
+made_last : (e : Effect) (es before : List Effect) (last : Effect) → e ∷ es ≡ before ++ last ∷ [] → IsSome (made_by e) → OnlyTakeAway before → is_link last ≡ true → ⊥
+made_last e es [] last is made away links = let first : e ≡ last = cc in makes_no_link e made (ap is_link first ∙ links)
+made_last e es (b ∷ bs) last is made away links = let first : e ≡ b = cc in makes_not_away e made (subst TakesAway (sym first) away.0)
+
+-- behind a new inode only one effect may ask
+pub asks_behind_made : (e : Effect) (es : List Effect) → CanBeMadeWhole (e ∷ es) → IsSome (made_by e) → OnlyFirstAsks es
+asks_behind_made e es (inl t) made = t.1
+asks_behind_made e es (inr (inl t)) made = first_of_away es t
+asks_behind_made e es (inr (inr w)) made = absurd (made_last e es w.before w.last w.are made w.take_away w.links)
+
+none_made : (e : Effect) → None ≡ made_by e → IsSome (made_by e) → ⊥
+none_made e none made = some_not_none (made_by e) made (sym none)
+
+-- without a new inode in front they are changes
+pub changes_whole : (es : List Effect) (e : Effect) (rest : List Effect) → es ≡ e ∷ rest → CanBeMadeWhole es → None ≡ made_by e → CanBeChangedWhole es
+changes_whole [] e rest is (inl t) none = absurd t
+changes_whole (x ∷ es) e rest is (inl t) none = let same : x ≡ e = cc in absurd (none_made e none (subst (λ y. IsSome (made_by y)) same t.0))
+changes_whole es e rest is (inr t) none = t
+
+-- ---- the first effect, and those behind it
+
+pub first_ahead : (es : List Effect) (first : Effect) → 1 ≤ length es → first ≡ slice_index_or es 0 first → es ≡ first ∷ take (length es - 1) (drop 1 es)
+first_ahead [] first some is = absurd (omega (arith, some))
+first_ahead (e ∷ es) first some is = ap (λ x. x ∷ es) (sym is) ∙ ap (λ xs. first ∷ xs) (sym (take_all (length (e ∷ es) - 1) es (omega arith)))

@@ -1,0 +1,79 @@
+-- What effects make of the value of an inode.
+use Rattle.std.proofs.Common.{◌≡◌, ℕ, Bool, true, false, cond, if◌then◌else◌, List, [], ◌∷◌, ◌++◌, ◌||◌, ◌==◌, Option, Some, None, refl, ap, sym, ◌∙◌, inl, inr}
+use Rattle.std.proofs.lemmas.Bool.{eq-eqb, ne_eqb, cases_eq}
+use Rattle.std.proofs.lemmas.List.{map-append}
+use Rattle.std.specs.Ordering.{nat_cmp, eq_by_cmp, is_eq}
+use Rattle.std.specs.Cmp.{nat_cmp_total, tied_itself}
+use Rattle.std.proofs.lemmas.Map.Lookups.{exact_unsigned}
+use Rattle.std.specs.declared.cmp.Ordering.{Ordering}
+use Rattle.std.specs.declared.cmp.Ordering.TheVariants.{Less, Equal, Greater}
+use Rattle.std.specs.FinMap as fin
+use Rattle.assise_record.specs.declared.effect.Effect.{Effect}
+use Rattle.assise_record.specs.Touched.{touched_by}
+use Rattle.assise_inode_table.specs.Contents.{Content, InodeMap}
+use Rattle.assise_inode_table.specs.Effects.{effect_on, value_after, touched, contains, with_value, applied}
+
+pub or_left : (a b : Bool) → (a || b) ≡ false → a ≡ false
+or_left true b h = h
+or_left false b h = refl
+
+pub or_right : (a b : Bool) → (a || b) ≡ false → b ≡ false
+or_right true b h = cc
+or_right false b h = h
+
+or_assoc : (a b c : Bool) → ((a || b) || c) ≡ (a || (b || c))
+or_assoc true b c = refl
+or_assoc false b c = refl
+
+pub contains-append : (is js : List ℕ) (i : ℕ) → contains (is ++ js) i ≡ (contains is i || contains js i)
+contains-append [] js i = refl
+contains-append (k ∷ is) js i = rw (contains-append is js i) (sym (or_assoc (k == i) (contains is i) (contains js i)))
+
+pub touched-append : (es fs : List Effect) → touched (es ++ fs) ≡ touched es ++ touched fs
+touched-append es fs = map-append touched_by es fs
+
+pub contains-both : (es fs : List Effect) (i : ℕ) → contains (touched (es ++ fs)) i ≡ (contains (touched es) i || contains (touched fs) i)
+contains-both es fs i = ap (λ l. contains l i) (touched-append es fs) ∙ contains-append (touched es) (touched fs) i
+
+pub value_after-append : (i : ℕ) (old : Option Content) (es fs : List Effect) → value_after i old (es ++ fs) ≡ value_after i (value_after i old es) fs
+value_after-append i old [] fs = refl
+value_after-append i old (e ∷ es) fs = value_after-append i (if touched_by e == i then effect_on old e else old) es fs
+
+-- an inode that no effect touches keeps its value
+pub untouched : (i : ℕ) (old : Option Content) (es : List Effect) → contains (touched es) i ≡ false → value_after i old es ≡ old
+untouched i old [] h = refl
+untouched i old (e ∷ es) h = rw (or_left (touched_by e == i) _ h) (untouched i old es (or_right (touched_by e == i) _ h))
+
+-- ---- finite maps
+
+tied : (o : Ordering) → is_eq o ≡ true → o ≡ Equal
+tied Less e = cc
+tied Equal e = refl
+tied Greater e = cc
+
+-- one number by its order
+disjoint_number : (i j : ℕ) → (j ≡ i → ⊥) → (b : Bool) → eq_by_cmp nat_cmp i j ≡ b → b ≡ false
+disjoint_number i j disjoint true e = absurd (disjoint (sym (exact_unsigned i j (tied (nat_cmp i j) e))))
+disjoint_number i j disjoint false e = refl
+
+pub same_number : (i j : ℕ) → eq_by_cmp nat_cmp i j ≡ (j == i)
+same_number i j =
+    elim (cases_eq j i) [
+      | inl same ↦ ap (eq_by_cmp nat_cmp i) same ∙ ap is_eq (tied_itself nat_cmp_total i) ∙ sym (eq-eqb j i same)
+      | inr disjoint ↦ disjoint_number i j disjoint (eq_by_cmp nat_cmp i j) refl ∙ sym (ne_eqb j i disjoint)
+    ]
+
+pub get-with_value : (m : InodeMap) (j : ℕ) (o : Option Content) (i : ℕ) → fin.get (with_value m j o) i ≡ (if j == i then o else fin.get m i)
+get-with_value m j None i = fin.get-remove nat_cmp_total m j i ∙ ap (λ b. cond b None (fin.get m i)) (same_number i j)
+get-with_value m j (Some content) i = fin.get-insert nat_cmp_total m j content i ∙ ap (λ b. cond b (Some content) (fin.get m i)) (same_number i j)
+
+pub get-applied : (m : InodeMap) (e : Effect) (i : ℕ) → fin.get (applied m e) i ≡ value_after i (fin.get m i) (e ∷ [])
+get-applied m e i =
+    get-with_value m (touched_by e) (effect_on (fin.get m (touched_by e)) e) i ∙ go
+  where
+    go : (if touched_by e == i then effect_on (fin.get m (touched_by e)) e else fin.get m i) ≡ (if touched_by e == i then effect_on (fin.get m i) e else fin.get m i)
+    go =
+        elim (cases_eq (touched_by e) i) [
+          | inl same ↦ ap (λ j. if touched_by e == i then effect_on (fin.get m j) e else fin.get m i) same
+          | inr disjoint ↦ rw (ne_eqb (touched_by e) i disjoint) refl
+        ]

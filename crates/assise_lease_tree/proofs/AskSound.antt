@@ -1,0 +1,187 @@
+-- What is asked for keeps both levels sound.
+use Rattle.std.proofs.Common.{◌≡◌, ◌≢◌, ℕ, ◌==◌, ◌&&◌, ◌||◌, Bool, true, false, cond, not, List, [], ◌∷◌, Option, Some, None, ◌⊎◌, inl, inr, sym, refl, ap, subst, ◌∙◌}
+use Rattle.std.specs.List.{list_any}
+use Rattle.assise_names.specs.declared.mode.Mode.{Mode}
+use Rattle.assise_lease_table.specs.declared.lease.Lease.{Lease}
+use Rattle.assise_lease_table.specs.Modes.{against, strong}
+use Rattle.assise_lease_table.specs.Leases.{Among, lease_of, is_own_unasked, is_rival, revoked_if, revoke, leave_out, raise, raise_unopposed, raised_if}
+use Rattle.assise_lease_table.proofs.Elements.{cases_of, both_true, and_true, or_true_right, not_true, true_not, not_both, any_among, among_any, filter_among, among_filter, map_among, among_map}
+use Rattle.assise_lease_table.proofs.Compatibles.{other_number, differ, raise_unopposed_compatible}
+use Rattle.assise_lease_table.specs.Leases.{compatible}
+use Rattle.assise_lease_table.proofs.LeaseChanges.{leave_out_fits, revoke_fits}
+use Rattle.assise_lease_tree.specs.Levels.{Homes, lives, is_busy, carries, Under, AskedBelow, in_way, is_revoked, is_free, gives_up, nodes_asked, rivals_asked}
+use Rattle.assise_lease_tree.proofs.ClientHomes.{lives_at, one_home, lease_among, stronger_left, busy_from, busy_some}
+
+pub cond_right : (b x : Bool) → x ≡ true → cond b true x ≡ true
+cond_right true x e = refl
+cond_right false x e = e
+
+cond_left : (b x : Bool) → b ≡ true → cond b true x ≡ true
+cond_left true x e = refl
+cond_left false x e = cc
+
+cond_cases : (b x : Bool) → cond b true x ≡ true → (b ≡ true) ⊎ (x ≡ true)
+cond_cases true x e = inl refl
+cond_cases false x e = inr e
+
+-- leases that are revoked are held for the same nodes
+pub busy_same : (home : Homes) (choice : Lease → Bool) (cs : List Lease) (n : ℕ) → is_busy home (revoke choice cs) n ≡ is_busy home cs n
+busy_same home choice [] n = refl
+busy_same home choice (l ∷ ls) n = ap (λ b. lives home l.holder n || b) (busy_same home choice ls n)
+
+-- some client holds the inode revoked
+abbrev pub SomeRevoked : List Lease → Type 0
+SomeRevoked ls = list_any (λ l. l.revoked) ls ≡ true
+
+-- ---- a node's lease that is raised
+
+module _ (home : Homes) (cs : List Lease) (n : ℕ) (mode : Mode) where
+  abbrev raised_now : Lease → Lease
+  raised_now k = raised_if (is_own_unasked n k) mode k
+
+  -- a lease that is raised carries what it carried
+  still_strong : (b : Bool) (k : Lease) (m : Mode) → strong k.mode m ≡ true → strong (raised_if b mode k).mode m ≡ true
+  still_strong true k m s = stronger_left k.mode mode m s
+  still_strong false k m s = s
+
+  raise_under : (ns : List Lease) → Under home cs ns → Under home cs (raise n mode ns)
+  raise_under ns under l a =
+      let found = any_among (carries home l) ns (under l a) in
+      let k = found.0 in
+      let parts = both_true (lives home l.holder k.holder) (strong k.mode l.mode) found.2 in
+      among_any (carries home l) (raise n mode ns) (raised_now k) (map_among raised_now ns k found.1)
+      (and_true (lives home l.holder k.holder) _ parts.0 (still_strong (is_own_unasked n k) k l.mode parts.1))
+
+  raise_below : (ns : List Lease) → AskedBelow home cs ns → AskedBelow home cs (raise n mode ns)
+  raise_below ns below k a revoked =
+      let was = among_map raised_now ns k a in
+      let goal_at : Lease → Type 0 = λ (z : Lease). (is_busy home cs z.holder ≡ true) × ((l : Lease) → Among cs l → lives home l.holder z.holder ≡ true → l.revoked ≡ true) in
+      subst goal_at (sym was.2) (below was.0 was.1 (sym (ap (λ (z : Lease). z.revoked) was.2) ∙ revoked))
+
+  under_unless : (b : Bool) (ns : List Lease) → Under home cs ns → Under home cs (cond b ns (raise n mode ns))
+  under_unless true ns under = under
+  under_unless false ns under = raise_under ns under
+
+  below_unless : (b : Bool) (ns : List Lease) → AskedBelow home cs ns → AskedBelow home cs (cond b ns (raise n mode ns))
+  below_unless true ns below = below
+  below_unless false ns below = raise_below ns below
+
+  raised_under : (ns : List Lease) → Under home cs ns → Under home cs (raise_unopposed n mode ns)
+  raised_under ns under = under_unless (list_any (is_rival n mode) ns) ns under
+
+  raised_below : (ns : List Lease) → AskedBelow home cs ns → AskedBelow home cs (raise_unopposed n mode ns)
+  raised_below ns below = below_unless (list_any (is_rival n mode) ns) ns below
+
+module _ (home : Homes) (cs ns : List Lease) (c n : ℕ) (mode : Mode) (at_home : home c ≡ Some n)
+    (under : Under home cs ns) (below : AskedBelow home cs ns) where
+  abbrev revoked_now : Lease → Lease
+  revoked_now l = revoked_if (in_way home ns c n mode l) l
+
+  abbrev pub clients_asked : List Lease
+  clients_asked = revoke (in_way home ns c n mode) cs
+
+  -- what stands in the way is revoked now
+  way_revoked : (l : Lease) → in_way home ns c n mode l ≡ true → (revoked_now l).revoked ≡ true
+  way_revoked l way = cond_left (in_way home ns c n mode l) l.revoked way
+
+  busy_after : (m : ℕ) → is_busy home cs m ≡ true → is_busy home (revoke (in_way home ns c n mode) cs) m ≡ true
+  busy_after m busy =
+      let l = busy_some home cs m busy in
+      busy_from home (revoke (in_way home ns c n mode) cs) m (revoked_now l.0) (map_among revoked_now cs l.0 l.1) l.2
+
+  rivals_under : Under home (revoke (in_way home ns c n mode) cs) (rivals_asked home cs n mode ns)
+  rivals_under l a =
+      let was = among_map revoked_now cs l a in
+      let found = any_among (carries home was.0) ns (under was.0 was.1) in
+      let k = found.0 in
+      let parts = both_true (lives home was.0.holder k.holder) (strong k.mode was.0.mode) found.2 in
+      let stays : gives_up home cs n mode k ≡ false = elim (cases_of (gives_up home cs n mode k)) [
+        | inl gone ↦ not_both (is_busy home cs k.holder) (busy_from home cs k.holder was.0 was.1 parts.0) (not_true (is_busy home cs k.holder) (both_true (is_rival n mode k) (not (is_busy home cs k.holder)) gone).1)
+        | inr kept ↦ kept
+      ] in
+      subst (λ (z : Lease). list_any (carries home z) (rivals_asked home cs n mode ns) ≡ true) (sym was.2)
+      (among_any (carries home (revoked_now was.0)) (rivals_asked home cs n mode ns) (revoked_if (is_rival n mode k) k)
+      (map_among (λ z. revoked_if (is_rival n mode z) z) (leave_out (gives_up home cs n mode) ns) k
+      (filter_among (λ z. not (gives_up home cs n mode z)) ns k found.1 (true_not (gives_up home cs n mode k) stays)))
+      found.2)
+
+  pub asked_under : Under home (revoke (in_way home ns c n mode) cs) (nodes_asked home cs n mode ns)
+  unfolding nodes_asked
+  asked_under = raised_under home (revoke (in_way home ns c n mode) cs) n mode (rivals_asked home cs n mode ns) rivals_under
+
+  pub nodes_asked_compatible : compatible ns ≡ true → compatible (nodes_asked home cs n mode ns) ≡ true
+  unfolding nodes_asked
+  nodes_asked_compatible fits =
+      raise_unopposed_compatible n mode (rivals_asked home cs n mode ns)
+      (revoke_fits (is_rival n mode) (leave_out (gives_up home cs n mode) ns) (leave_out_fits (gives_up home cs n mode) ns fits))
+
+  -- a rival of the node stands in the way of all its clients
+  rival_in_way : (k : Lease) → Among ns k → is_rival n mode k ≡ true → (l : Lease) → Among cs l → lives home l.holder k.holder ≡ true → in_way home ns c n mode l ≡ true
+  unfolding in_way
+  rival_in_way k in_k rival l in_l there =
+      let away : k.holder ≢ n = differ k.holder n (not_true (k.holder == n) (both_true (not (k.holder == n)) (against mode k.mode) rival).0) in
+      let other : l.holder ≢ c = λ same. away (one_home home c k.holder n (ap (λ z. lives home z k.holder) (sym same) ∙ there) (lives_at home c n at_home)) in
+      and_true (not (l.holder == c)) _ (true_not (l.holder == c) (other_number l.holder c other))
+      (or_true_right (lives home l.holder n && against mode l.mode) _
+      (among_any (λ (z : Lease). lives home l.holder z.holder && is_rival n mode z) ns k in_k (and_true (lives home l.holder k.holder) (is_rival n mode k) there rival)))
+
+  rivals_below : AskedBelow home (revoke (in_way home ns c n mode) cs) (rivals_asked home cs n mode ns)
+  rivals_below k a revoked =
+      let was = among_map (λ z. revoked_if (is_rival n mode z) z) (leave_out (gives_up home cs n mode) ns) k a in
+      let old = among_filter (λ z. not (gives_up home cs n mode z)) ns was.0 was.1 in
+      let goal_at : Lease → Type 0 = λ (z : Lease). (is_busy home (revoke (in_way home ns c n mode) cs) z.holder ≡ true) × ((l : Lease) → Among (revoke (in_way home ns c n mode) cs) l → lives home l.holder z.holder ≡ true → l.revoked ≡ true) in
+      subst goal_at (sym was.2) (elim (cond_cases (is_rival n mode was.0) was.0.revoked (sym (ap (λ (z : Lease). z.revoked) was.2) ∙ revoked)) [
+        | inl rival ↦
+            let busy : is_busy home cs was.0.holder ≡ true = elim (cases_of (is_busy home cs was.0.holder)) [
+              | inl some ↦ some
+              | inr none ↦ not_both (gives_up home cs n mode was.0) (and_true (is_rival n mode was.0) (not (is_busy home cs was.0.holder)) rival (true_not (is_busy home cs was.0.holder) none)) (not_true (gives_up home cs n mode was.0) old.1)
+            ] in (
+              busy_after was.0.holder busy,
+              λ l in_l there.
+                  let before = among_map revoked_now cs l in_l in
+                  ap (λ (z : Lease). z.revoked) before.2
+                  ∙ way_revoked before.0 (rival_in_way was.0 old.0 rival before.0 before.1 (sym (ap (λ (z : Lease). lives home z.holder was.0.holder) before.2) ∙ there)),
+            )
+        | inr already ↦
+            let held = below was.0 old.0 already in (
+              busy_after was.0.holder held.0,
+              λ l in_l there.
+                  let before = among_map revoked_now cs l in_l in
+                  ap (λ (z : Lease). z.revoked) before.2
+                  ∙ cond_right (in_way home ns c n mode before.0) before.0.revoked (held.1 before.0 before.1 (sym (ap (λ (z : Lease). lives home z.holder was.0.holder) before.2) ∙ there)),
+            )
+      ])
+
+  pub asked_asked : AskedBelow home (revoke (in_way home ns c n mode) cs) (nodes_asked home cs n mode ns)
+  unfolding nodes_asked
+  asked_asked = raised_below home (revoke (in_way home ns c n mode) cs) n mode (rivals_asked home cs n mode ns) rivals_below
+
+  revoked_client : (l : Lease) → Among cs l → (revoked_now l).revoked ≡ true → SomeRevoked (revoke (in_way home ns c n mode) cs)
+  revoked_client l a e = among_any (λ (z : Lease). z.revoked) (revoke (in_way home ns c n mode) cs) (revoked_now l) (map_among revoked_now cs l a) e
+
+  own_revoked : (o : Option Lease) → lease_of cs c ≡ o → is_revoked o ≡ true → SomeRevoked (revoke (in_way home ns c n mode) cs)
+  own_revoked None is e = cc
+  own_revoked (Some l) is e = revoked_client l (lease_among cs c l is).0 (cond_right (in_way home ns c n mode l) l.revoked e)
+
+  node_revoked : (o : Option Lease) → lease_of ns n ≡ o → is_revoked o ≡ true → SomeRevoked (revoke (in_way home ns c n mode) cs)
+  node_revoked None is e = cc
+  node_revoked (Some k) is e =
+      let held = below k (lease_among ns n k is).0 e in
+      let l = busy_some home cs k.holder held.0 in
+      revoked_client l.0 l.1 (cond_right (in_way home ns c n mode l.0) l.0.revoked (held.1 l.0 l.1 l.2))
+
+  three : (a b d : Bool) → (not a && (not b && not d)) ≡ false → (a ≡ true) ⊎ ((b ≡ true) ⊎ (d ≡ true))
+  three true b d e = inl refl
+  three false true d e = inr (inl refl)
+  three false false true e = inr (inr refl)
+  three false false false e = cc
+
+  -- where the mode isn't granted, some client holds the inode revoked
+  pub some_revoked : is_free home cs ns c n mode ≡ false → SomeRevoked (revoke (in_way home ns c n mode) cs)
+  some_revoked e = elim (three (list_any (in_way home ns c n mode) cs) (is_revoked (lease_of cs c)) (is_revoked (lease_of ns n)) e) [
+    | inl way ↦ let l = any_among (in_way home ns c n mode) cs way in revoked_client l.0 l.1 (way_revoked l.0 l.2)
+    | inr rest ↦ elim rest [
+      | inl own ↦ own_revoked (lease_of cs c) refl own
+      | inr node ↦ node_revoked (lease_of ns n) refl node
+    ]
+  ]

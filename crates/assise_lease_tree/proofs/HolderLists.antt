@@ -1,0 +1,62 @@
+-- Which leases are listed where a test looks at holders alone.
+use Rattle.std.proofs.Common.{◌≡◌, ℕ, ◌==◌, Bool, true, false, cond, not, ◌&&◌, ◌||◌, List, [], ◌∷◌, Option, Some, Result, Ok, Err, IfOk, sym, refl, ap, ◌∙◌}
+use Rattle.std.specs.Global.{Vec}
+use Rattle.std.specs.List.{list_any, list_all}
+use Rattle.assise_names.specs.declared.refusal.Refusal.{Refusal}
+use Rattle.assise_lease_table.specs.Cuts.{is_asked, is_unasked}
+use Rattle.assise_lease_table.specs.Leases.{disjoint, compatible, is_own, is_to_ask, lease_of}
+use Rattle.assise_lease_table.specs.declared.lease.Asked.{Asked}
+use Rattle.assise_lease_table.specs.declared.lease.Lease.{Lease}
+use Rattle.assise_lease_table.proofs.Compatibles.{same_number, other_number, differ}
+use Rattle.assise_lease_table.proofs.Elements.{both_true, not_true}
+
+module _ (by : ℕ → Bool) where
+  abbrev chosen : ℕ → Lease → Bool
+  chosen c l = is_own c l && is_to_ask (λ k. by k.holder) l
+
+  abbrev pub left_of : ℕ → List Lease → Bool
+  left_of c ls = by c && is_unasked (lease_of ls c)
+
+  passed : (b t rest : Bool) → b ≡ false → rest ≡ false → ((b && t) || rest) ≡ false
+  passed true t rest e f = cc
+  passed false t rest e f = f
+
+  disjoint_head : (l k : Lease) → disjoint l k ≡ true → is_own l.holder k ≡ false
+  disjoint_head l k e =
+      let other = not_true (l.holder == k.holder) (both_true (not (l.holder == k.holder)) _ e).0 in
+      other_number k.holder l.holder (λ same. differ l.holder k.holder other (sym same))
+
+  none_left : (l : Lease) (ls : List Lease) → list_all (disjoint l) ls ≡ true → list_any (chosen l.holder) ls ≡ false
+  none_left l [] e = refl
+  none_left l (k ∷ ks) e = let parts = both_true (disjoint l k) (list_all (disjoint l) ks) e in
+      passed (is_own l.holder k) (is_to_ask (λ z. by z.holder) k) (list_any (chosen l.holder) ks) (disjoint_head l k parts.0) (none_left l ks parts.1)
+
+  nothing_left : (b : Bool) → false ≡ (b && false)
+  nothing_left true = refl
+  nothing_left false = refl
+
+  alone : (a b rest : Bool) → rest ≡ false → ((a && b) || rest) ≡ (b && a)
+  alone true true rest e = refl
+  alone true false rest e = e
+  alone false true rest e = e
+  alone false false rest e = e
+
+  left_step : (b : Bool) (l : Lease) (c : ℕ) (found : Option Lease) (rest : Bool) → (b ≡ true → (l.holder ≡ c) × (rest ≡ false)) → rest ≡ (by c && is_unasked found)
+      → ((b && (not l.revoked && by l.holder)) || rest) ≡ (by c && is_unasked (cond b (Some l) found))
+  left_step true l c found rest here more = let is = here refl in alone (not l.revoked) (by l.holder) rest is.1 ∙ ap (λ z. by z && not l.revoked) is.0
+  left_step false l c found rest here more = more
+
+  -- of compatible leases a holder's is listed where the test looks at holders alone and the lease isn't revoked
+  pub listed_of : (c : ℕ) (ls : List Lease) → compatible ls ≡ true → list_any (chosen c) ls ≡ left_of c ls
+  listed_of c [] fits = nothing_left (by c)
+  listed_of c (l ∷ ls) fits =
+      let parts = both_true (list_all (disjoint l) ls) (compatible ls) fits in
+      left_step (l.holder == c) l c (lease_of ls c) (list_any (chosen c) ls)
+      (λ own. let same = same_number l.holder c own in (same, ap (λ z. list_any (chosen z) ls) (sym same) ∙ none_left l ls parts.0))
+      (listed_of c ls parts.1)
+
+  -- what is listed of all inodes
+  pub all_listed : (leases : ℕ → List Lease) → ((i : ℕ) → compatible (leases i) ≡ true) → (r : Result (Vec Asked) Refusal)
+      → IfOk r (λ asked. (c i : ℕ) → is_asked asked.items c i ≡ list_any (chosen c) (leases i)) → IfOk r (λ asked. (c i : ℕ) → is_asked asked.items c i ≡ left_of c (leases i))
+  all_listed leases fits (Ok asked) which = λ c i. which c i ∙ listed_of c (leases i) (fits i)
+  all_listed leases fits (Err refusal) which = tt

@@ -1,0 +1,129 @@
+-- What a failure leaves at the other full nodes.
+use Rattle.std.proofs.Common.{◌≡◌, ◌≢◌, inl, inr, ℕ, ◌+◌, ◌-◌, ◌≤◌, Some, true, ◌&&◌, ◌==◌, drop, take, length, List, refl, ap, sym, subst, ◌∙◌, arith}
+use Rattle.std.proofs.lemmas.Bool.{and_parts, cases_Bool, cases_eq, eqb-true}
+use Rattle.std.proofs.lemmas.List.{drop-take, length-take, take_all}
+use Rattle.assise_history.specs.declared.call.Loss.{Loss}
+use Rattle.assise_inode_table.specs.Effects.{contains}
+use Rattle.assise_manager.specs.Changes.{donor_of, is_returning}
+use Rattle.assise_manager.specs.Standings.{full, standing_of}
+use Rattle.assise_model_world.specs.NodeSteps.{kept_at_failure}
+use Rattle.assise_model_world.specs.Invariant.{WorldInvariant}
+use Rattle.assise_model_world.specs.World.{World, Full, undigested_records, undigested_below, end_of_log, records_between}
+use Rattle.assise_model_world.proofs.FailureKeeps.{kept_low}
+use Rattle.assise_model_world.proofs.Views.{ahead_between}
+use Rattle.assise_model_events.specs.Events.{Answer, failed}
+use Rattle.assise_model_events.specs.Machine.{MachineInvariant, Machine}
+use Rattle.assise_model_events.specs.MemberEvents as member
+use Rattle.assise_model_events.specs.MemberEvents.{Failing, IsFailed, IsFailedAgain}
+use Rattle.assise_model_events.proofs.LeaseSteps.{full_after}
+use Rattle.assise_machine.proofs.Others.{dropped_ahead, leaves_all, leaves_nodes}
+
+-- ---- areas
+
+no_donor : (m : Machine) (n : ℕ) → standing_of m.members.nodes n ≡ Some full → donor_of (standing_of m.members.nodes n) ≢ Some n
+no_donor m n is there = (let none = ap donor_of is in cc)
+
+-- other full nodes are full in the world whose logs were cut, and when it is listed what still stands there
+cut_full : (m m' : Machine) (n j : ℕ) (e : IsFailed m n m') → Full m.world j → j ≢ n → Full e.refreshed j
+cut_full m m' n j e there other = full_after e.cut e.refreshed j e.failure.rests.nodes.full (e.failure.fails.others j there other)
+
+failed_area : (m m' : Machine) (n j i : ℕ) → IsFailed m n m' → Full m.world j → m'.world.area j i ≡ m.world.area j i
+failed_area m m' n j i e there =
+    elim (cases_eq j n) [
+      | inl here ↦
+          subst (λ k. m'.world.area k i ≡ m.world.area k i) (sym here)
+          (e.others n i (λ still. e.failure.fails.gone (subst (λ ns. contains ns n ≡ true) e.failure.rests.nodes.full still))
+          ∙ e.failure.area_else n i (no_donor m n e.was_full))
+      | inr other ↦
+          let cut = e.failure.fails.others j there other in
+          e.drops.area j i (cut_full m m' n j e there other)
+          ∙ (e.failure.rests.nodes.same j cut).area i
+          ∙ e.failure.fails.area j i cut
+    ]
+
+pub failing_area : (m m' : Machine) (n : ℕ) (a : Answer) → Failing m n a m' → (j i : ℕ) → Full m.world j → m'.world.area j i ≡ m.world.area j i
+failing_area m m' n a (member.is_failed fine is e) j i there = failed_area m m' n j i e there
+failing_area m m' n a (member.is_failed_again fine is e) j i there = e.failure.area j i
+failing_area m m' n a (member.lacks_memory fine is same) j i there = (leaves_all m m' j same).area i
+failing_area m m' n a (member.is_refused r fault is same) j i there = (leaves_all m m' j same).area i
+
+-- ---- records that are not digested
+
+-- what is kept of a log, from what was digested on
+prefix_ahead : (w v : World) (j c k : ℕ) → v.digested j c ≡ w.digested j c → v.first c ≡ w.first c → v.log j c ≡ take (k - w.first c) (w.log j c) → w.first c ≤ w.digested j c → w.digested j c ≤ k →
+    undigested_records v j c ≡ undigested_below w j c k
+unfolding undigested_records undigested_below
+prefix_ahead w v j c k digested first log begun kept =
+    let parts : k - w.first c ≡ (w.digested j c - w.first c) + (k - w.digested j c) = omega (arith, begun, kept) in
+    (λ i. drop (digested i - first i) (log i))
+    ∙ ap (λ n. drop (w.digested j c - w.first c) (take n (w.log j c))) parts
+    ∙ drop-take (w.digested j c - w.first c) (k - w.digested j c) (w.log j c)
+
+failed_ahead : (m m' : Machine) (n j c : ℕ) → WorldInvariant m.world → IsFailed m n m' → Full m.world j → j ≢ n → undigested_records m'.world j c ≡ undigested_below m.world j c (kept_at_failure m.world n c)
+failed_ahead m m' n j c s e there other =
+    let order = s.coherent.order j c there in
+    let kept = kept_low m.world n c in
+    let cut = e.failure.fails.others j there other in
+    let still = cut_full m m' n j e there other in
+    let node = e.failure.rests.nodes.same j cut in
+    let first = e.failure.rests.logs.first c ∙ e.failure.fails.first c in
+    let digested = node.digested c ∙ e.failure.fails.digested j c cut in
+    dropped_ahead e.refreshed m'.world j c e.drops still
+    ∙ prefix_ahead m.world e.refreshed j c (kept_at_failure m.world n c) digested first (node.log c ∙ e.failure.fails.log j c cut)
+    order.begun (omega (arith, order.replicated, kept))
+
+-- ---- clients that live elsewhere
+
+short : (w : World) (j c : ℕ) → WorldInvariant w → Full w j → length (undigested_records w j c) ≤ end_of_log w c - w.digested j c
+unfolding records_between
+short w j c s there =
+    let order = s.coherent.order j c there in
+    let same = ap length (ahead_between w j c s there) in
+    let few = length-take (w.received j c - w.digested j c) (drop (w.digested j c - w.first c) (w.records c)) in
+    omega (arith, order.known, same, few)
+
+-- a full node has nothing past the end of a client's log
+ahead_to_end : (w : World) (j c : ℕ) → WorldInvariant w → Full w j → undigested_below w j c (end_of_log w c) ≡ undigested_records w j c
+unfolding undigested_below
+ahead_to_end w j c s there =
+    let order = s.coherent.order j c there in
+    take_all (end_of_log w c - w.digested j c) (undigested_records w j c) (short w j c s there)
+
+kept_whole : (w : World) (n c : ℕ) → (w.lives c ≡ true → w.home c ≢ n) → kept_at_failure w n c ≡ end_of_log w c
+unfolding kept_at_failure
+kept_whole w n c away =
+    elim (cases_Bool (w.lives c && (w.home c == n))) [
+      | inl there ↦ (let parts = and_parts (w.lives c) (w.home c == n) there in absurd (away parts.0 (eqb-true (w.home c) n parts.1)))
+      | inr elsewhere ↦ rw elsewhere refl
+    ]
+
+kept_ahead : (w : World) (n j c : ℕ) → WorldInvariant w → Full w j → (w.lives c ≡ true → w.home c ≢ n) → undigested_below w j c (kept_at_failure w n c) ≡ undigested_records w j c
+kept_ahead w n j c s there away = ap (undigested_below w j c) (kept_whole w n c away) ∙ ahead_to_end w j c s there
+
+-- ---- a failure
+
+-- nobody lives at a node that comes back
+nobody_there : (m : Machine) (n c : ℕ) → MachineInvariant m → is_returning (standing_of m.members.nodes n) ≡ true → m.world.lives c ≡ true → m.world.home c ≢ n
+nobody_there m n c h returns lives home =
+    let there : Full m.world n = subst (Full m.world) home (h.sound.homes c lives) in
+    let is = h.members.full_nodes n there in
+    let never = ap is_returning is in
+    cc
+
+pub failing_ahead : (m m' : Machine) (n : ℕ) (losses : List Loss) → MachineInvariant m → Failing m n (failed losses) m' → (j c : ℕ) → Full m.world j → j ≢ n →
+    undigested_records m'.world j c ≡ undigested_below m.world j c (kept_at_failure m.world n c)
+failing_ahead m m' n losses h (member.is_failed fine is e) j c there other = failed_ahead m m' n j c h.sound e there other
+failing_ahead m m' n losses h (member.is_failed_again fine is e) j c there other =
+    (leaves_nodes m.world m'.world j e.failure.rests.logs e.failure.rests.nodes there).ahead c
+    ∙ sym (kept_ahead m.world n j c h.sound there (nobody_there m n c h e.failure.was_returning))
+failing_ahead m m' n losses h (member.lacks_memory fine is same) j c there other = cc
+failing_ahead m m' n losses h (member.is_refused r fault is same) j c there other = cc
+
+pub failing_elsewhere : (m m' : Machine) (n : ℕ) (a : Answer) → MachineInvariant m → Failing m n a m' → (j c : ℕ) → Full m.world j → j ≢ n → m.world.home c ≢ n →
+    undigested_records m'.world j c ≡ undigested_records m.world j c
+failing_elsewhere m m' n a h (member.is_failed fine is e) j c there other away =
+    failed_ahead m m' n j c h.sound e there other ∙ kept_ahead m.world n j c h.sound there (λ lives. away)
+failing_elsewhere m m' n a h (member.is_failed_again fine is e) j c there other away =
+    (leaves_nodes m.world m'.world j e.failure.rests.logs e.failure.rests.nodes there).ahead c
+failing_elsewhere m m' n a h (member.lacks_memory fine is same) j c there other away = (leaves_all m m' j same).ahead c
+failing_elsewhere m m' n a h (member.is_refused r fault is same) j c there other away = (leaves_all m m' j same).ahead c

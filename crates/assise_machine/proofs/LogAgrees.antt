@@ -1,0 +1,94 @@
+-- A log goes on with some records.
+use Rattle.std.proofs.Common.{◌≡◌, ℕ, zero, suc, ◌+◌, ◌-◌, ◌<◌, ◌≤◌, nat_lt, List, [], ◌∷◌, length, take, drop, slice_get, Some, None, inl, inr, refl, ap, sym, subst, ◌∙◌, arith}
+use Rattle.std.proofs.lemmas.Bool.{cases_Bool, ltb-true}
+use Rattle.std.proofs.lemmas.List.{drop_all, length-drop, length-take, take_all}
+use Rattle.assise_record.specs.LogRecord.{LogRecord}
+use Rattle.assise_digest.specs.Region.{AreWhole}
+use Rattle.assise_private_log.specs.NumberedLog.{NumberedLog, record_at, records_from}
+
+drop_here : (xs : List LogRecord) (i : ℕ) (x : LogRecord) → slice_get xs i ≡ Some x → drop i xs ≡ x ∷ drop (suc i) xs
+drop_here [] zero x is = cc
+drop_here [] (suc i) x is = cc
+drop_here (y ∷ ys) zero x is = (let same : y ≡ x = cc is in ap (λ z. z ∷ ys) same)
+drop_here (y ∷ ys) (suc i) x is = drop_here ys i x is
+
+place_at : (l : NumberedLog) (from : ℕ) → l.first ≤ from → record_at l from ≡ slice_get l.records (from - l.first)
+place_at l from begun =
+    elim (cases_Bool (nat_lt from l.first)) [
+      | inl low ↦ (let before : from < l.first = ltb-true from l.first low in absurd (omega (arith, begun, before)))
+      | inr high ↦ rw high refl
+    ]
+
+pub goes_on : (l : NumberedLog) (from : ℕ) (r : LogRecord) → l.first ≤ from → Some r ≡ record_at l from → records_from l from ≡ r ∷ records_from l (from + 1)
+goes_on l from r begun is =
+    let next : suc (from - l.first) ≡ (from + 1) - l.first = omega (arith, begun) in
+    drop_here l.records (from - l.first) r (sym (place_at l from begun) ∙ sym is) ∙ ap (λ k. r ∷ drop k l.records) next
+
+pub ends : (l : NumberedLog) (from : ℕ) → length l.records ≤ from - l.first → records_from l from ≡ []
+ends l from past = drop_all (from - l.first) l.records past
+
+none_there : (xs : List LogRecord) (i : ℕ) → slice_get xs i ≡ None → drop i xs ≡ []
+none_there [] zero is = refl
+none_there [] (suc i) is = refl
+none_there (y ∷ ys) zero is = cc
+none_there (y ∷ ys) (suc i) is = none_there ys i is
+
+pub nothing_there : (l : NumberedLog) (from : ℕ) → l.first ≤ from → None ≡ record_at l from → records_from l from ≡ []
+nothing_there l from begun is = none_there l.records (from - l.first) (sym (place_at l from begun) ∙ sym is)
+
+-- one record more
+
+pub more_agrees : (xs ys rs : List LogRecord) (q r : LogRecord) → xs ≡ q ∷ ys → q ≡ r → take (length rs) ys ≡ rs → take (length (r ∷ rs)) xs ≡ r ∷ rs
+more_agrees xs ys rs q r is same rest = ap (take (suc (length rs))) is ∙ (λ i. same i ∷ rest i)
+
+pub first_agrees : (xs ys rs : List LogRecord) (q r : LogRecord) → xs ≡ q ∷ ys → take (length (r ∷ rs)) xs ≡ r ∷ rs → q ≡ r
+first_agrees xs ys rs q r is all = heads (sym (ap (take (suc (length rs))) is) ∙ all)
+  where
+    heads : {zs : List LogRecord} → q ∷ zs ≡ r ∷ rs → q ≡ r
+    heads same = cc same
+
+pub rest_agrees : (xs ys rs : List LogRecord) (q r : LogRecord) → xs ≡ q ∷ ys → take (length (r ∷ rs)) xs ≡ r ∷ rs → take (length rs) ys ≡ rs
+rest_agrees xs ys rs q r is all = tails (sym (ap (take (suc (length rs))) is) ∙ all)
+  where
+    tails : {zs : List LogRecord} → q ∷ zs ≡ r ∷ rs → zs ≡ rs
+    tails same = cc same
+
+pub nothing_agrees : (xs rs : List LogRecord) (r : LogRecord) → xs ≡ [] → take (length (r ∷ rs)) xs ≡ r ∷ rs → ⊥
+nothing_agrees xs rs r is all = (let none : [] ≡ r ∷ rs = sym (ap (take (suc (length rs))) is) ∙ all in cc)
+
+-- parts of what can be made whole
+
+whole_behind : (xs : List LogRecord) (i : ℕ) → AreWhole xs → AreWhole (drop i xs)
+whole_behind [] zero whole = whole
+whole_behind [] (suc i) whole = whole
+whole_behind (x ∷ xs) zero whole = whole
+whole_behind (x ∷ xs) (suc i) whole = whole_behind xs i whole.1
+
+whole_prefix : (xs : List LogRecord) (i : ℕ) → AreWhole xs → AreWhole (take i xs)
+whole_prefix [] zero whole = whole
+whole_prefix [] (suc i) whole = whole
+whole_prefix (x ∷ xs) zero whole = tt
+whole_prefix (x ∷ xs) (suc i) whole = (whole.0, whole_prefix xs i whole.1)
+
+pub whole_part : (l : NumberedLog) (from count : ℕ) → AreWhole l.records → AreWhole (take count (records_from l from))
+whole_part l from count whole = whole_prefix (records_from l from) count (whole_behind l.records (from - l.first) whole)
+
+-- ---- how many there are
+
+part_length : (l : NumberedLog) (from : ℕ) (rs : List LogRecord) → take (length rs) (records_from l from) ≡ rs → length rs ≤ length l.records - (from - l.first)
+part_length l from rs all =
+    let taken = length-take (length rs) (records_from l from) in
+    let left = length-drop (from - l.first) l.records in
+    let same = ap length all in
+    omega (arith, taken, left, same)
+
+pub too_many : (l : NumberedLog) (from : ℕ) (rs : List LogRecord) → length l.records - (from - l.first) < length rs → take (length rs) (records_from l from) ≡ rs → ⊥
+too_many l from rs few all = (let low = part_length l from rs all in omega (arith, few, low))
+
+-- what a log goes on with can be made whole, as what it has can
+pub whole_new : (l : NumberedLog) (from skipped : ℕ) (rs : List LogRecord) → AreWhole l.records →
+    take (length (take (length rs - skipped) (drop skipped rs))) (records_from l from) ≡ take (length rs - skipped) (drop skipped rs) → AreWhole (drop skipped rs)
+whole_new l from skipped rs whole all =
+    let left = length-drop skipped rs in
+    let new_is : take (length rs - skipped) (drop skipped rs) ≡ drop skipped rs = take_all (length rs - skipped) (drop skipped rs) (omega (arith, left)) in
+    subst AreWhole (all ∙ new_is) (whole_part l from (length (take (length rs - skipped) (drop skipped rs))) whole)

@@ -1,4 +1,0 @@
-use Rattle.assise_machine.proofs.digesting.+digest_to.Given as goal
-
-abbrev pub decreases-digest_to : goal.decreases-digest_to
-decreases-digest_to g l = l.last

@@ -1,5 +1,0 @@
-use Rattle.assise_machine_events.proofs.Replying.{awaits}
-use Rattle.assise_machine_events.proofs.answers.a_call_is_awaited_only_for_a_lease.Goals as goal
-
-pub returns : goal.returns
-returns r = λ m m' c op e. awaits m m' c op e

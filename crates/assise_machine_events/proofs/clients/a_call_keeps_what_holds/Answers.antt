@@ -1,8 +1,0 @@
-use Rattle.assise_machine_events.proofs.Calling.{calling_leads, calling_keeps}
-use Rattle.assise_machine_events.proofs.clients.a_call_keeps_what_holds.Goals as goal
-
-pub returns-clause-leads : goal.returns-clause-leads
-returns-clause-leads r = λ m m' c op a h other e. calling_leads m m' c op a h other e
-
-pub returns-clause-keeps : goal.returns-clause-keeps
-returns-clause-keeps r = λ m m' c op a h other e. calling_keeps m m' c op a h other e

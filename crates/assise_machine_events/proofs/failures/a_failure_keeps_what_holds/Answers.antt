@@ -1,8 +1,0 @@
-use Rattle.assise_machine_events.proofs.Felled.{fail_leads, fail_holds}
-use Rattle.assise_machine_events.proofs.failures.a_failure_keeps_what_holds.Goals as goal
-
-pub returns-clause-leads : goal.returns-clause-leads
-returns-clause-leads r = λ m m' n a h e. fail_leads m m' n a h e
-
-pub returns-clause-keeps : goal.returns-clause-keeps
-returns-clause-keeps r = λ m m' n a h e. fail_holds m m' n a h e

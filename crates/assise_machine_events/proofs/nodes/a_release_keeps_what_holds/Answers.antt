@@ -1,8 +1,0 @@
-use Rattle.assise_machine_events.proofs.Letting.{release_leads, release_holds}
-use Rattle.assise_machine_events.proofs.nodes.a_release_keeps_what_holds.Goals as goal
-
-pub returns-clause-leads : goal.returns-clause-leads
-returns-clause-leads r = λ m m' a h e. release_leads m m' a h e
-
-pub returns-clause-keeps : goal.returns-clause-keeps
-returns-clause-keeps r = λ m m' a h e. release_holds m m' a h e

@@ -1,0 +1,210 @@
+-- Copies of inodes that a node loses: what is left of the state, and what the laws observe of it.
+use Rattle.std.proofs.Common.{◌≡◌, ◌≢◌, ℕ, ◌-◌, ◌<◌, ◌≤◌, Bool, true, false, if◌then◌else◌, List, [], ◌∷◌, get_or, length, Option, Some, None, inl, inr, refl, ap, sym, subst, ◌∙◌, arith, eq-eqb, true≢false}
+use Rattle.std.specs.Ordering.{nat_cmp}
+use Rattle.std.specs.FinSet as set
+use Rattle.std.specs.FinSet.{contains-from_list_nat}
+use Rattle.std.proofs.lemmas.Bool.{cases_eq, ne_eqb}
+use Rattle.std.proofs.lemmas.List.{get_or-set_same, get_or_past, length-set}
+use Rattle.std.proofs.lemmas.Option.{same_Some}
+use Rattle.assise_inode_table.specs.Contents.{Content}
+use Rattle.assise_inode_table.specs.Effects.{contains}
+use Rattle.assise_digest.specs.Region.{IsQuiet, RegionValue, log_at, no_log, with_inode}
+use Rattle.assise_manager.specs.Changes.{is_returning, stale_of}
+use Rattle.assise_manager.specs.Standings.{Standing, down, full, returning, standing_of}
+use Rattle.assise_model_world.specs.NodeSteps.{Rests}
+use Rattle.assise_model_world.specs.Staying.{SameNode}
+use Rattle.assise_model_world.specs.World.{Full, World}
+use Rattle.assise_model_members.specs.Returns.{LosesCopies}
+use Rattle.assise_machine_state.specs.Changes.{after_inode}
+use Rattle.assise_machine_state.specs.NodeValues.{no_region, region_in, with_region}
+use Rattle.assise_machine_state.specs.Observed.{is_full_in, stands_full, world_of}
+use Rattle.assise_machine_state.specs.Places.{IsNumber}
+use Rattle.assise_machine_state.specs.Invariant.{ShapeInvariant}
+use Rattle.assise_machine_state.specs.StateValues.{StateValue, leases_of, standings}
+use Rattle.assise_machine_state.proofs.Fullness.{full_seen, node_number, region_is}
+use Rattle.assise_machine_state.proofs.AwayObserved.{inode_else, inode_here, inode_rests, inode_shaped}
+use Rattle.assise_machine_failures.specs.Copies.{LosesStale, nodes_without, without_copies}
+
+-- ---- one rest after another
+
+pub rests_still : (w : World) → Rests w w
+rests_still w = record {
+  logs = record { calls = refl; records = λ c. refl; first = λ c. refl; next = λ c. refl; border = λ c k. refl; made = λ c. refl };
+  clients = record { clients = refl; home = λ c. refl; lives = λ c. refl; crashed = λ c. refl };
+  goals = λ c. refl;
+  leases = record { holds = λ c i. refl; writes = λ c i. refl };
+  nodes = record { full = refl; same = λ n here. record { area = λ i. refl; log = λ c. refl; received = λ c. refl; digested = λ c. refl } };
+}
+
+same_node : (u v w : World) (n : ℕ) → SameNode u v n → SameNode v w n → SameNode u w n
+same_node u v w n e f = record {
+  area = λ i. f.area i ∙ e.area i;
+  log = λ c. f.log c ∙ e.log c;
+  received = λ c. f.received c ∙ e.received c;
+  digested = λ c. f.digested c ∙ e.digested c;
+}
+
+pub rests_more : (u v w : World) → Rests u v → Rests v w → Rests u w
+rests_more u v w e f = record {
+  logs = record {
+    calls = f.logs.calls ∙ e.logs.calls;
+    records = λ c. f.logs.records c ∙ e.logs.records c;
+    first = λ c. f.logs.first c ∙ e.logs.first c;
+    next = λ c. f.logs.next c ∙ e.logs.next c;
+    border = λ c k. f.logs.border c k ∙ e.logs.border c k;
+    made = λ c. f.logs.made c ∙ e.logs.made c;
+  };
+  clients = record {
+    clients = f.clients.clients ∙ e.clients.clients;
+    home = λ c. f.clients.home c ∙ e.clients.home c;
+    lives = λ c. f.clients.lives c ∙ e.clients.lives c;
+    crashed = λ c. f.clients.crashed c ∙ e.clients.crashed c;
+  };
+  goals = λ c. f.goals c ∙ e.goals c;
+  leases = record {
+    holds = λ c i. f.leases.holds c i ∙ e.leases.holds c i;
+    writes = λ c i. f.leases.writes c i ∙ e.leases.writes c i;
+  };
+  nodes = record {
+    full = f.nodes.full ∙ e.nodes.full;
+    same = λ n here. same_node u v w n (e.nodes.same n here) (f.nodes.same n (subst (λ ns. contains ns n ≡ true) (sym e.nodes.full) here));
+  };
+}
+
+-- ---- nothing changes but the nodes
+
+pub without_is : (s : StateValue) (n : ℕ) (inodes : List ℕ) → without_copies s n inodes ≡ record s { nodes = nodes_without s.nodes n inodes }
+without_is s n [] = refl
+without_is s n (i ∷ inodes) = without_is (after_inode s n i None) n inodes
+
+pub without_leases : (s : StateValue) (n : ℕ) (inodes : List ℕ) → leases_of (without_copies s n inodes) ≡ leases_of s
+unfolding leases_of
+without_leases s n inodes = ap leases_of (without_is s n inodes)
+
+-- ---- the node as the code has it
+
+module _ (rs : List RegionValue) (n i : ℕ) (there : IsNumber rs n) where
+  abbrev changed : RegionValue
+  changed = with_inode (region_in rs n) i None
+
+  pub one_number : IsNumber (with_region rs n changed) n
+  one_number = record { some = there.some; there = subst (λ k. n ≤ k) (sym (length-set rs (n - 1) changed)) there.there }
+
+  -- it has no logs still
+  pub one_logless : (region_in rs n).logs ≡ [] → (region_in (with_region rs n changed) n).logs ≡ []
+  one_logless none =
+      let low : n - 1 < length rs = omega (arith, there.some, there.there) in
+      ap (λ r. r.logs) (get_or-set_same rs (n - 1) changed no_region low) ∙ none
+
+-- where there are no logs, no record touches anything
+pub logless_quiet : (r : RegionValue) (i : ℕ) → r.logs ≡ [] → IsQuiet r i
+logless_quiet r i none k home =
+    let is : log_at r k ≡ no_log = ap (λ ls. get_or ls k no_log) none ∙ get_or_past [] k no_log (omega arith) in
+    absurd (true≢false (sym home ∙ ap (λ l. l.at_home) is))
+
+-- ---- what the laws observe
+
+same_count : (s : StateValue) (n i : ℕ) → length (after_inode s n i None).nodes ≡ length s.nodes
+same_count s n i = length-set s.nodes (n - 1) (with_inode (region_in s.nodes n) i None)
+
+still_number : (s : StateValue) (n i : ℕ) → IsNumber s.nodes n → IsNumber (after_inode s n i None).nodes n
+still_number s n i there = record { some = there.some; there = subst (λ k. n ≤ k) (sym (same_count s n i)) there.there }
+
+still_away : (s : StateValue) (n i : ℕ) → IsNumber s.nodes n → (Full (world_of s) n → ⊥) → Full (world_of (after_inode s n i None)) n → ⊥
+still_away s n i there away then_full = away (subst (λ ns. contains ns n ≡ true) (inode_rests s n i None there away).nodes.full then_full)
+
+pub without_count : (s : StateValue) (n : ℕ) (inodes : List ℕ) → length (without_copies s n inodes).nodes ≡ length s.nodes
+without_count s n [] = refl
+without_count s n (i ∷ inodes) = without_count (after_inode s n i None) n inodes ∙ same_count s n i
+
+pub without_shaped : (s : StateValue) (n : ℕ) (inodes : List ℕ) → ShapeInvariant s → IsNumber s.nodes n → ShapeInvariant (without_copies s n inodes)
+without_shaped s n [] shape there = shape
+without_shaped s n (i ∷ inodes) shape there = without_shaped (after_inode s n i None) n inodes (inode_shaped s n i None shape there) (still_number s n i there)
+
+pub without_rests : (s : StateValue) (n : ℕ) (inodes : List ℕ) → IsNumber s.nodes n → (Full (world_of s) n → ⊥) → Rests (world_of s) (world_of (without_copies s n inodes))
+without_rests s n [] there away = rests_still (world_of s)
+without_rests s n (i ∷ inodes) there away =
+    let t : StateValue = after_inode s n i None in
+    rests_more (world_of s) (world_of t) (world_of (without_copies t n inodes)) (inode_rests s n i None there away)
+    (without_rests t n inodes (still_number s n i there) (still_away s n i there away))
+
+pub without_else : (s : StateValue) (n : ℕ) (inodes : List ℕ) → IsNumber s.nodes n → (k j : ℕ) → k ≢ n → (world_of (without_copies s n inodes)).area k j ≡ (world_of s).area k j
+without_else s n [] there k j other = refl
+without_else s n (i ∷ inodes) there k j other =
+    without_else (after_inode s n i None) n inodes (still_number s n i there) k j other
+    ∙ inode_else s n i None there k j (λ is same. other is)
+
+-- one more is gone
+gone_either : (later : Bool) (now : Option Content) → now ≡ None → (if later then None else now) ≡ None
+gone_either true now none = refl
+gone_either false now none = none
+
+gone_here : (s : StateValue) (n : ℕ) (inodes : List ℕ) → IsNumber s.nodes n → (j : ℕ) → (world_of (without_copies s n inodes)).area n j ≡ (if contains inodes j then None else (world_of s).area n j)
+gone_here s n [] there j = refl
+gone_here s n (i ∷ inodes) there j =
+    let t : StateValue = after_inode s n i None in
+    gone_here t n inodes (still_number s n i there) j
+    ∙ elim (cases_eq j i) [
+      | inl is ↦
+          rw (eq-eqb i j (sym is))
+          (gone_either (contains inodes j) ((world_of t).area n j) (subst (λ k. (world_of t).area n k ≡ None) (sym is) (inode_here s n i None there)))
+      | inr other ↦
+          rw (ne_eqb i j (λ is. other (sym is)))
+          (ap (λ v. if contains inodes j then None else v) (inode_else s n i None there n j (λ is same. other same)))
+    ]
+
+pub without_here : (s : StateValue) (n : ℕ) (inodes : List ℕ) → IsNumber s.nodes n → LosesCopies (world_of s) (world_of (without_copies s n inodes)) n (set.from_list inodes)
+without_here s n inodes there j =
+    gone_here s n inodes there j
+    ∙ ap (λ b. if b then None else (world_of s).area n j) (sym (contains-from_list_nat inodes j))
+
+-- ---- a node that comes back
+
+returning_stands : (o : Option Standing) → is_returning o ≡ true → (x : Standing) × ((o ≡ Some x) × (stands_full o ≡ false))
+returning_stands None is = absurd (true≢false (sym is))
+returning_stands (Some full) is = absurd (true≢false (sym is))
+returning_stands (Some (down since)) is = absurd (true≢false (sym is))
+returning_stands (Some (returning since donor stale)) is = (returning since donor stale, (refl, refl))
+
+pub returning_number : (s : StateValue) (n : ℕ) → ShapeInvariant s → is_returning (standing_of (standings s) n) ≡ true → IsNumber s.nodes n
+returning_number s n shape is = (let x = returning_stands (standing_of (standings s) n) is in node_number s n x.0 shape x.1.0)
+
+pub returning_away : (s : StateValue) (n : ℕ) → is_returning (standing_of (standings s) n) ≡ true → is_full_in (standings s) n ≡ false
+unfolding is_full_in
+returning_away s n is = (returning_stands (standing_of (standings s) n) is).1.1
+
+pub not_full : (s : StateValue) (n : ℕ) → is_full_in (standings s) n ≡ false → Full (world_of s) n → ⊥
+not_full s n away f = true≢false (sym (full_seen s n f) ∙ away)
+
+pub returning_logless : (s : StateValue) (n : ℕ) → ShapeInvariant s → is_returning (standing_of (standings s) n) ≡ true → (region_in s.nodes n).logs ≡ []
+returning_logless s n shape is = ap (λ r. r.logs) (sym (region_is s n (returning_number s n shape is))) ∙ shape.no_logs n (returning_away s n is)
+
+pub loses : (s : StateValue) (n : ℕ) (inodes : List ℕ) (rs : List RegionValue) → stale_of (standing_of (standings s) n) ≡ Some (set.from_list inodes) → rs ≡ nodes_without s.nodes n inodes →
+    LosesStale s n (record s { nodes = rs })
+loses s n inodes rs lacks is = record { inodes = inodes; stale = lacks; copies = (λ i. record s { nodes = is i }) ∙ sym (without_is s n inodes) }
+
+-- what it lost then
+module _ (s : StateValue) (n : ℕ) (u : StateValue) (shape : ShapeInvariant s) (is : is_returning (standing_of (standings s) n) ≡ true) (lost : LosesStale s n u) where
+  there : IsNumber s.nodes n
+  there = returning_number s n shape is
+
+  -- of the state nothing changes but the nodes
+  pub lost_is : u ≡ record s { nodes = u.nodes }
+  lost_is = (let is : u ≡ record s { nodes = nodes_without s.nodes n lost.inodes } = lost.copies ∙ without_is s n lost.inodes in is ∙ (λ i. record s { nodes = (sym is i).nodes }))
+
+  pub lost_count : length u.nodes ≡ length s.nodes
+  lost_count = ap (λ v. length v.nodes) lost.copies ∙ without_count s n lost.inodes
+
+  pub lost_rests : Rests (world_of s) (world_of u)
+  lost_rests = subst (λ v. Rests (world_of s) (world_of v)) (sym lost.copies) (without_rests s n lost.inodes there (not_full s n (returning_away s n is)))
+
+  pub lost_shaped : ShapeInvariant u
+  lost_shaped = subst ShapeInvariant (sym lost.copies) (without_shaped s n lost.inodes shape there)
+
+  pub lost_here : (stale : set.FinSet nat_cmp) → stale_of (standing_of (standings s) n) ≡ Some stale → LosesCopies (world_of s) (world_of u) n stale
+  lost_here stale known =
+      subst (LosesCopies (world_of s) (world_of u) n) (same_Some (set.from_list lost.inodes) stale (sym lost.stale ∙ known))
+      (subst (λ v. LosesCopies (world_of s) (world_of v) n (set.from_list lost.inodes)) (sym lost.copies) (without_here s n lost.inodes there))
+
+  pub lost_else : (k i : ℕ) → k ≢ n → (world_of u).area k i ≡ (world_of s).area k i
+  lost_else k i other = ap (λ v. (world_of v).area k i) lost.copies ∙ without_else s n lost.inodes there k i other

@@ -1,0 +1,125 @@
+-- The places up to which logs are kept where a node fails, as the state has them.
+use Rattle.std.proofs.Common.{◌≡◌, ◌≢◌, ℕ, zero, suc, ◌+◌, ◌<◌, ◌≤◌, ◌==◌, ◌&&◌, min, Bool, take, take-suc, true, false, not, List, [], ◌∷◌, ◌++◌, filter, length, get_or, inl, inr, refl, ap, sym, subst, ◌∙◌, arith, eqb-true, eq-eqb, append-nil}
+use Rattle.std.proofs.lemmas.Bool.{cases_lt, ne_eqb}
+use Rattle.std.proofs.lemmas.List.{get_or_append_left, get_or_push, length_push}
+use Rattle.std.proofs.lemmas.List.Elements.{filter-append}
+use Rattle.std.proofs.lemmas.Map.Views.{any-filter_same}
+use Rattle.assise_inode_table.specs.Effects.{contains}
+use Rattle.assise_private_log.specs.NumberedLog.{end as log_end}
+use Rattle.assise_manager.specs.Standings.{Standing, full_nodes}
+use Rattle.assise_model_world.specs.NodeSteps.{kept_at_failure}
+use Rattle.assise_model_world.specs.World.{World, end_of_log, least_of}
+use Rattle.assise_model_world.proofs.WorldObserved.{least_of-above, least_of-below, least_of-end, least_of-same}
+use Rattle.assise_model_history.proofs.FailureList.{cut_there}
+use Rattle.assise_machine_state.specs.ClientValues.{client_in}
+use Rattle.assise_machine_state.specs.NodeValues.{log_in, log_seen}
+use Rattle.assise_machine_state.specs.Observed.{full_in, is_full_in, own_node, world_of}
+use Rattle.assise_machine_state.specs.Places.{IsNumber}
+use Rattle.assise_machine_state.specs.Invariant.{ShapeInvariant}
+use Rattle.assise_machine_state.specs.StateValues.{StateValue, standings}
+use Rattle.assise_machine_state.proofs.Fullness.{full_is, has_log, log_is}
+use Rattle.assise_machine_state.proofs.Kept.{kept_elsewhere}
+use Rattle.assise_machine_state.proofs.OwnLogs.{listed_is, one_more, own_end}
+use Rattle.assise_machine_state.proofs.ItemSeen.{client_is}
+use Rattle.assise_machine_failures.specs.Listing.{kept_to}
+
+-- ---- the others of a list
+
+abbrev pub others : ℕ → List ℕ → List ℕ
+others n ns = filter (λ m. not (m == n)) ns
+
+others_has : (n : ℕ) (ns : List ℕ) (k : ℕ) → contains (others n ns) k ≡ (not (k == n) && contains ns k)
+others_has n ns k = any-filter_same (λ j. j == k) (λ m. not (m == n)) (not (k == n)) (λ j is. ap (λ m. not (m == n)) (eqb-true j k is)) ns
+
+no_more : (ms ns : List ℕ) (f : ℕ → ℕ) (d : ℕ) → ((k : ℕ) → contains ms k ≡ contains ns k) → least_of ns f d ≤ least_of ms f d
+no_more ms ns f d same = least_of-above ms f d (least_of ns f d) (least_of-end ns f d) (λ k there. least_of-below ns f d k (sym (same k) ∙ there))
+
+-- lists that have the same have one least number
+same_least : (ms ns : List ℕ) (f : ℕ → ℕ) (d : ℕ) → ((k : ℕ) → contains ms k ≡ contains ns k) → least_of ms f d ≡ least_of ns f d
+same_least ms ns f d same =
+    let low : least_of ns f d ≤ least_of ms f d = no_more ms ns f d same in
+    let high : least_of ms f d ≤ least_of ns f d = no_more ns ms f d (λ k. sym (same k)) in
+    omega (arith, low, high)
+
+same_others : (nodes : List Standing) (n k : ℕ) → contains (others n (full_nodes nodes)) k ≡ contains (others n (full_in nodes)) k
+same_others nodes n k = others_has n (full_nodes nodes) k ∙ ap (λ b. not (k == n) && b) (listed_is nodes k ∙ sym (full_is nodes k)) ∙ sym (others_has n (full_in nodes) k)
+
+other_full : (nodes : List Standing) (n k : ℕ) → contains (others n (full_in nodes)) k ≡ true → is_full_in nodes k ≡ true
+other_full nodes n k there = left (not (k == n)) (is_full_in nodes k) (sym (others_has n (full_in nodes) k ∙ ap (λ b. not (k == n) && b) (full_is nodes k)) ∙ there)
+  where
+    left : (a b : Bool) → (a && b) ≡ true → b ≡ true
+    left true b both = both
+    left false b both = cc
+
+-- ---- one full node after another
+
+prefix_more : (n : ℕ) (ns : List ℕ) (i : ℕ) → i < length ns → others n (take (i + 1) ns) ≡ others n (take i ns) ++ others n (get_or ns i 0 ∷ [])
+prefix_more n ns i low =
+    (let next : i + 1 ≡ suc i = omega arith in
+    ap (λ k. others n (take k ns)) next ∙ ap (others n) (take-suc ns i 0 low) ∙ filter-append (λ m. not (m == n)) (take i ns) (get_or ns i 0 ∷ []))
+
+pub next_other : (n : ℕ) (ns : List ℕ) (i : ℕ) (f : ℕ → ℕ) (d : ℕ) → i < length ns → get_or ns i 0 ≢ n →
+    least_of (others n (take (i + 1) ns)) f d ≡ min (least_of (others n (take i ns)) f d) (f (get_or ns i 0))
+next_other n ns i f d low other =
+    let one : others n (get_or ns i 0 ∷ []) ≡ get_or ns i 0 ∷ [] = rw (ne_eqb (get_or ns i 0) n other) refl in
+    ap (λ ms. least_of ms f d) (prefix_more n ns i low ∙ ap (λ ms. others n (take i ns) ++ ms) one) ∙ one_more (others n (take i ns)) (get_or ns i 0) f d
+
+pub next_itself : (n : ℕ) (ns : List ℕ) (i : ℕ) (f : ℕ → ℕ) (d : ℕ) → i < length ns → get_or ns i 0 ≡ n → least_of (others n (take (i + 1) ns)) f d ≡ least_of (others n (take i ns)) f d
+next_itself n ns i f d low same =
+    let none : others n (get_or ns i 0 ∷ []) ≡ [] = rw (eq-eqb (get_or ns i 0) n same) refl in
+    ap (λ ms. least_of ms f d) (prefix_more n ns i low ∙ ap (λ ms. others n (take i ns) ++ ms) none ∙ append-nil (others n (take i ns)))
+
+-- ---- what is kept of a client
+
+module _ (s : StateValue) (n c : ℕ) (shape : ShapeInvariant s) (client : IsNumber s.clients c) (some : 0 < length (full_nodes (standings s))) where
+  abbrev own_place : ℕ
+  own_place = log_end (log_in s.nodes (own_node (standings s) (client_in s.clients c)) c).log
+
+  home_seen : (world_of s).home c ≡ (client_in s.clients c).home
+  unfolding world_of
+  home_seen = ap (λ x. x.home) (client_is s.clients c client)
+
+  lives_seen : (world_of s).lives c ≡ not (client_in s.clients c).failed
+  unfolding world_of
+  lives_seen = ap (λ x. not x.failed) (client_is s.clients c client)
+
+  all_once_over : (world_of s).lives c ≡ false → kept_at_failure (world_of s) n c ≡ end_of_log (world_of s) c
+  unfolding kept_at_failure
+  all_once_over over = rw over refl
+
+  pub kept_over : (client_in s.clients c).failed ≡ true → own_place ≡ kept_at_failure (world_of s) n c
+  kept_over over = sym (all_once_over (lives_seen ∙ ap not over) ∙ own_end s c shape client some)
+
+  pub kept_disjoint : (client_in s.clients c).home ≢ n → own_place ≡ kept_at_failure (world_of s) n c
+  kept_disjoint other = sym (kept_elsewhere (world_of s) n c (λ is. other (sym home_seen ∙ is)) ∙ own_end s c shape client some)
+
+  least_seen : least_of (others n (full_in (standings s))) (λ m. log_end (log_in s.nodes m c).log) own_place ≡ least_of (others n (world_of s).full) (λ m. (world_of s).received m c) (end_of_log (world_of s) c)
+  unfolding world_of
+  least_seen =
+      least_of-same (others n (full_in (standings s))) (λ m. log_end (log_in s.nodes m c).log) (λ m. log_end (log_seen s.nodes m c).log) own_place
+      (λ m there. sym (ap (λ l. log_end l.log) (log_is s m c (has_log s m c shape (other_full (standings s) n m there) client))))
+      ∙ ap (λ d. least_of (others n (full_in (standings s))) (λ m. log_end (log_seen s.nodes m c).log) d) (sym (own_end s c shape client some))
+
+  pub kept_least : (client_in s.clients c).failed ≡ false → (client_in s.clients c).home ≡ n → least_of (others n (full_nodes (standings s))) (λ m. log_end (log_in s.nodes m c).log) own_place ≡ kept_at_failure (world_of s) n c
+  kept_least unfailed here =
+      same_least (others n (full_nodes (standings s))) (others n (full_in (standings s))) (λ m. log_end (log_in s.nodes m c).log) own_place (same_others (standings s) n)
+      ∙ least_seen
+      ∙ sym (cut_there (world_of s) n c (lives_seen ∙ ap not unfailed) (home_seen ∙ here))
+
+-- ---- of all clients
+
+pub kept_count : (w : World) (n m : ℕ) → length (kept_to w n m) ≡ m
+kept_count w n zero = refl
+kept_count w n (suc m) = (let all : length (kept_to w n m) ≡ m = kept_count w n m in omega (arith, length_push (kept_to w n m) (kept_at_failure w n (suc m)), all))
+
+pub kept_place : (w : World) (n m k : ℕ) → k < m → get_or (kept_to w n m) k 0 ≡ kept_at_failure w n (suc k)
+kept_place w n zero k low = absurd (omega (arith, low))
+kept_place w n (suc m) k low =
+    let count : length (kept_to w n m) ≡ m = kept_count w n m in
+    elim (cases_lt k m) [
+      | inl before ↦ get_or_append_left (kept_to w n m) (kept_at_failure w n (suc m) ∷ []) 0 k (omega (arith, before, count)) ∙ kept_place w n m k before
+      | inr last ↦
+          let is : k ≡ m = omega (arith, low, last) in
+          subst (λ j. get_or (kept_to w n (suc m)) j 0 ≡ kept_at_failure w n (suc j)) (sym is)
+          (get_or_push (kept_to w n m) (kept_at_failure w n (suc m)) 0 m count)
+    ]

@@ -1,5 +1,0 @@
-use Rattle.assise_machine_history.proofs.Losing.{lossy}
-use Rattle.assise_machine_history.proofs.coming.a_failure_can_take_a_call.Goals as goal
-
-pub returns : goal.returns
-returns c = lossy

@@ -1,5 +1,0 @@
-use Rattle.assise_machine_history.proofs.Eventful.{eventful}
-use Rattle.assise_machine_history.proofs.coming.all_entries_can_come_in_one_course.Goals as goal
-
-pub returns : goal.returns
-returns c = eventful

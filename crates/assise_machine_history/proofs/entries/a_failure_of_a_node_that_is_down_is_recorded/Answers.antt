@@ -1,8 +1,0 @@
-use Rattle.assise_machine_history.proofs.Failing.{failure_again_recorded, nothing_fair}
-use Rattle.assise_machine_history.proofs.entries.a_failure_of_a_node_that_is_down_is_recorded.Goals as goal
-
-pub returns-clause-fits : goal.returns-clause-fits
-returns-clause-fits c = λ s n. nothing_fair s n
-
-pub returns-clause-recorded : goal.returns-clause-recorded
-returns-clause-recorded c = λ s t n sound r e. failure_again_recorded s n t sound r e

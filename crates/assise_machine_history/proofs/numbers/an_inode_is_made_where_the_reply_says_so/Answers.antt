@@ -1,5 +1,0 @@
-use Rattle.assise_machine_history.proofs.Making.{makes_where_done}
-use Rattle.assise_machine_history.proofs.numbers.an_inode_is_made_where_the_reply_says_so.Goals as goal
-
-pub returns : goal.returns
-returns c = makes_where_done

@@ -1,5 +1,0 @@
-pub mod Courses
-pub mod Entered
-pub mod Lost
-pub mod Numbered
-pub mod State

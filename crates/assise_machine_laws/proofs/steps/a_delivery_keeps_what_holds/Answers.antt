@@ -1,8 +1,0 @@
-use Rattle.assise_machine_laws.proofs.Delivering.{deliver_sound, deliver_dropped}
-use Rattle.assise_machine_laws.proofs.steps.a_delivery_keeps_what_holds.Goals as goal
-
-pub returns-clause-keeps : goal.returns-clause-keeps
-returns-clause-keeps c = λ w u n d k s e. deliver_sound w u n d k e s
-
-pub returns-clause-dropped : goal.returns-clause-dropped
-returns-clause-dropped c = λ w u n d k t e. deliver_dropped w u n d k e t

@@ -1,8 +1,0 @@
-use Rattle.assise_machine_laws.proofs.ClientsStaying.{open_sound, open_dropped}
-use Rattle.assise_machine_laws.proofs.steps.an_open_keeps_what_holds.Goals as goal
-
-pub returns-clause-keeps : goal.returns-clause-keeps
-returns-clause-keeps c = λ w u n s e. open_sound w u n s e
-
-pub returns-clause-dropped : goal.returns-clause-dropped
-returns-clause-dropped c = λ w u n d e. open_dropped w u n d e

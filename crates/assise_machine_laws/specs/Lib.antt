@@ -1,9 +1,0 @@
-pub mod Chances
-pub mod ClientSteps
-pub mod Coalescing
-pub mod NodeSteps
-pub mod Regrouped
-pub mod Runs
-pub mod Sound
-pub mod Staying
-pub mod World

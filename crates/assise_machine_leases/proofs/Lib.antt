@@ -1,9 +1,0 @@
-pub mod Finding
-pub mod Awaiting
-pub mod Covering
-pub mod Keeping
-pub mod Giving
-pub mod Asking
-pub mod Going
-pub mod Ending
-pub mod Possible

@@ -1,5 +1,0 @@
-use Rattle.assise_machine_leases.proofs.Keeping.{call_keeps}
-use Rattle.assise_machine_leases.proofs.handing.a_call_keeps_leases.Goals as goal
-
-pub returns : goal.returns
-returns r = λ w u l x a e. call_keeps w u l x a e

@@ -1,5 +1,0 @@
-use Rattle.assise_machine_leases.proofs.Asking.{ask_keeps}
-use Rattle.assise_machine_leases.proofs.handing.an_asking_keeps_leases.Goals as goal
-
-pub returns : goal.returns
-returns r = λ w u l k c i mode s a e. ask_keeps w u l k c i mode a e s

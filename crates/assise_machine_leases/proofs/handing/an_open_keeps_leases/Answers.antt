@@ -1,5 +1,0 @@
-use Rattle.assise_machine_leases.proofs.Keeping.{open_keeps}
-use Rattle.assise_machine_leases.proofs.handing.an_open_keeps_leases.Goals as goal
-
-pub returns : goal.returns
-returns r = λ w u l k n a e. open_keeps w u l k n a e

@@ -1,5 +1,0 @@
-use Rattle.assise_machine_returns.proofs.Going.{fail_keeps}
-use Rattle.assise_machine_returns.proofs.failures.a_failure_keeps_members.Goals as goal
-
-pub returns : goal.returns
-returns c = λ w v u m o n inodes s a g. fail_keeps w v u m o n inodes s a g

@@ -1,8 +1,0 @@
-use Rattle.assise_machine_returns.proofs.Noting.{areas_keep, keeps_areas}
-use Rattle.assise_machine_returns.proofs.failures.equal_areas_keep_members.Goals as goal
-
-pub returns-clause-keeps : goal.returns-clause-keeps
-returns-clause-keeps c = areas_keep
-
-pub returns-clause-areas : goal.returns-clause-areas
-returns-clause-areas c = keeps_areas

@@ -1,5 +1,0 @@
-use Rattle.assise_machine_returns.proofs.Changing.{back_keeps}
-use Rattle.assise_machine_returns.proofs.returns.a_return_keeps_members.Goals as goal
-
-pub returns : goal.returns
-returns c = λ w u m o n a g. back_keeps w u m o n g a

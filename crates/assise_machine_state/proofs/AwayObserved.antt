@@ -1,0 +1,137 @@
+-- What the laws observe where only nodes change that aren't full.
+use Rattle.std.proofs.Common.{◌≡◌, ◌≢◌, ℕ, ◌==◌, if◌then◌else◌, length, Option, inl, inr, refl, ap, sym, subst, ◌∙◌, eq-eqb, ◌-◌}
+use Rattle.std.proofs.lemmas.Bool.{cases_eq, ne_eqb}
+use Rattle.std.proofs.lemmas.List.{length-set}
+use Rattle.assise_inode_table.specs.Contents.{Content, values}
+use Rattle.assise_inode_table.proofs.EffectValues.{get-with_value}
+use Rattle.assise_digest.specs.Region.{RegionValue, no_log, with_inode}
+use Rattle.assise_manager.specs.Membership.{Membership}
+use Rattle.assise_private_log.specs.NumberedLog.{is_border}
+use Rattle.assise_model_world.specs.NodeSteps.{Rests}
+use Rattle.assise_model_world.specs.World.{Full}
+use Rattle.assise_machine_state.specs.Changes.{after_inode, after_members}
+use Rattle.assise_machine_state.specs.ClientValues.{client_seen}
+use Rattle.assise_machine_state.specs.NodeValues.{log_seen, region_in, region_seen}
+use Rattle.assise_machine_state.specs.Observed.{is_full_in, own_node, own_seen, world_of}
+use Rattle.assise_machine_state.specs.Places.{IsNumber, item_at}
+use Rattle.assise_machine_state.specs.Invariant.{ShapeInvariant}
+use Rattle.assise_machine_state.specs.StateValues.{StateValue, standings}
+use Rattle.assise_machine_state.proofs.Fullness.{region_is}
+use Rattle.assise_machine_state.proofs.LogChanges.{region_else, region_here, region_kept}
+use Rattle.assise_machine_state.proofs.ShapeKept.{shaped_as, still_marked}
+use Rattle.assise_machine_state.proofs.Standings.{same_full, same_own}
+use Rattle.assise_machine_state.proofs.SameObserved.{clients_as, goals_as, leases_as, logs_as, node_as}
+
+-- ---- members of which the same are full
+
+module _ (s : StateValue) (m : Membership) (long : length m.nodes ≡ length (standings s)) (same : (n : ℕ) → is_full_in m.nodes n ≡ is_full_in (standings s) n) where
+  abbrev u : StateValue
+  u = after_members s m
+
+  own_stays : (c : ℕ) → own_seen u c ≡ own_seen s c
+  unfolding own_seen
+  own_stays c = ap (λ n. log_seen s.nodes n c) (same_own m.nodes (standings s) long same (client_seen s.clients c))
+
+  pub members_rest : Rests (world_of s) (world_of u)
+  unfolding world_of
+  members_rest = record {
+    logs = logs_as s u refl refl (λ c. ap (λ l. l.log.records) (own_stays c)) (λ c. ap (λ l. l.log.first) (own_stays c)) (λ c k. ap (λ l. is_border l.log k) (own_stays c));
+    clients = clients_as s u refl;
+    goals = goals_as s u refl;
+    leases = leases_as s u (λ i. refl);
+    nodes = record { full = same_full m.nodes (standings s) long same; same = λ n f. node_as s u n (λ i. refl) (λ c. refl) };
+  }
+
+pub members_areas : (s : StateValue) (m : Membership) (n i : ℕ) → (world_of (after_members s m)).area n i ≡ (world_of s).area n i
+unfolding world_of
+members_areas s m n i = refl
+
+pub members_shaped : (s : StateValue) (m : Membership) → ShapeInvariant s → length m.nodes ≡ length (standings s) →
+    ((n : ℕ) → is_full_in m.nodes n ≡ is_full_in (standings s) n) → ShapeInvariant (after_members s m)
+members_shaped s m shape long same = shaped_as s (after_members s m) shape record {
+  nodes = refl;
+  members = long;
+  full = same;
+  logs = λ n. refl;
+  clients = refl;
+  home = λ c. refl;
+  failed = λ c. refl;
+  limit = refl;
+  limits = λ n c. refl;
+  at_home = λ n c. refl;
+  marked = still_marked s (after_members s m) (λ n c. refl) (λ c. ap (λ l. l.log) (own_stays s m long same c));
+  durability = λ c. refl;
+  opened = λ c. refl;
+}
+
+-- ---- an inode of a node that isn't full
+
+module _ (s : StateValue) (n i : ℕ) (v : Option Content) (there : IsNumber s.nodes n) where
+  abbrev changed : RegionValue
+  changed = with_inode (region_in s.nodes n) i v
+
+  abbrev t : StateValue
+  t = after_inode s n i v
+
+  -- logs stay
+  same_logs : (k : ℕ) → (region_seen t.nodes k).logs ≡ (region_seen s.nodes k).logs
+  same_logs k = region_kept s.nodes n changed (λ r. r.logs) refl k
+
+  same_log : (k c : ℕ) → log_seen t.nodes k c ≡ log_seen s.nodes k c
+  unfolding log_seen
+  same_log k c = ap (λ ls. item_at no_log ls c) (same_logs k)
+
+  own_same : (c : ℕ) → own_seen t c ≡ own_seen s c
+  unfolding own_seen
+  own_same c = same_log (own_node (standings s) (client_seen s.clients c)) c
+
+  -- and so do the inodes of other nodes
+  area_else : (k j : ℕ) → k ≢ n → (world_of t).area k j ≡ (world_of s).area k j
+  unfolding world_of
+  area_else k j other = ap (λ r. values r.inodes j) (region_else s.nodes n changed there k other)
+
+  area_at : (j : ℕ) → (world_of t).area n j ≡ (if i == j then v else (world_of s).area n j)
+  unfolding world_of
+  area_at j =
+      ap (λ r. values r.inodes j) (region_here s.nodes n changed there)
+      ∙ get-with_value (region_in s.nodes n).inodes i v j
+      ∙ ap (λ r. if i == j then v else values r.inodes j) (sym (region_is s n there))
+
+  pub inode_here : (world_of t).area n i ≡ v
+  inode_here = area_at i ∙ rw (eq-eqb i i refl) refl
+
+  pub inode_else : (k j : ℕ) → (k ≡ n → j ≡ i → ⊥) → (world_of t).area k j ≡ (world_of s).area k j
+  inode_else k j other =
+      elim (cases_eq k n) [
+        | inl is ↦
+            let disjoint : i ≢ j = λ e. other is (sym e) in
+            subst (λ m. (world_of t).area m j ≡ (world_of s).area m j) (sym is) (area_at j ∙ rw (ne_eqb i j disjoint) refl)
+        | inr disjoint ↦ area_else k j disjoint
+      ]
+
+  pub inode_rests : (Full (world_of s) n → ⊥) → Rests (world_of s) (world_of t)
+  unfolding world_of
+  inode_rests away = record {
+    logs = logs_as s t refl refl (λ c. ap (λ l. l.log.records) (own_same c)) (λ c. ap (λ l. l.log.first) (own_same c)) (λ c k. ap (λ l. is_border l.log k) (own_same c));
+    clients = clients_as s t refl;
+    goals = goals_as s t refl;
+    leases = leases_as s t (λ j. refl);
+    nodes = record { full = refl; same = λ k f. node_as s t k (λ j. area_else k j (λ is. away (subst (λ m. Full (world_of s) m) is f))) (same_log k) };
+  }
+
+pub inode_shaped : (s : StateValue) (n i : ℕ) (v : Option Content) → ShapeInvariant s → IsNumber s.nodes n → ShapeInvariant (after_inode s n i v)
+inode_shaped s n i v shape there = shaped_as s (after_inode s n i v) shape record {
+  nodes = length-set s.nodes (n - 1) (with_inode (region_in s.nodes n) i v);
+  members = refl;
+  full = λ k. refl;
+  logs = λ k. ap length (same_logs s n i v there k);
+  clients = refl;
+  home = λ c. refl;
+  failed = λ c. refl;
+  limit = refl;
+  limits = λ k c. ap (λ l. l.log.limit) (same_log s n i v there k c);
+  at_home = λ k c. ap (λ l. l.at_home) (same_log s n i v there k c);
+  marked = still_marked s (after_inode s n i v) (λ k c. ap (λ l. l.log) (same_log s n i v there k c)) (λ c. ap (λ l. l.log) (own_same s n i v there c));
+  durability = λ c. refl;
+  opened = λ c. refl;
+}

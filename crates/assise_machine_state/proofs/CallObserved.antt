@@ -1,0 +1,300 @@
+-- What the laws observe of a call that is answered.
+use Rattle.std.proofs.Common.{◌≡◌, ◌≢◌, ℕ, suc, ◌+◌, ◌-◌, ◌<◌, ◌≤◌, Bool, true, false, not, if◌then◌else◌, List, [], ◌∷◌, ◌++◌, length, inl, inr, refl, ap, sym, subst, ◌∙◌, arith}
+use Rattle.std.proofs.lemmas.Bool.{cases_Bool, cases_eq}
+use Rattle.std.proofs.lemmas.List.{length-set}
+use Rattle.assise_history.specs.Entries.{calls}
+use Rattle.assise_history.proofs.ClientCounts.{durability-still}
+use Rattle.assise_record.specs.declared.effect.Effect.{Effect}
+use Rattle.assise_record.specs.Records.{has_some}
+use Rattle.assise_inode_table.specs.Contents.{values}
+use Rattle.assise_inode_table.specs.Numbers.{inode_number}
+use Rattle.assise_inode_table.specs.Traces.{NumberedCall}
+use Rattle.assise_private_log.specs.NumberedLog.{end as log_end, is_border}
+use Rattle.assise_private_log.proofs.Borders.{border_end}
+use Rattle.assise_digest.specs.Region.{ReceivedLog, RegionValue, with_log, with_more}
+use Rattle.assise_model_world.specs.Chances.{MayMakeCall}
+use Rattle.assise_model_world.specs.ClientSteps.{MakesCall}
+use Rattle.assise_model_world.specs.World.{World, call_makes_inode, end_of_log, step_at_home}
+use Rattle.assise_model_members.specs.Returns.{OtherAreasStay}
+use Rattle.assise_model_history.specs.Numbered.{kept_numbered, made_in, numbered_in, plain_call}
+use Rattle.assise_model_history.proofs.NumberedCalls.{kept_call}
+use Rattle.assise_machine_state.specs.Changes.{after_call}
+use Rattle.assise_machine_state.specs.ClientValues.{ClientValue, client_in, client_seen, with_call}
+use Rattle.assise_machine_state.specs.NodeValues.{HasLog, log_in, log_seen, region_in, region_seen, with_call_in}
+use Rattle.assise_machine_state.specs.Observed.{own_node, own_seen, world_of}
+use Rattle.assise_machine_state.specs.Places.{IsNumber}
+use Rattle.assise_machine_state.specs.Invariant.{IsMarked, ShapeInvariant}
+use Rattle.assise_machine_state.specs.StateValues.{StateValue, standings}
+use Rattle.assise_machine_state.proofs.Fullness.{has_log, home_full, lives_number, lives_unfailed, log_is}
+use Rattle.assise_machine_state.proofs.LogChanges.{log_else, log_here, log_same, none_more, region_kept}
+use Rattle.assise_machine_state.proofs.Marks.{called, called_border, marked_as, marked_called, so_many_marks}
+use Rattle.assise_machine_state.proofs.ItemSeen.{client_else, client_here, client_is, client_same}
+use Rattle.assise_machine_state.proofs.ShapeKept.{AreMarked, own_marked, shaped_as}
+use Rattle.assise_machine_state.proofs.SameObserved.{leases_as}
+
+-- ---- the log at home
+
+module _ (rs : List RegionValue) (n c call : ℕ) (es : List Effect) where
+  abbrev more : ReceivedLog
+  more = with_more (log_in rs n c) (record { call = call; effects = es })
+
+  call_here : HasLog rs n c → log_seen rs n c ≡ log_in rs n c → log_seen (with_call_in rs n c call es) n c ≡ called call es (log_seen rs n c)
+  call_here has same =
+      elim (cases_Bool (has_some es)) [
+        | inl some ↦ rw (some, same) (log_here rs n c (region_in rs n).inodes more has)
+        | inr none ↦ rw none (sym (none_more (λ k. true) (log_seen rs n c)))
+      ]
+
+  call_else : HasLog rs n c → (m d : ℕ) → (m ≡ n → d ≡ c → ⊥) → log_seen (with_call_in rs n c call es) m d ≡ log_seen rs m d
+  call_else has m d other =
+      elim (cases_Bool (has_some es)) [
+        | inl some ↦ rw some (log_else rs n c (region_in rs n).inodes more has m d other)
+        | inr none ↦ rw none refl
+      ]
+
+  -- all but records stay
+  call_log_kept : {A : Type 0} (f : ReceivedLog → A) → f more ≡ f (log_in rs n c) → (m d : ℕ) → f (log_seen (with_call_in rs n c call es) m d) ≡ f (log_seen rs m d)
+  call_log_kept f same m d =
+      elim (cases_Bool (has_some es)) [
+        | inl some ↦ rw some (log_same rs n c (region_in rs n).inodes more f m d same)
+        | inr none ↦ rw none refl
+      ]
+
+  call_region_kept : {A : Type 0} (f : RegionValue → A) → f (with_log (region_in rs n) c more) ≡ f (region_in rs n) → (m : ℕ) →
+      f (region_seen (with_call_in rs n c call es) m) ≡ f (region_seen rs m)
+  call_region_kept f same m =
+      elim (cases_Bool (has_some es)) [
+        | inl some ↦ rw some (region_kept rs n (with_log (region_in rs n) c more) f same m)
+        | inr none ↦ rw none refl
+      ]
+
+  so_many_nodes : length (with_call_in rs n c call es) ≡ length rs
+  so_many_nodes =
+      elim (cases_Bool (has_some es)) [
+        | inl some ↦ rw some (length-set rs (n - 1) (with_log (region_in rs n) c more))
+        | inr none ↦ rw none refl
+      ]
+
+  so_many_logs : (m : ℕ) → length (region_seen (with_call_in rs n c call es) m).logs ≡ length (region_seen rs m).logs
+  so_many_logs = call_region_kept (λ r. length r.logs) (length-set (region_in rs n).logs (c - 1) more)
+
+-- ---- counts
+
+plus_one : (b : Bool) (k : ℕ) → (if b then k + 1 else k) ≡ (if b then suc k else k)
+plus_one true k = omega arith
+plus_one false k = refl
+
+few_made : (b : Bool) (k : ℕ) → k ≤ 1048576 → (b ≡ true → k < 1048576) → (if b then suc k else k) ≤ 1048576
+few_made true k few room = (let less : k < 1048576 = room refl in omega (arith, less))
+few_made false k few room = few
+
+-- ---- the state
+
+module _ (s : StateValue) (x : NumberedCall) where
+  abbrev c : ℕ
+  c = x.client
+
+  abbrev home : ℕ
+  home = (client_seen s.clients c).home
+
+  abbrev w : World
+  w = world_of s
+
+  abbrev es : List Effect
+  es = (step_at_home w x).effects
+
+  abbrev now : ClientValue
+  now = with_call (call_makes_inode w x) (client_in s.clients c)
+
+  abbrev s' : StateValue
+  s' = after_call s x
+
+  abbrev w' : World
+  w' = world_of s'
+
+  -- areas stay
+  area_kept : (k i : ℕ) → w'.area k i ≡ w.area k i
+  unfolding world_of
+  area_kept k i = ap (λ r. values r i) (call_region_kept s.nodes home c x.number es (λ r. r.inodes) refl k)
+
+  pub call_areas : OtherAreasStay w w'
+  call_areas k i away = area_kept k i
+
+  -- logs stay but their records
+  kept : {A : Type 0} (f : ReceivedLog → A) → f (with_more (log_in s.nodes home c) (record { call = x.number; effects = es })) ≡ f (log_in s.nodes home c) → (n d : ℕ) →
+      f (log_seen s'.nodes n d) ≡ f (log_seen s.nodes n d)
+  kept f same n d = call_log_kept s.nodes home c x.number es f same n d
+
+  so_many_clients : length s'.clients ≡ length s.clients
+  so_many_clients = length-set s.clients (c - 1) now
+
+  stays : {A : Type 0} (f : ClientValue → A) → f now ≡ f (client_in s.clients c) → (d : ℕ) → f (client_seen s'.clients d) ≡ f (client_seen s.clients d)
+  stays f same = client_same f s.clients c now same
+
+  -- each client's own log is where it was
+  own_now : (d : ℕ) → own_seen s' d ≡ log_seen s'.nodes (own_node (standings s) (client_seen s.clients d)) d
+  unfolding own_seen
+  own_now d = ap (λ n. log_seen s'.nodes n d) (stays (own_node (standings s)) refl d)
+
+  own_kept : {A : Type 0} (f : ReceivedLog → A) → f (with_more (log_in s.nodes home c) (record { call = x.number; effects = es })) ≡ f (log_in s.nodes home c) → (d : ℕ) →
+      f (own_seen s' d) ≡ f (own_seen s d)
+  unfolding own_seen
+  own_kept f same d = ap f (own_now d) ∙ kept f same (own_node (standings s) (client_seen s.clients d)) d
+
+  module _ (there : IsNumber s.clients c) (has : HasLog s.nodes home c) (unfailed : (client_seen s.clients c).failed ≡ false) where
+    own_is_home : own_node (standings s) (client_seen s.clients c) ≡ home
+    own_is_home = rw unfailed refl
+
+    home_log : log_seen s'.nodes home c ≡ called x.number es (log_seen s.nodes home c)
+    home_log = call_here s.nodes home c x.number es has (log_is s home c has)
+
+    else_log : (n d : ℕ) → (n ≡ home → d ≡ c → ⊥) → log_seen s'.nodes n d ≡ log_seen s.nodes n d
+    else_log = call_else s.nodes home c x.number es has
+
+    own_here : own_seen s' c ≡ log_seen s'.nodes home c
+    own_here = own_now c ∙ ap (λ n. log_seen s'.nodes n c) own_is_home
+
+    own_before : own_seen s c ≡ log_seen s.nodes home c
+    unfolding own_seen
+    own_before = ap (λ n. log_seen s.nodes n c) own_is_home
+
+    own_called : own_seen s' c ≡ called x.number es (own_seen s c)
+    own_called = own_here ∙ home_log ∙ ap (called x.number es) (sym own_before)
+
+    own_else : (d : ℕ) → d ≢ c → own_seen s' d ≡ own_seen s d
+    unfolding own_seen
+    own_else d other = own_now d ∙ else_log (own_node (standings s) (client_seen s.clients d)) d (λ _ same. other same)
+
+    -- ---- its shape
+
+    -- the client's own log has its groups, and so has each node's
+    own_borders : AreMarked s → (k : ℕ) → is_border (own_seen s' c).log k ≡ is_border (own_seen s c).log k
+    own_borders all k =
+        ap (λ l. is_border l.log k) own_called
+        ∙ called_border (own_seen s c) x.number es k (so_many_marks (is_border (own_seen s c).log) (own_seen s c).log (own_marked s all c))
+
+    marked_here : AreMarked s → (n : ℕ) → IsMarked (is_border (own_seen s' c).log) (log_seen s'.nodes n c).log
+    marked_here all n =
+        elim (cases_eq n home) [
+          | inl is ↦
+              subst (λ m. IsMarked (is_border (own_seen s' c).log) (log_seen s'.nodes m c).log) (sym is)
+              (subst (λ l. IsMarked (is_border (own_seen s' c).log) l.log) own_here
+              (subst (λ l. IsMarked (is_border l.log) l.log) (sym own_called) (marked_called (own_seen s c) x.number es (own_marked s all c))))
+          | inr away ↦
+              subst (λ l. IsMarked (is_border (own_seen s' c).log) l.log) (sym (else_log n c (λ there same. away there)))
+              (marked_as (is_border (own_seen s c).log) (is_border (own_seen s' c).log) (log_seen s.nodes n c).log (λ k low high. sym (own_borders all k)) (all n c))
+        ]
+
+    marked_now : AreMarked s → AreMarked s'
+    marked_now all n d =
+        elim (cases_eq d c) [
+          | inl is ↦ subst (λ e. IsMarked (is_border (own_seen s' e).log) (log_seen s'.nodes n e).log) (sym is) (marked_here all n)
+          | inr other ↦
+              subst (λ l. IsMarked (is_border l.log) (log_seen s'.nodes n d).log) (sym (own_else d other))
+              (subst (λ l. IsMarked (is_border (own_seen s d).log) l.log) (sym (else_log n d (λ there same. other same))) (all n d))
+        ]
+
+    shaped : ShapeInvariant s → ShapeInvariant s'
+    shaped shape = shaped_as s s' shape record {
+      nodes = so_many_nodes s.nodes home c x.number es;
+      members = refl;
+      full = λ n. refl;
+      logs = so_many_logs s.nodes home c x.number es;
+      clients = so_many_clients;
+      home = stays (λ y. y.home) refl;
+      failed = stays (λ y. y.failed) refl;
+      limit = refl;
+      limits = kept (λ l. l.log.limit) refl;
+      at_home = kept (λ l. l.at_home) refl;
+      marked = marked_now;
+      durability = stays (λ y. y.durability) refl;
+      opened = λ d. durability-still s.history (calls (plain_call x)) d refl;
+    }
+
+    same_end : w'.received home c ≡ end_of_log w' c
+    unfolding world_of end_of_log
+    same_end = ap (λ l. log_end l.log) (sym own_here)
+
+    -- the history has the call as it was made
+    same_call : w.made c ≡ made_in c s.history → x.fresh ≡ inode_number c (w.made c) → numbered_in s.history (plain_call x) ≡ x
+    same_call counted fresh =
+        let is : inode_number c (made_in c s.history) ≡ x.fresh = ap (inode_number c) (sym counted) ∙ sym fresh in
+        λ i. record { client = x.client; number = x.number; op = x.op; reply = x.reply; fresh = is i }
+
+    calls_now : w.made c ≡ made_in c s.history → x.fresh ≡ inode_number c (w.made c) → w'.calls ≡ w.calls ++ x ∷ []
+    unfolding world_of
+    calls_now counted fresh = kept_call s.history (plain_call x) ∙ ap (λ y. kept_numbered s.history ++ y ∷ []) (same_call counted fresh)
+
+    -- the client's counts
+    next_now : x.number ≡ w.next c → w'.next c ≡ suc x.number
+    unfolding world_of
+    next_now number =
+        let before : x.number ≡ (client_in s.clients c).next = number ∙ ap (λ y. y.next) (client_is s.clients c there) in
+        let more : (client_in s.clients c).next + 1 ≡ suc x.number = omega (arith, before) in
+        ap (λ y. y.next) (client_here s.clients c now there) ∙ more
+
+    made_now : w'.made c ≡ (if call_makes_inode w x then suc (w.made c) else w.made c)
+    unfolding world_of
+    made_now =
+        ap (λ y. y.made) (client_here s.clients c now there)
+        ∙ plus_one (call_makes_inode w x) (client_in s.clients c).made
+        ∙ ap (λ k. if call_makes_inode w x then suc k else k) (ap (λ y. y.made) (sym (client_is s.clients c there)))
+
+    border_kept : AreMarked s → (d k : ℕ) → k ≤ end_of_log w d → w'.border d k ≡ w.border d k
+    unfolding world_of
+    border_kept all d k old =
+        elim (cases_eq d c) [
+          | inl is ↦ subst (λ e. w'.border e k ≡ w.border e k) (sym is) (own_borders all k)
+          | inr other ↦ ap (λ l. is_border l.log k) (own_else d other)
+        ]
+
+    border_ends : AreMarked s → w'.border c (end_of_log w' c) ≡ true
+    unfolding world_of end_of_log
+    border_ends all =
+        let now : IsMarked (is_border (own_seen s' c).log) (own_seen s' c).log = own_marked s' (marked_now all) c in
+        border_end (own_seen s' c).log (log_end (own_seen s' c).log) (so_many_marks (is_border (own_seen s' c).log) (own_seen s' c).log now) (omega arith)
+
+    call_of : ShapeInvariant s → w.made c ≡ made_in c s.history → w.made c ≤ 1048576 → MayMakeCall w x → MakesCall w x w'
+    unfolding world_of
+    call_of shape counted few may = record {
+      lives = may.lives;
+      running = may.running;
+      number = may.number;
+      fresh = may.fresh;
+      reply = may.reply;
+      held = may.held;
+      written = may.written;
+      calls = calls_now counted may.fresh;
+      records_own = ap (λ l. l.log.records) own_called;
+      records_else = λ d other. ap (λ l. l.log.records) (own_else d other);
+      first = own_kept (λ l. l.log.first) refl;
+      border_old = border_kept shape.marked;
+      border_new = border_ends shape.marked;
+      next_own = next_now may.number;
+      next_else = λ d other. ap (λ y. y.next) (client_else s.clients c now there d other);
+      made_own = made_now;
+      made_else = λ d other. ap (λ y. y.made) (client_else s.clients c now there d other);
+      made_few = subst (λ k. k ≤ 1048576) (sym made_now) (few_made (call_makes_inode w x) (w.made c) few may.room);
+      log_home = ap (λ l. l.log.records) home_log;
+      log_else = λ n d f other. ap (λ l. l.log.records) (else_log n d other);
+      received_home = same_end;
+      received_else = λ n d f other. ap (λ l. log_end l.log) (else_log n d other);
+      digested = λ n d f. kept (λ l. l.digested) refl n d;
+      area = λ n i f. area_kept n i;
+      full = refl;
+      clients = record { clients = so_many_clients; home = stays (λ y. y.home) refl; lives = stays (λ y. not y.failed) refl; crashed = stays (λ y. y.crashed) refl };
+      goals = stays (λ y. y.goal) refl;
+      leases = leases_as s s' (λ i. refl);
+    }
+
+  pub call_seen : ShapeInvariant s → w.made c ≡ made_in c s.history → w.made c ≤ 1048576 → MayMakeCall w x → MakesCall w x w'
+  call_seen shape counted few may =
+      let there : IsNumber s.clients c = lives_number s c may.lives in
+      let unfailed : (client_seen s.clients c).failed ≡ false = lives_unfailed s c may.lives in
+      call_of there (has_log s home c shape (home_full s c shape unfailed) there) unfailed shape counted few may
+
+  pub call_shaped : ShapeInvariant s → w.lives c ≡ true → ShapeInvariant s'
+  call_shaped shape lives =
+      let there : IsNumber s.clients c = lives_number s c lives in
+      let unfailed : (client_seen s.clients c).failed ≡ false = lives_unfailed s c lives in
+      shaped there (has_log s home c shape (home_full s c shape unfailed) there) unfailed shape

@@ -1,0 +1,61 @@
+-- What the laws observe of a goal that is raised.
+use Rattle.std.proofs.Common.{◌≡◌, ◌≢◌, ℕ, ◌≤◌, max, inl, inr, refl, ap, sym, subst, ◌∙◌, arith, eq-eqb}
+use Rattle.std.proofs.lemmas.Bool.{cases_eq, ne_eqb}
+use Rattle.assise_model_world.specs.ClientSteps.{RaisesGoals}
+use Rattle.assise_model_world.specs.World.{World, end_of_log}
+use Rattle.assise_machine_state.specs.Changes.{after_goal, goal_of}
+use Rattle.assise_machine_state.specs.ClientValues.{ClientValue, client_in, client_seen, with_client, with_goal}
+use Rattle.assise_machine_state.specs.Observed.{world_of}
+use Rattle.assise_machine_state.specs.Places.{IsNumber}
+use Rattle.assise_machine_state.specs.Invariant.{ShapeInvariant}
+use Rattle.assise_machine_state.specs.StateValues.{StateValue}
+use Rattle.assise_machine_state.proofs.ItemSeen.{client_else, client_here, client_is}
+use Rattle.assise_machine_state.proofs.ShapedClients.{Remains, clients_stay, logs_stay, nodes_stay, still_shaped}
+use Rattle.assise_machine_state.proofs.SameObserved.{leases_as}
+
+module _ (s : StateValue) (c to : ℕ) (there : IsNumber s.clients c) where
+  abbrev now : ClientValue
+  now = with_goal to (client_in s.clients c)
+
+  abbrev w : World
+  w = world_of s
+
+  abbrev w' : World
+  w' = world_of (after_goal s c to)
+
+  remains : Remains (client_in s.clients c) now
+  remains = record { home = refl; failed = refl; next = refl; made = refl; durability = refl }
+
+  goal_here : (client_seen (with_client s.clients c now) c).goal ≡ max (client_seen s.clients c).goal to
+  goal_here = ap (λ x. x.goal) (client_here s.clients c now there) ∙ ap (λ x. max x.goal to) (sym (client_is s.clients c there))
+
+  goal_else : (d : ℕ) → d ≢ c → (client_seen (with_client s.clients c now) d).goal ≡ (client_seen s.clients d).goal
+  goal_else d other = ap (λ x. x.goal) (client_else s.clients c now there d other)
+
+  goals : (d : ℕ) → (client_seen (with_client s.clients c now) d).goal ≡ max (client_seen s.clients d).goal (goal_of c to d)
+  goals d =
+      elim (cases_eq d c) [
+        | inl is ↦ rw (eq-eqb d c is) (subst (λ e. (client_seen (with_client s.clients c now) e).goal ≡ max (client_seen s.clients e).goal to) (sym is) goal_here)
+        | inr other ↦ rw (ne_eqb d c other) (goal_else d other ∙ omega arith)
+      ]
+
+  low : to ≤ end_of_log w c → (d : ℕ) → goal_of c to d ≤ end_of_log w d
+  low known d =
+      elim (cases_eq d c) [
+        | inl is ↦ rw (eq-eqb d c is) (subst (λ e. to ≤ end_of_log w e) (sym is) known)
+        | inr other ↦ rw (ne_eqb d c other) (omega arith)
+      ]
+
+  pub goal_raised : to ≤ end_of_log w c → RaisesGoals w (goal_of c to) w'
+  unfolding world_of
+  goal_raised known = record {
+    there = low known;
+    logs = logs_stay s c now s.levels s.cuts s.history remains refl;
+    clients = clients_stay s c now s.levels s.cuts s.history remains refl;
+    nodes = nodes_stay s c now s.levels s.cuts s.history;
+    leases = leases_as s (after_goal s c to) (λ i. refl);
+    goals = goals;
+  }
+
+  pub goal_shaped : ShapeInvariant s → ShapeInvariant (after_goal s c to)
+  goal_shaped shape = still_shaped s c now s.levels s.cuts s.history remains (λ d. refl) shape

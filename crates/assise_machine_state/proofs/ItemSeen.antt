@@ -1,0 +1,130 @@
+-- What is seen of a list after a change of the item of one number.
+use Rattle.std.proofs.Common.{◌≡◌, ◌≢◌, ◌⊎◌, ℕ, zero, suc, ◌-◌, ◌<◌, ◌≤◌, List, [], ◌∷◌, ◌++◌, get_or, length, set, inl, inr, refl, ap, sym, subst, ◌∙◌, arith}
+use Rattle.std.proofs.lemmas.Bool.{cases_eq, cases_lt}
+use Rattle.std.proofs.lemmas.List.{get_or-set_other, get_or-set_same, get_or_append_left, get_or_past, get_or_push, length_push, set_past}
+use Rattle.assise_machine_state.specs.ClientValues.{ClientValue, client_in, client_seen, no_client, with_client}
+use Rattle.assise_machine_state.specs.Places.{IsNumber, item_at, item, with_item}
+
+pub less_one : (k : ℕ) → suc k - 1 ≡ k
+less_one k = omega arith
+
+-- the item of a number is the one seen
+pub is_seen : {X : Type 0} (none : X) (xs : List X) (n : ℕ) → IsNumber xs n → item_at none xs n ≡ item none xs n
+unfolding item_at
+is_seen none xs zero n = absurd (omega (arith, n.some))
+is_seen none xs (suc k) n = rw (less_one k) refl
+
+pub seen_here : {X : Type 0} (none x : X) (xs : List X) (n : ℕ) → IsNumber xs n → item_at none (with_item xs n x) n ≡ x
+unfolding item_at
+seen_here none x xs zero n = absurd (omega (arith, n.some))
+seen_here none x xs (suc k) n = rw (less_one k) (get_or-set_same xs k x none (omega (arith, n.there)))
+
+pub seen_else : {X : Type 0} (none x : X) (xs : List X) (n d : ℕ) → IsNumber xs n → d ≢ n → item_at none (with_item xs n x) d ≡ item_at none xs d
+unfolding item_at
+seen_else none x xs n zero there other = refl
+seen_else none x xs zero (suc j) there other = absurd (omega (arith, there.some))
+seen_else none x xs (suc k) (suc j) there other = rw (less_one k) (get_or-set_other xs k j x none (λ same. other (ap suc same)))
+
+-- what the change leaves of the item it leaves everywhere, also where no item has the number
+
+kept_at : {X A : Type 0} (f : X → A) (none x : X) (xs : List X) (k j : ℕ) → f x ≡ f (get_or xs k none) → f (get_or (set xs k x) j none) ≡ f (get_or xs j none)
+kept_at f none x xs k j same =
+    elim (cases_eq j k) [
+      | inl is ↦
+          elim (cases_lt k (length xs)) [
+            | inl low ↦ subst (λ i. f (get_or (set xs k x) i none) ≡ f (get_or xs i none)) (sym is) (ap f (get_or-set_same xs k x none low) ∙ same)
+            | inr past ↦ ap (λ ys. f (get_or ys j none)) (set_past xs k x past)
+          ]
+      | inr other ↦ ap f (get_or-set_other xs k j x none other)
+    ]
+
+pub seen_kept : {X A : Type 0} (f : X → A) (none x : X) (xs : List X) (n d : ℕ) → f x ≡ f (item none xs n) → f (item_at none (with_item xs n x) d) ≡ f (item_at none xs d)
+unfolding item_at
+seen_kept f none x xs n zero same = refl
+seen_kept f none x xs n (suc j) same = kept_at f none x xs (n - 1) j same
+
+-- each item is the new one or the old one
+seen_either : {X : Type 0} (none x : X) (xs : List X) (n d : ℕ) → (item_at none (with_item xs n x) d ≡ x) ⊎ (item_at none (with_item xs n x) d ≡ item_at none xs d)
+unfolding item_at
+seen_either none x xs n zero = inr refl
+seen_either none x xs n (suc j) =
+    elim (cases_eq j (n - 1)) [
+      | inl is ↦
+          elim (cases_lt (n - 1) (length xs)) [
+            | inl low ↦ inl (subst (λ i. get_or (set xs (n - 1) x) i none ≡ x) (sym is) (get_or-set_same xs (n - 1) x none low))
+            | inr past ↦ inr (ap (λ ys. get_or ys j none) (set_past xs (n - 1) x past))
+          ]
+      | inr other ↦ inr (get_or-set_other xs (n - 1) j x none other)
+    ]
+
+-- ---- where there is no item
+
+pub seen_past : {X : Type 0} (none : X) (xs : List X) (d : ℕ) → length xs < d → item_at none xs d ≡ none
+unfolding item_at
+seen_past none xs zero past = refl
+seen_past none xs (suc k) past = get_or_past xs k none (omega (arith, past))
+
+pub seen_nothing : {X : Type 0} (none : X) (k : ℕ) → item_at none [] k ≡ none
+unfolding item_at
+seen_nothing none zero = refl
+seen_nothing none (suc k) = refl
+
+-- where something is seen, there is one
+pub seen_number : {X : Type 0} (none : X) (xs : List X) (n : ℕ) → item_at none xs n ≢ none → IsNumber xs n
+unfolding item_at
+seen_number none xs zero some = absurd (some refl)
+seen_number none xs (suc k) some =
+    elim (cases_lt k (length xs)) [
+      | inl low ↦ record { some = omega arith; there = omega (arith, low) }
+      | inr past ↦ absurd (some (get_or_past xs k none past))
+    ]
+
+-- ---- one client changes
+
+pub client_is : (cs : List ClientValue) (c : ℕ) → IsNumber cs c → client_seen cs c ≡ client_in cs c
+unfolding client_seen
+client_is cs c there = is_seen no_client cs c there
+
+pub client_here : (cs : List ClientValue) (c : ℕ) (x : ClientValue) → IsNumber cs c → client_seen (with_client cs c x) c ≡ x
+unfolding client_seen
+client_here cs c x there = seen_here no_client x cs c there
+
+pub client_else : (cs : List ClientValue) (c : ℕ) (x : ClientValue) → IsNumber cs c → (d : ℕ) → d ≢ c → client_seen (with_client cs c x) d ≡ client_seen cs d
+unfolding client_seen
+client_else cs c x there d other = seen_else no_client x cs c d there other
+
+pub client_same : {A : Type 0} (f : ClientValue → A) (cs : List ClientValue) (c : ℕ) (x : ClientValue) → f x ≡ f (client_in cs c) → (d : ℕ) →
+    f (client_seen (with_client cs c x) d) ≡ f (client_seen cs d)
+unfolding client_seen
+client_same f cs c x same d = seen_kept f no_client x cs c d same
+
+pub client_either : (cs : List ClientValue) (c : ℕ) (x : ClientValue) (d : ℕ) → (client_seen (with_client cs c x) d ≡ x) ⊎ (client_seen (with_client cs c x) d ≡ client_seen cs d)
+unfolding client_seen
+client_either cs c x d = seen_either no_client x cs c d
+
+-- ---- one item more
+
+pub pushed_here : {X : Type 0} (none y : X) (xs : List X) → item_at none (xs ++ y ∷ []) (suc (length xs)) ≡ y
+unfolding item_at
+pushed_here none y xs = get_or_push xs y none (length xs) refl
+
+pub pushed_else : {X : Type 0} (none y : X) (xs : List X) (d : ℕ) → d ≢ suc (length xs) → item_at none (xs ++ y ∷ []) d ≡ item_at none xs d
+unfolding item_at
+pushed_else none y xs zero other = refl
+pushed_else none y xs (suc k) other =
+    elim (cases_lt k (length xs)) [
+      | inl low ↦ get_or_append_left xs (y ∷ []) none k low
+      | inr past ↦
+          let disjoint : k ≢ length xs = λ same. other (ap suc same) in
+          let more : length (xs ++ y ∷ []) ≤ k = subst (λ n. n ≤ k) (sym (length_push xs y)) (omega (arith, past, disjoint)) in
+          get_or_past (xs ++ y ∷ []) k none more ∙ sym (get_or_past xs k none past)
+    ]
+
+pub pushed_kept : {X A : Type 0} (f : X → A) (none y : X) (xs : List X) (d : ℕ) → f y ≡ f none → f (item_at none (xs ++ y ∷ []) d) ≡ f (item_at none xs d)
+pushed_kept f none y xs d same =
+    elim (cases_eq d (suc (length xs))) [
+      | inl is ↦
+          subst (λ k. f (item_at none (xs ++ y ∷ []) k) ≡ f (item_at none xs k)) (sym is)
+          (ap f (pushed_here none y xs) ∙ same ∙ sym (ap f (seen_past none xs (suc (length xs)) (omega arith))))
+      | inr other ↦ ap f (pushed_else none y xs d other)
+    ]

@@ -1,0 +1,164 @@
+-- What is seen of nodes after a change of one of them, of one of its logs, or of one client's logs at all of them.
+use Rattle.std.proofs.Common.{◌≡◌, ◌≢◌, ℕ, ◌-◌, ◌<◌, nat_le, Bool, List, [], ◌∷◌, length, get_or, map, inl, inr, refl, ap, sym, subst, ◌∙◌, append-nil}
+use Rattle.std.proofs.Math.ListN.{get_or-map}
+use Rattle.std.proofs.lemmas.Bool.{cases_Bool, cases_eq, le-leb, leb-false, leb-true}
+use Rattle.std.proofs.lemmas.List.{length-set}
+use Rattle.assise_inode_table.specs.Contents.{InodeMap}
+use Rattle.assise_digest.specs.Region.{ReceivedLog, RegionValue, log_of, no_log}
+use Rattle.assise_machine_state.specs.NodeValues.{HasLog, changed_in, log_in, log_seen, no_region, region_in, region_seen, with_records, with_region}
+use Rattle.assise_machine_state.specs.Places.{IsNumber, item_at, with_item}
+use Rattle.assise_machine_state.proofs.ItemSeen.{is_seen, seen_else, seen_here, seen_kept, seen_past}
+
+-- a log into which nothing comes stays
+pub none_more : (border : ℕ → Bool) (l : ReceivedLog) → with_records border l [] ≡ l
+none_more border l = λ i. record {
+  log = record { first = l.log.first; limit = l.log.limit; records = append-nil l.log.records i; begins = append-nil l.log.begins i };
+  digested = l.digested;
+  at_home = l.at_home;
+}
+
+-- a log that a node has is an item
+pub log_number : (rs : List RegionValue) (n c : ℕ) → HasLog rs n c → IsNumber (region_in rs n).logs c
+log_number rs n c has = record { some = has.client.some; there = has.client.there }
+
+-- ---- node n has other inodes or logs
+
+module _ (rs : List RegionValue) (n : ℕ) (r : RegionValue) where
+  -- what it keeps stays of all nodes
+  pub region_kept : {A : Type 0} (f : RegionValue → A) → f r ≡ f (region_in rs n) → (m : ℕ) → f (region_seen (with_region rs n r) m) ≡ f (region_seen rs m)
+  unfolding region_seen
+  region_kept f same m = seen_kept f no_region r rs n m same
+
+  module _ (there : IsNumber rs n) where
+    pub region_here : region_seen (with_region rs n r) n ≡ r
+    unfolding region_seen
+    region_here = seen_here no_region r rs n there
+
+    pub region_else : (m : ℕ) → m ≢ n → region_seen (with_region rs n r) m ≡ region_seen rs m
+    unfolding region_seen
+    region_else m other = seen_else no_region r rs n m there other
+
+    pub log_away : (m d : ℕ) → m ≢ n → log_seen (with_region rs n r) m d ≡ log_seen rs m d
+    unfolding log_seen
+    log_away m d other = ap (λ x. item_at no_log x.logs d) (region_else m other)
+
+-- ---- node n has these inodes, and this log of client c
+
+abbrev pub region_with : List RegionValue → (n c : ℕ) → InodeMap → ReceivedLog → RegionValue
+region_with rs n c inodes l = record (region_in rs n) { inodes = inodes; logs = with_item (region_in rs n).logs c l }
+
+abbrev pub log_changed : List RegionValue → (n c : ℕ) → InodeMap → ReceivedLog → List RegionValue
+log_changed rs n c inodes l = with_region rs n (region_with rs n c inodes l)
+
+module _ (rs : List RegionValue) (n c : ℕ) (inodes : InodeMap) (l : ReceivedLog) where
+  pub logs_count : (m : ℕ) → length (region_seen (log_changed rs n c inodes l) m).logs ≡ length (region_seen rs m).logs
+  logs_count m = region_kept rs n (region_with rs n c inodes l) (λ r. length r.logs) (length-set (region_in rs n).logs (c - 1) l) m
+
+  -- what the log keeps stays of all logs
+  pub log_same : {A : Type 0} (f : ReceivedLog → A) (m d : ℕ) → f l ≡ f (log_in rs n c) → f (log_seen (log_changed rs n c inodes l) m d) ≡ f (log_seen rs m d)
+  unfolding log_seen
+  log_same f m d same = region_kept rs n (region_with rs n c inodes l) (λ r. f (item_at no_log r.logs d)) (seen_kept f no_log l (region_in rs n).logs c d same) m
+
+  module _ (has : HasLog rs n c) where
+    pub log_here : log_seen (log_changed rs n c inodes l) n c ≡ l
+    unfolding log_seen
+    log_here = ap (λ r. item_at no_log r.logs c) (region_here rs n (region_with rs n c inodes l) has.node) ∙ seen_here no_log l (region_in rs n).logs c (log_number rs n c has)
+
+    log_beside : (d : ℕ) → d ≢ c → log_seen (log_changed rs n c inodes l) n d ≡ log_seen rs n d
+    unfolding log_seen region_seen
+    log_beside d other =
+        ap (λ r. item_at no_log r.logs d) (seen_here no_region (region_with rs n c inodes l) rs n has.node)
+        ∙ seen_else no_log l (region_in rs n).logs c d (log_number rs n c has) other
+        ∙ ap (λ r. item_at no_log r.logs d) (sym (is_seen no_region rs n has.node))
+
+    -- each other log stays
+    pub log_else : (m d : ℕ) → (m ≡ n → d ≡ c → ⊥) → log_seen (log_changed rs n c inodes l) m d ≡ log_seen rs m d
+    log_else m d other =
+        elim (cases_eq m n) [
+          | inl is ↦ subst (λ j. log_seen (log_changed rs n c inodes l) j d ≡ log_seen rs j d) (sym is) (log_beside d (λ same. other is same))
+          | inr away ↦ log_away rs n (region_with rs n c inodes l) has.node m d away
+        ]
+
+-- ---- client c's log changes at each node that has one
+
+module _ (c : ℕ) (g : ReceivedLog → ReceivedLog) where
+  none_changed : changed_in c g no_region ≡ no_region
+  none_changed =
+      elim (cases_Bool (nat_le c 0)) [
+        | inl e ↦ rw e refl
+        | inr e ↦ rw e refl
+      ]
+
+  region_changed : (rs : List RegionValue) (n : ℕ) → region_seen (map (changed_in c g) rs) n ≡ changed_in c g (region_seen rs n)
+  unfolding region_seen item_at
+  region_changed rs n = ap (λ r. get_or (r ∷ map (changed_in c g) rs) n r) (sym none_changed) ∙ get_or-map (changed_in c g) (no_region ∷ rs) n no_region
+
+  -- a region's inodes stay, the count of its logs, and what each log keeps
+
+  inodes_kept : (r : RegionValue) → (changed_in c g r).inodes ≡ r.inodes
+  inodes_kept r =
+      elim (cases_Bool (nat_le c (length r.logs))) [
+        | inl e ↦ rw e refl
+        | inr e ↦ rw e refl
+      ]
+
+  count_kept : (r : RegionValue) → length (changed_in c g r).logs ≡ length r.logs
+  count_kept r =
+      elim (cases_Bool (nat_le c (length r.logs))) [
+        | inl e ↦ rw e (length-set r.logs (c - 1) (g (log_of r c)))
+        | inr e ↦ rw e refl
+      ]
+
+  part_kept : {A : Type 0} (f : ReceivedLog → A) (r : RegionValue) (d : ℕ) → ((l : ReceivedLog) → f (g l) ≡ f l) → f (item_at no_log (changed_in c g r).logs d) ≡ f (item_at no_log r.logs d)
+  part_kept f r d same =
+      elim (cases_Bool (nat_le c (length r.logs))) [
+        | inl e ↦ rw e (seen_kept f no_log (g (log_of r c)) r.logs c d (same (log_of r c)))
+        | inr e ↦ rw e refl
+      ]
+
+  beside_kept : (r : RegionValue) (d : ℕ) → 0 < c → d ≢ c → item_at no_log (changed_in c g r).logs d ≡ item_at no_log r.logs d
+  beside_kept r d some other =
+      elim (cases_Bool (nat_le c (length r.logs))) [
+        | inl e ↦ rw e (seen_else no_log (g (log_of r c)) r.logs c d record { some = some; there = leb-true c (length r.logs) e } other)
+        | inr e ↦ rw e refl
+      ]
+
+  own_changed : (r : RegionValue) → IsNumber r.logs c → item_at no_log (changed_in c g r).logs c ≡ g (item_at no_log r.logs c)
+  own_changed r has =
+      rw (le-leb c (length r.logs) has.there) (seen_here no_log (g (log_of r c)) r.logs c has ∙ ap g (sym (is_seen no_log r.logs c has)))
+
+  -- the same of what is seen of nodes
+
+  pub inodes_seen : (rs : List RegionValue) (n : ℕ) → (region_seen (map (changed_in c g) rs) n).inodes ≡ (region_seen rs n).inodes
+  inodes_seen rs n = ap (λ r. r.inodes) (region_changed rs n) ∙ inodes_kept (region_seen rs n)
+
+  pub count_seen : (rs : List RegionValue) (n : ℕ) → length (region_seen (map (changed_in c g) rs) n).logs ≡ length (region_seen rs n).logs
+  count_seen rs n = ap (λ r. length r.logs) (region_changed rs n) ∙ count_kept (region_seen rs n)
+
+  pub part_seen : {A : Type 0} (f : ReceivedLog → A) (rs : List RegionValue) (n d : ℕ) → ((l : ReceivedLog) → f (g l) ≡ f l) → f (log_seen (map (changed_in c g) rs) n d) ≡ f (log_seen rs n d)
+  unfolding log_seen
+  part_seen f rs n d same = ap (λ r. f (item_at no_log r.logs d)) (region_changed rs n) ∙ part_kept f (region_seen rs n) d same
+
+  pub beside_seen : (rs : List RegionValue) (n d : ℕ) → 0 < c → d ≢ c → log_seen (map (changed_in c g) rs) n d ≡ log_seen rs n d
+  unfolding log_seen
+  beside_seen rs n d some other = ap (λ r. item_at no_log r.logs d) (region_changed rs n) ∙ beside_kept (region_seen rs n) d some other
+
+  pub own_changes : (rs : List RegionValue) (n : ℕ) → HasLog rs n c → log_seen (map (changed_in c g) rs) n c ≡ g (log_seen rs n c)
+  unfolding log_seen region_seen
+  own_changes rs n has =
+      let is : region_seen rs n ≡ region_in rs n = is_seen no_region rs n has.node in
+      let number : IsNumber (region_seen rs n).logs c = subst (λ r. IsNumber r.logs c) (sym is) (log_number rs n c has) in
+      ap (λ r. item_at no_log r.logs c) (region_changed rs n) ∙ own_changed (region_seen rs n) number
+
+  -- of a change that leaves the log of no client
+  pub own_changes_all : 0 < c → g no_log ≡ no_log → (rs : List RegionValue) (n : ℕ) → log_seen (map (changed_in c g) rs) n c ≡ g (log_seen rs n c)
+  unfolding log_seen
+  own_changes_all some none rs n =
+      let r : RegionValue = region_seen rs n in
+      ap (λ x. item_at no_log x.logs c) (region_changed rs n)
+      ∙ elim (cases_Bool (nat_le c (length r.logs))) [
+        | inl has ↦ own_changed r record { some = some; there = leb-true c (length r.logs) has }
+        | inr past ↦
+            let absent : item_at no_log r.logs c ≡ no_log = seen_past no_log r.logs c (leb-false c (length r.logs) past) in
+            rw past (absent ∙ sym none ∙ ap g (sym absent))
+      ]

@@ -1,0 +1,60 @@
+-- What is said of a node that isn't full, and which nodes begin a log.
+use Rattle.std.proofs.Common.{◌≡◌, ◌≢◌, ◌⊎◌, inl, inr, ℕ, suc, ◌+◌, ◌==◌, true, false, Option, Some, None, Ok, Err, List, ◌∷◌, refl, ap, sym, ◌∙◌, arith}
+use Rattle.assise_names.specs.declared.refusal.Refusal.{Refusal}
+use Rattle.assise_names.specs.declared.refusal.Refusal.TheVariants.{BadNode}
+use Rattle.assise_inode_table.specs.Effects.{contains}
+use Rattle.assise_digest.specs.Region.{RegionValue, region_with_client}
+use Rattle.assise_manager.specs.Standings.{Standing, down, full, full_nodes, phase_of, returning, standing_of}
+use Rattle.assise_manager.specs.declared.phase.Phase.{Phase}
+use Rattle.assise_manager.specs.declared.phase.Phase.TheVariants.{Down, Full, Returning}
+use Rattle.assise_model_events.specs.Faults.{unless_full}
+use Rattle.assise_machine_state.specs.NodeValues.{begun_log, with_logs_begun}
+use Rattle.assise_machine_state.specs.Observed.{is_full_in, stands_full}
+use Rattle.assise_machine_state.proofs.OwnLogs.{listed_is}
+
+-- why a question about a node that isn't full is refused
+
+pub none_refused : (w : Refusal) (o : Option Standing) (r : Refusal) → phase_of o ≡ Err r → unless_full w o ≡ Some r
+none_refused w None r same = ap Some (err_of same)
+  where
+    err_of : phase_of None ≡ Err r → BadNode ≡ r
+    err_of e = cc e
+none_refused w (Some full) r same = cc
+none_refused w (Some (down since)) r same = cc
+none_refused w (Some (returning since donor stale)) r same = cc
+
+pub away_refused : (w : Refusal) (o : Option Standing) (p : Phase) → phase_of o ≡ Ok p → p ≢ Full → unless_full w o ≡ Some w
+away_refused w None p same other = cc
+away_refused w (Some full) p same other = absurd (other (cc same))
+away_refused w (Some (down since)) p same other = refl
+away_refused w (Some (returning since donor stale)) p same other = refl
+
+pub away_disjoint : (p : Phase) → (p ≡ Down) ⊎ (p ≡ Returning) → p ≢ Full
+away_disjoint p (inl is) same = (let both : Down ≡ Full = sym is ∙ same in cc)
+away_disjoint p (inr is) same = (let both : Returning ≡ Full = sym is ∙ same in cc)
+
+pub full_served : (w : Refusal) (o : Option Standing) → phase_of o ≡ Ok Full → unless_full w o ≡ None
+full_served w None same = cc
+full_served w (Some full) same = refl
+full_served w (Some (down since)) same = cc
+full_served w (Some (returning since donor stale)) same = cc
+
+full_phase : (o : Option Standing) → phase_of o ≡ Ok Full → stands_full o ≡ true
+full_phase None same = cc
+full_phase (Some full) same = refl
+full_phase (Some (down since)) same = cc
+full_phase (Some (returning since donor stale)) same = cc
+
+pub phase_full : (nodes : List Standing) (n : ℕ) → phase_of (standing_of nodes n) ≡ Ok Full → is_full_in nodes n ≡ true
+unfolding is_full_in
+phase_full nodes n same = full_phase (standing_of nodes n) same
+
+-- the first of the nodes begins a log, or it isn't full
+
+pub begins : (nodes : List Standing) (limit home n : ℕ) (r : RegionValue) (rs : List RegionValue) → contains (full_nodes nodes) n ≡ true →
+    with_logs_begun (is_full_in nodes) limit home n (r ∷ rs) ≡ region_with_client r (begun_log limit (n == home)) ∷ with_logs_begun (is_full_in nodes) limit home (n + 1) rs
+begins nodes limit home n r rs listed = (let next : suc n ≡ n + 1 = omega arith in let f : is_full_in nodes n ≡ true = sym (listed_is nodes n) ∙ listed in rw (f, next) refl)
+
+pub begins_none : (nodes : List Standing) (limit home n : ℕ) (r : RegionValue) (rs : List RegionValue) → contains (full_nodes nodes) n ≡ false →
+    with_logs_begun (is_full_in nodes) limit home n (r ∷ rs) ≡ r ∷ with_logs_begun (is_full_in nodes) limit home (n + 1) rs
+begins_none nodes limit home n r rs other = (let next : suc n ≡ n + 1 = omega arith in let f : is_full_in nodes n ≡ false = sym (listed_is nodes n) ∙ other in rw (f, next) refl)

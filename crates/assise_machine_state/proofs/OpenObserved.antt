@@ -1,0 +1,304 @@
+-- What the laws observe of a client that is opened: what is seen of it was seen where there was none, but that it lives.
+use Rattle.std.proofs.Common.{◌≡◌, ◌≢◌, ℕ, zero, suc, ◌+◌, ◌<◌, ◌≤◌, Bool, true, false, not, ◌&&◌, ◌==◌, List, [], ◌∷◌, ◌++◌, get_or, length, inl, inr, refl, ap, sym, subst, ◌∙◌, arith, true≢false}
+use Rattle.std.proofs.Math.Bool.{and-true}
+use Rattle.std.proofs.lemmas.Bool.{cases_Bool, cases_eq, ne_eqb}
+use Rattle.std.proofs.lemmas.List.{length_push}
+use Rattle.assise_names.specs.declared.durability.Durability.{Durability}
+use Rattle.assise_names.specs.declared.limits.TheConstants.{MOST_NODES}
+use Rattle.assise_history.specs.Legal.{durability_of}
+use Rattle.assise_history.proofs.ClientCounts.{durability-opened, durability-other}
+use Rattle.assise_inode_table.specs.Contents.{values}
+use Rattle.assise_private_log.specs.NumberedLog.{end as log_end, is_border}
+use Rattle.assise_digest.specs.Region.{ReceivedLog, RegionValue, no_log, region_with_client as with_client_log}
+use Rattle.assise_lease_tree.specs.TwoLevels.{EnrolsAt, TwoLevels}
+use Rattle.assise_model_world.specs.ClientSteps.{Opens}
+use Rattle.assise_model_world.specs.Staying.{SameLogs}
+use Rattle.assise_model_world.specs.World.{Full, World}
+use Rattle.assise_model_leases.specs.Handing.{OpensAt, SameCuts}
+use Rattle.assise_model_members.specs.Returns.{OtherAreasStay}
+use Rattle.assise_model_history.proofs.NumberedCalls.{kept_open}
+use Rattle.assise_machine_state.specs.Changes.{after_open}
+use Rattle.assise_machine_state.specs.ClientValues.{ClientValue, client_seen, cut_of, no_client, opened_on}
+use Rattle.assise_machine_state.specs.NodeValues.{begun_log, log_seen, no_region, region_seen, with_logs_begun}
+use Rattle.assise_machine_state.specs.Observed.{is_full_in, own_node, own_seen, world_of}
+use Rattle.assise_machine_state.specs.Places.{IsNumber, item_at}
+use Rattle.assise_machine_state.specs.Invariant.{CutsInvariant, IsMarked, ShapeInvariant}
+use Rattle.assise_machine_state.specs.StateValues.{StateValue, leases_of, standings}
+use Rattle.assise_machine_state.proofs.Fullness.{full_number, full_seen, no_log_in, no_log_there}
+use Rattle.assise_machine_state.proofs.Noted.{new_unasked, none_cut}
+use Rattle.assise_machine_state.proofs.ItemSeen.{pushed_else, pushed_here, pushed_kept, seen_past}
+use Rattle.assise_machine_state.proofs.ShapeKept.{KnowsHome, limit_seen, limits_all}
+use Rattle.assise_machine_state.proofs.SameObserved.{leases_as}
+
+-- ---- nodes that begin a log
+
+module _ (full : ℕ → Bool) (limit home : ℕ) where
+  abbrev begun : ℕ → RegionValue → RegionValue
+  begun m r = with_client_log r (begun_log limit (m == home))
+
+  begun_kept : {A : Type 0} (f : RegionValue → A) → ((r : RegionValue) (b : Bool) → f (with_client_log r (begun_log limit b)) ≡ f r) →
+      (n : ℕ) (rs : List RegionValue) (j : ℕ) → f (get_or (with_logs_begun full limit home n rs) j no_region) ≡ f (get_or rs j no_region)
+  begun_kept f same n [] j = refl
+  begun_kept f same n (r ∷ rs) zero =
+      elim (cases_Bool (full n)) [
+        | inl has ↦ rw has (same r (n == home))
+        | inr away ↦ rw away refl
+      ]
+  begun_kept f same n (r ∷ rs) (suc j) = begun_kept f same (suc n) rs j
+
+  begun_there : (n : ℕ) (rs : List RegionValue) (j m : ℕ) → m ≡ n + j → full m ≡ true → j < length rs → get_or (with_logs_begun full limit home n rs) j no_region ≡ begun m (get_or rs j no_region)
+  begun_there n [] j m is has low = absurd (omega (arith, low))
+  begun_there n (r ∷ rs) zero m is has low = (let same : m ≡ n = omega (arith, is) in subst (λ k. get_or (with_logs_begun full limit home k (r ∷ rs)) 0 no_region ≡ begun m r) same (rw has refl))
+  begun_there n (r ∷ rs) (suc j) m is has low = begun_there (suc n) rs j m (omega (arith, is)) has (omega (arith, low))
+
+  begun_away : (n : ℕ) (rs : List RegionValue) (j m : ℕ) → m ≡ n + j → full m ≡ false → get_or (with_logs_begun full limit home n rs) j no_region ≡ get_or rs j no_region
+  begun_away n [] j m is away = refl
+  begun_away n (r ∷ rs) zero m is away = (let same : m ≡ n = omega (arith, is) in subst (λ k. get_or (with_logs_begun full limit home k (r ∷ rs)) 0 no_region ≡ r) same (rw away refl))
+  begun_away n (r ∷ rs) (suc j) m is away = begun_away (suc n) rs j m (omega (arith, is)) away
+
+  so_many_nodes : (n : ℕ) (rs : List RegionValue) → length (with_logs_begun full limit home n rs) ≡ length rs
+  so_many_nodes n [] = refl
+  so_many_nodes n (r ∷ rs) = ap suc (so_many_nodes (suc n) rs)
+
+  -- ---- the same of what is seen
+
+  region_kept : {A : Type 0} (f : RegionValue → A) → ((r : RegionValue) (b : Bool) → f (with_client_log r (begun_log limit b)) ≡ f r) →
+      (rs : List RegionValue) (m : ℕ) → f (region_seen (with_logs_begun full limit home 1 rs) m) ≡ f (region_seen rs m)
+  unfolding region_seen item_at
+  region_kept f same rs zero = refl
+  region_kept f same rs (suc j) = begun_kept f same 1 rs j
+
+  region_begun : (rs : List RegionValue) (m : ℕ) → full m ≡ true → IsNumber rs m → region_seen (with_logs_begun full limit home 1 rs) m ≡ begun m (region_seen rs m)
+  unfolding region_seen item_at
+  region_begun rs zero has there = absurd (omega (arith, there.some))
+  region_begun rs (suc j) has there = begun_there 1 rs j (suc j) (omega arith) has (omega (arith, there.there))
+
+  region_away : (rs : List RegionValue) (m : ℕ) → full m ≡ false → region_seen (with_logs_begun full limit home 1 rs) m ≡ region_seen rs m
+  unfolding region_seen item_at
+  region_away rs zero away = refl
+  region_away rs (suc j) away = begun_away 1 rs j (suc j) (omega arith) away
+
+  -- what a log that is begun has as none does
+  log_kept : {A : Type 0} (f : ReceivedLog → A) → ((b : Bool) → f (begun_log limit b) ≡ f no_log) →
+      (rs : List RegionValue) (m d : ℕ) → f (log_seen (with_logs_begun full limit home 1 rs) m d) ≡ f (log_seen rs m d)
+  unfolding log_seen
+  log_kept f same rs m d = region_kept (λ r. f (item_at no_log r.logs d)) (λ r b. pushed_kept f no_log (begun_log limit b) r.logs d (same b)) rs m
+
+-- ---- the state
+
+module _ (s : StateValue) (n : ℕ) (u : Durability) (levels : TwoLevels) where
+  abbrev s' : StateValue
+  s' = after_open s n u levels
+
+  abbrev w : World
+  w = world_of s
+
+  abbrev w' : World
+  w' = world_of s'
+
+  abbrev next : ℕ
+  next = suc (length s.clients)
+
+  -- the client
+
+  new_client : client_seen s'.clients next ≡ opened_on n u
+  unfolding client_seen
+  new_client = pushed_here no_client (opened_on n u) s.clients
+
+  other_client : (d : ℕ) → d ≢ next → client_seen s'.clients d ≡ client_seen s.clients d
+  unfolding client_seen
+  other_client d other = pushed_else no_client (opened_on n u) s.clients d other
+
+  client_kept : {A : Type 0} (f : ClientValue → A) → f (opened_on n u) ≡ f no_client → (d : ℕ) → f (client_seen s'.clients d) ≡ f (client_seen s.clients d)
+  unfolding client_seen
+  client_kept f same d = pushed_kept f no_client (opened_on n u) s.clients d same
+
+  so_many_clients : length s'.clients ≡ next
+  so_many_clients = (let more : length s.clients + 1 ≡ next = omega arith in length_push s.clients (opened_on n u) ∙ more)
+
+  -- areas stay
+  area_kept : (k i : ℕ) → w'.area k i ≡ w.area k i
+  unfolding world_of
+  area_kept k i = region_kept (is_full_in (standings s)) s.limit n (λ r. values r.inodes i) (λ r b. refl) s.nodes k
+
+  pub open_areas : OtherAreasStay w w'
+  open_areas k i away = area_kept k i
+
+  -- logs
+  kept : {A : Type 0} (f : ReceivedLog → A) → ((b : Bool) → f (begun_log s.limit b) ≡ f no_log) → (m d : ℕ) → f (log_seen s'.nodes m d) ≡ f (log_seen s.nodes m d)
+  kept f same m d = log_kept (is_full_in (standings s)) s.limit n f same s.nodes m d
+
+  module _ (shape : ShapeInvariant s) where
+    -- no node had a log of it
+    no_log_before : (m : ℕ) → log_seen s.nodes m next ≡ no_log
+    unfolding log_seen
+    no_log_before m =
+        elim (cases_Bool (is_full_in (standings s) m)) [
+          | inl f ↦ (let all : length (region_seen s.nodes m).logs ≡ length s.clients = shape.logs m f in seen_past no_log (region_seen s.nodes m).logs next (omega (arith, all)))
+          | inr away ↦ no_log_there s m next shape away
+        ]
+
+    own_kept : {A : Type 0} (f : ReceivedLog → A) → ((b : Bool) → f (begun_log s.limit b) ≡ f no_log) → (d : ℕ) → f (own_seen s' d) ≡ f (own_seen s d)
+    unfolding own_seen
+    own_kept f same d =
+        kept f same (own_node (standings s) (client_seen s'.clients d)) d
+        ∙ elim (cases_eq d next) [
+          | inl is ↦
+              subst (λ k. f (log_seen s.nodes (own_node (standings s) (client_seen s'.clients k)) k) ≡ f (log_seen s.nodes (own_node (standings s) (client_seen s.clients k)) k)) (sym is)
+              (ap f (no_log_before (own_node (standings s) (client_seen s'.clients next)) ∙ sym (no_log_before (own_node (standings s) (client_seen s.clients next)))))
+          | inr other ↦ ap (λ y. f (log_seen s.nodes (own_node (standings s) y) d)) (other_client d other)
+        ]
+
+    logs_stay : SameLogs w w'
+    unfolding world_of
+    logs_stay = record {
+      calls = kept_open s.history next n u;
+      records = own_kept (λ l. l.log.records) (λ b. refl);
+      first = own_kept (λ l. l.log.first) (λ b. refl);
+      next = client_kept (λ y. y.next) refl;
+      border = λ d k. own_kept (λ l. is_border l.log k) (λ b. refl) d;
+      made = client_kept (λ y. y.made) refl;
+    }
+
+    opens_on : Full w n → EnrolsAt s.levels levels next n → Opens w n w'
+    unfolding world_of
+    opens_on full_node enrols = record {
+      full_node = full_node;
+      logs = logs_stay;
+      nodes = record {
+        full = refl;
+        same = λ m f. record {
+          area = λ i. area_kept m i;
+          log = λ d. kept (λ l. l.log.records) (λ b. refl) m d;
+          received = λ d. kept (λ l. log_end l.log) (λ b. refl) m d;
+          digested = λ d. kept (λ l. l.digested) (λ b. refl) m d;
+        };
+      };
+      leases = leases_as s s' enrols.clients;
+      clients = so_many_clients;
+      home_new = ap (λ y. y.home) new_client;
+      lives_new = ap (λ y. not y.failed) new_client;
+      crashed_new = ap (λ y. y.crashed) new_client;
+      goal_new = ap (λ y. y.goal) new_client;
+      home_else = λ d other. ap (λ y. y.home) (other_client d other);
+      lives_else = λ d other. ap (λ y. not y.failed) (other_client d other);
+      crashed_else = λ d other. ap (λ y. y.crashed) (other_client d other);
+      goal_else = λ d other. ap (λ y. y.goal) (other_client d other);
+    }
+
+    -- nobody asked it for a lease
+    cut_new : CutsInvariant s → (i : ℕ) → cut_of s.cuts next (client_seen s'.clients next) i ≡ cut_of s.cuts next (client_seen s.clients next) i
+    unfolding client_seen
+    cut_new noted i =
+        ap (λ y. cut_of s.cuts next y i) new_client
+        ∙ none_cut s.cuts next i (new_unasked s noted i)
+        ∙ sym (ap (λ y. cut_of s.cuts next y i) (seen_past no_client s.clients next (omega arith)))
+
+    cuts_stay : CutsInvariant s → SameCuts (leases_of s) (leases_of s')
+    unfolding leases_of
+    cuts_stay noted d i =
+        elim (cases_eq d next) [
+          | inl is ↦ subst (λ k. cut_of s.cuts k (client_seen s'.clients k) i ≡ cut_of s.cuts k (client_seen s.clients k) i) (sym is) (cut_new noted i)
+          | inr other ↦ ap (λ y. cut_of s.cuts d y i) (other_client d other)
+        ]
+
+    pub open_seen : CutsInvariant s → Full w n → EnrolsAt s.levels levels next n → OpensAt w (leases_of s) n w' (leases_of s')
+    unfolding world_of leases_of
+    open_seen noted full_node enrols = record { opens = opens_on full_node enrols; enrols = enrols; cuts = cuts_stay noted }
+
+    -- ---- its shape
+
+    begun_region : (m : ℕ) → is_full_in (standings s) m ≡ true → region_seen s'.nodes m ≡ with_client_log (region_seen s.nodes m) (begun_log s.limit (m == n))
+    begun_region m f = region_begun (is_full_in (standings s)) s.limit n s.nodes m f (full_number s m shape f)
+
+    same_region : (m : ℕ) → is_full_in (standings s) m ≡ false → region_seen s'.nodes m ≡ region_seen s.nodes m
+    same_region m away = region_away (is_full_in (standings s)) s.limit n s.nodes m away
+
+    begun_now : (m : ℕ) → is_full_in (standings s) m ≡ true → log_seen s'.nodes m next ≡ begun_log s.limit (m == n)
+    unfolding log_seen
+    begun_now m f =
+        ap (λ r. item_at no_log r.logs next) (begun_region m f)
+        ∙ subst (λ k. item_at no_log ((region_seen s.nodes m).logs ++ begun_log s.limit (m == n) ∷ []) (suc k) ≡ begun_log s.limit (m == n)) (shape.logs m f)
+        (pushed_here no_log (begun_log s.limit (m == n)) (region_seen s.nodes m).logs)
+
+    same_log : (m d : ℕ) → d ≢ next → log_seen s'.nodes m d ≡ log_seen s.nodes m d
+    unfolding log_seen
+    same_log m d other =
+        elim (cases_Bool (is_full_in (standings s) m)) [
+          | inl f ↦
+              ap (λ r. item_at no_log r.logs d) (begun_region m f)
+              ∙ pushed_else no_log (begun_log s.limit (m == n)) (region_seen s.nodes m).logs d (λ is. other (is ∙ ap suc (shape.logs m f)))
+          | inr away ↦ ap (λ r. item_at no_log r.logs d) (same_region m away)
+        ]
+
+    so_many_logs : (m : ℕ) → is_full_in (standings s) m ≡ true → length (region_seen s'.nodes m).logs ≡ next
+    so_many_logs m f =
+        let more : (k : ℕ) → k ≡ length s.clients → k + 1 ≡ next = λ k is. omega (arith, is) in
+        ap (λ r. length r.logs) (begun_region m f) ∙ length_push (region_seen s.nodes m).logs (begun_log s.limit (m == n)) ∙ more (length (region_seen s.nodes m).logs) (shape.logs m f)
+
+    no_logs_there : (m : ℕ) → is_full_in (standings s) m ≡ false → (region_seen s'.nodes m).logs ≡ []
+    no_logs_there m away = ap (λ r. r.logs) (same_region m away) ∙ shape.no_logs m away
+
+    at_home_new : Full w n → (m : ℕ) → KnowsHome s' m next
+    at_home_new full_node m =
+        rw new_client (elim (cases_Bool (is_full_in (standings s) m)) [
+          | inl f ↦ ap (λ l. l.at_home) (begun_now m f) ∙ sym (and-true (m == n))
+          | inr away ↦
+              let elsewhere : m ≢ n = λ is. true≢false (sym (full_seen s n full_node) ∙ subst (λ k. is_full_in (standings s) k ≡ false) is away) in
+              rw (ne_eqb m n elsewhere) (ap (λ l. l.at_home) (no_log_in s'.nodes m next (no_logs_there m away)))
+        ])
+
+    at_home_now : Full w n → (m d : ℕ) → KnowsHome s' m d
+    at_home_now full_node m d =
+        elim (cases_eq d next) [
+          | inl is ↦ subst (KnowsHome s' m) (sym is) (at_home_new full_node m)
+          | inr other ↦ ap (λ l. l.at_home) (same_log m d other) ∙ shape.at_home m d ∙ sym (ap (λ y. (m == y.home) && not y.failed) (other_client d other))
+        ]
+
+    own_other : (d : ℕ) → d ≢ next → own_seen s' d ≡ own_seen s d
+    unfolding own_seen
+    own_other d other =
+        ap (λ y. log_seen s'.nodes (own_node (standings s) y) d) (other_client d other) ∙ same_log (own_node (standings s) (client_seen s.clients d)) d other
+
+    marked_new : (m : ℕ) → IsMarked (is_border (own_seen s' next).log) (log_seen s'.nodes m next).log
+    marked_new m = elim (cases_Bool (is_full_in (standings s) m)) [
+      | inl f ↦ subst (λ l. IsMarked (is_border (own_seen s' next).log) l.log) (sym (begun_now m f)) refl
+      | inr away ↦ subst (λ l. IsMarked (is_border (own_seen s' next).log) l.log) (sym (no_log_in s'.nodes m next (no_logs_there m away))) refl
+    ]
+
+    marked_now : (m d : ℕ) → IsMarked (is_border (own_seen s' d).log) (log_seen s'.nodes m d).log
+    marked_now m d = elim (cases_eq d next) [
+      | inl is ↦ subst (λ k. IsMarked (is_border (own_seen s' k).log) (log_seen s'.nodes m k).log) (sym is) (marked_new m)
+      | inr other ↦
+          subst (λ l. IsMarked (is_border l.log) (log_seen s'.nodes m d).log) (sym (own_other d other))
+          (subst (λ l. IsMarked (is_border (own_seen s d).log) l.log) (sym (same_log m d other)) (shape.marked m d))
+    ]
+
+    limit_now : (m d : ℕ) → is_full_in (standings s) m ≡ true → IsNumber s'.clients d → (log_seen s'.nodes m d).log.limit ≡ s.limit
+    limit_now m d f client =
+        elim (cases_eq d next) [
+          | inl is ↦ subst (λ k. (log_seen s'.nodes m k).log.limit ≡ s.limit) (sym is) (ap (λ l. l.log.limit) (begun_now m f))
+          | inr other ↦
+              let old : IsNumber s.clients d = record { some = client.some; there = omega (arith, so_many_clients, client.there, other) } in
+              ap (λ l. l.log.limit) (same_log m d other) ∙ limit_seen s m d shape f old
+        ]
+
+    all_logs : (m : ℕ) → is_full_in (standings s) m ≡ true → length (region_seen s'.nodes m).logs ≡ length s'.clients
+    all_logs m f = so_many_logs m f ∙ sym so_many_clients
+
+    pub open_shaped : Full w n → ShapeInvariant s'
+    open_shaped full_node = record {
+      nodes = so_many_nodes (is_full_in (standings s)) s.limit n 1 s.nodes ∙ shape.nodes;
+      few_nodes = subst (λ k. k ≤ MOST_NODES) (sym (so_many_nodes (is_full_in (standings s)) s.limit n 1 s.nodes)) shape.few_nodes;
+      logs = all_logs;
+      no_logs = no_logs_there;
+      at_home = at_home_now full_node;
+      limits = limits_all s' all_logs no_logs_there limit_now;
+      least_limit = shape.least_limit;
+      most_limit = shape.most_limit;
+      marked = marked_now;
+      durabilities = λ d. elim (cases_eq next d) [
+        | inl is ↦ subst (λ k. (client_seen s'.clients k).durability ≡ durability_of k s'.history) is (ap (λ y. y.durability) new_client ∙ sym (durability-opened s.history next n u))
+        | inr other ↦ ap (λ y. y.durability) (other_client d (λ is. other (sym is))) ∙ shape.durabilities d ∙ sym (durability-other s.history d next n u (ne_eqb next d other))
+      ];
+    }

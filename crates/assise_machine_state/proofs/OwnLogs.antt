@@ -1,0 +1,122 @@
+-- The node whose log of a client is the client's own, and the least place of all full nodes.
+use Rattle.std.proofs.Common.{◌≡◌, ℕ, suc, ◌+◌, ◌<◌, ◌≤◌, ◌==◌, min, take, take-suc, take_all, Bool, true, false, List, [], ◌∷◌, ◌++◌, length, get_or, inl, inr, refl, ap, sym, subst, ◌∙◌, arith, eq-eqb}
+use Rattle.std.proofs.lemmas.Bool.{cases_Bool}
+use Rattle.std.proofs.lemmas.List.Folds.{list_any_at}
+use Rattle.assise_inode_table.specs.Effects.{contains}
+use Rattle.assise_private_log.specs.NumberedLog.{end as log_end}
+use Rattle.assise_manager.specs.Membership.{lowest_full}
+use Rattle.assise_manager.specs.Standings.{Standing, full_nodes}
+use Rattle.assise_model_world.specs.World.{digested_by_all, end_of_log, least_of, received_by_all}
+use Rattle.assise_model_world.proofs.WorldObserved.{least_of-above, least_of-below, least_of-end, least_of-same}
+use Rattle.assise_machine_state.specs.ClientValues.{ClientValue, client_in, client_seen}
+use Rattle.assise_machine_state.specs.NodeValues.{HasLog, log_in, log_seen}
+use Rattle.assise_machine_state.specs.Observed.{full_in, is_full_in, own_node, own_seen, world_of}
+use Rattle.assise_machine_state.specs.Places.{IsNumber}
+use Rattle.assise_machine_state.specs.Invariant.{ShapeInvariant}
+use Rattle.assise_machine_state.specs.StateValues.{StateValue, standings}
+use Rattle.assise_machine_state.proofs.Fullness.{full_is, has_log, home_full, log_is}
+use Rattle.assise_machine_state.proofs.ItemSeen.{client_is}
+use Rattle.assise_machine_state.proofs.Standings.{is_listed, listed_is_full, lowest_listed}
+
+-- ---- the own node
+
+-- the home of a client that lives is full
+full_home : (s : StateValue) (c : ℕ) → ShapeInvariant s → IsNumber s.clients c → (client_in s.clients c).failed ≡ false → is_full_in (standings s) (client_in s.clients c).home ≡ true
+full_home s c shape client unfailed =
+    let same : client_seen s.clients c ≡ client_in s.clients c = client_is s.clients c client in
+    subst (λ x. is_full_in (standings s) x.home ≡ true) same (home_full s c shape (ap (λ x. x.failed) same ∙ unfailed))
+
+pub own_full : (s : StateValue) (c : ℕ) → ShapeInvariant s → IsNumber s.clients c → 0 < length (full_nodes (standings s)) → is_full_in (standings s) (own_node (standings s) (client_in s.clients c)) ≡ true
+own_full s c shape client some =
+    elim (cases_Bool (client_in s.clients c).failed) [
+      | inl failed ↦ rw failed (lowest_listed (standings s) some)
+      | inr unfailed ↦ rw unfailed (full_home s c shape client unfailed)
+    ]
+
+pub own_log : (s : StateValue) (c : ℕ) → ShapeInvariant s → IsNumber s.clients c → 0 < length (full_nodes (standings s)) → HasLog s.nodes (own_node (standings s) (client_in s.clients c)) c
+own_log s c shape client some = has_log s (own_node (standings s) (client_in s.clients c)) c shape (own_full s c shape client some) client
+
+pub listed_log : (s : StateValue) (n c : ℕ) → ShapeInvariant s → IsNumber s.clients c → contains (full_nodes (standings s)) n ≡ true → HasLog s.nodes n c
+listed_log s n c shape client listed = has_log s n c shape (listed_is_full (standings s) n listed) client
+
+pub own_of_failed : (nodes : List Standing) (x : ClientValue) → x.failed ≡ true → own_node nodes x ≡ lowest_full nodes
+own_of_failed nodes x failed = rw failed refl
+
+pub own_of_unfailed : (nodes : List Standing) (x : ClientValue) → x.failed ≡ false → own_node nodes x ≡ x.home
+own_of_unfailed nodes x unfailed = rw unfailed refl
+
+-- the log of a client that lives is known at its home as that of one that lives there
+pub home_log : (s : StateValue) (c : ℕ) → ShapeInvariant s → IsNumber s.clients c → (client_in s.clients c).failed ≡ false → HasLog s.nodes (client_in s.clients c).home c
+home_log s c shape client unfailed = has_log s (client_in s.clients c).home c shape (full_home s c shape client unfailed) client
+
+pub home_known : (s : StateValue) (c : ℕ) → ShapeInvariant s → IsNumber s.clients c → (client_in s.clients c).failed ≡ false → (log_in s.nodes (client_in s.clients c).home c).at_home ≡ true
+home_known s c shape client unfailed =
+    let same : client_seen s.clients c ≡ client_in s.clients c = client_is s.clients c client in
+    let home : ℕ = (client_in s.clients c).home in
+    ap (λ l. l.at_home) (sym (log_is s home c (home_log s c shape client unfailed)))
+    ∙ shape.at_home home c
+    ∙ rw (same, unfailed, eq-eqb home home refl) refl
+
+-- ---- the least place
+
+-- one number more
+pub one_more : (ns : List ℕ) (n : ℕ) (f : ℕ → ℕ) (d : ℕ) → least_of (ns ++ n ∷ []) f d ≡ min (least_of ns f d) (f n)
+one_more [] n f d = omega arith
+one_more (m ∷ ns) n f d = (let rest : least_of (ns ++ n ∷ []) f d ≡ min (least_of ns f d) (f n) = one_more ns n f d in omega (arith, rest))
+
+no_more : (ms ns : List ℕ) (f : ℕ → ℕ) (d : ℕ) → ((n : ℕ) → contains ms n ≡ true → contains ns n ≡ true) → least_of ns f d ≤ least_of ms f d
+no_more ms ns f d all = least_of-above ms f d (least_of ns f d) (least_of-end ns f d) (λ n there. least_of-below ns f d n (all n there))
+
+same_truth : (a b : Bool) → (a ≡ true → b ≡ true) → (b ≡ true → a ≡ true) → a ≡ b
+same_truth true b to from = sym (to refl)
+same_truth false true to from = from refl
+same_truth false false to from = refl
+
+pub listed_is : (nodes : List Standing) (n : ℕ) → contains (full_nodes nodes) n ≡ is_full_in nodes n
+listed_is nodes n = same_truth (contains (full_nodes nodes) n) (is_full_in nodes n) (listed_is_full nodes n) (is_listed nodes n)
+
+-- the order in which full nodes are listed doesn't matter
+pub either_order : (nodes : List Standing) (f : ℕ → ℕ) (d : ℕ) → least_of (full_nodes nodes) f d ≡ least_of (full_in nodes) f d
+either_order nodes f d =
+    let low : least_of (full_nodes nodes) f d ≤ least_of (full_in nodes) f d = no_more (full_in nodes) (full_nodes nodes) f d (λ n there. is_listed nodes n (sym (full_is nodes n) ∙ there)) in
+    let high : least_of (full_in nodes) f d ≤ least_of (full_nodes nodes) f d = no_more (full_nodes nodes) (full_in nodes) f d (λ n there. full_is nodes n ∙ listed_is_full nodes n there) in
+    omega (arith, low, high)
+
+pub own_end : (s : StateValue) (c : ℕ) → ShapeInvariant s → IsNumber s.clients c → 0 < length (full_nodes (standings s)) →
+    end_of_log (world_of s) c ≡ log_end (log_in s.nodes (own_node (standings s) (client_in s.clients c)) c).log
+unfolding world_of end_of_log own_seen
+own_end s c shape client some =
+    ap (λ x. log_end (log_seen s.nodes (own_node (standings s) x) c).log) (client_is s.clients c client)
+    ∙ ap (λ l. log_end l.log) (log_is s (own_node (standings s) (client_in s.clients c)) c (own_log s c shape client some))
+
+pub least_received : (s : StateValue) (c : ℕ) → ShapeInvariant s → IsNumber s.clients c → 0 < length (full_nodes (standings s)) →
+    least_of (full_nodes (standings s)) (λ n. log_end (log_in s.nodes n c).log) (log_end (log_in s.nodes (own_node (standings s) (client_in s.clients c)) c).log) ≡ received_by_all (world_of s) c
+unfolding world_of received_by_all
+least_received s c shape client some =
+    either_order (standings s) (λ n. log_end (log_in s.nodes n c).log) (log_end (log_in s.nodes (own_node (standings s) (client_in s.clients c)) c).log)
+    ∙ least_of-same (full_in (standings s)) (λ n. log_end (log_in s.nodes n c).log) (λ n. log_end (log_seen s.nodes n c).log) (log_end (log_in s.nodes (own_node (standings s) (client_in s.clients c)) c).log)
+    (λ n there. sym (ap (λ l. log_end l.log) (log_is s n c (has_log s n c shape (sym (full_is (standings s) n) ∙ there) client))))
+    ∙ ap (λ d. least_of (full_in (standings s)) (λ n. log_end (log_seen s.nodes n c).log) d) (sym (own_end s c shape client some))
+
+pub least_digested : (s : StateValue) (c : ℕ) → ShapeInvariant s → IsNumber s.clients c → 0 < length (full_nodes (standings s)) →
+    least_of (full_nodes (standings s)) (λ n. (log_in s.nodes n c).digested) (log_end (log_in s.nodes (own_node (standings s) (client_in s.clients c)) c).log) ≡ digested_by_all (world_of s) c
+unfolding world_of digested_by_all
+least_digested s c shape client some =
+    either_order (standings s) (λ n. (log_in s.nodes n c).digested) (log_end (log_in s.nodes (own_node (standings s) (client_in s.clients c)) c).log)
+    ∙ least_of-same (full_in (standings s)) (λ n. (log_in s.nodes n c).digested) (λ n. (log_seen s.nodes n c).digested) (log_end (log_in s.nodes (own_node (standings s) (client_in s.clients c)) c).log)
+    (λ n there. sym (ap (λ l. l.digested) (log_is s n c (has_log s n c shape (sym (full_is (standings s) n) ∙ there) client))))
+    ∙ ap (λ d. least_of (full_in (standings s)) (λ n. (log_seen s.nodes n c).digested) d) (sym (own_end s c shape client some))
+
+-- ---- one full node after another
+
+contains_at : (ns : List ℕ) (i : ℕ) → i < length ns → contains ns (get_or ns i 0) ≡ true
+contains_at ns i low = list_any_at (λ n. n == get_or ns i 0) ns i 0 low (eq-eqb (get_or ns i 0) (get_or ns i 0) refl)
+
+pub next_log : (s : StateValue) (c i : ℕ) (ns : List ℕ) → ShapeInvariant s → IsNumber s.clients c → ns ≡ full_nodes (standings s) → i < length ns → HasLog s.nodes (get_or ns i 0) c
+next_log s c i ns shape client all low = listed_log s (get_or ns i 0) c shape client (subst (λ ms. contains ms (get_or ns i 0) ≡ true) all (contains_at ns i low))
+
+pub next_least : (ns : List ℕ) (i : ℕ) (f : ℕ → ℕ) (d : ℕ) → i < length ns → least_of (take (i + 1) ns) f d ≡ min (least_of (take i ns) f d) (f (get_or ns i 0))
+next_least ns i f d low = (let next : i + 1 ≡ suc i = omega arith in ap (λ k. least_of (take k ns) f d) next ∙ ap (λ ms. least_of ms f d) (take-suc ns i 0 low) ∙ one_more (take i ns) (get_or ns i 0) f d)
+
+pub all_taken : (ns : List ℕ) (i : ℕ) → length ns ≤ i → take i ns ≡ ns
+all_taken ns i past = take_all i ns past

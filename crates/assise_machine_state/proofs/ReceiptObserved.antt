@@ -1,0 +1,168 @@
+-- What the laws observe of records that come to a node.
+use Rattle.std.proofs.Common.{◌≡◌, ℕ, ◌+◌, ◌-◌, min, not, [], ◌++◌, List, length, take, drop, inl, inr, refl, ap, sym, subst, ◌∙◌, arith}
+use Rattle.std.proofs.lemmas.Bool.{cases_Bool, cases_eq}
+use Rattle.std.proofs.lemmas.List.{length-append, length-drop, length-take}
+use Rattle.assise_record.specs.LogRecord.{LogRecord}
+use Rattle.assise_inode_table.specs.Contents.{values}
+use Rattle.assise_private_log.specs.NumberedLog.{end as log_end, is_border}
+use Rattle.assise_digest.specs.Region.{ReceivedLog, with_log}
+use Rattle.assise_model_world.specs.Chances.{MayDeliver}
+use Rattle.assise_model_world.specs.NodeSteps.{Delivers}
+use Rattle.assise_model_world.specs.Invariant.{WorldInvariant}
+use Rattle.assise_model_world.specs.World.{Full, World, end_of_log, records_between}
+use Rattle.assise_model_members.specs.Returns.{OtherAreasStay}
+use Rattle.assise_machine_state.specs.Changes.{after_delivery}
+use Rattle.assise_machine_state.specs.ClientValues.{client_seen}
+use Rattle.assise_machine_state.specs.NodeValues.{HasLog, log_in, log_seen, region_in, with_records}
+use Rattle.assise_machine_state.specs.Observed.{own_node, own_seen, world_of}
+use Rattle.assise_machine_state.specs.Places.{IsNumber}
+use Rattle.assise_machine_state.specs.Invariant.{IsMarked, ShapeInvariant}
+use Rattle.assise_machine_state.specs.StateValues.{StateValue, standings}
+use Rattle.assise_machine_state.proofs.Fullness.{full_seen, has_log, log_is, same_first}
+use Rattle.assise_machine_state.proofs.LogChanges.{log_else, log_here, log_same, none_more, region_kept}
+use Rattle.assise_machine_state.proofs.Marks.{marked_more}
+use Rattle.assise_machine_state.proofs.ShapeKept.{AreMarked, shaped_log}
+use Rattle.assise_machine_state.proofs.SameObserved.{clients_as, goals_as, leases_as, logs_as}
+
+-- the node's log of the client then
+abbrev delivered_log : StateValue → (n c k : ℕ) → ReceivedLog
+delivered_log s n c k = with_records (is_border (own_seen s c).log) (log_in s.nodes n c) (records_between (world_of s) c ((world_of s).received n c) k)
+
+-- the areas of all nodes stay
+same_area : (s : StateValue) (n c k m i : ℕ) → (world_of (after_delivery s n c k)).area m i ≡ (world_of s).area m i
+unfolding world_of
+same_area s n c k m i = region_kept s.nodes n (with_log (region_in s.nodes n) c (delivered_log s n c k)) (λ r. values r.inodes i) refl m
+
+pub other_areas : (s : StateValue) (n c k : ℕ) → OtherAreasStay (world_of s) (world_of (after_delivery s n c k))
+other_areas s n c k m i else = same_area s n c k m i
+
+-- what a node has of a log that is a client's own is all of it, and its log of the client begins where the own one does
+pub record HasPrefix (s : StateValue) (n c : ℕ) : Type 0 where
+  pub all_there : own_node (standings s) (client_seen s.clients c) ≡ n → (world_of s).received n c ≡ end_of_log (world_of s) c
+  pub first : (log_seen s.nodes n c).log.first ≡ (world_of s).first c
+
+pub has_prefix : (s : StateValue) (n c : ℕ) → WorldInvariant (world_of s) → Full (world_of s) n → HasPrefix s n c
+unfolding world_of
+has_prefix s n c sound full_node = record {
+  all_there = λ own. elim (cases_Bool (client_seen s.clients c).failed) [
+    | inl failed ↦ sound.left n c (ap not failed) full_node
+    | inr unfailed ↦
+        let home : (client_seen s.clients c).home ≡ n = rw unfailed at own in
+        subst (λ m. (world_of s).received m c ≡ end_of_log (world_of s) c) home (sound.whole c (ap not unfailed))
+  ];
+  first = same_first s n c sound full_node;
+}
+
+module _ (s : StateValue) (n c k : ℕ) (shape : ShapeInvariant s) (prefix : HasPrefix s n c) (client : IsNumber s.clients c) (may : MayDeliver (world_of s) n c k) where
+  abbrev w : World
+  w = world_of s
+
+  abbrev t : StateValue
+  t = after_delivery s n c k
+
+  abbrev w' : World
+  w' = world_of t
+
+  abbrev more : List LogRecord
+  more = records_between w c (w.received n c) k
+
+  abbrev longer : ReceivedLog
+  longer = delivered_log s n c k
+
+  has : HasLog s.nodes n c
+  has = has_log s n c shape (full_seen s n may.full_node) client
+
+  was : log_seen s.nodes n c ≡ log_in s.nodes n c
+  was = log_is s n c has
+
+  -- ---- the client's own log stays: where it is this node's, nothing is missing there
+
+  no_more : w.received n c ≡ end_of_log w c → longer ≡ log_in s.nodes n c
+  unfolding records_between
+  no_more all =
+      let none : k - w.received n c ≡ 0 = omega (arith, all, may.to) in
+      let nothing : take (k - w.received n c) (drop (w.received n c - w.first c) (w.records c)) ≡ [] = ap (λ j. take j (drop (w.received n c - w.first c) (w.records c))) none in
+      ap (with_records (is_border (own_seen s c).log) (log_in s.nodes n c)) nothing ∙ none_more (is_border (own_seen s c).log) (log_in s.nodes n c)
+
+  same_here : own_node (standings s) (client_seen s.clients c) ≡ n → (m d : ℕ) → log_seen t.nodes m d ≡ log_seen s.nodes m d
+  same_here own m d = log_same s.nodes n c (region_in s.nodes n).inodes longer (λ x. x) m d (no_more (prefix.all_there own))
+
+  same_else : (m d : ℕ) → (m ≡ n → d ≡ c → ⊥) → log_seen t.nodes m d ≡ log_seen s.nodes m d
+  same_else m d other = log_else s.nodes n c (region_in s.nodes n).inodes longer has m d other
+
+  same_own : (d : ℕ) → own_seen t d ≡ own_seen s d
+  unfolding own_seen
+  same_own d =
+      elim (cases_eq d c) [
+        | inl is ↦ (elim (cases_eq (own_node (standings s) (client_seen s.clients c)) n) [
+          | inl own ↦ same_here own (own_node (standings s) (client_seen s.clients d)) d
+          | inr other ↦ same_else (own_node (standings s) (client_seen s.clients d)) d (λ there same. other (ap (λ e. own_node (standings s) (client_seen s.clients e)) (sym same) ∙ there))
+        ])
+        | inr other ↦ same_else (own_node (standings s) (client_seen s.clients d)) d (λ there same. other same)
+      ]
+
+  -- and this node's log has its groups
+  marked_now : AreMarked s → AreMarked t
+  marked_now all m d =
+      subst (λ l. IsMarked (is_border l.log) (log_seen t.nodes m d).log) (sym (same_own d))
+      (elim (cases_eq d c) [
+        | inl of_client ↦ (elim (cases_eq m n) [
+          | inl here ↦
+              subst (λ e. IsMarked (is_border (own_seen s e).log) (log_seen t.nodes m e).log) (sym of_client)
+              (subst (λ j. IsMarked (is_border (own_seen s c).log) (log_seen t.nodes j c).log) (sym here)
+              (subst (λ l. IsMarked (is_border (own_seen s c).log) l.log) (sym (log_here s.nodes n c (region_in s.nodes n).inodes longer has))
+              (marked_more (is_border (own_seen s c).log) (log_in s.nodes n c) more (subst (λ l. IsMarked (is_border (own_seen s c).log) l.log) was (all n c)))))
+          | inr away ↦ subst (λ l. IsMarked (is_border (own_seen s d).log) l.log) (sym (same_else m d (λ there same. away there))) (all m d)
+        ])
+        | inr other ↦ subst (λ l. IsMarked (is_border (own_seen s d).log) l.log) (sym (same_else m d (λ there same. other same))) (all m d)
+      ])
+
+  pub delivery_shaped : ShapeInvariant t
+  delivery_shaped = shaped_log s s.members n c (region_in s.nodes n).inodes longer shape refl refl marked_now refl (λ m. refl)
+
+  -- ---- this node's log
+
+  log_now : w'.log n c ≡ w.log n c ++ more
+  unfolding world_of
+  log_now = ap (λ x. x.log.records) (log_here s.nodes n c (region_in s.nodes n).inodes longer has) ∙ ap (λ x. x.log.records ++ more) (sym was)
+
+  -- the number behind the last record
+
+  counted : (log_seen s.nodes n c).log.first + length ((log_seen s.nodes n c).log.records ++ more) ≡ k
+  unfolding world_of end_of_log records_between
+  counted =
+      let both : length ((log_seen s.nodes n c).log.records ++ more) ≡ length (log_seen s.nodes n c).log.records + length more = length-append (log_seen s.nodes n c).log.records more in
+      let part : length more ≡ min (k - w.received n c) (length (drop (w.received n c - w.first c) (w.records c))) =
+      length-take (k - w.received n c) (drop (w.received n c - w.first c) (w.records c)) in
+      let rest : length (drop (w.received n c - w.first c) (w.records c)) ≡ length (w.records c) - (w.received n c - w.first c) = length-drop (w.received n c - w.first c) (w.records c) in
+      omega (arith, prefix.first, both, part, rest, may.from, may.to)
+
+  received_now : w'.received n c ≡ k
+  unfolding world_of
+  received_now =
+      ap (λ x. log_end x.log) (log_here s.nodes n c (region_in s.nodes n).inodes longer has)
+      ∙ ap (λ x. x.log.first + length (x.log.records ++ more)) (sym was)
+      ∙ counted
+
+  pub delivered_prefix : Delivers w n c k w'
+  unfolding world_of
+  delivered_prefix = record {
+    full_node = may.full_node;
+    from = may.from;
+    to = may.to;
+    border_to = may.border_to;
+    logs = logs_as s t refl refl (λ d. ap (λ x. x.log.records) (same_own d)) (λ d. ap (λ x. x.log.first) (same_own d)) (λ d j. ap (λ x. is_border x.log j) (same_own d));
+    clients = clients_as s t refl;
+    goals = goals_as s t refl;
+    leases = leases_as s t (λ i. refl);
+    full = refl;
+    log_here = log_now;
+    log_else = λ m d f other. ap (λ x. x.log.records) (same_else m d other);
+    received_here = received_now;
+    received_else = λ m d f other. ap (λ x. log_end x.log) (same_else m d other);
+    digested = λ m d f. log_same s.nodes n c (region_in s.nodes n).inodes longer (λ x. x.digested) m d refl;
+    area = λ m i f. same_area s n c k m i;
+  }
+
+pub delivered : (s : StateValue) (n c k : ℕ) → ShapeInvariant s → WorldInvariant (world_of s) → IsNumber s.clients c → MayDeliver (world_of s) n c k → Delivers (world_of s) n c k (world_of (after_delivery s n c k))
+delivered s n c k shape sound client may = delivered_prefix s n c k shape (has_prefix s n c sound may.full_node) client may

@@ -1,0 +1,120 @@
+-- Records and logs come to a region one after another.
+use Rattle.std.proofs.Common.{◌≡◌, ◌≢◌, ℕ, suc, ◌+◌, ◌-◌, ◌<◌, ◌≤◌, Bool, List, [], ◌∷◌, ◌++◌, false, length, map, take, take-suc, take_all, get_or, inl, inr, ap, sym, subst, ◌∙◌, arith}
+use Rattle.std.proofs.lemmas.Bool.{cases_eq}
+use Rattle.std.proofs.lemmas.List.{append_assoc, get_or-set_other, get_or-set_same, length-set, length_push, map-append, set-set}
+use Rattle.assise_record.specs.LogRecord.{LogRecord}
+use Rattle.assise_private_log.specs.NumberedLog.{NumberedLog, end, is_border, with_grouped}
+use Rattle.assise_private_log.proofs.Borders.{border_end, border_grouped}
+use Rattle.assise_digest.specs.Region.{AreWhole, HasClient, IsBegun, ReceivedLog, RegionValue, log_of, no_log, with_log, with_one}
+use Rattle.assise_model_events.specs.NodeEvents.{border_marks}
+use Rattle.assise_machine_state.specs.NodeValues.{AreTaken, HasGroupsOf, HasLog, away, copied, log_in, no_region, region_in, with_log_in, with_next, with_records, with_region}
+use Rattle.assise_machine_state.specs.Places.{IsNumber}
+
+-- ---- records
+
+one_then_others : (border : ℕ → Bool) (l : ReceivedLog) (a : LogRecord) (rest : List LogRecord) → with_records border (with_one l a (border (end l.log))) rest ≡ with_records border l (a ∷ rest)
+one_then_others border l a rest =
+    let next : end (with_one l a (border (end l.log))).log ≡ suc (end l.log) = omega (arith, length_push l.log.records a) in
+    λ i. record {
+      log = record {
+        first = l.log.first;
+        limit = l.log.limit;
+        records = append_assoc l.log.records (a ∷ []) rest i;
+        begins = append_assoc l.log.begins (border (end l.log) ∷ []) (border_marks border (next i) rest) i;
+      };
+      digested = l.digested;
+      at_home = l.at_home;
+    }
+
+in_region : (border : ℕ → Bool) (r : RegionValue) (c : ℕ) (a : LogRecord) (rest : List LogRecord) → HasClient r c →
+    let one : ReceivedLog = with_one (log_of r c) a (border (end (log_of r c).log)) in
+    with_log (with_log r c one) c (with_records border (log_of (with_log r c one) c) rest) ≡ with_log r c (with_records border (log_of r c) (a ∷ rest))
+in_region border r c a rest there =
+    let more : ReceivedLog = with_one (log_of r c) a (border (end (log_of r c).log)) in
+    let here : log_of (with_log r c more) c ≡ more = get_or-set_same r.logs (c - 1) more no_log (omega (arith, there.some, there.there)) in
+    ap (λ l. with_log (with_log r c more) c (with_records border l rest)) here
+    ∙ ap (λ ls. record r { logs = ls }) (set-set r.logs (c - 1) more (with_records border more rest))
+    ∙ ap (λ l. with_log r c l) (one_then_others border (log_of r c) a rest)
+
+pub region_then : (border : ℕ → Bool) (rs : List RegionValue) (n c : ℕ) (a : LogRecord) → HasLog rs n c →
+    region_in (with_next border rs n c a) n ≡ with_log (region_in rs n) c (with_one (log_in rs n c) a (border (end (log_in rs n c).log)))
+region_then border rs n c a has =
+    get_or-set_same rs (n - 1) (with_log (region_in rs n) c (with_one (log_in rs n c) a (border (end (log_in rs n c).log)))) no_region (omega (arith, has.node.some, has.node.there))
+
+pub log_then : (border : ℕ → Bool) (rs : List RegionValue) (n c : ℕ) (a : LogRecord) → HasLog rs n c → log_in (with_next border rs n c a) n c ≡ with_one (log_in rs n c) a (border (end (log_in rs n c).log))
+log_then border rs n c a has =
+    ap (λ r. log_of r c) (region_then border rs n c a has)
+    ∙ get_or-set_same (region_in rs n).logs (c - 1) (with_one (log_in rs n c) a (border (end (log_in rs n c).log))) no_log (omega (arith, has.client.some, has.client.there))
+
+pub has_then : (border : ℕ → Bool) (rs : List RegionValue) (n c : ℕ) (a : LogRecord) → HasLog rs n c → HasLog (with_next border rs n c a) n c
+has_then border rs n c a has =
+    let more : ReceivedLog = with_one (log_in rs n c) a (border (end (log_in rs n c).log)) in
+    let nodes : length (with_next border rs n c a) ≡ length rs = length-set rs (n - 1) (with_log (region_in rs n) c more) in
+    let logs : length (region_in (with_next border rs n c a) n).logs ≡ length (region_in rs n).logs =
+    ap (λ r. length r.logs) (region_then border rs n c a has) ∙ length-set (region_in rs n).logs (c - 1) more in
+    record {
+      node = record { some = has.node.some; there = subst (λ k. n ≤ k) (sym nodes) has.node.there };
+      client = record { some = has.client.some; there = subst (λ k. c ≤ k) (sym logs) has.client.there };
+    }
+
+-- another node's log stays
+pub log_beside : (border : ℕ → Bool) (rs : List RegionValue) (n m c : ℕ) (a : LogRecord) → HasLog rs n c → IsNumber rs m → m ≢ n → log_in (with_next border rs n c a) m c ≡ log_in rs m c
+log_beside border rs n m c a has there disjoint =
+    let places : m - 1 ≢ n - 1 = λ same. disjoint (omega (arith, same, there.some, has.node.some)) in
+    ap (λ r. log_of r c) (get_or-set_other rs (n - 1) (m - 1) (with_log (region_in rs n) c (with_one (log_in rs n c) a (border (end (log_in rs n c).log)))) no_region places)
+
+pub one_taken : (border : ℕ → Bool) (rs : List RegionValue) (n c : ℕ) (a : LogRecord) (rest : List LogRecord) → HasLog rs n c →
+    with_log_in (with_next border rs n c a) n c (with_records border (log_in (with_next border rs n c a) n c) rest) ≡ with_log_in rs n c (with_records border (log_in rs n c) (a ∷ rest))
+one_taken border rs n c a rest has =
+    let one : RegionValue = with_log (region_in rs n) c (with_one (log_in rs n c) a (border (end (log_in rs n c).log))) in
+    ap (λ r. with_region (with_next border rs n c a) n (with_log r c (with_records border (log_of r c) rest))) (region_then border rs n c a has)
+    ∙ set-set rs (n - 1) one (with_log one c (with_records border (log_of one c) rest))
+    ∙ ap (with_region rs n) (in_region border (region_in rs n) c a rest has.client)
+
+pub has_beside : (border : ℕ → Bool) (rs : List RegionValue) (n m c : ℕ) (a : LogRecord) → HasLog rs n c → HasLog rs m c → m ≢ n → HasLog (with_next border rs n c a) m c
+has_beside border rs n m c a has other disjoint =
+    let places : m - 1 ≢ n - 1 = λ same. disjoint (omega (arith, same, other.node.some, has.node.some)) in
+    let more : RegionValue = with_log (region_in rs n) c (with_one (log_in rs n c) a (border (end (log_in rs n c).log))) in
+    let nodes : length (with_next border rs n c a) ≡ length rs = length-set rs (n - 1) more in
+    let region : region_in (with_next border rs n c a) m ≡ region_in rs m = get_or-set_other rs (n - 1) (m - 1) more no_region places in
+    record {
+      node = record { some = other.node.some; there = subst (λ k. m ≤ k) (sym nodes) other.node.there };
+      client = subst (λ r. HasClient r c) (sym region) other.client;
+    }
+
+-- the groups of the own log go on
+
+pub groups_then : (own l : NumberedLog) (a : LogRecord) → HasGroupsOf own l → HasGroupsOf own (with_grouped l a (is_border own (end l)))
+groups_then own l a g = record {
+  marks = omega (arith, g.marks, length_push l.begins (is_border own (end l)), length_push l.records a);
+  borders = λ k low is.
+      elim (cases_eq k (end l)) [
+        | inl last ↦ border_grouped l a (is_border own (end l)) k g.marks (λ here. ap (is_border own) (sym here) ∙ is) ∙ border_end l k g.marks (omega (arith, last))
+        | inr other ↦
+            let before : k < end l = omega (arith, low, other, length_push l.records a) in
+            border_grouped l a (is_border own (end l)) k g.marks (λ here. absurd (other here)) ∙ g.borders k before is
+      ];
+}
+
+-- ---- copies
+
+pub one_copied : (xs : List (NumberedLog × ℕ)) (ls : List ReceivedLog) (k : ℕ) (l : NumberedLog) (d : ℕ) → map copied xs ≡ map away (take k ls) → k < length ls → l ≡ (get_or ls k no_log).log → d ≡ (get_or ls k no_log).digested →
+    map copied (xs ++ (l, d) ∷ []) ≡ map away (take (k + 1) ls)
+one_copied xs ls k l d same low log digested =
+    map-append copied xs ((l, d) ∷ [])
+    ∙ ap (λ ys. ys ++ copied (l, d) ∷ []) same
+    ∙ ap (λ y. map away (take k ls) ++ y ∷ []) here
+    ∙ sym (ap (map away) one_more ∙ map-append away (take k ls) (get_or ls k no_log ∷ []))
+  where
+    here : copied (l, d) ≡ away (get_or ls k no_log)
+    here = λ i. record { log = log i; digested = digested i; at_home = false }
+
+    one_more : take (k + 1) ls ≡ take k ls ++ get_or ls k no_log ∷ []
+    one_more = (let next : k + 1 ≡ suc k = omega arith in ap (λ n. take n ls) next ∙ take-suc ls k no_log low)
+
+pub one_sound : (xs : List (NumberedLog × ℕ)) (l : NumberedLog) (d : ℕ) → AreTaken xs → IsBegun (copied (l, d)) → AreWhole l.records → AreTaken (xs ++ (l, d) ∷ [])
+one_sound [] l d all begun whole = (begun, whole, tt)
+one_sound (x ∷ xs) l d (b, w, all) begun whole = (b, w, one_sound xs l d all begun whole)
+
+pub all_copied : (xs : List (NumberedLog × ℕ)) (ls : List ReceivedLog) (k : ℕ) → map copied xs ≡ map away (take k ls) → length ls ≤ k → map copied xs ≡ map away ls
+all_copied xs ls k same past = same ∙ ap (map away) (take_all k ls past)

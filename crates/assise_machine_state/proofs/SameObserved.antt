@@ -1,0 +1,66 @@
+-- What the laws observe as the same where parts of the state are.
+use Rattle.std.proofs.Common.{◌≡◌, ℕ, Bool, not, length, ap, ◌∙◌}
+use Rattle.assise_inode_table.specs.Contents.{values}
+use Rattle.assise_private_log.specs.NumberedLog.{end as log_end, is_border}
+use Rattle.assise_lease_table.specs.declared.lease.Lease.{Lease}
+use Rattle.assise_lease_table.specs.Leases.{revoke, lease_of}
+use Rattle.assise_model_world.specs.Staying.{SameClients, SameGoals, KeepsLeases, SameLogs, SameNode}
+use Rattle.assise_model_leases.specs.Leases.{is_held, is_written}
+use Rattle.assise_model_leases.proofs.LookUps.{revoke_of, held_one, written_one}
+use Rattle.assise_model_history.specs.Numbered.{kept_numbered}
+use Rattle.assise_machine_state.specs.ClientValues.{client_seen}
+use Rattle.assise_machine_state.specs.NodeValues.{log_seen, region_seen}
+use Rattle.assise_machine_state.specs.Observed.{own_seen, world_of}
+use Rattle.assise_machine_state.specs.StateValues.{StateValue, leases_of}
+
+module _ (s t : StateValue) where
+  -- clients, and with them their goals
+  pub clients_as : t.clients ≡ s.clients → SameClients (world_of s) (world_of t)
+  unfolding world_of
+  clients_as same = record {
+    clients = ap length same;
+    home = λ c. ap (λ cs. (client_seen cs c).home) same;
+    lives = λ c. ap (λ cs. not (client_seen cs c).failed) same;
+    crashed = λ c. ap (λ cs. (client_seen cs c).crashed) same;
+  }
+
+  pub goals_as : t.clients ≡ s.clients → SameGoals (world_of s) (world_of t)
+  unfolding world_of
+  goals_as same c = ap (λ cs. (client_seen cs c).goal) same
+
+  -- and their own logs
+  pub logs_as : t.clients ≡ s.clients → kept_numbered t.history ≡ kept_numbered s.history → ((c : ℕ) → (own_seen t c).log.records ≡ (own_seen s c).log.records)
+      → ((c : ℕ) → (own_seen t c).log.first ≡ (own_seen s c).log.first) → ((c k : ℕ) → is_border (own_seen t c).log k ≡ is_border (own_seen s c).log k)
+      → SameLogs (world_of s) (world_of t)
+  unfolding world_of
+  logs_as same calls records first border = record {
+    calls = calls;
+    records = records;
+    first = first;
+    next = λ c. ap (λ cs. (client_seen cs c).next) same;
+    border = border;
+    made = λ c. ap (λ cs. (client_seen cs c).made) same;
+  }
+
+  -- one node
+  pub node_as : (n : ℕ) → ((i : ℕ) → values (region_seen t.nodes n).inodes i ≡ values (region_seen s.nodes n).inodes i) → ((c : ℕ) → log_seen t.nodes n c ≡ log_seen s.nodes n c) →
+      SameNode (world_of s) (world_of t) n
+  unfolding world_of
+  node_as n inodes logs = record {
+    area = inodes;
+    log = λ c. ap (λ l. l.log.records) (logs c);
+    received = λ c. ap (λ l. log_end l.log) (logs c);
+    digested = λ c. ap (λ l. l.digested) (logs c);
+  }
+
+  -- leases, which are held as before where some are revoked
+  pub leases_as : ((i : ℕ) → t.levels.clients i ≡ s.levels.clients i) → KeepsLeases (world_of s) (world_of t)
+  unfolding world_of leases_of
+  leases_as same = record { holds = λ c i. ap (λ ls. is_held (lease_of ls c)) (same i); writes = λ c i. ap (λ ls. is_written (lease_of ls c)) (same i) }
+
+  pub leases_revoked : (choice : Lease → Bool) → ((i : ℕ) → t.levels.clients i ≡ revoke choice (s.levels.clients i)) → KeepsLeases (world_of s) (world_of t)
+  unfolding world_of leases_of
+  leases_revoked choice revoked = record {
+    holds = λ c i. ap (λ ls. is_held (lease_of ls c)) (revoked i) ∙ ap is_held (revoke_of choice (s.levels.clients i) c) ∙ held_one choice (lease_of (s.levels.clients i) c);
+    writes = λ c i. ap (λ ls. is_written (lease_of ls c)) (revoked i) ∙ ap is_written (revoke_of choice (s.levels.clients i) c) ∙ written_one choice (lease_of (s.levels.clients i) c);
+  }

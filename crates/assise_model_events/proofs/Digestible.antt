@@ -1,0 +1,112 @@
+-- A node can digest what all full nodes have.
+use Rattle.std.proofs.Common.{◌≡◌, ℕ, zero, suc, ◌+◌, ◌<◌, ◌≤◌, min, true, None, refl, ap, sym, ◌∙◌, arith, append-nil}
+use Rattle.assise_names.specs.declared.refusal.Refusal.TheVariants.{WrongPhase}
+use Rattle.assise_manager.specs.Membership.{Membership}
+use Rattle.assise_manager.specs.Standings.{standing_of}
+use Rattle.assise_model_world.specs.Chances.{MayDigest}
+use Rattle.assise_model_world.specs.NodeSteps.{Digests}
+use Rattle.assise_model_world.specs.Runs.{digests}
+use Rattle.assise_model_world.specs.Invariant.{WorldInvariant}
+use Rattle.assise_model_world.specs.World.{World, Full, end_of_log, received_by_all}
+use Rattle.assise_model_world.proofs.WorldObserved.{least_of-same}
+use Rattle.assise_model_world.proofs.StepLists.{step_sound}
+use Rattle.assise_model_members.proofs.StepsPossible.{may_digest}
+use Rattle.assise_model_events.specs.Events.{digested}
+use Rattle.assise_model_events.specs.Faults.{node_fault}
+use Rattle.assise_model_events.specs.Machine.{MachineInvariant, Machine}
+use Rattle.assise_model_events.specs.NodeEvents.{DigestsTo, Digesting, most_digested, part_of, undigested_to}
+use Rattle.assise_model_events.specs.NodeEvents.Digesting.{is_digested}
+use Rattle.assise_model_events.proofs.Failable.{dropped_world, drops_them}
+use Rattle.assise_model_events.proofs.Faultless.{stands_full}
+use Rattle.assise_model_events.proofs.LeaseSteps.{full_after}
+
+-- ---- a step keeps what the next one needs
+
+-- the same nodes are full, with the same records, and only what is digested changed
+record SameRecords (w v : World) : Type 0 where
+  sound : WorldInvariant v
+  full : v.full ≡ w.full
+  received : (c : ℕ) → received_by_all v c ≡ received_by_all w c
+  border : (c k : ℕ) → v.border c k ≡ w.border c k
+
+pub same_received : (w v : World) (n c k : ℕ) → Digests w n c k v → (d : ℕ) → received_by_all v d ≡ received_by_all w d
+unfolding received_by_all end_of_log
+same_received w v n c k e d = rw (e.full, e.logs.first d, e.logs.records d) (least_of-same w.full (λ j. v.received j d) (λ j. w.received j d) (end_of_log w d) (λ j f. e.received j d f))
+
+next_same : (w v u : World) (n c k : ℕ) → SameRecords w v → Digests v n c k u → SameRecords w u
+next_same w v u n c k s e = record {
+  sound = step_sound v u s.sound (digests n c k e);
+  full = e.full ∙ s.full;
+  received = λ d. same_received v u n c k e d ∙ s.received d;
+  border = λ d j. e.logs.border d j ∙ s.border d j;
+}
+
+-- ---- clients' parts are digested one after another
+
+-- those of clients 1 to c
+record DigestedTo (m : Machine) (n count c : ℕ) : Type 0 where
+  world : World
+  members : Membership
+  trace : DigestsTo n count m.world m.world m.members c world members
+  same : SameRecords m.world world
+  later : (d : ℕ) → c < d → world.digested n d ≡ m.world.digested n d
+
+module _ (m : Machine) (n count : ℕ) (h : MachineInvariant m) (here : Full m.world n) (borders : (c : ℕ) → m.world.border c (m.world.digested n c + part_of m.world n count c) ≡ true) where
+  may_next : (c : ℕ) (r : DigestedTo m n count c) → MayDigest r.world n (suc c) (r.world.digested n (suc c) + part_of m.world n count (suc c))
+  may_next c r =
+      let there : Full r.world n = full_after m.world r.world n r.same.full here in
+      let known : r.world.digested n (suc c) ≤ received_by_all r.world (suc c) = (r.same.sound.coherent.order n (suc c) there).replicated in
+      let now : r.world.digested n (suc c) ≡ m.world.digested n (suc c) = r.later (suc c) (omega arith) in
+      let all : received_by_all r.world (suc c) ≡ received_by_all m.world (suc c) = r.same.received (suc c) in
+      record {
+        full_node = there;
+        from = omega arith;
+        to = omega (arith, known, now, all);
+        border_to =
+            r.same.border (suc c) (r.world.digested n (suc c) + part_of m.world n count (suc c))
+            ∙ ap (λ k. m.world.border (suc c) (k + part_of m.world n count (suc c))) now
+            ∙ borders (suc c);
+      }
+
+  next_digested : (c : ℕ) → DigestedTo m n count c → DigestedTo m n count (suc c)
+  next_digested c r =
+      let place : ℕ = r.world.digested n (suc c) + part_of m.world n count (suc c) in
+      let (inodes, u, o, e) = may_digest r.world r.members n (suc c) place (may_next c r) in
+      record {
+        world = u;
+        members = o;
+        trace = (r.world, (r.members, (r.trace, record { inodes = inodes; digests = e })));
+        same = next_same m.world r.world u n (suc c) place r.same e.digests;
+        later = λ d above. e.digests.digested_else n d e.digests.full_node (λ is own. omega (arith, above, own)) ∙ r.later d (omega (arith, above));
+      }
+
+  digested_to : (c : ℕ) → DigestedTo m n count c
+  digested_to zero = record {
+    world = m.world;
+    members = m.members;
+    trace = (refl, refl);
+    same = record { sound = h.sound; full = refl; received = λ d. refl; border = λ d k. refl };
+    later = λ d above. refl;
+  }
+  digested_to (suc c) = next_digested c (digested_to c)
+
+-- ---- then prefixes of logs go
+
+pub digested_can : (m : Machine) (n count : ℕ) → MachineInvariant m → node_fault m n ≡ None → count ≤ min most_digested (undigested_to m.world n m.world.clients) →
+    (0 < undigested_to m.world n m.world.clients → 0 < count) →
+    ((c : ℕ) → m.world.border c (m.world.digested n c + part_of m.world n count c) ≡ true) → (m' : Machine) × Digesting m n (digested count) m'
+digested_can m n count h fine few some borders =
+    let here : Full m.world n = h.members.nodes_full n (stands_full WrongPhase (standing_of m.members.nodes n) fine) in
+    let r : DigestedTo m n count m.world.clients = digested_to m n count h here borders m.world.clients in (
+      record { limit = m.limit; history = m.history; world = dropped_world r.world; leases = m.leases; members = r.members },
+      is_digested count fine refl (record {
+        few = few;
+        some = some;
+        between = r.world;
+        digests = r.trace;
+        drops = drops_them r.world r.same.sound;
+        others = λ k i away. refl;
+        leases = refl;
+        adds = record { history = sym (append-nil m.history); limit = refl };
+      }),
+    )

@@ -1,0 +1,142 @@
+-- Each event, by what it is.
+use Rattle.std.proofs.Common.{◌≡◌, ◌++◌, ℕ, refl, ap}
+use Rattle.assise_names.specs.declared.call.Op.{Op}
+use Rattle.assise_names.specs.declared.call.Op.TheVariants.{Create, Mkdir, Read, Write, Truncate, Rename, Unlink, Rmdir, List as ListCall, Stat, Fsync, Dsync}
+use Rattle.assise_names.specs.declared.durability.Durability.{Durability}
+use Rattle.assise_names.specs.declared.durability.Durability.TheVariants.{Pessimistic, Optimistic}
+use Rattle.assise_history.specs.Legal.{durability_of, is_sync}
+use Rattle.assise_model_events.specs.Events.{Answer, ClusterEvent, open_client, try_call, try_fsync, outgoing, deliver, digest, release_ready, set_hot, crash, fail, back, refill, join, raise, entries_of}
+use Rattle.assise_model_events.specs.Happenings.{Dsyncing, Fsyncing, Happens, Leads, Trying}
+use Rattle.assise_model_events.specs.Machine.{Machine, MachineInvariant}
+use Rattle.assise_model_events.specs.NodeEvents.{Sending, SettingHot, is_sent, is_set, is_refused, lacks_memory}
+use Rattle.assise_model_events.proofs.CallKeeps.{calling_leads, calling_keeps}
+use Rattle.assise_model_events.proofs.OpenAndCrash.{opening_leads, opening_keeps, crashing_leads, crashing_keeps}
+use Rattle.assise_model_events.proofs.Digested.{digesting_leads, digesting_holds}
+use Rattle.assise_model_events.proofs.DsyncKeeps.{coalesced_leads, coalesced_holds}
+use Rattle.assise_model_events.proofs.Felled.{fail_leads, fail_holds}
+use Rattle.assise_model_events.proofs.EventTraces.{same_leads, same_holds}
+use Rattle.assise_model_events.proofs.ReleaseKeeps.{release_leads, release_holds}
+use Rattle.assise_model_events.proofs.DeliveryKeeps.{delivery_leads, delivery_keeps}
+use Rattle.assise_model_events.proofs.Raised.{raise_leads, raise_holds}
+use Rattle.assise_model_events.proofs.Rejoined.{join_leads, join_holds}
+use Rattle.assise_model_events.proofs.ReturnKeeps.{return_leads, return_holds, refill_leads, refill_holds}
+use Rattle.assise_model_events.proofs.SyncKeeps.{noting_leads, noting_keeps, syncing_leads, syncing_keeps}
+use Rattle.assise_model_events.proofs.EntriesTold.{opening_told, trying_told, fsyncing_told, sending_told, delivering_told, digesting_told, releasing_told, hot_told, crashing_told, failing_told, returning_told, refilling_told, joining_told, raising_told}
+
+-- ---- what is told
+
+pub event_told : (m m' : Machine) (e : ClusterEvent) (a : Answer) → Happens m e a m' → m'.history ≡ m.history ++ entries_of m.history e a
+event_told m m' (open_client n u) a h = opening_told m m' n u a h
+event_told m m' (try_call c op) a h = trying_told m m' c op a h
+event_told m m' (try_fsync c) a h = fsyncing_told m m' c (durability_of c m.history) a h
+event_told m m' (outgoing n) a h = sending_told m m' n a h
+event_told m m' (deliver f n) a h = delivering_told m m' f n a h
+event_told m m' (digest n) a h = digesting_told m m' n a h
+event_told m m' release_ready a h = releasing_told m m' a h
+event_told m m' (set_hot n capacity) a h = hot_told m m' n capacity a h
+event_told m m' (crash c) a h = crashing_told m m' c a h
+event_told m m' (fail n) a h = failing_told m m' n a h
+event_told m m' (back n) a h = returning_told m m' n a h
+event_told m m' (refill n) a h = refilling_told m m' n a h
+event_told m m' (join n) a h = joining_told m m' n a h
+event_told m m' (raise n) a h = raising_told m m' n a h
+
+-- ---- frames that go out, what may be hot, and calls that are syncs
+
+sending_leads : (m m' : Machine) (n : ℕ) (a : Answer) → Sending m n a m' → Leads m m'
+sending_leads m m' n a (is_sent fine is same) = same_leads m m' same
+sending_leads m m' n a (lacks_memory fine some is same) = same_leads m m' same
+sending_leads m m' n a (is_refused r fault is same) = same_leads m m' same
+
+sending_holds : (m m' : Machine) (n : ℕ) (a : Answer) → MachineInvariant m → Sending m n a m' → MachineInvariant m'
+sending_holds m m' n a h (is_sent fine is same) = same_holds m m' same h
+sending_holds m m' n a h (lacks_memory fine some is same) = same_holds m m' same h
+sending_holds m m' n a h (is_refused r fault is same) = same_holds m m' same h
+
+pub hot_leads : (m m' : Machine) (n : ℕ) (a : Answer) → SettingHot m n a m' → Leads m m'
+hot_leads m m' n a (is_set fine is same) = same_leads m m' same
+hot_leads m m' n a (lacks_memory fine is same) = same_leads m m' same
+hot_leads m m' n a (is_refused r fault is same) = same_leads m m' same
+
+pub hot_holds : (m m' : Machine) (n : ℕ) (a : Answer) → MachineInvariant m → SettingHot m n a m' → MachineInvariant m'
+hot_holds m m' n a h (is_set fine is same) = same_holds m m' same h
+hot_holds m m' n a h (lacks_memory fine is same) = same_holds m m' same h
+hot_holds m m' n a h (is_refused r fault is same) = same_holds m m' same h
+
+fsyncing_leads : (m m' : Machine) (c : ℕ) (u : Durability) (a : Answer) → durability_of c m.history ≡ u → MachineInvariant m → Fsyncing u m c a m' → Leads m m'
+fsyncing_leads m m' c Pessimistic a is h s = syncing_leads m m' c Fsync Pessimistic a refl h s
+fsyncing_leads m m' c Optimistic a is h s = noting_leads m m' c a (ap (is_sync Fsync) is) h s
+
+fsyncing_holds : (m m' : Machine) (c : ℕ) (u : Durability) (a : Answer) → durability_of c m.history ≡ u → MachineInvariant m → Fsyncing u m c a m' → MachineInvariant m'
+fsyncing_holds m m' c Pessimistic a is h s = syncing_keeps m m' c Fsync Pessimistic a refl h s
+fsyncing_holds m m' c Optimistic a is h s = noting_keeps m m' c a (ap (is_sync Fsync) is) h s
+
+dsyncing_leads : (m m' : Machine) (c : ℕ) (u : Durability) (a : Answer) → MachineInvariant m → Dsyncing u m c a m' → Leads m m'
+dsyncing_leads m m' c Pessimistic a h s = syncing_leads m m' c Dsync Pessimistic a refl h s
+dsyncing_leads m m' c Optimistic a h s = coalesced_leads m m' c a h s
+
+dsyncing_holds : (m m' : Machine) (c : ℕ) (u : Durability) (a : Answer) → MachineInvariant m → Dsyncing u m c a m' → MachineInvariant m'
+dsyncing_holds m m' c Pessimistic a h s = syncing_keeps m m' c Dsync Pessimistic a refl h s
+dsyncing_holds m m' c Optimistic a h s = coalesced_holds m m' c a h s
+
+trying_leads : (m m' : Machine) (c : ℕ) (op : Op) (a : Answer) → MachineInvariant m → Trying m c op a m' → Leads m m'
+trying_leads m m' c (Create p) a h s = calling_leads m m' c (Create p) a h refl s
+trying_leads m m' c (Mkdir p) a h s = calling_leads m m' c (Mkdir p) a h refl s
+trying_leads m m' c (Read p offset n) a h s = calling_leads m m' c (Read p offset n) a h refl s
+trying_leads m m' c (Write p offset bytes) a h s = calling_leads m m' c (Write p offset bytes) a h refl s
+trying_leads m m' c (Truncate p size) a h s = calling_leads m m' c (Truncate p size) a h refl s
+trying_leads m m' c (Rename p q) a h s = calling_leads m m' c (Rename p q) a h refl s
+trying_leads m m' c (Unlink p) a h s = calling_leads m m' c (Unlink p) a h refl s
+trying_leads m m' c (Rmdir p) a h s = calling_leads m m' c (Rmdir p) a h refl s
+trying_leads m m' c (ListCall p) a h s = calling_leads m m' c (ListCall p) a h refl s
+trying_leads m m' c (Stat p) a h s = calling_leads m m' c (Stat p) a h refl s
+trying_leads m m' c Fsync a h s = fsyncing_leads m m' c (durability_of c m.history) a refl h s
+trying_leads m m' c Dsync a h s = dsyncing_leads m m' c (durability_of c m.history) a h s
+
+trying_holds : (m m' : Machine) (c : ℕ) (op : Op) (a : Answer) → MachineInvariant m → Trying m c op a m' → MachineInvariant m'
+trying_holds m m' c (Create p) a h s = calling_keeps m m' c (Create p) a h refl s
+trying_holds m m' c (Mkdir p) a h s = calling_keeps m m' c (Mkdir p) a h refl s
+trying_holds m m' c (Read p offset n) a h s = calling_keeps m m' c (Read p offset n) a h refl s
+trying_holds m m' c (Write p offset bytes) a h s = calling_keeps m m' c (Write p offset bytes) a h refl s
+trying_holds m m' c (Truncate p size) a h s = calling_keeps m m' c (Truncate p size) a h refl s
+trying_holds m m' c (Rename p q) a h s = calling_keeps m m' c (Rename p q) a h refl s
+trying_holds m m' c (Unlink p) a h s = calling_keeps m m' c (Unlink p) a h refl s
+trying_holds m m' c (Rmdir p) a h s = calling_keeps m m' c (Rmdir p) a h refl s
+trying_holds m m' c (ListCall p) a h s = calling_keeps m m' c (ListCall p) a h refl s
+trying_holds m m' c (Stat p) a h s = calling_keeps m m' c (Stat p) a h refl s
+trying_holds m m' c Fsync a h s = fsyncing_holds m m' c (durability_of c m.history) a refl h s
+trying_holds m m' c Dsync a h s = dsyncing_holds m m' c (durability_of c m.history) a h s
+
+-- ---- what each keeps
+
+pub event_leads : (m m' : Machine) (e : ClusterEvent) (a : Answer) → MachineInvariant m → Happens m e a m' → Leads m m'
+event_leads m m' (open_client n u) a h s = opening_leads m m' n u a h s
+event_leads m m' (try_call c op) a h s = trying_leads m m' c op a h s
+event_leads m m' (try_fsync c) a h s = fsyncing_leads m m' c (durability_of c m.history) a refl h s
+event_leads m m' (outgoing n) a h s = sending_leads m m' n a s
+event_leads m m' (deliver f n) a h s = delivery_leads m m' f n a h s
+event_leads m m' (digest n) a h s = digesting_leads m m' n a h s
+event_leads m m' release_ready a h s = release_leads m m' a h s
+event_leads m m' (set_hot n capacity) a h s = hot_leads m m' n a s
+event_leads m m' (crash c) a h s = crashing_leads m m' c a h s
+event_leads m m' (fail n) a h s = fail_leads m m' n a h s
+event_leads m m' (back n) a h s = return_leads m m' n a h s
+event_leads m m' (refill n) a h s = refill_leads m m' n a h s
+event_leads m m' (join n) a h s = join_leads m m' n a h s
+event_leads m m' (raise n) a h s = raise_leads m m' n a s
+
+pub event_keeps : (m m' : Machine) (e : ClusterEvent) (a : Answer) → MachineInvariant m → Happens m e a m' → MachineInvariant m'
+event_keeps m m' (open_client n u) a h s = opening_keeps m m' n u a h s
+event_keeps m m' (try_call c op) a h s = trying_holds m m' c op a h s
+event_keeps m m' (try_fsync c) a h s = fsyncing_holds m m' c (durability_of c m.history) a refl h s
+event_keeps m m' (outgoing n) a h s = sending_holds m m' n a h s
+event_keeps m m' (deliver f n) a h s = delivery_keeps m m' f n a h s
+event_keeps m m' (digest n) a h s = digesting_holds m m' n a h s
+event_keeps m m' release_ready a h s = release_holds m m' a h s
+event_keeps m m' (set_hot n capacity) a h s = hot_holds m m' n a h s
+event_keeps m m' (crash c) a h s = crashing_keeps m m' c a h s
+event_keeps m m' (fail n) a h s = fail_holds m m' n a h s
+event_keeps m m' (back n) a h s = return_holds m m' n a h s
+event_keeps m m' (refill n) a h s = refill_holds m m' n a h s
+event_keeps m m' (join n) a h s = join_holds m m' n a h s
+event_keeps m m' (raise n) a h s = raise_holds m m' n a h s

@@ -1,0 +1,162 @@
+-- A node can fail: a full one beside others, and one that was coming back.
+use Rattle.std.proofs.Common.{◌≡◌, ◌≢◌, ℕ, zero, suc, ◌+◌, ◌-◌, ◌<◌, ◌≤◌, ◌==◌, inl, inr, cond, true, if◌then◌else◌, drop, List, [], ◌∷◌, ◌++◌, length, Option, Some, None, refl, ap, sym, ◌∙◌, subst, arith, eq-eqb}
+use Rattle.std.specs.List.{slice_set}
+use Rattle.std.proofs.lemmas.Bool.{cases_eq, ne_eqb}
+use Rattle.std.proofs.lemmas.List.{nil_from_length}
+use Rattle.std.proofs.lemmas.Option.{none-some, same_Some}
+use Rattle.assise_names.specs.declared.refusal.Refusal.TheVariants.{BadNode, LastNode, WrongPhase}
+use Rattle.assise_history.specs.declared.call.Loss.{Loss}
+use Rattle.assise_history.specs.Entries.{fails}
+use Rattle.assise_history.specs.Legal.{calls_made, clients_opened}
+use Rattle.assise_history.proofs.ClientCounts.{early}
+use Rattle.assise_lease_table.specs.Leases.{revoke}
+use Rattle.assise_lease_tree.specs.Levels.{lives}
+use Rattle.assise_manager.specs.Changes.{failure_fault, failure_fault_of, is_returning}
+use Rattle.assise_manager.specs.Membership.{Membership, lowest_full}
+use Rattle.assise_manager.specs.Standings.{Standing, is_full, standing_of, with_standing, full_from, full_nodes}
+use Rattle.assise_manager.specs.Standings.Standing.{full, down, returning}
+use Rattle.assise_manager.proofs.Nodes.{never, one_full_less}
+use Rattle.assise_model_world.specs.NodeSteps.{Drops, Fails}
+use Rattle.assise_model_world.specs.Runs.{fails as fails_node, rests}
+use Rattle.assise_model_world.specs.Invariant.{WorldInvariant}
+use Rattle.assise_model_world.specs.World.{World, Full, end_of_log, digested_by_all}
+use Rattle.assise_model_world.proofs.WorldObserved.{digested_by_all-first, least_of-is}
+use Rattle.assise_model_world.proofs.StepLists.{step_sound}
+use Rattle.assise_model_leases.specs.Handing.{FailsWithLeases as LeasesFail}
+use Rattle.assise_model_leases.specs.Leases.{Leases}
+use Rattle.assise_model_members.proofs.StepsPossible.{may_fail, may_fail_again, may_list}
+use Rattle.assise_model_members.proofs.NodeStandings.{lowest_stands, set_here, set_else}
+use Rattle.assise_model_history.specs.Lost.{losses_of}
+use Rattle.assise_model_events.specs.Events.{failed}
+use Rattle.assise_model_events.specs.Machine.{MachineInvariant, Machine}
+use Rattle.assise_model_events.specs.MemberEvents.{Failing}
+use Rattle.assise_model_events.specs.MemberEvents.Failing.{is_failed, is_failed_again}
+
+-- ---- another node is full
+
+-- the others that are full, where one is down
+some_left : (o : Membership) (n : ℕ) → standing_of o.nodes n ≡ Some full → failure_fault o n ≡ None → 0 < length (full_nodes (with_standing o.nodes n (down 0)))
+some_left o zero at fine = absurd (none-some full at)
+some_left o (suc place) at fine =
+    let rest : List ℕ = full_from 1 (slice_set o.nodes place (down 0)) in
+    let less : length rest + 1 ≡ length (full_nodes o.nodes) = one_full_less 1 o.nodes place (down 0) refl at in
+    let here : suc place - 1 ≡ place = omega arith in
+    subst (λ j. 0 < length (full_from 1 (slice_set o.nodes j (down 0)))) (sym here)
+    (elim (cases_eq (length (full_nodes o.nodes)) 1) [
+      | inl one ↦ absurd (none-some LastNode (sym fine ∙ ap (failure_fault_of o) at ∙ ap (λ b. cond b (Some LastNode) None) (eq-eqb (length (full_nodes o.nodes)) 1 one)))
+      | inr more ↦ omega (arith, less, more)
+    ])
+
+beside : (o : Membership) (n : ℕ) → standing_of o.nodes n ≡ Some full → failure_fault o n ≡ None → (k : ℕ) × ((k ≢ n) × (standing_of o.nodes k ≡ Some full))
+beside o n at fine =
+    let left : List Standing = with_standing o.nodes n (down 0) in
+    let k : ℕ = lowest_full left in
+    let stands : standing_of left k ≡ Some full = lowest_stands left (some_left o n at fine) in
+    let other : k ≢ n = λ is. never (ap is_full (same_Some (down 0) full (sym (set_here o.nodes n full (down 0) at) ∙ subst (λ j. standing_of left j ≡ Some full) is stands))) in
+    (k, (other, sym (set_else o.nodes n k full (down 0) at other) ∙ stands))
+
+-- ---- a client that wasn't opened has no records
+
+no_records : (m : Machine) → MachineInvariant m → (c : ℕ) → m.world.clients < c → m.world.records c ≡ []
+unfolding end_of_log
+no_records m h c above =
+    let count : m.world.clients ≡ clients_opened m.history = h.recorded.count in
+    let none : calls_made c m.history ≡ 0 = early m.history h.recorded.legal c (omega (arith, count, above)) in
+    let next : m.world.next c ≡ calls_made c m.history = h.recorded.next c in
+    let few : m.world.first c + length (m.world.records c) ≤ m.world.next c = h.sound.few_records c in
+    nil_from_length (m.world.records c) (omega (arith, none, next, few))
+
+-- ---- what a failure leads to
+
+-- the leases that it leaves, where this is the world
+left_leases : (w v : World) (l : Leases) (n : ℕ) → Fails w n v → (k : Leases) × LeasesFail w l n v k
+left_leases w v l n e = (
+  record {
+    levels = record { home = l.levels.home; clients = λ i. revoke (λ b. lives l.levels.home b.holder n) (l.levels.clients i); nodes = l.levels.nodes };
+    cut = λ d i. if w.home d == n then end_of_log v d else l.cut d i;
+  },
+  record {
+    fails = e;
+    home = λ d. refl;
+    clients = λ i. refl;
+    nodes = λ i. refl;
+    cut_here = λ d i is. rw (eq-eqb (w.home d) n is) refl;
+    cut_else = λ d i other. rw (ne_eqb (w.home d) n other) refl;
+  },
+)
+
+-- prefixes of logs go that all full nodes have digested
+pub digested_border : (w : World) → WorldInvariant w → (c : ℕ) → w.border c (digested_by_all w c) ≡ true
+unfolding digested_by_all
+digested_border w s c =
+    least_of-is (λ k. w.border c k ≡ true) w.full (λ n. w.digested n c) (end_of_log w c) (s.coherent.end_border c) (λ n h. (s.coherent.order n c h).digested_border)
+
+abbrev pub dropped_world : World → World
+dropped_world w = record w {
+  first = digested_by_all w;
+  records = λ c. drop (digested_by_all w c - w.first c) (w.records c);
+  log = λ n c. drop (digested_by_all w c - w.first c) (w.log n c);
+}
+
+pub drops_them : (w : World) → WorldInvariant w → Drops w (digested_by_all w) (dropped_world w)
+drops_them w s = record {
+  low = digested_by_all-first w s.coherent;
+  high = λ c. omega arith;
+  border_at = digested_border w s;
+  calls = refl;
+  records = λ c. refl;
+  first = λ c. refl;
+  border = λ c k low. refl;
+  next = λ c. refl;
+  made = λ c. refl;
+  clients = record { clients = refl; home = λ c. refl; lives = λ c. refl; crashed = λ c. refl };
+  goals = λ c. refl;
+  leases = record { holds = λ c i. refl; writes = λ c i. refl };
+  full = refl;
+  log = λ n c f. refl;
+  received = λ n c f. refl;
+  digested = λ n c f. refl;
+  area = λ n i f. refl;
+}
+
+full_can : (m : Machine) (n : ℕ) → MachineInvariant m → failure_fault m.members n ≡ None → standing_of m.members.nodes n ≡ Some full → (m' : Machine) × ((losses : List Loss) × Failing m n (failed losses) m')
+full_can m n h fine at =
+    let here : Full m.world n = h.members.nodes_full n at in
+    let (k, disjoint) = beside m.members n at fine in
+    let (inodes, may) = may_list m.world n m.world.clients here (k, (disjoint.0, h.members.nodes_full k disjoint.1)) (no_records m h) in
+    let (v, u, o, e) = may_fail m.world m.members n inodes h.members may in
+    let (left, leases) = left_leases m.world v m.leases n e.fails in
+    let sound : WorldInvariant u = step_sound v u (step_sound m.world v h.sound (fails_node n e.fails)) (rests e.rests) in (
+      record { limit = m.limit; history = m.history ++ fails n (losses_of m.world n) ∷ []; world = dropped_world u; leases = left; members = o },
+      (
+        losses_of m.world n,
+        is_failed fine refl (record {
+          was_full = at;
+          cut = v;
+          refreshed = u;
+          inodes = inodes;
+          failure = e;
+          leases = leases;
+          drops = drops_them u sound;
+          others = λ j i away. refl;
+          adds = record { history = refl; limit = refl };
+        }),
+      ),
+    )
+
+again_can : (m : Machine) (n : ℕ) → failure_fault m.members n ≡ None → is_returning (standing_of m.members.nodes n) ≡ true → (m' : Machine) × ((losses : List Loss) × Failing m n (failed losses) m')
+again_can m n fine was =
+    let (u, o, e) = may_fail_again m.world m.members n was in (
+      record { limit = m.limit; history = m.history ++ fails n [] ∷ []; world = u; leases = m.leases; members = o },
+      ([], is_failed_again fine refl (record { failure = e; leases = refl; adds = record { history = refl; limit = refl } })),
+    )
+
+failed_as_stands : (m : Machine) (n : ℕ) → MachineInvariant m → (s : Option Standing) → standing_of m.members.nodes n ≡ s → failure_fault m.members n ≡ None →
+    (m' : Machine) × ((losses : List Loss) × Failing m n (failed losses) m')
+failed_as_stands m n h None at fine = absurd (none-some BadNode (sym fine ∙ ap (failure_fault_of m.members) at))
+failed_as_stands m n h (Some full) at fine = full_can m n h fine at
+failed_as_stands m n h (Some (down since)) at fine = absurd (none-some WrongPhase (sym fine ∙ ap (failure_fault_of m.members) at))
+failed_as_stands m n h (Some (returning since donor stale)) at fine = again_can m n fine (ap is_returning at)
+
+pub failed_can : (m : Machine) (n : ℕ) → MachineInvariant m → failure_fault m.members n ≡ None → (m' : Machine) × ((losses : List Loss) × Failing m n (failed losses) m')
+failed_can m n h fine = failed_as_stands m n h (standing_of m.members.nodes n) refl fine

@@ -1,0 +1,167 @@
+-- Nodes fail: a full one, whose clients' logs are cut, and one that was coming back.
+use Rattle.std.proofs.Common.{◌≡◌, ℕ, ◌+◌, ◌-◌, ◌≤◌, Option, Some, None, [], ◌∷◌, ◌++◌, drop, length, refl, ap, sym, ◌∙◌, arith, length-append}
+use Rattle.std.specs.FinSet as set
+use Rattle.std.specs.Ordering.{nat_cmp}
+use Rattle.std.proofs.lemmas.List.{length-map, length-take, length-drop}
+use Rattle.assise_history.specs.Entries.{fails}
+use Rattle.assise_manager.specs.Changes.{failed_as, with_epoch, refilled_from, is_returning}
+use Rattle.assise_manager.specs.Membership.{Membership, lowest_full, written_since}
+use Rattle.assise_manager.specs.Standings.{Standing, standing_of}
+use Rattle.assise_manager.specs.Standings.Standing.{full, down, returning}
+use Rattle.assise_manager.proofs.Nodes.{never}
+use Rattle.assise_model_world.specs.NodeSteps.{Rests, kept_at_failure}
+use Rattle.assise_model_world.specs.World.{World, digested_by_all, records_between}
+use Rattle.assise_model_world.proofs.DropKeeps.{drop_dropped}
+use Rattle.assise_model_world.proofs.FailureKeeps.{fail_sound}
+use Rattle.assise_model_leases.specs.Leases.{AreLeases}
+use Rattle.assise_model_leases.proofs.ClientEnds.{fail_keeps as leases_fail}
+use Rattle.assise_model_leases.proofs.QuietLeases.{logs_keep, drop_keeps}
+use Rattle.assise_model_members.specs.Members.{AreMembers}
+use Rattle.assise_model_members.proofs.NodeChanged.{again_keeps}
+use Rattle.assise_model_members.proofs.NodesFail.{fail_keeps as members_fail}
+use Rattle.assise_model_members.proofs.DigestNoted.{areas_keep, keeps_areas}
+use Rattle.assise_model_members.proofs.NodeStandings.{returning_is}
+use Rattle.assise_model_history.specs.Traces.EntryHappens.{failure, failure_again, quiet}
+use Rattle.assise_model_history.specs.Entered.NeedsNoEntry.{rests, drops}
+use Rattle.assise_model_history.specs.Lost.{losses_of}
+use Rattle.assise_model_history.specs.State.{State}
+use Rattle.assise_model_events.specs.Events.{Answer}
+use Rattle.assise_model_events.specs.Happenings.{Leads}
+use Rattle.assise_model_events.specs.Machine.{Machine, MachineInvariant, state_of}
+use Rattle.assise_model_events.specs.MemberEvents.{Failing, IsFailed, IsFailedAgain}
+use Rattle.assise_model_events.specs.MemberEvents.Failing.{is_failed, is_failed_again, lacks_memory, is_refused}
+use Rattle.assise_model_events.proofs.EventTraces.{leads_sound, leads_recorded, same_leads, same_holds}
+use Rattle.assise_model_events.proofs.ReturnKeeps.{as_many, rest_holds}
+use Rattle.assise_model_events.proofs.Rejoined.{stands_is_node}
+
+-- ---- the nodes stay as many, and an epoch begins where a full one fails
+
+full_many : (o : Membership) (n : ℕ) (inodes : set.FinSet nat_cmp) → length (failed_as o n inodes (Some full)).nodes ≡ length o.nodes
+full_many o n inodes =
+    let begun : Membership = with_epoch o n inodes in
+    length-map begun.nodes (refilled_from (written_since begun) (lowest_full begun.nodes) n) ∙ as_many o.nodes (n - 1) (down (o.epoch + 1))
+
+failed_many : (o : Membership) (n : ℕ) (inodes : set.FinSet nat_cmp) (s : Option Standing) → length (failed_as o n inodes s).nodes ≡ length o.nodes
+failed_many o n inodes None = refl
+failed_many o n inodes (Some full) = full_many o n inodes
+failed_many o n inodes (Some (down since)) = refl
+failed_many o n inodes (Some (returning since donor stale)) = as_many o.nodes (n - 1) (down since)
+
+failed_epoch : (o : Membership) (n : ℕ) (inodes : set.FinSet nat_cmp) (s : Option Standing) → (failed_as o n inodes s).epoch ≤ o.epoch + 1
+failed_epoch o n inodes None = omega arith
+failed_epoch o n inodes (Some full) = omega arith
+failed_epoch o n inodes (Some (down since)) = omega arith
+failed_epoch o n inodes (Some (returning since donor stale)) = omega arith
+
+-- ---- a full node fails
+
+-- the history has its entry, and this is the world
+abbrev told_with : Machine → ℕ → World → State
+told_with m n w = record { nodes = length m.members.nodes; history = m.history ++ fails n (losses_of m.world n) ∷ []; world = w }
+
+full_leads : (m m' : Machine) (n : ℕ) → IsFailed m n m' → Leads m m'
+full_leads m m' n e =
+    let many : length m'.members.nodes ≡ length m.members.nodes =
+    ap (λ o. length o.nodes) e.failure.members ∙ failed_many m.members n e.inodes (standing_of m.members.nodes n) in
+    record {
+      states = told_with m n e.cut ∷ told_with m n e.refreshed ∷ told_with m n m'.world ∷ [];
+      trace = (
+        failure n (record { adds = record { nodes = refl; entry = refl }; world = e.failure.fails }),
+        (
+          quiet (record { nodes = refl; entries = refl; world = rests e.failure.rests }),
+          (quiet (record { nodes = refl; entries = refl; world = drops (digested_by_all e.refreshed) e.drops }), tt),
+        ),
+      );
+      last = rw (many, e.adds.history) refl;
+    }
+
+-- records are cut and dropped
+cut_short : (w : World) (c j k : ℕ) → length (records_between w c j k) ≤ length (w.records c)
+unfolding records_between
+cut_short w c j k =
+    let taken = length-take (k - j) (drop (j - w.first c) (w.records c)) in
+    let dropped = length-drop (j - w.first c) (w.records c) in
+    omega (arith, taken, dropped)
+
+full_short : (m m' : Machine) (n c : ℕ) → IsFailed m n m' → length (m'.world.records c) ≤ length (m.world.records c)
+full_short m m' n c e =
+    let after : length (m'.world.records c) ≡ length (e.refreshed.records c) - (digested_by_all e.refreshed c - e.refreshed.first c) =
+    ap length (e.drops.records c) ∙ length-drop (digested_by_all e.refreshed c - e.refreshed.first c) (e.refreshed.records c) in
+    let rested : length (e.refreshed.records c) ≡ length (e.cut.records c) = ap length (e.failure.rests.logs.records c) in
+    let kept : length (e.cut.records c) ≡ length (records_between m.world c (m.world.first c) (kept_at_failure m.world n c)) = ap length (e.failure.fails.records c) in
+    let short : length (records_between m.world c (m.world.first c) (kept_at_failure m.world n c)) ≤ length (m.world.records c) =
+    cut_short m.world c (m.world.first c) (kept_at_failure m.world n c) in
+    omega (arith, after, rested, kept, short)
+
+full_leases : (m m' : Machine) (n : ℕ) → MachineInvariant m → IsFailed m n m' → AreLeases m'.world m'.leases
+full_leases m m' n h e =
+    let r : Rests e.cut e.refreshed = e.failure.rests in
+    drop_keeps e.refreshed m'.world m'.leases (digested_by_all e.refreshed)
+    (logs_keep e.cut e.refreshed m'.leases r.logs r.clients r.leases (λ c. rw (r.goals c) (omega arith))
+    (leases_fail m.world e.cut m.leases m'.leases n h.leases e.leases
+    (fail_sound m.world e.cut n h.sound e.failure.fails)))
+    e.drops
+
+full_members : (m m' : Machine) (n : ℕ) → MachineInvariant m → IsFailed m n m' → AreMembers m'.world m'.members
+full_members m m' n h e =
+    areas_keep e.refreshed m'.world m'.members
+    (members_fail m.world e.cut e.refreshed m.members m'.members n e.inodes h.sound h.members e.failure)
+    (keeps_areas e.refreshed m'.world e.drops.full e.drops.area e.others)
+
+full_holds : (m m' : Machine) (n : ℕ) → MachineInvariant m → IsFailed m n m' → MachineInvariant m'
+full_holds m m' n h e =
+    let l : Leads m m' = full_leads m m' n e in
+    let same : m'.members.epoch ≡ (failed_as m.members n e.inodes (standing_of m.members.nodes n)).epoch = ap (λ o. o.epoch) e.failure.members in
+    let epoch : (failed_as m.members n e.inodes (standing_of m.members.nodes n)).epoch ≤ m.members.epoch + 1 = failed_epoch m.members n e.inodes (standing_of m.members.nodes n) in
+    record {
+      sound = leads_sound m m' h l;
+      dropped = drop_dropped e.refreshed m'.world e.drops;
+      recorded = leads_recorded m m' h l;
+      leases = full_leases m m' n h e;
+      members = full_members m m' n h e;
+      epochs = rw (e.adds.history, length-append m.history (fails n (losses_of m.world n) ∷ [])) (omega (arith, same, epoch, h.epochs));
+      logs = λ c. (let short = full_short m m' n c e in let limit = e.adds.limit in omega (arith, short, limit, h.logs c));
+      clients = rw (e.drops.clients.clients, e.failure.rests.clients.clients, e.failure.fails.clients) h.clients;
+    }
+
+-- ---- a node fails that was coming back
+
+again_leads : (m m' : Machine) (n : ℕ) → MachineInvariant m → IsFailedAgain m n m' → Leads m m'
+again_leads m m' n h e =
+    let (since, donor, stale, stands) = returning_is (standing_of m.members.nodes n) e.failure.was_returning in
+    record {
+      states = state_of m' ∷ [];
+      trace = (
+        failure_again n (record {
+          adds = record {
+            nodes = ap (λ o. length o.nodes) e.failure.members ∙ failed_many m.members n set.empty (standing_of m.members.nodes n);
+            entry = e.adds.history;
+          };
+          node = stands_is_node m n (returning since donor stale) stands;
+          absent = λ f. never (sym (ap is_returning (h.members.full_nodes n f)) ∙ e.failure.was_returning);
+          world = e.failure.rests;
+        }),
+        tt,
+      );
+      last = refl;
+    }
+
+again_holds : (m m' : Machine) (n : ℕ) → MachineInvariant m → IsFailedAgain m n m' → MachineInvariant m'
+again_holds m m' n h e =
+    rest_holds m m' (fails n [] ∷ []) h (again_leads m m' n h e) e.failure.rests e.leases e.adds
+    (rw e.failure.members (failed_epoch m.members n set.empty (standing_of m.members.nodes n)))
+    (again_keeps m.world m'.world m.members m'.members n e.failure h.members)
+
+-- ---- a node fails
+
+pub fail_leads : (m m' : Machine) (n : ℕ) (a : Answer) → MachineInvariant m → Failing m n a m' → Leads m m'
+fail_leads m m' n a h (is_failed fine is e) = full_leads m m' n e
+fail_leads m m' n a h (is_failed_again fine is e) = again_leads m m' n h e
+fail_leads m m' n a h (lacks_memory fine is same) = same_leads m m' same
+fail_leads m m' n a h (is_refused r fault is same) = same_leads m m' same
+
+pub fail_holds : (m m' : Machine) (n : ℕ) (a : Answer) → MachineInvariant m → Failing m n a m' → MachineInvariant m'
+fail_holds m m' n a h (is_failed fine is e) = full_holds m m' n h e
+fail_holds m m' n a h (is_failed_again fine is e) = again_holds m m' n h e
+fail_holds m m' n a h (lacks_memory fine is same) = same_holds m m' same h
+fail_holds m m' n a h (is_refused r fault is same) = same_holds m m' same h

@@ -1,0 +1,28 @@
+-- What an event of clients leaves as it is: the members, and what they hold of areas.
+use Rattle.std.proofs.Common.{◌≡◌, ℕ, suc, ◌≤◌, List, length, sym, subst, arith, length-append}
+use Rattle.assise_history.specs.Entries.{EntryValue}
+use Rattle.assise_model_world.specs.World.{Full}
+use Rattle.assise_model_world.specs.Staying.{SameNodes}
+use Rattle.assise_model_members.specs.Members.{AreMembers}
+use Rattle.assise_model_members.proofs.DigestNoted.{areas_keep, keeps_areas}
+use Rattle.assise_model_events.specs.ClientEvents.{KeepsMembers}
+use Rattle.assise_model_events.specs.Machine.{Machine, MachineInvariant, Adds}
+
+-- the manager stays, and so do the areas of full nodes
+pub members_stay : (m m' : Machine) → MachineInvariant m → KeepsMembers m m' → m'.world.full ≡ m.world.full →
+    ((k i : ℕ) → Full m.world k → m'.world.area k i ≡ m.world.area k i) → AreMembers m'.world m'.members
+members_stay m m' h keeps full areas =
+    subst (λ o. AreMembers m'.world o) (sym keeps.members)
+    (areas_keep m.world m'.world m.members h.members (keeps_areas m.world m'.world full areas keeps.others))
+
+pub members_rest : (m m' : Machine) → MachineInvariant m → KeepsMembers m m' → SameNodes m.world m'.world → AreMembers m'.world m'.members
+members_rest m m' h keeps nodes = members_stay m m' h keeps nodes.full (λ k i f. (nodes.same k f).area i)
+
+-- the history only grows
+pub epochs_stay : (m m' : Machine) (es : List EntryValue) → MachineInvariant m → m'.members ≡ m.members → Adds m es m' → m'.members.epoch ≤ suc (length m'.history)
+epochs_stay m m' es h same adds = rw (same, adds.history, length-append m.history es) (omega (arith, h.epochs))
+
+-- logs stay
+pub logs_stay : (m m' : Machine) (es : List EntryValue) → MachineInvariant m → ((c : ℕ) → m'.world.records c ≡ m.world.records c) → Adds m es m' →
+    (c : ℕ) → length (m'.world.records c) ≤ m'.limit
+logs_stay m m' es h same adds c = rw (same c, adds.limit) (h.logs c)

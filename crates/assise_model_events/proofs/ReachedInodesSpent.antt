@@ -1,0 +1,322 @@
+-- Client 1 of two nodes creates a file and unlinks it, again and again, until it has made as many inodes as it may.
+use Rattle.std.proofs.Common.{◌≡◌, ◌≢◌, ℕ, zero, suc, ◌+◌, ◌<◌, ◌≤◌, ◌==◌, ◌||◌, true, false, if◌then◌else◌, List, [], ◌∷◌, length, Some, refl, ap, sym, subst, ◌∙◌, arith, eq-eqb}
+use Rattle.std.proofs.lemmas.Bool.{or_right}
+use Rattle.std.specs.List.{list_any}
+use Rattle.assise_names.specs.declared.call.Op.{Op}
+use Rattle.assise_names.specs.declared.mode.Mode.{Mode}
+use Rattle.assise_names.specs.declared.mode.Mode.TheVariants.{Read, Write}
+use Rattle.assise_names.specs.declared.refusal.Refusal.TheVariants.{InodesSpent}
+use Rattle.assise_names.specs.declared.reply.Reply.TheVariants.{Done}
+use Rattle.assise_record.specs.Records.{has_some}
+use Rattle.assise_inode_table.specs.Contents.{regular, directory}
+use Rattle.assise_inode_table.specs.Effects.{contains, touched, value_after, makes}
+use Rattle.assise_inode_table.specs.Numbers.{inode_number}
+use Rattle.assise_inode_table.specs.Traces.{NumberedCall}
+use Rattle.assise_lease_table.specs.Leases.{new_lease, serves}
+use Rattle.assise_lease_tree.specs.Levels.{clients_granted}
+use Rattle.assise_model_world.specs.World.{World, Full, call_makes_inode, step_at_home, view}
+use Rattle.assise_model_leases.specs.Handing.{Grants}
+use Rattle.assise_model_leases.specs.Leases.{Leases, client_lease}
+use Rattle.assise_model_leases.proofs.Possible.{may_grant}
+use Rattle.assise_model_members.specs.Returns.{OtherAreasStay}
+use Rattle.assise_model_history.proofs.LossReached.{create_op, create_step, creates, empty_root, no_links, of_either, sees_root}
+use Rattle.assise_model_events.specs.ClientEvents.{Calling, Granted, Gets, IsFirstMissing, IsMissing, HasServingLeases, is_spent, last_leases, last_world}
+use Rattle.assise_model_events.specs.Events.{refused}
+use Rattle.assise_model_events.specs.Machine.{Machine}
+use Rattle.assise_model_events.specs.Reached.{Comes}
+use Rattle.assise_model_events.proofs.Trace.{HasLeases, IsOpen, is_open, leases_had, one_client, same_call}
+use Rattle.assise_model_events.proofs.LeaseSteps.{Reached, comes_to}
+use Rattle.assise_model_events.proofs.Steady.{with_old_areas, old_grants}
+use Rattle.assise_model_events.proofs.LackAnswerable.{keeps_them, with_granted}
+use Rattle.assise_model_events.proofs.Rounds.{IsDone, MayDo, Runs, Stands, done, file_after_create, next_call, no_fault, one_link, reads_same, root_after_create, root_after_unlink, unlink_op, unlink_step, unlinks}
+
+-- ---- leases that nobody has
+
+-- the client gets a lease of inode i for writing
+record TakesNew (m : Machine) (i : ℕ) (u : World) (k : Leases) : Type 0 where
+  pub grant : Grants m.world m.leases 1 i Write u k
+  pub others : OtherAreasStay m.world u
+  pub lease : k.levels.clients i ≡ new_lease 1 Write ∷ []
+
+takes_new : (m : Machine) (i : ℕ) → Runs m.world → m.leases.levels.clients i ≡ [] → m.leases.levels.nodes i ≡ [] → (u : World) × (k : Leases) × TakesNew m i u k
+takes_new m i s no_client no_node =
+    let (u, k, grant) = may_grant m.world m.leases 1 i Write (record { lives_on = s.lives; running = s.running; free = rw (no_client, no_node) refl }) in (
+      with_old_areas m.world u,
+      k,
+      record {
+        grant = old_grants m.world u m.leases k 1 i Write grant;
+        others = λ n j away. refl;
+        lease = grant.granted.clients.here ∙ ap (clients_granted 1 Write) no_client ∙ one_client Write;
+      },
+    )
+
+-- ---- between rounds
+
+abbrev IsHeld : Machine → ℕ → Type 0
+IsHeld m i = m.leases.levels.clients i ≡ new_lease 1 Write ∷ []
+
+-- nobody has a lease of the inodes that the client didn't make yet
+record AreFree (made : ℕ) (l : Leases) : Type 0 where
+  pub clients : (j : ℕ) → made ≤ j → l.levels.clients (inode_number 1 j) ≡ []
+  pub nodes : (j : ℕ) → made ≤ j → l.levels.nodes (inode_number 1 j) ≡ []
+
+-- the client made so many inodes, and reads an empty root
+record HasMade (limit made : ℕ) (m : Machine) : Type 0 where
+  pub stands : Stands limit m
+  pub made_is : m.world.made 1 ≡ made
+  pub records : length (m.world.records 1) ≤ made + made
+  pub root : view m.world 1 1 0 ≡ Some (directory no_links)
+  pub root_held : IsHeld m 0
+  pub rest : AreFree made m.leases
+
+-- it made one more, a file i in the root
+record HasFile (limit made i : ℕ) (m : Machine) : Type 0 where
+  pub stands : Stands limit m
+  pub made_is : m.world.made 1 ≡ suc made
+  pub records : length (m.world.records 1) ≤ suc (made + made)
+  pub not_root : i ≢ 0
+  pub root : view m.world 1 1 0 ≡ Some (directory (one_link i))
+  pub file : view m.world 1 1 i ≡ Some (regular [])
+  pub root_held : IsHeld m 0
+  pub file_held : IsHeld m i
+  pub rest : AreFree (suc made) m.leases
+
+-- ---- it creates a file
+
+-- its lease serves for both
+serves_own : (l : Leases) (i : ℕ) (mode : Mode) → l.levels.clients i ≡ new_lease 1 Write ∷ [] → serves (client_lease l 1 i) mode ≡ true
+serves_own l i mode is = rw is refl
+
+creates_at : (m : Machine) (w : World) → w.home 1 ≡ 1 → view w 1 1 0 ≡ Some (directory no_links) → step_at_home w (next_call m create_op) ≡ create_step (next_call m create_op).fresh
+creates_at m w home root = creates (view w (w.home 1) 1) (next_call m create_op).fresh (subst (λ n. view w n 1 0 ≡ Some (directory no_links)) (sym home) root)
+
+file_not_root : (k : ℕ) → inode_number 1 k ≢ 0
+file_not_root k same = omega (arith, same)
+
+files_differ : (j k : ℕ) → k < j → inode_number 1 j ≢ inode_number 1 k
+files_differ j k less same = omega (arith, less, same)
+
+-- the client made so many inodes, reads an empty root, and gets what it needs to create a file
+record MayCreate (limit made : ℕ) (m : Machine) (gs : List Granted) : Type 0 where
+  pub stands : Stands limit m
+  pub made_is : m.world.made 1 ≡ made
+  pub records : length (m.world.records 1) ≤ made + made
+  pub root : view m.world 1 1 0 ≡ Some (directory no_links)
+  pub gets : Gets (next_call m create_op) m.world m.leases gs
+  pub root_held : (last_leases m.leases gs).levels.clients 0 ≡ new_lease 1 Write ∷ []
+  pub file_held : (last_leases m.leases gs).levels.clients (next_call m create_op).fresh ≡ new_lease 1 Write ∷ []
+  pub rest : AreFree (suc made) (last_leases m.leases gs)
+
+module _ (limit made : ℕ) (m : Machine) (gs : List Granted) (h : MayCreate limit made m gs) where
+  abbrev creation : NumberedCall
+  creation = next_call m create_op
+
+  abbrev fresh : ℕ
+  fresh = creation.fresh
+
+  abbrev w : World
+  w = last_world m.world gs
+
+  abbrev l : Leases
+  l = last_leases m.leases gs
+
+  got : Reached m w l
+  got = comes_to m creation gs h.stands.holds h.gets
+
+  creates_there : step_at_home w creation ≡ create_step fresh
+  creates_there = creates_at m w (got.clients.home 1 ∙ h.stands.runs.home) (reads_same m w l 0 h.stands.runs got ∙ h.root)
+
+  holds_both : (i : ℕ) → contains (fresh ∷ 0 ∷ []) i ≡ true → l.levels.clients i ≡ new_lease 1 Write ∷ []
+  holds_both i there = of_either (λ j. l.levels.clients j ≡ new_lease 1 Write ∷ []) fresh 0 i h.file_held h.root_held there
+
+  create_served : HasServingLeases w l creation
+  create_served = record {
+    visited = λ i there. serves_own l i Read (holds_both i (or_right (fresh == i) ((0 == i) || false) (subst (λ t. contains t.visits i ≡ true) creates_there there)));
+    changed = λ i there. serves_own l i Write (holds_both i (subst (λ t. contains (touched t.effects) i ≡ true) creates_there there));
+  }
+
+  create_makes : call_makes_inode w creation ≡ true
+  create_makes = subst (λ t. list_any (makes fresh) t.effects ≡ true) (sym creates_there) (rw (eq-eqb fresh fresh refl) refl)
+
+  may_create : made + made < limit → made < 1048576 → MayDo limit m create_op gs
+  may_create room small = record {
+    fits = refl;
+    gets = h.gets;
+    reply = ap (λ t. t.reply) creates_there;
+    effects = ap (λ t. has_some t.effects) creates_there;
+    served = create_served;
+    room = (let few = h.records in omega (arith, few, room));
+    makes = λ it_makes. subst (λ k. k < 1048576) (sym h.made_is) small;
+  }
+
+  of_create : (m' : Machine) → IsDone limit m create_op gs m' → HasFile limit made fresh m'
+  of_create m' d = record {
+    stands = d.stands;
+    made_is = d.made ∙ ap (λ b. if b then suc (m.world.made 1) else m.world.made 1) create_makes ∙ ap (λ k. suc k) h.made_is;
+    records = (let more = d.records in let few = h.records in omega (arith, more, few));
+    not_root = file_not_root (m.world.made 1);
+    root = d.reads 0 ∙ ap (λ t. value_after 0 (view m.world 1 1 0) t.effects) creates_there ∙ ap (λ old. value_after 0 old (create_step fresh).effects) h.root
+        ∙ root_after_create fresh (file_not_root (m.world.made 1));
+    file = d.reads fresh ∙ ap (λ t. value_after fresh (view m.world 1 1 fresh) t.effects) creates_there ∙ file_after_create fresh (view m.world 1 1 fresh) (file_not_root (m.world.made 1));
+    root_held = ap (λ k. k.levels.clients 0) d.leases ∙ h.root_held;
+    file_held = ap (λ k. k.levels.clients fresh) d.leases ∙ h.file_held;
+    rest = subst (AreFree (suc made)) (sym d.leases) h.rest;
+  }
+
+  creates_file : made + made < limit → made < 1048576 → (i : ℕ) × (m' : Machine) × HasFile limit made i m'
+  creates_file room small = (let (m', d) = done limit m create_op gs h.stands (may_create room small) (λ u happens. happens) in (fresh, m', of_create m' d))
+
+-- where it holds the root it gets the file's inode alone
+module _ (limit made : ℕ) (m : Machine) (h : HasMade limit made m) where
+  abbrev next : ℕ
+  next = (next_call m create_op).fresh
+
+  no_client : m.leases.levels.clients next ≡ []
+  no_client = h.rest.clients (m.world.made 1) (let is = h.made_is in omega (arith, is))
+
+  no_node : m.leases.levels.nodes next ≡ []
+  no_node = h.rest.nodes (m.world.made 1) (let is = h.made_is in omega (arith, is))
+
+  new : (u : World) × (k : Leases) × TakesNew m next u k
+  new = takes_new m next h.stands.runs no_client no_node
+
+  abbrev next_lease : List Granted
+  next_lease = record { inode = next; mode = Write; world = new.0; leases = new.1 } ∷ []
+
+  lacks_next : IsMissing m.world m.leases (next_call m create_op) next Write
+  lacks_next =
+      let first : IsFirstMissing m.leases 1 (create_step next) next Write = rw (h.root_held, no_client) refl in
+      subst (λ t. IsFirstMissing m.leases 1 t next Write) (sym (creates_at m m.world h.stands.runs.home h.root)) first
+
+  other : (j : ℕ) → suc made ≤ j → inode_number 1 j ≢ next
+  other j low = files_differ j (m.world.made 1) (let is = h.made_is in omega (arith, low, is))
+
+  creates_next : MayCreate limit made m next_lease
+  creates_next = record {
+    stands = h.stands;
+    made_is = h.made_is;
+    records = h.records;
+    root = h.root;
+    gets = (lacks_next, new.2.grant, new.2.others, tt);
+    root_held = new.2.grant.granted.clients.elsewhere 0 (λ same. file_not_root (m.world.made 1) (sym same)) ∙ h.root_held;
+    file_held = new.2.lease;
+    rest = record {
+      clients = λ j low. new.2.grant.granted.clients.elsewhere (inode_number 1 j) (other j low) ∙ h.rest.clients j (omega (arith, low));
+      nodes = λ j low. new.2.grant.granted.nodes.elsewhere (inode_number 1 j) (other j low) ∙ h.rest.nodes j (omega (arith, low));
+    };
+  }
+
+-- ---- and unlinks it
+
+module _ (limit made i : ℕ) (m : Machine) (h : HasFile limit made i m) where
+  abbrev unlinking : NumberedCall
+  unlinking = next_call m unlink_op
+
+  unlinks_it : step_at_home m.world unlinking ≡ unlink_step i
+  unlinks_it =
+      let home : 1 ≡ m.world.home 1 = sym h.stands.runs.home in
+      unlinks (view m.world (m.world.home 1) 1) i unlinking.fresh (subst (λ n. view m.world n 1 0 ≡ Some (directory (one_link i))) home h.root) (subst (λ n. view m.world n 1 i ≡ Some (regular [])) home h.file)
+
+  holds_them : (j : ℕ) → contains (0 ∷ i ∷ []) j ≡ true → IsHeld m j
+  holds_them j there = of_either (IsHeld m) 0 i j h.root_held h.file_held there
+
+  makes_none : call_makes_inode m.world unlinking ≡ false
+  makes_none = ap (λ t. list_any (makes unlinking.fresh) t.effects) unlinks_it
+
+  may_unlink : suc (made + made) < limit → MayDo limit m unlink_op []
+  may_unlink room = record {
+    fits = refl;
+    gets = tt;
+    reply = ap (λ t. t.reply) unlinks_it;
+    effects = ap (λ t. has_some t.effects) unlinks_it;
+    served = record {
+      visited = λ j there. serves_own m.leases j Read (holds_them j (subst (λ t. contains t.visits j ≡ true) unlinks_it there));
+      changed = λ j there. serves_own m.leases j Write (holds_them j (subst (λ t. contains (touched t.effects) j ≡ true) unlinks_it there));
+    };
+    room = (let few = h.records in omega (arith, few, room));
+    makes = λ it_makes. (let none : call_makes_inode m.world unlinking ≡ false = makes_none in cc);
+  }
+
+  of_unlink : (m' : Machine) → IsDone limit m unlink_op [] m' → HasMade limit (suc made) m'
+  of_unlink m' d = record {
+    stands = d.stands;
+    made_is = d.made ∙ ap (λ b. if b then suc (m.world.made 1) else m.world.made 1) makes_none ∙ h.made_is;
+    records = (let more = d.records in let few = h.records in omega (arith, more, few));
+    root = d.reads 0 ∙ ap (λ t. value_after 0 (view m.world 1 1 0) t.effects) unlinks_it ∙ ap (λ old. value_after 0 old (unlink_step i).effects) h.root
+        ∙ root_after_unlink i h.not_root;
+    root_held = ap (λ l. l.levels.clients 0) d.leases ∙ h.root_held;
+    rest = subst (AreFree (suc made)) (sym d.leases) h.rest;
+  }
+
+  unlinks_file : suc (made + made) < limit → (m' : Machine) × HasMade limit (suc made) m'
+  unlinks_file room = (let (m', d) = done limit m unlink_op [] h.stands (may_unlink room) (λ u happens. happens) in (m', of_unlink m' d))
+
+-- ---- rounds, from the start
+
+-- the client, which was opened, gets the root, too
+module _ (limit : ℕ) (m : Machine) (o : IsOpen limit m) (gs : List Granted) (h : HasLeases m gs) where
+  opened_runs : Runs m.world
+  opened_runs =
+      let here : Full m.world 1 = rw o.world.full refl in
+      record {
+        clients = o.world.clients;
+        home = o.world.home;
+        lives = o.world.lives;
+        running = o.world.runs;
+        full = here;
+        first = o.world.first;
+        digested = o.digested 1 1 here;
+      }
+
+  first_number : (next_call m create_op).fresh ≡ inode_number 1 0
+  first_number = ap (inode_number 1) o.world.made
+
+  creates_first : MayCreate limit 0 m gs
+  creates_first = record {
+    stands = record { reached = o.reached; holds = o.holds; limit_is = o.limit_is; runs = opened_runs };
+    made_is = o.world.made;
+    records = (let none : length (m.world.records 1) ≡ 0 = ap length o.world.records in omega (arith, none));
+    root = subst (λ n. view m.world n 1 0 ≡ Some (directory no_links)) o.world.home (sees_root m.world o.world ∙ empty_root);
+    gets = subst (λ x. Gets x m.world m.leases gs) (same_call m o.world) h.gets;
+    root_held = h.clients_root;
+    file_held = subst (λ i. (last_leases m.leases gs).levels.clients i ≡ new_lease 1 Write ∷ []) (sym first_number) h.clients_own;
+    rest = record {
+      clients = λ j low. h.clients_else (inode_number 1 j) (file_not_root j) (files_differ j 0 low);
+      nodes = λ j low. h.nodes_else (inode_number 1 j) (file_not_root j) (files_differ j 0 low);
+    };
+  }
+
+-- it creates a file and unlinks it
+round : (limit made : ℕ) (m : Machine) (gs : List Granted) → suc (made + made) < limit → made < 1048576 → MayCreate limit made m gs → (m' : Machine) × HasMade limit (suc made) m'
+round limit made m gs room small h =
+    let (i, v, f) = creates_file limit made m gs h (omega (arith, room)) small in
+    unlinks_file limit made i v f room
+
+made_so_many : (limit more : ℕ) → suc more ≤ 1048576 → suc more + suc more ≤ limit → (m : Machine) × HasMade limit (suc more) m
+made_so_many limit zero few room =
+    let (m, o) = is_open limit in
+    let (gs, h) = leases_had limit m o in
+    round limit 0 m gs (omega (arith, room)) (omega arith) (creates_first limit m o gs h)
+made_so_many limit (suc more) few room =
+    let (m, h) = made_so_many limit more (omega (arith, few)) (omega (arith, room)) in
+    round limit (suc more) m (next_lease limit (suc more) m h) (omega (arith, room)) (omega (arith, few)) (creates_next limit (suc more) m h)
+
+-- ---- all are made
+
+refused_at : (limit : ℕ) (m : Machine) (gs : List Granted) (h : MayCreate limit 1048576 m gs) → Calling m 1 create_op (refused InodesSpent) (with_granted m gs)
+refused_at limit m gs h =
+    is_spent Done gs refl (record {
+      tried = record { fine = no_fault m create_op h.stands.runs refl; next = refl; fresh = refl; gets = h.gets };
+      served = create_served limit 1048576 m gs h;
+      makes = create_makes limit 1048576 m gs h;
+      made = h.made_is;
+    }) (keeps_them m gs)
+
+-- a call that would make one more is refused
+pub spent_comes : (op : Op) × Comes (λ m m'. Calling m 1 op (refused InodesSpent) m')
+spent_comes =
+    let (m, h) = made_so_many 2097152 1048575 (omega arith) (omega arith) in
+    let gs : List Granted = next_lease 2097152 1048576 m h in (
+      create_op,
+      record { limit = 2097152; before = m; reached = h.stands.reached; after = with_granted m gs; outcome = refused_at 2097152 m gs (creates_next 2097152 1048576 m h) },
+    )

@@ -1,0 +1,201 @@
+-- A dsync can coalesce.
+use Rattle.std.proofs.Common.{◌≡◌, ◌≢◌, ℕ, ◌+◌, ◌-◌, ◌<◌, ◌≤◌, ◌==◌, ◌&&◌, ◌||◌, not, nat_le, if◌then◌else◌, Bool, true, false, List, [], ◌∷◌, ◌++◌, None, length, take, drop, refl, ap, sym, subst, ◌∙◌, inl, inr, arith, append-nil}
+use Rattle.std.proofs.lemmas.Bool.{false≢true, cases_eq, cond-true, cond-false, eq-eqb, ne_eqb, le-leb, lt-leb, and_from, and_left, and_right, or_right}
+use Rattle.std.proofs.lemmas.List.{length-take}
+use Rattle.assise_record.specs.Groups.{AllHaveEffects, all_coalesced, are_whole}
+use Rattle.assise_record.specs.LogRecord.{LogRecord}
+use Rattle.assise_record.proofs.GroupMarks.{groups-all, groups-are}
+use Rattle.assise_record.proofs.WholeGroups.{whole_none}
+use Rattle.assise_inode_table.specs.Effects.{contains}
+use Rattle.assise_model_world.specs.Coalescing.{GetsAll, HasNone}
+use Rattle.assise_model_world.specs.Regrouped.{Regroups}
+use Rattle.assise_model_world.specs.Invariant.{WorldInvariant}
+use Rattle.assise_model_world.specs.World.{World, Full, end_of_log, received_by_all, records_between}
+use Rattle.assise_model_world.proofs.FailureKeeps.{contains-filter, filter-contains}
+use Rattle.assise_model_world.proofs.Logs.{length-both}
+use Rattle.assise_model_world.proofs.WorldObserved.{end_is, first-received_by_all, received_by_all-end}
+use Rattle.assise_names.specs.declared.call.Op.TheVariants.{Dsync}
+use Rattle.assise_names.specs.declared.durability.Durability.TheVariants.{Pessimistic}
+use Rattle.assise_names.specs.declared.reply.Reply.TheVariants.{Done}
+use Rattle.assise_model_events.specs.ClientEvents.{Syncing, is_refused, is_replicating, is_synced, lacks_memory}
+use Rattle.assise_model_events.specs.Dsyncs.{Coalescing, IsCoalescing, coalesced_from, full_elsewhere, is_coalesced, is_synced, most_of, new_groups}
+use Rattle.assise_model_events.specs.Events.{not_yet, replied}
+use Rattle.assise_model_events.specs.Faults.{client_fault}
+use Rattle.assise_model_events.proofs.Answerable.{synced_can}
+use Rattle.assise_model_events.proofs.Faultless.{client_runs}
+use Rattle.assise_model_events.specs.Machine.{MachineInvariant, Machine}
+
+pub between_length : (w : World) (c s : ℕ) → w.first c ≤ s → s ≤ end_of_log w c → length (records_between w c s (end_of_log w c)) ≤ end_of_log w c
+unfolding records_between
+between_length w c s low high = omega (arith, length-take (end_of_log w c - s) (drop (s - w.first c) (w.records c)))
+
+pub most-above : (ns : List ℕ) (f : ℕ → ℕ) (n : ℕ) → contains ns n ≡ true → f n ≤ most_of ns f
+most-above [] f n h = absurd (false≢true h)
+most-above (m ∷ ns) f n h =
+    elim (cases_eq m n) [
+      | inl is ↦ (let t : f m ≡ f n = ap f is in omega (arith, t))
+      | inr other ↦ (let rest : contains ns n ≡ true = sym (ap (λ b. b || contains ns n) (ne_eqb m n other)) ∙ h in omega (arith, most-above ns f n rest))
+    ]
+
+pub most-below : (ns : List ℕ) (f : ℕ → ℕ) (top : ℕ) → ((n : ℕ) → contains ns n ≡ true → f n ≤ top) → most_of ns f ≤ top
+most-below [] f top h = omega arith
+most-below (m ∷ ns) f top h =
+    omega (arith, h m (ap (λ b. b || contains ns m) (eq-eqb m m refl)), most-below ns f top (λ n t. h n (or_right (m == n) (contains ns n) t)))
+
+-- a dsync begins to coalesce at a place of the log that no other full node has passed
+module _ (w : World) (c : ℕ) (h : WorldInvariant w) where
+  pub coalesced_elsewhere : (n : ℕ) → Full w n → n ≢ w.home c → w.received n c ≤ coalesced_from w c
+  coalesced_elsewhere n f other =
+      (let kept : contains (full_elsewhere w c) n ≡ true = filter-contains (λ m. not (m == w.home c)) w.full n (ap not (ne_eqb n (w.home c) other)) f in
+      let t : w.received n c ≤ most_of (full_elsewhere w c) (λ m. w.received m c) = most-above (full_elsewhere w c) (λ m. w.received m c) n kept in
+      omega (arith, t))
+
+  pub coalesced_high : coalesced_from w c ≤ end_of_log w c
+  coalesced_high =
+      (let t : most_of (full_elsewhere w c) (λ m. w.received m c) ≤ end_of_log w c =
+      most-below (full_elsewhere w c) (λ m. w.received m c) (end_of_log w c) (λ n k. (h.coherent.order n c (contains-filter (λ m. not (m == w.home c)) w.full n k)).known) in
+      omega (arith, t, h.goals c, received_by_all-end w c))
+
+  pub coalesced_low : received_by_all w c ≤ coalesced_from w c
+  coalesced_low = omega arith
+
+  pub coalesced_first : w.first c ≤ coalesced_from w c
+  coalesced_first = omega (arith, first-received_by_all w h.coherent c, coalesced_low)
+
+module _ (w : World) (c : ℕ) (h : WorldInvariant w) (lives : w.lives c ≡ true) (some : AllHaveEffects (records_between w c (coalesced_from w c) (end_of_log w c))) where
+  abbrev s : ℕ
+  s = coalesced_from w c
+
+  abbrev gs : List (List LogRecord)
+  gs = new_groups w c
+
+  abbrev records_now : List LogRecord
+  records_now = take (s - w.first c) (w.records c) ++ all_coalesced gs
+
+  abbrev here : ℕ → ℕ → Bool
+  here n d = (d == c) && (n == w.home c)
+
+  abbrev u : World
+  u = record w {
+    records = λ d. if d == c then records_now else w.records d;
+    border = λ d k. if d == c then (if nat_le k s then w.border c k else are_whole gs (k - s)) else w.border d k;
+    received = λ n d. if here n d then s + length (all_coalesced gs) else w.received n d;
+    log = λ n d. if here n d then records_now else w.log n d;
+    goal = λ d. if d == c then s + length (all_coalesced gs) else w.goal d;
+  }
+
+  high : s ≤ end_of_log w c
+  high = coalesced_high w c h
+
+  first_low : w.first c ≤ s
+  first_low = coalesced_first w c h
+
+  own : (c == c) ≡ true
+  own = eq-eqb c c refl
+
+  records_are : u.records c ≡ records_now
+  records_are = cond-true (c == c) records_now (w.records c) own
+
+  end_now : end_of_log u c ≡ s + length (all_coalesced gs)
+  end_now =
+      end_is u c ∙ ap (λ l. w.first c + length l) records_are
+      ∙ omega (arith, length-both (take (s - w.first c) (w.records c)) (all_coalesced gs), length-take (s - w.first c) (w.records c), first_low, high, end_is w c)
+
+  border_then : (k : ℕ) → (b : Bool) → nat_le (s + k) s ≡ b → b ≡ false → u.border c (s + k) ≡ are_whole gs k
+  border_then k b is off =
+      (let back : (s + k) - s ≡ k = omega arith in
+      cond-true (c == c) _ _ own ∙ cond-false (nat_le (s + k) s) _ _ (is ∙ off) ∙ ap (are_whole gs) back)
+
+  border_first : (k : ℕ) → k ≡ 0 → u.border c (s + k) ≡ are_whole gs k
+  border_first k none =
+      (let at : s + k ≡ s = omega (arith, none) in
+      ap (u.border c) at ∙ cond-true (c == c) _ _ own ∙ cond-true (nat_le s s) _ _ (le-leb s s (omega arith))
+      ∙ h.disjoint c s lives first_low (omega arith) high ∙ sym (ap (are_whole gs) none ∙ whole_none gs))
+
+  at_home : GetsAll (w.home c) c u
+  at_home = record {
+    received = cond-true (here (w.home c) c) _ _ (and_from (c == c) (w.home c == w.home c) own (eq-eqb (w.home c) (w.home c) refl)) ∙ sym end_now;
+    log = cond-true (here (w.home c) c) _ _ (and_from (c == c) (w.home c == w.home c) own (eq-eqb (w.home c) (w.home c) refl)) ∙ sym records_are;
+  }
+
+  else_here : (n d : ℕ) → d ≢ c → here n d ≡ false
+  else_here n d other = and_left (d == c) (n == w.home c) (ne_eqb d c other)
+
+  elsewhere : (n : ℕ) → Full w n → n ≢ w.home c → HasNone w n c s u
+  elsewhere n f other = record {
+    before = coalesced_elsewhere w c h n f other;
+    received = cond-false (here n c) _ _ (and_right (c == c) (n == w.home c) (ne_eqb n (w.home c) other));
+    log = cond-false (here n c) _ _ (and_right (c == c) (n == w.home c) (ne_eqb n (w.home c) other));
+  }
+
+  regroups : Regroups w c (coalesced_from w c) (new_groups w c) u
+  regroups = record {
+    lives = lives;
+    low = coalesced_low w c h;
+    high = high;
+    groups = groups-are (end_of_log w c) (records_between w c s (end_of_log w c)) some;
+    cut = groups-all (end_of_log w c) (records_between w c s (end_of_log w c)) (between_length w c s first_low high);
+    records_own = records_are;
+    records_else = λ d other. cond-false (d == c) _ _ (ne_eqb d c other);
+    border_old = λ k old. cond-true (c == c) _ _ own ∙ cond-true (nat_le k s) _ _ (le-leb k s old);
+    border_new = λ k le. elim (cases_eq k 0) [
+      | inl none ↦ border_first k none
+      | inr more ↦ border_then k (nat_le (s + k) s) refl (lt-leb (s + k) s (omega (arith, more)))
+    ];
+    border_else = λ d k other. cond-false (d == c) _ _ (ne_eqb d c other);
+    here = λ n f. elim (cases_eq n (w.home c)) [
+      | inl is ↦ inr (subst (λ m. GetsAll m c u) (sym is) at_home)
+      | inr other ↦ inl (elsewhere n f other)
+    ];
+    at_home = at_home;
+    received_else = λ n d f other. cond-false (here n d) _ _ (else_here n d other);
+    log_else = λ n d f other. cond-false (here n d) _ _ (else_here n d other);
+    full = refl;
+    area = λ n i f. refl;
+    digested = λ n d f. refl;
+    calls = refl;
+    first = λ d. refl;
+    next = λ d. refl;
+    made = λ d. refl;
+    clients = record { clients = refl; home = λ d. refl; lives = λ d. refl; crashed = λ d. refl };
+    goal = omega arith;
+    goal_here = cond-true (c == c) _ _ own ∙ sym end_now;
+    goal_else = λ d other. cond-false (d == c) _ _ (ne_eqb d c other);
+    leases = record { holds = λ d i. refl; writes = λ d i. refl };
+  }
+
+  -- areas stay, those of nodes that aren't full too, and no other full node gets a record
+  pub can_regroup : (v : World) × (Regroups w c (coalesced_from w c) (new_groups w c) v × (((n i : ℕ) → v.area n i ≡ w.area n i) × ((n : ℕ) → Full w n → n ≢ w.home c → HasNone w n c (coalesced_from w c) v)))
+  can_regroup = (u, (regroups, (λ n i. refl, elsewhere)))
+
+can_coalesce : (m : Machine) (c : ℕ) → MachineInvariant m → m.world.lives c ≡ true → received_by_all m.world c < end_of_log m.world c →
+    AllHaveEffects (records_between m.world c (coalesced_from m.world c) (end_of_log m.world c)) → (m' : Machine) × IsCoalescing m c m'
+can_coalesce m c h lives lacking some =
+    let (v, t) = can_regroup m.world c h.sound lives some in (
+      record m { world = v },
+      record {
+        lacking = lacking;
+        regroups = t.0;
+        elsewhere = t.1.1;
+        leases = refl;
+        adds = record { history = sym (append-nil m.history); limit = refl };
+        keeps = record { members = refl; others = λ n i other. t.1.0 n i };
+      },
+    )
+
+pub coalesced_can : (m : Machine) (c : ℕ) → MachineInvariant m → client_fault m c ≡ None → received_by_all m.world c < end_of_log m.world c →
+    AllHaveEffects (records_between m.world c (coalesced_from m.world c) (end_of_log m.world c)) → (m' : Machine) × Coalescing m c not_yet m'
+coalesced_can m c h fine lacking some =
+    let (m', e) = can_coalesce m c h (client_runs m c fine).0 lacking some in
+    (m', is_coalesced fine refl e)
+
+as_coalescing : (m m' : Machine) (c : ℕ) → Syncing m c Dsync (replied Done) m' → Coalescing m c (replied Done) m'
+as_coalescing m m' c (is_synced reply fine is e) = is_synced reply fine is e
+as_coalescing m m' c (is_replicating fine is e) = cc
+as_coalescing m m' c (lacks_memory fine all is same) = cc
+as_coalescing m m' c (is_refused r fault is same) = cc
+
+pub coalescing_synced : (m : Machine) (c : ℕ) → MachineInvariant m → client_fault m c ≡ None → received_by_all m.world c ≡ end_of_log m.world c → (m' : Machine) × Coalescing m c (replied Done) m'
+coalescing_synced m c h fine all =
+    let (m', e) = synced_can m c Dsync Pessimistic refl h fine all in
+    (m', as_coalescing m m' c e)

@@ -1,0 +1,107 @@
+-- A node that lacks no inode gets its donor's logs, and is full again.
+use Rattle.std.proofs.Common.{◌≡◌, inl, inr, ℕ, zero, suc, ◌+◌, ◌-◌, ◌≤◌, Some, List, [], ◌∷◌, length, refl, ap, sym, subst, ◌∙◌, arith, length-append}
+use Rattle.std.specs.List.{slice_get}
+use Rattle.std.proofs.lemmas.Option.{none-some}
+use Rattle.assise_history.specs.Entries.{returns}
+use Rattle.assise_manager.specs.Standings.{Standing, standing_of}
+use Rattle.assise_manager.specs.Standings.Standing.{full, returning}
+use Rattle.assise_model_world.specs.NodeSteps.{Joins}
+use Rattle.assise_model_world.specs.Invariant.{AreDropped}
+use Rattle.assise_model_world.specs.World.{World, Full, least_of, end_of_log, digested_by_all}
+use Rattle.assise_model_world.proofs.WorldObserved.{least_of-below, least_of-above, least_of-end}
+use Rattle.assise_model_world.proofs.QuietSteps.{end-same}
+use Rattle.assise_model_leases.proofs.QuietLeases.{logs_keep}
+use Rattle.assise_model_members.proofs.JoinKeeps.{rejoin_joins, rejoin_keeps}
+use Rattle.assise_model_history.specs.Traces.EntryHappens.{comeback}
+use Rattle.assise_model_history.specs.State.{IsNode}
+use Rattle.assise_model_events.specs.Events.{Answer}
+use Rattle.assise_model_events.specs.Happenings.{Leads}
+use Rattle.assise_model_events.specs.Machine.{Machine, MachineInvariant, state_of}
+use Rattle.assise_model_events.specs.MemberEvents.{Joining}
+use Rattle.assise_model_events.specs.MemberEvents.Joining.{is_joined, lacks_memory, is_refused}
+use Rattle.assise_model_events.proofs.EventTraces.{leads_sound, leads_recorded, same_leads, same_holds}
+use Rattle.assise_model_events.proofs.ReturnKeeps.{as_many}
+
+-- ---- a node that stands somehow is one of the cluster
+
+within : (nodes : List Standing) (i : ℕ) (s : Standing) → slice_get nodes i ≡ Some s → suc i ≤ length nodes
+within [] i s at = absurd (none-some s at)
+within (x ∷ xs) zero s at = omega arith
+within (x ∷ xs) (suc i) s at = omega (arith, within xs i s at)
+
+node_within : (nodes : List Standing) (n : ℕ) (s : Standing) → standing_of nodes n ≡ Some s → (1 ≤ n) × (n ≤ length nodes)
+node_within nodes zero s at = absurd (none-some s at)
+node_within nodes (suc place) s at = (omega arith, within nodes place s at)
+
+pub stands_is_node : (m : Machine) (n : ℕ) (s : Standing) → standing_of m.members.nodes n ≡ Some s → IsNode (state_of m) n
+stands_is_node m n s at = node_within m.members.nodes n s at
+
+-- ---- prefixes of logs stay
+
+-- what a full node has digested now some full node had digested before
+digested_before : (w u : World) (n donor c m : ℕ) → Joins w n donor u → Full u m → digested_by_all w c ≤ u.digested m c
+unfolding digested_by_all
+digested_before w u n donor c m e h =
+    elim (e.only m h) [
+      | inl is ↦ subst (λ k. least_of w.full (λ m. w.digested m c) (end_of_log w c) ≤ u.digested k c) (sym is)
+          (rw (e.digested_here c) (least_of-below w.full (λ m. w.digested m c) (end_of_log w c) donor e.donor_full))
+      | inr f ↦ rw ((e.else_same m f).digested c) (least_of-below w.full (λ m. w.digested m c) (end_of_log w c) m f)
+    ]
+
+digested_up : (w u : World) (n donor c : ℕ) → Joins w n donor u → digested_by_all w c ≤ digested_by_all u c
+unfolding digested_by_all
+digested_up w u n donor c e =
+    least_of-above u.full (λ m. u.digested m c) (end_of_log u c) (least_of w.full (λ m. w.digested m c) (end_of_log w c))
+    (rw (end-same w u e.logs c) (least_of-end w.full (λ m. w.digested m c) (end_of_log w c)))
+    (λ m h. digested_before w u n donor c m e h)
+
+digested_down : (w u : World) (n donor c : ℕ) → Joins w n donor u → digested_by_all u c ≤ digested_by_all w c
+unfolding digested_by_all
+digested_down w u n donor c e =
+    least_of-above w.full (λ m. w.digested m c) (end_of_log w c) (least_of u.full (λ m. u.digested m c) (end_of_log u c))
+    (subst (λ k. least_of u.full (λ m. u.digested m c) (end_of_log u c) ≤ k) (end-same w u e.logs c) (least_of-end u.full (λ m. u.digested m c) (end_of_log u c)))
+    (λ m h. subst (λ k. least_of u.full (λ m. u.digested m c) (end_of_log u c) ≤ k) ((e.else_same m h).digested c) (least_of-below u.full (λ m. u.digested m c) (end_of_log u c) m (e.stay m h)))
+
+join_dropped : (w u : World) (n donor : ℕ) → Joins w n donor u → AreDropped w → AreDropped u
+unfolding AreDropped
+join_dropped w u n donor e dropped c =
+    let up : digested_by_all w c ≤ digested_by_all u c = digested_up w u n donor c e in
+    let down : digested_by_all u c ≤ digested_by_all w c = digested_down w u n donor c e in
+    let same : digested_by_all w c ≡ digested_by_all u c = omega (arith, up, down) in
+    e.logs.first c ∙ dropped c ∙ same
+
+-- ---- a node is full again
+
+pub join_leads : (m m' : Machine) (n : ℕ) (a : Answer) → MachineInvariant m → Joining m n a m' → Leads m m'
+join_leads m m' n a h (is_joined fine is e) = record {
+  states = state_of m' ∷ [];
+  trace = (
+    comeback n e.rejoins.donor (record {
+      adds = record { nodes = ap (λ o. length o.nodes) e.rejoins.members ∙ as_many m.members.nodes (n - 1) full; entry = e.adds.history };
+      node = stands_is_node m n (returning e.rejoins.since e.rejoins.donor e.rejoins.stale) e.rejoins.stands;
+      world = rejoin_joins m.world m'.world m.members m'.members n h.members e.rejoins;
+    }),
+    tt,
+  );
+  last = refl;
+}
+join_leads m m' n a h (lacks_memory fine is same) = same_leads m m' same
+join_leads m m' n a h (is_refused r fault is same) = same_leads m m' same
+
+pub join_holds : (m m' : Machine) (n : ℕ) (a : Answer) → MachineInvariant m → Joining m n a m' → MachineInvariant m'
+join_holds m m' n a h (is_joined fine is e) =
+    let l : Leads m m' = join_leads m m' n a h (is_joined fine is e) in
+    let j : Joins m.world n e.rejoins.donor m'.world = rejoin_joins m.world m'.world m.members m'.members n h.members e.rejoins in
+    let epoch : m'.members.epoch ≡ m.members.epoch + 1 = ap (λ o. o.epoch) e.rejoins.members in
+    record {
+      sound = leads_sound m m' h l;
+      dropped = join_dropped m.world m'.world n e.rejoins.donor j h.dropped;
+      recorded = leads_recorded m m' h l;
+      leases = rw e.leases (logs_keep m.world m'.world m.leases j.logs j.clients j.leases (λ c. rw (j.goals c) (omega arith)) h.leases);
+      members = rejoin_keeps m.world m'.world m.members m'.members n h.members e.rejoins;
+      epochs = rw (e.adds.history, length-append m.history (returns n ∷ []), epoch) (omega (arith, h.epochs));
+      logs = λ c. rw (j.logs.records c, e.adds.limit) (h.logs c);
+      clients = rw j.clients.clients h.clients;
+    }
+join_holds m m' n a h (lacks_memory fine is same) = same_holds m m' same h
+join_holds m m' n a h (is_refused r fault is same) = same_holds m m' same h

@@ -1,0 +1,156 @@
+-- What nodes do keeps the invariant: leases that may go do.
+use Rattle.std.proofs.Common.{◌≡◌, inl, inr, ℕ, List, [], ◌∷◌, length, true, false, refl, ap, sym, subst, ◌∙◌, arith}
+use Rattle.assise_inode_table.specs.Effects.{contains}
+use Rattle.std.proofs.lemmas.Bool.{cases_Bool, cases_eq, le-leb}
+use Rattle.assise_lease_table.specs.Leases.{lease_of}
+use Rattle.assise_lease_tree.proofs.Lookups.{without_other}
+use Rattle.assise_lease_tree.specs.Levels.{is_revoked}
+use Rattle.assise_model_world.specs.Invariant.{AreDropped}
+use Rattle.assise_model_world.specs.World.{World, digested_by_all}
+use Rattle.assise_model_world.proofs.QuietSteps.{still_dropped}
+use Rattle.assise_model_history.specs.Traces.{IsTrace, last_of}
+use Rattle.assise_model_history.specs.Entered.NeedsNoEntry.{releases}
+use Rattle.assise_model_history.specs.State.{State}
+use Rattle.assise_model_leases.specs.Handing.{ReleasesReady}
+use Rattle.assise_model_leases.specs.Leases.{Leases, AreLeases, client_lease}
+use Rattle.assise_model_leases.proofs.LeasesGo.{goes, release_keeps, free_keeps}
+use Rattle.assise_model_members.specs.Members.{AreMembers}
+use Rattle.assise_model_members.specs.Returns.{OtherAreasStay}
+use Rattle.assise_manager.specs.Membership.{Membership}
+use Rattle.assise_model_events.specs.Events.{Answer}
+use Rattle.assise_model_events.specs.Happenings.{Leads}
+use Rattle.assise_model_events.specs.Machine.{Machine, MachineInvariant}
+use Rattle.assise_model_events.specs.NodeEvents.{is_ready, Gone, LetsGo, world_after, leases_after, Freed, Frees, leases_freed, IsReleased, Releasing}
+use Rattle.assise_model_events.specs.NodeEvents.Releasing.{is_released}
+use Rattle.assise_model_events.proofs.EventTraces.{with_world, quietly, ends_as}
+use Rattle.assise_model_events.proofs.DeliveryKeeps.{quiet_holds, areas_stay}
+
+-- ---- leases go
+
+-- what holds while they go, from a world on
+record Stand (o : Membership) (w₀ w : World) (l : Leases) : Type 0 where
+  dropped : AreDropped w
+  leases : AreLeases w l
+  members : AreMembers w o
+  records : (c : ℕ) → w.records c ≡ w₀.records c
+  clients : w.clients ≡ w₀.clients
+  full : w.full ≡ w₀.full
+
+still_stand : (o : Membership) (w₀ w u : World) (l k : Leases) (c i : ℕ) → Stand o w₀ w l → ReleasesReady w l c i u k → OtherAreasStay w u → Stand o w₀ u k
+still_stand o w₀ w u l k c i s e others = record {
+  dropped = still_dropped w u e.holds.logs e.holds.nodes s.dropped;
+  leases = release_keeps w u l k c i s.leases e;
+  members = areas_stay w u o e.holds.nodes.full (λ n j f. (e.holds.nodes.same n f).area j) others s.members;
+  records = λ d. e.holds.logs.records d ∙ s.records d;
+  clients = e.holds.clients.clients ∙ s.clients;
+  full = e.holds.nodes.full ∙ s.full;
+}
+
+stand_after : (o : Membership) (w₀ w : World) (l : Leases) (gone : List Gone) → Stand o w₀ w l → LetsGo w l gone → Stand o w₀ (world_after w gone) (leases_after l gone)
+stand_after o w₀ w l [] s t = s
+stand_after o w₀ w l (g ∷ gs) s (e, others, t) =
+    stand_after o w₀ g.world g.leases gs (still_stand o w₀ w g.world l g.leases g.client g.inode s e others) t
+
+-- one state for each
+abbrev states_of : Machine → List Gone → List State
+states_of m [] = []
+states_of m (g ∷ gs) = with_world m g.world ∷ states_of m gs
+
+trace_of : (m : Machine) (o : Membership) (w₀ w : World) (l : Leases) (gone : List Gone) → Stand o w₀ w l → LetsGo w l gone → IsTrace (with_world m w) (states_of m gone)
+trace_of m o w₀ w l [] s t = tt
+trace_of m o w₀ w l (g ∷ gs) s (e, others, t) = (
+  quietly m w g.world (releases g.client g.inode (goes w g.world l g.leases g.client g.inode s.leases e s.dropped)),
+  trace_of m o w₀ g.world g.leases gs (still_stand o w₀ w g.world l g.leases g.client g.inode s e others) t,
+)
+
+last_gone : (m : Machine) (w : World) (gone : List Gone) → last_of (with_world m w) (states_of m gone) ≡ with_world m (world_after w gone)
+last_gone m w [] = refl
+last_gone m w (g ∷ gs) = last_gone m g.world gs
+
+-- ---- what isn't ready stays
+
+went_ready : (w : World) (l : Leases) (c i : ℕ) (u : World) (k : Leases) → ReleasesReady w l c i u k → is_ready w l c i ≡ true
+went_ready w l c i u k e = rw (e.revoked) (le-leb (l.cut c i) (digested_by_all w c) e.ready)
+
+one_stays : (w : World) (l : Leases) (c i : ℕ) (u : World) (k : Leases) → ReleasesReady w l c i u k → (d j : ℕ) → is_ready w l d j ≡ false → client_lease k d j ≡ client_lease l d j
+one_stays w l c i u k e d j unready =
+    elim (cases_eq j i) [
+      | inl here ↦
+          elim (cases_eq d c) [
+            | inl own ↦ absurd (let both : true ≡ false = sym (went_ready w l c i u k e) ∙ subst (λ y. is_ready w l c y ≡ false) here (subst (λ x. is_ready w l x j ≡ false) own unready) in cc)
+            | inr other ↦ subst (λ y. client_lease k d y ≡ client_lease l d y) (sym here) (ap (λ ls. lease_of ls d) e.released.clients.here ∙ without_other (l.levels.clients i) c d other)
+          ]
+      | inr away ↦ ap (λ ls. lease_of ls d) (e.released.clients.elsewhere j away)
+    ]
+
+still_ready : (w : World) (l : Leases) (c i : ℕ) (u : World) (k : Leases) → AreDropped w → AreDropped u → ReleasesReady w l c i u k → (d j : ℕ) → client_lease k d j ≡ client_lease l d j →
+    is_ready u k d j ≡ is_ready w l d j
+unfolding AreDropped
+still_ready w l c i u k before after e d j same =
+    let all : digested_by_all u d ≡ digested_by_all w d = sym (after d) ∙ e.holds.logs.first d ∙ before d in
+    elim (cases_Bool (is_revoked (client_lease k d j))) [
+      | inl revoked ↦ rw (same, e.cuts d j revoked, all) refl
+      | inr not ↦ (let was : is_revoked (client_lease l d j) ≡ false = ap is_revoked (sym same) ∙ not in rw (not, was) refl)
+    ]
+
+unready_stays : (o : Membership) (w₀ w : World) (l : Leases) (gone : List Gone) → Stand o w₀ w l → LetsGo w l gone → (d j : ℕ) → is_ready w l d j ≡ false →
+    client_lease (leases_after l gone) d j ≡ client_lease l d j
+unready_stays o w₀ w l [] s t d j unready = refl
+unready_stays o w₀ w l (g ∷ gs) s (e, others, t) d j unready =
+    let next : Stand o w₀ g.world g.leases = still_stand o w₀ w g.world l g.leases g.client g.inode s e others in
+    let same : client_lease g.leases d j ≡ client_lease l d j = one_stays w l g.client g.inode g.world g.leases e d j unready in
+    unready_stays o w₀ g.world g.leases gs next t d j (still_ready w l g.client g.inode g.world g.leases s.dropped next.dropped e d j same ∙ unready) ∙ same
+
+-- ---- nodes give up theirs
+
+pub freed_same : (w : World) (l : Leases) (fs : List Freed) (c i : ℕ) → Frees w l fs → client_lease (leases_freed l fs) c i ≡ client_lease l c i
+freed_same w l [] c i frees = refl
+freed_same w l (f ∷ fs) c i frees = freed_same w f.leases fs c i frees.1 ∙ ap (λ ls. lease_of ls c) (frees.0.freed.clients i)
+
+freed_keeps : (w u : World) (l : Leases) (freed : List Freed) → u.full ≡ w.full → AreLeases u l → Frees w l freed → AreLeases u (leases_freed l freed)
+freed_keeps w u l [] full a t = a
+freed_keeps w u l (f ∷ fs) full a (e, t) =
+    freed_keeps w u f.leases fs full
+    (free_keeps u l f.leases f.node a (record {
+      away = λ is. e.away (subst (λ ns. contains ns f.node ≡ true) full is);
+      idle = e.idle;
+      freed = e.freed;
+      cuts = e.cuts;
+    })) t
+
+-- ---- all of it
+
+module _ (m m' : Machine) (gone : List Gone) (freed : List Freed) (h : MachineInvariant m) (e : IsReleased m gone freed m') where
+  begins : Stand m.members m.world m.world m.leases
+  begins = record { dropped = h.dropped; leases = h.leases; members = h.members; records = λ c. refl; clients = refl; full = refl }
+
+  ends : Stand m.members m.world (world_after m.world gone) (leases_after m.leases gone)
+  ends = stand_after m.members m.world m.world m.leases gone begins e.releases
+
+  released_leads : Leads m m'
+  released_leads = record {
+    states = states_of m gone;
+    trace = trace_of m m.members m.world m.world m.leases gone begins e.releases;
+    last = last_gone m m.world gone ∙ ends_as m m' (world_after m.world gone) (ap (λ o. length o.nodes) e.members) e.adds e.world;
+  }
+
+  released_holds : MachineInvariant m'
+  released_holds =
+      quiet_holds m m' h released_leads e.adds
+      (subst AreDropped (sym e.world) ends.dropped)
+      (rw (e.world, e.leases) (freed_keeps m.world (world_after m.world gone) (leases_after m.leases gone) freed ends.full ends.leases e.frees))
+      (rw (e.world, e.members) ends.members)
+      (ap (λ o. o.epoch) e.members)
+      (λ c. rw (e.world, ends.records c) (omega arith))
+      (ap (λ w. w.clients) e.world ∙ ends.clients)
+
+pub release_leads : (m m' : Machine) (a : Answer) → MachineInvariant m → Releasing m a m' → Leads m m'
+release_leads m m' a h (is_released gone freed is e) = released_leads m m' gone freed h e
+
+pub release_holds : (m m' : Machine) (a : Answer) → MachineInvariant m → Releasing m a m' → MachineInvariant m'
+release_holds m m' a h (is_released gone freed is e) = released_holds m m' gone freed h e
+
+pub unready_kept : (m m' : Machine) (a : Answer) → MachineInvariant m → Releasing m a m' → (c i : ℕ) → is_ready m.world m.leases c i ≡ false → client_lease m'.leases c i ≡ client_lease m.leases c i
+unready_kept m m' a h (is_released gone freed is e) c i unready =
+    ap (λ l. client_lease l c i) e.leases ∙ freed_same m.world (leases_after m.leases gone) freed c i e.frees ∙
+    unready_stays m.members m.world m.world m.leases gone (begins m m' gone freed h e) e.releases c i unready

@@ -1,0 +1,91 @@
+-- The invariant between events holds at the start.
+use Rattle.std.proofs.Common.{◌≡◌, ℕ, zero, suc, ◌<◌, ◌≤◌, List, length, Some, None, refl, ap, sym, subst, ◌∙◌, arith}
+use Rattle.std.specs.List.{slice_get}
+use Rattle.assise_lease_tree.specs.TwoLevels.{nobody}
+use Rattle.assise_manager.specs.Changes.{fulls, all_full}
+use Rattle.assise_manager.specs.Standings.{full, standing_of}
+use Rattle.assise_manager.proofs.Lawful.{all_full_lawful}
+use Rattle.assise_model_world.specs.Runs.{begun}
+use Rattle.assise_model_world.proofs.StepLists.{begun_dropped}
+use Rattle.assise_model_leases.specs.Leases.{Leases, AreLeases}
+use Rattle.assise_model_members.specs.Members.{AreMembers, since_of}
+use Rattle.assise_model_members.proofs.NodeStandings.{none_failed}
+use Rattle.assise_model_history.specs.State.{IsRecorded, begun_with, down_from}
+use Rattle.assise_model_history.proofs.TracesKeep.{begun_sound, begun_recorded, node_of, of_node}
+use Rattle.assise_model_events.specs.Machine.{MachineInvariant, begun_as, state_of}
+
+-- ---- full nodes
+
+fulls_length : (count : ℕ) → length (fulls count) ≡ count
+fulls_length zero = refl
+fulls_length (suc count) = ap suc (fulls_length count)
+
+fulls_get : (count place : ℕ) → place < count → slice_get (fulls count) place ≡ Some full
+fulls_get zero place low = absurd (omega (arith, low))
+fulls_get (suc count) zero low = refl
+fulls_get (suc count) (suc place) low = fulls_get count place (omega (arith, low))
+
+fulls_place : (count place : ℕ) → slice_get (fulls count) place ≡ Some full → place < count
+fulls_place zero place at = cc
+fulls_place (suc count) zero at = omega arith
+fulls_place (suc count) (suc place) at = (let rest : place < count = fulls_place count place at in omega (arith, rest))
+
+full_at : (count n : ℕ) → 1 ≤ n → n ≤ count → standing_of (fulls count) n ≡ Some full
+full_at count zero low high = absurd (omega (arith, low))
+full_at count (suc place) low high = fulls_get count place (omega (arith, high))
+
+at_full : (count n : ℕ) → standing_of (fulls count) n ≡ Some full → (1 ≤ n) × (n ≤ count)
+at_full count zero at = cc
+at_full count (suc place) at = (let low : place < count = fulls_place count place at in (omega arith, omega (arith, low)))
+
+none_since : (count n e : ℕ) → since_of (standing_of (fulls count) n) ≡ Some e → ⊥
+none_since count n e at = (let same : None ≡ Some e = sym (none_failed count n) ∙ at in cc)
+
+begun_members : (nodes : ℕ) → 0 < nodes → AreMembers (begun (down_from nodes)) (all_full nodes)
+begun_members nodes some = record {
+  lawful = all_full_lawful nodes some;
+  full_nodes = λ k f. (let at : (1 ≤ k) × (k ≤ nodes) = node_of nodes k f in full_at nodes k at.0 at.1);
+  nodes_full = λ k at. (let place : (1 ≤ k) × (k ≤ nodes) = at_full nodes k at in of_node nodes k place.0 place.1);
+  due = λ k e f i at ff none. absurd (none_since nodes k e at);
+  filling = λ k since donor i stale at none. absurd (none_since nodes k since (ap since_of at));
+}
+
+-- ---- leases
+
+abbrev no_leases : Leases
+no_leases = record { levels = nobody; cut = λ c i. 0 }
+
+begun_leases : (nodes : List ℕ) → AreLeases (begun nodes) no_leases
+begun_leases nodes = record {
+  lawful = record {
+    clients_compatible = λ i. refl;
+    nodes_compatible = λ i. refl;
+    under = λ i l among. absurd among;
+    asked = λ i k among revoked. absurd among;
+  };
+  held = record { holds = λ c i. refl; writes = λ c i. refl };
+  homes = λ c client. absurd (omega (arith, client.0, client.1));
+  strangers = λ c not_one. refl;
+  covered = λ c i revoked. cc;
+  goals = λ c i lives revoked. cc;
+  borders = λ c i revoked low. refl;
+  crashed = λ c i crashed held. cc;
+  failed = λ c i lives held. cc;
+}
+
+-- ---- all of it
+
+same_state : (nodes limit : ℕ) → state_of (begun_as nodes limit) ≡ begun_with nodes
+same_state nodes limit = (let same : length (fulls nodes) ≡ nodes = fulls_length nodes in rw same refl)
+
+pub begun_holds : (nodes limit : ℕ) → 0 < nodes → MachineInvariant (begun_as nodes limit)
+begun_holds nodes limit some = record {
+  sound = begun_sound nodes;
+  dropped = begun_dropped (down_from nodes);
+  recorded = subst IsRecorded (sym (same_state nodes limit)) (begun_recorded nodes);
+  leases = begun_leases (down_from nodes);
+  members = begun_members nodes some;
+  epochs = omega arith;
+  logs = λ c. omega arith;
+  clients = omega arith;
+}

@@ -1,0 +1,8 @@
+use Rattle.assise_model_events.proofs.ReturnKeeps.{return_leads, return_holds}
+use Rattle.assise_model_events.proofs.failures.a_return_keeps_the_invariant.Goals as goal
+
+pub returns-clause-leads : goal.returns-clause-leads
+returns-clause-leads r = λ m m' n a h e. return_leads m m' n a h e
+
+pub returns-clause-keeps : goal.returns-clause-keeps
+returns-clause-keeps r = λ m m' n a h e. return_holds m m' n a h e

@@ -1,0 +1,318 @@
+-- Openings, calls, crashes, and what is quiet, keep what the history says of the state.
+use Rattle.std.proofs.Common.{◌≡◌, ℕ, suc, ◌<◌, ◌≤◌, true, false, ◌||◌, ◌==◌, List, [], ◌∷◌, ◌++◌, map, refl, ap, sym, subst, ◌∙◌, inl, inr, arith, append-nil, eq-eqb, ne_eqb}
+use Rattle.std.specs.List.{list_any}
+use Rattle.std.proofs.lemmas.Bool.{cases_Bool, cases_eq, not-true, or_right}
+use Rattle.assise_seq_tree.specs.Tree.{opening as opening_tree}
+use Rattle.assise_seq_tree.specs.Answer.{answer}
+use Rattle.assise_seq_tree.specs.Runs.{AreAnswered, tree_after_calls}
+use Rattle.assise_history.specs.declared.call.Call.{Call}
+use Rattle.assise_names.specs.declared.durability.Durability.{Durability}
+use Rattle.assise_history.specs.Entries.{EntryValue, opens, calls, crashes}
+use Rattle.assise_history.specs.Kept.{kept, IsRun, exchange, tree_after}
+use Rattle.assise_history.specs.Legal.{IsAlive, IsLegal, IsNextCall, MayOpen, calls_made, clients_opened, is_call_of, is_failure_of, is_opening, is_sync, durability_of, syncs}
+use Rattle.assise_history.proofs.OneMore.{legal-open, legal-call, legal-crash}
+use Rattle.assise_record.specs.Records.{record_of}
+use Rattle.assise_inode_table.specs.Effects.{contains}
+use Rattle.assise_inode_table.specs.Numbers.{inode_number, makes_inode}
+use Rattle.assise_inode_table.specs.Traces.{NumberedCall, exchanges, ops}
+use Rattle.assise_model_world.specs.ClientSteps.{MakesCall}
+use Rattle.assise_model_world.specs.Runs.{Moves, NoneFalls, opens as opens_client, makes_call, crashes as crashes_client, raises_goals, acquires, releases, delivers, digests, drops, coalesces, rests}
+use Rattle.assise_model_world.specs.Invariant.{WorldInvariant}
+use Rattle.assise_model_world.specs.Staying.{SameLogs, SameClients}
+use Rattle.assise_model_world.specs.World.{World, Full, IsClient, least_of, end_of_log, received_by_all, first_unreplicated, view, tree, step_at_home, call_makes_inode}
+use Rattle.assise_model_world.proofs.CallKeeps.{call_reply}
+use Rattle.assise_model_world.proofs.Replicated.{next_unreplicated}
+use Rattle.assise_model_world.proofs.WorldObserved.{received_by_all-below, received_by_all-end, least_of-above}
+use Rattle.assise_model_world.proofs.StepLists.{step_falls}
+use Rattle.assise_model_history.specs.Entered as entered
+use Rattle.assise_model_history.specs.Entered.{AddsEntry, IsOpening, IsCall, IsCrash, NeedsNoEntry, IsUntold}
+use Rattle.assise_model_history.specs.Numbered.{is_making_of, made_in, numbered_in, plain_call, kept_numbered}
+use Rattle.assise_model_history.specs.State.{State, WasOpened, IsRecorded}
+use Rattle.assise_model_history.proofs.OneEntryMore.{count_same, count_more, IsAside, aside_opening, aside_call, aside_making, aside_no_call, or_false, and_true, opened_more, opened_aside, opened_now, opened_still, AreUp, up_same, up_client, synced_more, synced_still}
+use Rattle.assise_model_history.proofs.InodeMakers.{makes_where_done, sync_still}
+use Rattle.assise_model_history.proofs.NumberedCalls.{kept_call, kept_open, kept_crash, kept_plain}
+
+-- ---- one state after another
+
+-- with the nodes and the history that it has
+with_history : (s : State) (k : ℕ) (h : List EntryValue) → s.nodes ≡ k → s.history ≡ h → IsRecorded (record { nodes = k; history = h; world = s.world }) → IsRecorded s
+with_history s k h nodes same r =
+    subst (λ j. IsRecorded (record { nodes = j; history = s.history; world = s.world })) (sym nodes)
+    (subst (λ g. IsRecorded (record { nodes = k; history = g; world = s.world })) (sym same) r)
+
+nodes_of : (s : State) → IsRecorded s → AreUp s.nodes s.history s.world
+nodes_of s r = record { nodes = r.nodes; up = r.up; down = r.down }
+
+-- the calls and the counts stay
+pub record SameCounts (w w' : World) : Type 0 where
+  pub clients : w'.clients ≡ w.clients
+  pub next : (c : ℕ) → w'.next c ≡ w.next c
+  pub made : (c : ℕ) → w'.made c ≡ w.made c
+
+pub counts_of : (w w' : World) → SameLogs w w' → w'.clients ≡ w.clients → SameCounts w w'
+counts_of w w' logs clients = record { clients = clients; next = logs.next; made = logs.made }
+
+client_before : (w w' : World) (c : ℕ) → w'.clients ≡ w.clients → IsClient w' c → IsClient w c
+client_before w w' c same h = (h.0, subst (λ k. c ≤ k) same h.1)
+
+-- an entry more that is neither an opening nor a call
+pub recorded_aside : (s : State) (e : EntryValue) (s' : State) → IsAside e → IsRecorded s → AddsEntry s e s' → IsLegal (s.history ++ e ∷ []) →
+    s'.world.calls ≡ kept_numbered (s.history ++ e ∷ []) → SameCounts s.world s'.world → ((c : ℕ) → IsClient s.world c → WasOpened (s.history ++ e ∷ []) s'.world c) →
+    NoneFalls s.world s'.world → AreUp s.nodes (s.history ++ e ∷ []) s'.world → IsRecorded s'
+recorded_aside s e s' a r adds legal same counts opened falls nodes = with_history s' s.nodes (s.history ++ e ∷ []) adds.nodes adds.entry record {
+  legal = legal;
+  calls = same;
+  count = counts.clients ∙ r.count ∙ sym (count_same is_opening s.history e (aside_opening e a));
+  opened = λ c client. opened c (client_before s.world s'.world c counts.clients client);
+  next = λ c. counts.next c ∙ r.next c ∙ sym (count_same (is_call_of c) s.history e (aside_call e c a));
+  made = λ c. counts.made c ∙ r.made c ∙ sym (count_same (is_making_of c) s.history e (aside_making e c a));
+  nodes = nodes.nodes;
+  up = nodes.up;
+  down = nodes.down;
+  synced = λ c. synced_more s.history e c (first_unreplicated s.world c) (first_unreplicated s'.world c) (falls.unreplicated c) (λ x is client sync. absurd (aside_no_call e x a is)) (r.synced c);
+}
+
+-- ---- an opening
+
+pub opening_fits : (s : State) (n : ℕ) (u : Durability) (s' : State) → IsRecorded s → IsOpening s n u s' → MayOpen s.history (suc s.world.clients) n
+opening_fits s n u s' r e = record { next = (let count : s.world.clients ≡ clients_opened s.history = r.count in omega (arith, count)); up = r.up n e.world.full_node }
+
+opening_of : (s : State) (n : ℕ) (u : Durability) (s' : State) → IsRecorded s → IsOpening s n u s' → (c : ℕ) → IsClient s'.world c → WasOpened (s.history ++ opens (suc s.world.clients) n u ∷ []) s'.world c
+opening_of s n u s' r e c client =
+    let d : ℕ = suc s.world.clients in
+    elim (cases_eq d c) [
+      | inl own ↦ subst (λ b. WasOpened (s.history ++ opens d n u ∷ []) s'.world b) own (opened_now s.history s'.world d n u e.world.home_new e.world.crashed_new e.world.lives_new)
+      | inr other ↦
+          let all : s'.world.clients ≡ suc s.world.clients = e.world.clients in
+          let most : c ≤ s'.world.clients = client.1 in
+          let old : (c ≡ d) → ⊥ = λ is. other (sym is) in
+          opened_more s.history (opens d n u) s.world s'.world c (e.world.home_else c old) (e.world.crashed_else c old ∙ sym (or_false (s.world.crashed c))) (e.world.lives_else c old ∙ sym (and_true (s.world.lives c))) (r.opened c (client.0, omega (arith, most, all, other)))
+    ]
+
+pub opening_recorded : (s : State) (n : ℕ) (u : Durability) (s' : State) → WorldInvariant s.world → IsRecorded s → IsOpening s n u s' → IsRecorded s'
+opening_recorded s n u s' sound r e =
+    let d : ℕ = suc s.world.clients in
+    let entry : EntryValue = opens d n u in
+    let falls : NoneFalls s.world s'.world = step_falls s.world s'.world sound (opens_client n e.world) in
+    let nodes : AreUp s.nodes (s.history ++ entry ∷ []) s'.world = up_client s.nodes s.history entry s.world s'.world tt e.world.nodes.full (nodes_of s r) in
+    with_history s' s.nodes (s.history ++ entry ∷ []) e.adds.nodes e.adds.entry record {
+      legal = legal-open s.history d n u r.legal (opening_fits s n u s' r e);
+      calls = e.world.logs.calls ∙ r.calls ∙ sym (kept_open s.history d n u);
+      count = e.world.clients ∙ ap suc r.count ∙ sym (count_more is_opening s.history entry refl);
+      opened = opening_of s n u s' r e;
+      next = λ c. e.world.logs.next c ∙ r.next c ∙ sym (count_same (is_call_of c) s.history entry refl);
+      made = λ c. e.world.logs.made c ∙ r.made c ∙ sym (count_same (is_making_of c) s.history entry refl);
+      nodes = nodes.nodes;
+      up = nodes.up;
+      down = nodes.down;
+      synced = λ c. synced_more s.history entry c (first_unreplicated s.world c) (first_unreplicated s'.world c) (falls.unreplicated c) (λ x is client sync. cc) (r.synced c);
+    }
+
+-- ---- a call
+
+ops_plain : (xs : List NumberedCall) → map (λ x. x.op) (map plain_call xs) ≡ ops xs
+ops_plain [] = refl
+ops_plain (x ∷ xs) = ap (λ os. x.op ∷ os) (ops_plain xs)
+
+exchanges_plain : (xs : List NumberedCall) → map exchange (map plain_call xs) ≡ exchanges xs
+exchanges_plain [] = refl
+exchanges_plain (x ∷ xs) = ap (λ ps. (x.op, x.reply) ∷ ps) (exchanges_plain xs)
+
+-- the machine's tree is that of the kept calls
+pub same_tree : (w : World) (h : List EntryValue) → w.calls ≡ kept_numbered h → tree w ≡ tree_after opening_tree (kept h)
+unfolding tree
+same_tree w h same =
+    ap (λ os. tree_after_calls opening_tree os) (sym (ops_plain w.calls) ∙ ap (λ xs. map (λ x. x.op) (map plain_call xs)) same ∙ ap (λ cs. map (λ x. x.op) cs) (kept_plain h))
+
+-- and its calls are a run
+pub same_run : (w : World) (h : List EntryValue) → WorldInvariant w → w.calls ≡ kept_numbered h → IsRun opening_tree (kept h)
+same_run w h sound same =
+    subst (λ ps. AreAnswered opening_tree ps) (sym (exchanges_plain w.calls) ∙ ap (λ xs. map exchange (map plain_call xs)) same ∙ ap (λ cs. map exchange cs) (kept_plain h)) sound.coherent.answered
+
+-- a client that lives lost no node since its opening
+pub no_failure : (s : State) (c : ℕ) (o : WasOpened s.history s.world c) → s.world.lives c ≡ true → list_any (is_failure_of (s.world.home c)) o.since ≡ false
+no_failure s c o lives = not-true (list_any (is_failure_of (s.world.home c)) o.since) (sym o.lives ∙ lives)
+
+pub call_fits : (s : State) (x : NumberedCall) (s' : State) → WorldInvariant s.world → IsRecorded s → IsCall s x s' → IsNextCall s.history (plain_call x)
+call_fits s x s' sound r e =
+    let o : WasOpened s.history s.world x.client = r.opened x.client (sound.opened x.client e.world.lives) in
+    record {
+      ready = record { node = s.world.home x.client; durability = o.durability; before = o.before; since = o.since; split = o.split; no_crash = sym o.crashed ∙ e.world.running; no_failure = no_failure s x.client o e.world.lives };
+      number = e.world.number ∙ r.next x.client;
+    }
+
+pub call_answered : (s : State) (x : NumberedCall) (s' : State) → WorldInvariant s.world → IsRecorded s → IsCall s x s' → x.reply ≡ (answer (tree_after opening_tree (kept s.history)) x.op).0
+call_answered s x s' sound r e = call_reply s.world s'.world x sound e.world ∙ ap (λ t. (answer t x.op).0) (same_tree s.world s.history r.calls)
+
+-- the call has its number
+same_number : (s : State) (x : NumberedCall) (s' : State) → IsRecorded s → IsCall s x s' → numbered_in s.history (plain_call x) ≡ x
+same_number s x s' r e = ap (λ f. record x { fresh = f }) (sym (e.world.fresh ∙ ap (inode_number x.client) (r.made x.client)))
+
+call_next : (s : State) (x : NumberedCall) (s' : State) → IsRecorded s → IsCall s x s' → (c : ℕ) → s'.world.next c ≡ calls_made c (s.history ++ calls (plain_call x) ∷ [])
+call_next s x s' r e c =
+    elim (cases_eq c x.client) [
+      | inl own ↦
+          let is = e.world.next_own in
+          subst (λ d. s'.world.next d ≡ calls_made d (s.history ++ calls (plain_call x) ∷ [])) (sym own)
+          (is ∙ ap suc (e.world.number ∙ r.next x.client) ∙ sym (count_more (is_call_of x.client) s.history (calls (plain_call x)) (eq-eqb x.client x.client refl)))
+      | inr other ↦ e.world.next_else c other ∙ r.next c ∙ sym (count_same (is_call_of c) s.history (calls (plain_call x)) (ne_eqb c x.client other))
+    ]
+
+-- whether it made an inode is seen from its reply
+made_seen : (w w' : World) (x : NumberedCall) → MakesCall w x w' → makes_inode x.op x.reply ≡ call_makes_inode w x
+made_seen w w' x e = ap (makes_inode x.op) e.reply ∙ sym (makes_where_done (view w (w.home x.client) x.client) x.op x.fresh)
+
+call_made : (s : State) (x : NumberedCall) (s' : State) → IsRecorded s → IsCall s x s' → (c : ℕ) → s'.world.made c ≡ made_in c (s.history ++ calls (plain_call x) ∷ [])
+call_made s x s' r e c =
+    let entry : EntryValue = calls (plain_call x) in
+    elim (cases_eq c x.client) [
+      | inl own ↦
+          subst (λ d. s'.world.made d ≡ made_in d (s.history ++ entry ∷ [])) (sym own)
+          (elim (cases_Bool (call_makes_inode s.world x)) [
+            | inl some ↦
+                let grown : s'.world.made x.client ≡ suc (s.world.made x.client) = e.world.made_own ∙ rw some refl in
+                let making : is_making_of x.client entry ≡ true = rw (eq-eqb x.client x.client refl) (made_seen s.world s'.world x e.world ∙ some) in
+                grown ∙ ap suc (r.made x.client) ∙ sym (count_more (is_making_of x.client) s.history entry making)
+            | inr none ↦
+                let same : s'.world.made x.client ≡ s.world.made x.client = e.world.made_own ∙ rw none refl in
+                let making : is_making_of x.client entry ≡ false = rw (eq-eqb x.client x.client refl) (made_seen s.world s'.world x e.world ∙ none) in
+                same ∙ r.made x.client ∙ sym (count_same (is_making_of x.client) s.history entry making)
+          ])
+      | inr other ↦ e.world.made_else c other ∙ r.made c ∙ sym (count_same (is_making_of c) s.history entry (rw (ne_eqb c x.client other) refl))
+    ]
+
+-- a sync has no record
+sync_end : (w w' : World) (x : NumberedCall) (u : Durability) → MakesCall w x w' → is_sync x.op u ≡ true → end_of_log w' x.client ≡ end_of_log w x.client
+unfolding end_of_log
+sync_end w w' x u e sync =
+    let none : (step_at_home w x).effects ≡ [] = sync_still (view w (w.home x.client) x.client) x.op x.fresh u sync in
+    let same : w'.records x.client ≡ w.records x.client = e.records_own ∙ ap (λ es. w.records x.client ++ record_of x.number es) none ∙ append-nil (w.records x.client) in
+    rw (e.first x.client, same) refl
+
+-- what a full node has of the client grows
+call_receives : (w w' : World) (x : NumberedCall) (n : ℕ) → MakesCall w x w' → Full w n → end_of_log w x.client ≤ w.received n x.client → end_of_log w' x.client ≡ end_of_log w x.client → end_of_log w' x.client ≤ w'.received n x.client
+call_receives w w' x n e full had same =
+    elim (cases_eq n (w.home x.client)) [
+      | inl home ↦ subst (λ m. end_of_log w' x.client ≤ w'.received m x.client) (sym home) (let all : w'.received (w.home x.client) x.client ≡ end_of_log w' x.client = e.received_home in omega (arith, all))
+      | inr other ↦ (let as_before : w'.received n x.client ≡ w.received n x.client = e.received_else n x.client full (λ is own. other is) in omega (arith, as_before, had, same))
+    ]
+
+-- and all full nodes still have the others
+sync_received : (w w' : World) (x : NumberedCall) (u : Durability) → MakesCall w x w' → is_sync x.op u ≡ true → received_by_all w x.client ≡ end_of_log w x.client → received_by_all w' x.client ≡ end_of_log w' x.client
+unfolding received_by_all
+sync_received w w' x u e sync all =
+    let c : ℕ = x.client in
+    let same : end_of_log w' c ≡ end_of_log w c = sync_end w w' x u e sync in
+    let most : least_of w'.full (λ m. w'.received m c) (end_of_log w' c) ≤ end_of_log w' c = received_by_all-end w' c in
+    let least : end_of_log w' c ≤ least_of w'.full (λ m. w'.received m c) (end_of_log w' c) =
+    least_of-above w'.full (λ m. w'.received m c) (end_of_log w' c) (end_of_log w' c) (omega arith)
+    (λ m full. let was : Full w m = subst (λ ns. contains ns m ≡ true) e.full full in
+    let had : least_of w.full (λ k. w.received k c) (end_of_log w c) ≤ w.received m c = received_by_all-below w m c was in
+    call_receives w w' x m e was (omega (arith, had, all)) same) in
+    omega (arith, most, least)
+
+pub sync_replicated : (s : State) (x : NumberedCall) (s' : State) → IsCall s x s' → syncs s.history (plain_call x) ≡ true → first_unreplicated s'.world x.client ≡ s'.world.next x.client
+sync_replicated s x s' e sync = next_unreplicated s'.world x.client (sync_received s.world s'.world x (durability_of x.client s.history) e.world sync (e.replicated sync))
+
+call_synced : (s : State) (x : NumberedCall) (s' : State) → IsCall s x s' → (c : ℕ) (y : Call) → calls (plain_call x) ≡ calls y → y.client ≡ c → syncs s.history y ≡ true → y.number < first_unreplicated s'.world c
+call_synced s x s' e c y is client sync =
+    let same : plain_call x ≡ y = cc in
+    let own : x.client ≡ c = ap (λ z. z.client) same ∙ client in
+    let number : x.number ≡ y.number = ap (λ z. z.number) same in
+    let is_one : syncs s.history (plain_call x) ≡ true = ap (λ z. syncs s.history z) same ∙ sync in
+    let all : first_unreplicated s'.world x.client ≡ s'.world.next x.client = sync_replicated s x s' e is_one in
+    let next : s'.world.next x.client ≡ suc x.number = e.world.next_own in
+    subst (λ d. y.number < first_unreplicated s'.world d) own (omega (arith, all, next, number))
+
+pub call_recorded : (s : State) (x : NumberedCall) (s' : State) → WorldInvariant s.world → IsRecorded s → IsCall s x s' → IsRecorded s'
+call_recorded s x s' sound r e =
+    let entry : EntryValue = calls (plain_call x) in
+    let falls : NoneFalls s.world s'.world = step_falls s.world s'.world sound (makes_call x e.world) in
+    let nodes : AreUp s.nodes (s.history ++ entry ∷ []) s'.world = up_client s.nodes s.history entry s.world s'.world tt e.world.full (nodes_of s r) in
+    with_history s' s.nodes (s.history ++ entry ∷ []) e.adds.nodes e.adds.entry record {
+      legal = legal-call s.history (plain_call x) r.legal (call_fits s x s' sound r e) (call_answered s x s' sound r e);
+      calls = e.world.calls ∙ ap (λ xs. xs ++ x ∷ []) r.calls ∙ ap (λ y. kept_numbered s.history ++ y ∷ []) (sym (same_number s x s' r e)) ∙ sym (kept_call s.history (plain_call x));
+      count = e.world.clients.clients ∙ r.count ∙ sym (count_same is_opening s.history entry refl);
+      opened = λ c client. opened_aside s.history entry s.world s'.world c e.world.clients refl refl (r.opened c (client_before s.world s'.world c e.world.clients.clients client));
+      next = call_next s x s' r e;
+      made = call_made s x s' r e;
+      nodes = nodes.nodes;
+      up = nodes.up;
+      down = nodes.down;
+      synced = λ c. synced_more s.history entry c (first_unreplicated s.world c) (first_unreplicated s'.world c) (falls.unreplicated c) (call_synced s x s' e c) (r.synced c);
+    }
+
+-- ---- a crash
+
+pub crash_fits : (s : State) (c : ℕ) (s' : State) → WorldInvariant s.world → IsRecorded s → IsCrash s c s' → IsAlive s.history c
+crash_fits s c s' sound r e =
+    let o : WasOpened s.history s.world c = r.opened c (sound.opened c e.world.lives) in
+    record { node = s.world.home c; durability = o.durability; before = o.before; since = o.since; split = o.split; no_crash = sym o.crashed ∙ e.world.running }
+
+crash_opened : (s : State) (c : ℕ) (s' : State) → IsRecorded s → IsCrash s c s' → (d : ℕ) → IsClient s.world d → WasOpened (s.history ++ crashes c ∷ []) s'.world d
+crash_opened s c s' r e d client =
+    opened_more s.history (crashes c) s.world s'.world d (e.world.home d) crashed (e.world.lives_same d ∙ sym (and_true (s.world.lives d))) (r.opened d client)
+  where
+    crashed : s'.world.crashed d ≡ (s.world.crashed d || (d == c))
+    crashed = elim (cases_eq d c) [
+      | inl own ↦ ap (λ k. s'.world.crashed k) own ∙ e.world.crashed_here ∙ sym (or_right (s.world.crashed d) (d == c) (eq-eqb d c own))
+      | inr other ↦ e.world.crashed_else d other ∙ rw (ne_eqb d c other) (sym (or_false (s.world.crashed d)))
+    ]
+
+pub crash_recorded : (s : State) (c : ℕ) (s' : State) → WorldInvariant s.world → IsRecorded s → IsCrash s c s' → IsRecorded s'
+crash_recorded s c s' sound r e =
+    recorded_aside s (crashes c) s' tt r e.adds (legal-crash s.history c r.legal (crash_fits s c s' sound r e))
+    (e.world.logs.calls ∙ r.calls ∙ sym (kept_crash s.history c)) (counts_of s.world s'.world e.world.logs e.world.clients) (crash_opened s c s' r e)
+    (step_falls s.world s'.world sound (crashes_client c e.world))
+    (up_client s.nodes s.history (crashes c) s.world s'.world tt e.world.nodes.full (nodes_of s r))
+
+-- ---- no entry more
+
+-- what is quiet leaves the calls, the clients and which nodes are full
+record LeavesCalls (w w' : World) : Type 0 where
+  calls : w'.calls ≡ w.calls
+  next : (c : ℕ) → w'.next c ≡ w.next c
+  made : (c : ℕ) → w'.made c ≡ w.made c
+  clients : SameClients w w'
+  full : w'.full ≡ w.full
+
+leaves : (w w' : World) → SameLogs w w' → SameClients w w' → w'.full ≡ w.full → LeavesCalls w w'
+leaves w w' logs clients full = record { calls = logs.calls; next = logs.next; made = logs.made; clients = clients; full = full }
+
+untold_leaves : (w w' : World) → NeedsNoEntry w w' → LeavesCalls w w'
+untold_leaves w w' (entered.raises_goals k e) = leaves w w' e.logs e.clients e.nodes.full
+untold_leaves w w' (entered.acquires c i mode e) = leaves w w' e.logs e.clients e.nodes.full
+untold_leaves w w' (entered.releases c i e) = leaves w w' e.logs e.clients e.nodes.full
+untold_leaves w w' (entered.delivers n c k e) = leaves w w' e.logs e.clients e.full
+untold_leaves w w' (entered.digests n c k e) = leaves w w' e.logs e.clients e.full
+untold_leaves w w' (entered.drops f e) = record { calls = e.calls; next = e.next; made = e.made; clients = e.clients; full = e.full }
+untold_leaves w w' (entered.coalesces c s new was e) = record { calls = e.calls; next = e.next; made = e.made; clients = e.clients; full = e.full }
+untold_leaves w w' (entered.rests e) = leaves w w' e.logs e.clients e.nodes.full
+
+pub untold_moves : (w w' : World) → NeedsNoEntry w w' → Moves w w'
+untold_moves w w' (entered.raises_goals k e) = raises_goals k e
+untold_moves w w' (entered.acquires c i mode e) = acquires c i mode e
+untold_moves w w' (entered.releases c i e) = releases c i e
+untold_moves w w' (entered.delivers n c k e) = delivers n c k e
+untold_moves w w' (entered.digests n c k e) = digests n c k e
+untold_moves w w' (entered.drops f e) = drops f e
+untold_moves w w' (entered.coalesces c s new was e) = coalesces c s new was e
+untold_moves w w' (entered.rests e) = rests e
+
+pub quiet_recorded : (s s' : State) → WorldInvariant s.world → IsRecorded s → IsUntold s s' → IsRecorded s'
+quiet_recorded s s' sound r e =
+    let same : LeavesCalls s.world s'.world = untold_leaves s.world s'.world e.world in
+    let falls : NoneFalls s.world s'.world = step_falls s.world s'.world sound (untold_moves s.world s'.world e.world) in
+    let nodes : AreUp s.nodes s.history s'.world = up_same s.nodes s.history s.history s.world s'.world same.full (λ n d. d) (λ n d. d) (nodes_of s r) in
+    with_history s' s.nodes s.history e.nodes e.entries record {
+      legal = r.legal;
+      calls = same.calls ∙ r.calls;
+      count = same.clients.clients ∙ r.count;
+      opened = λ c client. opened_still s.history s.world s'.world c same.clients (r.opened c (client_before s.world s'.world c same.clients.clients client));
+      next = λ c. same.next c ∙ r.next c;
+      made = λ c. same.made c ∙ r.made c;
+      nodes = nodes.nodes;
+      up = nodes.up;
+      down = nodes.down;
+      synced = λ c. synced_still s.history c (first_unreplicated s.world c) (first_unreplicated s'.world c) (falls.unreplicated c) (r.synced c);
+    }

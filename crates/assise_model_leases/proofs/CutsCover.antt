@@ -1,0 +1,107 @@
+-- Which changes of a client's log its cuts stay covering through.
+use Rattle.std.proofs.Common.{◌≡◌, ℕ, ◌+◌, ◌-◌, ◌≤◌, false, List, [], ◌∷◌, ◌++◌, take, drop, length, refl, ap, ◌∙◌, subst, arith, zero, suc}
+use Rattle.std.proofs.Math.ListN.{drop_of_length-le}
+use Rattle.std.proofs.lemmas.List.{drop-take, length-drop, length-take-le}
+use Rattle.std.proofs.lemmas.Bool.{both_ways, false_from_ne_true}
+use Rattle.assise_record.specs.LogRecord.{LogRecord}
+use Rattle.assise_record.specs.Records.{all_effects}
+use Rattle.assise_record.proofs.Records.{all_effects-append}
+use Rattle.assise_inode_table.specs.Effects.{touched, contains}
+use Rattle.assise_inode_table.proofs.EffectValues.{contains-both}
+use Rattle.assise_model_world.specs.Coalescing.{Coalesces}
+use Rattle.assise_model_world.specs.Invariant.{WorldInvariant}
+use Rattle.assise_model_world.proofs.CoalescedTail.{touch_all}
+use Rattle.assise_model_world.specs.NodeSteps.{Drops}
+use Rattle.assise_model_world.specs.World.{World, end_of_log, digested_by_all, records_between}
+use Rattle.assise_model_world.proofs.Logs.{drop-of_drop, contains-drop, contains-take, length-both}
+use Rattle.assise_model_world.proofs.WorldObserved.{end-else, least_of-end}
+use Rattle.assise_model_leases.specs.Leases.{client_records_from, CoversFrom}
+
+-- records that don't touch the inode
+abbrev pub Spare : List LogRecord → ℕ → Type 0
+Spare rs i = contains (touched (all_effects rs)) i ≡ false
+
+pub covers_same : (w u : World) (c i k : ℕ) → u.records c ≡ w.records c → u.first c ≡ w.first c → CoversFrom w c i k → CoversFrom u c i k
+unfolding client_records_from
+covers_same w u c i k records first v = record {
+  to_end = rw (end-else w u c first records) v.to_end;
+  untouched = rw (first, records) v.untouched;
+}
+
+pub covers_end : (w : World) (c i : ℕ) → CoversFrom w c i (end_of_log w c)
+unfolding client_records_from end_of_log
+covers_end w c i = record {
+  to_end = omega arith;
+  untouched = ap (λ l. contains (touched (all_effects l)) i) (drop_of_length-le (w.records c) (omega arith));
+}
+
+-- ---- parts of a log
+
+spare_both : (rs zs : List LogRecord) (i : ℕ) → Spare rs i → Spare zs i → Spare (rs ++ zs) i
+spare_both rs zs i h g = rw (all_effects-append rs zs) (contains-both (all_effects rs) (all_effects zs) i ∙ rw (h, g) refl)
+
+spare_drop : (rs : List LogRecord) (k i : ℕ) → Spare rs i → Spare (drop k rs) i
+spare_drop rs k i h = false_from_ne_true _ (λ t. both_ways _ h (contains-drop rs k i t))
+
+spare_take : (rs : List LogRecord) (k i : ℕ) → Spare rs i → Spare (take k rs) i
+spare_take rs k i h = false_from_ne_true _ (λ t. both_ways _ h (contains-take rs k i t))
+
+-- what lies further on
+spare_later : (rs : List LogRecord) (j k i : ℕ) → j ≤ k → Spare (drop j rs) i → Spare (drop k rs) i
+spare_later rs j k i le h =
+    let e : drop (k - j) (drop j rs) ≡ drop k rs = drop-of_drop rs j (k - j) ∙ (let q : j + (k - j) ≡ k = omega (arith, le) in rw q refl) in
+    subst (λ l. Spare l i) e (spare_drop (drop j rs) (k - j) i h)
+
+drop_append : (rs zs : List LogRecord) (k : ℕ) → k ≤ length rs → drop k (rs ++ zs) ≡ drop k rs ++ zs
+drop_append rs zs zero h = refl
+drop_append [] zs (suc k) h = absurd (omega (arith, h))
+drop_append (r ∷ rs) zs (suc k) h = drop_append rs zs k (omega (arith, h))
+
+-- a part from a place on
+drop_taken : (rs : List LogRecord) (k n : ℕ) → k ≤ n → drop k (take n rs) ≡ take (n - k) (drop k rs)
+drop_taken rs k n le = ap (λ m. drop k (take m rs)) (omega (arith, le)) ∙ drop-take k (n - k) rs
+
+-- ---- a call
+
+-- the record of a call that doesn't change the inode
+pub covers_call : (w u : World) (c i k : ℕ) (l : List LogRecord) → u.first c ≡ w.first c → u.records c ≡ w.records c ++ l → Spare l i → CoversFrom w c i k → CoversFrom u c i k
+unfolding client_records_from end_of_log
+covers_call w u c i k l first records none v =
+    let low : k ≤ w.first c + length (w.records c) = v.to_end in
+    record {
+      to_end = rw (first, records) (let n : length (w.records c ++ l) ≡ length (w.records c) + length l = length-both (w.records c) l in omega (arith, low, n));
+      untouched = rw (first, records, drop_append (w.records c) l (k - w.first c) (omega (arith, low))) (spare_both (drop (k - w.first c) (w.records c)) l i v.untouched none);
+    }
+
+-- ---- dropped prefixes
+
+pub covers_drop : (w u : World) (f : ℕ → ℕ) (c i k : ℕ) → Drops w f u → CoversFrom w c i k → CoversFrom u c i k
+unfolding client_records_from end_of_log digested_by_all
+covers_drop w u f c i k e v =
+    let low : k ≤ w.first c + length (w.records c) = v.to_end in
+    let up : w.first c ≤ f c = e.low c in
+    let high : f c ≤ digested_by_all w c = e.high c in
+    let top : digested_by_all w c ≤ w.first c + length (w.records c) = least_of-end w.full (λ n. w.digested n c) (w.first c + length (w.records c)) in
+    let n : length (drop (f c - w.first c) (w.records c)) ≡ length (w.records c) - (f c - w.first c) = length-drop (f c - w.first c) (w.records c) in
+    record {
+      to_end = rw (e.first c, e.records c) (omega (arith, low, up, high, top, n));
+      untouched = rw (e.first c, e.records c, drop-of_drop (w.records c) (f c - w.first c) (k - f c))
+          (spare_later (w.records c) (k - w.first c) ((f c - w.first c) + (k - f c)) i (omega (arith, up)) v.untouched);
+    }
+
+-- ---- records that give way to others
+
+pub covers_coalesced : (w u : World) (c s : ℕ) (new : List LogRecord) (was : ℕ → ℕ) → WorldInvariant w → (i k : ℕ) → Coalesces w c s new was u → k ≤ s → CoversFrom w c i k → CoversFrom u c i k
+unfolding client_records_from end_of_log records_between
+covers_coalesced w u c s new was so i k e below v =
+    let rs : List LogRecord = w.records c in
+    let high : s ≤ w.first c + length (w.records c) = e.high in
+    let n : length (take (s - w.first c) (w.records c)) ≡ s - w.first c = length-take-le (s - w.first c) (w.records c) (omega (arith, high)) in
+    let b : length (take (s - w.first c) (w.records c) ++ new) ≡ length (take (s - w.first c) (w.records c)) + length new = length-both (take (s - w.first c) (w.records c)) new in
+    let old : Spare (records_between w c s (end_of_log w c)) i = spare_take (drop (s - w.first c) (w.records c)) (end_of_log w c - s) i (spare_later (w.records c) (k - w.first c) (s - w.first c) i (omega (arith, below)) v.untouched) in
+    record {
+      to_end = rw (e.first c, e.records_own) (omega (arith, below, n, b));
+      untouched = rw (e.first c, e.records_own, drop_append (take (s - w.first c) (w.records c)) new (k - w.first c) (omega (arith, below, n)), drop_taken (w.records c) (k - w.first c) (s - w.first c) (omega (arith, below)))
+          (spare_both (take (s - w.first c - (k - w.first c)) (drop (k - w.first c) (w.records c))) new i
+          (spare_take (drop (k - w.first c) (w.records c)) (s - w.first c - (k - w.first c)) i v.untouched) (touch_all w u c s new was so.coherent e i ∙ old));
+    }

@@ -1,0 +1,138 @@
+-- A lease is granted against which nobody stands.
+use Rattle.std.proofs.Common.{◌≡◌, ◌≢◌, ℕ, ◌==◌, inl, inr, Bool, true, false, not, ◌&&◌, ◌||◌, List, Option, Some, None, refl, ap, sym, ◌∙◌, subst, arith}
+use Rattle.std.specs.List.{list_any}
+use Rattle.std.proofs.lemmas.Bool.{both_ways, cases_eq, ne_eqb}
+use Rattle.assise_names.specs.declared.mode.Mode.{Mode}
+use Rattle.assise_names.specs.declared.mode.Mode.TheVariants.{Read, Write}
+use Rattle.assise_lease_table.specs.declared.lease.Lease.{Lease}
+use Rattle.assise_lease_table.specs.Leases.{Among, lease_of, new_lease, is_rival}
+use Rattle.assise_lease_table.specs.Modes.{against, strong, stronger}
+use Rattle.assise_lease_table.proofs.Elements.{any_among, none_among, both_true}
+use Rattle.assise_lease_tree.specs.Levels.{Homes, Under, carries, in_way, is_revoked, lives, raised_mode, clients_granted}
+use Rattle.assise_lease_tree.proofs.Steps.{nobody_in_way, granted_lawful}
+use Rattle.assise_lease_tree.proofs.ClientHomes.{weaker_against}
+use Rattle.assise_model_world.specs.ClientSteps.{IsModeFree, Acquires, is_for_writing}
+use Rattle.assise_model_world.specs.Invariant.{WorldInvariant}
+use Rattle.assise_model_world.specs.World.{World}
+use Rattle.assise_model_leases.specs.Handing.{Grants}
+use Rattle.assise_model_leases.specs.Leases.{Leases, client_lease, IsRevokedLease, AreLeases, is_held, is_written}
+use Rattle.assise_lease_tree.proofs.ClientHomes.{lease_among}
+use Rattle.assise_lease_tree.proofs.Lookups.{with_own, with_other}
+use Rattle.assise_model_leases.proofs.CutsCover.{covers_same}
+use Rattle.assise_model_leases.proofs.QuietLeases.{still_client, was_client}
+
+-- ---- modes
+
+writing_raised : (m : Mode) (o : Option Lease) → is_for_writing (raised_mode m o) ≡ (is_written o || is_for_writing m)
+writing_raised m None = refl
+writing_raised m (Some a) = of_modes a.mode
+  where
+    of_modes : (k : Mode) → is_for_writing (stronger k m) ≡ (is_for_writing k || is_for_writing m)
+    of_modes Read = refl
+    of_modes Write = refl
+
+-- ---- nobody stands against it
+
+and_false : (a b : Bool) → (a && b) ≡ false → a ≡ true → b ≡ false
+and_false true b e t = e
+and_false false b e t = cc
+
+or_false : (a b : Bool) → (a || b) ≡ false → (a ≡ false) × (b ≡ false)
+or_false true b e = cc
+or_false false b e = (refl, e)
+
+not_false : (b : Bool) → b ≡ false → not b ≡ true
+not_false b e = rw e refl
+
+module _ (home : Homes) (cs ns : List Lease) (c n : ℕ) (mode : Mode) (under : Under home cs ns) (nobody : list_any (in_way home ns c n mode) cs ≡ false) where
+  -- another client's lease isn't against the mode: below the same node it stands in no way, and below another its node's doesn't
+  others_disjoint : (b : Lease) → Among cs b → b.holder ≢ c → against mode b.mode ≡ false
+  unfolding in_way
+  others_disjoint b in_b other =
+      let none = and_false (not (b.holder == c)) _ (none_among (in_way home ns c n mode) cs nobody b in_b) (not_false (b.holder == c) (ne_eqb b.holder c other)) in
+      let parts = or_false (lives home b.holder n && against mode b.mode) (list_any (λ k. lives home b.holder k.holder && is_rival n mode k) ns) none in
+      let k = any_among (carries home b) ns (under b in_b) in
+      let below = both_true (lives home b.holder k.0.holder) (strong k.0.mode b.mode) k.2 in
+      elim (cases_eq k.0.holder n) [
+        | inl here ↦ and_false (lives home b.holder n) (against mode b.mode) parts.0 (subst (λ m. lives home b.holder m ≡ true) here below.0)
+        | inr away ↦ weaker_against mode k.0.mode b.mode below.1
+            (and_false (not (k.0.holder == n)) (against mode k.0.mode)
+            (and_false (lives home b.holder k.0.holder) (is_rival n mode k.0) (none_among (λ k. lives home b.holder k.holder && is_rival n mode k) ns parts.1 k.0 k.1) below.0)
+            (not_false (k.0.holder == n) (ne_eqb k.0.holder n away)))
+      ]
+
+-- a lease that doesn't stand against reading isn't for writing, and none stands beside writing
+not_written : (o : Option Lease) → ((b : Lease) → o ≡ Some b → against Read b.mode ≡ false) → is_written o ≡ false
+not_written None f = refl
+not_written (Some b) f = of_mode b.mode (f b refl)
+  where
+    of_mode : (m : Mode) → against Read m ≡ false → is_for_writing m ≡ false
+    of_mode Read h = refl
+    of_mode Write h = h
+
+not_held : (o : Option Lease) → ((b : Lease) → o ≡ Some b → against Write b.mode ≡ false) → is_held o ≡ false
+not_held None f = refl
+not_held (Some b) f = f b refl
+
+module _ (w u : World) (l k : Leases) (c i : ℕ) (mode : Mode) (a : AreLeases w l) (e : Grants w l c i mode u k) where
+  others_free : (d : ℕ) (b : Lease) → d ≢ c → client_lease l d i ≡ Some b → against mode b.mode ≡ false
+  others_free d b other is =
+      let found = lease_among (l.levels.clients i) d b is in
+      others_disjoint l.levels.home (l.levels.clients i) (l.levels.nodes i) c (w.home c) mode (a.lawful.under i)
+      (nobody_in_way l.levels.home (l.levels.clients i) (l.levels.nodes i) c (w.home c) mode e.free) b found.0 (λ same. other (sym found.1 ∙ same))
+
+  granted_free : (m : Mode) → mode ≡ m → IsModeFree w c i m
+  granted_free Read is = λ d other. a.held.writes d i ∙ not_written (client_lease l d i) (λ b h. subst (λ m. against m b.mode ≡ false) is (others_free d b other h))
+  granted_free Write is = λ d other. a.held.holds d i ∙ not_held (client_lease l d i) (λ b h. subst (λ m. against m b.mode ≡ false) is (others_free d b other h))
+
+  abbrev given : Lease
+  given = new_lease c (raised_mode mode (client_lease l c i))
+
+  here : client_lease k c i ≡ Some given
+  unfolding clients_granted
+  here = ap (λ ls. lease_of ls c) e.granted.clients.here ∙ with_own given (l.levels.clients i)
+
+  elsewhere : (d j : ℕ) → (d ≡ c → j ≡ i → ⊥) → client_lease k d j ≡ client_lease l d j
+  unfolding clients_granted
+  elsewhere d j disjoint = elim (cases_eq j i) [
+    | inl same ↦ subst (λ j. client_lease k d j ≡ client_lease l d j) (sym same)
+        (ap (λ ls. lease_of ls d) e.granted.clients.here ∙ with_other given (l.levels.clients i) d (λ own. disjoint own same))
+    | inr other ↦ ap (λ ls. lease_of ls d) (e.granted.clients.elsewhere j other)
+  ]
+
+  pub grant_acquires : Acquires w c i mode u
+  grant_acquires = record {
+    free = granted_free mode refl;
+    logs = e.holds.logs;
+    clients = e.holds.clients;
+    goals = e.holds.goals;
+    nodes = e.holds.nodes;
+    holds_here = e.holds.held.holds c i ∙ ap is_held here;
+    writes_here = e.holds.held.writes c i ∙ ap is_written here ∙ writing_raised mode (client_lease l c i) ∙ ap (λ b. b || is_for_writing mode) (sym (a.held.writes c i));
+    holds_else = λ d j disjoint. e.holds.held.holds d j ∙ ap is_held (elsewhere d j disjoint) ∙ sym (a.held.holds d j);
+    writes_else = λ d j disjoint. e.holds.held.writes d j ∙ ap is_written (elsewhere d j disjoint) ∙ sym (a.held.writes d j);
+  }
+
+  -- the lease that is granted isn't revoked
+  was_revoked : (d j : ℕ) → IsRevokedLease k d j → IsRevokedLease l d j
+  was_revoked d j h = ap is_revoked (sym (elsewhere d j (λ own at. both_ways (is_revoked (client_lease k d j)) (subst (λ j. is_revoked (client_lease k d j) ≡ false) (sym at) (subst (λ d. is_revoked (client_lease k d i) ≡ false) (sym own) (ap is_revoked here))) h))) ∙ h
+
+  pub grant_keeps : WorldInvariant w → AreLeases u k
+  grant_keeps s = record {
+    lawful = granted_lawful l.levels a.lawful k.levels c (w.home c) i mode (a.homes c (s.opened c e.lives_on)) e.free e.granted;
+    held = e.holds.held;
+    homes = λ d o. e.granted.home d ∙ a.homes d (still_client w u l a e.holds.clients d o) ∙ ap (λ m. Some m) (sym (e.holds.clients.home d));
+    strangers = λ d no. e.granted.home d ∙ a.strangers d (λ o. no (was_client w u l a e.holds.clients d o));
+    covered = λ d j h. rw (e.cuts d j) (covers_same w u d j (l.cut d j) (e.holds.logs.records d) (e.holds.logs.first d) (a.covered d j (was_revoked d j h)));
+    goals = λ d j lives h. rw (e.cuts d j, e.holds.goals d) (a.goals d j (sym (e.holds.clients.lives d) ∙ lives) (was_revoked d j h));
+    borders = λ d j h low. subst (λ m. u.border d m ≡ true) (sym (e.cuts d j))
+        (e.holds.logs.border d (l.cut d j) ∙ a.borders d j (was_revoked d j h) (omega (arith, low, e.cuts d j, e.holds.logs.first d)));
+    crashed = λ d j over h.
+        (let other : d ≢ c = λ own. both_ways (w.crashed d) (subst (λ d. w.crashed d ≡ false) (sym own) e.running) (sym (e.holds.clients.crashed d) ∙ over) in
+        let same : client_lease k d j ≡ client_lease l d j = elsewhere d j (λ own at. other own) in
+        ap is_revoked same ∙ a.crashed d j (sym (e.holds.clients.crashed d) ∙ over) (ap is_held (sym same) ∙ h));
+    failed = λ d j over h.
+        (let other : d ≢ c = λ own. both_ways (w.lives d) (sym (e.holds.clients.lives d) ∙ over) (subst (λ d. w.lives d ≡ true) (sym own) e.lives_on) in
+        let same : client_lease k d j ≡ client_lease l d j = elsewhere d j (λ own at. other own) in
+        ap is_revoked same ∙ a.failed d j (sym (e.holds.clients.lives d) ∙ over) (ap is_held (sym same) ∙ h));
+  }

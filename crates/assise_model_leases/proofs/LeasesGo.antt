@@ -1,0 +1,85 @@
+-- Leases go: a client's, once what lies before its cut is digested everywhere, and those of a node without clients that hold.
+use Rattle.std.proofs.Common.{◌≡◌, ℕ, ◌-◌, inl, inr, true, false, Some, None, ap, sym, ◌∙◌, subst, arith}
+use Rattle.std.proofs.lemmas.Bool.{cases_eq}
+use Rattle.assise_record.specs.Records.{all_effects}
+use Rattle.assise_inode_table.specs.Effects.{touched, contains}
+use Rattle.assise_lease_table.specs.Leases.{lease_of}
+use Rattle.assise_lease_tree.specs.Levels.{is_revoked}
+use Rattle.assise_lease_tree.proofs.Steps.{released_lawful, freed_lawful}
+use Rattle.assise_model_world.specs.ClientSteps.{Releases}
+use Rattle.assise_model_world.specs.Invariant.{AreDropped}
+use Rattle.assise_model_world.specs.World.{World}
+use Rattle.assise_model_leases.specs.Handing.{ReleasesReady, FreesNode}
+use Rattle.assise_model_leases.specs.Leases.{Leases, client_lease, IsRevokedLease, client_records_from, AreLeases, is_held, is_written}
+use Rattle.assise_lease_tree.proofs.Lookups.{without_own, without_other}
+use Rattle.assise_model_leases.proofs.CutsCover.{covers_same}
+use Rattle.assise_model_leases.proofs.QuietLeases.{still_client, was_client, holder_home, revoked_holder}
+
+module _ (w u : World) (l k : Leases) (c i : ℕ) (a : AreLeases w l) (e : ReleasesReady w l c i u k) where
+  gone : client_lease k c i ≡ None
+  gone = ap (λ ls. lease_of ls c) e.released.clients.here ∙ without_own (l.levels.clients i) c
+
+  elsewhere : (d j : ℕ) → (d ≡ c → j ≡ i → ⊥) → client_lease k d j ≡ client_lease l d j
+  elsewhere d j disjoint = elim (cases_eq j i) [
+    | inl same ↦ subst (λ j. client_lease k d j ≡ client_lease l d j) (sym same)
+        (ap (λ ls. lease_of ls d) e.released.clients.here ∙ without_other (l.levels.clients i) c d (λ own. disjoint own same))
+    | inr other ↦ ap (λ ls. lease_of ls d) (e.released.clients.elsewhere j other)
+  ]
+
+  -- where the client's log begins behind the cut, none of its records touches the inode
+  nothing_left : AreDropped w → contains (touched (all_effects (w.records c))) i ≡ false
+  unfolding AreDropped client_records_from
+  nothing_left dropped = (let z : l.cut c i - w.first c ≡ 0 = omega (arith, e.ready, dropped c) in rw z at (a.covered c i e.revoked).untouched)
+
+  pub goes : AreDropped w → Releases w c i u
+  goes dropped = record {
+    untouched = nothing_left dropped;
+    logs = e.holds.logs;
+    clients = e.holds.clients;
+    goals = e.holds.goals;
+    nodes = e.holds.nodes;
+    holds_here = e.holds.held.holds c i ∙ ap is_held gone;
+    writes_here = e.holds.held.writes c i ∙ ap is_written gone;
+    holds_else = λ d j disjoint. e.holds.held.holds d j ∙ ap is_held (elsewhere d j disjoint) ∙ sym (a.held.holds d j);
+    writes_else = λ d j disjoint. e.holds.held.writes d j ∙ ap is_written (elsewhere d j disjoint) ∙ sym (a.held.writes d j);
+  }
+
+  -- a lease that is left was there
+  was_there : (d j : ℕ) → is_held (client_lease k d j) ≡ true → client_lease k d j ≡ client_lease l d j
+  was_there d j h = elsewhere d j (λ own at. absurd (none_held (subst (λ j. is_held (client_lease k c j) ≡ true) at (subst (λ d. is_held (client_lease k d j) ≡ true) own h))))
+    where
+      none_held : is_held (client_lease k c i) ≡ true → ⊥
+      none_held t = (let f : false ≡ true = rw gone at t in cc)
+
+  was_revoked : (d j : ℕ) → IsRevokedLease k d j → IsRevokedLease l d j
+  was_revoked d j h = ap is_revoked (sym (was_there d j (revoked_holder k d j h))) ∙ h
+
+  pub release_keeps : AreLeases u k
+  release_keeps = record {
+    lawful = released_lawful l.levels a.lawful k.levels c (w.home c) i (holder_home w l c i a (revoked_holder l c i e.revoked)) e.released;
+    held = e.holds.held;
+    homes = λ d o. e.released.home d ∙ a.homes d (still_client w u l a e.holds.clients d o) ∙ ap (λ m. Some m) (sym (e.holds.clients.home d));
+    strangers = λ d no. e.released.home d ∙ a.strangers d (λ o. no (was_client w u l a e.holds.clients d o));
+    covered = λ d j h. rw (e.cuts d j h) (covers_same w u d j (l.cut d j) (e.holds.logs.records d) (e.holds.logs.first d) (a.covered d j (was_revoked d j h)));
+    goals = λ d j lives h. rw (e.cuts d j h, e.holds.goals d) (a.goals d j (sym (e.holds.clients.lives d) ∙ lives) (was_revoked d j h));
+    borders = λ d j h low. subst (λ m. u.border d m ≡ true) (sym (e.cuts d j h))
+        (e.holds.logs.border d (l.cut d j) ∙ a.borders d j (was_revoked d j h) (omega (arith, low, e.cuts d j h, e.holds.logs.first d)));
+    crashed = λ d j over h. ap is_revoked (was_there d j h) ∙ a.crashed d j (sym (e.holds.clients.crashed d) ∙ over) (ap is_held (sym (was_there d j h)) ∙ h);
+    failed = λ d j over h. ap is_revoked (was_there d j h) ∙ a.failed d j (sym (e.holds.clients.lives d) ∙ over) (ap is_held (sym (was_there d j h)) ∙ h);
+  }
+
+pub free_keeps : (w : World) (l k : Leases) (n : ℕ) → AreLeases w l → FreesNode w l n k → AreLeases w k
+free_keeps w l k n a e = record {
+  lawful = freed_lawful l.levels a.lawful k.levels n e.idle e.freed;
+  held = record { holds = λ d j. a.held.holds d j ∙ ap is_held (sym (same d j)); writes = λ d j. a.held.writes d j ∙ ap is_written (sym (same d j)) };
+  homes = λ d o. e.freed.home d ∙ a.homes d o;
+  strangers = λ d no. e.freed.home d ∙ a.strangers d no;
+  covered = λ d j h. rw (e.cuts d j) (a.covered d j (ap is_revoked (sym (same d j)) ∙ h));
+  goals = λ d j lives h. rw (e.cuts d j) (a.goals d j lives (ap is_revoked (sym (same d j)) ∙ h));
+  borders = λ d j h low. subst (λ m. w.border d m ≡ true) (sym (e.cuts d j)) (a.borders d j (ap is_revoked (sym (same d j)) ∙ h) (omega (arith, low, e.cuts d j)));
+  crashed = λ d j over h. ap is_revoked (same d j) ∙ a.crashed d j over (ap is_held (sym (same d j)) ∙ h);
+  failed = λ d j over h. ap is_revoked (same d j) ∙ a.failed d j over (ap is_held (sym (same d j)) ∙ h);
+}
+  where
+    same : (d j : ℕ) → client_lease k d j ≡ client_lease l d j
+    same d j = ap (λ ls. lease_of ls d) (e.freed.clients j)

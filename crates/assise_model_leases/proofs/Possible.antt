@@ -1,0 +1,279 @@
+-- Each step of leases can be made: the state to which it leads.
+use Rattle.std.proofs.Common.{◌≡◌, ◌≢◌, ℕ, suc, ◌≤◌, ◌==◌, ◌&&◌, not, inl, inr, Bool, true, false, if◌then◌else◌, List, Option, Some, None, refl, ap, sym, ◌∙◌, arith, eq-eqb, ne_eqb}
+use Rattle.std.specs.List.{list_any}
+use Rattle.std.proofs.lemmas.Bool.{and_from, and_parts, both_ways, cases_Bool, eqb-true, false_from_ne_true}
+use Rattle.assise_names.specs.declared.mode.Mode.{Mode}
+use Rattle.assise_inode_table.specs.Traces.{NumberedCall}
+use Rattle.assise_lease_table.specs.declared.lease.Lease.{Lease}
+use Rattle.assise_lease_table.specs.LeaseMaps.{Becomes}
+use Rattle.assise_lease_table.specs.Leases.{Among, lease_of, new_lease, without_holder, revoke, revoked_if, is_own, serves}
+use Rattle.assise_lease_table.proofs.Elements.{any_among, among_any, map_among}
+use Rattle.assise_lease_tree.specs.Levels.{Homes, AskedBelow, in_way, is_free, is_revoked, lives, raised_mode, clients_granted, nodes_granted, nodes_asked, nodes_released}
+use Rattle.assise_lease_tree.specs.TwoLevels.{TwoLevels, IsGranted, IsAskedFor, IsIdle}
+use Rattle.assise_lease_tree.proofs.ClientHomes.{strong_raised}
+use Rattle.assise_model_world.specs.Chances.{MayFail}
+use Rattle.assise_model_world.specs.Invariant.{WorldInvariant}
+use Rattle.assise_model_world.specs.World.{World, Full, end_of_log}
+use Rattle.assise_model_world.proofs.Possible.{may_open, may_call, may_raise, may_crash, may_fail}
+use Rattle.assise_model_leases.specs.Chances.{MayAsk, MayCallUnder, MayGrant, MayRelease}
+use Rattle.assise_model_leases.specs.Handing.{HoldsAsLeased, Asks, CallsUnder, CrashesWith, FailsWithLeases, FreesNode, Grants, OpensAt, ReleasesReady, asked_goal}
+use Rattle.assise_model_leases.specs.Leases.{AreLeases, Leases, is_held, is_written, client_lease}
+use Rattle.assise_lease_tree.proofs.ClientHomes.{lease_among}
+use Rattle.assise_lease_tree.proofs.Lookups.{with_own, with_other}
+use Rattle.assise_model_leases.proofs.LookUps.{still_revoked}
+use Rattle.assise_model_leases.proofs.CutsCover.{covers_end}
+
+-- ---- one of many
+
+chosen : {A : Type 0} (d c : ℕ) (x y : A) → d ≡ c → (if d == c then x else y) ≡ x
+chosen d c x y e = rw (eq-eqb d c e) refl
+
+passed : {A : Type 0} (d c : ℕ) (x y : A) → d ≢ c → (if d == c then x else y) ≡ y
+passed d c x y e = rw (ne_eqb d c e) refl
+
+-- one inode has other leases
+abbrev pub with_at : (ℕ → List Lease) → ℕ → List Lease → ℕ → List Lease
+with_at f i ls j = if j == i then ls else f j
+
+pub becomes : (f : ℕ → List Lease) (i : ℕ) (ls : List Lease) → Becomes f (with_at f i ls) i ls
+becomes f i ls = record { here = chosen i i ls (f i) refl; elsewhere = λ j other. passed j i ls (f j) other }
+
+-- the world whose clients hold what the leases say
+abbrev pub holding : World → Leases → World
+holding w l = record w { holds = λ c i. is_held (client_lease l c i); writes = λ c i. is_written (client_lease l c i) }
+
+pub holds_them : (w : World) (l : Leases) → HoldsAsLeased w (holding w l) l
+holds_them w l = record {
+  logs = record { calls = refl; records = λ c. refl; first = λ c. refl; next = λ c. refl; border = λ c k. refl; made = λ c. refl };
+  clients = record { clients = refl; home = λ c. refl; lives = λ c. refl; crashed = λ c. refl };
+  goals = λ c. refl;
+  nodes = record { full = refl; same = λ n f. record { area = λ i. refl; log = λ c. refl; received = λ c. refl; digested = λ c. refl } };
+  held = record { holds = λ c i. refl; writes = λ c i. refl };
+}
+
+-- ---- opening and calls
+
+pub may_open_at : (w : World) (l : Leases) (n : ℕ) → Full w n → (u : World) × (k : Leases) × OpensAt w l n u k
+may_open_at w l n f =
+    let (u, e) = may_open w n f in
+    let c : ℕ = suc w.clients in
+    let home : ℕ → Option ℕ = λ d. if d == c then Some n else l.levels.home d in (
+      u,
+      record { levels = record { home = home; clients = l.levels.clients; nodes = l.levels.nodes }; cut = l.cut },
+      record {
+        opens = e;
+        enrols = record {
+          home = record { here = chosen c c (Some n) (l.levels.home c) refl; elsewhere = λ d other. passed d c (Some n) (l.levels.home d) other };
+          clients = λ i. refl;
+          nodes = λ i. refl;
+        };
+        cuts = λ d i. refl;
+      },
+    )
+
+pub may_call_under : (w : World) (l : Leases) (x : NumberedCall) → WorldInvariant w → MayCallUnder w l x → (u : World) × CallsUnder w l x u
+may_call_under w l x s m = (let (u, e) = may_call w x s m.may in (u, record { call = e; visited = m.visited; changed = m.changed }))
+
+-- ---- granting
+
+module _ (t : TwoLevels) (c n i : ℕ) (mode : Mode) where
+  granted : TwoLevels
+  granted = record {
+    home = t.home;
+    clients = with_at t.clients i (clients_granted c mode (t.clients i));
+    nodes = with_at t.nodes i (nodes_granted t.home (t.clients i) n mode (t.nodes i));
+  }
+
+  abbrev given : Lease
+  given = new_lease c (raised_mode mode (lease_of (t.clients i) c))
+
+  is_granted : IsGranted t granted c n i mode
+  unfolding granted clients_granted
+  is_granted = record {
+    home = λ d. refl;
+    clients = becomes t.clients i (clients_granted c mode (t.clients i));
+    nodes = becomes t.nodes i (nodes_granted t.home (t.clients i) n mode (t.nodes i));
+    held = ap (λ ls. serves (lease_of ls c) mode) (chosen i i (clients_granted c mode (t.clients i)) (t.clients i) refl)
+        ∙ ap (λ o. serves o mode) (with_own given (t.clients i)) ∙ strong_raised mode (lease_of (t.clients i) c);
+    others = λ j d other. elim (cases_Bool (j == i)) [
+      | inl is ↦ rw is (with_other given (t.clients i) d other ∙ ap (λ j. lease_of (t.clients j) d) (sym (eqb-true j i is)))
+      | inr away ↦ rw away refl
+    ];
+  }
+
+pub may_grant : (w : World) (l : Leases) (c i : ℕ) (mode : Mode) → MayGrant w l c i mode → (u : World) × (k : Leases) × Grants w l c i mode u k
+may_grant w l c i mode m =
+    let k : Leases = record { levels = granted l.levels c (w.home c) i mode; cut = l.cut } in (
+      holding w k,
+      k,
+      record {
+        lives_on = m.lives_on;
+        running = m.running;
+        free = m.free;
+        granted = is_granted l.levels c (w.home c) i mode;
+        cuts = λ d j. refl;
+        holds = holds_them w k;
+      },
+    )
+
+-- ---- asking
+
+-- where the mode isn't granted, some client holds the inode revoked
+module _ (home : Homes) (cs ns : List Lease) (c n : ℕ) (mode : Mode) (below : AskedBelow home cs ns) where
+  abbrev SomeRevoked : Type 0
+  SomeRevoked = list_any (λ b. b.revoked) (revoke (in_way home ns c n mode) cs) ≡ true
+
+  found_revoked : (b : Lease) → Among cs b → (revoked_if (in_way home ns c n mode b) b).revoked ≡ true → SomeRevoked
+  found_revoked b a h = among_any (λ (z : Lease). z.revoked) (revoke (in_way home ns c n mode) cs) (revoked_if (in_way home ns c n mode b) b) (map_among (λ z. revoked_if (in_way home ns c n mode z) z) cs b a) h
+
+  was_found : (b : Lease) → Among cs b → b.revoked ≡ true → SomeRevoked
+  was_found b a h = found_revoked b a (still_revoked (in_way home ns c n mode) (Some b) h)
+
+  own_revoked : (o : Option Lease) → lease_of cs c ≡ o → is_revoked o ≡ true → SomeRevoked
+  own_revoked None is h = cc
+  own_revoked (Some b) is h = was_found b (lease_among cs c b is).0 h
+
+  node_revoked : (o : Option Lease) → lease_of ns n ≡ o → is_revoked o ≡ true → SomeRevoked
+  node_revoked None is h = cc
+  node_revoked (Some m) is h =
+      let held = below m (lease_among ns n m is).0 h in
+      let b = any_among (λ z. lives home z.holder m.holder) cs held.0 in
+      was_found b.0 b.1 (held.1 b.0 b.1 b.2)
+
+  some_revoked : is_free home cs ns c n mode ≡ false → SomeRevoked
+  some_revoked refused = elim (cases_Bool (list_any (in_way home ns c n mode) cs)) [
+    | inl way ↦ (let b = any_among (in_way home ns c n mode) cs way in found_revoked b.0 b.1 (rw b.2 refl))
+    | inr none ↦ elim (cases_Bool (is_revoked (lease_of cs c))) [
+      | inl own ↦ own_revoked (lease_of cs c) refl own
+      | inr free ↦ elim (cases_Bool (is_revoked (lease_of ns n))) [
+        | inl node ↦ node_revoked (lease_of ns n) refl node
+        | inr unasked ↦ absurd (both_ways (is_free home cs ns c n mode) refused (rw (none, free, unasked) refl))
+      ]
+    ]
+  ]
+
+first_end : (w : World) (c : ℕ) → w.first c ≤ end_of_log w c
+unfolding end_of_log
+first_end w c = omega arith
+
+module _ (w : World) (l : Leases) (c i : ℕ) (mode : Mode) (a : AreLeases w l) (m : MayAsk w l c i mode) where
+  asked_clients : List Lease
+  asked_clients = revoke (in_way l.levels.home (l.levels.nodes i) c (w.home c) mode) (l.levels.clients i)
+
+  abbrev asked : TwoLevels
+  asked = record {
+    home = l.levels.home;
+    clients = with_at l.levels.clients i asked_clients;
+    nodes = with_at l.levels.nodes i (nodes_asked l.levels.home (l.levels.clients i) (w.home c) mode (l.levels.nodes i));
+  }
+
+  -- who is asked
+  abbrev now : ℕ → Bool
+  now d = not (is_revoked (lease_of (l.levels.clients i) d)) && is_revoked (lease_of (asked.clients i) d)
+
+  -- each answers its log's end
+  abbrev answers : Leases
+  answers = record { levels = asked; cut = λ d j. if (j == i) && now d then end_of_log w d else l.cut d j }
+
+  cut_now : (d : ℕ) → now d ≡ true → answers.cut d i ≡ end_of_log w d
+  cut_now d h = rw (and_from (i == i) (now d) (eq-eqb i i refl) h) refl
+
+  goal_there : (d : ℕ) → asked_goal l answers i d ≤ end_of_log w d
+  goal_there d =
+      elim (cases_Bool (now d)) [
+        | inl h ↦ (let is : asked_goal l answers i d ≡ end_of_log w d = rw (h, and_from (i == i) true (eq-eqb i i refl) refl) refl in omega (arith, is))
+        | inr h ↦ (let is : asked_goal l answers i d ≡ 0 = rw h refl in omega (arith, is))
+      ]
+
+  is_asked_for : IsAskedFor l.levels asked c (w.home c) i mode
+  unfolding asked_clients
+  is_asked_for = record {
+    home = λ d. refl;
+    clients = becomes l.levels.clients i asked_clients;
+    nodes = becomes l.levels.nodes i (nodes_asked l.levels.home (l.levels.clients i) (w.home c) mode (l.levels.nodes i));
+    revoked = ap (λ ls. list_any (λ (b : Lease). b.revoked) ls) (chosen i i asked_clients (l.levels.clients i) refl)
+        ∙ some_revoked l.levels.home (l.levels.clients i) (l.levels.nodes i) c (w.home c) mode (a.lawful.asked i) m.not_free;
+  }
+
+  pub may_ask : WorldInvariant w → (u : World) × (k : Leases) × Asks w l c i mode u k
+  may_ask s =
+      let (u, e) = may_raise w (asked_goal l answers i) goal_there in (
+        u,
+        answers,
+        record {
+          lives_on = m.lives_on;
+          running = m.running;
+          not_free = m.not_free;
+          asked = is_asked_for;
+          answered = λ d h. rw (cut_now d h) (covers_end w d i);
+          from_first = λ d h. rw (cut_now d h) (first_end w d);
+          border = λ d h. rw (cut_now d h) (s.coherent.end_border d);
+          cuts_else = λ d j other. rw (false_from_ne_true ((j == i) && now d) (λ t. let p = and_parts (j == i) (now d) t in other (eqb-true j i p.0) p.1)) refl;
+          goals = e;
+        },
+      )
+
+-- ---- handing over
+
+pub may_release : (w : World) (l : Leases) (c i : ℕ) → MayRelease w l c i → (u : World) × (k : Leases) × ReleasesReady w l c i u k
+may_release w l c i m =
+    let left : List Lease = without_holder c (l.levels.clients i) in
+    let above : List Lease = nodes_released l.levels.home left (w.home c) (l.levels.nodes i) in
+    let k : Leases = record { levels = record { home = l.levels.home; clients = with_at l.levels.clients i left; nodes = with_at l.levels.nodes i above }; cut = l.cut } in (
+      holding w k,
+      k,
+      record {
+        revoked = m.revoked;
+        ready = m.ready;
+        released = record { home = λ d. refl; clients = becomes l.levels.clients i left; nodes = becomes l.levels.nodes i above };
+        cuts = λ d j revoked. refl;
+        holds = holds_them w k;
+      },
+    )
+
+pub may_free : (w : World) (l : Leases) (n : ℕ) → (Full w n → ⊥) → IsIdle l.levels n → (k : Leases) × FreesNode w l n k
+may_free w l n away idle = (
+  record { levels = record { home = l.levels.home; clients = l.levels.clients; nodes = λ i. without_holder n (l.levels.nodes i) }; cut = l.cut },
+  record {
+    away = away;
+    idle = idle;
+    freed = record { home = λ d. refl; clients = λ i. refl; nodes = λ i. refl };
+    cuts = λ d i. refl;
+  },
+)
+
+-- ---- clients that are over
+
+pub may_crash_with : (w : World) (l : Leases) (c : ℕ) → w.lives c ≡ true → w.crashed c ≡ false → (u : World) × (k : Leases) × CrashesWith w l c u k
+may_crash_with w l c alive running =
+    let (u, e) = may_crash w c alive running in (
+      u,
+      record {
+        levels = record { home = l.levels.home; clients = λ i. revoke (is_own c) (l.levels.clients i); nodes = l.levels.nodes };
+        cut = λ d i. if d == c then end_of_log w d else l.cut d i;
+      },
+      record {
+        crash = e;
+        revoked = record { home = λ d. refl; clients = λ i. refl; nodes = λ i. refl };
+        cut_here = λ i. chosen c c (end_of_log w c) (l.cut c i) refl;
+        cut_else = λ d i other. passed d c (end_of_log w d) (l.cut d i) other;
+      },
+    )
+
+pub may_fail_with : (w : World) (l : Leases) (n : ℕ) → MayFail w n → (u : World) × (k : Leases) × FailsWithLeases w l n u k
+may_fail_with w l n m =
+    let (u, e) = may_fail w n m in (
+      u,
+      record {
+        levels = record { home = l.levels.home; clients = λ i. revoke (λ b. lives l.levels.home b.holder n) (l.levels.clients i); nodes = l.levels.nodes };
+        cut = λ d i. if w.home d == n then end_of_log u d else l.cut d i;
+      },
+      record {
+        fails = e;
+        home = λ d. refl;
+        clients = λ i. refl;
+        nodes = λ i. refl;
+        cut_here = λ d i is. chosen (w.home d) n (end_of_log u d) (l.cut d i) is;
+        cut_else = λ d i other. passed (w.home d) n (end_of_log u d) (l.cut d i) other;
+      },
+    )

@@ -1,0 +1,138 @@
+-- A digest at a full node, what leaves all areas, and the start.
+use Rattle.std.proofs.Common.{◌≡◌, ◌≢◌, inl, inr, ℕ, ◌<◌, true, false, Some, sym, ap, ◌∙◌, subst}
+use Rattle.std.specs.Option.{option_map}
+use Rattle.std.specs.Ordering.{nat_cmp}
+use Rattle.std.specs.FinSet as set
+use Rattle.std.specs.FinSet.{contains-union}
+use Rattle.std.specs.Cmp.{nat_cmp_total}
+use Rattle.std.proofs.lemmas.Bool.{cases_eq, cases_Bool, or_parts, both_ways}
+use Rattle.std.proofs.lemmas.Option.{none-some}
+use Rattle.assise_record.specs.Records.{all_effects}
+use Rattle.assise_inode_table.specs.Effects.{contains}
+use Rattle.assise_inode_table.proofs.EffectValues.{untouched}
+use Rattle.assise_model_world.specs.Runs.{begun}
+use Rattle.assise_model_world.specs.World.{World, Full, undigested_below}
+use Rattle.assise_model_members.specs.Members.{since_of, AreMembers}
+use Rattle.assise_model_members.specs.Returns.{OtherAreasStay, KeepsAreas, DigestsNoted}
+use Rattle.assise_manager.specs.Changes.{fulls, all_full, noted, stale_again, donor_of}
+use Rattle.assise_manager.specs.Membership.{Membership, written_since}
+use Rattle.assise_manager.specs.Standings.{standing_of, full_nodes}
+use Rattle.assise_manager.specs.Standings.Standing.{full, returning}
+use Rattle.assise_manager.proofs.Lawful.{noted_lawful, all_full_lawful, donor_full}
+use Rattle.assise_model_members.proofs.NodeStandings.{mapped_at, full_listed, listed_full, away_not_full, cases_donor, full_no_donor, filled_from, since_listed, none_failed, noted_here, noted_else, same_donor, same_stale}
+use Rattle.assise_model_members.proofs.Written.{outside, noted_still, noted_now}
+
+-- ---- a digest
+
+module _ (w u : World) (m m' : Membership) (n c p : ℕ) (inodes : set.FinSet nat_cmp) (a : AreMembers w m) (g : DigestsNoted w m n c p inodes u m') where
+  abbrev after : Membership
+  after = noted m n inodes
+
+  -- how nodes stand then
+  noted_stands : (k : ℕ) → standing_of after.nodes k ≡ option_map (stale_again n inodes) (standing_of m.nodes k)
+  noted_stands k = mapped_at (stale_again n inodes) m.nodes k
+
+  kept_stands : (k : ℕ) → donor_of (standing_of m.nodes k) ≢ Some n → standing_of after.nodes k ≡ standing_of m.nodes k
+  kept_stands k from = noted_stands k ∙ noted_else n inodes (standing_of m.nodes k) from
+
+  again_stands : (k since : ℕ) (stale : set.FinSet nat_cmp) → standing_of m.nodes k ≡ Some (returning since n stale) →
+      standing_of after.nodes k ≡ Some (returning since n (set.union stale inodes))
+  again_stands k since stale at = noted_stands k ∙ noted_here n since inodes stale (standing_of m.nodes k) at
+
+  since_same : (k : ℕ) → since_of (standing_of after.nodes k) ≡ since_of (standing_of m.nodes k)
+  since_same k =
+      elim (cases_donor (donor_of (standing_of m.nodes k)) n) [
+        | inl here ↦ (let (since, stale, is) = filled_from (standing_of m.nodes k) n here in ap since_of (again_stands k since stale is) ∙ sym (ap since_of is))
+        | inr from ↦ ap since_of (kept_stands k from)
+      ]
+
+  full_before : (k : ℕ) → standing_of after.nodes k ≡ Some full → standing_of m.nodes k ≡ Some full
+  full_before k at =
+      elim (cases_donor (donor_of (standing_of m.nodes k)) n) [
+        | inl here ↦
+            let (since, stale, is) = filled_from (standing_of m.nodes k) n here in
+            absurd (away_not_full (standing_of after.nodes k) since (ap since_of (again_stands k since stale is)) at)
+        | inr from ↦ sym (kept_stands k from) ∙ at
+      ]
+
+  was_full : (k : ℕ) → Full u k → Full w k
+  was_full k f = subst (λ ns. contains ns k ≡ true) g.digests.full f
+
+  -- areas
+  area_away : (k e i : ℕ) → since_of (standing_of m.nodes k) ≡ Some e → u.area k i ≡ w.area k i
+  area_away k e i at = g.others k i (λ f. away_not_full (standing_of m.nodes k) e at (a.full_nodes k f))
+
+  area_quiet : (k i : ℕ) → Full w k → set.contains inodes i ≡ false → u.area k i ≡ w.area k i
+  area_quiet k i f none =
+      elim (cases_eq k n) [
+        | inl is ↦
+            subst (λ k. u.area k i ≡ w.area k i) (sym is)
+            (g.digests.area_here i ∙ untouched i (w.area n i) (all_effects (undigested_below w n c p)) (sym (g.touches i) ∙ none))
+        | inr other ↦ g.digests.area_else k i f other
+      ]
+
+  due : (k e f i : ℕ) → since_of (standing_of after.nodes k) ≡ Some e → Full u f → set.contains (written_since after e) i ≡ false → u.area k i ≡ u.area f i
+  due k e f i at ff none =
+      let old : since_of (standing_of m.nodes k) ≡ Some e = sym (since_same k) ∙ at in
+      let quiet : set.contains inodes i ≡ false = outside inodes (written_since after e) (noted_now m n inodes e (since_listed m k e a.lawful old)) i none in
+      let before : Full w f = was_full f ff in
+      area_away k e i old ∙ a.due k e f i old before (outside (written_since m e) (written_since after e) (noted_still m n inodes e) i none) ∙ sym (area_quiet f i before quiet)
+
+  filling : (k since donor i : ℕ) (stale : set.FinSet nat_cmp) → standing_of after.nodes k ≡ Some (returning since donor stale) →
+      set.contains stale i ≡ false → u.area k i ≡ u.area donor i
+  filling k since donor i stale at none =
+      elim (cases_donor (donor_of (standing_of m.nodes k)) n) [
+        | inl here ↦
+            let (first, old, is) = filled_from (standing_of m.nodes k) n here in
+            let stands : standing_of after.nodes k ≡ Some (returning first n (set.union old inodes)) = again_stands k first old is in
+            let both : (set.contains old i ≡ false) × (set.contains inodes i ≡ false) = or_parts (set.contains old i) (set.contains inodes i)
+            (sym (contains-union nat_cmp_total old inodes i) ∙ ap (λ s. set.contains s i) (same_stale (standing_of after.nodes k) first since n donor (set.union old inodes) stale stands at) ∙ none) in
+            area_away k first i (ap since_of is) ∙ a.filling k first n i old is both.0 ∙ sym (area_quiet n i g.digests.full_node both.1)
+            ∙ ap (λ d. u.area d i) (same_donor (standing_of after.nodes k) first since n donor (set.union old inodes) stale stands at)
+        | inr from ↦
+            let before : standing_of m.nodes k ≡ Some (returning since donor stale) = sym (kept_stands k from) ∙ at in
+            area_away k since i (ap since_of before) ∙ a.filling k since donor i stale before none
+            ∙ sym (g.digests.area_else donor i (a.nodes_full donor (donor_full m k since donor stale a.lawful before)) (λ is. from (ap donor_of before ∙ ap Some is)))
+      ]
+
+  pub digest_keeps : AreMembers u m'
+  digest_keeps = subst (AreMembers u) (sym g.members) (record {
+    lawful = noted_lawful m n inodes a.lawful;
+    full_nodes = λ k f. (let at : standing_of m.nodes k ≡ Some full = a.full_nodes k (was_full k f) in
+        kept_stands k (full_no_donor (standing_of m.nodes k) n at) ∙ at);
+    nodes_full = λ k at. subst (λ ns. contains ns k ≡ true) (sym g.digests.full) (a.nodes_full k (full_before k at));
+    due = due;
+    filling = filling;
+  })
+
+-- ---- what leaves full nodes and areas
+
+pub areas_keep : (w u : World) (m : Membership) → AreMembers w m → KeepsAreas w u → AreMembers u m
+areas_keep w u m a g = record {
+  lawful = a.lawful;
+  full_nodes = λ k f. a.full_nodes k (subst (λ ns. contains ns k ≡ true) g.full f);
+  nodes_full = λ k at. subst (λ ns. contains ns k ≡ true) (sym g.full) (a.nodes_full k at);
+  due = λ k e f i at ff none. g.area k i ∙ a.due k e f i at (subst (λ ns. contains ns f ≡ true) g.full ff) none ∙ sym (g.area f i);
+  filling = λ k since donor i stale at none. g.area k i ∙ a.filling k since donor i stale at none ∙ sym (g.area donor i);
+}
+
+pub keeps_areas : (w u : World) → u.full ≡ w.full → ((k i : ℕ) → Full w k → u.area k i ≡ w.area k i) → OtherAreasStay w u → KeepsAreas w u
+keeps_areas w u same areas others = record {
+  full = same;
+  area = λ k i.
+      elim (cases_Bool (contains w.full k)) [
+        | inl is ↦ areas k i is
+        | inr away ↦ others k i (both_ways (contains w.full k) away)
+      ];
+}
+
+-- ---- the start
+
+pub members_begin : (count : ℕ) → 0 < count → AreMembers (begun (full_nodes (fulls count))) (all_full count)
+members_begin count some = record {
+  lawful = all_full_lawful count some;
+  full_nodes = λ k f. listed_full (fulls count) k f;
+  nodes_full = λ k at. full_listed (fulls count) k at;
+  due = λ k e f i at ff none. absurd (none-some e (sym (none_failed count k) ∙ at));
+  filling = λ k since donor i stale at none. absurd (none-some since (sym (none_failed count k) ∙ ap since_of at));
+}

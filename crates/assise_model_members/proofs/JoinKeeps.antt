@@ -1,0 +1,111 @@
+-- A node that lacks no inode is full again.
+use Rattle.std.proofs.Common.{◌≡◌, ◌≢◌, inl, inr, ℕ, Bool, true, false, cond, Option, Some, None, [], ◌∷◌, ◌++◌, refl, sym, ap, ◌∙◌, subst, eqb-true}
+use Rattle.std.specs.Prelude.{◌==◌}
+use Rattle.std.specs.Ordering.{nat_cmp}
+use Rattle.std.specs.FinSet as set
+use Rattle.std.specs.FinSet.{empty_of_len, contains-empty}
+use Rattle.std.proofs.lemmas.Bool.{cases_eq}
+use Rattle.std.proofs.lemmas.Option.{none-some}
+use Rattle.assise_names.specs.declared.refusal.Refusal.{Refusal}
+use Rattle.assise_names.specs.declared.refusal.Refusal.TheVariants.{Busy}
+use Rattle.assise_model_world.specs.NodeSteps.{Joins}
+use Rattle.assise_model_world.specs.World.{World, Full}
+use Rattle.assise_model_members.specs.Members.{since_of, AreMembers}
+use Rattle.assise_model_members.specs.Returns.{Rejoins}
+use Rattle.assise_manager.specs.Changes.{joined, join_fault_of}
+use Rattle.assise_manager.specs.Membership.{Membership, written_since}
+use Rattle.assise_manager.specs.Standings.{Standing, standing_of}
+use Rattle.assise_manager.specs.Standings.Standing.{full, returning}
+use Rattle.assise_manager.proofs.Lawful.{joined_lawful, donor_full}
+use Rattle.assise_model_members.proofs.NodeStandings.{set_here, set_else, away_not_full, not_all}
+use Rattle.assise_model_members.proofs.Written.{outside, still_written}
+
+not_busy : (b : Bool) → ◌≡◌ {A = Option Refusal} (cond b None (Some Busy)) None → b ≡ true
+not_busy true fine = refl
+not_busy false fine = absurd (none-some Busy (sym fine))
+
+-- a node whose joining isn't refused may lack nothing
+pub lacks_none : (o : Option Standing) (since donor : ℕ) (stale : set.FinSet nat_cmp) → o ≡ Some (returning since donor stale) → join_fault_of o ≡ None →
+    (i : ℕ) → set.contains stale i ≡ false
+lacks_none o since donor stale at fine i =
+    ap (λ s. set.contains s i) (empty_of_len stale (eqb-true (set.len stale) 0 (not_busy (set.len stale == 0) (sym (ap join_fault_of at) ∙ fine))))
+    ∙ contains-empty nat_cmp i
+
+module _ (w u : World) (m m' : Membership) (n : ℕ) (a : AreMembers w m) (g : Rejoins w m n u m') where
+  abbrev after : Membership
+  after = joined m n
+
+  donor_before : Full w g.donor
+  donor_before = a.nodes_full g.donor (donor_full m n g.since g.donor g.stale a.lawful g.stands)
+
+  not_before : Full w n → ⊥
+  not_before f = away_not_full (standing_of m.nodes n) g.since (ap since_of g.stands) (a.full_nodes n f)
+
+  donor_same : (i : ℕ) → w.area n i ≡ w.area g.donor i
+  donor_same i = a.filling n g.since g.donor i g.stale g.stands (lacks_none (standing_of m.nodes n) g.since g.donor g.stale g.stands g.fine i)
+
+  pub rejoin_joins : Joins w n g.donor u
+  rejoin_joins = record {
+    donor_full = donor_before;
+    absent = not_before;
+    joined = g.joined;
+    stay = g.stay;
+    only = g.only;
+    logs = g.logs;
+    clients = g.clients;
+    goals = g.goals;
+    leases = g.leases;
+    area_here = λ i. g.area n i ∙ donor_same i;
+    log_here = g.log_here;
+    received_here = g.received_here;
+    digested_here = g.digested_here;
+    else_same = g.else_same;
+  }
+
+  own : standing_of after.nodes n ≡ Some full
+  own = set_here m.nodes n (returning g.since g.donor g.stale) full g.stands
+
+  elsewhere : (k : ℕ) → k ≢ n → standing_of after.nodes k ≡ standing_of m.nodes k
+  elsewhere k disjoint = set_else m.nodes n k (returning g.since g.donor g.stale) full g.stands disjoint
+
+  other : (k e : ℕ) → since_of (standing_of after.nodes k) ≡ Some e → k ≢ n
+  other k e at is = away_not_full (standing_of after.nodes k) e at (subst (λ k. standing_of after.nodes k ≡ Some full) (sym is) own)
+
+  -- where some node still isn't full, the lists stay
+  fewer : (k e i : ℕ) → since_of (standing_of after.nodes k) ≡ Some e → set.contains (written_since after e) i ≡ false → set.contains (written_since m e) i ≡ false
+  fewer k e i at none =
+      outside (written_since m e) (written_since after e)
+      (still_written m after set.empty refl (ap (λ b. cond b [] (m.written ++ set.empty ∷ [])) (not_all after.nodes k e at)) e) i none
+
+  due : (k e f i : ℕ) → since_of (standing_of after.nodes k) ≡ Some e → Full u f → set.contains (written_since after e) i ≡ false → u.area k i ≡ u.area f i
+  due k e f i at ff none =
+      let old : since_of (standing_of m.nodes k) ≡ Some e = sym (ap since_of (elsewhere k (other k e at))) ∙ at in
+      let before : set.contains (written_since m e) i ≡ false = fewer k e i at none in
+      g.area k i
+      ∙ (elim (g.only f ff) [
+        | inl is ↦ a.due k e g.donor i old donor_before before ∙ sym (donor_same i) ∙ sym (ap (λ f. w.area f i) is)
+        | inr stayed ↦ a.due k e f i old stayed before
+      ])
+      ∙ sym (g.area f i)
+
+  filling : (k since donor i : ℕ) (stale : set.FinSet nat_cmp) → standing_of after.nodes k ≡ Some (returning since donor stale) →
+      set.contains stale i ≡ false → u.area k i ≡ u.area donor i
+  filling k since donor i stale at none =
+      g.area k i ∙ a.filling k since donor i stale (sym (elsewhere k (other k since (ap since_of at))) ∙ at) none ∙ sym (g.area donor i)
+
+  pub rejoin_keeps : AreMembers u m'
+  rejoin_keeps = subst (AreMembers u) (sym g.members) (record {
+    lawful = joined_lawful m n a.lawful g.fine;
+    full_nodes = λ k f.
+        elim (g.only k f) [
+          | inl is ↦ subst (λ k. standing_of after.nodes k ≡ Some full) (sym is) own
+          | inr stayed ↦ elsewhere k (λ is. not_before (subst (Full w) is stayed)) ∙ a.full_nodes k stayed
+        ];
+    nodes_full = λ k at.
+        elim (cases_eq k n) [
+          | inl is ↦ subst (Full u) (sym is) g.joined
+          | inr disjoint ↦ g.stay k (a.nodes_full k (sym (elsewhere k disjoint) ∙ at))
+        ];
+    due = due;
+    filling = filling;
+  })

@@ -1,0 +1,234 @@
+-- Nodes fail.
+use Rattle.std.proofs.Common.{◌≡◌, ◌≢◌, inl, inr, ℕ, ◌+◌, ◌-◌, ◌≤◌, true, false, not, cond, Some, None, refl, sym, ap, ◌∙◌, subst, take, drop, arith}
+use Rattle.std.specs.Prelude.{◌==◌, Bool, List, ◌∷◌, [], filter, ◌&&◌}
+use Rattle.std.specs.Option.{option_map}
+use Rattle.std.specs.FinSet as set
+use Rattle.std.specs.Ordering.{nat_cmp}
+use Rattle.std.proofs.lemmas.Bool.{cases_eq, cases_Bool, or_cases, or_left, or_right, both_ways, false_from_ne_true}
+use Rattle.std.proofs.lemmas.Option.{none-some, same_Some}
+use Rattle.assise_record.specs.Records.{all_effects}
+use Rattle.assise_inode_table.specs.Effects.{touched, contains}
+use Rattle.assise_model_world.specs.NodeSteps.{Fails, kept_at_failure}
+use Rattle.assise_model_world.specs.Invariant.{WorldInvariant}
+use Rattle.assise_model_world.specs.World.{World, Full, least_of, end_of_log, received_by_all, records_between}
+use Rattle.assise_model_world.proofs.AreasAgree.{same_areas}
+use Rattle.assise_model_world.proofs.Logs.{contains-take, take-of_take}
+use Rattle.assise_model_world.proofs.WorldObserved.{least_of-above, received_by_all-below, received_by_all-end}
+use Rattle.assise_model_members.specs.Members.{since_of, AreMembers}
+use Rattle.assise_model_members.specs.Returns.{FailsWithMembers}
+use Rattle.assise_manager.specs.Changes.{failed_as, with_epoch, with_new_donor, refilled_from, donor_of, stale_of}
+use Rattle.assise_manager.specs.Membership.{Membership, IsMembership, written_since, lowest_full}
+use Rattle.assise_manager.specs.Standings.{standing_of}
+use Rattle.assise_manager.specs.Standings.Standing.{full, down, returning}
+use Rattle.assise_manager.proofs.Lawful.{failed_lawful, donor_full}
+use Rattle.assise_model_members.proofs.NodeStandings.{mapped_at, set_here, set_else, lowest_stands, may_fail_beside, away_not_full, cases_donor, full_no_donor, filled_from, refilled_here, refilled_else, same_lowest, same_donor, same_stale}
+use Rattle.assise_model_members.proofs.Written.{outside, still_written, now_written}
+
+-- ---- what is kept
+
+contains-filter : (p : ℕ → Bool) (ns : List ℕ) (k : ℕ) → contains (filter p ns) k ≡ true → contains ns k ≡ true
+contains-filter p [] k h = h
+contains-filter p (n ∷ ns) k h =
+    elim (cases_Bool (p n)) [
+      | inl is ↦
+          elim (or_cases (n == k) (contains (filter p ns) k) (subst (λ b. contains (cond b (n ∷ filter p ns) (filter p ns)) k ≡ true) is h)) [
+            | inl here ↦ or_left (n == k) (contains ns k) here
+            | inr there ↦ or_right (n == k) (contains ns k) (contains-filter p ns k there)
+          ]
+      | inr past ↦
+          or_right (n == k) (contains ns k)
+          (contains-filter p ns k (subst (λ b. contains (cond b (n ∷ filter p ns) (filter p ns)) k ≡ true) past h))
+    ]
+
+-- no record that all full nodes have is cut
+kept_is_high : (w : World) (n c : ℕ) → received_by_all w c ≤ kept_at_failure w n c
+unfolding kept_at_failure
+kept_is_high w n c =
+    elim (cases_Bool (w.lives c && (w.home c == n))) [
+      | inl here ↦
+          subst (λ b. received_by_all w c ≤ cond b (least_of (filter (λ m. not (m == n)) w.full) (λ m. w.received m c) (end_of_log w c)) (end_of_log w c)) (sym here)
+          (least_of-above (filter (λ m. not (m == n)) w.full) (λ m. w.received m c) (end_of_log w c) (received_by_all w c) (received_by_all-end w c)
+          (λ m there. received_by_all-below w m c (contains-filter (λ k. not (k == n)) w.full m there)))
+      | inr there ↦
+          subst (λ b. received_by_all w c ≤ cond b (least_of (filter (λ m. not (m == n)) w.full) (λ m. w.received m c) (end_of_log w c)) (end_of_log w c)) (sym there)
+          (received_by_all-end w c)
+    ]
+
+-- what no record touches that is kept, none touches that all full nodes have
+untouched : (w v : World) (n i : ℕ) → Fails w n v → ((c : ℕ) → contains (touched (all_effects (v.records c))) i ≡ false) →
+    (c : ℕ) → contains (touched (all_effects (records_between w c (w.first c) (received_by_all w c)))) i ≡ false
+unfolding records_between
+untouched w v n i f none c =
+    false_from_ne_true (contains (touched (all_effects (records_between w c (w.first c) (received_by_all w c)))) i)
+    (λ h. both_ways (contains (touched (all_effects (v.records c))) i) (none c)
+    (subst (λ rs. contains (touched (all_effects rs)) i ≡ true) (sym (f.records c))
+    (contains-take (records_between w c (w.first c) (kept_at_failure w n c)) (received_by_all w c - w.first c) i
+    (subst (λ rs. contains (touched (all_effects rs)) i ≡ true) (sym shorter) h))))
+  where
+    shorter : take (received_by_all w c - w.first c) (records_between w c (w.first c) (kept_at_failure w n c)) ≡ records_between w c (w.first c) (received_by_all w c)
+    shorter =
+        take-of_take (drop (w.first c - w.first c) (w.records c)) 0 (received_by_all w c - w.first c) (kept_at_failure w n c - w.first c)
+        (omega (arith, kept_is_high w n c))
+
+-- ---- a full node fails
+
+module _ (w v u : World) (m m' : Membership) (n : ℕ) (inodes : set.FinSet nat_cmp) (s : WorldInvariant w) (a : AreMembers w m) (g : FailsWithMembers w m n inodes v u m') where
+  abbrev begun : Membership
+  begun = with_epoch m n inodes
+
+  abbrev after : Membership
+  after = with_new_donor begun n
+
+  abbrev low : ℕ
+  low = lowest_full begun.nodes
+
+  same_low : lowest_full after.nodes ≡ low
+  same_low = same_lowest (written_since begun) low n begun.nodes
+
+  stood : standing_of m.nodes n ≡ Some full
+  stood = a.full_nodes n g.fails.full_node
+
+  is_after : m' ≡ after
+  is_after = g.members ∙ ap (failed_as m n inodes) stood
+
+  fail_lawful : IsMembership m'
+  fail_lawful =
+      let (k, (other, there)) = g.fails.survivor in
+      subst IsMembership (sym g.members) (failed_lawful m n inodes a.lawful (may_fail_beside m n k stood (a.full_nodes k there) other))
+
+  lawful_after : IsMembership after
+  lawful_after = subst IsMembership is_after fail_lawful
+
+  -- how nodes stand then
+  own : standing_of after.nodes n ≡ Some (down (m.epoch + 1))
+  own = mapped_at (refilled_from (written_since begun) low n) begun.nodes n ∙ ap (option_map (refilled_from (written_since begun) low n)) (set_here m.nodes n full (down (m.epoch + 1)) stood)
+
+  other : (k : ℕ) → k ≢ n → standing_of after.nodes k ≡ option_map (refilled_from (written_since begun) low n) (standing_of m.nodes k)
+  other k disjoint = mapped_at (refilled_from (written_since begun) low n) begun.nodes k ∙ ap (option_map (refilled_from (written_since begun) low n)) (set_else m.nodes n k full (down (m.epoch + 1)) stood disjoint)
+
+  kept_stands : (k : ℕ) → k ≢ n → donor_of (standing_of m.nodes k) ≢ Some n → standing_of after.nodes k ≡ standing_of m.nodes k
+  kept_stands k disjoint from = other k disjoint ∙ refilled_else (written_since begun) low n (standing_of m.nodes k) from
+
+  over_stands : (k since : ℕ) (stale : set.FinSet nat_cmp) → k ≢ n → standing_of m.nodes k ≡ Some (returning since n stale) →
+      standing_of after.nodes k ≡ Some (returning since low (written_since after since))
+  over_stands k since stale disjoint at = other k disjoint ∙ refilled_here (written_since begun) low n since stale (standing_of m.nodes k) at
+
+  not_own : (k since : ℕ) (stale : set.FinSet nat_cmp) → standing_of m.nodes k ≡ Some (returning since n stale) → k ≢ n
+  not_own k since stale at is = away_not_full (standing_of m.nodes k) since (ap since_of at) (subst (λ k. standing_of m.nodes k ≡ Some full) (sym is) stood)
+
+  since_before : (k e : ℕ) → k ≢ n → since_of (standing_of after.nodes k) ≡ Some e → since_of (standing_of m.nodes k) ≡ Some e
+  since_before k e disjoint at =
+      elim (cases_donor (donor_of (standing_of m.nodes k)) n) [
+        | inl lost ↦
+            let (since, stale, is) = filled_from (standing_of m.nodes k) n lost in
+            ap since_of is ∙ sym (ap since_of (over_stands k since stale disjoint is)) ∙ at
+        | inr from ↦ sym (ap since_of (kept_stands k disjoint from)) ∙ at
+      ]
+
+  full_before : (k : ℕ) → standing_of after.nodes k ≡ Some full → (k ≢ n) × (standing_of m.nodes k ≡ Some full)
+  full_before k at =
+      elim (cases_eq k n) [
+        | inl is ↦ absurd (away_not_full (standing_of after.nodes n) (m.epoch + 1) (ap since_of own) (subst (λ k. standing_of after.nodes k ≡ Some full) is at))
+        | inr disjoint ↦ (
+          disjoint,
+          elim (cases_donor (donor_of (standing_of m.nodes k)) n) [
+            | inl lost ↦
+                let (since, stale, is) = filled_from (standing_of m.nodes k) n lost in
+                absurd (away_not_full (standing_of after.nodes k) since (ap since_of (over_stands k since stale disjoint is)) at)
+            | inr from ↦ sym (kept_stands k disjoint from) ∙ at
+          ],
+        )
+      ]
+
+  full_world : (k : ℕ) → Full u k → Full w k × (k ≢ n)
+  full_world k f =
+      (let h : Full v k = subst (λ ns. contains ns k ≡ true) g.rests.nodes.full f in
+      (g.fails.only k h, λ is. g.fails.gone (subst (Full v) is h)))
+
+  world_full : (k : ℕ) → Full w k → k ≢ n → Full u k
+  world_full k f disjoint = subst (λ ns. contains ns k ≡ true) (sym g.rests.nodes.full) (g.fails.others k f disjoint)
+
+  -- areas
+  area_full : (k i : ℕ) → Full w k → u.area k i ≡ w.area k i
+  area_full k i f = g.area_else k i (full_no_donor (standing_of m.nodes k) n (a.full_nodes k f))
+
+  fewer : (e i : ℕ) → set.contains (written_since after e) i ≡ false → set.contains (written_since m e) i ≡ false
+  fewer e i none = outside (written_since m e) (written_since after e) (still_written m after inodes refl refl e) i none
+
+  -- what isn't on the new epoch's list, the failed node has as each that stays
+  failed_same : (k i : ℕ) → Full w k → set.contains (written_since after (m.epoch + 1)) i ≡ false → w.area n i ≡ w.area k i
+  failed_same k i f none =
+      same_areas w n k i s.coherent g.fails.full_node f
+      (untouched w v n i g.fails (λ c. false_from_ne_true (contains (touched (all_effects (v.records c))) i)
+      (λ h. both_ways (set.contains inodes i)
+      (outside inodes (written_since after (m.epoch + 1)) (now_written m after inodes refl refl a.lawful.lists) i none) (g.touched_all c i h))))
+
+  -- outside the lists the areas of nodes that weren't full stay
+  area_due : (k e i : ℕ) → k ≢ n → since_of (standing_of m.nodes k) ≡ Some e → set.contains (written_since after e) i ≡ false → u.area k i ≡ w.area k i
+  area_due k e i disjoint at none =
+      elim (cases_donor (donor_of (standing_of m.nodes k)) n) [
+        | inl lost ↦
+            let (since, stale, is) = filled_from (standing_of m.nodes k) n lost in
+            let same : e ≡ since = same_Some e since (sym at ∙ ap since_of is) in
+            g.over k (written_since after since) lost (ap (λ o. stale_of (standing_of o.nodes k)) is_after ∙ ap stale_of (over_stands k since stale disjoint is)) i
+            ∙ ap (λ b. cond b None (w.area k i)) (subst (λ e. set.contains (written_since after e) i ≡ false) same none)
+        | inr from ↦ g.area_else k i from
+      ]
+
+  due : (k e f i : ℕ) → since_of (standing_of after.nodes k) ≡ Some e → Full u f → set.contains (written_since after e) i ≡ false → u.area k i ≡ u.area f i
+  due k e f i at ff none =
+      let before : Full w f = (full_world f ff).0 in
+      elim (cases_eq k n) [
+        | inl is ↦
+            let new : m.epoch + 1 ≡ e = same_Some (m.epoch + 1) e (sym (ap since_of own) ∙ subst (λ k. since_of (standing_of after.nodes k) ≡ Some e) is at) in
+            subst (λ k. u.area k i ≡ u.area f i) (sym is)
+            (area_full n i g.fails.full_node ∙ failed_same f i before (subst (λ e. set.contains (written_since after e) i ≡ false) (sym new) none) ∙ sym (area_full f i before))
+        | inr disjoint ↦
+            let old : since_of (standing_of m.nodes k) ≡ Some e = since_before k e disjoint at in
+            area_due k e i disjoint old none ∙ a.due k e f i old before (fewer e i none) ∙ sym (area_full f i before)
+      ]
+
+  low_full : Full u low
+  low_full =
+      (let stands : standing_of after.nodes (lowest_full after.nodes) ≡ Some full = lowest_stands after.nodes lawful_after.some_full in
+      subst (Full u) same_low (let b = full_before (lowest_full after.nodes) stands in world_full (lowest_full after.nodes) (a.nodes_full (lowest_full after.nodes) b.1) b.0))
+
+  filling : (k since donor i : ℕ) (stale : set.FinSet nat_cmp) → standing_of after.nodes k ≡ Some (returning since donor stale) →
+      set.contains stale i ≡ false → u.area k i ≡ u.area donor i
+  filling k since donor i stale at none =
+      elim (cases_eq k n) [
+        | inl is ↦ absurd (none-some donor (sym (ap donor_of own) ∙ ap donor_of (subst (λ k. standing_of after.nodes k ≡ Some (returning since donor stale)) is at)))
+        | inr disjoint ↦ elim (cases_donor (donor_of (standing_of m.nodes k)) n) [
+          | inl lost ↦
+              let (first, old, is) = filled_from (standing_of m.nodes k) n lost in
+              let stands : standing_of after.nodes k ≡ Some (returning first low (written_since after first)) = over_stands k first old disjoint is in
+              due k first donor i (ap since_of stands)
+              (subst (Full u) (same_donor (standing_of after.nodes k) first since low donor (written_since after first) stale stands at) low_full)
+              (subst (λ t. set.contains t i ≡ false) (sym (same_stale (standing_of after.nodes k) first since low donor (written_since after first) stale stands at)) none)
+          | inr from ↦
+              let before : standing_of m.nodes k ≡ Some (returning since donor stale) = sym (kept_stands k disjoint from) ∙ at in
+              g.area_else k i from ∙ a.filling k since donor i stale before none ∙ sym (area_full donor i (a.nodes_full donor (donor_full m k since donor stale a.lawful before)))
+        ]
+      ]
+
+  keeps_after : AreMembers u after
+  keeps_after = record {
+    lawful = lawful_after;
+    full_nodes = λ k f.
+        (let b : Full w k × (k ≢ n) = full_world k f in
+        let at : standing_of m.nodes k ≡ Some full = a.full_nodes k b.0 in
+        kept_stands k b.1 (full_no_donor (standing_of m.nodes k) n at) ∙ at);
+    nodes_full = λ k at. (let b = full_before k at in world_full k (a.nodes_full k b.1) b.0);
+    due = due;
+    filling = filling;
+  }
+
+  pub fail_keeps : AreMembers u m'
+  fail_keeps = subst (AreMembers u) (sym is_after) keeps_after
+
+  -- who was filled from the failed node
+  pub fail_over : (k since : ℕ) (stale : set.FinSet nat_cmp) → standing_of m.nodes k ≡ Some (returning since n stale) →
+      standing_of m'.nodes k ≡ Some (returning since (lowest_full m'.nodes) (written_since m' since))
+  fail_over k since stale at =
+      subst (λ o. standing_of o.nodes k ≡ Some (returning since (lowest_full o.nodes) (written_since o since))) (sym is_after)
+      (over_stands k since stale (not_own k since stale at) at ∙ ap (λ d. Some (returning since d (written_since after since))) (sym same_low))

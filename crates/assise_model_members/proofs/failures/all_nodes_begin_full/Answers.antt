@@ -1,0 +1,5 @@
+use Rattle.assise_model_members.proofs.DigestNoted.{members_begin}
+use Rattle.assise_model_members.proofs.failures.all_nodes_begin_full.Goals as goal
+
+pub returns : goal.returns
+returns c = members_begin

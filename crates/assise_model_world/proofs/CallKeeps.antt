@@ -1,0 +1,677 @@
+-- A call keeps the invariant.
+use Rattle.std.proofs.Common.{◌≡◌, ℕ, suc, ◌+◌, ◌-◌, ◌<◌, ◌≤◌, ◌≢◌, inl, inr, Bool, true, false, List, [], ◌∷◌, ◌++◌, if◌then◌else◌, Option, Some, None, IsSome, refl, ap, sym, ◌∙◌, subst, ◌||◌, nat_lt, nat_le, arith, take, length, filter}
+use Rattle.std.specs.List.{list_any}
+use Rattle.std.proofs.lemmas.Bool.{both_ways, le-ltb, cases_Bool, ltb-true, leb-true, lt-ltb, le-leb, ne_eqb, cases_eq, or_left, or_cases, or_parts, false_from_ne_true, cases_lt}
+use Rattle.std.proofs.lemmas.Bool.Decides.{nat_tests}
+use Rattle.assise_seq_tree.specs.Tree.{opening as opening_tree}
+use Rattle.assise_seq_tree.specs.Answer.{answer}
+use Rattle.assise_seq_tree.specs.Runs.{AreAnswered, tree_after_calls}
+use Rattle.assise_record.specs.declared.effect.Effect.{Effect}
+use Rattle.assise_record.specs.LogRecord.{LogRecord}
+use Rattle.assise_record.specs.Records.{all_effects, has_some, record_of, call_of, Ascending}
+use Rattle.assise_record.proofs.Records.{all_effects-append, all_effects-one, ascending-append}
+use Rattle.assise_inode_table.specs.Contents.{Content}
+use Rattle.assise_inode_table.specs.Effects.{value_after, touched, contains, after, makes}
+use Rattle.assise_inode_table.specs.Interaction.{Step}
+use Rattle.assise_inode_table.specs.Late.{late_value}
+use Rattle.assise_inode_table.specs.Spelled.{Spells}
+use Rattle.assise_inode_table.specs.Traces.{NumberedCall, trace, step_of, values_after_calls, AllMakeNew, exchanges, ops, Each, NumbersAscend, below, window}
+use Rattle.assise_inode_table.specs.Unseen.{Clear, Unseen}
+use Rattle.assise_model_world.specs.Runs.{NoneFalls, StayReplicated}
+use Rattle.assise_model_world.specs.Invariant.{WorldInvariant, AreDropped, IsMadeBy, IsMade, StandFor, Stands, Counted, Numbered, AreMade, Guarded, Compatible, IsOrdered, Areas, CallsInvariant}
+use Rattle.assise_model_world.specs.ClientSteps.{MakesCall}
+use Rattle.assise_model_world.specs.World.{IsClient, calls_replicated, step_at_home, World, Full, opening_values, least_of, end_of_log, digested_by_all, received_by_all, records_between, call_at, first_undigested_at, first_undigested, first_unreplicated, steps, now, tree, value_below}
+use Rattle.assise_inode_table.proofs.Lateness.{in_window}
+use Rattle.assise_inode_table.proofs.EffectValues.{value_after-append, contains-both}
+use Rattle.assise_inode_table.proofs.PairwiseLists.{each-map, each-both}
+use Rattle.assise_inode_table.proofs.CallSteps.{step_replies, step_spells}
+use Rattle.assise_model_world.proofs.Lists.{each-snoc, pairs-snoc, unseen-raise, value-cong, value-snoc, has-none, trace-snoc, values-snoc, answered-snoc, tree-snoc, new-snoc}
+use Rattle.assise_model_world.proofs.Logs.{in_window_from, windows_agree, take-of_append, at-grows, at-same, at-push, of_fresh, length-both, drop-prefix}
+use Rattle.assise_model_world.proofs.WorldObserved.{least_of-same, least_of-most, least_of-below, least_of-above, least_of-end, call_at-mono, next-top, part_of, call_at-end, received_by_all-end, IsCounted, all_counted, guarded_all, part-append, part_none, end-else, part-else, area_at, disjoint}
+use Rattle.assise_model_world.proofs.Views.{clear_from, true_step}
+use Rattle.assise_model_world.proofs.QuietSteps.{held-same, made_more, made_by_more}
+use Rattle.assise_model_world.proofs.InodeNumbers.{made_here}
+use Rattle.assise_inode_table.proofs.EffectValues.{contains-append}
+use Rattle.assise_model_world.proofs.Replicated.{log_of_home}
+use Rattle.std.proofs.lemmas.List.{append-nil, take_all, take-append-le}
+use Rattle.std.proofs.lemmas.List.Elements.{filter-append}
+
+module _ (w w' : World) (y : NumberedCall) (sound : WorldInvariant w) (e : MakesCall w y w') where
+  abbrev s : CallsInvariant w
+  s = sound.coherent
+
+  client : IsClient w y.client
+  client = sound.opened y.client e.lives
+
+  abbrev planned : Step
+  planned = step_of (now w) y
+
+  -- the step over what the client reads is that
+  is_planned : step_at_home w y ≡ planned
+  is_planned = true_step w y sound e.lives (λ i t. e.held i (contains-append (step_at_home w y).visits (touched (step_at_home w y).effects) i ∙ or_left (contains (step_at_home w y).visits i) (contains (touched (step_at_home w y).effects) i) t))
+
+  held : (i : ℕ) → contains (planned.visits ++ touched planned.effects) i ≡ true → w.holds y.client i ≡ true
+  held = subst (λ t. (i : ℕ) → contains (t.visits ++ touched t.effects) i ≡ true → w.holds y.client i ≡ true) is_planned e.held
+
+  written : (i : ℕ) → contains (touched planned.effects) i ≡ true → w.writes y.client i ≡ true
+  written = subst (λ t. (i : ℕ) → contains (touched t.effects) i ≡ true → w.writes y.client i ≡ true) is_planned e.written
+
+  records_own : w'.records y.client ≡ w.records y.client ++ record_of y.number planned.effects
+  records_own = subst (λ t. w'.records y.client ≡ w.records y.client ++ record_of y.number t.effects) is_planned e.records_own
+
+  made_own : w'.made y.client ≡ (if list_any (makes y.fresh) planned.effects then suc (w.made y.client) else w.made y.client)
+  made_own = subst (λ t. w'.made y.client ≡ (if list_any (makes y.fresh) t.effects then suc (w.made y.client) else w.made y.client)) is_planned e.made_own
+
+  steps-commit : steps w' ≡ steps w ++ (y, planned) ∷ []
+  unfolding steps now
+  steps-commit = ap (λ xs. trace opening_values xs) e.calls ∙ trace-snoc opening_values w.calls y
+
+  -- ---- the run
+
+  -- the reply is that of the tree of all calls
+  pub call_reply : y.reply ≡ (answer (tree w) y.op).0
+  call_reply = e.reply ∙ ap (λ t. t.reply) is_planned ∙ step_replies (now w) (tree w) y.op y.fresh s.spelled
+
+  answered-commit : AreAnswered opening_tree (exchanges w'.calls)
+  unfolding tree
+  answered-commit = subst (λ xs. AreAnswered opening_tree (exchanges xs)) (sym e.calls) (answered-snoc opening_tree w.calls y s.answered call_reply)
+
+  -- the next number of the client is that of no inode
+  number_free : IsMade w y.fresh → ⊥
+  number_free (inl root) = omega (arith, root, e.fresh, client.0)
+  number_free (inr (c, (client, (k, (low, is))))) =
+      elim (cases_eq c y.client) [
+        | inl own ↦ (let l : k < w.made y.client = subst (λ d. k < w.made d) own low in omega (arith, l, is, e.fresh, own))
+        | inr other ↦ other (omega (arith, low, is, e.fresh, s.fewer c, s.fewer y.client))
+      ]
+
+  none_of : (o : Option Content) → (IsSome o → ⊥) → o ≡ None
+  none_of None h = refl
+  none_of (Some content) h = absurd (h refl)
+
+  is_new : now w y.fresh ≡ None
+  unfolding AreMade
+  is_new = none_of (now w y.fresh) (λ there. number_free (s.fresh_numbers y.fresh there))
+
+  new-commit : AllMakeNew opening_values w'.calls
+  unfolding now
+  new-commit = subst (AllMakeNew opening_values) (sym e.calls) (new-snoc opening_values w.calls y s.make_new (λ _. is_new))
+
+  spelled-commit : Spells (now w') (tree w')
+  unfolding now tree
+  spelled-commit =
+      subst (λ xs. Spells (values_after_calls opening_values xs) (tree_after_calls opening_tree (ops xs))) (sym e.calls)
+      (subst (λ v. Spells v (tree_after_calls opening_tree (ops (w.calls ++ y ∷ [])))) (sym (values-snoc opening_values w.calls y))
+      (subst (Spells (after (now w) planned.effects)) (sym (tree-snoc opening_tree w.calls y)) (step_spells (now w) (tree w) y.op y.fresh s.spelled (λ _. is_new))))
+
+  -- ---- numbers of inodes
+
+  made-up : (c : ℕ) → w.made c ≤ w'.made c
+  made-up c =
+      elim (cases_eq c y.client) [
+        | inl own ↦ subst (λ c. w.made c ≤ w'.made c) (sym own) (rw made_own (elim (list_any (makes y.fresh) planned.effects) as (λ b. w.made y.client ≤ (if b then suc (w.made y.client) else w.made y.client)) [ true ↦ omega arith | false ↦ omega arith ]))
+        | inr other ↦ rw (e.made_else c other) (omega arith)
+      ]
+
+  made_now : list_any (makes y.fresh) planned.effects ≡ true → IsMadeBy w' y.client y.fresh
+  made_now t = (w.made y.client, (rw (made_own, t) (omega arith), e.fresh))
+
+  fewer-commit : (c : ℕ) → w'.made c ≤ 1048576
+  fewer-commit c =
+      elim (cases_eq c y.client) [
+        | inl own ↦ subst (λ c. w'.made c ≤ 1048576) (sym own) e.made_few
+        | inr other ↦ rw (e.made_else c other) (s.fewer c)
+      ]
+
+  numbered-commit : Numbered w'
+  unfolding Numbered
+  numbered-commit =
+      subst (Each (λ x. list_any (makes x.0.fresh) x.1.effects ≡ true → IsMadeBy w' x.0.client x.0.fresh)) (sym steps-commit)
+      (each-snoc (λ x. list_any (makes x.0.fresh) x.1.effects ≡ true → IsMadeBy w' x.0.client x.0.fresh) (steps w) (y, planned)
+      (each-map (λ x. list_any (makes x.0.fresh) x.1.effects ≡ true → IsMadeBy w x.0.client x.0.fresh) (λ x. list_any (makes x.0.fresh) x.1.effects ≡ true → IsMadeBy w' x.0.client x.0.fresh) (steps w)
+      (λ x g t. made_by_more w w' x.0.client x.0.fresh made-up (g t)) s.fresh_calls)
+      made_now)
+
+  are_made-commit : AreMade w'
+  unfolding AreMade now
+  are_made-commit i h =
+      made_here w' (now w) y (client.0, rw e.clients.clients client.1) made_now
+      (λ j there. made_more w w' j made-up (rw e.clients.clients (omega arith)) (s.fresh_numbers j there)) i
+      (subst (λ v. IsSome (v i)) (ap (λ xs. values_after_calls opening_values xs) e.calls ∙ values-snoc opening_values w.calls y) h)
+
+  -- ---- the logs
+
+  next-up : (d : ℕ) → w.next d ≤ w'.next d
+  next-up d =
+      elim (cases_eq d y.client) [
+        | inl own ↦ subst (λ d. w.next d ≤ w'.next d) (sym own) (omega (arith, e.number, e.next_own))
+        | inr other ↦ rw (e.next_else d other) (omega arith)
+      ]
+
+  counted-commit : Counted w'
+  unfolding Counted
+  counted-commit =
+      subst (Each (IsCounted w')) (sym e.calls)
+      (each-snoc (IsCounted w') w.calls y
+      (each-map (IsCounted w) (IsCounted w') w.calls (λ x h. ((h.0.0, rw e.clients.clients h.0.1), omega (arith, h.1, next-up x.client))) s.counted)
+      ((client.0, rw e.clients.clients client.1), omega (arith, e.next_own)))
+
+  counted_calls : Each (IsCounted w) w.calls
+  unfolding Counted
+  counted_calls = s.counted
+
+  ascends-commit : NumbersAscend w'.calls
+  ascends-commit =
+      subst NumbersAscend (sym e.calls)
+      (pairs-snoc (λ x z. z.client ≡ x.client → x.number < z.number) w.calls y s.ascends
+      (each-map (IsCounted w) (λ x. y.client ≡ x.client → x.number < y.number) w.calls
+      (λ x h same. rw e.number (subst (λ d. x.number < w.next d) (sym same) h.1)) counted_calls))
+
+  guarded-commit : Guarded w'
+  unfolding Guarded
+  guarded-commit d i h =
+      elim (cases_eq d y.client) [
+        | inl own ↦ subst (λ d. contains (touched (all_effects (w'.records d))) i ≡ true → w'.writes d i ≡ true) (sym own) (λ h.
+            e.leases.writes y.client i ∙
+            (let split : (contains (touched (all_effects (w.records y.client))) i || contains (touched (all_effects (record_of y.number planned.effects))) i) ≡ true =
+            sym (contains-both (all_effects (w.records y.client)) (all_effects (record_of y.number planned.effects)) i)
+            ∙ ap (λ es. contains (touched es) i) (sym (all_effects-append (w.records y.client) (record_of y.number planned.effects)))
+            ∙ ap (λ rs. contains (touched (all_effects rs)) i) (sym records_own) ∙ h in
+            elim (or_cases (contains (touched (all_effects (w.records y.client))) i) (contains (touched (all_effects (record_of y.number planned.effects))) i) split) [
+              | inl t ↦ s.guarded y.client i t
+              | inr t ↦ written i (of_fresh y.number planned.effects i t)
+            ])) h
+        | inr other ↦ e.leases.writes d i ∙ s.guarded d i (rw (e.records_else d other) at h)
+      ]
+
+  compatible-commit : Compatible w'
+  unfolding Compatible
+  compatible-commit c d i other wr ho = s.compatible c d i other (sym (e.leases.writes c i) ∙ wr) (sym (e.leases.holds d i) ∙ ho)
+
+  full-commit : (n : ℕ) → Full w' n → Full w n
+  full-commit n h = subst (λ ns. contains ns n ≡ true) e.full h
+
+  end-commit : (d : ℕ) → end_of_log w d ≤ end_of_log w' d
+  unfolding end_of_log
+  end-commit d =
+      elim (cases_eq d y.client) [
+        | inl own ↦ subst (λ d. w.first d + length (w.records d) ≤ w'.first d + length (w'.records d)) (sym own)
+            (rw (e.first y.client, records_own) (let l : length (w.records y.client) ≤ length (w.records y.client ++ record_of y.number planned.effects) = longer (w.records y.client) (record_of y.number planned.effects) in omega (arith, l)))
+        | inr other ↦ rw (e.first d, e.records_else d other) (omega arith)
+      ]
+    where
+      longer : (rs zs : List LogRecord) → length rs ≤ length (rs ++ zs)
+      longer [] zs = omega arith
+      longer (r ∷ rs) zs = (let l : length rs ≤ length (rs ++ zs) = longer rs zs in omega (arith, l))
+
+  -- what full nodes received: at home all, elsewhere what they had
+  received-is : (P : ℕ → ℕ → ℕ → Type 0) → P (w.home y.client) y.client (end_of_log w' y.client) → ((n d : ℕ) → Full w n → P n d (w.received n d)) → (n d : ℕ) → Full w n → P n d (w'.received n d)
+  received-is P here others n d f =
+      elim (cases_eq n (w.home y.client)) [
+        | inl a ↦ elim (cases_eq d y.client) [
+          | inl b ↦ subst (λ n. P n d (w'.received n d)) (sym a) (subst (λ d. P (w.home y.client) d (w'.received (w.home y.client) d)) (sym b) (subst (P (w.home y.client) y.client) (sym e.received_home) here))
+          | inr b ↦ subst (P n d) (sym (e.received_else n d f (λ _ t. b t))) (others n d f)
+        ]
+        | inr a ↦ subst (P n d) (sym (e.received_else n d f (λ t _. a t))) (others n d f)
+      ]
+
+  known-commit : (n d : ℕ) → Full w n → w'.received n d ≤ end_of_log w' d
+  known-commit = received-is (λ n d k. k ≤ end_of_log w' d) (omega arith) (λ n d f. omega (arith, (s.order n d f).known, end-commit d))
+
+  border-commit : (n d : ℕ) → Full w n → w'.border d (w'.received n d) ≡ true
+  border-commit = received-is (λ n d k. w'.border d k ≡ true) e.border_new (λ n d f. e.border_old d (w.received n d) (s.order n d f).known ∙ (s.order n d f).received_border)
+
+  received-up : (n d : ℕ) → Full w n → w.received n d ≤ w'.received n d
+  received-up n d f =
+      elim (cases_eq n (w.home y.client)) [
+        | inl a ↦ elim (cases_eq d y.client) [
+          | inl b ↦ subst (λ n. w.received n d ≤ w'.received n d) (sym a) (subst (λ d. w.received (w.home y.client) d ≤ w'.received (w.home y.client) d) (sym b)
+              (rw e.received_home (omega (arith, sound.whole y.client e.lives, end-commit y.client))))
+          | inr b ↦ rw (e.received_else n d f (λ _ t. b t)) (omega arith)
+        ]
+        | inr a ↦ rw (e.received_else n d f (λ t _. a t)) (omega arith)
+      ]
+
+  received_by_all-commit : (d : ℕ) → received_by_all w d ≤ received_by_all w' d
+  unfolding received_by_all
+  received_by_all-commit d =
+      least_of-above w'.full (λ n. w'.received n d) (end_of_log w' d) (least_of w.full (λ n. w.received n d) (end_of_log w d))
+      (omega (arith, least_of-end w.full (λ n. w.received n d) (end_of_log w d), end-commit d))
+      (λ n h. let a : least_of w.full (λ n. w.received n d) (end_of_log w d) ≤ w.received n d = least_of-below w.full (λ n. w.received n d) (end_of_log w d) n (full-commit n h) in
+      omega (arith, a, received-up n d (full-commit n h)))
+
+  digested_by_all-commit : (d : ℕ) → digested_by_all w d ≤ digested_by_all w' d
+  unfolding digested_by_all
+  digested_by_all-commit d =
+      least_of-above w'.full (λ n. w'.digested n d) (end_of_log w' d) (least_of w.full (λ n. w.digested n d) (end_of_log w d))
+      (omega (arith, least_of-end w.full (λ n. w.digested n d) (end_of_log w d), end-commit d))
+      (λ n h. rw (e.digested n d (full-commit n h)) (least_of-below w.full (λ n. w.digested n d) (end_of_log w d) n (full-commit n h)))
+
+  order-commit : (n d : ℕ) → Full w' n → IsOrdered w' n d
+  order-commit n d full =
+      let f : Full w n = full-commit n full in
+      let o : IsOrdered w n d = s.order n d f in
+      record {
+        begun = rw (e.first d, e.digested n d f) o.begun;
+        replicated = rw (e.digested n d f) (omega (arith, o.replicated, received_by_all-commit d));
+        known = known-commit n d f;
+        digested_border = ap (λ k. w'.border d k) (e.digested n d f) ∙ e.border_old d (w.digested n d) (omega (arith, o.replicated, received_by_all-end w d)) ∙ o.digested_border;
+        received_border = border-commit n d f;
+      }
+
+  call_at-commit : (d k : ℕ) → call_at w d k ≤ call_at w' d k
+  unfolding call_at
+  call_at-commit d k =
+      elim (cases_eq d y.client) [
+        | inl own ↦ subst (λ d. call_of (w.records d) (k - w.first d) (w.next d) ≤ call_of (w'.records d) (k - w'.first d) (w'.next d)) (sym own)
+            (rw (e.first y.client, records_own, e.next_own, sym e.number) (at-grows (w.records y.client) (k - w.first y.client) y.number planned.effects))
+        | inr other ↦ rw (e.first d, e.records_else d other, e.next_else d other) (omega arith)
+      ]
+
+  -- the first call that some node has not digested doesn't fall
+  first_undigested-commit : (d : ℕ) → first_undigested w d ≤ first_undigested w' d
+  unfolding first_undigested
+  first_undigested-commit d =
+      let a : call_at w d (digested_by_all w d) ≤ call_at w d (digested_by_all w' d) = call_at-mono w d (digested_by_all w d) (digested_by_all w' d) s (digested_by_all-commit d) in
+      omega (arith, a, call_at-commit d (digested_by_all w' d))
+
+  first_unreplicated-commit : (d : ℕ) → first_unreplicated w d ≤ first_unreplicated w' d
+  unfolding first_unreplicated
+  first_unreplicated-commit d =
+      let a : call_at w d (received_by_all w d) ≤ call_at w d (received_by_all w' d) = call_at-mono w d (received_by_all w d) (received_by_all w' d) s (received_by_all-commit d) in
+      omega (arith, a, call_at-commit d (received_by_all w' d))
+
+  before-same : (d k n : ℕ) → n < w.next d → nat_lt n (call_at w' d k) ≡ nat_lt n (call_at w d k)
+  unfolding call_at
+  before-same d k n h =
+      elim (cases_eq d y.client) [
+        | inl own ↦
+            let j : ℕ = k - w.first y.client in
+            let l : n < y.number = rw e.number (subst (λ d. n < w.next d) own h) in
+            subst (λ d. nat_lt n (call_of (w'.records d) (k - w'.first d) (w'.next d)) ≡ nat_lt n (call_of (w.records d) (k - w.first d) (w.next d))) (sym own)
+            (rw (e.first y.client, records_own, e.next_own, sym e.number) (at-same (w.records y.client) j y.number n planned.effects l))
+        | inr other ↦ rw (e.first d, e.records_else d other, e.next_else d other)
+      ]
+
+  -- the new call is digested nowhere, unless it changes nothing
+  new_call : (k : ℕ) → k ≤ end_of_log w y.client →
+      nat_lt y.number (call_at w' y.client k) ≡ true → has_some planned.effects ≡ false
+  unfolding call_at end_of_log
+  new_call k le h =
+      let c : ℕ = y.client in
+      let j : ℕ = k - w.first c in
+      false_from_ne_true (has_some planned.effects) (λ has.
+      let new : w'.records c ≡ w.records c ++ record { call = y.number; effects = planned.effects } ∷ [] = records_own ∙ rw has in
+      let is : call_of (w'.records c) (k - w'.first c) (w'.next c) ≡ call_of (w.records c) j y.number =
+      (rw (e.first c, new) (at-push (w.records c) (record { call = y.number; effects = planned.effects }) j (w'.next c) (omega arith))) in
+      let top : call_of (w.records c) j (w.next c) ≤ w.next c = next-top w c k s in
+      let top_y : call_of (w.records c) j y.number ≤ y.number = subst (λ n. call_of (w.records c) j n ≤ n) (sym e.number) top in
+      let below_it : y.number < call_of (w'.records c) (k - w'.first c) (w'.next c) = ltb-true y.number (call_of (w'.records c) (k - w'.first c) (w'.next c)) h in
+      absurd (omega (arith, is, top_y, below_it)))
+
+  areas-commit : Areas w'
+  unfolding Areas value_below first_undigested_at
+  areas-commit m f i =
+      let a : ℕ → ℕ = λ d. call_at w d (w.digested m d) in
+      let b : ℕ → ℕ = λ d. call_at w' d (w'.digested m d) in
+      let full : Full w m = full-commit m f in
+      let xs : List (NumberedCall × Step) = steps w in
+      let same : late_value (below b) i (opening_values i) xs ≡ late_value (below a) i (opening_values i) xs =
+      value-cong (below b) (below a) i (opening_values i) xs
+      (each-map (λ x. IsCounted w x.0) (λ x. below b x.0 ≡ below a x.0) xs
+      (λ x h. subst (λ k. nat_lt x.0.number (call_at w' x.0.client k) ≡ nat_lt x.0.number (call_at w x.0.client (w.digested m x.0.client))) (sym (e.digested m x.0.client full))
+      (before-same x.0.client (w.digested m x.0.client) x.0.number h.1)) (all_counted w s)) in
+      let v : Option Content = late_value (below b) i (opening_values i) xs in
+      let o : IsOrdered w m y.client = s.order m y.client full in
+      e.area m i full ∙ area_at w m i s full ∙ sym same
+      ∙ (elim (cases_Bool (below b y)) [
+        | inl t ↦
+            let none : has_some planned.effects ≡ false =
+            new_call (w'.digested m y.client) (rw (e.digested m y.client full) (omega (arith, o.replicated, received_by_all-end w y.client))) t in
+            sym (rw t (has-none i v planned.effects none))
+        | inr t ↦ sym (rw t)
+      ])
+      ∙ sym (value-snoc (below b) i (opening_values i) xs (y, planned))
+      ∙ ap (λ l. late_value (below b) i (opening_values i) l) (sym steps-commit)
+
+  -- the number is before the one place as before the other
+  after-same : (d k n : ℕ) → n < w.next d → nat_le (call_at w' d k) n ≡ nat_le (call_at w d k) n
+  after-same d k n h = (let t : nat_lt n (call_at w' d k) ≡ nat_lt n (call_at w d k) = before-same d k n h in turn n (call_at w' d k) (call_at w d k) t)
+    where
+      turn : (n a b : ℕ) → nat_lt n a ≡ nat_lt n b → nat_le a n ≡ nat_le b n
+      turn n a b t = grind (arith, nat_tests)
+
+  old_window : (c j k : ℕ) (x : NumberedCall) → x.number < w.next x.client → window c (call_at w' c j) (call_at w' c k) x ≡ window c (call_at w c j) (call_at w c k) x
+  old_window c j k x h =
+      elim (cases_eq x.client c) [
+        | inl own ↦ (let l : x.number < w.next c = subst (λ d. x.number < w.next d) own h in rw (after-same c j x.number l, before-same c k x.number l))
+        | inr other ↦ rw (ne_eqb x.client c other)
+      ]
+
+  part-commit : (j k : ℕ) → w.first y.client ≤ j → j ≤ k → k ≤ end_of_log w y.client → records_between w' y.client j k ≡ records_between w y.client j k
+  unfolding records_between end_of_log
+  part-commit j k low le high =
+      rw (e.first y.client, records_own) (take-of_append (w.records y.client) (record_of y.number planned.effects) (j - w.first y.client) (k - j) (omega arith))
+
+  -- a records_between that stood before
+  part_stays : (d j k : ℕ) → records_between w' d j k ≡ records_between w d j k →
+      (window d (call_at w' d j) (call_at w' d k) y ≡ true → has_some planned.effects ≡ false) → StandFor w d j k → StandFor w' d j k
+  part_stays d j k same quiet t =
+      let u : NumberedCall → Bool = window d (call_at w' d j) (call_at w' d k) in
+      record {
+        value = λ i v.
+            ap (λ rs. value_after i v (all_effects rs)) same ∙ t.value i v
+            ∙ sym (value-cong u (window d (call_at w d j) (call_at w d k)) i v (steps w)
+            (each-map (λ x. IsCounted w x.0) (λ x. u x.0 ≡ window d (call_at w d j) (call_at w d k) x.0) (steps w)
+            (λ x h. old_window d j k x.0 h.1) (all_counted w s)))
+            ∙ (elim (cases_Bool (u y)) [
+              | inl m ↦ sym (rw m (has-none i (late_value u i v (steps w)) planned.effects (quiet m)))
+              | inr m ↦ sym (rw m)
+            ])
+            ∙ sym (value-snoc u i v (steps w) (y, planned))
+            ∙ ap (λ l. late_value u i v l) (sym steps-commit);
+        touch = λ i q.
+            subst (λ l. Each (λ x. u x.0 ≡ true → contains (touched x.1.effects) i ≡ false) l) (sym steps-commit)
+            (each-snoc (λ x. u x.0 ≡ true → contains (touched x.1.effects) i ≡ false) (steps w) (y, planned)
+            (each-both (λ x. window d (call_at w d j) (call_at w d k) x.0 ≡ true → contains (touched x.1.effects) i ≡ false)
+            (λ x. IsCounted w x.0)
+            (λ x. u x.0 ≡ true → contains (touched x.1.effects) i ≡ false) (steps w)
+            (λ x g h m. g (sym (old_window d j k x.0 h.1) ∙ m)) (t.touch i (rw same at q)) (all_counted w s))
+            (λ m. none_in planned.effects i (quiet m)));
+      }
+    where
+      none_in : (es : List Effect) (i : ℕ) → has_some es ≡ false → contains (touched es) i ≡ false
+      none_in [] i h = refl
+      none_in (f ∷ fs) i h = cc
+
+  end-grown : has_some planned.effects ≡ true → end_of_log w' y.client ≡ suc (end_of_log w y.client)
+  unfolding end_of_log
+  end-grown has =
+      rw (e.first y.client, records_own, has)
+      (let l : length (w.records y.client ++ record { call = y.number; effects = planned.effects } ∷ []) ≡ length (w.records y.client) + 1 = length-both (w.records y.client) (record { call = y.number; effects = planned.effects } ∷ []) in omega (arith, l))
+
+  end-stays : has_some planned.effects ≡ false → end_of_log w' y.client ≡ end_of_log w y.client
+  unfolding end_of_log
+  end-stays none =
+      rw (e.first y.client, records_own, none)
+      (let l : length (w.records y.client ++ []) ≡ length (w.records y.client) + 0 = length-both (w.records y.client) [] in omega (arith, l))
+
+  part-last : has_some planned.effects ≡ true →
+      records_between w' y.client (end_of_log w y.client) (suc (end_of_log w y.client)) ≡ record { call = y.number; effects = planned.effects } ∷ []
+  unfolding records_between end_of_log
+  part-last has =
+      let c : ℕ = y.client in
+      let r : LogRecord = record { call = y.number; effects = planned.effects } in
+      let n : (w.first c + length (w.records c)) - w.first c ≡ length (w.records c) = omega arith in
+      let m : suc (w.first c + length (w.records c)) - (w.first c + length (w.records c)) ≡ 1 = omega arith in
+      rw (e.first c, records_own, has, n, m) (ap (λ l. take 1 l) (drop-prefix (w.records c) (r ∷ [])))
+
+  first-last : (c : ℕ) → w.first c ≤ end_of_log w c
+  unfolding end_of_log
+  first-last c = omega arith
+
+  -- at a place of the old log the new call is not before
+  at_most_new : has_some planned.effects ≡ true → (k : ℕ) → k ≤ end_of_log w y.client → call_at w' y.client k ≤ y.number
+  at_most_new has k le =
+      elim (cases_lt y.number (call_at w' y.client k)) [
+        | inl h ↦ (let t : has_some planned.effects ≡ false = new_call k le (lt-ltb y.number (call_at w' y.client k) h) in absurd (Prim.cc (sym has ∙ t)))
+        | inr h ↦ h
+      ]
+
+  -- from a border of the old log to the new end
+  part_over : has_some planned.effects ≡ true → (j : ℕ) → w.border y.client j ≡ true → w.first y.client ≤ j → j ≤ end_of_log w y.client →
+      StandFor w' y.client j (end_of_log w' y.client)
+  part_over has j bj low le =
+      let c : ℕ = y.client in
+      let r : LogRecord = record { call = y.number; effects = planned.effects } in
+      let E : ℕ = end_of_log w c in
+      let grown : end_of_log w' c ≡ suc E = end-grown has in
+      let t : StandFor w c j E = part_of w c j E s bj (s.end_border c) low le (omega arith) in
+      let now_is : records_between w' c j (end_of_log w' c) ≡ records_between w c j E ++ r ∷ [] =
+      ap (λ k. records_between w' c j k) grown
+      ∙ part-append w' c j E (suc E) (rw (e.first c) low) le (omega arith)
+      ∙ ap (λ l. l ++ records_between w' c E (suc E)) (part-commit j E low le (omega arith))
+      ∙ ap (λ l. records_between w c j E ++ l) (part-last has) in
+      let K : call_at w' c (end_of_log w' c) ≡ suc y.number = call_at-end w' c (end_of_log w' c) (omega arith) ∙ e.next_own in
+      let N : call_at w c E ≡ y.number = call_at-end w c E (omega arith) ∙ sym e.number in
+      let J : call_at w' c j ≤ y.number = at_most_new has j le in
+      let u : NumberedCall → Bool = window c (call_at w' c j) (call_at w' c (end_of_log w' c)) in
+      let in_it : u y ≡ true = in_window_from c (call_at w' c j) (call_at w' c (end_of_log w' c)) y refl J (omega (arith, K)) in
+      let old : Each (λ x. u x.0 ≡ window c (call_at w c j) (call_at w c E) x.0) (steps w) =
+      each-map (λ x. IsCounted w x.0) (λ x. u x.0 ≡ window c (call_at w c j) (call_at w c E) x.0) (steps w)
+      (λ x h. windows_agree c (call_at w' c j) (call_at w' c (end_of_log w' c)) (call_at w c j) (call_at w c E) x.0
+      (λ own a b. (let l : x.0.number < w.next c = subst (λ d. x.0.number < w.next d) own h.1 in
+      (leb-true (call_at w c j) x.0.number (sym (after-same c j x.0.number l) ∙ le-leb (call_at w' c j) x.0.number a), omega (arith, l, N, e.number))))
+      (λ own a b. (let l : x.0.number < w.next c = subst (λ d. x.0.number < w.next d) own h.1 in
+      (leb-true (call_at w' c j) x.0.number (after-same c j x.0.number l ∙ le-leb (call_at w c j) x.0.number a), omega (arith, b, N, K))))) (all_counted w s) in
+      record {
+        value = λ i v.
+            ap (λ rs. value_after i v (all_effects rs)) now_is ∙ ap (λ es. value_after i v es) (all_effects-append (records_between w c j E) (r ∷ [])) ∙ value_after-append i v (all_effects (records_between w c j E)) (all_effects (r ∷ []))
+            ∙ ap (λ es. value_after i (value_after i v (all_effects (records_between w c j E))) es) (all_effects-one y.number planned.effects)
+            ∙ ap (λ z. value_after i z planned.effects) (t.value i v ∙ sym (value-cong u (window c (call_at w c j) (call_at w c E)) i v (steps w) old))
+            ∙ sym (rw in_it)
+            ∙ sym (value-snoc u i v (steps w) (y, planned))
+            ∙ ap (λ l. late_value u i v l) (sym steps-commit);
+        touch = λ i q.
+            (let split : (contains (touched (all_effects (records_between w c j E))) i || contains (touched (all_effects (r ∷ []))) i) ≡ false =
+            sym (contains-both (all_effects (records_between w c j E)) (all_effects (r ∷ [])) i) ∙ ap (λ es. contains (touched es) i) (sym (all_effects-append (records_between w c j E) (r ∷ []))) ∙ ap (λ rs. contains (touched (all_effects rs)) i) (sym now_is) ∙ q in
+            let parts : (contains (touched (all_effects (records_between w c j E))) i ≡ false) × (contains (touched (all_effects (r ∷ []))) i ≡ false) = or_parts (contains (touched (all_effects (records_between w c j E))) i) (contains (touched (all_effects (r ∷ []))) i) split in
+            subst (λ l. Each (λ x. u x.0 ≡ true → contains (touched x.1.effects) i ≡ false) l) (sym steps-commit)
+            (each-snoc (λ x. u x.0 ≡ true → contains (touched x.1.effects) i ≡ false) (steps w) (y, planned)
+            (each-both (λ x. window c (call_at w c j) (call_at w c E) x.0 ≡ true → contains (touched x.1.effects) i ≡ false)
+            (λ x. u x.0 ≡ window c (call_at w c j) (call_at w c E) x.0)
+            (λ x. u x.0 ≡ true → contains (touched x.1.effects) i ≡ false) (steps w)
+            (λ x g h m. g (sym h ∙ m)) (t.touch i parts.0) old)
+            (λ m. ap (λ es. contains (touched es) i) (sym (all_effects-one y.number planned.effects)) ∙ parts.1)));
+      }
+
+  stands-own : (j k : ℕ) → j ≤ k →
+      w'.border y.client j ≡ true → w'.border y.client k ≡ true → w'.first y.client ≤ j → k ≤ end_of_log w' y.client → StandFor w' y.client j k
+  stands-own j k le bj bk low high =
+      let c : ℕ = y.client in
+      let low_w : w.first c ≤ j = rw (e.first c) at low in
+      elim (cases_lt (end_of_log w c) k) [
+        | inr within ↦
+            part_stays c j k (part-commit j k low_w le within)
+            (λ m. new_call k within (lt-ltb y.number (call_at w' c k) (in_window c (call_at w' c j) (call_at w' c k) y m).2))
+            (part_of w c j k s (sym (e.border_old c j (omega arith)) ∙ bj) (sym (e.border_old c k within) ∙ bk) low_w le within)
+        | inl past ↦
+            elim (cases_Bool (has_some planned.effects)) [
+              | inr none ↦ absurd (omega (arith, high, past, end-stays none))
+              | inl has ↦
+                  let is : end_of_log w' c ≡ k = omega (arith, end-grown has) in
+                  subst (λ k. StandFor w' c j k) is
+                  (elim (cases_lt (end_of_log w c) j) [
+                    | inr before ↦ part_over has j (sym (e.border_old c j before) ∙ bj) low_w before
+                    | inl beyond ↦ (let je : end_of_log w' c ≡ j = omega (arith, end-grown has) in subst (λ j. StandFor w' c j (end_of_log w' c)) je (part_none w' c (end_of_log w' c) (omega arith)))
+                  ])
+            ]
+      ]
+
+  stands-commit : (d : ℕ) → Stands w' d
+  unfolding Stands
+  stands-commit d j k bj bk low le high =
+      elim (cases_eq d y.client) [
+        | inl own ↦ subst (λ d. w'.border d j ≡ true → w'.border d k ≡ true → w'.first d ≤ j → k ≤ end_of_log w' d → StandFor w' d j k) (sym own) (stands-own j k le) bj bk low high
+        | inr other ↦
+            let high_w : k ≤ end_of_log w d = rw (end-else w w' d (e.first d) (e.records_else d other)) at high in
+            part_stays d j k (part-else w w' d j k (e.first d) (e.records_else d other))
+            (λ m. absurd (other (sym (in_window d (call_at w' d j) (call_at w' d k) y m).0)))
+            (part_of w d j k s (sym (e.border_old d j (omega arith)) ∙ bj) (sym (e.border_old d k high_w) ∙ bk) (rw (e.first d) at low) le high_w)
+      ]
+
+  ascending-commit : (d : ℕ) → Ascending (w'.records d) (w'.next d)
+  ascending-commit d =
+      elim (cases_eq d y.client) [
+        | inl own ↦ subst (λ d. Ascending (w'.records d) (w'.next d)) (sym own)
+            (rw (records_own, e.next_own)
+            (elim (cases_Bool (has_some planned.effects)) [
+              | inl has ↦ rw has (ascending-append (w.records y.client) (record { call = y.number; effects = planned.effects } ∷ []) (suc y.number) (subst (λ n. Ascending (w.records y.client) n) (sym e.number) (s.ascending y.client)) (omega arith, tt))
+              | inr none ↦ rw none (ascending-append (w.records y.client) [] (suc y.number) (ascending-up (w.records y.client) (w.next y.client) (suc y.number) (omega (arith, e.number)) (s.ascending y.client)) tt)
+            ]))
+        | inr other ↦ rw (e.records_else d other, e.next_else d other) (s.ascending d)
+      ]
+    where
+      ascending-up : (rs : List LogRecord) (a b : ℕ) → a ≤ b → Ascending rs a → Ascending rs b
+      ascending-up [] a b h r = tt
+      ascending-up (q ∷ []) a b h r = (omega (arith, r.0), tt)
+      ascending-up (q ∷ (q' ∷ qs)) a b h r = (r.0, ascending-up (q' ∷ qs) a b h r.1)
+
+  end_good : (d : ℕ) → w'.border d (end_of_log w' d) ≡ true
+  end_good d =
+      elim (cases_eq d y.client) [
+        | inl own ↦ subst (λ d. w'.border d (end_of_log w' d) ≡ true) (sym own) e.border_new
+        | inr other ↦ ap (λ k. w'.border d k) (end-else w w' d (e.first d) (e.records_else d other)) ∙ e.border_old d (end_of_log w d) (omega arith) ∙ s.end_border d
+      ]
+
+  unseen-commit : Unseen (first_undigested w') (steps w')
+  unseen-commit =
+      subst (λ xs. Unseen (first_undigested w') xs) (sym steps-commit)
+      (unseen-raise (first_undigested w) (first_undigested w') (steps w ++ (y, planned) ∷ []) first_undigested-commit
+      (pairs-snoc (λ x z. first_undigested w x.0.client ≤ x.0.number → z.0.client ≢ x.0.client → Clear (touched x.1.effects) (z.1.visits ++ touched z.1.effects))
+      (steps w) (y, planned) s.unseen
+      (each-map (λ x. (i : ℕ) → first_undigested w x.0.client ≤ x.0.number → w.writes x.0.client i ≡ false → contains (touched x.1.effects) i ≡ false)
+      (λ x. first_undigested w x.0.client ≤ x.0.number → y.client ≢ x.0.client → Clear (touched x.1.effects) (planned.visits ++ touched planned.effects))
+      (steps w)
+      (λ x guarded late other. clear_from (touched x.1.effects) (planned.visits ++ touched planned.effects)
+      (λ i t. guarded i late (false_from_ne_true (w.writes x.0.client i) (λ k. disjoint w s.compatible x.0.client y.client i (λ same. other (sym same)) k (held i t)))))
+      (guarded_all w s))))
+
+  pub call_coherent : CallsInvariant w'
+  call_coherent = record {
+    answered = answered-commit;
+    make_new = new-commit;
+    spelled = spelled-commit;
+    fresh_numbers = are_made-commit;
+    fresh_calls = numbered-commit;
+    fewer = fewer-commit;
+    counted = counted-commit;
+    ascends = ascends-commit;
+    stands = stands-commit;
+    ascending = ascending-commit;
+    first_border = λ d. ap (λ k. w'.border d k) (e.first d) ∙ e.border_old d (w.first d) (first-last d) ∙ s.first_border d;
+    end_border = end_good;
+    order = order-commit;
+    areas = areas-commit;
+    guarded = guarded-commit;
+    compatible = compatible-commit;
+    unseen = unseen-commit;
+  }
+
+  pub call_falls : NoneFalls w w'
+  call_falls = record { unreplicated = first_unreplicated-commit; undigested = first_undigested-commit }
+
+  -- the calls that were replicated are replicated, and the new one is not among those before their thresholds
+  pub call_stays : StayReplicated w w'
+  unfolding StayReplicated calls_replicated first_unreplicated
+  call_stays =
+      let top : call_at w y.client (received_by_all w y.client) ≤ w.next y.client = next-top w y.client (received_by_all w y.client) s in
+      let out : below (λ c. call_at w c (received_by_all w c)) y ≡ false = le-ltb y.number (call_at w y.client (received_by_all w y.client)) (omega (arith, top, e.number)) in
+      ap (λ xs. filter (below (λ c. call_at w c (received_by_all w c))) xs) e.calls ∙ filter-append (below (λ c. call_at w c (received_by_all w c))) w.calls (y ∷ [])
+      ∙ ap (λ b. filter (below (λ c. call_at w c (received_by_all w c))) w.calls ++ (if b then y ∷ [] else [])) out ∙ append-nil (filter (below (λ c. call_at w c (received_by_all w c))) w.calls)
+
+  -- ---- nodes' logs
+
+  -- one record for a call, or none
+  few-commit : (d : ℕ) → end_of_log w' d ≤ w'.next d
+  few-commit d =
+      elim (cases_eq d y.client) [
+        | inl own ↦ subst (λ d. end_of_log w' d ≤ w'.next d) (sym own) (elim (cases_Bool (has_some planned.effects)) [
+          | inl has ↦ omega (arith, end-grown has, e.next_own, e.number, sound.few_records y.client)
+          | inr none ↦ omega (arith, end-stays none, e.next_own, e.number, sound.few_records y.client)
+        ])
+        | inr other ↦ rw (end-else w w' d (e.first d) (e.records_else d other), e.next_else d other) (sound.few_records d)
+      ]
+
+  log_now : w'.log (w.home y.client) y.client ≡ w'.records y.client
+  log_now = e.log_home ∙ ap (λ l. l ++ record_of y.number (step_at_home w y).effects) (sym (log_of_home w y.client sound e.lives)) ∙ sym e.records_own
+
+  whole-prefix : take (end_of_log w' y.client - w'.first y.client) (w'.records y.client) ≡ w'.records y.client
+  unfolding end_of_log
+  whole-prefix = take_all ((w'.first y.client + length (w'.records y.client)) - w'.first y.client) (w'.records y.client) (omega arith)
+
+  prefix_else : (n : ℕ) → Full w n → n ≢ w.home y.client → w'.log n y.client ≡ take (w'.received n y.client - w'.first y.client) (w'.records y.client)
+  unfolding end_of_log
+  prefix_else n f a =
+      let o : IsOrdered w n y.client = s.order n y.client f in
+      let top : w.received n y.client ≤ w.first y.client + length (w.records y.client) = o.known in
+      e.log_else n y.client f (λ t _. a t) ∙ sound.prefixes n y.client f
+      ∙ sym (rw (e.received_else n y.client f (λ t _. a t), e.first y.client, records_own)
+      (take-append-le (w.received n y.client - w.first y.client) (w.records y.client) (record_of y.number planned.effects) (omega (arith, top))))
+
+  prefix_now : (n d : ℕ) → Full w n → w'.log n d ≡ take (w'.received n d - w'.first d) (w'.records d)
+  prefix_now n d f =
+      elim (cases_eq d y.client) [
+        | inr b ↦ rw (e.log_else n d f (λ _ t. b t), e.received_else n d f (λ _ t. b t), e.first d, e.records_else d b) (sound.prefixes n d f)
+        | inl b ↦ elim (cases_eq n (w.home y.client)) [
+          | inl a ↦ subst (λ n. w'.log n d ≡ take (w'.received n d - w'.first d) (w'.records d)) (sym a)
+              (subst (λ d. w'.log (w.home y.client) d ≡ take (w'.received (w.home y.client) d - w'.first d) (w'.records d)) (sym b)
+              (log_now ∙ sym (ap (λ k. take (k - w'.first y.client) (w'.records y.client)) e.received_home ∙ whole-prefix)))
+          | inr a ↦ subst (λ d. w'.log n d ≡ take (w'.received n d - w'.first d) (w'.records d)) (sym b) (prefix_else n f a)
+        ]
+      ]
+
+  one_more : end_of_log w' y.client ≤ suc (end_of_log w y.client)
+  unfolding end_of_log
+  one_more = rw (e.first y.client, records_own) (omega (arith, few_more (w.records y.client) planned.effects))
+    where
+      few_more : (rs : List LogRecord) (es : List Effect) → length (rs ++ record_of y.number es) ≤ suc (length rs)
+      few_more [] [] = omega arith
+      few_more [] (x ∷ es) = omega arith
+      few_more (r ∷ rs) es = (let l : length (rs ++ record_of y.number es) ≤ suc (length rs) = few_more rs es in omega (arith, l))
+
+  pub call_sound : WorldInvariant w'
+  call_sound = record {
+    coherent = call_coherent;
+    few_records = few-commit;
+    goals = λ d. omega (arith, e.goals d, sound.goals d, end-commit d);
+    disjoint = λ d k t low from to. elim (cases_lt (end_of_log w d) k) [
+      | inr old ↦ e.border_old d k old ∙ sound.disjoint d k (sym (e.clients.lives d) ∙ t) (rw (e.first d) at low) (rw (e.goals d) at from) old
+      | inl new ↦ elim (cases_eq d y.client) [
+        | inl own ↦ subst (λ d. end_of_log w d < k → k ≤ end_of_log w' d → w'.border d k ≡ true) (sym own)
+            (λ past top. (let last : k ≡ end_of_log w' y.client = omega (arith, past, top, one_more) in ap (w'.border y.client) last ∙ e.border_new)) new to
+        | inr other ↦ (let still : end_of_log w' d ≡ end_of_log w d = end-else w w' d (e.first d) (e.records_else d other) in absurd (omega (arith, new, to, still)))
+      ]
+    ];
+    unused = λ d h. (let other : d ≢ y.client = λ is. omega (arith, is, e.clients.clients, (sound.opened y.client e.lives).1, h) in
+        e.next_else d other ∙ sound.unused d (omega (arith, e.clients.clients, h)));
+    held = held-same w w' sound e.leases;
+    prefixes = λ n d h. prefix_now n d (full-commit n h);
+    opened = λ d t. rw e.clients.clients (sound.opened d (sym (e.clients.lives d) ∙ t));
+    homes = λ d t. rw (e.clients.home d, e.full) (sound.homes d (sym (e.clients.lives d) ∙ t));
+    whole = λ d t. rw (e.clients.home d) (whole_now d (sym (e.clients.lives d) ∙ t));
+    left = λ n d t h. left_now n d (sym (e.clients.lives d) ∙ t) (full-commit n h);
+  }
+    where
+      whole_now : (d : ℕ) → w.lives d ≡ true → w'.received (w.home d) d ≡ end_of_log w' d
+      whole_now d t =
+          elim (cases_eq d y.client) [
+            | inl b ↦ subst (λ d. w'.received (w.home d) d ≡ end_of_log w' d) (sym b) e.received_home
+            | inr b ↦ e.received_else (w.home d) d (sound.homes d t) (λ _ is. b is) ∙ sound.whole d t ∙ sym (end-else w w' d (e.first d) (e.records_else d b))
+          ]
+
+      left_now : (n d : ℕ) → w.lives d ≡ false → Full w n → w'.received n d ≡ end_of_log w' d
+      left_now n d t f =
+          let b : d ≢ y.client = λ is. both_ways (w.lives d) t (subst (λ c. w.lives c ≡ true) (sym is) e.lives) in
+          e.received_else n d f (λ _ is. b is) ∙ sound.left n d t f ∙ sym (end-else w w' d (e.first d) (e.records_else d b))
+
+  -- the home has digested no more than there was, so a longer log changes nothing
+  pub call_dropped : AreDropped w → AreDropped w'
+  unfolding AreDropped digested_by_all
+  call_dropped d c =
+      e.first c ∙ d c
+      ∙ least_of-same w.full (λ n. w.digested n c) (λ n. w'.digested n c) (end_of_log w c) (λ n h. sym (e.digested n c h))
+      ∙ elim (cases_eq c y.client) [
+        | inl own ↦ subst (λ c. least_of w.full (λ n. w'.digested n c) (end_of_log w c) ≡ least_of w'.full (λ n. w'.digested n c) (end_of_log w' c)) (sym own) (longer y.client)
+        | inr other ↦ ap (least_of w.full (λ n. w'.digested n c)) (sym (end-else w w' c (e.first c) (e.records_else c other))) ∙ ap (λ ns. least_of ns (λ n. w'.digested n c) (end_of_log w' c)) (sym e.full)
+      ]
+    where
+      home : Full w (w.home y.client)
+      home = sound.homes y.client e.lives
+
+      longer : (c : ℕ) → least_of w.full (λ n. w'.digested n c) (end_of_log w c) ≡ least_of w'.full (λ n. w'.digested n c) (end_of_log w' c)
+      longer c =
+          let o : IsOrdered w (w.home y.client) c = s.order (w.home y.client) c home in
+          let low : w'.digested (w.home y.client) c ≤ end_of_log w c = rw (e.digested (w.home y.client) c home) (omega (arith, o.replicated, received_by_all-end w c)) in
+          least_of-most w.full (λ n. w'.digested n c) (end_of_log w c) (end_of_log w' c) (w.home y.client) home low (end-commit c)
+          ∙ ap (λ ns. least_of ns (λ n. w'.digested n c) (end_of_log w' c)) (sym e.full)

@@ -1,0 +1,414 @@
+-- A failure of a node takes only records that some full node lacks.
+use Rattle.std.proofs.Common.{◌≡◌, ℕ, zero, suc, ◌+◌, ◌-◌, ◌<◌, ◌≤◌, ◌≢◌, inl, inr, min, Bool, true, false, not, List, [], ◌∷◌, ◌++◌, if◌then◌else◌, refl, ap, sym, ◌∙◌, subst, ◌&&◌, ◌||◌, ◌==◌, arith, take, length, length-take, filter}
+use Rattle.std.specs.List.{list_any}
+use Rattle.std.proofs.lemmas.Bool.{and_from, and_right, both_ways, cases_Bool, cases_eq, cases_lt, eq-eqb, eqb-true, le-ltb, ltb-false, ne_eqb, or_cases, or_left, or_right}
+use Rattle.std.proofs.lemmas.Bool.Decides.{nat_tests}
+use Rattle.assise_seq_tree.specs.Tree.{opening as opening_tree}
+use Rattle.assise_seq_tree.specs.Runs.{AreAnswered, tree_after_calls}
+use Rattle.assise_record.specs.LogRecord.{LogRecord}
+use Rattle.assise_record.specs.Records.{all_effects, call_of}
+use Rattle.assise_inode_table.specs.Effects.{value_after, touched, contains, makes}
+use Rattle.assise_inode_table.specs.Late.{late_value}
+use Rattle.assise_inode_table.specs.Spelled.{Spells}
+use Rattle.assise_inode_table.specs.Traces.{NumberedCall, trace, values_after_calls, AllMakeNew, exchanges, ops, Each, NumbersAscend, below, window}
+use Rattle.assise_inode_table.specs.Unseen.{Clear, Unseen}
+use Rattle.assise_model_world.specs.NodeSteps.{kept_at_failure, Fails}
+use Rattle.assise_model_world.specs.Runs.{NoneFalls, StayReplicated}
+use Rattle.assise_model_world.specs.Invariant.{IsMadeBy, StandFor, Stands, Counted, Numbered, Guarded, IsOrdered, Areas, CallsInvariant, WorldInvariant}
+use Rattle.assise_model_world.specs.World.{World, Full, opening_values, least_of, end_of_log, digested_by_all, received_by_all, records_between, call_at, first_undigested_at, first_undigested, first_unreplicated, steps, now, tree, value_below, calls_replicated}
+use Rattle.assise_inode_table.proofs.PairwiseLists.{each-map, each-always}
+use Rattle.assise_model_world.proofs.Lists.{each-filter, each-filter_if, pairs-filter, unseen-raise, value-cong, value-filter}
+use Rattle.assise_model_world.proofs.Logs.{ascending-take, take-of_take, contains-take, at-take, at-take_past, inside, at_cut, nothing}
+use Rattle.assise_model_world.proofs.WorldObserved.{least_of-below, least_of-above, least_of-end, least_of-is, call_at-mono, next-top, part_of, digested_by_all-first, received_by_all-below, received_by_all-end, first-received_by_all, IsCounted, area_at}
+use Rattle.assise_model_world.proofs.Between.{digested_by_all-received_by_all}
+use Rattle.assise_model_world.proofs.QuietSteps.{made_by_more, compatible-same, held-same}
+use Rattle.assise_model_world.proofs.RegionAlone.{tails_at, spelled_at, answered_at, new_at}
+use Rattle.assise_model_world.proofs.InodeNumbers.{there_was_made}
+
+-- ---- the other full nodes
+
+abbrev survivors : World → ℕ → List ℕ
+survivors w n = filter (λ m. not (m == n)) w.full
+
+pub contains-filter : (p : ℕ → Bool) (ns : List ℕ) (m : ℕ) → contains (filter p ns) m ≡ true → contains ns m ≡ true
+contains-filter p [] m h = h
+contains-filter p (k ∷ ns) m h =
+    (elim (p k) as (λ b. contains (if b then k ∷ filter p ns else filter p ns) m ≡ true → ((k == m) || contains ns m) ≡ true) [
+      | true ↦ λ h. elim (or_cases (k == m) (contains (filter p ns) m) h) [
+        | inl here ↦ or_left (k == m) (contains ns m) here
+        | inr later ↦ or_right (k == m) (contains ns m) (contains-filter p ns m later)
+      ]
+      | false ↦ λ h. or_right (k == m) (contains ns m) (contains-filter p ns m h)
+    ]) h
+
+pub filter-contains : (p : ℕ → Bool) (ns : List ℕ) (m : ℕ) → p m ≡ true → contains ns m ≡ true → contains (filter p ns) m ≡ true
+filter-contains p [] m t h = h
+filter-contains p (k ∷ ns) m t h =
+    elim (cases_Bool (k == m)) [
+      | inl is ↦ (let passes : p k ≡ true = subst (λ j. p j ≡ true) (sym (eqb-true k m is)) t in rw passes (or_left (k == m) (contains (filter p ns) m) is))
+      | inr other ↦
+          let rest : contains (filter p ns) m ≡ true = filter-contains p ns m t (rw other at h) in
+          elim (p k) as (λ b. contains (if b then k ∷ filter p ns else filter p ns) m ≡ true) [
+            | true ↦ or_right (k == m) (contains (filter p ns) m) rest
+            | false ↦ rest
+          ]
+    ]
+
+is_survivor : (w : World) (n m : ℕ) → Full w m → m ≢ n → contains (survivors w n) m ≡ true
+is_survivor w n m h other = filter-contains (λ m. not (m == n)) w.full m (ap not (ne_eqb m n other)) h
+
+was_full : (w : World) (n m : ℕ) → contains (survivors w n) m ≡ true → Full w m
+was_full w n m h = contains-filter (λ m. not (m == n)) w.full m h
+
+-- ---- places up to which logs are kept
+
+either : (P : ℕ → Type 0) (b : Bool) (x y : ℕ) → P x → P y → P (if b then x else y)
+either P true x y p q = p
+either P false x y p q = q
+
+-- what all full nodes have is kept
+pub kept_low : (w : World) (n c : ℕ) → received_by_all w c ≤ kept_at_failure w n c
+unfolding kept_at_failure
+kept_low w n c =
+    either (λ k. received_by_all w c ≤ k) (w.lives c && (w.home c == n)) _ _
+    (least_of-above (survivors w n) _ (end_of_log w c) (received_by_all w c) (received_by_all-end w c) (λ m h. received_by_all-below w m c (was_full w n m h)))
+    (received_by_all-end w c)
+
+pub kept_high : (w : World) (n c : ℕ) → kept_at_failure w n c ≤ end_of_log w c
+unfolding kept_at_failure
+kept_high w n c = either (λ k. k ≤ end_of_log w c) (w.lives c && (w.home c == n)) _ _ (least_of-end (survivors w n) _ (end_of_log w c)) (omega arith)
+
+pub kept_border : (w : World) (n c : ℕ) → CallsInvariant w → w.border c (kept_at_failure w n c) ≡ true
+unfolding kept_at_failure
+kept_border w n c s =
+    either (λ k. w.border c k ≡ true) (w.lives c && (w.home c == n)) _ _
+    (least_of-is (λ k. w.border c k ≡ true) (survivors w n) _ (end_of_log w c) (s.end_border c) (λ m h. (s.order m c (was_full w n m h)).received_border))
+    (s.end_border c)
+
+-- of a client that lives elsewhere all is kept
+kept_elsewhere : (w : World) (n c : ℕ) → w.home c ≢ n → kept_at_failure w n c ≡ end_of_log w c
+unfolding kept_at_failure
+kept_elsewhere w n c other = rw (and_right (w.lives c) (w.home c == n) (ne_eqb (w.home c) n other)) refl
+
+-- of one that lives there, no more than each other full node has
+kept_there : (w : World) (n m c : ℕ) → w.lives c ≡ true → w.home c ≡ n → contains (survivors w n) m ≡ true → kept_at_failure w n c ≤ w.received m c
+unfolding kept_at_failure
+kept_there w n m c lives here h =
+    rw (and_from (w.lives c) (w.home c == n) lives (eq-eqb (w.home c) n here))
+    (least_of-below (survivors w n) (λ m. w.received m c) (end_of_log w c) m h)
+
+-- ---- the calls and the logs after a failure
+
+lesser : (w : World) (c a b : ℕ) → w.border c a ≡ true → w.border c b ≡ true → w.border c (min a b) ≡ true
+lesser w c a b h g =
+    elim (cases_lt a b) [
+      | inl l ↦ (let e : min a b ≡ a = omega arith in rw e h)
+      | inr l ↦ (let e : min a b ≡ b = omega arith in rw e g)
+    ]
+
+min_below : (a b d : ℕ → ℕ) (x : NumberedCall) → ((c : ℕ) → min (a c) (b c) ≡ d c) → (below a x && below b x) ≡ below d x
+min_below a b d x h =
+    let e : min (a x.client) (b x.client) ≡ d x.client = h x.client in
+    rw (sym e) (grind (arith, nat_tests))
+
+part_first : (w : World) (c k : ℕ) → records_between w c (w.first c) k ≡ take (k - w.first c) (w.records c)
+unfolding records_between
+part_first w c k = (let z : w.first c - w.first c ≡ 0 = omega arith in rw z)
+
+module _ (w w' : World) (n : ℕ) (s : CallsInvariant w) (f : Fails w n w') where
+  -- the place up to which a client's log is kept, and the first call from there on
+  abbrev cut : ℕ → ℕ
+  cut c = kept_at_failure w n c
+
+  abbrev lost : ℕ → ℕ
+  lost c = call_at w c (cut c)
+
+  above-first : (c : ℕ) → w.first c ≤ cut c
+  above-first c = omega (arith, first-received_by_all w s c, kept_low w n c)
+
+  cut-records : (c : ℕ) → w'.records c ≡ take (cut c - w.first c) (w.records c)
+  cut-records c = f.records c ∙ part_first w c (cut c)
+
+  end-cut : (c : ℕ) → end_of_log w' c ≡ cut c
+  unfolding end_of_log
+  end-cut c =
+      let top : cut c ≤ w.first c + length (w.records c) = kept_high w n c in
+      let l : length (take (cut c - w.first c) (w.records c)) ≡ min (cut c - w.first c) (length (w.records c)) = length-take (cut c - w.first c) (w.records c) in
+      rw (f.first c, cut-records c) (omega (arith, l, top, above-first c))
+
+  call_at-as : (c k : ℕ) → call_at w' c k ≡ call_of (take (cut c - w.first c) (w.records c)) (k - w.first c) (w.next c)
+  unfolding call_at
+  call_at-as c k = rw (f.first c, f.next c, cut-records c)
+
+  call_at-kept : (c k : ℕ) → w.first c ≤ k → k < cut c → call_at w' c k ≡ call_at w c k
+  unfolding call_at
+  call_at-kept c k low high = call_at-as c k ∙ at-take (w.records c) (cut c - w.first c) (k - w.first c) (w.next c) (omega (arith, low, high))
+
+  call_at-lost : (c k : ℕ) → cut c ≤ k → call_at w' c k ≡ w.next c
+  call_at-lost c k high = call_at-as c k ∙ at-take_past (w.records c) (cut c - w.first c) (k - w.first c) (w.next c) (omega (arith, high))
+
+  -- call numbers of places don't fall
+  call_at-ascends : (c k : ℕ) → w.first c ≤ k → call_at w c k ≤ call_at w' c k
+  call_at-ascends c k low =
+      elim (cases_lt k (cut c)) [
+        | inl h ↦ rw (call_at-kept c k low h) (omega arith)
+        | inr h ↦ rw (call_at-lost c k h) (next-top w c k s)
+      ]
+
+  -- no call goes that all full nodes have digested
+  reach : (c : ℕ) → first_undigested w c ≤ lost c
+  unfolding first_undigested
+  reach c = call_at-mono w c (digested_by_all w c) (cut c) s (omega (arith, digested_by_all-received_by_all w s c, kept_low w n c))
+
+  steps-fail : steps w' ≡ filter (λ x. below lost x.0) (steps w)
+  unfolding steps
+  steps-fail = ap (trace opening_values) f.calls ∙ tails_at w lost s reach
+
+  counted-fail : Counted w'
+  unfolding Counted
+  counted-fail =
+      subst (Each (IsCounted w')) (sym f.calls)
+      (each-filter (IsCounted w') (below lost) w.calls
+      (each-map (IsCounted w) (IsCounted w') w.calls (λ x h. ((h.0.0, rw f.clients h.0.1), rw (f.next x.client) h.1)) s.counted))
+
+  numbered-fail : Numbered w'
+  unfolding Numbered
+  numbered-fail =
+      subst (Each (λ x. list_any (makes x.0.fresh) x.1.effects ≡ true → IsMadeBy w' x.0.client x.0.fresh)) (sym steps-fail)
+      (each-filter (λ x. list_any (makes x.0.fresh) x.1.effects ≡ true → IsMadeBy w' x.0.client x.0.fresh) (λ x. below lost x.0) (steps w)
+      (each-map (λ x. list_any (makes x.0.fresh) x.1.effects ≡ true → IsMadeBy w x.0.client x.0.fresh) (λ x. list_any (makes x.0.fresh) x.1.effects ≡ true → IsMadeBy w' x.0.client x.0.fresh) (steps w)
+      (λ x g t. made_by_more w w' x.0.client x.0.fresh (λ c. rw (f.made c) (omega arith)) (g t)) s.fresh_calls))
+
+  spelled-fail : Spells (now w') (tree w')
+  unfolding now tree
+  spelled-fail = subst (λ xs. Spells (values_after_calls opening_values xs) (tree_after_calls opening_tree (ops xs))) (sym f.calls) (spelled_at w lost s reach)
+
+  part-cut : (c j k : ℕ) → w.first c ≤ j → j ≤ k → k ≤ cut c → records_between w' c j k ≡ records_between w c j k
+  unfolding records_between
+  part-cut c j k low le high = rw (f.first c, cut-records c) (take-of_take (w.records c) (j - w.first c) (k - j) (cut c - w.first c) (omega (arith, low, le, high)))
+
+  -- the kept calls between two places of the cut log
+  kept_window : (c j k : ℕ) → w.first c ≤ j → j ≤ k → k ≤ cut c → (x : NumberedCall) →
+      (below lost x && window c (call_at w' c j) (call_at w' c k) x) ≡ window c (call_at w c j) (call_at w c k) x
+  kept_window c j k low le high x =
+      elim (cases_lt k (cut c)) [
+        | inl h ↦ rw (call_at-kept c k (omega (arith, low, le)) h, call_at-kept c j low (omega (arith, le, h))) (inside lost c (call_at w c j) (call_at w c k) x (call_at-mono w c k (cut c) s high))
+        | inr h ↦
+            let is : k ≡ cut c = omega (arith, high, h) in
+            elim (cases_lt j (cut c)) [
+              | inl g ↦ rw (call_at-lost c k h, call_at-kept c j low g) (at_cut lost c (call_at w c j) (call_at w c k) (w.next c) x (ap (call_at w c) (sym is)) (next-top w c k s))
+              | inr g ↦
+                  let same : j ≡ k = omega (arith, le, is, g) in
+                  rw (call_at-lost c k h, call_at-lost c j g, same) (nothing (below lost x) c (w.next c) (call_at w c k) x)
+            ]
+      ]
+
+  stands-fail : (c : ℕ) → Stands w' c
+  unfolding Stands
+  stands-fail c j k bj bk low le high =
+      let low_w : w.first c ≤ j = rw (f.first c) at low in
+      let high_w : k ≤ cut c = rw (end-cut c) at high in
+      let t : StandFor w c j k = part_of w c j k s (sym (f.border c j (omega (arith, le, high_w))) ∙ bj) (sym (f.border c k high_w) ∙ bk) low_w le (omega (arith, high_w, kept_high w n c)) in
+      let part : records_between w' c j k ≡ records_between w c j k = part-cut c j k low_w le high_w in
+      record {
+        value = λ i v.
+            ap (λ rs. value_after i v (all_effects rs)) part ∙ t.value i v
+            ∙ sym (value-cong (λ x. below lost x && window c (call_at w' c j) (call_at w' c k) x) (window c (call_at w c j) (call_at w c k)) i v (steps w)
+            (each-always _ (steps w) (λ x. kept_window c j k low_w le high_w x.0)))
+            ∙ sym (value-filter (window c (call_at w' c j) (call_at w' c k)) (below lost) i v (steps w))
+            ∙ ap (λ xs. late_value (window c (call_at w' c j) (call_at w' c k)) i v xs) (sym steps-fail);
+        touch = λ i q.
+            subst (λ xs. Each (λ x. window c (call_at w' c j) (call_at w' c k) x.0 ≡ true → contains (touched x.1.effects) i ≡ false) xs) (sym steps-fail)
+            (each-filter_if (λ x. window c (call_at w' c j) (call_at w' c k) x.0 ≡ true → contains (touched x.1.effects) i ≡ false) (λ x. below lost x.0) (steps w)
+            (each-map (λ x. window c (call_at w c j) (call_at w c k) x.0 ≡ true → contains (touched x.1.effects) i ≡ false)
+            (λ x. below lost x.0 ≡ true → window c (call_at w' c j) (call_at w' c k) x.0 ≡ true → contains (touched x.1.effects) i ≡ false) (steps w)
+            (λ x g kx wx. g (sym (kept_window c j k low_w le high_w x.0) ∙ and_from (below lost x.0) (window c (call_at w' c j) (call_at w' c k) x.0) kx wx))
+            (t.touch i (rw part at q))));
+      }
+
+  guarded-fail : Guarded w'
+  unfolding Guarded
+  guarded-fail c i h = f.leases.writes c i ∙ s.guarded c i (contains-take (w.records c) (cut c - w.first c) i (subst (λ rs. contains (touched (all_effects rs)) i ≡ true) (cut-records c) h))
+
+  -- ---- what the other nodes have
+
+  digested_by_all-fail : (c : ℕ) → digested_by_all w c ≤ digested_by_all w' c
+  unfolding digested_by_all
+  digested_by_all-fail c =
+      let low : least_of w.full (λ n. w.digested n c) (end_of_log w c) ≤ received_by_all w c = digested_by_all-received_by_all w s c in
+      least_of-above w'.full (λ m. w'.digested m c) (end_of_log w' c) (least_of w.full (λ n. w.digested n c) (end_of_log w c))
+      (rw (end-cut c) (omega (arith, low, kept_low w n c)))
+      (λ m h. rw (f.digested m c h) (least_of-below w.full (λ n. w.digested n c) (end_of_log w c) m (f.only m h)))
+
+  received_by_all-fail : (c : ℕ) → received_by_all w c ≤ received_by_all w' c
+  unfolding received_by_all
+  received_by_all-fail c =
+      let low : least_of w.full (λ n. w.received n c) (end_of_log w c) ≤ cut c = kept_low w n c in
+      least_of-above w'.full (λ m. w'.received m c) (end_of_log w' c) (least_of w.full (λ n. w.received n c) (end_of_log w c))
+      (rw (end-cut c) low)
+      (λ m h. let had : least_of w.full (λ n. w.received n c) (end_of_log w c) ≤ w.received m c = least_of-below w.full (λ n. w.received n c) (end_of_log w c) m (f.only m h) in
+      rw (f.received m c h) (omega (arith, had, low)))
+
+  first_undigested-fail : (c : ℕ) → first_undigested w c ≤ first_undigested w' c
+  unfolding first_undigested
+  first_undigested-fail c =
+      let a : call_at w c (digested_by_all w c) ≤ call_at w c (digested_by_all w' c) = call_at-mono w c (digested_by_all w c) (digested_by_all w' c) s (digested_by_all-fail c) in
+      let b : call_at w c (digested_by_all w' c) ≤ call_at w' c (digested_by_all w' c) = call_at-ascends c (digested_by_all w' c) (omega (arith, digested_by_all-first w s c, digested_by_all-fail c)) in
+      omega (arith, a, b)
+
+  first_unreplicated-fail : (c : ℕ) → first_unreplicated w c ≤ first_unreplicated w' c
+  unfolding first_unreplicated
+  first_unreplicated-fail c =
+      let a : call_at w c (received_by_all w c) ≤ call_at w c (received_by_all w' c) = call_at-mono w c (received_by_all w c) (received_by_all w' c) s (received_by_all-fail c) in
+      let b : call_at w c (received_by_all w' c) ≤ call_at w' c (received_by_all w' c) = call_at-ascends c (received_by_all w' c) (omega (arith, first-received_by_all w s c, received_by_all-fail c)) in
+      omega (arith, a, b)
+
+  unseen-fail : Unseen (first_undigested w') (steps w')
+  unseen-fail =
+      subst (λ xs. Unseen (first_undigested w') xs) (sym steps-fail)
+      (unseen-raise (first_undigested w) (first_undigested w') (filter (λ x. below lost x.0) (steps w)) first_undigested-fail
+      (pairs-filter (λ x z. first_undigested w x.0.client ≤ x.0.number → z.0.client ≢ x.0.client → Clear (touched x.1.effects) (z.1.visits ++ touched z.1.effects))
+      (λ x. below lost x.0) (steps w) s.unseen))
+
+  order-fail : (m c : ℕ) → Full w' m → IsOrdered w' m c
+  order-fail m c h =
+      let o : IsOrdered w m c = s.order m c (f.only m h) in
+      record {
+        begun = rw (f.first c, f.digested m c h) o.begun;
+        replicated = rw (f.digested m c h) (omega (arith, o.replicated, received_by_all-fail c));
+        known = (let l : min (w.received m c) (cut c) ≤ cut c = omega arith in rw (f.received m c h, end-cut c) l);
+        digested_border = f.border c (w'.digested m c) (rw (f.digested m c h) (omega (arith, o.replicated, kept_low w n c))) ∙ ap (λ k. w.border c k) (f.digested m c h) ∙ o.digested_border;
+        received_border = f.border c (w'.received m c) (let l : min (w.received m c) (cut c) ≤ cut c = omega arith in rw (f.received m c h) l) ∙ ap (λ k. w.border c k) (f.received m c h) ∙ lesser w c (w.received m c) (cut c) o.received_border (kept_border w n c s);
+      }
+
+  -- of the kept calls a node that stays has digested those that it had
+  same-digested : (m : ℕ) → Full w' m → (c : ℕ) → min (lost c) (first_undigested_at w' m c) ≡ first_undigested_at w m c
+  unfolding first_undigested_at
+  same-digested m h c =
+      let o : IsOrdered w m c = s.order m c (f.only m h) in
+      let k : ℕ = w.digested m c in
+      subst (λ j. min (lost c) (call_at w' c j) ≡ call_at w c k) (sym (f.digested m c h))
+      (elim (cases_lt k (cut c)) [
+        | inl g ↦
+            let u : call_at w c k ≤ call_at w c (cut c) = call_at-mono w c k (cut c) s (omega (arith, g)) in
+            rw (call_at-kept c k o.begun g) (omega (arith, u))
+        | inr g ↦
+            let is : k ≡ cut c = omega (arith, o.replicated, kept_low w n c, g) in
+            let t : call_at w c (cut c) ≤ w.next c = next-top w c (cut c) s in
+            rw (call_at-lost c k g, is) (omega (arith, t))
+      ])
+
+  areas-fail : Areas w'
+  unfolding Areas value_below
+  areas-fail m h i =
+      f.area m i h ∙ area_at w m i s (f.only m h)
+      ∙ sym (value-cong (λ x. below lost x && below (first_undigested_at w' m) x) (below (first_undigested_at w m)) i (opening_values i) (steps w)
+      (each-always _ (steps w) (λ x. min_below lost (first_undigested_at w' m) (first_undigested_at w m) x.0 (same-digested m h))))
+      ∙ sym (value-filter (below (first_undigested_at w' m)) (below lost) i (opening_values i) (steps w))
+      ∙ ap (λ xs. late_value (below (first_undigested_at w' m)) i (opening_values i) xs) (sym steps-fail)
+
+  pub fail_coherent : CallsInvariant w'
+  fail_coherent = record {
+    answered = subst (λ xs. AreAnswered opening_tree (exchanges xs)) (sym f.calls) (answered_at w lost s reach);
+    make_new = subst (AllMakeNew opening_values) (sym f.calls) (new_at w lost s reach);
+    spelled = spelled-fail;
+    fresh_numbers = there_was_made w' counted-fail numbered-fail;
+    fresh_calls = numbered-fail;
+    fewer = λ c. rw (f.made c) (s.fewer c);
+    counted = counted-fail;
+    ascends = subst NumbersAscend (sym f.calls) (pairs-filter (λ x y. y.client ≡ x.client → x.number < y.number) (below lost) w.calls s.ascends);
+    stands = stands-fail;
+    ascending = λ c. rw (cut-records c, f.next c) (ascending-take (w.records c) (cut c - w.first c) (w.next c) (s.ascending c));
+    first_border = λ c. f.border c (w'.first c) (rw (f.first c) (above-first c)) ∙ ap (λ k. w.border c k) (f.first c) ∙ s.first_border c;
+    end_border = λ c. f.border c (end_of_log w' c) (rw (end-cut c) (omega arith)) ∙ ap (λ k. w.border c k) (end-cut c) ∙ kept_border w n c s;
+    order = order-fail;
+    areas = areas-fail;
+    guarded = guarded-fail;
+    compatible = compatible-same w w' s f.leases;
+    unseen = unseen-fail;
+  }
+
+-- ---- clients, and the nodes that stay
+
+-- a list cut at two places, one after the other, is cut at the lesser
+take_least : (rs : List LogRecord) (j k : ℕ) → take j (take k rs) ≡ take (min j k) rs
+take_least rs zero k = (let e : min 0 k ≡ 0 = omega arith in rw e refl)
+take_least rs (suc j) zero = (let e : min (suc j) 0 ≡ 0 = omega arith in rw e refl)
+take_least [] (suc j) (suc k) = (let e : min (suc j) (suc k) ≡ suc (min j k) = omega arith in rw e refl)
+take_least (r ∷ rs) (suc j) (suc k) = (let e : min (suc j) (suc k) ≡ suc (min j k) = omega arith in rw e (ap (λ l. r ∷ l) (take_least rs j k)))
+
+-- thresholds twice, the lower ones after the higher
+pub filter-lower : (a b : ℕ → ℕ) (xs : List NumberedCall) → ((c : ℕ) → a c ≤ b c) → filter (below a) (filter (below b) xs) ≡ filter (below a) xs
+filter-lower a b [] le = refl
+filter-lower a b (x ∷ xs) le =
+    elim (cases_Bool (below b x)) [
+      | inl e ↦ rw e (elim (below a x) as (λ t. (if t then x ∷ filter (below a) (filter (below b) xs) else filter (below a) (filter (below b) xs)) ≡ (if t then x ∷ filter (below a) xs else filter (below a) xs)) [ true ↦ ap (λ l. x ∷ l) (filter-lower a b xs le) | false ↦ filter-lower a b xs le ])
+      | inr e ↦
+          let past : b x.client ≤ x.number = ltb-false x.number (b x.client) e in
+          let out : below a x ≡ false = le-ltb x.number (a x.client) (omega (arith, past, le x.client)) in
+          rw (e, out) (filter-lower a b xs le)
+    ]
+
+module _ (w w' : World) (n : ℕ) (s : WorldInvariant w) (f : Fails w n w') where
+  end-fail : (c : ℕ) → end_of_log w' c ≡ kept_at_failure w n c
+  end-fail c = end-cut w w' n s.coherent f c
+
+  stays_other : (m : ℕ) → Full w' m → m ≢ n
+  stays_other m h is = f.gone (subst (Full w') is h)
+
+  -- a client that lives afterwards lived before, on another node
+  lived : (c : ℕ) → w'.lives c ≡ true → (w.home c ≢ n) × (w.lives c ≡ true)
+  lived c t =
+      elim (cases_eq (w.home c) n) [
+        | inl here ↦ absurd (both_ways (w'.lives c) (f.lives_there c here) t)
+        | inr other ↦ (other, sym (f.lives_else c other) ∙ t)
+      ]
+
+  -- of one that doesn't, each node that stays has all that is kept
+  had_kept : (m c : ℕ) → w'.lives c ≡ false → Full w' m → kept_at_failure w n c ≤ w.received m c
+  had_kept m c t h =
+      elim (cases_Bool (w.lives c)) [
+        | inl lives ↦ elim (cases_eq (w.home c) n) [
+          | inl here ↦ kept_there w n m c lives here (is_survivor w n m (f.only m h) (stays_other m h))
+          | inr other ↦ absurd (both_ways (w.lives c) (sym (f.lives_else c other) ∙ t) lives)
+        ]
+        | inr dead ↦ omega (arith, kept_high w n c, s.left m c dead (f.only m h))
+      ]
+
+  prefixes-fail : (m c : ℕ) → Full w' m → w'.log m c ≡ take (w'.received m c - w'.first c) (w'.records c)
+  prefixes-fail m c h =
+      let k : ℕ = kept_at_failure w n c in
+      let e : min (k - w.first c) (w.received m c - w.first c) ≡ min (min (w.received m c) k - w.first c) (k - w.first c) = omega arith in
+      rw (f.received m c h, f.first c, cut-records w w' n s.coherent f c)
+      (f.log m c h ∙ ap (take (k - w.first c)) (s.prefixes m c (f.only m h)) ∙ take_least (w.records c) (k - w.first c) (w.received m c - w.first c)
+      ∙ ap (λ j. take j (w.records c)) e ∙ sym (take_least (w.records c) (min (w.received m c) k - w.first c) (k - w.first c)))
+
+  pub fail_sound : WorldInvariant w'
+  fail_sound = record {
+    coherent = fail_coherent w w' n s.coherent f;
+    few_records = λ c. rw (end-fail c, f.next c) (omega (arith, kept_high w n c, s.few_records c));
+    goals = λ c. rw (end-fail c, f.goals c) (omega arith);
+    disjoint = λ c k t low from to.
+        (let all : kept_at_failure w n c ≡ end_of_log w c = kept_elsewhere w n c (lived c t).0 in
+        let top : k ≤ kept_at_failure w n c = rw (end-fail c) at to in
+        let past : min (w.goal c) (kept_at_failure w n c) ≤ k = rw (f.goals c) at from in
+        f.border c k top ∙ s.disjoint c k (lived c t).1 (rw (f.first c) at low) (omega (arith, past, s.goals c, all)) (omega (arith, top, all)));
+    unused = λ c h. f.next c ∙ s.unused c (omega (arith, f.clients, h));
+    held = held-same w w' s f.leases;
+    prefixes = prefixes-fail;
+    opened = λ c t. rw f.clients (s.opened c (lived c t).1);
+    homes = λ c t. rw (f.home c) (f.others (w.home c) (s.homes c (lived c t).1) (lived c t).0);
+    whole = λ c t. (let h : Full w' (w.home c) = f.others (w.home c) (s.homes c (lived c t).1) (lived c t).0 in
+        rw (f.home c, end-fail c, f.received (w.home c) c h) (omega (arith, kept_elsewhere w n c (lived c t).0, s.whole c (lived c t).1)));
+    left = λ m c t h. rw (end-fail c, f.received m c h) (omega (arith, had_kept m c t h));
+  }
+
+  pub fail_falls : NoneFalls w w'
+  fail_falls = record { unreplicated = first_unreplicated-fail w w' n s.coherent f; undigested = first_undigested-fail w w' n s.coherent f }
+
+  pub fail_stays : StayReplicated w w'
+  unfolding StayReplicated calls_replicated first_unreplicated
+  fail_stays =
+      ap (filter (below (λ c. call_at w c (received_by_all w c)))) f.calls
+      ∙ filter-lower (λ c. call_at w c (received_by_all w c)) (λ c. call_at w c (kept_at_failure w n c)) w.calls
+      (λ c. call_at-mono w c (received_by_all w c) (kept_at_failure w n c) s.coherent (kept_low w n c))

@@ -1,0 +1,87 @@
+-- A node gets all that a full one has.
+use Rattle.std.proofs.Common.{◌≡◌, ℕ, ◌≤◌, inl, inr, true, ap, sym, ◌∙◌, subst, arith}
+use Rattle.assise_inode_table.specs.Late.{late_value}
+use Rattle.assise_inode_table.specs.Traces.{below}
+use Rattle.assise_model_world.specs.NodeSteps.{Joins}
+use Rattle.assise_model_world.specs.Runs.{NoneFalls}
+use Rattle.assise_model_world.specs.Invariant.{IsOrdered, Areas, CallsInvariant, WorldInvariant}
+use Rattle.assise_model_world.specs.Staying.{SameNode}
+use Rattle.assise_model_world.specs.World.{World, Full, opening_values, least_of, end_of_log, digested_by_all, received_by_all, call_at, first_undigested_at, steps, value_below}
+use Rattle.assise_model_world.proofs.Lists.{below-same}
+use Rattle.assise_model_world.proofs.WorldObserved.{least_of-below, least_of-above, least_of-end, call_at-same, steps-same, area_at}
+use Rattle.assise_model_world.proofs.QuietSteps.{end-same, calm_coherent, calm_falls, guarded-same, compatible-same, held-same}
+
+-- all that the one node has now the other had before
+record IsAs (w w' : World) (m b : ℕ) : Type 0 where
+  full_before : Full w b
+  area : (i : ℕ) → w'.area m i ≡ w.area b i
+  log : (d : ℕ) → w'.log m d ≡ w.log b d
+  received : (d : ℕ) → w'.received m d ≡ w.received b d
+  digested : (d : ℕ) → w'.digested m d ≡ w.digested b d
+
+module _ (w w' : World) (n donor : ℕ) (e : Joins w n donor w') where
+  -- what a full node has after the join, some full node had
+  as_before : (m : ℕ) → Full w' m → (b : ℕ) × IsAs w w' m b
+  as_before m h =
+      elim (e.only m h) [
+        | inl is ↦ (donor, subst (λ m. IsAs w w' m donor) (sym is) (record { full_before = e.donor_full; area = e.area_here; log = e.log_here; received = e.received_here; digested = e.digested_here }))
+        | inr f ↦ (let q : SameNode w w' m = e.else_same m f in (m, record { full_before = f; area = q.area; log = q.log; received = q.received; digested = q.digested }))
+      ]
+
+  received_up : (c : ℕ) → received_by_all w c ≤ received_by_all w' c
+  unfolding received_by_all
+  received_up c =
+      least_of-above w'.full (λ m. w'.received m c) (end_of_log w' c) (least_of w.full (λ m. w.received m c) (end_of_log w c))
+      (rw (end-same w w' e.logs c) (least_of-end w.full (λ m. w.received m c) (end_of_log w c)))
+      (λ m h. let (b, q) = as_before m h in rw (q.received c) (least_of-below w.full (λ m. w.received m c) (end_of_log w c) b q.full_before))
+
+  digested_up : (c : ℕ) → digested_by_all w c ≤ digested_by_all w' c
+  unfolding digested_by_all
+  digested_up c =
+      least_of-above w'.full (λ m. w'.digested m c) (end_of_log w' c) (least_of w.full (λ m. w.digested m c) (end_of_log w c))
+      (rw (end-same w w' e.logs c) (least_of-end w.full (λ m. w.digested m c) (end_of_log w c)))
+      (λ m h. let (b, q) = as_before m h in rw (q.digested c) (least_of-below w.full (λ m. w.digested m c) (end_of_log w c) b q.full_before))
+
+  areas-join : CallsInvariant w → Areas w'
+  unfolding Areas value_below first_undigested_at
+  areas-join s m h i =
+      let (b, q) = as_before m h in
+      q.area i ∙ area_at w b i s q.full_before
+      ∙ below-same (first_undigested_at w b) (λ d. call_at w' d (w'.digested m d)) i (opening_values i) (steps w)
+      (λ d. sym (call_at-same w w' d (w'.digested m d) (e.logs.records d) (e.logs.first d) (e.logs.next d) ∙ ap (λ k. call_at w d k) (q.digested d)))
+      ∙ ap (λ xs. late_value (below (λ d. call_at w' d (w'.digested m d))) i (opening_values i) xs) (sym (steps-same w w' e.logs.calls))
+
+  join_coherent : CallsInvariant w → CallsInvariant w'
+  join_coherent s =
+      calm_coherent w w' s e.logs (rw e.clients.clients (omega arith)) digested_up
+      (λ m d h. let (b, q) = as_before m h in
+      let o : IsOrdered w b d = s.order b d q.full_before in
+      record {
+        begun = rw (e.logs.first d, q.digested d) o.begun;
+        replicated = rw (q.digested d) (omega (arith, o.replicated, received_up d));
+        known = rw (end-same w w' e.logs d, q.received d) o.known;
+        digested_border = e.logs.border d (w'.digested m d) ∙ ap (λ k. w.border d k) (q.digested d) ∙ o.digested_border;
+        received_border = e.logs.border d (w'.received m d) ∙ ap (λ k. w.border d k) (q.received d) ∙ o.received_border;
+      })
+      (guarded-same w w' s e.logs.records e.leases) (compatible-same w w' s e.leases)
+      (areas-join s)
+
+  pub join_falls : WorldInvariant w → NoneFalls w w'
+  join_falls s = calm_falls w w' s.coherent e.logs digested_up received_up
+
+  pub join_sound : WorldInvariant w → WorldInvariant w'
+  join_sound s = record {
+    coherent = join_coherent s.coherent;
+    few_records = λ d. rw (end-same w w' e.logs d, e.logs.next d) (s.few_records d);
+    goals = λ d. rw (end-same w w' e.logs d, e.goals d) (s.goals d);
+    disjoint = λ d k t low from to. e.logs.border d k ∙ s.disjoint d k (sym (e.clients.lives d) ∙ t) (rw (e.logs.first d) at low) (rw (e.goals d) at from) (rw (end-same w w' e.logs d) at to);
+    unused = λ d h. e.logs.next d ∙ s.unused d (omega (arith, e.clients.clients, h));
+    held = held-same w w' s e.leases;
+    prefixes = λ m d h. (let (b, q) = as_before m h in rw (q.log d, q.received d, e.logs.first d, e.logs.records d) (s.prefixes b d q.full_before));
+    opened = λ d t. rw e.clients.clients (s.opened d (sym (e.clients.lives d) ∙ t));
+    homes = λ d t. rw (e.clients.home d) (e.stay (w.home d) (s.homes d (sym (e.clients.lives d) ∙ t)));
+    whole = λ d t. (let u : w.lives d ≡ true = sym (e.clients.lives d) ∙ t in
+        rw (e.clients.home d, end-same w w' e.logs d) ((e.else_same (w.home d) (s.homes d u)).received d ∙ s.whole d u));
+    left = λ m d t h. (let (b, q) = as_before m h in
+        rw (end-same w w' e.logs d) (q.received d ∙ s.left b d (sym (e.clients.lives d) ∙ t) q.full_before));
+  }

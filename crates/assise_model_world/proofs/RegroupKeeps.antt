@@ -1,0 +1,198 @@
+-- Records that are cut into groups, each of which is coalesced, give way to records with the same net effect.
+use Rattle.std.proofs.Common.{◌≡◌, ℕ, ◌+◌, ◌-◌, ◌≤◌, true, List, ◌++◌, length, take, drop, refl, ap, sym, ◌∙◌, subst, arith, length-drop}
+use Rattle.std.proofs.lemmas.List.{length-take}
+use Rattle.std.proofs.Math.Seq.{drop-append-add}
+use Rattle.assise_record.specs.Groups.{all_records, all_coalesced, are_whole, were}
+use Rattle.assise_record.specs.LogRecord.{LogRecord}
+use Rattle.assise_record.specs.Records.{call_of, Ascending}
+use Rattle.assise_record.proofs.WholeGroups.{whole_none, whole-all, were-none, were-ascends, were-all, calls_same, at-past, all-ascending, all-shorter}
+use Rattle.assise_inode_table.proofs.Grouped.{ComeToSame, parts_same}
+use Rattle.assise_model_world.specs.Coalescing.{Coalesces}
+use Rattle.assise_model_world.specs.Regrouped.{Regroups}
+use Rattle.assise_model_world.specs.Invariant.{WorldInvariant, AreDropped}
+use Rattle.assise_model_world.specs.World.{World, end_of_log, records_between, call_at}
+use Rattle.assise_model_world.proofs.CoalescedTail.{coalesce_sound, coalesce_dropped}
+use Rattle.assise_model_world.proofs.Logs.{length-both, take-all, at-drop, ascending-drop, drop-of_drop}
+use Rattle.assise_model_world.proofs.WorldObserved.{end_is, first-received_by_all}
+
+between_is : (w : World) (c j k : ℕ) → records_between w c j k ≡ take (k - j) (drop (j - w.first c) (w.records c))
+unfolding records_between
+between_is w c j k = refl
+
+call_is : (w : World) (c k : ℕ) → call_at w c k ≡ call_of (w.records c) (k - w.first c) (w.next c)
+unfolding call_at
+call_is w c k = refl
+
+module _ (w u : World) (c s : ℕ) (gs : List (List LogRecord)) (h : WorldInvariant w) (e : Regroups w c s gs u) where
+  new : List LogRecord
+  new = all_coalesced gs
+
+  rs : List LogRecord
+  rs = w.records c
+
+  n : ℕ
+  n = s - w.first c
+
+  was : ℕ → ℕ
+  was k = s + were gs (k - s)
+
+  low : w.first c ≤ s
+  low = omega (arith, first-received_by_all w h.coherent c, e.low)
+
+  -- each record from s on is a group by itself
+  disjoint : (k : ℕ) → s ≤ k → k ≤ end_of_log w c → w.border c k ≡ true
+  disjoint k from to = h.disjoint c k e.lives (omega (arith, low, from)) (omega (arith, e.goal, from)) to
+
+  prefix : length (take n rs) ≡ n
+  unfolding n rs
+  prefix = omega (arith, length-take (s - w.first c) (w.records c), low, e.high, end_is w c)
+
+  end_new : end_of_log u c ≡ s + length new
+  unfolding n rs new
+  end_new =
+      end_is u c ∙ ap (λ l. u.first c + length l) e.records_own ∙ ap (λ k. k + length (take (s - w.first c) (w.records c) ++ all_coalesced gs)) (e.first c)
+      ∙ omega (arith, length-both (take (s - w.first c) (w.records c)) (all_coalesced gs), prefix, low)
+
+  -- the old records from s on are those of the groups
+  olds : all_records gs ≡ drop n rs
+  unfolding n rs
+  olds = e.cut ∙ between_is w c s (end_of_log w c) ∙ take-all (drop (s - w.first c) (w.records c)) (end_of_log w c - s) (omega (arith, length-drop (s - w.first c) (w.records c), low, e.high, end_is w c))
+
+  count : length (all_records gs) ≡ end_of_log w c - s
+  unfolding n rs
+  count = ap length olds ∙ omega (arith, length-drop (s - w.first c) (w.records c), low, e.high, end_is w c)
+
+  was_here : was s ≡ s
+  unfolding was
+  was_here = (let none : s - s ≡ 0 = omega arith in ap (λ k. s + were gs k) none ∙ ap (λ k. s + k) (were-none gs e.groups) ∙ omega arith)
+
+  was_end : was (end_of_log u c) ≡ end_of_log w c
+  unfolding was new
+  was_end =
+      (let all : end_of_log u c - s ≡ length (all_coalesced gs) = omega (arith, end_new) in
+      ap (λ k. s + were gs k) all ∙ ap (λ k. s + k) (were-all gs) ∙ omega (arith, count, e.high))
+
+  was_ascends : (j k : ℕ) → j ≤ k → was j ≤ was k
+  unfolding was
+  was_ascends j k le = omega (arith, were-ascends gs (j - s) (k - s) (omega (arith, le)))
+
+  was_from : (k : ℕ) → s ≤ was k
+  unfolding was
+  was_from k = omega arith
+
+  -- a border is one of whole groups
+  whole : (k : ℕ) → s ≤ k → k ≤ end_of_log u c → u.border c k ≡ true → are_whole gs (k - s) ≡ true
+  unfolding new
+  whole k from to bk =
+      (let is : s + (k - s) ≡ k = omega (arith, from) in
+      sym (e.border_new (k - s) (omega (arith, end_new, to))) ∙ ap (u.border c) is ∙ bk)
+
+  new_part : (j k : ℕ) → s ≤ j → records_between u c j k ≡ take ((k - s) - (j - s)) (drop (j - s) new)
+  unfolding n rs new
+  new_part j k from =
+      (let at : j - w.first c ≡ length (take (s - w.first c) (w.records c)) + (j - s) = omega (arith, from, low, prefix) in
+      let size : k - j ≡ (k - s) - (j - s) = omega (arith, from) in
+      between_is u c j k ∙ ap (λ f. take (k - j) (drop (j - f) (u.records c))) (e.first c) ∙ ap (λ l. take (k - j) (drop (j - w.first c) l)) e.records_own
+      ∙ ap (λ x. take (k - j) (drop x (take (s - w.first c) (w.records c) ++ all_coalesced gs))) at
+      ∙ ap (take (k - j)) (drop-append-add (take (s - w.first c) (w.records c)) (all_coalesced gs) (j - s))
+      ∙ ap (λ x. take x (drop (j - s) (all_coalesced gs))) size)
+
+  old_part : (j k : ℕ) → records_between w c (was j) (was k) ≡ take (were gs (k - s) - were gs (j - s)) (drop (were gs (j - s)) (all_records gs))
+  unfolding n rs was
+  old_part j k =
+      (let size : (s + were gs (k - s)) - (s + were gs (j - s)) ≡ were gs (k - s) - were gs (j - s) = omega arith in
+      let at : (s + were gs (j - s)) - w.first c ≡ (s - w.first c) + were gs (j - s) = omega (arith, low) in
+      between_is w c (s + were gs (j - s)) (s + were gs (k - s)) ∙ ap (λ x. take x (drop ((s + were gs (j - s)) - w.first c) (w.records c))) size
+      ∙ ap (λ x. take (were gs (k - s) - were gs (j - s)) (drop x (w.records c))) at
+      ∙ ap (take (were gs (k - s) - were gs (j - s))) (sym (drop-of_drop (w.records c) (s - w.first c) (were gs (j - s))))
+      ∙ ap (λ l. take (were gs (k - s) - were gs (j - s)) (drop (were gs (j - s)) l)) (sym olds))
+
+  same : (j k : ℕ) → u.border c j ≡ true → u.border c k ≡ true → s ≤ j → j ≤ k → k ≤ end_of_log u c → ComeToSame (records_between u c j k) (records_between w c (was j) (was k))
+  unfolding new
+  same j k bj bk from le to =
+      subst (λ l. ComeToSame l (records_between w c (was j) (was k))) (sym (new_part j k from))
+      (subst (λ l. ComeToSame (take ((k - s) - (j - s)) (drop (j - s) (all_coalesced gs))) l) (sym (old_part j k))
+      (parts_same gs (j - s) (k - s) e.groups (whole j from (omega (arith, le, to)) bj) (whole k (omega (arith, from, le)) to bk) (omega (arith, le))))
+
+  same_call : (k : ℕ) → s ≤ k → k ≤ end_of_log u c → u.border c k ≡ true → call_at u c k ≡ call_at w c (was k)
+  unfolding n rs new was
+  same_call k from to bk =
+      (let at : k - w.first c ≡ length (take (s - w.first c) (w.records c)) + (k - s) = omega (arith, from, low, prefix) in
+      let back : (length (take (s - w.first c) (w.records c)) + (k - s)) - length (take (s - w.first c) (w.records c)) ≡ k - s = omega arith in
+      let old_at : (s - w.first c) + were gs (k - s) ≡ (s + were gs (k - s)) - w.first c = omega (arith, low) in
+      call_is u c k ∙ ap (λ f. call_of (u.records c) (k - f) (u.next c)) (e.first c) ∙ ap (λ l. call_of l (k - w.first c) (u.next c)) e.records_own
+      ∙ ap (call_of (take (s - w.first c) (w.records c) ++ all_coalesced gs) (k - w.first c)) (e.next c)
+      ∙ ap (λ x. call_of (take (s - w.first c) (w.records c) ++ all_coalesced gs) x (w.next c)) at
+      ∙ at-past (take (s - w.first c) (w.records c)) (all_coalesced gs) (length (take (s - w.first c) (w.records c)) + (k - s)) (w.next c) (omega arith)
+      ∙ ap (λ x. call_of (all_coalesced gs) x (w.next c)) back
+      ∙ calls_same gs (k - s) (w.next c) e.groups (whole k from to bk)
+      ∙ ap (λ l. call_of l (were gs (k - s)) (w.next c)) olds ∙ at-drop (w.records c) (s - w.first c) (were gs (k - s)) (w.next c)
+      ∙ ap (λ x. call_of (w.records c) x (w.next c)) old_at ∙ sym (call_is w c (s + were gs (k - s))))
+
+  begins : call_of new 0 (w.next c) ≡ call_at w c s
+  unfolding n rs new
+  begins =
+      (let still : (s - w.first c) + 0 ≡ s - w.first c = omega arith in
+      calls_same gs 0 (w.next c) e.groups (whole_none gs) ∙ ap (λ k. call_of (all_records gs) k (w.next c)) (were-none gs e.groups)
+      ∙ ap (λ l. call_of l 0 (w.next c)) olds ∙ at-drop (w.records c) (s - w.first c) 0 (w.next c) ∙ ap (λ x. call_of (w.records c) x (w.next c)) still ∙ sym (call_is w c s))
+
+  ascending : Ascending new (w.next c)
+  unfolding n rs new
+  ascending = all-ascending gs (w.next c) e.groups (subst (λ l. Ascending l (w.next c)) (sym olds) (ascending-drop (w.records c) (s - w.first c) (w.next c) (h.coherent.ascending c)))
+
+  no_more : end_of_log u c ≤ end_of_log w c
+  unfolding new
+  no_more = omega (arith, end_new, count, all-shorter gs, e.high)
+
+  border_end : u.border c (end_of_log u c) ≡ true
+  unfolding new
+  border_end = ap (u.border c) end_new ∙ e.border_new (length (all_coalesced gs)) (omega arith) ∙ whole-all gs
+
+  regrouped : Coalesces w c s new was u
+  unfolding new
+  regrouped = record {
+    lives = e.lives;
+    at_border = disjoint s (omega arith) e.high;
+    low = e.low;
+    high = e.high;
+    records_own = e.records_own;
+    records_else = e.records_else;
+    was_here = was_here;
+    was_end = was_end;
+    was_ascends = was_ascends;
+    was_border = λ k from to bk. disjoint (was k) (was_from k) (omega (arith, was_ascends k (end_of_log u c) to, was_end));
+    same_call = same_call;
+    net = λ j k bj bk from le to. (same j k bj bk from le to).net;
+    touch = λ i j k bj bk from le to. (same j k bj bk from le to).touch i;
+    begins = begins;
+    ascending = ascending;
+    no_more = no_more;
+    border_old = e.border_old;
+    border_end = border_end;
+    border_else = e.border_else;
+    here = e.here;
+    at_home = e.at_home;
+    received_else = e.received_else;
+    log_else = e.log_else;
+    full = e.full;
+    area = e.area;
+    digested = e.digested;
+    calls = e.calls;
+    first = e.first;
+    next = e.next;
+    made = e.made;
+    clients = e.clients;
+    goal_here = e.goal_here;
+    goal_else = e.goal_else;
+    leases = e.leases;
+  }
+
+  pub regroups_to : (f : ℕ → ℕ) × Coalesces w c s (all_coalesced gs) f u
+  unfolding new
+  regroups_to = (was, regrouped)
+
+  pub regroup_sound : WorldInvariant u
+  regroup_sound = (let (f, t) = regroups_to in coalesce_sound w u c s (all_coalesced gs) f h t)
+
+  pub regroup_dropped : AreDropped w → AreDropped u
+  regroup_dropped d = (let (f, t) = regroups_to in coalesce_dropped w u c s (all_coalesced gs) f h d t)

@@ -1,0 +1,89 @@
+-- What all full nodes have, and what others have seen.
+use Rattle.std.proofs.Common.{◌≡◌, ◌≢◌, ℕ, List, [], ◌∷◌, if◌then◌else◌, ◌-◌, ◌<◌, ◌≤◌, inl, inr, true, false, refl, ap, sym, ◌∙◌, subst, ◌==◌, arith, drop, length, filter}
+use Rattle.std.proofs.lemmas.List.{take_all}
+use Rattle.std.proofs.lemmas.Bool.{both_ways, false_from_ne_true, cases_lt, cases_eq, lt-ltb, eq-eqb, ne_eqb}
+use Rattle.assise_record.specs.Records.{all_effects}
+use Rattle.assise_inode_table.specs.Effects.{contains, touched}
+use Rattle.assise_inode_table.specs.Traces.{NumberedCall, Each, below}
+use Rattle.assise_inode_table.specs.Unseen.{Unseen}
+use Rattle.assise_inode_table.proofs.PairwiseLists.{each-map}
+use Rattle.assise_model_world.specs.Invariant.{Counted, Guarded, WritesAreHeld, WorldInvariant}
+use Rattle.assise_model_world.specs.World.{World, Full, end_of_log, received_by_all, records_between, call_at, first_undigested, first_unreplicated, steps, calls_replicated}
+use Rattle.assise_model_world.proofs.Lists.{unseen-raise}
+use Rattle.assise_model_world.proofs.Logs.{contains-drop, contains-take}
+use Rattle.assise_model_world.proofs.WorldObserved.{call_at-end, IsCounted, guarded_steps, disjoint}
+use Rattle.assise_model_world.proofs.RegionAlone.{first_undigested-below}
+
+-- ---- own logs
+
+-- a full node that received all of a log has it
+had_whole : (w : World) (n c : ℕ) → WorldInvariant w → Full w n → w.received n c ≡ end_of_log w c → w.records c ≡ w.log n c
+unfolding end_of_log
+had_whole w n c s f h =
+    let e : w.received n c - w.first c ≡ length (w.records c) = omega (arith, h) in
+    sym (s.prefixes n c f ∙ take_all (w.received n c - w.first c) (w.records c) (omega (arith, e)))
+
+pub log_of_home : (w : World) (c : ℕ) → WorldInvariant w → w.lives c ≡ true → w.records c ≡ w.log (w.home c) c
+log_of_home w c s t = had_whole w (w.home c) c s (s.homes c t) (s.whole c t)
+
+pub log_of_left : (w : World) (n c : ℕ) → WorldInvariant w → w.lives c ≡ false → Full w n → w.records c ≡ w.log n c
+log_of_left w n c s t f = had_whole w n c s f (s.left n c t f)
+
+-- ---- what all full nodes have
+
+pub next_unreplicated : (w : World) (c : ℕ) → received_by_all w c ≡ end_of_log w c → first_unreplicated w c ≡ w.next c
+unfolding first_unreplicated
+next_unreplicated w c e = ap (call_at w c) e ∙ call_at-end w c (end_of_log w c) (omega arith)
+
+-- of a client whose calls all lie below its threshold none is left out
+own_below : (b : ℕ → ℕ) (w : World) (c : ℕ) (xs : List NumberedCall) → b c ≡ w.next c → Each (IsCounted w) xs → filter (λ x. x.client == c) (filter (below b) xs) ≡ filter (λ x. x.client == c) xs
+own_below b w c [] e h = refl
+own_below b w c (x ∷ xs) e h =
+    let rest : filter (λ y. y.client == c) (filter (below b) xs) ≡ filter (λ y. y.client == c) xs = own_below b w c xs e h.1 in
+    elim (cases_eq x.client c) [
+      | inl own ↦
+          let low : x.number < w.next c = subst (λ d. x.number < w.next d) own h.0.1 in
+          let in_it : below b x ≡ true = lt-ltb x.number (b x.client) (subst (λ d. x.number < b d) (sym own) (omega (arith, low, e))) in
+          rw (in_it, eq-eqb x.client c own) (ap (λ l. x ∷ l) rest)
+      | inr other ↦
+          rw (ne_eqb x.client c other)
+          (elim (below b x) as (λ t. filter (λ y. y.client == c) (if t then x ∷ filter (below b) xs else filter (below b) xs) ≡ filter (λ y. y.client == c) xs) [
+            | true ↦ rw (ne_eqb x.client c other) rest
+            | false ↦ rest
+          ])
+    ]
+
+pub end_replicated : (w : World) (c : ℕ) → WorldInvariant w → received_by_all w c ≡ end_of_log w c → filter (λ x. x.client == c) (calls_replicated w) ≡ filter (λ x. x.client == c) w.calls
+unfolding calls_replicated Counted
+end_replicated w c s e = own_below (first_unreplicated w) w c w.calls (next_unreplicated w c e) s.coherent.counted
+
+-- what changed an inode that the client doesn't hold for writing, all full nodes have digested
+pub handed_over : (w : World) (c i : ℕ) → WorldInvariant w → w.writes c i ≡ false →
+    Each (λ x. x.0.client ≡ c → contains (touched x.1.effects) i ≡ true → x.0.number < first_undigested w c) (steps w)
+handed_over w c i s none =
+    each-map (λ x. first_undigested w x.0.client ≤ x.0.number → w.writes x.0.client i ≡ false → contains (touched x.1.effects) i ≡ false)
+    (λ x. x.0.client ≡ c → contains (touched x.1.effects) i ≡ true → x.0.number < first_undigested w c) (steps w)
+    (λ x guarded own t.
+    elim (cases_lt x.0.number (first_undigested w c)) [
+      | inl h ↦ h
+      | inr h ↦ absurd (both_ways (contains (touched x.1.effects) i)
+          (guarded (subst (λ d. first_undigested w d ≤ x.0.number) (sym own) h) (subst (λ d. w.writes d i ≡ false) (sym own) none)) t)
+    ])
+    (guarded_steps w i s.coherent)
+
+-- ---- what others have seen
+
+pub guarded_between : (w : World) (c j k i : ℕ) → WorldInvariant w → contains (touched (all_effects (records_between w c j k))) i ≡ true → w.writes c i ≡ true
+unfolding Guarded records_between
+guarded_between w c j k i s h =
+    s.coherent.guarded c i (contains-drop (w.records c) (j - w.first c) i (contains-take (drop (j - w.first c) (w.records c)) (k - j) i h))
+
+pub touch_disjoint : (w : World) (c d i : ℕ) → WorldInvariant w → c ≢ d →
+    contains (touched (all_effects (w.records c))) i ≡ true → contains (touched (all_effects (w.records d))) i ≡ false
+unfolding Guarded WritesAreHeld
+touch_disjoint w c d i s other h =
+    false_from_ne_true (contains (touched (all_effects (w.records d))) i)
+    (λ t. disjoint w s.coherent.compatible c d i other (s.coherent.guarded c i h) (s.held d i (s.coherent.guarded d i t)))
+
+pub unseen_unreplicated : (w : World) → WorldInvariant w → Unseen (first_unreplicated w) (steps w)
+unseen_unreplicated w s = unseen-raise (first_undigested w) (first_unreplicated w) (steps w) (first_undigested-below w s.coherent) s.coherent.unseen

@@ -1,0 +1,148 @@
+-- Steps, one after another.
+use Rattle.std.proofs.Common.{◌≡◌, ℕ, ◌-◌, inl, List, [], ◌∷◌, refl, ap, sym, ◌∙◌, arith, take, drop, filter}
+use Rattle.std.proofs.Math.Seq.{take-nil, drop-nil}
+use Rattle.assise_record.specs.LogRecord.{LogRecord}
+use Rattle.assise_record.specs.Records.{all_effects}
+use Rattle.assise_inode_table.specs.Effects.{value_after}
+use Rattle.assise_inode_table.specs.Traces.{below}
+use Rattle.assise_model_world.specs.Runs.{Moves, opens, makes_call, raises_goals, crashes, acquires, releases, delivers, digests, drops, coalesces, fails, joins, rests, Runs, last, begun, NoneFalls, StayReplicated}
+use Rattle.assise_model_world.specs.Invariant.{Stands, Counted, Numbered, AreMade, Guarded, Compatible, WritesAreHeld, Areas, CallsInvariant, WorldInvariant, AreDropped}
+use Rattle.assise_model_world.specs.World.{World, least_of, end_of_log, digested_by_all, received_by_all, records_between, call_at, first_undigested_at, first_undigested, first_unreplicated, steps, now, tree, value_below, calls_replicated}
+use Rattle.assise_model_world.proofs.ClientsStaying.{open_sound, open_falls, raise_sound, raise_falls, crash_sound, crash_falls, acquire_sound, acquire_falls, release_sound, release_falls, rest_sound, rest_falls}
+use Rattle.assise_model_world.proofs.CoalescedTail.{coalesce_sound, coalesce_falls}
+use Rattle.assise_model_world.proofs.CallKeeps.{call_sound, call_falls, call_stays}
+use Rattle.assise_model_world.proofs.DeliveryKeeps.{deliver_sound, deliver_falls}
+use Rattle.assise_model_world.proofs.DigestKeeps.{digest_sound, digest_falls}
+use Rattle.assise_model_world.proofs.DropKeeps.{drop_sound, drop_falls}
+use Rattle.assise_model_world.proofs.FailureKeeps.{fail_sound, fail_falls, fail_stays, filter-lower}
+use Rattle.assise_model_world.proofs.JoinKeeps.{join_sound, join_falls}
+use Rattle.assise_inode_table.proofs.AtOpening.{opening_spells, root_alone}
+
+-- ---- one step
+
+pub step_sound : (w w' : World) → WorldInvariant w → Moves w w' → WorldInvariant w'
+step_sound w w' s (opens n e) = open_sound w w' n s e
+step_sound w w' s (makes_call x e) = call_sound w w' x s e
+step_sound w w' s (raises_goals k e) = raise_sound w w' k s e
+step_sound w w' s (crashes c e) = crash_sound w w' c s e
+step_sound w w' s (acquires c i mode e) = acquire_sound w w' c i mode s e
+step_sound w w' s (releases c i e) = release_sound w w' c i s e
+step_sound w w' s (delivers n c k e) = deliver_sound w w' n c k e s
+step_sound w w' s (digests n c k e) = digest_sound w w' n c k s e
+step_sound w w' s (drops f e) = drop_sound w w' f s e
+step_sound w w' s (coalesces c k new was e) = coalesce_sound w w' c k new was s e
+step_sound w w' s (fails n e) = fail_sound w w' n s e
+step_sound w w' s (joins n donor e) = join_sound w w' n donor e s
+step_sound w w' s (rests e) = rest_sound w w' s e
+
+pub step_falls : (w w' : World) → WorldInvariant w → Moves w w' → NoneFalls w w'
+step_falls w w' s (opens n e) = open_falls w w' n s e
+step_falls w w' s (makes_call x e) = call_falls w w' x s e
+step_falls w w' s (raises_goals k e) = raise_falls w w' k s e
+step_falls w w' s (crashes c e) = crash_falls w w' c s e
+step_falls w w' s (acquires c i mode e) = acquire_falls w w' c i mode s e
+step_falls w w' s (releases c i e) = release_falls w w' c i s e
+step_falls w w' s (delivers n c k e) = deliver_falls w w' n c k e s
+step_falls w w' s (digests n c k e) = digest_falls w w' n c k s e
+step_falls w w' s (drops f e) = drop_falls w w' f s e
+step_falls w w' s (coalesces c k new was e) = coalesce_falls w w' c k new was s e
+step_falls w w' s (fails n e) = fail_falls w w' n s e
+step_falls w w' s (joins n donor e) = join_falls w w' n donor e s
+step_falls w w' s (rests e) = rest_falls w w' s e
+
+-- ---- the replicated calls stay
+
+stay-same : (w w' : World) → w'.calls ≡ w.calls → StayReplicated w w'
+unfolding StayReplicated calls_replicated
+stay-same w w' e = ap (λ xs. filter (below (first_unreplicated w)) xs) e
+
+pub step_stays : (w w' : World) → WorldInvariant w → Moves w w' → StayReplicated w w'
+step_stays w w' s (opens n e) = stay-same w w' e.logs.calls
+step_stays w w' s (makes_call x e) = call_stays w w' x s e
+step_stays w w' s (raises_goals k e) = stay-same w w' e.logs.calls
+step_stays w w' s (crashes c e) = stay-same w w' e.logs.calls
+step_stays w w' s (acquires c i mode e) = stay-same w w' e.logs.calls
+step_stays w w' s (releases c i e) = stay-same w w' e.logs.calls
+step_stays w w' s (delivers n c k e) = stay-same w w' e.logs.calls
+step_stays w w' s (digests n c k e) = stay-same w w' e.logs.calls
+step_stays w w' s (drops f e) = stay-same w w' e.calls
+step_stays w w' s (coalesces c k new was e) = stay-same w w' e.calls
+step_stays w w' s (fails n e) = fail_stays w w' n s e
+step_stays w w' s (joins n donor e) = stay-same w w' e.logs.calls
+step_stays w w' s (rests e) = stay-same w w' e.logs.calls
+
+-- ---- runs
+
+pub run_sound : (w : World) (us : List World) → WorldInvariant w → Runs w us → WorldInvariant (last w us)
+run_sound w [] s r = s
+run_sound w (u ∷ us) s r = run_sound u us (step_sound w u s r.0) r.1
+
+pub run_falls : (w : World) (us : List World) → WorldInvariant w → Runs w us → NoneFalls w (last w us)
+run_falls w [] s r = record { unreplicated = λ c. omega arith; undigested = λ c. omega arith }
+run_falls w (u ∷ us) s r =
+    let one : NoneFalls w u = step_falls w u s r.0 in
+    let rest : NoneFalls u (last u us) = run_falls u us (step_sound w u s r.0) r.1 in
+    record { unreplicated = λ c. omega (arith, one.unreplicated c, rest.unreplicated c); undigested = λ c. omega (arith, one.undigested c, rest.undigested c) }
+
+stays-on : (w u v : World) → NoneFalls w u → StayReplicated w u → StayReplicated u v → StayReplicated w v
+unfolding StayReplicated calls_replicated
+stays-on w u v up one rest =
+    sym (filter-lower (first_unreplicated w) (first_unreplicated u) v.calls up.unreplicated) ∙ ap (λ xs. filter (below (first_unreplicated w)) xs) rest ∙ filter-lower (first_unreplicated w) (first_unreplicated u) u.calls up.unreplicated ∙ one
+
+pub run_stays : (w : World) (us : List World) → WorldInvariant w → Runs w us → StayReplicated w (last w us)
+run_stays w [] s r = stay-same w w refl
+run_stays w (u ∷ us) s r = stays-on w u (last u us) (step_falls w u s r.0) (step_stays w u s r.0) (run_stays u us (step_sound w u s r.0) r.1)
+
+-- ---- the start
+
+nothing_there : (m n : ℕ) → take m (drop {A = LogRecord} n []) ≡ []
+nothing_there m n = ap (take m) (drop-nil n) ∙ take-nil m
+
+begun_coherent : (nodes : List ℕ) → CallsInvariant (begun nodes)
+unfolding now tree AreMade Numbered Counted Stands Guarded Compatible Areas value_below first_undigested_at first_undigested steps records_between call_at end_of_log received_by_all digested_by_all
+begun_coherent nodes = record {
+  answered = tt;
+  make_new = tt;
+  spelled = opening_spells;
+  fresh_numbers = λ i h. inl (root_alone i h);
+  fresh_calls = tt;
+  fewer = λ c. omega arith;
+  counted = tt;
+  ascends = tt;
+  stands = λ c j k bj bk low le high. record { value = λ i v. ap (λ rs. value_after i v (all_effects rs)) (nothing_there (k - j) (j - 0)); touch = λ i h. tt };
+  ascending = λ c. tt;
+  first_border = λ c. refl;
+  end_border = λ c. refl;
+  order = λ n c f. record { begun = omega arith; replicated = omega arith; known = omega arith; digested_border = refl; received_border = refl };
+  areas = λ n f i. refl;
+  guarded = λ c i h. cc;
+  compatible = λ c d i other h g. cc;
+  unseen = tt;
+}
+
+begun_sound : (nodes : List ℕ) → WorldInvariant (begun nodes)
+unfolding end_of_log WritesAreHeld
+begun_sound nodes = record {
+  coherent = begun_coherent nodes;
+  few_records = λ c. omega arith;
+  goals = λ c. omega arith;
+  disjoint = λ c k t low from to. refl;
+  unused = λ c h. refl;
+  held = λ c i h. h;
+  prefixes = λ n c f. refl;
+  opened = λ c h. cc;
+  homes = λ c h. cc;
+  whole = λ c h. refl;
+  left = λ n c h f. refl;
+}
+
+none_digested : (ns : List ℕ) → least_of ns (λ n. 0) 0 ≡ 0
+none_digested [] = refl
+none_digested (n ∷ ns) = (let t : least_of ns (λ n. 0) 0 ≡ 0 = none_digested ns in omega (arith, t))
+
+pub begun_dropped : (nodes : List ℕ) → AreDropped (begun nodes)
+unfolding AreDropped digested_by_all end_of_log
+begun_dropped nodes c = sym (none_digested nodes)
+
+pub every_run : (nodes : List ℕ) (us : List World) → Runs (begun nodes) us → WorldInvariant (last (begun nodes) us)
+every_run nodes us r = run_sound (begun nodes) us (begun_sound nodes) r

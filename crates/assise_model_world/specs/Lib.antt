@@ -1,0 +1,9 @@
+pub mod Chances
+pub mod ClientSteps
+pub mod Coalescing
+pub mod NodeSteps
+pub mod Regrouped
+pub mod Runs
+pub mod Invariant
+pub mod Staying
+pub mod World

@@ -1,0 +1,100 @@
+-- Frames that are carried, one after another.
+use Rattle.std.proofs.Common.{◌≡◌, ℕ, ◌+◌, Bool, true, false, List, [], ◌∷◌, ◌++◌, map, None, Some, Result, Ok, Err, is_ok, refl, ap, sym, subst, ◌∙◌, append_assoc, append-nil, arith}
+use Rattle.assise_names.specs.declared.refusal.Refusal.{Refusal}
+use Rattle.assise_record.specs.LogFrame.{LogFrame}
+use Rattle.assise_model_events.specs.Events.{outgoing, received, refused, sent}
+use Rattle.assise_model_events.specs.Happenings.{AllHappen}
+use Rattle.assise_model_events.specs.Machine.{Machine}
+use Rattle.assise_model_events.specs.NodeEvents.{Delivering, Sending}
+use Rattle.assise_machine.specs.Answers.{delivery_answer}
+use Rattle.assise_rounds.specs.Traces.{Told}
+use Rattle.assise_rounds.specs.Rounds.{AreCarried, AreSame, Carried, DeliversOver, IsSame, Replicates, deliveries, delivery, is_taken_in, letter, taken}
+
+happen_then : (m v m' : Machine) (es fs : Told) → AllHappen m es v → AllHappen v fs m' → AllHappen m (es ++ fs) m'
+happen_then m v m' [] fs same h = subst (λ u. AllHappen u fs m') same h
+happen_then m v m' (e ∷ es) fs (u, (first, rest)) h = (u, (first, happen_then u v m' es fs rest h))
+
+deliveries-more : (cs : List Carried) (c : Carried) → deliveries (cs ++ c ∷ []) ≡ deliveries cs ++ delivery c.node c.came
+deliveries-more [] c = append-nil (delivery c.node c.came)
+deliveries-more (b ∷ cs) c = ap (λ es. delivery b.node b.came ++ es) (deliveries-more cs c) ∙ sym (append_assoc (delivery b.node b.came) (deliveries cs) (delivery c.node c.came))
+
+letters-more : (cs : List Carried) (c : Carried) → map letter (cs ++ c ∷ []) ≡ map letter cs ++ letter c ∷ []
+letters-more [] c = refl
+letters-more (b ∷ cs) c = ap (λ fs. letter b ∷ fs) (letters-more cs c)
+
+taken-in : (cs : List Carried) (c : Carried) → is_taken_in c.came ≡ true → taken (cs ++ c ∷ []) ≡ taken cs + 1
+taken-in [] c is = rw is refl
+taken-in (b ∷ cs) c is = by_case (taken-in cs c is) (is_taken_in b.came) refl
+  where
+    by_case : taken (cs ++ c ∷ []) ≡ taken cs + 1 → (t : Bool) → is_taken_in b.came ≡ t → taken (b ∷ cs ++ c ∷ []) ≡ taken (b ∷ cs) + 1
+    by_case rest true e = rw e (omega (arith, rest))
+    by_case rest false e = rw e rest
+
+taken-out : (cs : List Carried) (c : Carried) → is_taken_in c.came ≡ false → taken (cs ++ c ∷ []) ≡ taken cs
+taken-out [] c is = rw is refl
+taken-out (b ∷ cs) c is = by_case (taken-out cs c is) (is_taken_in b.came) refl
+  where
+    by_case : taken (cs ++ c ∷ []) ≡ taken cs → (t : Bool) → is_taken_in b.came ≡ t → taken (b ∷ cs ++ c ∷ []) ≡ taken (b ∷ cs)
+    by_case rest true e = rw e (omega (arith, rest))
+    by_case rest false e = rw e rest
+
+same-more : (cs : List Carried) (c : Carried) → AreSame cs → IsSame c.frame c.came → AreSame (cs ++ c ∷ [])
+same-more [] c all one = (one, tt)
+same-more (b ∷ cs) c (first, all) one = (first, same-more cs c all one)
+
+-- ---- frames that were carried so far
+
+pub none_carried : (F : Type 0) (m : Machine) → AreCarried F [] 0 m m
+none_carried F m = record { carried = []; same = λ f. tt; letters = refl; counts = refl; happen = refl }
+
+-- over a link that was faithful before if F, and is at this frame if G
+module _ (F G : Type 0) (stays : F → G) (m v m' : Machine) (frames : List (LogFrame × ℕ)) (count : ℕ) (f : LogFrame) (n : ℕ) (is_in : Bool) (before : AreCarried F frames count m v) (now : DeliversOver G f n is_in v m') where
+  abbrev carried_now : Carried
+  carried_now = record { frame = f; node = n; came = now.came }
+
+  same_now : F → AreSame (before.carried ++ carried_now ∷ [])
+  same_now faithful = same-more before.carried carried_now (before.same faithful) (now.same (stays faithful))
+
+  letters_now : map letter (before.carried ++ carried_now ∷ []) ≡ frames ++ (f, n) ∷ []
+  letters_now = letters-more before.carried carried_now ∙ ap (λ fs. fs ++ (f, n) ∷ []) before.letters
+
+  happen_now : AllHappen m (deliveries (before.carried ++ carried_now ∷ [])) m'
+  happen_now =
+      subst (λ es. AllHappen m es m') (sym (deliveries-more before.carried carried_now)) (happen_then m v m' (deliveries before.carried) (delivery n now.came) before.happen now.happen)
+
+  pub one_taken : is_in ≡ true → AreCarried F (frames ++ (f, n) ∷ []) (count + 1) m m'
+  one_taken is = record {
+    carried = before.carried ++ carried_now ∷ [];
+    same = same_now;
+    letters = letters_now;
+    counts = ap (λ k. k + 1) before.counts ∙ sym (taken-in before.carried carried_now (sym now.taken ∙ is));
+    happen = happen_now;
+  }
+
+  pub one_lost : is_in ≡ false → AreCarried F (frames ++ (f, n) ∷ []) count m m'
+  one_lost is = record {
+    carried = before.carried ++ carried_now ∷ [];
+    same = same_now;
+    letters = letters_now;
+    counts = before.counts ∙ sym (taken-out before.carried carried_now (sym now.taken ∙ is));
+    happen = happen_now;
+  }
+
+-- what a node sent was carried
+pub carried_turn : (F : Type 0) (m v : Machine) (n count : ℕ) (frames : List (LogFrame × ℕ)) → Sending m n (sent frames) m → (h : AreCarried F frames count m v) → Replicates F n count m ((outgoing n, sent (map letter h.carried)) ∷ deliveries h.carried) v
+carried_turn F m v n count frames sends h =
+    let first : Sending m n (sent (map letter h.carried)) m = subst (λ fs. Sending m n (sent fs) m) (sym h.letters) sends in
+    record { carried = h.carried; same = h.same; counts = h.counts; told = refl; happen = (m, (first, h.happen)) }
+
+pub all_carried : (F : Type 0) (m v : Machine) (n count : ℕ) (frames : List (LogFrame × ℕ)) → Sending m n (sent frames) m → AreCarried F frames count m v → (es : Told) × Replicates F n count m es v
+all_carried F m v n count frames sends h = (_, carried_turn F m v n count frames sends h)
+
+-- ---- one frame
+
+-- it is sent as f, and comes as g
+pub is_delivered : (F : Type 0) (m m' : Machine) (f g : LogFrame) (n : ℕ) (r : Result ℕ Refusal) → (F → g ≡ f) → Delivering m g n (delivery_answer r) m' → DeliversOver F f n (is_ok r) m m'
+is_delivered F m m' f g n (Ok place) same h = record { came = Some (g, received place); same = same; taken = refl; happen = (m', (h, refl)) }
+is_delivered F m m' f g n (Err e) same h = record { came = Some (g, refused e); same = same; taken = refl; happen = (m', (h, refl)) }
+
+pub is_lost : (F : Type 0) (m : Machine) (f : LogFrame) (n : ℕ) → DeliversOver F f n false m m
+is_lost F m f n = record { came = None; same = λ faithful. tt; taken = refl; happen = refl }

@@ -1,0 +1,185 @@
+-- A directory that takes a moved tree has room for it.
+use Rattle.std.proofs.Common.{◌≡◌, ◌≤◌, ◌<◌, ◌+◌, arith, ℕ, Bool, true, false, nat_le, List, [], ◌∷◌, ◌++◌, Some, None, Ok, Err, refl, ap, sym, ◌∙◌, inl, inr, subst}
+use Rattle.std.specs.Option.{option_map_or}
+use Rattle.std.proofs.lemmas.Bool.{cases_Bool}
+use Rattle.std.proofs.lemmas.List.{append_assoc}
+use Rattle.std.proofs.lemmas.Bool.Decides.{nat_tests}
+use Rattle.assise_names.specs.Path.{same_path}
+use Rattle.assise_names.specs.declared.reply.TreeError.TheVariants.{NoEnt}
+use Rattle.assise_seq_tree.specs.Answer.{parent_of, last_name, may_receive, may_rename}
+use Rattle.assise_seq_tree.specs.Tree.{Tree, file, dir, Entries, no_entries, entry, same_name, find, replace, remove, count, at, put, without, IsWithinLimits}
+use Rattle.assise_seq_tree.proofs.TreePut.{cases_option}
+use Rattle.assise_seq_tree.proofs.Sets.{same_itself, one_name}
+use Rattle.assise_seq_tree.proofs.Moves.{Path, below, find_remove_other, find_replace_there, find_replace_other, at-without_disjoint, parent_and_last}
+use Rattle.assise_seq_tree.proofs.Paths.{step_disjoint}
+use Rattle.assise_seq_tree.proofs.Checks.{Passed, passed, same_is}
+use Rattle.assise_seq_tree.proofs.Limits.{count-replace, count-remove, put_there, put_new, within-without, within-at}
+
+-- an entry less
+count_less : (n : List ℕ) (es : Entries) (u : Tree) → find n es ≡ Some u → count (remove n es) + 1 ≡ count es
+count_less n no_entries u h = cc
+count_less n (entry k t es) u h =
+    elim (cases_Bool (same_name n k)) [
+      | inl same ↦ rw same refl
+      | inr disjoint ↦ rw disjoint (let rest = count_less n es u (rw disjoint at h) in omega (arith, rest))
+    ]
+
+-- a directory that isn't below what is taken out stays, with no more entries
+pub record StaysDirectory (t : Tree) (p s : Path) (es : Entries) : Type 0 where
+  pub entries : Entries
+  pub there : at (without t p) s ≡ Ok (dir entries)
+  pub few : count entries ≤ count es
+
+through : (n m : List ℕ) (child : Tree) (es : Entries) (s : Path) → find m (remove n es) ≡ Some child → at (dir (remove n es)) (m ∷ s) ≡ at child s
+unfolding at
+through n m child es s h = ap (λ o. option_map_or (λ t. at t s) o (Err NoEnt)) h
+
+pub stays_directory : (s p : Path) (t : Tree) (es : Entries) → at t s ≡ Ok (dir es) → ((rest : Path) → s ≡ p ++ rest → ⊥) → StaysDirectory t p s es
+unfolding at without
+stays_directory s [] t es h outside = absurd (outside s refl)
+stays_directory [] (n ∷ p) (file bytes) es h outside = cc
+stays_directory [] (n ∷ []) (dir fs) es h outside =
+    let one : fs ≡ es = cc in
+    record { entries = remove n fs; there = refl; few = omega (arith, count-remove n fs, ap count one) }
+stays_directory [] (n ∷ k ∷ p) (dir fs) es h outside =
+    let one : fs ≡ es = cc in
+    record { entries = replace n (without (below n fs) (k ∷ p)) fs; there = refl; few = omega (arith, count-replace n (without (below n fs) (k ∷ p)) fs, ap count one) }
+stays_directory (m ∷ s) (n ∷ p) (file bytes) es h outside = cc
+stays_directory (m ∷ s) (n ∷ []) (dir fs) es h outside =
+    elim (cases_Bool (same_name m n)) [
+      | inl same ↦ absurd (outside s (ap (λ x. x ∷ s) (one_name m n same)))
+      | inr disjoint ↦ record { entries = es; there = ap (λ o. option_map_or (λ t. at t s) o (Err NoEnt)) (find_remove_other m n fs disjoint) ∙ h; few = omega arith }
+    ]
+stays_directory (m ∷ s) (n ∷ k ∷ p) (dir fs) es h outside =
+    elim (cases_Bool (same_name m n)) [
+      | inr disjoint ↦ record { entries = es; there = ap (λ o. option_map_or (λ t. at t s) o (Err NoEnt)) (find_replace_other m n (without (below n fs) (k ∷ p)) fs disjoint) ∙ h; few = omega arith }
+      | inl same ↦
+          let one : m ≡ n = one_name m n same in
+          elim (cases_option (find m fs)) [
+            | inl none ↦ let no = rw none at h in cc
+            | inr some ↦
+                let rest : StaysDirectory some.0 (k ∷ p) s es = stays_directory s (k ∷ p) some.0 es (rw some.1 at h) (λ more e. outside more (ap (λ x. x ∷ s) one ∙ ap (λ x. n ∷ x) e)) in
+                let child : below n fs ≡ some.0 = subst (λ x. below x fs ≡ some.0) one (rw some.1 refl) in
+                let found : find m (replace n (without (below n fs) (k ∷ p)) fs) ≡ Some (without (below n fs) (k ∷ p)) =
+                find_replace_there m n (without (below n fs) (k ∷ p)) some.0 fs (ap (λ x. find x fs) (sym one) ∙ some.1) ∙ rw same refl in
+                record {
+                  entries = rest.entries;
+                  there = ap (λ o. option_map_or (λ t. at t s) o (Err NoEnt)) found ∙ ap (λ u. at (without u (k ∷ p)) s) child ∙ rest.there;
+                  few = rest.few;
+                }
+          ]
+    ]
+
+without_step : (m n : List ℕ) (s : Path) (fs : Entries) → without (dir fs) (m ∷ (s ++ n ∷ [])) ≡ dir (replace m (without (below m fs) (s ++ n ∷ [])) fs)
+unfolding without
+without_step m n [] fs = refl
+without_step m n (k ∷ s) fs = refl
+
+-- the directory of what is taken out has an entry less
+record LosesEntry (t : Tree) (p s : Path) (es : Entries) : Type 0 where
+  pub entries : Entries
+  pub there : at (without t p) s ≡ Ok (dir entries)
+  pub less : count entries + 1 ≡ count es
+
+last_entry : (n : List ℕ) (fs : Entries) (u : Tree) → at (dir fs) (n ∷ []) ≡ Ok u → find n fs ≡ Some u
+unfolding at
+last_entry n fs u h =
+    elim (cases_option (find n fs)) [
+      | inl none ↦ let no = rw none at h in cc
+      | inr some ↦ let found = rw some.1 at h in let one : some.0 ≡ u = cc in some.1 ∙ ap Some one
+    ]
+
+taken_here : (n : List ℕ) (fs : Entries) → at (without (dir fs) (n ∷ [])) [] ≡ Ok (dir (remove n fs))
+unfolding at without
+taken_here n fs = refl
+
+loses_entry : (s : Path) (n : List ℕ) (t u : Tree) (es : Entries) → at t s ≡ Ok (dir es) → at t (s ++ n ∷ []) ≡ Ok u → LosesEntry t (s ++ n ∷ []) s es
+unfolding at
+loses_entry [] n (file bytes) u es h there = cc
+loses_entry [] n (dir fs) u es h there =
+    let one : fs ≡ es = cc in
+    record { entries = remove n fs; there = taken_here n fs; less = count_less n fs u (last_entry n fs u there) ∙ ap count one }
+loses_entry (m ∷ s) n (file bytes) u es h there = cc
+loses_entry (m ∷ s) n (dir fs) u es h there =
+    elim (cases_option (find m fs)) [
+      | inl none ↦ let no = rw none at h in cc
+      | inr some ↦
+          let rest : LosesEntry some.0 (s ++ n ∷ []) s es = loses_entry s n some.0 u es (rw some.1 at h) (rw some.1 at there) in
+          let child : below m fs ≡ some.0 = rw some.1 refl in
+          let found : find m (replace m (without (below m fs) (s ++ n ∷ [])) fs) ≡ Some (without (below m fs) (s ++ n ∷ [])) =
+          find_replace_there m m (without (below m fs) (s ++ n ∷ [])) some.0 fs some.1 ∙ rw (same_itself m) refl in
+          record {
+            entries = rest.entries;
+            there = ap (λ u. at u (m ∷ s)) (without_step m n s fs) ∙ ap (λ o. option_map_or (λ t. at t s) o (Err NoEnt)) found ∙ ap (λ u. at (without u (s ++ n ∷ [])) s) child ∙ rest.there;
+            less = rest.less;
+          }
+    ]
+
+pub entry_there : (s : Path) (n : List ℕ) (t u : Tree) (es : Entries) → at t s ≡ Ok (dir es) → find n es ≡ Some u → at t (s ++ n ∷ []) ≡ Ok u
+unfolding at
+entry_there [] n (file bytes) u es h found = cc
+entry_there [] n (dir fs) u es h found = let one : fs ≡ es = cc in ap (λ gs. option_map_or (λ t. at t []) (find n gs) (Err NoEnt)) one ∙ ap (λ o. option_map_or (λ t. at t []) o (Err NoEnt)) found
+entry_there (m ∷ s) n (file bytes) u es h found = cc
+entry_there (m ∷ s) n (dir fs) u es h found =
+    elim (cases_option (find m fs)) [
+      | inl none ↦ let no = rw none at h in cc
+      | inr some ↦ ap (λ o. option_map_or (λ t. at t (s ++ n ∷ [])) o (Err NoEnt)) some.1 ∙ entry_there s n some.0 u es (rw some.1 at h) found
+    ]
+
+-- ---- a move
+
+has_room : (moved : Tree) (stays : Bool) (es : Entries) → may_receive moved stays es None ≡ Ok tt → stays ≡ false → count es < 4096
+has_room moved true es h beside = cc
+has_room moved false es h beside =
+    elim (cases_Bool (nat_le 4096 (count es))) [
+      | inl full ↦ let no = rw full at h in cc
+      | inr room ↦ grind (arith, nat_tests)
+    ]
+
+module _ (t : Tree) (p q : Path) (c : Passed p q t) (s : IsWithinLimits t) where
+  moved_within : IsWithinLimits c.moved
+  moved_within = within-at p t c.moved c.source s
+
+  whole : q ≡ parent_of q ++ last_name q ∷ []
+  whole = parent_and_last q c.to_name
+
+  outside : (rest : Path) → parent_of q ≡ p ++ rest → ⊥
+  outside rest is = c.disjoint.second (rest ++ last_name q ∷ [], whole ∙ ap (λ x. x ++ last_name q ∷ []) is ∙ append_assoc p rest (last_name q ∷ []))
+
+  over : (target : Tree) → find (last_name q) c.entries ≡ Some target → IsWithinLimits (put (without t p) q c.moved)
+  over target found =
+      put_there q (without t p) c.moved target
+      (at-without_disjoint p q t (step_disjoint p q c.disjoint) ∙ ap (at t) whole ∙ entry_there (parent_of q) (last_name q) t target c.entries c.parent found) (within-without p t s) moved_within
+
+  onto : (fs : Entries) → at (without t p) (parent_of q) ≡ Ok (dir fs) → count fs < 4096 → IsWithinLimits (put (without t p) q c.moved)
+  onto fs there room =
+      subst (λ x. IsWithinLimits (put (without t p) x c.moved)) (sym whole) (put_new (parent_of q) (last_name q) (without t p) c.moved fs there room (within-without p t s) moved_within)
+
+  elsewhere : count c.entries < 4096 → IsWithinLimits (put (without t p) q c.moved)
+  elsewhere room =
+      let d = stays_directory (parent_of q) p t c.entries c.parent outside in
+      onto d.entries d.there (omega (arith, d.few, room))
+
+  beside : same_path (parent_of p) (parent_of q) ≡ true → IsWithinLimits (put (without t p) q c.moved)
+  beside same =
+      let one : parent_of p ≡ parent_of q = (same_is (parent_of p) (parent_of q)).0 same in
+      let path : p ≡ parent_of q ++ last_name p ∷ [] = parent_and_last p c.from_name ∙ ap (λ x. x ++ last_name p ∷ []) one in
+      let d = loses_entry (parent_of q) (last_name p) t c.moved c.entries c.parent (ap (at t) (sym path) ∙ c.source) in
+      let few = within-at (parent_of q) t (dir c.entries) c.parent s in
+      onto d.entries (ap (λ x. at (without t x) (parent_of q)) path ∙ d.there) (omega (arith, d.less, few.0))
+
+  placed : IsWithinLimits (put (without t p) q c.moved)
+  placed =
+      elim (cases_option (find (last_name q) c.entries)) [
+        | inr some ↦ over some.0 some.1
+        | inl none ↦ elim (cases_Bool (same_path (parent_of p) (parent_of q))) [
+          | inl same ↦ beside same
+          | inr other ↦ elsewhere (has_room c.moved (same_path (parent_of p) (parent_of q)) c.entries (ap (may_receive c.moved (same_path (parent_of p) (parent_of q)) c.entries) (sym none) ∙ c.receives) other)
+        ]
+      ]
+
+pub received : (t moved : Tree) (p q : Path) → at t p ≡ Ok moved → may_rename t p q ≡ Ok tt → same_path p q ≡ false → IsWithinLimits t → IsWithinLimits (put (without t p) q moved)
+received t moved p q there passes disjoint s =
+    let c = passed p q t passes disjoint in
+    let one : c.moved ≡ moved = let both = sym c.source ∙ there in cc in
+    subst (λ m. IsWithinLimits (put (without t p) q m)) one (placed t p q c s)

@@ -1,0 +1,98 @@
+-- Laws of trees: what is put is found, and the last that was put stays.
+use Rattle.std.proofs.Common.{◌≡◌, ℕ, List, [], ◌∷◌, Option, Some, None, Ok, refl, ap, sym, ◌∙◌, ◌⊎◌, inl, inr}
+use Rattle.std.proofs.lemmas.Bool.{cases_Bool}
+use Rattle.assise_seq_tree.specs.Tree.{Tree, file, dir, Entries, no_entries, entry, same_name, find, replace, at, put}
+
+pub cases_option : {A : Type 0} (o : Option A) → (o ≡ None) ⊎ ((x : A) × (o ≡ Some x))
+cases_option None = inl refl
+cases_option (Some x) = inr (x, refl)
+
+-- entries
+pub find-replace : (name : List ℕ) (t u : Tree) (es : Entries) → find name es ≡ Some u → find name (replace name t es) ≡ Some t
+find-replace name t u no_entries h = cc
+find-replace name t u (entry other v es) h =
+    elim (cases_Bool (same_name name other)) [
+      | inl same ↦ rw (same, same)
+      | inr disjoint ↦ rw (disjoint, disjoint) (find-replace name t u es (rw disjoint at h))
+    ]
+
+pub replace-replace : (name : List ℕ) (t u : Tree) (es : Entries) → replace name u (replace name t es) ≡ replace name u es
+replace-replace name t u no_entries = refl
+replace-replace name t u (entry other v es) =
+    elim (cases_Bool (same_name name other)) [
+      | inl same ↦ rw (same, same)
+      | inr disjoint ↦ rw (disjoint, disjoint, replace-replace name t u es)
+    ]
+
+pub replace-self : (name : List ℕ) (t : Tree) (es : Entries) → find name es ≡ Some t → replace name t es ≡ es
+replace-self name t no_entries h = refl
+replace-self name t (entry other v es) h =
+    elim (cases_Bool (same_name name other)) [
+      | inl same ↦ let is : Some v ≡ Some t = rw same at h in rw same (cc)
+      | inr disjoint ↦ rw disjoint (ap (entry other v) (replace-self name t es (rw disjoint at h)))
+    ]
+
+-- one step of `put` where the entry is there
+pub put_step : (es : Entries) (name : List ℕ) (p : List (List ℕ)) (x u : Tree) → find name es ≡ Some u → put (dir es) (name ∷ p) x ≡ dir (replace name (put u p x) es)
+unfolding put
+put_step es name p x u h = rw h
+
+pub at_step : (es : Entries) (name : List ℕ) (p : List (List ℕ)) (u : Tree) → find name es ≡ Some u → at (dir es) (name ∷ p) ≡ at u p
+unfolding at
+at_step es name p u h = rw h
+
+at_none : (es : Entries) (name : List ℕ) (p : List (List ℕ)) (x : Tree) {P : Type 0} → find name es ≡ None → at (dir es) (name ∷ p) ≡ Ok x → P
+unfolding at
+at_none es name p x h e = let no = rw h at e in cc
+
+at_in_file : (bytes name : List ℕ) (p : List (List ℕ)) (x : Tree) {P : Type 0} → at (file bytes) (name ∷ p) ≡ Ok x → P
+unfolding at
+at_in_file bytes name p x e = cc
+
+-- what stands at the path is replaced once, and again
+pub put-put : (p : List (List ℕ)) (t x y u : Tree) → at t p ≡ Ok u → put (put t p x) p y ≡ put t p y
+unfolding put
+put-put [] t x y u h = refl
+put-put (name ∷ p) (file bytes) x y u h = refl
+put-put (name ∷ p) (dir es) x y u h =
+    elim (cases_option (find name es)) [
+      | inl none ↦ at_none es name p u none h
+      | inr some ↦
+          let below = sym (at_step es name p some.0 some.1) ∙ h in
+          ap (λ t. put t (name ∷ p) y) (put_step es name p x some.0 some.1)
+          ∙ put_step (replace name (put some.0 p x) es) name p y (put some.0 p x) (find-replace name (put some.0 p x) some.0 es some.1)
+          ∙ ap dir (replace-replace name (put some.0 p x) (put (put some.0 p x) p y) es ∙ ap (λ t. replace name t es) (put-put p some.0 x y u below))
+          ∙ sym (put_step es name p y some.0 some.1)
+    ]
+
+-- what stands at the path, put there, changes nothing
+pub put-at : (p : List (List ℕ)) (t u : Tree) → at t p ≡ Ok u → put t p u ≡ t
+unfolding put at
+put-at [] t u h = cc
+put-at (name ∷ p) (file bytes) u h = refl
+put-at (name ∷ p) (dir es) u h =
+    elim (cases_option (find name es)) [
+      | inl none ↦ at_none es name p u none h
+      | inr some ↦
+          let below = sym (at_step es name p some.0 some.1) ∙ h in
+          put_step es name p u some.0 some.1 ∙ ap dir (ap (λ t. replace name t es) (put-at p some.0 u below) ∙ replace-self name some.0 es some.1)
+    ]
+
+-- what is put is found
+pub at-put : (p : List (List ℕ)) (t x u : Tree) → at t p ≡ Ok u → at (put t p x) p ≡ Ok x
+unfolding put at
+at-put [] t x u h = refl
+at-put (name ∷ p) (file bytes) x u h = at_in_file bytes name p u h
+at-put (name ∷ p) (dir es) x u h =
+    elim (cases_option (find name es)) [
+      | inl none ↦ at_none es name p u none h
+      | inr some ↦
+          let below = sym (at_step es name p some.0 some.1) ∙ h in
+          ap (λ t. at t (name ∷ p)) (put_step es name p x some.0 some.1)
+          ∙ at_step (replace name (put some.0 p x) es) name p (put some.0 p x) (find-replace name (put some.0 p x) some.0 es some.1)
+          ∙ at-put p some.0 x u below
+    ]
+
+-- what stands at the path is taken out for another, and something is put back
+pub exchanged : (p : List (List ℕ)) (t u x y t' t'' : Tree) → at t p ≡ Ok u → t' ≡ put t p x → t'' ≡ put t' p y → t'' ≡ put t p y
+exchanged p t u x y t' t'' h e f = f ∙ ap (λ s. put s p y) e ∙ put-put p t x y u h
