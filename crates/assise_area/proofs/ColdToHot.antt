@@ -2,16 +2,14 @@
 use Rattle.std.proofs.Common.{◌≡◌, ◌≤◌, ◌<◌, ◌-◌, ℕ, zero, suc, Bool, true, false, cond, [], ◌∷◌, ◌++◌, length, take, Option, Some, None, IsSome, refl, sym, ap, subst, ◌∙◌, eqb, nat_eq, is_some, arith, option_to_list, option_map}
 use Rattle.std.proofs.lemmas.Bool.{eqb-true, eq-eqb}
 use Rattle.std.specs.Option.{option_or, option_map_or}
-use Rattle.std.specs.Ordering.{nat_cmp}
 use Rattle.std.specs.List.{AllByRecursion, IsDistinct, slice_get}
 use Rattle.std.specs.Map.{lookup_entry, keys_of, remove_entry}
-use Rattle.std.specs.BTreeMap.{is_at}
 use Rattle.lru.specs.LruCache.{LruCache, IsValid}
 use Rattle.assise_inode_table.specs.Contents.{Content}
 use Rattle.assise_area.specs.Parts.{Entries, AreDisjoint, HoldSame, IsPushed, IsWarmed, value_in, hot_at, cold_at}
 use Rattle.assise_area.proofs.Seen.{turned, some≢none}
 use Rattle.assise_area.proofs.HotUse.{found}
-use Rattle.assise_area.proofs.WrittenValues.{cold-written, disjoint_at}
+use Rattle.assise_area.proofs.WrittenValues.{disjoint_at}
 
 -- ---- lists
 
@@ -77,7 +75,7 @@ keys_pushed hot hot' cold i p = ap keys_of p.entries ∙ ap (λ ks. i ∷ ks) (s
 
 module _ (i : ℕ) (hot hot' : LruCache ℕ Content) (cold cold' : Entries) (valid : IsValid nat_eq hot) (disjoint : AreDisjoint hot.entries cold) (absent : hot_at hot.entries i ≡ None)
     (room : slice_get hot.entries (hot.cap - 1) ≡ None) (pushed : IsPushed i hot hot' cold)
-    (taken : (q : ℕ) → cold_at cold' q ≡ cond (is_at (nat_cmp i) q) None (cold_at cold q)) where
+    (taken : (q : ℕ) → cold_at cold' q ≡ cond (nat_eq i q) None (cold_at cold q)) where
   room_prefix : (q : ℕ) → hot_at hot.entries q ≡ hot_at (take (hot.cap - 1) hot.entries) q
   room_prefix q = hot_split hot.entries hot.cap q valid.1 valid.2 ∙ ap (λ o. option_or (hot_at (take (hot.cap - 1) hot.entries) q) (hot_at (option_to_list o) q)) room ∙ or_none (hot_at (take (hot.cap - 1) hot.entries) q)
 
@@ -85,7 +83,7 @@ module _ (i : ℕ) (hot hot' : LruCache ℕ Content) (cold cold' : Entries) (val
   room_hot q = ap (λ es. hot_at es q) pushed.entries ∙ ap (cond (eqb q i) (Some pushed.content)) (sym (room_prefix q))
 
   room_cold : (q : ℕ) → cold_at cold' q ≡ cond (eqb q i) None (cold_at cold q)
-  room_cold q = cold-written cold cold' i None taken q ∙ ap (λ b. cond b None (cold_at cold q)) (turned i q)
+  room_cold q = taken q ∙ ap (λ b. cond b None (cold_at cold q)) (turned i q)
 
   room_same : HoldSame hot.entries cold hot'.entries cold'
   room_same q = ap (λ o. option_or o (cold_at cold' q)) (room_hot q) ∙ ap (option_or (cond (eqb q i) (Some pushed.content) (hot_at hot.entries q))) (room_cold q) ∙ go (eqb q i) refl
@@ -127,11 +125,11 @@ module _ (hot : LruCache ℕ Content) (e : ℕ × Content) (valid : IsValid nat_
 -- the place that was made for it is there
 pub place_there : (hot : LruCache ℕ Content) (cold c1 c2 : Entries) (i last : ℕ) (e : ℕ × Content) (w : Content) → IsValid nat_eq hot → hot_at hot.entries i ≡ None
     → slice_get hot.entries (hot.cap - 1) ≡ Some e → last ≡ e.0
-    → ((q : ℕ) → cold_at c1 q ≡ cond (is_at (nat_cmp last) q) (Some w) (cold_at cold q)) → ((q : ℕ) → cold_at c2 q ≡ cond (is_at (nat_cmp i) q) None (cold_at c1 q))
+    → ((q : ℕ) → cold_at c1 q ≡ cond (nat_eq last q) (Some w) (cold_at cold q)) → ((q : ℕ) → cold_at c2 q ≡ cond (nat_eq i q) None (cold_at c1 q))
     → IsSome (cold_at c2 e.0)
 place_there hot cold c1 c2 i last e w valid absent is_last key first second =
-    ap is_some (cold-written c1 c2 i None second e.0 ∙ ap (λ b. cond b None (cold_at c1 e.0)) (turned i e.0 ∙ not_last hot e valid is_last i absent)
-    ∙ cold-written cold c1 last (Some w) first e.0 ∙ ap (λ b. cond b (Some w) (cold_at cold e.0)) (eq-eqb last e.0 key))
+    ap is_some (second e.0 ∙ ap (λ b. cond b None (cold_at c1 e.0)) (turned i e.0 ∙ not_last hot e valid is_last i absent)
+    ∙ first e.0 ∙ ap (λ b. cond b (Some w) (cold_at cold e.0)) (eq-eqb last e.0 key))
 
 -- the last one, of which the number is known
 pub with_last : {P : Type 0} (o : Option (ℕ × Content)) (last : ℕ) → Some last ≡ option_map (λ e. e.0) o → ((e : ℕ × Content) → o ≡ Some e → last ≡ e.0 → P) → P
@@ -148,10 +146,10 @@ last_key o last e h is = let both : Some last ≡ Some e.0 = h ∙ ap (option_ma
 -- the place that was made for it is let go
 pub undone : (hot : LruCache ℕ Content) (cold c1 c2 c3 : Entries) (last : ℕ) (e : ℕ × Content) (w : Content) → IsValid nat_eq hot → AreDisjoint hot.entries cold
     → slice_get hot.entries (hot.cap - 1) ≡ Some e → last ≡ e.0
-    → ((q : ℕ) → cold_at c1 q ≡ cond (is_at (nat_cmp last) q) (Some w) (cold_at cold q)) → ((q : ℕ) → cold_at c2 q ≡ cold_at c1 q)
-    → ((q : ℕ) → cold_at c3 q ≡ cond (is_at (nat_cmp last) q) None (cold_at c2 q)) → (q : ℕ) → cold_at c3 q ≡ cold_at cold q
+    → ((q : ℕ) → cold_at c1 q ≡ cond (nat_eq last q) (Some w) (cold_at cold q)) → ((q : ℕ) → cold_at c2 q ≡ cold_at c1 q)
+    → ((q : ℕ) → cold_at c3 q ≡ cond (nat_eq last q) None (cold_at c2 q)) → (q : ℕ) → cold_at c3 q ≡ cold_at cold q
 undone hot cold c1 c2 c3 last e w valid disjoint is_last key first same third q =
-    cold-written c2 c3 last None third q ∙ ap (cond (eqb last q) None) (same q ∙ cold-written cold c1 last (Some w) first q) ∙ go (eqb last q) refl
+    third q ∙ ap (cond (eqb last q) None) (same q ∙ first q) ∙ go (eqb last q) refl
   where
     none : cold_at cold last ≡ None
     none = ap (cold_at cold) key ∙ disjoint_at hot.entries cold disjoint e.0 e.1 (last_is_hot hot e valid is_last)
@@ -164,14 +162,14 @@ undone hot cold c1 c2 c3 last e w valid disjoint is_last key first same third q 
 
 module _ (i last : ℕ) (e : ℕ × Content) (w : Content) (hot hot' : LruCache ℕ Content) (cold c1 c2 c3 : Entries) (valid : IsValid nat_eq hot) (disjoint : AreDisjoint hot.entries cold) (absent : hot_at hot.entries i ≡ None)
     (is_last : slice_get hot.entries (hot.cap - 1) ≡ Some e) (key : last ≡ e.0) (pushed : IsPushed i hot hot' c1)
-    (first : (q : ℕ) → cold_at c1 q ≡ cond (is_at (nat_cmp last) q) (Some w) (cold_at cold q))
-    (second : (q : ℕ) → cold_at c2 q ≡ cond (is_at (nat_cmp i) q) None (cold_at c1 q))
-    (third : (q : ℕ) → cold_at c3 q ≡ cond (is_at (nat_cmp e.0) q) (Some e.1) (cold_at c2 q)) where
+    (first : (q : ℕ) → cold_at c1 q ≡ cond (nat_eq last q) (Some w) (cold_at cold q))
+    (second : (q : ℕ) → cold_at c2 q ≡ cond (nat_eq i q) None (cold_at c1 q))
+    (third : (q : ℕ) → cold_at c3 q ≡ cond (nat_eq e.0 q) (Some e.1) (cold_at c2 q)) where
   place : (q : ℕ) → cold_at c1 q ≡ cond (eqb e.0 q) (Some w) (cold_at cold q)
-  place q = cold-written cold c1 last (Some w) first q ∙ ap (λ m. cond (eqb m q) (Some w) (cold_at cold q)) key
+  place q = first q ∙ ap (λ m. cond (eqb m q) (Some w) (cold_at cold q)) key
 
   after : (q : ℕ) → cold_at c3 q ≡ cond (eqb e.0 q) (Some e.1) (cond (eqb i q) None (cond (eqb e.0 q) (Some w) (cold_at cold q)))
-  after q = cold-written c2 c3 e.0 (Some e.1) third q ∙ ap (cond (eqb e.0 q) (Some e.1)) (cold-written c1 c2 i None second q ∙ ap (cond (eqb i q) None) (place q))
+  after q = third q ∙ ap (cond (eqb e.0 q) (Some e.1)) (second q ∙ ap (cond (eqb i q) None) (place q))
 
   was_there : cold_at cold i ≡ Some pushed.content
   was_there = sym (place i ∙ ap (λ b. cond b (Some w) (cold_at cold i)) (not_last hot e valid is_last i absent)) ∙ pushed.there

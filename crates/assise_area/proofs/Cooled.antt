@@ -4,16 +4,14 @@ use Rattle.std.proofs.lemmas.Bool.{eqb-true, eq-eqb}
 use Rattle.std.proofs.lemmas.List.{length-take-le, take-append-drop, take_more}
 use Rattle.std.proofs.lemmas.List.Folds.{list_any-append}
 use Rattle.std.specs.Option.{option_or}
-use Rattle.std.specs.Ordering.{nat_cmp}
 use Rattle.std.specs.List.{AllByRecursion, IsDistinct, list_any, slice_get}
 use Rattle.std.specs.Map.{keys_of}
-use Rattle.std.specs.BTreeMap.{is_at}
 use Rattle.lru.specs.LruCache.{LruCache, lru_cache}
 use Rattle.assise_inode_table.specs.Contents.{Content}
 use Rattle.assise_area.specs.Hot.{AreaValue, with_capacity}
 use Rattle.assise_area.specs.Parts.{Entries, AreDisjoint, AreWritten, HoldSame, IsCooled, both_parts, value_in, hot_at, cold_at, area_seen}
 use Rattle.assise_area.proofs.Seen.{turned, some≢none, from_some, same_joined, is_some-lookup}
-use Rattle.assise_area.proofs.WrittenValues.{cold-written, disjoint_at}
+use Rattle.assise_area.proofs.WrittenValues.{disjoint_at}
 use Rattle.assise_area.proofs.ColdToHot.{hot-append, keys_take}
 
 -- ---- places
@@ -26,11 +24,11 @@ one_more false false v x = refl
 
 -- another number is written
 pub written_next : (numbers : List ℕ) (k d : ℕ) (value : Option Content) (cold c1 c2 : Entries) → k < length numbers → AreWritten (take k numbers) value cold c1
-    → ((q : ℕ) → cold_at c2 q ≡ cond (is_at (nat_cmp (get_or numbers k d)) q) value (cold_at c1 q)) → AreWritten (take (k + 1) numbers) value cold c2
+    → ((q : ℕ) → cold_at c2 q ≡ cond (nat_eq (get_or numbers k d) q) value (cold_at c1 q)) → AreWritten (take (k + 1) numbers) value cold c2
 written_next numbers k d value cold c1 c2 within so_far step q =
     let n = get_or numbers k d in
     let among = ap (list_any (nat_eq q)) (take_more numbers k d within) ∙ list_any-append (nat_eq q) (take k numbers) (n ∷ []) in
-    cold-written c1 c2 n value step q ∙ ap (cond (eqb n q) value) (so_far q) ∙ ap (λ b. cond b value (cond (list_any (nat_eq q) (take k numbers)) value (cold_at cold q))) (turned n q)
+    step q ∙ ap (cond (eqb n q) value) (so_far q) ∙ ap (λ b. cond b value (cond (list_any (nat_eq q) (take k numbers)) value (cold_at cold q))) (turned n q)
     ∙ one_more (list_any (nat_eq q) (take k numbers)) (eqb q n) value (cold_at cold q) ∙ ap (λ b. cond b value (cold_at cold q)) (sym among)
 
 none_in_prefix : (p : ℕ → Bool) (k : ℕ) (ns : List ℕ) → list_any p ns ≡ false → list_any p (take k ns) ≡ false
@@ -131,9 +129,9 @@ module _ (n : ℕ) (old hot : Entries) (e : ℕ × Content) (some : 0 < n) (pref
 
   -- it is written there
   pub last_moved : (cold c1 c2 : Entries) → ((q : ℕ) → cold_at c1 q ≡ option_or (hot_at (drop n old) q) (cold_at cold q))
-      → ((q : ℕ) → cold_at c2 q ≡ cond (is_at (nat_cmp e.0) q) (Some e.1) (cold_at c1 q)) → (q : ℕ) → cold_at c2 q ≡ option_or (hot_at (drop (n - 1) old) q) (cold_at cold q)
+      → ((q : ℕ) → cold_at c2 q ≡ cond (nat_eq e.0 q) (Some e.1) (cold_at c1 q)) → (q : ℕ) → cold_at c2 q ≡ option_or (hot_at (drop (n - 1) old) q) (cold_at cold q)
   last_moved cold c1 c2 moved step q =
-      cold-written c1 c2 e.0 (Some e.1) step q ∙ ap (cond (eqb e.0 q) (Some e.1)) (moved q) ∙ ap (λ b. cond b (Some e.1) (option_or (hot_at (drop n old) q) (cold_at cold q))) (turned e.0 q)
+      step q ∙ ap (cond (eqb e.0 q) (Some e.1)) (moved q) ∙ ap (λ b. cond b (Some e.1) (option_or (hot_at (drop n old) q) (cold_at cold q))) (turned e.0 q)
       ∙ go (eqb q e.0) ∙ ap (λ l. option_or (hot_at l q) (cold_at cold q)) (sym behind_last)
     where
       go : (b : Bool) → cond b (Some e.1) (option_or (hot_at (drop n old) q) (cold_at cold q)) ≡ option_or (cond b (Some e.1) (hot_at (drop n old) q)) (cold_at cold q)

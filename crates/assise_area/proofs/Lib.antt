@@ -3,3 +3,4 @@ pub mod WrittenValues
 pub mod HotUse
 pub mod ColdToHot
 pub mod Cooled
+pub mod AllPut

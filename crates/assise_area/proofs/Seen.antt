@@ -25,8 +25,8 @@ tied Less e = cc
 tied Equal e = refl
 tied Greater e = cc
 
--- both parts compare numbers alike
-pub alike : (k q : ℕ) → is_at (nat_cmp k) q ≡ eqb k q
+-- both ways to compare numbers are alike
+alike : (k q : ℕ) → is_at (nat_cmp k) q ≡ eqb k q
 alike k q = go (is_at (nat_cmp k) q) (eqb k q) refl refl
   where
     go : (a b : Bool) → is_at (nat_cmp k) q ≡ a → eqb k q ≡ b → a ≡ b
@@ -58,7 +58,7 @@ nothing (Some x) e = absurd (true≢false (sym e))
 
 find-joined : (hot cold : Entries) (q : ℕ) → map.find nat_cmp q (hot ++ cold) ≡ value_in hot cold q
 find-joined [] [] q = refl
-find-joined [] (e ∷ cold) q = ap (cond (is_at (nat_cmp q) e.0) (Some e.1)) (find-joined [] cold q)
+find-joined [] (e ∷ cold) q = λ i. cond (alike q e.0 i) (Some e.1) (find-joined [] cold q i)
 find-joined (e ∷ hot) cold q = ap (λ b. cond b (Some e.1) (map.find nat_cmp q (hot ++ cold))) (alike q e.0) ∙ go (eqb q e.0) (find-joined hot cold q)
   where
     go : (b : Bool) → map.find nat_cmp q (hot ++ cold) ≡ value_in hot cold q → cond b (Some e.1) (map.find nat_cmp q (hot ++ cold)) ≡ option_or (cond b (Some e.1) (hot_at hot q)) (cold_at cold q)

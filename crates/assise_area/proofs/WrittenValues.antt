@@ -3,18 +3,16 @@ use Rattle.std.proofs.Common.{◌≡◌, ◌≤◌, ℕ, Bool, true, false, cond
 use Rattle.std.proofs.lemmas.Bool.{eqb-true}
 use Rattle.std.proofs.lemmas.Map.{lookup-set_value, lookup-remove_entry, keys-set_value}
 use Rattle.std.specs.Option.{option_or}
-use Rattle.std.specs.Ordering.{nat_cmp}
 use Rattle.std.specs.Cmp.{nat_eq_equiv}
 use Rattle.std.specs.List.{IsDistinct}
 use Rattle.std.specs.Map.{keys_of, set_value, remove_entry}
-use Rattle.std.specs.BTreeMap.{is_at}
 use Rattle.std.specs.FinMap as map
 use Rattle.lru.specs.LruCache.{LruCache, lru_cache}
 use Rattle.assise_inode_table.specs.Contents.{Content}
 use Rattle.assise_inode_table.specs.Effects.{with_value}
 use Rattle.assise_area.specs.Hot.{AreaValue, with_inodes, without_number, removed}
 use Rattle.assise_area.specs.Parts.{Entries, AreDisjoint, AreaInvariant, value_in, hot_at, cold_at, area_seen}
-use Rattle.assise_area.proofs.Seen.{alike, some≢none, from_some, with_value-joined}
+use Rattle.assise_area.proofs.Seen.{some≢none, from_some, with_value-joined}
 
 pub one_class : (k x y : ℕ) → nat_eq k x ≡ true → nat_eq k y ≡ nat_eq x y
 one_class k x y e = ap (λ j. nat_eq j y) (eqb-true k x e)
@@ -24,10 +22,6 @@ hot-set hot k w q there = lookup-set_value nat_eq_equiv (nat_eq k) (one_class k)
 
 pub hot-removed : (hot : Entries) (k q : ℕ) → IsDistinct nat_eq (keys_of hot) → hot_at (remove_entry (nat_eq k) hot) q ≡ cond (eqb k q) None (hot_at hot q)
 hot-removed hot k q d = lookup-remove_entry nat_eq_equiv (nat_eq k) (one_class k) q hot d
-
-pub cold-written : (cold cold' : Entries) (k : ℕ) (w : Option Content)
-    → ((q : ℕ) → cold_at cold' q ≡ cond (is_at (nat_cmp k) q) w (cold_at cold q)) → (q : ℕ) → cold_at cold' q ≡ cond (eqb k q) w (cold_at cold q)
-cold-written cold cold' k w updates q = updates q ∙ ap (λ b. cond b w (cold_at cold q)) (alike k q)
 
 -- ---- what both hold
 
@@ -45,8 +39,8 @@ set_hot hot cold k w there q = ap (λ o. option_or o (cold_at cold q)) (hot-set 
 
 -- a number that isn't hot gets another value, or none
 pub write_cold : (hot cold cold' : Entries) (k : ℕ) (w : Option Content) → hot_at hot k ≡ None
-    → ((q : ℕ) → cold_at cold' q ≡ cond (is_at (nat_cmp k) q) w (cold_at cold q)) → (q : ℕ) → value_in hot cold' q ≡ cond (eqb k q) w (value_in hot cold q)
-write_cold hot cold cold' k w none updates q = ap (option_or (hot_at hot q)) (cold-written cold cold' k w updates q) ∙ go (eqb k q) refl
+    → ((q : ℕ) → cold_at cold' q ≡ cond (nat_eq k q) w (cold_at cold q)) → (q : ℕ) → value_in hot cold' q ≡ cond (eqb k q) w (value_in hot cold q)
+write_cold hot cold cold' k w none updates q = ap (option_or (hot_at hot q)) (updates q) ∙ go (eqb k q) refl
   where
     go : (b : Bool) → eqb k q ≡ b → option_or (hot_at hot q) (cond b w (cold_at cold q)) ≡ cond b w (value_in hot cold q)
     go true e = ap (λ o. option_or o w) (ap (hot_at hot) (sym (eqb-true k q e)) ∙ none)
@@ -72,9 +66,9 @@ disjoint_set hot cold k w there disjoint q v is = go (eqb k q) refl
     go false e = disjoint_at hot cold disjoint q v (ap (λ b. cond b (Some w) (hot_at hot q)) (sym e) ∙ sym (hot-set hot k w q there) ∙ is)
 
 pub disjoint_write : (hot cold cold' : Entries) (k : ℕ) (w : Option Content) → hot_at hot k ≡ None
-    → ((q : ℕ) → cold_at cold' q ≡ cond (is_at (nat_cmp k) q) w (cold_at cold q)) → AreDisjoint hot cold → AreDisjoint hot cold'
+    → ((q : ℕ) → cold_at cold' q ≡ cond (nat_eq k q) w (cold_at cold q)) → AreDisjoint hot cold → AreDisjoint hot cold'
 unfolding AreDisjoint
-disjoint_write hot cold cold' k w none updates disjoint q v is = cold-written cold cold' k w updates q ∙ go (eqb k q) refl
+disjoint_write hot cold cold' k w none updates disjoint q v is = updates q ∙ go (eqb k q) refl
   where
     go : (b : Bool) → eqb k q ≡ b → cond b w (cold_at cold q) ≡ None
     go true e = absurd (some≢none v (sym is ∙ ap (hot_at hot) (sym (eqb-true k q e)) ∙ none))
@@ -130,7 +124,7 @@ seen_set a hot cold k w view there =
 
 -- a number that isn't hot has another value, or none
 pub seen_cold : (a : AreaValue) (hot : LruCache ℕ Content) (cold cold' : Entries) (k : ℕ) (w : Option Content) → area_seen hot cold ≡ a → hot_at hot.entries k ≡ None
-    → ((q : ℕ) → cold_at cold' q ≡ cond (is_at (nat_cmp k) q) w (cold_at cold q)) → area_seen hot cold' ≡ with_inodes a (with_value a.inodes k w)
+    → ((q : ℕ) → cold_at cold' q ≡ cond (nat_eq k q) w (cold_at cold q)) → area_seen hot cold' ≡ with_inodes a (with_value a.inodes k w)
 seen_cold a hot cold cold' k w view none updates = seen_written a hot hot cold cold' k w view refl refl (write_cold hot.entries cold cold' k w none updates)
 
 -- an inode is taken out
@@ -149,7 +143,7 @@ seen_out_of_hot a hot hot' cold k view left d disjoint there =
     seen_out a hot hot' cold cold k view left (λ q. ap (λ h. value_in h.entries cold q) left ∙ remove_hot hot.entries cold k d disjoint there q)
 
 pub seen_out_of_cold : (a : AreaValue) (hot hot' : LruCache ℕ Content) (cold cold' : Entries) (k : ℕ) → area_seen hot cold ≡ a → hot' ≡ lru_cache (remove_entry (nat_eq k) hot.entries) hot.cap
-    → hot_at hot.entries k ≡ None → ((q : ℕ) → cold_at cold' q ≡ cond (is_at (nat_cmp k) q) None (cold_at cold q)) → area_seen hot' cold' ≡ removed a k
+    → hot_at hot.entries k ≡ None → ((q : ℕ) → cold_at cold' q ≡ cond (nat_eq k q) None (cold_at cold q)) → area_seen hot' cold' ≡ removed a k
 seen_out_of_cold a hot hot' cold cold' k view left none updates =
     seen_out a hot hot' cold cold' k view left (λ q.
     ap (λ h. value_in h.entries cold' q) left ∙ ap (λ es. value_in es cold' q) (removed_none k hot.entries none) ∙ write_cold hot.entries cold cold' k None none updates q)
@@ -167,7 +161,7 @@ pub sound_set : (hot : LruCache ℕ Content) (cold : Entries) (k : ℕ) (w : Con
 sound_set hot cold k w there s = record { disjoint = disjoint_set hot.entries cold k w there s.disjoint; most = s.most }
 
 pub sound_cold : (hot : LruCache ℕ Content) (cold cold' : Entries) (k : ℕ) (w : Option Content) → hot_at hot.entries k ≡ None
-    → ((q : ℕ) → cold_at cold' q ≡ cond (is_at (nat_cmp k) q) w (cold_at cold q)) → AreaInvariant hot cold → AreaInvariant hot cold'
+    → ((q : ℕ) → cold_at cold' q ≡ cond (nat_eq k q) w (cold_at cold q)) → AreaInvariant hot cold → AreaInvariant hot cold'
 sound_cold hot cold cold' k w none updates s = record { disjoint = disjoint_write hot.entries cold cold' k w none updates s.disjoint; most = s.most }
 
 pub sound_out_of_hot : (hot hot' : LruCache ℕ Content) (cold : Entries) (k : ℕ) → hot' ≡ lru_cache (remove_entry (nat_eq k) hot.entries) hot.cap
@@ -175,7 +169,7 @@ pub sound_out_of_hot : (hot hot' : LruCache ℕ Content) (cold : Entries) (k : �
 sound_out_of_hot hot hot' cold k left d s = subst (λ h. AreaInvariant h cold) (sym left) (record { disjoint = disjoint_remove hot.entries cold k d s.disjoint; most = s.most })
 
 pub sound_out_of_cold : (hot hot' : LruCache ℕ Content) (cold cold' : Entries) (k : ℕ) → hot' ≡ lru_cache (remove_entry (nat_eq k) hot.entries) hot.cap
-    → hot_at hot.entries k ≡ None → ((q : ℕ) → cold_at cold' q ≡ cond (is_at (nat_cmp k) q) None (cold_at cold q)) → AreaInvariant hot cold → AreaInvariant hot' cold'
+    → hot_at hot.entries k ≡ None → ((q : ℕ) → cold_at cold' q ≡ cond (nat_eq k q) None (cold_at cold q)) → AreaInvariant hot cold → AreaInvariant hot' cold'
 sound_out_of_cold hot hot' cold cold' k left none updates s =
     subst (λ h. AreaInvariant h cold') (sym (left ∙ ap (λ es. lru_cache es hot.cap) (removed_none k hot.entries none)))
     (record { disjoint = disjoint_write hot.entries cold cold' k None none updates s.disjoint; most = s.most })

@@ -2,10 +2,8 @@
 -- Assise, OSDI 2020, section 3: hot and cold shared areas; the textbooks' finite maps.
 use Rattle.std.specs.Prelude.{◌≡◌, ℕ, ◌-◌, ◌≤◌, List, ◌∷◌, ◌++◌, take, Option, Some, None, cond, nat_eq}
 use Rattle.std.specs.Option.{option_or}
-use Rattle.std.specs.Ordering.{nat_cmp}
 use Rattle.std.specs.List.{list_any}
 use Rattle.std.specs.Map.{lookup, keys_of}
-use Rattle.std.specs.BTreeMap.{is_at}
 use Rattle.std.specs.FinMap as map
 use Rattle.lru.specs.LruCache.{LruCache, lru_cache}
 use Rattle.assise_inode_table.specs.Contents.{Content, InodeMap}
@@ -19,7 +17,7 @@ abbrev pub hot_at : Entries → ℕ → Option Content
 hot_at hot q = lookup (nat_eq q) hot
 
 abbrev pub cold_at : Entries → ℕ → Option Content
-cold_at cold q = lookup (is_at (nat_cmp q)) cold
+cold_at cold q = lookup (nat_eq q) cold
 
 -- what both have, the hot part first
 abbrev pub value_in : Entries → Entries → ℕ → Option Content

@@ -1,7 +1,8 @@
 // The inodes of a node: the recently used ones in a hot part, the others in a cold one.
-ghost use Rattle.std.specs.Prelude.{◌≡◌, ◌≤◌, ◌<◌, IfOk, IsOk, IsOkUnless, None, OnErr, OnOk, length, nat_eq, option_copied, option_map};
+ghost use Rattle.std.specs.Prelude.{◌≡◌, ◌≤◌, ◌<◌, ℕ, IfOk, IsOk, IsOkUnless, None, OnErr, OnOk, length, nat_eq, option_copied, option_map};
 ghost use Rattle.std.specs.FinMap as map;
 ghost use Rattle.std.specs.List.{IsDistinct};
+ghost use Rattle.std.specs.Option.{option_or};
 ghost use Rattle.assise_area.specs.Hot.{IsTouched, after_effect, is_hot, removed, with_capacity, with_inodes, without_inodes};
 ghost use Rattle.assise_inode_table.specs.Effects.{AsksForMemory, TakesAway, all_applied, changed, with_value};
 ghost use Rattle.assise_inode_table.specs.Whole.{CanBeMadeWhole, OnlyTakeAway};
@@ -11,15 +12,17 @@ ghost use Rattle.assise_record.specs.Touched.{touched_by};
 use crate::cooling::cool;
 use crate::moves::warm;
 use crate::parts::{change_cold, hot_places, see_order};
+use crate::settled::put_all_reserved;
 use assise_inode_table::inode::Inode;
 use assise_inode_table::inodes::Inodes;
 use assise_inode_table::store::InodeStore;
+use assise_inode_table::table::InodeTable;
 use assise_inode_table::whole::apply_all;
 use assise_names::refusal::Refusal;
 use assise_record::effect::Effect;
+use indexmap::IndexMap;
 use lru::LruCache;
 use std::alloc::Global;
-use std::collections::BTreeMap;
 use std::marker::Model;
 use std::mem;
 
@@ -28,12 +31,12 @@ pub const MOST_HOT: usize = 4096;
 
 /// The inodes of a node, each of them in the hot part or in the cold one. What was used last is hot (Assise, OSDI 2020,
 /// section 3). A contract sees all inodes as one finite map, the numbers of the hot ones by their last use, the most
-/// recent first, and how many may be hot.
+/// recent first, and how many may be hot. A look-up costs the same on average, however many inodes there are.
 #[derive(Drop)]
 pub struct Area {
     alloc: Global,
     hot: LruCache<u64, Inode>,
-    cold: BTreeMap<u64, Inode>,
+    cold: IndexMap<u64, Inode>,
 }
 
 impl Model for Area {
@@ -66,7 +69,7 @@ impl Area {
         Ok(Area {
             alloc,
             hot,
-            cold: BTreeMap::new(alloc),
+            cold: IndexMap::new(alloc),
         })
     }
 
@@ -165,6 +168,25 @@ impl Area {
         Ok(Some(mem::replace(held, content)))
     }
 
+    /// Moves all inodes of a table in, or none: each stands in place of what its number had. What was hot is hot as before,
+    /// and a new inode is cold. The one refusal is [`Refusal::OutOfMemory`], where there is an inode to move: it leaves the
+    /// area and the table as they were.
+    pub fn put_all(&mut self, inodes: &mut InodeTable) -> Result<(), Refusal>
+        ensures values { OnOk result ((i : ℕ) → map.get self.new.inodes i ≡ option_or
+            (map.get inodes.old i) (map.get self.old.inodes i)) }
+        ensures moved { OnOk result (inodes.new ≡ map.empty) }
+        ensures hot { self.new.hot ≡ self.old.hot }
+        ensures capacity { self.new.capacity ≡ self.old.capacity }
+        ensures err { OnErr result (self.new ≡ self.old) }
+        ensures kept { OnErr result (inodes.new ≡ inodes.old) }
+        ensures asked { OnErr result (0 < map.len inodes.old) }
+        ensures only_memory { IsOkUnless result OutOfMemory }
+    {
+        self.cold.reserve(inodes.len())?;
+        put_all_reserved(&mut self.hot, &mut self.cold, inodes);
+        Ok(())
+    }
+
     /// Takes the inode of a number out, if it is there.
     pub fn remove(&mut self, inode: u64) -> Option<Inode>
         ensures removed { result ≡ map.get self.old.inodes inode }
@@ -173,7 +195,7 @@ impl Area {
         see_order(&self.hot);
         match self.hot.pop(&inode) {
             Some(content) => Some(content),
-            None => self.cold.remove(&inode),
+            None => self.cold.swap_remove(&inode),
         }
     }
 

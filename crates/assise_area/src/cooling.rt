@@ -11,16 +11,16 @@ ghost use Rattle.lru.specs.LruCache.{lru_cache};
 use crate::parts::overwrite;
 use assise_inode_table::inode::Inode;
 use assise_names::refusal::Refusal;
+use indexmap::IndexMap;
 use lru::LruCache;
 use std::alloc::{AllocError, Global};
-use std::collections::BTreeMap;
 
 /// Makes the longest unused hot inodes cold, so that no more than `most` are hot. Places for all of them are made among
 /// the cold ones first. Where memory runs out nothing moves, and where no more are hot none is asked for.
 pub(crate) fn cool(
     alloc: Global,
     hot: &mut LruCache<u64, Inode>,
-    cold: &mut BTreeMap<u64, Inode>,
+    cold: &mut IndexMap<u64, Inode>,
     most: usize,
 ) -> Result<(), Refusal>
     requires disjoint { AreDisjoint hot.old.entries cold.old.entries }
@@ -59,7 +59,7 @@ fn numbers_beyond(
 /// runs out, no place is left.
 fn make_places(
     alloc: Global,
-    cold: &mut BTreeMap<u64, Inode>,
+    cold: &mut IndexMap<u64, Inode>,
     numbers: &[u64],
 ) -> Result<(), Refusal>
     requires absent { (q : ℕ) → list_any (nat_eq q) numbers.now ≡ true →
@@ -79,7 +79,7 @@ fn make_places(
 /// Makes a place for each of some numbers, as far as there is memory.
 fn put_places(
     alloc: Global,
-    cold: &mut BTreeMap<u64, Inode>,
+    cold: &mut IndexMap<u64, Inode>,
     numbers: &[u64],
 ) -> Result<(), Refusal>
     ensures ok { OnOk result (AreWritten numbers.now
@@ -95,16 +95,16 @@ fn put_places(
 }
 
 /// Takes the places of some numbers out, as many as there are.
-fn take_places(cold: &mut BTreeMap<u64, Inode>, numbers: &[u64])
+fn take_places(cold: &mut IndexMap<u64, Inode>, numbers: &[u64])
     ensures { AreWritten numbers.now None cold.old.entries cold.new.entries }
 {
     for number in numbers {
-        cold.remove(number);
+        cold.swap_remove(number);
     }
 }
 
 /// Moves the hot inodes behind the first ones into their places among the cold ones. It takes no memory.
-fn move_beyond(hot: &mut LruCache<u64, Inode>, cold: &mut BTreeMap<u64, Inode>, first: usize)
+fn move_beyond(hot: &mut LruCache<u64, Inode>, cold: &mut IndexMap<u64, Inode>, first: usize)
     requires places { (q : ℕ) → IsSome (hot_at (drop first hot.old.entries) q) →
         IsSome (cold_at cold.old.entries q) }
     ensures left { hot.new ≡ lru_cache (take first hot.old.entries) hot.old.cap }

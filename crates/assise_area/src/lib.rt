@@ -5,3 +5,4 @@ pub mod area;
 mod cooling;
 mod moves;
 mod parts;
+mod settled;

@@ -1,7 +1,5 @@
 // Inodes that move between the hot part and the cold one.
 ghost use Rattle.std.specs.Prelude.{◌≡◌, ◌-◌, ℕ, IfOk, IsOkUnless, IsSome, None, OnErr, OnOk, Some, cond, nat_eq, option_map, slice_get};
-ghost use Rattle.std.specs.BTreeMap.{is_at};
-ghost use Rattle.std.specs.Ordering.{nat_cmp};
 ghost use Rattle.assise_area.specs.Parts.{AreDisjoint, IsPushed, IsWarmed, cold_at, hot_at};
 ghost use Rattle.assise_names.specs.declared.refusal.Refusal.TheVariants.{OutOfMemory};
 ghost use Rattle.lru.specs.LruCache.{IsValid};
@@ -9,9 +7,9 @@ ghost use Rattle.lru.specs.LruCache.{IsValid};
 use crate::parts::overwrite;
 use assise_inode_table::inode::Inode;
 use assise_names::refusal::Refusal;
+use indexmap::IndexMap;
 use lru::LruCache;
 use std::alloc::Global;
-use std::collections::BTreeMap;
 use std::mem;
 
 /// The inode that cools once another one gets hot: at the capacity the one that is longest unused.
@@ -33,7 +31,7 @@ fn leaving(hot: &LruCache<u64, Inode>) -> Option<u64>
 fn push_hot(
     alloc: Global,
     hot: &mut LruCache<u64, Inode>,
-    cold: &mut BTreeMap<u64, Inode>,
+    cold: &mut IndexMap<u64, Inode>,
     inode: u64,
 ) -> Result<Option<(u64, Inode)>, Refusal>
     requires absent { hot_at hot.old.entries inode ≡ None }
@@ -41,7 +39,7 @@ fn push_hot(
     ensures left { IfOk result (λ left. left ≡ slice_get hot.old.entries (hot.old.cap - 1)) }
     ensures pushed { OnOk result (IsPushed inode hot.old hot.new cold.old.entries) }
     ensures taken { OnOk result ((q : ℕ) → cold_at cold.new.entries q ≡ cond
-        (is_at (nat_cmp inode) q) None (cold_at cold.old.entries q)) }
+        (nat_eq inode q) None (cold_at cold.old.entries q)) }
     ensures err { OnErr result (hot.new ≡ hot.old) }
     ensures err_cold { OnErr result ((q : ℕ) →
         cold_at cold.new.entries q ≡ cold_at cold.old.entries q) }
@@ -53,7 +51,7 @@ fn push_hot(
     let content = mem::replace(slot, Inode::new_file(alloc));
     match hot.push(inode, content) {
         Ok(left) => {
-            cold.remove(&inode);
+            cold.swap_remove(&inode);
             Ok(left)
         }
         Err(failed) => {
@@ -68,7 +66,7 @@ fn push_hot(
 fn trade(
     alloc: Global,
     hot: &mut LruCache<u64, Inode>,
-    cold: &mut BTreeMap<u64, Inode>,
+    cold: &mut IndexMap<u64, Inode>,
     last: u64,
     inode: u64,
 ) -> Result<(), Refusal>
@@ -92,7 +90,7 @@ fn trade(
             Ok(())
         }
         Err(refusal) => {
-            cold.remove(&last);
+            cold.swap_remove(&last);
             Err(refusal)
         }
     }
@@ -103,7 +101,7 @@ fn trade(
 pub(crate) fn warm(
     alloc: Global,
     hot: &mut LruCache<u64, Inode>,
-    cold: &mut BTreeMap<u64, Inode>,
+    cold: &mut IndexMap<u64, Inode>,
     inode: u64,
 ) -> Result<(), Refusal>
     requires disjoint { AreDisjoint hot.old.entries cold.old.entries }

@@ -1,8 +1,6 @@
 // What is done to one of the two parts.
 ghost use Rattle.std.specs.Prelude.{◌≡◌, ◌≤◌, ℕ, IsOk, IsOkUnless, IsSome, OnErr, OnOk, Some, cond, nat_eq, option_map};
-ghost use Rattle.std.specs.BTreeMap.{is_at};
 ghost use Rattle.std.specs.NonZero.{non_zero_usize_get};
-ghost use Rattle.std.specs.Ordering.{nat_cmp};
 ghost use Rattle.assise_area.specs.Parts.{cold_at};
 ghost use Rattle.assise_inode_table.specs.Effects.{AsksForMemory, TakesAway, changed};
 ghost use Rattle.assise_names.specs.declared.refusal.Refusal.TheVariants.{OutOfMemory};
@@ -12,15 +10,15 @@ ghost use Rattle.lru.specs.LruCache.{IsValid};
 use assise_inode_table::inode::Inode;
 use assise_names::refusal::Refusal;
 use assise_record::effect::Effect;
+use indexmap::IndexMap;
 use lru::LruCache;
-use std::collections::BTreeMap;
 use std::num::NonZeroUsize;
 
 /// Changes the cold inode that an effect touches, where there is one.
-pub(crate) fn change_cold(cold: &mut BTreeMap<u64, Inode>, effect: &Effect) -> Result<(), Refusal>
+pub(crate) fn change_cold(cold: &mut IndexMap<u64, Inode>, effect: &Effect) -> Result<(), Refusal>
     ensures taken_away { TakesAway effect.now → IsOk result }
     ensures ok { let inode = touched_by effect.now in let had = cold_at cold.old.entries inode in
-        OnOk result ((q : ℕ) → cold_at cold.new.entries q ≡ cond (is_at (nat_cmp inode) q)
+        OnOk result ((q : ℕ) → cold_at cold.new.entries q ≡ cond (nat_eq inode q)
         (option_map (λ content. changed content effect.now) had) (cold_at cold.old.entries q)) }
     ensures err { OnErr result (cold.new.entries ≡ cold.old.entries) }
     ensures asked { OnErr result (AsksForMemory effect.now
@@ -50,9 +48,9 @@ pub(crate) fn hot_places(capacity: usize) -> NonZeroUsize
 }
 
 /// Writes over a cold inode. It takes no memory.
-pub(crate) fn overwrite(cold: &mut BTreeMap<u64, Inode>, entry: (u64, Inode))
+pub(crate) fn overwrite(cold: &mut IndexMap<u64, Inode>, entry: (u64, Inode))
     requires there { IsSome (cold_at cold.old.entries entry.0) }
-    ensures { (q : ℕ) → cold_at cold.new.entries q ≡ cond (is_at (nat_cmp entry.0) q) (Some entry.1)
+    ensures { (q : ℕ) → cold_at cold.new.entries q ≡ cond (nat_eq entry.0 q) (Some entry.1)
         (cold_at cold.old.entries q) }
 {
     let (inode, content) = entry;

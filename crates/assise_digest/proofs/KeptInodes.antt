@@ -206,7 +206,7 @@ set_has l i n es has q among = subst IsSome (sym (get-set l i n q)) (go (i == q)
 -- ---- an effect of a list
 
 -- it is among those that are left
-pub left_after : {Y : Type 0} (F : List Effect → Y) (es : List Effect) (k : ℕ) (e : Effect) → k < length es → e ≡ slice_index_or es k e → F (e ∷ drop (k + 1) es) ≡ F (drop k es)
+pub left_after : {X Y : Type 0} (F : List X → Y) (es : List X) (k : ℕ) (e : X) → k < length es → e ≡ slice_index_or es k e → F (e ∷ drop (k + 1) es) ≡ F (drop k es)
 left_after F es k e h is = ap (λ x. F (x ∷ drop (k + 1) es)) is ∙ sym (at_drop_more F es k e h)
 
 -- the inode that it touches is touched by the list

@@ -1,5 +1,6 @@
 pub mod KeptInodes
 pub mod KeptStands
+pub mod MovedInodes
 pub mod ReceivedLogs
 pub mod RegroupedKept
 pub mod RegionLogs

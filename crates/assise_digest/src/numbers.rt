@@ -1,17 +1,19 @@
 // Numbers of records by inodes.
-ghost use Rattle.std.specs.Prelude.{◌≡◌, IsOkUnless, IsSome, None, OnErr, OnOk};
+ghost use Rattle.std.specs.Prelude.{◌≡◌, ◌&&◌, ℕ, IfOk, IsOkUnless, IsSome, None, OnErr, OnOk, is_some, nat_eq, not};
+ghost use Rattle.std.specs.List.{list_any};
 ghost use Rattle.std.specs.FinMap as map;
 ghost use Rattle.assise_names.specs.declared.refusal.Refusal.TheVariants.{OutOfMemory};
 
+use assise_inode_table::table::InodeTable;
 use assise_names::refusal::Refusal;
+use indexmap::IndexMap;
 use std::alloc::Global;
-use std::collections::BTreeMap;
 use std::marker::Model;
 
 /// The number of a record for each of some inodes. A contract sees the finite map.
 #[derive(Debug, Drop)]
 pub struct Numbers {
-    numbers: BTreeMap<u64, u64>,
+    numbers: IndexMap<u64, u64>,
 }
 
 impl Model for Numbers {
@@ -33,7 +35,7 @@ impl Numbers {
         ensures { result ≡ map.empty }
     {
         Numbers {
-            numbers: BTreeMap::new(alloc),
+            numbers: IndexMap::new(alloc),
         }
     }
 
@@ -67,10 +69,32 @@ impl Numbers {
         *known = number;
     }
 
+    /// The inodes that have a number, but none of these. The one refusal is [`Refusal::OutOfMemory`].
+    pub fn beyond(&self, alloc: Global, inodes: &InodeTable) -> Result<Vec<u64>, Refusal>
+        ensures which { IfOk result (λ beyond. (i : ℕ) → list_any (nat_eq i) beyond.items ≡
+            (is_some (map.get self.now i) && not (is_some (map.get inodes.now i)))) }
+        ensures only_memory { IsOkUnless result OutOfMemory }
+    {
+        let mut beyond = Vec::new(alloc);
+        for inode in self.numbers.keys() {
+            if inodes.get(*inode).is_none() {
+                beyond.push(*inode)?;
+            }
+        }
+        Ok(beyond)
+    }
+
+    /// Takes all numbers out. The memory stays.
+    pub fn clear(&mut self)
+        ensures { self.new ≡ map.empty }
+    {
+        self.numbers.clear();
+    }
+
     /// Takes the number of an inode out, if it has one.
     pub fn remove(&mut self, inode: u64)
         ensures { self.new ≡ map.remove self.old inode }
     {
-        self.numbers.remove(&inode);
+        self.numbers.swap_remove(&inode);
     }
 }

@@ -1,11 +1,12 @@
 // What a client's own records make, before they are digested.
-ghost use Rattle.std.specs.Prelude.{◌≡◌, ◌+◌, ◌<◌, ◌^◌, length, IfOk, IsOkUnless, OnErr, OnOk, None, is_some, option_copied, ℕ};
+ghost use Rattle.std.specs.Prelude.{◌≡◌, ◌+◌, ◌<◌, ◌^◌, length, IfOk, IsOkUnless, OnErr, OnOk, None, cond, is_some, nat_eq, option_copied, ℕ};
+ghost use Rattle.std.specs.List.{list_any};
 ghost use Rattle.assise_record.specs.Records.{all_effects};
 ghost use Rattle.std.specs.FinMap as map;
 ghost use Rattle.assise_inode_table.specs.Effects.{all_applied, with_value};
 ghost use Rattle.assise_inode_table.specs.Whole.{CanBeMadeWhole};
 ghost use Rattle.assise_names.specs.declared.refusal.Refusal.TheVariants.{OutOfMemory};
-ghost use Rattle.assise_digest.specs.Pending.{HasAllNumbers, IsNew, KeepsNoMore, all_held, forgotten, held, is_last, let_go, last_noted, noted_from, pending_seen, taken_in};
+ghost use Rattle.assise_digest.specs.Pending.{HasAllNumbers, IsNew, KeepsNoMore, all_held, forgotten, held, is_last, let_go, last_noted, noted_from, overlaid, pending_seen, taken_in};
 
 use crate::numbers::Numbers;
 use assise_area::area::Area;
@@ -158,6 +159,25 @@ impl Pending {
         }
     }
 
+    /// Moves all that is kept into the area, in place of what it has there: each inode with a value, or none. The one refusal
+    /// is [`Refusal::OutOfMemory`], and it leaves all as it was.
+    pub(crate) fn settle(&mut self, alloc: Global, area: &mut Area) -> Result<(), Refusal>
+        requires no_more { KeepsNoMore self.old }
+        ensures moved { OnOk result (area.new.inodes ≡ overlaid area.old.inodes self.old) }
+        ensures inodes { OnOk result (self.new.inodes ≡ map.empty) }
+        ensures last { OnOk result (self.new.last ≡ map.empty) }
+        ensures capacity { area.new.capacity ≡ area.old.capacity }
+        ensures err { OnErr result (self.new ≡ self.old) }
+        ensures err_area { OnErr result (area.new ≡ area.old) }
+        ensures only_memory { IsOkUnless result OutOfMemory }
+    {
+        let gone = self.last.beyond(alloc, &self.inodes)?;
+        area.put_all(&mut self.inodes)?;
+        remove_all(area, gone.as_slice());
+        self.last.clear();
+        Ok(())
+    }
+
     /// Lets the inode of an effect go, where the record of this number is the last that touches it.
     fn let_go(&mut self, number: u64, inode: u64)
         ensures { self.new ≡ let_go self.old number inode }
@@ -185,6 +205,17 @@ fn note(last: &mut Numbers, number: u64, effects: &[Effect])
 {
     for effect in effects {
         last.set(effect.touches(), number);
+    }
+}
+
+/// Takes the inodes of these numbers out of the area.
+fn remove_all(area: &mut Area, inodes: &[u64])
+    ensures gone { (i : ℕ) → map.get area.new.inodes i ≡
+        cond (list_any (nat_eq i) inodes.now) None (map.get area.old.inodes i) }
+    ensures capacity { area.new.capacity ≡ area.old.capacity }
+{
+    for inode in inodes {
+        area.remove(*inode);
     }
 }
 

@@ -6,7 +6,7 @@ ghost use Rattle.assise_inode_table.specs.Effects.{all_applied};
 ghost use Rattle.assise_inode_table.specs.Whole.{CanBeMadeWhole};
 ghost use Rattle.assise_names.specs.declared.refusal.Refusal.TheVariants.{LogFull, OutOfMemory};
 ghost use Rattle.assise_record.specs.Groups.{AllHaveEffects};
-ghost use Rattle.assise_private_log.specs.NumberedLog.{HasOpenGroup, IsNumberedLog, end, records_from};
+ghost use Rattle.assise_private_log.specs.NumberedLog.{HasOpenGroup, IsNumberedLog, end, is_border, records_from};
 ghost use Rattle.assise_digest.specs.Region.{AreWhole, IsBegun, IsNextGroup, ahead, ahead_below, digested_further, from_number, regrouped_from, next_effects, up_to_number, with_one};
 ghost use Rattle.assise_record.specs.declared.effect.Effect.{Effect as EffectValue};
 ghost use Rattle.assise_digest.specs.Pending.{HasAllNumbers, KeepsNoMore, Lays, forgotten, noted_from};
@@ -129,6 +129,42 @@ impl Received {
             self.count_digested();
             done += 1;
         }
+    }
+
+    /// Whether so many records are all that aren't digested of a client that lives here, and there are some.
+    pub(crate) fn are_all_ahead(&self, count: usize) -> bool
+        requires begun { IsBegun (seen_log self.now) }
+        ensures at_home { result ≡ true → is_some self.now.pending ≡ true }
+        ensures some { result ≡ true → 0 < count }
+        ensures all { result ≡ true → count ≡ length (ahead (seen_log self.now)) }
+        ensures border { result ≡ true →
+            is_border self.now.log (self.now.digested + count) ≡ true }
+    {
+        let _lawful = self.log.limit();
+        self.pending.is_some() && count > 0 && self.log.end() - self.digested == count as u64
+    }
+
+    /// Counts all records as digested, of a client that lives here: what they make moves into the area. The one refusal is
+    /// [`Refusal::OutOfMemory`], and it leaves all as it was.
+    pub(crate) fn settle(&mut self, alloc: Global, area: &mut Area) -> Result<(), Refusal>
+        requires at_home { is_some self.old.pending ≡ true }
+        requires sound { LogInvariant area.old.inodes self.old }
+        ensures moved { OnOk result (area.new.inodes ≡
+            all_applied area.old.inodes (all_effects (ahead (seen_log self.old)))) }
+        ensures capacity { area.new.capacity ≡ area.old.capacity }
+        ensures seen { OnOk result (seen_log self.new ≡
+            digested_further (seen_log self.old) (length (ahead (seen_log self.old)))) }
+        ensures sound { OnOk result (LogInvariant area.new.inodes self.new) }
+        ensures err { OnErr result (self.new ≡ self.old) }
+        ensures err_area { OnErr result (area.new ≡ area.old) }
+        ensures only_memory { IsOkUnless result OutOfMemory }
+    {
+        let Some(pending) = &mut self.pending else {
+            unreachable!()
+        };
+        pending.settle(alloc, area)?;
+        self.digested = self.log.end();
+        Ok(())
     }
 
     /// Equal effects of the next records, so many. The bytes of writes are shared.

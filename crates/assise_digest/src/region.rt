@@ -428,6 +428,10 @@ impl Region {
         ensures only_memory { IsOkUnless result OutOfMemory }
     {
         let most = self.count_ahead(client, acked).min(at_most);
+        if self.logs[client - 1].are_all_ahead(most) {
+            self.settle(client)?;
+            return Ok(most);
+        }
         let mut count = 0;
         while count < most {
             let group = self.next_group(client);
@@ -440,6 +444,21 @@ impl Region {
             count += group;
         }
         Ok(count)
+    }
+
+    /// Puts all records that aren't digested of a client that lives here into the inodes: what they make is kept beside its
+    /// log, and moves.
+    fn settle(&mut self, client: usize) -> Result<(), Refusal>
+        requires client { HasClient self.old client }
+        requires at_home { (log_of self.old client).at_home ≡ true }
+        requires disjoint { TouchDisjoint self.old }
+        ensures ok { OnOk result (self.new ≡
+            digested_by self.old client (length (ahead (log_of self.old client)))) }
+        ensures err { OnErr result (self.new ≡ self.old) }
+        ensures only_memory { IsOkUnless result OutOfMemory }
+    {
+        let alloc = self.area.allocator();
+        self.logs[client - 1].settle(alloc, &mut self.area)
     }
 
     /// How many records the next group of a client has that isn't digested, or what is left of it.

@@ -13,12 +13,20 @@ struct Case {
     refused: &'static str,
 }
 
-/// Three records become a group, which is digested.
+/// Three records of a client that lives here become a group, which is digested.
 static DIGESTED: Case = Case {
     before: "append 1 create 0 f 10, append 1 write 10 0 ab, append 1 rename 0 f 0 g 10, coalesce 1 0",
     steps: "digest 1 9 9, log 1, peek 0, peek 10, read 1 0, read 1 10",
     done: " 3; 0..3..3 home; dir 1 g:10; file 2 ab; dir 1 g:10; file 2 ab;",
     refused: " F1 OutOfMemory; 0..0..3 home; dir 0; none; dir 1 g:10; file 2 ab;",
+};
+
+/// The same of a client that lives elsewhere.
+static DIGESTED_ELSEWHERE: Case = Case {
+    before: "append 2 create 0 f 20, append 2 write 20 0 ab, append 2 rename 0 f 0 g 20, coalesce 2 0",
+    steps: "digest 2 9 9, log 2, peek 0, peek 20",
+    done: " 3; 0..3..3 away; dir 1 g:20; file 2 ab;",
+    refused: " F1 OutOfMemory; 0..0..3 away; dir 0; none;",
 };
 
 /// Two records become a group, of which one is left.
@@ -52,6 +60,7 @@ fn answer(alloc: Global, region: &mut Region, case: &Case) -> Option<String> {
 #[test]
 fn a_group_is_digested_whole_or_not_at_all(rt: HostRuntime) {
     see(rt.alloc(), &rt, &DIGESTED);
+    see(rt.alloc(), &rt, &DIGESTED_ELSEWHERE);
 }
 
 #[test]

@@ -1,5 +1,5 @@
 -- A map of inodes, of which an effect changes one.
-use Rattle.std.proofs.Common.{◌≡◌, ℕ, List, Option, Some, None, IsSome, Result, Ok, Err, OnErr, option_map, cond, true, false, Bool, refl, sym, ap, subst, ◌∙◌}
+use Rattle.std.proofs.Common.{◌≡◌, ℕ, List, Option, Some, None, IsSome, Result, Ok, Err, OnErr, option_map, cond, true, false, Bool, nat_eq, refl, sym, ap, subst, ◌∙◌}
 use Rattle.std.specs.Ordering.{nat_cmp, is_eq}
 use Rattle.std.specs.Cmp.{nat_cmp_total}
 use Rattle.std.specs.Map.{lookup}
@@ -13,7 +13,7 @@ use Rattle.assise_record.specs.declared.effect.Effect.TheVariants.{NewFile, NewD
 use Rattle.assise_record.specs.Touched.{touched_by}
 use Rattle.assise_inode_table.specs.Contents.{Content, InodeMap}
 use Rattle.assise_inode_table.specs.Effects.{changed, with_value, applied}
-use Rattle.assise_inode_table.proofs.MapView.{get-view, insert-view}
+use Rattle.assise_inode_table.proofs.MapView.{get-numbers, insert-numbers}
 
 tied : (o : Ordering) → is_eq o ≡ true → o ≡ Equal
 tied Less e = cc
@@ -22,8 +22,8 @@ tied Greater e = cc
 
 -- what a look-up in the table found is what the map has
 pub value_at : (m : InodeMap) (es : List (ℕ × Content)) (i k : ℕ) (found : Option Content)
-    → map.from_entries es ≡ m → k ≡ i → found ≡ lookup (is_at (nat_cmp k)) es → map.get m i ≡ found
-value_at m es i k found view key is = ap (λ n. map.get n i) (sym view) ∙ ap (map.get (map.from_entries {R = nat_cmp} es)) (sym key) ∙ get-view nat_cmp_total es k ∙ sym is
+    → map.from_entries es ≡ m → k ≡ i → found ≡ lookup (nat_eq k) es → map.get m i ≡ found
+value_at m es i k found view key is = ap (λ n. map.get n i) (sym view) ∙ ap (map.get (map.from_entries {R = nat_cmp} es)) (sym key) ∙ get-numbers es k ∙ sym is
 
 pub is_there : {X : Type 0} (x : X) (o : Option X) → Some x ≡ o → IsSome o
 is_there x o e = subst IsSome e refl
@@ -41,7 +41,7 @@ with_change m e old = with_value m (touched_by e) (option_map (λ content. chang
 
 -- there is no such inode
 pub change_none : (m : InodeMap) (es : List (ℕ × Content)) (e : Effect) (k : ℕ)
-    → map.from_entries es ≡ m → k ≡ touched_by e → None ≡ lookup (is_at (nat_cmp k)) es
+    → map.from_entries es ≡ m → k ≡ touched_by e → None ≡ lookup (nat_eq k) es
     → map.from_entries es ≡ with_change m e (map.get m (touched_by e))
 change_none m es e k view key is =
     let absent = value_at m es (touched_by e) k None view key is in
@@ -49,11 +49,11 @@ change_none m es e k view key is =
 
 -- the inode that is there was changed in its place
 pub change_some : (m : InodeMap) (es fs : List (ℕ × Content)) (e : Effect) (k : ℕ) (old new : Content)
-    → map.from_entries es ≡ m → k ≡ touched_by e → Some old ≡ lookup (is_at (nat_cmp k)) es → new ≡ changed old e
-    → ((q : ℕ) → lookup (is_at (nat_cmp q)) fs ≡ cond (is_at (nat_cmp k) q) (Some new) (lookup (is_at (nat_cmp q)) es))
+    → map.from_entries es ≡ m → k ≡ touched_by e → Some old ≡ lookup (nat_eq k) es → new ≡ changed old e
+    → ((q : ℕ) → lookup (nat_eq q) fs ≡ cond (nat_eq k q) (Some new) (lookup (nat_eq q) es))
     → map.from_entries fs ≡ with_change m e (map.get m (touched_by e))
 change_some m es fs e k old new view key is step updates =
-    insert-view nat_cmp_total exact_unsigned es fs k new updates
+    insert-numbers es fs k new updates
     ∙ ap (λ n. map.insert n k new) view ∙ ap (λ i. map.insert m i new) key ∙ ap (map.insert m (touched_by e)) step
     ∙ sym (ap (with_change m e) (value_at m es (touched_by e) k (Some old) view key is))
 

@@ -1,5 +1,5 @@
 // A table of inodes.
-ghost use Rattle.std.specs.Prelude.{◌≡◌, IfOk, IsOk, IsOkUnless, None, OnErr, OnOk, option_copied, option_map};
+ghost use Rattle.std.specs.Prelude.{◌≡◌, IfNone, IfOk, IfSome, IsOk, IsOkUnless, None, OnErr, OnOk, Some, option_copied, option_map};
 ghost use Rattle.std.specs.FinMap as map;
 ghost use Rattle.assise_names.specs.declared.refusal.Refusal.TheVariants.{OutOfMemory};
 ghost use Rattle.assise_inode_table.specs.Effects.{AsksForMemory, TakesAway, all_applied, applied, changed, with_value};
@@ -13,18 +13,18 @@ use crate::store::InodeStore;
 use crate::whole::apply_all;
 use assise_names::refusal::Refusal;
 use assise_record::effect::Effect;
+use indexmap::IndexMap;
 use std::alloc::Global;
-use std::collections::BTreeMap;
 use std::marker::Model;
 
 /// The number of the root (POSIX.1-2017, base definitions, chapter 3: Root Directory).
 pub const ROOT: u64 = 0;
 
-/// Inodes by their numbers, held in one ordered map. A contract sees the finite map.
+/// Inodes by their numbers, found by a hash. A contract sees the finite map.
 #[derive(Debug, Drop)]
 pub struct InodeTable {
     alloc: Global,
-    inodes: BTreeMap<u64, Inode>,
+    inodes: IndexMap<u64, Inode>,
 }
 
 impl Model for InodeTable {
@@ -45,7 +45,7 @@ impl InodeTable {
     {
         InodeTable {
             alloc,
-            inodes: BTreeMap::new(alloc),
+            inodes: IndexMap::new(alloc),
         }
     }
 
@@ -79,12 +79,29 @@ impl InodeTable {
         Ok(self.inodes.insert(inode, content)?)
     }
 
+    /// How many inodes there are.
+    pub fn len(&self) -> usize
+        ensures { result ≡ map.len self.now }
+    {
+        self.inodes.len()
+    }
+
+    /// Takes some inode out, and answers its number too. None, where there is no inode.
+    pub fn pop(&mut self) -> Option<(u64, Inode)>
+        ensures there { IfSome result (λ taken. map.get self.old taken.0 ≡ Some taken.1) }
+        ensures others { IfSome result (λ taken. self.new ≡ map.remove self.old taken.0) }
+        ensures empty { IfNone result (self.new ≡ map.empty) }
+        ensures same { IfNone result (self.new ≡ self.old) }
+    {
+        self.inodes.pop()
+    }
+
     /// Takes the inode of a number out, if it is there.
     pub fn remove(&mut self, inode: u64) -> Option<Inode>
         ensures removed { result ≡ map.get self.old inode }
         ensures others { self.new ≡ map.remove self.old inode }
     {
-        self.inodes.remove(&inode)
+        self.inodes.swap_remove(&inode)
     }
 
     /// Makes an effect: a new file or directory stands in place of what its number had, a freed inode is gone, and

@@ -1,6 +1,6 @@
 -- Where a list has a place for one more lease.
-use Rattle.std.proofs.Common.{◌≡◌, ℕ, ◌<◌, ◌≤◌, suc, Bool, true, false, cond, not, List, [], ◌∷◌, Option, Some, is_some, inl, inr, filter, length, sym, refl, ap, subst, ◌∙◌, arith, vec_len, vec_capacity}
-use Rattle.std.specs.Global.{Vec}
+use Rattle.std.proofs.Common.{◌≡◌, ℕ, ◌<◌, ◌≤◌, suc, Bool, true, false, cond, not, List, [], ◌∷◌, Option, Some, is_some, inl, inr, filter, length, sym, refl, ap, subst, ◌∙◌, arith}
+use Rattle.smallvec.specs.SmallVec.{SmallVec, small_vec_len, HasRoomFor}
 use Rattle.assise_lease_table.specs.declared.lease.Lease.{Lease}
 use Rattle.assise_lease_table.specs.declared.lease_map.LeaseMap.{LeaseMap}
 use Rattle.assise_lease_table.specs.LeaseMaps.{HasPlace}
@@ -25,16 +25,16 @@ pub shorter : (h : ℕ) (ls : List Lease) → is_some (lease_of ls h) ≡ true �
 shorter h [] e = cc
 shorter h (l ∷ ls) e = shorter_at (is_own h l) l (without_holder h ls) ls (lease_of ls h) (not_longer (is_own h) ls) (shorter h ls) e
 
--- without the holder's lease, and perhaps without others, the list has a place for it
-pub place_without : (h : ℕ) (v w : Vec Lease) → HasPlaceIn h v → w.items ≡ without_holder h v.items → vec_len w ≤ vec_len v → vec_capacity w ≡ vec_capacity v → vec_len w < vec_capacity w
-place_without h v w place items len capacity = elim place [
-  | inl own ↦ let less = shorter h v.items own in let short = ap length items in omega (arith, less, short, w.ok.0, v.ok.0, v.ok.1, capacity)
+-- a list without the holder's lease has a place for it
+pub place_without : (h : ℕ) (v w : SmallVec Lease) → small_vec_len v ≤ v.capacity → HasPlaceIn h v → w.items ≡ without_holder h v.items → small_vec_len w ≤ small_vec_len v → w.capacity ≡ v.capacity → HasRoomFor w 1
+place_without h v w fits place items len capacity = elim place [
+  | inl own ↦ let less = shorter h v.items own in let short = ap length items in omega (arith, less, short, fits, capacity)
   | inr room ↦ omega (arith, room, len, capacity)
 ]
 
-pub place_left : (m : LeaseMap) (h : ℕ) (o : Option (Vec Lease)) (v w : Vec Lease) → HasPlace m h o → o ≡ Some v → w.items ≡ without_holder h v.items → vec_len w ≤ vec_len v → vec_capacity w ≡ vec_capacity v
-    → vec_len w < vec_capacity w
-place_left m h o v w place is items len capacity = place_without h v w (subst (HasPlace m h) is place) items len capacity
+-- the list of an inode has a place for the holder's lease where the inode has one
+pub place_in : (m : LeaseMap) (h : ℕ) (o : Option (SmallVec Lease)) (v : SmallVec Lease) → HasPlace m h o → o ≡ Some v → HasPlaceIn h v
+place_in m h o v place is = subst (HasPlace m h) is place
 
 swapped : (a b : Bool) (l : Lease) (xs ys zs : List Lease) (p q : Lease → Bool) → p l ≡ a → q l ≡ b → filter p ys ≡ zs → filter q xs ≡ zs
     → filter p (cond b (l ∷ ys) ys) ≡ filter q (cond a (l ∷ xs) xs)

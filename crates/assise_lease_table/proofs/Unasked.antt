@@ -2,9 +2,9 @@
 use Rattle.std.proofs.Common.{◌≡◌, ℕ, ◌==◌, ◌+◌, ◌<◌, Bool, true, false, cond, not, ◌&&◌, ◌||◌, List, [], ◌∷◌, ◌++◌, length, drop, get_or, Option, Some, None, nat_eq, inl, inr, sym, refl, ap, ◌∙◌, eq-eqb}
 use Rattle.std.proofs.lemmas.List.{drop_more, append_assoc}
 use Rattle.std.proofs.lemmas.List.Folds.{list_all-append, list_any-append}
-use Rattle.std.specs.Global.{Vec}
 use Rattle.std.specs.List.{IsDistinct, list_any, list_all}
 use Rattle.std.specs.Map.{lookup, keys_of}
+use Rattle.smallvec.specs.SmallVec.{SmallVec}
 use Rattle.assise_lease_table.specs.Cuts.{is_of, is_asked, are_once, are_uncut, asked_at}
 use Rattle.assise_lease_table.specs.Leases.{disjoint, compatible, is_own, is_to_ask}
 use Rattle.assise_lease_table.specs.Lists.{items_or_none}
@@ -23,7 +23,7 @@ module _ (choice : Lease → Bool) where
   answer_at i l = record { client = l.holder; inode = i; cut = 0 }
 
   -- all of them, inode by inode
-  abbrev pub unasked_in : List (ℕ × Vec Lease) → List Asked
+  abbrev pub unasked_in : List (ℕ × SmallVec Lease) → List Asked
   unasked_in [] = []
   unasked_in (e ∷ es) = asked_at choice e.0 e.1.items ++ unasked_in es
 
@@ -74,7 +74,7 @@ module _ (choice : Lease → Bool) where
   turned a b true e = eq-eqb b a (sym (same_number a b e))
   turned a b false e = elim (cases_of (b == a)) [ inl same ↦ ap (λ z. z) (same ∙ sym (eq-eqb a b (sym (same_number b a same))) ∙ e) | inr other ↦ other ]
 
-  which_step : (m : Bool) (i c : ℕ) (j : ℕ) (v : Vec Lease) (rest : Option (Vec Lease)) (more_of : List Asked) → nat_eq i j ≡ m → (m ≡ true → rest ≡ None) → is_asked more_of c i ≡ list_any (wanted c) (items_or_none rest)
+  which_step : (m : Bool) (i c : ℕ) (j : ℕ) (v : SmallVec Lease) (rest : Option (SmallVec Lease)) (more_of : List Asked) → nat_eq i j ≡ m → (m ≡ true → rest ≡ None) → is_asked more_of c i ≡ list_any (wanted c) (items_or_none rest)
       → is_asked (asked_at choice j v.items ++ more_of) c i ≡ list_any (wanted c) (items_or_none (cond m (Some v) rest))
   which_step true i c j v rest more_of at gone more =
       list_any-append (is_of c i) (asked_at choice j v.items) more_of
@@ -85,7 +85,7 @@ module _ (choice : Lease → Bool) where
       ∙ ap (λ b. b || is_asked more_of c i) (asked_elsewhere j i c (turned i j false at) v.items)
       ∙ more
 
-  pub which_in : (es : List (ℕ × Vec Lease)) → IsDistinct nat_eq (keys_of es) → (c i : ℕ) → is_asked (unasked_in es) c i ≡ list_any (wanted c) (items_or_none (lookup (nat_eq i) es))
+  pub which_in : (es : List (ℕ × SmallVec Lease)) → IsDistinct nat_eq (keys_of es) → (c i : ℕ) → is_asked (unasked_in es) c i ≡ list_any (wanted c) (items_or_none (lookup (nat_eq i) es))
   unfolding IsDistinct
   which_in [] distinct c i = refl
   which_in (e ∷ es) distinct c i =
@@ -127,14 +127,14 @@ module _ (choice : Lease → Bool) where
   once_both j bs new rest [] once = rest
   once_both j bs new rest (l ∷ ls) once = both_step (is_to_ask choice l) (answer_at j l) (asked_at choice j ls) bs (new l.holder) (once_both j bs new rest ls) once
 
-  abbrev pub FitEach : List (ℕ × Vec Lease) → Type 0
+  abbrev pub FitEach : List (ℕ × SmallVec Lease) → Type 0
   FitEach es = (i : ℕ) → compatible (items_or_none (lookup (nat_eq i) es)) ≡ true
 
-  fits_rest : (m : Bool) (v : Vec Lease) (rest : Option (Vec Lease)) → (m ≡ true → rest ≡ None) → compatible (items_or_none (cond m (Some v) rest)) ≡ true → compatible (items_or_none rest) ≡ true
+  fits_rest : (m : Bool) (v : SmallVec Lease) (rest : Option (SmallVec Lease)) → (m ≡ true → rest ≡ None) → compatible (items_or_none (cond m (Some v) rest)) ≡ true → compatible (items_or_none rest) ≡ true
   fits_rest true v rest gone fits = ap (λ o. compatible (items_or_none o)) (gone refl)
   fits_rest false v rest gone fits = fits
 
-  pub once_in : (es : List (ℕ × Vec Lease)) → IsDistinct nat_eq (keys_of es) → FitEach es → are_once (unasked_in es) ≡ true
+  pub once_in : (es : List (ℕ × SmallVec Lease)) → IsDistinct nat_eq (keys_of es) → FitEach es → are_once (unasked_in es) ≡ true
   unfolding IsDistinct
   once_in [] distinct fits = refl
   once_in (e ∷ es) distinct fits =
@@ -152,7 +152,7 @@ module _ (choice : Lease → Bool) where
   uncut_at j [] = refl
   uncut_at j (l ∷ ls) = uncut_step (is_to_ask choice l) j l (asked_at choice j ls) (uncut_at j ls)
 
-  pub uncut_in : (es : List (ℕ × Vec Lease)) → are_uncut (unasked_in es) ≡ true
+  pub uncut_in : (es : List (ℕ × SmallVec Lease)) → are_uncut (unasked_in es) ≡ true
   uncut_in [] = refl
   uncut_in (e ∷ es) =
       list_all-append (λ (a : Asked). a.cut == 0) (asked_at choice e.0 e.1.items) (unasked_in es)
@@ -164,5 +164,5 @@ module _ (choice : Lease → Bool) where
 
   -- ---- the end of a loop over all
 
-  pub all_listed : (asked : List Asked) (es left : List (ℕ × Vec Lease)) → left ≡ [] → asked ++ unasked_in left ≡ unasked_in es → asked ≡ unasked_in es
+  pub all_listed : (asked : List Asked) (es left : List (ℕ × SmallVec Lease)) → left ≡ [] → asked ++ unasked_in left ≡ unasked_in es → asked ≡ unasked_in es
   all_listed asked es left done so_far = sym (nothing_more asked) ∙ ap (λ xs. asked ++ unasked_in xs) (sym done) ∙ so_far

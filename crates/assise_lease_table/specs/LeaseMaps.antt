@@ -1,7 +1,7 @@
 -- The leases of each inode.
-use Rattle.std.specs.Prelude.{◌≡◌, ◌≢◌, ℕ, ◌<◌, List, Option, Some, None, nat_eq, vec_len, vec_capacity}
-use Rattle.std.specs.Global.{Vec}
+use Rattle.std.specs.Prelude.{◌≡◌, ◌≢◌, ℕ, ◌<◌, List, Option, Some, None, nat_eq}
 use Rattle.indexmap.specs.IndexMap.{get, spare}
+use Rattle.smallvec.specs.SmallVec.{SmallVec}
 use Rattle.assise_lease_table.specs.declared.lease.Lease.{Lease}
 use Rattle.assise_lease_table.specs.declared.lease_map.LeaseMap.{LeaseMap}
 use Rattle.assise_lease_table.specs.Lists.{items_or_none, HasPlaceIn}
@@ -19,9 +19,9 @@ pub record Becomes (old new : ℕ → List Lease) (inode : ℕ) (ls : List Lease
 abbrev pub SameLeases : (ℕ → List Lease) → (ℕ → List Lease) → Type 0
 SameLeases old new = (i : ℕ) → new i ≡ old i
 
--- the inode's list has a place for a lease of the holder; or, where it has none, a new list has one and the map has one for it
-abbrev pub HasPlace : LeaseMap → ℕ → Option (Vec Lease) → Type 0
-HasPlace m h None = (vec_len m.spare < vec_capacity m.spare) × (0 < spare m.inodes)
+-- the inode's list has a place for a lease of the holder; or, where it has none, the map has a place for a new list, which has room for a lease
+abbrev pub HasPlace : LeaseMap → ℕ → Option (SmallVec Lease) → Type 0
+HasPlace m h None = 0 < spare m.inodes
 HasPlace m h (Some v) = HasPlaceIn h v
 
 -- a lease of the inode for the holder takes no memory

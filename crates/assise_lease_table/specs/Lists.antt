@@ -1,6 +1,6 @@
 -- The list of an inode's leases, where it has one.
-use Rattle.std.specs.Prelude.{◌≡◌, ℕ, ◌<◌, Bool, true, false, List, [], ◌∷◌, Option, Some, None, is_some, vec_len, vec_capacity, ◌⊎◌}
-use Rattle.std.specs.Global.{Vec}
+use Rattle.std.specs.Prelude.{◌≡◌, ℕ, Bool, true, false, List, [], ◌∷◌, Option, Some, None, is_some, ◌⊎◌}
+use Rattle.smallvec.specs.SmallVec.{SmallVec, HasRoomFor}
 use Rattle.assise_lease_table.specs.declared.lease.Lease.{Lease}
 use Rattle.assise_lease_table.specs.Leases.{lease_of}
 
@@ -8,15 +8,15 @@ abbrev pub is_any : List Lease → Bool
 is_any [] = false
 is_any (l ∷ ls) = true
 
-abbrev pub items_or_none : Option (Vec Lease) → List Lease
+abbrev pub items_or_none : Option (SmallVec Lease) → List Lease
 items_or_none None = []
 items_or_none (Some v) = v.items
 
 -- a list that is there has a lease: nothing is kept for what is not held
-abbrev pub holds_lease : Option (Vec Lease) → Bool
+abbrev pub holds_lease : Option (SmallVec Lease) → Bool
 holds_lease None = true
 holds_lease (Some v) = is_any v.items
 
 -- the list has a place for a lease of the holder: that of its old one, or one more
-abbrev pub HasPlaceIn : ℕ → Vec Lease → Type 0
-HasPlaceIn h v = (is_some (lease_of v.items h) ≡ true) ⊎ (vec_len v < vec_capacity v)
+abbrev pub HasPlaceIn : ℕ → SmallVec Lease → Type 0
+HasPlaceIn h v = (is_some (lease_of v.items h) ≡ true) ⊎ HasRoomFor v 1

@@ -196,7 +196,7 @@ impl<C: Revokes + Drop> ClientTableOf<C> {
         self.leases.take(inode, &Own { holder: client });
     }
 
-    /// Freezes all leases of a client. No revoker is called, and it takes no memory.
+    /// Revokes all leases of a client. No revoker is called, and it takes no memory.
     pub fn revoke(&mut self, client: u32)
         ensures leases { (i : ℕ) → client_leases self.new i ≡ revoke (is_own client)
             (client_leases self.old i) }
@@ -205,7 +205,7 @@ impl<C: Revokes + Drop> ClientTableOf<C> {
         self.leases.revoke_all(client);
     }
 
-    /// Freezes the chosen leases of all inodes. No revoker is called, and it takes no memory.
+    /// Revokes the chosen leases of all inodes. No revoker is called, and it takes no memory.
     pub fn revoke_everywhere<T: Chooses>(&mut self, test: &T)
         ensures leases { (i : ℕ) → client_leases self.new i ≡ revoke (T.choice test.now)
             (client_leases self.old i) }
@@ -214,7 +214,7 @@ impl<C: Revokes + Drop> ClientTableOf<C> {
         self.leases.revoke_everywhere(test);
     }
 
-    /// Freezes the chosen leases of an inode. No revoker is called, and it takes no memory.
+    /// Revokes the chosen leases of an inode. No revoker is called, and it takes no memory.
     pub fn revoke_chosen<T: Chooses>(&mut self, inode: u64, test: &T)
         ensures becomes { Becomes (client_leases self.old) (client_leases self.new) inode
             (revoke (T.choice test.now) (client_leases self.old inode)) }

@@ -1,5 +1,6 @@
 // The leases of one inode.
-ghost use Rattle.std.specs.Prelude.{◌≡◌, ◌≤◌, ◌++◌, true, OnOk, vec_len, vec_capacity};
+ghost use Rattle.std.specs.Prelude.{◌≡◌, ◌≤◌, ◌++◌, true, OnOk};
+ghost use Rattle.smallvec.specs.SmallVec.{small_vec_len, HasRoomFor};
 ghost use Rattle.assise_lease_table.specs.Cuts.{asked_at};
 ghost use Rattle.assise_lease_table.specs.Lists.{HasPlaceIn, is_any};
 ghost use Rattle.assise_lease_table.specs.Leases.{with_lease, leave_out, revoke, revoked_if, is_own_unasked, lease_of, is_own, may_be_held, may_raise, raise, raised_if, IsFree};
@@ -8,7 +9,11 @@ use crate::lease::{
     Asked, Chooses, Lease, Own, Rivals, is_any_chosen, is_strong, is_to_ask, stronger_of,
 };
 use assise_names::mode::Mode;
+use smallvec::SmallVec;
 use std::alloc::AllocError;
+
+/// The leases of one inode: nearly always one or two hold it, which stand in the list itself.
+pub(crate) type Leases = SmallVec<Lease, 2>;
 
 /// The holder's lease.
 pub(crate) fn lease_of_holder(leases: &[Lease], holder: u32) -> Option<Lease>
@@ -37,25 +42,27 @@ pub(crate) fn may_be_held(leases: &[Lease], holder: u32, mode: Mode) -> bool
 }
 
 /// Takes the chosen leases out.
-pub(crate) fn take_out<T: Chooses>(leases: &mut Vec<Lease>, test: &T)
+pub(crate) fn take_out<T: Chooses>(leases: &mut Leases, test: &T)
     ensures items { leases.new.items ≡ leave_out (T.choice test.now) leases.old.items }
-    ensures len { vec_len leases.new ≤ vec_len leases.old }
-    ensures capacity { vec_capacity leases.new ≡ vec_capacity leases.old }
+    ensures len { small_vec_len leases.new ≤ small_vec_len leases.old }
+    ensures capacity { leases.new.capacity ≡ leases.old.capacity }
 {
     leases.retain(|lease| !test.chooses(lease));
 }
 
 /// Takes the holder's lease out.
-pub(crate) fn take_own_out(leases: &mut Vec<Lease>, holder: u32)
+pub(crate) fn take_own_out(leases: &mut Leases, holder: u32)
     ensures items { leases.new.items ≡ leave_out (is_own holder) leases.old.items }
-    ensures len { vec_len leases.new ≤ vec_len leases.old }
-    ensures capacity { vec_capacity leases.new ≡ vec_capacity leases.old }
+    ensures len { small_vec_len leases.new ≤ small_vec_len leases.old }
+    ensures capacity { leases.new.capacity ≡ leases.old.capacity }
+    ensures place { HasPlaceIn holder leases.old → HasRoomFor leases.new 1 }
 {
+    let _fits = leases.len();
     take_out(leases, &Own { holder });
 }
 
 /// Takes the holder's lease out, and says whether the leases of others are left.
-pub(crate) fn leaves_others(leases: &mut Vec<Lease>, holder: u32) -> bool
+pub(crate) fn leaves_others(leases: &mut Leases, holder: u32) -> bool
     ensures items { leases.new.items ≡ leave_out (is_own holder) leases.old.items }
     ensures left { result ≡ is_any leases.new.items }
 {
@@ -64,7 +71,7 @@ pub(crate) fn leaves_others(leases: &mut Vec<Lease>, holder: u32) -> bool
 }
 
 /// Puts a lease in place of its holder's old one and of the chosen ones.
-pub(crate) fn put_over<T: Chooses>(leases: &mut Vec<Lease>, lease: Lease, over: &T)
+pub(crate) fn put_over<T: Chooses>(leases: &mut Leases, lease: Lease, over: &T)
     requires place { HasPlaceIn lease.holder leases.old }
     ensures { leases.new.items ≡ with_lease lease (leave_out (T.choice over.now) leases.old.items) }
 {
@@ -81,7 +88,7 @@ fn revoked_if_chosen<T: Chooses>(test: &T, lease: Lease) -> Lease
     Lease { revoked, ..lease }
 }
 
-/// Freezes the chosen leases.
+/// Revokes the chosen leases.
 pub(crate) fn revoke_chosen<T: Chooses>(leases: &mut [Lease], test: &T)
     ensures { leases.new ≡ revoke (T.choice test.now) leases.old }
 {
@@ -90,8 +97,8 @@ pub(crate) fn revoke_chosen<T: Chooses>(leases: &mut [Lease], test: &T)
     }
 }
 
-/// Freezes the chosen leases of a list.
-pub(crate) fn revoke_all<T: Chooses>(leases: &mut Vec<Lease>, test: &T)
+/// Revokes the chosen leases of a list.
+pub(crate) fn revoke_all<T: Chooses>(leases: &mut Leases, test: &T)
     ensures { leases.new.items ≡ revoke (T.choice test.now) leases.old.items }
 {
     revoke_chosen(leases, test);

@@ -17,6 +17,17 @@ pub struct Lease {
     pub revoked: bool,
 }
 
+/// What stands in the places of a list that aren't used.
+impl Default for Lease {
+    fn default() -> Lease {
+        Lease {
+            holder: 0,
+            mode: Mode::Read,
+            revoked: false,
+        }
+    }
+}
+
 /// A client that was asked for its lease of an inode, and what its revoker answered, raised to the end of its group.
 #[derive(Clone, Copy, PartialEq, Eq, Debug)]
 pub struct Asked {

@@ -1,27 +1,25 @@
 // Leases by inodes.
-ghost use Rattle.std.specs.Prelude.{◌≡◌, ℕ, length, nat_eq, true};
+ghost use Rattle.std.specs.Prelude.{◌≡◌, ℕ, nat_eq, true};
 ghost use Rattle.indexmap.specs.IndexMap.{get};
 ghost use Rattle.assise_lease_table.specs.Lists.{holds_lease};
 
 use crate::holders::{
-    lease_of_holder, leaves_others, push_unasked, put_over, raise_own, revoke_all, revoke_chosen,
-    take_out, take_own_out,
+    Leases, lease_of_holder, leaves_others, push_unasked, put_over, raise_own, revoke_all,
+    revoke_chosen, take_out, take_own_out,
 };
 use crate::lease::{Asked, Chooses, Lease, Own, is_any_chosen};
 use assise_names::mode::Mode;
 use indexmap::IndexMap;
 use std::alloc::{AllocError, Global};
-use std::mem;
 
-/// The leases of each inode. Few hold one inode, so they stand in a short list; no list is empty, so nothing stays for an
-/// inode that nobody holds. Room for the list of one inode more stands beside the map.
+/// The leases of each inode. Few hold one inode, so they stand in a short list; no list is empty, so nothing stays
+/// for an inode that nobody holds. Room for an inode's first leases stands in its list itself, which takes memory of
+/// its own only where more hold the inode at once.
 #[derive(Drop)]
 pub struct LeaseMap {
     alloc: Global,
-    inodes: IndexMap<u64, Vec<Lease>>,
-    spare: Vec<Lease>,
+    inodes: IndexMap<u64, Leases>,
     ghost held: { (i : ℕ) → holds_lease (get nat_eq inodes i) ≡ true },
-    ghost spared: { length spare.items ≡ 0 },
 }
 
 impl LeaseMap {
@@ -39,7 +37,6 @@ impl LeaseMap {
         LeaseMap {
             alloc,
             inodes: IndexMap::new(alloc),
-            spare: Vec::new(alloc),
         }
     }
 
@@ -102,7 +99,6 @@ impl LeaseMap {
             }
             return leases.reserve(1);
         }
-        self.spare.reserve(1)?;
         self.inodes.reserve(1)
     }
 
@@ -139,7 +135,7 @@ impl LeaseMap {
         requires first { leases_at self.old inode ≡ [] }
         ensures { Becomes (leases_at self.old) (leases_at self.new) inode (lease ∷ []) }
     {
-        let mut leases = mem::replace(&mut self.spare, Vec::new(self.alloc));
+        let mut leases = Leases::new(self.alloc);
         leases.push_reserved(lease);
         let Ok(_) = self.inodes.insert(inode, leases) else {
             unreachable!()
@@ -160,7 +156,7 @@ impl LeaseMap {
         }
     }
 
-    /// Freezes the chosen leases of an inode.
+    /// Revokes the chosen leases of an inode.
     pub fn revoke<T: Chooses>(&mut self, inode: u64, test: &T)
         ensures { Becomes (leases_at self.old) (leases_at self.new) inode
             (revoke (T.choice test.now) (leases_at self.old inode)) }
@@ -182,7 +178,7 @@ impl LeaseMap {
         raise_own(leases, holder, mode);
     }
 
-    /// Freezes the chosen leases of all inodes.
+    /// Revokes the chosen leases of all inodes.
     pub fn revoke_everywhere<T: Chooses>(&mut self, test: &T)
         ensures { (i : ℕ) → leases_at self.new i ≡ revoke (T.choice test.now)
             (leases_at self.old i) }
@@ -193,7 +189,7 @@ impl LeaseMap {
         });
     }
 
-    /// Freezes all leases of a holder.
+    /// Revokes all leases of a holder.
     pub fn revoke_all(&mut self, holder: u32)
         ensures { (i : ℕ) → leases_at self.new i ≡ revoke (is_own holder) (leases_at self.old i) }
     {

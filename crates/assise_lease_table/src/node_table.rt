@@ -166,7 +166,7 @@ impl NodeTable {
         }
     }
 
-    /// Freezes all leases of a node. It takes no memory.
+    /// Revokes all leases of a node. It takes no memory.
     pub fn revoke(&mut self, node: u32)
         ensures { (i : ℕ) → node_leases self.new i ≡ revoke (is_own node) (node_leases self.old i) }
     {

@@ -281,7 +281,7 @@ impl<C: Revokes + Drop> LeaseTreeOf<C> {
         }
     }
 
-    /// Freezes all leases of a client. No revoker is called, and it takes no memory.
+    /// Revokes all leases of a client. No revoker is called, and it takes no memory.
     pub fn revoke(&mut self, client: u32)
         ensures revoked { IsRevoked (levels_of self.old) (levels_of self.new) client }
         ensures revokers { KeepsRevokers self.old self.new }
@@ -289,7 +289,7 @@ impl<C: Revokes + Drop> LeaseTreeOf<C> {
         self.clients.revoke(client);
     }
 
-    /// Freezes all leases of a node's clients. No revoker is called, and it takes no memory.
+    /// Revokes all leases of a node's clients. No revoker is called, and it takes no memory.
     pub fn revoke_below(&mut self, node: u32)
         ensures home { (c : ℕ) → (levels_of self.new).home c ≡ (levels_of self.old).home c }
         ensures clients { (i : ℕ) → (levels_of self.new).clients i ≡ revoke

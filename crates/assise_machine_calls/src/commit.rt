@@ -72,7 +72,7 @@ pub(crate) fn commit<C: Revokes + Drop>(
     let entry = Entry::call(Call {
         client,
         number,
-        op: op.copy(alloc)?,
+        op: op.copy()?,
         reply: reply.copy(alloc)?,
     });
     state.history.reserve()?;

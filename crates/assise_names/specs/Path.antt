@@ -1,8 +1,11 @@
 -- Which text spells which path, and what is wrong with the others.
 -- POSIX.1-2017, base definitions: chapter 3, Absolute Pathname and Pathname; section 4.13, Pathname Resolution.
-use Rattle.std.specs.Prelude.{◌≡◌, ◌≤◌, ◌⊎◌, ℕ, Bool, ◌&&◌, ◌==◌, nat_le, nat_lt, if◌then◌else◌, IsTrue, All, List, [], ◌∷◌, ◌++◌, flat_map, length, take, Result, Ok, Err}
+use Rattle.std.specs.Prelude.{◌≡◌, ◌<◌, ◌≤◌, ◌⊎◌, ℕ, Bool, ◌&&◌, ◌==◌, nat_le, nat_lt, if◌then◌else◌, IsTrue, All, List, [], ◌∷◌, ◌++◌, flat_map, length, take, Option, Some, None, Result, Ok, Err}
 use Rattle.std.specs.Cmp.Lexicographic.{pointwise}
 use Rattle.std.specs.List.{slice_split}
+use Rattle.std.specs.Arc.{arc_slice_items}
+use Rattle.std.specs.Global.{Global}
+use Rattle.std.specs.declared.sync.ArcSlice.{ArcSlice}
 use Rattle.assise_names.specs.declared.path.PathFault.{PathFault}
 use Rattle.assise_names.specs.declared.path.PathFault.TheVariants.{NotAbsolute, TooDeep, Memory}
 use Rattle.assise_names.specs.Name.{is_name, name_of}
@@ -23,6 +26,16 @@ path_spelling (name ∷ names) = flat_map (λ n. 47 ∷ n) (name ∷ names)
 pub record SpellsPath (text : List ℕ) (path : List (List ℕ)) : Type 0 where
   pub lawful : IsPath path
   pub spelled : text ≡ path_spelling path
+
+-- the names in a list with several owners, or none where there is no list
+abbrev pub names_in : Option (ArcSlice (List ℕ) Global) → List (List ℕ)
+names_in None = []
+names_in (Some list) = arc_slice_items list
+
+-- there is a list only where there is a name
+abbrev pub IsShared : Option (ArcSlice (List ℕ) Global) → Type 0
+IsShared None = Unit {0}
+IsShared (Some list) = 0 < length (arc_slice_items list)
 
 -- q goes on from p by at least a name
 abbrev pub IsProperPrefix : List (List ℕ) → List (List ℕ) → Type 0

@@ -6,7 +6,6 @@ ghost use Rattle.assise_names.specs.declared.refusal.Refusal.TheVariants.{OutOfM
 use crate::byte_string::ByteString;
 use crate::path::Path;
 use crate::refusal::Refusal;
-use std::alloc::Global;
 use std::fmt;
 use std::fmt::{Display, Formatter};
 
@@ -40,30 +39,31 @@ pub enum Op {
 }
 
 impl Op {
-    /// An equal value, or [`Refusal::OutOfMemory`]. `fsync` and `dsync` take no memory.
-    pub fn copy(&self, alloc: Global) -> Result<Op, Refusal>
+    /// An equal value, which shares its names and bytes. It takes no memory: the one refusal, [`Refusal::OutOfMemory`], comes
+    /// where a count of those that share them is full. `fsync` and `dsync` are never refused.
+    pub fn copy(&self) -> Result<Op, Refusal>
         ensures equal { IfOk result (λ copied. copied ≡ self.now) }
         ensures fsync { self.now ≡ Op.Fsync → IsOk result }
         ensures dsync { self.now ≡ Op.Dsync → IsOk result }
         ensures only_memory { IsOkUnless result OutOfMemory }
     {
         match self {
-            Op::Create(path) => Ok(Op::Create(path.copy(alloc)?)),
-            Op::Mkdir(path) => Ok(Op::Mkdir(path.copy(alloc)?)),
-            Op::Read(path, offset, length) => Ok(Op::Read(path.copy(alloc)?, *offset, *length)),
+            Op::Create(path) => Ok(Op::Create(path.copy()?)),
+            Op::Mkdir(path) => Ok(Op::Mkdir(path.copy()?)),
+            Op::Read(path, offset, length) => Ok(Op::Read(path.copy()?, *offset, *length)),
             Op::Write(path, offset, bytes) => {
-                let path = path.copy(alloc)?;
+                let path = path.copy()?;
                 Ok(Op::Write(path, *offset, bytes.copy()?))
             }
-            Op::Truncate(path, size) => Ok(Op::Truncate(path.copy(alloc)?, *size)),
+            Op::Truncate(path, size) => Ok(Op::Truncate(path.copy()?, *size)),
             Op::Rename(from, to) => {
-                let from = from.copy(alloc)?;
-                Ok(Op::Rename(from, to.copy(alloc)?))
+                let from = from.copy()?;
+                Ok(Op::Rename(from, to.copy()?))
             }
-            Op::Unlink(path) => Ok(Op::Unlink(path.copy(alloc)?)),
-            Op::Rmdir(path) => Ok(Op::Rmdir(path.copy(alloc)?)),
-            Op::List(path) => Ok(Op::List(path.copy(alloc)?)),
-            Op::Stat(path) => Ok(Op::Stat(path.copy(alloc)?)),
+            Op::Unlink(path) => Ok(Op::Unlink(path.copy()?)),
+            Op::Rmdir(path) => Ok(Op::Rmdir(path.copy()?)),
+            Op::List(path) => Ok(Op::List(path.copy()?)),
+            Op::Stat(path) => Ok(Op::Stat(path.copy()?)),
             Op::Fsync => Ok(Op::Fsync),
             Op::Dsync => Ok(Op::Dsync),
         }

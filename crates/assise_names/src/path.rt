@@ -10,13 +10,14 @@ ghost use Rattle.assise_names.specs.Text.{path_fault_text};
 ghost use Rattle.assise_names.specs.declared.path.PathFault.{PathFault};
 ghost use Rattle.assise_names.specs.declared.refusal.Refusal.TheVariants.{OutOfMemory};
 
-use crate::name::{Name, check, copy_names};
+use crate::name::{Name, check};
 use crate::refusal::Refusal;
 use std::alloc::{AllocError, AllocFailed, Global};
 use std::error::Error;
 use std::fmt;
 use std::fmt::{Display, Formatter};
 use std::marker::Model;
+use std::sync::ArcSlice;
 
 /// The most names of a path.
 pub const MOST_NAMES: usize = 32;
@@ -80,20 +81,21 @@ impl<T: Drop> From<AllocFailed<T>> for PathFault {
     }
 }
 
-/// Up to 32 names from the root, the outermost first. The root has none.
+/// Up to 32 names from the root, the outermost first. The root has none. Copies of a path share its names.
 #[derive(Debug, Drop)]
 pub struct Path {
-    names: Vec<Name>,
+    names: Option<ArcSlice<Name>>,
 }
 
 impl Model for Path {
     ghost use Rattle.std.specs.Prelude.{List, ℕ, ◌≤◌, length};
+    ghost use Rattle.assise_names.specs.Path.{IsShared, names_in};
 
     ghost Value = { List (List ℕ) };
 
-    ghost view = { λ p. p.names.items };
+    ghost view = { λ p. names_in p.names };
 
-    ghost invariant = { λ p. length p.names.items ≤ 32 };
+    ghost invariant = { λ p. (length (names_in p.names) ≤ 32) × IsShared p.names };
 }
 
 impl Path {
@@ -133,7 +135,10 @@ impl Path {
         ensures names { result.now ≡ self.now }
         ensures depth { length self.now ≤ 32 }
     {
-        self.names.as_slice()
+        match &self.names {
+            Some(names) => names.as_slice(),
+            None => &[],
+        }
     }
 
     /// Whether the other path goes on from this one by at least a name.
@@ -141,18 +146,24 @@ impl Path {
         ensures exact { result ≡ is_proper_prefix self.now other.now }
         ensures prefix { IsTrue result ↔ IsProperPrefix self.now other.now }
     {
-        self.names.len() < other.names.len()
-            && other.names.as_slice().starts_with(self.names.as_slice())
+        let names = self.names();
+        let others = other.names();
+        names.len() < others.len() && others.starts_with(names)
     }
 
-    /// An equal value, or [`Refusal::OutOfMemory`]. The root takes no memory.
-    pub fn copy(&self, alloc: Global) -> Result<Path, Refusal>
+    /// An equal value. It takes no memory: the one refusal, [`Refusal::OutOfMemory`], comes where the count of those that share
+    /// the names is full. The root's copy is never refused.
+    pub fn copy(&self) -> Result<Path, Refusal>
         ensures equal { IfOk result (λ copied. copied ≡ self.now) }
         ensures root { length self.now ≡ 0 → IsOk result }
         ensures only_memory { IsOkUnless result OutOfMemory }
     {
-        let names = copy_names(alloc, self.names.as_slice())?;
-        Ok(Path { names })
+        let Some(names) = &self.names else {
+            return Ok(Path { names: None });
+        };
+        Ok(Path {
+            names: Some(names.clone()?),
+        })
     }
 }
 
@@ -191,15 +202,22 @@ fn path_of(alloc: Global, text: &str) -> Result<Path, PathFault>
     }
 }
 
-/// The path of these names, unless they are too many.
+/// The path of these names, unless they are too many. The root takes no memory.
 fn path_of_names(names: Vec<Name>) -> Result<Path, PathFault>
-    ensures { MatchResult result (λ path. (path ≡ names.items) ×
-        (no_deeper names.items ≡ Ok names.items)) (λ fault. no_deeper names.items ≡ Err fault) }
+    ensures first_fault { GivesPath result (no_deeper names.items) }
+    ensures faults { (fault : PathFault) → no_deeper names.items ≡ Err fault → result ≡ Err fault }
+    ensures memory { result ≡ Err PathFault.Memory → IsOk (no_deeper names.items) }
+    ensures root { length names.items ≡ 0 → IsOk result }
 {
     if names.len() > MOST_NAMES {
         return Err(PathFault::TooDeep);
     }
-    Ok(Path { names })
+    if names.is_empty() {
+        return Ok(Path { names: None });
+    }
+    Ok(Path {
+        names: Some(ArcSlice::from_vec(names)?),
+    })
 }
 
 /// How many names stand between slashes, or the first fault of one. There is none where there is no text.

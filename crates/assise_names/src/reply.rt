@@ -141,7 +141,7 @@ fn write_digits<W: fmt::Write>(f: &mut Formatter<W>, bytes: &[u8]) -> fmt::Resul
     if hex::encode_to_slice(bytes, digits).is_err() {
         unreachable!();
     }
-    match str::from_utf8(digits) {
+    match simdutf8::compat::from_utf8(digits) {
         Ok(text) => f.write_str(text),
         Err(_) => unreachable!(),
     }

@@ -21,8 +21,8 @@ pub(crate) fn repeated(
 }
 
 /// A copy of a path.
-fn copied(alloc: Global, rt: &impl Abort, path: &Path) -> Path {
-    path.copy(alloc).ok().expect(rt, "no memory")
+fn copied(rt: &impl Abort, path: &Path) -> Path {
+    path.copy().ok().expect(rt, "no memory")
 }
 
 /// How many names a text spells and the path that it spells, from a copy; or its first fault.
@@ -30,7 +30,7 @@ fn said(alloc: Global, rt: &impl Abort, text: &str) -> String {
     match Path::parse(alloc, text) {
         Ok(path) => {
             let depth = path.names().len();
-            let copied = copied(alloc, rt, &path);
+            let copied = copied(rt, &path);
             format!(in alloc; "{depth} {copied}").expect(rt, "no memory")
         }
         Err(fault) => format!(in alloc; "{fault}").expect(rt, "no memory"),

@@ -28,7 +28,7 @@ fn call(numbered: &NumberedCommand) -> Option<&Op> {
 
 /// Adds the line of a copy of a call.
 fn add_call(alloc: Global, rt: &impl Abort, text: &mut String, op: &Op) {
-    let copied = op.copy(alloc).ok().expect(rt, "no memory");
+    let copied = op.copy().ok().expect(rt, "no memory");
     add_line(alloc, rt, text, &copied);
 }
 

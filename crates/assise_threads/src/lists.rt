@@ -23,7 +23,7 @@ fn calls_of(alloc: Global, stretch: &[NumberedCommand], client: u32) -> Result<V
     for line in stretch {
         if let Command::Call { client: caller, op } = &line.command {
             if *caller == u64::from(client) {
-                calls.push(op.copy(alloc)?)?;
+                calls.push(op.copy()?)?;
             }
         }
     }

@@ -1,6 +1,4 @@
-use Rattle.std.proofs.Common.{Some, [], cond, get_or, ap, ◌∙◌}
-use Rattle.std.specs.Ordering.{nat_cmp}
-use Rattle.std.specs.BTreeMap.{is_at}
+use Rattle.std.proofs.Common.{Some, [], cond, get_or, nat_eq, ap, ◌∙◌}
 use Rattle.assise_inode_table.specs.Contents.{regular}
 use Rattle.assise_area.specs.Parts.{cold_at}
 use Rattle.assise_area.proofs.Cooled.{not_written, written_next}
@@ -17,4 +15,4 @@ loop-number-preserved c =
     let k = c.loop-number.number-index in
     let cold = c.loop-number.cold.entries in
     written_next numbers k 0 (Some (regular [])) c.args.cold.now.entries cold c.insert.new.self.entries c.loop-number-test.true c.loop-number.invariant
-    (λ q. c.in_ok-insert.ensures.updates.0 q ∙ ap (λ v. cond (is_at (nat_cmp (get_or numbers k 0)) q) (Some v) (cold_at cold q)) c.new_file.ensures)
+    (λ q. c.in_ok-insert.ensures.updates.0 q ∙ ap (λ v. cond (nat_eq (get_or numbers k 0) q) (Some v) (cold_at cold q)) c.new_file.ensures)

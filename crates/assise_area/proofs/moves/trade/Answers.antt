@@ -23,5 +23,5 @@ pub returns-in-Err-clause-err_cold : goal.returns-in-Err-clause-err_cold
 returns-in-Err-clause-err_cold c =
     let hot = c.args.hot.now in
     with_last (slice_get hot.entries (hot.cap - 1)) c.args.last c.requires.last (λ e is_last key.
-    undone hot c.args.cold.now.entries c.insert.new.self.entries c.push_hot.new.cold.entries c.remove.new.self.entries c.args.last e c.new_file.result c.requires.valid c.requires.disjoint is_last key
-    c.in_ok-insert.ensures.updates.0 c.in-Err.ensures.err_cold c.remove.ensures.updates.0)
+    undone hot c.args.cold.now.entries c.insert.new.self.entries c.push_hot.new.cold.entries c.swap_remove.new.self.entries c.args.last e c.new_file.result c.requires.valid c.requires.disjoint is_last key
+    c.in_ok-insert.ensures.updates.0 c.in-Err.ensures.err_cold c.swap_remove.ensures.updates.0)

@@ -1,11 +1,11 @@
 use Rattle.std.proofs.Common.{◌∙◌, not, ap, ◌++◌, ◌∷◌, [], arith}
 use Rattle.assise_lease_table.specs.Leases.{is_own, leave_out}
-use Rattle.assise_lease_table.proofs.Room.{place_without, either_order}
+use Rattle.assise_lease_table.proofs.Room.{either_order}
 use Rattle.assise_lease_table.proofs.holders.put_over.Goals as goal
 
 pub push_reserved-requires : goal.push_reserved-requires
 push_reserved-requires g c =
-    let room = place_without c.args.lease.holder c.args.leases.now c.take_own_out.new.leases c.requires.place c.take_own_out.ensures.items c.take_own_out.ensures.len c.take_own_out.ensures.capacity in
+    let room = c.take_own_out.ensures.place c.requires.place in
     omega (arith, room, c.take_out.ensures.len, c.take_out.ensures.capacity)
 
 pub returns : goal.returns

@@ -8,7 +8,7 @@ invariant_of-self c = sound_out_of_hot c.self.inside.hot c.pop.new.self c.self.i
 
 pub invariant_of-self-in-None : goal.invariant_of-self-in-None
 invariant_of-self-in-None c =
-    sound_out_of_cold c.self.inside.hot c.pop.new.self c.self.inside.cold.entries c.remove.new.self.entries c.args.inode c.in-None.ensures.entries (sym c.in-None.ensures.value) c.remove.ensures.updates.0 c.self.invariant
+    sound_out_of_cold c.self.inside.hot c.pop.new.self c.self.inside.cold.entries c.swap_remove.new.self.entries c.args.inode c.in-None.ensures.entries (sym c.in-None.ensures.value) c.swap_remove.ensures.updates.0 c.self.invariant
 
 pub returns-in-Some-clause-removed : goal.returns-in-Some-clause-removed
 returns-in-Some-clause-removed c = sym (value_of_hot c.args.self.now c.self.inside.hot c.self.inside.cold.entries c.args.inode c.in-Some.content c.self.view_is (sym c.in-Some.ensures.value))
@@ -20,8 +20,8 @@ returns-in-Some-clause-others c =
 
 pub returns-in-None-clause-removed : goal.returns-in-None-clause-removed
 returns-in-None-clause-removed c =
-    c.remove.ensures.value ∙ sym (value_of_cold c.args.self.now c.self.inside.hot c.self.inside.cold.entries c.args.inode c.self.view_is (sym c.in-None.ensures.value))
+    c.swap_remove.ensures.value ∙ sym (value_of_cold c.args.self.now c.self.inside.hot c.self.inside.cold.entries c.args.inode c.self.view_is (sym c.in-None.ensures.value))
 
 pub returns-in-None-clause-others : goal.returns-in-None-clause-others
 returns-in-None-clause-others c =
-    seen_out_of_cold c.args.self.now c.self.inside.hot c.pop.new.self c.self.inside.cold.entries c.remove.new.self.entries c.args.inode c.self.view_is c.in-None.ensures.entries (sym c.in-None.ensures.value) c.remove.ensures.updates.0
+    seen_out_of_cold c.args.self.now c.self.inside.hot c.pop.new.self c.self.inside.cold.entries c.swap_remove.new.self.entries c.args.inode c.self.view_is c.in-None.ensures.entries (sym c.in-None.ensures.value) c.swap_remove.ensures.updates.0

@@ -1,20 +1,18 @@
 use Rattle.std.proofs.Common.{◌≡◌, ◌∙◌, IsSome, None, ap, sym}
-use Rattle.std.specs.Cmp.{nat_cmp_total}
-use Rattle.std.proofs.lemmas.Map.Lookups.{exact_unsigned}
 use Rattle.std.specs.FinMap as map
-use Rattle.assise_inode_table.proofs.MapView.{get-view, insert-view}
+use Rattle.assise_inode_table.proofs.MapView.{get-numbers, insert-numbers}
 use Rattle.assise_inode_table.proofs.TableView.{is_there}
 use Rattle.assise_digest.proofs.numbers.Numbers.set.Goals as goal
 
 pub returns : goal.returns
 returns c =
     let held = (c.get_mut.follows.holds c.args.number).3 (is_there c.in-Some.known.now _ c.in-Some.ensures.value) in
-    insert-view nat_cmp_total exact_unsigned c.self.inside.numbers.entries (c.get_mut.follows.lender c.args.number).entries c.args.inode c.args.number held.0
+    insert-numbers c.self.inside.numbers.entries (c.get_mut.follows.lender c.args.number).entries c.args.inode c.args.number held.0
     ∙ ap (λ m. map.insert m c.args.inode c.args.number) c.self.view_is
 
 pub unreachable-requires : goal.unreachable-requires
 unreachable-requires c =
     let none : map.get c.args.self.now c.args.inode ≡ None =
-    ap (λ m. map.get m c.args.inode) (sym c.self.view_is) ∙ get-view nat_cmp_total c.self.inside.numbers.entries c.args.inode ∙ sym c.in_default.ensures.value in
+    ap (λ m. map.get m c.args.inode) (sym c.self.view_is) ∙ get-numbers c.self.inside.numbers.entries c.args.inode ∙ sym c.in_default.ensures.value in
     let no : IsSome (map.get c.args.self.now c.args.inode) = c.requires.there in
     absurd (let lost = rw none at no in cc)

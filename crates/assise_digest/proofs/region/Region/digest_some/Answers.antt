@@ -1,9 +1,19 @@
-use Rattle.std.proofs.Common.{◌≡◌, ◌+◌, ◌∙◌, ap, subst, sym, arith}
+use Rattle.std.proofs.Common.{◌≡◌, ◌+◌, ◌∙◌, ap, length, subst, sym, arith}
 use Rattle.assise_private_log.specs.NumberedLog.{is_border}
-use Rattle.assise_digest.specs.Region.{IsNextGroup, TouchDisjoint, digested_by, digested_further, log_of}
+use Rattle.assise_digest.specs.Region.{IsNextGroup, TouchDisjoint, ahead, digested_by, digested_further, log_of}
 use Rattle.assise_digest.proofs.DigestKeepsReads.{disjoint_digested, digested_more, digested_none, given_alone, given_read, log_digested}
 use Rattle.assise_digest.proofs.Grouped.{none_asked, none_whole}
 use Rattle.assise_digest.proofs.region.Region.digest_some.Goals as goal
+
+pub returns-then-are_all_ahead-clause-read : goal.returns-then-are_all_ahead-clause-read
+returns-then-are_all_ahead-clause-read c =
+    let r = c.args.self.now in
+    given_read r c.settle.new.self c.args.client (length (ahead (log_of r c.args.client))) c.in_ok-settle.ensures.ok c.requires.client c.count_ahead.ensures.begun
+
+pub returns-then-are_all_ahead-clause-alone : goal.returns-then-are_all_ahead-clause-alone
+returns-then-are_all_ahead-clause-alone c =
+    let r = c.args.self.now in
+    given_alone r c.settle.new.self c.args.client (length (ahead (log_of r c.args.client))) c.in_ok-settle.ensures.ok c.requires.client c.count_ahead.ensures.begun c.requires.disjoint
 
 pub loop-count-init : goal.loop-count-init
 loop-count-init c = record { digested = sym (digested_none c.args.self.now c.args.client); within = omega arith; groups = λ some. absurd (omega arith) }

@@ -1,7 +1,5 @@
-use Rattle.std.proofs.Common.{◌∙◌, ap, sym, subst, Some}
-use Rattle.std.specs.Ordering.{nat_cmp}
+use Rattle.std.proofs.Common.{◌∙◌, ap, sym, subst, Some, nat_eq}
 use Rattle.std.specs.FinMap as map
-use Rattle.std.specs.BTreeMap.{is_at}
 use Rattle.std.proofs.lemmas.Map.Steps.{set_value_same}
 use Rattle.assise_inode_table.proofs.TableView.{change_none, change_some, value_at, is_there, on_err}
 use Rattle.assise_record.specs.Touched.{touched_by}
@@ -16,7 +14,7 @@ returns-in_default-clause-ok c =
 pub returns-in_err-change-clause-err : goal.returns-in_err-change-clause-err
 returns-in_err-change-clause-err c =
     let kept = sym c.in-Some.ensures.value ∙ ap Some (sym c.in_err-change.ensures.err) in
-    let same = set_value_same (is_at (nat_cmp c.touches.result)) c.self.inside.inodes.entries c.change.new.self kept in
+    let same = set_value_same (nat_eq c.touches.result) c.self.inside.inodes.entries c.change.new.self kept in
     on_err c.from_residual.result _ (ap map.from_entries ((c.get_mut.follows.holds c.change.new.self).0 ∙ same) ∙ c.self.view_is)
 
 pub returns-clause-ok : goal.returns-clause-ok

@@ -8,7 +8,6 @@ invariant_of-self g c =
     let choice = g.T.Chooses.choice c.args.test.now in
     record {
       held = λ i. held_after _ (revoke choice) refl _ (λ k v b w f' t. search rules) (revoke_any choice) _ _ c.retain.ensures.filtered i ∙ c.args.self.now.held i;
-      spared = c.args.self.now.spared;
     }
 
 pub returns : goal.returns
