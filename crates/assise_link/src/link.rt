@@ -1,6 +1,6 @@
 // What carries bytes from node to node.
 ghost use Rattle.std.specs.Prelude.{◌≡◌, ◌+◌, ◌⊎◌, ℕ, Bool, Contains, IfOk, IfSome, List, OnErr, OnOk, true};
-ghost use Rattle.assise_link.specs.Links.{IsFaithful, IsPrefixOnLink};
+ghost use Rattle.assise_link.specs.Links.{IsFaithful, IsPrefixOnLink, MayGiveAll};
 
 use crate::faults::Faults;
 use std::alloc::Global;
@@ -55,6 +55,14 @@ pub trait Link: Send {
     fn faults(&self) -> u64
         ensures { result ≡ count self.now };
 
+    /// Whether it may give whatever it is handed, and nothing is wanted of the bytes: then what they stand for can be handed over in
+    /// place of them.
+    fn hands_over(&self) -> bool
+        ensures { result ≡ true → MayGiveAll (gives self.now) }
+    {
+        false
+    }
+
     ghost prefixes: { (l : Self) (bytes came : List ℕ) → gives l bytes came
         → IsPrefixOnLink bytes (stored l) came };
 
@@ -99,6 +107,10 @@ impl Link for PerfectLink {
 
     fn faults(&self) -> u64 {
         self.faults.count
+    }
+
+    fn hands_over(&self) -> bool {
+        true
     }
 
     ghost prefixes = { λ _ bytes came is. whole bytes came [] is };

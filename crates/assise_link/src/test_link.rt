@@ -109,6 +109,10 @@ impl Link for TestLink {
         }
     }
 
+    fn hands_over(&self) -> bool {
+        matches!(self, TestLink::Perfect(_))
+    }
+
     ghost prefixes = { by_kind };
 
     ghost same = { same_by_kind };

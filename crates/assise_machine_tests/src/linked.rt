@@ -49,24 +49,24 @@ pub(crate) fn put_carried(
 ) -> Option<()> {
     match desk.cluster.outgoing(alloc, node) {
         Ok(frames) => {
-            let taken = carry_all(alloc, desk, node, frames.as_slice())?;
+            let taken = carry_all(alloc, desk, node, frames)?;
             write!(text, "carried {taken}").ok()
         }
         Err(refusal) => write!(text, "{refusal}").ok(),
     }
 }
 
-fn carry_all(alloc: Global, desk: &mut Desk, node: u32, frames: &[(Frame, u32)]) -> Option<u32> {
+fn carry_all(alloc: Global, desk: &mut Desk, node: u32, frames: Vec<(Frame, u32)>) -> Option<u32> {
     let link = desk.links.get_mut(place_of(node)?)?;
     let mut taken = 0_u32;
     for (frame, next) in frames {
-        let Ok(newest) = desk.cluster.level(*next) else {
+        let Ok(newest) = desk.cluster.level(next) else {
             continue;
         };
         let Some(came) = carry_frame(alloc, link, newest, frame) else {
             continue;
         };
-        if desk.cluster.deliver(came, *next).is_ok() {
+        if desk.cluster.deliver(came, next).is_ok() {
             taken = taken.saturating_add(1);
         }
     }

@@ -53,7 +53,7 @@ fn deliver_all<C: Revokes + Drop, L: Link>(
 {
     let mut taken = 0;
     for (frame, next) in frames {
-        if deliver(alloc, cluster, link, &frame, next) {
+        if deliver(alloc, cluster, link, frame, next) {
             taken += 1;
         }
     }
@@ -65,10 +65,10 @@ fn deliver<C: Revokes + Drop, L: Link>(
     alloc: Global,
     cluster: &mut ClusterOf<C>,
     link: &mut L,
-    frame: &Frame,
+    frame: Frame,
     node: u32,
 ) -> bool
-    ensures delivers { DeliversOver (L.faithful link.old ≡ true) frame.now node result
+    ensures delivers { DeliversOver (L.faithful link.old ≡ true) frame node result
         (machine cluster.old) (machine cluster.new) }
     ensures stays { L.faithful link.new ≡ L.faithful link.old }
 {

@@ -109,7 +109,7 @@ impl<'a, S: Replicated> Worker<'a, S> {
     {
         let mut taken = 0u64;
         for letter in letters {
-            match self.send(rt, alloc, &letter, link, gate) {
+            match self.send(rt, alloc, letter, link, gate) {
                 Some(one) => taken = taken.saturating_add(one),
                 None => return TurnEnd::Stopped,
             }
@@ -122,7 +122,7 @@ impl<'a, S: Replicated> Worker<'a, S> {
         &mut self,
         rt: &R,
         alloc: Global,
-        letter: &Letter,
+        letter: Letter,
         link: &mut L,
         gate: &G,
     ) -> Option<u64>
@@ -131,13 +131,14 @@ impl<'a, S: Replicated> Worker<'a, S> {
         if !gate.pass(Point::BeforeCarry) {
             return None;
         }
-        let Some(came) = carry_frame(alloc, link, letter.newest, &letter.frame) else {
+        let next = letter.next;
+        let Some(came) = carry_frame(alloc, link, letter.newest, letter.frame) else {
             return Some(0);
         };
         if !gate.pass(Point::BeforeDeliver) {
             return None;
         }
-        Some(self.bring_in(rt, came, letter.next))
+        Some(self.bring_in(rt, came, next))
     }
 
     // A frame comes to a node; how many were taken in.
