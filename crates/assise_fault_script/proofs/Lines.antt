@@ -1,11 +1,13 @@
 -- A script is cut at its first line feed.
-use Rattle.std.proofs.Common.{◌≡◌, ℕ, ◌+◌, ◌-◌, ◌<◌, ◌≤◌, Bool, List, [], ◌∷◌, length, take, drop, map, filter, Some, None, nat_lt, ap, ◌∙◌, arith, inl, inr, refl, length-drop}
+use Rattle.std.proofs.Common.{◌≡◌, ◌≢◌, ℕ, true, false, Option, sym, ◌+◌, ◌-◌, ◌<◌, ◌≤◌, Bool, List, [], ◌∷◌, length, take, drop, map, filter, Some, None, nat_lt, ap, ◌∙◌, arith, inl, inr, refl, length-drop}
 use Rattle.std.proofs.lemmas.Bool.{cases_Bool}
 use Rattle.std.proofs.lemmas.Bool.Decides.{nat_tests}
 use Rattle.std.proofs.lemmas.List.{take_all}
 use Rattle.std.proofs.lemmas.List.Splits.{slice_split_first, slice_split_none, length-slice_split}
 use Rattle.std.proofs.lemmas.List.Sums.{fails_before_first}
+use Rattle.std.proofs.lemmas.List.Sums.{position_or_len_is}
 use Rattle.std.specs.List.{slice_split, position, position_or_len}
+use Rattle.memchr.specs.Find.{IsFirstByte, is_byte}
 use Rattle.assise_fault_script.specs.Words.{is_line_feed, lines_of, without_return, without_returns}
 
 -- what stands behind place i
@@ -41,6 +43,21 @@ uncut bs e =
           let ge : length bs ≤ position_or_len is_line_feed bs = grind (arith, nat_tests) in
           ap without_returns (slice_split_none is_line_feed bs (λ k d lt. fails_before_first is_line_feed bs k d (omega arith)))
     ]
+
+is_false : (b : Bool) → b ≢ true → b ≡ false
+is_false b not_true = elim (cases_Bool b) [ inl is_true ↦ absurd (not_true is_true) | inr false_is ↦ false_is ]
+
+-- the first byte that is a line feed stands at the position of one
+pub first_place : (bs : List ℕ) (r : Option ℕ) → IsFirstByte (is_byte 10) bs r → r ≡ position is_line_feed bs
+first_place bs None h =
+    let none : position_or_len is_line_feed bs ≡ length bs = position_or_len_is is_line_feed bs (length bs) 0 (omega arith) (λ k lt. is_false _ (h k (omega arith) lt)) (λ lt. absurd (omega (arith, lt))) in
+    let no : nat_lt (position_or_len is_line_feed bs) (length bs) ≡ false = grind (arith, nat_tests) in
+    rw no refl
+first_place bs (Some k) h =
+    let inside = h.0.high in
+    let at : position_or_len is_line_feed bs ≡ k = position_or_len_is is_line_feed bs k 0 (omega (arith, inside)) (λ j lt. is_false _ (h.0.before j (omega arith) lt)) (λ lt. h.1) in
+    let yes : nat_lt (position_or_len is_line_feed bs) (length bs) ≡ true = grind (arith, nat_tests) in
+    rw yes (ap Some (sym at))
 
 pub map-filter : {X Y : Type 0} (f : X → Y) (p : Y → Bool) (xs : List X) → map f (filter (λ x. p (f x)) xs) ≡ filter p (map f xs)
 map-filter f p [] = refl

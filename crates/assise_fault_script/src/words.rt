@@ -4,6 +4,7 @@ ghost use Rattle.std.specs.List.{position};
 ghost use Rattle.assise_fault_script.specs.Words.{is_line_feed, is_word, lines_of, without_return, words_of};
 
 use arrayvec::ArrayVec;
+use memchr::memchr;
 
 /// One word more than a command has at most.
 pub const MOST_WORDS: usize = 6;
@@ -52,7 +53,7 @@ pub fn split_line(bytes: &[u8]) -> Option<(&[u8], &[u8])>
 fn first_line_feed(bytes: &[u8]) -> Option<usize>
     ensures { result ≡ position is_line_feed bytes.now }
 {
-    bytes.iter().position(|b| *b == b'\n')
+    memchr(b'\n', bytes)
 }
 
 fn without_return(bytes: &[u8]) -> &[u8]

@@ -2,7 +2,6 @@ use Rattle.std.proofs.Common.{◌∙◌, refl, ◌≡◌, true, rules, length, a
 use Rattle.assise_machine.specs.Clusters.{machine}
 use Rattle.assise_rounds.proofs.CarriedFrames.{none_carried, one_lost, one_taken}
 use Rattle.assise_rounds.proofs.rounds.deliver_all.Goals as goal
-use Rattle.assise_rounds.proofs.rounds.deliver_all.Goals.{then-deliver, else-deliver}
 
 pub overflow_add-taken : goal.overflow_add-taken
 overflow_add-taken g c =
@@ -12,6 +11,19 @@ overflow_add-taken g c =
 pub loop-frame-init : goal.loop-frame-init
 loop-frame-init g c = record { carried = none_carried (g.L.Link.faithful c.args.link.now ≡ true) (machine c.args.cluster.now); stays = refl; few = search rules }
 
+pub loop-frame-preserved-then-deliver : goal.loop-frame-preserved-then-deliver
+loop-frame-preserved-then-deliver g c =
+    let m = machine c.args.cluster.now in
+    let v = machine c.loop-frame.cluster in
+    let u = machine c.deliver.new.cluster in
+    let before = c.loop-frame.invariant in
+    let rest = ap length c.in-Some.ensures.steps.0 in
+    record {
+      carried = one_taken (g.L.Link.faithful c.args.link.now ≡ true) (g.L.Link.faithful c.loop-frame.link ≡ true) (λ faithful. before.stays ∙ faithful) m v u c.loop-frame.yielded c.loop-frame.taken c.in-Some.frame c.in-Some.next c.deliver.result before.carried c.deliver.ensures.delivers c.if-deliver.true;
+      stays = c.deliver.ensures.stays ∙ before.stays;
+      few = omega (arith, rest, before.few);
+    }
+
 pub loop-frame-preserved : goal.loop-frame-preserved
 loop-frame-preserved g c =
     let m = machine c.args.cluster.now in
@@ -19,35 +31,8 @@ loop-frame-preserved g c =
     let u = machine c.deliver.new.cluster in
     let before = c.loop-frame.invariant in
     let rest = ap length c.in-Some.ensures.steps.0 in
-    elim c.if-deliver.branch [
-      | then-deliver w ↦ rw w.taken-is (record {
-        carried = one_taken (g.L.Link.faithful c.args.link.now ≡ true) (g.L.Link.faithful c.loop-frame.link ≡ true) (λ faithful. before.stays ∙ faithful) m v u c.loop-frame.yielded c.loop-frame.taken c.in-Some.frame c.in-Some.next c.deliver.result before.carried c.deliver.ensures.delivers w.if-deliver.true;
-        stays = c.deliver.ensures.stays ∙ before.stays;
-        few = omega (arith, rest, before.few);
-      })
-      | else-deliver w ↦ rw w.taken-is (record {
-        carried = one_lost (g.L.Link.faithful c.args.link.now ≡ true) (g.L.Link.faithful c.loop-frame.link ≡ true) (λ faithful. before.stays ∙ faithful) m v u c.loop-frame.yielded c.loop-frame.taken c.in-Some.frame c.in-Some.next c.deliver.result before.carried c.deliver.ensures.delivers w.if-deliver.false;
-        stays = c.deliver.ensures.stays ∙ before.stays;
-        few = omega (arith, rest, before.few);
-      })
-    ]
-
-pub loop-frame-preserved-after-deliver : goal.loop-frame-preserved-after-deliver
-loop-frame-preserved-after-deliver g c =
-    let m = machine c.args.cluster.now in
-    let v = machine c.loop-frame.cluster in
-    let u = machine c.deliver.new.cluster in
-    let before = c.loop-frame.invariant in
-    let rest = ap length c.in-Some.ensures.steps.0 in
-    elim c.if-deliver.branch [
-      | then-deliver w ↦ rw w.taken-is (record {
-        carried = one_taken (g.L.Link.faithful c.args.link.now ≡ true) (g.L.Link.faithful c.loop-frame.link ≡ true) (λ faithful. before.stays ∙ faithful) m v u c.loop-frame.yielded c.loop-frame.taken c.in-Some.frame c.in-Some.next c.deliver.result before.carried c.deliver.ensures.delivers w.if-deliver.true;
-        stays = c.deliver.ensures.stays ∙ before.stays;
-        few = omega (arith, rest, before.few);
-      })
-      | else-deliver w ↦ rw w.taken-is (record {
-        carried = one_lost (g.L.Link.faithful c.args.link.now ≡ true) (g.L.Link.faithful c.loop-frame.link ≡ true) (λ faithful. before.stays ∙ faithful) m v u c.loop-frame.yielded c.loop-frame.taken c.in-Some.frame c.in-Some.next c.deliver.result before.carried c.deliver.ensures.delivers w.if-deliver.false;
-        stays = c.deliver.ensures.stays ∙ before.stays;
-        few = omega (arith, rest, before.few);
-      })
-    ]
+    record {
+      carried = one_lost (g.L.Link.faithful c.args.link.now ≡ true) (g.L.Link.faithful c.loop-frame.link ≡ true) (λ faithful. before.stays ∙ faithful) m v u c.loop-frame.yielded c.loop-frame.taken c.in-Some.frame c.in-Some.next c.deliver.result before.carried c.deliver.ensures.delivers c.if-deliver.false;
+      stays = c.deliver.ensures.stays ∙ before.stays;
+      few = omega (arith, rest, before.few);
+    }
