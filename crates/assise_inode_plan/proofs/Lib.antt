@@ -1,5 +1,6 @@
 pub mod WalkRest
 pub mod WalkEnds
+pub mod WalkTwice
 pub mod WriteLeases
 pub mod QuietPlans
 pub mod FileChanging

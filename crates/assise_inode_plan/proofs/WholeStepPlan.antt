@@ -9,7 +9,8 @@ use Rattle.assise_inode_table.specs.Contents.{Values}
 use Rattle.assise_inode_table.specs.Effects.{touched}
 use Rattle.assise_inode_table.specs.Interaction.{Step}
 use Rattle.assise_inode_plan.specs.Leased.{LeaseView, for_reading, for_writing, first_missing}
-use Rattle.assise_inode_plan.specs.Planning.{PlanAnswers, Plan, changed_plan_of, missing, plan_lacking, plan_of, ready, visited_plan_of}
+use Rattle.assise_inode_table.specs.Whole.{CanBeMadeWhole}
+use Rattle.assise_inode_plan.specs.Planning.{PlanAnswers, Plan, changed_plan_of, effects_planned, missing, plan_lacking, plan_of, ready, visited_plan_of}
 
 pub visits_then_changes : (leased : LeaseView) (s : Step) → changed_plan_of leased (visited_plan_of leased s) ≡ plan_of leased s
 visits_then_changes leased s = go s.visits
@@ -30,3 +31,12 @@ answers_kept v outcome leased (ready s) h = go (first_missing leased (for_writin
     go : (o : Option (ℕ × Mode)) → PlanAnswers v outcome (plan_lacking s o)
     go None = h
     go (Some w) = tt
+
+-- and nothing is changed
+pub whole_kept : (leased : LeaseView) (p : Plan) → CanBeMadeWhole (effects_planned p) → CanBeMadeWhole (effects_planned (changed_plan_of leased p))
+whole_kept leased (missing i mode) h = h
+whole_kept leased (ready s) h = go (first_missing leased (for_writing (touched s.effects)))
+  where
+    go : (o : Option (ℕ × Mode)) → CanBeMadeWhole (effects_planned (plan_lacking s o))
+    go None = h
+    go (Some w) = inr (inl tt)

@@ -1,8 +1,9 @@
 -- Plans by visits of what is left of a call, after some of them.
-use Rattle.std.specs.Prelude.{ℕ, if◌then◌else◌, List, [], ◌∷◌, ◌++◌}
+use Rattle.std.specs.Prelude.{◌≡◌, ℕ, if◌then◌else◌, List, [], ◌∷◌, ◌++◌}
 use Rattle.assise_names.specs.declared.mode.Mode.TheVariants.{Read}
 use Rattle.assise_names.specs.declared.reply.Reply.TheVariants.{Error}
-use Rattle.assise_inode_table.specs.Contents.{Values}
+use Rattle.assise_inode_table.specs.Calls.{walk}
+use Rattle.assise_inode_table.specs.Contents.{Content, Values}
 use Rattle.assise_inode_table.specs.Interaction.{Interaction, visit, finish}
 use Rattle.assise_inode_plan.specs.Leased.{LeaseView}
 use Rattle.assise_inode_plan.specs.Planning.{Plan, ready, missing}
@@ -18,3 +19,7 @@ plan_from leased v before (finish reply es) = ready (record { visits = before; r
 abbrev pub plan_stopped : List ℕ → Stop → Plan
 plan_stopped before (Fault error) = ready (record { visits = before; reply = Error error; effects = [] })
 plan_stopped before (Unleased i) = missing i Read
+
+-- a walk along the path ends at this inode, behind these visits
+abbrev pub EndsAt : LeaseView → Values → List ℕ → List (List ℕ) → List ℕ → ℕ → Content → Type 0
+EndsAt leased v before p visits i content = (next : ℕ → Content → Interaction) → plan_from leased v before (walk p next) ≡ plan_from leased v visits (next i content)

@@ -10,7 +10,7 @@ ghost use Rattle.assise_names.specs.declared.refusal.Refusal.TheVariants.{OutOfM
 ghost use Rattle.assise_record.specs.declared.effect.Effect.TheVariants.{Link};
 
 use crate::ending::{answered, finished, stopped};
-use crate::plan::Planned;
+use crate::plan::{Planned, Visits};
 use crate::view::View;
 use crate::walk::walk;
 use assise_names::name::Name;
@@ -67,7 +67,7 @@ fn plan_new<V: View>(
         (visits_of (values (V.contents view.now)) (make_call new.now names.now fresh))) }
     ensures only_memory { IsOkUnless result OutOfMemory }
 {
-    let mut reads = Vec::new(alloc);
+    let mut reads = Visits::new(alloc);
     let [parent @ .., name] = names else {
         return Ok(answered(alloc, Reply::Error(TreeError::Exists), reads));
     };

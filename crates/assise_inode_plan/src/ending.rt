@@ -3,7 +3,7 @@ ghost use Rattle.std.specs.Prelude.{◌≡◌, []};
 ghost use Rattle.assise_inode_plan.specs.Planning.{ready, shown};
 ghost use Rattle.assise_inode_plan.specs.Walking.{plan_stopped};
 
-use crate::plan::Planned;
+use crate::plan::{Planned, Visits};
 use crate::walk::Stop;
 use assise_names::mode::Mode;
 use assise_names::reply::Reply;
@@ -11,7 +11,7 @@ use assise_record::effect::Effect;
 use std::alloc::Global;
 
 /// The plan of a call that changes nothing.
-pub(crate) fn answered(alloc: Global, reply: Reply, reads: Vec<u64>) -> Planned
+pub(crate) fn answered(alloc: Global, reply: Reply, reads: Visits) -> Planned
     ensures { shown result ≡ ready (record { visits = reads.items; reply = reply; effects = [] }) }
 {
     Planned::Ready {
@@ -22,7 +22,7 @@ pub(crate) fn answered(alloc: Global, reply: Reply, reads: Vec<u64>) -> Planned
 }
 
 /// The plan of a call whose walk stopped.
-pub(crate) fn stopped(alloc: Global, stop: Stop, reads: Vec<u64>) -> Planned
+pub(crate) fn stopped(alloc: Global, stop: Stop, reads: Visits) -> Planned
     ensures { shown result ≡ plan_stopped reads.items stop }
 {
     match stop {
@@ -32,7 +32,7 @@ pub(crate) fn stopped(alloc: Global, stop: Stop, reads: Vec<u64>) -> Planned
 }
 
 /// The plan of a call that has made its visits.
-pub(crate) fn finished(reply: Reply, reads: Vec<u64>, effects: Vec<Effect>) -> Planned
+pub(crate) fn finished(reply: Reply, reads: Visits, effects: Vec<Effect>) -> Planned
     ensures { shown result ≡ ready (record {
       visits = reads.items;
       reply = reply;

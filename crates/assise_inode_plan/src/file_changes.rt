@@ -10,7 +10,7 @@ ghost use Rattle.assise_names.specs.declared.refusal.Refusal.TheVariants.{OutOfM
 ghost use Rattle.assise_record.specs.declared.effect.Effect.TheVariants.{SetLen};
 
 use crate::ending::{answered, finished, stopped};
-use crate::plan::Planned;
+use crate::plan::{Planned, Visits};
 use crate::view::View;
 use crate::walk::walk;
 use assise_names::byte_string::ByteString;
@@ -36,7 +36,7 @@ pub(crate) fn plan_write<V: View>(
         (visits_of (values (V.contents view.now)) (write_call names.now offset new.now))) }
     ensures only_memory { IsOkUnless result OutOfMemory }
 {
-    let mut reads = Vec::new(alloc);
+    let mut reads = Visits::new(alloc);
     let (file, inode) = match walk(view, names, &mut reads)? {
         Ok(reached) => reached,
         Err(stop) => return Ok(stopped(alloc, stop, reads)),
@@ -64,7 +64,7 @@ pub(crate) fn plan_truncate<V: View>(
         (visits_of (values (V.contents view.now)) (truncate_call names.now size))) }
     ensures only_memory { IsOkUnless result OutOfMemory }
 {
-    let mut reads = Vec::new(alloc);
+    let mut reads = Visits::new(alloc);
     let (file, inode) = match walk(view, names, &mut reads)? {
         Ok(reached) => reached,
         Err(stop) => return Ok(stopped(alloc, stop, reads)),

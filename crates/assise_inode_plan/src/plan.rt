@@ -25,7 +25,14 @@ use assise_names::mode::Mode;
 use assise_names::refusal::Refusal;
 use assise_names::reply::Reply;
 use assise_record::effect::Effect;
+use smallvec::SmallVec;
 use std::alloc::Global;
+
+/// How many visits lie in the value itself: few calls make more.
+const USUAL_VISITS: usize = 8;
+
+/// The numbers of the inodes that a call visits, in order.
+pub type Visits = SmallVec<u64, USUAL_VISITS>;
 
 /// What is planned for a call.
 #[derive(Debug, Drop)]
@@ -35,7 +42,7 @@ pub enum Planned {
         /// What it answers.
         reply: Reply,
         /// The inodes that it visits, in order.
-        reads: Vec<u64>,
+        reads: Visits,
         /// What it does, in order.
         effects: Vec<Effect>,
     },
@@ -164,7 +171,7 @@ fn plan_call<V: View>(alloc: Global, view: &V, op: &Op, fresh: u64) -> Result<Pl
         Op::Rmdir(path) => plan_rmdir(alloc, view, path.names()),
         Op::List(path) => plan_list(alloc, view, path.names()),
         Op::Stat(path) => plan_stat(alloc, view, path.names()),
-        Op::Fsync => Ok(answered(alloc, Reply::Done, Vec::new(alloc))),
-        Op::Dsync => Ok(answered(alloc, Reply::Done, Vec::new(alloc))),
+        Op::Fsync => Ok(answered(alloc, Reply::Done, Visits::new(alloc))),
+        Op::Dsync => Ok(answered(alloc, Reply::Done, Visits::new(alloc))),
     }
 }

@@ -9,7 +9,7 @@ ghost use Rattle.assise_inode_table.specs.Interaction.{visits_of};
 ghost use Rattle.assise_names.specs.declared.refusal.Refusal.TheVariants.{OutOfMemory};
 
 use crate::ending::{answered, stopped};
-use crate::plan::Planned;
+use crate::plan::{Planned, Visits};
 use crate::view::View;
 use crate::walk::walk;
 use assise_names::name::Name;
@@ -31,7 +31,7 @@ pub(crate) fn plan_read<V: View>(
         (visits_of (values (V.contents view.now)) (read_call names.now offset length))) }
     ensures only_memory { IsOkUnless result OutOfMemory }
 {
-    let mut reads = Vec::new(alloc);
+    let mut reads = Visits::new(alloc);
     let (_, inode) = match walk(view, names, &mut reads)? {
         Ok(reached) => reached,
         Err(stop) => return Ok(stopped(alloc, stop, reads)),
@@ -57,7 +57,7 @@ pub(crate) fn plan_list<V: View>(
         (visits_of (values (V.contents view.now)) (list_call names.now))) }
     ensures only_memory { IsOkUnless result OutOfMemory }
 {
-    let mut reads = Vec::new(alloc);
+    let mut reads = Visits::new(alloc);
     let (_, inode) = match walk(view, names, &mut reads)? {
         Ok(reached) => reached,
         Err(stop) => return Ok(stopped(alloc, stop, reads)),
@@ -83,7 +83,7 @@ pub(crate) fn plan_stat<V: View>(
         (visits_of (values (V.contents view.now)) (stat_call names.now))) }
     ensures only_memory { IsOkUnless result OutOfMemory }
 {
-    let mut reads = Vec::new(alloc);
+    let mut reads = Visits::new(alloc);
     match walk(view, names, &mut reads)? {
         Ok((_, inode)) => Ok(answered(alloc, inode.describe(), reads)),
         Err(stop) => Ok(stopped(alloc, stop, reads)),

@@ -10,7 +10,7 @@ ghost use Rattle.assise_names.specs.declared.refusal.Refusal.TheVariants.{OutOfM
 ghost use Rattle.assise_record.specs.declared.effect.Effect.TheVariants.{Free, Unlink};
 
 use crate::ending::{answered, finished, stopped};
-use crate::plan::Planned;
+use crate::plan::{Planned, Visits};
 use crate::view::View;
 use crate::walk::walk_to_entry;
 use assise_names::name::Name;
@@ -31,7 +31,7 @@ pub(crate) fn plan_unlink<V: View>(
         (visits_of (values (V.contents view.now)) (unlink_call names.now))) }
     ensures only_memory { IsOkUnless result OutOfMemory }
 {
-    let mut reads = Vec::new(alloc);
+    let mut reads = Visits::new(alloc);
     let [parent @ .., name] = names else {
         return Ok(answered(alloc, Reply::Error(TreeError::IsDir), reads));
     };
@@ -58,7 +58,7 @@ pub(crate) fn plan_rmdir<V: View>(
         (visits_of (values (V.contents view.now)) (rmdir_call names.now))) }
     ensures only_memory { IsOkUnless result OutOfMemory }
 {
-    let mut reads = Vec::new(alloc);
+    let mut reads = Visits::new(alloc);
     let [parent @ .., name] = names else {
         return Ok(answered(alloc, Reply::Error(TreeError::Invalid), reads));
     };

@@ -1,20 +1,21 @@
 // Plans of renames.
-ghost use Rattle.std.specs.Prelude.{◌≡◌, ◌<◌, ◌++◌, IfOk, IsOkUnless, OnErr, OnOk, [], length};
+ghost use Rattle.std.specs.Prelude.{◌≡◌, ◌<◌, ◌≤◌, ◌++◌, IfOk, IsOkUnless, MatchResult, OnErr, OnOk, [], length, take, ℕ};
 ghost use Rattle.std.specs.FinMap as map;
 ghost use Rattle.assise_inode_plan.specs.Moving.{effects_of_move};
 ghost use Rattle.assise_inode_plan.specs.Leased.{NotesAVisit};
 ghost use Rattle.assise_inode_plan.specs.Planning.{shown};
-ghost use Rattle.assise_inode_plan.specs.Walking.{plan_from};
-ghost use Rattle.assise_inode_table.specs.Calls.{content_may_replace, move_to, receive, rename_call, replace_target};
-ghost use Rattle.assise_inode_table.specs.Contents.{values};
-ghost use Rattle.assise_inode_table.specs.Interaction.{visits_of};
+ghost use Rattle.assise_inode_plan.specs.Walking.{EndsAt, plan_from, plan_stopped};
+ghost use Rattle.assise_inode_table.specs.Calls.{content_may_replace, move_to, receive, rename_call, replace_target, walk};
+ghost use Rattle.assise_inode_table.specs.Contents.{Content, values};
+ghost use Rattle.assise_inode_table.specs.Interaction.{Interaction, visits_of};
 ghost use Rattle.assise_names.specs.declared.refusal.Refusal.TheVariants.{OutOfMemory};
+ghost use Rattle.assise_seq_tree.specs.Answer.{parent_of};
 
 use crate::ending::{answered, finished, stopped};
-use crate::plan::Planned;
+use crate::plan::{Planned, Visits};
 use crate::removal::removal_effects;
 use crate::view::View;
-use crate::walk::{Entry, reach, walk, walk_to_entry};
+use crate::walk::{Entry, Stop, reach, walk, walk_to_entry};
 use assise_inode_table::directory::Directory;
 use assise_inode_table::inode::Inode;
 use assise_names::name::Name;
@@ -51,7 +52,7 @@ pub(crate) fn plan_rename<V: View>(
         (visits_of (values (V.contents view.now)) (rename_call from.now to.now))) }
     ensures only_memory { IsOkUnless result OutOfMemory }
 {
-    let mut reads = Vec::new(alloc);
+    let mut reads = Visits::new(alloc);
     let (names, new_names) = (from.names(), to.names());
     let ([parent @ .., name], [_, ..]) = (names, new_names) else {
         return Ok(answered(alloc, Reply::Error(TreeError::Invalid), reads));
@@ -72,10 +73,14 @@ fn plan_move<V: View>(
     from: &[Name],
     to: &[Name],
     entry: &Entry,
-    mut reads: Vec<u64>,
+    mut reads: Visits,
 ) -> Result<Planned, Refusal>
     requires from { 0 < length from.now }
     requires to { 0 < length to.now }
+    requires walked { EndsAt (V.leased view.now) (values (V.contents view.now)) []
+        (parent_of from.now) (take entry.now.visits reads.items)
+        entry.now.directory entry.now.parent.now }
+    requires visits { entry.now.visits ≤ length reads.items }
     ensures exact { IfOk result (λ p. shown p ≡ plan_from (V.leased view.now)
         (values (V.contents view.now)) reads.items
         (move_to from.now to.now entry.now.directory entry.now.inode entry.now.content.now)) }
@@ -84,7 +89,7 @@ fn plan_move<V: View>(
     let ([from_parent @ .., name], [to_parent @ .., new_name]) = (from, to) else {
         unreachable!();
     };
-    let (directory, inode) = match walk(view, to_parent, &mut reads)? {
+    let (directory, inode) = match walk_to_taker(view, from_parent, to_parent, entry, &mut reads)? {
         Ok(reached) => reached,
         Err(stop) => return Ok(stopped(alloc, stop, reads)),
     };
@@ -104,6 +109,47 @@ fn plan_move<V: View>(
     plan_receiving(alloc, view, &moving, from_parent == to_parent, links, reads)
 }
 
+/// Walks to the directory that takes an entry. Where the entry stays in its directory, the visits of the walk to it are repeated.
+fn walk_to_taker<'a, V: View>(
+    view: &'a V,
+    parent: &[Name],
+    taker: &[Name],
+    entry: &Entry<'a>,
+    reads: &mut Visits,
+) -> Result<Result<(u64, &'a Inode), Stop>, Refusal>
+    requires walked { EndsAt (V.leased view.now) (values (V.contents view.now)) []
+        parent.now (take entry.now.visits reads.old.items)
+        entry.now.directory entry.now.parent.now }
+    requires visits { entry.now.visits ≤ length reads.old.items }
+    ensures left { IfOk result (λ end. (next : ℕ → Content → Interaction) →
+        MatchResult end (λ r. plan_from (V.leased view.now)
+        (values (V.contents view.now)) reads.old.items (walk taker.now next) ≡ plan_from
+        (V.leased view.now) (values (V.contents view.now)) reads.new.items (next r.0 r.1.now))
+        (λ stop. plan_from (V.leased view.now) (values (V.contents view.now)) reads.old.items
+        (walk taker.now next) ≡ plan_stopped reads.new.items stop)) }
+    ensures only_memory { IsOkUnless result OutOfMemory }
+{
+    if parent == taker {
+        repeat(reads, entry.visits)?;
+        return Ok(Ok((entry.directory, entry.parent)));
+    }
+    walk(view, taker, reads)
+}
+
+/// Repeats the first visits, so many, behind the others.
+fn repeat(visits: &mut Visits, count: usize) -> Result<(), Refusal>
+    requires { count ≤ length visits.old.items }
+    ensures ok { OnOk result (visits.new.items ≡
+        visits.old.items ++ take count visits.old.items) }
+    ensures only_memory { IsOkUnless result OutOfMemory }
+{
+    for place in 0..count {
+        let inode = visits.as_slice()[place];
+        visits.push(inode)?;
+    }
+    Ok(())
+}
+
 /// Moves an entry into a directory with these links. Where it stays in its directory, it needs no room.
 fn plan_receiving<V: View>(
     alloc: Global,
@@ -111,7 +157,7 @@ fn plan_receiving<V: View>(
     moving: &Move,
     stays: bool,
     links: &Directory,
-    reads: Vec<u64>,
+    reads: Visits,
 ) -> Result<Planned, Refusal>
     ensures exact { IfOk result (λ p. shown p ≡ plan_from (V.leased view.now)
         (values (V.contents view.now)) reads.items
@@ -137,7 +183,7 @@ fn plan_replacing<V: View>(
     view: &V,
     moving: &Move,
     target: u64,
-    mut reads: Vec<u64>,
+    mut reads: Visits,
 ) -> Result<Planned, Refusal>
     ensures exact { IfOk result (λ p. shown p ≡ plan_from (V.leased view.now)
         (values (V.contents view.now)) reads.items

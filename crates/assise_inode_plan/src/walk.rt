@@ -1,6 +1,6 @@
 // Walks along paths over leased inodes.
-ghost use Rattle.std.specs.Prelude.{◌≡◌, IfOk, IsOkUnless, MatchResult, OnErr, Option, [], option_copied, true, ℕ};
-ghost use Rattle.assise_inode_plan.specs.Walking.{plan_from, plan_stopped};
+ghost use Rattle.std.specs.Prelude.{◌≡◌, ◌≤◌, ◌++◌, ◌∷◌, IfOk, IsOkUnless, MatchResult, OnErr, Option, [], length, option_copied, take, true, ℕ};
+ghost use Rattle.assise_inode_plan.specs.Walking.{EndsAt, plan_from, plan_stopped};
 ghost use Rattle.assise_inode_table.specs.Calls.{walk, walk_from, walk_to_entry};
 ghost use Rattle.assise_inode_table.specs.Contents.{Content, values};
 ghost use Rattle.assise_inode_table.specs.Interaction.{Interaction, visit};
@@ -8,6 +8,7 @@ ghost use Rattle.assise_inode_table.specs.Reach.{link_of};
 ghost use Rattle.assise_names.specs.declared.mode.Mode.TheVariants.{Read};
 ghost use Rattle.assise_names.specs.declared.refusal.Refusal.TheVariants.{OutOfMemory};
 
+use crate::plan::Visits;
 use crate::view::{View, look_at};
 use assise_inode_table::inode::Inode;
 use assise_inode_table::table::ROOT;
@@ -15,9 +16,6 @@ use assise_names::mode::Mode;
 use assise_names::name::Name;
 use assise_names::refusal::Refusal;
 use assise_names::reply::TreeError;
-
-/// The visits for which the first one makes room: few calls make more.
-const USUAL_VISITS: usize = 16;
 
 /// Why a walk ends early.
 #[derive(Clone, Copy, Debug)]
@@ -33,6 +31,10 @@ pub(crate) enum Stop {
 pub(crate) struct Entry<'a> {
     /// The number of the directory.
     pub(crate) directory: u64,
+    /// What the directory holds.
+    pub(crate) parent: &'a Inode,
+    /// How many visits led to the directory, the last of which is its own.
+    pub(crate) visits: usize,
     /// The number of the inode that the entry links to.
     pub(crate) inode: u64,
     /// What that inode holds.
@@ -43,7 +45,7 @@ pub(crate) struct Entry<'a> {
 pub(crate) fn walk<'a, V: View>(
     view: &'a V,
     names: &[Name],
-    reads: &mut Vec<u64>,
+    reads: &mut Visits,
 ) -> Result<Result<(u64, &'a Inode), Stop>, Refusal>
     ensures left { IfOk result (λ end. (next : ℕ → Content → Interaction) →
         MatchResult end (λ r. plan_from (V.leased view.now)
@@ -77,7 +79,7 @@ pub(crate) fn walk_to_entry<'a, V: View>(
     view: &'a V,
     parent: &[Name],
     name: &Name,
-    reads: &mut Vec<u64>,
+    reads: &mut Visits,
 ) -> Result<Result<Entry<'a>, Stop>, Refusal>
     ensures left { IfOk result (λ end. (next : ℕ → ℕ → Content → Interaction) →
         MatchResult end (λ e. plan_from (V.leased view.now)
@@ -86,6 +88,10 @@ pub(crate) fn walk_to_entry<'a, V: View>(
         (next e.directory e.inode e.content.now))
         (λ stop. plan_from (V.leased view.now) (values (V.contents view.now)) reads.old.items
         (walk_to_entry parent.now name.now next) ≡ plan_stopped reads.new.items stop)) }
+    ensures walked { IfOk result (λ end. IfOk end (λ e. EndsAt (V.leased view.now)
+        (values (V.contents view.now)) reads.old.items parent.now
+        (take e.visits reads.new.items) e.directory e.parent.now)) }
+    ensures visits { IfOk result (λ end. IfOk end (λ e. e.visits ≤ length reads.new.items)) }
     ensures seen { IfOk result (λ end. IfOk end (λ _. V.leased view.now 0 Read ≡ true)) }
     ensures asked { OnErr result (V.leased view.now 0 Read ≡ true) }
     ensures only_memory { IsOkUnless result OutOfMemory }
@@ -94,6 +100,7 @@ pub(crate) fn walk_to_entry<'a, V: View>(
         Ok(reached) => reached,
         Err(stop) => return Ok(Err(stop)),
     };
+    let visits = reads.len();
     let inode = match found.link(name) {
         Ok(inode) => inode,
         Err(error) => return Ok(Err(Stop::Fault(error))),
@@ -101,6 +108,8 @@ pub(crate) fn walk_to_entry<'a, V: View>(
     match reach(view, inode, reads)? {
         Ok(content) => Ok(Ok(Entry {
             directory,
+            parent: found,
+            visits,
             inode,
             content,
         })),
@@ -112,7 +121,7 @@ pub(crate) fn walk_to_entry<'a, V: View>(
 pub(crate) fn reach<'a, V: View>(
     view: &'a V,
     inode: u64,
-    reads: &mut Vec<u64>,
+    reads: &mut Visits,
 ) -> Result<Result<&'a Inode, Stop>, Refusal>
     ensures left { IfOk result (λ end. (next : ℕ → Content → Interaction) →
         MatchResult end (λ r. plan_from (V.leased view.now)
@@ -120,6 +129,8 @@ pub(crate) fn reach<'a, V: View>(
         (V.leased view.now) (values (V.contents view.now)) reads.new.items (next inode r.now))
         (λ stop. plan_from (V.leased view.now) (values (V.contents view.now)) reads.old.items
         (walk_from inode [] next) ≡ plan_stopped reads.new.items stop)) }
+    ensures noted { IfOk result (λ end. IfOk end
+        (λ _. reads.new.items ≡ reads.old.items ++ inode ∷ [])) }
     ensures seen { IfOk result (λ end. IfOk end (λ _. V.leased view.now inode Read ≡ true)) }
     ensures asked { OnErr result (V.leased view.now inode Read ≡ true) }
     ensures only_memory { IsOkUnless result OutOfMemory }
@@ -135,7 +146,7 @@ pub(crate) fn reach<'a, V: View>(
 fn visit<'a, V: View>(
     view: &'a V,
     inode: u64,
-    reads: &mut Vec<u64>,
+    reads: &mut Visits,
 ) -> Result<Result<Option<&'a Inode>, Stop>, Refusal>
     ensures left { IfOk result (λ end. (next : Option Content → Interaction) →
         MatchResult end (λ value. plan_from (V.leased view.now)
@@ -144,15 +155,14 @@ fn visit<'a, V: View>(
         (next (option_copied value))) (λ stop. plan_from (V.leased view.now)
         (values (V.contents view.now)) reads.old.items (visit inode next) ≡
         plan_stopped reads.new.items stop)) }
+    ensures noted { IfOk result (λ end. IfOk end
+        (λ _. reads.new.items ≡ reads.old.items ++ inode ∷ [])) }
     ensures seen { IfOk result (λ end. IfOk end (λ _. V.leased view.now inode Read ≡ true)) }
     ensures asked { OnErr result (V.leased view.now inode Read ≡ true) }
     ensures only_memory { IsOkUnless result OutOfMemory }
 {
     if !view.leases(inode, Mode::Read) {
         return Ok(Err(Stop::Unleased(inode)));
-    }
-    if reads.is_empty() {
-        reads.reserve(USUAL_VISITS)?;
     }
     reads.push(inode)?;
     Ok(Ok(look_at(view, inode)))

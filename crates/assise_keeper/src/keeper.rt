@@ -1,6 +1,7 @@
 // The keeper of a state.
 ghost use Rattle.std.specs.Prelude.{◌≡◌};
 
+use crate::event_count::EventCount;
 use crate::held::Held;
 use crate::pass::Pass;
 use crate::steps::{Cut, Meet, OneHistory, Part, Release, SetUp, Take};
@@ -23,6 +24,7 @@ const NAP_MICROS: u64 = 100;
 /// and 2 until it was put in, and one slot for the state.
 pub struct Keeper<S: Growing> {
     table: Table<Option<S>, View, (), OneHistory, Global>,
+    progress: EventCount,
     ghost one_word: { (table.shared.table_id.words ≡ 1) × (table.shared.table_id.slots ≡ 1) },
 }
 
@@ -46,7 +48,10 @@ impl<S: Growing> Keeper<S> {
             return Err((Refusal::OutOfMemory, state));
         };
         let mut pass = Pass { seat };
-        let keeper = Keeper { table };
+        let keeper = Keeper {
+            table,
+            progress: EventCount::new(),
+        };
         keeper.set_up(&mut pass, state);
         Ok((keeper, pass))
     }
@@ -196,9 +201,14 @@ impl<S: Growing> Keeper<S> {
         self.put(pass, state);
     }
 
+    /// How often something was done to the state for which threads may wait: a call that waits, or a turn of a node that did something.
+    pub fn progress(&self) -> &EventCount {
+        &self.progress
+    }
+
     /// Ends the keeper and answers its state; `None` where the state was taken and isn't back.
     pub fn close(self) -> Option<S> {
-        let Keeper { table } = self;
+        let Keeper { table, progress: _ } = self;
         let mut closed = table.close();
         let state = closed.take(0);
         closed.free();

@@ -13,10 +13,14 @@ use std::alloc::Global;
 use std::process::Abort;
 use std::sync::Wait;
 use std::test::Fail;
-use std::thread::Threads;
+use std::thread::{Threads, join};
+use std::time::Duration;
 
 /// How many calls each of two clients makes.
 const COUNT: u32 = 1000;
+
+/// Longer than a test may take.
+const HOUR: Duration = Duration::from_secs(3600);
 
 /// The numbers of all calls of a book, in order.
 fn all_numbers(alloc: Global, book: &Book) -> Result<Vec<u64>, Fail> {
@@ -117,4 +121,22 @@ fn open_and_call<R: Wait>(rt: &R, keeper: &Keeper<Book>, pass: &mut Pass<Book>) 
 #[test]
 fn a_pass_without_calls_meets_a_client(rt: HostRuntime) {
     assert_eq!(rt; calls_after_a_meeting(&rt, rt.alloc()), Some(1));
+}
+
+/// How often an event happened for a thread that waits for the next one, an hour at most, beside one that lets it happen; and then for
+/// who waits for what happened before.
+fn times_after_waits<R: Threads + Wait + Sync>(rt: &R, alloc: Global) -> Option<(u64, u64)> {
+    let (keeper, first) = Keeper::new(alloc, Book::new(alloc)).ok()?;
+    let events = keeper.progress();
+    let before = events.read();
+    join(rt, || events.wait(rt, before, HOUR), || events.advance());
+    let after = events.read();
+    events.wait(rt, before, HOUR);
+    drop(first);
+    Some((before, after))
+}
+
+#[test]
+fn who_waits_goes_on_once_it_happens(rt: HostRuntime) {
+    assert_eq!(rt; times_after_waits(&rt, rt.alloc()), Some((0, 1)));
 }

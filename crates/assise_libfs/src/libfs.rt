@@ -23,7 +23,7 @@ use std::sync::Wait;
 ///
 /// Each call is a few turns: a turn takes the state, tries the call once, and gives the state back. Where the try waits for a lease or
 /// a replication, others go on before the next turn: after each of the first 16 turns of a call they only run first, after a later one
-/// the client sleeps 100 microseconds.
+/// the client waits until a node's worker did something, for 100 microseconds at most.
 ///
 /// A call that is refused makes no entry and changes no file:
 ///
@@ -288,9 +288,10 @@ impl<'a, S: Served> LibFs<'a, S> {
             (seen_by self.new) r) }
     {
         for turn in 0..self.limit {
+            let read = self.keeper.progress().read();
             match self.turn(rt, alloc, op) {
                 Ok(Some(reply)) => return Ok(reply),
-                Ok(None) => pause(rt, turn),
+                Ok(None) => pause(rt, self.keeper.progress(), read, turn),
                 Err(refusal) => return Err(refusal),
             }
         }

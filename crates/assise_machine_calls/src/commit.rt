@@ -81,7 +81,7 @@ pub(crate) fn commit<C: Revokes + Drop>(
     add_record(&mut state.nodes, home, client, number, effects)?;
     state.history.push(entry);
     state.clients.note_call(client, makes);
-    touch_all(&mut state.nodes, home, &reads);
+    touch_all(&mut state.nodes, home, reads.as_slice());
     Ok(Turn::Answered(reply))
 }
 

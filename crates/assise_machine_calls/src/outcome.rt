@@ -1,4 +1,5 @@
 // What is planned for a call that has its leases.
+use assise_inode_plan::plan::Visits;
 use assise_names::reply::Reply;
 use assise_record::effect::Effect;
 
@@ -6,6 +7,6 @@ use assise_record::effect::Effect;
 #[derive(Debug, Drop)]
 pub(crate) struct Outcome {
     pub(crate) reply: Reply,
-    pub(crate) reads: Vec<u64>,
+    pub(crate) reads: Visits,
     pub(crate) effects: Vec<Effect>,
 }

@@ -1,8 +1,8 @@
 // What a worker does between two turns.
 
 use crate::worker::TurnEnd;
+use assise_keeper::event_count::EventCount;
 use std::sync::Wait;
-use std::sync::atomic::AtomicU64;
 use std::thread;
 use std::time::Duration;
 
@@ -10,8 +10,8 @@ use std::time::Duration;
 /// finds it awake.
 const BRIEF_TURNS: u32 = 64;
 
-/// How long it sleeps after each later one, in microseconds. A shorter sleep keeps the state busy where there are many nodes; a longer
-/// one keeps an fsync waiting at each node of its chain.
+/// How long it waits after each later one, in microseconds, until a call waits or another worker did something. Calls that wait for
+/// nothing wake nobody, so their records come together in a frame.
 const NAP_MICROS: u64 = 500;
 
 /// How many turns in a row a worker found nothing to do.
@@ -26,13 +26,21 @@ impl Idle {
         Idle { turns: 0 }
     }
 
-    /// Leaves the state to others behind a turn. It answers whether the worker goes on.
-    pub(crate) fn rest<R: Wait>(&mut self, rt: &R, end: TurnEnd) -> bool {
+    /// Leaves the state to others behind a turn, before which the count was read. It answers whether the worker goes on. Where the turn
+    /// did something, those that wait are woken.
+    pub(crate) fn rest<R: Wait>(
+        &mut self,
+        rt: &R,
+        progress: &EventCount,
+        read: u64,
+        end: TurnEnd,
+    ) -> bool {
         match end {
             TurnEnd::Stopped => return false,
-            TurnEnd::Did(0) | TurnEnd::Refused(_) => self.pause(rt),
+            TurnEnd::Did(0) | TurnEnd::Refused(_) => self.pause(rt, progress, read),
             TurnEnd::Did(_) => {
                 self.turns = 0;
+                progress.advance();
                 thread::yield_now();
             }
         }
@@ -40,12 +48,12 @@ impl Idle {
     }
 
     // Behind a turn without anything to do.
-    fn pause<R: Wait>(&mut self, rt: &R) {
+    fn pause<R: Wait>(&mut self, rt: &R, progress: &EventCount, read: u64) {
         if self.turns < BRIEF_TURNS {
             self.turns += 1;
             thread::yield_now();
         } else {
-            AtomicU64::new(0).park_timeout(rt, 0, Duration::from_micros(NAP_MICROS));
+            progress.wait(rt, read, Duration::from_micros(NAP_MICROS));
         }
     }
 }

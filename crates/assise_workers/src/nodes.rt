@@ -83,10 +83,15 @@ pub fn tend<S: Replicated, G: Gate, R: Wait>(
     nodes: &mut [NodeWorkers<'_, S>],
     gate: &G,
 ) {
+    let Some(first) = nodes.first() else {
+        return;
+    };
+    let progress = first.digester.keeper.progress();
     let mut idle = Idle::new();
     for _ in rt.forever() {
+        let read = progress.read();
         let end = turn_of_each(rt, alloc, nodes, gate);
-        if !idle.rest(rt, end) {
+        if !idle.rest(rt, progress, read, end) {
             return;
         }
     }

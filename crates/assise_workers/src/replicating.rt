@@ -75,8 +75,9 @@ impl<'a, S: Replicated> Worker<'a, S> {
             if !gate.pass(Point::Turn) {
                 return;
             }
+            let read = self.keeper.progress().read();
             let end = self.replicate_turn(rt, alloc, node, link, gate);
-            if !idle.rest(rt, end) {
+            if !idle.rest(rt, self.keeper.progress(), read, end) {
                 return;
             }
         }

@@ -1,9 +1,10 @@
 use Rattle.std.proofs.Common.{◌∙◌, ap, sym, subst}
 use Rattle.assise_inode_table.specs.Calls.{step}
 use Rattle.assise_inode_table.specs.Contents.{values}
+use Rattle.assise_inode_table.specs.Whole.{CanBeMadeWhole}
 use Rattle.assise_seq_tree.specs.Answer.{answer}
-use Rattle.assise_inode_plan.specs.Planning.{PlanAnswers, changed_plan_of, shown}
-use Rattle.assise_inode_plan.proofs.WholeStepPlan.{answers_kept, visits_then_changes}
+use Rattle.assise_inode_plan.specs.Planning.{PlanAnswers, changed_plan_of, effects_planned, shown}
+use Rattle.assise_inode_plan.proofs.WholeStepPlan.{answers_kept, visits_then_changes, whole_kept}
 use Rattle.assise_inode_plan.proofs.plan.plan.Goals as goal
 
 pub returns-clause-exact : goal.returns-clause-exact
@@ -17,3 +18,6 @@ returns-clause-answers g c = λ t spells new.
     let v = values (g.V.Inodes.contents c.args.view.now) in
     subst (PlanAnswers v (answer t c.args.op.now)) (sym c.plan_changes.ensures)
     (answers_kept v (answer t c.args.op.now) (g.V.View.leased c.args.view.now) (shown c.in_ok-planned.planned) (c.in_ok-planned.ensures.answers t spells new))
+
+pub returns-clause-whole : goal.returns-clause-whole
+returns-clause-whole g c = subst (λ p. CanBeMadeWhole (effects_planned p)) (sym c.plan_changes.ensures) (whole_kept (g.V.View.leased c.args.view.now) (shown c.in_ok-planned.planned) c.in_ok-planned.ensures.whole)
