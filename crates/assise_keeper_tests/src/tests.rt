@@ -19,8 +19,8 @@ use std::time::Duration;
 /// How many calls each of two clients makes.
 const COUNT: u32 = 1000;
 
-/// Longer than a test may take.
-const HOUR: Duration = Duration::from_secs(3600);
+/// Longer than a test may take, in seconds.
+const LONG: u64 = 3600;
 
 /// The numbers of all calls of a book, in order.
 fn all_numbers(alloc: Global, book: &Book) -> Result<Vec<u64>, Fail> {
@@ -128,11 +128,12 @@ fn a_pass_without_calls_meets_a_client(rt: HostRuntime) {
 fn times_after_waits<R: Threads + Wait + Sync>(rt: &R, alloc: Global) -> Option<(u64, u64)> {
     let (keeper, first) = Keeper::new(alloc, Book::new(alloc)).ok()?;
     let events = keeper.progress();
-    let before = events.read();
-    join(rt, || events.wait(rt, before, HOUR), || events.advance());
+    let (before, most) = (events.read(), Duration::from_secs(LONG));
+    join(rt, || events.wait(rt, before, most), || events.advance());
     let after = events.read();
-    events.wait(rt, before, HOUR);
+    events.wait(rt, before, most);
     drop(first);
+    keeper.close()?;
     Some((before, after))
 }
 
