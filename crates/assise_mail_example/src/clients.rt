@@ -9,9 +9,9 @@ use assise_lease_table::revoker::Revoker;
 use assise_libfs::libfs::LibFs;
 use assise_libfs::served::Served;
 use assise_machine::cluster::Cluster;
+use assise_mail::fault::MailFault;
+use assise_names::byte_string::ByteString;
 use assise_names::durability::Durability;
-use assise_names::refusal::Refusal;
-use assise_names::reply::Reply;
 use assise_private_log::log_view::LogView;
 use assise_revokers::kinds::whole;
 use assise_workers::gate::{Gate, Point};
@@ -49,7 +49,7 @@ fn deliver_once<S: Served, R: Wait>(
     alloc: Global,
     files: &mut LibFs<'_, S>,
     left: &AtomicU32,
-) -> Result<(), Refusal> {
+) -> Result<(), MailFault> {
     let delivered = deliver(rt, alloc, files);
     left.fetch_sub(1, Ordering::SeqCst);
     delivered
@@ -61,10 +61,10 @@ fn fetch_once<S: Served, R: Wait>(
     alloc: Global,
     files: &mut LibFs<'_, S>,
     left: &AtomicU32,
-) -> Result<Reply, Refusal> {
-    let reply = fetch(rt, alloc, files);
+) -> Result<ByteString, MailFault> {
+    let letter = fetch(rt, alloc, files);
     left.fetch_sub(1, Ordering::SeqCst);
-    reply
+    letter
 }
 
 /// Reads the letter, while this thread does what the nodes do.
@@ -74,7 +74,7 @@ fn fetch_tended<S: Served + Replicated + Send, R: Threads + Wait + Sync>(
     files: &mut LibFs<'_, S>,
     nodes: &mut [NodeWorkers<'_, S>],
     left: &AtomicU32,
-) -> Result<Reply, Refusal> {
+) -> Result<ByteString, MailFault> {
     let (reply, ()) = join(
         rt,
         || fetch_once(rt, alloc, files, left),
@@ -90,7 +90,7 @@ fn deliver_and_fetch<S: Served + Replicated + Send, R: Threads + Wait + Sync>(
     writer: &mut LibFs<'_, S>,
     reader: &mut LibFs<'_, S>,
     nodes: &mut [NodeWorkers<'_, S>],
-) -> Result<Reply, Refusal> {
+) -> Result<ByteString, MailFault> {
     let left = AtomicU32::new(2);
     let (delivered, reply) = join(
         rt,
@@ -108,7 +108,7 @@ fn with_clients<R: Threads + Wait + Sync>(
     keeper: &Keeper<Cluster>,
     main: &mut Pass<Cluster>,
     revokers: (Revoker, Revoker),
-) -> Result<Reply, Refusal>
+) -> Result<ByteString, MailFault>
     requires { IsPassOf keeper.now main.old }
 {
     let mut nodes = workers_up_to(alloc, keeper, main, NODES)?;
@@ -140,7 +140,10 @@ fn with_clients<R: Threads + Wait + Sync>(
 
 /// Makes a cluster of two nodes, whose clients' logs have 64 records at most, and two clients on it. All of a client's log is safe
 /// before a lease of it goes to the other.
-pub fn on_cluster<R: Threads + Wait + Sync>(rt: &R, alloc: Global) -> Result<Reply, Refusal> {
+pub fn on_cluster<R: Threads + Wait + Sync>(
+    rt: &R,
+    alloc: Global,
+) -> Result<ByteString, MailFault> {
     let writers: Cut = Box::new(alloc, whole).map_err(AllocError::from)?;
     let readers: Cut = Box::new(alloc, whole).map_err(AllocError::from)?;
     let revokers = (Revoker::new(writers), Revoker::new(readers));

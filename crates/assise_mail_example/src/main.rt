@@ -5,11 +5,12 @@ mod clients;
 mod mail;
 
 use crate::clients::on_cluster;
+use assise_names::reply::Reply;
 use std::io;
 
 fn main(rt: HostRuntime) -> io::Result<()> {
     match on_cluster(&rt, rt.alloc()) {
-        Ok(reply) => println!(rt; "{reply}"),
-        Err(refusal) => println!(rt; "{refusal}"),
+        Ok(letter) => println!(rt; "{}", Reply::Bytes(letter)),
+        Err(fault) => println!(rt; "{fault}"),
     }
 }
