@@ -35,7 +35,8 @@ pub fn what_was_delivered_stands()
 /// of all replicated calls.
 pub fn an_answered_delivery_stays()
     ensures { (h : List EntryValue) (bound : ℕ → ℕ) (draft place : List (List ℕ))
-        (message : List ℕ) → IsLegal h → ((c : ℕ) → IsPastSyncs h (record { client = c; first = bound c })) →
+        (message : List ℕ) → IsLegal h →
+        ((c : ℕ) → IsPastSyncs h (record { client = c; first = bound c })) →
         IsRun opening (filter (λ x. nat_lt x.number (bound x.client)) (kept h)) →
         IsDelivered h draft place message →
         at (tree_after opening (filter (λ x. nat_lt x.number (bound x.client)) (kept h))) place ≡
@@ -58,7 +59,8 @@ pub fn a_delivered_message_is_at_each_node<C: Revokes + Drop>(cluster: &ClusterO
 /// there, a read finds nothing or reads the message, whatever failures took between.
 pub fn no_reader_sees_a_part()
     ensures nothing { (h front behind : List EntryValue) (r : Call) (place : List (List ℕ))
-        (offset most : ℕ) → IsLegal h → h ≡ front ++ calls r ∷ behind → r.op ≡ Read place offset most →
+        (offset most : ℕ) → IsLegal h → h ≡ front ++ calls r ∷ behind →
+        r.op ≡ Read place offset most →
         0 < length place → CallsLeave place front → r.reply ≡ Error NoEnt }
     ensures whole { (h front behind : List EntryValue) (r : Call) (draft place : List (List ℕ))
         (message : List ℕ) (offset most : ℕ) → IsLegal h → h ≡ front ++ calls r ∷ behind →
