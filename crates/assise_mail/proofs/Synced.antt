@@ -11,7 +11,7 @@ use Rattle.assise_names.specs.declared.call.Op.TheVariants.{Create, Mkdir, Read,
 use Rattle.assise_names.specs.declared.durability.Durability.{Durability}
 use Rattle.assise_history.proofs.Lost.{kept-append, stays}
 use Rattle.assise_seq_tree.specs.Tree.{at, file, opening}
-use Rattle.assise_mail.specs.Delivery.{AllLeave, CallsLeave, IsDelivered, Leaves, only_looks}
+use Rattle.assise_mail.specs.Delivery.{AllLeave, CallsLeave, IsMessageDelivered, Leaves, only_looks}
 use Rattle.assise_mail.proofs.Delivered.{delivered}
 use Rattle.assise_mail.proofs.Unlost.{earlier_number, unlost}
 
@@ -70,7 +70,7 @@ module _ (p : Call → Bool) where
 
 module _ (h : List EntryValue) (bound : ℕ → ℕ) (draft place : List (List ℕ)) (message : List ℕ)
     (legal : IsLegal h) (past : (c : ℕ) → IsPastSyncs h (record { client = c; first = bound c }))
-    (d : IsDelivered h draft place message) where
+    (d : IsMessageDelivered h draft place message) where
   abbrev below_bound : Call → Bool
   below_bound x = nat_lt x.number (bound x.client)
 

@@ -50,7 +50,7 @@ abbrev pub CallsLeave : List (List ℕ) → List EntryValue → Type 0
 CallsLeave p es = (before later : List EntryValue) (x : Call) → es ≡ before ++ calls x ∷ later → Leaves p x
 
 -- a client delivered a message and was answered its sync, and what others called since leaves the draft until it was moved, and then the message
-pub record IsDelivered (h : List EntryValue) (draft place : List (List ℕ)) (message : List ℕ) : Type 0 where
+pub record IsMessageDelivered (h : List EntryValue) (draft place : List (List ℕ)) (message : List ℕ) : Type 0 where
   pub before : List EntryValue
   pub created : List EntryValue
   pub written : List EntryValue

@@ -14,7 +14,7 @@ ghost use Rattle.assise_inode_table.specs.Spelled.{Spells};
 ghost use Rattle.assise_digest.specs.Region.{alone};
 ghost use Rattle.assise_machine.specs.Clusters.{region_of};
 ghost use Rattle.assise_machine.specs.Headline.{IsUp, all_acked, history_of, replicated_calls};
-ghost use Rattle.assise_mail.specs.Delivery.{AllLeave, CallsLeave, IsDelivered, IsDelivery, IsDraftedAndMoved};
+ghost use Rattle.assise_mail.specs.Delivery.{AllLeave, CallsLeave, IsMessageDelivered, IsDelivery, IsDraftedAndMoved};
 
 use assise_lease_table::revoker::Revokes;
 use assise_machine::cluster::ClusterOf;
@@ -38,7 +38,7 @@ pub fn an_answered_delivery_stays()
         (message : List ℕ) → IsLegal h →
         ((c : ℕ) → IsPastSyncs h (record { client = c; first = bound c })) →
         IsRun opening (filter (λ x. nat_lt x.number (bound x.client)) (kept h)) →
-        IsDelivered h draft place message →
+        IsMessageDelivered h draft place message →
         at (tree_after opening (filter (λ x. nat_lt x.number (bound x.client)) (kept h))) place ≡
         Ok (file message) }
 {}
@@ -47,7 +47,8 @@ pub fn an_answered_delivery_stays()
 /// each node that is up gives alone, whole, while what others call leaves it.
 pub fn a_delivered_message_is_at_each_node<C: Revokes + Drop>(cluster: &ClusterOf<C>)
     ensures { (draft place : List (List ℕ)) (message : List ℕ) →
-        IsDelivered (history_of cluster.now) draft place message → (n : ℕ) → IsUp cluster.now n →
+        IsMessageDelivered (history_of cluster.now) draft place message → (n : ℕ) →
+        IsUp cluster.now n →
         Spells (alone (region_of cluster.now n) (all_acked cluster.now))
         (tree_after opening (replicated_calls cluster.now)) ×
         (at (tree_after opening (replicated_calls cluster.now)) place ≡ Ok (file message)) }

@@ -8,12 +8,12 @@ use Rattle.assise_timeline.specs.declared.line.Mark.TheVariants.{Opened, Called,
 use Rattle.assise_timeline.specs.declared.line.HistoryLine.{HistoryLine}
 
 -- one of the tails takes the client's call of this number
-abbrev pub is_taken : List Tail → ℕ → ℕ → Bool
-is_taken tails client number = list_any (λ tail. (tail.client == client) && nat_le tail.first number) tails
+abbrev pub takes_call : List Tail → ℕ → ℕ → Bool
+takes_call tails client number = list_any (λ tail. (tail.client == client) && nat_le tail.first number) tails
 
 -- one of the tails takes the call, if the line is one
 abbrev pub is_lost_by : List Tail → Mark → Bool
-is_lost_by tails (Called client number call reply) = is_taken tails client number
+is_lost_by tails (Called client number call reply) = takes_call tails client number
 is_lost_by tails (Opened client node optimistic) = false
 is_lost_by tails (Crashed client) = false
 is_lost_by tails (Failed node more) = false

@@ -1,6 +1,6 @@
 // Which calls were lost.
 ghost use Rattle.std.specs.Prelude.{◌≡◌, IfOk, IsOkUnless};
-ghost use Rattle.assise_timeline.specs.Losses.{tails_of, is_lost_by, is_taken, lost_flags};
+ghost use Rattle.assise_timeline.specs.Losses.{tails_of, is_lost_by, takes_call, lost_flags};
 ghost use Rattle.assise_timeline.specs.declared.fault.PictureFault.TheVariants.{Memory};
 
 use crate::fault::PictureFault;
@@ -37,14 +37,14 @@ fn is_lost(tails: &[Tail], mark: &Mark<'_>) -> bool
     ensures { result ≡ is_lost_by tails.now mark.now }
 {
     match mark {
-        Mark::Called { client, number, .. } => is_taken(tails, *client, *number),
+        Mark::Called { client, number, .. } => takes_call(tails, *client, *number),
         _ => false,
     }
 }
 
 /// Whether one of these tails takes a client's call of this number.
-fn is_taken(tails: &[Tail], client: u32, number: u64) -> bool
-    ensures { result ≡ is_taken tails.now client number }
+fn takes_call(tails: &[Tail], client: u32, number: u64) -> bool
+    ensures { result ≡ takes_call tails.now client number }
 {
     tails
         .iter()
