@@ -43,12 +43,14 @@ impl History {
         self.entries.as_slice()
     }
 
-    /// Makes room for an entry, or answers [`Refusal::OutOfMemory`]. Where there is room already, it takes no memory.
+    /// Makes room for an entry, or answers [`Refusal::OutOfMemory`]. Where there is room already, it takes no memory. There
+    /// are never 2^63 entries.
     pub fn reserve(&mut self) -> Result<(), Refusal>
         ensures room { OnOk result (0 < self.new.room) }
         ensures granted { 0 < self.old.room → IsOk result }
         ensures only_memory { IsOkUnless result OutOfMemory }
         ensures same { self.new.events ≡ self.old.events }
+        ensures few { length self.new.events < 2 ^ 63 }
     {
         self.entries.reserve(1)?;
         Ok(())
