@@ -1,5 +1,5 @@
 -- What holds of a log goes on when its last records give way to groups.
-use Rattle.std.proofs.Common.{◌≡◌, ℕ, zero, suc, ◌+◌, ◌-◌, ◌<◌, ◌≤◌, ◌^◌, ◌||◌, Bool, true, false, if◌then◌else◌, is_some, IsSome, Option, Some, None, option_map, List, [], ◌∷◌, ◌++◌, length, take, drop, map, refl, ap, sym, ◌∙◌, subst, arith, take-append-drop}
+use Rattle.std.proofs.Common.{◌≡◌, ℕ, zero, suc, ◌+◌, ◌-◌, ◌≤◌, ◌||◌, Bool, true, false, if◌then◌else◌, is_some, IsSome, Option, Some, None, option_map, List, [], ◌∷◌, ◌++◌, length, take, drop, map, refl, ap, sym, ◌∙◌, subst, arith, take-append-drop}
 use Rattle.std.specs.FinMap as map
 use Rattle.std.specs.Option.{IfSome}
 use Rattle.std.specs.Ordering.{nat_cmp}
@@ -144,15 +144,7 @@ module _ (x : Received) (from : ℕ) (begun : IsBegun (seen_log x)) (low : x.dig
       subst (λ n. LogInvariant m (record { log = n; digested = x.digested; pending = o })) (sym same)
       (subst (λ p. LogInvariant m (record { log = new_log; digested = x.digested; pending = p })) (sym pending) (sound_new m s))
 
-  -- the new records' numbers fit
-  pub numbers_fit : (log : NumberedLog) → log ≡ regrouped x.log from → end log < 2 ^ 64 → from + length (records_from log from) < 2 ^ 64
-  numbers_fit log is fits =
-      let same : log ≡ new_log = is ∙ new_is in
-      let tail : length (records_from log from) ≡ length groups = ap (λ n. length (records_from n from)) same ∙ ap length tail_is in
-      let all : end log ≡ x.log.first + length (prefix ++ groups) = ap end same in
-      omega (arith, tail, all, fits, prefix_long, length-append prefix groups, begun.from_first)
-
-  -- and what they touch has a number
+  -- what the new records touch has a number
   pub has_all : (m : InodeMap) (log : NumberedLog) (p : Pending) → log ≡ regrouped x.log from → StandsFor p m x.digested (ahead (seen_log x)) → HasAllNumbers p.last (all_effects (records_from log from))
   has_all m log p is s i among =
       let tail : records_from log from ≡ groups = ap (λ n. records_from n from) (is ∙ new_is) ∙ tail_is in

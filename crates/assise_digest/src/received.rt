@@ -110,7 +110,7 @@ impl Received {
         ensures sound { (m : InodeMap) → LogInvariant m self.old →
             LogInvariant (all_applied m (next_effects (seen_log self.old))) self.new }
     {
-        let _fits = self.log.end();
+        prove!(self.digested < self.log.end());
         self.forget_next();
         self.digested += 1;
     }
@@ -140,7 +140,6 @@ impl Received {
         ensures border { result ≡ true →
             is_border self.now.log (self.now.digested + count) ≡ true }
     {
-        let _lawful = self.log.limit();
         self.pending.is_some() && count > 0 && self.log.end() - self.digested == count as u64
     }
 
@@ -175,12 +174,8 @@ impl Received {
             all_effects (take count (ahead (seen_log self.now)))) }
         ensures only_memory { IsOkUnless result OutOfMemory }
     {
-        let _end = self.log.end();
         let mut effects = Vec::new(alloc);
-        for number in self.digested..self.digested + count as u64 {
-            let Some(record) = self.log.get(number) else {
-                unreachable!()
-            };
+        for record in self.log.since(self.digested).take(count) {
             push_copies(&mut effects, record.effects())?;
         }
         Ok(effects)
@@ -192,8 +187,7 @@ impl Received {
         requires more { self.now.digested < end self.now.log }
         ensures { IsNextGroup (seen_log self.now) result }
     {
-        let _end = self.log.end();
-        let _lawful = self.log.limit();
+        prove!(self.digested < self.log.end());
         (self.log.group_end(self.digested + 1) - self.digested) as usize
     }
 
@@ -234,14 +228,12 @@ impl Received {
         ensures only_memory { IsOkUnless result OutOfMemory }
     {
         self.log.regroup(alloc, from)?;
-        let _end = self.log.end();
         self.note_from(from);
         Ok(())
     }
 
     /// Notes the records from a number on as the last that touch their inodes, where the client lives here.
     fn note_from(&mut self, from: u64)
-        requires numbers_fit { from + length (records_from self.old.log from) < 2 ^ 64 }
         requires there { IfSome self.old.pending
             (λ p. HasAllNumbers p.last (all_effects (records_from self.old.log from))) }
         ensures log { self.new.log ≡ self.old.log }

@@ -1,6 +1,7 @@
 // Leases by inodes.
+ghost use Rattle.std.proofs.Props.{props};
 ghost use Rattle.std.specs.Prelude.{◌≡◌, ℕ, nat_eq, true};
-ghost use Rattle.indexmap.specs.IndexMap.{get};
+ghost use Rattle.indexmap.specs.IndexMap.{IsUnique, get};
 ghost use Rattle.assise_lease_table.specs.Lists.{holds_lease};
 
 use crate::holders::{
@@ -20,6 +21,7 @@ pub struct LeaseMap {
     alloc: Global,
     inodes: IndexMap<u64, Leases>,
     ghost held: { (i : ℕ) → holds_lease (get nat_eq inodes i) ≡ true },
+    ghost unique: { IsUnique nat_eq inodes } by { Prim.hlevel props },
 }
 
 impl LeaseMap {
@@ -57,7 +59,6 @@ impl LeaseMap {
         ensures some { result ≡ true → (i : ℕ) ×
             (list_any (T.choice test.now) (leases_at self.now i) ≡ true) }
     {
-        let _distinct = self.inodes.iter();
         self.is_any_list_chosen(test)
     }
 
@@ -200,7 +201,6 @@ impl LeaseMap {
     pub fn take_all(&mut self, holder: u32)
         ensures { (i : ℕ) → leases_at self.new i ≡ without_holder holder (leases_at self.old i) }
     {
-        let _distinct = self.inodes.iter();
         self.inodes
             .retain(|_, leases| leaves_others(leases, holder));
     }

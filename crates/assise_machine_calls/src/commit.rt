@@ -75,9 +75,8 @@ pub(crate) fn commit<C: Revokes + Drop>(
         op: op.copy()?,
         reply: reply.copy(alloc)?,
     });
-    state.history.reserve()?;
     // There are never 2^63 entries, and no more records: the record's number fits.
-    let _entries = state.history.entries();
+    state.history.reserve()?;
     add_record(&mut state.nodes, home, client, number, effects)?;
     state.history.push(entry);
     state.clients.note_call(client, makes);

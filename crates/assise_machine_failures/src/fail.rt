@@ -104,9 +104,8 @@ fn take_down<C: Revokes + Drop>(
         asked,
         filled,
     } = failure;
-    state.history.reserve()?;
     // There are never 2^63 entries, and no more epochs: the next epoch's number fits.
-    let _entries = state.history.entries();
+    state.history.reserve()?;
     state.cuts.reserve(asked.len())?;
     state.members.fail(node, &inodes)?;
     state.nodes.remove_logs(node);
@@ -143,9 +142,8 @@ fn fail_again<C: Revokes + Drop>(
     ensures revokers { KeepsRevokers sound.old.state.leases sound.new.state.leases }
 {
     let state = &mut sound.state;
-    state.history.reserve()?;
     // There are never 2^63 entries, and no more epochs: the next epoch's number fits.
-    let _entries = state.history.entries();
+    state.history.reserve()?;
     state.members.fail(node, &[])?;
     state.history.push(Entry::fail(node, Vec::new(alloc)));
     Ok(Vec::new(alloc))

@@ -27,9 +27,8 @@ pub fn join<C: Revokes + Drop>(
     if state.members.lowest_stale(node)?.is_some() {
         return Err(Refusal::Busy);
     }
-    state.history.reserve()?;
     // There are never 2^63 entries, and no more epochs: the next epoch's number fits.
-    let _entries = state.history.entries();
+    state.history.reserve()?;
     state.nodes.copy_logs(alloc, node, donor)?;
     if let Err(refusal) = state.members.join(node) {
         state.nodes.remove_logs(node);

@@ -226,7 +226,7 @@ impl Members {
             (stale_of (standing_of (membership self.new).nodes node)) ≡ Some n) }
         ensures err { OnErr result (membership self.new ≡ membership self.old) }
     {
-        let _returning = self.returning(node)?;
+        self.returning(node)?;
         Ok(drop_lowest(&mut self.nodes, node))
     }
 
@@ -372,7 +372,6 @@ impl Members {
         requires some { 0 < length (membership self.now).written }
         ensures { result ≡ first_listed (membership self.now) }
     {
-        let _lawful = self.epoch();
         self.epoch - (self.written.len() as u64 - 1)
     }
 
@@ -387,7 +386,6 @@ impl Members {
         ensures only_memory { IsOkUnless result OutOfMemory }
     {
         let list = WrittenList::of(self.alloc, inodes)?;
-        let _lawful = self.epoch();
         let first = self.epoch + 1 - self.written.len() as u64;
         self.written.push(list)?;
         let donor = lowest_besides(&self.full, node);

@@ -1,7 +1,7 @@
 -- What is left of groups of records, and logs with groups behind the last.
 use Rattle.std.proofs.Common.{get_or, ◌≡◌, ℕ, zero, suc, ◌+◌, ◌-◌, ◌<◌, ◌≤◌, ◌^◌, ◌==◌, ◌||◌, inl, inr, subst, Bool, true, false, min, None, Some, List, [], ◌∷◌, ◌++◌, length, take, drop, map, refl, ap, sym, ◌∙◌, arith, append_assoc}
 use Rattle.std.specs.List.{list_any, slice_get}
-use Rattle.std.proofs.lemmas.Bool.{both_ways, cases_lt, ne_eqb}
+use Rattle.std.proofs.lemmas.Bool.{both_ways, cases_lt, eq-eqb, ne_eqb}
 use Rattle.std.proofs.lemmas.List.{get_or-append_right, get_or-take, get_or_append_left, get_or_at, length-append, length-drop, length-take, map_push}
 use Rattle.assise_record.specs.declared.effect.Effect.{Effect}
 use Rattle.assise_record.specs.Coalesced.{overridden, overrides}
@@ -147,6 +147,11 @@ begun_border l r rs marks =
     ]
 
 -- and may grow while it has fewer than 64
+-- a record is the first of its group where the log ends as before the group
+pub first_begins : (l now : NumberedLog) (rs : List LogRecord) → now ≡ with_group l rs → (end now == end l) ≡ (length rs == 0)
+first_begins l now [] is = eq-eqb _ _ (let long : length (l.records ++ []) ≡ length l.records + 0 = length-append l.records [] in omega (arith, long, ap end is))
+first_begins l now (r ∷ rs) is = ne_eqb _ _ (λ same. (let long : length (l.records ++ r ∷ rs) ≡ length l.records + suc (length rs) = length-append l.records (r ∷ rs) in omega (arith, long, ap end is, same))) ∙ sym (ne_eqb (length (r ∷ rs)) 0 (λ none. omega (arith, none)))
+
 pub group_open : (l now : NumberedLog) (rs : List LogRecord) (begins : Bool) → length l.begins ≡ length l.records → now ≡ with_group l rs → begins ≡ (length rs == 0) → length rs < 64 → begins ≡ false → HasOpenGroup now
 group_open l now [] begins marks is begun few not_first = absurd (both_ways begins not_first begun)
 group_open l now (r ∷ rs) begins marks is begun few not_first =

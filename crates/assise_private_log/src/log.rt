@@ -69,6 +69,7 @@ impl Log {
     pub fn end(&self) -> u64
         ensures end { result ≡ end self.now }
         ensures fits { end self.now < 2 ^ 64 }
+        ensures lawful { IsNumberedLog self.now }
     {
         self.view.end()
     }
@@ -123,6 +124,7 @@ impl Log {
         ensures rest { result ≡ records_from self.now from }
         ensures runs { ShowsInOrder (deref {X = Record}) }
         ensures runs_back { ShowsInReverse (deref {X = Record}) }
+        ensures lawful { IsNumberedLog self.now }
     {
         self.view.since(from)
     }
@@ -229,7 +231,6 @@ impl Log {
         ensures err { OnErr result (self.new ≡ self.old) }
         ensures only_memory { IsOkUnless result OutOfMemory }
     {
-        let _lawful = self.limit();
         let groups = self.groups_from(alloc, from)?;
         self.cut_tail(from);
         for group in groups {
@@ -242,6 +243,7 @@ impl Log {
     fn groups_from(&self, alloc: Global, from: u64) -> Result<Vec<Group>, Refusal>
         ensures groups { IfOk result (λ groups. groups.items ≡ groups_from self.now from) }
         ensures effects { OnOk result (AllHaveEffects (records_from self.now from)) }
+        ensures lawful { IsNumberedLog self.now }
         ensures only_memory { IsOkUnless result OutOfMemory }
     {
         let tail = self.copies_from(alloc, from)?;
@@ -258,6 +260,7 @@ impl Log {
     /// Equal records, of those from a number on.
     fn copies_from(&self, alloc: Global, from: u64) -> Result<Vec<Record>, Refusal>
         ensures equal { IfOk result (λ copied. copied.items ≡ records_from self.now from) }
+        ensures lawful { IsNumberedLog self.now }
         ensures only_memory { IsOkUnless result OutOfMemory }
     {
         let mut copied = Vec::new(alloc);
@@ -273,13 +276,12 @@ impl Log {
         requires room { length self.old.records + length group ≤ self.old.limit }
         ensures { self.new ≡ with_group self.old group }
     {
-        let _lawful = self.limit();
-        let mut begins = true;
+        let first = self.end();
         for record in group.records {
+            let begins = self.end() == first;
             let Ok(()) = self.append_grouped(record, begins) else {
                 unreachable!()
             };
-            begins = false;
         }
     }
 

@@ -46,6 +46,7 @@ impl LogView {
     pub fn end(&self) -> u64
         ensures end { result ≡ end self.now }
         ensures fits { end self.now < 2 ^ 64 }
+        ensures lawful { IsNumberedLog self.now }
     {
         self.first + self.records.len() as u64
     }
@@ -71,13 +72,13 @@ impl LogView {
         ensures covers { (inode : ℕ) →
             Covers self.now inode number → Covers self.now inode (group_end self.now number) }
     {
-        let _lawful = self.first;
-        for border in number..self.end() {
+        let end = self.end();
+        for border in number..end {
             if self.is_border(border) {
                 return border;
             }
         }
-        number.max(self.end())
+        number.max(end)
     }
 
     /// How many records from a number on, at most so many, end with a group. Among 64 some do.
@@ -87,7 +88,6 @@ impl LogView {
         ensures within { result ≤ most }
         ensures some { 64 ≤ most → 0 < result }
     {
-        let _lawful = self.first;
         let mut count = most;
         while 0 < count && !self.is_border(from + count as u64) {
             count -= 1;
@@ -112,6 +112,7 @@ impl LogView {
         ensures last { IsLastTouch self.now inode result }
         ensures within { IfSome result (λ number. (self.now.first ≤ number) ×
             (number < end self.now)) }
+        ensures lawful { IsNumberedLog self.now }
     {
         let place = self.last_place(inode)?;
         Some(self.first + place as u64)
@@ -127,6 +128,7 @@ impl LogView {
             (slice_index_or self.now.records k r) inode ≡ false) }
         ensures none { result ≡ None → (k : ℕ) (r : LogRecord) → k < length self.now.records →
             record_touches (slice_index_or self.now.records k r) inode ≡ false }
+        ensures lawful { IsNumberedLog self.now }
     {
         let mut records = self.since(self.first);
         let place = records.rposition(|record| record_touches(record, inode))?;
@@ -148,10 +150,11 @@ impl LogView {
         ensures rest { result ≡ records_from self.now from }
         ensures runs { ShowsInOrder (deref {X = Record}) }
         ensures runs_back { ShowsInReverse (deref {X = Record}) }
+        ensures lawful { IsNumberedLog self.now }
     {
-        let _fits = self.records.len();
+        let passed = (from.saturating_sub(self.first) as usize).min(self.records.len());
         let (older, newer) = self.records.as_slices();
-        Records::behind(older, newer, from.saturating_sub(self.first) as usize)
+        Records::behind(older, newer, passed)
     }
 
     /// Whether a record of this number or a greater one touches an inode.

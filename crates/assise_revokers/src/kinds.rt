@@ -11,7 +11,6 @@ pub fn least(view: &LogView, inode: u64) -> u64
     ensures covers { Covers view.now inode result }
     ensures least { IsLeast view.now inode result }
 {
-    let _fits = view.end();
     match view.last_touch(inode) {
         Some(number) => number + 1,
         None => view.first(),

@@ -71,8 +71,7 @@ pub add_record-requires-clause-number_fits : goal.add_record-requires-clause-num
 add_record-requires-clause-number_fits g c =
     let s = value_of c.args.state.now in
     let home : c.home-home.result ≡ (client_in s.clients c.args.client).home = c.home-home.ensures ∙ ap (λ y. y.home) c.get-known.ensures in
-    let so_many : length c.entries-entries.result.now ≡ length s.history = ap length (c.entries-entries.ensures ∙ c.reserve.ensures.same) in
-    let few : length s.history < 9223372036854775808 = omega (arith, so_many, c.entries-entries.type_inv.1) in
+    let few : length s.history < 9223372036854775808 = subst (λ h. length h < 9223372036854775808) c.reserve.ensures.same c.reserve.ensures.few in
     let fits = end_fits s c.args.client c.args.op.now c.requires.invariant.shape c.requires.fine c.requires.invariant.holds few in
     omega (arith, fits, ap (λ n. end (log_in s.nodes n c.args.client).log) home)
 

@@ -21,8 +21,7 @@ returns-in_err-reserve-clause-happens g c =
 pub fail-requires : goal.fail-requires
 fail-requires g c =
     let s = value_of c.args.sound.now.state in
-    let so_many : length c.entries-entries.result.now ≡ length s.history = ap length (c.entries-entries.ensures ∙ c.reserve.ensures.same) in
-    let few : length s.history < 9223372036854775808 = omega (arith, so_many, c.entries-entries.type_inv.1) in
+    let few : length s.history < 9223372036854775808 = subst (λ h. length h < 9223372036854775808) c.reserve.ensures.same c.reserve.ensures.few in
     record { epoch_fits = epoch_fits s c.args.sound.now.invariant.holds few }
 
 -- the node is down again

@@ -18,8 +18,7 @@ use Rattle.assise_machine_failures.proofs.fail.take_down.Goals as goal
 pub fail-requires : goal.fail-requires
 fail-requires g c =
     let s = value_of c.args.state.now in
-    let so_many : length c.entries-entries.result.now ≡ length s.history = ap length (c.entries-entries.ensures ∙ c.reserve.ensures.same) in
-    let few : length s.history < 9223372036854775808 = omega (arith, so_many, c.entries-entries.type_inv.1) in
+    let few : length s.history < 9223372036854775808 = subst (λ h. length h < 9223372036854775808) c.reserve.ensures.same c.reserve.ensures.few in
     record { epoch_fits = epoch_fits s c.requires.holds few }
 
 pub remove_logs-requires : goal.remove_logs-requires

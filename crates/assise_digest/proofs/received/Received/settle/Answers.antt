@@ -1,8 +1,6 @@
 use Rattle.std.proofs.Common.{◌∙◌, subst}
-use Rattle.assise_digest.specs.Pending.{StandsFor}
 use Rattle.assise_digest.specs.Region.{ahead}
 use Rattle.assise_digest.specs.Invariant.{StandsHere, seen_log}
-use Rattle.assise_digest.proofs.KeptStands.{keeps_no_more}
 use Rattle.assise_digest.proofs.MovedInodes.{sound_settled}
 use Rattle.assise_digest.proofs.RebuiltInodes.{stood_over}
 use Rattle.assise_digest.proofs.received.Received.settle.Goals as goal

@@ -1,4 +1,4 @@
-use Rattle.std.proofs.Common.{◌≡◌, ◌-◌, slice_set, OnErr, OnOk, Result, Ok, Err, length, take_all, arith, ap, subst, sym, ◌∙◌}
+use Rattle.std.proofs.Common.{◌-◌, slice_set, OnErr, OnOk, Result, Ok, Err, length, take_all, arith, ap, subst, sym, ◌∙◌}
 use Rattle.assise_inode_table.specs.Effects.{all_applied}
 use Rattle.assise_record.specs.Records.{all_effects}
 use Rattle.assise_digest.specs.Region.{ahead, digested_by}

@@ -6,4 +6,4 @@ pub returns-clause-none : goal.returns-clause-none
 returns-clause-none g c none = none_at (g.T.Chooses.choice c.args.test.now) c.args.self.now.inodes.entries (sym c.is_any_list_chosen.ensures ∙ none)
 
 pub returns-clause-some : goal.returns-clause-some
-returns-clause-some g c some = some_at (g.T.Chooses.choice c.args.test.now) c.args.self.now.inodes.entries c.iter-distinct.ensures.unique (sym c.is_any_list_chosen.ensures ∙ some)
+returns-clause-some g c some = some_at (g.T.Chooses.choice c.args.test.now) c.args.self.now.inodes.entries c.args.self.now.unique (sym c.is_any_list_chosen.ensures ∙ some)

@@ -8,6 +8,7 @@ invariant_of-self g c =
     let choice = g.T.Chooses.choice c.args.test.now in
     record {
       held = λ i. held_after _ (revoke choice) refl _ (λ k v b w f' t. search rules) (revoke_any choice) _ _ c.retain.ensures.filtered i ∙ c.args.self.now.held i;
+      unique = c.retain.ensures.unique;
     }
 
 pub returns : goal.returns

@@ -1,9 +1,7 @@
-use Rattle.std.proofs.Common.{◌≡◌, ◌<◌, ◌++◌, [], ◌∷◌, ◌∙◌, Result, Err, IsOk, length, ap, sym, subst, true≢false, arith}
-use Rattle.std.proofs.lemmas.Bool.{ne_eqb}
-use Rattle.std.proofs.lemmas.List.{length_push}
+use Rattle.std.proofs.Common.{◌≡◌, ◌<◌, ◌==◌, ◌++◌, [], ◌∷◌, ◌∙◌, Result, Err, IsOk, length, ap, sym, subst, true≢false, arith}
 use Rattle.assise_private_log.specs.Groups.{with_group}
-use Rattle.assise_private_log.specs.NumberedLog.{with_grouped}
-use Rattle.assise_private_log.proofs.LogGroups.{HasRest, all_passed, group_more, group_open, has_rest, one_passed}
+use Rattle.assise_private_log.specs.NumberedLog.{end, with_grouped}
+use Rattle.assise_private_log.proofs.LogGroups.{HasRest, all_passed, first_begins, group_more, group_open, has_rest, one_passed}
 use Rattle.assise_private_log.proofs.log.Log.append_group.Goals as goal
 
 refused_not_ok : {T E : Type 0} (r : Result T E) (e : E) → r ≡ Err e → IsOk r → ⊥
@@ -21,7 +19,7 @@ append_grouped-requires-clause-open_group c =
     let done = c.loop-record.yielded in
     let all = ap (λ xs. done ++ xs) (sym c.in-Some.ensures.steps.0) ∙ c.loop-record.invariant.items in
     let has : HasRest c.args.self.now c.loop-record.self done c.args.group = has_rest c.args.self.now c.loop-record.self done _ c.args.group c.in-Some.record c.loop-record.invariant.log all in
-    group_open c.args.self.now c.loop-record.self done c.loop-record.begins c.limit-lawful.ensures.lawful.marks c.loop-record.invariant.log c.loop-record.invariant.begins
+    group_open c.args.self.now c.loop-record.self done _ c.end-first.ensures.lawful.marks c.loop-record.invariant.log (ap (λ e. e == c.end-first.result) c.end.ensures.end ∙ ap (λ e. end c.loop-record.self == e) c.end-first.ensures.end ∙ first_begins c.args.self.now c.loop-record.self done c.loop-record.invariant.log)
     (omega (arith, has.few, c.group.invariant, ap length c.group.view_is))
 
 pub unreachable-requires : goal.unreachable-requires
@@ -35,10 +33,9 @@ unreachable-requires c =
 pub loop-record-preserved : goal.loop-record-preserved
 loop-record-preserved c = record {
   log = c.in-Ok.ensures.ok
-      ∙ ap (λ l. with_grouped l c.in-Some.record c.loop-record.begins) c.loop-record.invariant.log
-      ∙ group_more c.args.self.now c.loop-record.yielded c.in-Some.record c.loop-record.begins c.loop-record.invariant.begins;
+      ∙ ap (λ l. with_grouped l c.in-Some.record (c.end.result == c.end-first.result)) c.loop-record.invariant.log
+      ∙ group_more c.args.self.now c.loop-record.yielded c.in-Some.record _ (ap (λ e. e == c.end-first.result) c.end.ensures.end ∙ ap (λ e. end c.loop-record.self == e) c.end-first.ensures.end ∙ first_begins c.args.self.now c.loop-record.self c.loop-record.yielded c.loop-record.invariant.log);
   items = one_passed c.loop-record.yielded _ _ c.args.group c.in-Some.record c.loop-record.invariant.items c.in-Some.ensures.steps.0;
-  begins = sym (ne_eqb (length (c.loop-record.yielded ++ c.in-Some.record ∷ [])) 0 (λ none. omega (arith, length_push c.loop-record.yielded c.in-Some.record)));
 }
 
 pub returns : goal.returns

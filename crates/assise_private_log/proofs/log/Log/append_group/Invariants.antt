@@ -1,4 +1,4 @@
-use Rattle.std.proofs.Common.{◌≡◌, ◌==◌, ◌++◌, length}
+use Rattle.std.proofs.Common.{◌≡◌, ◌++◌}
 use Rattle.assise_private_log.specs.Groups.{with_group}
 use Rattle.assise_private_log.proofs.log.Log.append_group.Given as goal
 
@@ -7,5 +7,4 @@ abbrev pub invariant-loop-record : goal.invariant-loop-record
 invariant-loop-record l = record {
   log : l.self ≡ with_group l.fn.self l.yielded;
   items : l.yielded ++ l.record-iterator.rest.items ≡ l.fn.group;
-  begins : l.begins ≡ (length l.yielded == 0);
 }

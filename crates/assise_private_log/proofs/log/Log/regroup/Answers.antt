@@ -7,12 +7,12 @@ use Rattle.assise_private_log.proofs.log.Log.regroup.Goals as goal
 pub append_group-requires-clause-numbers_fit : goal.append_group-requires-clause-numbers_fit
 append_group-requires-clause-numbers_fit c =
     let all = ap (λ gs. c.loop-group.yielded ++ gs) (sym c.in-Some.ensures.steps.0) ∙ c.loop-group.invariant.items in
-    (room_for_group c.args.self.now c.loop-group.self c.args.from c.loop-group.yielded _ c.in-Some.group c.limit-lawful.ensures.lawful c.loop-group.invariant.log all).0
+    (room_for_group c.args.self.now c.loop-group.self c.args.from c.loop-group.yielded _ c.in-Some.group c.groups_from.ensures.lawful c.loop-group.invariant.log all).0
 
 pub append_group-requires-clause-room : goal.append_group-requires-clause-room
 append_group-requires-clause-room c =
     let all = ap (λ gs. c.loop-group.yielded ++ gs) (sym c.in-Some.ensures.steps.0) ∙ c.loop-group.invariant.items in
-    (room_for_group c.args.self.now c.loop-group.self c.args.from c.loop-group.yielded _ c.in-Some.group c.limit-lawful.ensures.lawful c.loop-group.invariant.log all).1
+    (room_for_group c.args.self.now c.loop-group.self c.args.from c.loop-group.yielded _ c.in-Some.group c.groups_from.ensures.lawful c.loop-group.invariant.log all).1
 
 pub loop-group-preserved : goal.loop-group-preserved
 loop-group-preserved c = record {

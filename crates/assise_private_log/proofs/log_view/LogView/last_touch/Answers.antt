@@ -7,3 +7,6 @@ returns-in_err-place-clause-last c = no_last c.args.self.now c.args.inode _ c.fr
 
 pub returns-clause-last : goal.returns-clause-last
 returns-clause-last c = last_of_place c.args.self.now c.args.inode c.in_ok-place.place _ (search rules) (search rules) (search rules) (search rules)
+
+pub returns-in_err-place-clause-lawful : goal.returns-in_err-place-clause-lawful
+returns-in_err-place-clause-lawful c = c.last_place.ensures.lawful

@@ -5,16 +5,19 @@ use Rattle.assise_private_log.proofs.Borders.{some_whole, whole_here, whole_none
 use Rattle.assise_private_log.proofs.log_view.LogView.whole_count.Goals as goal
 
 pub loop-count-preserved : goal.loop-count-preserved
-loop-count-preserved c =
-    (sym (whole_passed c.args.self.now c.args.from c.loop-count.count (search rules) (search rules)) ∙ c.loop-count.invariant.0, omega (arith, c.loop-count.invariant.1))
+loop-count-preserved c = record {
+  same = sym (whole_passed c.args.self.now c.args.from c.loop-count.count (search rules) (search rules)) ∙ c.loop-count.invariant.same;
+  within = omega (arith, c.loop-count.invariant.within);
+  lawful = λ fewer. c.is_border.ensures.lawful;
+}
 
 pub returns-else-not-is_border-clause-count : goal.returns-else-not-is_border-clause-count
-returns-else-not-is_border-clause-count c = sym (whole_here c.args.self.now c.args.from c.loop-count.count (search rules)) ∙ c.loop-count.invariant.0
+returns-else-not-is_border-clause-count c = sym (whole_here c.args.self.now c.args.from c.loop-count.count (search rules)) ∙ c.loop-count.invariant.same
 
 pub returns-after-loop-count-clause-count : goal.returns-after-loop-count-clause-count
 returns-after-loop-count-clause-count c =
     let all : c.loop-count.count ≡ 0 = omega arith in
-    all ∙ sym (whole_none c.args.self.now c.args.from) ∙ ap (whole_count c.args.self.now c.args.from) (sym all) ∙ c.loop-count.invariant.0
+    all ∙ sym (whole_none c.args.self.now c.args.from) ∙ ap (whole_count c.args.self.now c.args.from) (sym all) ∙ c.loop-count.invariant.same
 
 -- the groups that there are among 64
 
@@ -23,8 +26,8 @@ some_there g from most law enough = some_whole g from most law (omega (arith, en
 
 pub returns-after-loop-count-clause-some : goal.returns-after-loop-count-clause-some
 returns-after-loop-count-clause-some c enough =
-    let law : IsNumberedLog c.args.self.now = subst IsNumberedLog c.self.view_is c.self.invariant.0 in
     let none : c.loop-count.count ≡ 0 = omega arith in
+    let law = c.loop-count.invariant.lawful (omega (arith, none, enough)) in
     let left : whole_count c.args.self.now c.args.from c.args.most ≡ 0 =
-    sym c.loop-count.invariant.0 ∙ ap (whole_count c.args.self.now c.args.from) none ∙ whole_none c.args.self.now c.args.from in
+    sym c.loop-count.invariant.same ∙ ap (whole_count c.args.self.now c.args.from) none ∙ whole_none c.args.self.now c.args.from in
     absurd (omega (arith, left, some_there c.args.self.now c.args.from c.args.most law enough))
