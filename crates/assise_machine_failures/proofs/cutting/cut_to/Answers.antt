@@ -1,4 +1,4 @@
-use Rattle.std.proofs.Common.{◌≡◌, ◌≢◌, ℕ, ◌+◌, ◌-◌, ◌≤◌, ap, sym, subst, ◌∙◌, arith}
+use Rattle.std.proofs.Common.{◌≡◌, ◌≢◌, ◌+◌, ◌-◌, ◌≤◌, ap, sym, subst, ◌∙◌, arith}
 use Rattle.assise_machine_state.specs.Changes.{with_clients_cut, with_clients_failed}
 use Rattle.assise_machine_state.specs.ClientValues.{client_in, client_seen, failed_at, with_client}
 use Rattle.assise_machine_state.specs.NodeValues.{AreUndigested, with_tails_cut}

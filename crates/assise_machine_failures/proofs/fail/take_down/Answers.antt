@@ -1,4 +1,4 @@
-use Rattle.std.proofs.Common.{◌≡◌, ◌<◌, ◌++◌, ◌∷◌, [], length, ap, sym, subst, ◌∙◌, arith}
+use Rattle.std.proofs.Common.{◌<◌, ◌++◌, ◌∷◌, [], length, ap, sym, subst, ◌∙◌, arith}
 use Rattle.std.specs.FinSet as set
 use Rattle.assise_history.specs.Entries.{fails}
 use Rattle.assise_lease_tree.specs.Trees.{levels_of}
