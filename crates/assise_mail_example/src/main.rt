@@ -1,16 +1,22 @@
-//! A mail store on two nodes: one thread delivers a letter, another reads it, and a third does what the nodes do.
+//! A mail store on two nodes: three threads deliver messages and two read them, while a node fails and comes back.
 #![tactic(auto)]
 
-mod clients;
-mod mail;
+mod crew;
+mod mailer;
+mod members;
+mod messages;
+mod office;
+mod readers;
+mod report;
+mod tally;
+mod writers;
 
-use crate::clients::on_cluster;
-use assise_names::reply::Reply;
+use crate::office::run_office;
 use std::io;
 
 fn main(rt: HostRuntime) -> io::Result<()> {
-    match on_cluster(&rt, rt.alloc()) {
-        Ok(letter) => println!(rt; "{}", Reply::Bytes(letter)),
+    match run_office(&rt, rt.alloc()) {
+        Ok(report) => println!(rt; "{report}"),
         Err(fault) => println!(rt; "{fault}"),
     }
 }

@@ -1,0 +1,210 @@
+// What all threads do, and what they saw.
+ghost use Rattle.std.specs.Prelude.{◌≡◌};
+ghost use Rattle.assise_keeper.specs.Passes.{IsPassOf};
+
+use crate::crew::{Crew, Readers, Writers};
+use crate::mailer::{Mailer, SURVIVOR};
+use crate::members::{FAILING, Operator};
+use crate::readers::{find_all, read_all};
+use crate::report::Report;
+use crate::tally::Tally;
+use crate::writers::deliver_all;
+use assise_keeper::keeper::Keeper;
+use assise_keeper::pass::Pass;
+use assise_lease_table::revoker::{Revoker, Revokes};
+use assise_machine::cluster::{Cluster, ClusterOf};
+use assise_mail::fault::MailFault;
+use assise_names::refusal::Refusal;
+use assise_private_log::log_view::LogView;
+use assise_revokers::kinds::whole;
+use assise_workers::nodes::{NodeWorkers, tend};
+use std::alloc::{AllocError, Global};
+use std::sync::Wait;
+use std::thread::{Threads, join};
+
+/// How many revokers are made: two for each thread with a client, of those that deliver, that read and that search at the end.
+const REVOKERS: usize = 14;
+
+/// What a client's revoker answers.
+type Cut = Box<dyn Fn(&LogView, u64) -> u64 + Send>;
+
+/// Delivers, and leaves.
+fn deliver_and_leave<C: Revokes + Drop, R: Wait>(
+    rt: &R,
+    alloc: Global,
+    mailer: &mut Mailer<'_, C>,
+    writer: u32,
+    tally: &Tally,
+) -> Result<u32, MailFault> {
+    let ended = deliver_all(rt, alloc, mailer, writer, tally);
+    tally.leave();
+    ended
+}
+
+/// Reads, and leaves.
+fn read_and_leave<C: Revokes + Drop, R: Wait>(
+    rt: &R,
+    alloc: Global,
+    mailer: &mut Mailer<'_, C>,
+    tally: &Tally,
+) -> Result<u32, MailFault> {
+    let ended = read_all(rt, alloc, mailer);
+    tally.leave();
+    ended
+}
+
+/// Finds all messages, and leaves.
+fn find_and_leave<C: Revokes + Drop, R: Wait>(
+    rt: &R,
+    alloc: Global,
+    searcher: &mut Mailer<'_, C>,
+    tally: &Tally,
+) -> Result<(), MailFault> {
+    let found = find_all(rt, alloc, &mut searcher.files);
+    tally.leave();
+    found
+}
+
+/// All writers deliver.
+fn write_all<C: Revokes + Drop + Send, R: Threads + Wait + Sync>(
+    rt: &R,
+    alloc: Global,
+    writers: &mut Writers<'_, C>,
+    tally: &Tally,
+) -> Result<(u32, u32, u32), MailFault> {
+    let Writers {
+        first,
+        second,
+        third,
+    } = writers;
+    let (first, (second, third)) = join(
+        rt,
+        || deliver_and_leave(rt, alloc, first, 1, tally),
+        || {
+            join(
+                rt,
+                || deliver_and_leave(rt, alloc, second, 2, tally),
+                || deliver_and_leave(rt, alloc, third, 3, tally),
+            )
+        },
+    );
+    Ok((first?, second?, third?))
+}
+
+/// Both readers read.
+fn read_both<C: Revokes + Drop + Send, R: Threads + Wait + Sync>(
+    rt: &R,
+    alloc: Global,
+    readers: &mut Readers<'_, C>,
+    tally: &Tally,
+) -> Result<(u32, u32), MailFault> {
+    let Readers { first, second } = readers;
+    let (first, second) = join(
+        rt,
+        || read_and_leave(rt, alloc, first, tally),
+        || read_and_leave(rt, alloc, second, tally),
+    );
+    Ok((first?, second?))
+}
+
+/// The node fails and comes back, while another thread does what the nodes do.
+fn fail_tended<C: Revokes + Drop + Send, R: Threads + Wait + Sync>(
+    rt: &R,
+    alloc: Global,
+    operator: &mut Operator<'_, C>,
+    nodes: &mut [NodeWorkers<'_, ClusterOf<C>>],
+    tally: &Tally,
+) -> Result<(), Refusal> {
+    let (failed, ()) = join(
+        rt,
+        || operator.fail_and_return(rt, alloc, tally),
+        || tend(rt, alloc, nodes, tally),
+    );
+    failed
+}
+
+/// All threads do what they have to.
+fn run_threads<C: Revokes + Drop + Send, R: Threads + Wait + Sync>(
+    rt: &R,
+    alloc: Global,
+    crew: &mut Crew<'_, C>,
+    tally: &Tally,
+) -> Result<Report, MailFault> {
+    let Crew {
+        writers,
+        readers,
+        operator,
+        nodes,
+    } = crew;
+    let nodes = nodes.as_mut_slice();
+    let (writers, (readers, failed)) = join(
+        rt,
+        || write_all(rt, alloc, writers, tally),
+        || {
+            join(
+                rt,
+                || read_both(rt, alloc, readers, tally),
+                || fail_tended(rt, alloc, operator, nodes, tally),
+            )
+        },
+    );
+    failed?;
+    Ok(Report {
+        writers: writers?,
+        readers: readers?,
+    })
+}
+
+/// Finds all messages at a node, while another thread does what the nodes do.
+fn find_tended<C: Revokes + Drop + Send, R: Threads + Wait + Sync>(
+    rt: &R,
+    alloc: Global,
+    searcher: &mut Mailer<'_, C>,
+    nodes: &mut [NodeWorkers<'_, ClusterOf<C>>],
+    tally: &Tally,
+) -> Result<(), MailFault> {
+    tally.enter();
+    let (found, ()) = join(
+        rt,
+        || find_and_leave(rt, alloc, searcher, tally),
+        || tend(rt, alloc, nodes, tally),
+    );
+    found
+}
+
+/// Makes the directories, lets all threads run, and finds the messages at each node.
+fn with_main<C: Revokes + Drop + Send, R: Threads + Wait + Sync>(
+    rt: &R,
+    alloc: Global,
+    keeper: &Keeper<ClusterOf<C>>,
+    main: &mut Pass<ClusterOf<C>>,
+    revokers: &mut Vec<C>,
+) -> Result<Report, MailFault>
+    requires { IsPassOf keeper.now main.old }
+{
+    let tally = Tally::new();
+    let mut crew = Crew::new(rt, alloc, keeper, main, revokers)?;
+    crew.make_directories(rt, alloc)?;
+    let report = run_threads(rt, alloc, &mut crew, &tally)?;
+    let nodes = crew.nodes.as_mut_slice();
+    let mut survivor = Mailer::new(rt, alloc, keeper, main, revokers, SURVIVOR)?;
+    find_tended(rt, alloc, &mut survivor, nodes, &tally)?;
+    let mut returned = Mailer::new(rt, alloc, keeper, main, revokers, FAILING)?;
+    find_tended(rt, alloc, &mut returned, nodes, &tally)?;
+    Ok(report)
+}
+
+/// Makes a cluster of two nodes, whose clients' logs have 64 records at most, and runs all threads on it. All of a client's log is safe
+/// before a lease of it goes to another.
+pub fn run_office<R: Threads + Wait + Sync>(rt: &R, alloc: Global) -> Result<Report, MailFault> {
+    let mut revokers = Vec::new(alloc);
+    for _ in 0..REVOKERS {
+        let cut: Cut = Box::new(alloc, whole).map_err(AllocError::from)?;
+        revokers.push(Revoker::new(cut))?;
+    }
+    let cluster = Cluster::new(alloc, SURVIVOR, 64, 16)?;
+    let (keeper, mut main) = Keeper::new(alloc, cluster).map_err(|refused| refused.0)?;
+    let report = with_main(rt, alloc, &keeper, &mut main, &mut revokers);
+    keeper.close();
+    report
+}
