@@ -3,4 +3,4 @@ pub mod Delivered
 pub mod Unlost
 pub mod Synced
 pub mod Readers
-pub mod Sequences
+pub mod Stopped

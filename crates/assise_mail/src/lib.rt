@@ -3,4 +3,5 @@
 
 pub mod fault;
 pub mod laws;
+pub mod step;
 pub mod store;
