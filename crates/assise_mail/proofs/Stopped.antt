@@ -11,8 +11,8 @@ use Rattle.assise_libfs.specs.Calling.{SeesCall}
 use Rattle.assise_workers.specs.Told.{SeesAll}
 use Rattle.assise_workers.proofs.Lists.{one_more_of}
 use Rattle.assise_mail.specs.declared.fault.MailFault.{MailFault}
-use Rattle.assise_mail.specs.declared.step.Step.{Step}
-use Rattle.assise_mail.specs.Steps.{ComesToElse, StopsAt, dues_of, ops_of}
+use Rattle.assise_mail.specs.declared.due_call.DueCall.{DueCall}
+use Rattle.assise_mail.specs.DueCalls.{ComesToElse, StopsAt, replies_of, ops_of}
 
 -- ---- whether a reply is the one that is due
 
@@ -52,29 +52,29 @@ where_err (Err fault) IsThis Leaves h leaves = leaves fault h
 
 -- ---- a place among calls
 
-split_at : (xs : List Step) (i : ℕ) (d : Step) → i < length xs → xs ≡ take i xs ++ get_or xs i d ∷ drop (suc i) xs
+split_at : (xs : List DueCall) (i : ℕ) (d : DueCall) → i < length xs → xs ≡ take i xs ++ get_or xs i d ∷ drop (suc i) xs
 split_at [] i d there = absurd (omega (arith, there))
 split_at (x ∷ xs) zero d there = refl
 split_at (x ∷ xs) (suc i) d there = ap (λ ys. x ∷ ys) (split_at xs i d (omega (arith, there)))
 
-module _ (c : ℕ) (steps : List Step) (i : ℕ) (step : Step) (h between new : List EntryValue) (there : i < length steps) (is : get_or steps i step ≡ step)
-    (sees : SeesAll c (ops_of (take i steps)) h (dues_of (take i steps)) between) where
-  pub one_step_more : (d : ℕ) (reply : Reply) → d ≡ c → reply ≡ step.due → SeesCall d step.op between (Ok reply) new → SeesAll c (ops_of (take (i + 1) steps)) h (dues_of (take (i + 1) steps)) new
-  one_step_more d reply same due one =
-      let more : take (i + 1) steps ≡ take i steps ++ step ∷ [] = take_more steps i step there ∙ ap (λ s. take i steps ++ s ∷ []) is in
-      let ops : ops_of (take (i + 1) steps) ≡ ops_of (take i steps) ++ step.op ∷ [] = ap ops_of more ∙ map_push (λ (s : Step). s.op) (take i steps) step in
-      let dues : dues_of (take (i + 1) steps) ≡ dues_of (take i steps) ++ Ok step.due ∷ [] = ap dues_of more ∙ map_push (λ (s : Step). Ok s.due) (take i steps) step in
-      let all : SeesAll c (ops_of (take i steps) ++ step.op ∷ []) h (dues_of (take i steps) ++ Ok step.due ∷ []) new =
-      one_more_of c d (ops_of (take i steps)) h (dues_of (take i steps)) between step.op (Ok step.due) new same sees (subst (λ r. SeesCall d step.op between (Ok r) new) due one) in
-      subst (λ os. SeesAll c os h (dues_of (take (i + 1) steps)) new) (sym ops) (subst (λ ds. SeesAll c (ops_of (take i steps) ++ step.op ∷ []) h ds new) (sym dues) all)
+module _ (c : ℕ) (calls : List DueCall) (i : ℕ) (wanted : DueCall) (h between new : List EntryValue) (there : i < length calls) (is : get_or calls i wanted ≡ wanted)
+    (sees : SeesAll c (ops_of (take i calls)) h (replies_of (take i calls)) between) where
+  pub one_call_more : (d : ℕ) (reply : Reply) → d ≡ c → reply ≡ wanted.reply → SeesCall d wanted.op between (Ok reply) new → SeesAll c (ops_of (take (i + 1) calls)) h (replies_of (take (i + 1) calls)) new
+  one_call_more d reply same due one =
+      let more : take (i + 1) calls ≡ take i calls ++ wanted ∷ [] = take_more calls i wanted there ∙ ap (λ s. take i calls ++ s ∷ []) is in
+      let ops : ops_of (take (i + 1) calls) ≡ ops_of (take i calls) ++ wanted.op ∷ [] = ap ops_of more ∙ map_push (λ (s : DueCall). s.op) (take i calls) wanted in
+      let dues : replies_of (take (i + 1) calls) ≡ replies_of (take i calls) ++ Ok wanted.reply ∷ [] = ap replies_of more ∙ map_push (λ (s : DueCall). Ok s.reply) (take i calls) wanted in
+      let all : SeesAll c (ops_of (take i calls) ++ wanted.op ∷ []) h (replies_of (take i calls) ++ Ok wanted.reply ∷ []) new =
+      one_more_of c d (ops_of (take i calls)) h (replies_of (take i calls)) between wanted.op (Ok wanted.reply) new same sees (subst (λ r. SeesCall d wanted.op between (Ok r) new) due one) in
+      subst (λ os. SeesAll c os h (replies_of (take (i + 1) calls)) new) (sym ops) (subst (λ ds. SeesAll c (ops_of (take i calls) ++ wanted.op ∷ []) h ds new) (sym dues) all)
 
-  pub stops_here : (d : ℕ) (fault : MailFault) → d ≡ c → ComesToElse d step.op (λ reply. reply ≡ step.due) between fault new → StopsAt c steps h fault new
+  pub stops_here : (d : ℕ) (fault : MailFault) → d ≡ c → ComesToElse d wanted.op (λ reply. reply ≡ wanted.reply) between fault new → StopsAt c calls h fault new
   stops_here d fault same other = record {
-    made = take i steps;
-    step = step;
-    rest = drop (suc i) steps;
+    made = take i calls;
+    wanted = wanted;
+    rest = drop (suc i) calls;
     between = between;
-    split = split_at steps i step there ∙ ap (λ s. take i steps ++ s ∷ drop (suc i) steps) is;
+    split = split_at calls i wanted there ∙ ap (λ s. take i calls ++ s ∷ drop (suc i) calls) is;
     sees = sees;
-    stops = subst (λ k. ComesToElse k step.op (λ reply. reply ≡ step.due) between fault new) same other;
+    stops = subst (λ k. ComesToElse k wanted.op (λ reply. reply ≡ wanted.reply) between fault new) same other;
   }

@@ -5,11 +5,11 @@ ghost use Rattle.assise_names.specs.declared.refusal.Refusal.TheVariants.{OutOfM
 ghost use Rattle.assise_names.specs.declared.reply.Reply.TheVariants.{Bytes, Names};
 ghost use Rattle.assise_libfs.specs.Calling.{SeesCall};
 ghost use Rattle.assise_libfs.specs.Clients.{IsSameClient, client_of, seen_by};
-ghost use Rattle.assise_mail.specs.Steps.{ComesToElse, IsBytes, IsNames, LacksMemory, StopsAt, delivery_steps, dues_of, ops_of, removal_steps};
+ghost use Rattle.assise_mail.specs.DueCalls.{ComesToElse, IsBytes, IsNames, LacksMemory, StopsAt, delivery_calls, replies_of, ops_of, removal_calls};
 ghost use Rattle.assise_workers.specs.Told.{SeesAll};
 
+use crate::due_call::{DueCall, make_all};
 use crate::fault::MailFault;
-use crate::step::{Step, make_all};
 use assise_libfs::libfs::LibFs;
 use assise_libfs::served::Served;
 use assise_names::byte_string::ByteString;
@@ -51,28 +51,28 @@ pub fn deliver<S: Served, R: Wait>(
 ) -> Result<(), MailFault>
     ensures same { IsSameClient files.old files.new }
     ensures delivered { OnOk result (SeesAll (client_of files.old)
-        (ops_of (delivery_steps draft.now place.now message)) (seen_by files.old)
-        (dues_of (delivery_steps draft.now place.now message)) (seen_by files.new)) }
+        (ops_of (delivery_calls draft.now place.now message)) (seen_by files.old)
+        (replies_of (delivery_calls draft.now place.now message)) (seen_by files.new)) }
     ensures stops { IfErr result (λ fault.
         LacksMemory fault (seen_by files.old) (seen_by files.new) ⊎
-        StopsAt (client_of files.old) (delivery_steps draft.now place.now message)
+        StopsAt (client_of files.old) (delivery_calls draft.now place.now message)
         (seen_by files.old) fault (seen_by files.new)) }
 {
     let (created, written) = twice(draft)?;
     let (free, taken) = twice(place)?;
     let moved = draft.copy()?;
-    let steps = [
-        Step::done(Op::Create(created)),
-        Step::done(Op::Write(written, 0, message)),
-        Step::done(Op::Dsync),
-        Step {
+    let calls = [
+        DueCall::done(Op::Create(created)),
+        DueCall::done(Op::Write(written, 0, message)),
+        DueCall::done(Op::Dsync),
+        DueCall {
             op: Op::Stat(free),
-            due: Reply::Error(TreeError::NoEnt),
+            reply: Reply::Error(TreeError::NoEnt),
         },
-        Step::done(Op::Rename(moved, taken)),
-        Step::done(Op::Dsync),
+        DueCall::done(Op::Rename(moved, taken)),
+        DueCall::done(Op::Dsync),
     ];
-    make_all(rt, alloc, files, &steps)
+    make_all(rt, alloc, files, &calls)
 }
 
 /// The names of a mailbox's messages, ascending by their bytes.
@@ -133,13 +133,16 @@ pub fn remove<S: Served, R: Wait>(
 ) -> Result<(), MailFault>
     ensures same { IsSameClient files.old files.new }
     ensures removed { OnOk result (SeesAll (client_of files.old)
-        (ops_of (removal_steps place.now)) (seen_by files.old)
-        (dues_of (removal_steps place.now)) (seen_by files.new)) }
+        (ops_of (removal_calls place.now)) (seen_by files.old)
+        (replies_of (removal_calls place.now)) (seen_by files.new)) }
     ensures stops { IfErr result (λ fault.
         LacksMemory fault (seen_by files.old) (seen_by files.new) ⊎
-        StopsAt (client_of files.old) (removal_steps place.now) (seen_by files.old) fault
+        StopsAt (client_of files.old) (removal_calls place.now) (seen_by files.old) fault
         (seen_by files.new)) }
 {
-    let steps = [Step::done(Op::Unlink(place.copy()?)), Step::done(Op::Dsync)];
-    make_all(rt, alloc, files, &steps)
+    let calls = [
+        DueCall::done(Op::Unlink(place.copy()?)),
+        DueCall::done(Op::Dsync),
+    ];
+    make_all(rt, alloc, files, &calls)
 }

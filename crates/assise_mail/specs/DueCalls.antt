@@ -1,4 +1,4 @@
--- Calls in order, each of which has to come to its reply, and where they stop.
+-- Calls in order, for each of which a reply is due, and where they stop.
 use Rattle.std.specs.Prelude.{◌≡◌, ℕ, List, [], ◌∷◌, ◌++◌, map, Result, Ok, Err}
 use Rattle.assise_names.specs.declared.call.Op.{Op}
 use Rattle.assise_names.specs.declared.call.Op.TheVariants.{Create, Write, Rename, Stat, Unlink, Dsync}
@@ -12,25 +12,25 @@ use Rattle.assise_libfs.specs.Calling.{SeesCall}
 use Rattle.assise_workers.specs.Told.{SeesAll}
 use Rattle.assise_mail.specs.declared.fault.MailFault.{MailFault}
 use Rattle.assise_mail.specs.declared.fault.MailFault.TheVariants.{Answered, Refused}
-use Rattle.assise_mail.specs.declared.step.Step.{Step}
+use Rattle.assise_mail.specs.declared.due_call.DueCall.{DueCall}
 
-abbrev pub ops_of : List Step → List Op
-ops_of steps = map (λ (s : Step). s.op) steps
+abbrev pub ops_of : List DueCall → List Op
+ops_of calls = map (λ (x : DueCall). x.op) calls
 
-abbrev pub dues_of : List Step → List (Result Reply Refusal)
-dues_of steps = map (λ (s : Step). Ok s.due) steps
+abbrev pub replies_of : List DueCall → List (Result Reply Refusal)
+replies_of calls = map (λ (x : DueCall). Ok x.reply) calls
 
-abbrev pub step_done : Op → Step
-step_done op = record { op = op; due = Done }
+abbrev pub call_done : Op → DueCall
+call_done op = record { op = op; reply = Done }
 
 -- a message is written to a draft, and synced; nothing is at its place, to which it is moved, and that is synced
-abbrev pub delivery_steps : (draft place : List (List ℕ)) (message : List ℕ) → List Step
-delivery_steps draft place message =
-    step_done (Create draft) ∷ step_done (Write draft 0 message) ∷ step_done Dsync
-    ∷ record { op = Stat place; due = Error NoEnt } ∷ step_done (Rename draft place) ∷ step_done Dsync ∷ []
+abbrev pub delivery_calls : (draft place : List (List ℕ)) (message : List ℕ) → List DueCall
+delivery_calls draft place message =
+    call_done (Create draft) ∷ call_done (Write draft 0 message) ∷ call_done Dsync
+    ∷ record { op = Stat place; reply = Error NoEnt } ∷ call_done (Rename draft place) ∷ call_done Dsync ∷ []
 
-abbrev pub removal_steps : (place : List (List ℕ)) → List Step
-removal_steps place = step_done (Unlink place) ∷ step_done Dsync ∷ []
+abbrev pub removal_calls : (place : List (List ℕ)) → List DueCall
+removal_calls place = call_done (Unlink place) ∷ call_done Dsync ∷ []
 
 -- ---- what stops them
 
@@ -42,22 +42,22 @@ fault_of (Err refusal) = Refused refusal
 abbrev pub LacksMemory : MailFault → (old new : List EntryValue) → Type 0
 LacksMemory fault old new = (fault ≡ Refused OutOfMemory) × (new ≡ old)
 
--- a call was made, and came to what it was not to come to: that is the fault
+-- a call was made, and came to what isn't due: that is the fault
 pub record ComesToElse (c : ℕ) (op : Op) (IsDue : Reply → Type 0) (old : List EntryValue) (is : MailFault) (new : List EntryValue) : Type 0 where
   pub came : Result Reply Refusal
   pub sees : SeesCall c op old came new
   pub fault : is ≡ fault_of came
   pub undue : (reply : Reply) → came ≡ Ok reply → IsDue reply → ⊥
 
--- some first calls came to what they had to, and the next one didn't
-pub record StopsAt (c : ℕ) (steps : List Step) (old : List EntryValue) (fault : MailFault) (new : List EntryValue) : Type 0 where
-  pub made : List Step
-  pub step : Step
-  pub rest : List Step
+-- some first calls came to what is due, and the next one didn't
+pub record StopsAt (c : ℕ) (calls : List DueCall) (old : List EntryValue) (fault : MailFault) (new : List EntryValue) : Type 0 where
+  pub made : List DueCall
+  pub wanted : DueCall
+  pub rest : List DueCall
   pub between : List EntryValue
-  pub split : steps ≡ made ++ step ∷ rest
-  pub sees : SeesAll c (ops_of made) old (dues_of made) between
-  pub stops : ComesToElse c step.op (λ reply. reply ≡ step.due) between fault new
+  pub split : calls ≡ made ++ wanted ∷ rest
+  pub sees : SeesAll c (ops_of made) old (replies_of made) between
+  pub stops : ComesToElse c wanted.op (λ reply. reply ≡ wanted.reply) between fault new
 
 abbrev pub IsNames : Reply → Type 0
 IsNames reply = (names : List (List ℕ)) × (reply ≡ Names names)
