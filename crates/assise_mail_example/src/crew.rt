@@ -73,7 +73,8 @@ impl<'a, C: Revokes + Drop> Crew<'a, C> {
 
     /// Makes the mailbox, and the directory of drafts.
     pub fn make_directories<R: Wait>(&mut self, rt: &R, alloc: Global) -> Result<(), MailFault> {
-        let files = &mut self.writers.first.files;
+        let maker = &mut self.writers.first;
+        let files = &mut maker.files;
         files.mkdir(rt, alloc, drafts(alloc)?)?;
         files.mkdir(rt, alloc, mailbox(alloc)?)?;
         Ok(())

@@ -194,17 +194,34 @@ fn with_main<C: Revokes + Drop + Send, R: Threads + Wait + Sync>(
     Ok(report)
 }
 
-/// Makes a cluster of two nodes, whose clients' logs have 64 records at most, and runs all threads on it. All of a client's log is safe
-/// before a lease of it goes to another.
-pub fn run_office<R: Threads + Wait + Sync>(rt: &R, alloc: Global) -> Result<Report, MailFault> {
-    let mut revokers = Vec::new(alloc);
+/// As many revokers as are needed. All of a client's log is safe before a lease of it goes to another.
+fn all_revokers(alloc: Global) -> Result<Vec<Revoker>, MailFault> {
+    let mut revokers = Vec::with_capacity(alloc, REVOKERS)?;
     for _ in 0..REVOKERS {
         let cut: Cut = Box::new(alloc, whole).map_err(AllocError::from)?;
         revokers.push(Revoker::new(cut))?;
     }
-    let cluster = Cluster::new(alloc, SURVIVOR, 64, 16)?;
-    let (keeper, mut main) = Keeper::new(alloc, cluster).map_err(|refused| refused.0)?;
-    let report = with_main(rt, alloc, &keeper, &mut main, &mut revokers);
+    Ok(revokers)
+}
+
+/// Runs all threads on a cluster.
+fn run_on<C: Revokes + Drop + Send, R: Threads + Wait + Sync>(
+    rt: &R,
+    alloc: Global,
+    cluster: ClusterOf<C>,
+    revokers: &mut Vec<C>,
+) -> Result<Report, MailFault> {
+    let Ok((keeper, mut main)) = Keeper::new(alloc, cluster) else {
+        return Err(MailFault::Refused(Refusal::OutOfMemory));
+    };
+    let report = with_main(rt, alloc, &keeper, &mut main, revokers);
     keeper.close();
     report
+}
+
+/// Makes a cluster of two nodes, whose clients' logs have 64 records at most, and runs all threads on it.
+pub fn run_office<R: Threads + Wait + Sync>(rt: &R, alloc: Global) -> Result<Report, MailFault> {
+    let mut revokers = all_revokers(alloc)?;
+    let cluster = Cluster::new(alloc, SURVIVOR, 64, 16)?;
+    run_on(rt, alloc, cluster, &mut revokers)
 }
