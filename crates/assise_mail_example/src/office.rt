@@ -155,7 +155,7 @@ fn run_threads<C: Revokes + Drop + Send, R: Threads + Wait + Sync>(
     })
 }
 
-/// Finds all messages at a node, while another thread does what the nodes do.
+/// Finds all messages, while another thread does what the nodes do.
 fn find_tended<C: Revokes + Drop + Send, R: Threads + Wait + Sync>(
     rt: &R,
     alloc: Global,
@@ -172,7 +172,45 @@ fn find_tended<C: Revokes + Drop + Send, R: Threads + Wait + Sync>(
     found
 }
 
+/// Finds all messages at a node.
+fn find_at<C: Revokes + Drop + Send, R: Threads + Wait + Sync>(
+    rt: &R,
+    alloc: Global,
+    keeper: &Keeper<ClusterOf<C>>,
+    main: &mut Pass<ClusterOf<C>>,
+    revokers: &mut Vec<C>,
+    node: u32,
+    nodes: &mut [NodeWorkers<'_, ClusterOf<C>>],
+    tally: &Tally,
+) -> Result<(), MailFault>
+    requires { IsPassOf keeper.now main.old }
+    ensures { IsPassOf keeper.now main.new }
+{
+    let mut searcher = Mailer::new(rt, alloc, keeper, main, revokers, node)?;
+    find_tended(rt, alloc, &mut searcher, nodes, tally)
+}
+
 /// Makes the directories, lets all threads run, and finds the messages at each node.
+fn run_crew<C: Revokes + Drop + Send, R: Threads + Wait + Sync>(
+    rt: &R,
+    alloc: Global,
+    keeper: &Keeper<ClusterOf<C>>,
+    main: &mut Pass<ClusterOf<C>>,
+    revokers: &mut Vec<C>,
+    crew: &mut Crew<'_, C>,
+) -> Result<Report, MailFault>
+    requires { IsPassOf keeper.now main.old }
+{
+    let tally = Tally::new();
+    crew.make_directories(rt, alloc)?;
+    let report = run_threads(rt, alloc, crew, &tally)?;
+    let nodes = crew.nodes.as_mut_slice();
+    find_at(rt, alloc, keeper, main, revokers, SURVIVOR, nodes, &tally)?;
+    find_at(rt, alloc, keeper, main, revokers, FAILING, nodes, &tally)?;
+    Ok(report)
+}
+
+/// Lets all threads run, each with what it needs.
 fn with_main<C: Revokes + Drop + Send, R: Threads + Wait + Sync>(
     rt: &R,
     alloc: Global,
@@ -182,16 +220,8 @@ fn with_main<C: Revokes + Drop + Send, R: Threads + Wait + Sync>(
 ) -> Result<Report, MailFault>
     requires { IsPassOf keeper.now main.old }
 {
-    let tally = Tally::new();
     let mut crew = Crew::new(rt, alloc, keeper, main, revokers)?;
-    crew.make_directories(rt, alloc)?;
-    let report = run_threads(rt, alloc, &mut crew, &tally)?;
-    let nodes = crew.nodes.as_mut_slice();
-    let mut survivor = Mailer::new(rt, alloc, keeper, main, revokers, SURVIVOR)?;
-    find_tended(rt, alloc, &mut survivor, nodes, &tally)?;
-    let mut returned = Mailer::new(rt, alloc, keeper, main, revokers, FAILING)?;
-    find_tended(rt, alloc, &mut returned, nodes, &tally)?;
-    Ok(report)
+    run_crew(rt, alloc, keeper, main, revokers, &mut crew)
 }
 
 /// As many revokers as are needed. All of a client's log is safe before a lease of it goes to another.
