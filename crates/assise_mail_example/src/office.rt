@@ -224,16 +224,6 @@ fn with_main<C: Revokes + Drop + Send, R: Threads + Wait + Sync>(
     run_crew(rt, alloc, keeper, main, revokers, &mut crew)
 }
 
-/// As many revokers as are needed. All of a client's log is safe before a lease of it goes to another.
-fn all_revokers(alloc: Global) -> Result<Vec<Revoker>, MailFault> {
-    let mut revokers = Vec::with_capacity(alloc, REVOKERS)?;
-    for _ in 0..REVOKERS {
-        let cut: Cut = Box::new(alloc, whole).map_err(AllocError::from)?;
-        revokers.push(Revoker::new(cut))?;
-    }
-    Ok(revokers)
-}
-
 /// Runs all threads on a cluster.
 fn run_on<C: Revokes + Drop + Send, R: Threads + Wait + Sync>(
     rt: &R,
@@ -249,9 +239,14 @@ fn run_on<C: Revokes + Drop + Send, R: Threads + Wait + Sync>(
     report
 }
 
-/// Makes a cluster of two nodes, whose clients' logs have 64 records at most, and runs all threads on it.
+/// Makes a cluster of two nodes, whose clients' logs have 64 records at most, and runs all threads on it. All of a client's log is safe
+/// before a lease of it goes to another.
 pub fn run_office<R: Threads + Wait + Sync>(rt: &R, alloc: Global) -> Result<Report, MailFault> {
-    let mut revokers = all_revokers(alloc)?;
+    let mut revokers = Vec::with_capacity(alloc, REVOKERS)?;
+    for _ in 0..REVOKERS {
+        let cut: Cut = Box::new(alloc, whole).map_err(AllocError::from)?;
+        revokers.push(Revoker::new(cut))?;
+    }
     let cluster = Cluster::new(alloc, SURVIVOR, 64, 16)?;
     run_on(rt, alloc, cluster, &mut revokers)
 }
