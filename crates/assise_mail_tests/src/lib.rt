@@ -1,6 +1,7 @@
 //! Tests of `assise_mail`: that messages are delivered, listed, read and removed, and what is answered where one isn't.
 #![tactic(auto)]
 
-pub mod mailbox;
+#[cfg(test)]
+mod mailbox;
 #[cfg(test)]
 mod tests;

@@ -3,4 +3,5 @@
 
 #[cfg(test)]
 mod tests;
-pub mod xml;
+#[cfg(test)]
+mod xml;
