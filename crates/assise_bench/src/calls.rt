@@ -18,12 +18,23 @@ use crate::calls::setting::{Kind, Setting, setting_of};
 use assise_names::call::Op;
 use std::alloc::Global;
 
+/// Prints how often the call is made.
+pub(crate) fn show(rt: &HostRuntime, words: &[String]) -> Option<()> {
+    let made = count(rt.alloc(), words)?;
+    println!(rt; "{made}").ok()
+}
+
 /// How often the call is made that the words say.
-pub(crate) fn count(alloc: Global, words: &[String]) -> Option<u64> {
+fn count(alloc: Global, words: &[String]) -> Option<u64> {
     let setting = setting_of(alloc, words)?;
     let calls = calls_of(alloc, setting.kind, setting.bytes)?;
+    count_of(alloc, setting, calls.as_slice())
+}
+
+/// How often these calls are made on a new cluster.
+fn count_of(alloc: Global, setting: Setting, calls: &[Op]) -> Option<u64> {
     let mut cluster = Cluster::new(alloc, 2, 4096, 4096).ok()?;
-    count_on(alloc, &mut cluster, setting, calls.as_slice())
+    count_on(alloc, &mut cluster, setting, calls)
 }
 
 /// How often the call is made on a cluster on which nothing happened.

@@ -8,24 +8,41 @@ use assise_seq_tree::contents;
 use bytes::Bytes;
 use std::alloc::Global;
 
+/// Does what the words say, and prints that it is done.
+pub(crate) fn show(rt: &HostRuntime, words: &[String]) -> Option<()> {
+    let done = done(rt.alloc(), words)?;
+    println!(rt; "{done}").ok()
+}
+
 /// Does what the words say. None where they don't say one of the modes, or there is no memory.
-pub(crate) fn done(alloc: Global, words: &[String]) -> Option<&'static str> {
+fn done(alloc: Global, words: &[String]) -> Option<&'static str> {
     let [mode, size, count] = words else {
         return None;
     };
     let size: u32 = size.parse().ok()?;
     let count: u32 = count.parse().ok()?;
     let mut inode = file(alloc, FileSize::new(size.min(MOST_FILE_BYTES))).ok()?;
-    match mode.as_str() {
-        "copies" => copies(alloc, &inode, count).ok()?,
-        "bytes" => bytes(alloc, &inode, count).ok()?,
-        "kept_copies" => kept_copies(alloc, &inode, count).ok()?,
-        "kept_bytes" => kept_bytes(alloc, &inode, count).ok()?,
-        "writes" => writes(alloc, &mut inode, size, count).ok()?,
-        "first_writes" => first_writes(alloc, &inode, size, count).ok()?,
-        _ => return None,
-    }
+    work(alloc, mode.as_str(), &mut inode, size, count)?.ok()?;
     Some("done")
+}
+
+/// Does what a mode says with a file of so many bytes. None where there is no such mode.
+fn work(
+    alloc: Global,
+    mode: &str,
+    inode: &mut Inode,
+    size: u32,
+    count: u32,
+) -> Option<Result<(), Refusal>> {
+    match mode {
+        "copies" => Some(copies(alloc, inode, count)),
+        "bytes" => Some(bytes(alloc, inode, count)),
+        "kept_copies" => Some(kept_copies(alloc, inode, count)),
+        "kept_bytes" => Some(kept_bytes(alloc, inode, count)),
+        "writes" => Some(writes(alloc, inode, size, count)),
+        "first_writes" => Some(first_writes(alloc, inode, size, count)),
+        _ => None,
+    }
 }
 
 /// A file of so many zeros.

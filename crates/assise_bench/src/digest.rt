@@ -15,8 +15,17 @@ pub(crate) use crate::digest::refused::{Fault, Refused, refusals};
 use crate::digest::turns::{Times, turns};
 use assise_digest::region::Region;
 
+/// Prints how many records were digested, and on standard error how long that took.
+pub(crate) fn show(rt: &HostRuntime, words: &[String]) -> Option<()> {
+    let times = times(rt, words)?;
+    let digested = times.count();
+    println!(rt; "{digested}").ok()?;
+    let (append, digest, peek) = times.nanos_each();
+    eprintln!(rt; "{append} ns an append, {digest} ns a digest, {peek} ns a peek").ok()
+}
+
 /// How long the turns took that the words say. None where they say none, or there is no memory.
-pub(crate) fn times(rt: &HostRuntime, words: &[String]) -> Option<Times> {
+fn times(rt: &HostRuntime, words: &[String]) -> Option<Times> {
     let [kind, place, inodes, count] = words else {
         return None;
     };

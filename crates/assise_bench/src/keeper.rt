@@ -8,12 +8,18 @@ use std::alloc::Global;
 use std::sync::Wait;
 use std::thread::Threads;
 
-/// The sum of all turns. None where the words say none, or there is no memory.
-pub(crate) fn sum<R: Threads + Wait + Sync>(
-    rt: &R,
-    alloc: Global,
+/// Prints the sum of all turns.
+pub(crate) fn show<R: Threads + Wait + Sync>(
+    rt: &HostRuntime,
+    leave: &R,
     words: &[String],
-) -> Option<u64> {
+) -> Option<()> {
+    let sum = sum(leave, rt.alloc(), words)?;
+    println!(rt; "{sum}").ok()
+}
+
+/// The sum of all turns. None where the words say none, or there is no memory.
+fn sum<R: Threads + Wait + Sync>(rt: &R, alloc: Global, words: &[String]) -> Option<u64> {
     let [kind, threads, turns] = words else {
         return None;
     };

@@ -5,50 +5,79 @@
 mod logs;
 
 use crate::leases::logs::Logs;
-use assise_lease_table::revoker::Revoker;
+use crate::least::Least;
 use assise_lease_tree::acquired::Acquired;
-use assise_lease_tree::lease_tree::{LeaseTree, LeaseTreeOf};
+use assise_lease_tree::lease_tree::LeaseTreeOf;
 use assise_names::mode::Mode;
-use assise_private_log::log_view::LogView;
-use assise_revokers::kinds::least;
 use std::alloc::Global;
 
-type Cut = Box<dyn Fn(&LogView, u64) -> u64 + Send>;
+/// A tree whose clients answer the least cut.
+type Tree = LeaseTreeOf<Least>;
 
-/// How often the inode was held. It makes the tree and the revokers here, since a function that gives them away would hide what they
-/// were proved for.
-pub(crate) fn held(alloc: Global, words: &[String]) -> Option<u64> {
-    let [inodes, clients, turns, call] = words else {
+/// How many there are, and how often the call is made.
+#[derive(Clone, Copy)]
+struct Setting {
+    inodes: u64,
+    clients: u32,
+    turns: u64,
+}
+
+/// Prints how often the inode was held.
+pub(crate) fn show(rt: &HostRuntime, words: &[String]) -> Option<()> {
+    let held = held(rt.alloc(), words)?;
+    println!(rt; "{held}").ok()
+}
+
+/// How often the inode was held.
+fn held(alloc: Global, words: &[String]) -> Option<u64> {
+    let [counts @ .., call] = words else {
         return None;
     };
-    let inodes: u64 = inodes.parse().ok()?;
-    let clients: u32 = clients.parse().ok()?;
-    let turns: u64 = turns.parse().ok()?;
+    let setting = setting_of(counts)?;
     let logs = Logs::new(alloc)?;
-    let mut tree: LeaseTree = LeaseTreeOf::new(alloc);
-    for number in 0..clients {
-        let client = number.checked_add(1)?;
-        if tree.node_of(client).is_some() {
-            return None;
-        }
-        let cut: Cut = Box::new(alloc, least).ok()?;
-        tree.enrol(client, client, Revoker::new(cut)).ok()?;
-        acquire(&mut tree, &logs, client, 0)?;
+    let mut tree = Tree::new(alloc);
+    held_on(&mut tree, &logs, setting, call.as_str())
+}
+
+fn setting_of(words: &[String]) -> Option<Setting> {
+    let [inodes, clients, turns] = words else {
+        return None;
+    };
+    Some(Setting {
+        inodes: inodes.parse().ok()?,
+        clients: clients.parse().ok()?,
+        turns: turns.parse().ok()?,
+    })
+}
+
+/// How often the inode was held, on a tree without clients.
+fn held_on(tree: &mut Tree, logs: &Logs, setting: Setting, call: &str) -> Option<u64> {
+    for number in 0..setting.clients {
+        enrol(tree, logs, number.checked_add(1)?)?;
     }
-    for inode in 1..inodes {
-        acquire(&mut tree, &logs, 1, inode)?;
+    for inode in 1..setting.inodes {
+        acquire(tree, logs, 1, inode)?;
     }
     let mut held: u64 = 0;
-    for _ in 0..turns {
-        if turn(&mut tree, &logs, inodes, clients, call.as_str())? {
+    for _ in 0..setting.turns {
+        if turn(tree, logs, setting.inodes, setting.clients, call)? {
             held = held.wrapping_add(1);
         }
     }
     Some(held)
 }
 
+/// A client comes on a node of its own, and acquires the first inode.
+fn enrol(tree: &mut Tree, logs: &Logs, client: u32) -> Option<()> {
+    if tree.node_of(client).is_some() {
+        return None;
+    }
+    tree.enrol(client, client, Least).ok()?;
+    acquire(tree, logs, client, 0)
+}
+
 /// Acquires an inode for reading, which is granted.
-fn acquire(tree: &mut LeaseTree, logs: &Logs, client: u32, inode: u64) -> Option<()> {
+fn acquire(tree: &mut Tree, logs: &Logs, client: u32, inode: u64) -> Option<()> {
     tree.node_of(client)?;
     match tree.acquire(client, inode, Mode::Read, logs).ok()? {
         Acquired::Granted => Some(()),
@@ -57,7 +86,7 @@ fn acquire(tree: &mut LeaseTree, logs: &Logs, client: u32, inode: u64) -> Option
 }
 
 /// One call, or two that undo each other, and whether the inode is held then.
-fn turn(tree: &mut LeaseTree, logs: &Logs, inodes: u64, clients: u32, call: &str) -> Option<bool> {
+fn turn(tree: &mut Tree, logs: &Logs, inodes: u64, clients: u32, call: &str) -> Option<bool> {
     match call {
         "holds" => Some(tree.holds(1, 0, Mode::Read)),
         "acquire" => {

@@ -6,9 +6,15 @@ use assise_record::effect::Effect;
 use assise_record::record::Record;
 use std::alloc::Global;
 
+/// Prints the log's numbers, and the call of the last record that was asked for.
+pub(crate) fn show(rt: &HostRuntime, words: &[String]) -> Option<()> {
+    let (first, end, call) = numbers(rt.alloc(), words)?;
+    println!(rt; "{first} {end} {call}").ok()
+}
+
 /// The log's first number, the one behind its last record, and the call of the last record that was asked for. None where the words
 /// say no log, or there is no memory.
-pub(crate) fn numbers(alloc: Global, words: &[String]) -> Option<(u64, u64, u64)> {
+fn numbers(alloc: Global, words: &[String]) -> Option<(u64, u64, u64)> {
     let [limit, turns] = words else {
         return None;
     };

@@ -13,6 +13,7 @@ mod leases;
 mod least;
 mod log;
 mod numbers;
+mod ops;
 mod rounds;
 
 use crate::digest::{Fault, Refused};
@@ -88,40 +89,14 @@ fn show<R: Threads + Wait + Sync>(
     what: &str,
     words: &[String],
 ) -> Option<()> {
-    let alloc = rt.alloc();
     match what {
-        "calls" => {
-            let made = calls::count(alloc, words)?;
-            println!(rt; "{made}").ok()
-        }
-        "copies" => {
-            let done = copies::done(alloc, words)?;
-            println!(rt; "{done}").ok()
-        }
-        "digest" => {
-            let times = digest::times(rt, words)?;
-            let digested = times.count();
-            println!(rt; "{digested}").ok()?;
-            let (append, digest, peek) = times.nanos_each();
-            eprintln!(rt; "{append} ns an append, {digest} ns a digest, {peek} ns a peek").ok()
-        }
-        "keeper" => {
-            let sum = keeper::sum(leave, alloc, words)?;
-            println!(rt; "{sum}").ok()
-        }
-        "leases" => {
-            let held = leases::held(alloc, words)?;
-            println!(rt; "{held}").ok()
-        }
-        "log" => {
-            let (first, end, call) = log::numbers(alloc, words)?;
-            println!(rt; "{first} {end} {call}").ok()
-        }
-        "rounds" => {
-            let (made, traffic) = rounds::counts(alloc, words)?;
-            let (bytes, digested) = (traffic.bytes, traffic.digested);
-            println!(rt; "{made} calls, {bytes} bytes, {digested} digested").ok()
-        }
+        "calls" => calls::show(rt, words),
+        "copies" => copies::show(rt, words),
+        "digest" => digest::show(rt, words),
+        "keeper" => keeper::show(rt, leave, words),
+        "leases" => leases::show(rt, words),
+        "log" => log::show(rt, words),
+        "rounds" => rounds::show(rt, words),
         _ => None,
     }
 }

@@ -22,12 +22,24 @@ use crate::rounds::setting::{Setting, setting_of};
 use assise_names::call::Op;
 use std::alloc::Global;
 
+/// Prints how many calls are made, and what that sends and digests.
+pub(crate) fn show(rt: &HostRuntime, words: &[String]) -> Option<()> {
+    let (made, traffic) = counts(rt.alloc(), words)?;
+    let Traffic { bytes, digested } = traffic;
+    println!(rt; "{made} calls, {bytes} bytes, {digested} digested").ok()
+}
+
 /// How many calls are made, and what that sends and digests.
-pub(crate) fn counts(alloc: Global, words: &[String]) -> Option<(u64, Traffic)> {
+fn counts(alloc: Global, words: &[String]) -> Option<(u64, Traffic)> {
     let setting = setting_of(alloc, words)?;
     let calls = calls_of_all(alloc, setting.kind, setting.clients)?;
+    counts_of(alloc, setting, calls.as_slice())
+}
+
+/// How many of these calls are made on a new cluster, and what that sends and digests.
+fn counts_of(alloc: Global, setting: Setting, calls: &[Vec<Op>]) -> Option<(u64, Traffic)> {
     let mut cluster = cluster_of(alloc, setting.nodes)?;
-    counts_on(alloc, &mut cluster, setting, calls.as_slice())
+    counts_on(alloc, &mut cluster, setting, calls)
 }
 
 /// The same on a cluster on which nothing happened.

@@ -28,41 +28,10 @@ const REVOKERS: usize = 14;
 /// What a client's revoker answers.
 type Cut = Box<dyn Fn(&LogView, u64) -> u64 + Send>;
 
-/// Delivers, and leaves.
-fn deliver_and_leave<C: Revokes + Drop, R: Wait>(
-    rt: &R,
-    alloc: Global,
-    mailer: &mut Mailer<'_, C>,
-    writer: u32,
-    tally: &Tally,
-) -> Result<u32, MailFault> {
-    let ended = deliver_all(rt, alloc, mailer, writer, tally);
+/// Leaves with what a thread came to.
+fn left<T: Drop>(tally: &Tally, ended: T) -> T {
     tally.leave();
     ended
-}
-
-/// Reads, and leaves.
-fn read_and_leave<C: Revokes + Drop, R: Wait>(
-    rt: &R,
-    alloc: Global,
-    mailer: &mut Mailer<'_, C>,
-    tally: &Tally,
-) -> Result<u32, MailFault> {
-    let ended = read_all(rt, alloc, mailer);
-    tally.leave();
-    ended
-}
-
-/// Finds all messages, and leaves.
-fn find_and_leave<C: Revokes + Drop, R: Wait>(
-    rt: &R,
-    alloc: Global,
-    searcher: &mut Mailer<'_, C>,
-    tally: &Tally,
-) -> Result<(), MailFault> {
-    let found = find_all(rt, alloc, &mut searcher.files);
-    tally.leave();
-    found
 }
 
 /// All writers deliver.
@@ -79,12 +48,12 @@ fn write_all<C: Revokes + Drop + Send, R: Threads + Wait + Sync>(
     } = writers;
     let (first, (second, third)) = join(
         rt,
-        || deliver_and_leave(rt, alloc, first, 1, tally),
+        || left(tally, deliver_all(rt, alloc, first, 1, tally)),
         || {
             join(
                 rt,
-                || deliver_and_leave(rt, alloc, second, 2, tally),
-                || deliver_and_leave(rt, alloc, third, 3, tally),
+                || left(tally, deliver_all(rt, alloc, second, 2, tally)),
+                || left(tally, deliver_all(rt, alloc, third, 3, tally)),
             )
         },
     );
@@ -101,8 +70,8 @@ fn read_both<C: Revokes + Drop + Send, R: Threads + Wait + Sync>(
     let Readers { first, second } = readers;
     let (first, second) = join(
         rt,
-        || read_and_leave(rt, alloc, first, tally),
-        || read_and_leave(rt, alloc, second, tally),
+        || left(tally, read_all(rt, alloc, first)),
+        || left(tally, read_all(rt, alloc, second)),
     );
     Ok((first?, second?))
 }
@@ -166,7 +135,7 @@ fn find_tended<C: Revokes + Drop + Send, R: Threads + Wait + Sync>(
     tally.enter();
     let (found, ()) = join(
         rt,
-        || find_and_leave(rt, alloc, searcher, tally),
+        || left(tally, find_all(rt, alloc, &mut searcher.files)),
         || tend(rt, alloc, nodes, tally),
     );
     found

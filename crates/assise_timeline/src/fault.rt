@@ -25,12 +25,12 @@ pub enum PictureFault {
 impl Display for PictureFault {
     fn fmt<W: fmt::Write>(&self, f: &mut Formatter<W>) -> fmt::Result {
         match self {
-            PictureFault::NoHistory => write!(f, "no history"),
+            PictureFault::NoHistory => f.write_str("no history"),
             PictureFault::BadLine(line) => write!(f, "line {line}: not a line of a history"),
             PictureFault::CutOff(line) => write!(f, "line {line}: missing"),
-            PictureFault::Memory => write!(f, "out of memory"),
-            PictureFault::Read => write!(f, "cannot read"),
-            PictureFault::Write => write!(f, "cannot write"),
+            PictureFault::Memory => f.write_str("out of memory"),
+            PictureFault::Read => f.write_str("cannot read"),
+            PictureFault::Write => f.write_str("cannot write"),
         }
     }
 }

@@ -20,8 +20,8 @@ pub(crate) fn write_mark<W: Write>(
         "<g class=\"mark{}\"><title>{title}</title>",
         class_of(&line.mark, lost)
     )?;
-    write_shape(writer, lanes, place, &line.mark)?;
-    writeln!(writer, "</g>")?;
+    write_shape(writer, lanes, across(place), &line.mark)?;
+    writer.write_all(b"</g>\n")?;
     Ok(())
 }
 
@@ -40,87 +40,117 @@ fn class_of(mark: &Mark<'_>, lost: bool) -> &'static str {
     }
 }
 
-/// Writes what is seen of a mark.
+/// Writes what is seen of a mark, so far to the right.
 fn write_shape<W: Write>(
     writer: &mut W,
     lanes: &Lanes,
-    place: usize,
+    x: u64,
     mark: &Mark<'_>,
 ) -> Result<(), PictureFault> {
-    let x = across(place);
     match mark {
-        Mark::Opened { client, .. } => match lanes.lane(*client) {
-            Some(lane) => write_opening(writer, x, &lane),
-            None => Ok(()),
-        },
+        Mark::Opened { client, .. } => write_opening(writer, x, lanes.lane(*client)),
         Mark::Called {
             client,
             call,
             reply,
             ..
-        } => match lanes.lane(*client) {
-            Some(lane) => write_call(writer, x, &lane, call, reply),
-            None => Ok(()),
-        },
-        Mark::Crashed { client } => match lanes.lane(*client) {
-            Some(lane) => write_crash(writer, x, &lane),
-            None => Ok(()),
-        },
-        Mark::Failed { node, .. } => match lanes.band(*node) {
-            Some(band) => write_across(writer, x, &band, "fails"),
-            None => Ok(()),
-        },
-        Mark::Returned { node } => match lanes.band(*node) {
-            Some(band) => write_across(writer, x, &band, "returns"),
-            None => Ok(()),
-        },
+        } => write_call(writer, x, lanes.lane(*client), call, reply),
+        Mark::Crashed { client } => write_crash(writer, x, lanes.lane(*client)),
+        Mark::Failed { node, .. } => write_across(writer, x, lanes.band(*node), "fails"),
+        Mark::Returned { node } => write_across(writer, x, lanes.band(*node), "returns"),
     }
 }
 
 /// A triangle where a client begins.
-fn write_opening<W: Write>(writer: &mut W, x: u64, lane: &Lane) -> Result<(), PictureFault> {
-    let y = lane.axis;
+fn write_opening<W: Write>(writer: &mut W, x: u64, lane: Option<Lane>) -> Result<(), PictureFault> {
+    match lane {
+        Some(lane) => write_path(writer, x, lane.axis, "M-6-8L8 0L-6 8Z"),
+        None => Ok(()),
+    }
+}
+
+/// A cross where a client crashes.
+fn write_crash<W: Write>(writer: &mut W, x: u64, lane: Option<Lane>) -> Result<(), PictureFault> {
+    match lane {
+        Some(lane) => write_path(writer, x, lane.axis, "M-8-8L8 8M-8 8L8-8"),
+        None => Ok(()),
+    }
+}
+
+/// Lines around a point.
+fn write_path<W: Write>(writer: &mut W, x: u64, y: u64, lines: &str) -> Result<(), PictureFault> {
     writeln!(
         writer,
-        "<path transform=\"translate({x} {y})\" d=\"M-6-8L8 0L-6 8Z\"/>"
+        "<path transform=\"translate({x} {y})\" d=\"{lines}\"/>"
     )?;
     Ok(())
 }
 
-/// A call: a bar where it keeps what was done before, a hollow bar where it only orders, a hollow circle where it looks, and else a full
-/// one; and its words and reply.
+/// A call: its sign, and its words and reply.
 fn write_call<W: Write>(
     writer: &mut W,
     x: u64,
-    lane: &Lane,
+    lane: Option<Lane>,
     call: &str,
     reply: &str,
 ) -> Result<(), PictureFault> {
+    let Some(lane) = lane else {
+        return Ok(());
+    };
     let y = lane.axis;
-    let at = format_args!("transform=\"translate({x} {y})\"");
-    if keeps(call, lane.optimistic) {
-        writeln!(
-            writer,
-            "<rect class=\"sync\" {at} x=\"-3\" y=\"-16\" width=\"6\" height=\"32\"/>"
-        )?;
+    let (element, size) = sign_of(call, lane.optimistic);
+    write_sign(writer, x, y, element, size)?;
+    write_label(writer, x, y, "text", "-8", front_of(call))?;
+    write_label(writer, x, y, "text class=\"reply\"", "3", front_of(reply))
+}
+
+/// The size of a bar.
+const BAR: &str = "x=\"-3\" y=\"-16\" width=\"6\" height=\"32\"";
+
+/// The size of a circle.
+const CIRCLE: &str = "r=\"6\"";
+
+/// The element that stands for a call, and its size: a bar where it keeps what was done before, a hollow bar where it only orders, a
+/// hollow circle where it looks, and else a full one.
+fn sign_of(call: &str, optimistic: bool) -> (&'static str, &'static str) {
+    if keeps(call, optimistic) {
+        ("rect class=\"sync\"", BAR)
     } else if call == "fsync" {
-        writeln!(
-            writer,
-            "<rect class=\"order\" {at} x=\"-3\" y=\"-16\" width=\"6\" height=\"32\"/>"
-        )?;
+        ("rect class=\"order\"", BAR)
     } else if looks(call) {
-        writeln!(writer, "<circle class=\"look\" {at} r=\"6\"/>")?;
+        ("circle class=\"look\"", CIRCLE)
     } else {
-        writeln!(writer, "<circle {at} r=\"6\"/>")?;
+        ("circle", CIRCLE)
     }
-    let (words, answer) = (Spelled(front_of(call)), Spelled(front_of(reply)));
+}
+
+fn write_sign<W: Write>(
+    writer: &mut W,
+    x: u64,
+    y: u64,
+    element: &str,
+    size: &str,
+) -> Result<(), PictureFault> {
     writeln!(
         writer,
-        "<text transform=\"translate({x} {y}) rotate(-40)\" x=\"14\" y=\"-8\">{words}</text>"
+        "<{element} transform=\"translate({x} {y})\" {size}/>"
     )?;
+    Ok(())
+}
+
+/// A text that goes up from a point to the right, so far below it.
+fn write_label<W: Write>(
+    writer: &mut W,
+    x: u64,
+    y: u64,
+    element: &str,
+    below: &str,
+    label: &str,
+) -> Result<(), PictureFault> {
+    let label = Spelled(label);
     writeln!(
         writer,
-        "<text class=\"reply\" transform=\"translate({x} {y}) rotate(-40)\" x=\"14\" y=\"3\">{answer}</text>"
+        "<{element} transform=\"translate({x} {y}) rotate(-40)\" x=\"14\" y=\"{below}\">{label}</text>"
     )?;
     Ok(())
 }
@@ -130,26 +160,29 @@ fn looks(call: &str) -> bool {
     call.starts_with("read ") || call.starts_with("list ") || call.starts_with("stat ")
 }
 
-/// A cross where a client crashes.
-fn write_crash<W: Write>(writer: &mut W, x: u64, lane: &Lane) -> Result<(), PictureFault> {
-    let y = lane.axis;
-    writeln!(
-        writer,
-        "<path transform=\"translate({x} {y})\" d=\"M-8-8L8 8M-8 8L8-8\"/>"
-    )?;
-    Ok(())
-}
-
 /// A line through all lanes of a node, and what happens there.
 fn write_across<W: Write>(
     writer: &mut W,
     x: u64,
+    band: Option<Band>,
+    happens: &str,
+) -> Result<(), PictureFault> {
+    let Some(band) = band else {
+        return Ok(());
+    };
+    let (top, bottom) = (band.top, band.bottom);
+    writeln!(writer, "<path d=\"M{x} {top}V{bottom}\"/>")?;
+    write_happening(writer, x.saturating_add(5), &band, happens)
+}
+
+/// What happens at a node.
+fn write_happening<W: Write>(
+    writer: &mut W,
+    left: u64,
     band: &Band,
     happens: &str,
 ) -> Result<(), PictureFault> {
-    let (node, top, bottom) = (band.node, band.top, band.bottom);
-    writeln!(writer, "<path d=\"M{x} {top}V{bottom}\"/>")?;
-    let (left, below) = (x.saturating_add(5), top.saturating_add(12));
+    let (node, below) = (band.node, band.top.saturating_add(12));
     writeln!(
         writer,
         "<text x=\"{left}\" y=\"{below}\">node {node} {happens}</text>"

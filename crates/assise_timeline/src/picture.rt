@@ -35,19 +35,46 @@ pub fn write_picture<W: Write>(
     let lines = read_history(alloc, text)?;
     let lost = lost_calls(alloc, lines.as_slice())?;
     let lanes = Lanes::of(alloc, lines.as_slice())?;
-    write_head(writer, &lanes)?;
+    write_parts(writer, &lanes, lines.as_slice(), lost.as_slice())
+}
+
+/// Writes all of a picture. Of the calls, these are lost.
+fn write_parts<W: Write>(
+    writer: &mut W,
+    lanes: &Lanes,
+    lines: &[HistoryLine<'_>],
+    lost: &[bool],
+) -> Result<(), PictureFault> {
+    write_head(writer, lanes)?;
+    write_lanes(writer, lanes)?;
+    write_marks(writer, lanes, lines, lost)?;
+    write_strikes(writer, lanes, lines)?;
+    writer.write_all(b"</svg>\n")?;
+    Ok(())
+}
+
+/// The nodes and their clients.
+fn write_lanes<W: Write>(writer: &mut W, lanes: &Lanes) -> Result<(), PictureFault> {
     for band in &lanes.bands {
-        write_band(writer, &lanes, band)?;
+        write_band(writer, lanes, band)?;
     }
     for lane in &lanes.lanes {
         write_lane(writer, lane)?;
     }
+    Ok(())
+}
+
+/// The marks of all lines.
+fn write_marks<W: Write>(
+    writer: &mut W,
+    lanes: &Lanes,
+    lines: &[HistoryLine<'_>],
+    lost: &[bool],
+) -> Result<(), PictureFault> {
     for (place, line) in lines.iter().enumerate() {
         let lost = lost.get(place).copied().unwrap_or(false);
-        write_mark(writer, &lanes, place, line, lost)?;
+        write_mark(writer, lanes, place, line, lost)?;
     }
-    write_strikes(writer, &lanes, lines.as_slice())?;
-    writeln!(writer, "</svg>")?;
     Ok(())
 }
 
@@ -56,13 +83,10 @@ fn write_head<W: Write>(writer: &mut W, lanes: &Lanes) -> Result<(), PictureFaul
     let (width, height) = (lanes.width, lanes.height);
     writeln!(
         writer,
-        "<svg xmlns=\"http://www.w3.org/2000/svg\" width=\"{width}\" height=\"{height}\" viewBox=\"0 0 {width} {height}\">"
-    )?;
-    writeln!(writer, "<title>What happened</title>")?;
-    writeln!(writer, "<style>{STYLE}</style>")?;
-    writeln!(
-        writer,
-        "<rect width=\"{width}\" height=\"{height}\" fill=\"#fff\"/>"
+        "<svg xmlns=\"http://www.w3.org/2000/svg\" width=\"{width}\" height=\"{height}\" viewBox=\"0 0 {width} {height}\">\n\
+         <title>What happened</title>\n\
+         <style>{STYLE}</style>\n\
+         <rect width=\"{width}\" height=\"{height}\" fill=\"#fff\"/>"
     )?;
     Ok(())
 }
@@ -83,18 +107,27 @@ fn write_band<W: Write>(writer: &mut W, lanes: &Lanes, band: &Band) -> Result<()
     Ok(())
 }
 
-/// A client's line, and the part of it up to the last sync.
+/// A client's name and line.
 fn write_lane<W: Write>(writer: &mut W, lane: &Lane) -> Result<(), PictureFault> {
-    let (client, y) = (lane.client, lane.axis);
-    let (left, right) = (across(lane.begin), across(lane.end));
-    let (top, kept) = (y.saturating_sub(10), across(lane.kept).saturating_sub(left));
-    let below = y.saturating_add(4);
+    let (client, below) = (lane.client, lane.axis.saturating_add(4));
     writeln!(writer, "<text x=\"8\" y=\"{below}\">client {client}</text>")?;
+    write_line(writer, lane.axis, across(lane.begin), lane)
+}
+
+/// A client's line, from its beginning on, over the part of it up to the last sync.
+fn write_line<W: Write>(
+    writer: &mut W,
+    y: u64,
+    left: u64,
+    lane: &Lane,
+) -> Result<(), PictureFault> {
+    let (top, right) = (y.saturating_sub(10), across(lane.end));
+    let kept = across(lane.kept).saturating_sub(left);
     writeln!(
         writer,
-        "<rect class=\"kept\" x=\"{left}\" y=\"{top}\" width=\"{kept}\" height=\"20\"/>"
+        "<rect class=\"kept\" x=\"{left}\" y=\"{top}\" width=\"{kept}\" height=\"20\"/>\n\
+         <path class=\"lane\" d=\"M{left} {y}H{right}\"/>"
     )?;
-    writeln!(writer, "<path class=\"lane\" d=\"M{left} {y}H{right}\"/>")?;
     Ok(())
 }
 

@@ -20,23 +20,31 @@ pub fn read_history<'a>(
     let mut at = 0u64;
     for line in text.lines() {
         at = at.saturating_add(1);
-        if at <= head || lines.len() as u64 == count {
-            continue;
-        }
-        match mark_of(alloc, line)? {
-            Some(mark) if fits(opened.as_slice(), &mark) => {
-                if let Mark::Opened { client, .. } = &mark {
-                    opened.push(*client)?;
-                }
-                lines.push(HistoryLine { text: line, mark })?;
+        if at > head && (lines.len() as u64) < count {
+            let mark = mark_at(alloc, at, line, opened.as_slice())?;
+            if let Mark::Opened { client, .. } = &mark {
+                opened.push(*client)?;
             }
-            _ => return Err(PictureFault::BadLine(at)),
+            lines.push(HistoryLine { text: line, mark })?;
         }
     }
     if lines.len() as u64 != count {
         return Err(PictureFault::CutOff(at.saturating_add(1)));
     }
     Ok(lines)
+}
+
+/// What the line with this number says, where these clients were opened.
+fn mark_at<'a>(
+    alloc: Global,
+    at: u64,
+    line: &'a str,
+    opened: &[u32],
+) -> Result<Mark<'a>, PictureFault> {
+    match mark_of(alloc, line)? {
+        Some(mark) if fits(opened, &mark) => Ok(mark),
+        _ => Err(PictureFault::BadLine(at)),
+    }
 }
 
 /// The number of the line that begins the last history, and how many lines that has.

@@ -11,16 +11,20 @@ pub struct Spelled<'a>(pub &'a str);
 impl Display for Spelled<'_> {
     fn fmt<W: fmt::Write>(&self, f: &mut Formatter<W>) -> fmt::Result {
         for letter in self.0.chars() {
-            match letter {
-                '&' => f.write_str("&amp;")?,
-                '<' => f.write_str("&lt;")?,
-                '>' => f.write_str("&gt;")?,
-                '"' => f.write_str("&quot;")?,
-                other if may_stand(other) => f.write_char(other)?,
-                _ => f.write_char(char::REPLACEMENT_CHARACTER)?,
-            }
+            write_letter(f, letter)?;
         }
         Ok(())
+    }
+}
+
+fn write_letter<W: fmt::Write>(f: &mut Formatter<W>, letter: char) -> fmt::Result {
+    match letter {
+        '&' => f.write_str("&amp;"),
+        '<' => f.write_str("&lt;"),
+        '>' => f.write_str("&gt;"),
+        '"' => f.write_str("&quot;"),
+        other if may_stand(other) => f.write_char(other),
+        _ => f.write_char(char::REPLACEMENT_CHARACTER),
     }
 }
 

@@ -1,5 +1,5 @@
 // A cluster whose clients make calls.
-use crate::calls::made::{creates, fill, first_calls, root, stat, writes};
+use crate::calls::made::{creates, first_calls, root, stat, writes};
 use crate::calls::setting::{Kind, Setting};
 use crate::least::Least;
 use assise_machine_calls::calling::try_call;
@@ -34,12 +34,22 @@ pub(crate) fn begin(alloc: Global, cluster: &mut Cluster, setting: Setting) -> O
     if setting.kind == Kind::Shared {
         return share(alloc, cluster, setting.clients);
     }
-    make_all(alloc, cluster, first_calls(alloc)?.as_slice())?;
-    make_all(alloc, cluster, fill(alloc, setting.bytes)?.as_slice())?;
-    let others = setting.entries.saturating_sub(1);
-    make_all(alloc, cluster, creates(alloc, "old", others)?.as_slice())?;
+    make_first(alloc, cluster, setting.bytes)?;
+    make_others(alloc, cluster, setting.entries.saturating_sub(1))?;
     make_records(alloc, cluster, setting)?;
     make_stats(alloc, cluster, setting.history)
+}
+
+/// Makes the directory and a file of so many bytes.
+fn make_first(alloc: Global, cluster: &mut Cluster, bytes: u64) -> Option<()> {
+    let calls = first_calls(alloc, bytes)?;
+    make_all(alloc, cluster, calls.as_slice())
+}
+
+/// Makes the other files of the directory.
+fn make_others(alloc: Global, cluster: &mut Cluster, count: u64) -> Option<()> {
+    let calls = creates(alloc, "old", count)?;
+    make_all(alloc, cluster, calls.as_slice())
 }
 
 /// Writes into the file until the log has its records.
@@ -84,8 +94,13 @@ pub(crate) fn try_turns(
 /// All clients get a lease of the root.
 fn share(alloc: Global, cluster: &mut Cluster, clients: u32) -> Option<()> {
     let call = root(alloc)?;
+    make_by_all(alloc, cluster, clients, &call)
+}
+
+/// Each client makes a call.
+fn make_by_all(alloc: Global, cluster: &mut Cluster, clients: u32, call: &Op) -> Option<()> {
     for number in 0..clients {
-        make(alloc, cluster, number.saturating_add(1), &call)?;
+        make(alloc, cluster, number.saturating_add(1), call)?;
     }
     Some(())
 }
@@ -99,8 +114,13 @@ fn make_all(alloc: Global, cluster: &mut Cluster, calls: &[Op]) -> Option<()> {
 
 fn make_stats(alloc: Global, cluster: &mut Cluster, count: u64) -> Option<()> {
     let call = stat(alloc)?;
+    make_times(alloc, cluster, count, &call)
+}
+
+/// Client 1 makes a call so many times.
+fn make_times(alloc: Global, cluster: &mut Cluster, count: u64, call: &Op) -> Option<()> {
     for _ in 0..count {
-        make(alloc, cluster, 1, &call)?;
+        make(alloc, cluster, 1, call)?;
     }
     Some(())
 }

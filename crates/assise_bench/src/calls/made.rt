@@ -1,5 +1,6 @@
 // Calls that are made.
 use crate::calls::setting::Kind;
+use crate::ops::{add, bytes, create, mkdir, path, unlink, write};
 use assise_names::byte_string::ByteString;
 use assise_names::call::Op;
 use assise_names::path::Path;
@@ -21,99 +22,98 @@ const DIRECTORY: &str = "/d";
 const FILE: &str = "/d/f";
 
 /// The calls of a kind, one after another, which begin again after the last; those of a file of so many bytes.
-pub(crate) fn calls_of(alloc: Global, kind: Kind, bytes: u64) -> Option<Vec<Op>> {
+pub(crate) fn calls_of(alloc: Global, kind: Kind, size: u64) -> Option<Vec<Op>> {
+    let mut calls = Vec::new(alloc);
+    add_calls(alloc, kind, size, &mut calls)?;
+    Some(calls)
+}
+
+fn add_calls(alloc: Global, kind: Kind, size: u64, calls: &mut Vec<Op>) -> Option<()> {
     match kind {
-        Kind::Stat => one(alloc, stat(alloc)),
-        Kind::Read => reads(alloc, bytes),
-        Kind::Write => writes(alloc, bytes),
-        Kind::Create => creates(alloc, "new", MOST_FILES),
-        Kind::Unlink => create_and_unlink(alloc),
-        Kind::Shared | Kind::Asked => one(alloc, root(alloc)),
+        Kind::Stat => add(calls, stat(alloc)),
+        Kind::Read => add_reads(alloc, size, calls),
+        Kind::Write => add_writes(alloc, size, BLOCK, calls),
+        Kind::Create => add_creates(alloc, "new", MOST_FILES, calls),
+        Kind::Unlink => add_create_and_unlink(alloc, calls),
+        Kind::Shared | Kind::Asked => add(calls, root(alloc)),
     }
 }
 
 /// A stat of the file.
 pub(crate) fn stat(alloc: Global) -> Option<Op> {
-    Some(Op::Stat(path(alloc, FILE)?))
+    crate::ops::stat(file(alloc))
 }
 
 /// A stat of the root.
 pub(crate) fn root(alloc: Global) -> Option<Op> {
-    Some(Op::Stat(path(alloc, "/")?))
+    crate::ops::stat(path(alloc, "/"))
 }
 
-/// The directory and the file are made.
-pub(crate) fn first_calls(alloc: Global) -> Option<Vec<Op>> {
-    let mut calls = one(alloc, Some(Op::Mkdir(path(alloc, DIRECTORY)?)))?;
-    calls.push(Op::Create(path(alloc, FILE)?)).ok()?;
+/// The directory and the file are made, and the file gets so many bytes, by as few calls as that takes.
+pub(crate) fn first_calls(alloc: Global, size: u64) -> Option<Vec<Op>> {
+    let mut calls = Vec::new(alloc);
+    add(&mut calls, mkdir(path(alloc, DIRECTORY)))?;
+    add(&mut calls, create(file(alloc)))?;
+    add_writes(alloc, size, size.min(MOST_WRITTEN), &mut calls)?;
     Some(calls)
 }
 
-/// A file gets so many bytes, by as few calls as that takes.
-pub(crate) fn fill(alloc: Global, bytes: u64) -> Option<Vec<Op>> {
-    writes_of(alloc, bytes, bytes.min(MOST_WRITTEN))
-}
-
 /// Each block of a file of so many bytes is written once.
-pub(crate) fn writes(alloc: Global, bytes: u64) -> Option<Vec<Op>> {
-    writes_of(alloc, bytes, BLOCK)
-}
-
-/// Each piece of a file is written once, where a piece has so many bytes.
-fn writes_of(alloc: Global, bytes: u64, piece: u64) -> Option<Vec<Op>> {
-    let data = data(alloc, piece)?;
+pub(crate) fn writes(alloc: Global, size: u64) -> Option<Vec<Op>> {
     let mut calls = Vec::new(alloc);
-    for number in 0..bytes.checked_div(piece)? {
-        let offset = number.saturating_mul(piece);
-        let call = Op::Write(path(alloc, FILE)?, offset, data.copy().ok()?);
-        calls.push(call).ok()?;
-    }
+    add_writes(alloc, size, BLOCK, &mut calls)?;
     Some(calls)
 }
 
 /// So many files are made in the directory.
 pub(crate) fn creates(alloc: Global, prefix: &str, count: u64) -> Option<Vec<Op>> {
     let mut calls = Vec::new(alloc);
-    for number in 0..count {
-        let text = format!(in alloc; "{DIRECTORY}/{prefix}-{number}").ok()?;
-        calls.push(Op::Create(path(alloc, text.as_str())?)).ok()?;
-    }
+    add_creates(alloc, prefix, count, &mut calls)?;
     Some(calls)
+}
+
+/// Each piece of a file is written once, where a piece has so many bytes.
+fn add_writes(alloc: Global, size: u64, piece: u64, calls: &mut Vec<Op>) -> Option<()> {
+    let data = bytes(alloc, piece)?;
+    for number in 0..size.checked_div(piece)? {
+        add_write(alloc, number.saturating_mul(piece), &data, calls)?;
+    }
+    Some(())
+}
+
+fn add_write(alloc: Global, offset: u64, data: &ByteString, calls: &mut Vec<Op>) -> Option<()> {
+    add(calls, write(file(alloc), offset, data))
+}
+
+fn add_creates(alloc: Global, prefix: &str, count: u64, calls: &mut Vec<Op>) -> Option<()> {
+    for number in 0..count {
+        add(calls, create(numbered(alloc, prefix, number)))?;
+    }
+    Some(())
 }
 
 /// Each block of a file of so many bytes is read once.
-fn reads(alloc: Global, bytes: u64) -> Option<Vec<Op>> {
-    let mut calls = Vec::new(alloc);
-    for number in 0..bytes / BLOCK {
+fn add_reads(alloc: Global, size: u64, calls: &mut Vec<Op>) -> Option<()> {
+    for number in 0..size / BLOCK {
         let offset = number.saturating_mul(BLOCK);
-        let call = Op::Read(path(alloc, FILE)?, offset, BLOCK);
+        let call = Op::Read(file(alloc)?, offset, BLOCK);
         calls.push(call).ok()?;
     }
-    Some(calls)
+    Some(())
 }
 
-fn create_and_unlink(alloc: Global) -> Option<Vec<Op>> {
-    let mut calls = creates(alloc, "new", 1)?;
-    let made = path(alloc, "/d/new-0")?;
-    calls.push(Op::Unlink(made)).ok()?;
-    Some(calls)
+fn add_create_and_unlink(alloc: Global, calls: &mut Vec<Op>) -> Option<()> {
+    add(calls, create(numbered(alloc, "new", 0)))?;
+    add(calls, unlink(numbered(alloc, "new", 0)))
 }
 
-fn one(alloc: Global, call: Option<Op>) -> Option<Vec<Op>> {
-    let mut calls = Vec::new(alloc);
-    calls.push(call?).ok()?;
-    Some(calls)
+/// The path of the file.
+fn file(alloc: Global) -> Option<Path> {
+    path(alloc, FILE)
 }
 
-/// So many bytes.
-fn data(alloc: Global, count: u64) -> Option<ByteString> {
-    let mut bytes: Vec<u8> = Vec::new(alloc);
-    for _ in 0..count {
-        bytes.push(7).ok()?;
-    }
-    ByteString::from_vec(bytes).ok()
-}
-
-fn path(alloc: Global, text: &str) -> Option<Path> {
-    Path::parse(alloc, text).ok()
+/// The path of a numbered file in the directory.
+fn numbered(alloc: Global, prefix: &str, number: u64) -> Option<Path> {
+    let text = format!(in alloc; "{DIRECTORY}/{prefix}-{number}").ok()?;
+    path(alloc, text.as_str())
 }

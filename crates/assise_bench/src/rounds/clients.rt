@@ -36,21 +36,37 @@ pub(crate) fn begin(
     calls: &[Vec<Op>],
 ) -> Option<()> {
     for number in 0..setting.clients {
-        let client = number.saturating_add(1);
-        for call in files_of(alloc, setting.kind, number)?.iter() {
-            reach(alloc, cluster, setting, client, call)?;
-        }
+        make_files(alloc, cluster, setting, number)?;
     }
     let mut client = 0u32;
     for own in calls {
         client = client.saturating_add(1);
-        for call in own.iter() {
-            reach(alloc, cluster, setting, client, call)?;
-        }
+        reach_all(alloc, cluster, setting, client, own.as_slice())?;
         cluster.try_call(alloc, client, &Op::Dsync).ok()?;
     }
     for _ in 0..MOST_TRIES {
         round(alloc, cluster, setting.nodes, Parts::Whole)?;
+    }
+    Some(())
+}
+
+/// The client behind so many makes its directory and its files.
+fn make_files(alloc: Global, cluster: &mut Cluster, setting: Setting, number: u32) -> Option<()> {
+    let files = files_of(alloc, setting.kind, number)?;
+    let client = number.saturating_add(1);
+    reach_all(alloc, cluster, setting, client, files.as_slice())
+}
+
+/// Makes calls of a client, one after another.
+fn reach_all(
+    alloc: Global,
+    cluster: &mut Cluster,
+    setting: Setting,
+    client: u32,
+    calls: &[Op],
+) -> Option<()> {
+    for call in calls {
+        reach(alloc, cluster, setting, client, call)?;
     }
     Some(())
 }

@@ -1,4 +1,5 @@
 // Calls that clients make.
+use crate::ops::{add, bytes, create, mkdir, path, rename, unlink, write};
 use crate::rounds::setting::Kind;
 use assise_names::byte_string::ByteString;
 use assise_names::call::Op;
@@ -27,90 +28,92 @@ pub(crate) fn calls_of_all(alloc: Global, kind: Kind, clients: u32) -> Option<Ve
 }
 
 fn calls_of(alloc: Global, kind: Kind, number: u32) -> Option<Vec<Op>> {
+    let data = bytes(alloc, BLOCK)?;
+    let mut calls = Vec::new(alloc);
+    add_calls(alloc, kind, number, &data, &mut calls)?;
+    Some(calls)
+}
+
+fn add_calls(
+    alloc: Global,
+    kind: Kind,
+    number: u32,
+    data: &ByteString,
+    calls: &mut Vec<Op>,
+) -> Option<()> {
     match kind {
-        Kind::Write => writes(alloc, number),
-        Kind::Create => create_and_unlink(alloc, number),
-        Kind::Pages => pages(alloc, number),
-        Kind::Mail => messages(alloc, number),
+        Kind::Write => add_writes(alloc, number, data, calls),
+        Kind::Create => add_create_and_unlink(alloc, number, calls),
+        Kind::Pages => add_pages(alloc, number, data, calls),
+        Kind::Mail => add_messages(alloc, number, data, calls),
     }
 }
 
 /// A client makes a directory, and a file there or the messages of a mail store.
 pub(crate) fn files_of(alloc: Global, kind: Kind, number: u32) -> Option<Vec<Op>> {
-    let text = format!(in alloc; "/d-{number}").ok()?;
     let mut calls = Vec::new(alloc);
-    calls.push(Op::Mkdir(path(alloc, text.as_str())?)).ok()?;
-    calls
-        .push(Op::Create(path_in(alloc, number, "file")?))
-        .ok()?;
+    add_files(alloc, kind, number, &mut calls)?;
+    Some(calls)
+}
+
+fn add_files(alloc: Global, kind: Kind, number: u32, calls: &mut Vec<Op>) -> Option<()> {
+    add(calls, mkdir(directory(alloc, number)))?;
+    add(calls, create(path_in(alloc, number, "file")))?;
     if kind == Kind::Mail {
         for message in 0..MESSAGES {
-            calls
-                .push(Op::Create(message_in(alloc, number, message)?))
-                .ok()?;
+            add(calls, create(message_in(alloc, number, message)))?;
         }
     }
-    Some(calls)
+    Some(())
 }
 
 /// Each block of its file is written once.
-fn writes(alloc: Global, number: u32) -> Option<Vec<Op>> {
-    let data = data(alloc)?;
-    let mut calls = Vec::new(alloc);
+fn add_writes(alloc: Global, number: u32, data: &ByteString, calls: &mut Vec<Op>) -> Option<()> {
     for block in 0..BLOCKS {
-        let data = data.copy().ok()?;
-        let call = Op::Write(path_in(alloc, number, "file")?, block * BLOCK, data);
-        calls.push(call).ok()?;
+        let file = path_in(alloc, number, "file");
+        add(calls, write(file, block * BLOCK, data))?;
     }
-    Some(calls)
+    Some(())
 }
 
-fn create_and_unlink(alloc: Global, number: u32) -> Option<Vec<Op>> {
-    let mut calls = Vec::new(alloc);
-    calls.push(Op::Create(path_in(alloc, number, "new")?)).ok()?;
-    calls.push(Op::Unlink(path_in(alloc, number, "new")?)).ok()?;
-    Some(calls)
+fn add_create_and_unlink(alloc: Global, number: u32, calls: &mut Vec<Op>) -> Option<()> {
+    add(calls, create(path_in(alloc, number, "new")))?;
+    add(calls, unlink(path_in(alloc, number, "new")))
 }
 
 /// The first page of its file is written, and one of the others, in turn.
-fn pages(alloc: Global, number: u32) -> Option<Vec<Op>> {
-    let data = data(alloc)?;
-    let mut calls = Vec::new(alloc);
+fn add_pages(alloc: Global, number: u32, data: &ByteString, calls: &mut Vec<Op>) -> Option<()> {
     for page in 1..=PAGES {
-        let file = path_in(alloc, number, "file")?;
-        calls.push(Op::Write(file, 0, data.copy().ok()?)).ok()?;
-        let file = path_in(alloc, number, "file")?;
-        calls
-            .push(Op::Write(file, page * BLOCK, data.copy().ok()?))
-            .ok()?;
+        add(calls, write(path_in(alloc, number, "file"), 0, data))?;
+        let file = path_in(alloc, number, "file");
+        add(calls, write(file, page * BLOCK, data))?;
     }
-    Some(calls)
+    Some(())
 }
 
 /// Each message goes once, and another comes in its place.
-fn messages(alloc: Global, number: u32) -> Option<Vec<Op>> {
-    let data = data(alloc)?;
-    let mut calls = Vec::new(alloc);
+fn add_messages(alloc: Global, number: u32, data: &ByteString, calls: &mut Vec<Op>) -> Option<()> {
     for message in 0..MESSAGES {
-        let old = message_in(alloc, number, message)?;
-        calls.push(Op::Unlink(old)).ok()?;
-        calls.push(Op::Create(path_in(alloc, number, "new")?)).ok()?;
-        let new = path_in(alloc, number, "new")?;
-        calls.push(Op::Write(new, 0, data.copy().ok()?)).ok()?;
-        let new = path_in(alloc, number, "new")?;
-        let named = message_in(alloc, number, message)?;
-        calls.push(Op::Rename(new, named)).ok()?;
+        add(calls, unlink(message_in(alloc, number, message)))?;
+        add(calls, create(path_in(alloc, number, "new")))?;
+        add(calls, write(path_in(alloc, number, "new"), 0, data))?;
+        add(calls, named(alloc, number, message))?;
     }
-    Some(calls)
+    Some(())
 }
 
-/// The bytes of a block.
-fn data(alloc: Global) -> Option<ByteString> {
-    let mut bytes: Vec<u8> = Vec::new(alloc);
-    for _ in 0..BLOCK {
-        bytes.push(7).ok()?;
-    }
-    ByteString::from_vec(bytes).ok()
+/// The new file becomes a message.
+fn named(alloc: Global, number: u32, message: u64) -> Option<Op> {
+    rename(
+        path_in(alloc, number, "new"),
+        message_in(alloc, number, message),
+    )
+}
+
+/// The path of a client's directory.
+fn directory(alloc: Global, number: u32) -> Option<Path> {
+    let text = format!(in alloc; "/d-{number}").ok()?;
+    path(alloc, text.as_str())
 }
 
 /// The path of a message.
@@ -123,8 +126,4 @@ fn message_in(alloc: Global, number: u32, message: u64) -> Option<Path> {
 fn path_in(alloc: Global, number: u32, name: &str) -> Option<Path> {
     let text = format!(in alloc; "/d-{number}/{name}").ok()?;
     path(alloc, text.as_str())
-}
-
-fn path(alloc: Global, text: &str) -> Option<Path> {
-    Path::parse(alloc, text).ok()
 }
