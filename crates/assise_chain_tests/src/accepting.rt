@@ -1,13 +1,14 @@
 // What a node takes in.
 ghost use Rattle.std.specs.Prelude.{◌≡◌, ◌+◌, ◌≤◌, true, length};
 
-use crate::logs::{log_of, put_log, show};
+use crate::logs::{log_in, log_of, number_of, put_log, put_number, show, two_numbers};
 use assise_chain::acceptance::{accept, is_timely};
 use assise_chain::messages::message;
+use assise_names::refusal::Refusal;
 use assise_private_log::log::Log;
 use assise_record::frame::Frame;
 use assise_test_rows::{Subject, split_word};
-use std::alloc::Global;
+use std::alloc::{AllocError, Global};
 
 /// Whether a log has room up to a frame's last record.
 pub(crate) fn has_room(log: &Log, frame: &Frame) -> bool
@@ -26,17 +27,25 @@ struct Accepted;
 impl Subject for Accepted {
     fn put(&mut self, alloc: Global, steps: &str, text: &mut String) -> Option<()> {
         let (numbers, sent) = steps.split_once(", ")?;
-        let (first, end) = split_word(numbers);
-        let mut log = log_of(alloc, first.parse::<u64>().ok()?, end.parse::<u64>().ok()?)?;
-        let frame = frame_of(alloc, sent)?;
-        if !has_room(&log, &frame) {
-            return None;
-        }
-        match accept(&mut log, frame, 5) {
-            Ok(received) => write!(text, " {received}").ok()?,
-            Err(refusal) => write!(text, " {refusal}").ok()?,
-        }
-        put_log(&log, text).ok()
+        let mut log = log_in(alloc, numbers)?;
+        put_accepted(alloc, &mut log, sent, text)
+    }
+}
+
+/// Appends what a log answers to what is sent, and the log after it.
+fn put_accepted(alloc: Global, log: &mut Log, sent: &str, text: &mut String) -> Option<()> {
+    let frame = frame_of(alloc, sent)?;
+    if !has_room(log, &frame) {
+        return None;
+    }
+    put_received(accept(log, frame, 5), text).ok()?;
+    put_log(log, text).ok()
+}
+
+fn put_received(received: Result<u64, Refusal>, text: &mut String) -> Result<(), AllocError> {
+    match received {
+        Ok(number) => put_number(number, text),
+        Err(refusal) => write!(text, " {refusal}"),
     }
 }
 
@@ -47,23 +56,29 @@ struct Timely;
 impl Subject for Timely {
     fn put(&mut self, alloc: Global, steps: &str, text: &mut String) -> Option<()> {
         let (numbers, sent) = steps.split_once(", ")?;
-        let (received, epoch) = split_word(numbers);
-        let received = received.parse::<u64>().ok()?;
-        let epoch = epoch.parse::<u64>().ok()?;
         let frame = frame_of(alloc, sent)?;
-        let answer = is_timely(&frame, received, epoch);
-        write!(text, " {answer}").ok()
+        put_timely(&frame, numbers, text)
     }
+}
+
+/// Appends whether a frame is timely behind what was received, in an epoch.
+fn put_timely(frame: &Frame, numbers: &str, text: &mut String) -> Option<()> {
+    let (received, epoch, _) = two_numbers(numbers)?;
+    let timely = is_timely(frame, received, epoch);
+    text.push_str(if timely { " true" } else { " false" }).ok()
 }
 
 /// `EPOCH FROM TO`: what the head sends.
 fn frame_of(alloc: Global, sent: &str) -> Option<Frame> {
     let head = log_of(alloc, 0, 100)?;
+    sent_by(alloc, &head, sent)
+}
+
+fn sent_by(alloc: Global, head: &Log, sent: &str) -> Option<Frame> {
     let (epoch, between) = split_word(sent);
-    let (from, to) = split_word(between);
-    let from = from.parse::<u64>().ok()?;
-    let to = to.parse::<u64>().ok()?;
-    message(alloc, &head, false, epoch.parse::<u64>().ok()?, 1, from, to).ok()?
+    let epoch = number_of(epoch)?;
+    let (from, to, _) = two_numbers(between)?;
+    message(alloc, head, false, epoch, 1, from, to).ok()?
 }
 
 /// The next records, some again, all again, and those that the log has let go.

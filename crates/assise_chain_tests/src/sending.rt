@@ -1,8 +1,11 @@
 // What a node sends of its log.
-use crate::logs::{log_of, put_frame, show};
+use crate::logs::{log_in, put_frame, show, two_numbers};
 use assise_chain::messages::message;
-use assise_test_rows::{Subject, split_word};
-use std::alloc::Global;
+use assise_names::refusal::Refusal;
+use assise_private_log::log::Log;
+use assise_record::frame::Frame;
+use assise_test_rows::Subject;
+use std::alloc::{AllocError, Global};
 
 /// `FIRST END, FROM TO`: a log, and what is sent of it, with marks where `marked` stands behind. Behind END may be numbers, of which
 /// each begins a group.
@@ -12,21 +15,23 @@ struct Sent;
 impl Subject for Sent {
     fn put(&mut self, alloc: Global, steps: &str, text: &mut String) -> Option<()> {
         let (numbers, between) = steps.split_once(", ")?;
-        let (first, others) = split_word(numbers);
-        let (end, groups) = split_word(others);
-        let mut log = log_of(alloc, first.parse::<u64>().ok()?, end.parse::<u64>().ok()?)?;
-        for number in groups.split_terminator(' ') {
-            log.regroup(alloc, number.parse::<u64>().ok()?).ok()?;
-        }
-        let (from, rest) = split_word(between);
-        let (to, version) = split_word(rest);
-        let from = from.parse::<u64>().ok()?;
-        let to = to.parse::<u64>().ok()?;
-        match message(alloc, &log, version == "marked", 5, 1, from, to) {
-            Ok(Some(frame)) => put_frame(&frame, text).ok(),
-            Ok(None) => write!(text, " none").ok(),
-            Err(refusal) => write!(text, " {refusal}").ok(),
-        }
+        let log = log_in(alloc, numbers)?;
+        put_sent(alloc, &log, between, text)
+    }
+}
+
+/// Appends what is sent of a log between two numbers.
+fn put_sent(alloc: Global, log: &Log, between: &str, text: &mut String) -> Option<()> {
+    let (from, to, version) = two_numbers(between)?;
+    let sent = message(alloc, log, version == "marked", 5, 1, from, to);
+    put_message(&sent, text).ok()
+}
+
+fn put_message(sent: &Result<Option<Frame>, Refusal>, text: &mut String) -> Result<(), AllocError> {
+    match sent {
+        Ok(Some(frame)) => put_frame(frame, text),
+        Ok(None) => text.push_str(" none"),
+        Err(refusal) => write!(text, " {refusal}"),
     }
 }
 

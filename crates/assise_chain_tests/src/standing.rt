@@ -1,9 +1,9 @@
 // Who stands behind whom, and how far all have come.
-use crate::logs::show;
+use crate::logs::{number_of, put_number, show};
 use assise_chain::order::successor;
 use assise_chain::replicated::acked;
 use assise_test_rows::Subject;
-use std::alloc::Global;
+use std::alloc::{AllocError, Global};
 
 /// `HEAD of NODE NODE ..`: a chain of full nodes. What stands behind each of the nodes 1 to 8 is told.
 #[derive(Clone, Copy)]
@@ -13,18 +13,27 @@ impl Subject for Chain {
     fn put(&mut self, alloc: Global, steps: &str, text: &mut String) -> Option<()> {
         let (head, nodes) = steps.split_once(" of ")?;
         let head = head.parse::<u32>().ok()?;
-        let mut full = Vec::new(alloc);
-        for node in nodes.split(' ') {
-            full.push(node.parse::<u32>().ok()?).ok()?;
-        }
-        for node in 1..9 {
-            match successor(&full, head, node) {
-                Some(next) => write!(text, " {next}").ok()?,
-                None => write!(text, " -").ok()?,
-            }
-        }
-        Some(())
+        put_chain(&nodes_of(alloc, nodes)?, head, text).ok()
     }
+}
+
+fn nodes_of(alloc: Global, words: &str) -> Option<Vec<u32>> {
+    let mut nodes = Vec::new(alloc);
+    for word in words.split(' ') {
+        nodes.push(word.parse::<u32>().ok()?).ok()?;
+    }
+    Some(nodes)
+}
+
+/// Appends what stands behind each of the nodes 1 to 8.
+fn put_chain(full: &[u32], head: u32, text: &mut String) -> Result<(), AllocError> {
+    for node in 1..9 {
+        match successor(full, head, node) {
+            Some(next) => put_number(u64::from(next), text)?,
+            None => text.push_str(" -")?,
+        }
+    }
+    Ok(())
 }
 
 /// Chains of 1 to 8 full nodes.
@@ -75,15 +84,24 @@ struct Received;
 
 impl Subject for Received {
     fn put(&mut self, alloc: Global, steps: &str, text: &mut String) -> Option<()> {
-        let mut received = Vec::new(alloc);
-        for number in steps.split(' ') {
-            received.push(number.parse::<u64>().ok()?).ok()?;
-        }
-        if received.is_empty() {
-            return None;
-        }
-        write!(text, " {}", acked(&received)).ok()
+        put_least(&numbers_of(alloc, steps)?, text)
     }
+}
+
+fn numbers_of(alloc: Global, words: &str) -> Option<Vec<u64>> {
+    let mut numbers = Vec::new(alloc);
+    for word in words.split(' ') {
+        numbers.push(number_of(word)?).ok()?;
+    }
+    Some(numbers)
+}
+
+/// Appends up to which number all nodes have the log.
+fn put_least(received: &[u64], text: &mut String) -> Option<()> {
+    if received.is_empty() {
+        return None;
+    }
+    put_number(acked(received), text).ok()
 }
 
 const RECEIVED: &str = "\
