@@ -1,5 +1,5 @@
 // What all threads do, and what they saw.
-ghost use Rattle.std.specs.Prelude.{◌≡◌};
+ghost use Rattle.std.specs.Prelude.{◌≡◌, IfOk};
 ghost use Rattle.assise_keeper.specs.Passes.{IsPassOf};
 
 use crate::crew::{Crew, Readers, Writers};
@@ -9,6 +9,7 @@ use crate::readers::{find_all, read_all};
 use crate::report::Report;
 use crate::tally::Tally;
 use crate::writers::deliver_all;
+use assise_history::growing::Growing;
 use assise_keeper::keeper::Keeper;
 use assise_keeper::pass::Pass;
 use assise_lease_table::revoker::{Revoker, Revokes};
@@ -193,6 +194,21 @@ fn with_main<C: Revokes + Drop + Send, R: Threads + Wait + Sync>(
     run_crew(rt, alloc, keeper, main, revokers, &mut crew)
 }
 
+/// A keeper of a state, and the first pass of it.
+fn keeper_of<S: Growing + Drop>(alloc: Global, state: S) -> Result<(Keeper<S>, Pass<S>), MailFault>
+    ensures { IfOk result (λ made. IsPassOf made.0 made.1) }
+{
+    match Keeper::new(alloc, state) {
+        Ok(made) => Ok(made),
+        Err((refusal, _)) => Err(MailFault::Refused(refusal)),
+    }
+}
+
+/// Lets a keeper and its state go.
+fn close<S: Growing + Drop>(keeper: Keeper<S>) {
+    keeper.close();
+}
+
 /// Runs all threads on a cluster.
 fn run_on<C: Revokes + Drop + Send, R: Threads + Wait + Sync>(
     rt: &R,
@@ -200,11 +216,9 @@ fn run_on<C: Revokes + Drop + Send, R: Threads + Wait + Sync>(
     cluster: ClusterOf<C>,
     revokers: &mut Vec<C>,
 ) -> Result<Report, MailFault> {
-    let Ok((keeper, mut main)) = Keeper::new(alloc, cluster) else {
-        return Err(MailFault::Refused(Refusal::OutOfMemory));
-    };
+    let (keeper, mut main) = keeper_of(alloc, cluster)?;
     let report = with_main(rt, alloc, &keeper, &mut main, revokers);
-    keeper.close();
+    close(keeper);
     report
 }
 
