@@ -150,7 +150,21 @@ fn run<W: Write, C: Revokes + Drop>(
         (W.contents writer.old) (W.contents writer.new)) }
     ensures only_write { IsOkUnless result EngineFault.Write }
 {
-    run_lines(alloc, &mut console, commands, writer)?;
+    run_to_end(alloc, &mut console, commands, writer)
+}
+
+/// Runs the commands in order on a console that is lent, and writes the line of each answer and nothing else.
+fn run_to_end<W: Write, C: Revokes + Drop>(
+    alloc: Global,
+    console: &mut ConsoleOf<C>,
+    commands: Vec<NumberedCommand>,
+    writer: &mut W,
+) -> Result<(), EngineFault>
+    ensures done { OnOk result (RunsFrom (console_seen console.old) commands.items
+        (W.contents writer.old) (W.contents writer.new)) }
+    ensures only_write { IsOkUnless result EngineFault.Write }
+{
+    run_lines(alloc, console, commands, writer)?;
     flush(writer)
 }
 

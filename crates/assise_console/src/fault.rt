@@ -85,8 +85,8 @@ impl Display for FaultLine<'_> {
                 write!(f, "assise: cannot read {script}")
             }
             EngineFault::Script(line, fault) => write!(f, "assise: script line {line}: {fault}"),
-            EngineFault::Memory => write!(f, "assise: out of memory"),
-            EngineFault::Write => write!(f, "assise: cannot write"),
+            EngineFault::Memory => f.write_str("assise: out of memory"),
+            EngineFault::Write => f.write_str("assise: cannot write"),
             EngineFault::NeedsSerial(line, SerialCommand::Manual) => {
                 write!(
                     f,
@@ -96,7 +96,7 @@ impl Display for FaultLine<'_> {
             EngineFault::NeedsSerial(line, SerialCommand::Link) => {
                 write!(f, "assise: script line {line}: link needs the serial mode")
             }
-            EngineFault::NoThread => write!(f, "assise: cannot start a thread"),
+            EngineFault::NoThread => f.write_str("assise: cannot start a thread"),
         }
     }
 }

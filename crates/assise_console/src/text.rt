@@ -1,5 +1,6 @@
 // What answers look like.
-ghost use Rattle.std.specs.Prelude.{Some};
+ghost use Rattle.std.specs.Prelude.{◌++◌, Some, codes};
+ghost use Rattle.std.specs.Fmt.{WritesOnOk, decimal};
 ghost use Rattle.assise_console.specs.Lines.{answer_text, lost_text};
 
 use crate::response::Response;
@@ -20,33 +21,37 @@ impl Display for AnswerText<'_> {
     fn fmt<W: fmt::Write>(&self, f: &mut Formatter<W>) -> fmt::Result {
         match self.answer {
             Response::Quiet => Ok(()),
-            Response::Client(client) => write!(f, "client {client}"),
-            Response::Replied(reply) => write!(f, "{reply}"),
-            Response::Waits => write!(f, "wait"),
-            Response::Refused(refusal) => write!(f, "{refusal}"),
-            Response::Carried(frames) => write!(f, "carried {frames}"),
-            Response::Digested(records) => write!(f, "digested {records}"),
-            Response::Released(leases) => write!(f, "released {leases}"),
-            Response::Linked(node) => write!(f, "linked {node}"),
-            Response::HotSet(node) => write!(f, "hot {node}"),
-            Response::Crashed(client) => write!(f, "crashed {client}"),
+            Response::Client(client) => write_number(f, "client", u64::from(*client)),
+            Response::Replied(reply) => reply.fmt(f),
+            Response::Waits => f.write_str("wait"),
+            Response::Refused(refusal) => refusal.fmt(f),
+            Response::Carried(frames) => write_number(f, "carried", *frames),
+            Response::Digested(records) => write_number(f, "digested", *records as u64),
+            Response::Released(leases) => write_number(f, "released", *leases as u64),
+            Response::Linked(node) => write_number(f, "linked", u64::from(*node)),
+            Response::HotSet(node) => write_number(f, "hot", u64::from(*node)),
+            Response::Crashed(client) => write_number(f, "crashed", u64::from(*client)),
             Response::Failed(node, losses) => {
                 let losses = Losses(losses.as_slice());
                 write!(f, "failed {node}{losses}")
             }
             Response::Began(node, stale) => write!(f, "back {node} stale {stale}"),
-            Response::Left(stale) => write!(f, "left {stale}"),
-            Response::Returned(node) => write!(f, "returned {node}"),
-            Response::Raised(node) => write!(f, "raised {node}"),
-            Response::Tree(tree) => write!(f, "{tree}"),
-            Response::History => {
-                let history = self.history;
-                write!(f, "{history}")
-            }
-            Response::Checked(true) => write!(f, "legal"),
-            Response::Checked(false) => write!(f, "illegal"),
+            Response::Left(stale) => write_number(f, "left", *stale as u64),
+            Response::Returned(node) => write_number(f, "returned", u64::from(*node)),
+            Response::Raised(node) => write_number(f, "raised", u64::from(*node)),
+            Response::Tree(tree) => tree.fmt(f),
+            Response::History => self.history.fmt(f),
+            Response::Checked(true) => f.write_str("legal"),
+            Response::Checked(false) => f.write_str("illegal"),
         }
     }
+}
+
+/// Writes a word and a number.
+fn write_number<W: fmt::Write>(f: &mut Formatter<W>, word: &str, number: u64) -> fmt::Result
+    ensures { WritesOnOk W.write_str_gives f.old result (word.now ++ codes " " ++ decimal number) f.new }
+{
+    write!(f, "{word} {number}")
 }
 
 /// A space before each client with the number of its first lost call.

@@ -43,21 +43,22 @@ impl Display for ScriptFault {
     ghost output = { λ fault. Some (fault_text fault) };
 
     fn fmt<W: fmt::Write>(&self, f: &mut Formatter<W>) -> fmt::Result {
-        match self {
-            ScriptFault::NotUtf8 => write!(f, "not UTF-8"),
-            ScriptFault::UnknownCommand => write!(f, "unknown command"),
-            ScriptFault::WrongCount => write!(f, "wrong number of words"),
-            ScriptFault::BadNumber => write!(f, "bad number"),
-            ScriptFault::BadPath(fault) => write!(f, "bad path: {fault}"),
-            ScriptFault::BadData => write!(f, "bad data"),
-            ScriptFault::BadKind => write!(f, "unknown revoker"),
-            ScriptFault::NoCluster => write!(f, "no cluster yet"),
-            ScriptFault::SecondCluster => write!(f, "second cluster"),
-            ScriptFault::BadLimit => write!(f, "out of limits"),
-            ScriptFault::Memory => write!(f, "out of memory"),
-            ScriptFault::BadLink => write!(f, "unknown link"),
-            ScriptFault::BadMode => write!(f, "unknown mode"),
-        }
+        let text = match self {
+            ScriptFault::NotUtf8 => "not UTF-8",
+            ScriptFault::UnknownCommand => "unknown command",
+            ScriptFault::WrongCount => "wrong number of words",
+            ScriptFault::BadNumber => "bad number",
+            ScriptFault::BadPath(fault) => return write!(f, "bad path: {fault}"),
+            ScriptFault::BadData => "bad data",
+            ScriptFault::BadKind => "unknown revoker",
+            ScriptFault::NoCluster => "no cluster yet",
+            ScriptFault::SecondCluster => "second cluster",
+            ScriptFault::BadLimit => "out of limits",
+            ScriptFault::Memory => "out of memory",
+            ScriptFault::BadLink => "unknown link",
+            ScriptFault::BadMode => "unknown mode",
+        };
+        f.write_str(text)
     }
 }
 

@@ -1,5 +1,5 @@
 // What all threads do, and what they saw.
-ghost use Rattle.std.specs.Prelude.{◌≡◌, IfOk};
+ghost use Rattle.std.specs.Prelude.{◌≡◌};
 ghost use Rattle.assise_keeper.specs.Passes.{IsPassOf};
 
 use crate::crew::{Crew, Readers, Writers};
@@ -9,7 +9,6 @@ use crate::readers::{find_all, read_all};
 use crate::report::Report;
 use crate::tally::Tally;
 use crate::writers::deliver_all;
-use assise_history::growing::Growing;
 use assise_keeper::keeper::Keeper;
 use assise_keeper::pass::Pass;
 use assise_lease_table::revoker::{Revoker, Revokes};
@@ -194,21 +193,6 @@ fn with_main<C: Revokes + Drop + Send, R: Threads + Wait + Sync>(
     run_crew(rt, alloc, keeper, main, revokers, &mut crew)
 }
 
-/// A keeper of a state, and the first pass of it.
-fn keeper_of<S: Growing + Drop>(alloc: Global, state: S) -> Result<(Keeper<S>, Pass<S>), MailFault>
-    ensures { IfOk result (λ made. IsPassOf made.0 made.1) }
-{
-    match Keeper::new(alloc, state) {
-        Ok(made) => Ok(made),
-        Err((refusal, _)) => Err(MailFault::Refused(refusal)),
-    }
-}
-
-/// Lets a keeper and its state go.
-fn close<S: Growing + Drop>(keeper: Keeper<S>) {
-    keeper.close();
-}
-
 /// Runs all threads on a cluster.
 fn run_on<C: Revokes + Drop + Send, R: Threads + Wait + Sync>(
     rt: &R,
@@ -216,9 +200,9 @@ fn run_on<C: Revokes + Drop + Send, R: Threads + Wait + Sync>(
     cluster: ClusterOf<C>,
     revokers: &mut Vec<C>,
 ) -> Result<Report, MailFault> {
-    let (keeper, mut main) = keeper_of(alloc, cluster)?;
+    let (keeper, mut main) = Keeper::of(alloc, cluster)?;
     let report = with_main(rt, alloc, &keeper, &mut main, revokers);
-    close(keeper);
+    keeper.end();
     report
 }
 

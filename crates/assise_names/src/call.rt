@@ -1,5 +1,7 @@
 // The calls of the file system.
-ghost use Rattle.std.specs.Prelude.{◌≡◌, IfOk, IsOk, IsOkUnless, Some};
+ghost use Rattle.std.specs.Prelude.{◌≡◌, ◌++◌, codes, IfOk, IsOk, IsOkUnless, Some};
+ghost use Rattle.std.specs.Fmt.{WritesOnOk};
+ghost use Rattle.assise_names.specs.Path.{path_spelling};
 ghost use Rattle.assise_names.specs.Text.{op_text};
 ghost use Rattle.assise_names.specs.declared.refusal.Refusal.TheVariants.{OutOfMemory};
 
@@ -76,8 +78,8 @@ impl Display for Op {
 
     fn fmt<W: fmt::Write>(&self, f: &mut Formatter<W>) -> fmt::Result {
         match self {
-            Op::Create(path) => write!(f, "create {path}"),
-            Op::Mkdir(path) => write!(f, "mkdir {path}"),
+            Op::Create(path) => write_call(f, "create", path),
+            Op::Mkdir(path) => write_call(f, "mkdir", path),
             Op::Read(path, offset, length) => write!(f, "read {path} {offset} {length}"),
             Op::Write(path, offset, bytes) => {
                 let count = bytes.len();
@@ -85,12 +87,19 @@ impl Display for Op {
             }
             Op::Truncate(path, size) => write!(f, "truncate {path} {size}"),
             Op::Rename(from, to) => write!(f, "rename {from} {to}"),
-            Op::Unlink(path) => write!(f, "unlink {path}"),
-            Op::Rmdir(path) => write!(f, "rmdir {path}"),
-            Op::List(path) => write!(f, "list {path}"),
-            Op::Stat(path) => write!(f, "stat {path}"),
-            Op::Fsync => write!(f, "fsync"),
-            Op::Dsync => write!(f, "dsync"),
+            Op::Unlink(path) => write_call(f, "unlink", path),
+            Op::Rmdir(path) => write_call(f, "rmdir", path),
+            Op::List(path) => write_call(f, "list", path),
+            Op::Stat(path) => write_call(f, "stat", path),
+            Op::Fsync => f.write_str("fsync"),
+            Op::Dsync => f.write_str("dsync"),
         }
     }
+}
+
+/// Writes a call whose one word is a path.
+fn write_call<W: fmt::Write>(f: &mut Formatter<W>, name: &str, path: &Path) -> fmt::Result
+    ensures { WritesOnOk W.write_str_gives f.old result (name.now ++ codes " " ++ path_spelling path.now) f.new }
+{
+    write!(f, "{name} {path}")
 }

@@ -46,14 +46,14 @@ impl Display for PathFault {
     ghost output = { λ fault. Some (path_fault_text fault) };
 
     fn fmt<W: fmt::Write>(&self, f: &mut Formatter<W>) -> fmt::Result {
-        match self {
-            PathFault::NotAbsolute => write!(f, "not absolute"),
-            PathFault::EmptyName => write!(f, "empty name"),
-            PathFault::BadName => write!(f, "bad name"),
-            PathFault::NameTooLong => write!(f, "name too long"),
-            PathFault::TooDeep => write!(f, "too deep"),
-            PathFault::Memory => write!(f, "out of memory"),
-        }
+        f.write_str(match self {
+            PathFault::NotAbsolute => "not absolute",
+            PathFault::EmptyName => "empty name",
+            PathFault::BadName => "bad name",
+            PathFault::NameTooLong => "name too long",
+            PathFault::TooDeep => "too deep",
+            PathFault::Memory => "out of memory",
+        })
     }
 }
 

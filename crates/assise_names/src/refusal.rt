@@ -40,20 +40,20 @@ impl Display for Refusal {
     ghost output = { λ r. Some (refusal_text r) };
 
     fn fmt<W: fmt::Write>(&self, f: &mut Formatter<W>) -> fmt::Result {
-        match self {
-            Refusal::OutOfMemory => write!(f, "F1 OutOfMemory"),
-            Refusal::Busy => write!(f, "F2 Busy"),
-            Refusal::NodeDown => write!(f, "F3 NodeDown"),
-            Refusal::ClientGone => write!(f, "F4 ClientGone"),
-            Refusal::InodesSpent => write!(f, "F5 InodesSpent"),
-            Refusal::TooLarge => write!(f, "F6 TooLarge"),
-            Refusal::LastNode => write!(f, "F7 LastNode"),
-            Refusal::BadNode => write!(f, "F8 BadNode"),
-            Refusal::BadClient => write!(f, "F9 BadClient"),
-            Refusal::WrongPhase => write!(f, "F10 WrongPhase"),
-            Refusal::StaleMessage => write!(f, "F11 StaleMessage"),
-            Refusal::LogFull => write!(f, "F12 LogFull"),
-        }
+        f.write_str(match self {
+            Refusal::OutOfMemory => "F1 OutOfMemory",
+            Refusal::Busy => "F2 Busy",
+            Refusal::NodeDown => "F3 NodeDown",
+            Refusal::ClientGone => "F4 ClientGone",
+            Refusal::InodesSpent => "F5 InodesSpent",
+            Refusal::TooLarge => "F6 TooLarge",
+            Refusal::LastNode => "F7 LastNode",
+            Refusal::BadNode => "F8 BadNode",
+            Refusal::BadClient => "F9 BadClient",
+            Refusal::WrongPhase => "F10 WrongPhase",
+            Refusal::StaleMessage => "F11 StaleMessage",
+            Refusal::LogFull => "F12 LogFull",
+        })
     }
 }
 

@@ -39,16 +39,16 @@ impl Display for TreeError {
     ghost output = { λ error. Some (error_text error) };
 
     fn fmt<W: fmt::Write>(&self, f: &mut Formatter<W>) -> fmt::Result {
-        match self {
-            TreeError::NoEnt => write!(f, "E1 NoEnt"),
-            TreeError::Exists => write!(f, "E2 Exists"),
-            TreeError::NotDir => write!(f, "E3 NotDir"),
-            TreeError::IsDir => write!(f, "E4 IsDir"),
-            TreeError::NotEmpty => write!(f, "E5 NotEmpty"),
-            TreeError::Invalid => write!(f, "E6 Invalid"),
-            TreeError::TooBig => write!(f, "E7 TooBig"),
-            TreeError::DirFull => write!(f, "E8 DirFull"),
-        }
+        f.write_str(match self {
+            TreeError::NoEnt => "E1 NoEnt",
+            TreeError::Exists => "E2 Exists",
+            TreeError::NotDir => "E3 NotDir",
+            TreeError::IsDir => "E4 IsDir",
+            TreeError::NotEmpty => "E5 NotEmpty",
+            TreeError::Invalid => "E6 Invalid",
+            TreeError::TooBig => "E7 TooBig",
+            TreeError::DirFull => "E8 DirFull",
+        })
     }
 }
 
@@ -94,7 +94,7 @@ impl Display for Reply {
 
     fn fmt<W: fmt::Write>(&self, f: &mut Formatter<W>) -> fmt::Result {
         match self {
-            Reply::Done => write!(f, "done"),
+            Reply::Done => f.write_str("done"),
             Reply::Bytes(bytes) => {
                 let count = bytes.len();
                 let hex = Hex(bytes.as_slice());
@@ -108,7 +108,7 @@ impl Display for Reply {
             }
             Reply::File(size) => write!(f, "file {size}"),
             Reply::Dir(entries) => write!(f, "dir {entries}"),
-            Reply::Error(error) => write!(f, "{error}"),
+            Reply::Error(error) => error.fmt(f),
         }
     }
 }

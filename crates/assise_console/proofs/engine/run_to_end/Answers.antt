@@ -1,6 +1,6 @@
 use Rattle.assise_console.specs.Consoles.{console_seen}
 use Rattle.assise_console.proofs.PrintedLines.{appends-keeps, on_ok}
-use Rattle.assise_console.proofs.engine.run.Goals as goal
+use Rattle.assise_console.proofs.engine.run_to_end.Goals as goal
 
 pub returns-clause-done : goal.returns-clause-done
 returns-clause-done g c =
