@@ -32,11 +32,20 @@ pub const MOST_HOT: usize = 4096;
 /// The inodes of a node, each of them in the hot part or in the cold one. What was used last is hot (Assise, OSDI 2020,
 /// section 3). A contract sees all inodes as one finite map, the numbers of the hot ones by their last use, the most
 /// recent first, and how many may be hot. A look-up costs the same on average, however many inodes there are.
-#[derive(Drop)]
 pub struct Area {
     alloc: Global,
     hot: LruCache<u64, Inode>,
     cold: IndexMap<u64, Inode>,
+}
+
+impl Drop for Area {
+    fn drop(self) {
+        let Area {
+            alloc: _,
+            hot: _,
+            cold: _,
+        } = self;
+    }
 }
 
 impl Model for Area {

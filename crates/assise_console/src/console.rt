@@ -39,13 +39,24 @@ use std::alloc::Global;
 use std::array;
 
 /// A cluster that is run on one thread: a call that is awaited is tried again, with a round of all nodes behind each try.
-#[derive(Drop)]
 pub struct ConsoleOf<C> {
     cluster: ClusterOf<C>,
     stock: Stock<C>,
     turns: u32,
     manual: bool,
     links: [TestLink; MOST_NODES as usize],
+}
+
+impl<C: Drop> Drop for ConsoleOf<C> {
+    fn drop(self) {
+        let ConsoleOf {
+            cluster: _,
+            stock: _,
+            turns: _,
+            manual: _,
+            links: _,
+        } = self;
+    }
 }
 
 impl<C: Revokes + Drop> ConsoleOf<C> {

@@ -4,7 +4,6 @@ use assise_names::reply::Reply;
 use assise_seq_tree::tree::Tree;
 
 /// What a command answers.
-#[derive(Drop)]
 pub enum Response {
     /// Nothing is printed.
     Quiet,
@@ -44,4 +43,30 @@ pub enum Response {
     History,
     /// Whether the history so far is legal.
     Checked(bool),
+}
+
+impl Drop for Response {
+    fn drop(self) {
+        match self {
+            Response::Quiet
+            | Response::Client(_)
+            | Response::Replied(_)
+            | Response::Waits
+            | Response::Refused(_)
+            | Response::Carried(_)
+            | Response::Digested(_)
+            | Response::Released(_)
+            | Response::Linked(_)
+            | Response::HotSet(_)
+            | Response::Crashed(_)
+            | Response::Failed(_, _)
+            | Response::Began(_, _)
+            | Response::Left(_)
+            | Response::Returned(_)
+            | Response::Raised(_)
+            | Response::Tree(_)
+            | Response::History
+            | Response::Checked(_) => (),
+        }
+    }
 }

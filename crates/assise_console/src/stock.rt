@@ -8,7 +8,6 @@ use assise_fault_script::command::RevokerKind;
 use std::alloc::Global;
 
 /// Revokers of each kind that a script names, for the clients that are to be opened: each takes the last of its kind.
-#[derive(Drop)]
 pub struct Stock<C> {
     /// Those of `least`.
     pub least: Vec<C>,
@@ -16,6 +15,16 @@ pub struct Stock<C> {
     pub whole: Vec<C>,
     /// Those of `eights`.
     pub eights: Vec<C>,
+}
+
+impl<C: Drop> Drop for Stock<C> {
+    fn drop(self) {
+        let Stock {
+            least: _,
+            whole: _,
+            eights: _,
+        } = self;
+    }
 }
 
 impl<C> Stock<C> {

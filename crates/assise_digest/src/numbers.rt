@@ -11,9 +11,15 @@ use std::alloc::Global;
 use std::marker::Model;
 
 /// The number of a record for each of some inodes. A contract sees the finite map.
-#[derive(Debug, Drop)]
+#[derive(Debug)]
 pub struct Numbers {
     numbers: IndexMap<u64, u64>,
+}
+
+impl Drop for Numbers {
+    fn drop(self) {
+        let Numbers { numbers: _ } = self;
+    }
 }
 
 impl Model for Numbers {

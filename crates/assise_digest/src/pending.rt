@@ -19,10 +19,16 @@ use std::alloc::Global;
 
 /// The inodes that some records touch, as they are after them: one that is gone has a number and no value. Beside each
 /// stands the number of the last record that touches it.
-#[derive(Debug, Drop)]
+#[derive(Debug)]
 pub(crate) struct Pending {
     pub(crate) inodes: InodeTable,
     pub(crate) last: Numbers,
+}
+
+impl Drop for Pending {
+    fn drop(self) {
+        let Pending { inodes: _, last: _ } = self;
+    }
 }
 
 /// An equal value.

@@ -32,10 +32,15 @@ use std::marker::Model;
 /// What one node has of the file system: its inodes, and for each client, from number 1 on, the log that it received. A
 /// contract sees the inodes as one finite map, whichever are hot, how many may be hot, and each log with the number up to
 /// which it is digested into the inodes, and whether the client lives on this node.
-#[derive(Drop)]
 pub struct Region {
     area: Area,
     logs: Vec<Received>,
+}
+
+impl Drop for Region {
+    fn drop(self) {
+        let Region { area: _, logs: _ } = self;
+    }
 }
 
 impl Model for Region {

@@ -4,7 +4,7 @@ use assise_names::call::Op;
 use assise_names::reply::Reply;
 
 /// An answered call.
-#[derive(Debug, Drop)]
+#[derive(Debug)]
 pub struct Call {
     /// The client that called.
     pub client: u32,
@@ -14,6 +14,17 @@ pub struct Call {
     pub op: Op,
     /// What was answered.
     pub reply: Reply,
+}
+
+impl Drop for Call {
+    fn drop(self) {
+        let Call {
+            client: _,
+            number: _,
+            op: _,
+            reply: _,
+        } = self;
+    }
 }
 
 /// What a failure loses of a client: its calls from a number on.

@@ -11,7 +11,7 @@ use std::fmt::{Display, Formatter};
 use std::marker::Model;
 
 /// What happened.
-#[derive(Debug, Drop)]
+#[derive(Debug)]
 pub enum EntryKind {
     /// A client was opened on a node.
     Open {
@@ -41,6 +41,22 @@ pub enum EntryKind {
         /// The node.
         node: u32,
     },
+}
+
+impl Drop for EntryKind {
+    fn drop(self) {
+        match self {
+            EntryKind::Open {
+                client: _,
+                node: _,
+                durability: _,
+            }
+            | EntryKind::Call(_)
+            | EntryKind::Crash { client: _ }
+            | EntryKind::Fail { node: _, losses: _ }
+            | EntryKind::Return { node: _ } => (),
+        }
+    }
 }
 
 /// An entry of a history.

@@ -24,10 +24,18 @@ struct ClientSummary {
 }
 
 /// The clients in the order of their opening, and the nodes that failed and are not back.
-#[derive(Drop)]
 pub(crate) struct Prefix {
     clients: Vec<ClientSummary>,
     down: Vec<u32>,
+}
+
+impl Drop for Prefix {
+    fn drop(self) {
+        let Prefix {
+            clients: _,
+            down: _,
+        } = self;
+    }
 }
 
 impl Model for Prefix {

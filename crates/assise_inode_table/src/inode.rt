@@ -17,10 +17,18 @@ use std::alloc::Global;
 use std::marker::Model;
 
 /// The two kinds of inodes.
-#[derive(Debug, Drop)]
+#[derive(Debug)]
 enum Kind {
     File(FileBytes),
     Directory(Directory),
+}
+
+impl Drop for Kind {
+    fn drop(self) {
+        match self {
+            Kind::File(_) | Kind::Directory(_) => (),
+        }
+    }
 }
 
 /// An inode: the bytes of a file, or the links of a directory (POSIX.1-2017, base definitions, chapter 3: Regular

@@ -14,9 +14,15 @@ use std::sync::Arc;
 
 /// Bytes in blocks of 4,096. Copies share the list of the blocks, and a copy that writes makes a list of its own first,
 /// which shares each block. A contract sees the list of the bytes.
-#[derive(Debug, Drop)]
+#[derive(Debug)]
 pub struct SharedBlocks {
     list: Option<Arc<Vec<Bytes>>>,
+}
+
+impl Drop for SharedBlocks {
+    fn drop(self) {
+        let SharedBlocks { list: _ } = self;
+    }
 }
 
 impl Model for SharedBlocks {

@@ -21,10 +21,19 @@ use std::marker::Model;
 pub const ROOT: u64 = 0;
 
 /// Inodes by their numbers, found by a hash. A contract sees the finite map.
-#[derive(Debug, Drop)]
+#[derive(Debug)]
 pub struct InodeTable {
     alloc: Global,
     inodes: IndexMap<u64, Inode>,
+}
+
+impl Drop for InodeTable {
+    fn drop(self) {
+        let InodeTable {
+            alloc: _,
+            inodes: _,
+        } = self;
+    }
 }
 
 impl Model for InodeTable {

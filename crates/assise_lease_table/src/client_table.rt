@@ -16,13 +16,22 @@ use std::alloc::Global;
 
 /// Which client holds which inode, and what each client stored to be asked (Assise, OSDI 2020, section 3). Two clients
 /// hold one inode only if both read, a client has at most one lease of it, and whoever holds one has a revoker.
-#[derive(Drop)]
 pub struct ClientTableOf<C> {
     alloc: Global,
     revokers: IndexMap<u32, C>,
     leases: LeaseMap,
     ghost compatible_leases: { (i : ℕ) → compatible (leases_at leases i) ≡ true },
     ghost enrolled: { (i : ℕ) (l : _) → Among (leases_at leases i) l → is_some (get nat_eq revokers l.holder) ≡ true },
+}
+
+impl<C: Drop> Drop for ClientTableOf<C> {
+    fn drop(self) {
+        let ClientTableOf {
+            alloc: _,
+            revokers: _,
+            leases: _,
+        } = self;
+    }
 }
 
 /// A table whose clients store a [`Revoker`].

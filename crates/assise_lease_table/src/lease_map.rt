@@ -16,12 +16,20 @@ use std::alloc::{AllocError, Global};
 /// The leases of each inode. Few hold one inode, so they stand in a short list; no list is empty, so nothing stays
 /// for an inode that nobody holds. Room for an inode's first leases stands in its list itself, which takes memory of
 /// its own only where more hold the inode at once.
-#[derive(Drop)]
 pub struct LeaseMap {
     alloc: Global,
     inodes: IndexMap<u64, Leases>,
     ghost held: { (i : ℕ) → holds_lease (get nat_eq inodes i) ≡ true },
     ghost unique: { IsUnique nat_eq inodes } by { Prim.hlevel props },
+}
+
+impl Drop for LeaseMap {
+    fn drop(self) {
+        let LeaseMap {
+            alloc: _,
+            inodes: _,
+        } = self;
+    }
 }
 
 impl LeaseMap {

@@ -21,7 +21,6 @@ use std::alloc::Global;
 /// its clients. On each level two hold one inode only if both read. A client's lease lies under one of its node that is as
 /// strong. Below a node's lease that was asked for some client holds the inode, and each that does was asked: such a lease
 /// grants nothing.
-#[derive(Drop)]
 pub struct LeaseTreeOf<C> {
     homes: IndexMap<u32, u32>,
     clients: ClientTableOf<C>,
@@ -29,6 +28,16 @@ pub struct LeaseTreeOf<C> {
     ghost under: { (i : ℕ) → Under (get nat_eq homes) (client_leases clients i) (node_leases nodes i) },
     ghost asked_below: { (i : ℕ) → AskedBelow (get nat_eq homes) (client_leases clients i) (node_leases nodes i) },
     ghost known: { (c : ℕ) → is_some (get nat_eq homes c) ≡ is_some (revoker_of clients c) },
+}
+
+impl<C: Drop> Drop for LeaseTreeOf<C> {
+    fn drop(self) {
+        let LeaseTreeOf {
+            homes: _,
+            clients: _,
+            nodes: _,
+        } = self;
+    }
 }
 
 /// A tree whose clients store a [`Revoker`].

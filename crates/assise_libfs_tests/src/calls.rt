@@ -24,19 +24,21 @@ fn make<S: Served, R: Wait>(
     rt: &R,
     alloc: Global,
     libfs: &mut LibFs<'_, S>,
-    op: Op,
+    op: &Op,
 ) -> Result<Reply, Refusal> {
     match op {
-        Op::Create(path) => libfs.create(rt, alloc, path),
-        Op::Mkdir(path) => libfs.mkdir(rt, alloc, path),
-        Op::Read(path, offset, most) => libfs.read(rt, alloc, path, offset, most),
-        Op::Write(path, offset, bytes) => libfs.write(rt, alloc, path, offset, bytes),
-        Op::Truncate(path, size) => libfs.truncate(rt, alloc, path, size),
-        Op::Rename(from, to) => libfs.rename(rt, alloc, from, to),
-        Op::Unlink(path) => libfs.unlink(rt, alloc, path),
-        Op::Rmdir(path) => libfs.rmdir(rt, alloc, path),
-        Op::List(path) => libfs.list(rt, alloc, path),
-        Op::Stat(path) => libfs.stat(rt, alloc, path),
+        Op::Create(path) => libfs.create(rt, alloc, path.copy()?),
+        Op::Mkdir(path) => libfs.mkdir(rt, alloc, path.copy()?),
+        Op::Read(path, offset, most) => libfs.read(rt, alloc, path.copy()?, *offset, *most),
+        Op::Write(path, offset, bytes) => {
+            libfs.write(rt, alloc, path.copy()?, *offset, bytes.copy()?)
+        }
+        Op::Truncate(path, size) => libfs.truncate(rt, alloc, path.copy()?, *size),
+        Op::Rename(from, to) => libfs.rename(rt, alloc, from.copy()?, to.copy()?),
+        Op::Unlink(path) => libfs.unlink(rt, alloc, path.copy()?),
+        Op::Rmdir(path) => libfs.rmdir(rt, alloc, path.copy()?),
+        Op::List(path) => libfs.list(rt, alloc, path.copy()?),
+        Op::Stat(path) => libfs.stat(rt, alloc, path.copy()?),
         Op::Fsync => libfs.fsync(rt, alloc),
         Op::Dsync => libfs.dsync(rt, alloc),
     }
@@ -59,7 +61,7 @@ fn put_call<S: Served, R: Wait>(
     text: &mut String,
 ) -> Option<()> {
     let (call, _) = line.split_once(" = ")?;
-    let outcome = make(rt, alloc, libfs, call_in(alloc, call)?);
+    let outcome = make(rt, alloc, libfs, &call_in(alloc, call)?);
     write!(text, "{call} = ").ok()?;
     put_outcome(text, &outcome)?;
     text.push_str("\n").ok()
@@ -87,9 +89,9 @@ pub fn is_answered_at_last<S: Served, R: Wait>(
     line: &str,
 ) -> Option<bool> {
     let (call, outcome) = line.split_once(" = ")?;
-    let first = make(rt, alloc, libfs, call_in(alloc, call)?);
+    let first = make(rt, alloc, libfs, &call_in(alloc, call)?);
     let came = match first {
-        Err(Refusal::OutOfMemory) => make(rt, alloc, libfs, call_in(alloc, call)?),
+        Err(Refusal::OutOfMemory) => make(rt, alloc, libfs, &call_in(alloc, call)?),
         _ => first,
     };
     let mut text = String::new(alloc);

@@ -5,7 +5,7 @@ use assise_names::durability::Durability;
 use assise_record::frame::Frame;
 
 /// One call of a [`ClusterOf`](crate::cluster::ClusterOf).
-#[derive(Debug, Drop)]
+#[derive(Debug)]
 pub enum Event {
     /// A client is opened on a node, with a revoker of the stock; this is how its fsyncs are served.
     Open(u32, Durability),
@@ -35,4 +35,25 @@ pub enum Event {
     Join(u32),
     /// A node reads and sends marked frames from now on.
     Raise(u32),
+}
+
+impl Drop for Event {
+    fn drop(self) {
+        match self {
+            Event::Open(_, _)
+            | Event::Call(_, _)
+            | Event::Fsync(_)
+            | Event::Outgoing(_)
+            | Event::Deliver(_, _)
+            | Event::Digest(_)
+            | Event::ReleaseReady
+            | Event::SetHot(_, _)
+            | Event::Crash(_)
+            | Event::Fail(_)
+            | Event::Back(_)
+            | Event::Refill(_)
+            | Event::Join(_)
+            | Event::Raise(_) => (),
+        }
+    }
 }

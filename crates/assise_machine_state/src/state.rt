@@ -15,7 +15,6 @@ use assise_names::refusal::Refusal;
 use std::alloc::Global;
 
 /// The whole state of a cluster, level by level (Assise, OSDI 2020, section 3). Nodes and clients are numbered from 1.
-#[derive(Drop)]
 pub struct StateOf<C> {
     /// What each node has.
     pub nodes: Nodes,
@@ -31,6 +30,20 @@ pub struct StateOf<C> {
     pub history: History,
     /// The most records of a client's log.
     pub limit: usize,
+}
+
+impl<C: Drop> Drop for StateOf<C> {
+    fn drop(self) {
+        let StateOf {
+            nodes: _,
+            members: _,
+            clients: _,
+            leases: _,
+            cuts: _,
+            history: _,
+            limit: _,
+        } = self;
+    }
 }
 
 /// A state whose clients store a [`Revoker`].

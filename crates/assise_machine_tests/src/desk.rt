@@ -52,7 +52,6 @@ pub(crate) const HOT: usize = 2;
 /// A cluster; the frames that its nodes sent, numbered from 1; the link of each node from node 1 on; the revokers of clients that are opened, the last first; how many
 /// nodes there are, and rounds are made where a line waits; and the steps that were made, one in a line, with what the last of
 /// them came to.
-#[derive(Drop)]
 pub(crate) struct Desk {
     pub(crate) cluster: Cluster,
     pub(crate) letters: Vec<Letter>,
@@ -62,6 +61,21 @@ pub(crate) struct Desk {
     pub(crate) rounds: u32,
     pub(crate) steps: String,
     pub(crate) outcome: String,
+}
+
+impl Drop for Desk {
+    fn drop(self) {
+        let Desk {
+            cluster: _,
+            letters: _,
+            links: _,
+            stock: _,
+            nodes: _,
+            rounds: _,
+            steps: _,
+            outcome: _,
+        } = self;
+    }
 }
 
 impl Desk {

@@ -18,7 +18,6 @@ use std::collections::VecDeque;
 
 /// The nodes of a cluster: which are full, which are down or come back, in which epoch, and which inodes were written while
 /// some node wasn't full (Assise, OSDI 2020, section 3, on recovery). Nodes are numbered from 1.
-#[derive(Drop)]
 pub struct Members {
     alloc: Global,
     epoch: u64,
@@ -30,6 +29,19 @@ pub struct Members {
     ghost listed: { full.items ≡ full_nodes (map standing nodes.items) },
     ghost room: { vec_len nodes ≤ vec_capacity full },
     ghost few: { vec_len nodes < 2 ^ 32 },
+}
+
+impl Drop for Members {
+    fn drop(self) {
+        let Members {
+            alloc: _,
+            epoch: _,
+            nodes: _,
+            full: _,
+            written: _,
+            levels: _,
+        } = self;
+    }
 }
 
 impl Members {

@@ -13,9 +13,15 @@ use std::marker::Model;
 
 /// Bytes that a call writes or reads. Copies share them. A contract sees the list of the bytes, and nothing of where
 /// they lie.
-#[derive(Debug, Drop)]
+#[derive(Debug)]
 pub struct ByteString {
     bytes: Bytes,
+}
+
+impl Drop for ByteString {
+    fn drop(self) {
+        let ByteString { bytes: _ } = self;
+    }
 }
 
 impl Model for ByteString {

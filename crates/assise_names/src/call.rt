@@ -12,7 +12,7 @@ use std::fmt;
 use std::fmt::{Display, Formatter};
 
 /// A call. Offsets, lengths and sizes are counts of bytes.
-#[derive(Debug, Drop)]
+#[derive(Debug)]
 pub enum Op {
     /// Makes a file without bytes at a path where nothing is.
     Create(Path),
@@ -38,6 +38,25 @@ pub enum Op {
     Fsync,
     /// Is answered once all calls before it are replicated.
     Dsync,
+}
+
+impl Drop for Op {
+    fn drop(self) {
+        match self {
+            Op::Create(_)
+            | Op::Mkdir(_)
+            | Op::Read(_, _, _)
+            | Op::Write(_, _, _)
+            | Op::Truncate(_, _)
+            | Op::Rename(_, _)
+            | Op::Unlink(_)
+            | Op::Rmdir(_)
+            | Op::List(_)
+            | Op::Stat(_)
+            | Op::Fsync
+            | Op::Dsync => (),
+        }
+    }
 }
 
 impl Op {

@@ -82,9 +82,15 @@ impl<T: Drop> From<AllocFailed<T>> for PathFault {
 }
 
 /// Up to 32 names from the root, the outermost first. The root has none. Copies of a path share its names.
-#[derive(Debug, Drop)]
+#[derive(Debug)]
 pub struct Path {
     names: Option<ArcSlice<Name>>,
+}
+
+impl Drop for Path {
+    fn drop(self) {
+        let Path { names: _ } = self;
+    }
 }
 
 impl Model for Path {

@@ -11,12 +11,19 @@ use std::sync::ArcStr;
 const MOST_SHORT_BYTES: usize = 16;
 
 /// A text that lies in its value where it is short, and else is shared by its copies.
-#[derive(Drop)]
 pub(crate) enum Text {
     /// At most 16 bytes.
     Short(ArrayString<MOST_SHORT_BYTES>),
     /// More bytes.
     Shared(ArcStr),
+}
+
+impl Drop for Text {
+    fn drop(self) {
+        match self {
+            Text::Short(_) | Text::Shared(_) => (),
+        }
+    }
 }
 
 impl Text {

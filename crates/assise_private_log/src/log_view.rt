@@ -14,12 +14,22 @@ use std::marker::Model;
 
 /// What a log shows to whom it is lent: the numbers of its records, and which of them touch an inode. A contract sees
 /// the whole log.
-#[derive(Debug, Drop)]
+#[derive(Debug)]
 pub struct LogView {
     pub(crate) first: u64,
     pub(crate) records: HeapCircularBuffer<Record>,
     // of each record, whether a group begins with it
     pub(crate) begins: HeapCircularBuffer<bool>,
+}
+
+impl Drop for LogView {
+    fn drop(self) {
+        let LogView {
+            first: _,
+            records: _,
+            begins: _,
+        } = self;
+    }
 }
 
 impl Model for LogView {

@@ -20,10 +20,19 @@ pub const MOST_EXTENT_BYTES: usize = 65_536;
 
 /// Bytes to be written at an offset of a file: 1 to 65,536 of them, ending by byte 1,048,576 of the file. They lie
 /// in a block that copies share. A contract sees the offset and the list of bytes.
-#[derive(Debug, Drop)]
+#[derive(Debug)]
 pub struct Extent {
     offset: u32,
     bytes: Bytes,
+}
+
+impl Drop for Extent {
+    fn drop(self) {
+        let Extent {
+            offset: _,
+            bytes: _,
+        } = self;
+    }
 }
 
 impl Model for Extent {
@@ -139,7 +148,7 @@ impl FileSize {
 }
 
 /// What a call does to one inode, which it names by its number.
-#[derive(Debug, Drop, PartialEq, Eq)]
+#[derive(Debug, PartialEq, Eq)]
 pub enum Effect {
     /// The inode is a file without bytes.
     NewFile {
@@ -186,6 +195,30 @@ pub enum Effect {
         /// The inode.
         inode: u64,
     },
+}
+
+impl Drop for Effect {
+    fn drop(self) {
+        match self {
+            Effect::NewFile { inode: _ }
+            | Effect::NewDir { inode: _ }
+            | Effect::Write {
+                inode: _,
+                extent: _,
+            }
+            | Effect::SetLen { inode: _, size: _ }
+            | Effect::Link {
+                directory: _,
+                name: _,
+                inode: _,
+            }
+            | Effect::Unlink {
+                directory: _,
+                name: _,
+            }
+            | Effect::Free { inode: _ } => (),
+        }
+    }
 }
 
 impl Effect {

@@ -19,13 +19,25 @@ pub const MARKED_VERSION: u8 = 2;
 
 /// Records of one client, in order and without a gap: 1 to 64 of them. The number behind the last is below 2^64. In
 /// version 2 each has a mark, whether it is the last of its group, and the last record is; in version 1 there are no marks.
-#[derive(Debug, Drop)]
+#[derive(Debug)]
 pub struct Frame {
     epoch: u64,
     client: u32,
     first: u64,
     records: Vec<Record>,
     marks: Option<Vec<bool>>,
+}
+
+impl Drop for Frame {
+    fn drop(self) {
+        let Frame {
+            epoch: _,
+            client: _,
+            first: _,
+            records: _,
+            marks: _,
+        } = self;
+    }
 }
 
 impl Model for Frame {
@@ -153,7 +165,14 @@ impl Frame {
         ensures records { result.items ≡ self.records }
         ensures ranges { HasRanges self }
     {
-        self.records
+        let Frame {
+            epoch: _,
+            client: _,
+            first: _,
+            records,
+            marks: _,
+        } = self;
+        records
     }
 
     /// An equal value, or [`Refusal::OutOfMemory`]. The bytes of writes are shared.

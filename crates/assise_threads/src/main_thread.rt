@@ -148,12 +148,12 @@ impl<'a, C: Revokes + Drop> MainThreadOf<'a, C> {
         ensures { ComesBackInTakes node result (main_seen self.old) (main_seen self.new) }
     {
         let begun = self.in_one_take(rt, alloc, Take::BeginReturn(node));
-        if let Response::Refused(_) = begun {
+        if let Response::Refused(..) = begun {
             return begun;
         }
         for _ in 0..turns {
             let filled = self.in_one_take(rt, alloc, Take::Refill(node));
-            if let Response::Refused(_) = filled {
+            if let Response::Refused(..) = filled {
                 return filled;
             }
             let joined = self.in_one_take(rt, alloc, Take::Join(node));
