@@ -49,7 +49,8 @@ impl Display for AnswerText<'_> {
 
 /// Writes a word and a number.
 fn write_number<W: fmt::Write>(f: &mut Formatter<W>, word: &str, number: u64) -> fmt::Result
-    ensures { WritesOnOk W.write_str_gives f.old result (word.now ++ codes " " ++ decimal number) f.new }
+    ensures { WritesOnOk W.write_str_gives f.old result
+        (word.now ++ codes " " ++ decimal number) f.new }
 {
     write!(f, "{word} {number}")
 }

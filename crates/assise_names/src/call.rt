@@ -118,7 +118,8 @@ impl Display for Op {
 
 /// Writes a call whose one word is a path.
 fn write_call<W: fmt::Write>(f: &mut Formatter<W>, name: &str, path: &Path) -> fmt::Result
-    ensures { WritesOnOk W.write_str_gives f.old result (name.now ++ codes " " ++ path_spelling path.now) f.new }
+    ensures { WritesOnOk W.write_str_gives f.old result
+        (name.now ++ codes " " ++ path_spelling path.now) f.new }
 {
     write!(f, "{name} {path}")
 }
