@@ -16,8 +16,8 @@ listed g c =
     let most : length c.args.self.now.links ≡ MOST_NODES = search rules in
     subst (λ n. c.in-Some.node - 1 < n) (sym most) (below_most c.args.self.now.cluster c.in-Some.node (c.has_node.ensures.yes c.if-not-has_node.false))
 
-pub way_replace-self : goal.way_replace-self
-way_replace-self g c = below_most c.args.self.now.cluster c.in-Some.node (c.has_node.ensures.yes c.if-not-has_node.false)
+pub way_replace-drop : goal.way_replace-drop
+way_replace-drop g c = below_most c.args.self.now.cluster c.in-Some.node (c.has_node.ensures.yes c.if-not-has_node.false)
 
 pub returns : goal.returns
 returns g c =
