@@ -4,6 +4,7 @@ use assise_fault_script::parse::parse;
 use assise_libfs::libfs::LibFs;
 use assise_libfs::served::Served;
 use assise_names::call::Op;
+use assise_names::path::Path;
 use assise_names::refusal::Refusal;
 use assise_names::reply::Reply;
 use std::alloc::Global;
@@ -19,6 +20,23 @@ fn call_in(alloc: Global, line: &str) -> Option<Op> {
     }
 }
 
+/// The path that a call is made at, or `None` of a sync.
+fn path_of(op: &Op) -> Option<&Path> {
+    match op {
+        Op::Create(path)
+        | Op::Mkdir(path)
+        | Op::Read(path, _, _)
+        | Op::Write(path, _, _)
+        | Op::Truncate(path, _)
+        | Op::Rename(path, _)
+        | Op::Unlink(path)
+        | Op::Rmdir(path)
+        | Op::List(path)
+        | Op::Stat(path) => Some(path),
+        Op::Fsync | Op::Dsync => None,
+    }
+}
+
 /// Makes a call by the method of its name.
 fn make<S: Served, R: Wait>(
     rt: &R,
@@ -26,21 +44,46 @@ fn make<S: Served, R: Wait>(
     libfs: &mut LibFs<'_, S>,
     op: &Op,
 ) -> Result<Reply, Refusal> {
+    match path_of(op) {
+        Some(path) => make_at(rt, alloc, libfs, path.copy()?, op),
+        None => sync(rt, alloc, libfs, op),
+    }
+}
+
+/// Makes a call at a path by the method of its name.
+fn make_at<S: Served, R: Wait>(
+    rt: &R,
+    alloc: Global,
+    libfs: &mut LibFs<'_, S>,
+    path: Path,
+    op: &Op,
+) -> Result<Reply, Refusal> {
     match op {
-        Op::Create(path) => libfs.create(rt, alloc, path.copy()?),
-        Op::Mkdir(path) => libfs.mkdir(rt, alloc, path.copy()?),
-        Op::Read(path, offset, most) => libfs.read(rt, alloc, path.copy()?, *offset, *most),
-        Op::Write(path, offset, bytes) => {
-            libfs.write(rt, alloc, path.copy()?, *offset, bytes.copy()?)
-        }
-        Op::Truncate(path, size) => libfs.truncate(rt, alloc, path.copy()?, *size),
-        Op::Rename(from, to) => libfs.rename(rt, alloc, from.copy()?, to.copy()?),
-        Op::Unlink(path) => libfs.unlink(rt, alloc, path.copy()?),
-        Op::Rmdir(path) => libfs.rmdir(rt, alloc, path.copy()?),
-        Op::List(path) => libfs.list(rt, alloc, path.copy()?),
-        Op::Stat(path) => libfs.stat(rt, alloc, path.copy()?),
-        Op::Fsync => libfs.fsync(rt, alloc),
-        Op::Dsync => libfs.dsync(rt, alloc),
+        Op::Create(_) => libfs.create(rt, alloc, path),
+        Op::Mkdir(_) => libfs.mkdir(rt, alloc, path),
+        Op::Read(_, offset, most) => libfs.read(rt, alloc, path, *offset, *most),
+        Op::Write(_, offset, bytes) => libfs.write(rt, alloc, path, *offset, bytes.copy()?),
+        Op::Truncate(_, size) => libfs.truncate(rt, alloc, path, *size),
+        Op::Rename(_, to) => libfs.rename(rt, alloc, path, to.copy()?),
+        Op::Unlink(_) => libfs.unlink(rt, alloc, path),
+        Op::Rmdir(_) => libfs.rmdir(rt, alloc, path),
+        Op::List(_) => libfs.list(rt, alloc, path),
+        Op::Stat(_) => libfs.stat(rt, alloc, path),
+        Op::Fsync | Op::Dsync => sync(rt, alloc, libfs, op),
+    }
+}
+
+/// Makes a sync by the method of its name.
+fn sync<S: Served, R: Wait>(
+    rt: &R,
+    alloc: Global,
+    libfs: &mut LibFs<'_, S>,
+    op: &Op,
+) -> Result<Reply, Refusal> {
+    if matches!(op, Op::Fsync) {
+        libfs.fsync(rt, alloc)
+    } else {
+        libfs.dsync(rt, alloc)
     }
 }
 
