@@ -215,27 +215,3 @@ impl<S: Growing> Keeper<S> {
         state
     }
 }
-
-impl<S: Growing + Drop> Keeper<S> {
-    ghost use Rattle.std.specs.Prelude.{◌≡◌, None, IfOk, IsOkUnless};
-    ghost use Rattle.assise_names.specs.declared.refusal.Refusal.TheVariants.{OutOfMemory};
-    ghost use Rattle.assise_keeper.specs.Passes.{seen, client, IsPassOf};
-
-    /// Makes a keeper as [`Keeper::new`] does, but lets the state go where there is no memory ([`Refusal::OutOfMemory`]).
-    pub fn of(alloc: Global, state: S) -> Result<(Keeper<S>, Pass<S>), Refusal>
-        ensures pass { IfOk result (λ made. IsPassOf made.0 made.1) }
-        ensures seen { IfOk result (λ made. (seen made.1 ≡ S.history state) ×
-            (client made.1 ≡ None)) }
-        ensures only_memory { IsOkUnless result OutOfMemory }
-    {
-        match Keeper::new(alloc, state) {
-            Ok(made) => Ok(made),
-            Err((refusal, _)) => Err(refusal),
-        }
-    }
-
-    /// Ends the keeper, and lets its state go: whether it was there, and not taken still.
-    pub fn end(self) -> bool {
-        self.close().is_some()
-    }
-}

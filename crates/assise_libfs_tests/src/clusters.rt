@@ -211,9 +211,10 @@ pub fn on_new_cluster<R: Threads + Wait + Sync>(
     work: &Work<'_>,
 ) -> Option<String> {
     let cluster = Cluster::new(alloc, 2, 8, 4).ok()?;
-    let (keeper, mut first) = Keeper::of(alloc, cluster).ok()?;
+    let (keeper, mut first) = Keeper::new(alloc, cluster).ok()?;
     let second = keeper.split(&mut first);
     let worker = WorkerPass::new(keeper.split(&mut first));
     let text = work_on(rt, alloc, &keeper, (first, second), worker, work);
-    if keeper.end() { text } else { None }
+    keeper.close()?;
+    text
 }

@@ -200,9 +200,11 @@ fn run_on<C: Revokes + Drop + Send, R: Threads + Wait + Sync>(
     cluster: ClusterOf<C>,
     revokers: &mut Vec<C>,
 ) -> Result<Report, MailFault> {
-    let (keeper, mut main) = Keeper::of(alloc, cluster)?;
+    let Ok((keeper, mut main)) = Keeper::new(alloc, cluster) else {
+        return Err(MailFault::Refused(Refusal::OutOfMemory));
+    };
     let report = with_main(rt, alloc, &keeper, &mut main, revokers);
-    keeper.end();
+    keeper.close();
     report
 }
 

@@ -124,7 +124,8 @@ pub fn on_one_node<R: Wait>(
     let cut: Cut = Box::new(alloc, whole).ok()?;
     let revoker = Revoker::new(cut);
     let cluster = Cluster::new(alloc, 1, 64, 16).ok()?;
-    let (keeper, pass) = Keeper::of(alloc, cluster).ok()?;
+    let (keeper, pass) = Keeper::new(alloc, cluster).ok()?;
     let wrong = with_client(rt, alloc, &keeper, pass, revoker, durability, lines);
-    if keeper.end() { wrong } else { None }
+    keeper.close()?;
+    wrong
 }

@@ -106,13 +106,14 @@ fn run_commands<W: Write, R: Threads + Wait + Sync>(
         return Ok(());
     };
     let (cluster, nodes) = cluster_of(alloc, &first.command)?;
-    let Ok((keeper, pass)) = Keeper::of(alloc, cluster) else {
+    let Ok((keeper, pass)) = Keeper::new(alloc, cluster) else {
         return Err(EngineFault::Memory);
     };
+    let gate = OpenGate;
     let main = MainThread::new(&keeper, pass);
-    let crew = Crew::new(main, &OpenGate, stock, nodes, turns);
+    let crew = Crew::new(main, &gate, stock, nodes, turns);
     let ended = crew.run(rt, alloc, commands, writer);
-    keeper.end();
+    keeper.close();
     ended
 }
 

@@ -202,7 +202,8 @@ pub fn run_crowd<R: Threads + Wait + Sync>(rt: &R, alloc: Global, crowd: &Crowd)
     }
     let revokers = revokers_of(alloc, crowd.clients)?;
     let cluster = Cluster::new(alloc, crowd.nodes, 64, 64).ok()?;
-    let (keeper, mut main) = Keeper::of(alloc, cluster).ok()?;
+    let (keeper, mut main) = Keeper::new(alloc, cluster).ok()?;
     let text = run_on(rt, alloc, &keeper, &mut main, &OpenGate, crowd, revokers);
-    if keeper.end() { text } else { None }
+    keeper.close()?;
+    text
 }

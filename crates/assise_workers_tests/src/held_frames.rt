@@ -272,9 +272,10 @@ pub fn stat_beside_fsync<R: Threads + Wait + Sync>(
     let two: Cut = Box::new(alloc, least).ok()?;
     let revokers = (Revoker::new(one), Revoker::new(two));
     let cluster = Cluster::new(alloc, 2, 64, 64).ok()?;
-    let (keeper, mut main) = Keeper::of(alloc, cluster).ok()?;
+    let (keeper, mut main) = Keeper::new(alloc, cluster).ok()?;
     let replies = settle_and_sync(rt, alloc, &keeper, &mut main, &OpenGate, gate, revokers);
-    if keeper.end() { replies } else { None }
+    keeper.close()?;
+    replies
 }
 
 /// How many of the calls were answered, on a new cluster.
@@ -287,7 +288,8 @@ pub fn two_syncs<R: Threads + Wait + Sync>(
     let two: Cut = Box::new(alloc, least).ok()?;
     let revokers = (Revoker::new(one), Revoker::new(two));
     let cluster = Cluster::new(alloc, 2, 64, 64).ok()?;
-    let (keeper, mut main) = Keeper::of(alloc, cluster).ok()?;
+    let (keeper, mut main) = Keeper::new(alloc, cluster).ok()?;
     let synced = sync_at_once(rt, alloc, &keeper, &mut main, &OpenGate, gate, revokers);
-    if keeper.end() { synced } else { None }
+    keeper.close()?;
+    synced
 }
