@@ -38,6 +38,7 @@ pub struct Area {
     cold: IndexMap<u64, Inode>,
 }
 
+// One call lets go of it, wherever it is owned.
 impl Drop for Area {
     fn drop(self) {
         let Area {

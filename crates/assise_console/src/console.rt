@@ -47,6 +47,7 @@ pub struct ConsoleOf<C> {
     links: [TestLink; MOST_NODES as usize],
 }
 
+// One call lets go of it, wherever it is owned.
 impl<C: Drop> Drop for ConsoleOf<C> {
     fn drop(self) {
         let ConsoleOf {

@@ -45,6 +45,7 @@ pub enum Response {
     Checked(bool),
 }
 
+// One call lets go of it, wherever it is owned.
 impl Drop for Response {
     fn drop(self) {
         match self {

@@ -17,6 +17,7 @@ pub struct Stock<C> {
     pub eights: Vec<C>,
 }
 
+// One call lets go of it, wherever it is owned.
 impl<C: Drop> Drop for Stock<C> {
     fn drop(self) {
         let Stock {

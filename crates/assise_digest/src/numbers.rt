@@ -16,6 +16,7 @@ pub struct Numbers {
     numbers: IndexMap<u64, u64>,
 }
 
+// One call lets go of it, wherever it is owned.
 impl Drop for Numbers {
     fn drop(self) {
         let Numbers { numbers: _ } = self;

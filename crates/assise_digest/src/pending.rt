@@ -25,6 +25,7 @@ pub(crate) struct Pending {
     pub(crate) last: Numbers,
 }
 
+// One call lets go of it, wherever it is owned.
 impl Drop for Pending {
     fn drop(self) {
         let Pending { inodes: _, last: _ } = self;

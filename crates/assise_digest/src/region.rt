@@ -37,6 +37,7 @@ pub struct Region {
     logs: Vec<Received>,
 }
 
+// One call lets go of it, wherever it is owned.
 impl Drop for Region {
     fn drop(self) {
         let Region { area: _, logs: _ } = self;

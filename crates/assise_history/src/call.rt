@@ -16,6 +16,7 @@ pub struct Call {
     pub reply: Reply,
 }
 
+// One call lets go of it, wherever it is owned.
 impl Drop for Call {
     fn drop(self) {
         let Call {

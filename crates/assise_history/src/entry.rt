@@ -43,6 +43,7 @@ pub enum EntryKind {
     },
 }
 
+// One call lets go of it, wherever it is owned.
 impl Drop for EntryKind {
     fn drop(self) {
         match self {

@@ -29,6 +29,7 @@ pub(crate) struct Prefix {
     down: Vec<u32>,
 }
 
+// One call lets go of it, wherever it is owned.
 impl Drop for Prefix {
     fn drop(self) {
         let Prefix {

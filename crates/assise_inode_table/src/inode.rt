@@ -23,6 +23,7 @@ enum Kind {
     Directory(Directory),
 }
 
+// One call lets go of it, wherever it is owned.
 impl Drop for Kind {
     fn drop(self) {
         match self {

@@ -19,6 +19,7 @@ pub struct SharedBlocks {
     list: Option<Arc<Vec<Bytes>>>,
 }
 
+// One call lets go of it, wherever it is owned.
 impl Drop for SharedBlocks {
     fn drop(self) {
         let SharedBlocks { list: _ } = self;

@@ -27,6 +27,7 @@ pub struct InodeTable {
     inodes: IndexMap<u64, Inode>,
 }
 
+// One call lets go of it, wherever it is owned.
 impl Drop for InodeTable {
     fn drop(self) {
         let InodeTable {

@@ -24,6 +24,7 @@ pub struct ClientTableOf<C> {
     ghost enrolled: { (i : ℕ) (l : _) → Among (leases_at leases i) l → is_some (get nat_eq revokers l.holder) ≡ true },
 }
 
+// One call lets go of it, wherever it is owned.
 impl<C: Drop> Drop for ClientTableOf<C> {
     fn drop(self) {
         let ClientTableOf {

@@ -23,6 +23,7 @@ pub struct LeaseMap {
     ghost unique: { IsUnique nat_eq inodes } by { Prim.hlevel props },
 }
 
+// One call lets go of it, wherever it is owned.
 impl Drop for LeaseMap {
     fn drop(self) {
         let LeaseMap {

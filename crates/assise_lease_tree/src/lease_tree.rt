@@ -30,6 +30,7 @@ pub struct LeaseTreeOf<C> {
     ghost known: { (c : ℕ) → is_some (get nat_eq homes c) ≡ is_some (revoker_of clients c) },
 }
 
+// One call lets go of it, wherever it is owned.
 impl<C: Drop> Drop for LeaseTreeOf<C> {
     fn drop(self) {
         let LeaseTreeOf {

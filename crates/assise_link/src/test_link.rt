@@ -20,6 +20,7 @@ pub enum TestLink {
     Fault(FaultyLink),
 }
 
+// One call lets go of it, wherever it is owned.
 impl Drop for TestLink {
     fn drop(self) {
         match self {

@@ -37,6 +37,7 @@ pub enum Event {
     Raise(u32),
 }
 
+// One call lets go of it, wherever it is owned.
 impl Drop for Event {
     fn drop(self) {
         match self {

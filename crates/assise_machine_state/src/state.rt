@@ -32,6 +32,7 @@ pub struct StateOf<C> {
     pub limit: usize,
 }
 
+// One call lets go of it, wherever it is owned.
 impl<C: Drop> Drop for StateOf<C> {
     fn drop(self) {
         let StateOf {

@@ -63,6 +63,7 @@ pub(crate) struct Desk {
     pub(crate) outcome: String,
 }
 
+// One call lets go of it, wherever it is owned.
 impl Drop for Desk {
     fn drop(self) {
         let Desk {

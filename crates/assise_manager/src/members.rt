@@ -31,6 +31,7 @@ pub struct Members {
     ghost few: { vec_len nodes < 2 ^ 32 },
 }
 
+// One call lets go of it, wherever it is owned.
 impl Drop for Members {
     fn drop(self) {
         let Members {

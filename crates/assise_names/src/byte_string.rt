@@ -18,6 +18,7 @@ pub struct ByteString {
     bytes: Bytes,
 }
 
+// One call lets go of it, wherever it is owned.
 impl Drop for ByteString {
     fn drop(self) {
         let ByteString { bytes: _ } = self;

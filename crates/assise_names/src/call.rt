@@ -40,6 +40,7 @@ pub enum Op {
     Dsync,
 }
 
+// One call lets go of it, wherever it is owned.
 impl Drop for Op {
     fn drop(self) {
         match self {

@@ -87,6 +87,7 @@ pub struct Path {
     names: Option<ArcSlice<Name>>,
 }
 
+// One call lets go of it, wherever it is owned.
 impl Drop for Path {
     fn drop(self) {
         let Path { names: _ } = self;

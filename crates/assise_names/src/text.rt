@@ -18,6 +18,7 @@ pub(crate) enum Text {
     Shared(ArcStr),
 }
 
+// One call lets go of it, wherever it is owned.
 impl Drop for Text {
     fn drop(self) {
         match self {

@@ -22,6 +22,7 @@ pub struct LogView {
     pub(crate) begins: HeapCircularBuffer<bool>,
 }
 
+// One call lets go of it, wherever it is owned.
 impl Drop for LogView {
     fn drop(self) {
         let LogView {

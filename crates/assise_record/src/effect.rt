@@ -26,6 +26,7 @@ pub struct Extent {
     bytes: Bytes,
 }
 
+// One call lets go of it, wherever it is owned.
 impl Drop for Extent {
     fn drop(self) {
         let Extent {
@@ -197,6 +198,7 @@ pub enum Effect {
     },
 }
 
+// One call lets go of it, wherever it is owned.
 impl Drop for Effect {
     fn drop(self) {
         match self {

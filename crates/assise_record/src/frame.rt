@@ -28,6 +28,7 @@ pub struct Frame {
     marks: Option<Vec<bool>>,
 }
 
+// One call lets go of it, wherever it is owned.
 impl Drop for Frame {
     fn drop(self) {
         let Frame {
