@@ -63,7 +63,7 @@ fn run<R: Threads + Wait + Sync>(rt: &HostRuntime, leave: &R) -> Option<ExitCode
 
 /// Makes a little of everything.
 fn show_each<R: Threads + Wait + Sync>(rt: &HostRuntime, leave: &R) -> Option<()> {
-    for line in EACH {
+    for &line in &EACH {
         let words = words_of(rt.alloc(), line)?;
         let [what, words @ ..] = words.as_slice() else {
             return None;

@@ -504,7 +504,7 @@ fn prints_behind_cluster(alloc: Global, rt: &impl Abort, run: Run<'_>) -> Result
 
 #[test]
 fn refusals_come_in_their_order(rt: HostRuntime) -> Result<(), Fail> {
-    for run in SHORT {
+    for &run in &SHORT {
         prints_behind_cluster(rt.alloc(), &rt, run)?;
     }
     Ok(())

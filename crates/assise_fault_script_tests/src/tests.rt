@@ -470,7 +470,7 @@ static BYTES: [(&[u8], &str); 7] = [
 
 #[test]
 fn bytes_are_utf8_but_for_comments(rt: HostRuntime) {
-    for (script, wanted) in BYTES {
+    for &(script, wanted) in &BYTES {
         says(rt.alloc(), &rt, script, wanted);
     }
 }
@@ -531,7 +531,7 @@ static DATA: [(&str, &str); 9] = [
 
 #[test]
 fn data_writes_its_bytes(rt: HostRuntime) {
-    for (word, wanted) in DATA {
+    for &(word, wanted) in &DATA {
         gives(rt.alloc(), &rt, word, wanted);
     }
     let most = behind_cluster(rt.alloc(), &rt, "5 write /f 0 z1048576");

@@ -22,7 +22,7 @@ const SYNCS: [(u32, bool, u32, &str); 6] = [
 fn a_call_is_tried_until_it_is_answered_or_its_turns_are_spent(
     rt: HostRuntime,
 ) -> Result<(), Fail> {
-    for (waits, full, turns, outcome) in SYNCS {
+    for &(waits, full, turns, outcome) in &SYNCS {
         let ledger = Ledger::new(rt.alloc(), waits, full);
         let came = sync_once(&rt, rt.alloc(), ledger, turns).ok_or(outcome)?;
         assert_eq!(rt; came.as_str(), outcome);

@@ -67,7 +67,7 @@ static TEXTS: [(&str, &str); 15] = [
 
 #[test]
 fn paths_are_spelled_by_their_names(rt: HostRuntime) {
-    for (text, wanted) in TEXTS {
+    for &(text, wanted) in &TEXTS {
         says(rt.alloc(), &rt, text, wanted);
     }
 }
@@ -96,7 +96,7 @@ static LONG: [(&str, &str, usize, &str); 3] = [
 
 #[test]
 fn the_first_fault_of_a_long_text_is_named(rt: HostRuntime) {
-    for (prefix, piece, count, fault) in LONG {
+    for &(prefix, piece, count, fault) in &LONG {
         let text = repeated(rt.alloc(), &rt, prefix, piece, count);
         says(rt.alloc(), &rt, text.as_str(), fault);
     }
@@ -120,7 +120,7 @@ static PREFIXES: [(&str, &str, bool); 7] = [
 
 #[test]
 fn a_prefix_is_proper(rt: HostRuntime) {
-    for (prefix, text, yes) in PREFIXES {
+    for &(prefix, text, yes) in &PREFIXES {
         let path_of_prefix = path(rt.alloc(), &rt, prefix);
         let other = path(rt.alloc(), &rt, text);
         assert_eq!(rt;
@@ -155,7 +155,7 @@ static NAMES: [(&str, bool); 7] = [
 
 #[test]
 fn names_ascend_by_their_bytes(rt: HostRuntime) {
-    for (text, ascend) in NAMES {
+    for &(text, ascend) in &NAMES {
         let names = names_of(rt.alloc(), &rt, text);
         assert_eq!(rt; NameList::ascend(names.as_slice()), ascend, "{text}");
     }

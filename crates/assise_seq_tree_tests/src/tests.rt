@@ -573,7 +573,7 @@ static PRINTED: [(&str, &str); 4] = [
 
 #[test]
 fn trees_are_printed(rt: HostRuntime) {
-    for (lines, wanted) in PRINTED {
+    for &(lines, wanted) in &PRINTED {
         let tree = made(rt.alloc(), &rt, lines);
         let text = tree.to_string(rt.alloc()).expect(&rt, "no memory");
         assert_eq!(rt; text.as_str(), wanted);

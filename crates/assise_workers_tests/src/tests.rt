@@ -48,7 +48,7 @@ const CROWDS: [(Crowd, &str); 3] = [
 
 #[test]
 fn calls_of_many_threads_stand_in_one_legal_history(rt: HostRuntime) -> Result<(), Fail> {
-    for (crowd, outcome) in CROWDS {
+    for &(crowd, outcome) in &CROWDS {
         let text = run_crowd(&rt, rt.alloc(), &crowd).ok_or("no memory")?;
         assert_eq!(rt; text.as_str(), outcome);
     }
