@@ -4,9 +4,8 @@ ghost use Rattle.assise_keeper.specs.Passes.{IsPassOf};
 
 use assise_keeper::keeper::Keeper;
 use assise_keeper::pass::Pass;
-use assise_lease_table::revoker::Revokes;
 use assise_libfs::libfs::LibFs;
-use assise_machine::cluster::ClusterOf;
+use assise_libfs::served::Served;
 use assise_mail::fault::MailFault;
 use assise_names::durability::Durability;
 use assise_names::refusal::Refusal;
@@ -20,24 +19,43 @@ pub const SURVIVOR: u32 = 2;
 const TURNS: u32 = 1_000_000;
 
 /// A thread's client, and what it takes to open another where the client's node fails: a pass, and a revoker.
-#[derive(Drop)]
-pub struct Mailer<'a, C: Revokes + Drop> {
-    keeper: &'a Keeper<ClusterOf<C>>,
-    pass: Pass<ClusterOf<C>>,
-    spare: Option<C>,
-    pub files: LibFs<'a, ClusterOf<C>>,
+pub struct Mailer<'a, S: Served>
+where
+    S::Stored: Drop,
+{
+    keeper: &'a Keeper<S>,
+    pass: Pass<S>,
+    spare: Option<S::Stored>,
+    pub files: LibFs<'a, S>,
     ghost ours: { IsPassOf keeper.now pass },
 }
 
+// One call lets go of it, wherever it is owned.
+impl<S: Served> Drop for Mailer<'_, S>
+where
+    S::Stored: Drop,
+{
+    fn drop(self) {
+        let Mailer {
+            keeper: _,
+            pass: _,
+            spare: _,
+            files: _,
+        } = self;
+    }
+}
+
 /// Opens a client on a node, with a revoker, if there is one left.
-fn open_files<'a, C: Revokes + Drop, R: Wait>(
+fn open_files<'a, S: Served, R: Wait>(
     rt: &R,
     alloc: Global,
-    keeper: &'a Keeper<ClusterOf<C>>,
-    pass: &mut Pass<ClusterOf<C>>,
+    keeper: &'a Keeper<S>,
+    pass: &mut Pass<S>,
     node: u32,
-    revoker: Option<C>,
-) -> Result<LibFs<'a, ClusterOf<C>>, MailFault>
+    revoker: Option<S::Stored>,
+) -> Result<LibFs<'a, S>, MailFault>
+where
+    S::Stored: Drop,
     requires { IsPassOf keeper.now pass.old }
     ensures { IsPassOf keeper.now pass.new }
 {
@@ -52,18 +70,21 @@ fn open_files<'a, C: Revokes + Drop, R: Wait>(
     }
 }
 
-impl<'a, C: Revokes + Drop> Mailer<'a, C> {
+impl<'a, S: Served> Mailer<'a, S>
+where
+    S::Stored: Drop,
+{
     ghost use Rattle.assise_keeper.specs.Passes.{IsPassOf};
 
     /// With a client on a node, and two of the revokers: one for the client, one to spare.
     pub fn new<R: Wait>(
         rt: &R,
         alloc: Global,
-        keeper: &'a Keeper<ClusterOf<C>>,
-        main: &mut Pass<ClusterOf<C>>,
-        revokers: &mut Vec<C>,
+        keeper: &'a Keeper<S>,
+        main: &mut Pass<S>,
+        revokers: &mut Vec<S::Stored>,
         node: u32,
-    ) -> Result<Mailer<'a, C>, MailFault>
+    ) -> Result<Mailer<'a, S>, MailFault>
         requires { IsPassOf keeper.now main.old }
         ensures { IsPassOf keeper.now main.new }
     {

@@ -3,9 +3,9 @@ ghost use Rattle.std.specs.Prelude.{◌≡◌, ℕ, List, Option};
 ghost use Rattle.assise_history.specs.Entries.{EntryValue};
 ghost use Rattle.assise_keeper.specs.Clients.{MayGive};
 ghost use Rattle.assise_keeper.specs.Passes.{IsPassOf};
-ghost use Rattle.assise_machine.specs.Clusters.{machine};
 
 use crate::tally::Tally;
+use assise_history::growing::Growing;
 use assise_keeper::keeper::Keeper;
 use assise_keeper::pass::Pass;
 use assise_lease_table::revoker::Revokes;
@@ -28,26 +28,45 @@ const TRIES: u32 = 4_096;
 
 /// What happens to the node.
 #[derive(Clone, Copy)]
-enum Change {
+pub enum Change {
     Fails,
     BeginsToReturn,
     IsFilled,
     Joins,
 }
 
+/// A state one of whose nodes fails and comes back. A cluster is one.
+pub trait Failing: Growing {
+    /// Changes that node. It opens no client and answers no call, so that any pass may give what comes of it.
+    fn change(&mut self, alloc: Global, change: Change) -> Result<(), Refusal>
+        ensures gives { (client : Option ℕ) → MayGive client
+            (Self.Growing.history self.old) (Self.Growing.history self.new) };
+}
+
+impl<C: Revokes + Drop> Failing for ClusterOf<C> {
+    fn change(&mut self, alloc: Global, change: Change) -> Result<(), Refusal> {
+        match change {
+            Change::Fails => self.fail(alloc, FAILING).map(|_| ()),
+            Change::BeginsToReturn => self.back(FAILING).map(|_| ()),
+            Change::IsFilled => self.refill(alloc, FAILING).map(|_| ()),
+            Change::Joins => self.join(alloc, FAILING),
+        }
+    }
+}
+
 /// The thread at which the node fails and comes back.
 #[derive(Drop)]
-pub struct Operator<'a, C: Revokes + Drop> {
-    keeper: &'a Keeper<ClusterOf<C>>,
-    pass: Pass<ClusterOf<C>>,
+pub struct Operator<'a, S: Failing> {
+    keeper: &'a Keeper<S>,
+    pass: Pass<S>,
     ghost ours: { IsPassOf keeper.now pass },
 }
 
-impl<'a, C: Revokes + Drop> Operator<'a, C> {
+impl<'a, S: Failing> Operator<'a, S> {
     ghost use Rattle.assise_keeper.specs.Passes.{IsPassOf};
 
     /// With a pass of its own.
-    pub fn new(keeper: &'a Keeper<ClusterOf<C>>, main: &mut Pass<ClusterOf<C>>) -> Operator<'a, C>
+    pub fn new(keeper: &'a Keeper<S>, main: &mut Pass<S>) -> Operator<'a, S>
         requires { IsPassOf keeper.now main.old }
         ensures { IsPassOf keeper.now main.new }
     {
@@ -86,25 +105,8 @@ impl<'a, C: Revokes + Drop> Operator<'a, C> {
     // Changes the node, while no other thread has the cluster.
     fn change<R: Wait>(&mut self, rt: &R, alloc: Global, change: Change) -> Result<(), Refusal> {
         let mut held = self.keeper.take(rt, &mut self.pass);
-        let changed = apply(alloc, held.state(), change);
+        let changed = held.state().change(alloc, change);
         self.keeper.give(&mut self.pass, held);
         changed
-    }
-}
-
-/// Changes the node.
-fn apply<C: Revokes + Drop>(
-    alloc: Global,
-    cluster: &mut ClusterOf<C>,
-    change: Change,
-) -> Result<(), Refusal>
-    ensures { (client : Option ℕ) → MayGive client (machine cluster.old).history
-        (machine cluster.new).history }
-{
-    match change {
-        Change::Fails => cluster.fail(alloc, FAILING).map(|_| ()),
-        Change::BeginsToReturn => cluster.back(FAILING).map(|_| ()),
-        Change::IsFilled => cluster.refill(alloc, FAILING).map(|_| ()),
-        Change::Joins => cluster.join(alloc, FAILING),
     }
 }

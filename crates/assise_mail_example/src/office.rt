@@ -4,20 +4,22 @@ ghost use Rattle.assise_keeper.specs.Passes.{IsPassOf};
 
 use crate::crew::{Crew, Readers, Writers};
 use crate::mailer::{Mailer, SURVIVOR};
-use crate::members::{FAILING, Operator};
+use crate::members::{FAILING, Failing, Operator};
 use crate::readers::{find_all, read_all};
 use crate::report::Report;
 use crate::tally::Tally;
 use crate::writers::deliver_all;
 use assise_keeper::keeper::Keeper;
 use assise_keeper::pass::Pass;
-use assise_lease_table::revoker::{Revoker, Revokes};
-use assise_machine::cluster::{Cluster, ClusterOf};
+use assise_lease_table::revoker::Revoker;
+use assise_libfs::served::Served;
+use assise_machine::cluster::Cluster;
 use assise_mail::fault::MailFault;
 use assise_names::refusal::Refusal;
 use assise_private_log::log_view::LogView;
 use assise_revokers::kinds::whole;
 use assise_workers::nodes::{NodeWorkers, tend};
+use assise_workers::replicated::Replicated;
 use std::alloc::{AllocError, Global};
 use std::sync::Wait;
 use std::thread::{Threads, join};
@@ -35,12 +37,15 @@ fn left<T: Drop>(tally: &Tally, ended: T) -> T {
 }
 
 /// All writers deliver.
-fn write_all<C: Revokes + Drop + Send, R: Threads + Wait + Sync>(
+fn write_all<S: Served + Send, R: Threads + Wait + Sync>(
     rt: &R,
     alloc: Global,
-    writers: &mut Writers<'_, C>,
+    writers: &mut Writers<'_, S>,
     tally: &Tally,
-) -> Result<(u32, u32, u32), MailFault> {
+) -> Result<(u32, u32, u32), MailFault>
+where
+    S::Stored: Drop + Send,
+{
     let Writers {
         first,
         second,
@@ -61,12 +66,15 @@ fn write_all<C: Revokes + Drop + Send, R: Threads + Wait + Sync>(
 }
 
 /// Both readers read.
-fn read_both<C: Revokes + Drop + Send, R: Threads + Wait + Sync>(
+fn read_both<S: Served + Send, R: Threads + Wait + Sync>(
     rt: &R,
     alloc: Global,
-    readers: &mut Readers<'_, C>,
+    readers: &mut Readers<'_, S>,
     tally: &Tally,
-) -> Result<(u32, u32), MailFault> {
+) -> Result<(u32, u32), MailFault>
+where
+    S::Stored: Drop + Send,
+{
     let Readers { first, second } = readers;
     let (first, second) = join(
         rt,
@@ -77,11 +85,11 @@ fn read_both<C: Revokes + Drop + Send, R: Threads + Wait + Sync>(
 }
 
 /// The node fails and comes back, while another thread does what the nodes do.
-fn fail_tended<C: Revokes + Drop + Send, R: Threads + Wait + Sync>(
+fn fail_tended<S: Replicated + Failing + Send, R: Threads + Wait + Sync>(
     rt: &R,
     alloc: Global,
-    operator: &mut Operator<'_, C>,
-    nodes: &mut [NodeWorkers<'_, ClusterOf<C>>],
+    operator: &mut Operator<'_, S>,
+    nodes: &mut [NodeWorkers<'_, S>],
     tally: &Tally,
 ) -> Result<(), Refusal> {
     let (failed, ()) = join(
@@ -93,12 +101,15 @@ fn fail_tended<C: Revokes + Drop + Send, R: Threads + Wait + Sync>(
 }
 
 /// All threads do what they have to.
-fn run_threads<C: Revokes + Drop + Send, R: Threads + Wait + Sync>(
+fn run_threads<S: Served + Replicated + Failing + Send, R: Threads + Wait + Sync>(
     rt: &R,
     alloc: Global,
-    crew: &mut Crew<'_, C>,
+    crew: &mut Crew<'_, S>,
     tally: &Tally,
-) -> Result<Report, MailFault> {
+) -> Result<Report, MailFault>
+where
+    S::Stored: Drop + Send,
+{
     let Crew {
         writers,
         readers,
@@ -125,13 +136,16 @@ fn run_threads<C: Revokes + Drop + Send, R: Threads + Wait + Sync>(
 }
 
 /// Finds all messages, while another thread does what the nodes do.
-fn find_tended<C: Revokes + Drop + Send, R: Threads + Wait + Sync>(
+fn find_tended<S: Served + Replicated + Send, R: Threads + Wait + Sync>(
     rt: &R,
     alloc: Global,
-    searcher: &mut Mailer<'_, C>,
-    nodes: &mut [NodeWorkers<'_, ClusterOf<C>>],
+    searcher: &mut Mailer<'_, S>,
+    nodes: &mut [NodeWorkers<'_, S>],
     tally: &Tally,
-) -> Result<(), MailFault> {
+) -> Result<(), MailFault>
+where
+    S::Stored: Drop + Send,
+{
     tally.enter();
     let (found, ()) = join(
         rt,
@@ -142,16 +156,18 @@ fn find_tended<C: Revokes + Drop + Send, R: Threads + Wait + Sync>(
 }
 
 /// Finds all messages at a node.
-fn find_at<C: Revokes + Drop + Send, R: Threads + Wait + Sync>(
+fn find_at<S: Served + Replicated + Send, R: Threads + Wait + Sync>(
     rt: &R,
     alloc: Global,
-    keeper: &Keeper<ClusterOf<C>>,
-    main: &mut Pass<ClusterOf<C>>,
-    revokers: &mut Vec<C>,
+    keeper: &Keeper<S>,
+    main: &mut Pass<S>,
+    revokers: &mut Vec<S::Stored>,
     node: u32,
-    nodes: &mut [NodeWorkers<'_, ClusterOf<C>>],
+    nodes: &mut [NodeWorkers<'_, S>],
     tally: &Tally,
 ) -> Result<(), MailFault>
+where
+    S::Stored: Drop + Send,
     requires { IsPassOf keeper.now main.old }
     ensures { IsPassOf keeper.now main.new }
 {
@@ -160,14 +176,16 @@ fn find_at<C: Revokes + Drop + Send, R: Threads + Wait + Sync>(
 }
 
 /// Makes the directories, lets all threads run, and finds the messages at each node.
-fn run_crew<C: Revokes + Drop + Send, R: Threads + Wait + Sync>(
+fn run_crew<S: Served + Replicated + Failing + Send, R: Threads + Wait + Sync>(
     rt: &R,
     alloc: Global,
-    keeper: &Keeper<ClusterOf<C>>,
-    main: &mut Pass<ClusterOf<C>>,
-    revokers: &mut Vec<C>,
-    crew: &mut Crew<'_, C>,
+    keeper: &Keeper<S>,
+    main: &mut Pass<S>,
+    revokers: &mut Vec<S::Stored>,
+    crew: &mut Crew<'_, S>,
 ) -> Result<Report, MailFault>
+where
+    S::Stored: Drop + Send,
     requires { IsPassOf keeper.now main.old }
 {
     let tally = Tally::new();
@@ -180,27 +198,32 @@ fn run_crew<C: Revokes + Drop + Send, R: Threads + Wait + Sync>(
 }
 
 /// Lets all threads run, each with what it needs.
-fn with_main<C: Revokes + Drop + Send, R: Threads + Wait + Sync>(
+fn with_main<S: Served + Replicated + Failing + Send, R: Threads + Wait + Sync>(
     rt: &R,
     alloc: Global,
-    keeper: &Keeper<ClusterOf<C>>,
-    main: &mut Pass<ClusterOf<C>>,
-    revokers: &mut Vec<C>,
+    keeper: &Keeper<S>,
+    main: &mut Pass<S>,
+    revokers: &mut Vec<S::Stored>,
 ) -> Result<Report, MailFault>
+where
+    S::Stored: Drop + Send,
     requires { IsPassOf keeper.now main.old }
 {
     let mut crew = Crew::new(rt, alloc, keeper, main, revokers)?;
     run_crew(rt, alloc, keeper, main, revokers, &mut crew)
 }
 
-/// Runs all threads on a cluster.
-fn run_on<C: Revokes + Drop + Send, R: Threads + Wait + Sync>(
+/// Runs all threads on a state.
+fn run_on<S: Served + Replicated + Failing + Drop + Send, R: Threads + Wait + Sync>(
     rt: &R,
     alloc: Global,
-    cluster: ClusterOf<C>,
-    revokers: &mut Vec<C>,
-) -> Result<Report, MailFault> {
-    let Ok((keeper, mut main)) = Keeper::new(alloc, cluster) else {
+    state: S,
+    revokers: &mut Vec<S::Stored>,
+) -> Result<Report, MailFault>
+where
+    S::Stored: Drop + Send,
+{
+    let Ok((keeper, mut main)) = Keeper::new(alloc, state) else {
         return Err(MailFault::Refused(Refusal::OutOfMemory));
     };
     let report = with_main(rt, alloc, &keeper, &mut main, revokers);

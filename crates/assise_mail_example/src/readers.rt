@@ -3,7 +3,6 @@
 use crate::mailer::Mailer;
 use crate::messages::{MESSAGES, Message, WRITERS, mailbox, place, text};
 use crate::tally::ALL;
-use assise_lease_table::revoker::Revokes;
 use assise_libfs::libfs::LibFs;
 use assise_libfs::served::Served;
 use assise_mail::fault::MailFault;
@@ -18,11 +17,14 @@ use std::thread;
 const LOOKS: u32 = 1_000_000;
 
 /// Lists the mailbox and reads what it lists, until all messages are there. It answers the node at which the thread ended.
-pub fn read_all<C: Revokes + Drop, R: Wait>(
+pub fn read_all<S: Served, R: Wait>(
     rt: &R,
     alloc: Global,
-    mailer: &mut Mailer<'_, C>,
-) -> Result<u32, MailFault> {
+    mailer: &mut Mailer<'_, S>,
+) -> Result<u32, MailFault>
+where
+    S::Stored: Drop,
+{
     for _ in 0..LOOKS {
         match look(rt, alloc, &mut mailer.files) {
             Ok(ALL) => return Ok(mailer.files.node()),

@@ -3,7 +3,6 @@
 use crate::mailer::Mailer;
 use crate::messages::{MESSAGES, Message, draft, place, text};
 use crate::tally::Tally;
-use assise_lease_table::revoker::Revokes;
 use assise_libfs::libfs::LibFs;
 use assise_libfs::served::Served;
 use assise_mail::fault::MailFault;
@@ -15,13 +14,16 @@ use std::sync::Wait;
 
 /// Delivers a writer's messages, each of which is counted once it is answered. The last is held back until the node has failed. It answers
 /// the node at which the thread ended.
-pub fn deliver_all<C: Revokes + Drop, R: Wait>(
+pub fn deliver_all<S: Served, R: Wait>(
     rt: &R,
     alloc: Global,
-    mailer: &mut Mailer<'_, C>,
+    mailer: &mut Mailer<'_, S>,
     writer: u32,
     tally: &Tally,
-) -> Result<u32, MailFault> {
+) -> Result<u32, MailFault>
+where
+    S::Stored: Drop,
+{
     for number in 1..=MESSAGES {
         if number == MESSAGES {
             tally.wait_for_failure(rt);
@@ -34,12 +36,15 @@ pub fn deliver_all<C: Revokes + Drop, R: Wait>(
 }
 
 /// Delivers a message. Where the node fails meanwhile, the thread goes on with another client.
-fn deliver_once<C: Revokes + Drop, R: Wait>(
+fn deliver_once<S: Served, R: Wait>(
     rt: &R,
     alloc: Global,
-    mailer: &mut Mailer<'_, C>,
+    mailer: &mut Mailer<'_, S>,
     name: &str,
-) -> Result<(), MailFault> {
+) -> Result<(), MailFault>
+where
+    S::Stored: Drop,
+{
     match deliver(rt, alloc, &mut mailer.files, name, 1) {
         Err(MailFault::Refused(Refusal::NodeDown)) => {
             mailer.go_on(rt, alloc)?;

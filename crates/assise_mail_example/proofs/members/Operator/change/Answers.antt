@@ -1,10 +1,9 @@
 use Rattle.std.proofs.Common.{rules, ◌≡◌}
 use Rattle.assise_keeper.specs.Passes.{taken}
-use Rattle.assise_machine.specs.Clusters.{machine}
 use Rattle.assise_mail_example.proofs.Changes.{may_give}
 use Rattle.assise_mail_example.proofs.members.Operator.change.Goals as goal
 
 pub give-requires-clause-grows : goal.give-requires-clause-grows
 give-requires-clause-grows g c =
-    let is : taken c.take-held.new.pass ≡ (machine c.state.result.now).history = search rules in
-    may_give _ _ _ _ is c.apply-changed.ensures
+    let is : taken c.take-held.new.pass ≡ g.S.Growing.history c.state.result.now = search rules in
+    may_give _ _ _ _ is c.change-changed.ensures.gives
