@@ -82,10 +82,11 @@ digest 1
 3 unlink /h
 ";
 
-/// The scripts.
-const SCRIPTS: &[&str] = &[
-    THREE_CLIENTS,
-    CROSSING,
+/// Scripts with many steps.
+const LONG: &[&str] = &[THREE_CLIENTS, CROSSING];
+
+/// Scripts with fewer steps.
+const SHORT: &[&str] = &[
     HANDED_OVER,
     SHARED_FILE,
     HANDED_BY_HAND,
@@ -101,6 +102,11 @@ const SCRIPTS: &[&str] = &[
     FAILS_AGAIN,
     CRASHED,
 ];
+
+/// How many steps further who failed comes back.
+const AT_ONCE: usize = 0;
+
+const LATER: usize = 5;
 
 /// More steps than any script has.
 const AT_THE_END: usize = 512;
@@ -179,20 +185,36 @@ fn fail_or_return(
     Some(())
 }
 
+fn fail(alloc: Global, rt: &impl Abort, away: usize, scripts: &[&str]) {
+    on_desk(alloc, rt, Task::Failures(away, scripts)).expect(rt, "no memory");
+}
+
 #[test]
 fn a_node_that_fails_anywhere_is_back_at_once(rt: HostRuntime) {
-    let ended = on_desk(rt.alloc(), &rt, Task::Failures(0, SCRIPTS));
-    assert!(rt; ended.is_ok());
+    fail(rt.alloc(), &rt, AT_ONCE, LONG);
 }
 
 #[test]
 fn a_node_that_fails_anywhere_is_back_five_steps_further(rt: HostRuntime) {
-    let ended = on_desk(rt.alloc(), &rt, Task::Failures(5, SCRIPTS));
-    assert!(rt; ended.is_ok());
+    fail(rt.alloc(), &rt, LATER, LONG);
 }
 
 #[test]
 fn a_node_that_fails_anywhere_is_back_at_the_end(rt: HostRuntime) {
-    let ended = on_desk(rt.alloc(), &rt, Task::Failures(AT_THE_END, SCRIPTS));
-    assert!(rt; ended.is_ok());
+    fail(rt.alloc(), &rt, AT_THE_END, LONG);
+}
+
+#[test]
+fn a_node_that_fails_anywhere_in_a_short_script_is_back_at_once(rt: HostRuntime) {
+    fail(rt.alloc(), &rt, AT_ONCE, SHORT);
+}
+
+#[test]
+fn a_node_that_fails_anywhere_in_a_short_script_is_back_five_steps_further(rt: HostRuntime) {
+    fail(rt.alloc(), &rt, LATER, SHORT);
+}
+
+#[test]
+fn a_node_that_fails_anywhere_in_a_short_script_is_back_at_the_end(rt: HostRuntime) {
+    fail(rt.alloc(), &rt, AT_THE_END, SHORT);
 }
