@@ -58,12 +58,12 @@ fn put_command(
             durability,
             ..
         } => {
-            let opened = open(alloc, sound, node as u32, Least, durability);
+            let opened = open(alloc, sound, small(node), Least, durability);
             let client = opened.map_err(|refused| refused.0);
             write!(text, "{client:?}").ok()
         }
         Command::Call { client, op } => {
-            let turn = try_call(alloc, sound, client as u32, &op);
+            let turn = try_call(alloc, sound, small(client), &op);
             write!(text, "{turn:?}").ok()
         }
         Command::Release => {
@@ -72,6 +72,11 @@ fn put_command(
         }
         _ => None,
     }
+}
+
+/// A number of a line as that of a node or a client, of which there is none so great.
+fn small(number: u64) -> u32 {
+    u32::try_from(number).unwrap_or(u32::MAX)
 }
 
 /// The command of a line of a script behind a cluster.

@@ -30,9 +30,9 @@ impl Desk {
     fn make_command(&mut self, alloc: Global, command: Command) -> Option<()> {
         match command {
             Command::Cluster { nodes, log, hot } => {
-                self.renew(alloc, nodes as u32, log as usize, hot as usize)
+                self.renew(alloc, small(nodes), log as usize, hot as usize)
             }
-            Command::Carry { node } => self.carry(alloc, node as u32),
+            Command::Carry { node } => self.carry(alloc, small(node)),
             Command::Link { node, kind } => self.set_link(node as usize, kind),
             Command::Open {
                 node,
@@ -40,7 +40,7 @@ impl Desk {
                 durability,
             } => {
                 self.stock.push(Asked { kind }).ok()?;
-                self.happen(alloc, Event::Open(node as u32, durability))
+                self.happen(alloc, Event::Open(small(node), durability))
             }
             _ => self.happen(alloc, event_of(command)?),
         }
@@ -70,6 +70,11 @@ impl Desk {
     }
 }
 
+/// A number of a line as that of a node or a client, of which there is none so great.
+fn small(number: u64) -> u32 {
+    u32::try_from(number).unwrap_or(u32::MAX)
+}
+
 fn put_answers(answers: &[Answer], text: &mut String) -> Option<()> {
     for answer in answers {
         write!(text, "{answer:?}").ok()?;
@@ -91,16 +96,16 @@ fn link_of(kind: LinkKind) -> TestLink {
 /// The event of a command. None of one that is no event, or not of a node, a client or a capacity.
 fn event_of(command: Command) -> Option<Event> {
     match command {
-        Command::Call { client, op } => Some(called(client as u32, op)),
-        Command::Digest { node } => Some(Event::Digest(node as u32)),
+        Command::Call { client, op } => Some(called(small(client), op)),
+        Command::Digest { node } => Some(Event::Digest(small(node))),
         Command::Release => Some(Event::ReleaseReady),
-        Command::Hot { node, capacity } => set_hot(node as u32, capacity as usize),
-        Command::Crash { client } => Some(Event::Crash(client as u32)),
-        Command::Fail { node } => Some(Event::Fail(node as u32)),
-        Command::Back { node } => Some(Event::Back(node as u32)),
-        Command::Refill { node } => Some(Event::Refill(node as u32)),
-        Command::Join { node } => Some(Event::Join(node as u32)),
-        Command::Raise { node } => Some(Event::Raise(node as u32)),
+        Command::Hot { node, capacity } => set_hot(small(node), capacity as usize),
+        Command::Crash { client } => Some(Event::Crash(small(client))),
+        Command::Fail { node } => Some(Event::Fail(small(node))),
+        Command::Back { node } => Some(Event::Back(small(node))),
+        Command::Refill { node } => Some(Event::Refill(small(node))),
+        Command::Join { node } => Some(Event::Join(small(node))),
+        Command::Raise { node } => Some(Event::Raise(small(node))),
         _ => None,
     }
 }

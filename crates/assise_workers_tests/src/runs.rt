@@ -62,8 +62,9 @@ fn lists_of<'a, R: Wait>(
     ensures { IsPassOf keeper.now main.new }
 {
     let mut lists = Vec::new(alloc);
+    let mut node = 0_u32;
     for lines in clients.scripts.split("\n\n") {
-        let node = lists.len() as u32 % clients.nodes.max(1) + 1;
+        node = if node < clients.nodes { node + 1 } else { 1 };
         let list = list_of(rt, alloc, keeper, main, node, clients.durability, lines)?;
         lists.push(list).ok()?;
     }
