@@ -32,48 +32,12 @@ impl Read for BrokenReader {
     }
 }
 
-/// Reads a script with a reader that fails after so many reads, and says how the run ended and what it printed.
-fn read_in_part(
-    alloc: Global,
-    rt: &impl Abort,
-    left: usize,
-    kind: ErrorKind,
-) -> (Option<EngineFault>, Vec<u8>) {
-    let bytes = BACK_AND_ALONE.as_bytes();
-    let mut reader = BrokenReader { bytes, left, kind };
-    let mut output = Vec::new(alloc);
-    let stock = stock_of(alloc).expect(rt, "no memory");
-    let ended = engine(alloc, &mut reader, &mut output, stock, &NOWHERE);
-    (ended.err(), output)
-}
-
-#[test]
-fn a_reader_that_fails_at_any_call_prints_nothing(rt: HostRuntime) {
-    let mut failed = 0;
-    for left in 0..100 {
-        let (fault, output) = read_in_part(rt.alloc(), &rt, left, ErrorKind::PermissionDenied);
-        if fault.is_some() {
-            assert_eq!(rt; fault, Some(EngineFault::Read));
-            assert!(rt; output.is_empty());
-            failed = left + 1;
-        } else {
-            assert!(rt; output.as_slice() == HAS_ALL.as_bytes());
-        }
-    }
-    assert!(rt; 10 < failed && failed < 100, "{failed} reads");
-}
-
-#[test]
-fn want_of_memory_is_told_from_a_failing_reader(rt: HostRuntime) {
-    let (fault, output) = read_in_part(rt.alloc(), &rt, 3, ErrorKind::OutOfMemory);
-    assert_eq!(rt; fault, Some(EngineFault::Memory));
-    assert!(rt; output.is_empty());
-}
-
 /// A writer that takes so many writes, and then fails. It counts the calls after the first that failed.
 #[derive(Drop)]
 struct BrokenWriter {
     left: usize,
+    written: usize,
+    flushed: bool,
     failed: bool,
     later: usize,
 }
@@ -82,6 +46,8 @@ impl BrokenWriter {
     fn new(left: usize) -> BrokenWriter {
         BrokenWriter {
             left,
+            written: 0,
+            flushed: false,
             failed: false,
             later: 0,
         }
@@ -104,12 +70,54 @@ impl BrokenWriter {
 impl Write for BrokenWriter {
     fn write(&mut self, buf: &[u8]) -> io::Result<usize> {
         self.pass()?;
+        self.written = self.written.saturating_add(buf.len());
         Ok(buf.len())
     }
 
     fn flush(&mut self) -> io::Result<()> {
+        self.flushed = true;
         self.pass()
     }
+}
+
+/// Runs a script, and says how the run ended.
+fn run<R: Read>(
+    alloc: Global,
+    rt: &impl Abort,
+    reader: &mut R,
+    writer: &mut BrokenWriter,
+) -> Option<EngineFault> {
+    let stock = stock_of(alloc).expect(rt, "no memory");
+    engine(alloc, reader, writer, stock, &NOWHERE).err()
+}
+
+/// Reads a script with a reader that fails after so many reads, and says how the run ended and how much it printed.
+fn read_in_part(
+    alloc: Global,
+    rt: &impl Abort,
+    left: usize,
+    kind: ErrorKind,
+) -> (Option<EngineFault>, usize) {
+    let bytes = BACK_AND_ALONE.as_bytes();
+    let mut reader = BrokenReader { bytes, left, kind };
+    let mut writer = BrokenWriter::new(1000);
+    let fault = run(alloc, rt, &mut reader, &mut writer);
+    (fault, writer.written)
+}
+
+#[test]
+fn a_reader_that_fails_at_any_call_prints_nothing(rt: HostRuntime) {
+    let mut failed = 0;
+    for left in 0..100 {
+        let ended = read_in_part(rt.alloc(), &rt, left, ErrorKind::PermissionDenied);
+        if ended != (None, HAS_ALL.len()) {
+            assert_eq!(rt; ended, (Some(EngineFault::Read), 0));
+            failed = left + 1;
+        }
+    }
+    assert!(rt; 10 < failed && failed < 100, "{failed} reads");
+    let ended = read_in_part(rt.alloc(), &rt, 3, ErrorKind::OutOfMemory);
+    assert_eq!(rt; ended, (Some(EngineFault::Memory), 0));
 }
 
 #[test]
@@ -118,40 +126,15 @@ fn a_writer_that_fails_at_any_call_ends_the_run(rt: HostRuntime) {
     for left in 0..1000 {
         let mut reader = BACK_AND_ALONE.as_bytes();
         let mut writer = BrokenWriter::new(left);
-        let stock = stock_of(rt.alloc()).expect(&rt, "no memory");
-        if let Err(fault) = engine(rt.alloc(), &mut reader, &mut writer, stock, &NOWHERE) {
-            assert_eq!(rt; fault, EngineFault::Write);
+        let fault = run(rt.alloc(), &rt, &mut reader, &mut writer);
+        if fault.is_some() {
+            assert_eq!(rt; fault, Some(EngineFault::Write));
             assert_eq!(rt; writer.later, 0, "a call after the one that failed");
             assert_eq!(rt; failed, left, "a run ended well with fewer writes");
             failed = left + 1;
+        } else {
+            assert!(rt; writer.flushed && writer.written == HAS_ALL.len());
         }
     }
     assert!(rt; 10 < failed && failed < 1000, "{failed} writes");
-}
-
-/// A writer that takes all bytes and can't hand them on.
-#[derive(Drop)]
-struct Unflushed {
-    written: usize,
-}
-
-impl Write for Unflushed {
-    fn write(&mut self, buf: &[u8]) -> io::Result<usize> {
-        self.written = self.written.saturating_add(buf.len());
-        Ok(buf.len())
-    }
-
-    fn flush(&mut self) -> io::Result<()> {
-        Err(io::Error::from(ErrorKind::StorageFull))
-    }
-}
-
-#[test]
-fn a_writer_that_fails_at_the_end_alone_is_no_success(rt: HostRuntime) {
-    let mut reader = BACK_AND_ALONE.as_bytes();
-    let mut writer = Unflushed { written: 0 };
-    let stock = stock_of(rt.alloc()).expect(&rt, "no memory");
-    let ended = engine(rt.alloc(), &mut reader, &mut writer, stock, &NOWHERE);
-    assert_eq!(rt; ended.err(), Some(EngineFault::Write));
-    assert_eq!(rt; writer.written, HAS_ALL.len());
 }

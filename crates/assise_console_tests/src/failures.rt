@@ -1,10 +1,9 @@
 // Scripts whose clients crash and whose nodes fail and come back.
-use crate::scripts::{Run, all_print};
+use crate::scripts::Run;
 use assise_test_rows::scripts::{
     BACK_AND_ALONE, BACK_BY_HAND, CARRIED_IN_PART, CRASHED, CUT_AT_AN_FSYNC, DONOR_FAILS,
     FAILS_AGAIN, HANDED_LEAST, HANDED_WHOLE, LOST_FILE, OUT_OF_ORDER,
 };
-use std::test::Fail;
 
 /// What a script prints in which a node comes back, and then stands alone.
 pub(crate) const HAS_ALL: &str = "\
@@ -37,7 +36,7 @@ history
 ";
 
 /// Scripts with failures, returns and crashes.
-const RUNS: &[Run<'_>] = &[
+pub(crate) const RUNS: &[Run<'_>] = &[
     // A file that one node had is lost.
     (
         LOST_FILE,
@@ -261,8 +260,3 @@ join 4294967297
 ",
     ),
 ];
-
-#[test]
-fn scripts_with_failures_print_their_answers(rt: HostRuntime) -> Result<(), Fail> {
-    all_print(rt.alloc(), &rt, RUNS)
-}

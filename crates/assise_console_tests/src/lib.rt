@@ -10,8 +10,6 @@ mod failing;
 #[cfg(test)]
 mod failures;
 #[cfg(test)]
-mod faults;
-#[cfg(test)]
 mod links;
 #[cfg(test)]
 mod rows;

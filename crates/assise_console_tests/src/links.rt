@@ -1,9 +1,8 @@
 // Links that lose, repeat, delay and cut, and areas of which another number of inodes is hot.
-use crate::scripts::{NOWHERE, Run, all_print, prints};
-use std::test::Fail;
+use crate::scripts::Run;
 
 /// Scripts that set links, and how many inodes may be hot.
-const RUNS: &[Run<'_>] = &[
+pub(crate) const RUNS: &[Run<'_>] = &[
     // A frame that comes again does no harm.
     (
         "\
@@ -184,55 +183,3 @@ carry 2
 ",
     ),
 ];
-
-#[test]
-fn scripts_with_links_print_their_answers(rt: HostRuntime) -> Result<(), Fail> {
-    all_print(rt.alloc(), &rt, RUNS)
-}
-
-/// What a script prints whose frame comes once its link is whole.
-const LATE: &str = "\
-3: client 1
-4: linked 1
-5: done
-6: wait
-7: carried 0
-8: linked 1
-9: carried 1
-10: done
-";
-
-/// What it prints where the link lets the whole frame through, which has 66 bytes.
-const AT_ONCE: &str = "\
-3: client 1
-4: linked 1
-5: done
-6: wait
-7: carried 1
-8: linked 1
-9: carried 0
-10: done
-";
-
-#[test]
-fn a_frame_that_is_cut_comes_once_the_link_is_whole(rt: HostRuntime) -> Result<(), Fail> {
-    for most in 0..67 {
-        let script = format!(in rt.alloc();
-            "\
-cluster 2 8 4
-manual
-open 1 least
-link 1 cut {most}
-1 create /f
-1 fsync
-carry 1
-link 1 perfect
-carry 1
-1 fsync
-"
-        )?;
-        let wanted = if most < 66 { LATE } else { AT_ONCE };
-        prints(rt.alloc(), &rt, script.as_str(), wanted, &NOWHERE)?;
-    }
-    Ok(())
-}

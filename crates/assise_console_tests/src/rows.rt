@@ -1,11 +1,9 @@
 // Scripts on a cluster: replication, leases, digests and what each node has.
-use crate::scripts::{NOWHERE, Run, all_print, prints};
-use assise_console::options::CommandLine;
+use crate::scripts::Run;
 use assise_test_rows::scripts::{CROSSING, HANDED_BY_HAND, SHARED_FILE};
-use std::test::Fail;
 
 /// Scripts of clients that share files, on one node and on several.
-const RUNS: &[Run<'_>] = &[
+pub(crate) const RUNS: &[Run<'_>] = &[
     // A digest leaves the tree.
     // Records are digested, and the tree is the same before and after; there is one node.
     (
@@ -367,33 +365,25 @@ tree 3
 /i file 0
 ",
     ),
+    // A line without words is skipped.
+    ("cluster 1 8 4\n\n", ""),
+    // Refusals come in their order.
+    ("cluster 1 8 4\n1 stat /\n", "2: F9 BadClient\n"),
+    (
+        "cluster 1 8 4\nopen 2 least\nopen 4294967297 whole\n",
+        "2: F8 BadNode\n3: F8 BadNode\n",
+    ),
+    (
+        "cluster 1 8 4\nopen 1 least\nopen 1 eights\n",
+        "2: client 1\n3: client 2\n",
+    ),
+    (
+        "cluster 1 8 4\nopen 1 least\n4294967297 stat /\n",
+        "2: client 1\n3: F9 BadClient\n",
+    ),
+    ("cluster 1 8 4\n1 write /f 0 z65537\n", "2: F9 BadClient\n"),
+    (
+        "cluster 1 8 4\nopen 1 least\n1 write /none 0 z65537\n1 write /none 0 z65536\n",
+        "2: client 1\n3: F6 TooLarge\n4: E1 NoEnt\n",
+    ),
 ];
-
-#[test]
-fn scripts_on_several_nodes_print_their_answers(rt: HostRuntime) -> Result<(), Fail> {
-    all_print(rt.alloc(), &rt, RUNS)
-}
-
-/// A call that awaits a lease is refused once all tries are spent: with one try, no round is made for it.
-const ONE_TRY: &str = "cluster 2 8 4\n\
-    open 1 least\n\
-    open 2 least\n\
-    1 create /f\n\
-    1 fsync\n\
-    2 stat /f\n\
-    1 stat /f\n";
-
-#[test]
-fn a_call_is_busy_once_its_tries_are_spent(rt: HostRuntime) -> Result<(), Fail> {
-    let wanted = "2: client 1\n\
-    3: client 2\n\
-    4: done\n\
-    5: F2 Busy\n\
-    6: F2 Busy\n\
-    7: F2 Busy\n";
-    let one_try = CommandLine {
-        turns: 1,
-        ..NOWHERE
-    };
-    prints(rt.alloc(), &rt, ONE_TRY, wanted, &one_try)
-}

@@ -1,11 +1,9 @@
 // What scripts print.
-ghost use Rattle.std.specs.Prelude.{◌+◌, ◌<◌, ◌^◌};
-
 use crate::stock::stock_of;
+use crate::{failures, links, rows};
 use assise_console::engine::engine;
 use assise_console::options::CommandLine;
-use std::alloc::{AllocError, Global};
-use std::process::Abort;
+use std::alloc::Global;
 use std::test::Fail;
 
 /// The command line of the tests. What ends a run early names its script.
@@ -18,54 +16,22 @@ pub(crate) const NOWHERE: CommandLine = CommandLine {
 /// A script, and what it prints.
 pub(crate) type Run<'a> = (&'a str, &'a str);
 
-/// Each script has to print what stands beside it, and the same where one inode alone is kept hot.
-pub(crate) fn all_print(alloc: Global, rt: &impl Abort, runs: &[Run<'_>]) -> Result<(), Fail> {
-    for (script, wanted) in runs {
-        prints(alloc, rt, script, wanted, &NOWHERE)?;
-    }
-    Ok(())
-}
-
-/// A script, read and run from memory to memory, has to print this, and the same where one inode alone is kept hot.
-pub(crate) fn prints(
-    alloc: Global,
-    rt: &impl Abort,
-    script: &str,
-    wanted: &str,
-    command_line: &CommandLine<'_>,
-) -> Result<(), Fail> {
-    prints_as_is(alloc, rt, script, wanted, command_line)?;
-    let one_hot = with_one_hot(alloc, script)?;
-    prints_as_is(alloc, rt, one_hot.as_str(), wanted, command_line)
-}
-
-/// A script whose first line makes a cluster that keeps one inode hot; a script without a cluster stays as it is.
-fn with_one_hot(alloc: Global, script: &str) -> Result<String, AllocError> {
-    if let Some((first, rest)) = script.split_once('\n') {
-        if let Some((cluster, _)) = first.rsplit_once(' ') {
-            return format!(in alloc; "{cluster} 1\n{rest}");
-        }
-    }
-    String::from_str(alloc, script)
-}
-
-fn prints_as_is(
-    alloc: Global,
-    rt: &impl Abort,
-    script: &str,
-    wanted: &str,
-    command_line: &CommandLine<'_>,
-) -> Result<(), Fail> {
+/// Whether a script, read and run from memory to memory, prints this.
+fn prints(alloc: Global, script: &str, wanted: &str) -> Result<bool, Fail> {
     let mut reader = script.as_bytes();
     let mut output = Vec::new(alloc);
-    engine(
-        alloc,
-        &mut reader,
-        &mut output,
-        stock_of(alloc)?,
-        command_line,
-    )?;
-    assert!(rt; output.as_slice() == wanted.as_bytes(), "{script}");
+    let stock = stock_of(alloc)?;
+    engine(alloc, &mut reader, &mut output, stock, &NOWHERE)?;
+    Ok(output.as_slice() == wanted.as_bytes())
+}
+
+#[test]
+fn scripts_print_their_answers(rt: HostRuntime) -> Result<(), Fail> {
+    for runs in [RUNS, rows::RUNS, failures::RUNS, links::RUNS] {
+        for (script, wanted) in runs {
+            assert!(rt; prints(rt.alloc(), script, wanted)?, "{script}");
+        }
+    }
     Ok(())
 }
 
@@ -464,91 +430,3 @@ call 1 1 fsync = done
     ("", ""),
     ("# nothing\n\n", ""),
 ];
-
-#[test]
-fn scripts_on_one_node_print_their_answers(rt: HostRuntime) -> Result<(), Fail> {
-    all_print(rt.alloc(), &rt, RUNS)
-}
-
-/// Scripts that print nothing, then those with refusals, each behind a cluster.
-const SHORT: [(&str, &str); 9] = [
-    ("", ""),
-    ("# nothing\n\n", ""),
-    ("\n", ""),
-    ("1 stat /\n", "2: F9 BadClient\n"),
-    (
-        "open 2 least\nopen 4294967297 whole\n",
-        "2: F8 BadNode\n3: F8 BadNode\n",
-    ),
-    (
-        "open 1 least\nopen 1 eights\n",
-        "2: client 1\n3: client 2\n",
-    ),
-    (
-        "open 1 least\n4294967297 stat /\n",
-        "2: client 1\n3: F9 BadClient\n",
-    ),
-    ("1 write /f 0 z65537\n", "2: F9 BadClient\n"),
-    (
-        "open 1 least\n1 write /none 0 z65537\n1 write /none 0 z65536\n",
-        "2: client 1\n3: F6 TooLarge\n4: E1 NoEnt\n",
-    ),
-];
-
-/// A script that has this behind its cluster has to print that.
-fn prints_behind_cluster(alloc: Global, rt: &impl Abort, run: Run<'_>) -> Result<(), Fail> {
-    let (script, wanted) = run;
-    let script = format!(in alloc; "cluster 1 8 4\n{script}")?;
-    prints(alloc, rt, script.as_str(), wanted, &NOWHERE)
-}
-
-#[test]
-fn refusals_come_in_their_order(rt: HostRuntime) -> Result<(), Fail> {
-    for &run in &SHORT {
-        prints_behind_cluster(rt.alloc(), &rt, run)?;
-    }
-    Ok(())
-}
-
-/// Adds the line of a create, and that of its answer.
-fn add_create(
-    rt: &HostRuntime,
-    number: u32,
-    script: &mut String,
-    wanted: &mut String,
-) -> Result<(), Fail>
-    requires { number + 3 < 2 ^ 32 }
-{
-    let line = number + 3;
-    let create = format!(in rt.alloc(); "1 create /f{number:04}\n")?;
-    script.push_str(create.as_str())?;
-    let done = format!(in rt.alloc(); "{line}: done\n")?;
-    wanted.push_str(done.as_str())?;
-    Ok(())
-}
-
-/// Fills the root.
-fn add_4096_creates(
-    rt: &HostRuntime,
-    script: &mut String,
-    wanted: &mut String,
-) -> Result<(), Fail> {
-    for number in 0..4096 {
-        add_create(rt, number, script, wanted)?;
-    }
-    Ok(())
-}
-
-#[test]
-fn a_directory_is_full_with_4096_entries(rt: HostRuntime) -> Result<(), Fail> {
-    let mut script = String::from_str(rt.alloc(), "cluster 1 4096 16\nopen 1 least\n")?;
-    let mut wanted = String::from_str(rt.alloc(), "2: client 1\n")?;
-    add_4096_creates(&rt, &mut script, &mut wanted)?;
-    script.push_str(
-        "1 create /x\n1 mkdir /x\n1 unlink /f0007\ndigest 1\n1 unlink /f0007\n1 mkdir /x\n1 create /x/y\n",
-    )?;
-    wanted.push_str(
-        "4099: E8 DirFull\n4100: E8 DirFull\n4101: F12 LogFull\n4102: digested 64\n4103: done\n4104: done\n4105: done\n",
-    )?;
-    prints(rt.alloc(), &rt, script.as_str(), wanted.as_str(), &NOWHERE)
-}

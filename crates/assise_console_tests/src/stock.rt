@@ -1,12 +1,10 @@
 // Revokers for the clients of a script.
 use assise_console::stock::Stock;
-use assise_fault_script::command::RevokerKind;
 use assise_lease_table::revoker::Revoker;
 use assise_names::limits::MOST_CLIENTS;
 use assise_private_log::log_view::LogView;
 use assise_revokers::kinds::{eights, least, whole};
 use std::alloc::{AllocError, Global};
-use std::test::Fail;
 
 type Cut = Box<dyn Fn(&LogView, u64) -> u64 + Send>;
 
@@ -22,18 +20,4 @@ pub(crate) fn stock_of(alloc: Global) -> Result<Stock<Revoker>, AllocError> {
         stock.eights.push(Revoker::new(eights_cut))?;
     }
     Ok(stock)
-}
-
-#[test]
-fn the_last_of_a_kind_is_taken_and_put_back(rt: HostRuntime) -> Result<(), Fail> {
-    let mut stock = Stock::new(rt.alloc());
-    stock.whole.push(1)?;
-    stock.whole.push(2)?;
-    assert_eq!(rt; stock.take(RevokerKind::Least), None);
-    assert_eq!(rt; stock.take(RevokerKind::Whole), Some(2));
-    assert_eq!(rt; stock.put_back(RevokerKind::Whole, 3), Ok(()));
-    assert_eq!(rt; stock.take(RevokerKind::Whole), Some(3));
-    assert_eq!(rt; stock.take(RevokerKind::Whole), Some(1));
-    assert_eq!(rt; stock.take(RevokerKind::Whole), None);
-    Ok(())
 }

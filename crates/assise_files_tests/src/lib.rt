@@ -2,12 +2,8 @@
 #![tactic(auto)]
 
 #[cfg(test)]
-mod codes;
-#[cfg(test)]
 mod refused;
 #[cfg(test)]
 mod requests;
-#[cfg(test)]
-mod shown;
 #[cfg(test)]
 mod tests;

@@ -1,11 +1,13 @@
 // Requests as text, one behind another at one desk.
-use crate::shown::put_answer;
 use assise_desk::caller_desk::{CallerDesk, serve_desk};
 use assise_desk::desk_request::DeskRequest;
 use assise_test_rows::{Subject, split_word};
 use std::alloc::Global;
 
-/// A desk at which the steps of rows are served.
+/// The number of a listing.
+const LIST: u32 = 24;
+
+/// A desk at which requests are served.
 #[derive(Drop)]
 pub(crate) struct Requests {
     desk: CallerDesk,
@@ -25,13 +27,7 @@ impl Requests {
     }
 
     /// Has a request served, with a path and what stands behind it.
-    pub(crate) fn ask(
-        &mut self,
-        alloc: Global,
-        asked: DeskRequest,
-        path: &str,
-        other: &str,
-    ) -> Option<()> {
+    fn ask(&mut self, alloc: Global, asked: DeskRequest, path: &str, other: &str) -> Option<()> {
         let mut request = asked;
         let bytes = path.len();
         let end = bytes.checked_add(other.len())?;
@@ -46,110 +42,79 @@ impl Requests {
         Some(())
     }
 
-    /// A step that no client makes: `WORD NUMBERS..`.
-    fn manage(&mut self, alloc: Global, word: &str, rest: &str) -> Option<()> {
-        let (one, rest) = split_word(rest);
-        let (two, three) = split_word(rest);
-        let mut asked = request(call_named(word)?, 0);
-        let one = number_in(one)?;
-        match word {
-            "crash" => asked.client = u32::try_from(one).ok()?,
-            "number" => asked.call = u32::try_from(one).ok()?,
-            _ => asked.node = u32::try_from(one).ok()?,
-        }
-        match word {
-            "open" => asked.kind = u32::try_from(number_in(two)?).ok()?,
-            _ => asked.first = number_in(two)?,
-        }
-        asked.second = number_in(three)?;
-        self.ask(alloc, asked, "", "")
-    }
-
-    /// A step of a client: `CLIENT WORD PATH WORDS..`.
-    fn call(&mut self, alloc: Global, client: u32, rest: &str) -> Option<()> {
-        let (word, rest) = split_word(rest);
-        let (path, rest) = split_word(rest);
-        let (one, two) = split_word(rest);
-        let mut asked = request(call_named(word)?, client);
-        match word {
-            "rename" => return self.ask(alloc, asked, path, one),
-            "write" => {
-                asked.first = number_in(one)?;
-                self.ask(alloc, asked, path, two)
-            }
-            _ => {
-                asked.first = number_in(one)?;
-                asked.second = number_in(two)?;
-                self.ask(alloc, asked, path, "")
-            }
-        }
-    }
-
-    /// A client makes so many files in a directory, whose names have 200 bytes.
-    fn make_files(&mut self, alloc: Global, client: u32, rest: &str) -> Option<()> {
-        let (directory, count) = split_word(rest);
-        for number in 0..number_in(count)? {
-            let path = format!(in alloc; "{directory}/{number:0200}").ok()?;
-            self.ask(alloc, request(16, client), path.as_str(), "")?;
-        }
-        Some(())
-    }
-
-    /// A client writes a byte so often.
-    fn write_often(&mut self, alloc: Global, client: u32, rest: &str) -> Option<()> {
-        let (path, count) = split_word(rest);
-        for _ in 0..number_in(count)? {
-            self.ask(alloc, request(19, client), path, "x")?;
-        }
-        Some(())
-    }
-
-    fn step(&mut self, alloc: Global, step: &str) -> Option<()> {
+    /// Has the request of a step served: `WORD NUMBERS.. TEXTS..`. The numbers are the client's or the node's, and two more.
+    pub(crate) fn step(&mut self, alloc: Global, step: &str) -> Option<()> {
         let (word, rest) = split_word(step);
-        let Ok(client) = word.parse::<u32>() else {
-            return self.manage(alloc, word, rest);
-        };
-        match split_word(rest) {
-            ("files", rest) => self.make_files(alloc, client, rest),
-            ("often", rest) => self.write_often(alloc, client, rest),
-            _ => self.call(alloc, client, rest),
+        let (mut numbers, mut texts) = ([0_u64; 3], [""; 2]);
+        let (mut count, mut found) = (0_usize, 0_usize);
+        for part in rest.split(' ') {
+            if let Ok(number) = part.parse::<u64>() {
+                *numbers.get_mut(count)? = number;
+                count = count.saturating_add(1);
+            } else {
+                *texts.get_mut(found)? = part;
+                found = found.saturating_add(1);
+            }
         }
+        let asked = request(call_named(word)?, numbers);
+        self.ask(alloc, asked, texts[0], texts[1])
+    }
+
+    /// Client 1 makes so many files in a directory, whose names have 200 bytes.
+    fn make_files(&mut self, alloc: Global, directory: &str, count: u64) -> Option<()> {
+        for number in 0..count {
+            let step = format!(in alloc; "create 1 {directory}/{number:0200}").ok()?;
+            self.step(alloc, step.as_str())?;
+        }
+        Some(())
     }
 }
 
+/// Behind each step its result, and behind that of a listing how many names there are. A step `often STEP` is made twenty times, and
+/// `files DIRECTORY` makes a hundred.
 impl Subject for Requests {
     fn put(&mut self, alloc: Global, steps: &str, text: &mut String) -> Option<()> {
         for step in steps.split("; ") {
-            self.step(alloc, step)?;
-            put_answer(&self.desk, text)?;
+            match split_word(step) {
+                ("files", directory) => self.make_files(alloc, directory, 100)?,
+                ("often", again) => {
+                    for _ in 0..20 {
+                        self.step(alloc, again)?;
+                    }
+                }
+                _ => self.step(alloc, step)?,
+            }
+            let (result, names) = (self.desk.result, self.desk.stands);
+            if self.desk.request.call == LIST {
+                write!(text, " {result} of {names}").ok()?;
+            } else {
+                write!(text, " {result}").ok()?;
+            }
         }
         Some(())
     }
 }
 
-/// A request with nothing but a number and a client.
-pub(crate) fn request(call: u32, client: u32) -> DeskRequest {
+fn small(number: u64) -> u32 {
+    u32::try_from(number).unwrap_or(u32::MAX)
+}
+
+fn request(call: u32, numbers: [u64; 3]) -> DeskRequest {
+    let [who, first, second] = numbers;
+    let (client, kind) = (small(who), small(first));
     DeskRequest {
         call,
         client,
-        node: 0,
+        node: client,
         path_bytes: 0,
         other_bytes: 0,
-        kind: 0,
-        first: 0,
-        second: 0,
+        kind,
+        first,
+        second,
     }
 }
 
-/// The number that a word is. No word is 0.
-fn number_in(word: &str) -> Option<u64> {
-    if word.is_empty() {
-        return Some(0);
-    }
-    word.parse::<u64>().ok()
-}
-
-/// The number of a request's word.
+/// The number of a request's word, or that of `number NUMBER`.
 fn call_named(word: &str) -> Option<u32> {
     match word {
         "make" => Some(1),
@@ -169,10 +134,9 @@ fn call_named(word: &str) -> Option<u32> {
         "rename" => Some(21),
         "unlink" => Some(22),
         "rmdir" => Some(23),
-        "list" => Some(24),
+        "list" => Some(LIST),
         "stat" => Some(25),
         "fsync" => Some(26),
-        "number" => Some(0),
-        _ => None,
+        _ => word.parse::<u32>().ok(),
     }
 }

@@ -6,7 +6,5 @@ pub mod held;
 pub mod keeper;
 pub mod pass;
 mod steps;
-#[cfg(test)]
-mod tests;
 pub mod view;
 pub mod worker_pass;

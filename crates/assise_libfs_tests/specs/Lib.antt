@@ -1,2 +1,1 @@
 pub mod Ledgers
-pub mod Meetings

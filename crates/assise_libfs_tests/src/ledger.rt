@@ -53,13 +53,6 @@ impl Ledger {
     pub fn tries(&self) -> u64 {
         self.tries
     }
-
-    /// What happened.
-    pub fn history(&self) -> &History
-        ensures { result.now ≡ self.now.history }
-    {
-        &self.history
-    }
 }
 
 /// Whether an entry is a call of a client.

@@ -4,16 +4,10 @@
 #[cfg(test)]
 mod calls;
 #[cfg(test)]
-mod clusters;
-#[cfg(test)]
 mod ledger;
 #[cfg(test)]
 mod ledgers;
 #[cfg(test)]
-mod meeting;
-#[cfg(test)]
 mod refused;
-#[cfg(test)]
-mod tending;
 #[cfg(test)]
 mod tests;

@@ -3,15 +3,35 @@
 ghost use Rattle.std.specs.Prelude.{◌≡◌, IfSome, None};
 ghost use Rattle.assise_keeper.specs.Passes.{IsPassOf, client};
 
-use crate::calls::is_answered_at_last;
-use crate::meeting::TURNS;
-use crate::tending::{Cluster, Whole};
+use crate::calls::{TURNS, call_in, make, told};
 use assise_keeper::keeper::Keeper;
 use assise_keeper::pass::Pass;
+use assise_lease_table::revoker::Revokes;
 use assise_libfs::libfs::LibFs;
+use assise_machine::cluster::ClusterOf;
 use assise_names::durability::Durability;
+use assise_names::refusal::Refusal;
+use assise_private_log::log_view::LogView;
+use assise_revokers::kinds::whole;
 use std::alloc::Global;
 use std::sync::Wait;
+
+/// A client that hands all of its log over where a lease is asked for.
+#[derive(Clone, Copy)]
+struct Whole;
+
+impl Revokes for Whole {
+    ghost use Rattle.assise_private_log.specs.Touches.{Covers};
+
+    ghost answers = { λ _ view inode cut. Covers view inode cut };
+
+    fn cut(&self, view: &LogView, inode: u64) -> u64 {
+        whole(view, inode)
+    }
+}
+
+/// A cluster of such clients.
+type Cluster = ClusterOf<Whole>;
 
 /// Calls on one node, and what each comes to.
 const LINES: &str = "\
@@ -49,29 +69,29 @@ fn opened<'a, R: Wait>(
 ) -> Option<LibFs<'a, Cluster>>
     requires { IsPassOf keeper.now pass × (client pass ≡ None) }
 {
-    match LibFs::open(
-        rt,
-        alloc,
-        keeper,
-        pass,
-        1,
-        Whole,
-        Durability::Pessimistic,
-        TURNS,
-    ) {
+    let durability = Durability::Pessimistic;
+    match LibFs::open(rt, alloc, keeper, pass, 1, Whole, durability, TURNS) {
         Ok(libfs) => Some(libfs),
-        Err((_, pass, whole)) => LibFs::open(
-            rt,
-            alloc,
-            keeper,
-            pass,
-            1,
-            whole,
-            Durability::Pessimistic,
-            TURNS,
-        )
-        .ok(),
+        Err((_, pass, whole)) => {
+            LibFs::open(rt, alloc, keeper, pass, 1, whole, durability, TURNS).ok()
+        }
     }
+}
+
+/// Makes the call of a line `CALL = OUTCOME`, once more where it is refused as out of memory. Whether it came to that.
+fn is_answered<R: Wait>(
+    rt: &R,
+    alloc: Global,
+    libfs: &mut LibFs<'_, Cluster>,
+    line: &str,
+) -> Option<bool> {
+    let (call, wanted) = line.split_once(" = ")?;
+    let op = call_in(alloc, call)?;
+    let mut outcome = make(rt, alloc, libfs, &op);
+    if outcome == Err(Refusal::OutOfMemory) {
+        outcome = make(rt, alloc, libfs, &op);
+    }
+    Some(told(alloc, &outcome)?.as_str() == wanted)
 }
 
 /// Whether each call comes to what its line says, once it isn't refused as out of memory.
@@ -85,7 +105,7 @@ fn are_answered<R: Wait>(
 {
     let mut libfs = opened(rt, alloc, keeper, pass)?;
     for line in LINES.lines() {
-        if !is_answered_at_last(rt, alloc, &mut libfs, line)? {
+        if !is_answered(rt, alloc, &mut libfs, line)? {
             return Some(false);
         }
     }

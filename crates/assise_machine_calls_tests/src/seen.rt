@@ -1,6 +1,7 @@
 // What a refused call leaves as it was.
-use crate::told::{put_client, put_clients, put_history, put_inode, put_view};
-use assise_machine_state::sound::Sound;
+use crate::steps::Sound;
+use crate::told::{put_client, put_view};
+use assise_inode_table::inode::Inode;
 use std::alloc::{AllocError, Global};
 
 /// The root, and the first inodes of two clients.
@@ -12,46 +13,44 @@ const INODES: &[u64] = &[
     8_589_934_592,
 ];
 
-/// The history, the numbers of each client and node, what clients read and nodes have, and which leases are revoked. It takes memory
-/// once. Of the other leases nothing is told: a refused call may have got some.
+/// The history, the numbers of each client, what clients read and nodes have, and which leases are revoked. It takes memory once. Of
+/// the other leases nothing is told: a refused call may have got some.
 pub(crate) fn seen(alloc: Global, sound: &Sound) -> Result<String, AllocError> {
     let mut text = String::with_capacity(alloc, 4096)?;
-    put_history(sound, &mut text)?;
-    put_numbers(sound, &mut text)?;
+    let history = sound.history();
+    write!(text, "{history}")?;
+    for place in 1..4 {
+        put_client(sound, place, &mut text)?;
+        put_region(sound, place, &mut text)?;
+    }
     for inode in INODES {
-        put_seen(sound, *inode, &mut text)?;
+        put_inode(sound, *inode, &mut text)?;
     }
     Ok(text)
 }
 
-/// Appends the numbers of three clients, and how many clients have a log at each of three nodes.
-fn put_numbers(sound: &Sound, text: &mut String) -> Result<(), AllocError> {
-    for place in 1..4 {
-        text.push_str("\n")?;
-        let _ = put_client(sound, place, text);
-        text.push_str(" ")?;
-        put_clients(sound, place, text)?;
+/// Appends how many clients have a log at a node, and which inodes it has.
+fn put_region(sound: &Sound, node: u32, text: &mut String) -> Result<(), AllocError> {
+    if let Ok(region) = sound.region(node) {
+        let clients = region.clients();
+        write!(text, "\n{clients} clients")?;
+        for inode in INODES {
+            let found = region.peek(*inode).map(Inode::describe);
+            write!(text, " {found:?}")?;
+        }
     }
     Ok(())
 }
 
-/// Appends what three clients read of an inode, what three nodes have, and whose lease is revoked.
-fn put_seen(sound: &Sound, inode: u64, text: &mut String) -> Result<(), AllocError> {
-    for place in 1..4 {
-        text.push_str("\n")?;
-        let _ = put_view(sound, place, inode, text);
-        text.push_str(" ")?;
-        let _ = put_inode(sound, inode, place, text);
+/// Appends what three clients read of an inode, and whose lease is revoked.
+fn put_inode(sound: &Sound, inode: u64, text: &mut String) -> Result<(), AllocError> {
+    for client in 1..4 {
+        put_view(sound, client, inode, text)?;
     }
-    put_revoked(sound, inode, text)
-}
-
-/// Appends whose lease of an inode is revoked.
-fn put_revoked(sound: &Sound, inode: u64, text: &mut String) -> Result<(), AllocError> {
     for lease in sound.state.leases.leases(inode) {
         if lease.revoked {
             let client = lease.holder;
-            write!(text, " {client}")?;
+            write!(text, " revoked {client}")?;
         }
     }
     Ok(())

@@ -1,21 +1,11 @@
-//! Tests of `assise_machine_state`.
+//! Tests of `assise_machine_state`: what is refused as out of memory.
 #![tactic(auto)]
 
 #[cfg(test)]
-mod clients;
-#[cfg(test)]
-mod cluster;
-#[cfg(test)]
-mod nodes;
+mod logs;
 #[cfg(test)]
 mod refused;
 #[cfg(test)]
 mod refused_logs;
 #[cfg(test)]
 mod seen;
-#[cfg(test)]
-mod sounds;
-#[cfg(test)]
-mod states;
-#[cfg(test)]
-mod steps;

@@ -1,5 +1,5 @@
 // Scripts in which a node fails at each place, and comes back.
-use crate::desk::{Desk, HOT};
+use crate::desk::Desk;
 use crate::faults::{fault_at_the_end, fault_behind};
 use crate::tasks::{Task, on_desk};
 use assise_test_rows::scripts::{
@@ -11,32 +11,29 @@ use std::process::Abort;
 
 /// A client writes on each of two nodes, and the lease of the file is handed over between them.
 const HANDED_OVER: &str = "\
-cluster 2
+cluster 2 16 2
 manual
 open 1 least
 open 2 whole
 1 create /f
 1 write /f 0 ta
-fsync 1
-send 1
-deliver 1 at 2
-fsync 1
+1 fsync
+carry 1
+1 fsync
 1 write /f 1 tb
 2 write /f 2 tc
 digest 1
 digest 2
 release
 2 write /f 2 tc
-send 1
-deliver 2 at 2
+carry 1
 digest 2
 digest 1
 release
 2 write /f 2 tc
-fsync 2
-send 2
-deliver 3 at 1
-fsync 2
+2 fsync
+carry 2
+2 fsync
 1 read /f 0 9
 digest 1
 digest 2
@@ -46,7 +43,7 @@ release
 
 /// Clients of all of three nodes write, and leases are handed over.
 const THREE_CLIENTS: &str = "\
-cluster 3
+cluster 3 16 2
 manual
 open 1 least
 open 2 least
@@ -54,12 +51,10 @@ open 1 eights
 1 create /f
 1 create /g
 1 create /h
-fsync 1
-send 1
-deliver 1 at 2
-send 2
-deliver 2 at 3
-fsync 1
+1 fsync
+carry 1
+carry 2
+1 fsync
 digest 1
 digest 2
 digest 3
@@ -72,22 +67,16 @@ release
 release
 3 write /h 0 ty
 1 write /f 0 tz
-fsync 3
-fsync 2
-fsync 1
-send 1
-deliver 4 at 2
-deliver 3 at 2
-send 2
-deliver 7 at 3
-deliver 6 at 3
-deliver 5 at 3
-send 3
+3 fsync
+2 fsync
+1 fsync
+carry 1
+carry 2
 digest 1
 digest 3
-deliver 8 at 1
-fsync 1
-fsync 2
+carry 3
+1 fsync
+2 fsync
 crash 3
 digest 1
 3 unlink /h
@@ -132,27 +121,28 @@ pub(crate) fn see_failures(
     scripts: &[&str],
 ) {
     for script in scripts {
-        see_failures_of(alloc, rt, desk, script, away);
+        desk.serve(alloc, script)
+            .expect(rt, "no such line, or no memory");
+        let steps = desk.steps.clone().expect(rt, "no memory");
+        see_failures_of(alloc, rt, desk, steps.as_str(), away);
     }
 }
 
-fn see_failures_of(alloc: Global, rt: &impl Abort, desk: &mut Desk, script: &str, away: usize) {
-    desk.serve_script(alloc, script)
-        .expect(rt, "no such line, or no memory");
-    let steps = desk.steps.clone().expect(rt, "no memory");
+/// The same of the steps of a script, the first of which makes the cluster.
+fn see_failures_of(alloc: Global, rt: &impl Abort, desk: &mut Desk, steps: &str, away: usize) {
     for node in 1..=desk.nodes {
-        for place in 0..=steps.as_str().lines().count() {
-            let fault = fault_of(alloc, desk, steps.as_str(), node, place, away);
+        for place in 1..=steps.lines().count() {
+            let fault = fault_of(alloc, desk, steps, node, place, away);
             assert!(rt;
                 fault == Some(""),
-                "{fault:?} where node {node} fails before step {place} of\n{script}"
+                "{fault:?} where node {node} fails before step {place} of\n{steps}"
             );
         }
     }
 }
 
 /// What is wrong behind a step from the place on where a node fails, which comes back so many steps further, or at the end. Steps may
-/// be refused then, or deliver a frame that isn't there.
+/// be refused then.
 fn fault_of(
     alloc: Global,
     desk: &mut Desk,
@@ -161,18 +151,15 @@ fn fault_of(
     place: usize,
     away: usize,
 ) -> Option<&'static str> {
-    desk.renew(alloc, desk.nodes, 16, HOT, 0)?;
     let mut number = 0_usize;
     for step in steps.lines() {
         fail_or_return(alloc, desk, node, place, away, number)?;
-        let _ = desk.make(alloc, step);
-        let fault = if number < place {
-            ""
-        } else {
-            fault_behind(alloc, &desk.cluster, desk.outcome.as_str())?
-        };
-        if !fault.is_empty() {
-            return Some(fault);
+        desk.make(alloc, step)?;
+        if place <= number {
+            let fault = fault_behind(alloc, &desk.cluster, desk.outcome.as_str())?;
+            if !fault.is_empty() {
+                return Some(fault);
+            }
         }
         number = number.saturating_add(1);
     }

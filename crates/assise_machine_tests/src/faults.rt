@@ -1,15 +1,20 @@
 // What is wrong with a cluster between steps.
 use crate::desk::{Cluster, Desk};
-use crate::reading::tree_at;
-use crate::trees::put_tree;
+use crate::scripts::WAITS;
+use crate::trees::text_of;
+use assise_console::trees::tree_at;
 use assise_digest::region::Region;
 use assise_history::call::Call;
 use assise_history::check::check;
 use assise_history::kept::kept;
 use assise_history::replay::replay;
+use assise_names::limits::MOST_NODES;
 use assise_names::refusal::Refusal;
-use assise_record::record::Record;
+use assise_seq_tree::tree::Tree;
 use std::alloc::Global;
+
+/// More than the clients of any test.
+const MANY: u32 = 17;
 
 /// What is wrong behind a step that came to this: as [`fault_between`], unless it came to nothing.
 pub(crate) fn fault_behind(
@@ -18,7 +23,7 @@ pub(crate) fn fault_behind(
     outcome: &str,
 ) -> Option<&'static str> {
     match outcome {
-        "nothing" | "not yet" | "digested 0" | "released 0" => Some(""),
+        WAITS | "Carried(Ok(0))" | "Digested(Ok(0))" | "Released(0)" | "Linked" => Some(""),
         _ => fault_between(alloc, cluster),
     }
 }
@@ -29,8 +34,9 @@ fn fault_between(alloc: Global, cluster: &Cluster) -> Option<&'static str> {
     if !check(alloc, cluster.history()).ok()? {
         return Some("the history isn't legal");
     }
-    let tree = replicated_tree(alloc, cluster)?;
-    for node in 1..9 {
+    let mut tree = replicated_tree(alloc, cluster)?;
+    let tree = text_of(alloc, &mut tree)?;
+    for node in 1..=MOST_NODES {
         if !has_tree(alloc, cluster, node, tree.as_str())? {
             return Some("a node has another tree than the replicated calls");
         }
@@ -42,7 +48,7 @@ fn fault_between(alloc: Global, cluster: &Cluster) -> Option<&'static str> {
 /// the logs.
 pub(crate) fn fault_at_the_end(alloc: Global, desk: &mut Desk) -> Option<&'static str> {
     settle(alloc, desk)?;
-    for client in 1..17 {
+    for client in 1..MANY {
         if !has_digested(&desk.cluster, desk.nodes, client) {
             return Some("not all is digested");
         }
@@ -50,13 +56,16 @@ pub(crate) fn fault_at_the_end(alloc: Global, desk: &mut Desk) -> Option<&'stati
     fault_between(alloc, &desk.cluster)
 }
 
-/// All nodes come back and are raised, all clients sync, all frames are sent and come, and all nodes digest.
+/// All nodes come back and are raised, with links that are whole, all clients sync, all frames are sent and come, and all nodes
+/// digest.
 fn settle(alloc: Global, desk: &mut Desk) -> Option<()> {
     for node in 1..=desk.nodes {
         desk.bring_back(alloc, node)?;
         desk.make_of(alloc, "raise", node)?;
+        let link = format!(in alloc; "link {node} perfect").ok()?;
+        desk.make(alloc, link.as_str())?;
     }
-    for client in 1..17 {
+    for client in 1..MANY {
         let sync = format!(in alloc; "{client} dsync").ok()?;
         desk.make(alloc, sync.as_str())?;
     }
@@ -71,90 +80,57 @@ fn has_digested(cluster: &Cluster, nodes: u32, client: u32) -> bool {
     let Ok(acked) = cluster.acked(client) else {
         return true;
     };
-    for node in 1..=nodes {
-        let Ok(region) = cluster.region(node) else {
-            return false;
-        };
-        let client = client as usize;
-        if client == 0 || region.clients() < client {
-            return false;
-        }
-        let log = region.log(client);
-        if log.first() != acked || log.end() != acked {
-            return false;
+    (1..=nodes).all(|node| match cluster.region(node) {
+        Ok(region) => is_empty_from(region, client as usize, acked),
+        Err(_) => false,
+    })
+}
+
+/// Whether a client's log has no record, and goes on with this number.
+fn is_empty_from(region: &Region, client: usize, number: u64) -> bool {
+    if client == 0 || region.clients() < client {
+        return false;
+    }
+    let log = region.log(client);
+    log.first() == number && log.end() == number
+}
+
+/// The tree of the kept calls that are replicated. None where they are no run, or memory runs out.
+fn replicated_tree(alloc: Global, cluster: &Cluster) -> Option<Tree> {
+    let mut calls = kept(alloc, cluster.history()).ok()?;
+    calls.retain(|call| is_replicated(cluster, call));
+    replay(alloc, calls.as_slice()).ok()?
+}
+
+/// Whether a call comes before its client's first one that has a record which isn't replicated.
+fn is_replicated(cluster: &Cluster, call: &Call) -> bool {
+    let Ok(acked) = cluster.acked(call.client) else {
+        return false;
+    };
+    for node in 1..=MOST_NODES {
+        if let Ok(region) = cluster.region(node) {
+            if let Some(first) = call_at(region, call.client as usize, acked) {
+                return call.number < first;
+            }
         }
     }
     true
 }
 
-/// The tree of the kept calls that are replicated. None where they are no run, or memory runs out.
-fn replicated_tree(alloc: Global, cluster: &Cluster) -> Option<String> {
-    let bounds = bounds(alloc, cluster)?;
-    let mut text = String::new(alloc);
-    put_replicated(alloc, cluster, bounds.as_slice(), &mut text)?;
-    Some(text)
-}
-
-/// Appends the tree of the kept calls below their clients' bounds.
-fn put_replicated(
-    alloc: Global,
-    cluster: &Cluster,
-    bounds: &[u64],
-    text: &mut String,
-) -> Option<()> {
-    let mut calls = kept(alloc, cluster.history()).ok()?;
-    calls.retain(|call| is_below(bounds, call));
-    let mut tree = replay(alloc, calls.as_slice()).ok()??;
-    put_tree(alloc, &mut tree, text)
-}
-
-/// Whether a call's number is below its client's bound.
-fn is_below(bounds: &[u64], call: &Call) -> bool {
-    match call.client.checked_sub(1) {
-        Some(place) => bounds
-            .get(place as usize)
-            .is_some_and(|bound| call.number < *bound),
-        None => false,
-    }
-}
-
-/// Of each client the number of its first call that has a record which isn't replicated, or more than any.
-fn bounds(alloc: Global, cluster: &Cluster) -> Option<Vec<u64>> {
-    let mut bounds = Vec::new(alloc);
-    for client in 1..17 {
-        match cluster.acked(client) {
-            Ok(acked) => bounds.push(bound(cluster, client, acked)).ok()?,
-            Err(_) => return Some(bounds),
-        }
-    }
-    Some(bounds)
-}
-
-fn bound(cluster: &Cluster, client: u32, acked: u64) -> u64 {
-    for node in 1..9 {
-        if let Ok(region) = cluster.region(node) {
-            if let Some(record) = record_at(region, client, acked) {
-                return record.call();
-            }
-        }
-    }
-    u64::MAX
-}
-
-/// The record of a number in the log of a client.
-fn record_at(region: &Region, client: u32, number: u64) -> Option<&Record> {
-    let client = client as usize;
+/// The call of the record of a number in the log of a client.
+fn call_at(region: &Region, client: usize, number: u64) -> Option<u64> {
     if client == 0 || region.clients() < client {
         return None;
     }
-    region.log(client).get(number)
+    let record = region.log(client).get(number)?;
+    Some(record.call())
 }
 
 /// Whether a node has a tree, or isn't full. None where memory runs out.
 fn has_tree(alloc: Global, cluster: &Cluster, node: u32, tree: &str) -> Option<bool> {
     match tree_at(alloc, cluster, node) {
-        Ok(read) => Some(read.as_str() == tree),
-        Err(refusal) if refusal == Refusal::OutOfMemory => None,
+        Ok(mut found) => Some(text_of(alloc, &mut found)?.as_str() == tree),
+        Err(Refusal::OutOfMemory) => None,
         Err(_) => Some(true),
     }
 }

@@ -1,82 +1,98 @@
-// How many inodes may be hot at a node, and which are.
-use crate::rows::show;
+// Which inodes are hot at a node.
+use crate::desk::{Cluster, Desk};
+use crate::tasks::{Task, on_desk};
+use std::alloc::Global;
+use std::process::Abort;
 
-/// What a call visits is hot at its client's home then, and nowhere else.
+/// What a call visits is hot at its client's home then, and nowhere else. A line `node NUMBER has hot:` looks.
 const USED: &str = "\
-cluster 2 8 4096 => begun
-capacity at 1 => 4096
-capacity at 2 => 4096
-open 2 least => client 1
-hot 0 at 2 => cold
-1 stat / => dir 0
-hot 0 at 2 => hot
-hot 0 at 1 => cold
-1 create /f => done
-fsync 1 => not yet
-send 2 => 1 for 1: client 1, 0..1
-deliver 1 at 1 => received 1
-digest 2 => digested 1
-hot 4294967296 at 2 => cold
-1 stat /f => file 0
-hot 4294967296 at 2 => hot
-hot 0 at 2 => hot
+cluster 2 8 4096
+open 2 least
+node 2 has hot:
+1 stat /
+node 2 has hot: 0
+node 1 has hot:
+1 create /f
+1 fsync
+carry 2
+digest 2
+node 2 has hot: 0
+1 stat /f
+node 2 has hot: 0 4294967296
 ";
 
 /// Where one may be hot it is the one that was used last: on the way of a path the directory before what it has.
 const LAST_USED: &str = "\
-cluster 1 8 1 => begun
-capacity at 1 => 1
-open 1 least => client 1
-1 create /f => done
-hot 0 at 1 => hot
-digest 1 => digested 1
-1 stat /f => file 0
-hot 4294967296 at 1 => hot
-hot 0 at 1 => cold
-1 stat / => dir 1
-hot 4294967296 at 1 => cold
-hot 0 at 1 => hot
+cluster 1 8 1
+open 1 least
+1 create /f
+node 1 has hot: 0
+digest 1
+1 stat /f
+node 1 has hot: 4294967296
+1 stat /
+node 1 has hot: 0
 ";
 
 /// Where fewer may be hot the longest unused ones are cold, and where more may be hot all stay hot.
 const KEPT: &str = "\
-cluster 2 8 3 => begun
-open 1 least => client 1
-1 create /a => done
-1 create /b => done
-fsync 1 => not yet
-send 1 => 1 for 2: client 1, 0..2
-deliver 1 at 2 => received 2
-digest 1 => digested 2
-1 stat /a => file 0
-1 stat /b => file 0
-hot 4294967296 at 1 => hot
-hot 4294967297 at 1 => hot
-hot 0 at 1 => hot
-keep 2 hot at 1 => set
-capacity at 1 => 2
-capacity at 2 => 3
-hot 4294967296 at 1 => cold
-hot 4294967297 at 1 => hot
-hot 0 at 1 => hot
-1 stat /a => file 0
-hot 4294967296 at 1 => hot
-hot 4294967297 at 1 => cold
-hot 0 at 1 => hot
-keep 4096 hot at 1 => set
-hot 4294967296 at 1 => hot
-hot 0 at 1 => hot
-1 stat /b => file 0
-hot 4294967296 at 1 => hot
-hot 4294967297 at 1 => hot
-hot 0 at 1 => hot
-keep 1 hot at 3 => F8 BadNode
-fail 2 => failed
-keep 1 hot at 2 => F10 WrongPhase
-capacity at 1 => 4096
+cluster 1 8 3
+open 1 least
+1 create /a
+1 create /b
+digest 1
+1 stat /a
+1 stat /b
+node 1 has hot: 0 4294967296 4294967297
+hot 1 2
+node 1 has hot: 0 4294967297
+1 stat /a
+node 1 has hot: 0 4294967296
+hot 1 4096
+node 1 has hot: 0 4294967296
+1 stat /b
+node 1 has hot: 0 4294967296 4294967297
 ";
+
+/// The root, and the first inodes of client 1.
+const INODES: &[u64] = &[0, 4_294_967_296, 4_294_967_297];
+
+/// Makes the steps of texts, and sees that what is hot is what the lines between them say.
+pub(crate) fn see_hot(alloc: Global, rt: &impl Abort, desk: &mut Desk, texts: &[&str]) {
+    for text in texts {
+        let wrong = first_wrong(alloc, desk, text).expect(rt, "no memory");
+        assert!(rt; wrong.is_empty(), "{wrong} in\n{text}");
+    }
+}
+
+/// The first line that says something else than is hot. None where there is no such step, or no memory.
+fn first_wrong<'a>(alloc: Global, desk: &mut Desk, text: &'a str) -> Option<&'a str> {
+    for line in text.lines() {
+        if !line.starts_with("node") {
+            desk.make(alloc, line)?;
+        } else if line != hot_at(alloc, &desk.cluster, line)?.as_str() {
+            return Some(line);
+        }
+    }
+    Some("")
+}
+
+/// The line of what is hot at the node of a line.
+fn hot_at(alloc: Global, cluster: &Cluster, line: &str) -> Option<String> {
+    let (front, _) = line.split_once(':')?;
+    let node = front.split(' ').nth(1)?.parse::<u32>().ok()?;
+    let region = cluster.region(node).ok()?;
+    let mut text = format!(in alloc; "{front}:").ok()?;
+    for inode in INODES {
+        if region.is_hot(*inode) {
+            write!(text, " {inode}").ok()?;
+        }
+    }
+    Some(text)
+}
 
 #[test]
 fn what_a_call_visits_is_hot(rt: HostRuntime) {
-    show(rt.alloc(), &rt, &[USED, LAST_USED, KEPT]);
+    let ended = on_desk(rt.alloc(), &rt, Task::Hot(&[USED, LAST_USED, KEPT]));
+    assert!(rt; ended.is_ok());
 }

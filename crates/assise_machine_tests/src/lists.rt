@@ -1,17 +1,16 @@
 // Lists of steps by chance.
-use crate::desk::{Desk, HOT};
+use crate::desk::Desk;
 use crate::dice::Dice;
 use crate::faults::{fault_at_the_end, fault_behind};
 use crate::tasks::{Task, on_desk};
-use assise_test_rows::split_word;
 use std::alloc::{AllocError, Global};
 use std::process::Abort;
 
 /// What calls ask for: few paths, so that they meet.
 const PATHS: &str = "/a\n/b\n/c\n/d\n/d/a\n/d/b\n/d/e\n/d/e/a\n/a/b\n/\n";
 
-/// What may come next, some of it likelier: `C` stands for a client, `S` for a node, `P` for a path, `N` for a number from 1 to 12,
-/// `K` for the number of a frame that was sent, and `L` for that and `at` the node that it is for.
+/// What may come next, some of it likelier: `C` stands for a client, `S` for a node, `P` for a path, and `N` for a number from 1 to 12.
+/// What begins with `often` is made so often that a log gets full.
 const STEPS: &str = "\
 C create P
 C create P
@@ -33,42 +32,30 @@ C write P N tab
 C write P N tab
 C write P N tcdef
 C write P N tcdef
-times 14 C write /a N tx
-times 14 C write /a N tx
-times 14 C write /b N tx
+often C write /a N tx
+often C write /a N tx
+often C write /b N tx
 C truncate P N
 C truncate P N
 C rename P P
 C rename P P
-C fsync
 C dsync
 C dsync
 C unlink P
 C rmdir P
 C list P
 C stat P
-deliver L
-deliver L
-deliver L
-deliver L
-deliver L
-deliver L
-deliver L
-deliver L
-deliver L epoch 2
-deliver L client C
-deliver L from N
-deliver K at S
-send S
-send S
-send S
-send S
-over S
-over S
-over S
-over S
-over S
-over S
+carry S
+carry S
+carry S
+carry S
+carry S
+carry S
+carry S
+carry S
+carry S
+carry S
+link S perfect
 link S perfect
 link S lose
 link S repeat
@@ -76,18 +63,13 @@ link S delay
 link S cut 65
 link S cut N
 link S fault
-keep N hot at S
-send S
-open S
-open S
-open S least optimistic
-open S whole optimistic
-fsync C
-fsync C
-fsync C
-fsync C
-fsync C
-fsync C
+hot S N
+C fsync
+C fsync
+C fsync
+C fsync
+C fsync
+C fsync
 digest S
 digest S
 digest S
@@ -116,56 +98,59 @@ join S
 raise S
 ";
 
+/// How a client is opened.
+const OPENS: &str = "\
+open S least
+open S whole
+open S eights
+open S least optimistic
+open S whole optimistic
+open S eights optimistic
+";
+
 /// What comes out of some step of the lists.
 const OUTCOMES: &str = "\
-client
-done
-names
-bytes
-not yet
- for 
-received
-digested 1
-released 1
-set
-linked
-carried 0
-carried 1
-crashed
-failed
-stale
-left
-returned
-F3 NodeDown
-F4 ClientGone
-F7 LastNode
-F8 BadNode
-F9 BadClient
-F10 WrongPhase
-F11 StaleMessage
-F12 LogFull
+Opened(Ok(
+Done
+Names(
+Bytes(
+NotYet
+Carried(Ok(0))
+Carried(Ok(1))
+Digested(Ok(1))
+Released(1)
+HotSet(Ok(
+Linked
+Crashed(Ok(
+Failed(Ok(
+Began(Ok(
+Left(Ok(
+Joined(Ok(
+Raised(Ok(
+NodeDown
+ClientGone
+LastNode
+BadNode
+BadClient
+WrongPhase
+LogFull
 ";
 
 /// Appends a step by chance, where so many clients were opened. Now and then there is no such node or client.
-fn put_step_by_chance(
+fn put_step(
     dice: &mut Dice,
     desk: &Desk,
     clients: u64,
     text: &mut String,
 ) -> Result<(), AllocError> {
-    let step = dice.line(STEPS);
-    if step.starts_with("deliver") && desk.letters.is_empty() {
-        return text.push_str("release");
-    }
-    let mut rest = step;
-    for _ in 0..9 {
-        let (word, more) = split_word(rest);
+    let step = if dice.number(24 * clients.saturating_add(1)) == 1 {
+        dice.line(OPENS)
+    } else {
+        dice.line(STEPS)
+    };
+    for word in step.split(' ') {
         put_word(dice, desk, clients, word, text)?;
-        if more.is_empty() {
-            return Ok(());
-        }
         text.push(' ')?;
-        rest = more;
     }
     Ok(())
 }
@@ -180,39 +165,24 @@ fn put_word(
 ) -> Result<(), AllocError> {
     let most = match word {
         "P" => return text.push_str(dice.line(PATHS)),
-        "L" => return put_letter(dice, desk, text),
         "C" => clients.saturating_add(1),
         "S" => u64::from(desk.nodes).saturating_add(1),
         "N" => 12,
-        "K" => desk.letters.len() as u64,
         _ => return text.push_str(word),
     };
     let number = dice.number(most);
     write!(text, "{number}")
 }
 
-/// Appends the number of a frame that was sent, the later the likelier, and the node that it is for.
-fn put_letter(dice: &mut Dice, desk: &Desk, text: &mut String) -> Result<(), AllocError> {
-    let count = desk.letters.len() as u64;
-    let number = dice.number(count).max(dice.number(count));
-    match desk.letters.get(number.saturating_sub(1) as usize) {
-        Some((_, node)) => write!(text, "{number} at {node}"),
-        None => Ok(()),
-    }
-}
-
-/// Begins anew with 2 to 4 nodes, revokers for 1 to 4 clients, and logs of 8 to 13 records.
+/// Begins anew with 2 to 4 nodes, and logs of 8 to 13 records.
 fn begin(alloc: Global, dice: &mut Dice, desk: &mut Desk) -> Option<()> {
     let log = dice.below(6) as usize + 8;
     let nodes = dice.below(3) as u32 + 2;
-    desk.renew(alloc, nodes, log, HOT, 0)?;
-    for _ in 0..dice.number(4) {
-        desk.make(alloc, dice.line("stock l\nstock w\nstock e\n"))?;
-    }
-    Some(())
+    desk.renew(alloc, nodes, log, 2)
 }
 
-/// What is wrong behind a step of a list, or once all nodes are back, and all is digested. What comes out is struck from the outcomes that are missing. None where memory runs out.
+/// What is wrong behind a step of a list, or once all nodes are back, and all is digested. What comes out is struck from the outcomes
+/// that are missing. None where memory runs out.
 fn fault_of(
     alloc: Global,
     dice: &mut Dice,
@@ -222,32 +192,34 @@ fn fault_of(
 ) -> Option<&'static str> {
     begin(alloc, dice, desk)?;
     let mut clients = 0_u64;
-    let mut unseen = 0_u32;
     let mut step = String::new(alloc);
-    for _ in 0..lists.steps {
+    for number in 1..=lists.steps {
         step.clear();
-        put_step_by_chance(dice, desk, clients, &mut step).ok()?;
-        desk.make(alloc, step.as_str())?;
-        if desk.outcome.as_str().starts_with("client") {
+        put_step(dice, desk, clients, &mut step).ok()?;
+        match step.as_str().strip_prefix("often ") {
+            Some(line) => make_often(alloc, desk, line)?,
+            None => desk.make(alloc, step.as_str())?,
+        }
+        let outcome = desk.outcome.as_str();
+        if outcome.starts_with("Opened(Ok") {
             clients = clients.saturating_add(1);
         }
-        strike(missing, desk.outcome.as_str());
-        unseen = unseen.saturating_add(1);
-        if unseen < lists.disjoint {
-            continue;
-        }
-        unseen = 0;
-        let fault = fault_behind(alloc, &desk.cluster, desk.outcome.as_str())?;
-        if !fault.is_empty() {
-            return Some(fault);
+        missing.retain(|kind| !outcome.contains(*kind));
+        if number % lists.apart.max(1) == 0 {
+            let fault = fault_behind(alloc, &desk.cluster, outcome)?;
+            if !fault.is_empty() {
+                return Some(fault);
+            }
         }
     }
     fault_at_the_end(alloc, desk)
 }
 
-/// Strikes the outcomes that stand in what came out.
-fn strike(missing: &mut Vec<&str>, outcome: &str) {
-    missing.retain(|kind| !outcome.contains(*kind));
+fn make_often(alloc: Global, desk: &mut Desk, line: &str) -> Option<()> {
+    for _ in 0..14 {
+        desk.make(alloc, line)?;
+    }
+    Some(())
 }
 
 /// Lists of steps by chance, of pessimistic and optimistic clients.
@@ -259,7 +231,7 @@ pub(crate) struct Lists {
     pub(crate) lists: u32,
     pub(crate) steps: u32,
     /// After so many steps each it is looked at what is wrong.
-    pub(crate) disjoint: u32,
+    pub(crate) apart: u32,
 }
 
 /// Sees that nothing is wrong behind the steps of lists, and that these have each outcome.
@@ -295,43 +267,40 @@ fn lists_by_chance_end_well(rt: HostRuntime) {
         seed: 1,
         lists: 60,
         steps: 200,
-        disjoint: 1,
+        apart: 1,
     };
     see(rt.alloc(), &rt, lists);
 }
 
 /// Forty lists of 500 steps each, five times.
-fn see_long(alloc: Global, rt: &impl Abort, seed: u64) {
-    let lists = Lists {
-        seed,
-        lists: 40,
-        steps: 500,
-        disjoint: 250,
-    };
-    see(alloc, rt, lists);
-}
+const LONG: Lists = Lists {
+    seed: 2,
+    lists: 40,
+    steps: 500,
+    apart: 250,
+};
 
 #[test]
 fn long_lists_from_seed_2_end_well(rt: HostRuntime) {
-    see_long(rt.alloc(), &rt, 2);
+    see(rt.alloc(), &rt, LONG);
 }
 
 #[test]
 fn long_lists_from_seed_3_end_well(rt: HostRuntime) {
-    see_long(rt.alloc(), &rt, 3);
+    see(rt.alloc(), &rt, Lists { seed: 3, ..LONG });
 }
 
 #[test]
 fn long_lists_from_seed_4_end_well(rt: HostRuntime) {
-    see_long(rt.alloc(), &rt, 4);
+    see(rt.alloc(), &rt, Lists { seed: 4, ..LONG });
 }
 
 #[test]
 fn long_lists_from_seed_5_end_well(rt: HostRuntime) {
-    see_long(rt.alloc(), &rt, 5);
+    see(rt.alloc(), &rt, Lists { seed: 5, ..LONG });
 }
 
 #[test]
 fn long_lists_from_seed_6_end_well(rt: HostRuntime) {
-    see_long(rt.alloc(), &rt, 6);
+    see(rt.alloc(), &rt, Lists { seed: 6, ..LONG });
 }

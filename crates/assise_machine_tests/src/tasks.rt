@@ -1,10 +1,9 @@
 // What tests make on a cluster. One function alone owns it.
 use crate::desk::Desk;
 use crate::failing_anywhere::see_failures;
+use crate::hot::see_hot;
 use crate::lists::{Lists, see_lists};
 use crate::refused::see_made_again;
-use crate::rows::show_rows;
-use crate::running::show_list;
 use assise_names::refusal::Refusal;
 use std::alloc::Global;
 use std::process::Abort;
@@ -12,10 +11,8 @@ use std::process::Abort;
 /// What is made.
 #[derive(Clone, Copy)]
 pub(crate) enum Task<'a> {
-    /// The rows of texts, step by step.
-    Rows(&'a [&'a str]),
-    /// The rows of texts, each as one list of events.
-    Lists(&'a [&'a str]),
+    /// The steps of texts, with lines that say what is hot.
+    Hot(&'a [&'a str]),
     /// The rows of texts, each step once more where it is refused as out of memory.
     Again(&'a [&'a str]),
     /// Scripts in which a node fails before each step, and comes back so many steps further.
@@ -33,27 +30,9 @@ pub(crate) fn on_desk(alloc: Global, rt: &impl Abort, task: Task<'_>) -> Result<
 
 fn make(alloc: Global, rt: &impl Abort, desk: &mut Desk, task: Task<'_>) {
     match task {
-        Task::Rows(texts) => show(alloc, rt, desk, texts),
-        Task::Lists(texts) => show_lists(alloc, rt, desk, texts),
+        Task::Hot(texts) => see_hot(alloc, rt, desk, texts),
         Task::Again(texts) => see_made_again(alloc, rt, desk, texts),
         Task::Failures(away, scripts) => see_failures(alloc, rt, desk, away, scripts),
         Task::Chance(lists) => see_lists(alloc, rt, desk, lists),
-    }
-}
-
-fn show(alloc: Global, rt: &impl Abort, desk: &mut Desk, texts: &[&str]) {
-    for rows in texts {
-        show_rows(alloc, rt, desk, rows);
-    }
-}
-
-/// A text that begins with a cluster or a stock is made step by step.
-fn show_lists(alloc: Global, rt: &impl Abort, desk: &mut Desk, texts: &[&str]) {
-    for rows in texts {
-        if rows.starts_with("cluster") || rows.starts_with("stock") {
-            show_rows(alloc, rt, desk, rows);
-        } else {
-            show_list(alloc, rt, desk, rows);
-        }
     }
 }

@@ -1,7 +1,5 @@
-//! Tests of `assise_mail`: that messages are delivered, listed, read and removed, and what is answered where one isn't.
+//! Tests of `assise_mail`: that messages are delivered, listed, read and removed while there is memory.
 #![tactic(auto)]
 
-#[cfg(test)]
-mod mailbox;
 #[cfg(test)]
 mod tests;

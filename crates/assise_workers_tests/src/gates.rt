@@ -1,5 +1,4 @@
 // Gates that hold workers while others go on.
-
 use assise_workers::gate::{Gate, Point};
 use std::sync::atomic::{AtomicBool, AtomicU64, Ordering};
 use std::thread;
@@ -7,10 +6,10 @@ use std::thread;
 /// How often a gate looks at most.
 const LOOKS: u32 = 100_000;
 
-/// Looks until the flag is set, but not for ever. Whether it was.
-fn wait_for(flag: &AtomicBool) -> bool {
+/// Looks until so many have come, but not for ever. Whether they have.
+fn wait_for(count: &AtomicU64, least: u64) -> bool {
     for _ in 0..LOOKS {
-        if flag.load(Ordering::SeqCst) {
+        if count.load(Ordering::SeqCst) >= least {
             return true;
         }
         thread::yield_now();
@@ -18,58 +17,33 @@ fn wait_for(flag: &AtomicBool) -> bool {
     false
 }
 
-/// Holds the first frame until another client is answered, and ends workers once the first one has synced.
+/// Holds the first frame until two more have come.
 #[derive(Drop)]
-pub struct UntilAnswered {
-    /// A frame is held, or was.
-    pub held: AtomicBool,
-    /// The other client was answered.
-    pub answered: AtomicBool,
-    /// It was while the frame was held.
-    pub came: AtomicBool,
-    /// The first client has synced.
-    pub synced: AtomicBool,
+pub(crate) struct FirstHeld {
+    /// How many frames have come.
+    pub(crate) frames: AtomicU64,
+    /// Two came while the first was held.
+    pub(crate) came: AtomicBool,
 }
 
-impl UntilAnswered {
-    pub fn new() -> UntilAnswered {
-        UntilAnswered {
-            held: AtomicBool::new(false),
-            answered: AtomicBool::new(false),
-            came: AtomicBool::new(false),
-            synced: AtomicBool::new(false),
-        }
-    }
-}
-
-impl Gate for UntilAnswered {
+impl Gate for FirstHeld {
     fn pass(&self, point: Point) -> bool {
-        if point == Point::BeforeCarry && !self.held.swap(true, Ordering::SeqCst) {
-            self.came.store(wait_for(&self.answered), Ordering::SeqCst);
+        if point == Point::BeforeCarry && self.frames.fetch_add(1, Ordering::SeqCst) == 0 {
+            self.came.store(wait_for(&self.frames, 3), Ordering::SeqCst);
         }
-        !self.synced.load(Ordering::SeqCst)
+        true
     }
 }
 
 /// Holds the first two frames until both have come, and a digest after them.
 #[derive(Drop)]
-pub struct AllAtOnce {
+pub(crate) struct AllAtOnce {
     /// How many frames have come.
-    pub frames: AtomicU64,
-    /// A digest came behind two frames.
-    pub digest: AtomicBool,
+    pub(crate) frames: AtomicU64,
+    /// How many digests came behind two frames.
+    pub(crate) digests: AtomicU64,
     /// How many frames were let go of by that.
-    pub freed: AtomicU64,
-}
-
-impl AllAtOnce {
-    pub fn new() -> AllAtOnce {
-        AllAtOnce {
-            frames: AtomicU64::new(0),
-            digest: AtomicBool::new(false),
-            freed: AtomicU64::new(0),
-        }
-    }
+    pub(crate) freed: AtomicU64,
 }
 
 impl Gate for AllAtOnce {
@@ -77,13 +51,13 @@ impl Gate for AllAtOnce {
         match point {
             Point::BeforeCarry => {
                 let before = self.frames.fetch_add(1, Ordering::SeqCst);
-                if before < 2 && wait_for(&self.digest) {
+                if before < 2 && wait_for(&self.digests, 1) {
                     self.freed.fetch_add(1, Ordering::SeqCst);
                 }
             }
             Point::BeforeDigest => {
                 if self.frames.load(Ordering::SeqCst) >= 2 {
-                    self.digest.store(true, Ordering::SeqCst);
+                    self.digests.fetch_add(1, Ordering::SeqCst);
                 }
             }
             Point::BeforeDeliver | Point::Turn => (),

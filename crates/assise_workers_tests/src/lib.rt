@@ -2,14 +2,14 @@
 #![tactic(auto)]
 
 #[cfg(test)]
+mod begun;
+#[cfg(test)]
 mod crowds;
 #[cfg(test)]
 mod gates;
 #[cfg(test)]
-mod held_frames;
-#[cfg(test)]
 mod refused;
 #[cfg(test)]
-mod scripts;
+mod runs;
 #[cfg(test)]
 mod tests;

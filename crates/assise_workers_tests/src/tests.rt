@@ -1,92 +1,137 @@
 // What contracts can't say: that workers and clients get on, and that none is held up by another's frame.
-
+use crate::begun::begin;
 use crate::crowds::{Crowd, run_crowd};
-use crate::gates::{AllAtOnce, UntilAnswered};
-use crate::held_frames::{stat_beside_fsync, two_syncs};
+use crate::gates::{AllAtOnce, FirstHeld};
+use crate::runs::{Clients, answered};
+use assise_machine::cluster::Cluster;
 use assise_names::durability::Durability;
-use assise_names::reply::Reply;
-use std::sync::atomic::Ordering;
-use std::test::Fail;
-
-/// Four clients on two nodes, each with a file of its own; eight on four nodes, which share one and move it to and fro; and four
-/// optimistic ones on two nodes, which share one.
-const CROWDS: [(Crowd, &str); 3] = [
-    (
-        Crowd {
-            nodes: 2,
-            clients: 4,
-            pairs: 25,
-            every: 5,
-            shared: false,
-            durability: Durability::Pessimistic,
-        },
-        "228 answered",
-    ),
-    (
-        Crowd {
-            nodes: 4,
-            clients: 8,
-            pairs: 25,
-            every: 5,
-            shared: true,
-            durability: Durability::Pessimistic,
-        },
-        "536 answered",
-    ),
-    (
-        Crowd {
-            nodes: 2,
-            clients: 4,
-            pairs: 25,
-            every: 5,
-            shared: true,
-            durability: Durability::Optimistic,
-        },
-        "268 answered",
-    ),
-];
-
-#[test]
-fn calls_of_many_threads_stand_in_one_legal_history(rt: HostRuntime) -> Result<(), Fail> {
-    for &(crowd, outcome) in &CROWDS {
-        let text = run_crowd(&rt, rt.alloc(), &crowd).ok_or("no memory")?;
-        assert_eq!(rt; text.as_str(), outcome);
-    }
-    Ok(())
-}
+use assise_rounds::rounds::round;
+use assise_workers::gate::Gate;
+use std::alloc::Global;
+use std::sync::Wait;
+use std::sync::atomic::{AtomicBool, AtomicU64, Ordering};
+use std::thread::Threads;
 
 /// Two clients on two nodes, with few calls.
 const FEW: Crowd = Crowd {
     nodes: 2,
     clients: 2,
-    pairs: 1,
-    every: 1,
-    shared: true,
     durability: Durability::Pessimistic,
+    first: "1 create /fC\n1 create /s\n",
+    again: "1 write /s 0 tC\n1 read /s 0 99\n1 rename /s /rC\n1 rename /rC /s\n1 fsync\n",
+    times: 1,
 };
 
+/// Four clients on two nodes, each with a file of its own; eight on four nodes, which share one and move it to and fro; and four
+/// optimistic ones on two nodes, which share one.
+const CROWDS: [(Crowd, usize); 3] = [
+    (
+        Crowd {
+            clients: 4,
+            again: "1 write /fC 0 tC\n1 read /fC 0 99\n1 write /fC 1 tC\n1 read /fC 0 99\n1 fsync\n",
+            times: 12,
+            ..FEW
+        },
+        248,
+    ),
+    (
+        Crowd {
+            nodes: 4,
+            clients: 8,
+            times: 12,
+            ..FEW
+        },
+        496,
+    ),
+    (
+        Crowd {
+            clients: 4,
+            durability: Durability::Optimistic,
+            again: "1 write /s 0 tC\n1 read /s 0 99\n1 rename /s /rC\n1 rename /rC /s\n1 dsync\n",
+            times: 12,
+            ..FEW
+        },
+        248,
+    ),
+];
+
 #[test]
-fn a_thousand_runs_come_to_their_end(rt: HostRuntime) -> Result<(), Fail> {
-    for _ in 0..1000 {
-        let text = run_crowd(&rt, rt.alloc(), &FEW).ok_or("no memory")?;
-        assert_eq!(rt; text.as_str(), "14 answered");
+fn calls_of_many_threads_are_answered(rt: HostRuntime) {
+    for &(crowd, count) in &CROWDS {
+        assert_eq!(rt; run_crowd(&rt, rt.alloc(), &crowd), Some(count));
     }
-    Ok(())
 }
 
 #[test]
-fn fsync_waits_while_others_go_on(rt: HostRuntime) -> Result<(), Fail> {
-    let gate = UntilAnswered::new();
-    let replies = stat_beside_fsync(&rt, rt.alloc(), &gate);
-    assert_eq!(rt; replies, Some((Some(Reply::Done), Some(Reply::File(1)))));
+fn a_thousand_runs_come_to_their_end(rt: HostRuntime) {
+    for _ in 0..1000 {
+        assert_eq!(rt; run_crowd(&rt, rt.alloc(), &FEW), Some(14));
+    }
+}
+
+/// A cluster of two nodes, at both of which there is a file in each of two directories. Nobody has a lease.
+fn with_two_files(alloc: Global) -> Option<Cluster> {
+    let mut cluster = Cluster::new(alloc, 2, 64, 64).ok()?;
+    begin(
+        alloc,
+        &mut cluster,
+        "1 mkdir /a\n1 mkdir /b\n1 create /a/f\n1 create /b/g\n",
+    )?;
+    cluster.crash(1).ok()?;
+    round(alloc, &mut cluster);
+    Some(cluster)
+}
+
+/// A client on each of two nodes writes its own file and syncs, four times: how many calls are answered.
+fn write_and_sync<G: Gate, R: Threads + Wait + Sync>(
+    rt: &R,
+    alloc: Global,
+    gate: &G,
+) -> Option<usize> {
+    let clients = Clients {
+        nodes: 2,
+        durability: Durability::Pessimistic,
+        scripts: "\
+1 write /a/f 0 tx
+1 fsync
+1 write /a/f 0 ty
+1 fsync
+1 write /a/f 0 tz
+1 fsync
+1 write /a/f 0 tw
+1 fsync
+
+1 write /b/g 0 tx
+1 fsync
+1 write /b/g 0 ty
+1 fsync
+1 write /b/g 0 tz
+1 fsync
+1 write /b/g 0 tw
+1 fsync
+",
+    };
+    answered(rt, alloc, with_two_files(alloc)?, gate, &clients)
+}
+
+/// Whoever's frame is held first, the other one syncs, writes and syncs again: of its frames two come.
+#[test]
+fn fsync_waits_while_others_go_on(rt: HostRuntime) {
+    let gate = FirstHeld {
+        frames: AtomicU64::new(0),
+        came: AtomicBool::new(false),
+    };
+    assert_eq!(rt; write_and_sync(&rt, rt.alloc(), &gate), Some(16));
     assert!(rt; gate.came.load(Ordering::SeqCst));
-    Ok(())
 }
 
 #[test]
-fn all_at_once(rt: HostRuntime) -> Result<(), Fail> {
-    let gate = AllAtOnce::new();
-    assert_eq!(rt; two_syncs(&rt, rt.alloc(), &gate), Some(4));
+fn all_at_once(rt: HostRuntime) {
+    let gate = AllAtOnce {
+        frames: AtomicU64::new(0),
+        digests: AtomicU64::new(0),
+        freed: AtomicU64::new(0),
+    };
+    assert_eq!(rt; write_and_sync(&rt, rt.alloc(), &gate), Some(16));
     assert_eq!(rt; gate.freed.load(Ordering::SeqCst), 2);
-    Ok(())
 }

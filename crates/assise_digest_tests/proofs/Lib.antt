@@ -1,3 +1,0 @@
-pub mod TwoLogs
-pub mod Renamed
-pub mod NewFileRegion

@@ -1,2 +1,0 @@
-pub mod Disjoint
-pub mod Rebuilt

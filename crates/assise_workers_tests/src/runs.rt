@@ -1,0 +1,113 @@
+// Clients in threads of their own, beside the workers of all nodes.
+ghost use Rattle.std.specs.Prelude.{◌≡◌};
+ghost use Rattle.assise_keeper.specs.Passes.{IsPassOf};
+
+use crate::begun::{calls_in, revoker};
+use assise_keeper::keeper::Keeper;
+use assise_keeper::pass::Pass;
+use assise_libfs::libfs::LibFs;
+use assise_machine::cluster::Cluster;
+use assise_names::durability::Durability;
+use assise_workers::gate::Gate;
+use assise_workers::nodes::workers_up_to;
+use assise_workers::running::run_cluster;
+use assise_workers::serving::{ClientEnd, ClientList};
+use std::alloc::Global;
+use std::sync::Wait;
+use std::thread::Threads;
+
+/// The turns of a call: more than any call of the tests takes.
+const TURNS: u32 = 1_000_000;
+
+/// The clients of a run.
+#[derive(Clone, Copy)]
+pub(crate) struct Clients<'a> {
+    /// The nodes, on which they are opened in turn.
+    pub(crate) nodes: u32,
+    /// How they are opened.
+    pub(crate) durability: Durability,
+    /// The calls of each, as lines, with an empty line between two clients.
+    pub(crate) scripts: &'a str,
+}
+
+/// Opens a client on a node, with the calls of lines.
+fn list_of<'a, R: Wait>(
+    rt: &R,
+    alloc: Global,
+    keeper: &'a Keeper<Cluster>,
+    main: &mut Pass<Cluster>,
+    node: u32,
+    durability: Durability,
+    lines: &str,
+) -> Option<ClientList<'a, Cluster>>
+    requires { IsPassOf keeper.now main.old }
+    ensures { IsPassOf keeper.now main.new }
+{
+    let pass = keeper.split(main);
+    let calls = calls_in(alloc, lines)?;
+    let revoker = revoker(alloc)?;
+    let libfs = LibFs::open(rt, alloc, keeper, pass, node, revoker, durability, TURNS).ok()?;
+    ClientList::new(alloc, libfs, calls).ok()
+}
+
+/// Opens all clients.
+fn lists_of<'a, R: Wait>(
+    rt: &R,
+    alloc: Global,
+    keeper: &'a Keeper<Cluster>,
+    main: &mut Pass<Cluster>,
+    clients: &Clients<'_>,
+) -> Option<Vec<ClientList<'a, Cluster>>>
+    requires { IsPassOf keeper.now main.old }
+    ensures { IsPassOf keeper.now main.new }
+{
+    let mut lists = Vec::new(alloc);
+    let mut node = 0_u32;
+    for lines in clients.scripts.split("\n\n") {
+        node = if node < clients.nodes { node + 1 } else { 1 };
+        let list = list_of(rt, alloc, keeper, main, node, clients.durability, lines)?;
+        lists.push(list).ok()?;
+    }
+    Some(lists)
+}
+
+/// How many calls were answered.
+fn count_answered(ends: &[ClientEnd<'_, Cluster>]) -> usize {
+    let mut count = 0usize;
+    for end in ends {
+        for reply in end.replies.iter() {
+            count = count.saturating_add(usize::from(reply.is_ok()));
+        }
+    }
+    count
+}
+
+fn serve<G: Gate, R: Threads + Wait + Sync>(
+    rt: &R,
+    alloc: Global,
+    keeper: &Keeper<Cluster>,
+    main: &mut Pass<Cluster>,
+    gate: &G,
+    clients: &Clients<'_>,
+) -> Option<usize>
+    requires { IsPassOf keeper.now main.old }
+{
+    let nodes = workers_up_to(alloc, keeper, main, clients.nodes).ok()?;
+    let lists = lists_of(rt, alloc, keeper, main, clients)?;
+    let ends = run_cluster(rt, alloc, nodes, gate, lists).ok()?;
+    Some(count_answered(ends.as_slice()))
+}
+
+/// The clients make their calls on a cluster: how many calls are answered. None where memory runs out.
+pub(crate) fn answered<G: Gate, R: Threads + Wait + Sync>(
+    rt: &R,
+    alloc: Global,
+    cluster: Cluster,
+    gate: &G,
+    clients: &Clients<'_>,
+) -> Option<usize> {
+    let (keeper, mut main) = Keeper::new(alloc, cluster).ok()?;
+    let count = serve(rt, alloc, &keeper, &mut main, gate, clients);
+    keeper.close()?;
+    count
+}
