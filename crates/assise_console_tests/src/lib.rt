@@ -10,7 +10,11 @@ mod failing;
 #[cfg(test)]
 mod failures;
 #[cfg(test)]
+mod faults;
+#[cfg(test)]
 mod links;
+#[cfg(test)]
+mod made;
 #[cfg(test)]
 mod rows;
 #[cfg(test)]

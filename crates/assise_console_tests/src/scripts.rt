@@ -3,7 +3,7 @@ use crate::stock::stock_of;
 use crate::{failures, links, rows};
 use assise_console::engine::engine;
 use assise_console::options::CommandLine;
-use std::alloc::Global;
+use std::alloc::{AllocError, Global};
 use std::test::Fail;
 
 /// The command line of the tests. What ends a run early names its script.
@@ -17,19 +17,43 @@ pub(crate) const NOWHERE: CommandLine = CommandLine {
 pub(crate) type Run<'a> = (&'a str, &'a str);
 
 /// Whether a script, read and run from memory to memory, prints this.
-fn prints(alloc: Global, script: &str, wanted: &str) -> Result<bool, Fail> {
+pub(crate) fn prints(
+    alloc: Global,
+    script: &str,
+    wanted: &str,
+    command_line: &CommandLine<'_>,
+) -> Result<bool, Fail> {
     let mut reader = script.as_bytes();
     let mut output = Vec::new(alloc);
     let stock = stock_of(alloc)?;
-    engine(alloc, &mut reader, &mut output, stock, &NOWHERE)?;
+    engine(alloc, &mut reader, &mut output, stock, command_line)?;
     Ok(output.as_slice() == wanted.as_bytes())
+}
+
+/// A script whose first line makes a cluster that keeps one inode hot; a script without a cluster stays as it is.
+fn with_one_hot(alloc: Global, script: &str) -> Result<String, AllocError> {
+    if let Some((first, rest)) = script.split_once('\n') {
+        if let Some((cluster, _)) = first.rsplit_once(' ') {
+            return format!(in alloc; "{cluster} 1\n{rest}");
+        }
+    }
+    String::from_str(alloc, script)
+}
+
+/// Whether a script prints this, and the same where one inode alone is kept hot.
+fn prints_twice(alloc: Global, script: &str, wanted: &str) -> Result<bool, Fail> {
+    let one_hot = with_one_hot(alloc, script)?;
+    Ok(
+        prints(alloc, script, wanted, &NOWHERE)?
+            && prints(alloc, one_hot.as_str(), wanted, &NOWHERE)?,
+    )
 }
 
 #[test]
 fn scripts_print_their_answers(rt: HostRuntime) -> Result<(), Fail> {
     for runs in [RUNS, rows::RUNS, failures::RUNS, links::RUNS] {
         for (script, wanted) in runs {
-            assert!(rt; prints(rt.alloc(), script, wanted)?, "{script}");
+            assert!(rt; prints_twice(rt.alloc(), script, wanted)?, "{script}");
         }
     }
     Ok(())

@@ -10,6 +10,8 @@ mod failing_anywhere;
 #[cfg(test)]
 mod faults;
 #[cfg(test)]
+mod frames;
+#[cfg(test)]
 mod hot;
 #[cfg(test)]
 mod lists;
