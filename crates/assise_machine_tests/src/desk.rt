@@ -34,14 +34,18 @@ impl Revokes for Asked {
 pub(crate) type Cluster = ClusterOf<Asked>;
 
 /// A cluster; the link of each node from node 1 on; the revokers of clients that are opened, the last first; how many nodes there are;
-/// and the steps that were made, one in a line, with what the last of them came to.
+/// the line of the last step, and what it came to; the steps that were made, a line each; and what was seen before a step and behind
+/// it.
 pub(crate) struct Desk {
     pub(crate) cluster: Cluster,
     pub(crate) links: [TestLink; MOST_NODES as usize],
     pub(crate) stock: Vec<Asked>,
     pub(crate) nodes: u32,
-    pub(crate) steps: String,
+    pub(crate) line: String,
     pub(crate) outcome: String,
+    pub(crate) steps: String,
+    pub(crate) before: String,
+    pub(crate) after: String,
 }
 
 // One call lets go of it, wherever it is owned.
@@ -52,8 +56,11 @@ impl Drop for Desk {
             links: _,
             stock: _,
             nodes: _,
-            steps: _,
+            line: _,
             outcome: _,
+            steps: _,
+            before: _,
+            after: _,
         } = self;
     }
 }
@@ -66,8 +73,11 @@ impl Desk {
             links: perfect_links(),
             stock: Vec::new(alloc),
             nodes: 1,
-            steps: String::new(alloc),
+            line: String::new(alloc),
             outcome: String::new(alloc),
+            steps: String::new(alloc),
+            before: String::new(alloc),
+            after: String::new(alloc),
         })
     }
 

@@ -56,18 +56,41 @@ pub(crate) fn fault_at_the_end(alloc: Global, desk: &mut Desk) -> Option<&'stati
     fault_between(alloc, &desk.cluster)
 }
 
-/// All nodes come back and are raised, with links that are whole, all clients sync, all frames are sent and come, and all nodes
-/// digest.
+/// What is done once all nodes are back: they are raised and linked, and all clients sync.
+const LAST: &str = "\
+raise 1
+raise 2
+raise 3
+raise 4
+link 1 perfect
+link 2 perfect
+link 3 perfect
+link 4 perfect
+1 dsync
+2 dsync
+3 dsync
+4 dsync
+5 dsync
+6 dsync
+7 dsync
+8 dsync
+9 dsync
+10 dsync
+11 dsync
+12 dsync
+13 dsync
+14 dsync
+15 dsync
+16 dsync
+";
+
+/// All nodes come back, all that is done last is, and all frames are sent and come, and are digested.
 fn settle(alloc: Global, desk: &mut Desk) -> Option<()> {
     for node in 1..=desk.nodes {
         desk.bring_back(alloc, node)?;
-        desk.make_of(alloc, "raise", node)?;
-        let link = format!(in alloc; "link {node} perfect").ok()?;
-        desk.make(alloc, link.as_str())?;
     }
-    for client in 1..MANY {
-        let sync = format!(in alloc; "{client} dsync").ok()?;
-        desk.make(alloc, sync.as_str())?;
+    for line in LAST.lines() {
+        desk.make(alloc, line)?;
     }
     for _ in 0..4 {
         desk.make_round(alloc)?;

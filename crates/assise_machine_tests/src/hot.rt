@@ -55,40 +55,38 @@ node 1 has hot: 0 4294967296 4294967297
 ";
 
 /// The root, and the first inodes of client 1.
-const INODES: &[u64] = &[0, 4_294_967_296, 4_294_967_297];
+const INODES: [(u64, &str); 3] = [(0, " 0"), (4_294_967_296, "96"), (4_294_967_297, "97")];
 
 /// Makes the steps of texts, and sees that what is hot is what the lines between them say.
 pub(crate) fn see_hot(alloc: Global, rt: &impl Abort, desk: &mut Desk, texts: &[&str]) {
     for text in texts {
-        let wrong = first_wrong(alloc, desk, text).expect(rt, "no memory");
-        assert!(rt; wrong.is_empty(), "{wrong} in\n{text}");
+        let wrong = first_wrong(alloc, desk, text);
+        assert!(rt; wrong == Some(""), "{wrong:?}");
     }
 }
 
 /// The first line that says something else than is hot. None where there is no such step, or no memory.
 fn first_wrong<'a>(alloc: Global, desk: &mut Desk, text: &'a str) -> Option<&'a str> {
     for line in text.lines() {
-        if !line.starts_with("node") {
-            desk.make(alloc, line)?;
-        } else if line != hot_at(alloc, &desk.cluster, line)?.as_str() {
-            return Some(line);
+        match line.strip_prefix("node ") {
+            None => desk.make(alloc, line)?,
+            Some(said) if !are_hot(&desk.cluster, said)? => return Some(line),
+            Some(_) => (),
         }
     }
     Some("")
 }
 
-/// The line of what is hot at the node of a line.
-fn hot_at(alloc: Global, cluster: &Cluster, line: &str) -> Option<String> {
-    let (front, _) = line.split_once(':')?;
-    let node = front.split(' ').nth(1)?.parse::<u32>().ok()?;
-    let region = cluster.region(node).ok()?;
-    let mut text = format!(in alloc; "{front}:").ok()?;
-    for inode in INODES {
-        if region.is_hot(*inode) {
-            write!(text, " {inode}").ok()?;
+/// Whether exactly these inodes are hot at a node: `NODE has hot: INODES`.
+fn are_hot(cluster: &Cluster, said: &str) -> Option<bool> {
+    let (node, _) = said.split_once(' ')?;
+    let region = cluster.region(node.parse::<u32>().ok()?).ok()?;
+    for &(inode, text) in &INODES {
+        if region.is_hot(inode) != said.contains(text) {
+            return Some(false);
         }
     }
-    Some(text)
+    Some(true)
 }
 
 #[test]

@@ -10,7 +10,6 @@ use std::process::Abort;
 const PATHS: &str = "/a\n/b\n/c\n/d\n/d/a\n/d/b\n/d/e\n/d/e/a\n/a/b\n/\n";
 
 /// What may come next, some of it likelier: `C` stands for a client, `S` for a node, `P` for a path, and `N` for a number from 1 to 12.
-/// What begins with `often` is made so often that a log gets full.
 const STEPS: &str = "\
 C create P
 C create P
@@ -32,9 +31,9 @@ C write P N tab
 C write P N tab
 C write P N tcdef
 C write P N tcdef
-often C write /a N tx
-often C write /a N tx
-often C write /b N tx
+C write /a N tx
+C write /a N tx
+C write /b N tx
 C truncate P N
 C truncate P N
 C rename P P
@@ -109,47 +108,52 @@ open S eights optimistic
 ";
 
 /// What comes out of some step of the lists.
-const OUTCOMES: &str = "\
-Opened(Ok(
-Done
-Names(
-Bytes(
-NotYet
-Carried(Ok(0))
-Carried(Ok(1))
-Digested(Ok(1))
-Released(1)
-HotSet(Ok(
-Linked
-Crashed(Ok(
-Failed(Ok(
-Began(Ok(
-Left(Ok(
-Joined(Ok(
-Raised(Ok(
-NodeDown
-ClientGone
-LastNode
-BadNode
-BadClient
-WrongPhase
-LogFull
-";
+const OUTCOMES: [&str; 25] = [
+    "Opened(Ok(",
+    "Done",
+    "Names(",
+    "Bytes(",
+    "NotYet",
+    "Carried(Ok(0))",
+    "Carried(Ok(1))",
+    "Digested(Ok(1))",
+    "Digested(Ok(8))",
+    "Released(1)",
+    "HotSet(Ok(",
+    "Linked",
+    "Crashed(Ok(",
+    "Failed(Ok(",
+    "Began(Ok(",
+    "Left(Ok(",
+    "Joined(Ok(",
+    "Raised(Ok(",
+    "NodeDown",
+    "ClientGone",
+    "LastNode",
+    "BadNode",
+    "BadClient",
+    "WrongPhase",
+    "LogFull",
+];
 
-/// Appends a step by chance, where so many clients were opened. Now and then there is no such node or client.
+/// Which of them came out.
+type Came = [bool; OUTCOMES.len()];
+
+/// Appends a step by chance, where there are so many nodes, and so many clients were opened. Now and then there is no such node or
+/// client.
 fn put_step(
     dice: &mut Dice,
-    desk: &Desk,
+    nodes: u32,
     clients: u64,
     text: &mut String,
 ) -> Result<(), AllocError> {
-    let step = if dice.number(24 * clients.saturating_add(1)) == 1 {
+    let step = if dice.number(clients.saturating_add(1).saturating_mul(24)) == 1 {
         dice.line(OPENS)
     } else {
         dice.line(STEPS)
     };
     for word in step.split(' ') {
-        put_word(dice, desk, clients, word, text)?;
+        put_word(dice, nodes, clients, word, text)?;
         text.push(' ')?;
     }
     Ok(())
@@ -158,7 +162,7 @@ fn put_step(
 /// Appends a word of a step, or what it stands for.
 fn put_word(
     dice: &mut Dice,
-    desk: &Desk,
+    nodes: u32,
     clients: u64,
     word: &str,
     text: &mut String,
@@ -166,7 +170,7 @@ fn put_word(
     let most = match word {
         "P" => return text.push_str(dice.line(PATHS)),
         "C" => clients.saturating_add(1),
-        "S" => u64::from(desk.nodes).saturating_add(1),
+        "S" => u64::from(nodes).saturating_add(1),
         "N" => 12,
         _ => return text.push_str(word),
     };
@@ -181,32 +185,24 @@ fn begin(alloc: Global, dice: &mut Dice, desk: &mut Desk) -> Option<()> {
     desk.renew(alloc, nodes, log, 2)
 }
 
-/// What is wrong behind a step of a list, or once all nodes are back, and all is digested. What comes out is struck from the outcomes
-/// that are missing. None where memory runs out.
+/// What is wrong behind a step of a list, or once all nodes are back, and all is digested. None where memory runs out.
 fn fault_of(
     alloc: Global,
     dice: &mut Dice,
     desk: &mut Desk,
     lists: Lists,
-    missing: &mut Vec<&str>,
+    came: &mut Came,
 ) -> Option<&'static str> {
     begin(alloc, dice, desk)?;
     let mut clients = 0_u64;
-    let mut step = String::new(alloc);
     for number in 1..=lists.steps {
-        step.clear();
-        put_step(dice, desk, clients, &mut step).ok()?;
-        match step.as_str().strip_prefix("often ") {
-            Some(line) => make_often(alloc, desk, line)?,
-            None => desk.make(alloc, step.as_str())?,
-        }
-        let outcome = desk.outcome.as_str();
-        if outcome.starts_with("Opened(Ok") {
+        make_next(alloc, dice, desk, clients)?;
+        note(came, desk.outcome.as_str());
+        if desk.outcome.as_str().starts_with("Opened(Ok") {
             clients = clients.saturating_add(1);
         }
-        missing.retain(|kind| !outcome.contains(*kind));
         if number % lists.apart.max(1) == 0 {
-            let fault = fault_behind(alloc, &desk.cluster, outcome)?;
+            let fault = fault_behind(alloc, &desk.cluster, desk.outcome.as_str())?;
             if !fault.is_empty() {
                 return Some(fault);
             }
@@ -215,11 +211,22 @@ fn fault_of(
     fault_at_the_end(alloc, desk)
 }
 
-fn make_often(alloc: Global, desk: &mut Desk, line: &str) -> Option<()> {
-    for _ in 0..14 {
-        desk.make(alloc, line)?;
+/// Makes a step by chance; now and then so often that a log gets full.
+fn make_next(alloc: Global, dice: &mut Dice, desk: &mut Desk, clients: u64) -> Option<()> {
+    desk.line.clear();
+    put_step(dice, desk.nodes, clients, &mut desk.line).ok()?;
+    let times = if dice.number(8) == 1 { 14 } else { 1 };
+    for _ in 0..times {
+        desk.make_line(alloc)?;
     }
     Some(())
+}
+
+/// Notes what stands in what came out.
+fn note(came: &mut Came, outcome: &str) {
+    for (flag, kind) in came.iter_mut().zip(OUTCOMES) {
+        *flag |= outcome.contains(kind);
+    }
 }
 
 /// Lists of steps by chance, of pessimistic and optimistic clients.
@@ -237,24 +244,16 @@ pub(crate) struct Lists {
 /// Sees that nothing is wrong behind the steps of lists, and that these have each outcome.
 pub(crate) fn see_lists(alloc: Global, rt: &impl Abort, desk: &mut Desk, lists: Lists) {
     let mut dice = Dice::new(lists.seed);
-    let mut missing = outcomes(alloc).expect(rt, "no memory");
+    let mut came = [false; OUTCOMES.len()];
     for list in 0..lists.lists {
-        let fault = fault_of(alloc, &mut dice, desk, lists, &mut missing).expect(rt, "no memory");
+        let fault = fault_of(alloc, &mut dice, desk, lists, &mut came);
         assert!(rt;
-            fault.is_empty(),
-            "list {list}: {fault} behind\n{}",
+            fault == Some(""),
+            "list {list}: {fault:?} behind\n{}",
             desk.steps.as_str()
         );
     }
-    assert!(rt; missing.is_empty(), "{missing:?}");
-}
-
-fn outcomes(alloc: Global) -> Result<Vec<&'static str>, AllocError> {
-    let mut outcomes = Vec::new(alloc);
-    for outcome in OUTCOMES.lines() {
-        outcomes.push(outcome)?;
-    }
-    Ok(outcomes)
+    assert!(rt; came == [true; OUTCOMES.len()], "{came:?}");
 }
 
 fn see(alloc: Global, rt: &impl Abort, lists: Lists) {

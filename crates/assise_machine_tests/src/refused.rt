@@ -1,7 +1,7 @@
 // Steps that are refused as out of memory, where each allocation of a run is refused in turn. What is refused leaves all as it
 // was, and the same step answers then.
 use crate::desk::Desk;
-use crate::seen::seen;
+use crate::seen::see;
 use crate::tasks::{Task, on_desk};
 use assise_names::refusal::Refusal;
 use std::alloc::Global;
@@ -109,22 +109,23 @@ fn are_right(alloc: Global, desk: &mut Desk, rows: &str) -> Option<bool> {
 
 /// Makes a step, once more where it is refused as out of memory.
 fn is_right(alloc: Global, desk: &mut Desk, step: &str, wanted: &str) -> Option<bool> {
-    let before = seen(alloc, desk).ok()?;
+    see(&desk.cluster, &mut desk.before).ok()?;
     desk.make(alloc, step)?;
     if desk.outcome.as_str() == wanted {
         return Some(true);
     }
-    let after = seen(alloc, desk).ok()?;
-    if !may_be_refused(step, desk.outcome.as_str()) || before.as_str() != after.as_str() {
+    see(&desk.cluster, &mut desk.after).ok()?;
+    if !may_be_refused(desk) || desk.before.as_str() != desk.after.as_str() {
         return Some(false);
     }
     desk.make(alloc, step)?;
     Some(desk.outcome.as_str() == wanted)
 }
 
-/// Whether want of memory is all that stood against a step that came to this. A carry only says what came.
-fn may_be_refused(step: &str, outcome: &str) -> bool {
-    outcome.contains("OutOfMemory") || step.starts_with("carry") && outcome == "Carried(Ok(0))"
+/// Whether want of memory is all that stood against a step. A carry only says what came.
+fn may_be_refused(desk: &Desk) -> bool {
+    let outcome = desk.outcome.as_str();
+    outcome.contains("OutOfMemory") || outcome == "Carried(Ok(0))"
 }
 
 #[test]

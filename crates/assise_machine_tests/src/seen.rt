@@ -1,41 +1,40 @@
 // What a refused step leaves as it was.
-use crate::desk::Desk;
+use crate::desk::Cluster;
 use assise_digest::region::Region;
-use assise_inode_table::inode::Inode;
-use std::alloc::{AllocError, Global};
+use std::alloc::AllocError;
 
 /// The root, and the first inodes of two clients.
 const INODES: &[u64] = &[0, 4_294_967_296, 4_294_967_297, 8_589_934_592];
 
-/// The history, the logs of two clients at each of two full nodes, what inodes are there, and how many may be hot. It takes memory
-/// once.
-pub(crate) fn seen(alloc: Global, desk: &Desk) -> Result<String, AllocError> {
-    let mut text = String::with_capacity(alloc, 2048)?;
-    let history = desk.cluster.history();
+/// Writes the history, and what two nodes have, in place of a text.
+pub(crate) fn see(cluster: &Cluster, text: &mut String) -> Result<(), AllocError> {
+    text.clear();
+    let history = cluster.history();
     write!(text, "{history}")?;
     for node in 1..3 {
-        if let Ok(region) = desk.cluster.region(node) {
-            put_region(region, &mut text)?;
+        if let Ok(region) = cluster.region(node) {
+            put_region(region, text)?;
         }
     }
-    Ok(text)
+    Ok(())
 }
 
+/// Appends how many inodes may be hot, which are there, and the logs of two clients.
 fn put_region(region: &Region, text: &mut String) -> Result<(), AllocError> {
     let capacity = region.hot_capacity();
     write!(text, "\nhot {capacity}")?;
+    for inode in INODES {
+        let there = region.peek(*inode).is_some();
+        write!(text, " {there}")?;
+    }
     for client in 1..3 {
         put_log(region, client, text)?;
-    }
-    for inode in INODES {
-        let described = region.peek(*inode).map(Inode::describe);
-        write!(text, " {described:?}")?;
     }
     Ok(())
 }
 
 fn put_log(region: &Region, client: usize, text: &mut String) -> Result<(), AllocError> {
-    if region.clients() < client {
+    if client == 0 || region.clients() < client {
         return Ok(());
     }
     let (first, end) = (region.log(client).first(), region.log(client).end());

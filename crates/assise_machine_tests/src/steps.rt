@@ -12,19 +12,27 @@ use assise_rounds::rounds::replicate;
 use std::alloc::Global;
 
 impl Desk {
-    /// Makes the step of a line, tells what it comes to, and keeps the line. None where there is no such step, or no memory to read it
-    /// or to tell of it.
+    /// Makes the step of a line. None where there is no such step, or no memory to read it or to tell of it.
     pub(crate) fn make(&mut self, alloc: Global, line: &str) -> Option<()> {
-        let command = command_of(alloc, line)?;
-        self.outcome.clear();
-        self.make_command(alloc, command)?;
-        writeln!(self.steps, "{line}").ok()
+        self.line.clear();
+        self.line.push_str(line).ok()?;
+        self.make_line(alloc)
     }
 
     /// Makes the step of a word with the number of a node.
     pub(crate) fn make_of(&mut self, alloc: Global, word: &str, node: u32) -> Option<()> {
-        let line = format!(in alloc; "{word} {node}").ok()?;
-        self.make(alloc, line.as_str())
+        self.line.clear();
+        write!(self.line, "{word} {node}").ok()?;
+        self.make_line(alloc)
+    }
+
+    /// Makes the step of its line, tells what it comes to, and keeps the line.
+    pub(crate) fn make_line(&mut self, alloc: Global) -> Option<()> {
+        let command = command_of(alloc, self.line.as_str())?;
+        self.outcome.clear();
+        self.make_command(alloc, command)?;
+        self.steps.push_str(self.line.as_str()).ok()?;
+        self.steps.push('\n').ok()
     }
 
     fn make_command(&mut self, alloc: Global, command: Command) -> Option<()> {
