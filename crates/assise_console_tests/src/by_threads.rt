@@ -17,8 +17,8 @@ fn prints<R: Threads + Wait + Sync>(
     let mut reader = script.as_bytes();
     let mut output = Vec::new(alloc);
     let stock = stock_of(alloc)?;
-    engine_threads(rt, alloc, &mut reader, &mut output, stock, &NOWHERE)?;
-    Ok(output.as_slice() == wanted.as_bytes())
+    let ended = engine_threads(rt, alloc, &mut reader, &mut output, stock, &NOWHERE);
+    Ok(ended.is_ok() && output.as_slice() == wanted.as_bytes())
 }
 
 #[test]

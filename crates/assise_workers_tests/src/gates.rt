@@ -6,10 +6,10 @@ use std::thread;
 /// How often a gate looks at most.
 const LOOKS: u32 = 100_000;
 
-/// Looks until so many have come, but not for ever. Whether they have.
-fn wait_for(count: &AtomicU64, least: u64) -> bool {
+/// Looks until the flag is set, but not for ever. Whether it was.
+fn wait_for(flag: &AtomicBool) -> bool {
     for _ in 0..LOOKS {
-        if count.load(Ordering::SeqCst) >= least {
+        if flag.load(Ordering::SeqCst) {
             return true;
         }
         thread::yield_now();
@@ -17,21 +17,25 @@ fn wait_for(count: &AtomicU64, least: u64) -> bool {
     false
 }
 
-/// Holds the first frame until two more have come.
+/// Holds the first frame until another client is answered, and ends workers once the first one has synced.
 #[derive(Drop)]
-pub(crate) struct FirstHeld {
-    /// How many frames have come.
-    pub(crate) frames: AtomicU64,
-    /// Two came while the first was held.
+pub(crate) struct UntilAnswered {
+    /// A frame is held, or was.
+    pub(crate) held: AtomicBool,
+    /// The other client was answered.
+    pub(crate) answered: AtomicBool,
+    /// It was while the frame was held.
     pub(crate) came: AtomicBool,
+    /// The first client has synced.
+    pub(crate) synced: AtomicBool,
 }
 
-impl Gate for FirstHeld {
+impl Gate for UntilAnswered {
     fn pass(&self, point: Point) -> bool {
-        if point == Point::BeforeCarry && self.frames.fetch_add(1, Ordering::SeqCst) == 0 {
-            self.came.store(wait_for(&self.frames, 3), Ordering::SeqCst);
+        if point == Point::BeforeCarry && !self.held.swap(true, Ordering::SeqCst) {
+            self.came.store(wait_for(&self.answered), Ordering::SeqCst);
         }
-        true
+        !self.synced.load(Ordering::SeqCst)
     }
 }
 
@@ -40,8 +44,8 @@ impl Gate for FirstHeld {
 pub(crate) struct AllAtOnce {
     /// How many frames have come.
     pub(crate) frames: AtomicU64,
-    /// How many digests came behind two frames.
-    pub(crate) digests: AtomicU64,
+    /// A digest came behind two frames.
+    pub(crate) digest: AtomicBool,
     /// How many frames were let go of by that.
     pub(crate) freed: AtomicU64,
 }
@@ -51,13 +55,13 @@ impl Gate for AllAtOnce {
         match point {
             Point::BeforeCarry => {
                 let before = self.frames.fetch_add(1, Ordering::SeqCst);
-                if before < 2 && wait_for(&self.digests, 1) {
+                if before < 2 && wait_for(&self.digest) {
                     self.freed.fetch_add(1, Ordering::SeqCst);
                 }
             }
             Point::BeforeDigest => {
                 if self.frames.load(Ordering::SeqCst) >= 2 {
-                    self.digests.fetch_add(1, Ordering::SeqCst);
+                    self.digest.store(true, Ordering::SeqCst);
                 }
             }
             Point::BeforeDeliver | Point::Turn => (),

@@ -8,6 +8,8 @@ mod crowds;
 #[cfg(test)]
 mod gates;
 #[cfg(test)]
+mod held;
+#[cfg(test)]
 mod refused;
 #[cfg(test)]
 mod runs;

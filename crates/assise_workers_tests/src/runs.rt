@@ -17,7 +17,7 @@ use std::sync::Wait;
 use std::thread::Threads;
 
 /// The turns of a call: more than any call of the tests takes.
-const TURNS: u32 = 1_000_000;
+pub(crate) const TURNS: u32 = 1_000_000;
 
 /// The clients of a run.
 #[derive(Clone, Copy)]

@@ -1,16 +1,15 @@
 // What contracts can't say: that workers and clients get on, and that none is held up by another's frame.
 use crate::begun::begin;
 use crate::crowds::{Crowd, run_crowd};
-use crate::gates::{AllAtOnce, FirstHeld};
+use crate::gates::{AllAtOnce, UntilAnswered};
+use crate::held::stat_beside_fsync;
 use crate::runs::{Clients, answered};
 use assise_machine::cluster::Cluster;
 use assise_names::durability::Durability;
+use assise_names::reply::Reply;
 use assise_rounds::rounds::round;
-use assise_workers::gate::Gate;
 use std::alloc::Global;
-use std::sync::Wait;
 use std::sync::atomic::{AtomicBool, AtomicU64, Ordering};
-use std::thread::Threads;
 
 /// Two clients on two nodes, with few calls.
 const FEW: Crowd = Crowd {
@@ -82,46 +81,24 @@ fn with_two_files(alloc: Global) -> Option<Cluster> {
     Some(cluster)
 }
 
-/// A client on each of two nodes writes its own file and syncs, four times: how many calls are answered.
-fn write_and_sync<G: Gate, R: Threads + Wait + Sync>(
-    rt: &R,
-    alloc: Global,
-    gate: &G,
-) -> Option<usize> {
-    let clients = Clients {
-        nodes: 2,
-        durability: Durability::Pessimistic,
-        scripts: "\
-1 write /a/f 0 tx
-1 fsync
-1 write /a/f 0 ty
-1 fsync
-1 write /a/f 0 tz
-1 fsync
-1 write /a/f 0 tw
-1 fsync
+/// A client on each of two nodes writes its own file and syncs.
+const SYNCS: Clients<'_> = Clients {
+    nodes: 2,
+    durability: Durability::Pessimistic,
+    scripts: "1 write /a/f 0 tw\n1 fsync\n\n1 write /b/g 0 tw\n1 fsync\n",
+};
 
-1 write /b/g 0 tx
-1 fsync
-1 write /b/g 0 ty
-1 fsync
-1 write /b/g 0 tz
-1 fsync
-1 write /b/g 0 tw
-1 fsync
-",
-    };
-    answered(rt, alloc, with_two_files(alloc)?, gate, &clients)
-}
-
-/// Whoever's frame is held first, the other one syncs, writes and syncs again: of its frames two come.
 #[test]
 fn fsync_waits_while_others_go_on(rt: HostRuntime) {
-    let gate = FirstHeld {
-        frames: AtomicU64::new(0),
+    let gate = UntilAnswered {
+        held: AtomicBool::new(false),
+        answered: AtomicBool::new(false),
         came: AtomicBool::new(false),
+        synced: AtomicBool::new(false),
     };
-    assert_eq!(rt; write_and_sync(&rt, rt.alloc(), &gate), Some(16));
+    let cluster = with_two_files(rt.alloc()).expect(&rt, "no memory");
+    let replies = stat_beside_fsync(&rt, rt.alloc(), cluster, &gate);
+    assert_eq!(rt; replies, Some((Some(Reply::Done), Some(Reply::File(1)))));
     assert!(rt; gate.came.load(Ordering::SeqCst));
 }
 
@@ -129,9 +106,11 @@ fn fsync_waits_while_others_go_on(rt: HostRuntime) {
 fn all_at_once(rt: HostRuntime) {
     let gate = AllAtOnce {
         frames: AtomicU64::new(0),
-        digests: AtomicU64::new(0),
+        digest: AtomicBool::new(false),
         freed: AtomicU64::new(0),
     };
-    assert_eq!(rt; write_and_sync(&rt, rt.alloc(), &gate), Some(16));
+    let cluster = with_two_files(rt.alloc()).expect(&rt, "no memory");
+    let count = answered(&rt, rt.alloc(), cluster, &gate, &SYNCS);
+    assert_eq!(rt; count, Some(4));
     assert_eq!(rt; gate.freed.load(Ordering::SeqCst), 2);
 }
