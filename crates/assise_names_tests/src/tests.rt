@@ -32,8 +32,8 @@ struct Copies;
 impl Subject for Copies {
     fn put(&mut self, alloc: Global, steps: &str, text: &mut String) -> Option<()> {
         match split_word(steps) {
-            ("bytes", bytes) => put_reply(alloc, bytes_reply(alloc, bytes)?, text),
-            ("names", names) => put_reply(alloc, names_reply(alloc, names)?, text),
+            ("bytes", bytes) => put_reply(alloc, &bytes_reply(alloc, bytes)?, text),
+            ("names", names) => put_reply(alloc, &names_reply(alloc, names)?, text),
             _ => put_call(alloc, steps, text),
         }
     }
@@ -46,7 +46,7 @@ fn put_call(alloc: Global, call: &str, text: &mut String) -> Option<()> {
 }
 
 /// Appends a copy of a reply.
-fn put_reply(alloc: Global, reply: Reply, text: &mut String) -> Option<()> {
+fn put_reply(alloc: Global, reply: &Reply, text: &mut String) -> Option<()> {
     let copied = reply.copy(alloc).ok()?;
     write!(text, " {copied}").ok()
 }
