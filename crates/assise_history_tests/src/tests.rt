@@ -4,7 +4,6 @@ use assise_history::check::check;
 use assise_history::entry::Entry;
 use assise_history::history::History;
 use assise_history::kept::kept;
-use assise_history::replay::replay;
 use assise_names::call::Op;
 use assise_names::durability::Durability;
 use assise_names::reply::{Reply, TreeError};
@@ -216,17 +215,20 @@ fn failure_of(alloc: Global, text: &str) -> Option<Entry> {
     Some(Entry::fail(node, losses))
 }
 
-#[test]
-fn legal_histories_pass_and_others_do_not(rt: HostRuntime) {
-    for rows in &[LEGAL, ILLEGAL] {
-        let history = History::new(rt.alloc());
-        let shown = show(rt.alloc(), &mut Growing { history }, rows);
-        assert_eq!(rt; shown.as_str(), "right");
-    }
+/// What comes out of histories that begin with none.
+fn shown(alloc: Global, rows: &str) -> String {
+    let history = History::new(alloc);
+    show(alloc, &mut Growing { history }, rows)
 }
 
-/// A history of so many calls.
-fn history_of(alloc: Global, calls: u64) -> Option<History> {
+#[test]
+fn legal_histories_pass_and_others_do_not(rt: HostRuntime) {
+    assert_eq!(rt; shown(rt.alloc(), LEGAL).as_str(), "right");
+    assert_eq!(rt; shown(rt.alloc(), ILLEGAL).as_str(), "right");
+}
+
+/// What [`put_verdict`] says of a history of so many calls.
+fn verdict_of(alloc: Global, calls: u64) -> Option<String> {
     let mut history = History::new(alloc);
     add(alloc, &mut history, "open 1 1")?;
     for number in 0..calls {
@@ -238,19 +240,13 @@ fn history_of(alloc: Global, calls: u64) -> Option<History> {
             reply: Reply::Done,
         }));
     }
-    Some(history)
-}
-
-/// Whether a history of so many calls is legal, and all are kept and a run.
-fn is_run(alloc: Global, calls: u64) -> Option<bool> {
-    let history = history_of(alloc, calls)?;
-    let legal = check(alloc, &history).ok()?;
-    let kept = kept(alloc, &history).ok()?;
-    let tree = replay(alloc, &kept).ok()?;
-    Some(legal && kept.len() as u64 == calls && tree.is_some())
+    let mut text = String::new(alloc);
+    put_verdict(alloc, &history, &mut text)?;
+    Some(text)
 }
 
 #[test]
 fn a_history_of_100000_calls_is_checked(rt: HostRuntime) {
-    assert_eq!(rt; is_run(rt.alloc(), 100_000), Some(true));
+    let verdict = verdict_of(rt.alloc(), 100_000);
+    assert_eq!(rt; verdict.as_deref(), Some(" legal 100000"));
 }
