@@ -5,24 +5,28 @@ use assise_record::effect::Effect;
 use assise_record::record::Record;
 use std::alloc::Global;
 
-/// A record of an effect that takes memory when it is copied.
-fn record_of(alloc: Global, call: u64) -> Option<Record> {
-    if call == u64::MAX {
-        return None;
-    }
+/// An effect that takes memory when it is copied.
+fn unlink(alloc: Global) -> Option<Vec<Effect>> {
     let name = Name::parse(alloc, "f").ok()?;
     let mut effects = Vec::new(alloc);
     effects.push(Effect::Unlink { directory: 7, name }).ok()?;
-    Some(Record::new(call, effects))
+    Some(effects)
+}
+
+/// Adds a record of effects, if there may be one.
+fn add(log: &mut Log, effects: Vec<Effect>) -> Option<()> {
+    let number = log.end();
+    if number == u64::MAX || effects.is_empty() || effects.len() > 4 {
+        return None;
+    }
+    log.append(Record::new(number, effects)).ok()
 }
 
 /// A log of 8 with two records.
 fn log_of_two(alloc: Global) -> Option<Log> {
     let mut log = Log::new(alloc, 8).ok()?;
-    for _ in 0..2 {
-        let record = record_of(alloc, log.end())?;
-        log.append(record).ok()?;
-    }
+    add(&mut log, unlink(alloc)?)?;
+    add(&mut log, unlink(alloc)?)?;
     Some(log)
 }
 
