@@ -99,3 +99,32 @@ fn frames_are_read_copied_and_spelled(rt: HostRuntime) {
         assert_eq!(rt; found.as_deref(), Some(wanted));
     }
 }
+
+/// The first of these frames, without the byte behind it.
+const FRAME: &[u8] = b"AS\x01\0\0\0\0\0\0\0\x01\0\0\0\x01\0\0\0\0\0\0\0\0\0\x01\0\0\0\x25\
+\0\0\0\0\0\0\0\0\x02\x01\0\0\0\x01\0\0\0\0\x05\0\0\0\0\0\0\0\0\x01f\0\0\0\x01\0\0\0\0";
+
+/// The same of version 2.
+const MARKED: &[u8] = b"AS\x02\0\0\0\0\0\0\0\x01\0\0\0\x01\0\0\0\0\0\0\0\0\0\x01\0\0\0\x26\
+\0\0\0\0\0\0\0\0\x01\x02\x01\0\0\0\x01\0\0\0\0\x05\0\0\0\0\0\0\0\0\x01f\0\0\0\x01\0\0\0\0";
+
+/// The fault of bytes of which one is another.
+fn fault_at(alloc: Global, place: usize, byte: u8) -> Option<FrameFault> {
+    let mut bytes = Vec::new(alloc);
+    bytes.extend_from_slice(FRAME).ok()?;
+    *bytes.get_mut(place)? = byte;
+    decode(alloc, bytes.as_slice()).err()
+}
+
+#[test]
+fn each_front_of_a_frame_is_short(rt: HostRuntime) {
+    for frame in [FRAME, MARKED] {
+        for count in 0..frame.len() {
+            let fault = read(rt.alloc(), &frame[..count]).err();
+            assert!(rt; fault == Some(FrameFault::Short));
+        }
+        assert!(rt; read(rt.alloc(), frame).is_ok());
+    }
+    assert!(rt; fault_at(rt.alloc(), 2, 2) == Some(FrameFault::BadVersion));
+    assert!(rt; fault_at(rt.alloc(), 28, 0x24) == Some(FrameFault::BadLength));
+}

@@ -28,6 +28,15 @@ pub(crate) fn revoker(alloc: Global) -> Option<Revoker> {
     Some(Revoker::new(cut))
 }
 
+/// So many of them.
+pub(crate) fn revokers(alloc: Global, count: u32) -> Option<Vec<Revoker>> {
+    let mut revokers = Vec::new(alloc);
+    for _ in 0..count {
+        revokers.push(revoker(alloc)?).ok()?;
+    }
+    Some(revokers)
+}
+
 /// Client 1 is opened on node 1, makes the calls of lines, and waits for an fsync. None where memory runs out.
 pub(crate) fn begin(alloc: Global, cluster: &mut Cluster, lines: &str) -> Option<()> {
     cluster

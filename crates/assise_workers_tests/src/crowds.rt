@@ -1,4 +1,5 @@
 // Many clients.
+use crate::begun::revokers;
 use crate::runs::{Clients, answered};
 use assise_machine::cluster::Cluster;
 use assise_names::durability::Durability;
@@ -64,5 +65,6 @@ pub(crate) fn run_crowd<R: Threads + Wait + Sync>(
         durability: crowd.durability,
         scripts: scripts.as_str(),
     };
-    answered(rt, alloc, cluster, &OpenGate, &clients)
+    let mut revokers = revokers(alloc, crowd.clients)?;
+    answered(rt, alloc, cluster, &mut revokers, &OpenGate, &clients)
 }

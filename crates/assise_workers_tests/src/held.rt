@@ -2,11 +2,11 @@
 ghost use Rattle.std.specs.Prelude.{◌≡◌};
 ghost use Rattle.assise_keeper.specs.Passes.{IsPassOf};
 
-use crate::begun::revoker;
 use crate::gates::UntilAnswered;
 use crate::runs::TURNS;
 use assise_keeper::keeper::Keeper;
 use assise_keeper::pass::Pass;
+use assise_lease_table::revoker::Revoker;
 use assise_libfs::libfs::LibFs;
 use assise_libfs::served::Served;
 use assise_machine::cluster::Cluster;
@@ -29,12 +29,12 @@ fn open<'a, R: Wait>(
     keeper: &'a Keeper<Cluster>,
     main: &mut Pass<Cluster>,
     node: u32,
+    revoker: Revoker,
 ) -> Option<LibFs<'a, Cluster>>
     requires { IsPassOf keeper.now main.old }
     ensures { IsPassOf keeper.now main.new }
 {
     let pass = keeper.split(main);
-    let revoker = revoker(alloc)?;
     let durability = Durability::Pessimistic;
     LibFs::open(rt, alloc, keeper, pass, node, revoker, durability, TURNS).ok()
 }
@@ -132,13 +132,14 @@ fn begin_and_sync<R: Threads + Wait + Sync>(
     alloc: Global,
     keeper: &Keeper<Cluster>,
     main: &mut Pass<Cluster>,
+    revokers: &mut Vec<Revoker>,
     gate: &UntilAnswered,
 ) -> Option<(Option<Reply>, Option<Reply>)>
     requires { IsPassOf keeper.now main.old }
 {
     let mut nodes = workers_up_to(alloc, keeper, main, 2).ok()?;
-    let mut first = open(rt, alloc, keeper, main, 1)?;
-    let mut second = open(rt, alloc, keeper, main, 2)?;
+    let mut first = open(rt, alloc, keeper, main, 1, revokers.pop()?)?;
+    let mut second = open(rt, alloc, keeper, main, 2, revokers.pop()?)?;
     let begun = write(rt, alloc, &mut second, "/b/g").and(stat(rt, alloc, &mut first, "/a/f"));
     let nodes = nodes.as_mut_slice();
     let replies = sync_beside_stat(rt, alloc, &mut first, &mut second, nodes, gate);
@@ -150,10 +151,11 @@ pub(crate) fn stat_beside_fsync<R: Threads + Wait + Sync>(
     rt: &R,
     alloc: Global,
     cluster: Cluster,
+    revokers: &mut Vec<Revoker>,
     gate: &UntilAnswered,
 ) -> Option<(Option<Reply>, Option<Reply>)> {
     let (keeper, mut main) = Keeper::new(alloc, cluster).ok()?;
-    let replies = begin_and_sync(rt, alloc, &keeper, &mut main, gate);
+    let replies = begin_and_sync(rt, alloc, &keeper, &mut main, revokers, gate);
     keeper.close()?;
     replies
 }

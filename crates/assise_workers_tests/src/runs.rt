@@ -2,9 +2,10 @@
 ghost use Rattle.std.specs.Prelude.{◌≡◌};
 ghost use Rattle.assise_keeper.specs.Passes.{IsPassOf};
 
-use crate::begun::{calls_in, revoker};
+use crate::begun::calls_in;
 use assise_keeper::keeper::Keeper;
 use assise_keeper::pass::Pass;
+use assise_lease_table::revoker::Revoker;
 use assise_libfs::libfs::LibFs;
 use assise_machine::cluster::Cluster;
 use assise_names::durability::Durability;
@@ -30,13 +31,14 @@ pub(crate) struct Clients<'a> {
     pub(crate) scripts: &'a str,
 }
 
-/// Opens a client on a node, with the calls of lines.
+/// Opens a client on a node, with a revoker and the calls of lines.
 fn list_of<'a, R: Wait>(
     rt: &R,
     alloc: Global,
     keeper: &'a Keeper<Cluster>,
     main: &mut Pass<Cluster>,
     node: u32,
+    revoker: Revoker,
     durability: Durability,
     lines: &str,
 ) -> Option<ClientList<'a, Cluster>>
@@ -45,7 +47,6 @@ fn list_of<'a, R: Wait>(
 {
     let pass = keeper.split(main);
     let calls = calls_in(alloc, lines)?;
-    let revoker = revoker(alloc)?;
     let libfs = LibFs::open(rt, alloc, keeper, pass, node, revoker, durability, TURNS).ok()?;
     ClientList::new(alloc, libfs, calls).ok()
 }
@@ -56,6 +57,7 @@ fn lists_of<'a, R: Wait>(
     alloc: Global,
     keeper: &'a Keeper<Cluster>,
     main: &mut Pass<Cluster>,
+    revokers: &mut Vec<Revoker>,
     clients: &Clients<'_>,
 ) -> Option<Vec<ClientList<'a, Cluster>>>
     requires { IsPassOf keeper.now main.old }
@@ -65,7 +67,8 @@ fn lists_of<'a, R: Wait>(
     let mut node = 0_u32;
     for lines in clients.scripts.split("\n\n") {
         node = if node < clients.nodes { node + 1 } else { 1 };
-        let list = list_of(rt, alloc, keeper, main, node, clients.durability, lines)?;
+        let (revoker, durability) = (revokers.pop()?, clients.durability);
+        let list = list_of(rt, alloc, keeper, main, node, revoker, durability, lines)?;
         lists.push(list).ok()?;
     }
     Some(lists)
@@ -87,27 +90,29 @@ fn serve<G: Gate, R: Threads + Wait + Sync>(
     alloc: Global,
     keeper: &Keeper<Cluster>,
     main: &mut Pass<Cluster>,
+    revokers: &mut Vec<Revoker>,
     gate: &G,
     clients: &Clients<'_>,
 ) -> Option<usize>
     requires { IsPassOf keeper.now main.old }
 {
     let nodes = workers_up_to(alloc, keeper, main, clients.nodes).ok()?;
-    let lists = lists_of(rt, alloc, keeper, main, clients)?;
+    let lists = lists_of(rt, alloc, keeper, main, revokers, clients)?;
     let ends = run_cluster(rt, alloc, nodes, gate, lists).ok()?;
     Some(count_answered(ends.as_slice()))
 }
 
-/// The clients make their calls on a cluster: how many calls are answered. None where memory runs out.
+/// The clients, each with one of the revokers, make their calls on a cluster: how many calls are answered. None where memory runs out.
 pub(crate) fn answered<G: Gate, R: Threads + Wait + Sync>(
     rt: &R,
     alloc: Global,
     cluster: Cluster,
+    revokers: &mut Vec<Revoker>,
     gate: &G,
     clients: &Clients<'_>,
 ) -> Option<usize> {
     let (keeper, mut main) = Keeper::new(alloc, cluster).ok()?;
-    let count = serve(rt, alloc, &keeper, &mut main, gate, clients);
+    let count = serve(rt, alloc, &keeper, &mut main, revokers, gate, clients);
     keeper.close()?;
     count
 }

@@ -1,5 +1,5 @@
 // What contracts can't say: that workers and clients get on, and that none is held up by another's frame.
-use crate::begun::begin;
+use crate::begun::{begin, revokers};
 use crate::crowds::{Crowd, run_crowd};
 use crate::gates::{AllAtOnce, UntilAnswered};
 use crate::held::stat_beside_fsync;
@@ -97,7 +97,8 @@ fn fsync_waits_while_others_go_on(rt: HostRuntime) {
         synced: AtomicBool::new(false),
     };
     let cluster = with_two_files(rt.alloc()).expect(&rt, "no memory");
-    let replies = stat_beside_fsync(&rt, rt.alloc(), cluster, &gate);
+    let mut revokers = revokers(rt.alloc(), 2).expect(&rt, "no memory");
+    let replies = stat_beside_fsync(&rt, rt.alloc(), cluster, &mut revokers, &gate);
     assert_eq!(rt; replies, Some((Some(Reply::Done), Some(Reply::File(1)))));
     assert!(rt; gate.came.load(Ordering::SeqCst));
 }
@@ -110,7 +111,8 @@ fn all_at_once(rt: HostRuntime) {
         freed: AtomicU64::new(0),
     };
     let cluster = with_two_files(rt.alloc()).expect(&rt, "no memory");
-    let count = answered(&rt, rt.alloc(), cluster, &gate, &SYNCS);
+    let mut revokers = revokers(rt.alloc(), 2).expect(&rt, "no memory");
+    let count = answered(&rt, rt.alloc(), cluster, &mut revokers, &gate, &SYNCS);
     assert_eq!(rt; count, Some(4));
     assert_eq!(rt; gate.freed.load(Ordering::SeqCst), 2);
 }
