@@ -8,7 +8,8 @@ use std::alloc::{AllocError, Global};
 
 /// What the steps of rows are made on, one row after another.
 pub trait Subject {
-    /// Makes the steps of a row, and appends what comes out behind a space each. None ends a row that can't be made.
+    /// Makes the steps of a row, and appends what comes out behind a space each. None ends a row that can't be made. A blank row
+    /// between cases has no steps, and nothing comes out.
     fn put(&mut self, alloc: Global, steps: &str, text: &mut String) -> Option<()>;
 }
 
@@ -57,7 +58,10 @@ fn right_row<S: Subject>(
     subject: &mut S,
     steps: &str,
 ) -> Result<String, AllocError> {
-    let mut text = format!(in alloc; "{steps} =>")?;
+    let mut text = String::from_str(alloc, steps)?;
+    if !steps.is_empty() {
+        text.push_str(" =>")?;
+    }
     let _ = subject.put(alloc, steps, &mut text);
     Ok(text)
 }
