@@ -4,6 +4,4 @@
 #[cfg(test)]
 mod refused;
 #[cfg(test)]
-mod steps;
-#[cfg(test)]
 mod tests;
