@@ -1,7 +1,5 @@
-//! Tests of `assise_names`: texts of paths, and what is printed of calls, replies and refusals.
+//! Tests of `assise_names`: calls and replies are made, copied and printed.
 #![tactic(auto)]
 
 #[cfg(test)]
-mod paths;
-#[cfg(test)]
-mod printed;
+mod tests;
