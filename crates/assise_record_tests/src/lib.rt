@@ -1,13 +1,5 @@
-//! Tests of `assise_record`: frames byte by byte, each fault in its place, what is copied, and what is overridden.
+//! Tests of `assise_record`: frames byte by byte, which are read, copied and spelled again.
 #![tactic(auto)]
 
 #[cfg(test)]
-mod effects;
-#[cfg(test)]
-mod frames;
-#[cfg(test)]
-mod marks;
-#[cfg(test)]
-mod outcome;
-#[cfg(test)]
-mod rows;
+mod tests;
