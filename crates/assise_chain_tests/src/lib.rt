@@ -1,13 +1,5 @@
-//! Tests of `assise_chain`.
+//! Tests of `assise_chain`: what a node sends is taken in while there is memory.
 #![tactic(auto)]
 
 #[cfg(test)]
-mod accepting;
-#[cfg(test)]
-mod logs;
-#[cfg(test)]
-mod passing;
-#[cfg(test)]
-mod sending;
-#[cfg(test)]
-mod standing;
+mod tests;
