@@ -1,13 +1,7 @@
-//! Tests of `assise_private_log`.
+//! Tests of `assise_private_log`: logs are filled, copied and regrouped while there is memory.
 #![tactic(auto)]
 
 #[cfg(test)]
-mod plain;
-#[cfg(test)]
 mod refused;
-#[cfg(test)]
-mod rows;
-#[cfg(test)]
-mod steps;
 #[cfg(test)]
 mod tests;

@@ -1,77 +1,67 @@
 // Allocations that are refused: `checks/allocations logs` refuses each in turn.
-use crate::steps::append;
 use assise_names::name::Name;
-use assise_names::refusal::Refusal;
 use assise_private_log::log::Log;
 use assise_record::effect::Effect;
+use assise_record::record::Record;
 use std::alloc::Global;
 
 /// An effect that takes memory when it is copied.
-fn effects(alloc: Global) -> Result<Vec<Effect>, Refusal> {
-    let name = Name::parse(alloc, "f").map_err(|_| Refusal::OutOfMemory)?;
+fn unlink(alloc: Global) -> Option<Vec<Effect>> {
+    let name = Name::parse(alloc, "f").ok()?;
     let mut effects = Vec::new(alloc);
-    effects.push(Effect::Unlink { directory: 7, name })?;
-    Ok(effects)
+    effects.push(Effect::Unlink { directory: 7, name }).ok()?;
+    Some(effects)
+}
+
+/// Adds a record of effects, if there may be one.
+fn add(log: &mut Log, effects: Vec<Effect>) -> Option<()> {
+    let number = log.end();
+    if number == u64::MAX || effects.is_empty() || effects.len() > 4 {
+        return None;
+    }
+    log.append(Record::new(number, effects)).ok()
 }
 
 /// A log of 8 with two records.
-fn log_of_two(alloc: Global) -> Result<Log, Refusal> {
-    let mut log = Log::new(alloc, 8)?;
-    for _ in 0..2 {
-        match append(&mut log, effects(alloc)?) {
-            Some(Ok(())) => {}
-            _ => return Err(Refusal::LogFull),
-        }
-    }
-    Ok(log)
+fn log_of_two(alloc: Global) -> Option<Log> {
+    let mut log = Log::new(alloc, 8).ok()?;
+    add(&mut log, unlink(alloc)?)?;
+    add(&mut log, unlink(alloc)?)?;
+    Some(log)
 }
 
-/// Whether a log is that of two records.
-fn has_two(log: &Log) -> bool {
-    let mut same = log.first() == 0 && log.end() == 2 && log.spare() == 6;
-    for number in 0..2 {
-        let call = log.get(number).map(|record| record.call());
-        same = same && call == Some(number) && log.view().touches(number, 7);
-    }
-    same
+/// Whether a log has so many records, and the first is of call 0 and touches inode 7.
+fn has_first_of(log: &Log, count: usize) -> bool {
+    let is_first = log.get(0).is_some_and(|record| record.call() == 0);
+    is_first && log.len() == count && log.view().touches(0, 7)
 }
 
-/// Copies a log, and says whether log and copy are what the log was.
-fn copy_is_alike(alloc: Global) -> Result<bool, Refusal> {
+/// Copies a log, and says whether log and copy are what the log was. None where memory ran out, and the log is as it was.
+pub(crate) fn copy_is_alike(alloc: Global) -> Option<bool> {
     let log = log_of_two(alloc)?;
     let copied = log.copy(alloc);
-    if !has_two(&log) {
-        return Ok(false);
+    if !has_first_of(&log, 2) {
+        return Some(false);
     }
-    Ok(has_two(&copied?))
+    Some(has_first_of(&copied.ok()?, 2))
 }
 
-/// Cuts a log into groups, and says whether one record is left, or, where memory ran out, both.
-fn regroups_or_stays(alloc: Global) -> Result<bool, Refusal> {
+/// Cuts a log into groups, and says whether one record is left. None where memory ran out, and both are left.
+pub(crate) fn regroups_or_stays(alloc: Global) -> Option<bool> {
     let mut log = log_of_two(alloc)?;
-    let regrouped = log.regroup(alloc, 0);
-    if regrouped.is_err() && !has_two(&log) {
-        return Ok(false);
+    match log.regroup(alloc, 0) {
+        Ok(()) => Some(has_first_of(&log, 1)),
+        Err(_) if has_first_of(&log, 2) => None,
+        Err(_) => Some(false),
     }
-    regrouped?;
-    let call = log.get(0).map(|record| record.call());
-    Ok(log.end() == 1 && call == Some(0) && log.view().touches(0, 7))
 }
 
 #[test]
 fn a_log_that_cannot_be_regrouped_stays(rt: HostRuntime) {
-    let ended = regroups_or_stays(rt.alloc());
-    assert!(rt;
-        matches!(ended, Ok(true) | Err(Refusal::OutOfMemory)),
-        "{ended:?}"
-    );
+    assert!(rt; regroups_or_stays(rt.alloc()) != Some(false));
 }
 
 #[test]
 fn a_refused_allocation_is_answered(rt: HostRuntime) {
-    let ended = copy_is_alike(rt.alloc());
-    assert!(rt;
-        matches!(ended, Ok(true) | Err(Refusal::OutOfMemory)),
-        "{ended:?}"
-    );
+    assert!(rt; copy_is_alike(rt.alloc()) != Some(false));
 }
