@@ -1,14 +1,10 @@
-//! Tests of `assise_lease_table` and of the revokers that scripts name.
+//! Tests of `assise_lease_table` and of a stored revoker: leases are held and asked for while there is memory.
 #![tactic(auto)]
 
-#[cfg(test)]
-mod kinds;
 #[cfg(test)]
 mod logs;
 #[cfg(test)]
 mod refused;
-#[cfg(test)]
-mod steps;
 pub mod stored;
 #[cfg(test)]
 mod tests;

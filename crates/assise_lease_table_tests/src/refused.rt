@@ -1,57 +1,74 @@
 // Allocations that are refused: `checks/allocations leases` refuses each in turn.
-use crate::logs::{OneLog, log_of};
-use crate::steps::{enrol, hold};
+use crate::logs::OneLog;
 use assise_lease_table::client_table::{ClientTable, ClientTableOf};
+use assise_lease_table::revoker::Revoker;
 use assise_names::mode::Mode;
-use assise_names::refusal::Refusal;
+use assise_private_log::log::Log;
+use assise_private_log::log_view::LogView;
+use assise_revokers::kinds::least;
 use std::alloc::Global;
 
-/// How many leases an inode has, and how many of them are revoked.
-fn held(table: &ClientTable, inode: u64) -> (usize, usize) {
-    let leases = table.leases(inode);
-    (
-        leases.len(),
-        leases.iter().filter(|lease| lease.revoked).count(),
-    )
-}
+type Cut = Box<dyn Fn(&LogView, u64) -> u64 + Send>;
 
-/// Two clients that read an inode, and a third that asks for it. None tells of leases that a refused call changed.
-fn ask_two(alloc: Global, logs: &OneLog) -> Option<Result<(), Refusal>> {
-    let mut table: ClientTable = ClientTableOf::new(alloc);
-    for client in 1..4 {
-        if enrol(alloc, &mut table, client, "least").is_none() {
-            return Some(Err(Refusal::OutOfMemory));
-        }
+/// Takes a client in that isn't there.
+fn enrol(alloc: Global, table: &mut ClientTable, client: u32) -> Option<()> {
+    if table.is_enrolled(client) {
+        return None;
     }
-    ask_for_two(&mut table, logs)
+    let cut: Cut = Box::new(alloc, least).ok()?;
+    table.enrol(client, Revoker::new(cut)).ok()
 }
 
-/// As [`ask_two`], of a table with the three clients.
-fn ask_for_two(table: &mut ClientTable, logs: &OneLog) -> Option<Result<(), Refusal>> {
-    for client in 1..3 {
-        let before = held(table, 7);
-        if hold(table, client, 7, Mode::Read).is_none() {
-            return if held(table, 7) == before {
-                Some(Err(Refusal::OutOfMemory))
-            } else {
-                None
-            };
-        }
+/// Gives a client a lease to read inode 7, if it may hold it.
+fn hold(table: &mut ClientTable, client: u32) -> Option<()> {
+    if !table.may_hold(client, 7, Mode::Read) {
+        return None;
+    }
+    table.hold(client, 7, Mode::Read).ok()
+}
+
+/// Whether inode 7 has so many leases, so many of them revoked.
+fn is_held(table: &ClientTable, count: usize, revoked: usize) -> bool {
+    let leases = table.leases(7);
+    leases.len() == count && leases.iter().filter(|lease| lease.revoked).count() == revoked
+}
+
+/// Two clients read an inode, and a third asks for it: says whether both leases are revoked. None where memory ran out, and the
+/// leases are as they were.
+fn ask_two(table: &mut ClientTable, logs: &OneLog) -> Option<bool> {
+    if hold(table, 1).is_none() {
+        return if is_held(table, 0, 0) {
+            None
+        } else {
+            Some(false)
+        };
+    }
+    if hold(table, 2).is_none() {
+        return if is_held(table, 1, 0) {
+            None
+        } else {
+            Some(false)
+        };
     }
     match table.ask(7, Mode::Write, 3, logs) {
-        Ok(_) if held(table, 7) == (2, 2) => Some(Ok(())),
-        Err(refusal) if held(table, 7) == (2, 0) => Some(Err(refusal)),
-        _ => None,
+        Ok(_) => Some(is_held(table, 2, 2)),
+        Err(_) if is_held(table, 2, 0) => None,
+        Err(_) => Some(false),
     }
+}
+
+/// As [`ask_two`], of a new table.
+pub(crate) fn asks_or_leaves(alloc: Global) -> Option<bool> {
+    let log = Log::new(alloc, 64).ok()?;
+    let logs = OneLog { log };
+    let mut table: ClientTable = ClientTableOf::new(alloc);
+    for client in 1..4 {
+        enrol(alloc, &mut table, client)?;
+    }
+    ask_two(&mut table, &logs)
 }
 
 #[test]
 fn a_refused_allocation_leaves_all_leases(rt: HostRuntime) {
-    if let Some(logs) = log_of(rt.alloc(), 0, 0, None) {
-        let ended = ask_two(rt.alloc(), &logs);
-        assert!(rt;
-            matches!(ended, Some(Ok(()) | Err(Refusal::OutOfMemory))),
-            "{ended:?}"
-        );
-    }
+    assert!(rt; asks_or_leaves(rt.alloc()) != Some(false));
 }

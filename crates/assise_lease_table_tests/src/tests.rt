@@ -1,31 +1,26 @@
-// Tables of leases step by step. The leases of an inode are told as holder, mode and a star where they are revoked.
-use crate::steps::{NewClients, NewNodes, show};
+// Leases are held and asked for, and a revoker is stored, while there is memory.
+use crate::refused::asks_or_leaves;
+use crate::stored::stored_cut;
+use assise_lease_table::node_table::NodeTable;
+use assise_names::mode::Mode;
+use assise_private_log::log::Log;
+use std::alloc::Global;
 
-const CLIENTS: &str = "\
-enrol 1 least, enrol 2 least, enrolled 1, enrolled 3, read 3 7 => true false -
-enrol 1 least, enrol 2 least, read 1 7, read 2 7, write 1 7, leases 0 7 => held held - [1r;2r;]
-enrol 1 least, enrol 2 least, write 1 7, read 2 7, write 2 8, leases 0 7, leases 0 8 => held - held [1w;] [2w;]
-enrol 1 least, enrol 2 least, read 1 7, read 2 7, release 2 7, write 1 7, leases 0 7 => held held held [1w;]
-enrol 1 least, write 1 7, read 1 7, leases 0 7 => held - [1w;]
-enrol 1 least, enrol 2 least, enrol 3 least, read 1 7, read 2 7, ask_read 3 7, ask_write 3 7, ask_write 3 7, leases 0 7 => held held nobody 1:7:0 2:7:0 nobody [1r*;2r*;]
-enrol 1 least, enrol 2 least, read 1 7, read 2 7, ask_write 1 7, leases 0 7, write 2 7, release 2 7, write 1 7 => held held 2:7:0 [1r;2r*;] - held
-enrol 1 least, enrol 2 least, read 1 7, read 1 8, read 2 7, freeze 1, leases 0 7, leases 0 8, read 1 7 => held held held [1r*;2r;] [1r*;] -
-enrol 1 least, read 1 7, release 1 7, leases 0 7, release 1 7, write 1 7 => held [] held
-";
+/// Whether a node gets a lease.
+fn node_holds(alloc: Global) -> bool {
+    let mut table = NodeTable::new(alloc);
+    table.may_hold(1, 7, Mode::Read) && table.hold(1, 7, Mode::Read).is_ok()
+}
 
-const NODES: &str = "\
-read 1 7, read 2 7, write 1 7, leases 0 7, holds 1 7, holds 3 7 => held held - [1r;2r;] true false
-read 1 7, read 2 7, ask_write 3 7, leases 0 7, holds 1 7, release 1 7, release 2 7, write 3 7 => held held [1r*;2r*;] false held
-write 1 7, write 1 8, read 2 9, free 1, leases 0 7, leases 0 8, leases 0 9 => held held held [] [] [2r;]
-write 1 7, read 2 8, freeze 1, leases 0 7, leases 0 8 => held held [1w*;] [2r;]
-";
-
-#[test]
-fn clients_hold_and_are_asked(rt: HostRuntime) {
-    show(rt.alloc(), &rt, &mut NewClients, CLIENTS);
+/// What a stored revoker answers of a log without records.
+fn cut_of_nothing(alloc: Global) -> Option<u64> {
+    let log = Log::new(alloc, 64).ok()?;
+    stored_cut(alloc, log.view(), 7).ok()
 }
 
 #[test]
-fn nodes_hold_and_are_asked(rt: HostRuntime) {
-    show(rt.alloc(), &rt, &mut NewNodes, NODES);
+fn leases_are_held_and_asked_for(rt: HostRuntime) {
+    assert!(rt; asks_or_leaves(rt.alloc()) == Some(true));
+    assert!(rt; node_holds(rt.alloc()));
+    assert!(rt; cut_of_nothing(rt.alloc()) == Some(0));
 }
