@@ -1,4 +1,4 @@
-//! Tests of `assise_history`: legal histories, illegal ones, and how they are printed.
+//! Tests of `assise_history`: legal histories, and illegal ones.
 #![tactic(auto)]
 
 #[cfg(test)]
