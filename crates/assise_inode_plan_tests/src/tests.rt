@@ -1,91 +1,94 @@
-// Worked examples of plans.
-use crate::rows::show;
+// A call of each kind, and what is planned for it.
+ghost use Rattle.std.specs.Prelude.{IsTrue};
+ghost use Rattle.assise_inode_plan.specs.Planning.{IsWritable};
 
-/// Each inode that is reached is visited, the root first; an entry that is there isn't visited by a create.
-const CALLS_IN_TURN: &str = "\
-stat / => dir 0 [0]
-create / => E2 Exists []
-create /d/f => E1 NoEnt [0]
-create /f => done [0] | new_file 4294967296 | link 0 f 4294967296
-create /f => E2 Exists [0]
-create /f/g => E3 NotDir [0, 4294967296]
-create /f/g/h => E3 NotDir [0, 4294967296]
-write /f 5 tabc => done [0, 4294967296] | write 4294967296 5 abc
-write /f 9 t => done [0, 4294967296]
-write /f 1048576 ta => E7 TooBig [0, 4294967296]
-write / 0 ta => E4 IsDir [0]
-read /f 4 10 => bytes 4 x00616263 [0, 4294967296]
-read /f 8 1 => bytes 0 x [0, 4294967296]
-read / 0 1 => E4 IsDir [0]
-stat /f => file 8 [0, 4294967296]
-stat /f/g => E3 NotDir [0, 4294967296]
-stat /g => E1 NoEnt [0]
-create /g => done [0] | new_file 4294967297 | link 0 g 4294967297
-stat /g => file 0 [0, 4294967297]
-stat / => dir 2 [0]
+use assise_inode_plan::plan::{Planned, plan};
+use assise_inode_plan::view::AllLeased;
+use assise_inode_table::table::InodeTable;
+use assise_names::call::Op;
+use assise_record::effect::MOST_EXTENT_BYTES;
+use assise_test_rows::calls::call_in;
+use assise_test_rows::{Subject, show};
+use std::alloc::Global;
+
+/// Each call's reply, the inodes that it visits, and how many effects it has, which are made. Inode 7 is made first.
+const CALLS: &str = "\
+create /f => done [0] 2
+write /f 5 tabc => done [0, 7] 1
+read /f 4 10 => bytes 4 x00616263 [0, 7] 0
+truncate /f 9 => done [0, 7] 1
+stat /f => file 9 [0, 7] 0
+mkdir /d => done [0] 2
+rename /f /d/g => done [0, 7, 0, 8] 2
+list /d => names 1 g [0, 8] 0
+unlink /d/g => done [0, 8, 7] 2
+rmdir /d => done [0, 8] 2
+fsync => done [] 0
+dsync => done [] 0
 ";
 
-/// An entry that is there is not visited by a mkdir; the names of a list ascend.
-const DIRECTORIES: &str = "\
-mkdir / => E2 Exists []
-mkdir /d/f => E1 NoEnt [0]
-mkdir /d => done [0] | new_dir 4294967296 | link 0 d 4294967296
-create /d/f => done [0, 4294967296] | new_file 4294967297 | link 4294967296 f 4294967297
-mkdir /d => E2 Exists [0]
-create /d => E2 Exists [0]
-mkdir /d/f => E2 Exists [0, 4294967296]
-mkdir /d/f/g => E3 NotDir [0, 4294967296, 4294967297]
-mkdir /d/e => done [0, 4294967296] | new_dir 4294967298 | link 4294967296 e 4294967298
-stat /d/e => dir 0 [0, 4294967296, 4294967298]
-list / => names 1 d [0]
-list /d => names 2 e f [0, 4294967296]
-list /d/e => names 0 [0, 4294967296, 4294967298]
-list /d/f => E3 NotDir [0, 4294967296, 4294967297]
-list /d/g => E1 NoEnt [0, 4294967296]
-fsync => done []
-";
+/// The inodes for which calls are planned, and the number of the next one.
+#[derive(Drop)]
+struct Planning {
+    inodes: InodeTable,
+    fresh: u64,
+}
 
-/// The largest size is 1,048,576 bytes.
-const SIZES: &str = "\
-create /f => done [0] | new_file 4294967296 | link 0 f 4294967296
-write /f 0 tab => done [0, 4294967296] | write 4294967296 0 ab
-truncate /f 3 => done [0, 4294967296] | set_len 4294967296 3
-read /f 0 9 => bytes 3 x616200 [0, 4294967296]
-truncate /f 1 => done [0, 4294967296] | set_len 4294967296 1
-read /f 0 9 => bytes 1 x61 [0, 4294967296]
-truncate /f 1048576 => done [0, 4294967296] | set_len 4294967296 1048576
-stat /f => file 1048576 [0, 4294967296]
-truncate /f 1048577 => E7 TooBig [0, 4294967296]
-truncate / 1048577 => E4 IsDir [0]
-truncate /g 0 => E1 NoEnt [0]
-truncate /f/g 0 => E3 NotDir [0, 4294967296]
-";
+impl Subject for Planning {
+    fn put(&mut self, alloc: Global, steps: &str, text: &mut String) -> Option<()> {
+        let op = call_in(alloc, steps)?;
+        if !is_writable(&op) {
+            return None;
+        }
+        put_plan(alloc, &mut self.inodes, &op, self.fresh, text)?;
+        if self.inodes.get(self.fresh).is_some() {
+            self.fresh = self.fresh.wrapping_add(1);
+        }
+        Some(())
+    }
+}
 
-/// An entry that is removed is visited; it goes before its inode does.
-const REMOVALS: &str = "\
-mkdir /d => done [0] | new_dir 4294967296 | link 0 d 4294967296
-create /d/f => done [0, 4294967296] | new_file 4294967297 | link 4294967296 f 4294967297
-unlink / => E4 IsDir []
-unlink /d => E4 IsDir [0, 4294967296]
-unlink /d/g => E1 NoEnt [0, 4294967296]
-unlink /d/f/g => E3 NotDir [0, 4294967296, 4294967297]
-unlink /e/g => E1 NoEnt [0]
-rmdir / => E6 Invalid []
-rmdir /d => E5 NotEmpty [0, 4294967296]
-rmdir /d/f => E3 NotDir [0, 4294967296, 4294967297]
-rmdir /d/g => E1 NoEnt [0, 4294967296]
-rmdir /d/f/g => E3 NotDir [0, 4294967296, 4294967297]
-unlink /d/f => done [0, 4294967296, 4294967297] | unlink 4294967296 f | free 4294967297
-unlink /d/f => E1 NoEnt [0, 4294967296]
-rmdir /d => done [0, 4294967296] | unlink 0 d | free 4294967296
-list / => names 0 [0]
-";
+/// Whether a call writes at most 65,536 bytes.
+fn is_writable(op: &Op) -> bool
+    ensures { IsTrue result → IsWritable op.now }
+{
+    match op {
+        Op::Write(_, _, bytes) => bytes.len() <= MOST_EXTENT_BYTES,
+        _ => true,
+    }
+}
+
+/// Plans a call over all inodes, appends the plan, and makes its effects.
+fn put_plan(
+    alloc: Global,
+    inodes: &mut InodeTable,
+    op: &Op,
+    fresh: u64,
+    text: &mut String,
+) -> Option<()>
+    requires one_write { IsWritable op.now }
+{
+    let planned = plan(alloc, &AllLeased { inodes: &*inodes }, op, fresh).ok()?;
+    match &planned {
+        Planned::Ready {
+            reply,
+            reads,
+            effects,
+        } => {
+            inodes.apply_all(effects.as_slice()).ok()?;
+            write!(text, " {reply} {:?} {}", reads.as_slice(), effects.len()).ok()
+        }
+        Planned::Missing(..) => None,
+    }
+}
+
+/// What is planned for calls, one after another.
+fn shown(alloc: Global, rows: &str) -> Option<String> {
+    let inodes = InodeTable::opening(alloc).ok()?;
+    Some(show(alloc, &mut Planning { inodes, fresh: 7 }, rows))
+}
 
 #[test]
-fn calls_are_planned(rt: HostRuntime) {
-    show(
-        rt.alloc(),
-        &rt,
-        &[CALLS_IN_TURN, DIRECTORIES, SIZES, REMOVALS],
-    );
+fn a_call_of_each_kind_is_planned(rt: HostRuntime) {
+    assert_eq!(rt; shown(rt.alloc(), CALLS).as_deref(), Some("right"));
 }
