@@ -1,13 +1,5 @@
-//! Tests of `assise_inode_table`.
+//! Tests of `assise_inode_table`: effects are made while there is memory.
 #![tactic(auto)]
 
-#[cfg(test)]
-mod blocks;
-#[cfg(test)]
-mod calls;
-#[cfg(test)]
-mod effects;
-#[cfg(test)]
-mod subjects;
 #[cfg(test)]
 mod tests;
