@@ -1,11 +1,5 @@
-//! Tests of `assise_area`.
+//! Tests of `assise_area`: which inodes are hot, step by step.
 #![tactic(auto)]
 
-#[cfg(test)]
-mod effect_tests;
-#[cfg(test)]
-mod steps;
-#[cfg(test)]
-mod subjects;
 #[cfg(test)]
 mod tests;
