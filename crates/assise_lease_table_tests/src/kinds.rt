@@ -15,8 +15,10 @@ const CUTS: &[((u64, u64, Option<u64>), [u64; 3])] = &[
 
 /// Appends records up to an end, each of which touches an inode of its own, but for that of one number.
 fn fill(alloc: Global, log: &mut Log, end: u64, last: Option<u64>) -> Option<()> {
-    while log.end() < end {
-        let number = log.end();
+    for number in 0..end {
+        if log.end() == u64::MAX {
+            return None;
+        }
         let inode = if last == Some(number) { 7 } else { 8 };
         let effects = vec![in alloc; Effect::Free { inode }].ok()?;
         log.append(Record::new(number, effects)).ok()?;
