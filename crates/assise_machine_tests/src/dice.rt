@@ -2,7 +2,7 @@
 ghost use Rattle.std.specs.Prelude.{◌<◌};
 
 /// A linear congruential generator (Knuth, The Art of Computer Programming, volume 2, section 3.3.4: the factor of MMIX).
-#[derive(Debug, Drop)]
+#[derive(Drop)]
 pub(crate) struct Dice {
     state: u64,
 }

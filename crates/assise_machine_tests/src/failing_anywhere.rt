@@ -135,7 +135,7 @@ fn see_failures_of(alloc: Global, rt: &impl Abort, desk: &mut Desk, steps: &str,
             let fault = fault_of(alloc, desk, steps, node, place, away);
             assert!(rt;
                 fault == Some(""),
-                "{fault:?} where node {node} fails before step {place} of\n{steps}"
+                "{fault:?}: node {node} fails before step {place}"
             );
         }
     }
@@ -156,7 +156,7 @@ fn fault_of(
         fail_or_return(alloc, desk, node, place, away, number)?;
         desk.make(alloc, step)?;
         if place <= number {
-            let fault = fault_behind(alloc, &desk.cluster, desk.outcome.as_str())?;
+            let fault = fault_behind(alloc, desk)?;
             if !fault.is_empty() {
                 return Some(fault);
             }

@@ -1,7 +1,7 @@
 // What is wrong with a cluster between steps.
 use crate::desk::{Cluster, Desk};
 use crate::scripts::WAITS;
-use crate::trees::text_of;
+use crate::trees::put_tree;
 use assise_console::trees::tree_at;
 use assise_digest::region::Region;
 use assise_history::call::Call;
@@ -10,34 +10,29 @@ use assise_history::kept::kept;
 use assise_history::replay::replay;
 use assise_names::limits::MOST_NODES;
 use assise_names::refusal::Refusal;
-use assise_seq_tree::tree::Tree;
 use std::alloc::Global;
 
 /// More than the clients of any test.
 const MANY: u32 = 17;
 
-/// What is wrong behind a step that came to this: as [`fault_between`], unless it came to nothing.
-pub(crate) fn fault_behind(
-    alloc: Global,
-    cluster: &Cluster,
-    outcome: &str,
-) -> Option<&'static str> {
-    match outcome {
+/// What is wrong behind the last step: as [`fault_between`], unless it came to nothing.
+pub(crate) fn fault_behind(alloc: Global, desk: &mut Desk) -> Option<&'static str> {
+    match desk.outcome.as_str() {
         WAITS | "Carried(Ok(0))" | "Digested(Ok(0))" | "Released(0)" | "Linked" => Some(""),
-        _ => fault_between(alloc, cluster),
+        _ => fault_between(alloc, desk),
     }
 }
 
 /// What is wrong between steps: the history isn't legal, or a full node has another tree than the replicated calls. None where
 /// memory runs out.
-fn fault_between(alloc: Global, cluster: &Cluster) -> Option<&'static str> {
-    if !check(alloc, cluster.history()).ok()? {
+fn fault_between(alloc: Global, desk: &mut Desk) -> Option<&'static str> {
+    if !check(alloc, desk.cluster.history()).ok()? {
         return Some("the history isn't legal");
     }
-    let mut tree = replicated_tree(alloc, cluster)?;
-    let tree = text_of(alloc, &mut tree)?;
-    for node in 1..=MOST_NODES {
-        if !has_tree(alloc, cluster, node, tree.as_str())? {
+    put_replicated(alloc, &desk.cluster, &mut desk.before)?;
+    for node in 1..=desk.nodes {
+        let full = put_tree_at(alloc, &desk.cluster, node, &mut desk.after)?;
+        if full && desk.before.as_str() != desk.after.as_str() {
             return Some("a node has another tree than the replicated calls");
         }
     }
@@ -53,7 +48,7 @@ pub(crate) fn fault_at_the_end(alloc: Global, desk: &mut Desk) -> Option<&'stati
             return Some("not all is digested");
         }
     }
-    fault_between(alloc, &desk.cluster)
+    fault_between(alloc, desk)
 }
 
 /// What is done once all nodes are back: they are raised and linked, and all clients sync.
@@ -103,10 +98,13 @@ fn has_digested(cluster: &Cluster, nodes: u32, client: u32) -> bool {
     let Ok(acked) = cluster.acked(client) else {
         return true;
     };
-    (1..=nodes).all(|node| match cluster.region(node) {
-        Ok(region) => is_empty_from(region, client as usize, acked),
-        Err(_) => false,
-    })
+    for node in 1..=nodes {
+        match cluster.region(node) {
+            Ok(region) if is_empty_from(region, client as usize, acked) => (),
+            _ => return false,
+        }
+    }
+    true
 }
 
 /// Whether a client's log has no record, and goes on with this number.
@@ -118,11 +116,12 @@ fn is_empty_from(region: &Region, client: usize, number: u64) -> bool {
     log.first() == number && log.end() == number
 }
 
-/// The tree of the kept calls that are replicated. None where they are no run, or memory runs out.
-fn replicated_tree(alloc: Global, cluster: &Cluster) -> Option<Tree> {
+/// Writes the tree of the kept calls that are replicated in place of a text. None where they are no run, or memory runs out.
+fn put_replicated(alloc: Global, cluster: &Cluster, text: &mut String) -> Option<()> {
     let mut calls = kept(alloc, cluster.history()).ok()?;
     calls.retain(|call| is_replicated(cluster, call));
-    replay(alloc, calls.as_slice()).ok()?
+    let mut tree = replay(alloc, calls.as_slice()).ok()??;
+    put_tree(alloc, &mut tree, text)
 }
 
 /// Whether a call comes before its client's first one that has a record which isn't replicated.
@@ -149,11 +148,14 @@ fn call_at(region: &Region, client: usize, number: u64) -> Option<u64> {
     Some(record.call())
 }
 
-/// Whether a node has a tree, or isn't full. None where memory runs out.
-fn has_tree(alloc: Global, cluster: &Cluster, node: u32, tree: &str) -> Option<bool> {
+/// Writes the tree of a node in place of a text, if it is full. None where memory runs out.
+fn put_tree_at(alloc: Global, cluster: &Cluster, node: u32, text: &mut String) -> Option<bool> {
     match tree_at(alloc, cluster, node) {
-        Ok(mut found) => Some(text_of(alloc, &mut found)?.as_str() == tree),
+        Ok(mut tree) => {
+            put_tree(alloc, &mut tree, text)?;
+            Some(true)
+        }
         Err(Refusal::OutOfMemory) => None,
-        Err(_) => Some(true),
+        Err(_) => Some(false),
     }
 }

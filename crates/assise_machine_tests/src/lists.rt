@@ -108,7 +108,7 @@ open S eights optimistic
 ";
 
 /// What comes out of some step of the lists.
-const OUTCOMES: [&str; 25] = [
+const OUTCOMES: [&str; 24] = [
     "Opened(Ok(",
     "Done",
     "Names(",
@@ -117,7 +117,6 @@ const OUTCOMES: [&str; 25] = [
     "Carried(Ok(0))",
     "Carried(Ok(1))",
     "Digested(Ok(1))",
-    "Digested(Ok(8))",
     "Released(1)",
     "HotSet(Ok(",
     "Linked",
@@ -202,7 +201,7 @@ fn fault_of(
             clients = clients.saturating_add(1);
         }
         if number % lists.apart.max(1) == 0 {
-            let fault = fault_behind(alloc, &desk.cluster, desk.outcome.as_str())?;
+            let fault = fault_behind(alloc, desk)?;
             if !fault.is_empty() {
                 return Some(fault);
             }
@@ -224,8 +223,10 @@ fn make_next(alloc: Global, dice: &mut Dice, desk: &mut Desk, clients: u64) -> O
 
 /// Notes what stands in what came out.
 fn note(came: &mut Came, outcome: &str) {
-    for (flag, kind) in came.iter_mut().zip(OUTCOMES) {
-        *flag |= outcome.contains(kind);
+    for place in 0..OUTCOMES.len() {
+        if outcome.contains(OUTCOMES[place]) {
+            came[place] = true;
+        }
     }
 }
 
@@ -247,13 +248,9 @@ pub(crate) fn see_lists(alloc: Global, rt: &impl Abort, desk: &mut Desk, lists: 
     let mut came = [false; OUTCOMES.len()];
     for list in 0..lists.lists {
         let fault = fault_of(alloc, &mut dice, desk, lists, &mut came);
-        assert!(rt;
-            fault == Some(""),
-            "list {list}: {fault:?} behind\n{}",
-            desk.steps.as_str()
-        );
+        assert!(rt; fault == Some(""), "list {list}: {fault:?}");
     }
-    assert!(rt; came == [true; OUTCOMES.len()], "{came:?}");
+    assert!(rt; !came.contains(&false), "an outcome is missing");
 }
 
 fn see(alloc: Global, rt: &impl Abort, lists: Lists) {

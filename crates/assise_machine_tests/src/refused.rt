@@ -7,8 +7,10 @@ use assise_names::refusal::Refusal;
 use std::alloc::Global;
 use std::process::Abort;
 
-/// A frame is sent, and its record digested.
-const CARRIED: &str = "\
+/// A frame is sent, and its record digested; a lease is handed over; a node fails and comes back, and then the other one fails; fewer
+/// inodes may be hot than are; and an optimistic client's dsync makes a group, which is sent and digested. No digest has more than one
+/// group.
+const ROWS: &str = "\
 cluster 2 8 2
 open 1 least => Opened(Ok(1))
 1 create /f => Called(Ok(Answered(Done)))
@@ -20,10 +22,6 @@ raise 1 => Raised(Ok(()))
 digest 1 => Digested(Ok(1))
 digest 2 => Digested(Ok(1))
 digest 2 => Digested(Ok(0))
-";
-
-/// A client hands a lease over, and another writes.
-const HANDED: &str = "\
 cluster 1 8 2
 open 1 least => Opened(Ok(1))
 open 1 whole => Opened(Ok(2))
@@ -35,10 +33,6 @@ release => Released(1)
 release => Released(1)
 2 write /f 0 ta => Called(Ok(Answered(Done)))
 digest 1 => Digested(Ok(1))
-";
-
-/// A node fails, and what wasn't synced is lost. It comes back, and the other one fails.
-const FAILED: &str = "\
 cluster 2 8 2
 open 1 least => Opened(Ok(1))
 1 create /f => Called(Ok(Answered(Done)))
@@ -57,10 +51,6 @@ fail 2 => Failed(Ok([]))
 crash 2 => Crashed(Err(NodeDown))
 open 1 least => Opened(Ok(3))
 crash 3 => Crashed(Ok(()))
-";
-
-/// Fewer inodes may be hot than are.
-const COOLED: &str = "\
 cluster 1 8 2
 open 1 least => Opened(Ok(1))
 1 create /f => Called(Ok(Answered(Done)))
@@ -68,10 +58,6 @@ digest 1 => Digested(Ok(1))
 1 stat /f => Called(Ok(Answered(File(0))))
 hot 1 1 => HotSet(Ok(()))
 hot 1 2 => HotSet(Ok(()))
-";
-
-/// An optimistic client's dsync makes a group, which is sent and digested.
-const COALESCED: &str = "\
 cluster 2 8 2
 open 1 least optimistic => Opened(Ok(1))
 1 create /f => Called(Ok(Answered(Done)))
@@ -84,24 +70,22 @@ digest 1 => Digested(Ok(2))
 digest 2 => Digested(Ok(2))
 ";
 
-/// Makes the steps of rows, each once more where it is refused as out of memory. Sees that no refused step changed what is seen,
-/// and that each step comes to what its row says then.
-pub(crate) fn see_made_again(alloc: Global, rt: &impl Abort, desk: &mut Desk, texts: &[&str]) {
-    for rows in texts {
-        assert!(rt; are_right(alloc, desk, rows) != Some(false), "in\n{rows}");
-    }
+/// Makes the steps, each once more where it is refused as out of memory. Sees that no refused step changed what is seen, and that each
+/// step comes to what its row says then.
+pub(crate) fn see_made_again(alloc: Global, rt: &impl Abort, desk: &mut Desk) {
+    assert!(rt;
+        are_right(alloc, desk) != Some(false),
+        "{}",
+        desk.line.as_str()
+    );
 }
 
 /// None where memory runs out for the test itself.
-fn are_right(alloc: Global, desk: &mut Desk, rows: &str) -> Option<bool> {
-    for row in rows.lines() {
-        match row.split_once(" => ") {
-            Some((step, wanted)) => {
-                if !is_right(alloc, desk, step, wanted)? {
-                    return Some(false);
-                }
-            }
-            None => desk.make(alloc, row)?,
+fn are_right(alloc: Global, desk: &mut Desk) -> Option<bool> {
+    for row in ROWS.lines() {
+        let (step, wanted) = row.split_once(" => ").unwrap_or((row, ""));
+        if !is_right(alloc, desk, step, wanted)? {
+            return Some(false);
         }
     }
     Some(true)
@@ -130,7 +114,6 @@ fn may_be_refused(desk: &Desk) -> bool {
 
 #[test]
 fn what_is_refused_is_made_again(rt: HostRuntime) {
-    let texts = [CARRIED, HANDED, FAILED, COOLED, COALESCED];
-    let ended = on_desk(rt.alloc(), &rt, Task::Again(&texts));
+    let ended = on_desk(rt.alloc(), &rt, Task::Again);
     assert!(rt; matches!(ended, Ok(()) | Err(Refusal::OutOfMemory)));
 }

@@ -1,6 +1,5 @@
 // Scripts that are served step by step.
 use crate::desk::Desk;
-use assise_test_rows::split_word;
 use std::alloc::Global;
 
 /// More rounds than any call of the tests waits for.
@@ -13,27 +12,22 @@ const MANY: u32 = 1000;
 pub(crate) const WAITS: &str = "Called(Ok(NotYet))";
 
 impl Desk {
-    /// Serves a script: a call that waits is tried again behind a round, and a node that comes back is full at once, until there is a
-    /// line `manual`. What only looks is passed over. None where there is no such line, or no memory.
+    /// Serves a script: a call that waits is tried again behind a round, and a node that comes back is full at once. None where there is
+    /// no such line, or no memory.
     pub(crate) fn serve(&mut self, alloc: Global, script: &str) -> Option<()> {
-        let mut rounds = ROUNDS;
         for line in script.lines() {
-            match split_word(line) {
-                ("manual", _) => rounds = 0,
-                ("history" | "tree", _) => (),
-                ("back", node) if rounds > 0 => {
-                    self.bring_back(alloc, node.parse::<u32>().ok()?)?;
-                }
-                _ => self.try_often(alloc, line, rounds)?,
+            match line.strip_prefix("back ") {
+                Some(node) => self.bring_back(alloc, node.parse::<u32>().ok()?)?,
+                None => self.try_often(alloc, line)?,
             }
         }
         Some(())
     }
 
     /// Makes a step until it doesn't wait, with a round in between.
-    fn try_often(&mut self, alloc: Global, line: &str, rounds: u32) -> Option<()> {
+    fn try_often(&mut self, alloc: Global, line: &str) -> Option<()> {
         self.make(alloc, line)?;
-        for _ in 0..rounds {
+        for _ in 0..ROUNDS {
             if self.outcome.as_str() != WAITS {
                 return Some(());
             }

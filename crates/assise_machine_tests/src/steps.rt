@@ -12,7 +12,7 @@ use assise_rounds::rounds::replicate;
 use std::alloc::Global;
 
 impl Desk {
-    /// Makes the step of a line. None where there is no such step, or no memory to read it or to tell of it.
+    /// Makes the step of a line; one that only looks does nothing. None where there is no such step, or no memory to read it or to tell of it.
     pub(crate) fn make(&mut self, alloc: Global, line: &str) -> Option<()> {
         self.line.clear();
         self.line.push_str(line).ok()?;
@@ -50,7 +50,10 @@ impl Desk {
                 self.stock.push(Asked { kind }).ok()?;
                 self.happen(alloc, Event::Open(small(node), durability))
             }
-            _ => self.happen(alloc, event_of(command)?),
+            _ => match event_of(command) {
+                Some(event) => self.happen(alloc, event),
+                None => Some(()),
+            },
         }
     }
 

@@ -11,10 +11,10 @@ use std::process::Abort;
 /// What is made.
 #[derive(Clone, Copy)]
 pub(crate) enum Task<'a> {
-    /// The steps of texts, with lines that say what is hot.
-    Hot(&'a [&'a str]),
-    /// The rows of texts, each step once more where it is refused as out of memory.
-    Again(&'a [&'a str]),
+    /// Steps, and what is hot behind them.
+    Hot,
+    /// Steps, each once more where it is refused as out of memory.
+    Again,
     /// Scripts in which a node fails before each step, and comes back so many steps further.
     Failures(usize, &'a [&'a str]),
     /// Lists of steps by chance.
@@ -30,8 +30,8 @@ pub(crate) fn on_desk(alloc: Global, rt: &impl Abort, task: Task<'_>) -> Result<
 
 fn make(alloc: Global, rt: &impl Abort, desk: &mut Desk, task: Task<'_>) {
     match task {
-        Task::Hot(texts) => see_hot(alloc, rt, desk, texts),
-        Task::Again(texts) => see_made_again(alloc, rt, desk, texts),
+        Task::Hot => see_hot(alloc, rt, desk),
+        Task::Again => see_made_again(alloc, rt, desk),
         Task::Failures(away, scripts) => see_failures(alloc, rt, desk, away, scripts),
         Task::Chance(lists) => see_lists(alloc, rt, desk, lists),
     }

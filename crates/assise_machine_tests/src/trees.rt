@@ -8,13 +8,14 @@ use std::alloc::Global;
 /// The files that tests write.
 const FILES: &str = "/a\n/b\n/c\n/d\n/d/a\n/d/b\n/d/e\n/d/e/a\n/f\n/g\n/h";
 
-/// The lines of a tree, and what reads of its files answer. None where memory runs out.
-pub(crate) fn text_of(alloc: Global, tree: &mut Tree) -> Option<String> {
-    let mut text = format!(in alloc; "{tree}").ok()?;
+/// Writes the lines of a tree, and what reads of its files answer, in place of a text. None where memory runs out.
+pub(crate) fn put_tree(alloc: Global, tree: &mut Tree, text: &mut String) -> Option<()> {
+    text.clear();
+    write!(text, "{tree}").ok()?;
     for path in FILES.lines() {
-        put_bytes(alloc, tree, path, &mut text)?;
+        put_bytes(alloc, tree, path, text)?;
     }
-    Some(text)
+    Some(())
 }
 
 /// Appends what a read of a file answers.
