@@ -108,7 +108,7 @@ open S eights optimistic
 ";
 
 /// What comes out of some step of the lists.
-const OUTCOMES: [&str; 24] = [
+const OUTCOMES: [&str; 23] = [
     "Opened(Ok(",
     "Done",
     "Names(",
@@ -132,7 +132,6 @@ const OUTCOMES: [&str; 24] = [
     "BadNode",
     "BadClient",
     "WrongPhase",
-    "LogFull",
 ];
 
 /// Which of them came out.
@@ -210,7 +209,7 @@ fn fault_of(
     fault_at_the_end(alloc, desk)
 }
 
-/// Makes a step by chance; now and then so often that a log gets full.
+/// Makes a step by chance, now and then often.
 fn make_next(alloc: Global, dice: &mut Dice, desk: &mut Desk, clients: u64) -> Option<()> {
     desk.line.clear();
     put_step(dice, desk.nodes, clients, &mut desk.line).ok()?;
