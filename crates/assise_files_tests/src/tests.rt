@@ -18,9 +18,9 @@ fn a_full_log_makes_room(rt: HostRuntime) {
         rt.alloc(),
         &rt,
         "\
-make 2 8 4; open 1; create 1 /f; often write 1 /f x; round; round => 0 1 0 1 0 0
-make 1 8 4; open 1; create 1 /f; often write 1 /f x => 0 1 0 1
-make 3 8 4; open 3 2; open 2 1; create 1 /f; often write 2 /f x; often write 1 /f x; read 2 0 9 /f => 0 1 2 0 1 1 1
+make 2 8 4; open 1; create 1 /f; often write 1 /f x; round; round => 0 1 0 0 0 0
+make 1 8 4; open 1; create 1 /f; often write 1 /f x => 0 1 0 0
+make 3 8 4; open 3 2; open 2 1; create 1 /f; often write 2 /f x; often write 1 /f x; read 2 0 9 /f => 0 1 2 0 0 0 1
 ",
     );
 }
