@@ -1,3 +1,4 @@
 pub mod Prefixes
 pub mod Links
+pub mod Kinds
 pub mod TestLinks

@@ -1,34 +1,29 @@
--- What links of tests keep, and what they give.
+-- What a link of tests keeps, and of which kind it is.
 -- van Renesse and Schneider, chain replication (OSDI 2004), section 2 (the channels between servers).
-use Rattle.std.specs.Prelude.{◌≡◌, ℕ, List, [], ◌∷◌, Bool, true, false, Option, None, Some, take}
+use Rattle.std.specs.Prelude.{◌≡◌, ℕ, List, [], ◌∷◌, Bool, true, false, Option, None, Some}
 use Rattle.std.specs.Global.{Vec}
+use Rattle.assise_link.specs.Kinds.{Kind, LinkState, cut, delay, fault, lose, perfect, repeat}
 use Rattle.assise_link.specs.declared.test_link.TestLink.{TestLink}
 use Rattle.assise_link.specs.declared.test_link.TestLink.TheVariants.{Perfect, Lose, Repeat, Delay, Cut, Fault}
 
 -- what the carry before was handed, where it is kept
-abbrev pub kept_bytes : Option (Vec ℕ) → List (List ℕ)
-kept_bytes None = []
-kept_bytes (Some v) = v.items ∷ []
+abbrev pub kept_items : Option (Vec ℕ) → Option (List ℕ)
+kept_items None = None
+kept_items (Some before) = Some before.items
 
--- what is handed in, and what the carry before was handed where that is kept
-abbrev pub Repeats : Option (Vec ℕ) → List ℕ → List ℕ → Type 0
-Repeats None bytes came = came ≡ bytes
-Repeats (Some v) bytes came = came ≡ v.items
-
--- what the carry before was handed
-abbrev pub Delays : Option (Vec ℕ) → List ℕ → List ℕ → Type 0
-Delays None bytes came = ⊥
-Delays (Some v) bytes came = came ≡ v.items
+abbrev pub kept_lists : Option (List ℕ) → List (List ℕ)
+kept_lists None = []
+kept_lists (Some before) = before ∷ []
 
 -- ---- by kind
 
-abbrev pub kept_by : TestLink → List (List ℕ)
-kept_by (Perfect l) = []
-kept_by (Lose l) = []
-kept_by (Repeat l) = kept_bytes l.before
-kept_by (Delay l) = kept_bytes l.before
-kept_by (Cut l) = []
-kept_by (Fault l) = []
+abbrev pub kept_by : TestLink → Option (List ℕ)
+kept_by (Perfect l) = None
+kept_by (Lose l) = None
+kept_by (Repeat l) = kept_items l.before
+kept_by (Delay l) = kept_items l.before
+kept_by (Cut l) = None
+kept_by (Fault l) = None
 
 abbrev pub fault_count : TestLink → ℕ
 fault_count (Perfect l) = l.faults.count
@@ -38,13 +33,16 @@ fault_count (Delay l) = l.faults.count
 fault_count (Cut l) = l.faults.count
 fault_count (Fault l) = l.faults.count
 
-abbrev pub GivesByKind : TestLink → List ℕ → List ℕ → Type 0
-GivesByKind (Perfect l) bytes came = came ≡ bytes
-GivesByKind (Lose l) bytes came = ⊥
-GivesByKind (Repeat l) bytes came = Repeats l.before bytes came
-GivesByKind (Delay l) bytes came = Delays l.before bytes came
-GivesByKind (Cut l) bytes came = came ≡ take l.most bytes
-GivesByKind (Fault l) bytes came = ⊥
+abbrev pub state_of : TestLink → LinkState
+state_of l = record { kept = kept_by l; faults = fault_count l }
+
+abbrev pub kind_of_link : TestLink → Kind
+kind_of_link (Perfect l) = perfect
+kind_of_link (Lose l) = lose
+kind_of_link (Repeat l) = repeat
+kind_of_link (Delay l) = delay
+kind_of_link (Cut l) = cut l.most
+kind_of_link (Fault l) = fault
 
 -- it does nothing but carry
 abbrev pub is_perfect : TestLink → Bool
@@ -55,27 +53,7 @@ is_perfect (Delay l) = false
 is_perfect (Cut l) = false
 is_perfect (Fault l) = false
 
--- ---- as they begin
-
--- what a link of tests does with what it is handed
-pub data Kind : Type 0 where
-  perfect : Kind
-  lose : Kind
-  repeat : Kind
-  delay : Kind
-  cut : (most : ℕ) → Kind
-  fault : Kind
-
-abbrev pub kind_of_link : TestLink → Kind
-kind_of_link (Perfect l) = perfect
-kind_of_link (Lose l) = lose
-kind_of_link (Repeat l) = repeat
-kind_of_link (Delay l) = delay
-kind_of_link (Cut l) = cut l.most
-kind_of_link (Fault l) = fault
-
 -- a link of this kind that carried nothing
 pub record IsUnusedLink (k : Kind) (l : TestLink) : Type 0 where
   pub kind : kind_of_link l ≡ k
-  pub stored : kept_by l ≡ []
-  pub faults : fault_count l ≡ 0
+  pub state : state_of l ≡ record { kept = None; faults = 0 }

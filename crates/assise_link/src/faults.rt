@@ -1,5 +1,7 @@
 // Faults that a link counts.
-ghost use Rattle.std.specs.Prelude.{◌≡◌, ◌+◌, IfOk, None, OnErr, OnOk};
+ghost use Rattle.std.specs.Prelude.{◌≡◌, ◌+◌, None, OnErr, OnOk};
+ghost use Rattle.assise_link.specs.Kinds.{IsFault};
+ghost use Rattle.assise_link.specs.Links.{link_answer};
 
 use crate::link::LinkFault;
 
@@ -19,7 +21,8 @@ impl Faults {
 
     /// What a carry answers that has a fault: it is counted. Where no more can be counted, what was handed in is lost.
     pub(crate) fn add(&mut self, fault: LinkFault) -> Result<Option<Vec<u8>>, LinkFault>
-        ensures lost { IfOk result (λ came. came ≡ None) }
+        ensures answer { IsFault fault (record { kept = None; faults = self.old.count })
+            (link_answer result) (record { kept = None; faults = self.new.count }) }
         ensures fault { OnErr result (self.new.count ≡ self.old.count + 1) }
         ensures no_fault { OnOk result (self.new.count ≡ self.old.count) }
     {

@@ -11,14 +11,15 @@ use std::mem;
 pub struct LosingLink;
 
 impl Link for LosingLink {
-    ghost use Rattle.std.specs.Prelude.{◌≡◌, [], false};
-    ghost use Rattle.assise_link.specs.Prefixes.{not_true};
+    ghost use Rattle.std.specs.Prelude.{[], false, None};
+    ghost use Rattle.assise_link.specs.Kinds.{Carries, lose};
+    ghost use Rattle.assise_link.specs.Prefixes.{not_true, prefix_by};
 
     ghost stored = { λ _. [] };
 
     ghost count = { λ _. 0 };
 
-    ghost gives = { λ _ bytes came. ⊥ };
+    ghost carries = { λ l bytes a m. Carries lose bytes (record { kept = None; faults = 0 }) a (record { kept = None; faults = 0 }) };
 
     ghost faithful = { λ _. false };
 
@@ -30,9 +31,9 @@ impl Link for LosingLink {
         0
     }
 
-    ghost prefixes = { λ _ bytes came is. absurd is };
+    ghost prefixes = { λ l m bytes came is. prefix_by lose bytes came _ _ is };
 
-    ghost same = { λ _ is. absurd (not_true is) };
+    ghost same = { λ _ _ is. absurd (not_true is) };
 }
 
 /// A link that answers what it is handed at odd carries, counted from 1, and at even ones what the carry before was handed.
@@ -56,15 +57,16 @@ impl RepeatingLink {
 }
 
 impl Link for RepeatingLink {
-    ghost use Rattle.assise_link.specs.TestLinks.{Repeats, kept_bytes};
     ghost use Rattle.std.specs.Prelude.{false};
-    ghost use Rattle.assise_link.specs.Prefixes.{not_true, repeated};
+    ghost use Rattle.assise_link.specs.Kinds.{Carries, repeat};
+    ghost use Rattle.assise_link.specs.TestLinks.{kept_items, kept_lists};
+    ghost use Rattle.assise_link.specs.Prefixes.{not_true, prefix_by};
 
-    ghost stored = { λ l. kept_bytes l.before };
+    ghost stored = { λ l. kept_lists (kept_items l.before) };
 
     ghost count = { λ l. l.faults.count };
 
-    ghost gives = { λ l bytes came. Repeats l.before bytes came };
+    ghost carries = { λ l bytes a m. Carries repeat bytes (record { kept = kept_items l.before; faults = l.faults.count }) a (record { kept = kept_items m.before; faults = m.faults.count }) };
 
     ghost faithful = { λ _. false };
 
@@ -83,9 +85,9 @@ impl Link for RepeatingLink {
         self.faults.count
     }
 
-    ghost prefixes = { λ l bytes came is. repeated l.before bytes came is };
+    ghost prefixes = { λ l m bytes came is. prefix_by repeat bytes came _ _ is };
 
-    ghost same = { λ _ is. absurd (not_true is) };
+    ghost same = { λ _ _ is. absurd (not_true is) };
 }
 
 /// A link that answers what the carry before was handed, and nothing the first time.
@@ -109,15 +111,16 @@ impl DelayingLink {
 }
 
 impl Link for DelayingLink {
-    ghost use Rattle.assise_link.specs.TestLinks.{Delays, kept_bytes};
     ghost use Rattle.std.specs.Prelude.{false};
-    ghost use Rattle.assise_link.specs.Prefixes.{delayed, not_true};
+    ghost use Rattle.assise_link.specs.Kinds.{Carries, delay};
+    ghost use Rattle.assise_link.specs.TestLinks.{kept_items, kept_lists};
+    ghost use Rattle.assise_link.specs.Prefixes.{not_true, prefix_by};
 
-    ghost stored = { λ l. kept_bytes l.before };
+    ghost stored = { λ l. kept_lists (kept_items l.before) };
 
     ghost count = { λ l. l.faults.count };
 
-    ghost gives = { λ l bytes came. Delays l.before bytes came };
+    ghost carries = { λ l bytes a m. Carries delay bytes (record { kept = kept_items l.before; faults = l.faults.count }) a (record { kept = kept_items m.before; faults = m.faults.count }) };
 
     ghost faithful = { λ _. false };
 
@@ -132,9 +135,9 @@ impl Link for DelayingLink {
         self.faults.count
     }
 
-    ghost prefixes = { λ l bytes came is. delayed l.before bytes came is };
+    ghost prefixes = { λ l m bytes came is. prefix_by delay bytes came _ _ is };
 
-    ghost same = { λ _ is. absurd (not_true is) };
+    ghost same = { λ _ _ is. absurd (not_true is) };
 }
 
 /// A link that answers the first bytes of what it is handed, so many at most.
@@ -158,14 +161,15 @@ impl CuttingLink {
 }
 
 impl Link for CuttingLink {
-    ghost use Rattle.std.specs.Prelude.{◌≡◌, [], false, take};
-    ghost use Rattle.assise_link.specs.Prefixes.{cut, not_true};
+    ghost use Rattle.std.specs.Prelude.{◌≡◌, [], false, None};
+    ghost use Rattle.assise_link.specs.Kinds.{Carries, cut};
+    ghost use Rattle.assise_link.specs.Prefixes.{not_true, prefix_by};
 
     ghost stored = { λ _. [] };
 
     ghost count = { λ l. l.faults.count };
 
-    ghost gives = { λ l bytes came. came ≡ take l.most bytes };
+    ghost carries = { λ l bytes a m. (m.most ≡ l.most) × Carries (cut l.most) bytes (record { kept = None; faults = l.faults.count }) a (record { kept = None; faults = m.faults.count }) };
 
     ghost faithful = { λ _. false };
 
@@ -181,9 +185,9 @@ impl Link for CuttingLink {
         self.faults.count
     }
 
-    ghost prefixes = { λ l bytes came is. cut l.most bytes came is };
+    ghost prefixes = { λ l m bytes came is. prefix_by (cut l.most) bytes came _ _ is.1 };
 
-    ghost same = { λ _ is. absurd (not_true is) };
+    ghost same = { λ _ _ is. absurd (not_true is) };
 }
 
 /// A link that has a fault at each carry.
@@ -204,14 +208,15 @@ impl FaultyLink {
 }
 
 impl Link for FaultyLink {
-    ghost use Rattle.std.specs.Prelude.{◌≡◌, [], false};
-    ghost use Rattle.assise_link.specs.Prefixes.{not_true};
+    ghost use Rattle.std.specs.Prelude.{[], false, None};
+    ghost use Rattle.assise_link.specs.Kinds.{Carries, fault};
+    ghost use Rattle.assise_link.specs.Prefixes.{not_true, prefix_by};
 
     ghost stored = { λ _. [] };
 
     ghost count = { λ l. l.faults.count };
 
-    ghost gives = { λ _ bytes came. ⊥ };
+    ghost carries = { λ l bytes a m. Carries fault bytes (record { kept = None; faults = l.faults.count }) a (record { kept = None; faults = m.faults.count }) };
 
     ghost faithful = { λ _. false };
 
@@ -223,7 +228,7 @@ impl Link for FaultyLink {
         self.faults.count
     }
 
-    ghost prefixes = { λ _ bytes came is. absurd is };
+    ghost prefixes = { λ l m bytes came is. prefix_by fault bytes came _ _ is };
 
-    ghost same = { λ _ is. absurd (not_true is) };
+    ghost same = { λ _ _ is. absurd (not_true is) };
 }

@@ -1,6 +1,6 @@
 // What carries bytes from node to node.
-ghost use Rattle.std.specs.Prelude.{◌≡◌, ◌+◌, ◌⊎◌, ℕ, Bool, Contains, IfOk, IfSome, List, OnErr, OnOk, true};
-ghost use Rattle.assise_link.specs.Links.{IsFaithful, IsPrefixOnLink, MayGiveAll};
+ghost use Rattle.std.specs.Prelude.{◌≡◌, ◌+◌, ◌⊎◌, ℕ, Bool, Contains, IfSome, List, OnErr, OnOk, true};
+ghost use Rattle.assise_link.specs.Links.{IsFaithful, IsPrefixOnLink, LinkAnswer, gave, link_answer};
 
 use crate::faults::Faults;
 use std::alloc::Global;
@@ -32,8 +32,8 @@ pub trait Link: Send {
     /// How many faults it has had.
     ghost count: { Self → ℕ };
 
-    /// What it may answer where it is handed bytes: these first, then what comes.
-    ghost gives: { Self → List ℕ → List ℕ → Type 0 };
+    /// What a carry does: a link, the bytes that it is handed, what is answered, and the link as it is then.
+    ghost carries: { Self → List ℕ → LinkAnswer → Self → Type 0 };
 
     /// It gives what it is handed and nothing else. No carry changes that.
     ghost faithful: { Self → Bool };
@@ -43,8 +43,7 @@ pub trait Link: Send {
     /// Refused with [`LinkFault::Memory`] or [`LinkFault::Device`], and the count of faults has risen by one. A link that has had
     /// 2^64 - 1 faults answers `None` instead.
     fn carry(&mut self, alloc: Global, bytes: &[u8]) -> Result<Option<Vec<u8>>, LinkFault>
-        ensures gives { IfOk result (λ came. IfSome came (λ v.
-            gives self.old bytes.now v.items)) }
+        ensures carries { carries self.old bytes.now (link_answer result) self.new }
         ensures stores { (x : List ℕ) → Contains (stored self.new) x
             → (x ≡ bytes.now) ⊎ Contains (stored self.old) x }
         ensures stays { faithful self.new ≡ faithful self.old }
@@ -55,18 +54,10 @@ pub trait Link: Send {
     fn faults(&self) -> u64
         ensures { result ≡ count self.now };
 
-    /// Whether it may give whatever it is handed, and nothing is wanted of the bytes: then what they stand for can be handed over in
-    /// place of them.
-    fn hands_over(&self) -> bool
-        ensures { result ≡ true → MayGiveAll (gives self.now) }
-    {
-        false
-    }
-
-    ghost prefixes: { (l : Self) (bytes came : List ℕ) → gives l bytes came
+    ghost prefixes: { (l m : Self) (bytes came : List ℕ) → carries l bytes (gave came) m
         → IsPrefixOnLink bytes (stored l) came };
 
-    ghost same: { (l : Self) → faithful l ≡ true → IsFaithful (gives l) };
+    ghost same: { (l m : Self) → faithful l ≡ true → IsFaithful (λ bytes a. carries l bytes a m) };
 }
 
 /// A link that answers what it is handed, and stores nothing.
@@ -87,14 +78,15 @@ impl PerfectLink {
 }
 
 impl Link for PerfectLink {
-    ghost use Rattle.std.specs.Prelude.{◌≡◌, [], true};
-    ghost use Rattle.assise_link.specs.Prefixes.{whole};
+    ghost use Rattle.std.specs.Prelude.{[], true, None};
+    ghost use Rattle.assise_link.specs.Kinds.{Carries, perfect};
+    ghost use Rattle.assise_link.specs.Prefixes.{prefix_by, same_by_perfect};
 
     ghost stored = { λ _. [] };
 
     ghost count = { λ l. l.faults.count };
 
-    ghost gives = { λ _ bytes came. came ≡ bytes };
+    ghost carries = { λ l bytes a m. Carries perfect bytes (record { kept = None; faults = l.faults.count }) a (record { kept = None; faults = m.faults.count }) };
 
     ghost faithful = { λ _. true };
 
@@ -109,11 +101,7 @@ impl Link for PerfectLink {
         self.faults.count
     }
 
-    fn hands_over(&self) -> bool {
-        true
-    }
+    ghost prefixes = { λ l m bytes came is. prefix_by perfect bytes came _ _ is };
 
-    ghost prefixes = { λ _ bytes came is. whole bytes came [] is };
-
-    ghost same = { λ _ _ bytes came is. is };
+    ghost same = { λ l m _ bytes came is. same_by_perfect bytes came _ _ is };
 }

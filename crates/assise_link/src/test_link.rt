@@ -36,7 +36,8 @@ impl Drop for TestLink {
 
 impl TestLink {
     ghost use Rattle.std.specs.Prelude.{◌≡◌, true, false};
-    ghost use Rattle.assise_link.specs.TestLinks.{IsUnusedLink, cut, delay, fault, is_perfect, lose, perfect, repeat};
+    ghost use Rattle.assise_link.specs.Kinds.{cut, delay, fault, lose, perfect, repeat};
+    ghost use Rattle.assise_link.specs.TestLinks.{IsUnusedLink, is_perfect};
 
     /// A link that answers what it is handed.
     pub fn perfect() -> TestLink
@@ -88,15 +89,16 @@ impl TestLink {
 }
 
 impl Link for TestLink {
-    ghost use Rattle.std.specs.Prelude.{◌≡◌, true};
-    ghost use Rattle.assise_link.specs.TestLinks.{GivesByKind, fault_count, is_perfect, kept_by};
-    ghost use Rattle.assise_link.specs.Prefixes.{by_kind, same_by_kind};
+    ghost use Rattle.std.specs.Prelude.{◌≡◌};
+    ghost use Rattle.assise_link.specs.Kinds.{Carries};
+    ghost use Rattle.assise_link.specs.TestLinks.{fault_count, is_perfect, kept_by, kept_lists, kind_of_link, state_of};
+    ghost use Rattle.assise_link.specs.Prefixes.{prefix_by_kind, same_by_kind};
 
-    ghost stored = { kept_by };
+    ghost stored = { λ l. kept_lists (kept_by l) };
 
     ghost count = { fault_count };
 
-    ghost gives = { GivesByKind };
+    ghost carries = { λ l bytes a m. (kind_of_link m ≡ kind_of_link l) × Carries (kind_of_link l) bytes (state_of l) a (state_of m) };
 
     ghost faithful = { is_perfect };
 
@@ -122,11 +124,7 @@ impl Link for TestLink {
         }
     }
 
-    fn hands_over(&self) -> bool {
-        matches!(self, TestLink::Perfect(_))
-    }
+    ghost prefixes = { λ l m bytes came is. prefix_by_kind l bytes came _ is.1 };
 
-    ghost prefixes = { by_kind };
-
-    ghost same = { same_by_kind };
+    ghost same = { λ l m perfect bytes came is. same_by_kind l perfect bytes came _ is.1 };
 }

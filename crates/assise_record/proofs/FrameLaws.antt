@@ -90,10 +90,10 @@ numbers_read = record { takes = numbers_take; again = numbers_again }
 
 -- ---- the header
 
-abbrev header_spelling : Header → List ℕ
+abbrev pub header_spelling : Header → List ℕ
 header_spelling h = 65 ∷ 83 ∷ h.version ∷ (big_bytes 8 h.epoch ++ (big_bytes 4 h.client ++ (big_bytes 8 h.first ++ (big_bytes 2 h.count ++ big_bytes 4 h.size))))
 
-record IsHeader (newest : ℕ) (h : Header) : Type 0 where
+pub record IsHeader (newest : ℕ) (h : Header) : Type 0 where
   pub version : IsVersion newest h.version
   pub epoch : h.epoch < 2 ^ 64
   pub client : 0 < h.client
@@ -101,7 +101,7 @@ record IsHeader (newest : ℕ) (h : Header) : Type 0 where
   pub count : HasCount h.first h.count
   pub size : h.size < 2 ^ 32
 
-header_takes : (newest : ℕ) (bytes : List ℕ) (x : Header × List ℕ) → IsBytes bytes → header_at newest bytes ≡ Ok x → Takes bytes (header_spelling x.0) x.1 × IsHeader newest x.0
+pub header_takes : (newest : ℕ) (bytes : List ℕ) (x : Header × List ℕ) → IsBytes bytes → header_at newest bytes ≡ Ok x → Takes bytes (header_spelling x.0) x.1 × IsHeader newest x.0
 unfolding header_at
 header_takes newest bytes x fits e =
     let last = λ (version epoch client : ℕ) (numbers : (ℕ × ℕ) × List ℕ) (size : ℕ × List ℕ). let made : Result (Header × List ℕ) FrameFault =

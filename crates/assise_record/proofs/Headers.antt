@@ -251,3 +251,14 @@ header_says newest bytes u = go (class_of newest bytes) where
   go (early read unfinished) = inl read
   go (wrong fault read other fields) = absurd (fields u.lawful)
   go (entire h rest read fields size long) = inr (h, rest, read, (let short = u.short (omega (arith, long)) in omega (arith, long, size, short)))
+
+-- a header has 29 bytes
+pub header_long : (newest : ℕ) (bytes : List ℕ) (h : Header) (rest : List ℕ) → header_at newest bytes ≡ Ok (h, rest) → length rest + 29 ≡ length bytes
+header_long newest bytes h rest is = go (class_of newest bytes) where
+  go : Class newest bytes → length rest + 29 ≡ length bytes
+  go (early read unfinished) = let both : ok_header h rest ≡ Short_ = sym is ∙ read in absurd cc
+  go (wrong fault read other fields) = let failed : Read Header = Err fault in let both : ok_header h rest ≡ failed = sym is ∙ read in absurd cc
+  go (entire g more read fields size long) =
+      let both : ok_header h rest ≡ ok_header g more = sym is ∙ read in
+      let pair = ok_is (h, rest) (g, more) both in
+      ap (λ (x : Header × List ℕ). length x.1 + 29) pair ∙ long

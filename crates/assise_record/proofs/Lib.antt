@@ -13,6 +13,7 @@ pub mod Outcomes
 pub mod Overrides
 pub mod RecordLaws
 pub mod Records
+pub mod Rests
 pub mod RoomLaws
 pub mod Shortness
 pub mod SizeBounds

@@ -1,7 +1,7 @@
 -- The first fault of bytes. Fields are read from left to right, each behind the one before it: a reading is a value
 -- and the bytes behind it, or the fault that was found first. Which bytes are frames is said apart from this, in
 -- `Spelling`; that both agree are laws of the crate.
-use Rattle.std.specs.Prelude.{◌≡◌, ◌<◌, ◌≤◌, ℕ, ◌+◌, zero, suc, Bool, true, false, nat_lt, nat_le, ◌==◌, ◌&&◌, ◌||◌, if◌then◌else◌, List, [], ◌∷◌, ◌++◌, length, take, drop}
+use Rattle.std.specs.Prelude.{◌≡◌, ◌<◌, ◌≤◌, ℕ, ◌+◌, ◌-◌, zero, suc, Bool, true, false, nat_lt, nat_le, ◌==◌, ◌&&◌, ◌||◌, if◌then◌else◌, List, [], ◌∷◌, ◌++◌, get_or, length, take, drop}
 use Rattle.std.specs.Prelude.{Option, Some, None, Result, Ok, Err}
 use Rattle.std.specs.Option.{option_to_list}
 use Rattle.byteorder.specs.Endian.{big_number}
@@ -22,6 +22,10 @@ abbrev pub ◌>>=◌ : {A B : Type 0} → Result A FrameFault → (A → Result 
 
 abbrev pub guard : Bool → FrameFault → Result (Unit {0}) FrameFault
 guard holds fault = if holds then Ok tt else Err fault
+
+-- a list of bytes
+abbrev pub AreBytes : List ℕ → Type 0
+AreBytes bytes = (i : ℕ) → get_or bytes i 0 < 256
 
 -- ---- fields: where the bytes end first, the fault is the one that is handed in
 
@@ -149,14 +153,19 @@ mark_at true left bytes = do
   _ ← guard (is_mark left mark.0) BadValue
   Ok (Some (mark.0 == 1), mark.1)
 
+-- the effects of a record of which the call, the mark and the count were read
+abbrev pub effects_of_record : ℕ → Option Bool → ℕ → List ℕ → Read (LogRecord × Option Bool)
+effects_of_record call mark count bytes = do
+  effects ← many_at effect_at count bytes
+  Ok ((record { call = call; effects = effects.0 }, mark), effects.1)
+
 unfoldable pub read_record : Bool → ℕ → List ℕ → Read (LogRecord × Option Bool)
 read_record marked left bytes = do
   call ← number_at 8 BadLength bytes
   mark ← mark_at marked left call.1
   count ← byte_at BadLength mark.1
   _ ← guard (nat_lt 0 count.0 && nat_le count.0 4) BadValue
-  effects ← many_at effect_at count.0 count.1
-  Ok ((record { call = call.0; effects = effects.0 }, mark.0), effects.1)
+  effects_of_record call.0 mark.0 count.0 count.1
 
 -- so many records, and their marks
 unfoldable pub records_at : Bool → ℕ → List ℕ → Read (List LogRecord × List Bool)
@@ -226,12 +235,17 @@ header_at newest bytes = do
 abbrev pub read_frame : Header → List LogRecord × List Bool → LogFrame
 read_frame h records = record { version = h.version; epoch = h.epoch; client = h.client; first = h.first; records = records.0; last = records.1 }
 
+-- the frame of a header and its body
+abbrev pub frame_of_body : Header → List ℕ → Result (LogFrame × ℕ) FrameFault
+frame_of_body h body = do
+  records ← body_at (is_marked h.version) h.count body
+  Ok (read_frame h records, 29 + h.size)
+
 unfoldable pub frame_at : ℕ → List ℕ → Result (LogFrame × ℕ) FrameFault
 frame_at newest bytes = do
   head ← header_at newest bytes
   body ← bytes_at head.0.size Short head.1
-  records ← body_at (is_marked head.0.version) head.0.count body.0
-  Ok (read_frame head.0 records, 29 + head.0.size)
+  frame_of_body head.0 body.0
 
 -- ---- what is left of a reading
 
@@ -243,6 +257,11 @@ frame_seen view (Err fault) = Err fault
 -- what stands behind it
 abbrev pub rest_of : {A : Type 0} → Read A → Result (List ℕ) FrameFault
 rest_of read = frame_seen (λ x. x.1) read
+
+-- which is the end of the bytes
+pub record IsRest (bytes rest : List ℕ) : Type 0 where
+  pub within : length rest ≤ length bytes
+  pub end : drop (length bytes - length rest) bytes ≡ rest
 
 -- that there is one
 abbrev pub checked : {A : Type 0} → Result A FrameFault → Result (Unit {0}) FrameFault

@@ -1,5 +1,5 @@
 -- An effect as it is read, before what it borrows is copied.
-use Rattle.std.specs.Prelude.{◌≤◌, IsTrue}
+use Rattle.std.specs.Prelude.{◌≡◌, ℕ, ◌-◌, ◌≤◌, IsTrue, List, length, slice_range}
 use Rattle.assise_names.specs.Name.{is_name}
 use Rattle.assise_record.specs.Patch.{IsPatch}
 use Rattle.assise_record.specs.declared.effect.Effect.{Effect}
@@ -26,3 +26,13 @@ IsLawfulEffect (SetLen inode size) = size ≤ 1048576
 IsLawfulEffect (Link directory name inode) = IsTrue (is_name name.now)
 IsLawfulEffect (Unlink directory name) = IsTrue (is_name name.now)
 IsLawfulEffect (Free inode) = Unit {0}
+
+-- the bytes of a write are those of a list that end at a place
+abbrev pub EndsAt : EffectView → List ℕ → ℕ → Type 0
+EndsAt (NewFile inode) all end = Unit {0}
+EndsAt (NewDir inode) all end = Unit {0}
+EndsAt (Write inode offset bytes) all end = (length bytes.now ≤ end) × (end ≤ length all) × (slice_range all (end - length bytes.now) end ≡ bytes.now)
+EndsAt (SetLen inode size) all end = Unit {0}
+EndsAt (Link directory name inode) all end = Unit {0}
+EndsAt (Unlink directory name) all end = Unit {0}
+EndsAt (Free inode) all end = Unit {0}

@@ -1,17 +1,18 @@
 // Frames of bytes.
-ghost use Rattle.std.specs.Prelude.{◌≡◌, ◌<◌, ◌≤◌, ◌⊎◌, ◌++◌, ℕ, IfOk, IfErr, IsOkUnless, OnOk, Ok, Err, length};
+ghost use Rattle.std.specs.Prelude.{◌≡◌, ◌<◌, ◌≤◌, ◌⊎◌, ◌++◌, ℕ, IfOk, IfErr, IsOkUnless, OnOk, Ok, Err, length, take, drop};
 ghost use Rattle.std.specs.Option.{option_to_list};
 ghost use Rattle.assise_record.specs.LogFrame.{HasMarks, LogFrame, is_marked};
 ghost use Rattle.assise_record.specs.Spelling.{BeginsWith};
 ghost use Rattle.assise_record.specs.declared.fault.FrameFault.{FrameFault};
 ghost use Rattle.assise_record.specs.declared.fault.FrameFault.TheVariants.{Memory};
-ghost use Rattle.assise_record.specs.Reading.{Exactly, GivesFrame, HasCount, IsVersion, checked, mark_at, read_record, records_at, body_at, version_at, numbers_at, header_at, read_frame, frame_at, rest_of};
+ghost use Rattle.assise_record.specs.Reading.{AreBytes, Exactly, GivesFrame, HasCount, IsRest, IsVersion, checked, effects_of_record, mark_at, read_record, records_at, body_at, version_at, numbers_at, header_at, read_frame, frame_at, frame_of_body, rest_of};
 
 use crate::effects::{effects_at, skip_effects};
 use crate::fault::FrameFault;
 use crate::fields::{slice_at, u8_at, u16_at, u32_at, u64_at};
 use crate::frame::{Frame, MARKED_VERSION, MOST_RECORDS, PLAIN_VERSION};
 use crate::record::{MOST_EFFECTS, Record};
+use bytes::Bytes;
 use std::alloc::Global;
 use std::marker::Model;
 
@@ -46,6 +47,18 @@ impl Model for Header {
     ghost view = { λ h. record { version = h.version; epoch = h.epoch; client = h.client; first = h.first; count = h.count; size = h.size } };
 }
 
+impl Header {
+    ghost use Rattle.std.specs.Prelude.{◌≡◌};
+    ghost use Rattle.assise_record.specs.LogFrame.{is_marked};
+
+    /// Whether its records have marks.
+    fn is_marked(&self) -> bool
+        ensures { result ≡ is_marked self.now.version }
+    {
+        self.version == MARKED_VERSION
+    }
+}
+
 /// The mark of a record with so many records behind it, where records have marks.
 #[tactic(auto, unfolding(crate::specs::Reading::mark_at))]
 fn mark_at(marked: bool, left: u16, bytes: &[u8]) -> Result<(Option<bool>, &[u8]), FrameFault>
@@ -61,16 +74,19 @@ fn mark_at(marked: bool, left: u16, bytes: &[u8]) -> Result<(Option<bool>, &[u8]
     Ok((Some(mark == LAST), rest))
 }
 
-/// A record with so many records behind it, and its mark.
+/// The call of a record with so many records behind it, its mark, and the count of its effects, which stand behind that.
 #[tactic(auto, unfolding(crate::specs::Reading::read_record))]
-fn record_at(
-    alloc: Global,
+fn record_head_at(
     marked: bool,
     left: u16,
     bytes: &[u8],
-) -> Result<((Record, Option<bool>), &[u8]), FrameFault>
-    ensures { GivesFrame (λ x. ((x.0.0, x.0.1), x.1.now)) result
-        (read_record marked left bytes.now) }
+) -> Result<((u64, Option<bool>, u8), &[u8]), FrameFault>
+    ensures reads { IfOk result (λ x. read_record marked left bytes.now ≡
+        effects_of_record x.0.0 x.0.1 x.0.2 x.1.now) }
+    ensures fault { IfErr result (λ fault. read_record marked left bytes.now ≡ Err fault) }
+    ensures rest { IfOk result (λ x. IsRest bytes.now x.1.now) }
+    ensures some { IfOk result (λ x. 0 < x.0.2) }
+    ensures few { IfOk result (λ x. x.0.2 ≤ 4) }
 {
     let (call, rest) = u64_at(bytes, FrameFault::BadLength)?;
     let (mark, rest) = mark_at(marked, left, rest)?;
@@ -78,21 +94,31 @@ fn record_at(
     if count == 0 || usize::from(count) > MOST_EFFECTS {
         return Err(FrameFault::BadValue);
     }
-    let (effects, rest) = effects_at(alloc, count, rest)?;
-    Ok(((Record::new(call, effects), mark), rest))
+    Ok(((call, mark, count), rest))
+}
+
+/// A record with so many records behind it, and its mark. What stands behind it is left of the bytes, which its effects share.
+fn record_at(
+    alloc: Global,
+    marked: bool,
+    left: u16,
+    bytes: &mut Bytes,
+) -> Result<(Record, Option<bool>), FrameFault>
+    ensures { GivesFrame (λ x. ((x.0, x.1), bytes.new)) result
+        (read_record marked left bytes.old) }
+{
+    let ((call, mark, count), rest) = record_head_at(marked, left, bytes.as_slice())?;
+    let head = bytes.len() - rest.len();
+    bytes.advance(head);
+    let effects = effects_at(alloc, count, bytes)?;
+    Ok((Record::new(call, effects), mark))
 }
 
 /// What stands behind a record with so many records behind it, of which nothing is copied.
-#[tactic(auto, unfolding(crate::specs::Reading::read_record))]
 fn skip_record(marked: bool, left: u16, bytes: &[u8]) -> Result<&[u8], FrameFault>
     ensures { Exactly (λ rest. rest.now) result (rest_of (read_record marked left bytes.now)) }
 {
-    let (_, rest) = u64_at(bytes, FrameFault::BadLength)?;
-    let (_, rest) = mark_at(marked, left, rest)?;
-    let (count, rest) = u8_at(rest, FrameFault::BadLength)?;
-    if count == 0 || usize::from(count) > MOST_EFFECTS {
-        return Err(FrameFault::BadValue);
-    }
+    let ((_, _, count), rest) = record_head_at(marked, left, bytes)?;
     skip_effects(count, rest)
 }
 
@@ -130,42 +156,40 @@ fn push_mark(last: &mut Vec<bool>, mark: Option<bool>) -> Result<(), FrameFault>
     Ok(())
 }
 
-/// So many records, and their marks.
+/// So many records, and their marks. What stands behind them is left of the bytes, which their effects share.
 fn records_at(
     alloc: Global,
     marked: bool,
     count: u16,
-    bytes: &[u8],
-) -> Result<((Vec<Record>, Vec<bool>), &[u8]), FrameFault>
-    ensures { GivesFrame (λ x. ((x.0.0.items, x.0.1.items), x.1.now)) result
-        (records_at marked count bytes.now) }
+    bytes: &mut Bytes,
+) -> Result<(Vec<Record>, Vec<bool>), FrameFault>
+    ensures { GivesFrame (λ x. ((x.0.items, x.1.items), bytes.new)) result
+        (records_at marked count bytes.old) }
 {
-    let mut records = Vec::new(alloc);
+    let mut records = Vec::with_capacity(alloc, usize::from(count))?;
     let mut last = Vec::new(alloc);
-    let mut rest = bytes;
     for read in 0..count {
-        let ((record, mark), after) = record_at(alloc, marked, count - (read + 1), rest)?;
+        let (record, mark) = record_at(alloc, marked, count - (read + 1), bytes)?;
         records.push(record)?;
         push_mark(&mut last, mark)?;
-        rest = after;
     }
-    Ok(((records, last), rest))
+    Ok((records, last))
 }
 
-/// The records of a body, all of it, and their marks.
+/// The records of a body, all of it, and their marks. The effects share the body.
 #[tactic(auto, unfolding(crate::specs::Reading::body_at))]
 fn body_at(
     alloc: Global,
     marked: bool,
     count: u16,
-    body: &[u8],
+    mut body: Bytes,
 ) -> Result<(Vec<Record>, Vec<bool>), FrameFault>
-    ensures read { GivesFrame (λ x. (x.0.items, x.1.items)) result (body_at marked count body.now) }
+    ensures read { GivesFrame (λ x. (x.0.items, x.1.items)) result (body_at marked count body) }
     ensures counted { IfOk result (λ x. length x.0.items ≡ count) }
     ensures marks { IfOk result (λ x. HasMarks marked x.0.items x.1.items) }
 {
-    let ((records, last), rest) = records_at(alloc, marked, count, body)?;
-    if !rest.is_empty() {
+    let (records, last) = records_at(alloc, marked, count, &mut body)?;
+    if !body.is_empty() {
         return Err(FrameFault::BadLength);
     }
     Ok((records, last))
@@ -256,8 +280,8 @@ pub fn decode(alloc: Global, bytes: &[u8]) -> Result<(Frame, usize), FrameFault>
 
 /// The frame that bytes begin with, and of how many bytes it is: of the bytes behind it none is looked at. Where they
 /// begin with no frame, the fault is the first from left to right, where memory is wanting too: nothing is copied before
-/// the whole body was looked at. Only in place of a frame [`FrameFault::Memory`] may stand. The bytes of a write are
-/// copied once. A version above the newest is [`FrameFault::BadVersion`].
+/// the whole body was looked at. Only in place of a frame [`FrameFault::Memory`] may stand. The body is copied once, and the bytes
+/// of writes are shares of that copy. A version above the newest is [`FrameFault::BadVersion`].
 pub fn decode_up_to(alloc: Global, bytes: &[u8], newest: u8) -> Result<(Frame, usize), FrameFault>
     requires some_version { 1 ≤ newest }
     requires known_version { newest ≤ 2 }
@@ -282,21 +306,88 @@ pub fn decode_up_to(alloc: Global, bytes: &[u8], newest: u8) -> Result<(Frame, u
     frame_at(alloc, newest, bytes)
 }
 
+/// As [`decode_up_to`], of bytes that are handed over: nothing is copied, and the bytes of writes are shares of these.
+pub fn decode_owned(alloc: Global, bytes: Vec<u8>, newest: u8) -> Result<(Frame, usize), FrameFault>
+    requires some_version { 1 ≤ newest }
+    requires known_version { newest ≤ 2 }
+    // What is read is spelled so.
+    ensures found { IfOk result (λ x. BeginsWith newest bytes.items x.0 x.1) }
+    // What is spelled so is read, unless memory runs out.
+    ensures only { (f : LogFrame) (n : ℕ) → BeginsWith newest bytes.items f n →
+        (result ≡ Ok (f, n)) ⊎ (result ≡ Err Memory) }
+    // Which fault it is.
+    ensures first_fault { IfErr result (λ fault. (fault ≡ Memory) ⊎
+        (frame_at newest bytes.items ≡ Err fault)) }
+    // A fault is answered, and not out of memory.
+    ensures faults { (fault : FrameFault) → frame_at newest bytes.items ≡ Err fault →
+        result ≡ Err fault }
+    // Memory is asked for only where the bytes begin with a frame.
+    ensures memory { IfErr result (λ fault. fault ≡ Memory →
+        (f : LogFrame) × ((n : ℕ) × BeginsWith newest bytes.items f n)) }
+    // With a fault the bytes begin with no frame.
+    ensures no_frame { IfErr result (λ fault. (fault ≡ Memory) ⊎
+        ((f : LogFrame) (n : ℕ) → ¬ (BeginsWith newest bytes.items f n))) }
+{
+    owned_frame_at(alloc, newest, bytes)
+}
+
+/// The header of the frame that bytes begin with, and the body behind it, which has no fault.
 #[tactic(auto, unfolding(crate::specs::Reading::frame_at))]
+fn checked_at(newest: u8, bytes: &[u8]) -> Result<(Header, &[u8]), FrameFault>
+    ensures reads { IfOk result (λ x. frame_at newest bytes.now ≡ frame_of_body x.0 x.1.now) }
+    ensures fine { IfOk result (λ x. checked
+        (body_at (is_marked x.0.version) x.0.count x.1.now) ≡ Ok tt) }
+    ensures fault { IfErr result (λ fault. frame_at newest bytes.now ≡ Err fault) }
+    ensures behind { IfOk result (λ x. x.1.now ≡ take x.0.size (drop 29 bytes.now)) }
+    ensures long { IfOk result (λ x. 29 ≤ length bytes.now) }
+    ensures bytes { AreBytes bytes.now }
+    ensures known { IfOk result (λ x. IsVersion newest x.0.version) }
+    ensures a_client { IfOk result (λ x. 0 < x.0.client) }
+    ensures fits { IfOk result (λ x. HasCount x.0.first x.0.count) }
+{
+    let (header, rest) = header_at(newest, bytes)?;
+    let (body, _) = slice_at(rest, header.size as usize, FrameFault::Short)?;
+    check_body(header.is_marked(), header.count, body)?;
+    Ok((header, body))
+}
+
 fn frame_at(alloc: Global, newest: u8, bytes: &[u8]) -> Result<(Frame, usize), FrameFault>
     requires known_version { newest ≤ 2 }
     ensures read { GivesFrame (λ x. x) result (frame_at newest bytes.now) }
     ensures faults { (fault : FrameFault) → frame_at newest bytes.now ≡ Err fault →
         result ≡ Err fault }
 {
-    let (header, rest) = header_at(newest, bytes)?;
-    let size = header.size as usize;
-    let (body, _) = slice_at(rest, size, FrameFault::Short)?;
-    let marked = header.version == MARKED_VERSION;
-    check_body(marked, header.count, body)?;
-    let (records, last) = body_at(alloc, marked, header.count, body)?;
-    let frame = frame_of(header, records, last);
-    Ok((frame, HEADER_BYTES + size))
+    let (header, body) = checked_at(newest, bytes)?;
+    let body = Bytes::copy_from_slice(alloc, body)?;
+    read_body(alloc, header, body)
+}
+
+fn owned_frame_at(alloc: Global, newest: u8, bytes: Vec<u8>) -> Result<(Frame, usize), FrameFault>
+    requires known_version { newest ≤ 2 }
+    ensures bytes { AreBytes bytes.items }
+    ensures read { GivesFrame (λ x. x) result (frame_at newest bytes.items) }
+    ensures faults { (fault : FrameFault) → frame_at newest bytes.items ≡ Err fault →
+        result ≡ Err fault }
+{
+    let (header, _) = checked_at(newest, bytes.as_slice())?;
+    let mut body = Bytes::from_vec(bytes)?;
+    body.advance(HEADER_BYTES);
+    body.truncate(header.size as usize);
+    read_body(alloc, header, body)
+}
+
+/// The frame that has a header and this body, in which no fault is. The one fault is [`FrameFault::Memory`].
+fn read_body(alloc: Global, header: Header, body: Bytes) -> Result<(Frame, usize), FrameFault>
+    requires fine { checked (body_at (is_marked header.version) header.count body) ≡ Ok tt }
+    requires known { IsVersion 2 header.version }
+    requires a_client { 0 < header.client }
+    requires fits { HasCount header.first header.count }
+    ensures read { GivesFrame (λ x. x) result (frame_of_body header body) }
+    ensures only_memory { IsOkUnless result Memory }
+{
+    let size = HEADER_BYTES + header.size as usize;
+    let (records, last) = body_at(alloc, header.is_marked(), header.count, body)?;
+    Ok((frame_of(header, records, last), size))
 }
 
 /// The frame of the records that stand behind a header, and of their marks.

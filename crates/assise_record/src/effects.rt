@@ -1,8 +1,8 @@
 // The effects of a record, as they stand in the body of a frame.
-ghost use Rattle.std.specs.Prelude.{◌≡◌, IfOk, IsOkUnless, IsTrue, length};
-ghost use Rattle.assise_record.specs.Reading.{Exactly, GivesFrame, many_at, effect_at, fields_at, rest_of, write_at, set_len_at, link_at, unlink_at};
+ghost use Rattle.std.specs.Prelude.{◌≡◌, ◌-◌, IfOk, IsOkUnless, IsTrue, length};
+ghost use Rattle.assise_record.specs.Reading.{Exactly, GivesFrame, IsRest, many_at, effect_at, fields_at, rest_of, write_at, set_len_at, link_at, unlink_at};
 ghost use Rattle.assise_names.specs.Name.{is_name};
-ghost use Rattle.assise_record.specs.Views.{IsLawfulEffect, effect_of};
+ghost use Rattle.assise_record.specs.Views.{EndsAt, IsLawfulEffect, effect_of};
 ghost use Rattle.assise_record.specs.declared.fault.FrameFault.TheVariants.{Memory};
 
 use crate::effect::{Effect, Extent, FileSize};
@@ -59,9 +59,11 @@ pub(crate) enum EffectView<'a> {
 }
 
 impl EffectView<'_> {
-    /// The effect, with a copy of its name and bytes. The one fault is [`FrameFault::Memory`].
-    fn to_effect(self, alloc: Global) -> Result<Effect, FrameFault>
-        requires { IsLawfulEffect self }
+    /// The effect, with a copy of its name. The bytes of a write are those of the frame that end at a place, and are shared. The one
+    /// fault is [`FrameFault::Memory`].
+    fn to_effect(self, alloc: Global, frame: &Bytes, end: usize) -> Result<Effect, FrameFault>
+        requires lawful { IsLawfulEffect self }
+        requires inside { EndsAt self frame.now end }
         ensures equal { IfOk result (λ effect. effect ≡ effect_of self.entry) }
         ensures only_memory { IsOkUnless result Memory }
     {
@@ -73,7 +75,7 @@ impl EffectView<'_> {
                 offset,
                 bytes,
             } => {
-                let bytes = Bytes::copy_from_slice(alloc, bytes)?;
+                let bytes = frame.slice(end - bytes.len()..end)?;
                 let extent = Extent::new(offset, bytes);
                 Ok(Effect::Write { inode, extent })
             }
@@ -114,32 +116,33 @@ fn name_of(alloc: Global, text: &str) -> Result<Name, FrameFault>
     }
 }
 
-/// So many effects, and what stands behind them.
+/// So many effects. What stands behind them is left of the bytes, which the effects share.
 pub(crate) fn effects_at(
     alloc: Global,
     count: u8,
-    bytes: &[u8],
-) -> Result<(Vec<Effect>, &[u8]), FrameFault>
-    ensures read { GivesFrame (λ x. (x.0.items, x.1.now)) result
-        (many_at effect_at count bytes.now) }
-    ensures counted { IfOk result (λ x. length x.0.items ≡ count) }
+    bytes: &mut Bytes,
+) -> Result<Vec<Effect>, FrameFault>
+    ensures read { GivesFrame (λ effects. (effects.items, bytes.new)) result
+        (many_at effect_at count bytes.old) }
+    ensures counted { IfOk result (λ effects. length effects.items ≡ count) }
 {
-    let mut effects = Vec::new(alloc);
-    let mut rest = bytes;
+    let mut effects = Vec::with_capacity(alloc, usize::from(count))?;
     for _ in 0..count {
-        let (effect, after) = own_effect_at(alloc, rest)?;
+        let effect = own_effect_at(alloc, bytes)?;
         effects.push(effect)?;
-        rest = after;
     }
-    Ok((effects, rest))
+    Ok(effects)
 }
 
-/// An effect, with a copy of its name and bytes.
-fn own_effect_at(alloc: Global, bytes: &[u8]) -> Result<(Effect, &[u8]), FrameFault>
-    ensures { GivesFrame (λ x. (x.0, x.1.now)) result (effect_at bytes.now) }
+/// An effect, with a copy of its name and a share of the bytes. What stands behind it is left of them.
+fn own_effect_at(alloc: Global, bytes: &mut Bytes) -> Result<Effect, FrameFault>
+    ensures { GivesFrame (λ effect. (effect, bytes.new)) result (effect_at bytes.old) }
 {
-    let (view, rest) = effect_at(bytes)?;
-    Ok((view.to_effect(alloc)?, rest))
+    let (view, rest) = effect_at(bytes.as_slice())?;
+    let used = bytes.len() - rest.len();
+    let effect = view.to_effect(alloc, bytes, used)?;
+    bytes.advance(used);
+    Ok(effect)
 }
 
 /// What stands behind so many effects, of which none is copied.
@@ -159,6 +162,9 @@ pub(crate) fn skip_effects(count: u8, bytes: &[u8]) -> Result<&[u8], FrameFault>
 fn effect_at(bytes: &[u8]) -> Result<(EffectView<'_>, &[u8]), FrameFault>
     ensures read { Exactly (λ x. (effect_of x.0, x.1.now)) result (effect_at bytes.now) }
     ensures lawful { IfOk result (λ x. IsLawfulEffect x.0) }
+    ensures rest { IfOk result (λ x. IsRest bytes.now x.1.now) }
+    ensures ends { IfOk result (λ x.
+        EndsAt x.0 bytes.now (length bytes.now - length x.1.now)) }
 {
     let (tag, rest) = u8_at(bytes, FrameFault::BadLength)?;
     fields_at(tag, rest)

@@ -1,5 +1,5 @@
 // Frames byte by byte.
-use assise_record::decode::{decode, decode_up_to};
+use assise_record::decode::{decode, decode_owned, decode_up_to};
 use assise_record::encode::encode;
 use assise_record::fault::FrameFault;
 use assise_record::frame::{Frame, MARKED_VERSION};
@@ -84,9 +84,16 @@ fn frame_words(alloc: Global, frame: &Frame, bytes: &[u8]) -> Option<String> {
     format!(in alloc; "{copied:?} in {count}, room {grown} {kept}").ok()
 }
 
-/// What bytes are read as.
-fn words(alloc: Global, bytes: &[u8]) -> Option<String> {
-    match read(alloc, bytes) {
+/// The same of bytes that are handed over, whose payloads the frame shares.
+fn read_owned(alloc: Global, bytes: &[u8]) -> Result<(Frame, usize), FrameFault> {
+    let mut owned = Vec::new(alloc);
+    owned.extend_from_slice(bytes)?;
+    decode_owned(alloc, owned, MARKED_VERSION)
+}
+
+/// What the reading of bytes came to.
+fn words(alloc: Global, bytes: &[u8], read: Result<(Frame, usize), FrameFault>) -> Option<String> {
+    match read {
         Ok((frame, count)) => frame_words(alloc, &frame, bytes.get(..count)?),
         Err(fault) => format!(in alloc; "{fault}").ok(),
     }
@@ -95,7 +102,9 @@ fn words(alloc: Global, bytes: &[u8]) -> Option<String> {
 #[test]
 fn frames_are_read_copied_and_spelled(rt: HostRuntime) {
     for &(bytes, wanted) in FRAMES {
-        let found = words(rt.alloc(), bytes);
+        let found = words(rt.alloc(), bytes, read(rt.alloc(), bytes));
+        assert_eq!(rt; found.as_deref(), Some(wanted));
+        let found = words(rt.alloc(), bytes, read_owned(rt.alloc(), bytes));
         assert_eq!(rt; found.as_deref(), Some(wanted));
     }
 }

@@ -75,7 +75,7 @@ fn deliver<C: Revokes + Drop, L: Link>(
     let Ok(newest) = cluster.level(node) else {
         return false;
     };
-    match carry_frame(alloc, link, newest, frame) {
+    match carry_frame(alloc, link, newest, &frame) {
         Some(came) => cluster.deliver(came, node).is_ok(),
         None => false,
     }

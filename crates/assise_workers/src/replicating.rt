@@ -133,7 +133,7 @@ impl<'a, S: Replicated> Worker<'a, S> {
             return None;
         }
         let next = letter.next;
-        let Some(came) = carry_frame(alloc, link, letter.newest, letter.frame) else {
+        let Some(came) = carry_frame(alloc, link, letter.newest, &letter.frame) else {
             return Some(0);
         };
         if !gate.pass(Point::BeforeDeliver) {
