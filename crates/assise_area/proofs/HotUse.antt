@@ -13,11 +13,11 @@ use Rattle.assise_area.proofs.Seen.{some≢none, from_some, same_joined, hot_now
 use Rattle.assise_area.proofs.WrittenValues.{keys-removed, disjoint_same}
 
 removed_other : (n q : ℕ) (es : Entries) → eqb q n ≡ false → hot_at (remove_entry (nat_eq n) es) q ≡ hot_at es q
-removed_other n q [] disjoint = refl
-removed_other n q (e ∷ es) disjoint = go (removed_other n q es disjoint) (eqb n e.0) refl
+removed_other n q [] differs = refl
+removed_other n q (e ∷ es) differs = go (removed_other n q es differs) (eqb n e.0) refl
   where
     go : hot_at (remove_entry (nat_eq n) es) q ≡ hot_at es q → (b : Bool) → eqb n e.0 ≡ b → hot_at (cond b es (e ∷ remove_entry (nat_eq n) es)) q ≡ cond (eqb q e.0) (Some e.1) (hot_at es q)
-    go ih true is = sym (ap (λ b. cond b (Some e.1) (hot_at es q)) (ap (eqb q) (sym (eqb-true n e.0 is)) ∙ disjoint))
+    go ih true is = sym (ap (λ b. cond b (Some e.1) (hot_at es q)) (ap (eqb q) (sym (eqb-true n e.0 is)) ∙ differs))
     go ih false is = ap (cond (eqb q e.0) (Some e.1)) ih
 
 pub found : (n : ℕ) (es : Entries) (f : ℕ × Content) → lookup_entry (nat_eq n) es ≡ Some f → (n ≡ f.0) × (hot_at es n ≡ Some f.1)

@@ -104,7 +104,7 @@ disjoint_digested r c n has b disjoint j k other i among = quiet (cases_eq k (c 
     at_it q same = ap (λ p. log_at (digested_by r c n) p) same ∙ log_digested r c n has
 
     beside : (q : ℕ) → q ≢ c - 1 → log_at (digested_by r c n) q ≡ log_at r q
-    beside q disjoint = get_or-set_other r.logs (c - 1) q (digested_further (log_of r c) n) no_log disjoint
+    beside q differs = get_or-set_other r.logs (c - 1) q (digested_further (log_of r c) n) no_log differs
 
     some : (j ≡ c - 1) ⊎ (j ≢ c - 1) → contains (touched (all_effects (ahead (log_at (digested_by r c n) j)))) i ≡ true → contains (touched (all_effects (ahead (log_at r j)))) i ≡ true
     some (inl same) h =

@@ -57,7 +57,7 @@ found_later : (q name : List ℕ) (t u : Tree) (es : Entries) → IsBelow name e
 found_later q name t u es below there =
     elim (cases_Bool (same_name q name)) [
       | inl same ↦ let none = none_below name es below in let some = ap (λ n. find n es) (sym (one_name q name same)) ∙ there in cc
-      | inr disjoint ↦ ap (λ b. cond b (Some t) (find q es)) disjoint ∙ there
+      | inr differs ↦ ap (λ b. cond b (Some t) (find q es)) differs ∙ there
     ]
 
 some_too : {A B : Type 0} (o : Option A) (p : Option B) (x : A) → o ≡ Some x → is_some o ≡ is_some p → (y : B) × (p ≡ Some y)

@@ -106,9 +106,9 @@ module _ (leased : LeaseView) (v : Values) (reads : List ℕ) (p q : List (List 
 -- neither path is the root, and the second doesn't go on from the first
 rename_below : (leased : LeaseView) (v : Values) (p q : List (List ℕ)) (name : List ℕ) → 1 ≤ length p → 1 ≤ length q → name ≡ slice_index_or p (length p - 1) name → is_proper_prefix p q ≡ false →
     plan_from leased v [] (walk_to_entry (parent_of p) name (move_to p q)) ≡ plan_from leased v [] (rename_call p q)
-rename_below leased v p q name some more_some name_at disjoint =
+rename_below leased v p q name some more_some name_at outside =
     ap (λ n. plan_from leased v [] (walk_to_entry (parent_of p) n (move_to p q))) (sym (name_is p name some name_at))
-    ∙ ap (λ b. plan_from leased v [] (if b then finish (Error Invalid) [] else walk_to_entry (parent_of p) (last_name p) (move_to p q))) (sym disjoint)
+    ∙ ap (λ b. plan_from leased v [] (if b then finish (Error Invalid) [] else walk_to_entry (parent_of p) (last_name p) (move_to p q))) (sym outside)
     ∙ ap (λ b. plan_from leased v [] (if b then finish (Error Invalid) [] else (if is_proper_prefix p q then finish (Error Invalid) [] else walk_to_entry (parent_of p) (last_name p) (move_to p q))))
     (sym (ne_eqb (length q) 0 (λ none. absurd (omega (arith, more_some, none)))))
     ∙ ap (λ b. plan_from leased v [] (if b || (length q == 0) then finish (Error Invalid) [] else (if is_proper_prefix p q then finish (Error Invalid) [] else walk_to_entry (parent_of p) (last_name p) (move_to p q))))
@@ -118,10 +118,10 @@ rename_below leased v p q name some more_some name_at disjoint =
 module _ (leased : LeaseView) (v : Values) (before : List ℕ) (p q names new_names : List (List ℕ)) (name : List ℕ) (reads : List ℕ) (end : Result Entry Stop) (none : before ≡ [])
     (ended : (next : ℕ → ℕ → Content → Interaction) → EndedAtEntry leased v before (parent_of names) name reads end next)
     (names_are : names ≡ p) (new_names_are : new_names ≡ q) (some : 1 ≤ length names) (more_some : 1 ≤ length new_names) (name_at : name ≡ slice_index_or names (length names - 1) name)
-    (disjoint : is_proper_prefix p q ≡ false) where
+    (outside : is_proper_prefix p q ≡ false) where
   of_names : plan_from leased v [] (walk_to_entry (parent_of names) name (move_to names new_names)) ≡ plan_from leased v [] (rename_call p q)
   of_names =
-      rename_below leased v names new_names name some more_some name_at (ap (λ x. is_proper_prefix x new_names) names_are ∙ ap (λ y. is_proper_prefix p y) new_names_are ∙ disjoint)
+      rename_below leased v names new_names name some more_some name_at (ap (λ x. is_proper_prefix x new_names) names_are ∙ ap (λ y. is_proper_prefix p y) new_names_are ∙ outside)
       ∙ ap (λ x. plan_from leased v [] (rename_call x new_names)) names_are ∙ ap (λ y. plan_from leased v [] (rename_call p y)) new_names_are
 
   pub rename_stops : (stop : Stop) → end ≡ Err stop → plan_stopped reads stop ≡ plan_from leased v [] (rename_call p q)

@@ -56,7 +56,7 @@ given_back m i c had is =
     same_inodes _ _ (λ q. get-with_value (map.insert m i c) i had q
     ∙ elim (cases_eq i q) [
       | inl same ↦ rw (eq-eqb i q same) (is ∙ ap (map.get m) same)
-      | inr disjoint ↦ rw (ne_eqb i q disjoint) (get-with_value m i (Some c) q ∙ rw (ne_eqb i q disjoint) refl)
+      | inr differs ↦ rw (ne_eqb i q differs) (get-with_value m i (Some c) q ∙ rw (ne_eqb i q differs) refl)
     ])
 
 pub inserted_there : (m : InodeMap) (i : ℕ) (c : Content) → IsSome (map.get (map.insert m i c) i)

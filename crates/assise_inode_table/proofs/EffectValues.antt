@@ -52,15 +52,15 @@ tied Equal e = refl
 tied Greater e = cc
 
 -- one number by its order
-disjoint_number : (i j : ℕ) → (j ≡ i → ⊥) → (b : Bool) → eq_by_cmp nat_cmp i j ≡ b → b ≡ false
-disjoint_number i j disjoint true e = absurd (disjoint (sym (exact_unsigned i j (tied (nat_cmp i j) e))))
-disjoint_number i j disjoint false e = refl
+other_number : (i j : ℕ) → (j ≡ i → ⊥) → (b : Bool) → eq_by_cmp nat_cmp i j ≡ b → b ≡ false
+other_number i j differs true e = absurd (differs (sym (exact_unsigned i j (tied (nat_cmp i j) e))))
+other_number i j differs false e = refl
 
 pub same_number : (i j : ℕ) → eq_by_cmp nat_cmp i j ≡ (j == i)
 same_number i j =
     elim (cases_eq j i) [
       | inl same ↦ ap (eq_by_cmp nat_cmp i) same ∙ ap is_eq (tied_itself nat_cmp_total i) ∙ sym (eq-eqb j i same)
-      | inr disjoint ↦ disjoint_number i j disjoint (eq_by_cmp nat_cmp i j) refl ∙ sym (ne_eqb j i disjoint)
+      | inr differs ↦ other_number i j differs (eq_by_cmp nat_cmp i j) refl ∙ sym (ne_eqb j i differs)
     ]
 
 pub get-with_value : (m : InodeMap) (j : ℕ) (o : Option Content) (i : ℕ) → fin.get (with_value m j o) i ≡ (if j == i then o else fin.get m i)
@@ -75,5 +75,5 @@ get-applied m e i =
     go =
         elim (cases_eq (touched_by e) i) [
           | inl same ↦ ap (λ j. if touched_by e == i then effect_on (fin.get m j) e else fin.get m i) same
-          | inr disjoint ↦ rw (ne_eqb (touched_by e) i disjoint) refl
+          | inr differs ↦ rw (ne_eqb (touched_by e) i differs) refl
         ]

@@ -133,7 +133,7 @@ module _ (v : Values) (t m : Tree) (d e i g : ℕ) (p q : Path) (name new : List
     where
       go : (b : Bool) → same_name name new ≡ b → cond b None (map.get to name) ≡ Some i
       go true named = absurd (other_names (eqb-true e d same) named)
-      go false disjoint = ap (λ links. map.get links name) (same_links (eqb-true e d same)) ∙ entry
+      go false differs = ap (λ links. map.get links name) (same_links (eqb-true e d same)) ∙ entry
 
   goal_holds : cleared e ≡ Some (directory (map.remove to new))
   goal_holds = others e (λ x. goal_stays (sym x)) ∙ removes.after

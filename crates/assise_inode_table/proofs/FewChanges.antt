@@ -32,18 +32,18 @@ lacks_push (x ∷ xs) c i h other = (h.0, lacks_push xs c i h.1 other)
 pub lacks_next : (cs : List Change) (p i : ℕ) (none : Change) → p < length cs → (get_or cs p none).inode ≢ i → Lacks (take p cs) i → Lacks (take (p + 1) cs) i
 lacks_next cs p i none within other h = subst (λ xs. Lacks xs i) (sym (take_more cs p none within)) (lacks_push (take p cs) (get_or cs p none) i h other)
 
-pub disjoint_push : (cs : List Change) (c : Change) → AreDistinctChanges cs → Lacks cs c.inode → AreDistinctChanges (cs ++ c ∷ [])
-disjoint_push [] c h lacks = (tt, tt)
-disjoint_push (x ∷ xs) c h lacks = (lacks_push xs c x.inode h.0 (λ e. lacks.0 (sym e)), disjoint_push xs c h.1 lacks.1)
+pub distinct_push : (cs : List Change) (c : Change) → AreDistinctChanges cs → Lacks cs c.inode → AreDistinctChanges (cs ++ c ∷ [])
+distinct_push [] c h lacks = (tt, tt)
+distinct_push (x ∷ xs) c h lacks = (lacks_push xs c x.inode h.0 (λ e. lacks.0 (sym e)), distinct_push xs c h.1 lacks.1)
 
 lacks_prefix : (cs : List Change) (c : Change) (i : ℕ) → Lacks (cs ++ c ∷ []) i → Lacks cs i × (c.inode ≢ i)
 lacks_prefix [] c i h = (tt, h.0)
 lacks_prefix (x ∷ xs) c i h = ((h.0, (lacks_prefix xs c i h.1).0), (lacks_prefix xs c i h.1).1)
 
-pub disjoint_prefix : (cs : List Change) (c : Change) → AreDistinctChanges (cs ++ c ∷ []) → AreDistinctChanges cs × Lacks cs c.inode
-disjoint_prefix [] c h = (tt, tt)
-disjoint_prefix (x ∷ xs) c h =
-    let rest : AreDistinctChanges xs × Lacks xs c.inode = disjoint_prefix xs c h.1 in
+pub distinct_prefix : (cs : List Change) (c : Change) → AreDistinctChanges (cs ++ c ∷ []) → AreDistinctChanges cs × Lacks cs c.inode
+distinct_prefix [] c h = (tt, tt)
+distinct_prefix (x ∷ xs) c h =
+    let rest : AreDistinctChanges xs × Lacks xs c.inode = distinct_prefix xs c h.1 in
     let first : Lacks xs x.inode × (c.inode ≢ x.inode) = lacks_prefix xs c x.inode h.0 in
     ((first.0, rest.0), ((λ e. first.1 (sym e)), rest.1))
 
@@ -54,35 +54,35 @@ lacks_at (c ∷ cs) (suc p) i none within h = lacks_at cs p i none (omega arith)
 
 -- the value at the place of an inode is the one that is found
 pub found_at : (cs : List Change) (p i : ℕ) (none : Change) (old : Option Content) → AreDistinctChanges cs → p < length cs → (get_or cs p none).inode ≡ i → found cs i old ≡ (get_or cs p none).value
-found_at [] p i none old disjoint within is = absurd (omega arith)
-found_at (c ∷ cs) zero i none old disjoint within is = chosen_same c.inode i c.value (found cs i old) is
-found_at (c ∷ cs) (suc p) i none old disjoint within is =
+found_at [] p i none old distinct within is = absurd (omega arith)
+found_at (c ∷ cs) zero i none old distinct within is = chosen_same c.inode i c.value (found cs i old) is
+found_at (c ∷ cs) (suc p) i none old distinct within is =
     let inside : p < length cs = omega arith in
-    chosen_other c.inode i c.value (found cs i old) (λ e. lacks_at cs p c.inode none inside disjoint.0 (is ∙ sym e))
-    ∙ found_at cs p i none old disjoint.1 inside is
+    chosen_other c.inode i c.value (found cs i old) (λ e. lacks_at cs p c.inode none inside distinct.0 (is ∙ sym e))
+    ∙ found_at cs p i none old distinct.1 inside is
 
 lacks_set : (cs : List Change) (p i j : ℕ) (none : Change) (v : Option Content) → p < length cs → (get_or cs p none).inode ≡ i → Lacks cs j → Lacks (set cs p (record { inode = i; value = v })) j
 lacks_set [] p i j none v within is h = absurd (omega arith)
 lacks_set (c ∷ cs) zero i j none v within is h = ((λ e. h.0 (is ∙ e)), h.1)
 lacks_set (c ∷ cs) (suc p) i j none v within is h = (h.0, lacks_set cs p i j none v (omega arith) is h.1)
 
-pub disjoint_set : (cs : List Change) (p i : ℕ) (none : Change) (v : Option Content) → p < length cs → (get_or cs p none).inode ≡ i → AreDistinctChanges cs → AreDistinctChanges (set cs p (record { inode = i; value = v }))
-disjoint_set [] p i none v within is h = absurd (omega arith)
-disjoint_set (c ∷ cs) zero i none v within is h = (subst (Lacks cs) is h.0, h.1)
-disjoint_set (c ∷ cs) (suc p) i none v within is h = (lacks_set cs p i c.inode none v (omega arith) is h.0, disjoint_set cs p i none v (omega arith) is h.1)
+pub distinct_set : (cs : List Change) (p i : ℕ) (none : Change) (v : Option Content) → p < length cs → (get_or cs p none).inode ≡ i → AreDistinctChanges cs → AreDistinctChanges (set cs p (record { inode = i; value = v }))
+distinct_set [] p i none v within is h = absurd (omega arith)
+distinct_set (c ∷ cs) zero i none v within is h = (subst (Lacks cs) is h.0, h.1)
+distinct_set (c ∷ cs) (suc p) i none v within is h = (lacks_set cs p i c.inode none v (omega arith) is h.0, distinct_set cs p i none v (omega arith) is h.1)
 
 pub found_set : (cs : List Change) (p i j : ℕ) (none : Change) (v old : Option Content) → AreDistinctChanges cs → p < length cs → (get_or cs p none).inode ≡ i
     → found (set cs p (record { inode = i; value = v })) j old ≡ (if i == j then v else found cs j old)
-found_set [] p i j none v old disjoint within is = absurd (omega arith)
-found_set (c ∷ cs) zero i j none v old disjoint within is =
+found_set [] p i j none v old distinct within is = absurd (omega arith)
+found_set (c ∷ cs) zero i j none v old distinct within is =
     elim (cases_eq i j) [
       | inl same ↦ chosen_same i j v (found cs j old) same ∙ sym (chosen_same i j v _ same)
       | inr other ↦ chosen_other i j v (found cs j old) other ∙ sym (chosen_other c.inode j c.value (found cs j old) (λ e. other (sym is ∙ e))) ∙ sym (chosen_other i j v _ other)
     ]
-found_set (c ∷ cs) (suc p) i j none v old disjoint within is =
+found_set (c ∷ cs) (suc p) i j none v old distinct within is =
     let inside : p < length cs = omega arith in
-    let rest : found (set cs p (record { inode = i; value = v })) j old ≡ (if i == j then v else found cs j old) = found_set cs p i j none v old disjoint.1 inside is in
-    let away : c.inode ≢ i = (λ e. lacks_at cs p c.inode none inside disjoint.0 (is ∙ sym e)) in
+    let rest : found (set cs p (record { inode = i; value = v })) j old ≡ (if i == j then v else found cs j old) = found_set cs p i j none v old distinct.1 inside is in
+    let away : c.inode ≢ i = (λ e. lacks_at cs p c.inode none inside distinct.0 (is ∙ sym e)) in
     elim (cases_eq c.inode j) [
       | inl same ↦ chosen_same c.inode j c.value _ same ∙ sym (chosen_same c.inode j c.value (found cs j old) same) ∙ sym (chosen_other i j v _ (λ e. away (same ∙ sym e)))
       | inr other ↦ chosen_other c.inode j c.value _ other ∙ rest ∙ ap (λ x. if i == j then v else x) (sym (chosen_other c.inode j c.value (found cs j old) other))
@@ -101,22 +101,22 @@ found_push cs c j old is =
 pub made : (cs : List Change) (p : ℕ) (here : Change) (e : Effect) (base : ℕ → Option Content) (before : ℕ → Option Content) (new : Option Content) → AreDistinctChanges cs → IsPlace cs p (touched_by e)
     → here ≡ get_or cs p here → new ≡ effect_on here.value e → ((i : ℕ) → found cs i (base i) ≡ before i)
     → (i : ℕ) → found (set cs p (record { inode = here.inode; value = new })) i (base i) ≡ value_after i (before i) (e ∷ [])
-made cs p here e base before new disjoint place read is same i =
+made cs p here e base before new distinct place read is same i =
     let at : here.inode ≡ touched_by e = ap (λ x. x.inode) read ∙ place.is here in
     let value : found cs (touched_by e) (base (touched_by e)) ≡ here.value =
-    found_at cs p (touched_by e) here (base (touched_by e)) disjoint place.within (place.is here) ∙ ap (λ x. x.value) (sym read) in
+    found_at cs p (touched_by e) here (base (touched_by e)) distinct place.within (place.is here) ∙ ap (λ x. x.value) (sym read) in
     let after : new ≡ effect_on (before (touched_by e)) e = is ∙ ap (λ v. effect_on v e) (sym value ∙ same (touched_by e)) in
     ap (λ k. found (set cs p (record { inode = k; value = new })) i (base i)) at
-    ∙ found_set cs p (touched_by e) i here new (base i) disjoint place.within (place.is here)
+    ∙ found_set cs p (touched_by e) i here new (base i) distinct place.within (place.is here)
     ∙ elim (cases_eq (touched_by e) i) [
       | inl alike ↦ chosen_same (touched_by e) i new _ alike ∙ after ∙ ap (λ j. effect_on (before j) e) alike ∙ sym (chosen_same (touched_by e) i (effect_on (before i) e) (before i) alike)
-      | inr disjoint ↦ chosen_other (touched_by e) i new _ disjoint ∙ same i ∙ sym (chosen_other (touched_by e) i (effect_on (before i) e) (before i) disjoint)
+      | inr differs ↦ chosen_other (touched_by e) i new _ differs ∙ same i ∙ sym (chosen_other (touched_by e) i (effect_on (before i) e) (before i) differs)
     ]
 
-pub made_disjoint : (cs : List Change) (p i : ℕ) (here : Change) (new : Option Content) → AreDistinctChanges cs → IsPlace cs p i → here ≡ get_or cs p here → AreDistinctChanges (set cs p (record { inode = here.inode; value = new }))
-made_disjoint cs p i here new disjoint place read =
+pub made_distinct : (cs : List Change) (p i : ℕ) (here : Change) (new : Option Content) → AreDistinctChanges cs → IsPlace cs p i → here ≡ get_or cs p here → AreDistinctChanges (set cs p (record { inode = here.inode; value = new }))
+made_distinct cs p i here new distinct place read =
     let at : here.inode ≡ i = ap (λ x. x.inode) read ∙ place.is here in
-    subst (λ k. AreDistinctChanges (set cs p (record { inode = k; value = new }))) (sym at) (disjoint_set cs p i here new place.within (place.is here) disjoint)
+    subst (λ k. AreDistinctChanges (set cs p (record { inode = k; value = new }))) (sym at) (distinct_set cs p i here new place.within (place.is here) distinct)
 
 -- one more, of an inode that was not among them
 pub found_new : (cs : List Change) (c : Change) (i : ℕ) (old : Option Content) → Lacks cs c.inode → found (cs ++ c ∷ []) i old ≡ (if c.inode == i then c.value else found cs i old)

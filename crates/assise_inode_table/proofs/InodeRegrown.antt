@@ -20,12 +20,12 @@ Detour v w d r p q = reach (children w) r q ≡ option_map_or (λ rest. reach (c
 -- no path by another name leads to d
 other_names : (v w : Values) (d r : ℕ) (name x : List ℕ) (p q : Path) → AgreeBut d v w → ReachesOnce (children v) r → reach (children v) r (name ∷ p) ≡ Ok d
     → same_name x name ≡ false → (o : Result ℕ TreeError) → children v r x ≡ o → (o >>= λ j. reach (children w) j q) ≡ (o >>= λ j. reach (children v) j q)
-other_names v w d r name x p q others once parent disjoint (Err e) is = refl
-other_names v w d r name x p q others once parent disjoint (Ok j) is =
+other_names v w d r name x p q others once parent differs (Err e) is = refl
+other_names v w d r name x p q others once parent differs (Ok j) is =
     same_reach v w q j (away_keeps v w d j others (λ s h.
     let both = once (x ∷ s) (name ∷ p) d (reach_step (children v) r j x s is ∙ h) parent in
     let one : x ≡ name = cc in
-    two_names x name disjoint one))
+    two_names x name differs one))
 
 -- by the first name of the path the way goes on, by another one it stays
 first_name : (v w : Values) (d r j : ℕ) (name x : List ℕ) (p q : Path) → AgreeBut d v w → ReachesOnce (children v) r → reach (children v) r (name ∷ p) ≡ Ok d

@@ -30,14 +30,14 @@ one_entry true i o = refl
 one_entry false i o = refl
 
 not_both_names : (x name other : List ℕ) → same_name other name ≡ false → same_name x name ≡ true → same_name x other ≡ true → ⊥
-not_both_names x name other disjoint a b = let same : same_name other name ≡ true = ap (λ n. same_name n name) (sym (one_name x other b) ∙ one_name x name a) ∙ same_itself name in cc
+not_both_names x name other differs a b = let same : same_name other name ≡ true = ap (λ n. same_name n name) (sym (one_name x other b) ∙ one_name x name a) ∙ same_itself name in cc
 
 insert_other : (links : Links) (name other : List ℕ) (i : ℕ) → same_name other name ≡ false → map.insert (map.remove links other) name i ≡ map.remove (map.insert links name i) other
-insert_other links name other i disjoint =
+insert_other links name other i differs =
     same_links _ _ (λ x.
     map.get-insert nat_list_cmp_total (map.remove links other) name i x
     ∙ ap (cond (same_name x name) (Some i)) (map.get-remove nat_list_cmp_total links other x)
-    ∙ two_entries (same_name x name) (same_name x other) i (map.get links x) (not_both_names x name other disjoint)
+    ∙ two_entries (same_name x name) (same_name x other) i (map.get links x) (not_both_names x name other differs)
     ∙ sym (map.get-remove nat_list_cmp_total (map.insert links name i) other x ∙ ap (cond (same_name x other) None) (map.get-insert nat_list_cmp_total links name i x)))
 
 insert_again : (links : Links) (name : List ℕ) (i : ℕ) → map.insert (map.remove links name) name i ≡ map.insert links name i
@@ -52,9 +52,9 @@ insert_again links name i =
 
 other_entry_after : (o : Option Content) (c d : ℕ) (name other : List ℕ) (i : ℕ) → same_name other name ≡ false →
     effect_on (effect_on o (Unlink c other)) (Link d name i) ≡ effect_on (effect_on o (Link d name i)) (Unlink c other)
-other_entry_after None c d name other i disjoint = refl
-other_entry_after (Some (regular bytes)) c d name other i disjoint = refl
-other_entry_after (Some (directory links)) c d name other i disjoint = ap (λ l. Some (directory l)) (insert_other links name other i disjoint)
+other_entry_after None c d name other i differs = refl
+other_entry_after (Some (regular bytes)) c d name other i differs = refl
+other_entry_after (Some (directory links)) c d name other i differs = ap (λ l. Some (directory l)) (insert_other links name other i differs)
 
 same_entry_after : (o : Option Content) (c d : ℕ) (name other : List ℕ) (i : ℕ) → same_name other name ≡ true →
     effect_on (effect_on o (Unlink c other)) (Link d name i) ≡ effect_on o (Link d name i)

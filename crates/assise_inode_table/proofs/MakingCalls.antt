@@ -82,16 +82,16 @@ module _ (v : Values) (t : Tree) (p : Path) (fresh : ℕ) (new : Effect) (child 
   stands : (d : FindsDirectory v t (parent_of p)) → map.get d.links (last_name p) ≡ None → v fresh ≡ None →
       Spells (after v (new ∷ Link d.inode (last_name p) fresh ∷ [])) (put t (parent_of p ++ last_name p ∷ []) child)
   stands d absent none =
-      let disjoint : d.inode ≢ fresh = λ e. (let a = sym d.holds ∙ ap v e ∙ none in cc) in
+      let differs : d.inode ≢ fresh = λ e. (let a = sym d.holds ∙ ap v e ∙ none in cc) in
       let u : Values = after v (new ∷ []) in
-      let kept : u d.inode ≡ Some (directory d.links) = rw (m.touches, ne_eqb fresh d.inode (λ e. disjoint (sym e))) d.holds in
+      let kept : u d.inode ≡ Some (directory d.links) = rw (m.touches, ne_eqb fresh d.inode (λ e. differs (sym e))) d.holds in
       let here : u fresh ≡ Some m.content = rw (m.touches, eq-eqb fresh fresh refl) (m.gives (v fresh)) in
       made v u (after v (new ∷ Link d.inode (last_name p) fresh ∷ [])) d.inode fresh t child (parent_of p) (last_name p) d.links s none
       (λ j other. rw (m.touches, ne_eqb fresh j (λ e. other (sym e))) refl) (m.spells u here) (m.nowhere u here) d.reached
       (record {
         before = kept;
         absent = absent;
-        after = rw (eq-eqb d.inode d.inode refl, m.touches, ne_eqb fresh d.inode (λ e. disjoint (sym e)), d.holds) refl;
+        after = rw (eq-eqb d.inode d.inode refl, m.touches, ne_eqb fresh d.inode (λ e. differs (sym e)), d.holds) refl;
         others = λ j other. rw (ne_eqb d.inode j (λ e. other (sym e))) refl;
       })
 

@@ -10,7 +10,7 @@ use Rattle.assise_inode_table.specs.Effects.{all_applied, contains, value_after,
 use Rattle.assise_inode_table.specs.Changes.{AreDistinctChanges, ArePlaced, Lacks, found, is_among, placed, placed_one, map_without}
 use Rattle.assise_inode_table.specs.declared.changes.Change.{Change}
 use Rattle.assise_inode_table.proofs.EffectLists.{get-all_applied, same_inodes}
-use Rattle.assise_inode_table.proofs.FewChanges.{among, disjoint_prefix, chosen_other, chosen_same, found_append}
+use Rattle.assise_inode_table.proofs.FewChanges.{among, distinct_prefix, chosen_other, chosen_same, found_append}
 use Rattle.assise_inode_table.proofs.EffectValues.{contains-append, get-with_value}
 
 -- ---- inodes that are taken out again
@@ -88,9 +88,9 @@ one_more_placed m cs k c within is = ap (placed m) (take_more cs k c within ∙ 
 
 -- only their own inodes are made
 placed_others : (m : InodeMap) (cs : List Change) (j : ℕ) → is_among cs j ≡ false → map.get (placed m cs) j ≡ map.get m j
-placed_others m [] j disjoint = refl
-placed_others m (c ∷ cs) j disjoint =
-    let both : ((c.inode == j) ≡ false) × (is_among cs j ≡ false) = or_parts (c.inode == j) (is_among cs j) disjoint in
+placed_others m [] j outside = refl
+placed_others m (c ∷ cs) j outside =
+    let both : ((c.inode == j) ≡ false) × (is_among cs j ≡ false) = or_parts (c.inode == j) (is_among cs j) outside in
     placed_others (placed_one m c.inode) cs j both.1 ∙ placed_else m c.inode j (λ same. false≢true (sym both.0 ∙ eq-eqb c.inode j same))
 
 pub found_placed : (m : InodeMap) (cs : List Change) (j : ℕ) → found cs j (map.get (placed m cs) j) ≡ found cs j (map.get m j)
@@ -112,23 +112,23 @@ still_there m n (c ∷ cs) i lacks others h = (ap is_some (others c.inode (λ sa
 
 -- what is left to put in, over what was put in, is what all are over what there was
 pub record IsLeft (old m : InodeMap) (all left : List Change) : Type 0 where
-  pub disjoint : AreDistinctChanges left
+  pub distinct : AreDistinctChanges left
   pub there : ArePlaced m left
   pub values : (j : ℕ) → found left j (map.get m j) ≡ found all j (map.get old j)
 
 pub all_left : (old m : InodeMap) (all : List Change) → AreDistinctChanges all → m ≡ placed old all → IsLeft old m all all
-all_left old m all disjoint is =
-    subst (λ n. IsLeft old n all all) (sym is) (record { disjoint = disjoint; there = are_placed old all; values = found_placed old all })
+all_left old m all distinct is =
+    subst (λ n. IsLeft old n all all) (sym is) (record { distinct = distinct; there = are_placed old all; values = found_placed old all })
 
 pub next_there : (old m : InodeMap) (all left rest : List Change) (c : Change) → IsLeft old m all left → left ≡ rest ++ c ∷ [] → IsSome (map.get m c.inode)
 next_there old m all left rest c h is = (there_prefix m rest c (subst (ArePlaced m) is h.there)).1
 
 pub next_left : (old m n : InodeMap) (all left rest : List Change) (c : Change) → IsLeft old m all left → left ≡ rest ++ c ∷ [] → n ≡ with_value m c.inode c.value → IsLeft old n all rest
 next_left old m n all left rest c h is put =
-    let split : AreDistinctChanges rest × Lacks rest c.inode = disjoint_prefix rest c (subst AreDistinctChanges is h.disjoint) in
+    let split : AreDistinctChanges rest × Lacks rest c.inode = distinct_prefix rest c (subst AreDistinctChanges is h.distinct) in
     let now : (j : ℕ) → map.get n j ≡ (if c.inode == j then c.value else map.get m j) = λ j. ap (λ x. map.get x j) put ∙ get-with_value m c.inode c.value j in
     record {
-      disjoint = split.0;
+      distinct = split.0;
       there = still_there m n rest c.inode split.1 (λ j other. now j ∙ chosen_other c.inode j c.value (map.get m j) other) (there_prefix m rest c (subst (ArePlaced m) is h.there)).0;
       values = λ j. ap (found rest j) (now j) ∙ sym (found_append rest (c ∷ []) j (map.get m j)) ∙ ap (λ cs. found cs j (map.get m j)) (sym is) ∙ h.values j;
     }

@@ -79,24 +79,24 @@ module _ (v : Values) (t : Tree) (p q : Path) (fresh : ℕ) (s : Spells v t) (fr
 
   -- ---- the paths
   differ : same_path p q ≡ false → p ≢ q
-  differ disjoint e = let same = (same_is p q).1 e in cc
+  differ other e = let same = (same_is p q).1 e in cc
 
   no_ring : same_path p q ≡ false → (rest : Path) → q ≢ p ++ rest
-  no_ring disjoint rest e = not_begins p q ring (differ disjoint) rest e
+  no_ring other rest e = not_begins p q ring (differ other) rest e
 
   outside : same_path p q ≡ false → past (parent_of p ++ last_name p ∷ []) (parent_of q) ≡ None
-  outside disjoint = subst (λ x. past x (parent_of q) ≡ None) from_whole (go (past p (parent_of q)) refl)
+  outside other = subst (λ x. past x (parent_of q) ≡ None) from_whole (go (past p (parent_of q)) refl)
     where
       go : (o : Option Path) → past p (parent_of q) ≡ o → o ≡ None
       go None is = refl
       go (Some rest) is =
-          absurd (no_ring disjoint (rest ++ last_name q ∷ [])
+          absurd (no_ring other (rest ++ last_name q ∷ [])
           (to_whole ∙ ap (λ x. x ++ last_name q ∷ []) (past-Some p (parent_of q) rest is) ∙ append_assoc p rest (last_name q ∷ [])))
 
   -- ---- inode i with its content c, the entry of p, spells the tree m there
   module _ (i : ℕ) (c : Content) (m : Tree) (h : HasEntry v (parent_of p) (last_name p) i) (holds : v i ≡ Some c) (reached : reach (children v) 0 p ≡ Ok i) (there : at t p ≡ Ok m)
       (kind : SameKind c m) where
-    module _ (d : FindsDirectory v t (parent_of q)) (disjoint : same_path p q ≡ false) where
+    module _ (d : FindsDirectory v t (parent_of q)) (other : same_path p q ≡ false) where
       abbrev moves : List Effect
       moves = move_effects h.parent (last_name p) d.inode (last_name q) i
 
@@ -104,7 +104,7 @@ module _ (v : Values) (t : Tree) (p q : Path) (fresh : ℕ) (s : Spells v t) (fr
       moved_tree = put (without t p) q m
 
       answered : (es : Result (Unit {0}) TreeError) → es ≡ Ok tt → answer_by (Ok m) es ≡ (Done, moved_tree)
-      answered es is = rw (is, disjoint) refl
+      answered es is = rw (is, other) refl
 
       refused : (es : Result (Unit {0}) TreeError) (e : TreeError) → es ≡ Err e → answer_by (Ok m) es ≡ (Error e, t)
       refused es e is = rw is refl
@@ -115,7 +115,7 @@ module _ (v : Values) (t : Tree) (p q : Path) (fresh : ℕ) (s : Spells v t) (fr
           subst (λ x. Spells (after v moves) (put (without t x) q m)) (sym from_whole)
           (subst (λ y. Spells (after v moves) (put (without t (parent_of p ++ last_name p ∷ [])) y m)) (sym to_whole)
           (moved_spells v t m h.parent d.inode i (parent_of p) (parent_of q) (last_name p) (last_name q) h.links d.links s h.reached h.holds h.present (ap (at t) (sym from_whole) ∙ there)
-          d.reached d.holds none (outside disjoint)))
+          d.reached d.holds none (outside other)))
 
       received_new : map.get d.links (last_name q) ≡ None → (r : Result (Unit {0}) TreeError) → room_beside stays d.links ≡ r → may_receive m stays d.entries None ≡ r →
           Agrees v fresh (settled v (then_or_error r (λ _. finish Done moves))) (answer_by (Ok m) r)
@@ -163,18 +163,18 @@ module _ (v : Values) (t : Tree) (p q : Path) (fresh : ℕ) (s : Spells v t) (fr
             let way : reach (children v) g rest ≡ Ok i =
             sym (reach-append (children v) 0 (parent_of q ++ last_name q ∷ []) rest g goal_reached) ∙ ap (λ x. reach (children v) 0 (x ++ rest)) (sym to_whole) ∙ ap (reach (children v) 0) (sym e) ∙ reached in
             let none : rest ≡ [] = ends (children v) g nowhere rest i way in
-            differ disjoint (e ∙ ap (λ x. q ++ x) none ∙ append-nil q)
+            differ other (e ∙ ap (λ x. q ++ x) none ∙ append-nil q)
 
         displaced : LeadsNowhere (children v) g → Spells (after v replacing) moved_tree
         displaced nowhere =
-            let a : Disjoint p q = disjoint_from p q (not_below nowhere) (no_ring disjoint) in
-            let b : Disjoint q p = disjoint_from q p (no_ring disjoint) (not_below nowhere) in
+            let a : Disjoint p q = disjoint_from p q (not_below nowhere) (no_ring other) in
+            let b : Disjoint q p = disjoint_from q p (no_ring other) (not_below nowhere) in
             let c : Disjoint (parent_of p ++ last_name p ∷ []) (parent_of q ++ last_name q ∷ []) = subst (λ x. Disjoint x (parent_of q ++ last_name q ∷ [])) from_whole (subst (Disjoint p) to_whole a) in
             let e : Disjoint (parent_of q ++ last_name q ∷ []) (parent_of p ++ last_name p ∷ []) = subst (λ x. Disjoint x (parent_of p ++ last_name p ∷ [])) to_whole (subst (Disjoint q) from_whole b) in
             subst (λ x. Spells (after v replacing) (put (without t x) q m)) (sym from_whole)
             (subst (λ y. Spells (after v replacing) (put (without t (parent_of p ++ last_name p ∷ [])) y m)) (sym to_whole)
             (displaced_spells v t m h.parent d.inode i g (parent_of p) (parent_of q) (last_name p) (last_name q) h.links d.links s h.reached h.holds h.present (ap (at t) (sym from_whole) ∙ there)
-            d.reached d.holds target nowhere c e (outside disjoint)))
+            d.reached d.holds target nowhere c e (outside other)))
 
         replaced_by : (r : Result (Unit {0}) TreeError) → content_may_replace c seen.content ≡ r → tree_may_replace m u ≡ r →
             Agrees v fresh (settled v (then_or_error r (λ _. finish Done replacing))) (answer_by (Ok m) r)
@@ -207,12 +207,12 @@ module _ (v : Values) (t : Tree) (p q : Path) (fresh : ℕ) (s : Spells v t) (fr
             let way = walk_to_directory v t (parent_of q) _ d in
             elim (cases_Bool (same_path p q)) [
               | inl same ↦ agrees_quietly v t fresh _ _ Done s (way ∙ rw same refl) (rw (d.there, same) refl)
-              | inr disjoint ↦
-                  let done = received d disjoint (map.get d.links (last_name q)) (find (last_name q) d.entries) refl refl (same_found d.entries d.links d.names (last_name q)) in
+              | inr other ↦
+                  let done = received d other (map.get d.links (last_name q)) (find (last_name q) d.entries) refl refl (same_found d.entries d.links d.names (last_name q)) in
                   let ends : settled v (move_to p q h.parent i c) ≡ settled v (receive c stays d.inode d.links (last_name q) (move_effects h.parent (last_name p) d.inode (last_name q) i) (map.get d.links (last_name q))) =
-                  way ∙ rw disjoint refl in
+                  way ∙ rw other refl in
                   let inside : (entries_at t (parent_of q) >>= entered m) ≡ may_receive m stays d.entries (find (last_name q) d.entries) =
-                  ap (λ o. (o >>= as_directory) >>= entered m) d.there ∙ ap (λ b. cond b (Ok tt) (may_receive m stays d.entries (find (last_name q) d.entries))) disjoint in
+                  ap (λ o. (o >>= as_directory) >>= entered m) d.there ∙ ap (λ b. cond b (Ok tt) (may_receive m stays d.entries (find (last_name q) d.entries))) other in
                   subst (λ o. Agrees v fresh o (answer_by (Ok m) (entries_at t (parent_of q) >>= entered m))) (sym ends)
                   (subst (λ r. Agrees v fresh (settled v (receive c stays d.inode d.links (last_name q) (move_effects h.parent (last_name p) d.inode (last_name q) i) (map.get d.links (last_name q)))) (answer_by (Ok m) r)) (sym inside) done)
             ]

@@ -21,7 +21,7 @@ module _ (v : Values) (t : Tree) (p : Path) (offset : ℕ) (new : List ℕ) (fre
   written : (f : FindsFile v t p) → Spells (after v (Write f.inode (record { offset = offset; bytes = new }) ∷ [])) (put t p (file (overwritten f.bytes offset new)))
   written f =
       file_rewritten v (after v (Write f.inode (record { offset = offset; bytes = new }) ∷ [])) t p f.inode f.bytes (overwritten f.bytes offset new) s f.reached f.holds
-      (rw (eq-eqb f.inode f.inode refl, f.holds) refl) (λ j disjoint. rw (ne_eqb f.inode j (λ e. disjoint (sym e))) refl)
+      (rw (eq-eqb f.inode f.inode refl, f.holds) refl) (λ j differs. rw (ne_eqb f.inode j (λ e. differs (sym e))) refl)
 
   write_spells : (f : FindsFile v t p) → Spells (after v (write_effects f.inode offset new)) (tree_after_write t p offset new f.bytes)
   write_spells f =
@@ -50,7 +50,7 @@ module _ (v : Values) (t : Tree) (p : Path) (size fresh : ℕ) (s : Spells v t) 
   cut_or_filled : (f : FindsFile v t p) → Spells (after v (SetLen f.inode size ∷ [])) (put t p (file (resized f.bytes size)))
   cut_or_filled f =
       file_rewritten v (after v (SetLen f.inode size ∷ [])) t p f.inode f.bytes (resized f.bytes size) s f.reached f.holds
-      (rw (eq-eqb f.inode f.inode refl, f.holds) refl) (λ j disjoint. rw (ne_eqb f.inode j (λ e. disjoint (sym e))) refl)
+      (rw (eq-eqb f.inode f.inode refl, f.holds) refl) (λ j differs. rw (ne_eqb f.inode j (λ e. differs (sym e))) refl)
 
   truncate_file : (f : FindsFile v t p) → Agrees v fresh (settled v (truncate_call p size)) (truncate_answer t p size)
   truncate_file f =

@@ -72,8 +72,8 @@ fn put_in<I: Inodes>(
     changes: &mut Vec<Change>,
     inode: u64,
 ) -> Result<usize, Refusal>
-    requires disjoint { AreDistinctChanges changes.old.items }
-    ensures disjoint { OnOk result (AreDistinctChanges changes.new.items) }
+    requires distinct { AreDistinctChanges changes.old.items }
+    ensures distinct { OnOk result (AreDistinctChanges changes.new.items) }
     ensures place { IfOk result (λ p. IsPlace changes.new.items p inode) }
     ensures among { OnOk result ((i : ℕ) → is_among changes.new.items i ≡
         ((inode == i) || is_among changes.old.items i)) }
@@ -98,8 +98,8 @@ fn make<I: Inodes>(
     changes: &mut Vec<Change>,
     effect: &Effect,
 ) -> Result<(), Refusal>
-    requires disjoint { AreDistinctChanges changes.old.items }
-    ensures disjoint { OnOk result (AreDistinctChanges changes.new.items) }
+    requires distinct { AreDistinctChanges changes.old.items }
+    ensures distinct { OnOk result (AreDistinctChanges changes.new.items) }
     ensures values { OnOk result ((i : ℕ) → found changes.new.items i
         (map.get (I.contents base.now) i) ≡ value_after i
         (found changes.old.items i (map.get (I.contents base.now) i)) (effect.now ∷ [])) }
@@ -119,7 +119,7 @@ pub fn changes_over<I: Inodes>(
     base: &I,
     effects: &[Effect],
 ) -> Result<Vec<Change>, Refusal>
-    ensures disjoint { IfOk result (λ cs. AreDistinctChanges cs.items) }
+    ensures distinct { IfOk result (λ cs. AreDistinctChanges cs.items) }
     ensures values { IfOk result (λ cs. (i : ℕ) →
         found cs.items i (map.get (I.contents base.now) i) ≡ value_after i
         (map.get (I.contents base.now) i) effects.now) }
@@ -181,7 +181,7 @@ fn make_places<S: InodeStore>(store: &mut S, changes: &[Change]) -> Result<(), R
 /// Puts changes in, all of them or none: each of the inodes becomes what its change says, and no other changes. The
 /// one refusal is [`Refusal::OutOfMemory`], and it leaves all inodes as they were.
 pub fn put_all<S: InodeStore>(store: &mut S, mut changes: Vec<Change>) -> Result<(), Refusal>
-    requires disjoint { AreDistinctChanges changes.items }
+    requires distinct { AreDistinctChanges changes.items }
     ensures ok { OnOk result ((i : ℕ) → map.get (S.contents store.new) i ≡ found changes.items i
         (map.get (S.contents store.old) i)) }
     ensures err { OnErr result (S.contents store.new ≡ S.contents store.old) }

@@ -48,7 +48,7 @@ pub fn a_changed_file_changes_the_tree()
 
 /// A tree that shares no inode with another may be linked into a directory of that one, under a name that is not
 /// there. The tree then stands at the path of the new entry.
-pub fn a_tree_disjoint_may_be_linked()
+pub fn a_tree_apart_may_be_linked()
     ensures { (v w : Values) (r d i : ℕ) (t u : Tree) (p : List (List ℕ)) (name : List ℕ)
         (links : Links) → SpellsFrom v r t → SpellsFrom v i u → ShareNone (children v) r i →
         reach (children v) r p ≡ Ok d → AddsLink v w d name i links →

@@ -7,7 +7,7 @@ use Rattle.assise_names.specs.declared.mode.Mode.{Mode}
 use Rattle.assise_names.specs.declared.mode.Mode.TheVariants.{Read, Write}
 use Rattle.assise_lease_table.specs.declared.lease.Lease.{Lease}
 use Rattle.assise_lease_table.specs.Modes.{against, stronger}
-use Rattle.assise_lease_table.specs.Leases.{is_own_unasked, is_rival, Among, disjoint, compatible, IsFree, raise, raise_unopposed, raised_if, without_holder, with_lease}
+use Rattle.assise_lease_table.specs.Leases.{is_own_unasked, is_rival, Among, stand_together, compatible, IsFree, raise, raise_unopposed, raised_if, without_holder, with_lease}
 use Rattle.assise_lease_table.proofs.Elements.{cases_of, both_true, and_true, and_false_left, not_true, true_not, not_both, none_among, all_among, among_all, among_filter, among_map, among_push}
 
 pub against_swap : (a b : Mode) → against a b ≡ against b a
@@ -25,27 +25,27 @@ other_number a b n = ne_eqb a b n
 pub differ : (a b : ℕ) → (a == b) ≡ false → a ≢ b
 differ a b e same = not_both (a == b) (eq-eqb a b same) e
 
-disjoint_from : (a b : Lease) → disjoint a b ≡ true → (a.holder ≢ b.holder) × (against a.mode b.mode ≡ false)
-disjoint_from a b e =
+from_together : (a b : Lease) → stand_together a b ≡ true → (a.holder ≢ b.holder) × (against a.mode b.mode ≡ false)
+from_together a b e =
     let parts = both_true (not (a.holder == b.holder)) (not (against a.mode b.mode)) e in
     (differ a.holder b.holder (not_true (a.holder == b.holder) parts.0), not_true (against a.mode b.mode) parts.1)
 
-to_disjoint : (a b : Lease) → a.holder ≢ b.holder → against a.mode b.mode ≡ false → disjoint a b ≡ true
-to_disjoint a b n e =
+to_together : (a b : Lease) → a.holder ≢ b.holder → against a.mode b.mode ≡ false → stand_together a b ≡ true
+to_together a b n e =
     and_true (not (a.holder == b.holder)) (not (against a.mode b.mode)) (true_not (a.holder == b.holder) (other_number a.holder b.holder n)) (true_not (against a.mode b.mode) e)
 
 -- two leases of one holder are one
 pub one_lease : (ls : List Lease) → compatible ls ≡ true → (a b : Lease) → Among ls a → Among ls b → a.holder ≡ b.holder → a ≡ b
 one_lease [] c a b in_a in_b same = absurd in_a
 one_lease (l ∷ ls) c a b in_a in_b same =
-    let parts = both_true (list_all (disjoint l) ls) (compatible ls) c in
+    let parts = both_true (list_all (stand_together l) ls) (compatible ls) c in
     elim in_a [
       | inl head_a ↦ elim in_b [
         | inl head_b ↦ head_a ∙ sym head_b
-        | inr rest_b ↦ absurd ((disjoint_from l b (all_among (disjoint l) ls parts.0 b rest_b)).0 (sym (ap (λ (z : Lease). z.holder) head_a) ∙ same))
+        | inr rest_b ↦ absurd ((from_together l b (all_among (stand_together l) ls parts.0 b rest_b)).0 (sym (ap (λ (z : Lease). z.holder) head_a) ∙ same))
       ]
       | inr rest_a ↦ elim in_b [
-        | inl head_b ↦ absurd ((disjoint_from l a (all_among (disjoint l) ls parts.0 a rest_a)).0 (sym (ap (λ (z : Lease). z.holder) head_b) ∙ sym same))
+        | inl head_b ↦ absurd ((from_together l a (all_among (stand_together l) ls parts.0 a rest_a)).0 (sym (ap (λ (z : Lease). z.holder) head_b) ∙ sym same))
         | inr rest_b ↦ one_lease ls parts.1 a b rest_a rest_b same
       ]
     ]
@@ -54,49 +54,49 @@ one_lease (l ∷ ls) c a b in_a in_b same =
 pub not_against : (ls : List Lease) → compatible ls ≡ true → (a b : Lease) → Among ls a → Among ls b → a.holder ≢ b.holder → against a.mode b.mode ≡ false
 not_against [] c a b in_a in_b other = absurd in_a
 not_against (l ∷ ls) c a b in_a in_b other =
-    let parts = both_true (list_all (disjoint l) ls) (compatible ls) c in
+    let parts = both_true (list_all (stand_together l) ls) (compatible ls) c in
     elim in_a [
       | inl head_a ↦ elim in_b [
         | inl head_b ↦ absurd (other (ap (λ (z : Lease). z.holder) (head_a ∙ sym head_b)))
-        | inr rest_b ↦ ap (λ (z : Lease). against z.mode b.mode) head_a ∙ (disjoint_from l b (all_among (disjoint l) ls parts.0 b rest_b)).1
+        | inr rest_b ↦ ap (λ (z : Lease). against z.mode b.mode) head_a ∙ (from_together l b (all_among (stand_together l) ls parts.0 b rest_b)).1
       ]
       | inr rest_a ↦ elim in_b [
-        | inl head_b ↦ ap (λ (z : Lease). against a.mode z.mode) head_b ∙ (against_swap a.mode l.mode ∙ (disjoint_from l a (all_among (disjoint l) ls parts.0 a rest_a)).1)
+        | inl head_b ↦ ap (λ (z : Lease). against a.mode z.mode) head_b ∙ (against_swap a.mode l.mode ∙ (from_together l a (all_among (stand_together l) ls parts.0 a rest_a)).1)
         | inr rest_b ↦ not_against ls parts.1 a b rest_a rest_b other
       ]
     ]
 
-filtered_head : (b : Bool) (l : Lease) (ls : List Lease) → list_all (disjoint l) ls ≡ true → compatible ls ≡ true → compatible (cond b (l ∷ ls) ls) ≡ true
-filtered_head true l ls h c = and_true (list_all (disjoint l) ls) (compatible ls) h c
+filtered_head : (b : Bool) (l : Lease) (ls : List Lease) → list_all (stand_together l) ls ≡ true → compatible ls ≡ true → compatible (cond b (l ∷ ls) ls) ≡ true
+filtered_head true l ls h c = and_true (list_all (stand_together l) ls) (compatible ls) h c
 filtered_head false l ls h c = c
 
 pub filter_compatible : (p : Lease → Bool) (ls : List Lease) → compatible ls ≡ true → compatible (filter p ls) ≡ true
 filter_compatible p [] c = refl
 filter_compatible p (l ∷ ls) c =
-    let parts = both_true (list_all (disjoint l) ls) (compatible ls) c in
-    filtered_head (p l) l (filter p ls) (among_all (disjoint l) (filter p ls) (λ x a. all_among (disjoint l) ls parts.0 x (among_filter p ls x a).0)) (filter_compatible p ls parts.1)
+    let parts = both_true (list_all (stand_together l) ls) (compatible ls) c in
+    filtered_head (p l) l (filter p ls) (among_all (stand_together l) (filter p ls) (λ x a. all_among (stand_together l) ls parts.0 x (among_filter p ls x a).0)) (filter_compatible p ls parts.1)
 
 -- a change that keeps holders and modes
 module _ (f : Lease → Lease) (keeps : (l : Lease) → ((f l).holder ≡ l.holder) × ((f l).mode ≡ l.mode)) where
-  disjoint_same : (a b : Lease) → disjoint (f a) (f b) ≡ disjoint a b
-  disjoint_same a b = λ i. not ((keeps a).0 i == (keeps b).0 i) && not (against ((keeps a).1 i) ((keeps b).1 i))
+  together_same : (a b : Lease) → stand_together (f a) (f b) ≡ stand_together a b
+  together_same a b = λ i. not ((keeps a).0 i == (keeps b).0 i) && not (against ((keeps a).1 i) ((keeps b).1 i))
 
-  all_disjoint_same : (l : Lease) (ls : List Lease) → list_all (disjoint (f l)) (map f ls) ≡ list_all (disjoint l) ls
-  all_disjoint_same l [] = refl
-  all_disjoint_same l (k ∷ ks) = λ i. disjoint_same l k i && all_disjoint_same l ks i
+  all_together_same : (l : Lease) (ls : List Lease) → list_all (stand_together (f l)) (map f ls) ≡ list_all (stand_together l) ls
+  all_together_same l [] = refl
+  all_together_same l (k ∷ ks) = λ i. together_same l k i && all_together_same l ks i
 
   pub map_compatible : (ls : List Lease) → compatible (map f ls) ≡ compatible ls
   map_compatible [] = refl
-  map_compatible (l ∷ ls) = λ i. all_disjoint_same l ls i && map_compatible ls i
+  map_compatible (l ∷ ls) = λ i. all_together_same l ls i && map_compatible ls i
 
 pub push_compatible : (ls : List Lease) (x : Lease) → compatible ls ≡ true → ((l : Lease) → Among ls l → (l.holder ≢ x.holder) × (against l.mode x.mode ≡ false)) → compatible (ls ++ x ∷ []) ≡ true
 push_compatible [] x c h = refl
 push_compatible (l ∷ ls) x c h =
-    let parts = both_true (list_all (disjoint l) ls) (compatible ls) c in
-    and_true (list_all (disjoint l) (ls ++ x ∷ [])) (compatible (ls ++ x ∷ []))
-    (among_all (disjoint l) (ls ++ x ∷ []) (λ k a. elim (among_push ls x k a) [
-      | inl before ↦ all_among (disjoint l) ls parts.0 k before
-      | inr last ↦ let head = h l (inl refl) in to_disjoint l k (λ e. head.0 (e ∙ ap (λ (z : Lease). z.holder) last)) (ap (λ (z : Lease). against l.mode z.mode) last ∙ head.1)
+    let parts = both_true (list_all (stand_together l) ls) (compatible ls) c in
+    and_true (list_all (stand_together l) (ls ++ x ∷ [])) (compatible (ls ++ x ∷ []))
+    (among_all (stand_together l) (ls ++ x ∷ []) (λ k a. elim (among_push ls x k a) [
+      | inl before ↦ all_among (stand_together l) ls parts.0 k before
+      | inr last ↦ let head = h l (inl refl) in to_together l k (λ e. head.0 (e ∙ ap (λ (z : Lease). z.holder) last)) (ap (λ (z : Lease). against l.mode z.mode) last ∙ head.1)
     ]))
     (push_compatible ls x parts.1 (λ k a. h k (inr a)))
 
@@ -139,9 +139,9 @@ module _ (h : ℕ) (mode : Mode) where
   not_own : (l : Lease) → l.holder ≢ h → is_own_unasked h l ≡ false
   not_own l other = and_false_left (l.holder == h) (not l.revoked) (other_number l.holder h other)
 
-  raised_disjoint : (a b : Lease) → (a.holder ≢ h → against mode a.mode ≡ false) → (b.holder ≢ h → against mode b.mode ≡ false) → disjoint a b ≡ true → disjoint (raised_now a) (raised_now b) ≡ true
-  raised_disjoint a b free_a free_b e =
-      let parts = disjoint_from a b e in
+  raised_together : (a b : Lease) → (a.holder ≢ h → against mode a.mode ≡ false) → (b.holder ≢ h → against mode b.mode ≡ false) → stand_together a b ≡ true → stand_together (raised_now a) (raised_now b) ≡ true
+  raised_together a b free_a free_b e =
+      let parts = from_together a b e in
       let first : against (raised_now a).mode b.mode ≡ false =
       raised_against (is_own_unasked h a) mode a b.mode parts.1 (λ own. free_b (λ same. parts.0 (own_holder a own ∙ sym same)))
       in
@@ -151,16 +151,16 @@ module _ (h : ℕ) (mode : Mode) where
       let other : a.holder ≢ h = λ same. parts.0 (same ∙ sym (own_holder b own)) in
       ap (against mode) (raised_other (is_own_unasked h a) mode a (not_own a other)) ∙ free_a other)
       in
-      to_disjoint (raised_now a) (raised_now b) parts.0 (against_swap (raised_now a).mode (raised_now b).mode ∙ second)
+      to_together (raised_now a) (raised_now b) parts.0 (against_swap (raised_now a).mode (raised_now b).mode ∙ second)
 
   pub raise_compatible : (ls : List Lease) → compatible ls ≡ true → IsFree ls h mode → compatible (raise h mode ls) ≡ true
   raise_compatible [] c free = refl
   raise_compatible (l ∷ ls) c free =
-      let parts = both_true (list_all (disjoint l) ls) (compatible ls) c in
-      and_true (list_all (disjoint (raised_now l)) (raise h mode ls)) (compatible (raise h mode ls))
-      (among_all (disjoint (raised_now l)) (raise h mode ls) (λ k a.
+      let parts = both_true (list_all (stand_together l) ls) (compatible ls) c in
+      and_true (list_all (stand_together (raised_now l)) (raise h mode ls)) (compatible (raise h mode ls))
+      (among_all (stand_together (raised_now l)) (raise h mode ls) (λ k a.
       let was = among_map raised_now ls k a in
-      ap (disjoint (raised_now l)) was.2 ∙ raised_disjoint l was.0 (λ other. free l (inl refl) other) (λ other. free was.0 (inr was.1) other) (all_among (disjoint l) ls parts.0 was.0 was.1)))
+      ap (stand_together (raised_now l)) was.2 ∙ raised_together l was.0 (λ other. free l (inl refl) other) (λ other. free was.0 (inr was.1) other) (all_among (stand_together l) ls parts.0 was.0 was.1)))
       (raise_compatible ls parts.1 (λ k a other. free k (inr a) other))
 
   raise_unless : (b : Bool) (ls : List Lease) → list_any (is_rival h mode) ls ≡ b → compatible ls ≡ true → compatible (cond b ls (raise h mode ls)) ≡ true

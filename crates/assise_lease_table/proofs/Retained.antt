@@ -67,12 +67,12 @@ module _ {F : Type 0} (T : F → ℕ → SmallVec Lease → Bool → SmallVec Le
 
   pub kept_after : (es kept : List (ℕ × SmallVec Lease)) → IsDistinct nat_eq (keys_of es) → RetainsPairs T f es kept → (i : ℕ) → items_or_none (lookup (nat_eq i) kept) ≡ g (items_or_none (lookup (nat_eq i) es))
   unfolding IsDistinct
-  kept_after [] kept disjoint r i = ap (λ z. items_or_none (lookup (nat_eq i) z)) r ∙ sym none
-  kept_after (e ∷ es) kept disjoint r i =
+  kept_after [] kept distinct r i = ap (λ z. items_or_none (lookup (nat_eq i) z)) r ∙ sym none
+  kept_after (e ∷ es) kept distinct r i =
       let a = says e.0 e.1 r.0 r.1 r.2 r.4 in
-      let more = kept_after es r.3 disjoint.1 (subst (λ u. RetainsPairs T u es r.3) a.2 r.5) i in
+      let more = kept_after es r.3 distinct.1 (subst (λ u. RetainsPairs T u es r.3) a.2 r.5) i in
       ap (λ z. items_or_none (lookup (nat_eq i) z)) r.6
-      ∙ kept_head r.0 (nat_eq i e.0) i e.0 e.1 r.1 r.3 (lookup (nat_eq i) es) refl a.0 a.1 more (λ same. absent i e.0 es same disjoint.0)
+      ∙ kept_head r.0 (nat_eq i e.0) i e.0 e.1 r.1 r.3 (lookup (nat_eq i) es) refl a.0 a.1 more (λ same. absent i e.0 es same distinct.0)
 
   all_head : (b m : Bool) (w : SmallVec Lease) (i k : ℕ) (rest : List (ℕ × SmallVec Lease)) → nat_eq i k ≡ m → b ≡ is_any w.items → holds_lease (lookup (nat_eq i) rest) ≡ true → holds_lease (lookup (nat_eq i) (cond b ((k, w) ∷ rest) rest)) ≡ true
   all_head true true w i k rest at any more = ap (λ z. holds_lease (cond z (Some w) (lookup (nat_eq i) rest))) at ∙ sym any
@@ -112,9 +112,9 @@ module _ (choice : Lease → Bool) where
 
   pub some_at : (es : List (ℕ × SmallVec Lease)) → IsDistinct nat_eq (keys_of es) → AnyIn es ≡ true → (i : ℕ) × (list_any choice (items_or_none (lookup (nat_eq i) es)) ≡ true)
   unfolding IsDistinct
-  some_at [] disjoint e = cc
-  some_at (x ∷ xs) disjoint e = elim (or_cases (list_any choice x.1.items) (AnyIn xs) e) [
+  some_at [] distinct e = cc
+  some_at (x ∷ xs) distinct e = elim (or_cases (list_any choice x.1.items) (AnyIn xs) e) [
     | inl here ↦ (x.0, ap (λ b. list_any choice (items_or_none (cond b (Some x.1) (lookup (nat_eq x.0) xs)))) (eq-eqb x.0 x.0 refl) ∙ here)
-    | inr rest ↦ let found = some_at xs disjoint.1 rest in
-        (found.0, behind_key (nat_eq found.0 x.0) x.1 (lookup (nat_eq found.0) xs) (λ same. absent found.0 x.0 xs same disjoint.0) found.1)
+    | inr rest ↦ let found = some_at xs distinct.1 rest in
+        (found.0, behind_key (nat_eq found.0 x.0) x.1 (lookup (nat_eq found.0) xs) (λ same. absent found.0 x.0 xs same distinct.0) found.1)
   ]

@@ -6,7 +6,7 @@ use Rattle.std.specs.List.{IsDistinct, list_any, list_all}
 use Rattle.std.specs.Map.{lookup, keys_of}
 use Rattle.smallvec.specs.SmallVec.{SmallVec}
 use Rattle.assise_lease_table.specs.Cuts.{is_of, is_asked, are_once, are_uncut, asked_at}
-use Rattle.assise_lease_table.specs.Leases.{disjoint, compatible, is_own, is_to_ask}
+use Rattle.assise_lease_table.specs.Leases.{stand_together, compatible, is_own, is_to_ask}
 use Rattle.assise_lease_table.specs.Lists.{items_or_none}
 use Rattle.assise_lease_table.specs.declared.lease.Asked.{Asked}
 use Rattle.assise_lease_table.specs.declared.lease.Lease.{Lease}
@@ -97,12 +97,12 @@ module _ (choice : Lease → Bool) where
   not_wanted true t rest e f = cc
   not_wanted false t rest e f = f
 
-  others : (l k : Lease) → disjoint l k ≡ true → is_own l.holder k ≡ false
+  others : (l k : Lease) → stand_together l k ≡ true → is_own l.holder k ≡ false
   others l k e = turned l.holder k.holder false (not_true (l.holder == k.holder) (both_true (not (l.holder == k.holder)) _ e).0)
 
-  none_of : (l : Lease) (ls : List Lease) → list_all (disjoint l) ls ≡ true → list_any (wanted l.holder) ls ≡ false
+  none_of : (l : Lease) (ls : List Lease) → list_all (stand_together l) ls ≡ true → list_any (wanted l.holder) ls ≡ false
   none_of l [] e = refl
-  none_of l (k ∷ ks) e = let parts = both_true (disjoint l k) (list_all (disjoint l) ks) e in
+  none_of l (k ∷ ks) e = let parts = both_true (stand_together l k) (list_all (stand_together l) ks) e in
       not_wanted (is_own l.holder k) (is_to_ask choice k) (list_any (wanted l.holder) ks) (others l k parts.0) (none_of l ks parts.1)
 
   once_step : (t : Bool) (a : Asked) (more_of : List Asked) → is_asked more_of a.client a.inode ≡ false → are_once more_of ≡ true → are_once (cond t (a ∷ more_of) more_of) ≡ true
@@ -111,7 +111,7 @@ module _ (choice : Lease → Bool) where
 
   once_at : (j : ℕ) (ls : List Lease) → compatible ls ≡ true → are_once (asked_at choice j ls) ≡ true
   once_at j [] fits = refl
-  once_at j (l ∷ ls) fits = let parts = both_true (list_all (disjoint l) ls) (compatible ls) fits in
+  once_at j (l ∷ ls) fits = let parts = both_true (list_all (stand_together l) ls) (compatible ls) fits in
       once_step (is_to_ask choice l) (answer_at j l) (asked_at choice j ls) (asked_here j j l.holder (eq-eqb j j refl) ls ∙ none_of l ls parts.0) (once_at j ls parts.1)
 
   both_step : (t : Bool) (a : Asked) (more_of bs : List Asked) → is_asked bs a.client a.inode ≡ false → (are_once more_of ≡ true → are_once (more_of ++ bs) ≡ true) → are_once (cond t (a ∷ more_of) more_of) ≡ true → are_once (cond t (a ∷ more_of) more_of ++ bs) ≡ true

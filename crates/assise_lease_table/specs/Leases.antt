@@ -20,13 +20,13 @@ abbrev pub lease_of : List Lease → ℕ → Option Lease
 lease_of ls h = find (is_own h) ls
 
 -- two leases that can stand together: of two holders, and neither against the other
-abbrev pub disjoint : Lease → Lease → Bool
-disjoint a b = not (a.holder == b.holder) && not (against a.mode b.mode)
+abbrev pub stand_together : Lease → Lease → Bool
+stand_together a b = not (a.holder == b.holder) && not (against a.mode b.mode)
 
 -- compatible leases: each two of them can stand together
 abbrev pub compatible : List Lease → Bool
 compatible [] = true
-compatible (l ∷ ls) = list_all (disjoint l) ls && compatible ls
+compatible (l ∷ ls) = list_all (stand_together l) ls && compatible ls
 
 -- no holder but this one stands against the mode
 abbrev pub IsFree : List Lease → ℕ → Mode → Type 0

@@ -206,8 +206,8 @@ impl<C: Revokes + Drop> ClientTableOf<C> {
         self.leases.take(inode, &Own { holder: client });
     }
 
-    /// Revokes all leases of a client. No revoker is called, and it takes no memory.
-    pub fn revoke(&mut self, client: u32)
+    /// Freezes a client: all its leases are revoked. No revoker is called, and it takes no memory.
+    pub fn freeze(&mut self, client: u32)
         ensures leases { (i : ℕ) → client_leases self.new i ≡ revoke (is_own client)
             (client_leases self.old i) }
         ensures revokers { SameRevokers (revoker_of self.old) (revoker_of self.new) }

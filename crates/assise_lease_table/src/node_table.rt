@@ -166,8 +166,8 @@ impl NodeTable {
         }
     }
 
-    /// Revokes all leases of a node. It takes no memory.
-    pub fn revoke(&mut self, node: u32)
+    /// Freezes a node: all its leases are revoked. It takes no memory.
+    pub fn freeze(&mut self, node: u32)
         ensures { (i : ℕ) → node_leases self.new i ≡ revoke (is_own node) (node_leases self.old i) }
     {
         self.leases.revoke_all(node);

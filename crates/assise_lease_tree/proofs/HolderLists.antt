@@ -4,7 +4,7 @@ use Rattle.std.specs.Global.{Vec}
 use Rattle.std.specs.List.{list_any, list_all}
 use Rattle.assise_names.specs.declared.refusal.Refusal.{Refusal}
 use Rattle.assise_lease_table.specs.Cuts.{is_asked, is_unasked}
-use Rattle.assise_lease_table.specs.Leases.{disjoint, compatible, is_own, is_to_ask, lease_of}
+use Rattle.assise_lease_table.specs.Leases.{stand_together, compatible, is_own, is_to_ask, lease_of}
 use Rattle.assise_lease_table.specs.declared.lease.Asked.{Asked}
 use Rattle.assise_lease_table.specs.declared.lease.Lease.{Lease}
 use Rattle.assise_lease_table.proofs.Compatibles.{same_number, other_number, differ}
@@ -21,15 +21,15 @@ module _ (by : ℕ → Bool) where
   passed true t rest e f = cc
   passed false t rest e f = f
 
-  disjoint_head : (l k : Lease) → disjoint l k ≡ true → is_own l.holder k ≡ false
-  disjoint_head l k e =
+  together_head : (l k : Lease) → stand_together l k ≡ true → is_own l.holder k ≡ false
+  together_head l k e =
       let other = not_true (l.holder == k.holder) (both_true (not (l.holder == k.holder)) _ e).0 in
       other_number k.holder l.holder (λ same. differ l.holder k.holder other (sym same))
 
-  none_left : (l : Lease) (ls : List Lease) → list_all (disjoint l) ls ≡ true → list_any (chosen l.holder) ls ≡ false
+  none_left : (l : Lease) (ls : List Lease) → list_all (stand_together l) ls ≡ true → list_any (chosen l.holder) ls ≡ false
   none_left l [] e = refl
-  none_left l (k ∷ ks) e = let parts = both_true (disjoint l k) (list_all (disjoint l) ks) e in
-      passed (is_own l.holder k) (is_to_ask (λ z. by z.holder) k) (list_any (chosen l.holder) ks) (disjoint_head l k parts.0) (none_left l ks parts.1)
+  none_left l (k ∷ ks) e = let parts = both_true (stand_together l k) (list_all (stand_together l) ks) e in
+      passed (is_own l.holder k) (is_to_ask (λ z. by z.holder) k) (list_any (chosen l.holder) ks) (together_head l k parts.0) (none_left l ks parts.1)
 
   nothing_left : (b : Bool) → false ≡ (b && false)
   nothing_left true = refl
@@ -50,7 +50,7 @@ module _ (by : ℕ → Bool) where
   pub listed_of : (c : ℕ) (ls : List Lease) → compatible ls ≡ true → list_any (chosen c) ls ≡ left_of c ls
   listed_of c [] fits = nothing_left (by c)
   listed_of c (l ∷ ls) fits =
-      let parts = both_true (list_all (disjoint l) ls) (compatible ls) fits in
+      let parts = both_true (list_all (stand_together l) ls) (compatible ls) fits in
       left_step (l.holder == c) l c (lease_of ls c) (list_any (chosen c) ls)
       (λ own. let same = same_number l.holder c own in (same, ap (λ z. list_any (chosen z) ls) (sym same) ∙ none_left l ls parts.0))
       (listed_of c ls parts.1)

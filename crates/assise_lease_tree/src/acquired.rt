@@ -9,5 +9,5 @@ pub enum Acquired {
     Granted,
     /// These clients were asked for their leases just now, each with its cut. The list is empty where all were asked
     /// before.
-    AskedFor(Vec<Asked>),
+    Asked(Vec<Asked>),
 }

@@ -267,7 +267,7 @@ impl<C: Revokes + Drop> LeaseTreeOf<C> {
             return Ok(Acquired::Granted);
         }
         let asked = self.ask(request, views)?;
-        Ok(Acquired::AskedFor(asked))
+        Ok(Acquired::Asked(asked))
     }
 
     /// Takes a client's lease of an inode away, and the asked lease of its node with the last client below. A client that isn't
@@ -291,12 +291,12 @@ impl<C: Revokes + Drop> LeaseTreeOf<C> {
         }
     }
 
-    /// Revokes all leases of a client. No revoker is called, and it takes no memory.
-    pub fn revoke(&mut self, client: u32)
+    /// Freezes a client: all its leases are revoked. No revoker is called, and it takes no memory.
+    pub fn freeze(&mut self, client: u32)
         ensures revoked { IsRevoked (levels_of self.old) (levels_of self.new) client }
         ensures revokers { KeepsRevokers self.old self.new }
     {
-        self.clients.revoke(client);
+        self.clients.freeze(client);
     }
 
     /// Revokes all leases of a node's clients. No revoker is called, and it takes no memory.

@@ -243,8 +243,8 @@ module _ (s : StateValue) (f : LogFrame) (n : ℕ) (shape : ShapeInvariant s) (h
         keeps_shape = delivery_shaped s n c place shape prefix client may
 
         -- the client's own log is another node's
-        own_disjoint : own_node (standings s) (client_seen s.clients c) ≢ n
-        own_disjoint own = (let all : w.received n c ≡ end_of_log w c = prefix.all_there own in omega (arith, all, some_new, so_many, high))
+        own_other : own_node (standings s) (client_seen s.clients c) ≢ n
+        own_other own = (let all : w.received n c ≡ end_of_log w c = prefix.all_there own in omega (arith, all, some_new, so_many, high))
 
         -- and its borders are those of this node's log, as far as that goes
         groups : HasGroupsOf (own_log s c) (log_in s.nodes n c).log
@@ -285,8 +285,8 @@ module _ (s : StateValue) (f : LogFrame) (n : ℕ) (shape : ShapeInvariant s) (h
             own_there : (log_in s.nodes own k).log ≡ own_log s c
             own_there = (λ i. (log_in s.nodes (own_place i) (of_client i)).log)
 
-            pub disjoint_as : own ≢ n
-            disjoint_as same = own_disjoint (ap (own_node (standings s)) (client_is s.clients c client) ∙ sym own_place ∙ same)
+            pub other_as : own ≢ n
+            other_as same = own_other (ap (own_node (standings s)) (client_is s.clients c client) ∙ sym own_place ∙ same)
 
             pub groups_as : HasGroupsOf (log_in s.nodes own k).log (log_in s.nodes n k).log
             groups_as =

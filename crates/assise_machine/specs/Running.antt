@@ -111,7 +111,7 @@ abbrev pub stocked : {C : Type 0} → ClusterOf C → List C → Stocked C
 stocked cluster stock = record { observed = machine cluster; stored = revokers cluster; stock = stock }
 
 -- the event is served; who is opened by it stores the last revoker of the stock, and all others what they stored; and the cut of
--- each lease that a call froze is what its holder's stored revoker answers
+-- each lease that a call revoked is what its holder's stored revoker answers
 pub record IsApplied {C : Type 0} (answers : C → NumberedLog → ℕ → ℕ → Type 0) (s : Stocked C) (e : ClusterEvent) (a : Answer) (t : Stocked C) : Type 0 where
   pub served : IsServed (length s.stock) s.observed e a t.observed
   pub left : length t.stock ≡ stock_after (length s.stock) a

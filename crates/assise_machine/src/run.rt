@@ -32,7 +32,7 @@ pub fn run<C: Revokes + Drop>(
         (machine cluster.old) (told events.now answers.items) (machine cluster.new)) }
     ensures answered { IfOk result (λ answers. length answers.items ≡ length events.now) }
 
-    // Whom each open gives the last revoker of the stock, and whose answer each cut of a lease is that a call froze.
+    // Whom each open gives the last revoker of the stock, and whose answer each cut of a lease is that a call revoked.
     ensures applied { IfOk result (λ answers. AllApplied C.answers
         (stocked cluster.old stock.old.items) (told events.now answers.items)
         (stocked cluster.new stock.new.items)) }

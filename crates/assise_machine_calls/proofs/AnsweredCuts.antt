@@ -1,4 +1,4 @@
--- The cuts of the leases that a call froze are answers of their holders' revokers.
+-- The cuts of the leases that a call revoked are answers of their holders' revokers.
 use Rattle.std.proofs.Common.{◌≡◌, ℕ, true, not, ◌&&◌, Option, ap, sym, subst, ◌∙◌}
 use Rattle.std.proofs.lemmas.Bool.{and_parts, not-true, true≢false}
 use Rattle.assise_names.specs.declared.call.Op.{Op}

@@ -84,7 +84,7 @@ below_where : (b : Bool) (k most : ℕ) → (b && (k == most)) ≡ false → k �
 below_where b k most not_both low holds =
     elim (and_cases b (k == most) not_both) [
       | inl no_b ↦ absurd (both_ways b no_b holds)
-      | inr other ↦ (let disjoint : k ≢ most = λ same. both_ways (k == most) other (eq-eqb k most same) in omega (arith, low, disjoint))
+      | inr other ↦ (let differs : k ≢ most = λ same. both_ways (k == most) other (eq-eqb k most same) in omega (arith, low, differs))
     ]
 
 -- ---- what the code has

@@ -66,8 +66,8 @@ once_without (x ∷ xs) ys a once =
     and_from (not (is_asked (xs ++ ys) x.client x.inode)) (are_once (xs ++ ys)) (ap not none) (once_without xs ys a parts.1)
 
 -- it is none of those before it
-first_disjoint : (x : Asked) (xs ys : List Asked) (a : Asked) → are_once (x ∷ (xs ++ a ∷ ys)) ≡ true → is_of a.client a.inode x ≡ false
-first_disjoint x xs ys a once =
+first_other : (x : Asked) (xs ys : List Asked) (a : Asked) → are_once (x ∷ (xs ++ a ∷ ys)) ≡ true → is_of a.client a.inode x ≡ false
+first_other x xs ys a once =
     let parts = and_parts (not (is_asked (xs ++ a ∷ ys) x.client x.inode)) (are_once (xs ++ a ∷ ys)) once in
     false_from_ne_true (is_of a.client a.inode x) (λ is.
     let same = answer_parts x a.client a.inode is in
@@ -79,13 +79,13 @@ gone_unasked : (xs ys : List Asked) (a : Asked) → are_once (xs ++ a ∷ ys) �
 gone_unasked [] ys a once = not-true (is_asked ys a.client a.inode) (and_parts (not (is_asked ys a.client a.inode)) (are_once ys) once).0
 gone_unasked (x ∷ xs) ys a once =
     let parts = and_parts (not (is_asked (xs ++ a ∷ ys) x.client x.inode)) (are_once (xs ++ a ∷ ys)) once in
-    ap (λ b. b || is_asked (xs ++ ys) a.client a.inode) (first_disjoint x xs ys a once) ∙ gone_unasked xs ys a parts.1
+    ap (λ b. b || is_asked (xs ++ ys) a.client a.inode) (first_other x xs ys a once) ∙ gone_unasked xs ys a parts.1
 
 cut_there : (xs ys : List Asked) (a : Asked) → are_once (xs ++ a ∷ ys) ≡ true → cut_in (xs ++ a ∷ ys) a.client a.inode ≡ a.cut
 cut_there [] ys a once = ap (λ b. if b then a.cut else cut_in ys a.client a.inode) (is_own_answer a a.client a.inode refl refl)
 cut_there (x ∷ xs) ys a once =
     let parts = and_parts (not (is_asked (xs ++ a ∷ ys) x.client x.inode)) (are_once (xs ++ a ∷ ys)) once in
-    ap (λ b. if b then x.cut else cut_in (xs ++ a ∷ ys) a.client a.inode) (first_disjoint x xs ys a once) ∙ cut_there xs ys a parts.1
+    ap (λ b. if b then x.cut else cut_in (xs ++ a ∷ ys) a.client a.inode) (first_other x xs ys a once) ∙ cut_there xs ys a parts.1
 
 -- ---- one lease goes
 
@@ -112,9 +112,9 @@ module _ (s : StateValue) (levels : TwoLevels) (a : Asked) (xs ys : List Asked) 
   lease_else d j other =
       elim (cases_eq j a.inode) [
         | inl here ↦
-            let disjoint : d ≢ a.client = λ same. true≢false (sym (is_own_answer a d j (sym same) (sym here)) ∙ other) in
+            let differs : d ≢ a.client = λ same. true≢false (sym (is_own_answer a d j (sym same) (sym here)) ∙ other) in
             subst (λ k. lease_of (levels.clients k) d ≡ lease_of (s.levels.clients k) d) (sym here)
-            (ap (λ ls. lease_of ls d) released.clients.here ∙ without_other (s.levels.clients a.inode) a.client d disjoint)
+            (ap (λ ls. lease_of ls d) released.clients.here ∙ without_other (s.levels.clients a.inode) a.client d differs)
         | inr away ↦ ap (λ ls. lease_of ls d) (released.clients.elsewhere j away)
       ]
 

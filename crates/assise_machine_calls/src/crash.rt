@@ -27,7 +27,7 @@ pub fn crash<C: Revokes + Drop>(sound: &mut SoundOf<C>, client: u32) -> Result<(
     state.cuts.reserve(asked.len())?;
     let end = state.own_region(client).log(client as usize).end();
     state.clients.crash(client, end);
-    state.leases.revoke(client);
+    state.leases.freeze(client);
     note_all(&mut state.cuts, asked.into_iter());
     state.history.push(Entry::crash(client));
     Ok(())

@@ -67,8 +67,8 @@ back_still written low n (Some (returning since from stale)) is =
     ]
 
 module _ (m : Membership) (n : ℕ) (inodes : set.FinSet nat_cmp) (stands : standing_of m.nodes n ≡ Some full) where
-  disjoint : (k : ℕ) → donor_of (standing_of m.nodes k) ≡ Some n → k ≢ n
-  disjoint k from same = absurd (let bad : ◌≡◌ {A = Option ℕ} None (Some n) = sym (ap donor_of (ap (standing_of m.nodes) same ∙ stands)) ∙ from in cc)
+  other : (k : ℕ) → donor_of (standing_of m.nodes k) ≡ Some n → k ≢ n
+  other k from same = absurd (let bad : ◌≡◌ {A = Option ℕ} None (Some n) = sym (ap donor_of (ap (standing_of m.nodes) same ∙ stands)) ∙ from in cc)
 
   filled_back : (k : ℕ) → donor_of (standing_of m.nodes k) ≡ Some n → is_returning (standing_of (failed m n inodes).nodes k) ≡ true
   filled_back k from =
@@ -77,7 +77,7 @@ module _ (m : Membership) (n : ℕ) (inodes : set.FinSet nat_cmp) (stands : stan
       ap (λ ns. is_returning (standing_of ns k)) (ap (λ o. (failed_by o).nodes) stands)
       ∙ ap is_returning (mapped_at (refilled_from (written_since begun) low n) begun.nodes k)
       ∙ ap (λ o. is_returning (option_map (refilled_from (written_since begun) low n) o))
-      (set_else m.nodes n k full (down (m.epoch + 1)) stands (disjoint k from))
+      (set_else m.nodes n k full (down (m.epoch + 1)) stands (other k from))
       ∙ back_still (written_since begun) low n (standing_of m.nodes k) from
     where
       failed_by : Option Standing → Membership

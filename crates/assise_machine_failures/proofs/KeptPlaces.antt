@@ -90,8 +90,8 @@ module _ (s : StateValue) (n c : ℕ) (shape : ShapeInvariant s) (client : IsNum
   pub kept_over : (client_in s.clients c).failed ≡ true → own_place ≡ kept_at_failure (world_of s) n c
   kept_over over = sym (all_once_over (lives_seen ∙ ap not over) ∙ own_end s c shape client some)
 
-  pub kept_disjoint : (client_in s.clients c).home ≢ n → own_place ≡ kept_at_failure (world_of s) n c
-  kept_disjoint other = sym (kept_elsewhere (world_of s) n c (λ is. other (sym home_seen ∙ is)) ∙ own_end s c shape client some)
+  pub kept_other : (client_in s.clients c).home ≢ n → own_place ≡ kept_at_failure (world_of s) n c
+  kept_other other = sym (kept_elsewhere (world_of s) n c (λ is. other (sym home_seen ∙ is)) ∙ own_end s c shape client some)
 
   least_seen : least_of (others n (full_in (standings s))) (λ m. log_end (log_in s.nodes m c).log) own_place ≡ least_of (others n (world_of s).full) (λ m. (world_of s).received m c) (end_of_log (world_of s) c)
   unfolding world_of

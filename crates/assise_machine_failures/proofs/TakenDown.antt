@@ -95,8 +95,8 @@ module _ (s : StateValue) (n : ℕ) (shape : ShapeInvariant s) (stands : standin
       elim (cases_Bool (is_full_in (standings s) k)) [
         | inl f ↦ f
         | inr away ↦
-            let disjoint : k ≢ n = other_node k c has in
-            let same : length (region_seen (without_logs s.nodes n) k).logs ≡ length (region_seen s.nodes k).logs = ap (λ r. length r.logs) (region_else s.nodes n (record (region_in s.nodes n) { logs = [] }) number k disjoint) in
+            let differs : k ≢ n = other_node k c has in
+            let same : length (region_seen (without_logs s.nodes n) k).logs ≡ length (region_seen s.nodes k).logs = ap (λ r. length r.logs) (region_else s.nodes n (record (region_in s.nodes n) { logs = [] }) number k differs) in
             let none : length (region_seen s.nodes k).logs ≡ 0 = ap length (shape.no_logs k away) in
             let count = count_in (without_logs s.nodes n) k has.node in
             absurd (omega (arith, same, none, count, has.client.some, has.client.there))
@@ -112,10 +112,10 @@ module _ (s : StateValue) (n : ℕ) (shape : ShapeInvariant s) (stands : standin
       IsUndigestedFrom (log_in (without_logs s.nodes n) k c) (kept_in ks c)
   unfolding world_of
   undigested ks is k c client home has =
-      let disjoint : k ≢ n = other_node k c has in
+      let differs : k ≢ n = other_node k c has in
       let same : log_in (without_logs s.nodes n) k c ≡ log_seen s.nodes k c =
-      sym (seen_in (without_logs s.nodes n) k c has) ∙ log_away s.nodes n (record (region_in s.nodes n) { logs = [] }) number k c disjoint in
-      let elsewhere : (k == (client_seen s.clients c).home) ≡ false = ne_eqb k (client_seen s.clients c).home (λ e. disjoint (e ∙ home)) in
+      sym (seen_in (without_logs s.nodes n) k c has) ∙ log_away s.nodes n (record (region_in s.nodes n) { logs = [] }) number k c differs in
+      let elsewhere : (k == (client_seen s.clients c).home) ≡ false = ne_eqb k (client_seen s.clients c).home (λ e. differs (e ∙ home)) in
       let low : (log_seen s.nodes k c).digested ≤ kept_at_failure (world_of s) n c = digested_low k c (is_full_there k c has) in
       let place : kept_in ks c ≡ kept_at_failure (world_of s) n c = place_in (world_of s) n (length s.clients) c ks is client.some client.there in
       record {

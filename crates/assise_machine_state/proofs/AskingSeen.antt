@@ -16,7 +16,7 @@ use Rattle.assise_private_log.specs.Touches.{Covers as CoversLog, found_touches}
 use Rattle.assise_lease_table.specs.declared.lease.Asked.{Asked}
 use Rattle.assise_lease_table.specs.declared.lease.Lease.{Lease}
 use Rattle.assise_lease_table.specs.Answers.{clients_of}
-use Rattle.assise_lease_table.specs.Leases.{Among, disjoint, compatible, holders, is_to_ask, lease_of}
+use Rattle.assise_lease_table.specs.Leases.{Among, stand_together, compatible, holders, is_to_ask, lease_of}
 use Rattle.assise_lease_table.proofs.Compatibles.{differ, filter_compatible}
 use Rattle.assise_lease_table.proofs.Elements.{all_among, among_all, among_any, among_filter, not_both}
 use Rattle.assise_lease_tree.specs.Levels.{in_way, is_revoked}
@@ -49,10 +49,10 @@ passes p None = false
 passes p (Some a) = p a
 
 -- a lease has no other of its holder beside it
-none_else : (l : Lease) (ls : List Lease) → list_all (disjoint l) ls ≡ true → contains (holders ls) l.holder ≡ false
+none_else : (l : Lease) (ls : List Lease) → list_all (stand_together l) ls ≡ true → contains (holders ls) l.holder ≡ false
 none_else l [] all = refl
 none_else l (k ∷ ks) all =
-    let parts = and_parts (disjoint l k) (list_all (disjoint l) ks) all in
+    let parts = and_parts (stand_together l k) (list_all (stand_together l) ks) all in
     let other : (l.holder == k.holder) ≡ false = not-true (l.holder == k.holder) (and_parts (not (l.holder == k.holder)) _ parts.0).0 in
     ap (λ b. b || contains (holders ks) l.holder) (ne_eqb k.holder l.holder (λ same. differ l.holder k.holder other (sym same)))
     ∙ none_else l ks parts.1
@@ -71,11 +71,11 @@ else_left false l ls d other = refl
 holder_left : (p : Lease → Bool) (ls : List Lease) (d : ℕ) → compatible ls ≡ true → contains (holders (filter p ls)) d ≡ passes p (lease_of ls d)
 holder_left p [] d fits = refl
 holder_left p (l ∷ ls) d fits =
-    let parts = and_parts (list_all (disjoint l) ls) (compatible ls) fits in
-    let disjoint_left : list_all (disjoint l) (filter p ls) ≡ true = among_all (disjoint l) (filter p ls) (λ x a. all_among (disjoint l) ls parts.0 x (among_filter p ls x a).0) in
+    let parts = and_parts (list_all (stand_together l) ls) (compatible ls) fits in
+    let together_left : list_all (stand_together l) (filter p ls) ≡ true = among_all (stand_together l) (filter p ls) (λ x a. all_among (stand_together l) ls parts.0 x (among_filter p ls x a).0) in
     elim (cases_Bool (l.holder == d)) [
       | inl own ↦
-          own_left (p l) l (filter p ls) d own (ap (contains (holders (filter p ls))) (sym (eqb-true l.holder d own)) ∙ none_else l (filter p ls) disjoint_left)
+          own_left (p l) l (filter p ls) d own (ap (contains (holders (filter p ls))) (sym (eqb-true l.holder d own)) ∙ none_else l (filter p ls) together_left)
           ∙ sym (ap (λ b. passes p (cond b (Some l) (lease_of ls d))) own)
       | inr other ↦
           else_left (p l) l (filter p ls) d other ∙ holder_left p ls d parts.1
@@ -90,7 +90,7 @@ AreDistinct (n ∷ ns) = (contains ns n ≡ false) × AreDistinct ns
 holders_distinct : (ls : List Lease) → compatible ls ≡ true → AreDistinct (holders ls)
 holders_distinct [] fits = tt
 holders_distinct (l ∷ ls) fits =
-    let parts = and_parts (list_all (disjoint l) ls) (compatible ls) fits in
+    let parts = and_parts (list_all (stand_together l) ls) (compatible ls) fits in
     (none_else l ls parts.0, holders_distinct ls parts.1)
 
 -- what is revoked once the chosen leases are, and wasn't before, was to be asked for

@@ -104,9 +104,9 @@ module _ (s : StateValue) (n i : ℕ) (v : Option Content) (there : IsNumber s.n
   inode_else k j other =
       elim (cases_eq k n) [
         | inl is ↦
-            let disjoint : i ≢ j = λ e. other is (sym e) in
-            subst (λ m. (world_of t).area m j ≡ (world_of s).area m j) (sym is) (area_at j ∙ rw (ne_eqb i j disjoint) refl)
-        | inr disjoint ↦ area_else k j disjoint
+            let differs : i ≢ j = λ e. other is (sym e) in
+            subst (λ m. (world_of t).area m j ≡ (world_of s).area m j) (sym is) (area_at j ∙ rw (ne_eqb i j differs) refl)
+        | inr differs ↦ area_else k j differs
       ]
 
   pub inode_rests : (Full (world_of s) n → ⊥) → Rests (world_of s) (world_of t)

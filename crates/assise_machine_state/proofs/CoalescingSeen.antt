@@ -348,7 +348,7 @@ module _ (s : StateValue) (c : ℕ) (shape : ShapeInvariant s) (sound : ∥ Worl
   goal_low = omega arith
 
   start_border : (world_of s).border c start ≡ true
-  start_border = ∥∥₁_elim sound (search props) (λ h. h.disjoint c start lives start_first goal_low start_high)
+  start_border = ∥∥₁_elim sound (search props) (λ h. h.single c start lives start_first goal_low start_high)
 
   others_low : (n : ℕ) → Full (world_of s) n → n ≢ (world_of s).home c → (world_of s).received n c ≤ start
   others_low n full away = ∥∥₁_elim sound (search props) (λ h. coalesced_elsewhere (world_of s) c h n full away)

@@ -40,8 +40,8 @@ module _ (n : ℕ) (kept : ℕ → ℕ) (cs : List ClientValue) where
       let rest : client_seen (over m) c ≡ client_seen cs c = client_stays m c (omega (arith, few)) other in
       elim (cases_Bool ((client_seen cs (suc m)).home == n)) [
         | inl here ↦
-            let disjoint : c ≢ suc m = λ same. other (ap (λ d. (client_seen cs d).home) same ∙ eqb-true (client_seen cs (suc m)).home n here) in
-            rw here (client_else (over m) (suc m) (failed_at (kept (suc m)) (client_in cs (suc m))) (number_over m few) c disjoint ∙ rest)
+            let differs : c ≢ suc m = λ same. other (ap (λ d. (client_seen cs d).home) same ∙ eqb-true (client_seen cs (suc m)).home n here) in
+            rw here (client_else (over m) (suc m) (failed_at (kept (suc m)) (client_in cs (suc m))) (number_over m few) c differs ∙ rest)
         | inr away ↦ rw away rest
       ]
 
@@ -59,10 +59,10 @@ module _ (n : ℕ) (kept : ℕ → ℕ) (cs : List ClientValue) where
         | inl last ↦
             subst (λ d. client_seen (over (suc m)) d ≡ failed_at (kept d) (client_seen cs d)) (sym last)
             (failed_last m few (subst (λ d. (client_seen cs d).home ≡ n) last here))
-        | inr disjoint ↦
-            let rest : client_seen (over m) c ≡ failed_at (kept c) (client_seen cs c) = client_fails m c (omega (arith, few)) some (omega (arith, low, disjoint)) here in
+        | inr differs ↦
+            let rest : client_seen (over m) c ≡ failed_at (kept c) (client_seen cs c) = client_fails m c (omega (arith, few)) some (omega (arith, low, differs)) here in
             elim (cases_Bool ((client_seen cs (suc m)).home == n)) [
-              | inl too ↦ rw too (client_else (over m) (suc m) (failed_at (kept (suc m)) (client_in cs (suc m))) (number_over m few) c disjoint ∙ rest)
+              | inl too ↦ rw too (client_else (over m) (suc m) (failed_at (kept (suc m)) (client_in cs (suc m))) (number_over m few) c differs ∙ rest)
               | inr away ↦ rw away rest
             ]
       ]
@@ -136,10 +136,10 @@ module _ (n : ℕ) (cs : List ClientValue) (kept : ℕ → ℕ) (rs : List Regio
         | inl last ↦
             subst (λ e. log_seen (cut (suc m)) k e ≡ up_to_number (log_seen rs k e) (kept e)) (sym last)
             (cut_last m k (subst (λ e. (client_seen cs e).home ≡ n) last here))
-        | inr disjoint ↦
-            let rest : log_seen (cut m) k d ≡ up_to_number (log_seen rs k d) (kept d) = log_is_cut m k d some (omega (arith, low, disjoint)) here in
+        | inr differs ↦
+            let rest : log_seen (cut m) k d ≡ up_to_number (log_seen rs k d) (kept d) = log_is_cut m k d some (omega (arith, low, differs)) here in
             elim (cases_Bool ((client_seen cs (suc m)).home == n)) [
-              | inl too ↦ rw too (beside_seen (suc m) (cut_to (kept (suc m))) (cut m) k d (omega arith) disjoint ∙ rest)
+              | inl too ↦ rw too (beside_seen (suc m) (cut_to (kept (suc m))) (cut m) k d (omega arith) differs ∙ rest)
               | inr away ↦ rw away rest
             ]
       ]
@@ -166,9 +166,9 @@ module _ (rs : List RegionValue) (n : ℕ) (cs : List ClientValue) (kept : ℕ �
   logs_gone there = logs_cut n cs kept (without_logs rs n) (length cs) n ∙ ap (λ r. length r.logs) (region_here rs n emptied there)
 
   pub log_left : (k c : ℕ) → IsNumber rs n → k ≢ n → (client_seen cs c).home ≢ n → log_seen left k c ≡ log_seen rs k c
-  log_left k c there disjoint other = log_stays n cs kept (without_logs rs n) (length cs) k c other ∙ log_away rs n emptied there k c disjoint
+  log_left k c there differs other = log_stays n cs kept (without_logs rs n) (length cs) k c other ∙ log_away rs n emptied there k c differs
 
   pub log_cut_left : (k c : ℕ) → IsNumber rs n → k ≢ n → (client_seen cs c).home ≡ n → log_seen left k c ≡ up_to_number (log_seen rs k c) (kept c)
-  log_cut_left k c there disjoint here =
+  log_cut_left k c there differs here =
       let client : IsNumber cs c = home_number cs c (subst (λ h. 0 < h) (sym here) there.some) in
-      log_is_cut n cs kept (without_logs rs n) (length cs) k c client.some client.there here ∙ ap (λ l. up_to_number l (kept c)) (log_away rs n emptied there k c disjoint)
+      log_is_cut n cs kept (without_logs rs n) (length cs) k c client.some client.there here ∙ ap (λ l. up_to_number l (kept c)) (log_away rs n emptied there k c differs)

@@ -39,8 +39,8 @@ module _ (s : StateValue) (shape : ShapeInvariant s) where
 
   nothing_owned : (c : ℕ) → (length s.clients < c) ⊎ (c ≡ 0) → (world_of s).first c ≡ digested_by_all (world_of s) c
   unfolding world_of own_seen digested_by_all end_of_log
-  nothing_owned c disjoint =
-      let none : log_seen s.nodes (own_node (standings s) (client_seen s.clients c)) c ≡ no_log = nothing_seen (own_node (standings s) (client_seen s.clients c)) c disjoint in
+  nothing_owned c beyond =
+      let none : log_seen s.nodes (own_node (standings s) (client_seen s.clients c)) c ≡ no_log = nothing_seen (own_node (standings s) (client_seen s.clients c)) c beyond in
       let high = least_of-end (world_of s).full (λ n. (world_of s).digested n c) (end_of_log (world_of s) c) in
       let first : (world_of s).first c ≡ 0 = ap (λ l. l.log.first) none in
       let ends : end_of_log (world_of s) c ≡ 0 = ap (λ l. log_end l.log) none in
@@ -197,17 +197,17 @@ module _ (s : StateValue) (shape : ShapeInvariant s) (sound : ∥ WorldInvariant
       subst (λ f. Drops w f (world_of (drops_to s (suc m)))) (λ i d. if d == suc m then same_digested w (world_of t) (first_to w m) before (suc m) i else before.first d i) both
 
   all_first : (m d : ℕ) → ((m < d) ⊎ (d ≡ 0) → w.first d ≡ digested_by_all w d) → first_to w m d ≡ digested_by_all w d
-  all_first zero zero disjoint = disjoint (inr refl)
-  all_first zero (suc d) disjoint = disjoint (inl (omega arith))
-  all_first (suc m) d disjoint =
+  all_first zero zero beyond = beyond (inr refl)
+  all_first zero (suc d) beyond = beyond (inl (omega arith))
+  all_first (suc m) d beyond =
       elim (cases_eq d (suc m)) [
         | inl is ↦ rw (eq-eqb d (suc m) is) (ap (digested_by_all w) (sym is))
         | inr other ↦ rw (ne_eqb d (suc m) other) (all_first m d (each other))
       ]
     where
       each : d ≢ suc m → (m < d) ⊎ (d ≡ 0) → w.first d ≡ digested_by_all w d
-      each other (inl past) = disjoint (inl (omega (arith, past, other)))
-      each other (inr none) = disjoint (inr none)
+      each other (inl past) = beyond (inl (omega (arith, past, other)))
+      each other (inr none) = beyond (inr none)
 
   pub all_dropped : Drops w (digested_by_all w) (world_of (drops_to s (length s.clients)))
   all_dropped =

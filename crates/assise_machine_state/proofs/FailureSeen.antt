@@ -109,10 +109,10 @@ module _ (s : StateValue) (n : ℕ) (inodes : set.FinSet nat_cmp) (levels : TwoL
 
   -- logs of the nodes that are left
   log_there : (m c : ℕ) → m ≢ n → (client_seen s.clients c).home ≡ n → log_seen t.nodes m c ≡ up_to_number (log_seen s.nodes m c) (kept c)
-  log_there m c disjoint here = log_cut_left s.nodes n s.clients kept m c failed_there disjoint here
+  log_there m c differs here = log_cut_left s.nodes n s.clients kept m c failed_there differs here
 
   log_same : (m c : ℕ) → m ≢ n → (client_seen s.clients c).home ≢ n → log_seen t.nodes m c ≡ log_seen s.nodes m c
-  log_same m c disjoint other = log_left s.nodes n s.clients kept m c failed_there disjoint other
+  log_same m c differs other = log_left s.nodes n s.clients kept m c failed_there differs other
 
   -- ---- parts of its shape
 
@@ -143,17 +143,17 @@ module _ (s : StateValue) (n : ℕ) (inodes : set.FinSet nat_cmp) (levels : TwoL
       ]
 
   left_home : (k c : ℕ) → k ≢ n → KnowsHome t k c
-  left_home k c disjoint = elim (cases_eq (client_seen s.clients c).home n) [
+  left_home k c differs = elim (cases_eq (client_seen s.clients c).home n) [
     | inl here ↦
-        let elsewhere : (k == (client_seen s.clients c).home) ≡ false = ne_eqb k (client_seen s.clients c).home (λ e. disjoint (e ∙ here)) in
-        rw (log_there k c disjoint here, client_over c here, elsewhere) (shape.at_home k c ∙ rw elsewhere refl)
-    | inr other ↦ rw (log_same k c disjoint other, client_same c other) (shape.at_home k c)
+        let elsewhere : (k == (client_seen s.clients c).home) ≡ false = ne_eqb k (client_seen s.clients c).home (λ e. differs (e ∙ here)) in
+        rw (log_there k c differs here, client_over c here, elsewhere) (shape.at_home k c ∙ rw elsewhere refl)
+    | inr other ↦ rw (log_same k c differs other, client_same c other) (shape.at_home k c)
   ]
 
   same_limit : (k c : ℕ) → k ≢ n → (log_seen t.nodes k c).log.limit ≡ (log_seen s.nodes k c).log.limit
-  same_limit k c disjoint = elim (cases_eq (client_seen s.clients c).home n) [
-    | inl here ↦ ap (λ l. l.log.limit) (log_there k c disjoint here)
-    | inr other ↦ ap (λ l. l.log.limit) (log_same k c disjoint other)
+  same_limit k c differs = elim (cases_eq (client_seen s.clients c).home n) [
+    | inl here ↦ ap (λ l. l.log.limit) (log_there k c differs here)
+    | inr other ↦ ap (λ l. l.log.limit) (log_same k c differs other)
   ]
 
   left_limit : (k c : ℕ) → is_full_in (standings t) k ≡ true → IsNumber t.clients c → (log_seen t.nodes k c).log.limit ≡ s.limit
@@ -258,23 +258,23 @@ module _ (s : StateValue) (n : ℕ) (inodes : set.FinSet nat_cmp) (levels : TwoL
           ∙ prefix_kept w n low c sound (was_full low low_stands) (kept_received w n low c sound (was_full low low_stands) (not_failed low low_stands) (has_ended c over))
 
       -- and of one that lives on
-      lives_disjoint : (c : ℕ) → (client_seen t.clients c).failed ≡ false → (client_seen s.clients c).home ≢ n
-      lives_disjoint c unfailed here = true≢false (ap (λ x. x.failed) (sym (client_over c here)) ∙ unfailed)
+      home_differs : (c : ℕ) → (client_seen t.clients c).failed ≡ false → (client_seen s.clients c).home ≢ n
+      home_differs c unfailed here = true≢false (ap (λ x. x.failed) (sym (client_over c here)) ∙ unfailed)
 
       own_while_lives : (c : ℕ) → (client_seen t.clients c).failed ≡ false → own_seen t c ≡ own_seen s c
       unfolding own_seen
       own_while_lives c unfailed =
-          let disjoint : (client_seen s.clients c).home ≢ n = lives_disjoint c unfailed in
-          let before : (client_seen s.clients c).failed ≡ false = ap (λ x. x.failed) (sym (client_same c disjoint)) ∙ unfailed in
+          let differs : (client_seen s.clients c).home ≢ n = home_differs c unfailed in
+          let before : (client_seen s.clients c).failed ≡ false = ap (λ x. x.failed) (sym (client_same c differs)) ∙ unfailed in
           rw (unfailed, before)
-          (ap (λ x. log_seen t.nodes x.home c) (client_same c disjoint) ∙ log_same (client_seen s.clients c).home c disjoint disjoint)
+          (ap (λ x. log_seen t.nodes x.home c) (client_same c differs) ∙ log_same (client_seen s.clients c).home c differs differs)
 
       own_records : (c : ℕ) → w'.records c ≡ take (kept c - w.first c) (w.records c)
       unfolding world_of
       own_records c =
           elim (cases_Bool (client_seen t.clients c).failed) [
             | inl over ↦ ap (λ l. l.log.records) (own_once_over c over) ∙ low_records c over
-            | inr unfailed ↦ ap (λ l. l.log.records) (own_while_lives c unfailed) ∙ sym (all_kept w n c (kept_elsewhere w n c (lives_disjoint c unfailed)))
+            | inr unfailed ↦ ap (λ l. l.log.records) (own_while_lives c unfailed) ∙ sym (all_kept w n c (kept_elsewhere w n c (home_differs c unfailed)))
           ]
 
       own_first : (c : ℕ) → w'.first c ≡ w.first c
@@ -357,18 +357,18 @@ module _ (s : StateValue) (n : ℕ) (inodes : set.FinSet nat_cmp) (levels : TwoL
 
       -- a log that is cut has the groups that are left
       marked_cut : (k c : ℕ) → k ≢ n → (client_seen s.clients c).home ≡ n → IsMarked (is_border (own_seen t c).log) (log_seen t.nodes k c).log
-      marked_cut k c disjoint here =
+      marked_cut k c differs here =
           let l : NumberedLog = (log_seen s.nodes k c).log in
           let cut : NumberedLog = without_tail l (kept c) in
-          subst (λ x. IsMarked (is_border (own_seen t c).log) x.log) (sym (log_there k c disjoint here))
+          subst (λ x. IsMarked (is_border (own_seen t c).log) x.log) (sym (log_there k c differs here))
           (marked_as (is_border (own c)) (is_border (own_seen t c).log) cut
           (λ j low high. sym (own_border c j (omega (arith, low, high, length-take (kept c - l.first) l.records))))
           (marked_tail (is_border (own c)) l (kept c) (shape.marked k c)))
 
       marked_left : (k c : ℕ) → k ≢ n → (client_seen s.clients c).home ≢ n → IsMarked (is_border (own_seen t c).log) (log_seen t.nodes k c).log
-      marked_left k c disjoint other =
+      marked_left k c differs other =
           let l : NumberedLog = (log_seen s.nodes k c).log in
-          subst (λ x. IsMarked (is_border (own_seen t c).log) x.log) (sym (log_same k c disjoint other))
+          subst (λ x. IsMarked (is_border (own_seen t c).log) x.log) (sym (log_same k c differs other))
           (elim (cases_Bool (client_seen t.clients c).failed) [
             | inl over ↦ marked_as (is_border (own c)) (is_border (own_seen t c).log) l (λ j low high. sym (left_border c j over other)) (shape.marked k c)
             | inr unfailed ↦ subst (λ x. IsMarked (is_border x.log) l) (sym (own_while_lives c unfailed)) (shape.marked k c)
@@ -377,9 +377,9 @@ module _ (s : StateValue) (n : ℕ) (inodes : set.FinSet nat_cmp) (levels : TwoL
       left_marked : (k c : ℕ) → IsMarked (is_border (own_seen t c).log) (log_seen t.nodes k c).log
       left_marked k c = elim (cases_eq k n) [
         | inl is ↦ subst (λ m. IsMarked (is_border (own_seen t c).log) (log_seen t.nodes m c).log) (sym is) (subst (λ l. IsMarked (is_border (own_seen t c).log) l.log) (sym (no_log_in t.nodes n c emptied)) refl)
-        | inr disjoint ↦ (elim (cases_eq (client_seen s.clients c).home n) [
-          | inl here ↦ marked_cut k c disjoint here
-          | inr other ↦ marked_left k c disjoint other
+        | inr differs ↦ (elim (cases_eq (client_seen s.clients c).home n) [
+          | inl here ↦ marked_cut k c differs here
+          | inr other ↦ marked_left k c differs other
         ])
       ]
 
@@ -455,7 +455,7 @@ module _ (s : StateValue) (n : ℕ) (inodes : set.FinSet nat_cmp) (levels : TwoL
     few_nodes = subst (λ k. k ≤ MOST_NODES) (sym (count_left s.nodes n s.clients kept)) shape.few_nodes;
     logs = left_logs;
     no_logs = left_none;
-    at_home = λ k c. elim (cases_eq k n) [ inl is ↦ subst (λ m. KnowsHome t m c) (sym is) (gone_home c) | inr disjoint ↦ left_home k c disjoint ];
+    at_home = λ k c. elim (cases_eq k n) [ inl is ↦ subst (λ m. KnowsHome t m c) (sym is) (gone_home c) | inr differs ↦ left_home k c differs ];
     limits = limits_all t left_logs left_none left_limit;
     least_limit = shape.least_limit;
     most_limit = shape.most_limit;

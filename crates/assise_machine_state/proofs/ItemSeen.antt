@@ -115,8 +115,8 @@ pushed_else none y xs (suc k) other =
     elim (cases_lt k (length xs)) [
       | inl low ↦ get_or_append_left xs (y ∷ []) none k low
       | inr past ↦
-          let disjoint : k ≢ length xs = λ same. other (ap suc same) in
-          let more : length (xs ++ y ∷ []) ≤ k = subst (λ n. n ≤ k) (sym (length_push xs y)) (omega (arith, past, disjoint)) in
+          let differs : k ≢ length xs = λ same. other (ap suc same) in
+          let more : length (xs ++ y ∷ []) ≤ k = subst (λ n. n ≤ k) (sym (length_push xs y)) (omega (arith, past, differs)) in
           get_or_past (xs ++ y ∷ []) k none more ∙ sym (get_or_past xs k none past)
     ]
 

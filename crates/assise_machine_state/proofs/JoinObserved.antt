@@ -72,8 +72,8 @@ module _ (s : StateValue) (n since donor : ℕ) (stale : set.FinSet nat_cmp) (sh
   full_same : (k : ℕ) → k ≢ n → is_full_in (standings t) k ≡ is_full_in (standings s) k
   full_same k other = full_else (standings s) n k (returning since donor stale) full stands other
 
-  disjoint : (k : ℕ) → is_full_in (standings s) k ≡ true → k ≢ n
-  disjoint k f same = true≢false (sym f ∙ ap (is_full_in (standings s)) same ∙ was_away)
+  differs : (k : ℕ) → is_full_in (standings s) k ≡ true → k ≢ n
+  differs k f same = true≢false (sym f ∙ ap (is_full_in (standings s)) same ∙ was_away)
 
   node_there : IsNumber s.nodes n
   node_there = node_number s n (returning since donor stale) shape stands
@@ -142,7 +142,7 @@ module _ (s : StateValue) (n since donor : ℕ) (stale : set.FinSet nat_cmp) (sh
   nobody c = elim (cases_Bool (client_seen s.clients c).failed) [
     | inl over ↦ rw over (and-false (n == (client_seen s.clients c).home))
     | inr unfailed ↦
-        let home : (client_seen s.clients c).home ≢ n = disjoint (client_seen s.clients c).home (home_full s c shape unfailed) in
+        let home : (client_seen s.clients c).home ≢ n = differs (client_seen s.clients c).home (home_full s c shape unfailed) in
         rw (ne_eqb n (client_seen s.clients c).home (λ e. home (sym e))) refl
   ]
 
@@ -179,7 +179,7 @@ module _ (s : StateValue) (n since donor : ℕ) (stale : set.FinSet nat_cmp) (sh
 
     at_home : (c : ℕ) → (client_seen s.clients c).failed ≡ false → own_seen t c ≡ own_seen s c
     unfolding own_seen
-    at_home c unfailed = rw unfailed (log_stays (client_seen s.clients c).home c (disjoint (client_seen s.clients c).home (home_full s c shape unfailed)))
+    at_home c unfailed = rw unfailed (log_stays (client_seen s.clients c).home c (differs (client_seen s.clients c).home (home_full s c shape unfailed)))
 
     own_left : (c : ℕ) → (client_seen s.clients c).failed ≡ true → own_seen t c ≡ log_seen t.nodes (lowest_full (standings t)) c
     unfolding own_seen
@@ -238,7 +238,7 @@ module _ (s : StateValue) (n since donor : ℕ) (stale : set.FinSet nat_cmp) (sh
     stays_full : (k : ℕ) → Full w k → Full w' k
     stays_full k f =
         let had : is_full_in (standings s) k ≡ true = full_seen s k f in
-        seen_full t k (full_same k (disjoint k had) ∙ had)
+        seen_full t k (full_same k (differs k had) ∙ had)
 
     was_full : (k : ℕ) → Full w' k → (k ≡ n) ⊎ Full w k
     was_full k f =
@@ -267,7 +267,7 @@ module _ (s : StateValue) (n since donor : ℕ) (stale : set.FinSet nat_cmp) (sh
       log_here = λ c. ap (λ l. l.log.records) (log_filled c);
       received_here = λ c. ap (λ l. log_end l.log) (log_filled c);
       digested_here = λ c. ap (λ l. l.digested) (log_filled c);
-      else_same = λ k f. node_as s t k (λ i. ap (λ m. values m i) (inodes_stay k)) (λ c. log_stays k c (disjoint k (full_seen s k f)));
+      else_same = λ k f. node_as s t k (λ i. ap (λ m. values m i) (inodes_stay k)) (λ c. log_stays k c (differs k (full_seen s k f)));
     }
 
   -- ---- its shape is one

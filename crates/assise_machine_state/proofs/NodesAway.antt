@@ -29,9 +29,9 @@ away_refused w (Some full) p same other = absurd (other (cc same))
 away_refused w (Some (down since)) p same other = refl
 away_refused w (Some (returning since donor stale)) p same other = refl
 
-pub away_disjoint : (p : Phase) → (p ≡ Down) ⊎ (p ≡ Returning) → p ≢ Full
-away_disjoint p (inl is) same = (let both : Down ≡ Full = sym is ∙ same in cc)
-away_disjoint p (inr is) same = (let both : Returning ≡ Full = sym is ∙ same in cc)
+pub away_other : (p : Phase) → (p ≡ Down) ⊎ (p ≡ Returning) → p ≢ Full
+away_other p (inl is) same = (let both : Down ≡ Full = sym is ∙ same in cc)
+away_other p (inr is) same = (let both : Returning ≡ Full = sym is ∙ same in cc)
 
 pub full_served : (w : Refusal) (o : Option Standing) → phase_of o ≡ Ok Full → unless_full w o ≡ None
 full_served w None same = cc

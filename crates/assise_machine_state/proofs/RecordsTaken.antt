@@ -59,8 +59,8 @@ has_then border rs n c a has =
 
 -- another node's log stays
 pub log_beside : (border : ℕ → Bool) (rs : List RegionValue) (n m c : ℕ) (a : LogRecord) → HasLog rs n c → IsNumber rs m → m ≢ n → log_in (with_next border rs n c a) m c ≡ log_in rs m c
-log_beside border rs n m c a has there disjoint =
-    let places : m - 1 ≢ n - 1 = λ same. disjoint (omega (arith, same, there.some, has.node.some)) in
+log_beside border rs n m c a has there differs =
+    let places : m - 1 ≢ n - 1 = λ same. differs (omega (arith, same, there.some, has.node.some)) in
     ap (λ r. log_of r c) (get_or-set_other rs (n - 1) (m - 1) (with_log (region_in rs n) c (with_one (log_in rs n c) a (border (end (log_in rs n c).log)))) no_region places)
 
 pub one_taken : (border : ℕ → Bool) (rs : List RegionValue) (n c : ℕ) (a : LogRecord) (rest : List LogRecord) → HasLog rs n c →
@@ -72,8 +72,8 @@ one_taken border rs n c a rest has =
     ∙ ap (with_region rs n) (in_region border (region_in rs n) c a rest has.client)
 
 pub has_beside : (border : ℕ → Bool) (rs : List RegionValue) (n m c : ℕ) (a : LogRecord) → HasLog rs n c → HasLog rs m c → m ≢ n → HasLog (with_next border rs n c a) m c
-has_beside border rs n m c a has other disjoint =
-    let places : m - 1 ≢ n - 1 = λ same. disjoint (omega (arith, same, other.node.some, has.node.some)) in
+has_beside border rs n m c a has other differs =
+    let places : m - 1 ≢ n - 1 = λ same. differs (omega (arith, same, other.node.some, has.node.some)) in
     let more : RegionValue = with_log (region_in rs n) c (with_one (log_in rs n c) a (border (end (log_in rs n c).log))) in
     let nodes : length (with_next border rs n c a) ≡ length rs = length-set rs (n - 1) more in
     let region : region_in (with_next border rs n c a) m ≡ region_in rs m = get_or-set_other rs (n - 1) (m - 1) more no_region places in

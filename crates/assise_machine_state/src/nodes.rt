@@ -104,7 +104,7 @@ impl Nodes {
     pub fn extend(&mut self, node: u32, client: u32, own: u32, records: Vec<Record>, skipped: usize)
         requires there { HasLog self.old node client }
         requires own { HasLog self.old own client }
-        requires disjoint { own ≢ node }
+        requires other { own ≢ node }
         requires groups { HasGroupsOf (log_in self.old own client).log
             (log_in self.old node client).log }
         requires elsewhere { (log_in self.old node client).at_home ≡ false }
@@ -131,7 +131,7 @@ impl Nodes {
     )
         requires there { HasLog self.old node client }
         requires own { HasLog self.old own client }
-        requires disjoint { own ≢ node }
+        requires other { own ≢ node }
         requires groups { HasGroupsOf (log_in self.old own client).log
             (log_in self.old node client).log }
         requires elsewhere { (log_in self.old node client).at_home ≡ false }
@@ -158,7 +158,7 @@ impl Nodes {
     fn take_one(&mut self, node: u32, client: u32, own: u32, added: Record)
         requires there { HasLog self.old node client }
         requires own { HasLog self.old own client }
-        requires disjoint { own ≢ node }
+        requires other { own ≢ node }
         requires groups { HasGroupsOf (log_in self.old own client).log
             (log_in self.old node client).log }
         requires elsewhere { (log_in self.old node client).at_home ≡ false }

@@ -122,8 +122,8 @@ drops_them w s = record {
 full_can : (m : Machine) (n : ℕ) → MachineInvariant m → failure_fault m.members n ≡ None → standing_of m.members.nodes n ≡ Some full → (m' : Machine) × ((losses : List Loss) × Failing m n (failed losses) m')
 full_can m n h fine at =
     let here : Full m.world n = h.members.nodes_full n at in
-    let (k, disjoint) = beside m.members n at fine in
-    let (inodes, may) = may_list m.world n m.world.clients here (k, (disjoint.0, h.members.nodes_full k disjoint.1)) (no_records m h) in
+    let (k, other) = beside m.members n at fine in
+    let (inodes, may) = may_list m.world n m.world.clients here (k, (other.0, h.members.nodes_full k other.1)) (no_records m h) in
     let (v, u, o, e) = may_fail m.world m.members n inodes h.members may in
     let (left, leases) = left_leases m.world v m.leases n e.fails in
     let sound : WorldInvariant u = step_sound v u (step_sound m.world v h.sound (fails_node n e.fails)) (rests e.rests) in (

@@ -19,7 +19,7 @@ pub mod StartKeeps
 pub mod EachEvent
 pub mod Whatever
 pub mod AnswerSays
-pub mod Disjoint
+pub mod OtherAreas
 pub mod NodeEventsPossible
 pub mod Failable
 pub mod Steady

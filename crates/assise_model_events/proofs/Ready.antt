@@ -75,9 +75,9 @@ module _ (w : World) (l : Leases) (c i : ℕ) where
   one_gone = rw (eq-eqb i i refl) (without_own (l.levels.clients i) c)
 
   others_same : (d j : ℕ) → (d ≡ c → j ≡ i → ⊥) → client_lease after d j ≡ client_lease l d j
-  others_same d j disjoint =
+  others_same d j differs =
       elim (cases_eq j i) [
-        | inl is ↦ rw (eq-eqb j i is) (without_other (l.levels.clients i) c d (λ e. disjoint e is) ∙ ap (λ k. lease_of (l.levels.clients k) d) (sym is))
+        | inl is ↦ rw (eq-eqb j i is) (without_other (l.levels.clients i) c d (λ e. differs e is) ∙ ap (λ k. lease_of (l.levels.clients k) d) (sym is))
         | inr other ↦ rw (ne_eqb j i other) refl
       ]
 

@@ -110,7 +110,7 @@ module _ (w : World) (c : ℕ) (h : WorldInvariant w) (lives : w.lives c ≡ tru
   border_first k none =
       (let at : s + k ≡ s = omega (arith, none) in
       ap (u.border c) at ∙ cond-true (c == c) _ _ own ∙ cond-true (nat_le s s) _ _ (le-leb s s (omega arith))
-      ∙ h.disjoint c s lives first_low (omega arith) high ∙ sym (ap (are_whole gs) none ∙ whole_none gs))
+      ∙ h.single c s lives first_low (omega arith) high ∙ sym (ap (are_whole gs) none ∙ whole_none gs))
 
   at_home : GetsAll (w.home c) c u
   at_home = record {

@@ -25,7 +25,7 @@ pub record AwaitsLease (m : Machine) (c : ℕ) (op : Op) (m' : Machine) : Type 0
       (wants (step_at_home (last_world m.world granted) (call_of_client m.world c op reply))) ≡ Some (inode, mode)
   -- which some client holds revoked now
   pub revoked : list_any (λ a. a.revoked) (m'.leases.levels.clients inode) ≡ true
-  -- its own grants froze nothing, and changed no other client's lease
+  -- its own grants revoked nothing, and changed no other client's lease
   pub revoked_before : (d i : ℕ) → IsRevokedLease (last_leases m.leases granted) d i → IsRevokedLease m.leases d i
   pub held_before : (d i : ℕ) → d ≢ c → client_lease (last_leases m.leases granted) d i ≡ client_lease m.leases d i
   -- what was revoked by it are leases of this inode that other clients hold, and each of them, or the lease of its holder's node,

@@ -23,7 +23,7 @@ ghost use Rattle.assise_model_events.specs.NodeEvents.{Delivering, Digesting, Re
 ghost use Rattle.assise_model_events.specs.Outcomes.{AwaitsLease};
 
 /// A call is awaited only where some client then holds a revoked lease of the first inode that the call lacks, of those that it
-/// visits and then of those that it changes. Its asking froze no lease of its own client, nor one of another inode, nor one that
+/// visits and then of those that it changes. Its asking revoked no lease of its own client, nor one of another inode, nor one that
 /// didn't stand in the way.
 pub fn a_call_is_awaited_only_for_a_lease()
     ensures { (m m' : Machine) (c : ℕ) (op : Op) → Calling m c op not_yet m' →

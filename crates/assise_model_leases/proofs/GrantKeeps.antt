@@ -46,9 +46,9 @@ not_false b e = rw e refl
 
 module _ (home : Homes) (cs ns : List Lease) (c n : ℕ) (mode : Mode) (under : Under home cs ns) (nobody : list_any (in_way home ns c n mode) cs ≡ false) where
   -- another client's lease isn't against the mode: below the same node it stands in no way, and below another its node's doesn't
-  others_disjoint : (b : Lease) → Among cs b → b.holder ≢ c → against mode b.mode ≡ false
+  others_agree : (b : Lease) → Among cs b → b.holder ≢ c → against mode b.mode ≡ false
   unfolding in_way
-  others_disjoint b in_b other =
+  others_agree b in_b other =
       let none = and_false (not (b.holder == c)) _ (none_among (in_way home ns c n mode) cs nobody b in_b) (not_false (b.holder == c) (ne_eqb b.holder c other)) in
       let parts = or_false (lives home b.holder n && against mode b.mode) (list_any (λ k. lives home b.holder k.holder && is_rival n mode k) ns) none in
       let k = any_among (carries home b) ns (under b in_b) in
@@ -78,7 +78,7 @@ module _ (w u : World) (l k : Leases) (c i : ℕ) (mode : Mode) (a : AreLeases w
   others_free : (d : ℕ) (b : Lease) → d ≢ c → client_lease l d i ≡ Some b → against mode b.mode ≡ false
   others_free d b other is =
       let found = lease_among (l.levels.clients i) d b is in
-      others_disjoint l.levels.home (l.levels.clients i) (l.levels.nodes i) c (w.home c) mode (a.lawful.under i)
+      others_agree l.levels.home (l.levels.clients i) (l.levels.nodes i) c (w.home c) mode (a.lawful.under i)
       (nobody_in_way l.levels.home (l.levels.clients i) (l.levels.nodes i) c (w.home c) mode e.free) b found.0 (λ same. other (sym found.1 ∙ same))
 
   granted_free : (m : Mode) → mode ≡ m → IsModeFree w c i m
@@ -94,9 +94,9 @@ module _ (w u : World) (l k : Leases) (c i : ℕ) (mode : Mode) (a : AreLeases w
 
   elsewhere : (d j : ℕ) → (d ≡ c → j ≡ i → ⊥) → client_lease k d j ≡ client_lease l d j
   unfolding clients_granted
-  elsewhere d j disjoint = elim (cases_eq j i) [
+  elsewhere d j differs = elim (cases_eq j i) [
     | inl same ↦ subst (λ j. client_lease k d j ≡ client_lease l d j) (sym same)
-        (ap (λ ls. lease_of ls d) e.granted.clients.here ∙ with_other given (l.levels.clients i) d (λ own. disjoint own same))
+        (ap (λ ls. lease_of ls d) e.granted.clients.here ∙ with_other given (l.levels.clients i) d (λ own. differs own same))
     | inr other ↦ ap (λ ls. lease_of ls d) (e.granted.clients.elsewhere j other)
   ]
 
@@ -109,8 +109,8 @@ module _ (w u : World) (l k : Leases) (c i : ℕ) (mode : Mode) (a : AreLeases w
     nodes = e.holds.nodes;
     holds_here = e.holds.held.holds c i ∙ ap is_held here;
     writes_here = e.holds.held.writes c i ∙ ap is_written here ∙ writing_raised mode (client_lease l c i) ∙ ap (λ b. b || is_for_writing mode) (sym (a.held.writes c i));
-    holds_else = λ d j disjoint. e.holds.held.holds d j ∙ ap is_held (elsewhere d j disjoint) ∙ sym (a.held.holds d j);
-    writes_else = λ d j disjoint. e.holds.held.writes d j ∙ ap is_written (elsewhere d j disjoint) ∙ sym (a.held.writes d j);
+    holds_else = λ d j differs. e.holds.held.holds d j ∙ ap is_held (elsewhere d j differs) ∙ sym (a.held.holds d j);
+    writes_else = λ d j differs. e.holds.held.writes d j ∙ ap is_written (elsewhere d j differs) ∙ sym (a.held.writes d j);
   }
 
   -- the lease that is granted isn't revoked

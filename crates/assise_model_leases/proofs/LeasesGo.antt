@@ -20,9 +20,9 @@ module _ (w u : World) (l k : Leases) (c i : ℕ) (a : AreLeases w l) (e : Relea
   gone = ap (λ ls. lease_of ls c) e.released.clients.here ∙ without_own (l.levels.clients i) c
 
   elsewhere : (d j : ℕ) → (d ≡ c → j ≡ i → ⊥) → client_lease k d j ≡ client_lease l d j
-  elsewhere d j disjoint = elim (cases_eq j i) [
+  elsewhere d j differs = elim (cases_eq j i) [
     | inl same ↦ subst (λ j. client_lease k d j ≡ client_lease l d j) (sym same)
-        (ap (λ ls. lease_of ls d) e.released.clients.here ∙ without_other (l.levels.clients i) c d (λ own. disjoint own same))
+        (ap (λ ls. lease_of ls d) e.released.clients.here ∙ without_other (l.levels.clients i) c d (λ own. differs own same))
     | inr other ↦ ap (λ ls. lease_of ls d) (e.released.clients.elsewhere j other)
   ]
 
@@ -40,8 +40,8 @@ module _ (w u : World) (l k : Leases) (c i : ℕ) (a : AreLeases w l) (e : Relea
     nodes = e.holds.nodes;
     holds_here = e.holds.held.holds c i ∙ ap is_held gone;
     writes_here = e.holds.held.writes c i ∙ ap is_written gone;
-    holds_else = λ d j disjoint. e.holds.held.holds d j ∙ ap is_held (elsewhere d j disjoint) ∙ sym (a.held.holds d j);
-    writes_else = λ d j disjoint. e.holds.held.writes d j ∙ ap is_written (elsewhere d j disjoint) ∙ sym (a.held.writes d j);
+    holds_else = λ d j differs. e.holds.held.holds d j ∙ ap is_held (elsewhere d j differs) ∙ sym (a.held.holds d j);
+    writes_else = λ d j differs. e.holds.held.writes d j ∙ ap is_written (elsewhere d j differs) ∙ sym (a.held.writes d j);
   }
 
   -- a lease that is left was there

@@ -66,7 +66,7 @@ module _ (w u : World) (m m' : Membership) (n : ℕ) (a : AreMembers w m) (g : R
   own = set_here m.nodes n (returning g.since g.donor g.stale) full g.stands
 
   elsewhere : (k : ℕ) → k ≢ n → standing_of after.nodes k ≡ standing_of m.nodes k
-  elsewhere k disjoint = set_else m.nodes n k (returning g.since g.donor g.stale) full g.stands disjoint
+  elsewhere k differs = set_else m.nodes n k (returning g.since g.donor g.stale) full g.stands differs
 
   other : (k e : ℕ) → since_of (standing_of after.nodes k) ≡ Some e → k ≢ n
   other k e at is = away_not_full (standing_of after.nodes k) e at (subst (λ k. standing_of after.nodes k ≡ Some full) (sym is) own)
@@ -104,7 +104,7 @@ module _ (w u : World) (m m' : Membership) (n : ℕ) (a : AreMembers w m) (g : R
     nodes_full = λ k at.
         elim (cases_eq k n) [
           | inl is ↦ subst (Full u) (sym is) g.joined
-          | inr disjoint ↦ g.stay k (a.nodes_full k (sym (elsewhere k disjoint) ∙ at))
+          | inr differs ↦ g.stay k (a.nodes_full k (sym (elsewhere k differs) ∙ at))
         ];
     due = due;
     filling = filling;

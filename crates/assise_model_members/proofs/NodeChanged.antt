@@ -42,7 +42,7 @@ module _ (w u : World) (m : Membership) (n since : ℕ) (old s : Standing) (a : 
   here = set_here m.nodes n old s g.stood
 
   elsewhere : (k : ℕ) → k ≢ n → standing_of (with_node m n s).nodes k ≡ standing_of m.nodes k
-  elsewhere k disjoint = set_else m.nodes n k old s g.stood disjoint
+  elsewhere k differs = set_else m.nodes n k old s g.stood differs
 
   was_full : (k : ℕ) → Full u k → Full w k
   was_full k f = subst (λ ns. contains ns k ≡ true) g.full f
@@ -59,7 +59,7 @@ module _ (w u : World) (m : Membership) (n since : ℕ) (old s : Standing) (a : 
             let same : since ≡ e = same_Some since e (sym g.is_away ∙ sym (ap since_of here) ∙ subst (λ k. since_of (standing_of (with_node m n s).nodes k) ≡ Some e) is at) in
             let unwritten : set.contains (written_since m since) i ≡ false = subst (λ e. set.contains (written_since m e) i ≡ false) (sym same) none in
             subst (λ k. u.area k i ≡ u.area f i) (sym is) (g.unwritten i unwritten ∙ a.due n since f i (ap since_of g.stood ∙ g.was_away) before unwritten ∙ sym stays)
-        | inr disjoint ↦ g.area_else k i disjoint ∙ a.due k e f i (sym (ap since_of (elsewhere k disjoint)) ∙ at) before none ∙ sym stays
+        | inr differs ↦ g.area_else k i differs ∙ a.due k e f i (sym (ap since_of (elsewhere k differs)) ∙ at) before none ∙ sym stays
       ]
 
   filling : (k first donor i : ℕ) (stale : set.FinSet nat_cmp) → standing_of (with_node m n s).nodes k ≡ Some (returning first donor stale) →
@@ -69,9 +69,9 @@ module _ (w u : World) (m : Membership) (n since : ℕ) (old s : Standing) (a : 
         | inl is ↦
             subst (λ k. u.area k i ≡ u.area donor i) (sym is)
             (g.fills first donor i stale (same_Some s (returning first donor stale) (sym here ∙ subst (λ k. standing_of (with_node m n s).nodes k ≡ Some (returning first donor stale)) is at)) none)
-        | inr disjoint ↦
-            let before : standing_of m.nodes k ≡ Some (returning first donor stale) = sym (elsewhere k disjoint) ∙ at in
-            g.area_else k i disjoint ∙ a.filling k first donor i stale before none
+        | inr differs ↦
+            let before : standing_of m.nodes k ≡ Some (returning first donor stale) = sym (elsewhere k differs) ∙ at in
+            g.area_else k i differs ∙ a.filling k first donor i stale before none
             ∙ sym (g.area_else donor i (other_full donor (a.nodes_full donor (donor_full m k first donor stale a.lawful before))))
       ]
 
@@ -82,7 +82,7 @@ module _ (w u : World) (m : Membership) (n since : ℕ) (old s : Standing) (a : 
     nodes_full = λ k at.
         elim (cases_eq k n) [
           | inl is ↦ absurd (away_not_full (standing_of (with_node m n s).nodes n) since (ap since_of here ∙ g.is_away) (subst (λ k. standing_of (with_node m n s).nodes k ≡ Some full) is at))
-          | inr disjoint ↦ subst (λ ns. contains ns k ≡ true) (sym g.full) (a.nodes_full k (sym (elsewhere k disjoint) ∙ at))
+          | inr differs ↦ subst (λ ns. contains ns k ≡ true) (sym g.full) (a.nodes_full k (sym (elsewhere k differs) ∙ at))
         ];
     due = due;
     filling = filling;
@@ -144,8 +144,8 @@ module _ (w u : World) (m m' : Membership) (n : ℕ) (g : BeginsReturn w m n u m
 
 -- without one inode, a set has the others
 removed_else : (s : set.FinSet nat_cmp) (i j : ℕ) → j ≢ i → set.contains (set.remove s i) j ≡ false → set.contains s j ≡ false
-removed_else s i j disjoint none =
-    ap (λ b. not b && set.contains s j) (sym (unsigned_tied j i ∙ ne_eqb j i disjoint)) ∙ sym (contains-remove nat_cmp_total s i j) ∙ none
+removed_else s i j differs none =
+    ap (λ b. not b && set.contains s j) (sym (unsigned_tied j i ∙ ne_eqb j i differs)) ∙ sym (contains-remove nat_cmp_total s i j) ∙ none
 
 module _ (w u : World) (m m' : Membership) (n i : ℕ) (g : Refills w m n i u m') where
   pub refill_is : m' ≡ with_node m n (returning g.since g.donor (set.remove g.stale i))
@@ -163,14 +163,14 @@ module _ (w u : World) (m m' : Membership) (n i : ℕ) (g : Refills w m n i u m'
         is_away = refl;
         lawful = subst IsMembership (sym g.members ∙ refill_is) (copied_lawful m n a.lawful (ap filling_fault_of g.stands) i);
         full = g.rests.nodes.full;
-        area_else = λ k j disjoint. g.area_else k j (λ is _. disjoint is);
+        area_else = λ k j differs. g.area_else k j (λ is _. differs is);
         unwritten = λ j none. g.area_else n j (λ _ is. both_ways (set.contains (written_since m g.since) j) none
             (subst (λ j. set.contains (written_since m g.since) j ≡ true) (sym is) (stale_written m n g.since g.donor g.stale a.lawful g.stands i g.lowest.there)));
         fills = λ first from j lacks e none.
             (let clean : set.contains (set.remove g.stale i) j ≡ false = subst (λ t. set.contains t j ≡ false) (sym (same_Some (set.remove g.stale i) lacks (ap (λ s. stale_of (Some s)) e))) none in
             elim (cases_eq j i) [
               | inl is ↦ subst (λ j. u.area n j ≡ w.area g.donor j) (sym is) g.area_here
-              | inr disjoint ↦ g.area_else n j (λ _ is. disjoint is) ∙ a.filling n g.since g.donor j g.stale g.stands (removed_else g.stale i j disjoint clean)
+              | inr differs ↦ g.area_else n j (λ _ is. differs is) ∙ a.filling n g.since g.donor j g.stale g.stands (removed_else g.stale i j differs clean)
             ]
             ∙ sym (donor_stays j) ∙ ap (λ d. u.area d j) (same_Some g.donor from (ap (λ s. donor_of (Some s)) e)));
       }))

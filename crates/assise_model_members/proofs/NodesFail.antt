@@ -104,38 +104,38 @@ module _ (w v u : World) (m m' : Membership) (n : ℕ) (inodes : set.FinSet nat_
   own = mapped_at (refilled_from (written_since begun) low n) begun.nodes n ∙ ap (option_map (refilled_from (written_since begun) low n)) (set_here m.nodes n full (down (m.epoch + 1)) stood)
 
   other : (k : ℕ) → k ≢ n → standing_of after.nodes k ≡ option_map (refilled_from (written_since begun) low n) (standing_of m.nodes k)
-  other k disjoint = mapped_at (refilled_from (written_since begun) low n) begun.nodes k ∙ ap (option_map (refilled_from (written_since begun) low n)) (set_else m.nodes n k full (down (m.epoch + 1)) stood disjoint)
+  other k differs = mapped_at (refilled_from (written_since begun) low n) begun.nodes k ∙ ap (option_map (refilled_from (written_since begun) low n)) (set_else m.nodes n k full (down (m.epoch + 1)) stood differs)
 
   kept_stands : (k : ℕ) → k ≢ n → donor_of (standing_of m.nodes k) ≢ Some n → standing_of after.nodes k ≡ standing_of m.nodes k
-  kept_stands k disjoint from = other k disjoint ∙ refilled_else (written_since begun) low n (standing_of m.nodes k) from
+  kept_stands k differs from = other k differs ∙ refilled_else (written_since begun) low n (standing_of m.nodes k) from
 
   over_stands : (k since : ℕ) (stale : set.FinSet nat_cmp) → k ≢ n → standing_of m.nodes k ≡ Some (returning since n stale) →
       standing_of after.nodes k ≡ Some (returning since low (written_since after since))
-  over_stands k since stale disjoint at = other k disjoint ∙ refilled_here (written_since begun) low n since stale (standing_of m.nodes k) at
+  over_stands k since stale differs at = other k differs ∙ refilled_here (written_since begun) low n since stale (standing_of m.nodes k) at
 
   not_own : (k since : ℕ) (stale : set.FinSet nat_cmp) → standing_of m.nodes k ≡ Some (returning since n stale) → k ≢ n
   not_own k since stale at is = away_not_full (standing_of m.nodes k) since (ap since_of at) (subst (λ k. standing_of m.nodes k ≡ Some full) (sym is) stood)
 
   since_before : (k e : ℕ) → k ≢ n → since_of (standing_of after.nodes k) ≡ Some e → since_of (standing_of m.nodes k) ≡ Some e
-  since_before k e disjoint at =
+  since_before k e differs at =
       elim (cases_donor (donor_of (standing_of m.nodes k)) n) [
         | inl lost ↦
             let (since, stale, is) = filled_from (standing_of m.nodes k) n lost in
-            ap since_of is ∙ sym (ap since_of (over_stands k since stale disjoint is)) ∙ at
-        | inr from ↦ sym (ap since_of (kept_stands k disjoint from)) ∙ at
+            ap since_of is ∙ sym (ap since_of (over_stands k since stale differs is)) ∙ at
+        | inr from ↦ sym (ap since_of (kept_stands k differs from)) ∙ at
       ]
 
   full_before : (k : ℕ) → standing_of after.nodes k ≡ Some full → (k ≢ n) × (standing_of m.nodes k ≡ Some full)
   full_before k at =
       elim (cases_eq k n) [
         | inl is ↦ absurd (away_not_full (standing_of after.nodes n) (m.epoch + 1) (ap since_of own) (subst (λ k. standing_of after.nodes k ≡ Some full) is at))
-        | inr disjoint ↦ (
-          disjoint,
+        | inr differs ↦ (
+          differs,
           elim (cases_donor (donor_of (standing_of m.nodes k)) n) [
             | inl lost ↦
                 let (since, stale, is) = filled_from (standing_of m.nodes k) n lost in
-                absurd (away_not_full (standing_of after.nodes k) since (ap since_of (over_stands k since stale disjoint is)) at)
-            | inr from ↦ sym (kept_stands k disjoint from) ∙ at
+                absurd (away_not_full (standing_of after.nodes k) since (ap since_of (over_stands k since stale differs is)) at)
+            | inr from ↦ sym (kept_stands k differs from) ∙ at
           ],
         )
       ]
@@ -146,7 +146,7 @@ module _ (w v u : World) (m m' : Membership) (n : ℕ) (inodes : set.FinSet nat_
       (g.fails.only k h, λ is. g.fails.gone (subst (Full v) is h)))
 
   world_full : (k : ℕ) → Full w k → k ≢ n → Full u k
-  world_full k f disjoint = subst (λ ns. contains ns k ≡ true) (sym g.rests.nodes.full) (g.fails.others k f disjoint)
+  world_full k f differs = subst (λ ns. contains ns k ≡ true) (sym g.rests.nodes.full) (g.fails.others k f differs)
 
   -- areas
   area_full : (k i : ℕ) → Full w k → u.area k i ≡ w.area k i
@@ -165,12 +165,12 @@ module _ (w v u : World) (m m' : Membership) (n : ℕ) (inodes : set.FinSet nat_
 
   -- outside the lists the areas of nodes that weren't full stay
   area_due : (k e i : ℕ) → k ≢ n → since_of (standing_of m.nodes k) ≡ Some e → set.contains (written_since after e) i ≡ false → u.area k i ≡ w.area k i
-  area_due k e i disjoint at none =
+  area_due k e i differs at none =
       elim (cases_donor (donor_of (standing_of m.nodes k)) n) [
         | inl lost ↦
             let (since, stale, is) = filled_from (standing_of m.nodes k) n lost in
             let same : e ≡ since = same_Some e since (sym at ∙ ap since_of is) in
-            g.over k (written_since after since) lost (ap (λ o. stale_of (standing_of o.nodes k)) is_after ∙ ap stale_of (over_stands k since stale disjoint is)) i
+            g.over k (written_since after since) lost (ap (λ o. stale_of (standing_of o.nodes k)) is_after ∙ ap stale_of (over_stands k since stale differs is)) i
             ∙ ap (λ b. cond b None (w.area k i)) (subst (λ e. set.contains (written_since after e) i ≡ false) same none)
         | inr from ↦ g.area_else k i from
       ]
@@ -183,9 +183,9 @@ module _ (w v u : World) (m m' : Membership) (n : ℕ) (inodes : set.FinSet nat_
             let new : m.epoch + 1 ≡ e = same_Some (m.epoch + 1) e (sym (ap since_of own) ∙ subst (λ k. since_of (standing_of after.nodes k) ≡ Some e) is at) in
             subst (λ k. u.area k i ≡ u.area f i) (sym is)
             (area_full n i g.fails.full_node ∙ failed_same f i before (subst (λ e. set.contains (written_since after e) i ≡ false) (sym new) none) ∙ sym (area_full f i before))
-        | inr disjoint ↦
-            let old : since_of (standing_of m.nodes k) ≡ Some e = since_before k e disjoint at in
-            area_due k e i disjoint old none ∙ a.due k e f i old before (fewer e i none) ∙ sym (area_full f i before)
+        | inr differs ↦
+            let old : since_of (standing_of m.nodes k) ≡ Some e = since_before k e differs at in
+            area_due k e i differs old none ∙ a.due k e f i old before (fewer e i none) ∙ sym (area_full f i before)
       ]
 
   low_full : Full u low
@@ -198,15 +198,15 @@ module _ (w v u : World) (m m' : Membership) (n : ℕ) (inodes : set.FinSet nat_
   filling k since donor i stale at none =
       elim (cases_eq k n) [
         | inl is ↦ absurd (none-some donor (sym (ap donor_of own) ∙ ap donor_of (subst (λ k. standing_of after.nodes k ≡ Some (returning since donor stale)) is at)))
-        | inr disjoint ↦ elim (cases_donor (donor_of (standing_of m.nodes k)) n) [
+        | inr differs ↦ elim (cases_donor (donor_of (standing_of m.nodes k)) n) [
           | inl lost ↦
               let (first, old, is) = filled_from (standing_of m.nodes k) n lost in
-              let stands : standing_of after.nodes k ≡ Some (returning first low (written_since after first)) = over_stands k first old disjoint is in
+              let stands : standing_of after.nodes k ≡ Some (returning first low (written_since after first)) = over_stands k first old differs is in
               due k first donor i (ap since_of stands)
               (subst (Full u) (same_donor (standing_of after.nodes k) first since low donor (written_since after first) stale stands at) low_full)
               (subst (λ t. set.contains t i ≡ false) (sym (same_stale (standing_of after.nodes k) first since low donor (written_since after first) stale stands at)) none)
           | inr from ↦
-              let before : standing_of m.nodes k ≡ Some (returning since donor stale) = sym (kept_stands k disjoint from) ∙ at in
+              let before : standing_of m.nodes k ≡ Some (returning since donor stale) = sym (kept_stands k differs from) ∙ at in
               g.area_else k i from ∙ a.filling k since donor i stale before none ∙ sym (area_full donor i (a.nodes_full donor (donor_full m k since donor stale a.lawful before)))
         ]
       ]

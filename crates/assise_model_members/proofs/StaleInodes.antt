@@ -87,6 +87,6 @@ module _ (w u : World) (m o : Membership) (n c k : ℕ) (inodes : set.FinSet nat
 
   pub digested_else : (x since donor : ℕ) (stale : set.FinSet nat_cmp) → standing_of m.nodes x ≡ Some (returning since donor stale) → donor ≢ n →
       standing_of o.nodes x ≡ Some (returning since donor stale)
-  digested_else x since donor stale at disjoint =
+  digested_else x since donor stale at differs =
       ap (λ o. standing_of o.nodes x) g.members ∙ mapped_at (stale_again n inodes) m.nodes x
-      ∙ noted_else n inodes (standing_of m.nodes x) (λ e. disjoint (same_Some donor n (sym (ap donor_of at) ∙ e))) ∙ at
+      ∙ noted_else n inodes (standing_of m.nodes x) (λ e. differs (same_Some donor n (sym (ap donor_of at) ∙ e))) ∙ at

@@ -93,7 +93,7 @@ has-filter p (n ∷ ns) k h is =
     ]
 
 other_than : (n k : ℕ) → k ≢ n → not (k == n) ≡ true
-other_than n k disjoint = ap not (ne_eqb k n disjoint)
+other_than n k differs = ap not (ne_eqb k n differs)
 
 is_other : (n k : ℕ) → not (k == n) ≡ true → k ≢ n
 is_other n k e is = true≢false (sym e ∙ ap not (eq-eqb k n is))
@@ -115,7 +115,7 @@ cut_fails w n f survivor = record {
   survivor = survivor;
   gone = λ h. is_other n n (filter-has (λ k. not (k == n)) w.full n h).1 refl;
   only = λ k h. (filter-has (λ j. not (j == n)) w.full k h).0;
-  others = λ k h disjoint. has-filter (λ j. not (j == n)) w.full k h (other_than n k disjoint);
+  others = λ k h differs. has-filter (λ j. not (j == n)) w.full k h (other_than n k differs);
   calls = refl;
   records = λ c. refl;
   first = λ c. refl;
@@ -126,7 +126,7 @@ cut_fails w n f survivor = record {
   clients = refl;
   home = λ c. refl;
   lives_there = λ c is. chosen (w.home c == n) false (w.lives c) (eq-eqb (w.home c) n is);
-  lives_else = λ c disjoint. passed (w.home c == n) false (w.lives c) (ne_eqb (w.home c) n disjoint);
+  lives_else = λ c differs. passed (w.home c == n) false (w.lives c) (ne_eqb (w.home c) n differs);
   crashed = λ c. refl;
   leases = record { holds = λ c i. refl; writes = λ c i. refl };
   log = λ k c _. refl;
@@ -141,8 +141,8 @@ left_over n None stale i old = old
 left_over n (Some donor) stale i old = if donor == n then left_of stale i old else old
 
 left_over-else : (n : ℕ) (donor : Option ℕ) (stale : Option (set.FinSet nat_cmp)) (i : ℕ) (old : Option Content) → donor ≢ Some n → left_over n donor stale i old ≡ old
-left_over-else n None stale i old disjoint = refl
-left_over-else n (Some donor) stale i old disjoint = passed (donor == n) (left_of stale i old) old (ne_eqb donor n (λ is. disjoint (ap Some is)))
+left_over-else n None stale i old differs = refl
+left_over-else n (Some donor) stale i old differs = passed (donor == n) (left_of stale i old) old (ne_eqb donor n (λ is. differs (ap Some is)))
 
 left_over-here : (n : ℕ) (donor : Option ℕ) (stale : Option (set.FinSet nat_cmp)) (i : ℕ) (old : Option Content) → donor ≡ Some n → left_over n donor stale i old ≡ left_of stale i old
 left_over-here n None stale i old is = absurd (none-some n is)
@@ -156,7 +156,7 @@ module _ (w : World) (m : Membership) (n : ℕ) (inodes : set.FinSet nat_cmp) (a
   areas_then k i = left_over n (donor_of (standing_of m.nodes k)) (stale_of (standing_of after.nodes k)) i (w.area k i)
 
   stays_then : (k i : ℕ) → donor_of (standing_of m.nodes k) ≢ Some n → areas_then k i ≡ w.area k i
-  stays_then k i disjoint = left_over-else n (donor_of (standing_of m.nodes k)) (stale_of (standing_of after.nodes k)) i (w.area k i) disjoint
+  stays_then k i differs = left_over-else n (donor_of (standing_of m.nodes k)) (stale_of (standing_of after.nodes k)) i (w.area k i) differs
 
   pub may_fail : (v u : World) × (o : Membership) × FailsWithMembers w m n inodes v u o
   may_fail = (
@@ -205,7 +205,7 @@ touched_there w n (suc most) c i low h =
       | inl is ↦
           or_left (set.contains own i) (set.contains (touched_to w n most) i)
           (listed_as (touched (all_effects (kept_records w n (suc most)))) i ∙ subst (λ c. contains (touched (all_effects (kept_records w n c))) i ≡ true) is h)
-      | inr disjoint ↦ or_right (set.contains own i) (set.contains (touched_to w n most) i) (touched_there w n most c i (omega (arith, low, disjoint)) h)
+      | inr differs ↦ or_right (set.contains own i) (set.contains (touched_to w n most) i) (touched_there w n most c i (omega (arith, low, differs)) h)
     ])
 
 -- a client without records touches nothing
@@ -248,9 +248,9 @@ at_own : (n c : ℕ) → at_place n c n c ≡ true
 at_own n c = and_from (n == n) (c == c) (eq-eqb n n refl) (eq-eqb c c refl)
 
 at_other : (n c k d : ℕ) → (k ≡ n → d ≡ c → ⊥) → at_place n c k d ≡ false
-at_other n c k d disjoint =
+at_other n c k d differs =
     false_from_ne_true (at_place n c k d)
-    (λ h. let both : ((k == n) ≡ true) × ((d == c) ≡ true) = and_parts (k == n) (d == c) h in disjoint (eqb-true k n both.0) (eqb-true d c both.1))
+    (λ h. let both : ((k == n) ≡ true) × ((d == c) ≡ true) = and_parts (k == n) (d == c) h in differs (eqb-true k n both.0) (eqb-true d c both.1))
 
 abbrev digested_world : World → ℕ → ℕ → ℕ → World
 digested_world w n c p = record w {
@@ -272,9 +272,9 @@ world_digests w n c p may = record {
   log = λ k d _. refl;
   received = λ k d _. refl;
   digested_here = chosen (at_place n c n c) p (w.digested n c) (at_own n c);
-  digested_else = λ k d _ disjoint. passed (at_place n c k d) p (w.digested k d) (at_other n c k d disjoint);
+  digested_else = λ k d _ differs. passed (at_place n c k d) p (w.digested k d) (at_other n c k d differs);
   area_here = λ i. chosen (n == n) (value_after i (w.area n i) (all_effects (undigested_below w n c p))) (w.area n i) (eq-eqb n n refl);
-  area_else = λ k i _ disjoint. passed (k == n) (value_after i (w.area k i) (all_effects (undigested_below w n c p))) (w.area k i) (ne_eqb k n disjoint);
+  area_else = λ k i _ differs. passed (k == n) (value_after i (w.area k i) (all_effects (undigested_below w n c p))) (w.area k i) (ne_eqb k n differs);
 }
 
 pub may_digest : (w : World) (m : Membership) (n c p : ℕ) → MayDigest w n c p → (inodes : set.FinSet nat_cmp) × (u : World) × (o : Membership) × DigestsNoted w m n c p inodes u o
@@ -295,8 +295,8 @@ may_digest w m n c p may =
 -- ---- returns
 
 -- who isn't full is another than the full ones
-away_disjoint : (w : World) (m : Membership) (n k since : ℕ) → AreMembers w m → since_of (standing_of m.nodes n) ≡ Some since → Full w k → k ≢ n
-away_disjoint w m n k since a at f is = away_not_full (standing_of m.nodes n) since at (subst (λ k. standing_of m.nodes k ≡ Some full) is (a.full_nodes k f))
+away_other : (w : World) (m : Membership) (n k since : ℕ) → AreMembers w m → since_of (standing_of m.nodes n) ≡ Some since → Full w k → k ≢ n
+away_other w m n k since a at f is = away_not_full (standing_of m.nodes n) since at (subst (λ k. standing_of m.nodes k ≡ Some full) is (a.full_nodes k f))
 
 module _ (w : World) (m : Membership) (n : ℕ) (a : AreMembers w m) where
   abbrev areas_back : ℕ → Values
@@ -306,13 +306,13 @@ module _ (w : World) (m : Membership) (n : ℕ) (a : AreMembers w m) where
   may_come_back fine =
       (let (since, is) = down_is (standing_of m.nodes n) fine in
       let stays : (k i : ℕ) → k ≢ n → areas_back k i ≡ w.area k i =
-      λ k i disjoint. passed (k == n) (left_of (stale_of (standing_of (back m n).nodes n)) i (w.area k i)) (w.area k i) (ne_eqb k n disjoint) in (
+      λ k i differs. passed (k == n) (left_of (stale_of (standing_of (back m n).nodes n)) i (w.area k i)) (w.area k i) (ne_eqb k n differs) in (
         with_areas w areas_back,
         back m n,
         record {
           fine = fine;
           members = refl;
-          rests = rests_with w areas_back (λ k i f. stays k i (away_disjoint w m n k since a (ap since_of is) f));
+          rests = rests_with w areas_back (λ k i f. stays k i (away_other w m n k since a (ap since_of is) f));
           area_here = λ stale lacks i.
               chosen (n == n) (left_of (stale_of (standing_of (back m n).nodes n)) i (w.area n i)) (w.area n i) (eq-eqb n n refl)
               ∙ ap (λ s. left_of s i (w.area n i)) lacks;
@@ -327,7 +327,7 @@ module _ (w : World) (m : Membership) (n : ℕ) (a : AreMembers w m) where
   may_refill i may =
       (let (since, donor, is) = lacks_is (standing_of m.nodes n) may.stale may.lacks in
       let stays : (k j : ℕ) → (k ≡ n → j ≡ i → ⊥) → areas_filled donor i k j ≡ w.area k j =
-      λ k j disjoint. passed (at_place n i k j) (w.area donor i) (w.area k j) (at_other n i k j disjoint) in (
+      λ k j differs. passed (at_place n i k j) (w.area donor i) (w.area k j) (at_other n i k j differs) in (
         with_areas w (areas_filled donor i),
         with_copied m n i,
         record {
@@ -337,7 +337,7 @@ module _ (w : World) (m : Membership) (n : ℕ) (a : AreMembers w m) where
           stands = is;
           lowest = may.lowest;
           members = refl;
-          rests = rests_with w (areas_filled donor i) (λ k j f. stays k j (λ here _. away_disjoint w m n k since a (ap since_of is) f here));
+          rests = rests_with w (areas_filled donor i) (λ k j f. stays k j (λ here _. away_other w m n k since a (ap since_of is) f here));
           area_here = chosen (at_place n i n i) (w.area donor i) (w.area n i) (at_own n i);
           area_else = stays;
         },
@@ -379,7 +379,7 @@ module _ (w : World) (m : Membership) (n : ℕ) (a : AreMembers w m) where
           received_here = λ c. chosen (n == n) (w.received donor c) (w.received n c) (eq-eqb n n refl);
           digested_here = λ c. chosen (n == n) (w.digested donor c) (w.digested n c) (eq-eqb n n refl);
           else_same = λ k f.
-              (let away : (k == n) ≡ false = ne_eqb k n (away_disjoint w m n k since a (ap since_of is) f) in
+              (let away : (k == n) ≡ false = ne_eqb k n (away_other w m n k since a (ap since_of is) f) in
               record {
                 area = λ i. refl;
                 log = λ c. passed (k == n) (w.log donor c) (w.log k c) away;

@@ -625,8 +625,8 @@ module _ (w w' : World) (y : NumberedCall) (sound : WorldInvariant w) (e : Makes
     coherent = call_coherent;
     few_records = few-commit;
     goals = λ d. omega (arith, e.goals d, sound.goals d, end-commit d);
-    disjoint = λ d k t low from to. elim (cases_lt (end_of_log w d) k) [
-      | inr old ↦ e.border_old d k old ∙ sound.disjoint d k (sym (e.clients.lives d) ∙ t) (rw (e.first d) at low) (rw (e.goals d) at from) old
+    single = λ d k t low from to. elim (cases_lt (end_of_log w d) k) [
+      | inr old ↦ e.border_old d k old ∙ sound.single d k (sym (e.clients.lives d) ∙ t) (rw (e.first d) at low) (rw (e.goals d) at from) old
       | inl new ↦ elim (cases_eq d y.client) [
         | inl own ↦ subst (λ d. end_of_log w d < k → k ≤ end_of_log w' d → w'.border d k ≡ true) (sym own)
             (λ past top. (let last : k ≡ end_of_log w' y.client = omega (arith, past, top, one_more) in ap (w'.border y.client) last ∙ e.border_new)) new to

@@ -34,13 +34,13 @@ open_sound w w' n s e = record {
     | inl is ↦ subst (λ d. w'.goal d ≤ end_of_log w d) (sym is) (rw e.goal_new (omega arith))
     | inr other ↦ rw (e.goal_else c other) (s.goals c)
   ]);
-  disjoint = λ c k t low from to. (let top : k ≤ end_of_log w c = rw (end-same w w' e.logs c) at to in
+  single = λ c k t low from to. (let top : k ≤ end_of_log w c = rw (end-same w w' e.logs c) at to in
       e.logs.border c k ∙ elim (cases_eq c (suc w.clients)) [
         | inl is ↦
             let none : w.next c ≡ 0 = ap w.next is ∙ s.unused (suc w.clients) (omega arith) in
             let last : k ≡ end_of_log w c = omega (arith, s.few_records c, none, top) in
             ap (w.border c) last ∙ s.coherent.end_border c
-        | inr other ↦ s.disjoint c k (sym (e.lives_else c other) ∙ t) (rw (e.logs.first c) at low) (rw (e.goal_else c other) at from) top
+        | inr other ↦ s.single c k (sym (e.lives_else c other) ∙ t) (rw (e.logs.first c) at low) (rw (e.goal_else c other) at from) top
       ]);
   unused = λ c h. e.logs.next c ∙ s.unused c (omega (arith, e.clients, h));
   held = held-same w w' s e.leases;

@@ -414,11 +414,11 @@ coalesce_sound w w' c s new was so e = record {
     | inl own ↦ subst (λ d. w'.goal d ≤ end_of_log w' d) (sym own) (rw e.goal_here (omega arith))
     | inr other ↦ rw (end-else w w' d (e.first d) (e.records_else d other), e.goal_else d other) (so.goals d)
   ];
-  disjoint = λ d k t low from to. elim (cases_eq d c) [
+  single = λ d k t low from to. elim (cases_eq d c) [
     | inl own ↦ subst (λ d. w'.goal d ≤ k → k ≤ end_of_log w' d → w'.border d k ≡ true) (sym own)
         (λ past top. (let last : k ≡ end_of_log w' c = omega (arith, e.goal_here, past, top) in ap (w'.border c) last ∙ e.border_end)) from to
     | inr other ↦ e.border_else d k other
-        ∙ so.disjoint d k (sym (e.clients.lives d) ∙ t) (rw (e.first d) at low) (rw (e.goal_else d other) at from) (rw (end-else w w' d (e.first d) (e.records_else d other)) at to)
+        ∙ so.single d k (sym (e.clients.lives d) ∙ t) (rw (e.first d) at low) (rw (e.goal_else d other) at from) (rw (end-else w w' d (e.first d) (e.records_else d other)) at to)
   ];
   unused = λ d h. e.next d ∙ so.unused d (omega (arith, e.clients.clients, h));
   held = held-same w w' so e.leases;

@@ -110,7 +110,7 @@ digest_sound w w' n c k s e = record {
   coherent = digest_coherent w w' n c k s e;
   few_records = λ d. rw (end-same w w' e.logs d, e.logs.next d) (s.few_records d);
   goals = λ d. rw (end-same w w' e.logs d, e.goals d) (s.goals d);
-  disjoint = λ d k t low from to. e.logs.border d k ∙ s.disjoint d k (sym (e.clients.lives d) ∙ t) (rw (e.logs.first d) at low) (rw (e.goals d) at from) (rw (end-same w w' e.logs d) at to);
+  single = λ d k t low from to. e.logs.border d k ∙ s.single d k (sym (e.clients.lives d) ∙ t) (rw (e.logs.first d) at low) (rw (e.goals d) at from) (rw (end-same w w' e.logs d) at to);
   unused = λ d h. e.logs.next d ∙ s.unused d (omega (arith, e.clients.clients, h));
   held = held-same w w' s e.leases;
   prefixes = λ m d h. (let f : Full w m = subst (λ ns. contains ns m ≡ true) e.full h in

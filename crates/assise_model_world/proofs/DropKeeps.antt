@@ -144,9 +144,9 @@ drop_sound w w' f s e = record {
   coherent = drop_coherent w w' f s.coherent e;
   few_records = λ c. rw (end-drop w w' f e c, e.next c) (s.few_records c);
   goals = λ c. rw (end-drop w w' f e c, e.goals c) (s.goals c);
-  disjoint = λ c k t low from to.
+  single = λ c k t low from to.
       (let past : f c ≤ k = rw (e.first c) at low in
-      e.border c k past ∙ s.disjoint c k (sym (e.clients.lives c) ∙ t) (omega (arith, past, e.low c)) (rw (e.goals c) at from) (rw (end-drop w w' f e c) at to));
+      e.border c k past ∙ s.single c k (sym (e.clients.lives c) ∙ t) (omega (arith, past, e.low c)) (rw (e.goals c) at from) (rw (end-drop w w' f e c) at to));
   unused = λ c h. e.next c ∙ s.unused c (omega (arith, e.clients.clients, h));
   held = held-same w w' s e.leases;
   prefixes = λ m c h. prefixes-drop w w' f m c s e (full_before w w' f m e h);

@@ -388,11 +388,11 @@ module _ (w w' : World) (n : ℕ) (s : WorldInvariant w) (f : Fails w n w') wher
     coherent = fail_coherent w w' n s.coherent f;
     few_records = λ c. rw (end-fail c, f.next c) (omega (arith, kept_high w n c, s.few_records c));
     goals = λ c. rw (end-fail c, f.goals c) (omega arith);
-    disjoint = λ c k t low from to.
+    single = λ c k t low from to.
         (let all : kept_at_failure w n c ≡ end_of_log w c = kept_elsewhere w n c (lived c t).0 in
         let top : k ≤ kept_at_failure w n c = rw (end-fail c) at to in
         let past : min (w.goal c) (kept_at_failure w n c) ≤ k = rw (f.goals c) at from in
-        f.border c k top ∙ s.disjoint c k (lived c t).1 (rw (f.first c) at low) (omega (arith, past, s.goals c, all)) (omega (arith, top, all)));
+        f.border c k top ∙ s.single c k (lived c t).1 (rw (f.first c) at low) (omega (arith, past, s.goals c, all)) (omega (arith, top, all)));
     unused = λ c h. f.next c ∙ s.unused c (omega (arith, f.clients, h));
     held = held-same w w' s f.leases;
     prefixes = prefixes-fail;

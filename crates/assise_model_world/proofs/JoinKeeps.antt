@@ -74,7 +74,7 @@ module _ (w w' : World) (n donor : ℕ) (e : Joins w n donor w') where
     coherent = join_coherent s.coherent;
     few_records = λ d. rw (end-same w w' e.logs d, e.logs.next d) (s.few_records d);
     goals = λ d. rw (end-same w w' e.logs d, e.goals d) (s.goals d);
-    disjoint = λ d k t low from to. e.logs.border d k ∙ s.disjoint d k (sym (e.clients.lives d) ∙ t) (rw (e.logs.first d) at low) (rw (e.goals d) at from) (rw (end-same w w' e.logs d) at to);
+    single = λ d k t low from to. e.logs.border d k ∙ s.single d k (sym (e.clients.lives d) ∙ t) (rw (e.logs.first d) at low) (rw (e.goals d) at from) (rw (end-same w w' e.logs d) at to);
     unused = λ d h. e.logs.next d ∙ s.unused d (omega (arith, e.clients.clients, h));
     held = held-same w w' s e.leases;
     prefixes = λ m d h. (let (b, q) = as_before m h in rw (q.log d, q.received d, e.logs.first d, e.logs.records d) (s.prefixes b d q.full_before));

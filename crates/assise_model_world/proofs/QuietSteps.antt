@@ -175,7 +175,7 @@ still_sound w w' s coherent l e more home lives goals ascend held = record {
   coherent = coherent;
   few_records = λ c. rw (end-same w w' l c, l.next c) (s.few_records c);
   goals = λ c. rw (end-same w w' l c) (goals c);
-  disjoint = λ c k t low from to. l.border c k ∙ s.disjoint c k (sym (lives c) ∙ t) (rw (l.first c) at low) (omega (arith, from, ascend c)) (rw (end-same w w' l c) at to);
+  single = λ c k t low from to. l.border c k ∙ s.single c k (sym (lives c) ∙ t) (rw (l.first c) at low) (omega (arith, from, ascend c)) (rw (end-same w w' l c) at to);
   unused = λ c h. l.next c ∙ s.unused c (omega (arith, more, h));
   held = held;
   prefixes = λ n c h. let q : SameNode w w' n = e.same n (subst (λ ns. contains ns n ≡ true) e.full h) in

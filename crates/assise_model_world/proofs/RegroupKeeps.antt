@@ -40,8 +40,8 @@ module _ (w u : World) (c s : ℕ) (gs : List (List LogRecord)) (h : WorldInvari
   low = omega (arith, first-received_by_all w h.coherent c, e.low)
 
   -- each record from s on is a group by itself
-  disjoint : (k : ℕ) → s ≤ k → k ≤ end_of_log w c → w.border c k ≡ true
-  disjoint k from to = h.disjoint c k e.lives (omega (arith, low, from)) (omega (arith, e.goal, from)) to
+  single : (k : ℕ) → s ≤ k → k ≤ end_of_log w c → w.border c k ≡ true
+  single k from to = h.single c k e.lives (omega (arith, low, from)) (omega (arith, e.goal, from)) to
 
   prefix : length (take n rs) ≡ n
   unfolding n rs
@@ -152,7 +152,7 @@ module _ (w u : World) (c s : ℕ) (gs : List (List LogRecord)) (h : WorldInvari
   unfolding new
   regrouped = record {
     lives = e.lives;
-    at_border = disjoint s (omega arith) e.high;
+    at_border = single s (omega arith) e.high;
     low = e.low;
     high = e.high;
     records_own = e.records_own;
@@ -160,7 +160,7 @@ module _ (w u : World) (c s : ℕ) (gs : List (List LogRecord)) (h : WorldInvari
     was_here = was_here;
     was_end = was_end;
     was_ascends = was_ascends;
-    was_border = λ k from to bk. disjoint (was k) (was_from k) (omega (arith, was_ascends k (end_of_log u c) to, was_end));
+    was_border = λ k from to bk. single (was k) (was_from k) (omega (arith, was_ascends k (end_of_log u c) to, was_end));
     same_call = same_call;
     net = λ j k bj bk from le to. (same j k bj bk from le to).net;
     touch = λ i j k bj bk from le to. (same j k bj bk from le to).touch i;

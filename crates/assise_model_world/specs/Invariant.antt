@@ -109,7 +109,7 @@ pub record WorldInvariant (w : World) : Type 0 where
   pub few_records : (c : ℕ) → end_of_log w c ≤ w.next c
   pub goals : (c : ℕ) → w.goal c ≤ end_of_log w c
   -- what isn't to be replicated yet is not in groups: each record of it is one by itself
-  pub disjoint : (c k : ℕ) → w.lives c ≡ true → w.first c ≤ k → w.goal c ≤ k → k ≤ end_of_log w c → w.border c k ≡ true
+  pub single : (c k : ℕ) → w.lives c ≡ true → w.first c ≤ k → w.goal c ≤ k → k ≤ end_of_log w c → w.border c k ≡ true
   -- who wasn't opened made no call
   pub unused : (c : ℕ) → w.clients < c → w.next c ≡ 0
   -- what it holds for writing it holds

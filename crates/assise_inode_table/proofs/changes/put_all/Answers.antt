@@ -6,7 +6,7 @@ use Rattle.assise_inode_table.proofs.changes.put_all.Goals as goal
 pub loop-change-init : goal.loop-change-init
 loop-change-init g c =
     record {
-      left = all_left (g.S.Inodes.contents c.args.store.now) (g.S.Inodes.contents c.make_places.new.store) c.args.changes.items c.requires.disjoint
+      left = all_left (g.S.Inodes.contents c.args.store.now) (g.S.Inodes.contents c.make_places.new.store) c.args.changes.items c.requires.distinct
           (c.in_ok-make_places.ensures.ok ∙ ap (placed (g.S.Inodes.contents c.args.store.now)) c.as_slice.ensures.value);
       setting = c.make_places.ensures.setting;
     }

@@ -4,7 +4,7 @@ use Rattle.assise_model_events.specs.NodeEvents.{is_refused, is_stale}
 use Rattle.assise_machine_state.specs.NodeValues.{region_in}
 use Rattle.assise_machine_state.specs.Places.{IsNumber}
 use Rattle.assise_machine_state.specs.Whole.{value_of}
-use Rattle.assise_machine.proofs.DeliveryHappens.{Gives, disjoint_as, begun, elsewhere_as, given_as, groups_as, has, not_timely, nothing_new, received_as, room_as, some_new, there_as, whole_as}
+use Rattle.assise_machine.proofs.DeliveryHappens.{Gives, other_as, begun, elsewhere_as, given_as, groups_as, has, not_timely, nothing_new, received_as, room_as, some_new, there_as, whole_as}
 use Rattle.assise_machine.proofs.DeliveryFaults.{fine_client}
 use Rattle.assise_machine.proofs.delivery.deliver.Given as given
 use Rattle.assise_machine.proofs.delivery.deliver.Goals as goal
@@ -74,14 +74,14 @@ extend-requires-clause-elsewhere g c =
     let next = c.is_next.ensures.timely c.if-not-is_next.false in
     elsewhere_as (value_of c.args.sound.now.state) c.args.frame c.args.node c.args.sound.now.invariant.shape c.args.sound.now.invariant.holds c.args.sound.now.state.members.lawful.some_full fine c.end-received.result is next past c.client-client.result c.first-2.result c.into_records.result.items c.client-client.ensures.client c.first-2.ensures.first c.into_records.ensures.records
 
-pub extend-requires-clause-disjoint : goal.extend-requires-clause-disjoint
-extend-requires-clause-disjoint g c =
+pub extend-requires-clause-other : goal.extend-requires-clause-other
+extend-requires-clause-other g c =
     let fine = sym c.delivery_refusal.ensures ∙ c.in_default.is in
     let is = received_as (value_of c.args.sound.now.state) c.args.frame c.args.node c.args.sound.now.invariant.shape c.args.sound.now.invariant.holds c.args.sound.now.state.members.lawful.some_full fine
     c.region.result.now c.log.result.now c.client-client.result c.end-received.result c.end-received.ensures.end c.log.ensures.log c.region.ensures c.client-client.ensures.client in
     let past : c.end-received.result < c.args.frame.first + length c.args.frame.records = omega (arith, c.if-place-received.false, c.first.ensures.first, ap length c.records.ensures.records) in
     let next = c.is_next.ensures.timely c.if-not-is_next.false in
-    disjoint_as (value_of c.args.sound.now.state) c.args.frame c.args.node c.args.sound.now.invariant.shape c.args.sound.now.invariant.holds c.args.sound.now.state.members.lawful.some_full fine c.end-received.result is next past c.client-client.result c.first-2.result c.into_records.result.items c.client-client.ensures.client c.first-2.ensures.first c.into_records.ensures.records
+    other_as (value_of c.args.sound.now.state) c.args.frame c.args.node c.args.sound.now.invariant.shape c.args.sound.now.invariant.holds c.args.sound.now.state.members.lawful.some_full fine c.end-received.result is next past c.client-client.result c.first-2.result c.into_records.result.items c.client-client.ensures.client c.first-2.ensures.first c.into_records.ensures.records
     c.own_node-own.result c.own_node-own.ensures.node
 
 pub extend-requires-clause-groups : goal.extend-requires-clause-groups

@@ -23,7 +23,7 @@ crash-requires g c = record { client = fine_number (value_of c.args.sound.now.st
 
 -- the client has crashed
 has_crashed : (g : over.Over) (c : goal.After-push g) →
-    HasCrashed (value_of c.args.sound.now.state) c.args.client c.crash.new.self (levels_of c.revoke.new.self) c.note_all.new.cuts.items c.push.new.self.events
+    HasCrashed (value_of c.args.sound.now.state) c.args.client c.crash.new.self (levels_of c.freeze.new.self) c.note_all.new.cuts.items c.push.new.self.events
 has_crashed g c =
     let s : StateValue = value_of c.args.sound.now.state in
     let fine : client_fault (observed s) c.args.client ≡ None = sym c.client_refusal.ensures ∙ c.in_default.is in
@@ -36,7 +36,7 @@ has_crashed g c =
       noted = c.args.sound.now.invariant.noted;
       fine = fine;
       asked = c.in_ok-asked.asked.items;
-      revoked = c.revoke.ensures.revoked;
+      revoked = c.freeze.ensures.revoked;
       left = record { once = c.in_ok-asked.ensures.once; all = c.in_ok-asked.ensures.all };
       clients = c.crash.ensures ∙ ap (λ k. with_client s.clients c.args.client (crashed_at k (client_in s.clients c.args.client))) place;
       cuts = c.note_all.ensures ∙ (λ i. c.reserve-2.ensures.items i ++ c.into_iter.ensures.rest i);

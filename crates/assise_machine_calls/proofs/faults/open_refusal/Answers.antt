@@ -1,6 +1,6 @@
 use Rattle.std.proofs.Common.{◌∙◌, Ok, ap, sym, arith}
 use Rattle.assise_machine_state.specs.Whole.{value_of}
-use Rattle.assise_machine_state.proofs.NodesAway.{away_disjoint}
+use Rattle.assise_machine_state.proofs.NodesAway.{away_other}
 use Rattle.assise_machine_calls.proofs.OpenFaults.{all_opened, may_open, no_node, node_away}
 use Rattle.assise_machine_calls.proofs.faults.open_refusal.Goals as goal
 
@@ -8,7 +8,7 @@ pub returns-in-Err : goal.returns-in-Err
 returns-in-Err g c = sym (no_node (value_of c.args.state.now) c.args.node c.in-Err.refusal (sym c.phase.ensures ∙ c.in-Err.is))
 
 pub returns-in-Down : goal.returns-in-Down
-returns-in-Down g c = sym (node_away (value_of c.args.state.now) c.args.node c.in-Ok.phase (sym c.phase.ensures ∙ c.in-Ok.is) (away_disjoint c.in-Ok.phase c.in-Down.is))
+returns-in-Down g c = sym (node_away (value_of c.args.state.now) c.args.node c.in-Ok.phase (sym c.phase.ensures ∙ c.in-Ok.is) (away_other c.in-Ok.phase c.in-Down.is))
 
 pub returns-in-Full : goal.returns-in-Full
 returns-in-Full g c = sym (all_opened (value_of c.args.state.now) c.args.node (sym c.phase.ensures ∙ c.in-Ok.is ∙ ap Ok c.in-Full.is) (omega (arith, c.len.ensures, c.if-len.true)))

@@ -8,7 +8,7 @@ use Rattle.assise_machine_state.specs.NodeValues.{log_in}
 use Rattle.assise_machine_state.specs.Observed.{own_node}
 use Rattle.assise_machine_state.specs.Whole.{value_of}
 use Rattle.assise_machine_state.proofs.OwnLogs.{all_taken, next_log}
-use Rattle.assise_machine_failures.proofs.KeptPlaces.{kept_disjoint, kept_least, kept_over, next_itself, next_other, others}
+use Rattle.assise_machine_failures.proofs.KeptPlaces.{kept_other, kept_least, kept_over, next_itself, next_other, others}
 use Rattle.assise_machine_failures.proofs.listing.kept.Goals as goal
 use Rattle.assise_machine_failures.proofs.listing.kept.Goals.{then-has_failed-via-then-has_failed, then-has_failed-via-else-has_failed+then-home-node, then-other-node, else-other-node}
 
@@ -19,7 +19,7 @@ returns-then-has_failed g c =
     let some = c.args.state.now.members.lawful.some_full in
     elim c.then-has_failed.branch [
       | then-has_failed-via-then-has_failed w ↦ own ∙ kept_over s c.args.node c.args.client c.requires.shape c.requires.client some (ap (λ x. x.failed) (sym c.get-known.ensures) ∙ sym c.has_failed.ensures ∙ w.if-has_failed.true)
-      | then-has_failed-via-else-has_failed+then-home-node w ↦ own ∙ kept_disjoint s c.args.node c.args.client c.requires.shape c.requires.client some (λ is. w.if-home-node.true (w.home.ensures ∙ ap (λ x. x.home) c.get-known.ensures ∙ is))
+      | then-has_failed-via-else-has_failed+then-home-node w ↦ own ∙ kept_other s c.args.node c.args.client c.requires.shape c.requires.client some (λ is. w.if-home-node.true (w.home.ensures ∙ ap (λ x. x.home) c.get-known.ensures ∙ is))
     ]
 
 pub region-requires : goal.region-requires

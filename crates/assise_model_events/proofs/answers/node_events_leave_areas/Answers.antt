@@ -1,4 +1,4 @@
-use Rattle.assise_model_events.proofs.Disjoint.{delivered_areas, digested_areas, called_areas}
+use Rattle.assise_model_events.proofs.OtherAreas.{delivered_areas, digested_areas, called_areas}
 use Rattle.assise_model_events.proofs.answers.node_events_leave_areas.Goals as goal
 
 pub returns-clause-delivery : goal.returns-clause-delivery

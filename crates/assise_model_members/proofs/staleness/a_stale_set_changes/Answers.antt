@@ -8,4 +8,4 @@ pub returns-clause-digested : goal.returns-clause-digested
 returns-clause-digested c = λ w u m o n d k x since inodes stale g at. digested_stale w u m o n d k inodes g x since stale at
 
 pub returns-clause-elsewhere : goal.returns-clause-elsewhere
-returns-clause-elsewhere c = λ w u m o n d k x since donor inodes stale g at disjoint. digested_else w u m o n d k inodes g x since donor stale at disjoint
+returns-clause-elsewhere c = λ w u m o n d k x since donor inodes stale g at differs. digested_else w u m o n d k inodes g x since donor stale at differs

@@ -7,7 +7,7 @@ use Rattle.assise_manager.specs.Standings.{standing_of}
 use Rattle.assise_manager.specs.Whole.{membership}
 use Rattle.assise_machine_state.specs.Observed.{is_full_in, observed}
 use Rattle.assise_machine_state.specs.Whole.{value_of}
-use Rattle.assise_machine_state.proofs.NodesAway.{away_disjoint, away_refused, full_served, none_refused, phase_full}
+use Rattle.assise_machine_state.proofs.NodesAway.{away_other, away_refused, full_served, none_refused, phase_full}
 use Rattle.assise_machine_state.proofs.Fullness.{full_number, region_is}
 use Rattle.assise_machine_state.proofs.sound.SoundOf.region.Goals as goal
 
@@ -70,7 +70,7 @@ pub returns-in-Down : goal.returns-in-Down
 unfolding observed
 returns-in-Down g c =
     let o = standing_of (membership c.args.self.now.state.members).nodes c.args.node in
-    let other : c.in_ok-phase.field-0 ≢ Full = away_disjoint c.in_ok-phase.field-0 c.in-Down.is in
+    let other : c.in_ok-phase.field-0 ≢ Full = away_other c.in_ok-phase.field-0 c.in-Down.is in
     let why = away_refused WrongPhase o c.in_ok-phase.field-0 (sym c.phase.ensures ∙ c.in_ok-phase.was) other in
     record {
       fault = λ e fault. ap Err (same_refusal WrongPhase e (sym why ∙ fault));

@@ -3,7 +3,7 @@ use Rattle.indexmap.specs.IndexMap.{get}
 use Rattle.assise_lease_table.specs.LeaseMaps.{leases_at}
 use Rattle.assise_lease_table.specs.Leases.{revoke, is_own}
 use Rattle.assise_lease_table.proofs.LeaseChanges.{Fits, Known, all_each, revoke_fits, revoke_known}
-use Rattle.assise_lease_table.proofs.client_table.ClientTableOf.revoke.Goals as goal
+use Rattle.assise_lease_table.proofs.client_table.ClientTableOf.freeze.Goals as goal
 
 pub invariant_of-self : goal.invariant_of-self
 invariant_of-self g c =
