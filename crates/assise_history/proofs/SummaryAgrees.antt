@@ -288,18 +288,18 @@ synced_more h (calls y) legal fits synced c n u before since split j =
     let who : k.client ≡ c = through_client since (newly_opened c n u) in
     elim (cases_Bool (k.client == y.client)) [
       | inr other ↦
-          let unsynced : (x : Call) → calls y ≡ calls x → x.client ≡ c → syncs h x ≡ true → ⊥ = λ x is client sync.
+          let disjoint : (x : Call) → calls y ≡ calls x → x.client ≡ c → syncs h x ≡ true → ⊥ = λ x is client sync.
           let same : y ≡ x = cc in
           let met : k.client ≡ y.client = who ∙ sym client ∙ ap (λ z. z.client) (sym same) in
           both_ways (k.client == y.client) other (eq-eqb k.client y.client met) in
-          synced_quiet h (calls y) c j k (summary_with_call y k) (synced_other y k other) unsynced (synced c n u before since split j)
+          synced_quiet h (calls y) c j k (summary_with_call y k) (synced_other y k other) disjoint (synced c n u before since split j)
       | inl own ↦ elim (cases_Bool (is_sync y.op k.durability)) [
         | inr plain ↦
-            let unsynced : (x : Call) → calls y ≡ calls x → x.client ≡ c → syncs h x ≡ true → ⊥ = λ x is client sync.
+            let disjoint : (x : Call) → calls y ≡ calls x → x.client ≡ c → syncs h x ≡ true → ⊥ = λ x is client sync.
             let same : y ≡ x = cc in
             let opened : durability_of x.client h ≡ k.durability = ap (λ d. durability_of d h) client ∙ durability_in h before since c n u legal split ∙ sym (through_durability since (newly_opened c n u)) in
             both_ways (is_sync y.op k.durability) plain (subst (λ v. is_sync y.op v ≡ true) opened (subst (λ z. is_sync z.op (durability_of x.client h) ≡ true) (sym same) sync)) in
-            synced_quiet h (calls y) c j k (summary_with_call y k) (synced_plain y k plain) unsynced (synced c n u before since split j)
+            synced_quiet h (calls y) c j k (summary_with_call y k) (synced_plain y k plain) disjoint (synced c n u before since split j)
         | inl sync ↦
             let same : y.client ≡ c = sym (eqb-true k.client y.client own) ∙ who in
             let last : (summary_with_call y k).synced ≡ Some y.number = synced_own y k own sync in

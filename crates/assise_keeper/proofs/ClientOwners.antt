@@ -42,15 +42,15 @@ owns_other owner at (Some c) d ne = let other : d ≢ c = λ e. ne (ap (λ (z : 
 
 -- a half with no client of the new owner stays
 pub fits_still : (h : List EntryValue) (owner : ℕ → ℕ × Bool) (j : ℕ) (side : Bool) (v : Half) (at : ℕ × Bool) (c : Option ℕ) → ((d : ℕ) → v.client ≡ Some d → ¬ (c ≡ Some d)) → HalfFits h owner j side v → HalfFits h (owns owner at c) j side v
-fits_still h owner j side v at c differs f = (f.0, λ d is. let t = f.1 d is in (t.0, owns_other owner at c d (differs d is) ∙ t.1))
+fits_still h owner j side v at c disjoint f = (f.0, λ d is. let t = f.1 d is in (t.0, owns_other owner at c d (disjoint d is) ∙ t.1))
 
 -- another's half outlives what a pass adds
 pub fits_on : (h xs : List EntryValue) (owner : ℕ → ℕ × Bool) (id j : ℕ) (side : Bool) (c : Option ℕ) (v : Half) → ((d : ℕ) → c ≡ Some d → owner d ≡ (id, true)) → MayAddAll c xs → OpensOnce (h ++ xs) → (half_of j side ≡ half_of id true → ⊥)
     → HalfFits h owner j side v → HalfFits (h ++ xs) (owns owner (id, true) (client_after c xs)) j side v
-fits_on h xs owner id j side c v mine own once differs f =
+fits_on h xs owner id j side c v mine own once disjoint f =
     let not_mine : (d : ℕ) → v.client ≡ Some d → ¬ (client_after c xs ≡ Some d) = λ d is e.
     let t = f.1 d is in
-    ⊎_elim (λ (a : c ≡ Some d). differs (sym t.1 ∙ mine d a))
+    ⊎_elim (λ (a : c ≡ Some d). disjoint (sym t.1 ∙ mine d a))
     (λ (b : 0 < openings d xs). let o = once d in let two = openings-append d h xs in let had = opened-in d h v.seen f.0.0 t.0 in absurd (omega arith)) (was_or_opened d c xs own e) in
     fits_still (h ++ xs) owner j side v (id, true) (client_after c xs) not_mine (
       (

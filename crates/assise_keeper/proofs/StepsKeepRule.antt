@@ -249,7 +249,7 @@ module _ {S : Type 0} (history : S → List EntryValue) where
   -- a half that is another than the one that moves keeps its owner
   keeps_owner : (h : List EntryValue) (owner : ℕ → ℕ × Bool) (at : ℕ × Bool) (c : Option ℕ) (from : ℕ × Bool) → ((d : ℕ) → c ≡ Some d → owner d ≡ from) → (j : ℕ) (side : Bool) (v : Half) → (half_of j side ≡ from → ⊥)
       → HalfFits h owner j side v → HalfFits h (owns owner at c) j side v
-  keeps_owner h owner at c from was j side v differs f = fits_still h owner j side v at c (λ d is e. differs (sym (f.1 d is).1 ∙ was d e)) f
+  keeps_owner h owner at c from was j side v disjoint' f = fits_still h owner j side v at c (λ d is e. disjoint' (sym (f.1 d is).1 ∙ was d e)) f
 
   -- a half moves to another pass, or to its other side
   moves_owner : (h : List EntryValue) (owner : ℕ → ℕ × Bool) (j k : ℕ) (side to : Bool) (v : Half) → HalfFits h owner j side v → HalfFits h (owns owner (k, to) v.client) k to v
@@ -278,8 +278,8 @@ module _ {S : Type 0} (history : S → List EntryValue) where
 
   -- one pass takes another in
   pub meets_for : (id : ℕ) (v : View) (other : ℕ) (w : View) → v.stage ≡ Idle → w.stage ≡ Idle → Joins Rule id v other w (together v w) spent
-  meets_for id v other w idle other_idle s r at other_seat there =
-      let at_other : get_elem? s.views other ≡ some w = sym (set_else s.views id other (together v w) other_seat) ∙ there in
+  meets_for id v other w idle other_idle s r at disjoint_seats there =
+      let at_other : get_elem? s.views other ≡ some w = sym (set_else s.views id other (together v w) disjoint_seats) ∙ there in
       let mine = r.each id v at in
       let theirs = r.each other w at_other in
       let to : ℕ → ℕ × Bool = owns r.owner (id, false) w.own.client in

@@ -82,7 +82,7 @@ removed t p (Err e) s = s
 renamed : (t : Tree) (p q : Path) (found : Result Tree TreeError) (may : Result (Unit {0}) TreeError) (same : Bool) → at t p ≡ found → may_rename t p q ≡ may → same_path p q ≡ same → IsWithinLimits t
     → IsWithinLimits (reply_and_tree t (may >>= λ _. found >>= λ moved. Ok (Done, cond same t (put (without t p) q moved)))).1
 renamed t p q (Ok moved) (Ok x) true there passes same s = s
-renamed t p q (Ok moved) (Ok x) false there passes differs s = received t moved p q there passes differs s
+renamed t p q (Ok moved) (Ok x) false there passes disjoint s = received t moved p q there passes disjoint s
 renamed t p q (Err e) (Ok x) same there passes is s = s
 renamed t p q found (Err e) same there passes is s = s
 

@@ -28,10 +28,10 @@ longer (n ∷ p) rest =
     ]
 
 pub not_begins : (p q : Path) → is_proper_prefix p q ≡ false → p ≢ q → (rest : Path) → q ≢ p ++ rest
-not_begins p q below differs rest e =
+not_begins p q below disjoint rest e =
     let starts : same_path p (take (length p) q) ≡ true = (starts_is bytes_eq-Decides q p (same_path p (take (length p) q)) refl).1 rest e in
     elim (longer p rest) [
-      | inl same ↦ differs (same ∙ sym e)
+      | inl same ↦ disjoint (same ∙ sym e)
       | inr more ↦
           let lens : length q ≡ length (p ++ rest) = ap length e in
           let longer_too : nat_lt (length p) (length q) ≡ true = grind (arith, nat_tests) in

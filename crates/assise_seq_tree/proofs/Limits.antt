@@ -47,7 +47,7 @@ within-find n no_entries u s h = cc
 within-find n (entry k t es) u s h =
     elim (cases_Bool (same_name n k)) [
       | inl same ↦ let is : Some t ≡ Some u = rw same at h in let one : t ≡ u = cc in subst IsWithinLimits one s.0
-      | inr differs ↦ within-find n es u s.1 (rw differs at h)
+      | inr disjoint ↦ within-find n es u s.1 (rw disjoint at h)
     ]
 
 within-set : (n : List ℕ) (x : Tree) (es : Entries) → count es < 4096 → AreWithinLimits es → IsWithinLimits x → IsWithinLimits (dir (set n x es))

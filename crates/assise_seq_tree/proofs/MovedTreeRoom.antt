@@ -21,7 +21,7 @@ count_less n no_entries u h = cc
 count_less n (entry k t es) u h =
     elim (cases_Bool (same_name n k)) [
       | inl same ↦ rw same refl
-      | inr differs ↦ rw differs (let rest = count_less n es u (rw differs at h) in omega (arith, rest))
+      | inr disjoint ↦ rw disjoint (let rest = count_less n es u (rw disjoint at h) in omega (arith, rest))
     ]
 
 -- a directory that isn't below what is taken out stays, with no more entries
@@ -48,11 +48,11 @@ stays_directory (m ∷ s) (n ∷ p) (file bytes) es h outside = cc
 stays_directory (m ∷ s) (n ∷ []) (dir fs) es h outside =
     elim (cases_Bool (same_name m n)) [
       | inl same ↦ absurd (outside s (ap (λ x. x ∷ s) (one_name m n same)))
-      | inr differs ↦ record { entries = es; there = ap (λ o. option_map_or (λ t. at t s) o (Err NoEnt)) (find_remove_other m n fs differs) ∙ h; few = omega arith }
+      | inr disjoint ↦ record { entries = es; there = ap (λ o. option_map_or (λ t. at t s) o (Err NoEnt)) (find_remove_other m n fs disjoint) ∙ h; few = omega arith }
     ]
 stays_directory (m ∷ s) (n ∷ k ∷ p) (dir fs) es h outside =
     elim (cases_Bool (same_name m n)) [
-      | inr differs ↦ record { entries = es; there = ap (λ o. option_map_or (λ t. at t s) o (Err NoEnt)) (find_replace_other m n (without (below n fs) (k ∷ p)) fs differs) ∙ h; few = omega arith }
+      | inr disjoint ↦ record { entries = es; there = ap (λ o. option_map_or (λ t. at t s) o (Err NoEnt)) (find_replace_other m n (without (below n fs) (k ∷ p)) fs disjoint) ∙ h; few = omega arith }
       | inl same ↦
           let one : m ≡ n = one_name m n same in
           elim (cases_option (find m fs)) [
@@ -179,7 +179,7 @@ module _ (t : Tree) (p q : Path) (c : Passed p q t) (s : IsWithinLimits t) where
       ]
 
 pub received : (t moved : Tree) (p q : Path) → at t p ≡ Ok moved → may_rename t p q ≡ Ok tt → same_path p q ≡ false → IsWithinLimits t → IsWithinLimits (put (without t p) q moved)
-received t moved p q there passes differs s =
-    let c = passed p q t passes differs in
+received t moved p q there passes disjoint s =
+    let c = passed p q t passes disjoint in
     let one : c.moved ≡ moved = let both = sym c.source ∙ there in cc in
     subst (λ m. IsWithinLimits (put (without t p) q m)) one (placed t p q c s)

@@ -28,22 +28,22 @@ find_set_same : (n : List ℕ) (x : Tree) (es : Entries) → find n (set n x es)
 find_set_same n x es = find-set n n x es ∙ ap (λ b. cond b (Some x) (find n es)) (same_itself n)
 
 find_set_other : (q n : List ℕ) (x : Tree) (es : Entries) → same_name q n ≡ false → find q (set n x es) ≡ find q es
-find_set_other q n x es differs = find-set q n x es ∙ ap (λ b. cond b (Some x) (find q es)) differs
+find_set_other q n x es disjoint = find-set q n x es ∙ ap (λ b. cond b (Some x) (find q es)) disjoint
 
 -- entries in any order
 pub find_remove_other : (q n : List ℕ) (es : Entries) → same_name q n ≡ false → find q (remove n es) ≡ find q es
-find_remove_other q n no_entries differs = refl
-find_remove_other q n (entry k t es) differs =
+find_remove_other q n no_entries disjoint = refl
+find_remove_other q n (entry k t es) disjoint =
     elim (cases_Bool (same_name n k)) [
-      | inl same ↦ let other : same_name q k ≡ false = subst (λ m. same_name q m ≡ false) (one_name n k same) differs in rw (same, other) refl
-      | inr not_same ↦ rw not_same (ap (cond (same_name q k) (Some t)) (find_remove_other q n es differs))
+      | inl same ↦ let other : same_name q k ≡ false = subst (λ m. same_name q m ≡ false) (one_name n k same) disjoint in rw (same, other) refl
+      | inr not_same ↦ rw not_same (ap (cond (same_name q k) (Some t)) (find_remove_other q n es disjoint))
     ]
 
 turned : (q n : List ℕ) → same_name q n ≡ false → same_name n q ≡ false
-turned q n differs =
+turned q n disjoint =
     elim (cases_Bool (same_name n q)) [
       | inl same ↦ let one = one_name n q same in let is : same_name q n ≡ true = ap (same_name q) one ∙ same_itself q in cc
-      | inr differs_too ↦ differs_too
+      | inr disjoint_too ↦ disjoint_too
     ]
 
 pub replace_absent : (n : List ℕ) (x : Tree) (es : Entries) → find n es ≡ None → replace n x es ≡ es
@@ -51,17 +51,17 @@ replace_absent n x no_entries h = refl
 replace_absent n x (entry k t es) h =
     elim (cases_Bool (same_name n k)) [
       | inl same ↦ let no = rw same at h in cc
-      | inr differs ↦ rw differs (ap (entry k t) (replace_absent n x es (rw differs at h)))
+      | inr disjoint ↦ rw disjoint (ap (entry k t) (replace_absent n x es (rw disjoint at h)))
     ]
 
 pub find_replace_there : (q n : List ℕ) (x u : Tree) (es : Entries) → find n es ≡ Some u → find q (replace n x es) ≡ cond (same_name q n) (Some x) (find q es)
 find_replace_there q n x u es there = find-replace_any q n x es (ap is_some there)
 
 pub find_replace_other : (q n : List ℕ) (x : Tree) (es : Entries) → same_name q n ≡ false → find q (replace n x es) ≡ find q es
-find_replace_other q n x es differs =
+find_replace_other q n x es disjoint =
     elim (cases_option (find n es)) [
       | inl none ↦ ap (find q) (replace_absent n x es none)
-      | inr some ↦ find_replace_there q n x some.0 es some.1 ∙ ap (λ b. cond b (Some x) (find q es)) differs
+      | inr some ↦ find_replace_there q n x some.0 es some.1 ∙ ap (λ b. cond b (Some x) (find q es)) disjoint
     ]
 
 -- ---- two changes of entries
@@ -71,19 +71,19 @@ set-set n x y es s o k =
     (λ q. find-set q n y (set n x es) ∙ ap (cond (same_name q n) (Some y)) (find-set q n x es) ∙ sym (shadowed (same_name q n) (Some y) (Some x) (find q es)) ∙ sym (find-set q n y es))
 
 remove-set : (n m : List ℕ) (x : Tree) (es : Entries) → AreOrdered es → IsOrdered x → same_name n m ≡ false → remove n (set m x es) ≡ set m x (remove n es)
-remove-set n m x es s o differs =
+remove-set n m x es s o disjoint =
     let set_first = ordered-set m x es s o in
     same_entries (remove n (set m x es)) (set m x (remove n es)) (ordered-remove n (set m x es) set_first) (ordered-set m x (remove n es) (ordered-remove n es s) o)
-    (λ q. find-remove q n (set m x es) set_first ∙ ap (cond (same_name q n) None) (find-set q m x es) ∙ swapped (same_name q n) (same_name q m) None (Some x) (find q es) (λ a b. not_both q n m differs b a)
+    (λ q. find-remove q n (set m x es) set_first ∙ ap (cond (same_name q n) None) (find-set q m x es) ∙ swapped (same_name q n) (same_name q m) None (Some x) (find q es) (λ a b. not_both q n m disjoint b a)
     ∙ ap (cond (same_name q m) (Some x)) (sym (find-remove q n es s)) ∙ sym (find-set q m x (remove n es)))
 
 replace-set : (n m : List ℕ) (w x : Tree) (es : Entries) → AreOrdered es → IsOrdered w → IsOrdered x → same_name n m ≡ false → replace n w (set m x es) ≡ set m x (replace n w es)
-replace-set n m w x es s v o differs =
+replace-set n m w x es s v o disjoint =
     elim (cases_option (find n es)) [
-      | inl none ↦ replace_absent n w (set m x es) (find_set_other n m x es differs ∙ none) ∙ ap (set m x) (sym (replace_absent n w es none))
+      | inl none ↦ replace_absent n w (set m x es) (find_set_other n m x es disjoint ∙ none) ∙ ap (set m x) (sym (replace_absent n w es none))
       | inr some ↦
           same_entries (replace n w (set m x es)) (set m x (replace n w es)) (ordered-replace n w (set m x es) (ordered-set m x es s o) v) (ordered-set m x (replace n w es) (ordered-replace n w es s v) o)
-          (λ q. find_replace_there q n w some.0 (set m x es) (find_set_other n m x es differs ∙ some.1) ∙ ap (cond (same_name q n) (Some w)) (find-set q m x es) ∙ swapped (same_name q n) (same_name q m) (Some w) (Some x) (find q es) (λ a b. not_both q n m differs b a)
+          (λ q. find_replace_there q n w some.0 (set m x es) (find_set_other n m x es disjoint ∙ some.1) ∙ ap (cond (same_name q n) (Some w)) (find-set q m x es) ∙ swapped (same_name q n) (same_name q m) (Some w) (Some x) (find q es) (λ a b. not_both q n m disjoint b a)
           ∙ ap (cond (same_name q m) (Some x)) (sym (find_replace_there q n w some.0 es some.1)) ∙ sym (find-set q m x (replace n w es)))
     ]
 

@@ -22,7 +22,7 @@ below-replace a name t no_entries below = tt
 below-replace a name t (entry other u es) below =
     elim (cases_Bool (same_name name other)) [
       | inl same ↦ rw same below
-      | inr differs ↦ rw differs (below.0, below-replace a name t es below.1)
+      | inr disjoint ↦ rw disjoint (below.0, below-replace a name t es below.1)
     ]
 
 below-insert : (a name : List ℕ) (t : Tree) (es : Entries) → slice_cmp nat_cmp a name ≡ Less → IsBelow a es → IsBelow a (insert name t es)
@@ -41,7 +41,7 @@ ordered-replace name t no_entries s o = tt
 ordered-replace name t (entry other u es) s o =
     elim (cases_Bool (same_name name other)) [
       | inl same ↦ rw same (s.0, o, s.2)
-      | inr differs ↦ rw differs (below-replace other name t es s.0, s.1, ordered-replace name t es s.2 o)
+      | inr disjoint ↦ rw disjoint (below-replace other name t es s.0, s.1, ordered-replace name t es s.2 o)
     ]
 
 pub ordered-insert : (name : List ℕ) (t : Tree) (es : Entries) → AreOrdered es → IsOrdered t → AreOrdered (insert name t es)
@@ -62,7 +62,7 @@ ordered-find name no_entries u s h = cc
 ordered-find name (entry other v es) u s h =
     elim (cases_Bool (same_name name other)) [
       | inl same ↦ let is : Some v ≡ Some u = rw same at h in let v=u : v ≡ u = cc in subst IsOrdered v=u s.1
-      | inr differs ↦ ordered-find name es u s.2 (rw differs at h)
+      | inr disjoint ↦ ordered-find name es u s.2 (rw disjoint at h)
     ]
 
 pub ordered-put : (p : List (List ℕ)) (t x : Tree) → IsOrdered t → IsOrdered x → IsOrdered (put t p x)

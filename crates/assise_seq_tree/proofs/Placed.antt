@@ -74,7 +74,7 @@ unfolding at
 at_later n m t u es p below h =
     elim (cases_Bool (same_name m n)) [
       | inl same ↦ let none = find_below m es (subst (λ k. IsBelow k es) (sym (one_name m n same)) below) in let no = rw none at h in cc
-      | inr differs ↦ rw differs h
+      | inr disjoint ↦ rw disjoint h
     ]
 
 -- what a name leads to stands behind the names below which the entries are not
@@ -84,7 +84,7 @@ is_above n m u no_entries p below h = cc
 is_above n m u (entry k t es) p below h =
     elim (cases_Bool (same_name m k)) [
       | inl same ↦ subst (λ j. slice_cmp nat_cmp n j ≡ Less) (sym (one_name m k same)) below.0
-      | inr differs ↦ is_above n m u es p below.1 (rw differs at h)
+      | inr disjoint ↦ is_above n m u es p below.1 (rw disjoint at h)
     ]
 
 nothing_in_file : {P : Type 0} (bytes name : List ℕ) (p : Path) (u : Tree) → at (file bytes) (name ∷ p) ≡ Ok u → P
@@ -109,7 +109,7 @@ found_first n m t u es p same h = rw same at h
 
 found_later : (n m : List ℕ) (t u : Tree) (es : Entries) (p : Path) → same_name m n ≡ false → at (dir (entry n t es)) (m ∷ p) ≡ Ok u → at (dir es) (m ∷ p) ≡ Ok u
 unfolding at
-found_later n m t u es p differs h = rw differs at h
+found_later n m t u es p disjoint h = rw disjoint at h
 
 -- ---- each place is a path, and what stands there
 
@@ -154,7 +154,7 @@ mutual
             subst (λ m. Contains (places_of q (entry n t es)) (q ++ m ∷ p, u)) (sym (one_name name n same))
             (Contains-append_left ((q ++ n ∷ [], t) ∷ places_below (q ++ n ∷ []) t) (places_of q es) (q ++ n ∷ p, u)
             (here p (λ m r more. placed (q ++ n ∷ []) m r t u more) (found_first n name t u es p same h)))
-        | inr differs ↦ Contains-append_right ((q ++ n ∷ [], t) ∷ places_below (q ++ n ∷ []) t) (places_of q es) (q ++ name ∷ p, u) (placed_dir q name p es u (found_later n name t u es p differs h))
+        | inr disjoint ↦ Contains-append_right ((q ++ n ∷ [], t) ∷ places_below (q ++ n ∷ []) t) (places_of q es) (q ++ name ∷ p, u) (placed_dir q name p es u (found_later n name t u es p disjoint h))
       ]
     where
       here : (p : Path) → ((m : List ℕ) (r : Path) → at t (m ∷ r) ≡ Ok u → Contains (places_below (q ++ n ∷ []) t) ((q ++ n ∷ []) ++ m ∷ r, u)) → at t p ≡ Ok u → Contains ((q ++ n ∷ [], t) ∷ places_below (q ++ n ∷ []) t) (q ++ n ∷ p, u)

@@ -90,7 +90,7 @@ below-remove a n no_entries below = tt
 below-remove a n (entry k t es) below =
     elim (cases_Bool (same_name n k)) [
       | inl same ↦ rw same below.1
-      | inr differs ↦ rw differs (below.0, below-remove a n es below.1)
+      | inr disjoint ↦ rw disjoint (below.0, below-remove a n es below.1)
     ]
 
 pub ordered-remove : (n : List ℕ) (es : Entries) → AreOrdered es → AreOrdered (remove n es)
@@ -98,7 +98,7 @@ ordered-remove n no_entries s = tt
 ordered-remove n (entry k t es) s =
     elim (cases_Bool (same_name n k)) [
       | inl same ↦ rw same s.2
-      | inr differs ↦ rw differs (below-remove k n es s.0, s.1, ordered-remove n es s.2)
+      | inr disjoint ↦ rw disjoint (below-remove k n es s.0, s.1, ordered-remove n es s.2)
     ]
 
 pub ordered-set : (n : List ℕ) (x : Tree) (es : Entries) → AreOrdered es → IsOrdered x → AreOrdered (set n x es)

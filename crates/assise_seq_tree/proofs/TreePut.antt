@@ -13,7 +13,7 @@ find-replace name t u no_entries h = cc
 find-replace name t u (entry other v es) h =
     elim (cases_Bool (same_name name other)) [
       | inl same ↦ rw (same, same)
-      | inr differs ↦ rw (differs, differs) (find-replace name t u es (rw differs at h))
+      | inr disjoint ↦ rw (disjoint, disjoint) (find-replace name t u es (rw disjoint at h))
     ]
 
 pub replace-replace : (name : List ℕ) (t u : Tree) (es : Entries) → replace name u (replace name t es) ≡ replace name u es
@@ -21,7 +21,7 @@ replace-replace name t u no_entries = refl
 replace-replace name t u (entry other v es) =
     elim (cases_Bool (same_name name other)) [
       | inl same ↦ rw (same, same)
-      | inr differs ↦ rw (differs, differs, replace-replace name t u es)
+      | inr disjoint ↦ rw (disjoint, disjoint, replace-replace name t u es)
     ]
 
 pub replace-self : (name : List ℕ) (t : Tree) (es : Entries) → find name es ≡ Some t → replace name t es ≡ es
@@ -29,7 +29,7 @@ replace-self name t no_entries h = refl
 replace-self name t (entry other v es) h =
     elim (cases_Bool (same_name name other)) [
       | inl same ↦ let is : Some v ≡ Some t = rw same at h in rw same (cc)
-      | inr differs ↦ rw differs (ap (entry other v) (replace-self name t es (rw differs at h)))
+      | inr disjoint ↦ rw disjoint (ap (entry other v) (replace-self name t es (rw disjoint at h)))
     ]
 
 -- one step of `put` where the entry is there
