@@ -16,6 +16,7 @@ use Rattle.assise_rounds.specs.Traces.{IsEventTrace, Told}
 use Rattle.assise_console.specs.OneEvent.{IsOne, IsOneAt}
 use Rattle.assise_console.specs.Lines.{Prints}
 use Rattle.assise_console.specs.State.{ConsoleState, Stocks, begun_console}
+use Rattle.assise_link.specs.Kinds.{Kind}
 use Rattle.assise_console.specs.Steps.{Calls, Carries, IsVerdict, Returns, Serves, SetsHot, SetsLink, is_carried, is_verdict, is_linked, is_made, is_nowhere, is_out, is_refused, lacks_room}
 use Rattle.assise_rounds.proofs.ReturnTrace.{return_trace}
 use Rattle.assise_rounds.proofs.Traces.{trace_legal, trace_of, trace_then, trace_told, event_trace, tries_trace}
@@ -28,7 +29,7 @@ one_trace e a m es m' h = event_trace e h.answer m es m' h.event
 told_trace : (what : ℕ → ClusterEvent) (n : ℕ) (a : Response) (m : Machine) (es : Told) (m' : Machine) → IsOneAt what n a m es m' → IsEventTrace m es m'
 told_trace what n a m es m' h = event_trace (what n) h.answer m es m' h.event
 
-calls_trace : (manual : Bool) (links : List Bool) (turns c : ℕ) (op : Op) (a : Response) (m : Machine) (es : Told) (m' : Machine) → Calls manual links turns c op a m es m' → IsEventTrace m es m'
+calls_trace : (manual : Bool) (links : List Kind) (turns c : ℕ) (op : Op) (a : Response) (m : Machine) (es : Told) (m' : Machine) → Calls manual links turns c op a m es m' → IsEventTrace m es m'
 calls_trace true links turns c op a m es m' h = one_trace (try_call c op) a m es m' h
 calls_trace false links turns c op a m es m' h = tries_trace turns c op h.result m es m' h.tries
 

@@ -4,7 +4,7 @@ use Rattle.std.proofs.lemmas.Bool.{cases_lt}
 use Rattle.assise_names.specs.declared.refusal.Refusal.TheVariants.{BadNode}
 use Rattle.assise_names.specs.declared.limits.TheConstants.{MOST_NODES}
 use Rattle.assise_fault_script.specs.declared.command.LinkKind.{LinkKind}
-use Rattle.assise_link.specs.TestLinks.{is_perfect}
+use Rattle.assise_link.specs.TestLinks.{kind_of_link}
 use Rattle.assise_link.specs.declared.test_link.TestLink.{TestLink}
 use Rattle.assise_model_events.specs.Faults.{node_fault}
 use Rattle.assise_model_events.specs.Machine.{Machine}
@@ -13,7 +13,7 @@ use Rattle.assise_machine.specs.declared.cluster.ClusterOf.{ClusterOf}
 use Rattle.assise_machine.proofs.Few.{few_nodes}
 use Rattle.assise_console.specs.State.{ConsoleState}
 use Rattle.assise_console.specs.declared.response.Response.TheVariants.{Linked, Refused}
-use Rattle.assise_console.specs.Steps.{SetsLink, is_linked, is_nowhere, is_perfect_kind}
+use Rattle.assise_console.specs.Steps.{SetsLink, is_linked, is_nowhere, link_kind}
 use Rattle.assise_console.proofs.Numbers.{no_node}
 use Rattle.assise_console.proofs.OneCommand.{with_links}
 
@@ -36,12 +36,12 @@ map_set f [] k x = refl
 map_set f (y ∷ xs) zero x = refl
 map_set f (y ∷ xs) (suc k) x = ap (λ ys. f y ∷ ys) (map_set f xs k x)
 
-pub sets_link : (s : ConsoleState) (n k : ℕ) (kind : LinkKind) (links : List TestLink) (l : TestLink) → k ≡ n → (node_fault s.machine k ≡ Some BadNode → ⊥) → s.links ≡ map is_perfect links → is_perfect l ≡ is_perfect_kind kind
-    → SetsLink s n kind (Linked k) (with_links s s.machine (map is_perfect (slice_set links (k - 1) l)))
-sets_link s n k kind links l same there seen perfect =
-    let now : map is_perfect (slice_set links (k - 1) l) ≡ slice_set s.links (k - 1) (is_perfect_kind kind) =
-    map_set is_perfect links (k - 1) l ∙ (λ i. slice_set (sym seen i) (k - 1) (perfect i)) in
-    subst (λ j. SetsLink s j kind (Linked k) (with_links s s.machine (map is_perfect (slice_set links (k - 1) l)))) same
+pub sets_link : (s : ConsoleState) (n k : ℕ) (kind : LinkKind) (links : List TestLink) (l : TestLink) → k ≡ n → (node_fault s.machine k ≡ Some BadNode → ⊥) → s.links ≡ map kind_of_link links → kind_of_link l ≡ link_kind kind
+    → SetsLink s n kind (Linked k) (with_links s s.machine (map kind_of_link (slice_set links (k - 1) l)))
+sets_link s n k kind links l same there seen is =
+    let now : map kind_of_link (slice_set links (k - 1) l) ≡ slice_set s.links (k - 1) (link_kind kind) =
+    map_set kind_of_link links (k - 1) l ∙ (λ i. slice_set (sym seen i) (k - 1) (is i)) in
+    subst (λ j. SetsLink s j kind (Linked k) (with_links s s.machine (map kind_of_link (slice_set links (k - 1) l)))) same
     (is_linked there refl (ap (with_links s s.machine) now))
 
 pub links_nowhere : (s : ConsoleState) (n : ℕ) (kind : LinkKind) → length s.machine.members.nodes < n → SetsLink s n kind (Refused BadNode) s

@@ -20,6 +20,7 @@ use Rattle.assise_machine.specs.Running.{IsServed, happens, stock_after}
 use Rattle.assise_console.specs.declared.response.Response.{Response}
 use Rattle.assise_console.specs.declared.response.Response.TheVariants.{Quiet, Carried, Refused, Tree as Shown}
 use Rattle.assise_rounds.specs.Traces.{Told}
+use Rattle.assise_link.specs.Kinds.{Kind}
 use Rattle.assise_rounds.specs.NodeLinks.{FaithfulAt}
 use Rattle.assise_rounds.specs.Returning.{ComesBack, is_refused as comes_not}
 use Rattle.assise_rounds.specs.Rounds.{Replicates}
@@ -31,11 +32,11 @@ use Rattle.assise_console.proofs.Numbers.{comes_nowhere, crashes_nobody, digests
 
 -- ---- links
 
--- the link is as faithful as it was
-abbrev pub with_links : ConsoleState → Machine → List Bool → ConsoleState
+-- the link is of the kind that it was
+abbrev pub with_links : ConsoleState → Machine → List Kind → ConsoleState
 with_links s m links = record { machine = m; stock = s.stock; turns = s.turns; manual = s.manual; links = links }
 
-changes_links : (Does : Machine → Told → Machine → Type 0) (s : ConsoleState) (m' : Machine) (links : List Bool) → links ≡ s.links → (es : Told) × Does s.machine es m' → (es : Told) × Changes Does s es (with_links s m' links)
+changes_links : (Does : Machine → Told → Machine → Type 0) (s : ConsoleState) (m' : Machine) (links : List Kind) → links ≡ s.links → (es : Told) × Does s.machine es m' → (es : Told) × Changes Does s es (with_links s m' links)
 changes_links Does s m' links same (es, h) = (es, record { events = h; stays = ap (with_links s m') same })
 
 -- ---- an open
@@ -88,7 +89,7 @@ calls_once s n k op a e m' same manual tells h =
       },
     )
 
-pub calls_often : (s : ConsoleState) (n k : ℕ) (op : Op) (a : Response) (r : Result Reply Refusal) (m' : Machine) (links : List Bool) → k ≡ n → s.manual ≡ false → a ≡ call_answer r → links ≡ s.links → (es : Told) × TriesOften (FaithfulAt s.links) s.turns k op r s.machine es m'
+pub calls_often : (s : ConsoleState) (n k : ℕ) (op : Op) (a : Response) (r : Result Reply Refusal) (m' : Machine) (links : List Kind) → k ≡ n → s.manual ≡ false → a ≡ call_answer r → links ≡ s.links → (es : Told) × TriesOften (FaithfulAt s.links) s.turns k op r s.machine es m'
     → (es : Told) × Changes (Calls s.manual s.links s.turns n op a) s es (with_links s m' links)
 calls_often s n k op a r m' links same manual tells stay (es, h) =
     let often : CallsOften s.links s.turns n op a s.machine es m' = record { result = r; answer = tells; tries = subst (λ j. TriesOften (FaithfulAt s.links) s.turns j op r s.machine es m') same h } in
@@ -127,13 +128,13 @@ calls_none s n op far = either s.manual refl
 replicates_less : (F G : Type 0) → (F → G) → (n count : ℕ) (m : Machine) (es : Told) (m' : Machine) → Replicates G n count m es m' → Replicates F n count m es m'
 replicates_less F G to n count m es m' h = record { carried = h.carried; same = λ f. h.same (to f); counts = h.counts; told = h.told; happen = h.happen }
 
-pub carries_some : (s : ConsoleState) (n k count : ℕ) (m' : Machine) (G : Type 0) (links : List Bool) → k ≡ n → (FaithfulAt s.links k → G) → links ≡ s.links → (es : Told) × Replicates G k count s.machine es m'
+pub carries_some : (s : ConsoleState) (n k count : ℕ) (m' : Machine) (G : Type 0) (links : List Kind) → k ≡ n → (FaithfulAt s.links k → G) → links ≡ s.links → (es : Told) × Replicates G k count s.machine es m'
     → (es : Told) × Changes (Carries (FaithfulAt s.links n) n (Carried count)) s es (with_links s m' links)
 carries_some s n k count m' G links same to stay (es, h) =
     let here : Carries (FaithfulAt s.links k) k (Carried count) s.machine es m' = is_carried count refl (replicates_less (FaithfulAt s.links k) G to k count s.machine es m' h) in
     changes_links (Carries (FaithfulAt s.links n) n (Carried count)) s m' links stay (es, subst (λ j. Carries (FaithfulAt s.links j) j (Carried count) s.machine es m') same here)
 
-pub carries_refused : (s : ConsoleState) (n k : ℕ) (r : Refusal) (m' : Machine) (links : List Bool) → k ≡ n → links ≡ s.links → Sending s.machine k (refused r) m'
+pub carries_refused : (s : ConsoleState) (n k : ℕ) (r : Refusal) (m' : Machine) (links : List Kind) → k ≡ n → links ≡ s.links → Sending s.machine k (refused r) m'
     → (es : Told) × Changes (Carries (FaithfulAt s.links n) n (Refused r)) s es (with_links s m' links)
 carries_refused s n k r m' links same stay h =
     changes_links (Carries (FaithfulAt s.links n) n (Refused r)) s m' links stay (_, is_refused r refl record { told = refl; happens = subst (λ j. Sending s.machine j (refused r) m') same h })

@@ -1,8 +1,9 @@
 -- What a console is seen as.
-use Rattle.std.specs.Prelude.{ℕ, Bool, true, false, List, replicate}
+use Rattle.std.specs.Prelude.{ℕ, Bool, false, List, replicate}
 use Rattle.assise_names.specs.declared.limits.TheConstants.{MOST_NODES}
 use Rattle.assise_fault_script.specs.declared.command.RevokerKind.{RevokerKind}
 use Rattle.assise_fault_script.specs.declared.command.RevokerKind.TheVariants.{Least, Whole, Eights}
+use Rattle.assise_link.specs.Kinds.{Kind, perfect}
 use Rattle.assise_model_events.specs.Machine.{Machine, begun_as}
 
 -- how many revokers are left of each kind
@@ -29,12 +30,12 @@ pub record ConsoleState : Type 0 where
   pub turns : ℕ
   -- a call is tried once, and no round is made
   pub manual : Bool
-  -- of each node, from node 1 on: its link gives what it is handed, and nothing else
-  pub links : List Bool
+  -- of which kind each node's link is, from node 1 on
+  pub links : List Kind
 
 -- the links of all nodes that there may be, all perfect
-abbrev pub perfect_links : List Bool
-perfect_links = replicate MOST_NODES true
+abbrev pub perfect_links : List Kind
+perfect_links = replicate MOST_NODES perfect
 
 -- a cluster in which nothing happened
 abbrev pub begun_console : ℕ → ℕ → Stocks → ℕ → ConsoleState

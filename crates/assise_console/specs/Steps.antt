@@ -23,6 +23,7 @@ use Rattle.assise_console.specs.declared.response.Response.TheVariants.{Quiet, R
 use Rattle.assise_console.specs.OneEvent.{IsOne, IsOneAt, Tells}
 use Rattle.assise_console.specs.State.{ConsoleState, stock_of, with_machine, with_stock}
 use Rattle.assise_rounds.specs.Traces.{IsEvent, Nothing, Told}
+use Rattle.assise_link.specs.Kinds.{Kind, cut, delay, fault, lose, perfect, repeat}
 use Rattle.assise_rounds.specs.NodeLinks.{FaithfulAt}
 use Rattle.assise_rounds.specs.Returning.{ComesBack}
 use Rattle.assise_rounds.specs.Rounds.{Replicates}
@@ -51,13 +52,13 @@ call_answer (Ok reply) = Replied reply
 call_answer (Err refusal) = Refused refusal
 
 -- a call is tried as often as it is awaited, which the answer tells
-pub record CallsOften (links : List Bool) (turns c : ℕ) (op : Op) (a : answers.Response) (m : Machine) (es : Told) (m' : Machine) : Type 0 where
+pub record CallsOften (links : List Kind) (turns c : ℕ) (op : Op) (a : answers.Response) (m : Machine) (es : Told) (m' : Machine) : Type 0 where
   pub result : Result Reply Refusal
   pub answer : a ≡ call_answer result
   pub tries : TriesOften (FaithfulAt links) turns c op result m es m'
 
 -- a call is tried once after `manual`, and else as often as it is awaited
-abbrev pub Calls : Bool → (links : List Bool) → (turns c : ℕ) → Op → answers.Response → Machine → Told → Machine → Type 0
+abbrev pub Calls : Bool → (links : List Kind) → (turns c : ℕ) → Op → answers.Response → Machine → Told → Machine → Type 0
 Calls true links turns c op a m es m' = IsOne (try_call c op) a m es m'
 Calls false links turns c op a m es m' = CallsOften links turns c op a m es m'
 
@@ -73,18 +74,18 @@ pub data SetsHot (n capacity : ℕ) (a : answers.Response) (m : Machine) (es : T
 
 -- ---- links
 
--- a link of this kind gives what it is handed, and nothing else
-abbrev pub is_perfect_kind : LinkKind → Bool
-is_perfect_kind Perfect = true
-is_perfect_kind Lose = false
-is_perfect_kind Repeat = false
-is_perfect_kind Delay = false
-is_perfect_kind (Cut most) = false
-is_perfect_kind Fault = false
+-- the kind that a script names
+abbrev pub link_kind : LinkKind → Kind
+link_kind Perfect = perfect
+link_kind Lose = lose
+link_kind Repeat = repeat
+link_kind Delay = delay
+link_kind (Cut most) = cut most
+link_kind Fault = fault
 
 -- node n's link is a new one of this kind, where there is such a node
 pub data SetsLink (s : ConsoleState) (n : ℕ) (kind : LinkKind) (a : answers.Response) (t : ConsoleState) : Type 0 where
-  is_linked : (node_fault s.machine n ≡ Some BadNode → ⊥) → a ≡ Linked n → t ≡ record s { links = slice_set s.links (n - 1) (is_perfect_kind kind) } → SetsLink s n kind a t
+  is_linked : (node_fault s.machine n ≡ Some BadNode → ⊥) → a ≡ Linked n → t ≡ record s { links = slice_set s.links (n - 1) (link_kind kind) } → SetsLink s n kind a t
   is_nowhere : node_fault s.machine n ≡ Some BadNode → a ≡ Refused BadNode → t ≡ s → SetsLink s n kind a t
 
 -- ---- returns

@@ -8,9 +8,9 @@ ghost use Rattle.assise_console.specs.Consoles.{console_seen, stocks};
 ghost use Rattle.assise_rounds.specs.Traces.{Told};
 ghost use Rattle.assise_console.specs.State.{begun_console, perfect_links};
 ghost use Rattle.assise_console.specs.Stored.{Stores, StoresLast};
-ghost use Rattle.assise_console.specs.Steps.{Calls, Carries, Changes, IsVerdict, Does, OpensClient, Returns, SetsHot, SetsLink, Shows, call_answer, is_perfect_kind, return_answer};
+ghost use Rattle.assise_console.specs.Steps.{Calls, Carries, Changes, IsVerdict, Does, OpensClient, Returns, SetsHot, SetsLink, Shows, call_answer, link_kind, return_answer};
 ghost use Rattle.assise_console.specs.OneEvent.{IsOne, IsOneAt, Tells};
-ghost use Rattle.assise_link.specs.TestLinks.{is_perfect};
+ghost use Rattle.assise_link.specs.TestLinks.{IsUnusedLink, kind_of_link};
 ghost use Rattle.assise_model_events.specs.Faults.{node_fault};
 ghost use Rattle.assise_names.specs.declared.refusal.Refusal.TheVariants.{BadNode};
 ghost use Rattle.assise_names.specs.declared.limits.TheConstants.{MOST_NODES};
@@ -310,14 +310,14 @@ impl<C: Revokes + Drop> ConsoleOf<C> {
 
 /// A link for each node that there may be, all perfect.
 fn perfect_links() -> [TestLink; MOST_NODES as usize]
-    ensures { map is_perfect result ≡ perfect_links }
+    ensures { map kind_of_link result ≡ perfect_links }
 {
     array::from_fn(|_| TestLink::perfect())
 }
 
 /// A new link of a kind.
 fn link_of(kind: LinkKind) -> TestLink
-    ensures { is_perfect result ≡ is_perfect_kind kind }
+    ensures { IsUnusedLink (link_kind kind) result }
 {
     match kind {
         LinkKind::Perfect => TestLink::perfect(),

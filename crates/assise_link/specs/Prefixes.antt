@@ -1,13 +1,12 @@
 -- What comes over a link of each kind is a prefix of what it was handed, or keeps, and over a perfect one what it was handed: the laws
 -- `prefixes` and `same` of a link, case by case.
-use Rattle.std.proofs.Common.{◌≡◌, ◌∙◌, ℕ, true, false, List, [], ◌∷◌, ◌++◌, Option, None, Some, take, drop, refl, ap, sym, inl, inr, arith, append-nil}
+use Rattle.std.proofs.Common.{◌≡◌, ◌∙◌, ℕ, List, [], ◌∷◌, ◌++◌, Option, None, Some, take, drop, refl, ap, subst, sym, inl, inr, arith, append-nil}
 use Rattle.std.proofs.lemmas.List.{take-append-drop}
 use Rattle.assise_link.specs.Kinds.{Carries, IsDone, IsFault, Kind, LinkState, cut, delay, fault, lose, perfect, repeat, is_counted, is_done, is_past, kept_answer, lacks_memory}
 use Rattle.assise_link.specs.Links.{IsPrefixOnLink, LinkAnswer, failed, gave, nothing}
-use Rattle.assise_link.specs.TestLinks.{is_perfect, kept_by, kept_lists, kind_of_link, state_of}
+use Rattle.assise_link.specs.TestLinks.{kept_by, kept_lists, kind_of_link, state_of}
 use Rattle.assise_link.specs.declared.link.LinkFault.{LinkFault}
 use Rattle.assise_link.specs.declared.test_link.TestLink.{TestLink}
-use Rattle.assise_link.specs.declared.test_link.TestLink.TheVariants.{Perfect, Lose, Repeat, Delay, Cut, Fault}
 
 gave_same : (came bytes : List ℕ) → gave came ≡ gave bytes → came ≡ bytes
 gave_same came bytes is = cc
@@ -55,16 +54,23 @@ prefix_by fault bytes came s t is = absurd (fault_gives _ came s t is)
 pub prefix_by_kind : (l : TestLink) (bytes came : List ℕ) (t : LinkState) → Carries (kind_of_link l) bytes (state_of l) (gave came) t → IsPrefixOnLink bytes (kept_lists (kept_by l)) came
 prefix_by_kind l bytes came t is = prefix_by (kind_of_link l) bytes came (state_of l) t is
 
-pub not_true : false ≡ true → ⊥
-not_true is = cc
+pub not_lose : lose ≡ perfect → ⊥
+not_lose is = cc
+
+pub not_repeat : repeat ≡ perfect → ⊥
+not_repeat is = cc
+
+pub not_delay : delay ≡ perfect → ⊥
+not_delay is = cc
+
+pub not_cut : (most : ℕ) → cut most ≡ perfect → ⊥
+not_cut most is = cc
+
+pub not_fault : fault ≡ perfect → ⊥
+not_fault is = cc
 
 pub same_by_perfect : (bytes came : List ℕ) (s t : LinkState) → Carries perfect bytes s (gave came) t → came ≡ bytes
 same_by_perfect bytes came s t is = gave_same came bytes (done_gives _ _ came s t is)
 
-pub same_by_kind : (l : TestLink) → is_perfect l ≡ true → (bytes came : List ℕ) (t : LinkState) → Carries (kind_of_link l) bytes (state_of l) (gave came) t → came ≡ bytes
-same_by_kind (Perfect l) perfect_one bytes came t is = same_by_perfect bytes came _ t is
-same_by_kind (Lose l) perfect_one bytes came t is = absurd (not_nothing came is.0)
-same_by_kind (Repeat l) perfect_one bytes came t is = absurd (not_true perfect_one)
-same_by_kind (Delay l) perfect_one bytes came t is = absurd (not_true perfect_one)
-same_by_kind (Cut l) perfect_one bytes came t is = absurd (not_true perfect_one)
-same_by_kind (Fault l) perfect_one bytes came t is = absurd (fault_gives _ came _ t is)
+pub same_by_kind : (l : TestLink) → kind_of_link l ≡ perfect → (bytes came : List ℕ) (t : LinkState) → Carries (kind_of_link l) bytes (state_of l) (gave came) t → came ≡ bytes
+same_by_kind l is_perfect bytes came t is = same_by_perfect bytes came (state_of l) t (subst (λ k. Carries k bytes (state_of l) (gave came) t) is_perfect is)

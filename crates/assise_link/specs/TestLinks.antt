@@ -1,6 +1,6 @@
 -- What a link of tests keeps, and of which kind it is.
 -- van Renesse and Schneider, chain replication (OSDI 2004), section 2 (the channels between servers).
-use Rattle.std.specs.Prelude.{◌≡◌, ℕ, List, [], ◌∷◌, Bool, true, false, Option, None, Some}
+use Rattle.std.specs.Prelude.{◌≡◌, ℕ, List, [], ◌∷◌, Option, None, Some}
 use Rattle.std.specs.Global.{Vec}
 use Rattle.assise_link.specs.Kinds.{Kind, LinkState, cut, delay, fault, lose, perfect, repeat}
 use Rattle.assise_link.specs.declared.test_link.TestLink.{TestLink}
@@ -43,15 +43,6 @@ kind_of_link (Repeat l) = repeat
 kind_of_link (Delay l) = delay
 kind_of_link (Cut l) = cut l.most
 kind_of_link (Fault l) = fault
-
--- it does nothing but carry
-abbrev pub is_perfect : TestLink → Bool
-is_perfect (Perfect l) = true
-is_perfect (Lose l) = false
-is_perfect (Repeat l) = false
-is_perfect (Delay l) = false
-is_perfect (Cut l) = false
-is_perfect (Fault l) = false
 
 -- a link of this kind that carried nothing
 pub record IsUnusedLink (k : Kind) (l : TestLink) : Type 0 where

@@ -1,5 +1,6 @@
 // The way of a frame over a link.
-ghost use Rattle.std.specs.Prelude.{◌≡◌, ◌⊎◌, ◌≤◌, IfNone, IfSome, true};
+ghost use Rattle.std.specs.Prelude.{◌≡◌, ◌⊎◌, ◌≤◌, IfNone, IfSome};
+ghost use Rattle.assise_link.specs.Kinds.{perfect};
 ghost use Rattle.assise_link.specs.Links.{ComesOver, LinkAnswer};
 ghost use Rattle.assise_record.specs.Spelling.{spelling};
 
@@ -17,10 +18,10 @@ pub fn carry_frame<L: Link>(alloc: Global, link: &mut L, newest: u8, frame: &Fra
     requires known_version { newest ≤ 2 }
     ensures came { IfSome result (λ came. ComesOver newest
         (λ bytes a. L.carries link.old bytes a link.new) frame.now came) }
-    ensures same { L.faithful link.old ≡ true → IfSome result (λ came. came ≡ frame.now) }
+    ensures same { L.kind link.old ≡ perfect → IfSome result (λ came. came ≡ frame.now) }
     ensures nothing { IfNone result ((link.new ≡ link.old) ⊎
         ((a : LinkAnswer) × L.carries link.old (spelling frame.now) a link.new)) }
-    ensures stays { L.faithful link.new ≡ L.faithful link.old }
+    ensures stays { L.kind link.new ≡ L.kind link.old }
 {
     let mut bytes = Vec::new(alloc);
     let Ok(()) = encode(frame, &mut bytes) else {

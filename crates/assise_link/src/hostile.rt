@@ -11,9 +11,9 @@ use std::mem;
 pub struct LosingLink;
 
 impl Link for LosingLink {
-    ghost use Rattle.std.specs.Prelude.{[], false, None};
+    ghost use Rattle.std.specs.Prelude.{[], None};
     ghost use Rattle.assise_link.specs.Kinds.{Carries, lose};
-    ghost use Rattle.assise_link.specs.Prefixes.{not_true, prefix_by};
+    ghost use Rattle.assise_link.specs.Prefixes.{not_lose, prefix_by};
 
     ghost stored = { λ _. [] };
 
@@ -21,7 +21,7 @@ impl Link for LosingLink {
 
     ghost carries = { λ l bytes a m. Carries lose bytes (record { kept = None; faults = 0 }) a (record { kept = None; faults = 0 }) };
 
-    ghost faithful = { λ _. false };
+    ghost kind = { λ _. lose };
 
     fn carry(&mut self, _alloc: Global, _bytes: &[u8]) -> Result<Option<Vec<u8>>, LinkFault> {
         Ok(None)
@@ -33,7 +33,7 @@ impl Link for LosingLink {
 
     ghost prefixes = { λ l m bytes came is. prefix_by lose bytes came _ _ is };
 
-    ghost same = { λ _ _ is. absurd (not_true is) };
+    ghost same = { λ _ _ is. absurd (not_lose is) };
 }
 
 /// A link that answers what it is handed at odd carries, counted from 1, and at even ones what the carry before was handed.
@@ -57,10 +57,9 @@ impl RepeatingLink {
 }
 
 impl Link for RepeatingLink {
-    ghost use Rattle.std.specs.Prelude.{false};
     ghost use Rattle.assise_link.specs.Kinds.{Carries, repeat};
     ghost use Rattle.assise_link.specs.TestLinks.{kept_items, kept_lists};
-    ghost use Rattle.assise_link.specs.Prefixes.{not_true, prefix_by};
+    ghost use Rattle.assise_link.specs.Prefixes.{not_repeat, prefix_by};
 
     ghost stored = { λ l. kept_lists (kept_items l.before) };
 
@@ -68,7 +67,7 @@ impl Link for RepeatingLink {
 
     ghost carries = { λ l bytes a m. Carries repeat bytes (record { kept = kept_items l.before; faults = l.faults.count }) a (record { kept = kept_items m.before; faults = m.faults.count }) };
 
-    ghost faithful = { λ _. false };
+    ghost kind = { λ _. repeat };
 
     fn carry(&mut self, alloc: Global, bytes: &[u8]) -> Result<Option<Vec<u8>>, LinkFault> {
         if let Some(before) = self.before.take() {
@@ -87,7 +86,7 @@ impl Link for RepeatingLink {
 
     ghost prefixes = { λ l m bytes came is. prefix_by repeat bytes came _ _ is };
 
-    ghost same = { λ _ _ is. absurd (not_true is) };
+    ghost same = { λ _ _ is. absurd (not_repeat is) };
 }
 
 /// A link that answers what the carry before was handed, and nothing the first time.
@@ -111,10 +110,9 @@ impl DelayingLink {
 }
 
 impl Link for DelayingLink {
-    ghost use Rattle.std.specs.Prelude.{false};
     ghost use Rattle.assise_link.specs.Kinds.{Carries, delay};
     ghost use Rattle.assise_link.specs.TestLinks.{kept_items, kept_lists};
-    ghost use Rattle.assise_link.specs.Prefixes.{not_true, prefix_by};
+    ghost use Rattle.assise_link.specs.Prefixes.{not_delay, prefix_by};
 
     ghost stored = { λ l. kept_lists (kept_items l.before) };
 
@@ -122,7 +120,7 @@ impl Link for DelayingLink {
 
     ghost carries = { λ l bytes a m. Carries delay bytes (record { kept = kept_items l.before; faults = l.faults.count }) a (record { kept = kept_items m.before; faults = m.faults.count }) };
 
-    ghost faithful = { λ _. false };
+    ghost kind = { λ _. delay };
 
     fn carry(&mut self, alloc: Global, bytes: &[u8]) -> Result<Option<Vec<u8>>, LinkFault> {
         let Some(kept) = copied(alloc, bytes) else {
@@ -137,7 +135,7 @@ impl Link for DelayingLink {
 
     ghost prefixes = { λ l m bytes came is. prefix_by delay bytes came _ _ is };
 
-    ghost same = { λ _ _ is. absurd (not_true is) };
+    ghost same = { λ _ _ is. absurd (not_delay is) };
 }
 
 /// A link that answers the first bytes of what it is handed, so many at most.
@@ -161,9 +159,9 @@ impl CuttingLink {
 }
 
 impl Link for CuttingLink {
-    ghost use Rattle.std.specs.Prelude.{◌≡◌, [], false, None};
+    ghost use Rattle.std.specs.Prelude.{◌≡◌, [], None};
     ghost use Rattle.assise_link.specs.Kinds.{Carries, cut};
-    ghost use Rattle.assise_link.specs.Prefixes.{not_true, prefix_by};
+    ghost use Rattle.assise_link.specs.Prefixes.{not_cut, prefix_by};
 
     ghost stored = { λ _. [] };
 
@@ -171,7 +169,7 @@ impl Link for CuttingLink {
 
     ghost carries = { λ l bytes a m. (m.most ≡ l.most) × Carries (cut l.most) bytes (record { kept = None; faults = l.faults.count }) a (record { kept = None; faults = m.faults.count }) };
 
-    ghost faithful = { λ _. false };
+    ghost kind = { λ l. cut l.most };
 
     fn carry(&mut self, alloc: Global, bytes: &[u8]) -> Result<Option<Vec<u8>>, LinkFault> {
         let (prefix, _) = bytes.split_at(self.most.min(bytes.len()));
@@ -187,7 +185,7 @@ impl Link for CuttingLink {
 
     ghost prefixes = { λ l m bytes came is. prefix_by (cut l.most) bytes came _ _ is.1 };
 
-    ghost same = { λ _ _ is. absurd (not_true is) };
+    ghost same = { λ l _ is. absurd (not_cut l.most is) };
 }
 
 /// A link that has a fault at each carry.
@@ -208,9 +206,9 @@ impl FaultyLink {
 }
 
 impl Link for FaultyLink {
-    ghost use Rattle.std.specs.Prelude.{[], false, None};
+    ghost use Rattle.std.specs.Prelude.{[], None};
     ghost use Rattle.assise_link.specs.Kinds.{Carries, fault};
-    ghost use Rattle.assise_link.specs.Prefixes.{not_true, prefix_by};
+    ghost use Rattle.assise_link.specs.Prefixes.{not_fault, prefix_by};
 
     ghost stored = { λ _. [] };
 
@@ -218,7 +216,7 @@ impl Link for FaultyLink {
 
     ghost carries = { λ l bytes a m. Carries fault bytes (record { kept = None; faults = l.faults.count }) a (record { kept = None; faults = m.faults.count }) };
 
-    ghost faithful = { λ _. false };
+    ghost kind = { λ _. fault };
 
     fn carry(&mut self, _alloc: Global, _bytes: &[u8]) -> Result<Option<Vec<u8>>, LinkFault> {
         self.faults.add(LinkFault::Device)
@@ -230,5 +228,5 @@ impl Link for FaultyLink {
 
     ghost prefixes = { λ l m bytes came is. prefix_by fault bytes came _ _ is };
 
-    ghost same = { λ _ _ is. absurd (not_true is) };
+    ghost same = { λ _ _ is. absurd (not_fault is) };
 }

@@ -1,5 +1,6 @@
 // What carries bytes from node to node.
-ghost use Rattle.std.specs.Prelude.{◌≡◌, ◌+◌, ◌⊎◌, ℕ, Bool, Contains, IfSome, List, OnErr, OnOk, true};
+ghost use Rattle.std.specs.Prelude.{◌≡◌, ◌+◌, ◌⊎◌, ℕ, Contains, IfSome, List, OnErr, OnOk};
+ghost use Rattle.assise_link.specs.Kinds.{Kind, perfect};
 ghost use Rattle.assise_link.specs.Links.{IsFaithful, IsPrefixOnLink, LinkAnswer, gave, link_answer};
 
 use crate::faults::Faults;
@@ -35,8 +36,8 @@ pub trait Link: Send {
     /// What a carry does: a link, the bytes that it is handed, what is answered, and the link as it is then.
     ghost carries: { Self → List ℕ → LinkAnswer → Self → Type 0 };
 
-    /// It gives what it is handed and nothing else. No carry changes that.
-    ghost faithful: { Self → Bool };
+    /// Its kind. No carry changes that.
+    ghost kind: { Self → Kind };
 
     /// Carries bytes, and answers what comes at the other end; `None` is a loss or a delay.
     ///
@@ -46,7 +47,7 @@ pub trait Link: Send {
         ensures carries { carries self.old bytes.now (link_answer result) self.new }
         ensures stores { (x : List ℕ) → Contains (stored self.new) x
             → (x ≡ bytes.now) ⊎ Contains (stored self.old) x }
-        ensures stays { faithful self.new ≡ faithful self.old }
+        ensures stays { kind self.new ≡ kind self.old }
         ensures fault { OnErr result (count self.new ≡ count self.old + 1) }
         ensures no_fault { OnOk result (count self.new ≡ count self.old) };
 
@@ -57,7 +58,7 @@ pub trait Link: Send {
     ghost prefixes: { (l m : Self) (bytes came : List ℕ) → carries l bytes (gave came) m
         → IsPrefixOnLink bytes (stored l) came };
 
-    ghost same: { (l m : Self) → faithful l ≡ true → IsFaithful (λ bytes a. carries l bytes a m) };
+    ghost same: { (l m : Self) → kind l ≡ perfect → IsFaithful (λ bytes a. carries l bytes a m) };
 }
 
 /// A link that answers what it is handed, and stores nothing.
@@ -78,7 +79,7 @@ impl PerfectLink {
 }
 
 impl Link for PerfectLink {
-    ghost use Rattle.std.specs.Prelude.{[], true, None};
+    ghost use Rattle.std.specs.Prelude.{[], None};
     ghost use Rattle.assise_link.specs.Kinds.{Carries, perfect};
     ghost use Rattle.assise_link.specs.Prefixes.{prefix_by, same_by_perfect};
 
@@ -88,7 +89,7 @@ impl Link for PerfectLink {
 
     ghost carries = { λ l bytes a m. Carries perfect bytes (record { kept = None; faults = l.faults.count }) a (record { kept = None; faults = m.faults.count }) };
 
-    ghost faithful = { λ _. true };
+    ghost kind = { λ _. perfect };
 
     fn carry(&mut self, alloc: Global, bytes: &[u8]) -> Result<Option<Vec<u8>>, LinkFault> {
         match copied(alloc, bytes) {

@@ -35,54 +35,47 @@ impl Drop for TestLink {
 }
 
 impl TestLink {
-    ghost use Rattle.std.specs.Prelude.{◌≡◌, true, false};
     ghost use Rattle.assise_link.specs.Kinds.{cut, delay, fault, lose, perfect, repeat};
-    ghost use Rattle.assise_link.specs.TestLinks.{IsUnusedLink, is_perfect};
+    ghost use Rattle.assise_link.specs.TestLinks.{IsUnusedLink};
 
     /// A link that answers what it is handed.
     pub fn perfect() -> TestLink
-        ensures new { IsUnusedLink perfect result }
-        ensures perfect { is_perfect result ≡ true }
+        ensures { IsUnusedLink perfect result }
     {
         TestLink::Perfect(PerfectLink::new())
     }
 
     /// A link that answers nothing.
     pub fn lose() -> TestLink
-        ensures new { IsUnusedLink lose result }
-        ensures perfect { is_perfect result ≡ false }
+        ensures { IsUnusedLink lose result }
     {
         TestLink::Lose(LosingLink)
     }
 
     /// A link that answers, at even carries, what the carry before was handed.
     pub fn repeat() -> TestLink
-        ensures new { IsUnusedLink repeat result }
-        ensures perfect { is_perfect result ≡ false }
+        ensures { IsUnusedLink repeat result }
     {
         TestLink::Repeat(RepeatingLink::new())
     }
 
     /// A link that answers what the carry before was handed.
     pub fn delay() -> TestLink
-        ensures new { IsUnusedLink delay result }
-        ensures perfect { is_perfect result ≡ false }
+        ensures { IsUnusedLink delay result }
     {
         TestLink::Delay(DelayingLink::new())
     }
 
     /// A link that lets so many bytes through.
     pub fn cut(most: usize) -> TestLink
-        ensures new { IsUnusedLink (cut most) result }
-        ensures perfect { is_perfect result ≡ false }
+        ensures { IsUnusedLink (cut most) result }
     {
         TestLink::Cut(CuttingLink::new(most))
     }
 
     /// A link that has a fault at each carry.
     pub fn fault() -> TestLink
-        ensures new { IsUnusedLink fault result }
-        ensures perfect { is_perfect result ≡ false }
+        ensures { IsUnusedLink fault result }
     {
         TestLink::Fault(FaultyLink::new())
     }
@@ -91,7 +84,7 @@ impl TestLink {
 impl Link for TestLink {
     ghost use Rattle.std.specs.Prelude.{◌≡◌};
     ghost use Rattle.assise_link.specs.Kinds.{Carries};
-    ghost use Rattle.assise_link.specs.TestLinks.{fault_count, is_perfect, kept_by, kept_lists, kind_of_link, state_of};
+    ghost use Rattle.assise_link.specs.TestLinks.{fault_count, kept_by, kept_lists, kind_of_link, state_of};
     ghost use Rattle.assise_link.specs.Prefixes.{prefix_by_kind, same_by_kind};
 
     ghost stored = { λ l. kept_lists (kept_by l) };
@@ -100,7 +93,7 @@ impl Link for TestLink {
 
     ghost carries = { λ l bytes a m. (kind_of_link m ≡ kind_of_link l) × Carries (kind_of_link l) bytes (state_of l) a (state_of m) };
 
-    ghost faithful = { is_perfect };
+    ghost kind = { kind_of_link };
 
     fn carry(&mut self, alloc: Global, bytes: &[u8]) -> Result<Option<Vec<u8>>, LinkFault> {
         match self {

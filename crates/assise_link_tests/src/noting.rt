@@ -24,7 +24,8 @@ fn copied(alloc: Global, bytes: &[u8]) -> Option<Vec<u8>>
 }
 
 impl Link for NotingLink {
-    ghost use Rattle.std.specs.Prelude.{◌≡◌, [], List, ℕ, true};
+    ghost use Rattle.std.specs.Prelude.{◌≡◌, [], List, ℕ};
+    ghost use Rattle.assise_link.specs.Kinds.{perfect};
     ghost use Rattle.std.proofs.Common.{refl};
     ghost use Rattle.assise_link.specs.Links.{gave};
     ghost use Rattle.assise_link.specs.Prefixes.{whole};
@@ -35,7 +36,7 @@ impl Link for NotingLink {
 
     ghost carries = { λ l bytes a m. (came : List ℕ) → a ≡ gave came → (came ≡ bytes) × (m.noted.items ≡ bytes) };
 
-    ghost faithful = { λ _. true };
+    ghost kind = { λ _. perfect };
 
     fn carry(&mut self, alloc: Global, bytes: &[u8]) -> Result<Option<Vec<u8>>, LinkFault> {
         let (Some(came), Some(noted)) = (copied(alloc, bytes), copied(alloc, bytes)) else {

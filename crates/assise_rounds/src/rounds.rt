@@ -4,6 +4,7 @@ ghost use Rattle.assise_names.specs.declared.limits.TheConstants.{MOST_NODES};
 ghost use Rattle.assise_model_events.specs.Events.{refused, released};
 ghost use Rattle.assise_model_events.specs.Faults.{node_fault};
 ghost use Rattle.assise_model_events.specs.NodeEvents.{Releasing, Sending};
+ghost use Rattle.assise_link.specs.Kinds.{perfect};
 ghost use Rattle.assise_machine.specs.Clusters.{machine};
 ghost use Rattle.assise_rounds.specs.Traces.{Told};
 ghost use Rattle.assise_rounds.specs.NodeLinks.{FaithfulAt};
@@ -28,11 +29,11 @@ pub fn replicate<C: Revokes + Drop, L: Link>(
     node: u32,
 ) -> Result<u64, Refusal>
     ensures ok { IfOk result (λ count. (es : Told) ×
-        Replicates (L.faithful link.old ≡ true) node count (machine cluster.old) es
+        Replicates (L.kind link.old ≡ perfect) node count (machine cluster.old) es
         (machine cluster.new)) }
     ensures err { IfErr result (λ refusal.
         Sending (machine cluster.old) node (refused refusal) (machine cluster.new)) }
-    ensures stays { L.faithful link.new ≡ L.faithful link.old }
+    ensures stays { L.kind link.new ≡ L.kind link.old }
 {
     match cluster.outgoing(alloc, node) {
         Ok(frames) => Ok(deliver_all(alloc, cluster, link, frames)),
@@ -47,9 +48,9 @@ fn deliver_all<C: Revokes + Drop, L: Link>(
     link: &mut L,
     frames: Vec<(Frame, u32)>,
 ) -> u64
-    ensures carried { AreCarried (L.faithful link.old ≡ true) frames.items result
+    ensures carried { AreCarried (L.kind link.old ≡ perfect) frames.items result
         (machine cluster.old) (machine cluster.new) }
-    ensures stays { L.faithful link.new ≡ L.faithful link.old }
+    ensures stays { L.kind link.new ≡ L.kind link.old }
 {
     let mut taken = 0;
     for (frame, next) in frames {
@@ -68,9 +69,9 @@ fn deliver<C: Revokes + Drop, L: Link>(
     frame: Frame,
     node: u32,
 ) -> bool
-    ensures delivers { DeliversOver (L.faithful link.old ≡ true) frame node result
+    ensures delivers { DeliversOver (L.kind link.old ≡ perfect) frame node result
         (machine cluster.old) (machine cluster.new) }
-    ensures stays { L.faithful link.new ≡ L.faithful link.old }
+    ensures stays { L.kind link.new ≡ L.kind link.old }
 {
     let Ok(newest) = cluster.level(node) else {
         return false;
@@ -98,9 +99,9 @@ pub fn round_over<C: Revokes + Drop, L: Link>(
     links: &mut [L],
 ) -> bool
     requires { MOST_NODES ≤ length links.old }
-    ensures rounds { (es : Told) × RoundsOver (FaithfulAt (map L.faithful links.old)) result
+    ensures rounds { (es : Told) × RoundsOver (FaithfulAt (map L.kind links.old)) result
         (machine cluster.old) es (machine cluster.new) }
-    ensures stay { map L.faithful links.new ≡ map L.faithful links.old }
+    ensures stay { map L.kind links.new ≡ map L.kind links.old }
 {
     let mut busy = replicate_all(alloc, cluster, links);
     busy |= digest_all(alloc, cluster);
@@ -116,9 +117,9 @@ fn replicate_all<C: Revokes + Drop, L: Link>(
 ) -> bool
     requires { MOST_NODES ≤ length links.old }
     ensures each { (es : Told) × WithWork (EachFull
-        (λ n. TakesTurn (FaithfulAt (map L.faithful links.old) n) n) MOST_NODES) result
+        (λ n. TakesTurn (FaithfulAt (map L.kind links.old) n) n) MOST_NODES) result
         (machine cluster.old) es (machine cluster.new) }
-    ensures stay { map L.faithful links.new ≡ map L.faithful links.old }
+    ensures stay { map L.kind links.new ≡ map L.kind links.old }
 {
     let mut busy = false;
     for node in 1..=MOST_NODES {
@@ -136,9 +137,9 @@ fn take_turn<C: Revokes + Drop, L: Link>(
     link: &mut L,
     node: u32,
 ) -> bool
-    ensures turn { (es : Told) × WithWork (TakesTurn (L.faithful link.old ≡ true) node) result
+    ensures turn { (es : Told) × WithWork (TakesTurn (L.kind link.old ≡ perfect) node) result
         (machine cluster.old) es (machine cluster.new) }
-    ensures stays { L.faithful link.new ≡ L.faithful link.old }
+    ensures stays { L.kind link.new ≡ L.kind link.old }
 {
     match cluster.outgoing(alloc, node) {
         Ok(frames) => {

@@ -29,9 +29,9 @@ pub fn try_often<C: Revokes + Drop, L: Link>(
 ) -> Result<Reply, Refusal>
     requires { MOST_NODES ≤ length links.old }
     ensures tries { (es : Told) ×
-        TriesOften (FaithfulAt (map L.faithful links.old)) turns client op.now result
+        TriesOften (FaithfulAt (map L.kind links.old)) turns client op.now result
         (machine cluster.old) es (machine cluster.new) }
-    ensures stay { map L.faithful links.new ≡ map L.faithful links.old }
+    ensures stay { map L.kind links.new ≡ map L.kind links.old }
 {
     for _ in 1..turns {
         match cluster.try_call(alloc, client, op)? {

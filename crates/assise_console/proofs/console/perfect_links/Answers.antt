@@ -1,6 +1,7 @@
-use Rattle.std.proofs.Common.{rules, ◌≡◌, ◌<◌, ◌∙◌, ap, length, replicate, true, subst}
+use Rattle.std.proofs.Common.{rules, ◌≡◌, ◌<◌, ◌∙◌, ap, length, replicate, subst}
 use Rattle.assise_names.specs.declared.limits.TheConstants.{MOST_NODES}
-use Rattle.assise_link.specs.TestLinks.{is_perfect}
+use Rattle.assise_link.specs.Kinds.{perfect}
+use Rattle.assise_link.specs.TestLinks.{kind_of_link}
 use Rattle.assise_console.proofs.Links.{all_alike}
 use Rattle.assise_console.proofs.console.perfect_links.Goals as goal
 
@@ -8,5 +9,5 @@ pub returns : goal.returns
 returns c =
     let made = c.from_fn.ensures.items in
     let long : length c.from_fn.result ≡ MOST_NODES = search rules in
-    all_alike is_perfect true c.from_fn.result (λ k e few. let called = made.at k e (subst (λ n. k < n) long few) in search (rules, called))
-    ∙ ap (λ n. replicate n true) long
+    all_alike kind_of_link perfect c.from_fn.result (λ k e few. let called = made.at k e (subst (λ n. k < n) long few) in search (rules, called))
+    ∙ ap (λ n. replicate n perfect) long

@@ -15,7 +15,7 @@ loop-node-init g c = record { each = ([], record { does = record { told = refl; 
 
 pub loop-node-preserved : goal.loop-node-preserved
 loop-node-preserved g c =
-    let F = g.L.Link.faithful in
+    let F = g.L.Link.kind in
     let links = c.loop-node.links in
     let m = machine c.args.cluster.now in
     let v = machine c.loop-node.cluster in
@@ -42,4 +42,4 @@ loop-node-preserved g c =
 pub returns-clause-each : goal.returns-clause-each
 returns-clause-each g c =
     let last : c.loop-node.node - 1 ≡ MOST_NODES = omega (arith, c.loop-node-test.false, c.loop-node.auto.node-end) in
-    subst (λ n. (es : Told) × WithWork (EachFull (λ k. TakesTurn (FaithfulAt (map g.L.Link.faithful c.args.links.now) k) k) n) c.loop-node.busy (machine c.args.cluster.now) es (machine c.loop-node.cluster)) last c.loop-node.invariant.each
+    subst (λ n. (es : Told) × WithWork (EachFull (λ k. TakesTurn (FaithfulAt (map g.L.Link.kind c.args.links.now) k) k) n) c.loop-node.busy (machine c.args.cluster.now) es (machine c.loop-node.cluster)) last c.loop-node.invariant.each

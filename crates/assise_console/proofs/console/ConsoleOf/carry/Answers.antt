@@ -1,7 +1,7 @@
 use Rattle.std.proofs.Common.{rules, ◌≡◌, ◌-◌, ◌<◌, Some, length, subst, sym, arith}
 use Rattle.assise_names.specs.declared.refusal.Refusal.TheVariants.{BadNode}
 use Rattle.assise_names.specs.declared.limits.TheConstants.{MOST_NODES}
-use Rattle.assise_link.specs.TestLinks.{is_perfect}
+use Rattle.assise_link.specs.TestLinks.{kind_of_link}
 use Rattle.assise_model_events.specs.Faults.{node_fault}
 use Rattle.assise_machine.specs.Clusters.{machine}
 use Rattle.assise_machine.proofs.Few.{few_nodes}
@@ -35,12 +35,12 @@ returns-in-Ok g c =
     let links = c.args.self.now.links in
     let k = c.in-Some.node in
     let link = c.index-self-node.result in
-    carries_some (console_seen c.args.self.now) c.args.node k c.in-Ok.taken (machine c.replicate.new.cluster) _ _ c.in-Some.ensures.some (λ faithful. at_node is_perfect links k link faithful)
-    (set_same is_perfect links (k - 1) link c.replicate.new.link c.in-Ok.ensures.stays) c.in-Ok.ensures.ok
+    carries_some (console_seen c.args.self.now) c.args.node k c.in-Ok.taken (machine c.replicate.new.cluster) _ _ c.in-Some.ensures.some (λ faithful. at_node kind_of_link links k link faithful)
+    (set_same kind_of_link links (k - 1) link c.replicate.new.link c.in-Ok.ensures.stays) c.in-Ok.ensures.ok
 
 pub returns-in-Err : goal.returns-in-Err
 returns-in-Err g c =
     let links = c.args.self.now.links in
     let k = c.in-Some.node in
     carries_refused (console_seen c.args.self.now) c.args.node k c.in-Err.refusal (machine c.replicate.new.cluster) _ c.in-Some.ensures.some
-    (set_same is_perfect links (k - 1) c.index-self-node.result c.replicate.new.link c.in-Err.ensures.stays) c.in-Err.ensures.err
+    (set_same kind_of_link links (k - 1) c.index-self-node.result c.replicate.new.link c.in-Err.ensures.stays) c.in-Err.ensures.err

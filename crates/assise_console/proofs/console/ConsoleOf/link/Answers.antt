@@ -21,4 +21,4 @@ way_replace-drop g c = below_most c.args.self.now.cluster c.in-Some.node (c.has_
 
 pub returns : goal.returns
 returns g c =
-    sets_link (console_seen c.args.self.now) c.args.node c.in-Some.node c.args.kind c.args.self.now.links c.link_of.result c.in-Some.ensures.some (c.has_node.ensures.yes c.if-not-has_node.false) refl c.link_of.ensures
+    sets_link (console_seen c.args.self.now) c.args.node c.in-Some.node c.args.kind c.args.self.now.links c.link_of.result c.in-Some.ensures.some (c.has_node.ensures.yes c.if-not-has_node.false) refl c.link_of.ensures.kind
