@@ -54,14 +54,23 @@ fn long_name(alloc: Global) -> Result<String, AllocError> {
     Ok(script)
 }
 
+/// Whether a script is faulty, prints nothing, and ends with this status and this line.
+fn is_faulty(alloc: Global, script: &str, wanted: &str) -> Result<bool, Fail> {
+    let mut output = Vec::new(alloc);
+    let stock = stock_of(alloc)?;
+    let mut reader = script.as_bytes();
+    match engine(alloc, &mut reader, &mut output, stock, &NOWHERE) {
+        Ok(()) => Ok(false),
+        Err(fault) => Ok(output.is_empty() && line_of(alloc, &fault)?.as_str() == wanted),
+    }
+}
+
 #[test]
 fn a_faulty_script_writes_nothing(rt: HostRuntime) -> Result<(), Fail> {
     let script = long_name(rt.alloc())?;
-    let mut output = Vec::new(rt.alloc());
-    let stock = stock_of(rt.alloc())?;
-    let mut reader = script.as_str().as_bytes();
-    let ended = engine(rt.alloc(), &mut reader, &mut output, stock, &NOWHERE);
-    let fault = EngineFault::Script(3, ScriptFault::BadPath(PathFault::NameTooLong));
-    assert!(rt; output.is_empty() && ended == Err(fault));
+    let wanted = "2 assise: script line 3: bad path: name too long";
+    assert!(rt; is_faulty(rt.alloc(), script.as_str(), wanted)?);
+    let wanted = "2 assise: script line 1: out of limits";
+    assert!(rt; is_faulty(rt.alloc(), "cluster 17 8 4\n", wanted)?);
     Ok(())
 }

@@ -182,4 +182,58 @@ carry 2
 12: F10 WrongPhase
 ",
     ),
+    // A link that has a fault at each carry, at a node that is there.
+    (
+        "\
+cluster 2 8 4
+manual
+open 1 least
+link 1 fault
+1 create /f
+1 fsync
+carry 1
+carry 1
+link 1 perfect
+carry 1
+1 fsync
+",
+        "\
+3: client 1
+4: linked 1
+5: done
+6: wait
+7: carried 0
+8: carried 0
+9: linked 1
+10: carried 1
+11: done
+",
+    ),
+    // A node sends frames of its own level, and reads those up to it.
+    (
+        "\
+cluster 2 8 4
+manual
+open 1 least
+raise 1
+1 create /f
+1 fsync
+carry 1
+raise 2
+carry 1
+1 fsync
+raise 2
+",
+        "\
+3: client 1
+4: raised 1
+5: done
+6: wait
+7: carried 0
+8: raised 2
+9: carried 1
+10: done
+11: F10 WrongPhase
+",
+    ),
 ];

@@ -3,6 +3,7 @@ use crate::stock::stock_of;
 use crate::{failures, links, rows};
 use assise_console::engine::engine;
 use assise_console::options::CommandLine;
+use assise_names::limits::MOST_CLIENTS;
 use std::alloc::{AllocError, Global};
 use std::test::Fail;
 
@@ -30,32 +31,66 @@ pub(crate) fn prints(
     Ok(output.as_slice() == wanted.as_bytes())
 }
 
-/// A script whose first line makes a cluster that keeps one inode hot; a script without a cluster stays as it is.
-fn with_one_hot(alloc: Global, script: &str) -> Result<String, AllocError> {
+/// A script whose first line makes a cluster that keeps so many inodes hot; a script without a cluster stays as it is.
+fn with_hot(alloc: Global, script: &str, hot: u32) -> Result<String, AllocError> {
     if let Some((first, rest)) = script.split_once('\n') {
         if let Some((cluster, _)) = first.rsplit_once(' ') {
-            return format!(in alloc; "{cluster} 1\n{rest}");
+            return format!(in alloc; "{cluster} {hot}\n{rest}");
         }
     }
     String::from_str(alloc, script)
 }
 
-/// Whether a script prints this, and the same where one inode alone is kept hot.
-fn prints_twice(alloc: Global, script: &str, wanted: &str) -> Result<bool, Fail> {
-    let one_hot = with_one_hot(alloc, script)?;
-    Ok(
-        prints(alloc, script, wanted, &NOWHERE)?
-            && prints(alloc, one_hot.as_str(), wanted, &NOWHERE)?,
-    )
+/// Whether a script prints this, however many inodes are kept hot.
+fn prints_always(alloc: Global, script: &str, wanted: &str) -> Result<bool, Fail> {
+    for hot in [1, 3, 64] {
+        let other = with_hot(alloc, script, hot)?;
+        if !prints(alloc, other.as_str(), wanted, &NOWHERE)? {
+            return Ok(false);
+        }
+    }
+    prints(alloc, script, wanted, &NOWHERE)
 }
 
 #[test]
 fn scripts_print_their_answers(rt: HostRuntime) -> Result<(), Fail> {
     for runs in [RUNS, rows::RUNS, failures::RUNS, links::RUNS] {
         for (script, wanted) in runs {
-            assert!(rt; prints_twice(rt.alloc(), script, wanted)?, "{script}");
+            assert!(rt; prints_always(rt.alloc(), script, wanted)?, "{script}");
         }
     }
+    Ok(())
+}
+
+/// A sync whose frames the next node doesn't read is never answered.
+const UNREAD: &str = "cluster 2 8 4\n\
+    open 1 least\n\
+    raise 1\n\
+    1 create /f\n\
+    1 fsync\n";
+
+#[test]
+fn a_call_is_tried_so_often(rt: HostRuntime) -> Result<(), Fail> {
+    let few = CommandLine {
+        turns: 3,
+        ..NOWHERE
+    };
+    let wanted = "2: client 1\n3: raised 1\n4: done\n5: F2 Busy\n";
+    assert!(rt; prints(rt.alloc(), UNREAD, wanted, &few)?);
+    Ok(())
+}
+
+#[test]
+fn so_many_clients_are_opened_ever(rt: HostRuntime) -> Result<(), Fail> {
+    let mut script = String::from_str(rt.alloc(), "cluster 1 8 4\n")?;
+    let mut wanted = String::new(rt.alloc());
+    for client in 1..=MOST_CLIENTS {
+        script.push_str("open 1 least\n")?;
+        writeln!(wanted, "{}: client {client}", client + 1)?;
+    }
+    script.push_str("open 1 least\n")?;
+    writeln!(wanted, "{}: F9 BadClient", MOST_CLIENTS + 2)?;
+    assert!(rt; prints(rt.alloc(), script.as_str(), wanted.as_str(), &NOWHERE)?);
     Ok(())
 }
 
