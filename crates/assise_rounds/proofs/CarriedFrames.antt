@@ -1,7 +1,8 @@
 -- Frames that are carried, one after another.
-use Rattle.std.proofs.Common.{◌≡◌, ℕ, ◌+◌, Bool, true, false, List, [], ◌∷◌, ◌++◌, map, None, Some, Result, Ok, Err, is_ok, refl, ap, sym, subst, ◌∙◌, append_assoc, append-nil, arith}
+use Rattle.std.proofs.Common.{◌≡◌, ◌≤◌, ℕ, ◌+◌, Bool, true, false, List, [], ◌∷◌, ◌++◌, map, None, Some, Result, Ok, Err, is_ok, refl, ap, sym, subst, ◌∙◌, append_assoc, append-nil, arith}
 use Rattle.assise_names.specs.declared.refusal.Refusal.{Refusal}
 use Rattle.assise_record.specs.LogFrame.{LogFrame}
+use Rattle.assise_manager.specs.NodeLevels.{level_of, newest}
 use Rattle.assise_model_events.specs.Events.{outgoing, received, refused, sent}
 use Rattle.assise_model_events.specs.Happenings.{AllHappen}
 use Rattle.assise_model_events.specs.Machine.{Machine}
@@ -92,9 +93,9 @@ all_carried F m v n count frames sends h = (_, carried_turn F m v n count frames
 -- ---- one frame
 
 -- it is sent as f, and comes as g
-pub is_delivered : (F : Type 0) (m m' : Machine) (f g : LogFrame) (n : ℕ) (r : Result ℕ Refusal) → (F → g ≡ f) → Delivering m g n (delivery_answer r) m' → DeliversOver F f n (is_ok r) m m'
-is_delivered F m m' f g n (Ok place) same h = record { came = Some (g, received place); same = same; taken = refl; happen = (m', (h, refl)) }
-is_delivered F m m' f g n (Err e) same h = record { came = Some (g, refused e); same = same; taken = refl; happen = (m', (h, refl)) }
+pub is_delivered : (F : Type 0) (m m' : Machine) (f g : LogFrame) (n : ℕ) (r : Result ℕ Refusal) → (F → g ≡ f) → g.version ≤ newest (level_of m.members.levels n) → Delivering m g n (delivery_answer r) m' → DeliversOver F f n (is_ok r) m m'
+is_delivered F m m' f g n (Ok place) same read h = record { came = Some (g, received place); same = same; readable = read; taken = refl; happen = (m', (h, refl)) }
+is_delivered F m m' f g n (Err e) same read h = record { came = Some (g, refused e); same = same; readable = read; taken = refl; happen = (m', (h, refl)) }
 
 pub is_lost : (F : Type 0) (m : Machine) (f : LogFrame) (n : ℕ) → DeliversOver F f n false m m
-is_lost F m f n = record { came = None; same = λ faithful. tt; taken = refl; happen = refl }
+is_lost F m f n = record { came = None; same = λ faithful. tt; readable = tt; taken = refl; happen = refl }

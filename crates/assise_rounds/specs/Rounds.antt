@@ -1,11 +1,12 @@
 -- What a cluster does between the tries of a call: replicate turns, and rounds.
 -- Assise (OSDI 2020), section 3 (replication along a chain, digests, leases); van Renesse and Schneider, chain replication
 -- (OSDI 2004), section 2.
-use Rattle.std.specs.Prelude.{◌≡◌, ◌==◌, ℕ, zero, suc, Bool, true, false, not, List, [], ◌∷◌, ◌++◌, filter, length, map, Option, None, Some, IfSome, ⊤}
+use Rattle.std.specs.Prelude.{◌≡◌, ◌≤◌, ◌==◌, ℕ, zero, suc, Bool, true, false, not, List, [], ◌∷◌, ◌++◌, filter, length, map, Option, None, Some, IfSome, ⊤}
 use Rattle.std.specs.List.{AllByRecursion, list_any}
 use Rattle.assise_names.specs.declared.refusal.Refusal.{Refusal}
 use Rattle.assise_names.specs.declared.limits.TheConstants.{MOST_NODES}
 use Rattle.assise_record.specs.LogFrame.{LogFrame}
+use Rattle.assise_manager.specs.NodeLevels.{level_of, newest}
 use Rattle.assise_model_events.specs.Events.{Answer, deliver, digest, digested, outgoing, received, refused, release_ready, released, sent}
 use Rattle.assise_model_events.specs.Faults.{node_fault}
 use Rattle.assise_model_events.specs.Happenings.{AllHappen}
@@ -47,10 +48,15 @@ IsSame frame came = IfSome came (λ c. c.0 ≡ frame)
 abbrev pub AreSame : List Carried → Type 0
 AreSame carried = AllByRecursion (λ c. IsSame c.frame c.came) carried
 
+-- what came is of a version that the node reads
+abbrev pub IsReadable : Machine → ℕ → Option (LogFrame × Answer) → Type 0
+IsReadable m n came = IfSome came (λ c. c.0.version ≤ newest (level_of m.members.levels n))
+
 -- a frame goes over a link to node n, which takes in what comes or doesn't; over a faithful link that frame comes, if any does
 pub record DeliversOver (faithful : Type 0) (f : LogFrame) (n : ℕ) (is_in : Bool) (m m' : Machine) : Type 0 where
   pub came : Option (LogFrame × Answer)
   pub same : faithful → IsSame f came
+  pub readable : IsReadable m n came
   pub taken : is_in ≡ is_taken_in came
   pub happen : AllHappen m (delivery n came) m'
 

@@ -1,4 +1,5 @@
-use Rattle.std.proofs.Common.{◌≡◌, true}
+use Rattle.std.proofs.Common.{◌≡◌, ◌≤◌, subst}
+use Rattle.assise_manager.specs.NodeLevels.{level_of, newest}
 use Rattle.assise_link.specs.Kinds.{perfect}
 use Rattle.assise_machine.specs.Clusters.{machine}
 use Rattle.assise_rounds.proofs.CarriedFrames.{is_delivered, is_lost}
@@ -6,8 +7,10 @@ use Rattle.assise_rounds.proofs.rounds.deliver.Goals as goal
 
 pub returns-in-Some-clause-delivers : goal.returns-in-Some-clause-delivers
 returns-in-Some-clause-delivers g c =
+    let read : c.in-Some.came.version ≤ newest (level_of (machine c.args.cluster.now).members.levels c.args.node) =
+    subst (λ level. c.in-Some.came.version ≤ level) c.in-Ok.ensures.level c.in-Some.ensures.came.begins.prefix.version in
     rw c.is_ok.ensures.value
-    (is_delivered (g.L.Link.kind c.args.link.now ≡ perfect) (machine c.args.cluster.now) (machine c.deliver.new.self) c.args.frame c.in-Some.came c.args.node c.deliver.result c.in-Some.ensures.same c.deliver.ensures.happens)
+    (is_delivered (g.L.Link.kind c.args.link.now ≡ perfect) (machine c.args.cluster.now) (machine c.deliver.new.self) c.args.frame c.in-Some.came c.args.node c.deliver.result c.in-Some.ensures.same read c.deliver.ensures.happens)
 
 pub returns-in-None-clause-delivers : goal.returns-in-None-clause-delivers
 returns-in-None-clause-delivers g c = is_lost (g.L.Link.kind c.args.link.now ≡ perfect) (machine c.args.cluster.now) c.args.frame c.args.node
