@@ -12,8 +12,8 @@ returns-in-Some-clause-delivers g c =
     rw c.is_ok.ensures.value
     (is_delivered (g.L.Link.kind c.args.link.now ≡ perfect) (machine c.args.cluster.now) (machine c.deliver.new.self) c.args.frame c.in-Some.came c.args.node c.deliver.result c.in-Some.ensures.same read c.deliver.ensures.happens)
 
-pub returns-in-None-clause-delivers : goal.returns-in-None-clause-delivers
-returns-in-None-clause-delivers g c = is_lost (g.L.Link.kind c.args.link.now ≡ perfect) (machine c.args.cluster.now) c.args.frame c.args.node
+pub returns-clause-delivers : goal.returns-clause-delivers
+returns-clause-delivers g c = is_lost (g.L.Link.kind c.args.link.now ≡ perfect) (machine c.args.cluster.now) c.args.frame c.args.node
 
 pub returns-in_default-clause-delivers : goal.returns-in_default-clause-delivers
 returns-in_default-clause-delivers g c = is_lost (g.L.Link.kind c.args.link.now ≡ perfect) (machine c.args.cluster.now) c.args.frame c.args.node
