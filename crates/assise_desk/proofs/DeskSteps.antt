@@ -1,17 +1,20 @@
 -- What the request of a desk does to its cluster.
-use Rattle.std.proofs.Common.{◌≡◌, ℕ, ℤ, List, Option, Some, Result, refl, sym, ap, subst, ◌∙◌}
+use Rattle.std.proofs.Common.{◌≡◌, ◌≤◌, arith, inl, inr, ℕ, ℤ, List, Option, Some, Result, refl, sym, ap, subst, ◌∙◌}
 use Rattle.std.specs.Global.{Box, Vec}
-use Rattle.std.specs.Prelude.{⊤}
+use Rattle.std.specs.Prelude.{◌+◌, OnOk, ⊤}
+use Rattle.assise_lease_table.specs.Tables.{Enrols}
 use Rattle.assise_names.specs.declared.refusal.Refusal.{Refusal}
 use Rattle.assise_machine_calls.specs.Answers.{crashing_answer}
 use Rattle.assise_names.specs.declared.durability.Durability.TheVariants.{Pessimistic}
+use Rattle.assise_names.specs.declared.limits.TheConstants.{MOST_NODES}
 use Rattle.assise_model_events.specs.ClientEvents.{Crashing, Opening}
-use Rattle.assise_model_events.specs.Machine.{Machine}
 use Rattle.assise_model_events.specs.MemberEvents.{Failing}
 use Rattle.assise_machine_failures.specs.Answers.{failing_answer}
 use Rattle.assise_machine.specs.Running.{opened_answer}
 use Rattle.assise_rounds.specs.Traces.{Told}
 use Rattle.assise_rounds.specs.Returning.{ComesBack}
+use Rattle.assise_files.specs.FilesSeen.{cluster_seen, kinds_seen}
+use Rattle.assise_files.specs.declared.cut_kind.CutKind.{CutKind}
 use Rattle.assise_files.specs.declared.files.Files.{Files}
 use Rattle.assise_desk.specs.declared.caller_desk.CallerDesk.{CallerDesk}
 use Rattle.assise_desk.specs.declared.desk_call.ClusterCall.{ClusterCall}
@@ -20,25 +23,39 @@ use Rattle.assise_desk.specs.declared.desk_call.DeskCall.{DeskCall}
 use Rattle.assise_desk.specs.declared.desk_fault.DeskFault.{DeskFault}
 use Rattle.assise_desk.specs.declared.desk_request.DeskRequest.{DeskRequest}
 use Rattle.assise_desk.specs.CallNumbers.{desk_call_number}
-use Rattle.assise_desk.specs.DeskAnswers.{DoesAt, AnswersRequest, IsServedAt, ShowsLosses, number_told, done_told, owned, result_shown, is_no_request, request_makes, request_makes_none, request_frees, has_no_cluster, request_manages, request_calls}
+use Rattle.assise_desk.specs.NamedKinds.{NamesKind}
+use Rattle.assise_desk.specs.DeskAnswers.{AnswersAlone, AnswersRequest, DoesAt, IsOutOfRange, IsServedAt, ShowsLosses, answers_alone, done_told, has_no_cluster, is_no_request, number_told, owned, request_calls, request_frees, request_makes, request_makes_none, request_manages, result_shown}
 
 -- ---- one event
 
-pub opening_told : (call : ClusterCall) (r : DeskRequest) (result : Result ℕ DeskFault) (out : List ℕ) (told : Result ℕ Refusal) (m m' : Machine) → call ≡ Open → result ≡ number_told told →
-    Opening m r.node Pessimistic (opened_answer told) m' → (es : Told) × DoesAt call r result out m es m'
-opening_told call r result out told m m' is result_is h = rw is (_, record { told = told; result_is = result_is; event = record { told = refl; happens = h } })
+pub opening_told : (call : ClusterCall) (r : DeskRequest) (result : Result ℕ DeskFault) (before out : List ℕ) (kind : CutKind) (told : Result ℕ Refusal) (files left : Files) → call ≡ Open →
+    result ≡ number_told told → NamesKind r.kind kind → Opening (cluster_seen files) r.node Pessimistic (opened_answer told) (cluster_seen left) →
+    OnOk told (Enrols (kinds_seen files) (kinds_seen left) ((cluster_seen files).world.clients + 1) kind) → (es : Told) × DoesAt call r result before out files es left
+opening_told call r result before out kind told files left is result_is named h stored =
+    rw is (_, record { kind = kind; named = named; opened = told; result_is = result_is; event = record { told = refl; happens = h }; stored = stored })
 
-pub crashing_told : (call : ClusterCall) (r : DeskRequest) (result : Result ℕ DeskFault) (out : List ℕ) (told : Result ⊤ Refusal) (m m' : Machine) → call ≡ Crash → result ≡ done_told told →
-    Crashing m r.client (crashing_answer told) m' → (es : Told) × DoesAt call r result out m es m'
-crashing_told call r result out told m m' is result_is h = rw is (_, record { told = told; result_is = result_is; event = record { told = refl; happens = h } })
+pub crashing_told : (call : ClusterCall) (r : DeskRequest) (result : Result ℕ DeskFault) (before out : List ℕ) (told : Result ⊤ Refusal) (files left : Files) → call ≡ Crash → result ≡ done_told told →
+    Crashing (cluster_seen files) r.client (crashing_answer told) (cluster_seen left) → (es : Told) × DoesAt call r result before out files es left
+crashing_told call r result before out told files left is result_is h = rw is (_, record { told = told; result_is = result_is; event = record { told = refl; happens = h } })
 
-pub failing_told : (call : ClusterCall) (r : DeskRequest) (result : Result ℕ DeskFault) (out : List ℕ) (told : Result (Vec (ℕ × ℕ)) Refusal) (m m' : Machine) → call ≡ Fail → ShowsLosses told result out →
-    Failing m r.node (failing_answer told) m' → (es : Told) × DoesAt call r result out m es m'
-failing_told call r result out told m m' is shown h = rw is (_, record { failed = told; shown = shown; event = record { told = refl; happens = h } })
+pub failing_told : (call : ClusterCall) (r : DeskRequest) (result : Result ℕ DeskFault) (before out : List ℕ) (told : Result (Vec (ℕ × ℕ)) Refusal) (files left : Files) → call ≡ Fail →
+    ShowsLosses told result before out → Failing (cluster_seen files) r.node (failing_answer told) (cluster_seen left) → (es : Told) × DoesAt call r result before out files es left
+failing_told call r result before out told files left is shown h = rw is (_, record { failed = told; shown = shown; event = record { told = refl; happens = h } })
 
-pub return_told : (call : ClusterCall) (r : DeskRequest) (result : Result ℕ DeskFault) (out : List ℕ) (told : Result ⊤ Refusal) (m m' : Machine) → call ≡ Back → result ≡ done_told told →
-    (es : Told) × ComesBack r.node told m es m' → (es : Told) × DoesAt call r result out m es m'
-return_told call r result out told m m' is result_is (es, h) = rw is (es, record { returned = told; result_is = result_is; comes_back = h })
+pub return_told : (call : ClusterCall) (r : DeskRequest) (result : Result ℕ DeskFault) (before out : List ℕ) (told : Result ⊤ Refusal) (files left : Files) → call ≡ Back → result ≡ done_told told →
+    (es : Told) × ComesBack r.node told (cluster_seen files) es (cluster_seen left) → (es : Told) × DoesAt call r result before out files es left
+return_told call r result before out told files left is result_is (es, h) = rw is (es, record { returned = told; result_is = result_is; comes_back = h })
+
+-- ---- a cluster is made
+
+-- the numbers are in range
+pub is_in_range : (r : DeskRequest) → 1 ≤ r.node → r.node ≤ MOST_NODES → 8 ≤ r.first → r.first ≤ 4096 → 1 ≤ r.second → r.second ≤ 4096 → IsOutOfRange r → ⊥
+is_in_range r some few long_enough short_enough some_hot few_hot (inl h) = omega (arith, some, h)
+is_in_range r some few long_enough short_enough some_hot few_hot (inr (inl h)) = omega (arith, few, h)
+is_in_range r some few long_enough short_enough some_hot few_hot (inr (inr (inl h))) = omega (arith, long_enough, h)
+is_in_range r some few long_enough short_enough some_hot few_hot (inr (inr (inr (inl h)))) = omega (arith, short_enough, h)
+is_in_range r some few long_enough short_enough some_hot few_hot (inr (inr (inr (inr (inl h))))) = omega (arith, some_hot, h)
+is_in_range r some few long_enough short_enough some_hot few_hot (inr (inr (inr (inr (inr h))))) = omega (arith, few_hot, h)
 
 -- ---- a desk
 
@@ -51,14 +68,19 @@ pub owned_is : (files : Option (Box Files)) (owner : Box Files) (seen : Files) �
 owned_is files owner seen is same = ap owned is ∙ ap Some (sym same)
 
 -- the answer says nothing of the number that the desk shows
+alone_shown : (d d' : CallerDesk) (result : Result ℕ DeskFault) (n : ℤ) → AnswersAlone d result d' → AnswersAlone d result record d' { result = n }
+alone_shown d d' result n (is_no_request none is same) = is_no_request none is same
+alone_shown d d' result n (request_makes files number made is result_is) = request_makes files number made is result_is
+alone_shown d d' result n (request_makes_none fault number h same result_is) = request_makes_none fault number h same result_is
+alone_shown d d' result n (request_frees number none result_is) = request_frees number none result_is
+alone_shown d d' result n (has_no_cluster call number needs none still result_is) = has_no_cluster call number needs none still result_is
+
 pub answered_shown : (d d' : CallerDesk) (result : Result ℕ DeskFault) (n : ℤ) → AnswersRequest d result d' → AnswersRequest d result record d' { result = n }
-answered_shown d d' result n (is_no_request none is same) = is_no_request none is same
-answered_shown d d' result n (request_makes files number made is result_is) = request_makes files number made is result_is
-answered_shown d d' result n (request_makes_none fault number h same result_is) = request_makes_none fault number h same result_is
-answered_shown d d' result n (request_frees number none result_is) = request_frees number none result_is
-answered_shown d d' result n (has_no_cluster call number needs none still result_is) = has_no_cluster call number needs none still result_is
-answered_shown d d' result n (request_manages call files left number is then h) = request_manages call files left number is then h
-answered_shown d d' result n (request_calls call files left number is then h) = request_calls call files left number is then h
+answered_shown d d' result n (answers_alone h leaves) = answers_alone (alone_shown d d' result n h) leaves
+answered_shown d d' result n (request_manages call files left number served h bytes stands) =
+    request_manages call files left number record { from = served.from; leaves = served.leaves; turns = served.turns } h bytes stands
+answered_shown d d' result n (request_calls call files left number served h) =
+    request_calls call files left number record { from = served.from; leaves = served.leaves; turns = served.turns } h
 
 pub served_at : (d d' : CallerDesk) (result : Result ℕ DeskFault) (n : ℤ) → n ≡ result_shown result → AnswersRequest d result d' → d'.request ≡ d.request → IsServedAt d record d' { result = n }
 served_at d d' result n shown answered same = record { result = result; shown = shown; answered = answered_shown d d' result n answered; request = same }

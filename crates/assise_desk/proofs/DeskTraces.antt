@@ -5,6 +5,8 @@ use Rattle.assise_model_events.specs.Machine.{Machine}
 use Rattle.assise_rounds.specs.Traces.{IsEventTrace, Told}
 use Rattle.assise_rounds.proofs.ReturnTrace.{return_trace}
 use Rattle.assise_rounds.proofs.Traces.{event_trace, nothing_trace, round_trace}
+use Rattle.assise_files.specs.FilesSeen.{cluster_seen}
+use Rattle.assise_files.specs.declared.files.Files.{Files}
 use Rattle.assise_files.proofs.TriesTrace.{call_trace}
 use Rattle.assise_desk.specs.declared.desk_call.ClientCall.{ClientCall}
 use Rattle.assise_desk.specs.declared.desk_call.ClusterCall.{ClusterCall}
@@ -13,14 +15,15 @@ use Rattle.assise_desk.specs.declared.desk_fault.DeskFault.{DeskFault}
 use Rattle.assise_desk.specs.declared.desk_request.DeskRequest.{DeskRequest}
 use Rattle.assise_desk.specs.DeskAnswers.{CallsAt, DoesAt, asks_for_none, is_called}
 
-pub cluster_trace : (call : ClusterCall) (r : DeskRequest) (result : Result ℕ DeskFault) (out : List ℕ) (m : Machine) (es : Told) (m' : Machine) → DoesAt call r result out m es m' → IsEventTrace m es m'
-cluster_trace Open r result out m es m' h = event_trace _ _ m es m' h.event
-cluster_trace Crash r result out m es m' h = event_trace _ _ m es m' h.event
-cluster_trace Fail r result out m es m' h = event_trace _ _ m es m' h.event
-cluster_trace Back r result out m es m' h = return_trace r.node h.returned m es m' h.comes_back
-cluster_trace Legal r result out m es m' h = nothing_trace m es m' h.nothing
-cluster_trace Round r result out m es m' h = round_trace m es m' h.round.does
-cluster_trace History r result out m es m' h = nothing_trace m es m' h.nothing
+pub cluster_trace : (call : ClusterCall) (r : DeskRequest) (result : Result ℕ DeskFault) (before out : List ℕ) (files : Files) (es : Told) (left : Files) →
+    DoesAt call r result before out files es left → IsEventTrace (cluster_seen files) es (cluster_seen left)
+cluster_trace Open r result before out files es left h = event_trace _ _ (cluster_seen files) es (cluster_seen left) h.event
+cluster_trace Crash r result before out files es left h = event_trace _ _ (cluster_seen files) es (cluster_seen left) h.event
+cluster_trace Fail r result before out files es left h = event_trace _ _ (cluster_seen files) es (cluster_seen left) h.event
+cluster_trace Back r result before out files es left h = return_trace r.node h.returned (cluster_seen files) es (cluster_seen left) h.comes_back
+cluster_trace Legal r result before out files es left h = nothing_trace (cluster_seen files) es (cluster_seen left) h.nothing
+cluster_trace Round r result before out files es left h = round_trace (cluster_seen files) es (cluster_seen left) h.round.does
+cluster_trace History r result before out files es left h = nothing_trace (cluster_seen files) es (cluster_seen left) h.nothing
 
 pub client_trace : (turns : ℕ) (call : ClientCall) (r : DeskRequest) (bytes : List ℕ) (result : Result Reply DeskFault) (m : Machine) (es : Told) (m' : Machine) →
     CallsAt turns call r bytes result m es m' → IsEventTrace m es m'

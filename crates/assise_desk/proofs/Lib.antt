@@ -2,3 +2,4 @@ mod DeskTraces
 mod DeskSteps
 mod PathFaults
 mod TwoPieces
+mod Losses

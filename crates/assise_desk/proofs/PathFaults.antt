@@ -7,7 +7,7 @@ use Rattle.assise_desk.specs.declared.desk_call.ClientCall.{ClientCall}
 use Rattle.assise_desk.specs.declared.desk_call.ClientCall.TheVariants.{Create, Mkdir, Read, Write, Truncate, Rename, Unlink, Rmdir, List as Listing, Stat, Fsync}
 use Rattle.assise_desk.specs.declared.desk_fault.DeskFault.{DeskFault}
 use Rattle.assise_desk.specs.FaultCodes.{of_path_fault}
-use Rattle.assise_desk.specs.RequestedOps.{MayFault, MayFaultPath, has_fault, path_lacks_memory}
+use Rattle.assise_desk.specs.RequestedOps.{MayFault, MayFaultPath, first_faults, has_fault, path_lacks_memory}
 
 -- the text that the bytes are has this fault, or there is no memory for its path
 pub fault_of_text : (bytes text : List ℕ) (found : PathFault) (fault : DeskFault) → text ≡ bytes → (found ≡ Memory) ⊎ (path_of text ≡ Err found) → fault ≡ of_path_fault found
@@ -22,7 +22,7 @@ fault_of_path Mkdir bytes others fault other h = h
 fault_of_path Read bytes others fault other h = h
 fault_of_path Write bytes others fault other h = h
 fault_of_path Truncate bytes others fault other h = h
-fault_of_path Rename bytes others fault other h = inl h
+fault_of_path Rename bytes others fault other h = first_faults h
 fault_of_path Unlink bytes others fault other h = h
 fault_of_path Rmdir bytes others fault other h = h
 fault_of_path Listing bytes others fault other h = h

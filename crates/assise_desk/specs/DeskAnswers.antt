@@ -1,7 +1,8 @@
 -- What the request of a desk does to its cluster, and what it is answered with.
-use Rattle.std.specs.Prelude.{◌≡◌, ◌≢◌, ℕ, ℤ, pos, min, ◌-◌, ◌^◌, ◌<◌, ◌⊎◌, Bool, true, false, List, length, take, Option, None, Some, Result, Ok, Err, ⊤}
+use Rattle.std.specs.Prelude.{◌≡◌, ◌≢◌, ℕ, ℤ, pos, min, ◌+◌, ◌-◌, ◌^◌, ◌<◌, ◌⊎◌, Bool, true, false, List, length, take, OnOk, Option, None, Some, Result, Ok, Err, ⊤}
 use Rattle.std.specs.Global.{Box, Vec}
 use Rattle.std.specs.Option.{option_map}
+use Rattle.assise_lease_table.specs.Tables.{Enrols}
 use Rattle.assise_names.specs.declared.call.Op.{Op}
 use Rattle.assise_names.specs.declared.refusal.Refusal.{Refusal}
 use Rattle.assise_names.specs.declared.reply.Reply.{Reply}
@@ -16,7 +17,8 @@ use Rattle.assise_rounds.specs.Traces.{IsEvent, Nothing, Told}
 use Rattle.assise_rounds.specs.Returning.{ComesBack}
 use Rattle.assise_rounds.specs.Rounds.{RoundsOnce}
 use Rattle.assise_files.specs.CallTries.{IsTriedOut}
-use Rattle.assise_files.specs.FilesSeen.{KeepsHot, cluster_seen, most_tries}
+use Rattle.assise_files.specs.FilesSeen.{KeepsHot, cluster_seen, kinds_seen, most_tries}
+use Rattle.assise_files.specs.declared.cut_kind.CutKind.{CutKind}
 use Rattle.assise_files.specs.declared.files.Files.{Files}
 use Rattle.assise_desk.specs.declared.caller_desk.CallerDesk.{CallerDesk}
 use Rattle.assise_desk.specs.declared.caller_desk.TheConstants.{MOST_TRIES}
@@ -27,11 +29,13 @@ use Rattle.assise_desk.specs.declared.desk_call.DeskCall.{DeskCall}
 use Rattle.assise_desk.specs.declared.desk_call.DeskCall.TheVariants.{Make, Free, Cluster, Client}
 use Rattle.assise_desk.specs.declared.desk_fault.DeskFault.{DeskFault}
 use Rattle.assise_desk.specs.declared.desk_fault.DeskFault.TheVariants.{Refused, NoCluster, BadRequest, NoRoom}
+use Rattle.assise_desk.specs.declared.desk_request.TheConstants.{DESK_BYTES}
 use Rattle.assise_desk.specs.declared.desk_request.DeskRequest.{DeskRequest}
 use Rattle.assise_desk.specs.CallNumbers.{desk_call_number}
 use Rattle.assise_desk.specs.FaultCodes.{fault_code, no_memory}
+use Rattle.assise_desk.specs.NamedKinds.{NamesKind}
 use Rattle.assise_desk.specs.Pages.{losses_bytes}
-use Rattle.assise_desk.specs.ShownReplies.{ShowsReply}
+use Rattle.assise_desk.specs.ShownReplies.{LeavesShown, ShowsReply, ShowsResult}
 use Rattle.assise_desk.specs.RequestedOps.{IsRequestedAt, MayAskForNone}
 
 -- ---- numbers
@@ -62,13 +66,13 @@ pub record IsClusterMade (r : DeskRequest) (files : Files) : Type 0 where
   pub hot : KeepsHot files r.second
   pub turns : most_tries files ≡ MOST_TRIES
 
--- 1 to `MOST_NODES` nodes, logs of 8 to 4,096 records, 1 to 4,096 hot inodes
+-- not 1 to `MOST_NODES` nodes, logs of 8 to 4,096 records, 1 to 4,096 hot inodes
 abbrev pub IsOutOfRange : DeskRequest → Type 0
 IsOutOfRange r = (r.node < 1) ⊎ (MOST_NODES < r.node) ⊎ (r.first < 8) ⊎ (4096 < r.first) ⊎ (r.second < 1) ⊎ (4096 < r.second)
 
 pub data MayNotMake (r : DeskRequest) (fault : DeskFault) : Type 0 where
   is_out_of_range : IsOutOfRange r → fault ≡ BadRequest → MayNotMake r fault
-  cluster_lacks_memory : fault ≡ no_memory → MayNotMake r fault
+  cluster_lacks_memory : (IsOutOfRange r → ⊥) → fault ≡ no_memory → MayNotMake r fault
 
 -- ---- what a cluster does that no client calls
 
@@ -78,15 +82,27 @@ pub record TellsEvent {X : Type 0} (number : X → Result ℕ DeskFault) (answer
   pub result_is : result ≡ number told
   pub event : IsEvent e (answer told) m es m'
 
--- who lost calls stands in the bytes, if there is room
-abbrev pub ShowsLosses : Result (Vec (ℕ × ℕ)) Refusal → Result ℕ DeskFault → List ℕ → Type 0
-ShowsLosses (Ok losses) (Ok count) out = take count out ≡ losses_bytes losses.items
-ShowsLosses (Ok losses) (Err fault) out = fault ≡ NoRoom
-ShowsLosses (Err refusal) result out = result ≡ Err (Refused refusal)
+-- a client is opened, with a revoker of the kind that the request names
+pub record OpensClient (r : DeskRequest) (result : Result ℕ DeskFault) (files : Files) (es : Told) (left : Files) : Type 0 where
+  pub kind : CutKind
+  pub named : NamesKind r.kind kind
+  pub opened : Result ℕ Refusal
+  pub result_is : result ≡ number_told opened
+  pub event : IsEvent (open_client r.node Pessimistic) (opened_answer opened) (cluster_seen files) es (cluster_seen left)
+  pub stored : OnOk opened (Enrols (kinds_seen files) (kinds_seen left) ((cluster_seen files).world.clients + 1) kind)
 
-pub record TellsFailure (n : ℕ) (result : Result ℕ DeskFault) (out : List ℕ) (m : Machine) (es : Told) (m' : Machine) : Type 0 where
+-- who lost calls stands in the bytes, if there is room
+pub data PutsLosses (losses : List (ℕ × ℕ)) (result : Result ℕ DeskFault) (out : List ℕ) : Type 0 where
+  losses_fit : result ≡ Ok (length (losses_bytes losses)) → take (length (losses_bytes losses)) out ≡ losses_bytes losses → PutsLosses losses result out
+  losses_are_too_many : DESK_BYTES < length (losses_bytes losses) → result ≡ Err NoRoom → PutsLosses losses result out
+
+abbrev pub ShowsLosses : Result (Vec (ℕ × ℕ)) Refusal → Result ℕ DeskFault → List ℕ → List ℕ → Type 0
+ShowsLosses (Ok losses) result before out = PutsLosses losses.items result out
+ShowsLosses (Err refusal) result before out = (result ≡ Err (Refused refusal)) × (out ≡ before)
+
+pub record TellsFailure (n : ℕ) (result : Result ℕ DeskFault) (before out : List ℕ) (m : Machine) (es : Told) (m' : Machine) : Type 0 where
   pub failed : Result (Vec (ℕ × ℕ)) Refusal
-  pub shown : ShowsLosses failed result out
+  pub shown : ShowsLosses failed result before out
   pub event : IsEvent (fail n) (failing_answer failed) m es m'
 
 pub record TellsReturn (n : ℕ) (result : Result ℕ DeskFault) (m : Machine) (es : Told) (m' : Machine) : Type 0 where
@@ -108,15 +124,25 @@ pub record TellsLength (result : Result ℕ DeskFault) (m : Machine) (es : Told)
   pub result_is : result ≡ Ok (length m.history)
   pub nothing : Nothing m es m'
 
--- what it does, with its result, and with what stands in the bytes then
-abbrev pub DoesAt : ClusterCall → DeskRequest → Result ℕ DeskFault → List ℕ → Machine → Told → Machine → Type 0
-DoesAt Open r result out m es m' = TellsEvent number_told opened_answer (open_client r.node Pessimistic) result m es m'
-DoesAt Crash r result out m es m' = TellsEvent done_told crashing_answer (crash r.client) result m es m'
-DoesAt Fail r result out m es m' = TellsFailure r.node result out m es m'
-DoesAt Back r result out m es m' = TellsReturn r.node result m es m'
-DoesAt Legal r result out m es m' = TellsLegal result m es m'
-DoesAt Round r result out m es m' = TellsRound result m es m'
-DoesAt History r result out m es m' = TellsLength result m es m'
+-- what it does, with its result, and with the bytes before it and then
+abbrev pub DoesAt : ClusterCall → DeskRequest → Result ℕ DeskFault → List ℕ → List ℕ → Files → Told → Files → Type 0
+DoesAt Open r result before out files es left = OpensClient r result files es left
+DoesAt Crash r result before out files es left = TellsEvent done_told crashing_answer (crash r.client) result (cluster_seen files) es (cluster_seen left)
+DoesAt Fail r result before out files es left = TellsFailure r.node result before out (cluster_seen files) es (cluster_seen left)
+DoesAt Back r result before out files es left = TellsReturn r.node result (cluster_seen files) es (cluster_seen left)
+DoesAt Legal r result before out files es left = TellsLegal result (cluster_seen files) es (cluster_seen left)
+DoesAt Round r result before out files es left = TellsRound result (cluster_seen files) es (cluster_seen left)
+DoesAt History r result before out files es left = TellsLength result (cluster_seen files) es (cluster_seen left)
+
+-- but for a failure, which shows who lost calls, the bytes stay
+abbrev pub LeavesBytes : ClusterCall → List ℕ → List ℕ → Type 0
+LeavesBytes Fail before out = Unit {0}
+LeavesBytes Open before out = out ≡ before
+LeavesBytes Crash before out = out ≡ before
+LeavesBytes Back before out = out ≡ before
+LeavesBytes Legal before out = out ≡ before
+LeavesBytes Round before out = out ≡ before
+LeavesBytes History before out = out ≡ before
 
 -- ---- a call of a client
 
@@ -133,15 +159,15 @@ pub data CallsAt (turns : ℕ) (call : ClientCall) (r : DeskRequest) (bytes : Li
 
 -- ---- a reply
 
-abbrev pub ShowsIfOk : Result Reply DeskFault → ℕ → Result ℕ DeskFault → ℕ → List ℕ → Type 0
-ShowsIfOk (Ok reply) first result stands out = ShowsReply reply first result stands out
-ShowsIfOk (Err fault) first result stands out = result ≡ Err fault
+abbrev pub ShowsIfOk : Result Reply DeskFault → ℕ → Result ℕ DeskFault → List ℕ → List ℕ → ℕ → ℕ → Type 0
+ShowsIfOk (Ok reply) first result before out stood stands = ShowsReply reply first result before out stood stands
+ShowsIfOk (Err fault) first result before out stood stands = ShowsResult (Err fault) result before out stood stands
 
 -- a client's call is made, and its reply shown
-pub record IsServedTo (call : ClientCall) (r : DeskRequest) (bytes : List ℕ) (files : Files) (result : Result ℕ DeskFault) (out : List ℕ) (stands : ℕ) (left : Files) : Type 0 where
+pub record IsServedTo (call : ClientCall) (r : DeskRequest) (before out : List ℕ) (stood stands : ℕ) (files : Files) (result : Result ℕ DeskFault) (left : Files) : Type 0 where
   pub reply : Result Reply DeskFault
-  pub made : (es : Told) × CallsAt (most_tries files) call r bytes reply (cluster_seen files) es (cluster_seen left)
-  pub shown : ShowsIfOk reply r.first result stands out
+  pub made : (es : Told) × CallsAt (most_tries files) call r before reply (cluster_seen files) es (cluster_seen left)
+  pub shown : ShowsIfOk reply r.first result before out stood stands
 
 -- ---- a desk
 
@@ -156,6 +182,10 @@ files_at desk = owned desk.files
 abbrev pub cluster_at : CallerDesk → Option Machine
 cluster_at desk = option_map cluster_seen (files_at desk)
 
+-- the bytes, and what stands at the path, are as they were
+abbrev pub LeavesDesk : CallerDesk → CallerDesk → Type 0
+LeavesDesk d d' = LeavesShown d.bytes d'.bytes d.stands d'.stands
+
 -- it is served by a cluster
 abbrev pub NeedsCluster : DeskCall → Type 0
 NeedsCluster Make = ⊥
@@ -163,17 +193,27 @@ NeedsCluster Free = ⊥
 NeedsCluster (Cluster call) = Unit {0}
 NeedsCluster (Client call) = Unit {0}
 
+-- a request that no cluster serves: the bytes, and what stands at the path, are as they were
+pub data AnswersAlone (d : CallerDesk) (result : Result ℕ DeskFault) (d' : CallerDesk) : Type 0 where
+  is_no_request : ((call : DeskCall) → desk_call_number call ≢ d.request.call) → result ≡ Err BadRequest → files_at d' ≡ files_at d → AnswersAlone d result d'
+  request_makes : (files : Files) → desk_call_number Make ≡ d.request.call → IsClusterMade d.request files → files_at d' ≡ Some files → result ≡ Ok 0 → AnswersAlone d result d'
+  request_makes_none : (fault : DeskFault) → desk_call_number Make ≡ d.request.call → MayNotMake d.request fault → files_at d' ≡ files_at d → result ≡ Err fault → AnswersAlone d result d'
+  request_frees : desk_call_number Free ≡ d.request.call → files_at d' ≡ None → result ≡ Ok 0 → AnswersAlone d result d'
+  has_no_cluster : (call : DeskCall) → desk_call_number call ≡ d.request.call → NeedsCluster call → files_at d ≡ None → files_at d' ≡ None → result ≡ Err NoCluster → AnswersAlone d result d'
+
+-- a cluster that serves a request, and what it is then: a call is tried as often as before
+pub record IsServedBy (d d' : CallerDesk) (files left : Files) : Type 0 where
+  pub from : files_at d ≡ Some files
+  pub leaves : files_at d' ≡ Some left
+  pub turns : most_tries left ≡ most_tries files
+
 -- what a desk's request is answered with, and what is left of the desk
 pub data AnswersRequest (d : CallerDesk) (result : Result ℕ DeskFault) (d' : CallerDesk) : Type 0 where
-  is_no_request : ((call : DeskCall) → desk_call_number call ≢ d.request.call) → result ≡ Err BadRequest → files_at d' ≡ files_at d → AnswersRequest d result d'
-  request_makes : (files : Files) → desk_call_number Make ≡ d.request.call → IsClusterMade d.request files → files_at d' ≡ Some files → result ≡ Ok 0 → AnswersRequest d result d'
-  request_makes_none : (fault : DeskFault) → desk_call_number Make ≡ d.request.call → MayNotMake d.request fault → files_at d' ≡ files_at d → result ≡ Err fault → AnswersRequest d result d'
-  request_frees : desk_call_number Free ≡ d.request.call → files_at d' ≡ None → result ≡ Ok 0 → AnswersRequest d result d'
-  has_no_cluster : (call : DeskCall) → desk_call_number call ≡ d.request.call → NeedsCluster call → files_at d ≡ None → files_at d' ≡ None → result ≡ Err NoCluster → AnswersRequest d result d'
-  request_manages : (call : ClusterCall) (files left : Files) → desk_call_number (Cluster call) ≡ d.request.call → files_at d ≡ Some files → files_at d' ≡ Some left →
-      (es : Told) × DoesAt call d.request result d'.bytes (cluster_seen files) es (cluster_seen left) → AnswersRequest d result d'
-  request_calls : (call : ClientCall) (files left : Files) → desk_call_number (Client call) ≡ d.request.call → files_at d ≡ Some files → files_at d' ≡ Some left →
-      IsServedTo call d.request d.bytes files result d'.bytes d'.stands left → AnswersRequest d result d'
+  answers_alone : AnswersAlone d result d' → LeavesDesk d d' → AnswersRequest d result d'
+  request_manages : (call : ClusterCall) (files left : Files) → desk_call_number (Cluster call) ≡ d.request.call → IsServedBy d d' files left →
+      (es : Told) × DoesAt call d.request result d.bytes d'.bytes files es left → LeavesBytes call d.bytes d'.bytes → d'.stands ≡ d.stands → AnswersRequest d result d'
+  request_calls : (call : ClientCall) (files left : Files) → desk_call_number (Client call) ≡ d.request.call → IsServedBy d d' files left →
+      IsServedTo call d.request d.bytes d'.bytes d.stands d'.stands files result left → AnswersRequest d result d'
 
 -- a desk, and what it is when its request is served
 pub record IsServedAt (d d' : CallerDesk) : Type 0 where

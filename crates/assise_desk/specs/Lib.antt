@@ -1,6 +1,7 @@
 pub mod FaultCodes
 pub mod CallNumbers
 pub mod RequestedOps
+pub mod NamedKinds
 pub mod Pages
 pub mod ShownReplies
 pub mod DeskAnswers

@@ -1,5 +1,5 @@
 -- The call of a client that a request asks for.
-use Rattle.std.specs.Prelude.{◌≡◌, ◌⊎◌, ℕ, ◌-◌, ◌<◌, min, List, take, drop, Ok, Err}
+use Rattle.std.specs.Prelude.{◌≡◌, ℕ, ◌+◌, ◌<◌, ◌≤◌, min, List, take, drop, Ok, Err}
 use Rattle.std.specs.Str.{IsUtf8}
 use Rattle.assise_names.specs.Path.{path_of}
 use Rattle.assise_names.specs.declared.call.Op.{Op}
@@ -56,6 +56,11 @@ RequestsOp Listing r bytes others op = RequestsAt bytes ops.List op
 RequestsOp Stat r bytes others op = RequestsAt bytes ops.Stat op
 RequestsOp Fsync r bytes others op = op ≡ ops.Fsync
 
+-- of two paths the first's fault is told, and the other's only where the first is a path
+pub data MayFaultEither (bytes others : List ℕ) (fault : DeskFault) : Type 0 where
+  first_faults : MayFaultPath bytes fault → MayFaultEither bytes others fault
+  other_faults : (path : List (List ℕ)) → PathIs bytes path → MayFaultPath others fault → MayFaultEither bytes others fault
+
 -- why it asks for none
 abbrev pub MayFault : ClientCall → List ℕ → List ℕ → DeskFault → Type 0
 MayFault Create bytes others fault = MayFaultPath bytes fault
@@ -63,7 +68,7 @@ MayFault Mkdir bytes others fault = MayFaultPath bytes fault
 MayFault Read bytes others fault = MayFaultPath bytes fault
 MayFault Write bytes others fault = MayFaultPath bytes fault
 MayFault Truncate bytes others fault = MayFaultPath bytes fault
-MayFault Rename bytes others fault = MayFaultPath bytes fault ⊎ MayFaultPath others fault
+MayFault Rename bytes others fault = MayFaultEither bytes others fault
 MayFault Unlink bytes others fault = MayFaultPath bytes fault
 MayFault Rmdir bytes others fault = MayFaultPath bytes fault
 MayFault Listing bytes others fault = MayFaultPath bytes fault
@@ -78,11 +83,16 @@ path_asked r bytes = take r.path_bytes bytes
 abbrev pub other_asked : DeskRequest → List ℕ → List ℕ
 other_asked r bytes = take r.other_bytes (drop r.path_bytes bytes)
 
+-- a desk has room for the path and the bytes behind it
+abbrev pub HasRoom : DeskRequest → Type 0
+HasRoom r = r.path_bytes + r.other_bytes ≤ DESK_BYTES
+
 -- the call that the request asks for, with its path and the bytes behind it
-abbrev pub IsRequestedAt : ClientCall → DeskRequest → List ℕ → Op → Type 0
-IsRequestedAt call r bytes op = RequestsOp call r (path_asked r bytes) (other_asked r bytes) op
+pub record IsRequestedAt (call : ClientCall) (r : DeskRequest) (bytes : List ℕ) (op : Op) : Type 0 where
+  pub room : HasRoom r
+  pub asked : RequestsOp call r (path_asked r bytes) (other_asked r bytes) op
 
 -- it asks for none: its bytes are more than a desk has, or spell no path, or there is no memory for it
 pub data MayAskForNone (call : ClientCall) (r : DeskRequest) (bytes : List ℕ) (fault : DeskFault) : Type 0 where
-  has_too_many_bytes : (DESK_BYTES < r.path_bytes) ⊎ (DESK_BYTES - r.path_bytes < r.other_bytes) → fault ≡ faults.BadRequest → MayAskForNone call r bytes fault
-  has_no_call : MayFault call (path_asked r bytes) (other_asked r bytes) fault → MayAskForNone call r bytes fault
+  has_too_many_bytes : DESK_BYTES < r.path_bytes + r.other_bytes → fault ≡ faults.BadRequest → MayAskForNone call r bytes fault
+  has_no_call : HasRoom r → MayFault call (path_asked r bytes) (other_asked r bytes) fault → MayAskForNone call r bytes fault

@@ -2,7 +2,8 @@
 ghost use Rattle.std.specs.Prelude.{◌≡◌, IfErr, IfOk, None};
 ghost use Rattle.assise_files.specs.FilesSeen.{cluster_seen, most_tries};
 ghost use Rattle.assise_rounds.specs.Traces.{Told};
-ghost use Rattle.assise_desk.specs.DeskAnswers.{CallsAt, DoesAt, AnswersRequest, IsClusterMade, IsServedAt, IsServedTo, MayNotMake, ShowsLosses, cluster_at, number_told, done_told, replied_at, result_shown};
+ghost use Rattle.assise_desk.specs.NamedKinds.{NamesKind};
+ghost use Rattle.assise_desk.specs.DeskAnswers.{CallsAt, DoesAt, AnswersRequest, IsClusterMade, IsServedAt, IsServedTo, LeavesBytes, MayNotMake, ShowsLosses, cluster_at, number_told, done_told, replied_at, result_shown};
 
 use crate::desk_call::{ClientCall, ClusterCall, DeskCall};
 use crate::desk_fault::DeskFault;
@@ -135,8 +136,10 @@ fn manage(
     request: &DeskRequest,
     out: &mut [u8; DESK_BYTES],
 ) -> Result<u64, DeskFault>
-    ensures { (es : Told) × DoesAt call request.now result out.new
-        (cluster_seen files.old) es (cluster_seen files.new) }
+    ensures does { (es : Told) × DoesAt call request.now result out.old out.new
+        files.old es files.new }
+    ensures bytes { LeavesBytes call out.old out.new }
+    ensures turns { most_tries files.new ≡ most_tries files.old }
 {
     match call {
         ClusterCall::Open => number_told(files.open(
@@ -178,7 +181,7 @@ fn show_losses(
     losses: Result<Vec<(u32, u64)>, Refusal>,
     out: &mut [u8; DESK_BYTES],
 ) -> Result<u64, DeskFault>
-    ensures { ShowsLosses losses result out.new }
+    ensures { ShowsLosses losses result out.old out.new }
 {
     match losses {
         Ok(losses) => match place_losses(losses.as_slice(), out) {
@@ -190,7 +193,9 @@ fn show_losses(
 }
 
 /// The kind of revoker that a number names.
-fn cut_kind_of(number: u32) -> CutKind {
+fn cut_kind_of(number: u32) -> CutKind
+    ensures { NamesKind number result }
+{
     match number {
         1 => CutKind::Whole,
         2 => CutKind::Eights,
@@ -206,8 +211,9 @@ fn make_call(
     request: &DeskRequest,
     bytes: &[u8; DESK_BYTES],
 ) -> Result<Reply, DeskFault>
-    ensures { (es : Told) × CallsAt (most_tries files.old) call request.now bytes.now result
+    ensures calls { (es : Told) × CallsAt (most_tries files.old) call request.now bytes.now result
         (cluster_seen files.old) es (cluster_seen files.new) }
+    ensures turns { most_tries files.new ≡ most_tries files.old }
 {
     match request.op_at(alloc, call, bytes) {
         Ok(op) => replied_at(files.call(alloc, request.client, &op)),
@@ -234,8 +240,9 @@ fn serve_client(
     bytes: &mut [u8; DESK_BYTES],
     stands: &mut u64,
 ) -> Result<u64, DeskFault>
-    ensures { IsServedTo call request.now bytes.old files.old
-        result bytes.new stands.new files.new }
+    ensures served { IsServedTo call request.now bytes.old bytes.new stands.old stands.new
+        files.old result files.new }
+    ensures turns { most_tries files.new ≡ most_tries files.old }
 {
     match make_call(alloc, files, call, request, bytes) {
         Ok(reply) => show_reply(&reply, request.first, bytes, stands),

@@ -3,6 +3,8 @@ ghost use Rattle.std.specs.Prelude.{List, Result, ℕ};
 ghost use Rattle.assise_names.specs.declared.reply.Reply.{Reply};
 ghost use Rattle.assise_model_events.specs.Machine.{Machine};
 ghost use Rattle.assise_rounds.specs.Traces.{IsEventTrace, Told};
+ghost use Rattle.assise_files.specs.FilesSeen.{cluster_seen};
+ghost use Rattle.assise_files.specs.declared.files.Files.{Files};
 ghost use Rattle.assise_desk.specs.DeskAnswers.{CallsAt, DoesAt};
 ghost use Rattle.assise_desk.specs.declared.desk_call.ClientCall.{ClientCall};
 ghost use Rattle.assise_desk.specs.declared.desk_call.ClusterCall.{ClusterCall};
@@ -13,8 +15,9 @@ ghost use Rattle.assise_desk.specs.declared.desk_request.DeskRequest.{DeskReques
 /// entries (`a_trace_keeps_the_history_legal` of `assise_rounds`). A request that makes a cluster, or lets it go, is none.
 pub fn a_request_is_a_trace_of_events()
     ensures cluster { (call : ClusterCall) (r : DeskRequest) (result : Result ℕ DeskFault)
-        (out : List ℕ) (m : Machine) (es : Told) (m' : Machine) →
-        DoesAt call r result out m es m' → IsEventTrace m es m' }
+        (before out : List ℕ) (files : Files) (es : Told) (left : Files) →
+        DoesAt call r result before out files es left →
+        IsEventTrace (cluster_seen files) es (cluster_seen left) }
     ensures client { (turns : ℕ) (call : ClientCall) (r : DeskRequest) (bytes : List ℕ)
         (result : Result Reply DeskFault) (m : Machine) (es : Told) (m' : Machine) →
         CallsAt turns call r bytes result m es m' → IsEventTrace m es m' }

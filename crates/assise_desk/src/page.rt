@@ -14,6 +14,7 @@ pub(crate) fn place_bytes(bytes: &[u8], out: &mut [u8; DESK_BYTES]) -> Result<us
     ensures few { IfOk result (λ count. count ≤ DESK_BYTES) }
     ensures no_room { IfErr result (λ fault. fault ≡ NoRoom) }
     ensures too_many { IfErr result (λ fault. DESK_BYTES < length bytes.now) }
+    ensures stays { IfErr result (λ fault. out.new ≡ out.old) }
 {
     place_at(bytes, out, 0).ok_or(DeskFault::NoRoom)
 }
@@ -59,14 +60,18 @@ pub(crate) fn place_losses(
     losses: &[(u32, u64)],
     out: &mut [u8; DESK_BYTES],
 ) -> Result<usize, DeskFault>
+    ensures count { IfOk result (λ count. count ≡ length (losses_bytes losses.now)) }
     ensures written { IfOk result (λ count. take count out.new ≡ losses_bytes losses.now) }
     ensures few { IfOk result (λ count. count ≤ DESK_BYTES) }
     ensures no_room { IfErr result (λ fault. fault ≡ NoRoom) }
+    ensures too_many { IfErr result (λ fault. DESK_BYTES < length (losses_bytes losses.now)) }
 {
     let mut end = 0;
     for (client, call) in losses {
-        let next = place_loss(*client, *call, out, end).ok_or(DeskFault::NoRoom)?;
-        end = next;
+        match place_loss(*client, *call, out, end) {
+            Some(next) => end = next,
+            None => return Err(DeskFault::NoRoom),
+        }
     }
     Ok(end)
 }
@@ -75,6 +80,7 @@ pub(crate) fn place_losses(
 /// there is no room.
 fn place_loss(client: u32, call: u64, out: &mut [u8; DESK_BYTES], at: usize) -> Option<usize>
     requires { at ≤ DESK_BYTES }
+    ensures place { MatchOption result (DESK_BYTES < at + 12) (λ next. next ≡ at + 12) }
     ensures few { IfSome result (λ next. next ≤ DESK_BYTES) }
     ensures written { IfSome result (λ next.
         take next out.new ≡ take at out.old ++ loss_bytes (client, call)) }

@@ -13,7 +13,7 @@ pub(crate) fn show_reply(
     out: &mut [u8; DESK_BYTES],
     stands: &mut u64,
 ) -> Result<u64, DeskFault>
-    ensures { ShowsReply reply.now first result stands.new out.new }
+    ensures { ShowsReply reply.now first result out.old out.new stands.old stands.new }
 {
     match reply {
         Reply::Done => Ok(0),

@@ -71,10 +71,15 @@ impl Requests {
 }
 
 /// Behind each step its result, and behind that of a listing how many names there are. A step `often STEP` is made twenty times, and
-/// `files DIRECTORY` makes a hundred.
+/// `files DIRECTORY` makes a hundred. Behind `bytes TEXT` stands whether the desk's bytes begin with the text.
 impl Subject for Requests {
     fn put(&mut self, alloc: Global, steps: &str, text: &mut String) -> Option<()> {
         for step in steps.split("; ") {
+            if let ("bytes", begin) = split_word(step) {
+                let begins = self.desk.bytes.starts_with(begin.as_bytes());
+                write!(text, " {begins}").ok()?;
+                continue;
+            }
             match split_word(step) {
                 ("files", directory) => self.make_files(alloc, directory, 100)?,
                 ("often", again) => {

@@ -46,9 +46,39 @@ fn what_is_asked_wrongly(rt: HostRuntime) {
 open 1; stat 1 /; 0; 10; 27; make 0 8 4; make 17 8 4 => -301 -301 -302 -302 -302 -302 -302
 make 1 7 4; make 1 4097 4; make 1 8; make 1 8 4097; stat 1 / => -302 -302 -302 -302 -301
 make 2 8 4; open 3; open 1; open 2; stat 3 /; stat 1 a; stat 1 //; stat 1 /.. => 0 -108 1 2 -109 -201 -202 -203
+rename 1 a //; rename 1 // a => -201 -202
 create 1 /; rename 1 / /a; rename 1 /a b; stat 1 /a; create 1 /a; create 1 /a; list 1 /a => -2 -6 -201 -1 0 -2 -3 of 0
 mkdir 1 /d; read 1 0 1 /d; create 1 /d/b; rmdir 1 /d; truncate 1 1048577 /a => 0 -4 0 -5 -7
 fail 2; stat 2 /; fail 1; fail 2; back 1; back 2; crash 1; crash 1; stat 1 / => 0 -103 -107 -110 -110 0 0 -104 -104
+",
+    );
+}
+
+// A caller may keep a path in the desk over several calls: only what is read, names and lost calls come in its place.
+#[test]
+fn the_bytes_stay_but_for_an_answer_in_them(rt: HostRuntime) {
+    show(
+        rt.alloc(),
+        &rt,
+        "\
+make 1 64 8; open 1; mkdir 1 /d; bytes /d; create 1 /d/f; bytes /d/f; stat 1 /d/f; bytes /d/f => 0 1 0 true 0 true 0 true
+stat 1 /none; bytes /none; rename 1 /d/f /d/g; bytes /d/f/d/g; rename 1 a b; bytes ab => -1 true 0 true -201 true
+write 1 /d/g hi; bytes /d/ghi; read 1 0 9 /d/g; bytes hi; fsync 1; legal; bytes hi => 0 true 2 true 0 1 true
+",
+    );
+}
+
+#[test]
+fn lost_calls_of_nine_clients_have_room(rt: HostRuntime) {
+    show(
+        rt.alloc(),
+        &rt,
+        "\
+make 2 64 8; open 1; open 1; open 1; open 1; open 1; open 1; open 1; open 1; open 1 => 0 1 2 3 4 5 6 7 8 9
+mkdir 1 /a; mkdir 1 /b; mkdir 1 /c; mkdir 1 /d; mkdir 1 /e; mkdir 1 /f; mkdir 1 /g; mkdir 1 /h; mkdir 1 /i => 0 0 0 0 0 0 0 0 0
+create 1 /a/f; create 2 /b/f; create 3 /c/f; create 4 /d/f; create 5 /e/f; create 6 /f/f; create 7 /g/f; create 8 /h/f; create 9 /i/f => 0 0 0 0 0 0 0 0 0
+create 1 /a/g; create 2 /b/g; create 3 /c/g; create 4 /d/g; create 5 /e/g; create 6 /f/g; create 7 /g/g; create 8 /h/g; create 9 /i/g => 0 0 0 0 0 0 0 0 0
+fail 1 => 108
 ",
     );
 }

@@ -1,37 +1,47 @@
 use Rattle.std.proofs.Common.{refl, ap}
 use Rattle.assise_desk.specs.declared.desk_call.DeskCall.TheVariants.{Client, Cluster, Make}
-use Rattle.assise_desk.specs.DeskAnswers.{request_calls, has_no_cluster, request_makes, request_makes_none, request_manages, owned}
+use Rattle.assise_desk.specs.DeskAnswers.{answers_alone, request_calls, has_no_cluster, request_makes, request_makes_none, request_manages, owned}
 use Rattle.assise_desk.proofs.DeskSteps.{number_is, owned_is}
 use Rattle.assise_desk.proofs.caller_desk.answer_request.Goals as goal
 
 pub returns-in-Ok-clause-answered : goal.returns-in-Ok-clause-answered
 returns-in-Ok-clause-answered c =
-    request_makes c.in-Ok.files.value (number_is c.in-Some-Make.field-0 Make c.args.desk.now.request.call c.in-Some-Make.field-0-is c.in-Some-Make.ensures) c.in-Ok.ensures.made refl refl
+    answers_alone (request_makes c.in-Ok.files.value (number_is c.in-Some-Make.field-0 Make c.args.desk.now.request.call c.in-Some-Make.field-0-is c.in-Some-Make.ensures) c.in-Ok.ensures.made refl refl)
+    record { bytes = refl; stays = refl }
 
 pub returns-in-Err-clause-answered : goal.returns-in-Err-clause-answered
 returns-in-Err-clause-answered c =
-    request_makes_none c.in-Err.fault (number_is c.in-Some-Make.field-0 Make c.args.desk.now.request.call c.in-Some-Make.field-0-is c.in-Some-Make.ensures) c.in-Err.ensures.fault refl refl
+    answers_alone (request_makes_none c.in-Err.fault (number_is c.in-Some-Make.field-0 Make c.args.desk.now.request.call c.in-Some-Make.field-0-is c.in-Some-Make.ensures) c.in-Err.ensures.fault refl refl)
+    record { bytes = refl; stays = refl }
 
 pub returns-in-None-files-clause-answered : goal.returns-in-None-files-clause-answered
 returns-in-None-files-clause-answered c =
-    has_no_cluster (Cluster c.in-Some-Cluster.call)
+    answers_alone (has_no_cluster (Cluster c.in-Some-Cluster.call)
     (number_is c.in-Some-Cluster.field-0 (Cluster c.in-Some-Cluster.call) c.args.desk.now.request.call c.in-Some-Cluster.field-0-is c.in-Some-Cluster.ensures) tt
-    (ap owned c.in-None-files.is) (ap owned c.in-None-files.is) refl
+    (ap owned c.in-None-files.is) (ap owned c.in-None-files.is) refl) record { bytes = refl; stays = refl }
 
 pub returns-in-Some-clause-answered : goal.returns-in-Some-clause-answered
 returns-in-Some-clause-answered c =
     request_manages c.in-Some-Cluster.call c.deref_mut.result.now c.manage.new.files
     (number_is c.in-Some-Cluster.field-0 (Cluster c.in-Some-Cluster.call) c.args.desk.now.request.call c.in-Some-Cluster.field-0-is c.in-Some-Cluster.ensures)
-    (owned_is c.args.desk.now.files c.in-Some.files c.deref_mut.result.now c.in-Some.is c.deref_mut.ensures.value) refl c.manage.ensures
+    record {
+      from = owned_is c.args.desk.now.files c.in-Some.files c.deref_mut.result.now c.in-Some.is c.deref_mut.ensures.value;
+      leaves = refl;
+      turns = c.manage.ensures.turns;
+    } c.manage.ensures.does c.manage.ensures.bytes refl
 
 pub returns-in-None-files-2-clause-answered : goal.returns-in-None-files-2-clause-answered
 returns-in-None-files-2-clause-answered c =
-    has_no_cluster (Client c.in-Some-Client.call)
+    answers_alone (has_no_cluster (Client c.in-Some-Client.call)
     (number_is c.in-Some-Client.field-0 (Client c.in-Some-Client.call) c.args.desk.now.request.call c.in-Some-Client.field-0-is c.in-Some-Client.ensures) tt
-    (ap owned c.in-None-files-2.is) (ap owned c.in-None-files-2.is) refl
+    (ap owned c.in-None-files-2.is) (ap owned c.in-None-files-2.is) refl) record { bytes = refl; stays = refl }
 
 pub returns-in-Some-files-clause-answered : goal.returns-in-Some-files-clause-answered
 returns-in-Some-files-clause-answered c =
     request_calls c.in-Some-Client.call c.deref_mut-in-Some-files.result.now c.serve_client.new.files
     (number_is c.in-Some-Client.field-0 (Client c.in-Some-Client.call) c.args.desk.now.request.call c.in-Some-Client.field-0-is c.in-Some-Client.ensures)
-    (owned_is c.args.desk.now.files c.in-Some-files.files c.deref_mut-in-Some-files.result.now c.in-Some-files.is c.deref_mut-in-Some-files.ensures.value) refl c.serve_client.ensures
+    record {
+      from = owned_is c.args.desk.now.files c.in-Some-files.files c.deref_mut-in-Some-files.result.now c.in-Some-files.is c.deref_mut-in-Some-files.ensures.value;
+      leaves = refl;
+      turns = c.serve_client.ensures.turns;
+    } c.serve_client.ensures.served

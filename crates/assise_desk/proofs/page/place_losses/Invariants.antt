@@ -1,4 +1,4 @@
-use Rattle.std.proofs.Common.{◌≡◌, ◌≤◌, take}
+use Rattle.std.proofs.Common.{◌≡◌, ◌*◌, ◌≤◌, take}
 use Rattle.assise_desk.specs.Pages.{losses_bytes}
 use Rattle.assise_desk.specs.declared.desk_request.TheConstants.{DESK_BYTES}
 use Rattle.assise_desk.proofs.page.place_losses.Given as goal
@@ -7,5 +7,6 @@ use Rattle.assise_desk.proofs.page.place_losses.Given as goal
 abbrev pub invariant-loop-client : goal.invariant-loop-client
 invariant-loop-client l = record {
   written : take l.end l.out ≡ losses_bytes (take l.client-index l.losses);
+  end : l.end ≡ 12 * l.client-index;
   few : l.end ≤ DESK_BYTES;
 }

@@ -1,5 +1,6 @@
-use Rattle.std.proofs.Common.{rules, inr}
+use Rattle.std.proofs.Common.{rules}
 use Rattle.std.proofs.lemmas.Result.{err_from_is_err_and}
+use Rattle.assise_desk.specs.RequestedOps.{other_faults}
 use Rattle.assise_desk.proofs.PathFaults.{fault_of_path}
 use Rattle.assise_desk.proofs.desk_request.DeskRequest.op.Goals as goal
 
@@ -11,4 +12,4 @@ returns-in_err-path-clause-err c =
 pub returns-in_err-path_at-in-Rename-clause-err : goal.returns-in_err-path_at-in-Rename-clause-err
 returns-in_err-path_at-in-Rename-clause-err c =
     let p = err_from_is_err_and c.from_residual-in_err-path_at-in-Rename.result c.from_residual-in_err-path_at-in-Rename.ensures.1 in
-    rw (p.1, p.2, c.in-Rename.is) (inr c.in_err-path_at-in-Rename.ensures.err)
+    rw (p.1, p.2, c.in-Rename.is) (other_faults c.in_ok-path.path c.in_ok-path.ensures.ok c.in_err-path_at-in-Rename.ensures.err)
