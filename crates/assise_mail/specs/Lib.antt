@@ -1,2 +1,3 @@
 pub mod Delivery
 pub mod DueCalls
+pub mod Faults

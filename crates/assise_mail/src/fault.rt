@@ -1,4 +1,6 @@
 // Why a call of the mail store came to nothing.
+ghost use Rattle.std.specs.Prelude.{Some};
+ghost use Rattle.assise_mail.specs.Faults.{mail_fault_text};
 
 use assise_names::refusal::Refusal;
 use assise_names::reply::Reply;
@@ -17,6 +19,8 @@ pub enum MailFault {
 }
 
 impl Display for MailFault {
+    ghost output = { λ fault. Some (mail_fault_text fault) };
+
     fn fmt<W: fmt::Write>(&self, f: &mut Formatter<W>) -> fmt::Result {
         match self {
             MailFault::Refused(refusal) => write!(f, "refused: {refusal}"),
