@@ -4,4 +4,5 @@ mod Busy
 mod CarriedFrames
 mod Faithful
 pub mod NodeLinks
+mod LastNode
 mod RoundSteps

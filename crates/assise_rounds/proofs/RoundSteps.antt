@@ -1,7 +1,8 @@
 -- Rounds, node by node, and tries of a call with rounds behind them.
 use Rattle.std.specs.Prelude.{◌==◌, ◌||◌}
-use Rattle.std.proofs.Common.{◌≡◌, ◌≤◌, ◌<◌, ℕ, zero, suc, ◌+◌, ◌-◌, Bool, true, false, not, List, [], ◌∷◌, ◌++◌, map, length, Option, None, Some, Result, Err, is_none, refl, ap, sym, subst, ◌∙◌, arith}
+use Rattle.std.proofs.Common.{◌≡◌, ◌≤◌, ◌<◌, ℕ, zero, suc, ◌+◌, ◌-◌, Bool, true, false, not, List, [], ◌∷◌, ◌++◌, map, length, Option, None, Some, Result, Err, is_none, inl, inr, refl, ap, sym, subst, ◌∙◌, arith}
 use Rattle.std.proofs.Math.Bool.{or_assoc}
+use Rattle.std.proofs.lemmas.Bool.{cases_eq}
 use Rattle.assise_names.specs.declared.call.Op.{Op}
 use Rattle.assise_names.specs.declared.refusal.Refusal.{Refusal}
 use Rattle.assise_names.specs.declared.refusal.Refusal.TheVariants.{Busy}
@@ -61,6 +62,32 @@ faulty_next Does n m v so_far some faulty (es, before) = (
     work = no_more_work so_far es before.work;
   },
 )
+
+-- the nodes behind one that isn't there
+pub none_behind : (Does : ℕ → Machine → Told → Machine → Type 0) (n last : ℕ) (m v : Machine) (so_far : Bool) → 1 ≤ n → n - 1 ≤ last → ((j : ℕ) → n ≤ j → is_none (node_fault v j) ≡ false)
+    → (es : Told) × WithWork (EachFull Does (n - 1)) so_far m es v → (gs : Told) × WithWork (EachFull Does last) so_far m gs v
+none_behind Does n zero m v so_far some low none before =
+    let same : n - 1 ≡ 0 = omega (arith, low) in
+    subst (λ k. (es : Told) × WithWork (EachFull Does k) so_far m es v) same before
+none_behind Does n (suc last) m v so_far some low none before =
+    elim (cases_eq (n - 1) (suc last)) [
+      | inl same ↦ subst (λ k. (es : Told) × WithWork (EachFull Does k) so_far m es v) same before
+      | inr other ↦
+          let (es, h) = none_behind Does n last m v so_far some (omega (arith, low, other)) none before in (
+            es ++ [],
+            record {
+              does = record {
+                between = v;
+                before = es;
+                after = [];
+                told = refl;
+                first = h.does;
+                second = faulty_does (node_fault v (suc last)) (Does (suc last)) v (none (suc last) (omega (arith, some, low, other)));
+              };
+              work = no_more_work so_far es h.work;
+            },
+          )
+    ]
 
 -- ---- what a node does in a round
 

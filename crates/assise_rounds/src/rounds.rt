@@ -1,5 +1,6 @@
 // What a cluster does between the tries of a call: replicate turns, and rounds.
-ghost use Rattle.std.specs.Prelude.{◌≡◌, ◌≤◌, IfErr, IfOk, is_none, length, map, true};
+ghost use Rattle.std.specs.Prelude.{◌≡◌, ◌≤◌, IfErr, IfOk, Some, false, is_none, length, map, true};
+ghost use Rattle.assise_names.specs.declared.refusal.Refusal.TheVariants.{BadNode};
 ghost use Rattle.assise_names.specs.declared.limits.TheConstants.{MOST_NODES};
 ghost use Rattle.assise_model_events.specs.Events.{refused, released};
 ghost use Rattle.assise_model_events.specs.Faults.{node_fault};
@@ -123,6 +124,9 @@ fn replicate_all<C: Revokes + Drop, L: Link>(
 {
     let mut busy = false;
     for node in 1..=MOST_NODES {
+        if !is_there(cluster, node) {
+            return busy;
+        }
         if is_full(cluster, node) {
             busy |= take_turn(alloc, cluster, &mut links[node as usize - 1], node);
         }
@@ -158,6 +162,9 @@ fn digest_all<C: Revokes + Drop>(alloc: Global, cluster: &mut ClusterOf<C>) -> b
 {
     let mut busy = false;
     for node in 1..=MOST_NODES {
+        if !is_there(cluster, node) {
+            return busy;
+        }
         if is_full(cluster, node) {
             busy |= digest(alloc, cluster, node);
         }
@@ -181,6 +188,13 @@ fn release<C: Revokes + Drop>(cluster: &mut ClusterOf<C>) -> usize
     ensures { Releasing (machine cluster.old) (released result) (machine cluster.new) }
 {
     cluster.release_ready()
+}
+
+/// Whether there is such a node. Where there isn't, there is none of a greater number.
+fn is_there<C: Revokes + Drop>(cluster: &ClusterOf<C>, node: u32) -> bool
+    ensures { result ≡ false → node_fault (machine cluster.now) node ≡ Some BadNode }
+{
+    !matches!(cluster.region(node), Err(Refusal::BadNode))
 }
 
 fn is_full<C: Revokes + Drop>(cluster: &ClusterOf<C>, node: u32) -> bool

@@ -3,7 +3,8 @@ use Rattle.assise_names.specs.declared.limits.TheConstants.{MOST_NODES}
 use Rattle.assise_machine.specs.Clusters.{machine}
 use Rattle.assise_rounds.specs.Traces.{Told}
 use Rattle.assise_rounds.specs.Rounds.{EachFull, DigestsOnce, WithWork}
-use Rattle.assise_rounds.proofs.RoundSteps.{faulty_next, full_next}
+use Rattle.assise_rounds.proofs.LastNode.{none_there}
+use Rattle.assise_rounds.proofs.RoundSteps.{faulty_next, full_next, none_behind}
 use Rattle.assise_rounds.proofs.rounds.digest_all.Goals as goal
 use Rattle.assise_rounds.proofs.rounds.digest_all.Goals.{else-is_full, then-is_full}
 
@@ -24,6 +25,14 @@ loop-node-preserved g c =
           let faulty = sym c.is_full.ensures ∙ w.if-is_full.false in
           rw w.cluster-is (rw w.busy-is (faulty_next DigestsOnce k m v c.loop-node.busy c.loop-node.auto.node faulty c.loop-node.invariant))
     ]
+
+pub returns-then-not-is_there : goal.returns-then-not-is_there
+returns-then-not-is_there g c =
+    let v = machine c.loop-node.cluster in
+    let k = c.loop-node.node in
+    let some = c.loop-node.auto.node in
+    let none = λ j far. none_there v k j some (c.is_there.ensures c.if-not-is_there.true) far in
+    none_behind DigestsOnce k MOST_NODES (machine c.args.cluster.now) v c.loop-node.busy some (omega (arith, c.loop-node.auto.node-end)) none c.loop-node.invariant
 
 pub returns : goal.returns
 returns g c =

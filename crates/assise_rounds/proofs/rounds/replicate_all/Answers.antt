@@ -6,7 +6,8 @@ use Rattle.assise_rounds.specs.NodeLinks.{FaithfulAt}
 use Rattle.assise_rounds.specs.Rounds.{EachFull, TakesTurn, WithWork}
 use Rattle.assise_rounds.proofs.Faithful.{turn_over}
 use Rattle.assise_rounds.proofs.NodeLinks.{at_node, set_same, still}
-use Rattle.assise_rounds.proofs.RoundSteps.{faulty_next, full_next}
+use Rattle.assise_rounds.proofs.LastNode.{none_there}
+use Rattle.assise_rounds.proofs.RoundSteps.{faulty_next, full_next, none_behind}
 use Rattle.assise_rounds.proofs.rounds.replicate_all.Goals as goal
 use Rattle.assise_rounds.proofs.rounds.replicate_all.Goals.{else-is_full, then-is_full}
 
@@ -38,6 +39,15 @@ loop-node-preserved g c =
             stay = before.stay;
           })))
     ]
+
+pub returns-then-not-is_there-clause-each : goal.returns-then-not-is_there-clause-each
+returns-then-not-is_there-clause-each g c =
+    let v = machine c.loop-node.cluster in
+    let k = c.loop-node.node in
+    let some = c.loop-node.auto.node in
+    let none = λ j far. none_there v k j some (c.is_there.ensures c.if-not-is_there.true) far in
+    let Turn = λ n. TakesTurn (FaithfulAt (map g.L.Link.kind c.args.links.now) n) n in
+    none_behind Turn k MOST_NODES (machine c.args.cluster.now) v c.loop-node.busy some (omega (arith, c.loop-node.auto.node-end)) none c.loop-node.invariant.each
 
 pub returns-clause-each : goal.returns-clause-each
 returns-clause-each g c =
