@@ -83,8 +83,8 @@ run_trace s t (c ∷ cs) es text h =
 pub run_told : (s t : ConsoleState) (cs : List NumberedCommand) (es : Told) (text : List ℕ) → Prints s cs es text t → t.machine.history ≡ s.machine.history ++ all_entries s.machine.history es
 run_told s t cs es text h = trace_told s.machine t.machine es (run_trace s t cs es text h)
 
-pub run_legal : (nodes log turns : ℕ) (stock : Stocks) (t : ConsoleState) (es : Told) → 0 < nodes → IsEventTrace (begun_console nodes log stock turns).machine es t.machine → IsLegal t.machine.history
-run_legal nodes log turns stock t es some h = trace_legal _ t.machine es (begun_holds nodes log some) h
+pub run_legal : (nodes log hot turns : ℕ) (stock : Stocks) (t : ConsoleState) (es : Told) → 0 < nodes → IsEventTrace (begun_console nodes log hot stock turns).machine es t.machine → IsLegal t.machine.history
+run_legal nodes log hot turns stock t es some h = trace_legal _ t.machine es (begun_holds nodes log hot some) h
 
 -- a check of a legal history doesn't say that it is another
 pub not_illegal : (m : Machine) → IsLegal m.history → IsVerdict (Checked false) m → ⊥

@@ -45,8 +45,8 @@ opens_nowhere m n u far = is_refused BadNode (no_open m n far) refl refl
 pub sends_nowhere : (m : Machine) (n : ℕ) → length m.members.nodes < n → Sending m n (refused BadNode) m
 sends_nowhere m n far = node_refused BadNode (no_node m n far) refl refl
 
-pub sets_nowhere : (m : Machine) (n : ℕ) → length m.members.nodes < n → SettingHot m n (refused BadNode) m
-sets_nowhere m n far = node_refused BadNode (no_node m n far) refl refl
+pub sets_nowhere : (m : Machine) (n capacity : ℕ) → length m.members.nodes < n → SettingHot m n capacity (refused BadNode) m
+sets_nowhere m n capacity far = node_refused BadNode (no_node m n far) refl refl
 
 pub digests_nowhere : (m : Machine) (n : ℕ) → length m.members.nodes < n → Digesting m n (refused BadNode) m
 digests_nowhere m n far = node_refused BadNode (no_node m n far) refl refl

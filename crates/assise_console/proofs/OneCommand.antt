@@ -188,11 +188,11 @@ raises_none m n far = refuses_at raise m n BadNode (raises_nowhere m n far)
 hot_made : (n capacity : ℕ) (a : Response) (m m' : Machine) → 1 ≤ capacity → capacity ≤ 4096 → (es : Told) × IsOneAt (λ j. set_hot j capacity) n a m es m' → (es : Told) × SetsHot n capacity a m es m'
 hot_made n capacity a m m' least most (es, h) = (es, is_made least most h)
 
-pub sets_hot : (m : Machine) (n k capacity : ℕ) (a : Response) (e : Answer) (m' : Machine) → k ≡ n → 1 ≤ capacity → capacity ≤ 4096 → TellsAt k a e → SettingHot m k e m' → (es : Told) × SetsHot n capacity a m es m'
+pub sets_hot : (m : Machine) (n k capacity : ℕ) (a : Response) (e : Answer) (m' : Machine) → k ≡ n → 1 ≤ capacity → capacity ≤ 4096 → TellsAt k a e → SettingHot m k capacity e m' → (es : Told) × SetsHot n capacity a m es m'
 sets_hot m n k capacity a e m' same least most tells h = hot_made n capacity a m m' least most (does_at (λ j. set_hot j capacity) m n k a e m' same tells h)
 
 pub hot_nowhere : (m : Machine) (n capacity : ℕ) → 1 ≤ capacity → capacity ≤ 4096 → length m.members.nodes < n → (es : Told) × SetsHot n capacity (Refused BadNode) m es m
-hot_nowhere m n capacity least most far = hot_made n capacity (Refused BadNode) m m least most (refuses_at (λ j. set_hot j capacity) m n BadNode (sets_nowhere m n far))
+hot_nowhere m n capacity least most far = hot_made n capacity (Refused BadNode) m m least most (refuses_at (λ j. set_hot j capacity) m n BadNode (sets_nowhere m n capacity far))
 
 pub hot_out : (m : Machine) (n capacity : ℕ) → (1 ≤ capacity → capacity ≤ 4096 → ⊥) → (es : Told) × SetsHot n capacity Quiet m es m
 hot_out m n capacity out = ([], is_out out refl record { told = refl; stays = refl })

@@ -18,7 +18,7 @@ module _ (stock : Stocks) (turns : ℕ) (first : NumberedCommand) (others : List
     trace_run : IsEventTrace s.machine r.1.0 r.0.machine
     trace_run = run_trace s r.0 (first ∷ others) r.1.0 r.1.1.0 r.1.1.1.0
 
-    from_begun : IsEventTrace (begun_console b.nodes b.log stock turns).machine r.1.0 r.0.machine
+    from_begun : IsEventTrace (begun_console b.nodes b.log b.hot stock turns).machine r.1.0 r.0.machine
     from_begun = subst (λ x. IsEventTrace x.machine r.1.0 r.0.machine) b.console trace_run
 
     no_history : s.machine.history ≡ []
@@ -38,7 +38,7 @@ module _ (stock : Stocks) (turns : ℕ) (first : NumberedCommand) (others : List
       appends = r.1.1.1.1;
       trace = trace_run;
       history = told_run;
-      legal = run_legal b.nodes b.log turns stock r.0 r.1.0 (some_nodes first.command stock turns s b cluster) from_begun;
+      legal = run_legal b.nodes b.log b.hot turns stock r.0 r.1.0 (some_nodes first.command stock turns s b cluster) from_begun;
     }
 
 pub ran_all : (stock : Stocks) (turns : ℕ) (commands : List NumberedCommand) (first : NumberedCommand) (s : ConsoleState) (old new : Option (List ℕ))

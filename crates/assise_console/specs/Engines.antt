@@ -29,7 +29,7 @@ pub record ClusterIsBegun (c : Command) (stock : Stocks) (turns : ℕ) (s : Cons
   pub log : ℕ
   pub hot : ℕ
   pub cluster : c ≡ Cluster nodes log hot
-  pub console : s ≡ begun_console nodes log stock turns
+  pub console : s ≡ begun_console nodes log hot stock turns
 
 -- these commands were run from this state on, and the lines of their answers were written, and nothing else
 abbrev pub RunsFrom : ConsoleState → List NumberedCommand → Option (List ℕ) → Option (List ℕ) → Type 0

@@ -38,8 +38,8 @@ abbrev pub perfect_links : List Kind
 perfect_links = replicate MOST_NODES perfect
 
 -- a cluster in which nothing happened
-abbrev pub begun_console : ℕ → ℕ → Stocks → ℕ → ConsoleState
-begun_console nodes log stock turns = record { machine = begun_as nodes log; stock = stock; turns = turns; manual = false; links = perfect_links }
+abbrev pub begun_console : (nodes log hot : ℕ) → Stocks → (turns : ℕ) → ConsoleState
+begun_console nodes log hot stock turns = record { machine = begun_as nodes log hot; stock = stock; turns = turns; manual = false; links = perfect_links }
 
 -- all else is as it was
 abbrev pub with_machine : ConsoleState → Machine → ConsoleState

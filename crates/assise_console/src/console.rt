@@ -78,8 +78,8 @@ impl<C: Revokes + Drop> ConsoleOf<C> {
         requires most_log { log ≤ 4096 }
         requires least_hot { 1 ≤ hot }
         requires most_hot { hot ≤ 4096 }
-        ensures begun { IfOk result (λ console. console_seen console ≡ begun_console nodes log
-            (stocks stock) turns) }
+        ensures begun { IfOk result (λ console. console_seen console ≡
+            begun_console nodes log hot (stocks stock) turns) }
         ensures only_memory { IsOkUnless result OutOfMemory }
     {
         Ok(ConsoleOf {

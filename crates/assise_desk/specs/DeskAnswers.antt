@@ -17,7 +17,7 @@ use Rattle.assise_rounds.specs.Traces.{IsEvent, Nothing, Told}
 use Rattle.assise_rounds.specs.Returning.{ComesBack}
 use Rattle.assise_rounds.specs.Rounds.{RoundsOnce}
 use Rattle.assise_files.specs.CallTries.{IsTriedOut}
-use Rattle.assise_files.specs.FilesSeen.{KeepsHot, cluster_seen, kinds_seen, most_tries}
+use Rattle.assise_files.specs.FilesSeen.{cluster_seen, kinds_seen, most_tries}
 use Rattle.assise_files.specs.declared.cut_kind.CutKind.{CutKind}
 use Rattle.assise_files.specs.declared.files.Files.{Files}
 use Rattle.assise_desk.specs.declared.caller_desk.CallerDesk.{CallerDesk}
@@ -62,8 +62,7 @@ result_shown (Err fault) = fault_code fault
 -- ---- a cluster is made
 
 pub record IsClusterMade (r : DeskRequest) (files : Files) : Type 0 where
-  pub begun : cluster_seen files ≡ begun_as r.node r.first
-  pub hot : KeepsHot files r.second
+  pub begun : cluster_seen files ≡ begun_as r.node r.first r.second
   pub turns : most_tries files ≡ MOST_TRIES
 
 -- not 1 to `MOST_NODES` nodes, logs of 8 to 4,096 records, 1 to 4,096 hot inodes

@@ -1,6 +1,6 @@
 -- What is seen of a cluster that one caller uses.
 use Rattle.std.specs.Prelude.{ℕ, Option}
-use Rattle.assise_machine.specs.Clusters.{HaveCapacity, machine, revokers}
+use Rattle.assise_machine.specs.Clusters.{machine, revokers}
 use Rattle.assise_model_events.specs.Machine.{Machine}
 use Rattle.assise_files.specs.declared.cut_kind.CutKind.{CutKind}
 use Rattle.assise_files.specs.declared.files.Files.{Files}
@@ -16,7 +16,3 @@ most_tries files = files.turns
 -- the revoker of each client
 abbrev pub kinds_seen : Files → ℕ → Option CutKind
 kinds_seen files = revokers files.cluster
-
--- at each node so many inodes may be hot
-abbrev pub KeepsHot : Files → ℕ → Type 0
-KeepsHot files hot = HaveCapacity files.cluster hot

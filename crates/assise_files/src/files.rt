@@ -34,7 +34,7 @@ impl Files {
     ghost use Rattle.assise_rounds.specs.Returning.{ComesBack};
     ghost use Rattle.assise_rounds.specs.Rounds.{RoundsOnce};
     ghost use Rattle.assise_names.specs.declared.limits.TheConstants.{MOST_NODES};
-    ghost use Rattle.assise_files.specs.FilesSeen.{KeepsHot, cluster_seen, kinds_seen, most_tries};
+    ghost use Rattle.assise_files.specs.FilesSeen.{cluster_seen, kinds_seen, most_tries};
     ghost use Rattle.assise_files.specs.CallTries.{IsTriedOut};
 
     /// A cluster in which nothing happened: 1 to `MOST_NODES` nodes, logs of 8 to 4,096 records, and 1 to 4,096 inodes that a node keeps hot. A
@@ -52,8 +52,7 @@ impl Files {
         requires most_log { log ≤ 4096 }
         requires least_hot { 1 ≤ hot }
         requires most_hot { hot ≤ 4096 }
-        ensures begun { IfOk result (λ files. cluster_seen files ≡ begun_as nodes log) }
-        ensures hot { IfOk result (λ files. KeepsHot files hot) }
+        ensures begun { IfOk result (λ files. cluster_seen files ≡ begun_as nodes log hot) }
         ensures turns { IfOk result (λ files. most_tries files ≡ turns) }
         ensures only_memory { IsOkUnless result OutOfMemory }
     {

@@ -31,6 +31,7 @@ use Rattle.assise_machine_state.proofs.Noted.{still_noted}
 use Rattle.assise_machine_state.proofs.OwnLogs.{own_log as has_own_log}
 use Rattle.assise_machine_state.proofs.ReceiptObserved.{HasPrefix, delivered_prefix, delivery_shaped, has_prefix, other_areas}
 use Rattle.assise_machine_state.proofs.ItemSeen.{client_is}
+use Rattle.assise_machine_state.proofs.HotCapacities.{log_keeps}
 use Rattle.assise_manager.specs.NodeLevels.{level_of, newest}
 use Rattle.assise_machine.specs.Taking.{HasRoomFor, IsNext, IsNextOf, lacking, own_log}
 use Rattle.assise_machine.proofs.DeliveryFaults.{fine_client, fine_full}
@@ -196,7 +197,7 @@ module _ (s : StateValue) (f : LogFrame) (n : ℕ) (shape : ShapeInvariant s) (h
         timely = timely;
         delivers = delivered_prefix s n c place shape prefix client may;
         leases = refl;
-        adds = record { history = sym (append-nil s.history); limit = refl };
+        adds = record { history = sym (append-nil s.history); limit = refl; hot = log_keeps s.nodes n c _ };
         keeps = record { members = refl; others = other_areas s n c place };
       })
 

@@ -13,12 +13,13 @@ use Rattle.assise_model_world.specs.World.{World, received_by_all}
 use Rattle.assise_model_members.specs.Returns.{DigestsNoted}
 use Rattle.assise_model_events.specs.NodeEvents.{DigestsTo, most_digested, part_of, undigested, undigested_to}
 use Rattle.assise_model_events.proofs.Digestible.{same_received}
-use Rattle.assise_machine_state.specs.NodeValues.{log_in}
+use Rattle.assise_machine_state.specs.NodeValues.{hot_capacities, log_in}
 use Rattle.assise_machine_state.specs.Observed.{is_full_in, world_of}
 use Rattle.assise_machine_state.specs.Places.{IsNumber}
 use Rattle.assise_machine_state.specs.Invariant.{ShapeInvariant}
 use Rattle.assise_machine_state.specs.StateValues.{StateValue, standings}
 use Rattle.assise_machine_state.proofs.Fullness.{full_seen, seen_full}
+use Rattle.assise_machine_state.proofs.HotCapacities.{region_keeps}
 use Rattle.assise_machine.specs.Digesting.{EndWithGroups, EndsWithGroup, NoneListed, digests_some, digests_to}
 use Rattle.assise_machine.proofs.Digested.{has_here, next_shape, next_sound, none_digested, noted_so}
 use Rattle.assise_machine.proofs.Unlisted.{still_none}
@@ -32,6 +33,7 @@ pub record StillSame (s t : StateValue) (n m : ℕ) : Type 0 where
   pub cuts : t.cuts ≡ s.cuts
   pub history : t.history ≡ s.history
   pub limit : t.limit ≡ s.limit
+  pub hot : hot_capacities t.nodes ≡ hot_capacities s.nodes
   pub lists : NoneListed s.members → NoneListed t.members
   pub full : (world_of t).full ≡ (world_of s).full
   pub received : (c : ℕ) → received_by_all (world_of t) c ≡ received_by_all (world_of s) c
@@ -85,6 +87,7 @@ module _ (s : StateValue) (n : ℕ) (shape : ShapeInvariant s) (sound : ∥ Worl
         cuts = same.cuts;
         history = same.history;
         limit = same.limit;
+        hot = region_keeps t.nodes n _ refl ∙ same.hot;
         lists = λ none. still_none t.members n inodes (same.lists none);
         full = next_noted.digests.full ∙ same.full;
         received = λ c. same_received (world_of t) (world_of u) n (suc m) place next_noted.digests c ∙ same.received c;
@@ -108,6 +111,7 @@ module _ (s : StateValue) (n : ℕ) (shape : ShapeInvariant s) (sound : ∥ Worl
     cuts = refl;
     history = refl;
     limit = refl;
+    hot = refl;
     lists = λ none. none;
     full = refl;
     received = λ c. refl;

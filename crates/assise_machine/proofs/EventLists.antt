@@ -57,8 +57,8 @@ all_last k m m' es h run =
     let l : Leads m m' = all_lead k m m' es h run in
     subst (IsLasting (state_of m)) l.last (trace_lasts (state_of m) l.states h.sound h.recorded l.trace)
 
-pub reached_holds : (k nodes limit : ℕ) (es : List (ClusterEvent × Answer)) (m : Machine) → 0 < nodes → AllServed k (begun_as nodes limit) es m → MachineInvariant m
-reached_holds k nodes limit es m some run = all_keep k (begun_as nodes limit) m es (begun_holds nodes limit some) run
+pub reached_holds : (k nodes limit hot : ℕ) (es : List (ClusterEvent × Answer)) (m : Machine) → 0 < nodes → AllServed k (begun_as nodes limit hot) es m → MachineInvariant m
+reached_holds k nodes limit hot es m some run = all_keep k (begun_as nodes limit hot) m es (begun_holds nodes limit hot some) run
 
 -- ---- one event more
 

@@ -1,13 +1,15 @@
 -- How many inodes may be hot at a node is another number, or stays: the invariant between events stays.
 use Rattle.std.specs.Prelude.{⊤}
 use Rattle.std.proofs.Common.{◌≡◌, ◌<◌, ℕ, List, None, Result, Ok, Err, OnErr, OnOk, IsOkUnless, refl, ap, sym, subst}
+use Rattle.std.proofs.Math.Logic.{∥∥₁_map}
 use Rattle.assise_names.specs.declared.refusal.Refusal.{Refusal}
 use Rattle.assise_names.specs.declared.refusal.Refusal.TheVariants.{OutOfMemory}
 use Rattle.assise_digest.specs.Region.{RegionValue}
-use Rattle.assise_model_events.specs.Events.{refused}
+use Rattle.assise_model_events.specs.Events.{hot_set, refused}
 use Rattle.assise_model_events.specs.Faults.{node_fault}
 use Rattle.assise_model_events.specs.Machine.{MachineInvariant}
 use Rattle.assise_model_events.specs.NodeEvents.{SettingHot, is_set, lacks_memory}
+use Rattle.assise_model_events.proofs.EachEvent.{hot_holds}
 use Rattle.assise_machine_state.specs.Changes.{after_hot}
 use Rattle.assise_machine_state.specs.NodeValues.{region_in, region_seen, with_hot_in}
 use Rattle.assise_machine_state.specs.Observed.{observed}
@@ -15,34 +17,37 @@ use Rattle.assise_machine_state.specs.Places.{IsNumber}
 use Rattle.assise_machine_state.specs.Invariant.{CutsInvariant, ShapeInvariant}
 use Rattle.assise_machine_state.specs.StateValues.{StateValue}
 use Rattle.assise_machine_state.proofs.Fullness.{full_number, region_is}
-use Rattle.assise_machine_state.proofs.HotSeen.{machine_same, notes_kept, shape_kept}
+use Rattle.assise_machine_state.proofs.HotSeen.{machine_set, notes_kept, shape_kept}
 use Rattle.assise_machine.specs.Answers.{setting_answer}
 use Rattle.assise_machine.proofs.Frames.{fine_node}
 
 -- what is to be shown of the state then
-pub record Sets (s : StateValue) (n : ℕ) (r : Result ⊤ Refusal) (t : StateValue) : Type 0 where
+pub record Sets (s : StateValue) (n capacity : ℕ) (r : Result ⊤ Refusal) (t : StateValue) : Type 0 where
   pub holds : ∥ MachineInvariant (observed t) ∥₁
   pub shape : ShapeInvariant t
   pub noted : CutsInvariant t
-  pub happens : SettingHot (observed s) n (setting_answer r) (observed t)
+  pub happens : SettingHot (observed s) n capacity (setting_answer r) (observed t)
 
 module _ (s : StateValue) (n capacity : ℕ) (shape : ShapeInvariant s) (fine : node_fault (observed s) n ≡ None) where
   pub node_there : IsNumber s.nodes n
   node_there = full_number s n shape (fine_node s n fine)
 
+  is_set_now : SettingHot (observed s) n capacity hot_set (observed (after_hot s n capacity))
+  is_set_now = is_set fine refl (machine_set s n capacity)
+
   pub sets : ∥ MachineInvariant (observed s) ∥₁ → CutsInvariant s → (r : Result ⊤ Refusal) (rs : List RegionValue) → OnOk r (rs ≡ with_hot_in s.nodes n capacity) → OnErr r (rs ≡ s.nodes)
-      → IsOkUnless r OutOfMemory → Sets s n r (record s { nodes = rs })
+      → IsOkUnless r OutOfMemory → Sets s n capacity r (record s { nodes = rs })
   sets holds noted (Ok u) rs set kept only =
       let same : record s { nodes = rs } ≡ after_hot s n capacity = ap (λ x. record s { nodes = x }) set in
-      subst (Sets s n (Ok u)) (sym same) (record {
-        holds = subst (λ m. ∥ MachineInvariant m ∥₁) (sym (machine_same s n capacity)) holds;
+      subst (Sets s n capacity (Ok u)) (sym same) (record {
+        holds = ∥∥₁_map holds (λ h. hot_holds (observed s) (observed (after_hot s n capacity)) n capacity hot_set h is_set_now);
         shape = shape_kept s n capacity shape;
         noted = notes_kept s n capacity noted;
-        happens = is_set fine refl (machine_same s n capacity);
+        happens = is_set_now;
       })
   sets holds noted (Err e) rs set kept only =
       let same : record s { nodes = rs } ≡ s = ap (λ x. record s { nodes = x }) kept in
-      subst (Sets s n (Err e)) (sym same) (record { holds = holds; shape = shape; noted = noted; happens = lacks_memory fine (ap refused only) refl })
+      subst (Sets s n capacity (Err e)) (sym same) (record { holds = holds; shape = shape; noted = noted; happens = lacks_memory fine (ap refused only) refl })
 
   pub asked_seen : (r : Result ⊤ Refusal) → r ≡ Err OutOfMemory → OnErr r (capacity < (region_in s.nodes n).capacity) → capacity < (region_seen s.nodes n).capacity
   asked_seen r is asked =

@@ -24,5 +24,4 @@ pub mod ReplicatedUpTo
 pub mod ToldEntries
 pub mod Replicated
 pub mod Decided
-pub mod Capacities
 pub mod HotSet

@@ -65,10 +65,10 @@ sending_leaves m m' n a (node.is_sent fine is same) j = leaves_all m m' j same
 sending_leaves m m' n a (node.lacks_memory fine some is same) j = leaves_all m m' j same
 sending_leaves m m' n a (node.is_refused r fault is same) j = leaves_all m m' j same
 
-pub setting_leaves : (m m' : Machine) (n : ℕ) (a : Answer) → SettingHot m n a m' → (j : ℕ) → Leaves m.world m'.world j
-setting_leaves m m' n a (node.is_set fine is same) j = leaves_all m m' j same
-setting_leaves m m' n a (node.lacks_memory fine is same) j = leaves_all m m' j same
-setting_leaves m m' n a (node.is_refused r fault is same) j = leaves_all m m' j same
+pub setting_leaves : (m m' : Machine) (n capacity : ℕ) (a : Answer) → SettingHot m n capacity a m' → (j : ℕ) → Leaves m.world m'.world j
+setting_leaves m m' n capacity a (node.is_set fine is same) j = record { area = λ i. ap (λ x. x.world.area j i) same; ahead = λ c. ap (λ x. undigested_records x.world j c) same }
+setting_leaves m m' n capacity a (node.lacks_memory fine is same) j = leaves_all m m' j same
+setting_leaves m m' n capacity a (node.is_refused r fault is same) j = leaves_all m m' j same
 
 pub raising_leaves : (m m' : Machine) (n : ℕ) (a : Answer) → Raising m n a m' → (j : ℕ) → Leaves m.world m'.world j
 raising_leaves m m' n a (member.is_raised fine is e) j = subst (λ w. Leaves m.world w j) (sym e.world) (leaves_all m m j refl)

@@ -48,7 +48,7 @@ module _ (s : StateValue) (n : ℕ) where
 
   is_raised_now : IsRaised (observed s) n (observed after_raise)
   unfolding observed world_of leases_of own_seen
-  is_raised_now = record { members = refl; world = refl; leases = refl; adds = record { history = sym (append-nil s.history); limit = refl } }
+  is_raised_now = record { members = refl; world = refl; leases = refl; adds = record { history = sym (append-nil s.history); limit = refl; hot = refl } }
 
   pub members_as : (observed s).members ≡ s.members
   unfolding observed

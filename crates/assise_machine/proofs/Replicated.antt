@@ -271,9 +271,9 @@ as_many : (n : ℕ) → length (fulls n) ≡ n
 as_many zero = refl
 as_many (suc n) = ap suc (as_many n)
 
-pub begun_so : {C : Type 0} (cluster : ClusterOf C) (nodes limit : ℕ) → machine_of cluster.sound.state ≡ begun_as nodes limit → (history_of cluster ≡ []) × (length (regions_of cluster) ≡ nodes)
+pub begun_so : {C : Type 0} (cluster : ClusterOf C) (nodes limit hot : ℕ) → machine_of cluster.sound.state ≡ begun_as nodes limit hot → (history_of cluster ≡ []) × (length (regions_of cluster) ≡ nodes)
 unfolding observed
-begun_so cluster nodes limit is = (ap (λ m. m.history) is, cluster.sound.invariant.shape.nodes ∙ ap (λ m. length m.members.nodes) is ∙ as_many nodes)
+begun_so cluster nodes limit hot is = (ap (λ m. m.history) is, cluster.sound.invariant.shape.nodes ∙ ap (λ m. length m.members.nodes) is ∙ as_many nodes)
 
 -- ---- from a state to a later one
 

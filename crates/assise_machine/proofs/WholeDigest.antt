@@ -108,7 +108,7 @@ module _ (s : StateValue) (n : ℕ) (shape : ShapeInvariant s) (holds : ∥ Mach
       drops = all_dropped t same.shape same.sound;
       others = λ k i away. then_same.area k i;
       leases = same_leases;
-      adds = record { history = then_same.history ∙ same.history ∙ sym (append-nil s.history); limit = then_same.limit ∙ same.limit };
+      adds = record { history = then_same.history ∙ same.history ∙ sym (append-nil s.history); limit = then_same.limit ∙ same.limit; hot = then_same.hot ∙ same.hot };
     })
 
     gives : Gives s n count u

@@ -9,7 +9,6 @@ use Rattle.assise_lease_tree.specs.Trees.{stored_by}
 use Rattle.assise_model_world.specs.World.{World, received_by_all}
 use Rattle.assise_model_events.specs.Machine.{Machine}
 use Rattle.assise_machine_state.specs.NodeValues.{region_seen}
-use Rattle.assise_machine_state.specs.Places.{IsNumber}
 use Rattle.assise_machine_state.specs.Whole.{machine_of}
 use Rattle.assise_machine.specs.declared.cluster.ClusterOf.{ClusterOf}
 
@@ -20,10 +19,6 @@ machine cluster = machine_of cluster.sound.state
 -- what a node has
 abbrev pub region_of : {C : Type 0} → ClusterOf C → ℕ → RegionValue
 region_of cluster n = region_seen cluster.sound.state.nodes n
-
--- at each of its nodes so many inodes may be hot
-abbrev pub HaveCapacity : {C : Type 0} → ClusterOf C → ℕ → Type 0
-HaveCapacity cluster hot = (n : ℕ) → IsNumber cluster.sound.state.nodes n → (region_of cluster n).capacity ≡ hot
 
 -- the revoker of a client
 abbrev pub revokers : {C : Type 0} → ClusterOf C → ℕ → Option C

@@ -64,7 +64,7 @@ impl<C: Revokes + Drop> ClusterOf<C> {
     ghost use Rattle.assise_machine_failures.specs.Answers.{failing_answer, joining_answer, refilling_answer, returning_answer};
     ghost use Rattle.assise_machine_state.specs.NodeValues.{with_hot_in};
     ghost use Rattle.assise_machine.specs.Answers.{delivery_answer, digesting_answer, raising_answer, sending_answer, setting_answer};
-    ghost use Rattle.assise_machine.specs.Clusters.{AreAcked, HaveCapacity, machine, region_of, revokers};
+    ghost use Rattle.assise_machine.specs.Clusters.{AreAcked, machine, region_of, revokers};
     ghost use Rattle.assise_machine.specs.Headline.{IsUp, acked_to, history_of, regions_of};
 
     /// A cluster in which nothing happened: 1 to `MOST_NODES` full nodes, whose clients' logs have 8 to 4,096 records at most, and 1 to
@@ -78,8 +78,7 @@ impl<C: Revokes + Drop> ClusterOf<C> {
         requires most_hot { hot ≤ 4096 }
         ensures history { IfOk result (λ cluster. history_of cluster ≡ []) }
         ensures nodes { IfOk result (λ cluster. length (regions_of cluster) ≡ nodes) }
-        ensures begun { IfOk result (λ cluster. machine cluster ≡ begun_as nodes log) }
-        ensures hot { IfOk result (λ cluster. HaveCapacity cluster hot) }
+        ensures begun { IfOk result (λ cluster. machine cluster ≡ begun_as nodes log hot) }
         ensures only_memory { IsOkUnless result OutOfMemory }
     {
         Ok(ClusterOf {
@@ -197,7 +196,7 @@ impl<C: Revokes + Drop> ClusterOf<C> {
     pub fn set_hot(&mut self, node: u32, capacity: usize) -> Result<(), Refusal>
         requires least { 1 ≤ capacity }
         requires most { capacity ≤ 4096 }
-        ensures happens { SettingHot (machine self.old) node (setting_answer result)
+        ensures happens { SettingHot (machine self.old) node capacity (setting_answer result)
             (machine self.new) }
         ensures set { OnOk result
             (regions_of self.new ≡ with_hot_in (regions_of self.old) node capacity) }

@@ -55,8 +55,8 @@ pub(crate) fn set_hot<C: Revokes + Drop>(
 ) -> Result<(), Refusal>
     requires least { 1 ≤ capacity }
     requires most { capacity ≤ 4096 }
-    ensures happens { SettingHot (machine_of sound.old.state) node (setting_answer result)
-        (machine_of sound.new.state) }
+    ensures happens { SettingHot (machine_of sound.old.state) node capacity
+        (setting_answer result) (machine_of sound.new.state) }
     ensures set { OnOk result
         (sound.new.state.nodes ≡ with_hot_in sound.old.state.nodes node capacity) }
     ensures kept { OnErr result (sound.new.state.nodes ≡ sound.old.state.nodes) }

@@ -44,6 +44,7 @@ use Rattle.assise_machine_state.specs.Invariant.{CutsInvariant, ShapeInvariant}
 use Rattle.assise_machine_state.specs.StateValues.{StateValue, leases_of, standings}
 use Rattle.assise_machine_state.proofs.CallObserved.{call_areas, call_seen, call_shaped}
 use Rattle.assise_machine_state.proofs.Fullness.{lives_unfailed, log_is}
+use Rattle.assise_machine_state.proofs.HotCapacities.{call_keeps}
 use Rattle.assise_machine_state.proofs.Noted.{call_noted}
 use Rattle.assise_machine_state.proofs.OwnLogs.{home_log, own_of_unfailed}
 use Rattle.assise_machine_state.proofs.ItemSeen.{client_is}
@@ -303,7 +304,7 @@ module _ (s : StateValue) (c : ℕ) (op : Op) (shape : ShapeInvariant s) (fine :
           call = record { call = called; visited = served.visited; changed = served.changed };
           room = room;
           leases = call_leases s made_call;
-          adds = record { history = ap (λ k. s.history ++ calls (record { client = c; number = k; op = op; reply = t.reply }) ∷ []) (next_counted s c holds); limit = refl };
+          adds = record { history = ap (λ k. s.history ++ calls (record { client = c; number = k; op = op; reply = t.reply }) ∷ []) (next_counted s c holds); limit = refl; hot = call_keeps s.nodes (client_seen s.clients c).home c (old.next c) _ };
           keeps = record { members = refl; others = call_areas s made_call };
         })
 

@@ -66,7 +66,7 @@ lacking m c op fine = lacks_memory Done [] refl (record { fine = fine; next = re
   world = refl;
   leases = refl;
   members = refl;
-  adds = record { history = sym (append-nil m.history); limit = refl };
+  adds = record { history = sym (append-nil m.history); limit = refl; hot = refl };
 })
 
 pub lacking_as : (m m' : Machine) (c : ℕ) (op : Op) (a : Answer) (r : Refusal) → call_fault m c op ≡ None → a ≡ refused r → r ≡ OutOfMemory → m' ≡ m → Calling m c op a m'

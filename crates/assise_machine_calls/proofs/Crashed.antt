@@ -51,7 +51,7 @@ module _ {s : StateValue} {c : ℕ} {cs : List ClientValue} {levels : TwoLevels}
       let runs = client_runs (observed s) c after.fine in
       is_crashed after.fine refl (record {
         crash = crash_seen s c levels after.asked runs.0 runs.1 after.revoked after.left;
-        adds = record { history = refl; limit = refl };
+        adds = record { history = refl; limit = refl; hot = refl };
         keeps = record { members = refl; others = areas_stay s t refl };
       })
 

@@ -18,7 +18,7 @@ use Rattle.assise_machine_calls.specs.Leasing.{next_call}
 
 -- the machine with other leases, and all that is seen of them
 abbrev pub with_leases : Machine → World → Leases → Machine
-with_leases m w l = record { limit = m.limit; history = m.history; world = w; leases = l; members = m.members }
+with_leases m w l = record { limit = m.limit; hot = m.hot; history = m.history; world = w; leases = l; members = m.members }
 
 module _ (m : Machine) (w : World) (l : Leases) (c : ℕ) (op : Op) (i : ℕ) (mode : Mode) (missing : IsMissing m.world m.leases (next_call m.world c op) i mode)
     (grants : Grants m.world m.leases c i mode w l) (others : OtherAreasStay m.world w) (fine : call_fault m c op ≡ None) where
@@ -45,7 +45,7 @@ module _ (m : Machine) (w : World) (l : Leases) (c : ℕ) (op : Op) (i : ℕ) (m
   others_stay u stay k j away = stay k j (λ full. away (subst (λ ns. contains ns k ≡ true) grants.holds.nodes.full full)) ∙ others k j away
 
   keeps_first : (m' : Machine) (gs : List Granted) → KeepsGranted then gs m' → KeepsGranted m (granted ∷ gs) m'
-  keeps_first m' gs e = record { world = e.world; leases = e.leases; members = e.members; adds = record { history = e.adds.history; limit = e.adds.limit } }
+  keeps_first m' gs e = record { world = e.world; leases = e.leases; members = e.members; adds = record { history = e.adds.history; limit = e.adds.limit; hot = e.adds.hot } }
 
   answered_first : (m' : Machine) (reply : Reply) (gs : List Granted) → IsAnswered then (before reply) gs m' → IsAnswered m (before reply) (granted ∷ gs) m'
   answered_first m' reply gs e = record {
@@ -53,7 +53,7 @@ module _ (m : Machine) (w : World) (l : Leases) (c : ℕ) (op : Op) (i : ℕ) (m
     call = e.call;
     room = λ some. subst (λ rs. length rs < m.limit) (grants.holds.logs.records c) (e.room some);
     leases = e.leases;
-    adds = record { history = e.adds.history; limit = e.adds.limit };
+    adds = record { history = e.adds.history; limit = e.adds.limit; hot = e.adds.hot };
     keeps = record { members = e.keeps.members; others = others_stay m'.world e.keeps.others };
   }
 
@@ -64,7 +64,7 @@ module _ (m : Machine) (w : World) (l : Leases) (c : ℕ) (op : Op) (i : ℕ) (m
     mode = e.mode;
     missing = e.missing;
     asks = e.asks;
-    adds = record { history = e.adds.history; limit = e.adds.limit };
+    adds = record { history = e.adds.history; limit = e.adds.limit; hot = e.adds.hot };
     keeps = record { members = e.keeps.members; others = others_stay m'.world e.keeps.others };
   }
 

@@ -25,6 +25,7 @@ use Rattle.assise_machine_state.specs.Invariant.{CutsInvariant, ShapeInvariant}
 use Rattle.assise_machine_state.specs.StateValues.{StateValue, leases_of, standings}
 use Rattle.assise_machine_state.proofs.CoalescingSeen.{coalesced_groups, coalesced_none, coalesced_shape, coalescing_areas, coalescing_noted, regrouped_shape}
 use Rattle.assise_machine_state.proofs.Fullness.{has_log, home_full, lives_unfailed, log_is, seen_full}
+use Rattle.assise_machine_state.proofs.HotCapacities.{log_keeps}
 use Rattle.assise_machine_state.proofs.OwnLogs.{own_end, own_of_unfailed}
 use Rattle.assise_machine_state.proofs.ItemSeen.{client_is, client_same}
 use Rattle.assise_machine_calls.proofs.SyncChanges.{Gives, fine_lives, fine_number}
@@ -129,7 +130,7 @@ module _ (s : StateValue) (c : ℕ) (shape : ShapeInvariant s) (fine : client_fa
           regroups = coalesced_groups s c shape sound lives own_law (there_effects some);
           elsewhere = coalesced_none s c shape sound lives own_law (there_effects some);
           leases = leases_same;
-          adds = record { history = sym (append-nil s.history); limit = refl };
+          adds = record { history = sym (append-nil s.history); limit = refl; hot = log_keeps s.nodes (client_seen s.clients c).home c _ };
           keeps = record { members = refl; others = coalescing_areas s c start };
         })
 

@@ -20,6 +20,7 @@ use Rattle.assise_machine_state.specs.Places.{item_at}
 use Rattle.assise_machine_state.specs.Invariant.{CutsInvariant, ShapeInvariant}
 use Rattle.assise_machine_state.specs.StateValues.{StateValue, leases_of, standings}
 use Rattle.assise_machine_state.proofs.Fullness.{seen_full}
+use Rattle.assise_machine_state.proofs.HotCapacities.{begun_keeps}
 use Rattle.assise_machine_state.proofs.OpenObserved.{open_areas, open_seen, open_shaped}
 use Rattle.assise_machine_calls.specs.Answers.{begun_at}
 use Rattle.assise_machine_calls.proofs.OpenFaults.{fine_full}
@@ -36,7 +37,7 @@ module _ (s : StateValue) (n : ℕ) (u : Durability) (levels : TwoLevels) (shape
   is_event noted enrols =
       is_opened fine (ap opened same_next) record {
         opening = open_seen s n u levels shape noted (seen_full s n (fine_full s n fine)) enrols;
-        adds = record { history = ap (λ k. s.history ++ opens k n u ∷ []) same_next; limit = refl };
+        adds = record { history = ap (λ k. s.history ++ opens k n u ∷ []) same_next; limit = refl; hot = begun_keeps (is_full_in (standings s)) s.limit n 1 s.nodes };
         keeps = record { members = refl; others = open_areas s n u levels };
       }
 

@@ -7,6 +7,7 @@ use Rattle.assise_model_leases.specs.Leases.{Leases, client_lease}
 use Rattle.assise_model_events.specs.Events.{released}
 use Rattle.assise_model_events.specs.NodeEvents.{Freed, Frees, Releasing, is_ready, leases_freed}
 use Rattle.assise_model_events.specs.NodeEvents.Releasing.{is_released}
+use Rattle.assise_machine_state.specs.NodeValues.{hot_capacities}
 use Rattle.assise_machine_state.specs.Observed.{observed, world_of}
 use Rattle.assise_machine_state.specs.StateValues.{StateValue, leases_of, standings}
 use Rattle.assise_machine_calls.specs.Releasing.{FreesAmong, LetsSomeGo}
@@ -36,6 +37,6 @@ module _ (s t u : StateValue) (many last : ℕ) (e : LetsSomeGo s many t) (f : F
         (subst (λ l. IsIdle l.levels n) (sym e.leases) idle) i;
     world = f.world ∙ e.world;
     leases = f.leases ∙ ap (λ l. leases_freed l f.freed) e.leases;
-    adds = record { history = ap (λ v. v.history) f.rest ∙ ap (λ v. v.history) e.rest ∙ sym (append-nil s.history); limit = ap (λ v. v.limit) f.rest ∙ ap (λ v. v.limit) e.rest };
+    adds = record { history = ap (λ v. v.history) f.rest ∙ ap (λ v. v.history) e.rest ∙ sym (append-nil s.history); limit = ap (λ v. v.limit) f.rest ∙ ap (λ v. v.limit) e.rest; hot = ap (λ v. hot_capacities v.nodes) f.rest ∙ ap (λ v. hot_capacities v.nodes) e.rest };
     members = ap (λ v. v.members) f.rest ∙ ap (λ v. v.members) e.rest;
   })

@@ -162,7 +162,7 @@ module _ (s : StateValue) (c i n : ℕ) (mode : Mode) (levels : TwoLevels) (aske
       let runs = client_runs (observed s) c fine in
       record {
         asks = asking_seen s c i mode levels asked noted (are_leases s holds) asks_now answers runs.0 runs.1 (subst (λ m. is_free_for s.levels c m i mode ≡ false) home_is busy);
-        adds = record { history = sym (append-nil s.history); limit = refl };
+        adds = record { history = sym (append-nil s.history); limit = refl; hot = refl };
         keeps = record { members = refl; others = areas_stay s s' refl };
       }
 

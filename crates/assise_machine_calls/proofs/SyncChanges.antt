@@ -37,7 +37,7 @@ use Rattle.assise_machine_calls.specs.declared.sync.SyncCall.TheVariants.{Fsync 
 use Rattle.assise_machine_calls.specs.SyncCalls.{op_of}
 use Rattle.assise_machine_state.specs.Changes.{after_call, after_goal, goal_of}
 use Rattle.assise_machine_state.specs.ClientValues.{ClientValue, client_in, client_seen, cut_of, no_client, with_call, with_client, with_goal}
-use Rattle.assise_machine_state.specs.NodeValues.{region_in, with_call_in}
+use Rattle.assise_machine_state.specs.NodeValues.{hot_capacities, region_in, with_call_in}
 use Rattle.assise_machine_state.specs.Observed.{observed, own_node, world_of}
 use Rattle.assise_machine_state.specs.Places.{IsNumber}
 use Rattle.assise_machine_state.specs.Invariant.{CutsInvariant, ShapeInvariant}
@@ -157,7 +157,7 @@ module _ (s : StateValue) (c : ℕ) (op : Op) (shape : ShapeInvariant s) (fine :
     lacking = lacking;
     raises = raises;
     leases = leases_raised;
-    adds = record { history = sym (append-nil s.history); limit = refl };
+    adds = record { history = sym (append-nil s.history); limit = refl; hot = refl };
     keeps = record { members = refl; others = areas_stay s raised refl };
   })
 
@@ -207,7 +207,7 @@ module _ (s : StateValue) (c : ℕ) (op : Op) (shape : ShapeInvariant s) (fine :
           changed = λ i is. absurd (false≢true (subst (λ t. contains (touched t.effects) i ≡ true) quiet is));
         };
         leases = call_leases raised called_now ∙ leases_raised;
-        adds = record { history = ap (λ k. s.history ++ calls (record { client = c; number = k; op = op; reply = Done }) ∷ []) (next_counted s c holds); limit = refl };
+        adds = record { history = ap (λ k. s.history ++ calls (record { client = c; number = k; op = op; reply = Done }) ∷ []) (next_counted s c holds); limit = refl; hot = ap (λ v. hot_capacities v.nodes) (note_is raised called_now sync) };
         keeps = record { members = refl; others = areas_stay s (after_call raised called_now) (ap (λ v. v.nodes) (note_is raised called_now sync)) };
       })
 
@@ -241,7 +241,7 @@ module _ (s : StateValue) (c : ℕ) (shape : ShapeInvariant s) (fine : client_fa
     note_answered = is_noted Done fine refl (record {
       call = record { call = note_called; visited = λ i is. cc; changed = λ i is. cc };
       leases = call_leases s noted_now;
-      adds = record { history = ap (λ k. s.history ++ calls (record { client = c; number = k; op = Fsync; reply = Done }) ∷ []) (next_counted s c holds); limit = refl };
+      adds = record { history = ap (λ k. s.history ++ calls (record { client = c; number = k; op = Fsync; reply = Done }) ∷ []) (next_counted s c holds); limit = refl; hot = refl };
       keeps = record { members = refl; others = areas_stay s (after_note s noted_now) refl };
     })
 

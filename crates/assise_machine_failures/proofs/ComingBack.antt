@@ -21,7 +21,7 @@ use Rattle.assise_machine_state.specs.StateValues.{StateValue, leases_of, standi
 use Rattle.assise_machine_state.proofs.AwayObserved.{members_areas, members_rest, members_shaped}
 use Rattle.assise_machine_state.proofs.Standings.{full_as, full_else, full_here, same_count}
 use Rattle.assise_machine_failures.specs.Copies.{LosesStale}
-use Rattle.assise_machine_failures.proofs.DroppedCopies.{lost_else, lost_here, lost_is, lost_rests, lost_shaped, rests_more}
+use Rattle.assise_machine_failures.proofs.DroppedCopies.{lost_else, lost_here, lost_hot, lost_is, lost_rests, lost_shaped, rests_more}
 use Rattle.assise_machine_failures.proofs.RefusedFailures.{IsFaultOr, same_after}
 
 -- ---- it is refused
@@ -118,7 +118,7 @@ module _ {s : StateValue} {n : ℕ} {m : Membership} (comes : IsComing s n m) wh
     is_so = record {
       comes = node_back;
       leases = same_leases;
-      adds = record { history = ap (λ v. v.history) rest_is ∙ sym (append-nil s.history); limit = ap (λ v. v.limit) rest_is };
+      adds = record { history = ap (λ v. v.history) rest_is ∙ sym (append-nil s.history); limit = ap (λ v. v.limit) rest_is; hot = lost_hot t n u back_shaped back_returning lost };
     }
 
     pub back_happens : (count : ℕ) → option_map set.len (stale_of (standing_of m.nodes n)) ≡ Some count → Returning (observed s) n (began count) (observed u)

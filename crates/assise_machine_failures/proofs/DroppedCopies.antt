@@ -16,12 +16,13 @@ use Rattle.assise_model_world.specs.Staying.{SameNode}
 use Rattle.assise_model_world.specs.World.{Full, World}
 use Rattle.assise_model_members.specs.Returns.{LosesCopies}
 use Rattle.assise_machine_state.specs.Changes.{after_inode}
-use Rattle.assise_machine_state.specs.NodeValues.{no_region, region_in, with_region}
+use Rattle.assise_machine_state.specs.NodeValues.{hot_capacities, no_region, region_in, with_region}
 use Rattle.assise_machine_state.specs.Observed.{is_full_in, stands_full, world_of}
 use Rattle.assise_machine_state.specs.Places.{IsNumber}
 use Rattle.assise_machine_state.specs.Invariant.{ShapeInvariant}
 use Rattle.assise_machine_state.specs.StateValues.{StateValue, leases_of, standings}
 use Rattle.assise_machine_state.proofs.Fullness.{full_seen, node_number, region_is}
+use Rattle.assise_machine_state.proofs.HotCapacities.{region_keeps}
 use Rattle.assise_machine_state.proofs.AwayObserved.{inode_else, inode_here, inode_rests, inode_shaped}
 use Rattle.assise_machine_failures.specs.Copies.{LosesStale, nodes_without, without_copies}
 
@@ -117,6 +118,10 @@ pub without_count : (s : StateValue) (n : ℕ) (inodes : List ℕ) → length (w
 without_count s n [] = refl
 without_count s n (i ∷ inodes) = without_count (after_inode s n i None) n inodes ∙ same_count s n i
 
+without_hot : (s : StateValue) (n : ℕ) (inodes : List ℕ) → hot_capacities (without_copies s n inodes).nodes ≡ hot_capacities s.nodes
+without_hot s n [] = refl
+without_hot s n (i ∷ inodes) = without_hot (after_inode s n i None) n inodes ∙ region_keeps s.nodes n (with_inode (region_in s.nodes n) i None) refl
+
 pub without_shaped : (s : StateValue) (n : ℕ) (inodes : List ℕ) → ShapeInvariant s → IsNumber s.nodes n → ShapeInvariant (without_copies s n inodes)
 without_shaped s n [] shape there = shape
 without_shaped s n (i ∷ inodes) shape there = without_shaped (after_inode s n i None) n inodes (inode_shaped s n i None shape there) (still_number s n i there)
@@ -194,6 +199,9 @@ module _ (s : StateValue) (n : ℕ) (u : StateValue) (shape : ShapeInvariant s) 
 
   pub lost_count : length u.nodes ≡ length s.nodes
   lost_count = ap (λ v. length v.nodes) lost.copies ∙ without_count s n lost.inodes
+
+  pub lost_hot : hot_capacities u.nodes ≡ hot_capacities s.nodes
+  lost_hot = ap (λ v. hot_capacities v.nodes) lost.copies ∙ without_hot s n lost.inodes
 
   pub lost_rests : Rests (world_of s) (world_of u)
   lost_rests = subst (λ v. Rests (world_of s) (world_of v)) (sym lost.copies) (without_rests s n lost.inodes there (not_full s n (returning_away s n is)))

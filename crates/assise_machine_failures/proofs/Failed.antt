@@ -13,7 +13,7 @@ use Rattle.assise_lease_tree.specs.Levels.{is_revoked, lives}
 use Rattle.assise_lease_tree.specs.TwoLevels.{TwoLevels}
 use Rattle.assise_manager.specs.Changes.{donor_of, failed, failure_fault, stale_of}
 use Rattle.assise_manager.specs.Standings.{full, standing_of}
-use Rattle.assise_model_world.specs.NodeSteps.{Drops, Fails}
+use Rattle.assise_model_world.specs.NodeSteps.{Drops, Fails, kept_at_failure}
 use Rattle.assise_model_world.specs.Invariant.{WorldInvariant}
 use Rattle.assise_model_world.specs.World.{Full, World, digested_by_all}
 use Rattle.assise_model_world.proofs.ClientsStaying.{rest_sound}
@@ -33,6 +33,7 @@ use Rattle.assise_machine_state.proofs.Dropped.{StillDropping, all_dropped, same
 use Rattle.assise_machine_state.proofs.FailureSeen.{failure_areas, failure_seen, failure_shaped}
 use Rattle.assise_machine_state.proofs.Noted.{failure_noted, noted_known, still_noted}
 use Rattle.assise_machine_state.proofs.Fullness.{seen_full}
+use Rattle.assise_machine_state.proofs.HotCapacities.{failure_keeps}
 use Rattle.assise_machine_state.proofs.Standings.{survivor_left}
 use Rattle.assise_machine_failures.proofs.FailSettled.{fails_settled}
 use Rattle.assise_machine_failures.proofs.LostCopies.{AllLoseAt, StillLosing, all_still, one_loses, others_stay}
@@ -184,7 +185,7 @@ module _ (s : StateValue) (n : ℕ) (inodes : set.FinSet nat_cmp) (levels : TwoL
       leases = subst (LeasesFail w (leases_of s) n (world_of t)) (sym leases_end) seen;
       drops = drops;
       others = λ k i away. dropping.area k i;
-      adds = record { history = dropping.history ∙ losing.history; limit = dropping.limit ∙ losing.limit };
+      adds = record { history = dropping.history ∙ losing.history; limit = dropping.limit ∙ losing.limit; hot = dropping.hot ∙ losing.hot ∙ failure_keeps s.nodes n s.clients (kept_at_failure w n) (length s.clients) };
     }
 
     happens_so : AreTouched (world_of t) inodes → Failing (observed s) n (failed_answer (losses_of w n)) (observed v)

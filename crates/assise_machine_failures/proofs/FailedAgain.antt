@@ -124,7 +124,7 @@ module _ {s : StateValue} {n : ℕ} (was : WasReturning s n) where
   fails_again = record {
     failure = record { was_returning = was.returning; members = refl; rests = rests; area = areas };
     leases = same_holders;
-    adds = record { history = refl; limit = refl };
+    adds = record { history = refl; limit = refl; hot = refl };
   }
 
   again_happens : Failing (observed s) n (failed_answer []) (observed t)

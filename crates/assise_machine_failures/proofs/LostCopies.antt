@@ -13,8 +13,9 @@ use Rattle.assise_model_members.specs.Returns.{LosesCopies}
 use Rattle.assise_machine_state.specs.Observed.{world_of}
 use Rattle.assise_machine_state.specs.Invariant.{ShapeInvariant}
 use Rattle.assise_machine_state.specs.StateValues.{StateValue, standings}
+use Rattle.assise_machine_state.specs.NodeValues.{hot_capacities}
 use Rattle.assise_machine_failures.specs.Copies.{AllLose, AreReturning, LosesStale}
-use Rattle.assise_machine_failures.proofs.DroppedCopies.{lost_count, lost_else, lost_here, lost_is, lost_rests, lost_shaped, rests_more, rests_still}
+use Rattle.assise_machine_failures.proofs.DroppedCopies.{lost_count, lost_else, lost_here, lost_hot, lost_is, lost_rests, lost_shaped, rests_more, rests_still}
 
 -- all of the state is as it was but what nodes have that aren't full
 pub record StillLosing (t u : StateValue) : Type 0 where
@@ -24,6 +25,7 @@ pub record StillLosing (t u : StateValue) : Type 0 where
   pub cuts : u.cuts ≡ t.cuts
   pub history : u.history ≡ t.history
   pub limit : u.limit ≡ t.limit
+  pub hot : hot_capacities u.nodes ≡ hot_capacities t.nodes
   pub count : length u.nodes ≡ length t.nodes
   pub rests : Rests (world_of t) (world_of u)
   pub shape : ShapeInvariant u
@@ -42,7 +44,7 @@ AllLoseAt t (k ∷ ks) u = (v : StateValue) × (LosesAt t k v × AllLoseAt v ks 
 -- ---- what stays where nodes lose copies
 
 pub still_same : (t : StateValue) → ShapeInvariant t → StillLosing t t
-still_same t shape = record { members = refl; clients = refl; levels = refl; cuts = refl; history = refl; limit = refl; count = refl; rests = rests_still (world_of t); shape = shape }
+still_same t shape = record { members = refl; clients = refl; levels = refl; cuts = refl; history = refl; limit = refl; hot = refl; count = refl; rests = rests_still (world_of t); shape = shape }
 
 pub still_twice : (t v u : StateValue) → StillLosing t v → StillLosing v u → StillLosing t u
 still_twice t v u a b = record {
@@ -52,6 +54,7 @@ still_twice t v u a b = record {
   cuts = b.cuts ∙ a.cuts;
   history = b.history ∙ a.history;
   limit = b.limit ∙ a.limit;
+  hot = b.hot ∙ a.hot;
   count = b.count ∙ a.count;
   rests = rests_more (world_of t) (world_of v) (world_of u) a.rests b.rests;
   shape = b.shape;
@@ -125,6 +128,7 @@ module _ (t : StateValue) (k : ℕ) (v : StateValue) (shape : ShapeInvariant t) 
       cuts = ap (λ s. s.cuts) same_but_nodes;
       history = ap (λ s. s.history) same_but_nodes;
       limit = ap (λ s. s.limit) same_but_nodes;
+      hot = lost_hot t k v shape is loses;
       count = lost_count t k v shape is loses;
       rests = lost_rests t k v shape is loses;
       shape = lost_shaped t k v shape is loses;

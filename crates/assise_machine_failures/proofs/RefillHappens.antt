@@ -30,6 +30,7 @@ use Rattle.assise_machine_state.specs.Whole.{value_of}
 use Rattle.assise_machine_state.specs.declared.sound.SoundOf.{SoundOf}
 use Rattle.assise_machine_state.proofs.Fullness.{node_number, region_is}
 use Rattle.assise_machine_state.proofs.AwayObserved.{inode_else, inode_here, inode_rests, inode_shaped, members_areas, members_rest, members_shaped}
+use Rattle.assise_machine_state.proofs.HotCapacities.{region_keeps}
 use Rattle.assise_machine_state.proofs.Standings.{full_as, same_count}
 use Rattle.assise_machine_failures.specs.Answers.{refilling_answer}
 use Rattle.assise_machine_failures.proofs.DroppedCopies.{not_full, rests_more}
@@ -195,7 +196,7 @@ module _ {s : StateValue} {n d : ℕ} {rs : List RegionValue} {m : Membership} (
 
   refilled_so : IsRefilled (observed s) n (observed u)
   unfolding observed
-  refilled_so = record { inode = i; refills = node_refills; leases = same_leases; adds = record { history = sym (append-nil s.history); limit = refl } }
+  refilled_so = record { inode = i; refills = node_refills; leases = same_leases; adds = record { history = sym (append-nil s.history); limit = refl; hot = region_keeps s.nodes n _ refl } }
 
   happens_so : (count : ℕ) → option_map set.len (stale_of (standing_of m.nodes n)) ≡ Some count → Refilling (observed s) n (left count) (observed u)
   unfolding observed

@@ -26,6 +26,7 @@ use Rattle.assise_machine_state.specs.Observed.{observed, world_of}
 use Rattle.assise_machine_state.specs.Places.{IsNumber}
 use Rattle.assise_machine_state.specs.Invariant.{CutsInvariant, ShapeInvariant}
 use Rattle.assise_machine_state.specs.StateValues.{StateValue, leases_of, standings}
+use Rattle.assise_machine_state.proofs.HotCapacities.{region_keeps}
 use Rattle.assise_machine_state.proofs.JoinObserved.{join_shaped, node_rejoins}
 use Rattle.assise_machine_failures.proofs.RefillHappens.{IsFilledFrom, filled_from, filled_stands}
 use Rattle.assise_machine_failures.proofs.RefusedFailures.{IsFaultOr}
@@ -145,7 +146,7 @@ module _ {s : StateValue} {n d : ℕ} {rs : List RegionValue} {m : Membership} {
 
   joined_so : IsJoined (observed s) n (observed t)
   unfolding observed
-  joined_so = record { rejoins = rejoins; leases = same_leases; adds = record { history = refl; limit = refl } }
+  joined_so = record { rejoins = rejoins; leases = same_leases; adds = record { history = refl; limit = refl; hot = region_keeps s.nodes n _ refl } }
 
   happens_so : Joining (observed s) n joined (observed t)
   unfolding observed

@@ -15,13 +15,14 @@ use Rattle.assise_model_world.proofs.WorldObserved.{digested_by_all-below, least
 use Rattle.assise_model_events.proofs.Failable.{digested_border}
 use Rattle.assise_machine_state.specs.Changes.{after_drop, drops_to, first_but}
 use Rattle.assise_machine_state.specs.ClientValues.{client_seen}
-use Rattle.assise_machine_state.specs.NodeValues.{AreDigested, IsDigestedTo, log_in, log_seen, no_region, region_in, region_seen}
+use Rattle.assise_machine_state.specs.NodeValues.{AreDigested, IsDigestedTo, hot_capacities, log_in, log_seen, no_region, region_in, region_seen}
 use Rattle.assise_machine_state.specs.Observed.{is_full_in, own_node, own_seen, world_of}
 use Rattle.assise_machine_state.specs.Places.{IsNumber, item_at}
 use Rattle.assise_machine_state.specs.Invariant.{ShapeInvariant}
 use Rattle.assise_machine_state.specs.StateValues.{StateValue, standings}
 use Rattle.assise_machine_state.proofs.Prefixes.{HasPrefixes, drop_areas, drop_shaped, dropped_prefixes, dropped_twice, has_prefixes, same_digested}
 use Rattle.assise_machine_state.proofs.Fullness.{has_log, log_is, no_log_there, region_is, seen_full}
+use Rattle.assise_machine_state.proofs.HotCapacities.{prefixes_keep}
 use Rattle.assise_machine_state.proofs.ItemSeen.{less_one, seen_past}
 use Rattle.assise_machine_state.proofs.SameObserved.{clients_as, goals_as, leases_as}
 
@@ -55,6 +56,7 @@ pub record StillDropping (s t : StateValue) : Type 0 where
   pub cuts : t.cuts ≡ s.cuts
   pub history : t.history ≡ s.history
   pub limit : t.limit ≡ s.limit
+  pub hot : hot_capacities t.nodes ≡ hot_capacities s.nodes
   pub area : (k i : ℕ) → (world_of t).area k i ≡ (world_of s).area k i
   pub shape : ShapeInvariant t
   pub sound : ∥ WorldInvariant (world_of t) ∥₁
@@ -143,6 +145,7 @@ module _ (s : StateValue) (shape : ShapeInvariant s) (sound : ∥ WorldInvariant
       cuts = same.cuts;
       history = same.history;
       limit = same.limit;
+      hot = prefixes_keep t.nodes (suc m) to ∙ same.hot;
       area = λ k i. drop_areas t (suc m) to k i ∙ same.area k i;
       shape =
           let prefixes = prefixes_of t (suc m) same.sound in
@@ -158,6 +161,7 @@ module _ (s : StateValue) (shape : ShapeInvariant s) (sound : ∥ WorldInvariant
     cuts = refl;
     history = refl;
     limit = refl;
+    hot = refl;
     area = λ k i. refl;
     shape = shape;
     sound = sound;

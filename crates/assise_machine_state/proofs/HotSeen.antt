@@ -1,4 +1,4 @@
--- How many inodes may be hot at a node isn't observed.
+-- How many inodes may be hot at a node is observed, and of what is hot nothing else.
 use Rattle.std.proofs.Common.{◌≡◌, ℕ, ◌-◌, List, length, not, refl, ap}
 use Rattle.std.proofs.lemmas.List.{length-set}
 use Rattle.assise_inode_table.specs.Contents.{InodeMap, values}
@@ -6,7 +6,7 @@ use Rattle.assise_private_log.specs.NumberedLog.{end, is_border}
 use Rattle.assise_digest.specs.Region.{ReceivedLog, RegionValue, no_log, with_hot_capacity}
 use Rattle.assise_model_leases.specs.Leases.{client_lease, is_held, is_written}
 use Rattle.assise_model_history.specs.Numbered.{kept_numbered}
-use Rattle.assise_model_events.specs.Machine.{Machine}
+use Rattle.assise_model_events.specs.Machine.{Machine, with_hot}
 use Rattle.assise_machine_state.specs.Changes.{after_hot}
 use Rattle.assise_machine_state.specs.ClientValues.{client_seen}
 use Rattle.assise_machine_state.specs.NodeValues.{log_seen, no_region, region_in, region_seen}
@@ -14,13 +14,15 @@ use Rattle.assise_machine_state.specs.Observed.{full_in, observed, own_node, own
 use Rattle.assise_machine_state.specs.Places.{item_at}
 use Rattle.assise_machine_state.specs.Invariant.{CutsInvariant, ShapeInvariant}
 use Rattle.assise_machine_state.specs.StateValues.{StateValue, leases_of, standings}
+use Rattle.assise_machine_state.proofs.HotCapacities.{set_at}
 use Rattle.assise_machine_state.proofs.ItemSeen.{seen_kept}
 use Rattle.assise_machine_state.proofs.ShapeKept.{shaped_as, still_marked}
 
--- what is observed, by what is seen of the nodes' inodes and logs
-observed_by : StateValue → (inodes : ℕ → InodeMap) → (logs : ℕ → List ReceivedLog) → Machine
-observed_by s inodes logs = record {
+-- what is observed, by what is seen of the nodes' capacities, inodes and logs
+observed_by : StateValue → (hot : List ℕ) → (inodes : ℕ → InodeMap) → (logs : ℕ → List ReceivedLog) → Machine
+observed_by s hot inodes logs = record {
   limit = s.limit;
+  hot = hot;
   history = s.history;
   world = record {
     full = full_in (standings s);
@@ -61,9 +63,9 @@ module _ (s : StateValue) (n capacity : ℕ) where
   unfolding region_seen
   logs_same k = seen_kept (λ r. r.logs) no_region changed s.nodes n k refl
 
-  pub machine_same : observed t ≡ observed s
+  pub machine_set : observed t ≡ with_hot (observed s) n capacity
   unfolding observed world_of own_seen log_seen observed_by leases_of
-  machine_same = λ i. observed_by s (λ k. inodes_same k i) (λ k. logs_same k i)
+  machine_set = λ i. observed_by s (set_at s.nodes n capacity i) (λ k. inodes_same k i) (λ k. logs_same k i)
 
   pub shape_kept : ShapeInvariant s → ShapeInvariant t
   unfolding log_seen own_seen

@@ -1,6 +1,7 @@
 pub mod Regions
 pub mod RecordsTaken
 pub mod ItemSeen
+pub mod HotCapacities
 pub mod StartObserved
 pub mod LogChanges
 pub mod Marks

@@ -18,6 +18,7 @@ use Rattle.assise_machine_state.specs.Observed.{full_in, is_full_in, observed, o
 use Rattle.assise_machine_state.specs.Places.{item_at}
 use Rattle.assise_machine_state.specs.Invariant.{IsMarked, ShapeInvariant}
 use Rattle.assise_machine_state.specs.StateValues.{StateValue, leases_of}
+use Rattle.assise_machine_state.proofs.HotCapacities.{begun_capacities}
 use Rattle.assise_machine_state.proofs.ItemSeen.{seen_nothing}
 
 -- ---- what is seen of nodes
@@ -101,9 +102,9 @@ leases_seen n hot limit = λ k. record { levels = nobody; cut = λ c i. cut_of [
 same_levels : (old new : TwoLevels) → SameLevels old new → new ≡ old
 same_levels old new s = λ i. record { home = λ c. s.home c i; clients = λ j. s.clients j i; nodes = λ j. s.nodes j i }
 
-begun_seen : (n hot limit : ℕ) → observed (begun_state n hot limit nobody) ≡ begun_as n limit
+begun_seen : (n hot limit : ℕ) → observed (begun_state n hot limit nobody) ≡ begun_as n limit hot
 unfolding observed
-begun_seen n hot limit = λ k. record { limit = limit; history = []; world = world_seen n hot limit k; leases = leases_seen n hot limit k; members = all_full n }
+begun_seen n hot limit = λ k. record { limit = limit; hot = begun_capacities n hot k; history = []; world = world_seen n hot limit k; leases = leases_seen n hot limit k; members = all_full n }
 
 -- nothing is seen of a state but its parts
 parts : (s : StateValue) (n hot : ℕ) → s.nodes ≡ new_regions n hot → s.members ≡ all_full n → s.clients ≡ [] → SameLevels nobody s.levels → s.cuts ≡ [] → s.history ≡ [] → s ≡ begun_state n hot s.limit nobody
@@ -111,7 +112,7 @@ parts s n hot nodes members none levels unasked nothing =
     let t : s.levels ≡ nobody = same_levels nobody s.levels levels in
     λ k. record { nodes = nodes k; members = members k; clients = none k; levels = t k; cuts = unasked k; history = nothing k; limit = s.limit }
 
-pub starts : (s : StateValue) (n hot : ℕ) → s.nodes ≡ new_regions n hot → s.members ≡ all_full n → s.clients ≡ [] → SameLevels nobody s.levels → s.cuts ≡ [] → s.history ≡ [] → observed s ≡ begun_as n s.limit
+pub starts : (s : StateValue) (n hot : ℕ) → s.nodes ≡ new_regions n hot → s.members ≡ all_full n → s.clients ≡ [] → SameLevels nobody s.levels → s.cuts ≡ [] → s.history ≡ [] → observed s ≡ begun_as n s.limit hot
 starts s n hot nodes members none levels unasked nothing = ap observed (parts s n hot nodes members none levels unasked nothing) ∙ begun_seen n hot s.limit
 
 -- ---- its parts

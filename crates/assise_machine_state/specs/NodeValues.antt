@@ -26,6 +26,10 @@ no_region = new_region 0
 abbrev pub region_in : List RegionValue → ℕ → RegionValue
 region_in rs n = item no_region rs n
 
+-- how many inodes may be hot at each node, by number
+abbrev pub hot_capacities : List RegionValue → List ℕ
+hot_capacities rs = map (λ r. r.capacity) rs
+
 -- what node n has of client c's log
 abbrev pub log_in : List RegionValue → ℕ → ℕ → ReceivedLog
 log_in rs n c = log_of (region_in rs n) c

@@ -14,7 +14,7 @@ use Rattle.assise_model_history.specs.Numbered.{kept_numbered}
 use Rattle.assise_model_history.specs.State.{down_from}
 use Rattle.assise_model_events.specs.Machine.{Machine}
 use Rattle.assise_machine_state.specs.ClientValues.{ClientValue, client_in, client_seen}
-use Rattle.assise_machine_state.specs.NodeValues.{log_in, log_seen, region_in, region_seen}
+use Rattle.assise_machine_state.specs.NodeValues.{hot_capacities, log_in, log_seen, region_in, region_seen}
 use Rattle.assise_machine_state.specs.StateValues.{StateValue, leases_of, standings}
 
 -- ---- nodes
@@ -73,4 +73,4 @@ world_of s = record {
 }
 
 unfoldable pub observed : StateValue → Machine
-observed s = record { limit = s.limit; history = s.history; world = world_of s; leases = leases_of s; members = s.members }
+observed s = record { limit = s.limit; hot = hot_capacities s.nodes; history = s.history; world = world_of s; leases = leases_of s; members = s.members }

@@ -11,6 +11,7 @@ ghost use Rattle.assise_model_world.specs.NodeSteps.{Delivers, Drops};
 ghost use Rattle.assise_model_world.specs.Invariant.{WorldInvariant};
 ghost use Rattle.assise_model_world.specs.World.{Full, World, undigested_below, alone_at as alone_observed, digested_by_all, received_by_all, view};
 ghost use Rattle.assise_model_members.specs.Returns.{DigestsNoted, OtherAreasStay};
+ghost use Rattle.assise_model_events.specs.Machine.{with_hot};
 ghost use Rattle.assise_machine_state.specs.Changes.{after_delivery, after_digest, after_drop, after_hot, first_but};
 ghost use Rattle.assise_machine_state.specs.NodeValues.{region_seen};
 ghost use Rattle.assise_machine_state.specs.Observed.{inodes_read, observed, world_of};
@@ -69,10 +70,10 @@ pub fn what_is_read_is_observed()
         (suc c)) → alone (region_seen s.nodes n) acked i ≡ alone_observed (world_of s) n i }
 {}
 
-/// How many inodes may be hot at a node isn't observed.
-pub fn what_may_be_hot_is_not_observed()
+/// How many inodes may be hot at a node is observed, and of what is hot nothing else.
+pub fn how_many_may_be_hot_is_observed()
     ensures machine { (s : StateValue) (n capacity : ℕ) →
-        observed (after_hot s n capacity) ≡ observed s }
+        observed (after_hot s n capacity) ≡ with_hot (observed s) n capacity }
     ensures shape { (s : StateValue) (n capacity : ℕ) →
         ShapeInvariant s → ShapeInvariant (after_hot s n capacity) }
     ensures noted { (s : StateValue) (n capacity : ℕ) →

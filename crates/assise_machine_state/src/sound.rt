@@ -44,7 +44,8 @@ impl<C: Revokes + Drop> SoundOf<C> {
         requires most_limit { limit ≤ 4096 }
         requires least_hot { 1 ≤ hot_capacity }
         requires most_hot { hot_capacity ≤ 4096 }
-        ensures begun { IfOk result (λ s. machine_of s.state ≡ begun_as nodes limit) }
+        ensures begun { IfOk result
+            (λ s. machine_of s.state ≡ begun_as nodes limit hot_capacity) }
         ensures regions { IfOk result (λ s. s.state.nodes ≡ new_regions nodes hot_capacity) }
         ensures only_memory { IsOkUnless result OutOfMemory }
     {

@@ -82,7 +82,7 @@ impl<C: Revokes + Drop> StateOf<C> {
         requires most_limit { limit ≤ 4096 }
         requires least_hot { 1 ≤ hot_capacity }
         requires most_hot { hot_capacity ≤ 4096 }
-        ensures begun { IfOk result (λ s. machine_of s ≡ begun_as nodes limit) }
+        ensures begun { IfOk result (λ s. machine_of s ≡ begun_as nodes limit hot_capacity) }
         ensures shape { IfOk result (λ s. ShapeInvariant (value_of s)) }
         ensures noted { IfOk result (λ s. CutsInvariant (value_of s)) }
         ensures regions { IfOk result (λ s. s.nodes ≡ new_regions nodes hot_capacity) }

@@ -6,7 +6,7 @@ use std::process::Abort;
 
 /// Steps, a node, and whether the root and the first two inodes of client 1 are hot there behind them: what a call visits is, at its
 /// client's home and nowhere else, and where fewer may be hot the longest unused ones are cold.
-const ROWS: [(&str, u32, [bool; 3]); 14] = [
+const ROWS: [(&str, u32, [bool; 3]); 15] = [
     ("cluster 2 8 4096\nopen 2 least", 2, [false, false, false]),
     ("1 stat /", 2, [true, false, false]),
     ("", 1, [false, false, false]),
@@ -33,6 +33,11 @@ const ROWS: [(&str, u32, [bool; 3]); 14] = [
     ("hot 1 4096", 1, [true, true, false]),
     ("1 stat /b", 1, [true, true, true]),
     ("hot 1 1", 1, [false, false, true]),
+    (
+        "cluster 1 8 64\nopen 1 least\n1 create /a\n1 create /b\ndigest 1\n1 stat /b\n1 stat /a",
+        1,
+        [true, true, true],
+    ),
 ];
 
 /// Sees that what each row says is hot.

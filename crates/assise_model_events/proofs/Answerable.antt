@@ -42,10 +42,10 @@ opened_can m n u h fine =
     let at : standing_of m.members.nodes n ≡ Some full =
     stands_full NodeDown (standing_of m.members.nodes n) (first_none (unless_full NodeDown (standing_of m.members.nodes n)) (fault_if (nat_le MOST_CLIENTS m.world.clients) BadClient) fine) in
     let (v, k, e) = may_open_at m.world m.leases n (h.members.nodes_full n at) in (
-      record { limit = m.limit; history = m.history ++ opens (suc m.world.clients) n u ∷ []; world = with_old_areas m.world v; leases = k; members = m.members },
+      record { limit = m.limit; hot = m.hot; history = m.history ++ opens (suc m.world.clients) n u ∷ []; world = with_old_areas m.world v; leases = k; members = m.members },
       is_opened fine refl (record {
         opening = record { opens = old_opens m.world v n e.opens; enrols = e.enrols; cuts = e.cuts };
-        adds = record { history = refl; limit = refl };
+        adds = record { history = refl; limit = refl; hot = refl };
         keeps = record { members = refl; others = λ j i away. refl };
       }),
     )
@@ -54,10 +54,10 @@ pub crashed_can : (m : Machine) (c : ℕ) → MachineInvariant m → client_faul
 crashed_can m c h fine =
     let runs : (m.world.lives c ≡ true) × (m.world.crashed c ≡ false) = client_runs m c fine in
     let (u, k, e) = may_crash_with m.world m.leases c runs.0 runs.1 in (
-      record { limit = m.limit; history = m.history ++ crashes c ∷ []; world = with_old_areas m.world u; leases = k; members = m.members },
+      record { limit = m.limit; hot = m.hot; history = m.history ++ crashes c ∷ []; world = with_old_areas m.world u; leases = k; members = m.members },
       is_crashed fine refl (record {
         crash = record { crash = old_crash m.world u c e.crash; revoked = e.revoked; cut_here = e.cut_here; cut_else = e.cut_else };
-        adds = record { history = refl; limit = refl };
+        adds = record { history = refl; limit = refl; hot = refl };
         keeps = record { members = refl; others = λ j i away. refl };
       }),
     )
@@ -72,13 +72,13 @@ pub called_can : (m : Machine) (c : ℕ) (op : Op) (reply : Reply) → MachineIn
 called_can m c op reply h fine may room =
     let x : NumberedCall = call_of_client m.world c op reply in
     let (u, e) = may_call_under m.world m.leases x h.sound may in (
-      record { limit = m.limit; history = m.history ++ call_entry m.history c op reply; world = with_old_areas m.world u; leases = m.leases; members = m.members },
+      record { limit = m.limit; hot = m.hot; history = m.history ++ call_entry m.history c op reply; world = with_old_areas m.world u; leases = m.leases; members = m.members },
       is_answered reply [] refl (record {
         tried = is_tried m c op reply fine;
         call = record { call = old_call m.world u x e.call; visited = e.visited; changed = e.changed };
         room = room;
         leases = refl;
-        adds = record { history = refl; limit = refl };
+        adds = record { history = refl; limit = refl; hot = refl };
         keeps = record { members = refl; others = λ j i away. refl };
       }),
     )
@@ -88,7 +88,7 @@ pub awaited_can : (m : Machine) (c i : ℕ) (op : Op) (reply : Reply) (mode : Mo
 awaited_can m c i op reply mode h fine missing taken =
     let runs : (m.world.lives c ≡ true) × (m.world.crashed c ≡ false) = client_runs m c (first_none (client_fault m c) (fault_if (is_too_large op) TooLarge) fine) in
     let (u, k, e) = may_ask m.world m.leases c i mode h.leases (record { lives_on = runs.0; running = runs.1; not_free = taken }) h.sound in (
-      record { limit = m.limit; history = m.history; world = with_old_areas m.world u; leases = k; members = m.members },
+      record { limit = m.limit; hot = m.hot; history = m.history; world = with_old_areas m.world u; leases = k; members = m.members },
       is_awaited reply [] refl (record {
         tried = is_tried m c op reply fine;
         inode = i;
@@ -105,7 +105,7 @@ awaited_can m c i op reply mode h fine missing taken =
           cuts_else = e.cuts_else;
           goals = old_raises m.world u _ e.goals;
         };
-        adds = record { history = sym (append-nil m.history); limit = refl };
+        adds = record { history = sym (append-nil m.history); limit = refl; hot = refl };
         keeps = record { members = refl; others = λ j o away. refl };
       }),
     )
@@ -179,7 +179,7 @@ synced_can m c op u sync h fine all =
     let between : World = raised_world m.world c in
     let sound : WorldInvariant between = step_sound m.world between h.sound (raises_goals (goal_of_sync m.world c) (raises_it m.world c)) in
     let (v, e) = may_call_under between m.leases x sound (sync_may m.world m.leases c op u sync runs.0 runs.1) in (
-      record { limit = m.limit; history = m.history ++ call_entry m.history c op Done; world = with_old_areas between v; leases = m.leases; members = m.members },
+      record { limit = m.limit; hot = m.hot; history = m.history ++ call_entry m.history c op Done; world = with_old_areas between v; leases = m.leases; members = m.members },
       is_synced Done fine refl (record {
         replicated = all;
         between = between;
@@ -187,19 +187,19 @@ synced_can m c op u sync h fine all =
         others = λ j i away. refl;
         call = record { call = old_call between v x e.call; visited = e.visited; changed = e.changed };
         leases = refl;
-        adds = record { history = refl; limit = refl };
+        adds = record { history = refl; limit = refl; hot = refl };
         keeps = record { members = refl; others = λ j i away. refl };
       }),
     )
 
 pub replicating_can : (m : Machine) (c : ℕ) (op : Op) → MachineInvariant m → client_fault m c ≡ None → received_by_all m.world c < end_of_log m.world c → (m' : Machine) × Syncing m c op not_yet m'
 replicating_can m c op h fine lacking = (
-  record { limit = m.limit; history = m.history; world = raised_world m.world c; leases = m.leases; members = m.members },
+  record { limit = m.limit; hot = m.hot; history = m.history; world = raised_world m.world c; leases = m.leases; members = m.members },
   is_replicating fine refl (record {
     lacking = lacking;
     raises = raises_it m.world c;
     leases = refl;
-    adds = record { history = sym (append-nil m.history); limit = refl };
+    adds = record { history = sym (append-nil m.history); limit = refl; hot = refl };
     keeps = record { members = refl; others = λ j i away. refl };
   }),
 )

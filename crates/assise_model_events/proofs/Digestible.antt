@@ -98,7 +98,7 @@ pub digested_can : (m : Machine) (n count : ℕ) → MachineInvariant m → node
 digested_can m n count h fine few some borders =
     let here : Full m.world n = h.members.nodes_full n (stands_full WrongPhase (standing_of m.members.nodes n) fine) in
     let r : DigestedTo m n count m.world.clients = digested_to m n count h here borders m.world.clients in (
-      record { limit = m.limit; history = m.history; world = dropped_world r.world; leases = m.leases; members = r.members },
+      record { limit = m.limit; hot = m.hot; history = m.history; world = dropped_world r.world; leases = m.leases; members = r.members },
       is_digested count fine refl (record {
         few = few;
         some = some;
@@ -107,6 +107,6 @@ digested_can m n count h fine few some borders =
         drops = drops_them r.world r.same.sound;
         others = λ k i away. refl;
         leases = refl;
-        adds = record { history = sym (append-nil m.history); limit = refl };
+        adds = record { history = sym (append-nil m.history); limit = refl; hot = refl };
       }),
     )

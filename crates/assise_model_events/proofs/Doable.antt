@@ -52,12 +52,12 @@ delivered_can m f n h fine timely =
       to = max-le known (frame_there m f n h here timely);
       border_to = timely.whole;
     }) in (
-      record { limit = m.limit; history = m.history; world = with_old_areas m.world u; leases = m.leases; members = m.members },
+      record { limit = m.limit; hot = m.hot; history = m.history; world = with_old_areas m.world u; leases = m.leases; members = m.members },
       is_delivered fine refl (record {
         timely = timely;
         delivers = old_delivers m.world u n f.client (place_after m f n) e;
         leases = refl;
-        adds = record { history = sym (append-nil m.history); limit = refl };
+        adds = record { history = sym (append-nil m.history); limit = refl; hot = refl };
         keeps = record { members = refl; others = λ j i away. refl };
       }),
     )

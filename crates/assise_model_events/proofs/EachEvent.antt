@@ -1,5 +1,5 @@
 -- Each event, by what it is.
-use Rattle.std.proofs.Common.{◌≡◌, ◌++◌, ℕ, refl, ap}
+use Rattle.std.proofs.Common.{◌≡◌, ◌++◌, ℕ, [], refl, ap, sym, subst}
 use Rattle.assise_names.specs.declared.call.Op.{Op}
 use Rattle.assise_names.specs.declared.call.Op.TheVariants.{Create, Mkdir, Read, Write, Truncate, Rename, Unlink, Rmdir, List as ListCall, Stat, Fsync, Dsync}
 use Rattle.assise_names.specs.declared.durability.Durability.{Durability}
@@ -7,7 +7,7 @@ use Rattle.assise_names.specs.declared.durability.Durability.TheVariants.{Pessim
 use Rattle.assise_history.specs.Legal.{durability_of, is_sync}
 use Rattle.assise_model_events.specs.Events.{Answer, ClusterEvent, open_client, try_call, try_fsync, outgoing, deliver, digest, release_ready, set_hot, crash, fail, back, refill, join, raise, entries_of}
 use Rattle.assise_model_events.specs.Happenings.{Dsyncing, Fsyncing, Happens, Leads, Trying}
-use Rattle.assise_model_events.specs.Machine.{Machine, MachineInvariant}
+use Rattle.assise_model_events.specs.Machine.{Machine, MachineInvariant, state_of, with_hot}
 use Rattle.assise_model_events.specs.NodeEvents.{Sending, SettingHot, is_sent, is_set, is_refused, lacks_memory}
 use Rattle.assise_model_events.proofs.CallKeeps.{calling_leads, calling_keeps}
 use Rattle.assise_model_events.proofs.OpenAndCrash.{opening_leads, opening_keeps, crashing_leads, crashing_keeps}
@@ -53,15 +53,28 @@ sending_holds m m' n a h (is_sent fine is same) = same_holds m m' same h
 sending_holds m m' n a h (lacks_memory fine some is same) = same_holds m m' same h
 sending_holds m m' n a h (is_refused r fault is same) = same_holds m m' same h
 
-pub hot_leads : (m m' : Machine) (n : ℕ) (a : Answer) → SettingHot m n a m' → Leads m m'
-hot_leads m m' n a (is_set fine is same) = same_leads m m' same
-hot_leads m m' n a (lacks_memory fine is same) = same_leads m m' same
-hot_leads m m' n a (is_refused r fault is same) = same_leads m m' same
+pub hot_leads : (m m' : Machine) (n capacity : ℕ) (a : Answer) → SettingHot m n capacity a m' → Leads m m'
+hot_leads m m' n capacity a (is_set fine is same) = record { states = []; trace = tt; last = ap state_of (sym same) }
+hot_leads m m' n capacity a (lacks_memory fine is same) = same_leads m m' same
+hot_leads m m' n capacity a (is_refused r fault is same) = same_leads m m' same
 
-pub hot_holds : (m m' : Machine) (n : ℕ) (a : Answer) → MachineInvariant m → SettingHot m n a m' → MachineInvariant m'
-hot_holds m m' n a h (is_set fine is same) = same_holds m m' same h
-hot_holds m m' n a h (lacks_memory fine is same) = same_holds m m' same h
-hot_holds m m' n a h (is_refused r fault is same) = same_holds m m' same h
+-- what holds speaks of no inode that may be hot
+with_hot_holds : (m : Machine) (n capacity : ℕ) → MachineInvariant m → MachineInvariant (with_hot m n capacity)
+with_hot_holds m n capacity h = record {
+  sound = h.sound;
+  dropped = h.dropped;
+  recorded = h.recorded;
+  leases = h.leases;
+  members = h.members;
+  epochs = h.epochs;
+  logs = h.logs;
+  clients = h.clients;
+}
+
+pub hot_holds : (m m' : Machine) (n capacity : ℕ) (a : Answer) → MachineInvariant m → SettingHot m n capacity a m' → MachineInvariant m'
+hot_holds m m' n capacity a h (is_set fine is same) = subst MachineInvariant (sym same) (with_hot_holds m n capacity h)
+hot_holds m m' n capacity a h (lacks_memory fine is same) = same_holds m m' same h
+hot_holds m m' n capacity a h (is_refused r fault is same) = same_holds m m' same h
 
 fsyncing_leads : (m m' : Machine) (c : ℕ) (u : Durability) (a : Answer) → durability_of c m.history ≡ u → MachineInvariant m → Fsyncing u m c a m' → Leads m m'
 fsyncing_leads m m' c Pessimistic a is h s = syncing_leads m m' c Fsync Pessimistic a refl h s
@@ -117,7 +130,7 @@ event_leads m m' (outgoing n) a h s = sending_leads m m' n a s
 event_leads m m' (deliver f n) a h s = delivery_leads m m' f n a h s
 event_leads m m' (digest n) a h s = digesting_leads m m' n a h s
 event_leads m m' release_ready a h s = release_leads m m' a h s
-event_leads m m' (set_hot n capacity) a h s = hot_leads m m' n a s
+event_leads m m' (set_hot n capacity) a h s = hot_leads m m' n capacity a s
 event_leads m m' (crash c) a h s = crashing_leads m m' c a h s
 event_leads m m' (fail n) a h s = fail_leads m m' n a h s
 event_leads m m' (back n) a h s = return_leads m m' n a h s
@@ -133,7 +146,7 @@ event_keeps m m' (outgoing n) a h s = sending_holds m m' n a h s
 event_keeps m m' (deliver f n) a h s = delivery_keeps m m' f n a h s
 event_keeps m m' (digest n) a h s = digesting_holds m m' n a h s
 event_keeps m m' release_ready a h s = release_holds m m' a h s
-event_keeps m m' (set_hot n capacity) a h s = hot_holds m m' n a h s
+event_keeps m m' (set_hot n capacity) a h s = hot_holds m m' n capacity a h s
 event_keeps m m' (crash c) a h s = crashing_keeps m m' c a h s
 event_keeps m m' (fail n) a h s = fail_holds m m' n a h s
 event_keeps m m' (back n) a h s = return_holds m m' n a h s

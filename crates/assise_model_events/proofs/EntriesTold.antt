@@ -1,5 +1,5 @@
 -- An event's answer tells exactly the entries that the history gets.
-use Rattle.std.proofs.Common.{◌≡◌, ℕ, List, ◌++◌, refl, ap, sym, ◌∙◌}
+use Rattle.std.proofs.Common.{◌≡◌, ℕ, List, ◌++◌, refl, ap, sym, ◌∙◌, append-nil}
 use Rattle.assise_names.specs.declared.call.Op.{Op}
 use Rattle.assise_names.specs.declared.call.Op.TheVariants.{Create, Mkdir, Read, Write, Truncate, Rename, Unlink, Rmdir, List as ListCall, Stat, Fsync, Dsync}
 use Rattle.assise_names.specs.declared.durability.Durability.{Durability}
@@ -74,8 +74,8 @@ digesting_told m m' n a (is_refused r fault is same) = told_as m m' (digest n) a
 pub releasing_told : (m m' : Machine) (a : Answer) → Releasing m a m' → m'.history ≡ m.history ++ entries_of m.history release_ready a
 releasing_told m m' a (is_released gone freed is e) = told_as m m' release_ready a _ is e.adds.history
 
-pub hot_told : (m m' : Machine) (n capacity : ℕ) (a : Answer) → SettingHot m n a m' → m'.history ≡ m.history ++ entries_of m.history (set_hot n capacity) a
-hot_told m m' n capacity a (is_set fine is same) = told_as m m' (set_hot n capacity) a _ is (same_told m m' same)
+pub hot_told : (m m' : Machine) (n capacity : ℕ) (a : Answer) → SettingHot m n capacity a m' → m'.history ≡ m.history ++ entries_of m.history (set_hot n capacity) a
+hot_told m m' n capacity a (is_set fine is same) = told_as m m' (set_hot n capacity) a _ is (ap (λ x. x.history) same ∙ sym (append-nil m.history))
 hot_told m m' n capacity a (lacks_memory fine is same) = told_as m m' (set_hot n capacity) a _ is (same_told m m' same)
 hot_told m m' n capacity a (is_refused r fault is same) = told_as m m' (set_hot n capacity) a _ is (same_told m m' same)
 

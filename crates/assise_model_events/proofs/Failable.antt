@@ -127,7 +127,7 @@ full_can m n h fine at =
     let (v, u, o, e) = may_fail m.world m.members n inodes h.members may in
     let (left, leases) = left_leases m.world v m.leases n e.fails in
     let sound : WorldInvariant u = step_sound v u (step_sound m.world v h.sound (fails_node n e.fails)) (rests e.rests) in (
-      record { limit = m.limit; history = m.history ++ fails n (losses_of m.world n) ∷ []; world = dropped_world u; leases = left; members = o },
+      record { limit = m.limit; hot = m.hot; history = m.history ++ fails n (losses_of m.world n) ∷ []; world = dropped_world u; leases = left; members = o },
       (
         losses_of m.world n,
         is_failed fine refl (record {
@@ -139,7 +139,7 @@ full_can m n h fine at =
           leases = leases;
           drops = drops_them u sound;
           others = λ j i away. refl;
-          adds = record { history = refl; limit = refl };
+          adds = record { history = refl; limit = refl; hot = refl };
         }),
       ),
     )
@@ -147,8 +147,8 @@ full_can m n h fine at =
 again_can : (m : Machine) (n : ℕ) → failure_fault m.members n ≡ None → is_returning (standing_of m.members.nodes n) ≡ true → (m' : Machine) × ((losses : List Loss) × Failing m n (failed losses) m')
 again_can m n fine was =
     let (u, o, e) = may_fail_again m.world m.members n was in (
-      record { limit = m.limit; history = m.history ++ fails n [] ∷ []; world = u; leases = m.leases; members = o },
-      ([], is_failed_again fine refl (record { failure = e; leases = refl; adds = record { history = refl; limit = refl } })),
+      record { limit = m.limit; hot = m.hot; history = m.history ++ fails n [] ∷ []; world = u; leases = m.leases; members = o },
+      ([], is_failed_again fine refl (record { failure = e; leases = refl; adds = record { history = refl; limit = refl; hot = refl } })),
     )
 
 failed_as_stands : (m : Machine) (n : ℕ) → MachineInvariant m → (s : Option Standing) → standing_of m.members.nodes n ≡ s → failure_fault m.members n ≡ None →

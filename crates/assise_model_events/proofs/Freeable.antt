@@ -126,7 +126,7 @@ released_can m top h few =
     let r : LetOut m.world m.leases (pairs m.world.clients top) = let_out m.world m.leases (pairs m.world.clients top) in
     let k : Leases = leases_after m.leases r.gone in
     let f : FreedAll m.world k (length m.members.nodes) = free_all m.world k top (length m.members.nodes) (λ i above. r.empty i (few i above)) in (
-      record { limit = m.limit; history = m.history; world = world_after m.world r.gone; leases = leases_freed k f.freed; members = m.members },
+      record { limit = m.limit; hot = m.hot; history = m.history; world = world_after m.world r.gone; leases = leases_freed k f.freed; members = m.members },
       (
         released (length r.gone),
         is_released r.gone f.freed refl (record {
@@ -136,7 +136,7 @@ released_can m top h few =
           all_freed = λ n node away idle i. f.all n i node.0 node.1 away idle;
           world = refl;
           leases = refl;
-          adds = record { history = sym (append-nil m.history); limit = refl };
+          adds = record { history = sym (append-nil m.history); limit = refl; hot = refl };
           members = refl;
         }),
       ),

@@ -13,10 +13,10 @@ use Rattle.assise_model_events.proofs.Answerable.{is_tried}
 
 -- the machine once the call's client got these leases
 abbrev pub with_granted : Machine → List Granted → Machine
-with_granted m gs = record { limit = m.limit; history = m.history; world = last_world m.world gs; leases = last_leases m.leases gs; members = m.members }
+with_granted m gs = record { limit = m.limit; hot = m.hot; history = m.history; world = last_world m.world gs; leases = last_leases m.leases gs; members = m.members }
 
 pub keeps_them : (m : Machine) (gs : List Granted) → KeepsGranted m gs (with_granted m gs)
-keeps_them m gs = record { world = refl; leases = refl; members = refl; adds = record { history = sym (append-nil m.history); limit = refl } }
+keeps_them m gs = record { world = refl; leases = refl; members = refl; adds = record { history = sym (append-nil m.history); limit = refl; hot = refl } }
 
 pub spent_can : (m : Machine) (c : ℕ) (op : Op) (reply : Reply) → call_fault m c op ≡ None → HasServingLeases m.world m.leases (call_of_client m.world c op reply) →
     call_makes_inode m.world (call_of_client m.world c op reply) ≡ true → m.world.made c ≡ 1048576 → Calling m c op (refused InodesSpent) m

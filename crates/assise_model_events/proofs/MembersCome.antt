@@ -177,6 +177,7 @@ not_joined_for_memory_comes = (let (m, b) = back_at_start in record { limit = 0;
 abbrev raised_start : Machine
 raised_start = record {
   limit = (start 0).limit;
+  hot = (start 0).hot;
   history = (start 0).history;
   world = (start 0).world;
   leases = (start 0).leases;
@@ -184,7 +185,7 @@ raised_start = record {
 }
 
 raising_start : Raising (start 0) 1 raised raised_start
-raising_start = is_raised refl refl (record { members = refl; world = refl; leases = refl; adds = record { history = refl; limit = refl } })
+raising_start = is_raised refl refl (record { members = refl; world = refl; leases = refl; adds = record { history = refl; limit = refl; hot = refl } })
 
 pub raised_comes : Comes (λ m m'. Raising m 1 raised m')
 raised_comes = record { limit = 0; before = start 0; reached = start_reached 0; after = raised_start; outcome = raising_start }

@@ -15,7 +15,7 @@ use Rattle.assise_model_events.specs.ClientEvents.{Syncing, is_refused, is_repli
 use Rattle.assise_model_events.specs.Events.{deliver, digested, hot_set, not_yet, received, refused, sent, try_call}
 use Rattle.assise_model_events.specs.Faults.{IsTimelyDelivery, client_fault, delivery_fault, node_fault, place_after}
 use Rattle.assise_model_events.specs.Happenings.{Dsyncing}
-use Rattle.assise_model_events.specs.Machine.{MachineInvariant, Machine}
+use Rattle.assise_model_events.specs.Machine.{MachineInvariant, Machine, with_hot}
 use Rattle.assise_model_events.specs.MemberEvents.{is_refused, lacks_memory}
 use Rattle.assise_model_events.specs.NodeEvents.{Delivering, Digesting, IsDelivered, Sending, SettingHot, frames_to, is_delivered, is_refused, is_sent, is_set, is_stale, lacks_memory, part_of, undigested, undigested_to}
 use Rattle.assise_model_events.specs.Reached.{Comes, IsReached}
@@ -40,7 +40,7 @@ not_digested =
     let (m, (inodes, o)) = falls 1 (start 1) (start_reached 1) (start_holds 1) refl in
     record { limit = 1; before = m; reached = o.reached; after = m; outcome = is_refused WrongPhase (rw o.members refl) refl refl }
 
-pub hot_not_set : Comes (λ m m'. SettingHot m 2 (refused WrongPhase) m')
+pub hot_not_set : Comes (λ m m'. SettingHot m 2 64 (refused WrongPhase) m')
 hot_not_set =
     let (m, (inodes, o)) = falls 1 (start 1) (start_reached 1) (start_holds 1) refl in
     record { limit = 1; before = m; reached = o.reached; after = m; outcome = is_refused WrongPhase (rw o.members refl) refl refl }
@@ -58,10 +58,10 @@ not_delivered =
 
 -- ---- what may be hot is changed at the beginning
 
-pub hot_is_set : Comes (λ m m'. SettingHot m 1 hot_set m')
-hot_is_set = record { limit = 1; before = start 1; reached = start_reached 1; after = start 1; outcome = is_set refl refl refl }
+pub hot_is_set : Comes (λ m m'. SettingHot m 1 64 hot_set m')
+hot_is_set = record { limit = 1; before = start 1; reached = start_reached 1; after = with_hot (start 1) 1 64; outcome = is_set refl refl refl }
 
-pub hot_not_set_for_memory : Comes (λ m m'. SettingHot m 1 (refused OutOfMemory) m')
+pub hot_not_set_for_memory : Comes (λ m m'. SettingHot m 1 64 (refused OutOfMemory) m')
 hot_not_set_for_memory = record { limit = 1; before = start 1; reached = start_reached 1; after = start 1; outcome = lacks_memory refl refl refl }
 
 -- ---- the file's record comes to node 2

@@ -68,6 +68,7 @@ module _ (limit : ℕ) (m : Machine) (room : 0 < limit) (o : IsOpen limit m) (gs
   abbrev with_file : Machine
   with_file = record {
     limit = m.limit;
+    hot = m.hot;
     history = m.history ++ call_entry m.history 1 create_op Done;
     world = with_old_areas w called.0;
     leases = l;
@@ -86,7 +87,7 @@ module _ (limit : ℕ) (m : Machine) (room : 0 < limit) (o : IsOpen limit m) (gs
     call = record { call = made_call; visited = called.1.visited; changed = called.1.changed };
     room = λ effects. some_room;
     leases = refl;
-    adds = record { history = refl; limit = refl };
+    adds = record { history = refl; limit = refl; hot = refl };
     keeps = record { members = refl; others = h.rest.others };
   }
 

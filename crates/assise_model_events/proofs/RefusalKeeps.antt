@@ -58,10 +58,10 @@ digesting_same m m' n r (is_refused other fault is same) = same
 releasing_same : (m m' : Machine) (r : Refusal) → Releasing m (refused r) m' → m' ≡ m
 releasing_same m m' r (is_released gone freed is e) = cc
 
-setting_same : (m m' : Machine) (n : ℕ) (r : Refusal) → SettingHot m n (refused r) m' → m' ≡ m
-setting_same m m' n r (is_set fine is same) = same
-setting_same m m' n r (lacks_memory fine is same) = same
-setting_same m m' n r (is_refused other fault is same) = same
+setting_same : (m m' : Machine) (n capacity : ℕ) (r : Refusal) → SettingHot m n capacity (refused r) m' → m' ≡ m
+setting_same m m' n capacity r (is_set fine is same) = cc
+setting_same m m' n capacity r (lacks_memory fine is same) = same
+setting_same m m' n capacity r (is_refused other fault is same) = same
 
 failing_same : (m m' : Machine) (n : ℕ) (r : Refusal) → Failing m n (refused r) m' → m' ≡ m
 failing_same m m' n r (is_failed fine is e) = cc
@@ -98,7 +98,7 @@ refused_same m m' (outgoing n) r own h = sending_same m m' n r h
 refused_same m m' (deliver f n) r own h = delivering_same m m' f n r h
 refused_same m m' (digest n) r own h = digesting_same m m' n r h
 refused_same m m' release_ready r own h = releasing_same m m' r h
-refused_same m m' (set_hot n capacity) r own h = setting_same m m' n r h
+refused_same m m' (set_hot n capacity) r own h = setting_same m m' n capacity r h
 refused_same m m' (fail n) r own h = failing_same m m' n r h
 refused_same m m' (back n) r own h = returning_same m m' n r h
 refused_same m m' (refill n) r own h = refilling_same m m' n r h

@@ -178,7 +178,7 @@ can_coalesce m c h lives lacking some =
         regroups = t.0;
         elsewhere = t.1.1;
         leases = refl;
-        adds = record { history = sym (append-nil m.history); limit = refl };
+        adds = record { history = sym (append-nil m.history); limit = refl; hot = refl };
         keeps = record { members = refl; others = λ n i other. t.1.0 n i };
       },
     )

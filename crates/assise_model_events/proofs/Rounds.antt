@@ -258,6 +258,7 @@ module _ (limit : ℕ) (m : Machine) (op : Op) (gs : List Granted) (s : Stands l
   abbrev after : Machine
   after = record {
     limit = m.limit;
+    hot = m.hot;
     history = m.history ++ call_entry m.history 1 op Done;
     world = with_old_areas w called.0;
     leases = l;
@@ -273,7 +274,7 @@ module _ (limit : ℕ) (m : Machine) (op : Op) (gs : List Granted) (s : Stands l
     call = record { call = made_call; visited = called.1.visited; changed = called.1.changed };
     room = λ effects. subst (λ k. length (m.world.records 1) < k) (sym s.limit_is) d.room;
     leases = refl;
-    adds = record { history = refl; limit = refl };
+    adds = record { history = refl; limit = refl; hot = refl };
     keeps = record { members = refl; others = got.others };
   }
 

@@ -75,14 +75,14 @@ begun_leases nodes = record {
 
 -- ---- all of it
 
-same_state : (nodes limit : ℕ) → state_of (begun_as nodes limit) ≡ begun_with nodes
-same_state nodes limit = (let same : length (fulls nodes) ≡ nodes = fulls_length nodes in rw same refl)
+same_state : (nodes limit hot : ℕ) → state_of (begun_as nodes limit hot) ≡ begun_with nodes
+same_state nodes limit hot = (let same : length (fulls nodes) ≡ nodes = fulls_length nodes in rw same refl)
 
-pub begun_holds : (nodes limit : ℕ) → 0 < nodes → MachineInvariant (begun_as nodes limit)
-begun_holds nodes limit some = record {
+pub begun_holds : (nodes limit hot : ℕ) → 0 < nodes → MachineInvariant (begun_as nodes limit hot)
+begun_holds nodes limit hot some = record {
   sound = begun_sound nodes;
   dropped = begun_dropped (down_from nodes);
-  recorded = subst IsRecorded (sym (same_state nodes limit)) (begun_recorded nodes);
+  recorded = subst IsRecorded (sym (same_state nodes limit hot)) (begun_recorded nodes);
   leases = begun_leases (down_from nodes);
   members = begun_members nodes some;
   epochs = omega arith;

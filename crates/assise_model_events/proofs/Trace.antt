@@ -40,15 +40,15 @@ happens_next m v m' [] e a same h = (m', (subst (λ u. Happens u e a m') same h,
 happens_next m v m' ((f, b) ∷ es) e a (u, (first, rest)) h = (u, (first, happens_next u v m' es e a rest h))
 
 pub reaches : (limit : ℕ) (m m' : Machine) (e : ClusterEvent) (a : Answer) → IsReached limit m → Happens m e a m' → IsReached limit m'
-reaches limit m m' e a r h = record { happened = r.happened ++ (e, a) ∷ []; trace = happens_next (begun_as 2 limit) m m' r.happened e a r.trace h }
+reaches limit m m' e a r h = record { happened = r.happened ++ (e, a) ∷ []; trace = happens_next (begun_as 2 limit 1) m m' r.happened e a r.trace h }
 
 -- ---- nothing happened
 
 abbrev pub start : ℕ → Machine
-start limit = begun_as 2 limit
+start limit = begun_as 2 limit 1
 
 pub start_holds : (limit : ℕ) → MachineInvariant (start limit)
-start_holds limit = begun_holds 2 limit (omega arith)
+start_holds limit = begun_holds 2 limit 1 (omega arith)
 
 pub start_reached : (limit : ℕ) → IsReached limit (start limit)
 start_reached limit = record { happened = []; trace = refl }

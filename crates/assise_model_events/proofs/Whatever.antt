@@ -29,8 +29,8 @@ pub all_keep : (m m' : Machine) (es : List (ClusterEvent × Answer)) → Machine
 all_keep m m' [] h e = subst MachineInvariant (sym e) h
 all_keep m m' ((e, a) ∷ es) h (v, (step, rest)) = all_keep v m' es (event_keeps m v e a h step) rest
 
-pub reached_holds : (nodes limit : ℕ) (es : List (ClusterEvent × Answer)) (m : Machine) → 0 < nodes → AllHappen (begun_as nodes limit) es m → MachineInvariant m
-reached_holds nodes limit es m some run = all_keep (begun_as nodes limit) m es (begun_holds nodes limit some) run
+pub reached_holds : (nodes limit hot : ℕ) (es : List (ClusterEvent × Answer)) (m : Machine) → 0 < nodes → AllHappen (begun_as nodes limit hot) es m → MachineInvariant m
+reached_holds nodes limit hot es m some run = all_keep (begun_as nodes limit hot) m es (begun_holds nodes limit hot some) run
 
 -- ---- the history
 

@@ -1,6 +1,6 @@
 -- The whole machine, and what holds of it between its events.
 -- Assise (OSDI 2020), section 3 (CC-NVM: update logs, replication, digests, leases, fail-over, recovery).
-use Rattle.std.specs.Prelude.{◌≡◌, ℕ, suc, ◌≤◌, List, [], ◌++◌, length}
+use Rattle.std.specs.Prelude.{◌≡◌, ℕ, suc, ◌-◌, ◌≤◌, List, [], ◌++◌, length, replicate, slice_set}
 use Rattle.assise_names.specs.declared.limits.TheConstants.{MOST_CLIENTS}
 use Rattle.assise_history.specs.Entries.{EntryValue}
 use Rattle.assise_lease_tree.specs.TwoLevels.{nobody}
@@ -16,6 +16,8 @@ use Rattle.assise_model_history.specs.State.{State, IsRecorded, down_from}
 pub record Machine : Type 0 where
   -- the most records of one client's log
   pub limit : ℕ
+  -- how many inodes may be hot at each node, by number
+  pub hot : List ℕ
   -- what was answered and what happened, in order
   pub history : List EntryValue
   -- nodes with their areas and logs, and clients
@@ -48,10 +50,11 @@ pub record MachineInvariant (m : Machine) : Type 0 where
 
 -- ---- the start
 
--- all nodes are full, and nothing happened
-abbrev pub begun_as : ℕ → ℕ → Machine
-begun_as nodes limit = record {
+-- all nodes are full, so many inodes may be hot at each, and nothing happened
+abbrev pub begun_as : (nodes limit hot : ℕ) → Machine
+begun_as nodes limit hot = record {
   limit = limit;
+  hot = replicate nodes hot;
   history = [];
   world = begun (down_from nodes);
   leases = record { levels = nobody; cut = λ c i. 0 };
@@ -60,7 +63,14 @@ begun_as nodes limit = record {
 
 -- ---- what an event leaves as it is
 
--- the history gets these entries, and the limit of logs stays
+-- the history gets these entries, and the limits of logs and of what is hot stay
 pub record Adds (m : Machine) (entries : List EntryValue) (m' : Machine) : Type 0 where
   pub history : m'.history ≡ m.history ++ entries
   pub limit : m'.limit ≡ m.limit
+  pub hot : m'.hot ≡ m.hot
+
+-- ---- how many inodes may be hot
+
+-- so many at node n, and all else as it was
+abbrev pub with_hot : Machine → (n capacity : ℕ) → Machine
+with_hot m n capacity = record m { hot = slice_set m.hot (n - 1) capacity }

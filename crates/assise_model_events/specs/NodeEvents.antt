@@ -26,7 +26,7 @@ use Rattle.assise_model_history.specs.State.{IsNode}
 use Rattle.assise_model_events.specs.ClientEvents.{KeepsMembers}
 use Rattle.assise_model_events.specs.Events.{Answer, refused, sent, received, digested, released, hot_set}
 use Rattle.assise_model_events.specs.Faults.{node_fault, delivery_fault, place_after, IsTimelyDelivery}
-use Rattle.assise_model_events.specs.Machine.{Machine, Adds, state_of}
+use Rattle.assise_model_events.specs.Machine.{Machine, Adds, state_of, with_hot}
 
 -- ---- frames go out
 
@@ -187,8 +187,8 @@ pub data Releasing (m : Machine) (a : Answer) (m' : Machine) : Type 0 where
 
 -- ---- how many inodes may be hot
 
--- what is hot changes no answer, so nothing of it is observed
-pub data SettingHot (m : Machine) (n : ℕ) (a : Answer) (m' : Machine) : Type 0 where
-  is_set : node_fault m n ≡ None → a ≡ hot_set → m' ≡ m → SettingHot m n a m'
-  lacks_memory : node_fault m n ≡ None → a ≡ refused OutOfMemory → m' ≡ m → SettingHot m n a m'
-  is_refused : (r : Refusal) → node_fault m n ≡ Some r → a ≡ refused r → m' ≡ m → SettingHot m n a m'
+-- what is hot changes no answer: how many inodes may be is all that is observed of it
+pub data SettingHot (m : Machine) (n capacity : ℕ) (a : Answer) (m' : Machine) : Type 0 where
+  is_set : node_fault m n ≡ None → a ≡ hot_set → m' ≡ with_hot m n capacity → SettingHot m n capacity a m'
+  lacks_memory : node_fault m n ≡ None → a ≡ refused OutOfMemory → m' ≡ m → SettingHot m n capacity a m'
+  is_refused : (r : Refusal) → node_fault m n ≡ Some r → a ≡ refused r → m' ≡ m → SettingHot m n capacity a m'

@@ -72,8 +72,8 @@ pub fn what_nodes_do_can_be_done()
         (0 < undigested_to m.world n m.world.clients → 0 < count) →
         ((c : ℕ) → m.world.border c (m.world.digested n c + part_of m.world n count c) ≡ true) →
         (m' : Machine) × Digesting m n (digested count) m' }
-    ensures hot { (m : Machine) (n : ℕ) → node_fault m n ≡ None →
-        (m' : Machine) × SettingHot m n hot_set m' }
+    ensures hot { (m : Machine) (n capacity : ℕ) → node_fault m n ≡ None →
+        (m' : Machine) × SettingHot m n capacity hot_set m' }
     ensures released { (m : Machine) (most : ℕ) → MachineInvariant m →
         ((i : ℕ) → most < i → m.leases.levels.clients i ≡ []) →
         (m' : Machine) × ((a : Answer) × Releasing m a m') }

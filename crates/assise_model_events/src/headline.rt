@@ -30,7 +30,8 @@ pub fn each_event_keeps_the_invariant()
 
 /// The invariant between events holds at the start, and whatever happens.
 pub fn whatever_happens_it_holds()
-    ensures begun { (nodes limit : ℕ) → 0 < nodes → MachineInvariant (begun_as nodes limit) }
+    ensures begun { (nodes limit hot : ℕ) → 0 < nodes →
+        MachineInvariant (begun_as nodes limit hot) }
     ensures keeps { (m m' : Machine) (es : List (ClusterEvent × Answer)) → MachineInvariant m →
         AllHappen m es m' → MachineInvariant m' }
 {}
@@ -42,34 +43,34 @@ pub fn whatever_happens_it_holds()
 /// (`alone`): among these are all up to a client's last answered sync (`synced`) and all that changed an inode that their client
 /// handed over (`handed_over`), and none of them is lost again (`lasting`).
 pub fn model_headline()
-    ensures legal { (nodes limit : ℕ) (es : List (ClusterEvent × Answer)) (m : Machine) →
-        0 < nodes → AllHappen (begun_as nodes limit) es m → IsLegal m.history }
-    ensures entries { (nodes limit : ℕ) (es : List (ClusterEvent × Answer)) (m : Machine) →
-        AllHappen (begun_as nodes limit) es m → m.history ≡ all_entries [] es }
+    ensures legal { (nodes limit hot : ℕ) (es : List (ClusterEvent × Answer)) (m : Machine) →
+        0 < nodes → AllHappen (begun_as nodes limit hot) es m → IsLegal m.history }
+    ensures entries { (nodes limit hot : ℕ) (es : List (ClusterEvent × Answer)) (m : Machine) →
+        AllHappen (begun_as nodes limit hot) es m → m.history ≡ all_entries [] es }
     ensures extends { (m m' : Machine) (es : List (ClusterEvent × Answer)) → AllHappen m es m' →
         m'.history ≡ m.history ++ all_entries m.history es }
-    ensures only_tails { (nodes limit : ℕ) (es : List (ClusterEvent × Answer)) (m : Machine) →
-        0 < nodes → AllHappen (begun_as nodes limit) es m →
+    ensures only_tails { (nodes limit hot : ℕ) (es : List (ClusterEvent × Answer)) (m : Machine) →
+        0 < nodes → AllHappen (begun_as nodes limit hot) es m →
         (before later : List EntryValue) (n : ℕ) (losses : List Loss) →
         m.history ≡ before ++ fails n losses ∷ later → IsFair before n losses }
-    ensures remaining { (nodes limit : ℕ) (es : List (ClusterEvent × Answer)) (m : Machine) →
-        0 < nodes → AllHappen (begun_as nodes limit) es m →
+    ensures remaining { (nodes limit hot : ℕ) (es : List (ClusterEvent × Answer)) (m : Machine) →
+        0 < nodes → AllHappen (begun_as nodes limit hot) es m →
         (before later : List EntryValue) (e : EntryValue) → m.history ≡ before ++ e ∷ later →
         IsRun opening (kept (before ++ e ∷ [])) }
-    ensures alone { (nodes limit : ℕ) (es : List (ClusterEvent × Answer)) (m : Machine) →
-        0 < nodes → AllHappen (begun_as nodes limit) es m → (n : ℕ) → Full m.world n →
+    ensures alone { (nodes limit hot : ℕ) (es : List (ClusterEvent × Answer)) (m : Machine) →
+        0 < nodes → AllHappen (begun_as nodes limit hot) es m → (n : ℕ) → Full m.world n →
         Spells (alone_at m.world n) (tree_after_calls opening
         (ops (numbered_replicated (state_of m)))) }
-    ensures synced { (nodes limit : ℕ) (es : List (ClusterEvent × Answer)) (m : Machine) →
-        0 < nodes → AllHappen (begun_as nodes limit) es m →
+    ensures synced { (nodes limit hot : ℕ) (es : List (ClusterEvent × Answer)) (m : Machine) →
+        0 < nodes → AllHappen (begun_as nodes limit hot) es m →
         (before later : List EntryValue) (x : Call) → m.history ≡ before ++ calls x ∷ later →
         WasSynced m.history x → Contains (map plain_call (numbered_replicated (state_of m))) x }
-    ensures handed_over { (nodes limit : ℕ) (es : List (ClusterEvent × Answer)) (m : Machine) →
-        0 < nodes → AllHappen (begun_as nodes limit) es m → (c i : ℕ) →
+    ensures handed_over { (nodes limit hot : ℕ) (es : List (ClusterEvent × Answer)) (m : Machine) →
+        0 < nodes → AllHappen (begun_as nodes limit hot) es m → (c i : ℕ) →
         is_written (client_lease m.leases c i) ≡ false →
         Each (λ x. x.0.client ≡ c → contains (touched x.1.effects) i ≡ true →
         x.0.number < first_unreplicated m.world c) (steps m.world) }
-    ensures lasting { (nodes limit : ℕ) (es fs : List (ClusterEvent × Answer)) (m m' : Machine) →
-        0 < nodes → AllHappen (begun_as nodes limit) es m → AllHappen m fs m' →
+    ensures lasting { (nodes limit hot : ℕ) (es fs : List (ClusterEvent × Answer)) (m m' : Machine) →
+        0 < nodes → AllHappen (begun_as nodes limit hot) es m → AllHappen m fs m' →
         IsLasting (state_of m) (state_of m') }
 {}

@@ -48,9 +48,11 @@ pub fn a_release_keeps_the_invariant()
 
 /// So does a change of how many inodes may be hot.
 pub fn a_hot_change_keeps_the_invariant()
-    ensures told { (m m' : Machine) (n capacity : ℕ) (a : Answer) → SettingHot m n a m'
-        → m'.history ≡ m.history ++ entries_of m.history (set_hot n capacity) a }
-    ensures leads { (m m' : Machine) (n : ℕ) (a : Answer) → SettingHot m n a m' → Leads m m' }
-    ensures keeps { (m m' : Machine) (n : ℕ) (a : Answer) →
-        MachineInvariant m → SettingHot m n a m' → MachineInvariant m' }
+    ensures told { (m m' : Machine) (n capacity : ℕ) (a : Answer) →
+        SettingHot m n capacity a m' →
+        m'.history ≡ m.history ++ entries_of m.history (set_hot n capacity) a }
+    ensures leads { (m m' : Machine) (n capacity : ℕ) (a : Answer) →
+        SettingHot m n capacity a m' → Leads m m' }
+    ensures keeps { (m m' : Machine) (n capacity : ℕ) (a : Answer) →
+        MachineInvariant m → SettingHot m n capacity a m' → MachineInvariant m' }
 {}

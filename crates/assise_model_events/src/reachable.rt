@@ -67,9 +67,9 @@ pub fn each_outcome_of_what_nodes_do_comes()
     ensures not_digested { Comes (λ m m'. Digesting m 2 (refused WrongPhase) m') }
     ensures not_digested_for_memory { Comes (λ m m'. Digesting m 1 (refused OutOfMemory) m') }
     ensures released { (count : ℕ) × Comes (λ m m'. Releasing m (released (suc count)) m') }
-    ensures hot { Comes (λ m m'. SettingHot m 1 hot_set m') }
-    ensures not_hot { Comes (λ m m'. SettingHot m 2 (refused WrongPhase) m') }
-    ensures not_hot_for_memory { Comes (λ m m'. SettingHot m 1 (refused OutOfMemory) m') }
+    ensures hot { Comes (λ m m'. SettingHot m 1 64 hot_set m') }
+    ensures not_hot { Comes (λ m m'. SettingHot m 2 64 (refused WrongPhase) m') }
+    ensures not_hot_for_memory { Comes (λ m m'. SettingHot m 1 64 (refused OutOfMemory) m') }
 {}
 
 /// What happens to nodes happens and is refused in some state that two nodes can come to: a failure takes a call, and a node comes

@@ -79,10 +79,10 @@ digest_adds m m' n a (not_digested r fault is same) = adds_none m m' same
 release_adds : (m m' : Machine) (a : Answer) → Releasing m a m' → AddsNobodys m.history m'.history
 release_adds m m' a (is_released gone freed is e) = record { more = []; split = e.adds.history; nobodys = tt }
 
-hot_adds : (m m' : Machine) (n : ℕ) (a : Answer) → SettingHot m n a m' → AddsNobodys m.history m'.history
-hot_adds m m' n a (is_set fine is same) = adds_none m m' same
-hot_adds m m' n a (digest_lacks fine is same) = adds_none m m' same
-hot_adds m m' n a (not_digested r fault is same) = adds_none m m' same
+hot_adds : (m m' : Machine) (n capacity : ℕ) (a : Answer) → SettingHot m n capacity a m' → AddsNobodys m.history m'.history
+hot_adds m m' n capacity a (is_set fine is same) = record { more = []; split = ap (λ x. x.history) same ∙ sym (append-nil m.history); nobodys = tt }
+hot_adds m m' n capacity a (digest_lacks fine is same) = adds_none m m' same
+hot_adds m m' n capacity a (not_digested r fault is same) = adds_none m m' same
 
 fail_adds : (m m' : Machine) (n : ℕ) (a : Answer) → Failing m n a m' → AddsNobodys m.history m'.history
 fail_adds m m' n a (is_failed fine is e) = record { more = _; split = e.adds.history; nobodys = tt }
@@ -120,7 +120,7 @@ module _ (a : Response) (m m' : Machine) where
   released_adds (es, h) = release_adds m m' h.answer h.event.happens
 
   pub hot_set_adds : (n capacity : ℕ) → (es : Told) × SetsHot n capacity a m es m' → AddsNobodys m.history m'.history
-  hot_set_adds n capacity (es, is_made least most h) = hot_adds m m' n h.answer h.event.happens
+  hot_set_adds n capacity (es, is_made least most h) = hot_adds m m' n capacity h.answer h.event.happens
   hot_set_adds n capacity (es, is_out out is h) = adds_none m m' h.stays
 
   pub crashed_adds : (c : ℕ) → (es : Told) × IsOneAt crash c a m es m' → AddsNobodys m.history m'.history

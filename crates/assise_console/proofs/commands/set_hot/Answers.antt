@@ -1,4 +1,6 @@
-use Rattle.std.proofs.Common.{refl, arith}
+use Rattle.std.proofs.Common.{rules, ◌≡◌, refl, subst, arith}
+use Rattle.assise_model_events.specs.Events.{hot_set, refused}
+use Rattle.assise_model_events.specs.NodeEvents.{SettingHot}
 use Rattle.assise_machine.specs.Clusters.{machine}
 use Rattle.assise_machine.proofs.Few.{few_nodes}
 use Rattle.assise_console.proofs.OneCommand.{hot_nowhere, sets_hot}
@@ -14,9 +16,13 @@ returns-in_default-number_of g c =
 pub returns-in-Ok : goal.returns-in-Ok
 returns-in-Ok g c =
     let within = c.in-Some.ensures.within.0 refl in
-    sets_hot (machine c.args.cluster.now) c.args.node c.in-Some-number_of.node c.args.capacity _ _ (machine c.set_hot.new.self) c.in-Some-number_of.ensures.some within.0 within.1 (refl, refl) c.in-Ok.ensures.happens
+    let same : c.get.result ≡ c.args.capacity = search rules in
+    sets_hot (machine c.args.cluster.now) c.args.node c.in-Some-number_of.node c.args.capacity _ _ (machine c.set_hot.new.self) c.in-Some-number_of.ensures.some within.0 within.1 (refl, refl)
+    (subst (λ capacity. SettingHot (machine c.args.cluster.now) c.in-Some-number_of.node capacity hot_set (machine c.set_hot.new.self)) same c.in-Ok.ensures.happens)
 
 pub returns-in-Err : goal.returns-in-Err
 returns-in-Err g c =
     let within = c.in-Some.ensures.within.0 refl in
-    sets_hot (machine c.args.cluster.now) c.args.node c.in-Some-number_of.node c.args.capacity _ _ (machine c.set_hot.new.self) c.in-Some-number_of.ensures.some within.0 within.1 refl c.in-Err.ensures.happens
+    let same : c.get.result ≡ c.args.capacity = search rules in
+    sets_hot (machine c.args.cluster.now) c.args.node c.in-Some-number_of.node c.args.capacity _ _ (machine c.set_hot.new.self) c.in-Some-number_of.ensures.some within.0 within.1 refl
+    (subst (λ capacity. SettingHot (machine c.args.cluster.now) c.in-Some-number_of.node capacity (refused c.in-Err.refusal) (machine c.set_hot.new.self)) same c.in-Err.ensures.happens)

@@ -13,7 +13,7 @@ set_hot_capacity-requires-clause-node g c =
     node_there (value_of c.args.sound.now.state) c.args.node c.args.capacity c.args.sound.now.invariant.shape (sym c.node_refusal.ensures ∙ c.in_default.is)
 
 set_now : (g : given.Over) (c : goal.After-set_hot_capacity g) →
-    Sets (value_of c.args.sound.now.state) c.args.node c.set_hot_capacity.result (record (value_of c.args.sound.now.state) { nodes = c.set_hot_capacity.new.self })
+    Sets (value_of c.args.sound.now.state) c.args.node c.args.capacity c.set_hot_capacity.result (record (value_of c.args.sound.now.state) { nodes = c.set_hot_capacity.new.self })
 set_now g c =
     sets (value_of c.args.sound.now.state) c.args.node c.args.capacity c.args.sound.now.invariant.shape (sym c.node_refusal.ensures ∙ c.in_default.is)
     c.args.sound.now.invariant.holds c.args.sound.now.invariant.noted c.set_hot_capacity.result c.set_hot_capacity.new.self

@@ -1,7 +1,10 @@
 use Rattle.std.proofs.Common.{◌≡◌, ℕ, sym, subst}
 use Rattle.assise_model_events.specs.Events.{Answer}
 use Rattle.assise_model_events.specs.Machine.{Machine}
+use Rattle.assise_model_events.specs.NodeEvents.{SettingHot}
 use Rattle.assise_machine.specs.declared.event.Event.{Event}
+use Rattle.assise_machine.specs.Answers.{setting_answer}
+use Rattle.assise_machine.specs.Clusters.{machine}
 use Rattle.assise_machine.specs.Running.{IsServed, event_seen, happens}
 use Rattle.assise_machine.proofs.run.apply_event.Goals as goal
 
@@ -28,7 +31,9 @@ pub returns-in-ReleaseReady-clause-served : goal.returns-in-ReleaseReady-clause-
 returns-in-ReleaseReady-clause-served g c = seen_so c.in-ReleaseReady.is (happens c.release_ready.ensures.happens)
 
 pub returns-in-SetHot-clause-served : goal.returns-in-SetHot-clause-served
-returns-in-SetHot-clause-served g c = seen_so c.in-SetHot.is (happens c.set_hot.ensures.happens)
+returns-in-SetHot-clause-served g c =
+    let set = subst (λ capacity. SettingHot (machine c.args.cluster.now) c.in-SetHot.node capacity (setting_answer c.set_hot.result) (machine c.set_hot.new.self)) c.get.ensures.value c.set_hot.ensures.happens in
+    seen_so c.in-SetHot.is (happens set)
 
 pub returns-in-Crash-clause-served : goal.returns-in-Crash-clause-served
 returns-in-Crash-clause-served g c = seen_so c.in-Crash.is (happens c.crash.ensures.happens)

@@ -1,4 +1,5 @@
 use Rattle.std.proofs.Common.{refl}
+use Rattle.assise_model_events.specs.Machine.{with_hot}
 use Rattle.assise_model_events.specs.NodeEvents.SettingHot.{is_set}
 use Rattle.assise_model_events.proofs.Digestible.{digested_can}
 use Rattle.assise_model_events.proofs.Doable.{delivered_can}
@@ -15,4 +16,4 @@ pub returns-clause-released : goal.returns-clause-released
 returns-clause-released r = λ m most h few. released_can m most h few
 
 pub returns-clause-hot : goal.returns-clause-hot
-returns-clause-hot r = λ m n fine. (m, is_set fine refl refl)
+returns-clause-hot r = λ m n capacity fine. (with_hot m n capacity, is_set fine refl refl)

@@ -6,7 +6,7 @@ pub returns-clause-told : goal.returns-clause-told
 returns-clause-told r = λ m m' n capacity a e. hot_told m m' n capacity a e
 
 pub returns-clause-leads : goal.returns-clause-leads
-returns-clause-leads r = λ m m' n a e. hot_leads m m' n a e
+returns-clause-leads r = λ m m' n capacity a e. hot_leads m m' n capacity a e
 
 pub returns-clause-keeps : goal.returns-clause-keeps
-returns-clause-keeps r = λ m m' n a h e. hot_holds m m' n a h e
+returns-clause-keeps r = λ m m' n capacity a h e. hot_holds m m' n capacity a h e

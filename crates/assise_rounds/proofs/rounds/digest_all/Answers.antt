@@ -1,5 +1,6 @@
-use Rattle.std.proofs.Common.{◌≡◌, ◌-◌, [], refl, sym, subst, ◌∙◌, arith}
+use Rattle.std.proofs.Common.{◌≡◌, ◌-◌, [], refl, sym, subst, ◌∙◌, arith, ◌≤◌, ℕ, false, is_none}
 use Rattle.assise_names.specs.declared.limits.TheConstants.{MOST_NODES}
+use Rattle.assise_model_events.specs.Faults.{node_fault}
 use Rattle.assise_machine.specs.Clusters.{machine}
 use Rattle.assise_rounds.specs.Traces.{Told}
 use Rattle.assise_rounds.specs.Rounds.{EachFull, DigestsOnce, WithWork}
@@ -31,7 +32,7 @@ returns-then-not-is_there g c =
     let v = machine c.loop-node.cluster in
     let k = c.loop-node.node in
     let some = c.loop-node.auto.node in
-    let none = λ j far. none_there v k j some (c.is_there.ensures c.if-not-is_there.true) far in
+    let none : (j : ℕ) → k ≤ j → is_none (node_fault v j) ≡ false = λ j far. none_there v k j some (c.is_there.ensures c.if-not-is_there.true) far in
     none_behind DigestsOnce k MOST_NODES (machine c.args.cluster.now) v c.loop-node.busy some (omega (arith, c.loop-node.auto.node-end)) none c.loop-node.invariant
 
 pub returns : goal.returns

@@ -1,5 +1,6 @@
-use Rattle.std.proofs.Common.{map, ◌≡◌, ◌-◌, [], refl, sym, subst, ◌∙◌, arith}
+use Rattle.std.proofs.Common.{map, ◌≡◌, ◌-◌, [], refl, sym, subst, ◌∙◌, arith, ◌≤◌, ℕ, false, is_none}
 use Rattle.assise_names.specs.declared.limits.TheConstants.{MOST_NODES}
+use Rattle.assise_model_events.specs.Faults.{node_fault}
 use Rattle.assise_machine.specs.Clusters.{machine}
 use Rattle.assise_rounds.specs.Traces.{Told}
 use Rattle.assise_rounds.specs.NodeLinks.{FaithfulAt}
@@ -45,9 +46,8 @@ returns-then-not-is_there-clause-each g c =
     let v = machine c.loop-node.cluster in
     let k = c.loop-node.node in
     let some = c.loop-node.auto.node in
-    let none = λ j far. none_there v k j some (c.is_there.ensures c.if-not-is_there.true) far in
-    let Turn = λ n. TakesTurn (FaithfulAt (map g.L.Link.kind c.args.links.now) n) n in
-    none_behind Turn k MOST_NODES (machine c.args.cluster.now) v c.loop-node.busy some (omega (arith, c.loop-node.auto.node-end)) none c.loop-node.invariant.each
+    let none : (j : ℕ) → k ≤ j → is_none (node_fault v j) ≡ false = λ j far. none_there v k j some (c.is_there.ensures c.if-not-is_there.true) far in
+    none_behind (λ n. TakesTurn (FaithfulAt (map g.L.Link.kind c.args.links.now) n) n) k MOST_NODES (machine c.args.cluster.now) v c.loop-node.busy some (omega (arith, c.loop-node.auto.node-end)) none c.loop-node.invariant.each
 
 pub returns-clause-each : goal.returns-clause-each
 returns-clause-each g c =

@@ -1,12 +1,8 @@
-use Rattle.assise_machine.proofs.Capacities.{begun_capacities}
 use Rattle.assise_machine.proofs.Replicated.{begun_so}
 use Rattle.assise_machine.proofs.cluster.ClusterOf.new.Goals as goal
 
 pub returns-clause-history : goal.returns-clause-history
-returns-clause-history g c = (begun_so (record { sound = c.in_ok-new.field-0 }) c.args.nodes c.args.log c.in_ok-new.ensures.begun).0
+returns-clause-history g c = (begun_so (record { sound = c.in_ok-new.field-0 }) c.args.nodes c.args.log c.args.hot c.in_ok-new.ensures.begun).0
 
 pub returns-clause-nodes : goal.returns-clause-nodes
-returns-clause-nodes g c = (begun_so (record { sound = c.in_ok-new.field-0 }) c.args.nodes c.args.log c.in_ok-new.ensures.begun).1
-
-pub returns-clause-hot : goal.returns-clause-hot
-returns-clause-hot g c = begun_capacities (record { sound = c.in_ok-new.field-0 }) c.args.nodes c.args.hot c.in_ok-new.ensures.regions
+returns-clause-nodes g c = (begun_so (record { sound = c.in_ok-new.field-0 }) c.args.nodes c.args.log c.args.hot c.in_ok-new.ensures.begun).1

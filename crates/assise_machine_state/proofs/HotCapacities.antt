@@ -1,0 +1,78 @@
+-- How many inodes may be hot at each node stays where its inodes and logs change.
+use Rattle.std.proofs.Common.{◌≡◌, ℕ, zero, suc, ◌-◌, ◌==◌, Bool, true, false, if◌then◌else◌, List, [], ◌∷◌, map, replicate, slice_index_or, slice_set, length, refl, ap, ◌∙◌}
+use Rattle.std.proofs.lemmas.List.{map-set}
+use Rattle.assise_record.specs.Records.{has_some}
+use Rattle.assise_record.specs.declared.effect.Effect.{Effect}
+use Rattle.assise_digest.specs.Region.{ReceivedLog, RegionValue, from_number, log_of, region_with_client, up_to_number, with_hot_capacity, with_log}
+use Rattle.assise_model_world.specs.World.{digested_by_all}
+use Rattle.assise_machine_state.specs.Changes.{drops_to, with_clients_cut}
+use Rattle.assise_machine_state.specs.ClientValues.{ClientValue, client_seen}
+use Rattle.assise_machine_state.specs.NodeValues.{begun_log, changed_in, hot_capacities, new_region, new_regions, no_region, region_in, with_call_in, with_hot_in, with_log_in, with_logs_begun, with_prefixes_dropped, with_region, with_tails_cut, without_logs}
+use Rattle.assise_machine_state.specs.Observed.{world_of}
+use Rattle.assise_machine_state.specs.StateValues.{StateValue}
+
+-- ---- at one node
+
+kept_at : (rs : List RegionValue) (k : ℕ) (r : RegionValue) → r.capacity ≡ (slice_index_or rs k no_region).capacity → hot_capacities (slice_set rs k r) ≡ hot_capacities rs
+kept_at [] k r same = refl
+kept_at (q ∷ rs) zero r same = ap (λ capacity. capacity ∷ hot_capacities rs) same
+kept_at (q ∷ rs) (suc k) r same = ap (λ capacities. q.capacity ∷ capacities) (kept_at rs k r same)
+
+pub region_keeps : (rs : List RegionValue) (n : ℕ) (r : RegionValue) → r.capacity ≡ (region_in rs n).capacity → hot_capacities (with_region rs n r) ≡ hot_capacities rs
+region_keeps rs n r same = kept_at rs (n - 1) r same
+
+pub log_keeps : (rs : List RegionValue) (n c : ℕ) (l : ReceivedLog) → hot_capacities (with_log_in rs n c l) ≡ hot_capacities rs
+log_keeps rs n c l = region_keeps rs n (with_log (region_in rs n) c l) refl
+
+pub set_at : (rs : List RegionValue) (n capacity : ℕ) → hot_capacities (with_hot_in rs n capacity) ≡ slice_set (hot_capacities rs) (n - 1) capacity
+set_at rs n capacity = map-set (λ r. r.capacity) rs (n - 1) (with_hot_capacity (region_in rs n) capacity)
+
+-- ---- where something is so, or nothing changes
+
+region_either : (b : Bool) (r s : RegionValue) → r.capacity ≡ s.capacity → (if b then r else s).capacity ≡ s.capacity
+region_either true r s same = same
+region_either false r s same = refl
+
+either : (b : Bool) (rs ss : List RegionValue) → hot_capacities rs ≡ hot_capacities ss → hot_capacities (if b then rs else ss) ≡ hot_capacities ss
+either true rs ss same = same
+either false rs ss same = refl
+
+pub call_keeps : (rs : List RegionValue) (n c call : ℕ) (es : List Effect) → hot_capacities (with_call_in rs n c call es) ≡ hot_capacities rs
+call_keeps rs n c call es = either (has_some es) (with_log_in rs n c _) rs (log_keeps rs n c _)
+
+-- ---- at all nodes
+
+each_keeps : (f : RegionValue → RegionValue) → ((r : RegionValue) → (f r).capacity ≡ r.capacity) → (rs : List RegionValue) → hot_capacities (map f rs) ≡ hot_capacities rs
+each_keeps f same [] = refl
+each_keeps f same (r ∷ rs) = (λ i. same r i ∷ each_keeps f same rs i)
+
+changed_keeps : (c : ℕ) (f : ReceivedLog → ReceivedLog) (rs : List RegionValue) → hot_capacities (map (changed_in c f) rs) ≡ hot_capacities rs
+changed_keeps c f = each_keeps (changed_in c f) (λ r. region_either _ (with_log r c (f (log_of r c))) r refl)
+
+pub prefixes_keep : (rs : List RegionValue) (c to : ℕ) → hot_capacities (with_prefixes_dropped rs c to) ≡ hot_capacities rs
+prefixes_keep rs c to = changed_keeps c (λ l. from_number l to) rs
+
+tails_keep : (rs : List RegionValue) (c from : ℕ) → hot_capacities (with_tails_cut rs c from) ≡ hot_capacities rs
+tails_keep rs c from = changed_keeps c (λ l. up_to_number l from) rs
+
+pub begun_keeps : (full : ℕ → Bool) (limit home n : ℕ) (rs : List RegionValue) → hot_capacities (with_logs_begun full limit home n rs) ≡ hot_capacities rs
+begun_keeps full limit home n [] = refl
+begun_keeps full limit home n (r ∷ rs) =
+    (λ i. region_either (full n) (region_with_client r (begun_log limit (n == home))) r refl i ∷ begun_keeps full limit home (suc n) rs i)
+
+cut_keeps : (home : ℕ) (cs : List ClientValue) (kept : ℕ → ℕ) (m : ℕ) (rs : List RegionValue) → hot_capacities (with_clients_cut home cs kept m rs) ≡ hot_capacities rs
+cut_keeps home cs kept zero rs = refl
+cut_keeps home cs kept (suc c) rs =
+    let before : List RegionValue = with_clients_cut home cs kept c rs in
+    either ((client_seen cs (suc c)).home == home) (with_tails_cut before (suc c) (kept (suc c))) before (tails_keep before (suc c) (kept (suc c)))
+    ∙ cut_keeps home cs kept c rs
+
+-- a node fails
+pub failure_keeps : (rs : List RegionValue) (n : ℕ) (cs : List ClientValue) (kept : ℕ → ℕ) (m : ℕ) → hot_capacities (with_clients_cut n cs kept m (without_logs rs n)) ≡ hot_capacities rs
+failure_keeps rs n cs kept m = cut_keeps n cs kept m (without_logs rs n) ∙ region_keeps rs n _ refl
+
+-- ---- the start
+
+pub begun_capacities : (count hot : ℕ) → hot_capacities (new_regions count hot) ≡ replicate count hot
+begun_capacities zero hot = refl
+begun_capacities (suc count) hot = ap (λ capacities. hot ∷ capacities) (begun_capacities count hot)
