@@ -2,6 +2,7 @@
 use Rattle.std.proofs.Common.{◌≡◌, ◌≢◌, ℕ, ◌≤◌, arith, Bool, true, false, Option, Some, None, refl, sym, ◌∙◌, subst}
 use Rattle.std.specs.Prelude.{not, ◌&&◌, nat_le, Result, Ok, Err, IfErr}
 use Rattle.std.specs.List.{list_any}
+use Rattle.std.proofs.Math.Bridge.{le_prop}
 use Rattle.std.proofs.Math.Logic.{∥∥₁_elim, ∥∥₁_map}
 use Rattle.std.proofs.lemmas.Bool.Decides.{nat_tests}
 use Rattle.assise_names.specs.declared.call.Op.{Op}
@@ -13,13 +14,14 @@ use Rattle.assise_names.specs.declared.refusal.Refusal.{Refusal}
 use Rattle.assise_names.specs.declared.refusal.Refusal.TheVariants.{BadClient, BadNode, ClientGone, InodesSpent, LogFull, NodeDown, OutOfMemory, TooLarge}
 use Rattle.assise_names.specs.declared.limits.TheConstants.{MOST_CLIENTS}
 use Rattle.assise_history.specs.Entries.{opens}
-use Rattle.assise_history.specs.Legal.{IsDown, durability_of, is_failure_of}
+use Rattle.assise_history.specs.Legal.{IsAlive, IsDown, MayCall, clients_opened, durability_of, is_crash_of, is_failure_of}
 use Rattle.assise_history.proofs.ClientCounts.{next_opened, opened_within}
 use Rattle.assise_history.proofs.Legality.{fits_in}
 use Rattle.assise_inode_table.specs.Numbers.{makes_inode}
 use Rattle.assise_inode_table.proofs.CallEnds.{makes_own}
 use Rattle.assise_manager.specs.Standings.{Standing, full, down, returning, standing_of}
-use Rattle.assise_model_world.specs.World.{IsClient, view}
+use Rattle.assise_model_world.specs.World.{Full, IsClient, view}
+use Rattle.assise_model_history.specs.Numbered.{made_in}
 use Rattle.assise_model_events.specs.ClientEvents.{Opening, Calling, Noting, Syncing, call_of_client, is_answered, is_awaited, is_full, is_noted, is_opened, is_refused, is_replicating, is_spent, is_synced, lacks_memory, last_world}
 use Rattle.assise_model_events.specs.Dsyncs.{Coalescing, is_coalesced, is_refused, is_synced, lacks_memory}
 use Rattle.assise_model_events.specs.Events.{Answer, not_yet, opened, refused, replied}
@@ -28,7 +30,7 @@ use Rattle.assise_model_events.specs.Happenings.{Dsyncing, Fsyncing, Trying}
 use Rattle.assise_model_events.specs.Machine.{Machine, MachineInvariant}
 use Rattle.assise_model_events.proofs.Rejoined.{stands_is_node}
 use Rattle.assise_machine_calls.specs.Answers.{opening_answer}
-use Rattle.assise_libfs.specs.Calling.{MakesInode, MayRefuseTry, WritesTooMuch}
+use Rattle.assise_libfs.specs.Calling.{HasSpentInodes, IsCutOff, MakesInode, MayRefuseTry, WritesTooMuch}
 use Rattle.assise_libfs.specs.Lives.{HasCrashed, HasLostNode, IsOpenedOn}
 use Rattle.assise_libfs.specs.Opening.{MayRefuseOpen}
 
@@ -38,19 +40,34 @@ use Rattle.assise_libfs.specs.Opening.{MayRefuseOpen}
 data ClientFault (known crashed lives : Bool) (r : Refusal) : Type 0 where
   is_bad : known ≡ false → r ≡ BadClient → ClientFault known crashed lives r
   is_gone : known ≡ true → crashed ≡ true → r ≡ ClientGone → ClientFault known crashed lives r
-  is_cut_off : known ≡ true → lives ≡ false → r ≡ NodeDown → ClientFault known crashed lives r
+  is_cut_off : known ≡ true → crashed ≡ false → lives ≡ false → r ≡ NodeDown → ClientFault known crashed lives r
 
 which_fault : (b k l : Bool) (r : Refusal) → or_else (fault_if (not b) BadClient) (or_else (fault_if k ClientGone) (fault_if (not l) NodeDown)) ≡ Some r → ClientFault b k l r
 which_fault false k l r e = is_bad refl (let x : Some BadClient ≡ Some r = e in cc)
 which_fault true true l r e = is_gone refl refl (let x : Some ClientGone ≡ Some r = e in cc)
-which_fault true false false r e = is_cut_off refl refl (let x : Some NodeDown ≡ Some r = e in cc)
+which_fault true false false r e = is_cut_off refl refl refl (let x : Some NodeDown ≡ Some r = e in cc)
 which_fault true false true r e = absurd (cc)
+
+-- the client is known, hasn't crashed, and its node hasn't failed
+no_client_fault : (b k l : Bool) → or_else (fault_if (not b) BadClient) (or_else (fault_if k ClientGone) (fault_if (not l) NodeDown)) ≡ None → (b ≡ true) × ((k ≡ false) × (l ≡ true))
+no_client_fault false k l e = absurd (let x : Some BadClient ≡ None = e in cc)
+no_client_fault true true l e = absurd (let x : Some ClientGone ≡ None = e in cc)
+no_client_fault true false false e = absurd (let x : Some NodeDown ≡ None = e in cc)
+no_client_fault true false true e = (refl, (refl, refl))
+
+no_first_fault : (x y : Option Refusal) → or_else x y ≡ None → x ≡ None
+no_first_fault (Some q) y e = e
+no_first_fault None y e = refl
 
 le_true : (a b : ℕ) → nat_le a b ≡ true → a ≤ b
 le_true a b e = grind (arith, nat_tests)
 
 true_le : (a b : ℕ) → a ≤ b → nat_le a b ≡ true
 true_le a b e = grind (arith, nat_tests)
+
+not_true : (b : Bool) → not b ≡ true → b ≡ false
+not_true false e = refl
+not_true true e = absurd (cc)
 
 not_false : (b : Bool) → not b ≡ false → b ≡ true
 not_false true e = refl
@@ -67,6 +84,12 @@ not_false false e = absurd (cc)
 &&_both : (a b : Bool) → a ≡ true → b ≡ true → (a && b) ≡ true
 &&_both true b e f = f
 &&_both false b e f = absurd (cc)
+
+same_number : {A : Type 0} → ∥ A ∥₁ → (a b : ℕ) → (A → a ≡ b) → a ≡ b
+same_number x a b f =
+    let few : a ≤ b = ∥∥₁_elim x le_prop (λ h. let e = f h in omega (arith, e)) in
+    let many : b ≤ a = ∥∥₁_elim x le_prop (λ h. let e = f h in omega (arith, e)) in
+    omega (arith, few, many)
 
 no_proofs : (x y : ⊥) → x ≡ y
 no_proofs x y = absurd x
@@ -89,6 +112,24 @@ module _ (m : Machine) (h : MachineInvariant m) (c : ℕ) where
     opened = record { durability = o.durability; before = o.before; since = o.since; split = o.split };
     failure = not_false (list_any (is_failure_of (m.world.home c)) o.since) (sym o.lives ∙ over);
   }
+
+  cut_off : is_client m.world c ≡ true → m.world.crashed c ≡ false → m.world.lives c ≡ false → IsCutOff c m.history
+  cut_off known sound over = let o = h.recorded.opened c (client_of known) in
+      (lost_node known over, record { node = m.world.home c; durability = o.durability; before = o.before; since = o.since; split = o.split; no_crash = sym o.crashed ∙ sound })
+
+  may_call : client_fault m c ≡ None → MayCall m.history c
+  may_call fine =
+      let sound = no_client_fault (is_client m.world c) (m.world.crashed c) (m.world.lives c) fine in
+      let o = h.recorded.opened c (client_of sound.0) in
+      record {
+        node = m.world.home c;
+        durability = o.durability;
+        before = o.before;
+        since = o.since;
+        split = o.split;
+        no_crash = sym o.crashed ∙ sound.1.0;
+        no_failure = not_true (list_any (is_failure_of (m.world.home c)) o.since) (sym o.lives ∙ sound.1.1);
+      }
 
   has_crashed : is_client m.world c ≡ true → m.world.crashed c ≡ true → HasCrashed c m.history
   has_crashed known over = let o = h.recorded.opened c (client_of known) in record {
@@ -129,11 +170,11 @@ makes_by Dsync reply e = cc
 
 data CallFault (fault : Option Refusal) (op : Op) (r : Refusal) : Type 0 where
   of_client : fault ≡ Some r → CallFault fault op r
-  of_size : is_too_large op ≡ true → r ≡ TooLarge → CallFault fault op r
+  of_size : fault ≡ None → is_too_large op ≡ true → r ≡ TooLarge → CallFault fault op r
 
 which_call_fault : (x : Option Refusal) (b : Bool) (op : Op) (r : Refusal) → is_too_large op ≡ b → or_else x (fault_if b TooLarge) ≡ Some r → CallFault x op r
 which_call_fault (Some q) b op r size e = of_client e
-which_call_fault None true op r size e = of_size size (let x : Some TooLarge ≡ Some r = e in cc)
+which_call_fault None true op r size e = of_size refl size (let x : Some TooLarge ≡ Some r = e in cc)
 which_call_fault None false op r size e = absurd (cc)
 
 same_refusal : (q r : Refusal) (a : Answer) → a ≡ refused q → a ≡ refused r → r ≡ q
@@ -143,14 +184,14 @@ module _ (m : Machine) (holds : ∥ MachineInvariant m ∥₁) where
   client_refused : (c : ℕ) (op : Op) (r : Refusal) → ClientFault (is_client m.world c) (m.world.crashed c) (m.world.lives c) r → MayRefuseTry c op m.history r
   client_refused c op r (is_bad none is) = subst (MayRefuseTry c op m.history) (sym is) (λ n o. ∥∥₁_elim holds no_proofs (λ h. never_opened m h c none n o))
   client_refused c op r (is_gone known over is) = subst (MayRefuseTry c op m.history) (sym is) (∥∥₁_map holds (λ h. has_crashed m h c known over))
-  client_refused c op r (is_cut_off known over is) = subst (MayRefuseTry c op m.history) (sym is) (∥∥₁_map holds (λ h. lost_node m h c known over))
+  client_refused c op r (is_cut_off known sound over is) = subst (MayRefuseTry c op m.history) (sym is) (∥∥₁_map holds (λ h. cut_off m h c known sound over))
 
   faulty_client : (c : ℕ) (op : Op) (r : Refusal) → client_fault m c ≡ Some r → MayRefuseTry c op m.history r
   faulty_client c op r fault = client_refused c op r (which_fault (is_client m.world c) (m.world.crashed c) (m.world.lives c) r fault)
 
   faulty_call : (c : ℕ) (op : Op) (r : Refusal) → CallFault (client_fault m c) op r → MayRefuseTry c op m.history r
   faulty_call c op r (of_client fault) = faulty_client c op r fault
-  faulty_call c op r (of_size size is) = subst (MayRefuseTry c op m.history) (sym is) (writes_too_much op size)
+  faulty_call c op r (of_size fine size is) = subst (MayRefuseTry c op m.history) (sym is) (writes_too_much op size, ∥∥₁_map holds (λ h. may_call m h c fine))
 
   calling_refused : (m' : Machine) (c : ℕ) (op : Op) (a : Answer) (r : Refusal) → Calling m c op a m' → a ≡ refused r → MayRefuseTry c op m.history r
   calling_refused m' c op a r (is_answered reply granted e h) is = absurd (let x : replied reply ≡ refused r = sym e ∙ is in cc)
@@ -159,8 +200,10 @@ module _ (m : Machine) (holds : ∥ MachineInvariant m ∥₁) where
       let w = last_world m.world granted in
       let x = call_of_client m.world c op reply in
       let own = makes_own (view w (w.home c) c) op x.fresh x.fresh s.makes in
-      subst (MayRefuseTry c op m.history) (sym (same_refusal InodesSpent r a e is)) (makes_by op _ own.1)
-  calling_refused m' c op a r (is_full reply granted e s k) is = subst (MayRefuseTry c op m.history) (sym (same_refusal LogFull r a e is)) tt
+      let fine = no_first_fault (client_fault m c) _ s.tried.fine in
+      let made : made_in c m.history ≡ 1048576 = same_number holds (made_in c m.history) 1048576 (λ h. sym (h.recorded.made c) ∙ s.made) in
+      subst (MayRefuseTry c op m.history) (sym (same_refusal InodesSpent r a e is)) (makes_by op _ own.1, (∥∥₁_map holds (λ h. may_call m h c fine), made))
+  calling_refused m' c op a r (is_full reply granted e s k) is = subst (MayRefuseTry c op m.history) (sym (same_refusal LogFull r a e is)) (∥∥₁_map holds (λ h. may_call m h c (no_first_fault (client_fault m c) _ s.tried.fine)))
   calling_refused m' c op a r (lacks_memory reply granted e s k) is = subst (MayRefuseTry c op m.history) (sym (same_refusal OutOfMemory r a e is)) tt
   calling_refused m' c op a r (is_refused q fault e same) is =
       subst (MayRefuseTry c op m.history) (sym (same_refusal q r a e is)) (faulty_call c op q (which_call_fault (client_fault m c) (is_too_large op) op q refl fault))
@@ -207,25 +250,31 @@ module _ (m : Machine) (holds : ∥ MachineInvariant m ∥₁) where
 -- ---- the faults of an open
 
 -- there is no such node, it isn't full, or all clients were opened
-data OpenFault (s : Option Standing) (r : Refusal) : Type 0 where
-  no_node : r ≡ BadNode → OpenFault s r
-  no_client_left : r ≡ BadClient → OpenFault s r
-  not_up : (t : Standing) → s ≡ Some t → t ≢ full → r ≡ NodeDown → OpenFault s r
+data OpenFault (s : Option Standing) (b : Bool) (r : Refusal) : Type 0 where
+  no_node : r ≡ BadNode → OpenFault s b r
+  no_client_left : s ≡ Some full → b ≡ true → r ≡ BadClient → OpenFault s b r
+  not_up : (t : Standing) → s ≡ Some t → t ≢ full → r ≡ NodeDown → OpenFault s b r
 
-which_open_fault : (s : Option Standing) (b : Bool) (r : Refusal) → or_else (unless_full NodeDown s) (fault_if b BadClient) ≡ Some r → OpenFault s r
+which_open_fault : (s : Option Standing) (b : Bool) (r : Refusal) → or_else (unless_full NodeDown s) (fault_if b BadClient) ≡ Some r → OpenFault s b r
 which_open_fault None b r e = no_node (let x : Some BadNode ≡ Some r = e in cc)
-which_open_fault (Some full) true r e = no_client_left (let x : Some BadClient ≡ Some r = e in cc)
+which_open_fault (Some full) true r e = no_client_left refl refl (let x : Some BadClient ≡ Some r = e in cc)
 which_open_fault (Some full) false r e = absurd (cc)
 which_open_fault (Some (down since)) b r e = not_up (down since) refl (λ is. cc) (let x : Some NodeDown ≡ Some r = e in cc)
 which_open_fault (Some (returning since donor stale)) b r e = not_up (returning since donor stale) refl (λ is. cc) (let x : Some NodeDown ≡ Some r = e in cc)
+
+is_up : (m : Machine) (n : ℕ) → MachineInvariant m → standing_of m.members.nodes n ≡ Some full → IsDown m.history n → ⊥
+is_up m n h at fell = h.recorded.up n (h.members.nodes_full n at) fell
 
 is_down : (m : Machine) (n : ℕ) (t : Standing) → MachineInvariant m → standing_of m.members.nodes n ≡ Some t → t ≢ full → IsDown m.history n
 is_down m n t h at other = h.recorded.down n (stands_is_node m n t at) (λ f. other (let x : Some full ≡ Some t = sym (h.members.full_nodes n f) ∙ at in cc))
 
 module _ (m : Machine) (holds : ∥ MachineInvariant m ∥₁) (n : ℕ) (u : Durability) where
-  faulty_open : (r : Refusal) → OpenFault (standing_of m.members.nodes n) r → MayRefuseOpen n m.history r
+  faulty_open : (r : Refusal) → OpenFault (standing_of m.members.nodes n) (nat_le MOST_CLIENTS m.world.clients) r → MayRefuseOpen n m.history r
   faulty_open r (no_node is) = subst (MayRefuseOpen n m.history) (sym is) tt
-  faulty_open r (no_client_left is) = subst (MayRefuseOpen n m.history) (sym is) tt
+  faulty_open r (no_client_left up many is) =
+      let enough : MOST_CLIENTS ≤ m.world.clients = le_true MOST_CLIENTS m.world.clients many in
+      let count = same_number holds (clients_opened m.history) MOST_CLIENTS (λ h. let few = h.clients in let opened = h.recorded.count in omega (arith, enough, few, opened)) in
+      subst (MayRefuseOpen n m.history) (sym is) ((λ fell. ∥∥₁_elim holds no_proofs (λ h. is_up m n h up fell)), count)
   faulty_open r (not_up t at other is) = subst (MayRefuseOpen n m.history) (sym is) (∥∥₁_map holds (λ h. is_down m n t h at other))
 
   pub opening_refused : (m' : Machine) (a : Answer) (r : Refusal) → Opening m n u a m' → a ≡ refused r → MayRefuseOpen n m.history r

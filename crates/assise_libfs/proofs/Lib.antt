@@ -3,3 +3,4 @@ pub mod Refused
 pub mod Same
 pub mod Sights
 pub mod Tries
+pub mod TurnsAdd

@@ -20,4 +20,4 @@ refused-opened c n op h BadNode o f = f
 refused-opened c n op h BadClient o f = ∥∥₁_elim o (λ x y. absurd x) (f n)
 refused-opened c n op h WrongPhase o f = f
 refused-opened c n op h StaleMessage o f = f
-refused-opened c n op h LogFull o f = tt
+refused-opened c n op h LogFull o f = f

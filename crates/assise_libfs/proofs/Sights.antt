@@ -1,5 +1,6 @@
 -- What the caller of a turn has seen behind it.
-use Rattle.std.proofs.Common.{◌≡◌, ℕ, List, Option, Some, None, Result, Ok, Err, refl, sym, subst}
+use Rattle.std.proofs.Common.{◌≡◌, ℕ, List, Option, Some, None, Result, Ok, Err, refl, sym, ◌∙◌, subst}
+use Rattle.std.specs.Prelude.{IfErr}
 use Rattle.assise_names.specs.declared.call.Op.{Op}
 use Rattle.assise_names.specs.declared.refusal.Refusal.{Refusal}
 use Rattle.assise_names.specs.declared.reply.Reply.{Reply}
@@ -7,7 +8,7 @@ use Rattle.assise_history.specs.Entries.{EntryValue}
 use Rattle.assise_history.specs.Legal.{calls_made}
 use Rattle.assise_keeper.specs.Clients.{Extends, ExtendsByOne, calls_by, calls_of}
 use Rattle.assise_keeper.proofs.PassAdds.{extends-same, extends_by_one}
-use Rattle.assise_libfs.specs.Calling.{ExtendsByOthers, SeesTry, Tries, told_call}
+use Rattle.assise_libfs.specs.Calling.{ExtendsByOthers, MayRefuseTry, SeesTry, Tries, told_call}
 use Rattle.assise_libfs.proofs.Tries.{by_others, others_then_one}
 
 same_calls : (c : ℕ) (o : Option ℕ) (h old : List EntryValue) → o ≡ Some c → calls_of o h ≡ calls_of o old → calls_by c h ≡ calls_by c old
@@ -24,3 +25,8 @@ sees-tried c op old h (Err refusal) h' extends same e = subst (ExtendsByOthers c
 -- the state was taken by a pass of this client, and is given back after the try
 pub sees : (c : ℕ) (o : Option ℕ) (op : Op) (old h : List EntryValue) (r : Result (Option Reply) Refusal) (h' : List EntryValue) → o ≡ Some c → Extends h old → calls_of o h ≡ calls_of o old → Tries c op h r h' → SeesTry c op old r h'
 sees c o op old h r h' is extends same e = sees-tried c op old h r h' extends (same_calls c o h old is same) e
+
+-- a refused try is refused for what is seen when the state was given back
+pub refused-given : (c : ℕ) (op : Op) (h : List EntryValue) (r : Result (Option Reply) Refusal) (h' s : List EntryValue) → Tries c op h r h' → s ≡ h' → IfErr r (MayRefuseTry c op h) → IfErr r (MayRefuseTry c op s)
+refused-given c op h (Ok x) h' s e given f = tt
+refused-given c op h (Err refusal) h' s e given f = subst (λ z. MayRefuseTry c op z refusal) (sym (given ∙ e)) f

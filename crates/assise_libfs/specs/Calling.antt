@@ -7,8 +7,9 @@ use Rattle.assise_names.specs.declared.refusal.Refusal.{Refusal}
 use Rattle.assise_names.specs.declared.refusal.Refusal.TheVariants.{OutOfMemory, Busy, NodeDown, ClientGone, InodesSpent, TooLarge, LastNode, BadNode, BadClient, WrongPhase, StaleMessage, LogFull}
 use Rattle.assise_names.specs.declared.reply.Reply.{Reply}
 use Rattle.assise_history.specs.Entries.{EntryValue, calls}
-use Rattle.assise_history.specs.Legal.{calls_made}
+use Rattle.assise_history.specs.Legal.{IsAlive, MayCall, calls_made}
 use Rattle.assise_keeper.specs.Clients.{calls_by, ExtendsByOne}
+use Rattle.assise_model_history.specs.Numbered.{made_in}
 use Rattle.assise_libfs.specs.Lives.{IsOpenedOn, HasLostNode, HasCrashed}
 
 -- the client's next call after this history, with its reply
@@ -82,32 +83,41 @@ WritesTooMuch (Stat p) = ⊥
 WritesTooMuch Fsync = ⊥
 WritesTooMuch Dsync = ⊥
 
--- a try may be refused so after this history: of a client that was never opened with BadClient
+-- the client's node has failed since it was opened, and it hasn't crashed
+abbrev pub IsCutOff : ℕ → List EntryValue → Type 0
+IsCutOff c h = HasLostNode c h × IsAlive h c
+
+-- the call makes a file or a directory, and the client, which may call, has made all inodes that it may
+abbrev pub HasSpentInodes : ℕ → Op → List EntryValue → Type 0
+HasSpentInodes c op h = MakesInode op × (∥ MayCall h c ∥₁ × (made_in c h ≡ 1048576))
+
+-- Why a try may be refused after this history: first that the client was never opened, then that it crashed, then that its node failed,
+-- then what is wrong of the call.
 abbrev pub MayRefuseTry : ℕ → Op → List EntryValue → Refusal → Type 0
 MayRefuseTry c op h OutOfMemory = Unit {0}
 MayRefuseTry c op h Busy = ⊥
-MayRefuseTry c op h NodeDown = ∥ HasLostNode c h ∥₁
+MayRefuseTry c op h NodeDown = ∥ IsCutOff c h ∥₁
 MayRefuseTry c op h ClientGone = ∥ HasCrashed c h ∥₁
-MayRefuseTry c op h InodesSpent = MakesInode op
-MayRefuseTry c op h TooLarge = WritesTooMuch op
+MayRefuseTry c op h InodesSpent = HasSpentInodes c op h
+MayRefuseTry c op h TooLarge = WritesTooMuch op × ∥ MayCall h c ∥₁
 MayRefuseTry c op h LastNode = ⊥
 MayRefuseTry c op h BadNode = ⊥
 MayRefuseTry c op h BadClient = (n : ℕ) → IsOpenedOn c n h → ⊥
 MayRefuseTry c op h WrongPhase = ⊥
 MayRefuseTry c op h StaleMessage = ⊥
-MayRefuseTry c op h LogFull = Unit {0}
+MayRefuseTry c op h LogFull = ∥ MayCall h c ∥₁
 
 -- a call may be refused so, when its caller has seen this history: Busy is for spent turns
 abbrev pub MayRefuse : ℕ → Op → List EntryValue → Refusal → Type 0
 MayRefuse c op h OutOfMemory = Unit {0}
 MayRefuse c op h Busy = Unit {0}
-MayRefuse c op h NodeDown = ∥ HasLostNode c h ∥₁
+MayRefuse c op h NodeDown = ∥ IsCutOff c h ∥₁
 MayRefuse c op h ClientGone = ∥ HasCrashed c h ∥₁
-MayRefuse c op h InodesSpent = MakesInode op
-MayRefuse c op h TooLarge = WritesTooMuch op
+MayRefuse c op h InodesSpent = HasSpentInodes c op h
+MayRefuse c op h TooLarge = WritesTooMuch op × ∥ MayCall h c ∥₁
 MayRefuse c op h LastNode = ⊥
 MayRefuse c op h BadNode = ⊥
 MayRefuse c op h BadClient = ⊥
 MayRefuse c op h WrongPhase = ⊥
 MayRefuse c op h StaleMessage = ⊥
-MayRefuse c op h LogFull = Unit {0}
+MayRefuse c op h LogFull = ∥ MayCall h c ∥₁

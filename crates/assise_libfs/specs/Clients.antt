@@ -6,27 +6,32 @@ use Rattle.assise_keeper.specs.declared.pass.Pass.{Pass}
 use Rattle.assise_keeper.specs.Passes.{seen}
 use Rattle.assise_libfs.specs.declared.libfs.LibFs.{LibFs}
 
-module _ {S Stored : Type 0} where
+module _ {S : Type 0} where
   -- the keeper that it is lent, and its pass
-  abbrev pub keeper_of : LibFs S Stored → Keeper S
+  abbrev pub keeper_of : LibFs S → Keeper S
   keeper_of l = l.keeper.now
 
-  abbrev pub pass_of : LibFs S Stored → Pass S
+  abbrev pub pass_of : LibFs S → Pass S
   pass_of l = l.pass
 
   -- its client, and the node that it was opened on
-  abbrev pub client_of : LibFs S Stored → ℕ
+  abbrev pub client_of : LibFs S → ℕ
   client_of l = l.client
 
-  abbrev pub node_of : LibFs S Stored → ℕ
+  abbrev pub node_of : LibFs S → ℕ
   node_of l = l.node
 
+  -- how many turns a call of it has
+  abbrev pub limit_of : LibFs S → ℕ
+  limit_of l = l.limit
+
   -- what it has seen of the history
-  abbrev pub seen_by : LibFs S Stored → List EntryValue
+  abbrev pub seen_by : LibFs S → List EntryValue
   seen_by l = seen l.pass
 
   -- it is the same client, at the same node and keeper
-  pub record IsSameClient (old new : LibFs S Stored) : Type 0 where
+  pub record IsSameClient (old new : LibFs S) : Type 0 where
     pub client : client_of new ≡ client_of old
     pub node : node_of new ≡ node_of old
     pub keeper : keeper_of new ≡ keeper_of old
+    pub limit : limit_of new ≡ limit_of old

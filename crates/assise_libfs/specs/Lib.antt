@@ -2,3 +2,4 @@ pub mod Lives
 pub mod Calling
 pub mod Opening
 pub mod Clients
+pub mod InTurns

@@ -1,6 +1,6 @@
 -- What a history tells of a client's life: its open, its crash, and its node's failure.
 -- Assise (OSDI 2020), section 3 (process crash, fail-over).
-use Rattle.std.specs.Prelude.{◌≡◌, ℕ, true, List, ◌∷◌, ◌++◌}
+use Rattle.std.specs.Prelude.{◌≡◌, ℕ, true, List, [], ◌∷◌, ◌++◌}
 use Rattle.std.specs.List.{list_any}
 use Rattle.assise_names.specs.declared.durability.Durability.{Durability}
 use Rattle.assise_history.specs.Entries.{EntryValue, opens}
@@ -18,6 +18,10 @@ pub record IsOpenedAs (c n : ℕ) (u : Durability) (h : List EntryValue) : Type 
   pub before : List EntryValue
   pub since : List EntryValue
   pub split : h ≡ before ++ opens c n u ∷ since
+
+-- what was seen goes on, and ends with the client's opening on the node, and so
+abbrev pub EndsWithOpening : ℕ → ℕ → Durability → List EntryValue → List EntryValue → Type 0
+EndsWithOpening c n u old new = (between : List EntryValue) × (new ≡ (old ++ between) ++ opens c n u ∷ [])
 
 -- the client's node has failed since the client was opened
 pub record HasLostNode (c : ℕ) (h : List EntryValue) : Type 0 where

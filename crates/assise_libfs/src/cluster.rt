@@ -1,5 +1,7 @@
 // A cluster serves clients.
 ghost use Rattle.std.proofs.Math.Logic.{∥∥₁_map};
+ghost use Rattle.assise_machine.specs.Clusters.{machine};
+ghost use Rattle.assise_model_events.specs.Happenings.{Happens};
 
 use crate::served::Served;
 use assise_lease_table::revoker::Revokes;
@@ -13,6 +15,8 @@ use std::alloc::Global;
 
 impl<C: Revokes + Drop> Served for ClusterOf<C> {
     type Stored = C;
+
+    ghost acts = { λ s e a t. Happens (machine s) e a (machine t) };
 
     fn open(
         &mut self,

@@ -7,6 +7,7 @@ ghost use Rattle.assise_libfs.specs.Lives.{IsOpenedOn};
 use crate::pause::pause;
 use crate::served::Served;
 use crate::turns::{answered, open_turn, try_turn};
+use assise_history::growing::Growing;
 use assise_keeper::keeper::Keeper;
 use assise_keeper::pass::Pass;
 use assise_names::byte_string::ByteString;
@@ -36,7 +37,7 @@ use std::sync::Wait;
 /// - [`Refusal::LogFull`]: the call needs a record and the client's log is at its limit. A dsync, or a pessimistic fsync, and
 ///   digests make room.
 #[derive(Drop)]
-pub struct LibFs<'a, S: Served> {
+pub struct LibFs<'a, S: Growing> {
     keeper: &'a Keeper<S>,
     pass: Pass<S>,
     client: u32,
@@ -58,9 +59,10 @@ impl<'a, S: Served> LibFs<'a, S> {
     ghost use Rattle.assise_keeper.specs.Clients.{Extends};
     ghost use Rattle.assise_keeper.specs.Passes.{AreOfOneKeeper, IsPassOf, client as client_of_pass, mine, seen};
     ghost use Rattle.assise_libfs.specs.Calling.{MayRefuse, MayRefuseTry, SeesCall, SeesTry};
-    ghost use Rattle.assise_libfs.specs.Clients.{IsSameClient, client_of, keeper_of, node_of, pass_of, seen_by};
-    ghost use Rattle.assise_libfs.specs.Lives.{IsOpenedAs};
+    ghost use Rattle.assise_libfs.specs.Clients.{IsSameClient, client_of, keeper_of, limit_of, node_of, pass_of, seen_by};
+    ghost use Rattle.assise_libfs.specs.Lives.{EndsWithOpening, IsOpenedAs};
     ghost use Rattle.assise_libfs.specs.Opening.{MayRefuseOpen};
+    ghost use Rattle.assise_libfs.specs.InTurns.{TurnsOnce, TurnsTo};
 
     /// Opens a client on a node, whose fsyncs are served so, for calls of 1 to 1,000,000 turns. The client is the pass's from
     /// then on; what is stored with it serves the state, as a revoker does.
@@ -83,9 +85,12 @@ impl<'a, S: Served> LibFs<'a, S> {
         requires few_turns { limit ≤ 1000000 }
         ensures keeper { IfOk result (λ it. keeper_of it ≡ keeper.now) }
         ensures node { IfOk result (λ it. node_of it ≡ node) }
+        ensures limit { IfOk result (λ it. limit_of it ≡ limit) }
         ensures seen { IfOk result (λ it. Extends (seen_by it) (seen pass)) }
         ensures opened { IfOk result
             (λ it. ∥ IsOpenedAs (client_of it) node durability (seen_by it) ∥₁) }
+        ensures last { IfOk result
+            (λ it. EndsWithOpening (client_of it) node durability (seen pass) (seen_by it)) }
         ensures no_calls { IfOk result (λ it. calls_made (client_of it) (seen_by it) ≡ 0) }
         ensures refused { IfErr result (λ back. MayRefuseOpen node (seen back.1) back.0) }
         ensures pass_back { IfErr result (λ back.
@@ -286,6 +291,8 @@ impl<'a, S: Served> LibFs<'a, S> {
         ensures legal { ∥ IsLegal (seen_by self.new) ∥₁ }
         ensures refused { IfErr result (λ r. MayRefuse (client_of self.old) op.now
             (seen_by self.new) r) }
+        ensures turns { TurnsTo S.Growing.history S.acts (client_of self.old) op.now
+            (limit_of self.old) result (seen_by self.old) (seen_by self.new) }
     {
         for turn in 0..self.limit {
             let read = self.keeper.progress().read();
@@ -305,6 +312,8 @@ impl<'a, S: Served> LibFs<'a, S> {
             (seen_by self.old) result (seen_by self.new) }
         ensures refused { IfErr result (λ r. MayRefuseTry (client_of self.old) op.now
             (seen_by self.new) r) }
+        ensures turn { TurnsOnce S.Growing.history S.acts (client_of self.old) op.now result
+            (seen_by self.old) (seen_by self.new) }
     {
         if self.calls == u64::MAX {
             return Err(Refusal::OutOfMemory);
@@ -363,6 +372,17 @@ impl<'a, S: Served> LibFs<'a, S> {
             calls: other_calls,
         };
         (first, second)
+    }
+
+    /// A pass that has seen the same and has no client.
+    pub fn split(&mut self) -> Pass<S>
+        ensures same { IsSameClient self.old self.new }
+        ensures seen { seen_by self.new ≡ seen_by self.old }
+        ensures pass { IsPassOf (keeper_of self.old) result }
+        ensures nobody { client_of_pass result ≡ None }
+        ensures as_seen { seen result ≡ seen_by self.old }
+    {
+        self.keeper.split(&mut self.pass)
     }
 
     /// The node that the client was opened on, from 1 on.

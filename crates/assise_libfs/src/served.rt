@@ -4,6 +4,9 @@ ghost use Rattle.assise_history.specs.Entries.{EntryValue, opens};
 ghost use Rattle.assise_history.specs.Legal.{IsLegal};
 ghost use Rattle.assise_libfs.specs.Calling.{MayRefuseTry, Tries};
 ghost use Rattle.assise_libfs.specs.Opening.{MayRefuseOpen};
+ghost use Rattle.assise_libfs.specs.InTurns.{tried_answer};
+ghost use Rattle.assise_machine_calls.specs.Answers.{opening_answer};
+ghost use Rattle.assise_model_events.specs.Events.{Answer, ClusterEvent, open_client, try_call};
 
 use assise_history::growing::Growing;
 use assise_names::call::Op;
@@ -16,6 +19,9 @@ use std::alloc::Global;
 pub trait Served: Growing {
     /// What a client is opened with, and the state stores: of a cluster, a revoker.
     type Stored;
+
+    /// What an event does to the state, with its answer: of a cluster, all that the laws say of it.
+    ghost acts: { Self → ClusterEvent → Answer → Self → Type 0 };
 
     /// Opens a client on a node, whose fsyncs are served so, and answers its number. Refused with [`Refusal::BadNode`] where
     /// there is no such node, [`Refusal::NodeDown`] where it is down or comes back, [`Refusal::BadClient`] where no client can
@@ -34,7 +40,9 @@ pub trait Served: Growing {
             (Self.Growing.history self.new ≡ Self.Growing.history self.old) }
         ensures refused { IfErr result (λ back.
             MayRefuseOpen node (Self.Growing.history self.old) back.0) }
-        ensures given_back { IfErr result (λ back. back.1 ≡ stored) };
+        ensures given_back { IfErr result (λ back. back.1 ≡ stored) }
+        ensures acts { acts self.old (open_client node durability) (opening_answer result)
+            self.new };
 
     /// Tries a client's call once: its reply, or `None` where a lease or a replication is awaited. A call that isn't answered adds
     /// nothing to the history. It is refused as [`LibFs::call`](crate::libfs::LibFs::call) says, but never with [`Refusal::Busy`],
@@ -43,7 +51,8 @@ pub trait Served: Growing {
         ensures tries { Tries client op.now
             (Self.Growing.history self.old) result (Self.Growing.history self.new) }
         ensures refused { IfErr result (λ r. MayRefuseTry client op.now
-            (Self.Growing.history self.old) r) };
+            (Self.Growing.history self.old) r) }
+        ensures acts { acts self.old (try_call client op.now) (tried_answer result) self.new };
 
     ghost legal: { (s : Self) → ∥ IsLegal (Self.Growing.history s) ∥₁ };
 }

@@ -4,8 +4,11 @@ ghost use Rattle.assise_history.specs.Legal.{IsLegal, calls_made};
 ghost use Rattle.assise_keeper.specs.Clients.{Extends};
 ghost use Rattle.assise_keeper.specs.Passes.{IsPassOf, client, seen};
 ghost use Rattle.assise_libfs.specs.Calling.{MayRefuseTry, SeesTry, answers};
-ghost use Rattle.assise_libfs.specs.Lives.{IsOpenedAs};
+ghost use Rattle.assise_libfs.specs.Lives.{EndsWithOpening, IsOpenedAs};
 ghost use Rattle.assise_libfs.specs.Opening.{MayRefuseOpen};
+ghost use Rattle.assise_libfs.specs.InTurns.{InOneTurn, tried_answer};
+ghost use Rattle.assise_machine_calls.specs.Answers.{opening_answer};
+ghost use Rattle.assise_model_events.specs.Events.{open_client, try_call};
 
 use crate::served::Served;
 use assise_keeper::keeper::Keeper;
@@ -32,6 +35,8 @@ pub(crate) fn try_turn<S: Served, R: Wait>(
     ensures sees { SeesTry caller op.now (seen pass.old) result (seen pass.new) }
     ensures legal { ∥ IsLegal (seen pass.new) ∥₁ }
     ensures refused { IfErr result (λ r. MayRefuseTry caller op.now (seen pass.new) r) }
+    ensures turn { InOneTurn S.Growing.history S.acts (try_call caller op.now)
+        (tried_answer result) (seen pass.old) (seen pass.new) }
 {
     let mut held = keeper.take(rt, pass);
     let tried = held.state().try_call(alloc, caller, op);
@@ -55,10 +60,14 @@ pub(crate) fn open_turn<S: Served, R: Wait>(
     ensures legal { ∥ IsLegal (seen pass.new) ∥₁ }
     ensures own { IfOk result (λ c. client pass.new ≡ Some c) }
     ensures opened { IfOk result (λ c. IsOpenedAs c node durability (seen pass.new)) }
+    ensures last { IfOk result
+        (λ c. EndsWithOpening c node durability (seen pass.old) (seen pass.new)) }
     ensures no_calls { IfOk result (λ c. calls_made c (seen pass.new) ≡ 0) }
     ensures no_client { OnErr result (client pass.new ≡ None) }
     ensures refused { IfErr result (λ back. MayRefuseOpen node (seen pass.new) back.0) }
     ensures given_back { IfErr result (λ back. back.1 ≡ stored) }
+    ensures turn { InOneTurn S.Growing.history S.acts (open_client node durability)
+        (opening_answer result) (seen pass.old) (seen pass.new) }
 {
     let mut held = keeper.take(rt, pass);
     let opened = held.state().open(alloc, node, stored, durability);

@@ -2,12 +2,13 @@
 use Rattle.std.proofs.Common.{◌≡◌, ◌≢◌, ℕ, ◌+◌, ◌≤◌, arith, List, [], ◌∷◌, ◌++◌, refl, sym, ap, subst, ◌∙◌, inl, inr}
 use mathlib.Core.Logic.{dite}
 use native.Mathlib.Decide.{ℕ_discrete}
+use Rattle.std.proofs.Math.Bridge.{le_prop}
 use Rattle.std.proofs.Math.Logic.{∥∥₁_elim, ∥∥₁_map}
 use Rattle.assise_names.specs.declared.call.Op.TheVariants.{Fsync}
 use Rattle.assise_names.specs.declared.durability.Durability.{Durability}
 use Rattle.assise_names.specs.declared.reply.Reply.TheVariants.{Done}
 use Rattle.assise_history.specs.Entries.{EntryValue, opens, calls}
-use Rattle.assise_history.specs.Legal.{IsDown, MayCall, calls_made}
+use Rattle.assise_history.specs.Legal.{IsDown, MayCall, calls_made, clients_opened}
 use Rattle.assise_history.proofs.ClientCounts.{next_opened, opened_within}
 use Rattle.assise_history.proofs.Legality.{fits_in, legal-nil}
 use Rattle.assise_history.proofs.OneMore.{legal-call, legal-open}
@@ -57,6 +58,21 @@ unchanged n h h' k e = subst (λ z. ∥ IsLedger n z ∥₁) (sym e) k
 
 no_proofs : (x y : ⊥) → x ≡ y
 no_proofs x y = absurd x
+
+-- no node is down
+pub none_down : (n : ℕ) (h : List EntryValue) → ∥ IsLedger n h ∥₁ → (m : ℕ) → IsDown h m → ⊥
+none_down n h k m down = ∥∥₁_elim k no_proofs (λ l. l.up m down)
+
+-- as many clients were opened as it says
+pub opened_so_many : (n : ℕ) (h : List EntryValue) → ∥ IsLedger n h ∥₁ → clients_opened h ≡ n
+opened_so_many n h k =
+    let most : clients_opened h ≤ n = ∥∥₁_elim k le_prop (λ l. let same = l.count in omega (arith, same)) in
+    let least : n ≤ clients_opened h = ∥∥₁_elim k le_prop (λ l. let same = l.count in omega (arith, same)) in
+    omega (arith, most, least)
+
+-- its clients may call
+pub may_call : (n : ℕ) (h : List EntryValue) (c : ℕ) → ∥ IsLedger n h ∥₁ → 1 ≤ c → c ≤ n → ∥ MayCall h c ∥₁
+may_call n h c k lo hi = ∥∥₁_map k (λ l. l.calls c lo hi)
 
 -- no other client was ever opened
 pub no_other : (n : ℕ) (h : List EntryValue) (c : ℕ) → ∥ IsLedger n h ∥₁ → (1 ≤ c → c ≤ n → ⊥) → (m : ℕ) → IsOpenedOn c m h → ⊥

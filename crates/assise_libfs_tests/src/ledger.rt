@@ -1,5 +1,6 @@
 // A small state that serves clients.
-ghost use Rattle.std.specs.Prelude.{◌≡◌};
+ghost use Rattle.std.specs.Prelude.{◌≡◌, ◌≤◌};
+ghost use Rattle.assise_names.specs.declared.limits.TheConstants.{MOST_CLIENTS};
 ghost use Rattle.std.proofs.Math.Logic.{∥∥₁_map};
 ghost use Rattle.assise_history.specs.Legal.{calls_made, is_call_of};
 ghost use Rattle.assise_libfs_tests.specs.Ledgers.{IsLedger, opened_once};
@@ -11,6 +12,7 @@ use assise_history::history::History;
 use assise_libfs::served::Served;
 use assise_names::call::Op;
 use assise_names::durability::Durability;
+use assise_names::limits::MOST_CLIENTS;
 use assise_names::refusal::Refusal;
 use assise_names::reply::Reply;
 use std::alloc::Global;
@@ -24,6 +26,7 @@ pub struct Ledger {
     waits: u32,
     full: bool,
     tries: u64,
+    ghost few: { clients ≤ MOST_CLIENTS },
     ghost kept: { ∥ IsLedger clients history.events ∥₁ },
 }
 
@@ -81,6 +84,8 @@ fn calls_made(client: u32, entries: &[Entry]) -> u64
 impl Served for Ledger {
     type Stored = u32;
 
+    ghost acts = { λ s e a t. Unit {0} };
+
     fn open(
         &mut self,
         _alloc: Global,
@@ -91,12 +96,13 @@ impl Served for Ledger {
         if node != 1 {
             return Err((Refusal::BadNode, stored));
         }
-        let Some(client) = self.clients.checked_add(1) else {
+        if self.clients == MOST_CLIENTS {
             return Err((Refusal::BadClient, stored));
-        };
+        }
         if self.history.reserve().is_err() {
             return Err((Refusal::OutOfMemory, stored));
         }
+        let client = self.clients + 1;
         self.history.push(Entry::open(client, 1, durability));
         self.clients = client;
         Ok(client)

@@ -49,6 +49,10 @@ pub record ComesToElse (c : ℕ) (op : Op) (IsDue : Reply → Type 0) (old : Lis
   pub fault : is ≡ fault_of came
   pub undue : (reply : Reply) → came ≡ Ok reply → IsDue reply → ⊥
 
+-- whatever turns a call took
+abbrev pub AnyTurns : ℕ → Op → List EntryValue → Result Reply Refusal → List EntryValue → Type 0
+AnyTurns c op old r new = Unit {0}
+
 -- some first calls came to what is due, and the next one didn't
 pub record StopsAt (c : ℕ) (calls : List DueCall) (old : List EntryValue) (fault : MailFault) (new : List EntryValue) : Type 0 where
   pub made : List DueCall
@@ -56,7 +60,7 @@ pub record StopsAt (c : ℕ) (calls : List DueCall) (old : List EntryValue) (fau
   pub rest : List DueCall
   pub between : List EntryValue
   pub split : calls ≡ made ++ wanted ∷ rest
-  pub sees : SeesAll c (ops_of made) old (replies_of made) between
+  pub sees : SeesAll AnyTurns c (ops_of made) old (replies_of made) between
   pub stops : ComesToElse c wanted.op (λ reply. reply ≡ wanted.reply) between fault new
 
 abbrev pub IsNames : Reply → Type 0

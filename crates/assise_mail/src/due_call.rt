@@ -1,7 +1,7 @@
 // Calls in order, for each of which a reply is due.
 ghost use Rattle.std.specs.Prelude.{◌≡◌, IfErr, OnOk};
 ghost use Rattle.assise_libfs.specs.Clients.{IsSameClient, client_of, seen_by};
-ghost use Rattle.assise_mail.specs.DueCalls.{StopsAt, replies_of, ops_of, call_done};
+ghost use Rattle.assise_mail.specs.DueCalls.{AnyTurns, StopsAt, replies_of, ops_of, call_done};
 ghost use Rattle.assise_workers.specs.Told.{SeesAll};
 
 use crate::fault::MailFault;
@@ -39,7 +39,7 @@ pub(crate) fn make_all<S: Served, R: Wait>(
     calls: &[DueCall],
 ) -> Result<(), MailFault>
     ensures same { IsSameClient files.old files.new }
-    ensures made { OnOk result (SeesAll (client_of files.old) (ops_of calls.now)
+    ensures made { OnOk result (SeesAll AnyTurns (client_of files.old) (ops_of calls.now)
         (seen_by files.old) (replies_of calls.now) (seen_by files.new)) }
     ensures stops { IfErr result (λ fault. StopsAt (client_of files.old) calls.now
         (seen_by files.old) fault (seen_by files.new)) }

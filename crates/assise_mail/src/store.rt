@@ -5,7 +5,7 @@ ghost use Rattle.assise_names.specs.declared.refusal.Refusal.TheVariants.{OutOfM
 ghost use Rattle.assise_names.specs.declared.reply.Reply.TheVariants.{Bytes, Names};
 ghost use Rattle.assise_libfs.specs.Calling.{SeesCall};
 ghost use Rattle.assise_libfs.specs.Clients.{IsSameClient, client_of, seen_by};
-ghost use Rattle.assise_mail.specs.DueCalls.{ComesToElse, IsBytes, IsNames, LacksMemory, StopsAt, delivery_calls, replies_of, ops_of, removal_calls};
+ghost use Rattle.assise_mail.specs.DueCalls.{AnyTurns, ComesToElse, IsBytes, IsNames, LacksMemory, StopsAt, delivery_calls, replies_of, ops_of, removal_calls};
 ghost use Rattle.assise_workers.specs.Told.{SeesAll};
 
 use crate::due_call::{DueCall, make_all};
@@ -50,7 +50,7 @@ pub fn deliver<S: Served, R: Wait>(
     message: ByteString,
 ) -> Result<(), MailFault>
     ensures same { IsSameClient files.old files.new }
-    ensures delivered { OnOk result (SeesAll (client_of files.old)
+    ensures delivered { OnOk result (SeesAll AnyTurns (client_of files.old)
         (ops_of (delivery_calls draft.now place.now message)) (seen_by files.old)
         (replies_of (delivery_calls draft.now place.now message)) (seen_by files.new)) }
     ensures stops { IfErr result (λ fault.
@@ -132,7 +132,7 @@ pub fn remove<S: Served, R: Wait>(
     place: &Path,
 ) -> Result<(), MailFault>
     ensures same { IsSameClient files.old files.new }
-    ensures removed { OnOk result (SeesAll (client_of files.old)
+    ensures removed { OnOk result (SeesAll AnyTurns (client_of files.old)
         (ops_of (removal_calls place.now)) (seen_by files.old)
         (replies_of (removal_calls place.now)) (seen_by files.new)) }
     ensures stops { IfErr result (λ fault.

@@ -3,9 +3,11 @@ use Rattle.std.proofs.Common.{◌≡◌, ◌∙◌, ℕ, suc, ◌+◌, Bool, tru
 use Rattle.std.proofs.lemmas.Grind.{flat_map-append}
 use Rattle.std.proofs.lemmas.List.{drop_all, map-append, take_more}
 use Rattle.std.specs.Prelude.{IfSome}
+use Rattle.std.specs.List.{AllByRecursion}
 use Rattle.std.specs.Io.KnownBytes.{Appends}
 use Rattle.assise_names.specs.declared.call.Op.{Op}
 use Rattle.assise_names.specs.declared.refusal.Refusal.{Refusal}
+use Rattle.assise_names.specs.declared.refusal.Refusal.TheVariants.{BadClient}
 use Rattle.assise_names.specs.declared.reply.Reply.{Reply}
 use Rattle.assise_history.specs.Entries.{EntryValue}
 use Rattle.assise_fault_script.specs.declared.command.Command.{Command}
@@ -39,7 +41,7 @@ pub record AreSaidSoFar (done rest : List NumberedCommand) (seen : List EntryVal
 -- ---- before the first
 
 all_left : (c : ℕ) (stretch : List NumberedCommand) (first : Option (List (Result Reply Refusal))) → IfSome first (λ all. length all ≡ length (calls_in c stretch)) → LeavesToTell c [] stretch first first
-all_left c stretch None h = ([], (refl, (refl, λ k. refl)))
+all_left c stretch None h = ([], (refl, (refl, ((λ k. refl), tt))))
 all_left c stretch (Some all) h = ([], (refl, (refl, h)))
 
 pub none_said : (stretch : List NumberedCommand) (seen : List EntryValue) (first : Untold) (old : Option (List ℕ)) → HasAllOf stretch first → AreSaidSoFar [] stretch seen first first old old
@@ -82,7 +84,7 @@ line_same n h (Ok reply) = refl
 line_same n h (Err refusal) = refl
 
 -- a command is no call of the client, or one
-one_or_none : (c : ℕ) (command : Command) → (call_in c command ≡ []) ⊎ ((op : Op) × (call_in c command ≡ op ∷ []))
+pub one_or_none : (c : ℕ) (command : Command) → (call_in c command ≡ []) ⊎ ((op : Op) × (call_in c command ≡ op ∷ []))
 one_or_none c (Call d op) = by_case (d == c) refl
   where
     by_case : (b : Bool) → (d == c) ≡ b → (call_in c (Call d op) ≡ []) ⊎ ((o : Op) × (call_in c (Call d op) ≡ o ∷ []))
@@ -106,6 +108,10 @@ one_or_none c (Tree node) = inl refl
 one_or_none c History = inl refl
 one_or_none c Check = inl refl
 
+all-bad : (rs : List (Result Reply Refusal)) (r : Result Reply Refusal) → AllByRecursion (λ x. x ≡ Err BadClient) rs → r ≡ Err BadClient → AllByRecursion (λ x. x ≡ Err BadClient) (rs ++ r ∷ [])
+all-bad [] r bad is = (is, tt)
+all-bad (x ∷ rs) r (first, rest) is = (first, all-bad rs r rest is)
+
 module _ (c : ℕ) (ss : List Said) (l : NumberedCommand) (seen : List EntryValue) (outcome : Option (Result Reply Refusal)) where
   abbrev s : Said
   s = said_now l seen outcome
@@ -115,22 +121,22 @@ module _ (c : ℕ) (ss : List Said) (l : NumberedCommand) (seen : List EntryValu
   tells-one rs op one tells = let r = next_or_none outcome in tells-append c ss (s ∷ []) rs (r ∷ []) tells (r ∷ [], ([], (rw one (r, (refl, refl)), (refl, refl))))
 
   passes-by : (rest : List NumberedCommand) (first now : Option (List (Result Reply Refusal))) → call_in c l.command ≡ [] → LeavesToTell c ss (l ∷ rest) first now → LeavesToTell c (ss ++ s ∷ []) rest first now
-  passes-by rest None None none (rs, (tells, (count, nothing))) =
+  passes-by rest None None none (rs, (tells, (count, (nothing, bad)))) =
       let same = calls_same c ss s none in
-      (rs, (tells_nothing c ss s rs none tells, (count ∙ ap length (sym same), λ k. ap (λ z. told_all c k z rs) same ∙ nothing k)))
+      (rs, (tells_nothing c ss s rs none tells, (count ∙ ap length (sym same), ((λ k. ap (λ z. told_all c k z rs) same ∙ nothing k), bad))))
   passes-by rest (Some all) (Some left) none (rs, (tells, (is, count))) = (rs, (tells_nothing c ss s rs none tells, (is, count ∙ ap (λ z. length (z ++ calls_in c rest)) none)))
   passes-by rest None (Some left) none e = absurd e
   passes-by rest (Some all) None none e = absurd e
 
   is-told : (rest : List NumberedCommand) (first now later : Option (List (Result Reply Refusal))) (op : Op) → call_in c l.command ≡ op ∷ [] → TakesFirst now outcome later → LeavesToTell c ss (l ∷ rest) first now
       → LeavesToTell c (ss ++ s ∷ []) rest first later
-  is-told rest None None later op one (is, gone) (rs, (tells, (count, nothing))) = rw gone (
+  is-told rest None None later op one (is, gone) (rs, (tells, (count, (nothing, bad)))) = rw gone (
     rs ++ next_or_none outcome ∷ [],
     (
       tells-one rs op one tells,
       (
         omega (arith, count, ap length (calls_more c ss s), ap length one, length-append rs (next_or_none outcome ∷ []), length-append (calls_in c (commands_said ss)) (call_in c l.command)),
-        λ k. refused-too k,
+        ((λ k. refused-too k), all-bad rs (next_or_none outcome) bad (ap next_or_none is)),
       ),
     ),
   )

@@ -6,14 +6,15 @@ use Rattle.std.proofs.lemmas.Bool.Decides.{eqb_tells}
 use Rattle.assise_names.specs.declared.call.Op.{Op}
 use Rattle.assise_names.specs.declared.refusal.Refusal.{Refusal}
 use Rattle.assise_names.specs.declared.reply.Reply.{Reply}
-use Rattle.assise_history.specs.Entries.{EntryValue}
+use Rattle.assise_history.specs.Entries.{EntryValue, opens, calls, crashes, fails, returns}
 use Rattle.assise_keeper.specs.Clients.{calls_by}
 use Rattle.assise_fault_script.specs.declared.command.Command.{Command}
 use Rattle.assise_fault_script.specs.declared.command.Command.TheVariants.{Cluster, Manual, Open, Call, Carry, Link, Hot, Digest, Release, Crash, Fail, Back, Refill, Join, Raise, Tree, History, Check}
 use Rattle.assise_workers.specs.Told.{told_all}
 use Rattle.assise_workers.proofs.Lists.{told-append}
 use Rattle.assise_threads.specs.Said.{Said, TellsClient, call_in, calls_in, commands_said}
-use Rattle.assise_threads.specs.Spoken.{MayGain, Sights, gains, stays}
+use Rattle.assise_threads.specs.Fronts.{HearsOn}
+use Rattle.assise_threads.specs.Openings.{Sights, opening_in, with_opened}
 use Rattle.assise_threads.specs.Stretches.{IsClientCall}
 use Rattle.assise_threads.specs.Hearing.{HasHeard, HearsStretch, calls_of_sight, sight_of}
 
@@ -27,6 +28,10 @@ pub tells-append : (c : ℕ) (ss ts : List Said) (rs came : List (Result Reply R
 tells-append c [] ts rs came none more = subst (λ z. TellsClient c ts (z ++ came)) (sym none) more
 tells-append c (s ∷ ss) ts rs came (now, (later, (first, (rest, is)))) more =
     (now, (later ++ came, (first, (tells-append c ss ts later came rest more, ap (λ z. z ++ came) is ∙ append_assoc now later came))))
+
+pub on-append : (c : ℕ) (p : Option (List EntryValue)) (ss : List Said) (q : Option (List EntryValue)) (ts : List Said) (r : Option (List EntryValue)) → HearsOn c p ss q → HearsOn c q ts r → HearsOn c p (ss ++ ts) r
+on-append c p [] q ts r same more = subst (λ z. HearsOn c z ts r) same more
+on-append c p (s ∷ ss) q ts r (mid, (line, rest)) more = (mid, (line, on-append c mid ss q ts r rest more))
 
 -- ---- a stretch of calls
 
@@ -47,22 +52,24 @@ module _ (c : ℕ) (ss ts : List Said) where
       let at : so_far ≡ 0 + so_far = omega arith in
       ap (λ (k : ℕ). told_all c 0 before rs ++ told_all c k behind came) at ∙ sym (told-append c 0 before rs behind came some) ∙ ap (λ z. told_all c 0 z (rs ++ came)) (sym (calls-said-append c ss ts))
 
-  pub heard_then : (sight now : Option (List EntryValue)) → HasHeard c ss sight → HearsStretch c ts sight now → HasHeard c (ss ++ ts) now
-  heard_then None None h (came, (tells, (count, none))) = record {
+  pub heard_then : (sight now : Option (List EntryValue)) → HasHeard c ss sight → HearsStretch c ts sight now → HearsOn c sight ts now → HasHeard c (ss ++ ts) now
+  heard_then None None h (came, (tells, (count, (none, bad)))) on = record {
     outcomes = h.outcomes ++ came;
     count = counts h.outcomes came h.count count;
     tells = tells-append c ss ts h.outcomes came h.tells tells;
     calls = ap₂ (λ x y. x ++ y) h.calls (sym (none (length (told_all c 0 before h.outcomes)))) ∙ goes-on h.outcomes came h.count;
+    on = on-append c None ss None ts None h.on on;
   }
-  heard_then (Some old) (Some new) h (came, (tells, sees)) =
+  heard_then (Some old) (Some new) h (came, (tells, sees)) on =
       let told : told_all c (length (calls_by c old)) behind came ≡ told_all c (length (told_all c 0 before h.outcomes)) behind came = ap (λ (z : List EntryValue). told_all c (length z) behind came) h.calls in record {
         outcomes = h.outcomes ++ came;
         count = counts h.outcomes came h.count sees.count;
         tells = tells-append c ss ts h.outcomes came h.tells tells;
         calls = sees.told ∙ (ap₂ (λ x y. x ++ y) h.calls told ∙ goes-on h.outcomes came h.count);
+        on = on-append c None ss (Some old) ts (Some new) h.on on;
       }
-  heard_then None (Some new) h e = absurd e
-  heard_then (Some old) None h e = absurd e
+  heard_then None (Some new) h e on = absurd e
+  heard_then (Some old) None h e on = absurd e
 
 -- ---- a command that is no call
 
@@ -100,9 +107,22 @@ last_made_none c d h [] none = by_case (eqb_tells d c)
     by_case (inr (is, other)) = ap (λ b. calls_of_sight c (if b then Some h else None)) is
 last_made_none c d h (x ∷ xs) none = first_keeps c (x.0 == c) x.1 (sight_of c xs) (sight_of c (xs ++ (d, h) ∷ [])) (last_made_none c d h xs none)
 
-calls_stay : (c : ℕ) (earlier later : Sights) → MayGain earlier later → calls_of_sight c (sight_of c later) ≡ calls_of_sight c (sight_of c earlier)
-calls_stay c earlier later (stays same) = ap (λ xs. calls_of_sight c (sight_of c xs)) same
-calls_stay c earlier later (gains d h more none legal) = ap (λ xs. calls_of_sight c (sight_of c xs)) more ∙ last_made_none c d h earlier none
+-- who is opened made no call
+abbrev pub MadeNone : List EntryValue → List EntryValue → Type 0
+MadeNone [] h = Unit {0}
+MadeNone (opens d n u ∷ es) h = calls_by d h ≡ []
+MadeNone (calls x ∷ es) h = Unit {0}
+MadeNone (crashes d ∷ es) h = Unit {0}
+MadeNone (fails n losses ∷ es) h = Unit {0}
+MadeNone (returns n ∷ es) h = Unit {0}
+
+calls_stay : (c : ℕ) (us : Sights) (h os : List EntryValue) → MadeNone os h → calls_of_sight c (sight_of c (with_opened us h os)) ≡ calls_of_sight c (sight_of c us)
+calls_stay c us h [] none = refl
+calls_stay c us h (opens d n u ∷ es) none = last_made_none c d h us none
+calls_stay c us h (calls x ∷ es) none = refl
+calls_stay c us h (crashes d ∷ es) none = refl
+calls_stay c us h (fails n losses ∷ es) none = refl
+calls_stay c us h (returns n ∷ es) none = refl
 
 module _ (c : ℕ) (ss : List Said) (s : Said) where
   pub calls_more : calls_in c (commands_said (ss ++ s ∷ [])) ≡ calls_in c (commands_said ss) ++ call_in c s.command.command
@@ -115,10 +135,12 @@ module _ (c : ℕ) (ss : List Said) (s : Said) where
   pub calls_same : call_in c s.command.command ≡ [] → calls_in c (commands_said (ss ++ s ∷ [])) ≡ calls_in c (commands_said ss)
   calls_same none = calls_more ∙ (ap (λ z. calls_in c (commands_said ss) ++ z) none ∙ append-nil (calls_in c (commands_said ss)))
 
-  pub heard_one : (earlier later : Sights) → HasHeard c ss (sight_of c earlier) → MayGain earlier later → call_in c s.command.command ≡ [] → HasHeard c (ss ++ s ∷ []) (sight_of c later)
-  heard_one earlier later h gain none = record {
+  pub heard_one : (earlier later : Sights) → HasHeard c ss (sight_of c earlier) → later ≡ with_opened earlier s.history (opening_in s.command.command s.answer) → MadeNone (opening_in s.command.command s.answer) s.history
+      → call_in c s.command.command ≡ [] → HearsOn c (sight_of c earlier) (s ∷ []) (sight_of c later) → HasHeard c (ss ++ s ∷ []) (sight_of c later)
+  heard_one earlier later h is made none on = record {
     outcomes = h.outcomes;
     count = h.count ∙ ap length (sym (calls_same none));
     tells = tells_nothing h.outcomes none h.tells;
-    calls = calls_stay c earlier later gain ∙ (h.calls ∙ ap (λ z. told_all c 0 z h.outcomes) (sym (calls_same none)));
+    calls = ap (λ z. calls_of_sight c (sight_of c z)) is ∙ (calls_stay c earlier s.history (opening_in s.command.command s.answer) made ∙ (h.calls ∙ ap (λ z. told_all c 0 z h.outcomes) (sym (calls_same none))));
+    on = on-append c None ss (sight_of c earlier) (s ∷ []) (sight_of c later) h.on on;
   }

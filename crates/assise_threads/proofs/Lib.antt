@@ -7,3 +7,9 @@ pub mod AllSaid
 pub mod Nobodys
 pub mod Ahead
 pub mod RunOn
+pub mod ShownTrees
+pub mod Openings
+pub mod Fronts
+pub mod Meetings
+pub mod MachineTurns
+pub mod Lacking

@@ -1,17 +1,16 @@
 -- A run goes on with what is said next, and is whole in the end.
-use Rattle.std.proofs.Common.{◌≡◌, ◌∙◌, ℕ, ◌+◌, true, false, List, [], ◌∷◌, ◌++◌, take, drop, Option, None, Some, refl, sym, ap, subst, take-add, slice_get, Result, Ok, Err, OnOk}
-use Rattle.std.proofs.lemmas.List.{map-append, nil_from_length}
+use Rattle.std.proofs.Common.{◌≡◌, ◌∙◌, ℕ, ◌+◌, ◌<◌, ◌≤◌, arith, Bool, length, true, false, List, [], ◌∷◌, ◌++◌, take, drop, Option, None, Some, refl, sym, ap, subst, take-add, slice_get, Result, Ok, Err, OnOk}
+use Rattle.std.proofs.lemmas.List.{length-map, map-append}
 use Rattle.std.specs.Io.KnownBytes.{Appends, Keeps}
 use Rattle.assise_history.specs.Entries.{EntryValue}
-use Rattle.assise_history.specs.Legal.{calls_made}
-use Rattle.assise_keeper.specs.Clients.{calls_by}
+use Rattle.assise_history.proofs.Legality.{legal-nil}
 use Rattle.assise_libfs.specs.Clients.{client_of, seen_by}
 use Rattle.assise_fault_script.specs.declared.command.Command.{Command}
 use Rattle.assise_fault_script.specs.declared.command.Command.TheVariants.{Cluster, Manual, Open, Call, Carry, Link, Hot, Digest, Release, Crash, Fail, Back, Refill, Join, Raise, Tree, History, Check}
 use Rattle.assise_fault_script.specs.declared.parse.NumberedCommand.{NumberedCommand}
 use Rattle.assise_console.specs.declared.response.Response.{Response}
 use Rattle.assise_console.specs.declared.response.Response.TheVariants.{Quiet, Client, Replied, Waits, Refused, Carried, Digested, Released, Linked, HotSet, Crashed, Failed, Began, Left, Returned, Raised, Tree as Shown, History as Whole, Checked}
-use Rattle.assise_names.specs.declared.refusal.Refusal.TheVariants.{Busy, OutOfMemory}
+use Rattle.assise_names.specs.declared.refusal.Refusal.TheVariants.{BadNode, Busy, OutOfMemory}
 use Rattle.assise_model_events.specs.Machine.{Machine}
 use Rattle.assise_console.specs.declared.fault.EngineFault.{EngineFault}
 use Rattle.assise_console.specs.declared.fault.EngineFault.TheVariants.{Read, Script, Memory, Write, NeedsSerial, NoThread}
@@ -20,12 +19,15 @@ use Rattle.assise_console.specs.Lines.{line_text}
 use Rattle.assise_rounds.specs.Traces.{Told}
 use Rattle.assise_console.specs.Steps.{IsVerdict, SetsHot, Shows, is_verdict, is_made, is_out, is_shown, lacks_memory, lacks_room, is_refused as not_shown}
 use Rattle.assise_libfs.specs.declared.libfs.LibFs.{LibFs}
-use Rattle.assise_threads.specs.Answered.{AnswersCommand, joins, stops_filling, is_refused, is_busy, is_opened, is_carried, is_replied}
+use Rattle.assise_threads.specs.Answered.{AnswersCommand, joins, stops_filling, is_refused, is_busy, is_opened, is_carried, is_nowhere, is_replied, is_stopped, lacks_revoker}
 use Rattle.assise_threads.specs.CallsAhead.{AreSaidNext, is_one, is_stretch}
 use Rattle.assise_threads.specs.Hearing.{sights}
 use Rattle.assise_threads.specs.Runs.{EndsRun, IsRunSaid, ThreadFault}
 use Rattle.assise_threads.specs.Said.{said_lines}
-use Rattle.assise_threads.specs.Spoken.{AreAllSaid, MayGain, Sights, gains}
+use Rattle.assise_threads.specs.OneHistory.{AreMet}
+use Rattle.assise_threads.specs.Openings.{Sights}
+use Rattle.assise_threads.specs.Spoken.{AreAllSaid}
+use Rattle.assise_threads.proofs.Meetings.{met_none}
 use Rattle.assise_threads.proofs.AllSaid.{is_run, nothing_said, one_added, stretch_added}
 
 pub nothing_yet : (seen : List EntryValue) (clients : Sights) (old : Option (List ℕ)) → seen ≡ [] → clients ≡ [] → AreAllSaid [] seen clients old old
@@ -42,23 +44,27 @@ goes_further ls rest i count seen now before after old mid new is all more =
     subst (λ z. AreAllSaid z now after old new) (sym (take-add i count ls))
     (said_then (take i ls) (take count (drop i ls)) seen now before after old mid new all (subst (λ z. AreSaidNext (take count z) seen before now after mid new) is more))
 
-pub is_run_said : {S Stored : Type 0} (commands : List NumberedCommand) (seen : List EntryValue) (ls : List (LibFs S Stored)) (old new : Option (List ℕ)) → AreAllSaid commands seen (sights ls) old new → IsRunSaid commands old new
-is_run_said commands seen ls old new all = record { said = all.said; run = is_run commands seen ls old new all; appends = all.appends }
+-- where the clients met, and no more were opened than there are
+pub is_run_said : {S : Type 0} (commands : List NumberedCommand) (seen : List EntryValue) (ls : List (LibFs S)) (old new : Option (List ℕ)) (last : List EntryValue) (next : ℕ) (more : Bool) → AreAllSaid commands seen (sights ls) old new → more ≡ false → next ≤ length ls + 1
+    → AreMet seen (sights ls) next more last → IsRunSaid commands old new
+is_run_said commands seen ls old new last next more all none few met =
+    let many : next ≤ length (sights ls) + 1 = (let e = length-map {B = ℕ × List EntryValue} ls (λ l. (client_of l, seen_by l)) in omega (arith, few, e)) in
+    record { said = all.said; run = is_run commands seen (sights ls) old new all last next many (subst (λ b. AreMet seen (sights ls) next b last) none met); appends = all.appends }
+
+no_one_met : AreMet [] [] 1 false []
+no_one_met = met_none 1 false [] [] ([], refl) ∣ legal-nil ∣₁ (λ e. omega arith)
 
 pub nothing_run : (commands : List NumberedCommand) (old : Option (List ℕ)) → slice_get commands 0 ≡ None → IsRunSaid commands old old
-nothing_run [] old none = is_run_said {S = ℕ} {Stored = ℕ} [] [] [] old old (nothing_said old)
+nothing_run [] old none = let all = nothing_said old in record { said = all.said; run = is_run [] [] [] old old all [] 1 (omega arith) no_one_met; appends = all.appends }
 nothing_run (l ∷ ls) old none = absurd (cc)
 
 pub on_ok : {X E : Type 0} (r : Result X E) (P Q : Type 0) → OnOk r P → (P → Q) → OnOk r Q
 on_ok (Ok x) P Q p f = f p
 on_ok (Err e) P Q p f = tt
 
--- a client that made no call comes behind the others
-pub gains_client : {S Stored : Type 0} (before mid after : List (LibFs S Stored)) (l : LibFs S Stored) → mid ≡ before → after ≡ mid ++ l ∷ [] → calls_made (client_of l) (seen_by l) ≡ 0 → MayGain (sights before) (sights after)
-gains_client before mid after l same more none =
-    gains (client_of l) (seen_by l)
-    (ap sights more ∙ (map-append (λ x. (client_of x, seen_by x)) mid (l ∷ []) ∙ ap (λ z. sights z ++ (client_of l, seen_by l) ∷ []) same))
-    (nil_from_length (calls_by (client_of l) (seen_by l)) none) l.legal
+-- a client comes behind the others
+pub gains_client : {S : Type 0} (before mid after : List (LibFs S)) (l : LibFs S) → mid ≡ before → after ≡ mid ++ l ∷ [] → sights after ≡ sights before ++ (client_of l, seen_by l) ∷ []
+gains_client before mid after l same more = ap sights more ∙ (map-append (λ x. (client_of x, seen_by x)) mid (l ∷ []) ∙ ap (λ z. sights z ++ (client_of l, seen_by l) ∷ []) same)
 
 -- ---- what is handed on stays
 
@@ -80,12 +86,15 @@ hot_not_whole n capacity m es m' (is_out out is h) = let x : Whole ≡ Quiet = i
 not_whole : (command : Command) (old new : List EntryValue) → (command ≡ History → ⊥) → AnswersCommand command Whole old new → ⊥
 not_whole (Cluster nodes log hot) old new other h = let x : Whole ≡ Quiet = h.answer in cc
 not_whole Manual old new other h = let x : Whole ≡ Quiet = h.answer in cc
-not_whole (Open node kind u) old new other (is_opened c seen is e o m s) = let x : Whole ≡ Client c = is in cc
-not_whole (Open node kind u) old new other (is_refused r is e) = let x : Whole ≡ Refused r = is in cc
+not_whole (Open node kind u) old new other (is_opened c is last legal none) = let x : Whole ≡ Client c = is in cc
+not_whole (Open node kind u) old new other (is_refused r is e f) = let x : Whole ≡ Refused r = is in cc
+not_whole (Open node kind u) old new other (lacks_revoker r is e may) = let x : Whole ≡ Refused r = is in cc
 not_whole (Call c op) old new other (is_replied reply is e) = let x : Whole ≡ Replied reply = is in cc
 not_whole (Call c op) old new other (is_refused r is e) = let x : Whole ≡ Refused r = is in cc
-not_whole (Carry node) old new other (is_carried count is e) = let x : Whole ≡ Carried count = is in cc
-not_whole (Carry node) old new other (is_refused r is e) = let x : Whole ≡ Refused r = is in cc
+not_whole (Carry node) old new other (is_carried count later is done e) = let x : Whole ≡ Carried count = is in cc
+not_whole (Carry node) old new other (is_stopped later is done e) = let x : Whole ≡ Carried 0 = is in cc
+not_whole (Carry node) old new other (is_refused r later is done e) = let x : Whole ≡ Refused r = is in cc
+not_whole (Carry node) old new other (is_nowhere is e) = let x : Whole ≡ Refused BadNode = is in cc
 not_whole (Link node kind) old new other h = let x : Whole ≡ Quiet = h.answer in cc
 not_whole (Hot node capacity) old new other h = hot_not_whole node capacity h.before h.told h.after h.does
 not_whole (Digest node) old new other h = h.does.tells

@@ -4,7 +4,8 @@ use Rattle.assise_history.specs.Entries.{EntryValue}
 use Rattle.assise_fault_script.specs.declared.command.Command.{Command}
 use Rattle.assise_fault_script.specs.declared.command.Command.TheVariants.{Call}
 use Rattle.assise_fault_script.specs.declared.parse.NumberedCommand.{NumberedCommand}
-use Rattle.assise_threads.specs.Spoken.{IsOneSaid, IsStretchSaid, Sights}
+use Rattle.assise_threads.specs.Openings.{Sights}
+use Rattle.assise_threads.specs.Spoken.{IsOneSaid, IsStretchSaid}
 use Rattle.assise_threads.specs.Stretches.{IsClientCall}
 
 -- one more than behind it, or none

@@ -1,4 +1,12 @@
 pub mod Said
+pub mod Openings
+pub mod ClientTurns
+pub mod Lacking
+pub mod Begun
+pub mod Fronts
+pub mod AtKeeper
+pub mod OneHistory
+pub mod Trees
 pub mod Takes
 pub mod Answered
 pub mod Runs

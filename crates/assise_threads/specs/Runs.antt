@@ -11,19 +11,21 @@ use Rattle.assise_console.specs.declared.fault.EngineFault.TheVariants.{Read, Sc
 use Rattle.assise_console.specs.declared.fault.SerialCommand.{SerialCommand}
 use Rattle.assise_console.specs.declared.fault.SerialCommand.TheVariants.{Manual as manual, Link as link}
 use Rattle.assise_threads.specs.Answered.{AnswersCommand}
-use Rattle.assise_threads.specs.Said.{IsHeard, Said, commands_said, said_lines}
+use Rattle.assise_threads.specs.OneHistory.{HasOneHistory}
+use Rattle.assise_threads.specs.Said.{Said, commands_said, said_lines}
 
 -- each command is answered behind those before it: what the main thread has seen goes on from command to command
 abbrev pub IsSaid : List EntryValue → List Said → List EntryValue → Type 0
 IsSaid old [] new = new ≡ old
 IsSaid old (s ∷ ss) new = AnswersCommand s.command.command s.answer old s.history × IsSaid s.history ss new
 
--- these commands were run with threads, and this was said
+-- these commands were run with threads, this was said, and it has one history
 pub record IsThreadRun (commands : List NumberedCommand) (ss : List Said) : Type 0 where
   pub each : commands_said ss ≡ commands
   pub seen : List EntryValue
   pub main : IsSaid [] ss seen
-  pub clients : (c : ℕ) → IsHeard c ss
+  pub history : List EntryValue
+  pub one : HasOneHistory ss history
 
 -- they were run, and the lines of what was said were written, and nothing else
 pub record IsRunSaid (commands : List NumberedCommand) (old new : Option (List ℕ)) : Type 0 where

@@ -6,15 +6,12 @@ use Rattle.assise_names.specs.declared.call.Op.{Op}
 use Rattle.assise_names.specs.declared.refusal.Refusal.{Refusal}
 use Rattle.assise_names.specs.declared.reply.Reply.{Reply}
 use Rattle.assise_history.specs.Entries.{EntryValue}
-use Rattle.assise_history.specs.Legal.{IsLegal}
-use Rattle.assise_keeper.specs.Clients.{calls_by}
 use Rattle.assise_fault_script.specs.declared.command.Command.{Command}
 use Rattle.assise_fault_script.specs.declared.command.Command.TheVariants.{Cluster, Manual, Open, Call, Carry, Link, Hot, Digest, Release, Crash, Fail, Back, Refill, Join, Raise, Tree, History, Check}
 use Rattle.assise_fault_script.specs.declared.parse.NumberedCommand.{NumberedCommand}
 use Rattle.assise_console.specs.declared.response.Response.{Response}
 use Rattle.assise_console.specs.declared.response.Response.TheVariants.{Replied, Refused}
 use Rattle.assise_console.specs.Lines.{line_text}
-use Rattle.assise_workers.specs.Told.{told_all}
 
 -- a command, its answer, and the history that was seen when it was answered
 pub record Said : Type 0 where
@@ -72,11 +69,3 @@ TellsCall (op ∷ ops) a rs = (r : Result Reply Refusal) × ((a ≡ outcome_answ
 abbrev pub TellsClient : ℕ → List Said → List (Result Reply Refusal) → Type 0
 TellsClient c [] rs = rs ≡ []
 TellsClient c (s ∷ ss) rs = (now : List (Result Reply Refusal)) × ((later : List (Result Reply Refusal)) × (TellsCall (call_in c s.command.command) s.answer now × (TellsClient c ss later × (rs ≡ now ++ later))))
-
--- client c was told, in the order of the lines, what its calls in one legal history answer: a refused call is none of them
-pub record IsHeard (c : ℕ) (ss : List Said) : Type 0 where
-  pub history : List EntryValue
-  pub outcomes : List (Result Reply Refusal)
-  pub legal : ∥ IsLegal history ∥₁
-  pub tells : TellsClient c ss outcomes
-  pub calls : calls_by c history ≡ told_all c 0 (calls_in c (commands_said ss)) outcomes

@@ -1,6 +1,7 @@
 -- Calls that stand together in a script, and what is left to tell of them.
 -- Assise (OSDI 2020), section 3.
 use Rattle.std.specs.Prelude.{◌≡◌, ℕ, List, [], ◌∷◌, IfSome, map, length, ◌==◌, if◌then◌else◌, Option, None, Some, Result, Err}
+use Rattle.std.specs.List.{AllByRecursion}
 use Rattle.std.specs.Io.KnownBytes.{Appends}
 use Rattle.assise_names.specs.declared.refusal.Refusal.{Refusal}
 use Rattle.assise_names.specs.declared.refusal.Refusal.TheVariants.{BadClient}
@@ -17,6 +18,7 @@ use Rattle.assise_workers.specs.declared.serving.ClientEnd.{ClientEnd}
 use Rattle.assise_workers.specs.declared.serving.ClientList.{ClientList}
 use Rattle.assise_threads.specs.declared.outcomes.Outcomes.{Outcomes}
 use Rattle.assise_workers.specs.Told.{SeesAll, told_all}
+use Rattle.assise_threads.specs.ClientTurns.{TurnedThere}
 use Rattle.assise_threads.specs.Runs.{IsSaid}
 use Rattle.assise_threads.specs.Said.{Said, TellsClient, call_in, calls_in, commands_said, outcome_answer, said_lines}
 
@@ -46,14 +48,14 @@ AreCalls [] = Unit {0}
 AreCalls (l ∷ ls) = IsClientCall l.command × AreCalls ls
 
 -- the list is this client with its calls of the stretch
-pub record HasCalls {S Stored : Type 0} (stretch : List NumberedCommand) (libfs : LibFs S Stored) (list : ClientList S Stored) : Type 0 where
+pub record HasCalls {S : Type 0} (stretch : List NumberedCommand) (libfs : LibFs S) (list : ClientList S) : Type 0 where
   pub same : list.libfs ≡ libfs
   pub calls : list.calls.items ≡ calls_in (client_of libfs) stretch
 
 -- the client made its calls of the stretch, in order, and the end has what came of each
-pub record MakesCalls {S Stored : Type 0} (stretch : List NumberedCommand) (libfs : LibFs S Stored) (end : ClientEnd S Stored) : Type 0 where
+pub record MakesCalls {S : Type 0} (stretch : List NumberedCommand) (libfs : LibFs S) (end : ClientEnd S) : Type 0 where
   pub client : IsSameClient libfs end.libfs
-  pub sees : SeesAll (client_of libfs) (calls_in (client_of libfs) stretch) (seen_by libfs) end.replies.items (seen_by end.libfs)
+  pub sees : SeesAll TurnedThere (client_of libfs) (calls_in (client_of libfs) stretch) (seen_by libfs) end.replies.items (seen_by end.libfs)
 
 -- ---- what came of the clients' calls
 
@@ -70,10 +72,13 @@ abbrev pub untold : List Outcomes → Untold
 untold os = map (λ o. (o.client, o.left.rest.items)) os
 
 -- of a client's end: what it has seen, and what came of its calls
-abbrev pub sight_at : {S Stored : Type 0} → ClientEnd S Stored → ℕ × List EntryValue
+abbrev pub sight_at : {S : Type 0} → ClientEnd S → ℕ × List EntryValue
 sight_at e = (client_of e.libfs, seen_by e.libfs)
 
-abbrev pub outcomes_at : {S Stored : Type 0} → ClientEnd S Stored → ℕ × List (Result Reply Refusal)
+abbrev pub libfs_at : {S : Type 0} → ClientEnd S → LibFs S
+libfs_at e = e.libfs
+
+abbrev pub outcomes_at : {S : Type 0} → ClientEnd S → ℕ × List (Result Reply Refusal)
 outcomes_at e = (client_of e.libfs, e.replies.items)
 
 -- the first of these is taken, if there is one
@@ -94,9 +99,9 @@ pub record IsCallSaid (l : NumberedCommand) (before after : Untold) (old new : O
   pub next : (c : ℕ) (op : Op) → call_in c l.command ≡ op ∷ [] → TakesFirst (outcomes_of c before) outcome (outcomes_of c after)
   pub others : (c : ℕ) → call_in c l.command ≡ [] → outcomes_of c after ≡ outcomes_of c before
 
--- the lines of calls were written, and each client was told all that came of its calls; one that isn't there was told refusals alone
+-- the lines of calls were written, and each client was told all that came of its calls; one that isn't there was told that there is none
 abbrev pub AreTold : ℕ → List Said → Option (List (Result Reply Refusal)) → Type 0
-AreTold c ss None = (rs : List (Result Reply Refusal)) × (TellsClient c ss rs × ((length rs ≡ length (calls_in c (commands_said ss))) × ((k : ℕ) → told_all c k (calls_in c (commands_said ss)) rs ≡ [])))
+AreTold c ss None = (rs : List (Result Reply Refusal)) × (TellsClient c ss rs × ((length rs ≡ length (calls_in c (commands_said ss))) × (((k : ℕ) → told_all c k (calls_in c (commands_said ss)) rs ≡ []) × AllByRecursion (λ r. r ≡ Err BadClient) rs)))
 AreTold c ss (Some all) = TellsClient c ss all
 
 pub record AreCallsSaid (stretch : List NumberedCommand) (seen : List EntryValue) (first : Untold) (old new : Option (List ℕ)) : Type 0 where

@@ -4,18 +4,21 @@ use Rattle.std.specs.Prelude.{◌≡◌, List, [], ◌∷◌, ◌++◌}
 use Rattle.assise_history.specs.Entries.{EntryValue, opens, calls, crashes, fails, returns}
 use Rattle.assise_history.specs.Legal.{IsLegal}
 use Rattle.assise_keeper.specs.Clients.{Extends}
-use Rattle.assise_model_events.specs.Machine.{Machine}
+use Rattle.assise_model_events.specs.Machine.{Machine, MachineInvariant}
 use Rattle.assise_rounds.specs.Traces.{Told}
 
--- in one take of a cluster whose history extends what was seen this was done, and this history was given back, which is legal
+-- In one take this was done to a machine with the invariant, whose history extends what was seen; and this history was given back, which
+-- is legal.
 pub record InOneTake (Does : Machine → Told → Machine → Type 0) (old new : List EntryValue) : Type 0 where
   pub before : Machine
   pub after : Machine
   pub told : Told
+  pub lawful : ∥ MachineInvariant before ∥₁
   pub extends : Extends before.history old
   pub does : Does before told after
   pub given : new ≡ after.history
   pub legal : ∥ IsLegal new ∥₁
+  pub grows : Extends new old
 
 -- no client is opened and no call answered by these entries
 abbrev pub AreNobodys : List EntryValue → Type 0

@@ -2,7 +2,9 @@
 -- Assise (OSDI 2020), section 3 (digests, process crash, fail-over, recovery).
 use Rattle.std.specs.Prelude.{List}
 use Rattle.assise_history.specs.Entries.{EntryValue}
+use Rattle.assise_keeper.specs.declared.keeper.Keeper.{Keeper}
 use Rattle.assise_keeper.specs.Passes.{seen}
+use Rattle.assise_machine.specs.declared.cluster.ClusterOf.{ClusterOf}
 use Rattle.assise_model_events.specs.Events.{back, crash, digest, fail, join, raise, refill, release_ready}
 use Rattle.assise_model_events.specs.Machine.{Machine}
 use Rattle.assise_console.specs.declared.response.Response.{Response}
@@ -17,6 +19,10 @@ use Rattle.assise_threads.specs.declared.takes.Take.TheVariants.{Digest, Release
 -- what the main thread's pass has seen
 abbrev pub main_seen : {C : Type 0} → MainThreadOf C → List EntryValue
 main_seen t = seen t.pass
+
+-- the keeper that it is lent
+abbrev pub main_keeper : {C : Type 0} → MainThreadOf C → Keeper (ClusterOf C)
+main_keeper t = t.keeper.now
 
 abbrev pub DoesTake : Take → Response → Machine → Told → Machine → Type 0
 DoesTake (Digest n) a = IsOne (digest n) a

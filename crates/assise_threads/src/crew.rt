@@ -75,13 +75,17 @@ impl<'a> Crew<'a> {
     ghost use Rattle.assise_history.specs.Text.{history_text};
     ghost use Rattle.assise_keeper.specs.Clients.{Extends};
     ghost use Rattle.assise_console.specs.Lines.{numbered_line};
+    ghost use Rattle.assise_console.specs.Stored.{revokers_left};
+    ghost use Rattle.assise_fault_script.specs.declared.command.RevokerKind.{RevokerKind as Kind};
     ghost use Rattle.assise_threads.specs.Answered.{AnswersCommand, OpensOne};
     ghost use Rattle.assise_threads.specs.CallsAhead.{AreSaidNext};
     ghost use Rattle.assise_threads.specs.Hearing.{sights};
     ghost use Rattle.assise_threads.specs.Runs.{EndsRun, IsRunSaid};
-    ghost use Rattle.assise_threads.specs.Spoken.{AreAllSaid, IsOneSaid, IsStretchSaid, MayGain};
+    ghost use Rattle.assise_threads.specs.Openings.{opened_by, opening_in, with_opened};
+    ghost use Rattle.assise_threads.specs.Spoken.{AreAllSaid, IsOneSaid, IsStretchSaid};
     ghost use Rattle.assise_threads.specs.Stretches.{AreCalls, IsClientCall};
-    ghost use Rattle.assise_threads.specs.Threads.{main_seen};
+    ghost use Rattle.assise_threads.specs.AtKeeper.{AreAt};
+    ghost use Rattle.assise_threads.specs.Threads.{main_keeper, main_seen};
 
     /// A main thread of a cluster of so many nodes, with revokers for clients, each call of which is tried so many times at most.
     pub(crate) fn new(
@@ -93,7 +97,7 @@ impl<'a> Crew<'a> {
     ) -> Crew<'a>
         requires some_turns { 1 ≤ turns }
         requires few_turns { turns ≤ 1000000 }
-        ensures { main_seen result.main ≡ main_seen main.entry }
+        ensures seen { main_seen result.main ≡ main_seen main.entry }
     {
         Crew {
             main,
@@ -118,7 +122,21 @@ impl<'a> Crew<'a> {
         ensures fault { IfErr result EndsRun }
     {
         let mut clients = Vec::new(alloc);
-        self.run_all(rt, alloc, &mut clients, commands, writer)
+        self.run_all(rt, alloc, &mut clients, commands, writer)?;
+        let Ok(next) = u32::try_from(clients.len() + 1) else {
+            return Err(EngineFault::Memory);
+        };
+        let Crew {
+            main,
+            gate: _,
+            stock: _,
+            nodes: _,
+            turns: _,
+        } = self;
+        if main.end(rt, clients, next) {
+            return Err(EngineFault::Memory);
+        }
+        Ok(())
     }
 
     /// Runs commands in order, and writes the line of each answer.
@@ -131,7 +149,8 @@ impl<'a> Crew<'a> {
         writer: &mut W,
     ) -> Result<(), EngineFault>
         requires nothing_seen { main_seen self.old.main ≡ [] }
-        requires no_clients { sights clients.old.items ≡ [] }
+        requires no_clients { clients.old.items ≡ [] }
+        ensures at { OnOk result (AreAt (main_keeper self.new.main) clients.new.items) }
         ensures done { OnOk result (AreAllSaid commands.now
             (main_seen self.new.main) (sights clients.new.items)
             (W.contents writer.old) (W.contents writer.new)) }
@@ -154,7 +173,9 @@ impl<'a> Crew<'a> {
         commands: &[NumberedCommand],
         writer: &mut W,
     ) -> Result<usize, EngineFault>
-        requires { 1 ≤ length commands.now }
+        requires some { 1 ≤ length commands.now }
+        requires at { AreAt (main_keeper self.old.main) clients.old.items }
+        ensures at { OnOk result (AreAt (main_keeper self.new.main) clients.new.items) }
         ensures some { IfOk result (λ count. (1 ≤ count) × (count ≤ length commands.now)) }
         ensures said { IfOk result (λ count. AreSaidNext (take count commands.now)
             (main_seen self.old.main) (sights clients.old.items)
@@ -182,6 +203,8 @@ impl<'a> Crew<'a> {
         writer: &mut W,
     ) -> Result<(), EngineFault>
         requires calls { AreCalls stretch.now }
+        requires at { AreAt (main_keeper self.old.main) clients.old.items }
+        ensures at { OnOk result (AreAt (main_keeper self.new.main) clients.new.items) }
         ensures seen { main_seen self.new.main ≡ main_seen self.old.main }
         ensures said { OnOk result (IsStretchSaid stretch.now (main_seen self.old.main)
             (sights clients.old.items) (sights clients.new.items)
@@ -205,7 +228,9 @@ impl<'a> Crew<'a> {
         line: &NumberedCommand,
         writer: &mut W,
     ) -> Result<(), EngineFault>
-        requires { IsClientCall line.now.command → ⊥ }
+        requires no_call { IsClientCall line.now.command → ⊥ }
+        requires at { AreAt (main_keeper self.old.main) clients.old.items }
+        ensures at { OnOk result (AreAt (main_keeper self.new.main) clients.new.items) }
         ensures said { OnOk result (IsOneSaid line.now
             (main_seen self.old.main) (sights clients.old.items)
             (main_seen self.new.main) (sights clients.new.items)
@@ -227,6 +252,7 @@ impl<'a> Crew<'a> {
         line: u64,
         writer: &mut W,
     ) -> Result<(), EngineFault>
+        ensures keeper { main_keeper self.new.main ≡ main_keeper self.old.main }
         ensures extends { Extends (main_seen self.new.main) (main_seen self.old.main) }
         ensures legal { ∥ IsLegal (main_seen self.new.main) ∥₁ }
         ensures text { OnOk result (Appends (W.contents writer.old) (W.contents writer.new)
@@ -252,10 +278,12 @@ impl<'a> Crew<'a> {
     ) -> Result<Response, EngineFault>
         requires no_call { IsClientCall command.now → ⊥ }
         requires no_history { command.now ≡ WholeHistory → ⊥ }
+        requires at { AreAt (main_keeper self.old.main) clients.old.items }
+        ensures at { OnOk result (AreAt (main_keeper self.new.main) clients.new.items) }
         ensures answered { IfOk result (λ answer. AnswersCommand command.now answer
             (main_seen self.old.main) (main_seen self.new.main)) }
-        ensures clients { OnOk result (MayGain (sights clients.old.items) (sights
-            clients.new.items)) }
+        ensures clients { IfOk result (λ answer. sights clients.new.items ≡ with_opened
+            (sights clients.old.items) (main_seen self.new.main) (opening_in command.now answer)) }
         ensures fault { IfErr result EndsRun }
     {
         let main = &mut self.main;
@@ -297,10 +325,15 @@ impl<'a> Crew<'a> {
         kind: RevokerKind,
         durability: Durability,
     ) -> Result<Response, EngineFault>
+        requires at { AreAt (main_keeper self.old.main) clients.old.items }
+        ensures kinds { (k : Kind) → (k ≡ kind → ⊥) →
+            revokers_left k self.new.stock ≡ revokers_left k self.old.stock }
+        ensures at { OnOk result (AreAt (main_keeper self.new.main) clients.new.items) }
         ensures opens { IfOk result (λ answer. OpensOne node durability answer
             (main_seen self.old.main) (main_seen self.new.main)) }
-        ensures clients { OnOk result (MayGain (sights clients.old.items) (sights
-            clients.new.items)) }
+        ensures clients { IfOk result (λ answer. sights clients.new.items ≡ with_opened
+            (sights clients.old.items) (main_seen self.new.main)
+            (opened_by answer node durability)) }
         ensures fault { IfErr result EndsRun }
     {
         let Ok(node) = u32::try_from(node) else {

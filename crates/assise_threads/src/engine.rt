@@ -3,6 +3,7 @@ ghost use Rattle.std.specs.Prelude.{◌≡◌, ◌≤◌, [], IfErr, IfOk, IsOkU
 ghost use Rattle.std.specs.Io.KnownBytes.{Keeps};
 ghost use Rattle.assise_fault_script.specs.Script.{ClusterFirst, IsCluster};
 ghost use Rattle.assise_machine.specs.Clusters.{machine};
+ghost use Rattle.assise_threads.specs.Begun.{IsBegunAs};
 ghost use Rattle.assise_threads.specs.Runs.{EndsRun, IsRunSaid, PrintsByThreads, ThreadFault, serial_command, serial_line};
 
 use crate::crew::Crew;
@@ -121,6 +122,7 @@ fn run_commands<W: Write, R: Threads + Wait + Sync>(
 fn cluster_of(alloc: Global, command: &Command) -> Result<(Cluster, u32), EngineFault>
     requires { IsCluster command.now }
     ensures begun { IfOk result (λ made. (machine made.0).history ≡ []) }
+    ensures as_said { IfOk result (λ made. IsBegunAs command.now made.0 made.1) }
     ensures only_memory { IsOkUnless result EngineFault.Memory }
 {
     let Command::Cluster { nodes, log, hot } = command else {

@@ -5,6 +5,7 @@ mod crew;
 pub mod engine;
 mod lists;
 mod main_thread;
+mod meeting;
 mod outcomes;
 mod stretch;
 mod takes;

@@ -2,7 +2,10 @@
 ghost use Rattle.std.specs.Prelude.{◌≡◌, IfOk, None, string_bytes};
 ghost use Rattle.assise_history.specs.Text.{history_text};
 ghost use Rattle.assise_keeper.specs.Passes.{IsPassOf, client as client_of_pass, seen};
+ghost use Rattle.assise_machine.specs.Clusters.{machine};
+ghost use Rattle.assise_threads.specs.Lacking.{MayLack};
 
+use crate::meeting::meet_all;
 use crate::takes::{Take, apply};
 use assise_console::response::Response;
 use assise_history::history::History;
@@ -33,16 +36,22 @@ pub(crate) struct MainThreadOf<'a, C> {
 pub(crate) type MainThread<'a> = MainThreadOf<'a, Revoker>;
 
 impl<'a, C: Revokes + Drop> MainThreadOf<'a, C> {
-    ghost use Rattle.std.specs.Prelude.{◌≡◌, ◌≤◌, IfErr, IfOk, None, string_bytes};
+    ghost use Rattle.std.specs.Prelude.{◌≡◌, ◌≤◌, IfErr, IfOk, List, None, string_bytes};
+    ghost use Rattle.assise_history.specs.Entries.{EntryValue};
     ghost use Rattle.assise_history.specs.Legal.{IsLegal, calls_made};
     ghost use Rattle.assise_history.specs.Text.{history_text};
     ghost use Rattle.assise_keeper.specs.Clients.{Extends};
     ghost use Rattle.assise_keeper.specs.Passes.{IsPassOf, client as client_of_pass, seen};
-    ghost use Rattle.assise_libfs.specs.Clients.{client_of, seen_by};
-    ghost use Rattle.assise_libfs.specs.Lives.{IsOpenedAs};
+    ghost use Rattle.assise_libfs.specs.Clients.{client_of, keeper_of, seen_by};
+    ghost use Rattle.assise_libfs.specs.Lives.{EndsWithOpening};
+    ghost use Rattle.assise_libfs.specs.Opening.{MayRefuseOpen};
     ghost use Rattle.assise_threads.specs.Answered.{CarriesSome, ComesBackInTakes};
+    ghost use Rattle.assise_threads.specs.Lacking.{MayLack};
+    ghost use Rattle.assise_threads.specs.Hearing.{sights};
+    ghost use Rattle.assise_threads.specs.OneHistory.{AreMet};
     ghost use Rattle.assise_threads.specs.Takes.{InOneTake};
-    ghost use Rattle.assise_threads.specs.Threads.{DoesTake, main_seen};
+    ghost use Rattle.assise_threads.specs.AtKeeper.{AreAt};
+    ghost use Rattle.assise_threads.specs.Threads.{DoesTake, main_keeper, main_seen};
 
     /// The thread that has the first pass of a keeper.
     pub(crate) fn new(
@@ -50,7 +59,8 @@ impl<'a, C: Revokes + Drop> MainThreadOf<'a, C> {
         pass: Pass<ClusterOf<C>>,
     ) -> MainThreadOf<'a, C>
         requires { IsPassOf keeper.now pass × (client_of_pass pass ≡ None) }
-        ensures { main_seen result ≡ seen pass }
+        ensures seen { main_seen result ≡ seen pass }
+        ensures keeper { main_keeper result ≡ keeper.now }
     {
         MainThreadOf { keeper, pass }
     }
@@ -61,7 +71,8 @@ impl<'a, C: Revokes + Drop> MainThreadOf<'a, C> {
         alloc: Global,
         last: u32,
     ) -> Result<Vec<NodeWorkers<'a, ClusterOf<C>>>, Refusal>
-        ensures { main_seen self.new ≡ main_seen self.old }
+        ensures seen { main_seen self.new ≡ main_seen self.old }
+        ensures keeper { main_keeper self.new ≡ main_keeper self.old }
     {
         workers_up_to(alloc, self.keeper, &mut self.pass, last)
     }
@@ -78,11 +89,14 @@ impl<'a, C: Revokes + Drop> MainThreadOf<'a, C> {
     ) -> Result<LibFs<'a, ClusterOf<C>>, (Refusal, C)>
         requires some_turns { 1 ≤ turns }
         requires few_turns { turns ≤ 1000000 }
-        ensures stays { main_seen self.new ≡ main_seen self.old }
-        ensures extends { IfOk result (λ it. Extends (seen_by it) (main_seen self.old)) }
-        ensures opened { IfOk result
-            (λ it. ∥ IsOpenedAs (client_of it) node durability (seen_by it) ∥₁) }
+        ensures keeper { main_keeper self.new ≡ main_keeper self.old }
+        ensures at_keeper { IfOk result (λ it. keeper_of it ≡ main_keeper self.old) }
+        ensures seen { IfOk result (λ it. seen_by it ≡ main_seen self.new) }
+        ensures last { IfOk result (λ it. EndsWithOpening (client_of it) node durability
+            (main_seen self.old) (main_seen self.new)) }
         ensures no_calls { IfOk result (λ it. calls_made (client_of it) (seen_by it) ≡ 0) }
+        ensures refused { IfErr result (λ back. MayRefuseOpen node (main_seen self.new) back.0) }
+        ensures extends { Extends (main_seen self.new) (main_seen self.old) }
     {
         let pass = self.keeper.split(&mut self.pass);
         match LibFs::open(
@@ -95,14 +109,22 @@ impl<'a, C: Revokes + Drop> MainThreadOf<'a, C> {
             durability,
             turns,
         ) {
-            Ok(libfs) => Ok(libfs),
-            Err((refusal, _, revoker)) => Err((refusal, revoker)),
+            Ok(mut libfs) => {
+                self.pass = libfs.split();
+                Ok(libfs)
+            }
+            Err((refusal, pass, revoker)) => {
+                self.pass = pass;
+                Err((refusal, revoker))
+            }
         }
     }
 
     /// Why no client can be opened on a node where there is no revoker for one.
     pub(crate) fn refuse_open<R: Wait>(&mut self, rt: &R, node: u32) -> Refusal
-        ensures { Extends (main_seen self.new) (main_seen self.old) }
+        ensures extends { Extends (main_seen self.new) (main_seen self.old) }
+        ensures keeper { main_keeper self.new ≡ main_keeper self.old }
+        ensures lacks { MayLack node (main_seen self.new) result }
     {
         let mut held = self.keeper.take(rt, &mut self.pass);
         let refusal = refusal_without_revoker(held.state(), node);
@@ -112,7 +134,8 @@ impl<'a, C: Revokes + Drop> MainThreadOf<'a, C> {
 
     /// One replicate turn of a node, over a perfect link: how many frames were taken in.
     pub(crate) fn carry<R: Wait>(&mut self, rt: &R, alloc: Global, node: u64) -> Response
-        ensures { CarriesSome result (main_seen self.old) (main_seen self.new) }
+        ensures carries { CarriesSome node result (main_seen self.old) (main_seen self.new) }
+        ensures keeper { main_keeper self.new ≡ main_keeper self.old }
     {
         let Ok(node) = u32::try_from(node) else {
             return Response::Refused(Refusal::BadNode);
@@ -122,14 +145,14 @@ impl<'a, C: Revokes + Drop> MainThreadOf<'a, C> {
         match worker.replicate_turn(rt, alloc, node, &mut link, &OpenGate) {
             TurnEnd::Did(count) => Response::Carried(count),
             TurnEnd::Refused(refusal) => Response::Refused(refusal),
-            TurnEnd::Stopped => Response::Carried(0),
+            TurnEnd::Stopped => unreachable!(),
         }
     }
 
     /// Does something in one take.
     pub(crate) fn in_one_take<R: Wait>(&mut self, rt: &R, alloc: Global, take: Take) -> Response
         ensures does { InOneTake (DoesTake take result) (main_seen self.old) (main_seen self.new) }
-        ensures extends { Extends (main_seen self.new) (main_seen self.old) }
+        ensures keeper { main_keeper self.new ≡ main_keeper self.old }
     {
         let mut held = self.keeper.take(rt, &mut self.pass);
         let answer = apply(alloc, held.state(), take);
@@ -145,7 +168,8 @@ impl<'a, C: Revokes + Drop> MainThreadOf<'a, C> {
         node: u64,
         turns: u32,
     ) -> Response
-        ensures { ComesBackInTakes node result (main_seen self.old) (main_seen self.new) }
+        ensures comes { ComesBackInTakes node result (main_seen self.old) (main_seen self.new) }
+        ensures keeper { main_keeper self.new ≡ main_keeper self.old }
     {
         let begun = self.in_one_take(rt, alloc, Take::BeginReturn(node));
         if let Response::Refused(..) = begun {
@@ -164,9 +188,27 @@ impl<'a, C: Revokes + Drop> MainThreadOf<'a, C> {
         Response::Refused(Refusal::Busy)
     }
 
+    /// All clients are told apart no more: there is one history with the calls of all. Whether this client, or a later one, was opened.
+    pub(crate) fn end<R: Wait>(
+        self,
+        rt: &R,
+        clients: Vec<LibFs<'a, ClusterOf<C>>>,
+        next: u32,
+    ) -> bool
+        requires at { AreAt (main_keeper self) clients.items }
+        requires some { 1 ≤ next }
+        ensures { (seen_last : List EntryValue) × AreMet (main_seen self.entry)
+            (sights clients.entry.items) next result seen_last }
+    {
+        let MainThreadOf { keeper, pass } = self;
+        let (_, more) = meet_all(rt, keeper, pass, clients.into_iter(), next);
+        more
+    }
+
     /// The text of the history so far.
     pub(crate) fn history<R: Wait>(&mut self, rt: &R, alloc: Global) -> Result<String, AllocError>
         ensures extends { Extends (main_seen self.new) (main_seen self.old) }
+        ensures keeper { main_keeper self.new ≡ main_keeper self.old }
         ensures legal { ∥ IsLegal (main_seen self.new) ∥₁ }
         ensures text { IfOk result (λ text. string_bytes text ≡ history_text (main_seen self.new)) }
     {
@@ -183,7 +225,9 @@ fn is_busy(answer: &Response) -> bool {
 }
 
 /// Why no client is opened on a node where all revokers are taken.
-fn refusal_without_revoker<C: Revokes + Drop>(cluster: &ClusterOf<C>, node: u32) -> Refusal {
+fn refusal_without_revoker<C: Revokes + Drop>(cluster: &ClusterOf<C>, node: u32) -> Refusal
+    ensures { MayLack node (machine cluster.now).history result }
+{
     match cluster.region(node) {
         Ok(_) => Refusal::BadClient,
         Err(Refusal::WrongPhase) => Refusal::NodeDown,

@@ -1,7 +1,7 @@
 // What came of clients' calls, until it is written.
 ghost use Rattle.std.specs.Prelude.{◌≡◌, ℕ, IfOk, map};
 ghost use Rattle.assise_threads.specs.Hearing.{sights};
-ghost use Rattle.assise_threads.specs.Stretches.{TakesFirst, outcomes_at, outcomes_of, sight_at, untold};
+ghost use Rattle.assise_threads.specs.Stretches.{TakesFirst, libfs_at, outcomes_at, outcomes_of, sight_at, untold};
 
 use assise_libfs::libfs::LibFs;
 use assise_machine::cluster::Cluster;
@@ -24,6 +24,7 @@ pub(crate) fn parted<'a>(
     ends: Vec<ClientEnd<'a, Cluster>>,
 ) -> Result<(Vec<LibFs<'a, Cluster>>, Vec<Outcomes>), AllocError>
     ensures clients { IfOk result (λ both. sights both.0.items ≡ map sight_at ends.entry.items) }
+    ensures same { IfOk result (λ both. both.0.items ≡ map libfs_at ends.entry.items) }
     ensures outcomes { IfOk result (λ both.
         untold both.1.items ≡ map outcomes_at ends.entry.items) }
 {

@@ -6,7 +6,8 @@ ghost use Rattle.assise_threads.specs.Runs.{EndsRun};
 ghost use Rattle.assise_threads.specs.Spoken.{IsStretchSaid};
 ghost use Rattle.assise_threads.specs.Said.{outcome_answer};
 ghost use Rattle.assise_threads.specs.Stretches.{AreCalls, AreCallsSaid, HasAllOf, IsClientCall, IsCallSaid, next_or_none, untold};
-ghost use Rattle.assise_threads.specs.Threads.{main_seen};
+ghost use Rattle.assise_threads.specs.AtKeeper.{AreAt};
+ghost use Rattle.assise_threads.specs.Threads.{main_keeper, main_seen};
 
 use crate::lists::lists_of;
 use crate::main_thread::MainThread;
@@ -88,7 +89,10 @@ pub(crate) fn serve<'a, W: Write, R: Threads + Wait + Sync>(
     stretch: &[NumberedCommand],
     writer: &mut W,
 ) -> Result<Vec<LibFs<'a, Cluster>>, EngineFault>
-    requires { AreCalls stretch.now }
+    requires calls { AreCalls stretch.now }
+    requires at { AreAt (main_keeper main.old) clients.items }
+    ensures keeper { main_keeper main.new ≡ main_keeper main.old }
+    ensures at { IfOk result (λ after. AreAt (main_keeper main.old) after.items) }
     ensures seen { main_seen main.new ≡ main_seen main.old }
     ensures said { IfOk result (λ after. IsStretchSaid stretch.now (main_seen main.old)
         (sights clients.entry.items) (sights after.items)

@@ -8,7 +8,9 @@ use std::alloc::Global;
 use std::sync::Wait;
 
 impl<'a, S: Replicated> Worker<'a, S> {
-    ghost use Rattle.assise_workers.specs.Working.{GoesOn};
+    ghost use Rattle.std.specs.Prelude.{◌≡◌, ◌⊎◌};
+    ghost use Rattle.assise_workers.specs.Acting.{Digests};
+    ghost use Rattle.assise_workers.specs.Working.{GoesOn, seen_at};
 
     /// One turn: the node digests, and leases go that may. It answers how many records were digested and leases let go of. A digest
     /// that is refused ends nothing.
@@ -19,7 +21,9 @@ impl<'a, S: Replicated> Worker<'a, S> {
         node: u32,
         gate: &G,
     ) -> TurnEnd
-        ensures { GoesOn self.old self.new }
+        ensures goes_on { GoesOn self.old self.new }
+        ensures turn { Digests S.Growing.history S.acts node (seen_at self.old) (seen_at self.new)
+            ⊎ (seen_at self.new ≡ seen_at self.old) }
     {
         if !gate.pass(Point::BeforeDigest) {
             return TurnEnd::Stopped;

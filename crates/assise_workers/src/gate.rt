@@ -1,4 +1,5 @@
 // Where workers may be held.
+ghost use Rattle.std.specs.Prelude.{◌≡◌, true};
 
 use std::alloc::Global;
 use std::sync::Arc;
@@ -19,8 +20,12 @@ pub enum Point {
 
 /// What holds workers, and ends their loops: a worker passes its gate at each [`Point`], always while the state is free for others.
 pub trait Gate: Sync {
+    /// That it ends no loop: of a gate that may end one, nothing.
+    ghost is_open: { Self → Type 0 };
+
     /// Returns once the worker may go on, and answers whether it does: on false its loop ends.
-    fn pass(&self, point: Point) -> bool;
+    fn pass(&self, point: Point) -> bool
+        ensures { is_open self.now → result ≡ true };
 }
 
 /// The gate through which all pass.
@@ -28,6 +33,8 @@ pub trait Gate: Sync {
 pub struct OpenGate;
 
 impl Gate for OpenGate {
+    ghost is_open = { λ gate. Unit {0} };
+
     fn pass(&self, _point: Point) -> bool {
         true
     }
@@ -41,6 +48,8 @@ pub(crate) struct UntilDone<'a, G> {
 }
 
 impl<'a, G: Gate> Gate for UntilDone<'a, G> {
+    ghost is_open = { λ gate. ⊥ };
+
     fn pass(&self, point: Point) -> bool {
         !self.done.load(Ordering::SeqCst) && self.gate.pass(point)
     }

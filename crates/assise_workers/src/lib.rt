@@ -5,6 +5,7 @@
 pub mod digesting;
 pub mod gate;
 mod idle;
+mod letter;
 pub mod nodes;
 pub mod replicated;
 pub mod replicating;

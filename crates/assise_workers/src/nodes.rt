@@ -6,6 +6,7 @@ use crate::gate::{Gate, Point};
 use crate::idle::Idle;
 use crate::replicated::Replicated;
 use crate::worker::{TurnEnd, Worker};
+use assise_history::growing::Growing;
 use assise_keeper::keeper::Keeper;
 use assise_keeper::pass::Pass;
 use assise_link::link::PerfectLink;
@@ -15,7 +16,7 @@ use std::sync::Wait;
 
 /// The two workers of a node, and the link over which it sends.
 #[derive(Drop)]
-pub struct NodeWorkers<'a, S: Replicated> {
+pub struct NodeWorkers<'a, S: Growing> {
     pub(crate) node: u32,
     pub(crate) replicator: Worker<'a, S>,
     pub(crate) digester: Worker<'a, S>,

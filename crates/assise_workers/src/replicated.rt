@@ -1,5 +1,10 @@
 // A state whose nodes replicate and digest.
-ghost use Rattle.std.specs.Prelude.{◌≡◌, ◌≤◌, IfOk};
+ghost use Rattle.std.specs.Prelude.{◌≡◌, ◌≤◌, ℕ, IfOk};
+ghost use Rattle.assise_manager.specs.NodeLevels.{level_of, newest};
+ghost use Rattle.assise_machine.specs.Answers.{delivery_answer, digesting_answer, sending_answer};
+ghost use Rattle.assise_machine.specs.Clusters.{machine};
+ghost use Rattle.assise_model_events.specs.Events.{Answer, ClusterEvent, deliver, digest, outgoing, release_ready, released};
+ghost use Rattle.assise_model_events.specs.Happenings.{Happens};
 
 use assise_history::growing::Growing;
 use assise_lease_table::revoker::Revokes;
@@ -10,27 +15,42 @@ use std::alloc::Global;
 
 /// A state whose nodes send frames to one another and digest what all have; none of that is an entry of its history. A cluster is one.
 pub trait Replicated: Growing {
+    /// What an event does to the state, with its answer: of a cluster, all that the laws say of it.
+    ghost acts: { Self → ClusterEvent → Answer → Self → Type 0 };
+
+    /// The newest version of frames that each node reads.
+    ghost reads: { Self → ℕ → ℕ };
+
     /// What a node has for others: frames, each with the node that it is for.
-    fn outgoing(&self, alloc: Global, node: u32) -> Result<Vec<(Frame, u32)>, Refusal>;
+    fn outgoing(&self, alloc: Global, node: u32) -> Result<Vec<(Frame, u32)>, Refusal>
+        ensures acts { acts self.now (outgoing node) (sending_answer result) self.now };
 
     /// The newest version of frames that a node reads.
     fn level(&self, node: u32) -> Result<u8, Refusal>
+        ensures read { IfOk result (λ level. level ≡ reads self.now node) }
         ensures known { IfOk result (λ level. (1 ≤ level) × (level ≤ 2)) };
 
     /// A frame comes to a node.
     fn deliver(&mut self, frame: Frame, node: u32) -> Result<u64, Refusal>
-        ensures unchanged { Self.Growing.history self.new ≡ Self.Growing.history self.old };
+        ensures unchanged { Self.Growing.history self.new ≡ Self.Growing.history self.old }
+        ensures acts { acts self.old (deliver frame node) (delivery_answer result) self.new };
 
     /// A node digests, and answers how many records.
     fn digest(&mut self, alloc: Global, node: u32) -> Result<usize, Refusal>
-        ensures unchanged { Self.Growing.history self.new ≡ Self.Growing.history self.old };
+        ensures unchanged { Self.Growing.history self.new ≡ Self.Growing.history self.old }
+        ensures acts { acts self.old (digest node) (digesting_answer result) self.new };
 
     /// Lets go of the leases that may go, and answers how many.
     fn release_ready(&mut self) -> usize
-        ensures unchanged { Self.Growing.history self.new ≡ Self.Growing.history self.old };
+        ensures unchanged { Self.Growing.history self.new ≡ Self.Growing.history self.old }
+        ensures acts { acts self.old release_ready (released result) self.new };
 }
 
 impl<C: Revokes + Drop> Replicated for ClusterOf<C> {
+    ghost acts = { λ s e a t. Happens (machine s) e a (machine t) };
+
+    ghost reads = { λ s n. newest (level_of (machine s).members.levels n) };
+
     fn outgoing(&self, alloc: Global, node: u32) -> Result<Vec<(Frame, u32)>, Refusal> {
         ClusterOf::outgoing(self, alloc, node)
     }

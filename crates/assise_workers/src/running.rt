@@ -1,12 +1,14 @@
 // Workers and clients in the threads of a scope.
 ghost use Rattle.std.specs.Prelude.{◌≡◌, ◌≤◌, [], IfOk, IfSome, vec_capacity, vec_len};
 ghost use Rattle.std.specs.List.{AllZip};
+ghost use Rattle.assise_workers.specs.ClusterTurns.{cluster_acts, cluster_history};
 ghost use Rattle.assise_workers.specs.Serving.{HasServed};
 
 use crate::gate::{Gate, UntilDone};
 use crate::nodes::NodeWorkers;
 use crate::replicated::Replicated;
 use crate::serving::{ClientEnd, ClientList};
+use assise_history::growing::Growing;
 use assise_libfs::served::Served;
 use assise_machine::cluster::Cluster;
 use std::alloc::Global;
@@ -27,12 +29,12 @@ pub enum RunFault {
 
 /// What a client's thread promises: it makes all calls of its list.
 #[derive(Drop)]
-struct ServesAll<'a, S: Served>(Snapshot<ClientList<'a, S>>);
+struct ServesAll<'a, S: Growing>(Snapshot<ClientList<'a, S>>);
 
 impl<'a, S: Served> Promise<ClientEnd<'a, S>> for ServesAll<'a, S> {
     ghost use Rattle.assise_workers.specs.Serving.{HasServed};
 
-    ghost kept_by = { λ p end. HasServed p.0.value end };
+    ghost kept_by = { λ p end. HasServed S.Growing.history S.acts p.0.value end };
 }
 
 /// Makes a client's calls in a thread of its own.
@@ -49,7 +51,7 @@ fn start_client<'s, 'e: 's, S: Served + Send, R: Threads + Wait + Sync>(
         .spawn_with(
             promise,
             move || -> ClientEnd<S>
-                ensures { HasServed list.entry result }
+                ensures { HasServed S.Growing.history S.acts list.entry result }
             { list.serve(rt, alloc) },
         )
         .ok()
@@ -63,7 +65,8 @@ fn run_clients<'s, 'e: 's, S: Served + Send, R: Threads + Wait + Sync>(
     alloc: Global,
     lists: Vec<ClientList<'e, S>>,
 ) -> Result<Vec<ClientEnd<'e, S>>, RunFault>
-    ensures { IfOk result (λ ends. AllZip HasServed lists.entry.items ends.items) }
+    ensures { IfOk result (λ ends. AllZip (HasServed S.Growing.history S.acts)
+        lists.entry.items ends.items) }
 {
     let Ok(mut handles) = Vec::with_capacity(alloc, lists.len()) else {
         return Err(RunFault::Memory);
@@ -89,7 +92,8 @@ fn join_clients<'e, S: Served, R: Threads>(
 ) -> Vec<ClientEnd<'e, S>>
     requires empty { ends.items ≡ [] }
     requires room { vec_len handles ≤ vec_capacity ends }
-    ensures { AllZip (λ h end. HasServed h.promise.0.value end) handles.entry.items result.items }
+    ensures { AllZip (λ h end. HasServed S.Growing.history S.acts
+        h.promise.0.value end) handles.entry.items result.items }
 {
     for handle in handles {
         ends.push_reserved(handle.join(rt));
@@ -162,7 +166,8 @@ pub fn run_cluster<'a, G: Gate, R: Threads + Wait + Sync>(
     gate: &'a G,
     lists: Vec<ClientList<'a, Cluster>>,
 ) -> Result<Vec<ClientEnd<'a, Cluster>>, RunFault>
-    ensures served { IfOk result (λ ends. AllZip HasServed lists.entry.items ends.items) }
+    ensures served { IfOk result (λ ends. AllZip (HasServed cluster_history cluster_acts)
+        lists.entry.items ends.items) }
 {
     match Arc::new(alloc, AtomicBool::new(false)) {
         Ok(done) => run_until(rt, alloc, nodes, gate, lists, done),
@@ -179,13 +184,15 @@ fn run_until<'a, G: Gate, R: Threads + Wait + Sync>(
     lists: Vec<ClientList<'a, Cluster>>,
     done: Arc<AtomicBool, Global>,
 ) -> Result<Vec<ClientEnd<'a, Cluster>>, RunFault>
-    ensures { IfOk result (λ ends. AllZip HasServed lists.entry.items ends.items) }
+    ensures { IfOk result (λ ends. AllZip (HasServed cluster_history cluster_acts)
+        lists.entry.items ends.items) }
 {
     thread::scope(
         thread::scope_env(),
         rt,
         move |scope| -> Result<Vec<ClientEnd<Cluster>>, RunFault>
-            ensures { IfOk result (λ ends. AllZip HasServed lists.entry.items ends.items) }
+            ensures { IfOk result (λ ends. AllZip (HasServed cluster_history cluster_acts)
+                lists.entry.items ends.items) }
         {
             let ended = match start_all_workers(scope, rt, alloc, nodes, gate, &done) {
                 Ok(()) => run_clients(scope, rt, alloc, lists),

@@ -1,8 +1,9 @@
 // A client's list of calls.
 ghost use Rattle.std.specs.Prelude.{◌≡◌, ◌≤◌, [], length, vec_capacity, vec_len};
-ghost use Rattle.assise_libfs.specs.Clients.{IsSameClient, client_of, seen_by};
-ghost use Rattle.assise_workers.specs.Told.{SeesAll};
+ghost use Rattle.assise_libfs.specs.Clients.{IsSameClient, client_of, limit_of, seen_by};
+ghost use Rattle.assise_workers.specs.Told.{SeesAll, Turned};
 
+use assise_history::growing::Growing;
 use assise_libfs::libfs::LibFs;
 use assise_libfs::served::Served;
 use assise_names::call::Op;
@@ -13,7 +14,7 @@ use std::sync::Wait;
 
 /// A client with the calls that it is to make, and room for what comes of them.
 #[derive(Drop)]
-pub struct ClientList<'a, S: Served> {
+pub struct ClientList<'a, S: Growing> {
     /// The client.
     pub libfs: LibFs<'a, S>,
     /// Its calls, in order.
@@ -25,7 +26,7 @@ pub struct ClientList<'a, S: Served> {
 
 /// A client that made its calls, with what came of each.
 #[derive(Drop)]
-pub struct ClientEnd<'a, S: Served> {
+pub struct ClientEnd<'a, S: Growing> {
     /// The client.
     pub libfs: LibFs<'a, S>,
     /// What came of each call of its list, in order.
@@ -55,7 +56,7 @@ impl<'a, S: Served> ClientList<'a, S> {
 
     /// Makes all calls of the list, one after another; a call that is refused ends nothing. It takes no memory but that of its calls.
     pub fn serve<R: Wait>(self, rt: &R, alloc: Global) -> ClientEnd<'a, S>
-        ensures { HasServed self.entry result }
+        ensures { HasServed S.Growing.history S.acts self.entry result }
     {
         let ClientList {
             mut libfs,
@@ -78,8 +79,8 @@ fn make_calls<S: Served, R: Wait>(
     requires empty { replies.items ≡ [] }
     requires room { length calls.now ≤ vec_capacity replies }
     ensures same { IsSameClient libfs.old libfs.new }
-    ensures sees { SeesAll (client_of libfs.old) calls.now (seen_by libfs.old) result.items
-        (seen_by libfs.new) }
+    ensures sees { SeesAll (Turned S.Growing.history S.acts (limit_of libfs.old))
+        (client_of libfs.old) calls.now (seen_by libfs.old) result.items (seen_by libfs.new) }
 {
     for op in calls {
         let reply = libfs.call(rt, alloc, op);

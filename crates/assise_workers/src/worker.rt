@@ -3,6 +3,7 @@ ghost use Rattle.assise_keeper.specs.Passes.{IsPassOf};
 ghost use Rattle.assise_keeper.specs.Working.{pass_of};
 
 use crate::replicated::Replicated;
+use assise_history::growing::Growing;
 use assise_keeper::keeper::Keeper;
 use assise_keeper::pass::Pass;
 use assise_keeper::worker_pass::WorkerPass;
@@ -35,7 +36,7 @@ impl TurnEnd {
 
 /// A worker of a state that threads take in turn. It adds no entry to the state's history.
 #[derive(Drop)]
-pub struct Worker<'a, S: Replicated> {
+pub struct Worker<'a, S: Growing> {
     pub(crate) keeper: &'a Keeper<S>,
     pub(crate) pass: WorkerPass<S>,
     ghost ours: { IsPassOf keeper.now (pass_of pass) },

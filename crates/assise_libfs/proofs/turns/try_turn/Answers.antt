@@ -1,7 +1,7 @@
 use Rattle.std.proofs.Common.{rules, ◌≡◌, sym, subst}
 use Rattle.assise_keeper.specs.Passes.{client, seen}
 use Rattle.assise_libfs.specs.Calling.{SeesTry}
-use Rattle.assise_libfs.proofs.Sights.{sees}
+use Rattle.assise_libfs.proofs.Sights.{refused-given, sees}
 use Rattle.assise_libfs.proofs.turns.try_turn.Goals as goal
 
 pub returns-clause-sees : goal.returns-clause-sees
@@ -12,3 +12,8 @@ returns-clause-sees g c =
     let tries = rw c.state.ensures.value at tried in
     subst (SeesTry c.args.caller c.args.op.now (seen c.args.pass.now) c.try_call-tried.result) (sym given)
     (sees c.args.caller (client c.args.pass.now) c.args.op.now _ _ _ _ c.requires.1 took.extends took.mine tries)
+
+pub returns-clause-refused : goal.returns-clause-refused
+returns-clause-refused g c =
+    let given : seen c.give.new.pass ≡ g.S.Growing.history c.try_call-tried.new.self = search rules in
+    refused-given c.args.caller c.args.op.now _ c.try_call-tried.result _ _ c.try_call-tried.ensures.tries given c.try_call-tried.ensures.refused

@@ -8,6 +8,6 @@ use Rattle.assise_workers.proofs.running.join_clients.Given as goal
 abbrev pub invariant-loop-handle : goal.invariant-loop-handle
 invariant-loop-handle g l = record {
   all : l.yielded ++ l.handle-iterator.rest.items ≡ l.fn.handles.items;
-  kept : AllZip (λ h end. HasServed h.promise.0.value end) l.yielded l.ends.items;
+  kept : AllZip (λ h end. HasServed g.S.Growing.history g.S.Served.acts h.promise.0.value end) l.yielded l.ends.items;
   room : vec_len l.ends + length l.handle-iterator.rest.items ≤ vec_capacity l.ends;
 }

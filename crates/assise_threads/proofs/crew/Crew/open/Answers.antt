@@ -1,30 +1,32 @@
 use Rattle.std.proofs.Common.{rules, ◌≡◌, ap, refl, subst}
+use Rattle.assise_history.specs.Legal.{IsLegal, calls_made}
 use Rattle.assise_keeper.proofs.PassAdds.{extends-same}
 use Rattle.assise_console.specs.declared.response.Response.TheVariants.{Client}
 use Rattle.assise_libfs.specs.Clients.{client_of, seen_by}
-use Rattle.assise_libfs.specs.Lives.{IsOpenedAs}
-use Rattle.assise_threads.specs.Answered.{is_opened, is_refused}
+use Rattle.assise_libfs.specs.Lives.{EndsWithOpening}
+use Rattle.assise_libfs.specs.Opening.{MayRefuseOpen}
+use Rattle.assise_threads.specs.Answered.{is_opened, is_refused, lacks_revoker}
+use Rattle.assise_threads.specs.Lacking.{MayLack}
 use Rattle.assise_threads.specs.Threads.{main_seen}
-use Rattle.assise_threads.proofs.Nobodys.{extends_as_it_is}
-use Rattle.assise_threads.proofs.RunOn.{gains_client}
 use Rattle.assise_threads.proofs.crew.Crew.open.Goals as goal
 
 pub returns-in_default-clause-opens : goal.returns-in_default-clause-opens
-returns-in_default-clause-opens g c = is_refused _ refl (extends-same (main_seen c.args.self.now.main))
+returns-in_default-clause-opens g c = is_refused _ refl (extends-same (main_seen c.args.self.now.main)) tt
 
 pub returns-in_default-take-clause-opens : goal.returns-in_default-take-clause-opens
-returns-in_default-take-clause-opens g c = is_refused c.refuse_open.result refl c.refuse_open.ensures
+returns-in_default-take-clause-opens g c = lacks_revoker c.refuse_open.result refl c.refuse_open.ensures.extends (subst (λ n. MayLack n (main_seen c.refuse_open.new.self) c.refuse_open.result) (search rules) c.refuse_open.ensures.lacks)
 
 pub returns-in-Ok-open-clause-opens : goal.returns-in-Ok-open-clause-opens
 returns-in-Ok-open-clause-opens g c =
     let it = c.in-Ok-open.libfs in
+    let told = c.in-Ok-open.ensures in
     let same : c.in-Ok.node ≡ c.args.node = search rules in
-    is_opened (client_of it) (seen_by it) (ap Client c.client-client.ensures) c.in-Ok-open.ensures.extends
-    (subst (λ n. ∥ IsOpenedAs (client_of it) n c.args.durability (seen_by it) ∥₁) same c.in-Ok-open.ensures.opened) c.in-Ok-open.ensures.no_calls c.in-Ok-open.ensures.stays
-
-pub returns-in-Ok-open-clause-clients : goal.returns-in-Ok-open-clause-clients
-returns-in-Ok-open-clause-clients g c =
-    gains_client c.args.clients.now.items c.reserve.new.self.items c.push_reserved.new.self.items c.in-Ok-open.libfs c.reserve.ensures.items c.push_reserved.ensures.items c.in-Ok-open.ensures.no_calls
+    is_opened (client_of it) (ap Client c.client-client.ensures)
+    (subst (λ n. EndsWithOpening (client_of it) n c.args.durability (main_seen c.args.self.now.main) (main_seen c.open.new.self)) same told.last)
+    (subst (λ h. ∥ IsLegal h ∥₁) told.seen it.legal)
+    (subst (λ h. calls_made (client_of it) h ≡ 0) told.seen told.no_calls)
 
 pub returns-in-Err-clause-opens : goal.returns-in-Err-clause-opens
-returns-in-Err-clause-opens g c = is_refused c.in-Err.refusal refl (extends_as_it_is _ _ c.in-Err.ensures.stays)
+returns-in-Err-clause-opens g c =
+    let same : c.in-Ok.node ≡ c.args.node = search rules in
+    is_refused c.in-Err.refusal refl c.in-Err.ensures.extends (subst (λ n. MayRefuseOpen n (main_seen c.open.new.self) c.in-Err.refusal) same c.in-Err.ensures.refused)

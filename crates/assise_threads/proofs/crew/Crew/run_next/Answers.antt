@@ -9,7 +9,7 @@ returns-then-calls-eq0-clause-said g c =
     let commands = c.args.commands.now in
     let first = c.index-commands-0.result in
     let none : calls_ahead commands ≡ 0 = omega (arith, c.if-calls-eq0.true, c.calls_ahead-calls.ensures) in
-    is_one first (first_taken commands first c.requires c.index-commands-0.is) (first_is_none commands first c.requires c.index-commands-0.is none) c.in_ok-run_one.ensures.said
+    is_one first (first_taken commands first c.requires.some c.index-commands-0.is) (first_is_none commands first c.requires.some c.index-commands-0.is none) c.in_ok-run_one.ensures.said
 
 pub split_at-requires : goal.split_at-requires
 split_at-requires g c = let few : calls_ahead c.args.commands.now ≤ length c.args.commands.now = few_ahead c.args.commands.now in omega (arith, few, c.calls_ahead-calls.ensures)

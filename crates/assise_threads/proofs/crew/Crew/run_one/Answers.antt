@@ -1,7 +1,6 @@
 use Rattle.std.proofs.Common.{[], refl, subst}
 use Rattle.std.specs.Io.KnownBytes.{Appends}
 use Rattle.assise_console.specs.declared.response.Response.TheVariants.{History as Whole}
-use Rattle.assise_threads.specs.Spoken.{stays}
 use Rattle.assise_threads.specs.Threads.{main_seen}
 use Rattle.assise_threads.proofs.RunOn.{line_shows_none, on_ok}
 use Rattle.assise_threads.proofs.crew.Crew.run_one.Goals as goal
@@ -13,7 +12,7 @@ returns-in-History-clause-said g c =
       answer = Whole;
       answered = rw c.in-History.is (record { answer = refl; extends = wrote.extends; legal = wrote.legal });
       appends = text;
-      clients = stays refl;
+      clients = rw c.in-History.is refl;
     })
 
 pub returns-clause-said : goal.returns-clause-said

@@ -3,14 +3,14 @@ use Rattle.assise_threads.specs.Threads.{main_seen}
 use Rattle.assise_workers.proofs.Lists.{extends-on}
 use Rattle.assise_threads.proofs.main_thread.MainThreadOf.bring_back.Goals as goal
 
-pub returns-in-Refused : goal.returns-in-Refused
-returns-in-Refused g c = is_refused c.in-Refused.field-0 c.in-Refused.is c.in_one_take-begun.ensures.does
+pub returns-in-Refused-clause-comes : goal.returns-in-Refused-clause-comes
+returns-in-Refused-clause-comes g c = is_refused c.in-Refused.field-0 c.in-Refused.is c.in_one_take-begun.ensures.does
 
-pub returns-in-Refused-filled : goal.returns-in-Refused-filled
-returns-in-Refused-filled g c = stops_filling c.in-Refused-filled.field-0 (main_seen c.loop.self) c.in-Refused-filled.is c.loop.invariant.extends c.in_one_take-filled.ensures.does
+pub returns-in-Refused-filled-clause-comes : goal.returns-in-Refused-filled-clause-comes
+returns-in-Refused-filled-clause-comes g c = stops_filling c.in-Refused-filled.field-0 (main_seen c.loop.self) c.in-Refused-filled.is c.loop.invariant.extends c.in_one_take-filled.ensures.does
 
-pub returns-then-not-is_busy : goal.returns-then-not-is_busy
-returns-then-not-is_busy g c =
+pub returns-then-not-is_busy-clause-comes : goal.returns-then-not-is_busy-clause-comes
+returns-then-not-is_busy-clause-comes g c =
     joins (main_seen c.in_one_take-filled.new.self)
-    (extends-on (main_seen c.in_one_take-filled.new.self) (main_seen c.loop.self) (main_seen c.args.self.now) c.in_one_take-filled.ensures.extends c.loop.invariant.extends)
+    (extends-on (main_seen c.in_one_take-filled.new.self) (main_seen c.loop.self) (main_seen c.args.self.now) c.in_one_take-filled.ensures.does.grows c.loop.invariant.extends)
     c.in_one_take-joined.ensures.does

@@ -1,6 +1,7 @@
+use Rattle.std.proofs.Common.{◌≡◌}
 use Rattle.assise_history.specs.Legal.{IsLegal}
 use Rattle.assise_keeper.specs.Clients.{Extends}
-use Rattle.assise_threads.specs.Threads.{main_seen}
+use Rattle.assise_threads.specs.Threads.{main_keeper, main_seen}
 use Rattle.assise_threads.proofs.main_thread.MainThreadOf.bring_back.Given as goal
 
 -- what is seen goes on, and is legal
@@ -8,4 +9,5 @@ abbrev pub invariant-loop : goal.invariant-loop
 invariant-loop g l = record {
   extends : Extends (main_seen l.self) (main_seen l.fn.self);
   legal : ∥ IsLegal (main_seen l.self) ∥₁;
+  keeper : main_keeper l.self ≡ main_keeper l.fn.self;
 }

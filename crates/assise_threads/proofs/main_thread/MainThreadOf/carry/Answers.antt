@@ -1,15 +1,19 @@
-use Rattle.std.proofs.Common.{refl}
-use Rattle.assise_threads.specs.Answered.{is_carried, is_refused}
+use Rattle.std.proofs.Common.{rules, ◌≡◌, refl}
+use Rattle.assise_threads.specs.Answered.{is_nowhere}
+use Rattle.assise_threads.specs.Threads.{main_seen}
+use Rattle.assise_workers.specs.Working.{seen_at}
+use Rattle.assise_threads.proofs.MachineTurns.{carried_by, refused_by}
 use Rattle.assise_threads.proofs.main_thread.MainThreadOf.carry.Goals as goal
 
-pub returns-in_default : goal.returns-in_default
-returns-in_default g c = is_refused _ refl refl
+pub returns-in_default-clause-carries : goal.returns-in_default-clause-carries
+returns-in_default-clause-carries g c = is_nowhere refl refl
 
-pub returns-in-Did : goal.returns-in-Did
-returns-in-Did g c = is_carried c.in-Did.count refl c.new-worker.ensures.same.0
+pub returns-in-Did-clause-carries : goal.returns-in-Did-clause-carries
+returns-in-Did-clause-carries g c =
+    let same : c.in-Ok.node ≡ c.args.node = search rules in
+    carried_by _ _ refl c.in-Ok.node c.args.node c.in-Did.count _ (main_seen c.args.self.now) (seen_at c.new-worker.result) (seen_at c.replicate_turn.new.self) _ same c.in-Did.is c.new-worker.ensures.seen c.new-worker.ensures.same.0 c.replicate_turn.ensures.turn
 
-pub returns-in-Refused : goal.returns-in-Refused
-returns-in-Refused g c = is_refused c.in-Refused.refusal refl c.new-worker.ensures.same.0
-
-pub returns : goal.returns
-returns g c = is_carried 0 refl c.new-worker.ensures.same.0
+pub returns-in-Refused-clause-carries : goal.returns-in-Refused-clause-carries
+returns-in-Refused-clause-carries g c =
+    let same : c.in-Ok.node ≡ c.args.node = search rules in
+    refused_by _ _ refl c.in-Ok.node c.args.node c.in-Refused.refusal _ (main_seen c.args.self.now) (seen_at c.new-worker.result) (seen_at c.replicate_turn.new.self) _ same c.in-Refused.is c.new-worker.ensures.seen c.new-worker.ensures.same.0 c.replicate_turn.ensures.turn

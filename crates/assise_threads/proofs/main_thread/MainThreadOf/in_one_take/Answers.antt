@@ -26,13 +26,10 @@ returns-clause-does g c =
       before = machine c.state.result.now;
       after = machine c.apply-answer.new.cluster;
       told = c.apply-answer.ensures.does.0;
+      lawful = c.state.result.now.sound.invariant.holds;
       extends = extends;
       does = c.apply-answer.ensures.does.1;
       given = c.give.ensures.seen;
       legal = is_legal c.apply-answer.new.cluster _ c.give.ensures.seen;
+      grows = given_extends _ _ _ _ extends c.apply-answer.ensures.nobodys c.give.ensures.seen;
     }
-
-pub returns-clause-extends : goal.returns-clause-extends
-returns-clause-extends g c =
-    let extends : Extends (machine c.state.result.now).history (main_seen c.args.self.now) = search rules in
-    given_extends _ _ _ _ extends c.apply-answer.ensures.nobodys c.give.ensures.seen

@@ -1,0 +1,56 @@
+-- The one history of a run with threads.
+-- Assise (OSDI 2020), section 3 (CC-NVM: prefix crash consistency); POSIX.1-2017, section 2.9.7 (each call appears as made at once).
+use Rattle.std.specs.Prelude.{◌≡◌, ℕ, ◌<◌, false, Bool, List, Option, None, Some, Result, length}
+use Rattle.std.specs.List.{AllByRecursion}
+use Rattle.assise_names.specs.declared.refusal.Refusal.{Refusal}
+use Rattle.assise_names.specs.declared.reply.Reply.{Reply}
+use Rattle.assise_history.specs.Entries.{EntryValue}
+use Rattle.assise_history.specs.Legal.{IsLegal, clients_opened}
+use Rattle.assise_keeper.specs.Clients.{Extends, calls_by}
+use Rattle.assise_workers.specs.Told.{told_all}
+use Rattle.assise_threads.specs.Fronts.{HearsOn}
+use Rattle.assise_threads.specs.Openings.{Sights, openings_of, openings_said}
+use Rattle.assise_threads.specs.Said.{Said, TellsClient, calls_in, commands_said}
+
+-- the history goes on from what the client has seen, without a call of the client
+abbrev pub Covers : List EntryValue → ℕ × List EntryValue → Type 0
+Covers h sight = Extends h sight.1 × (calls_by sight.0 h ≡ calls_by sight.0 sight.1)
+
+-- the same of a client that may not be there
+abbrev pub CoversSight : ℕ → List EntryValue → Option (List EntryValue) → Type 0
+CoversSight c h None = Unit {0}
+CoversSight c h (Some seen) = Covers h (c, seen)
+
+-- There was a legal history between the two that goes on from what all clients have seen, without a call of theirs; and no more clients
+-- were opened in it than this, where it is said so.
+pub record AreMet (old : List EntryValue) (us : Sights) (next : ℕ) (more : Bool) (new : List EntryValue) : Type 0 where
+  pub history : List EntryValue
+  pub legal : ∥ IsLegal history ∥₁
+  pub since : Extends history old
+  pub until : Extends new history
+  pub clients : AllByRecursion (Covers history) us
+  pub few : more ≡ false → clients_opened history < next
+
+-- the calls of client c in the history are those that it was told, in the order of the lines
+abbrev pub HasToldCalls : ℕ → List Said → List EntryValue → List (Result Reply Refusal) → Option (List EntryValue) → Type 0
+HasToldCalls c ss h rs None = Unit {0}
+HasToldCalls c ss h rs (Some seen) = calls_by c h ≡ told_all c 0 (calls_in c (commands_said ss)) rs
+
+-- Client c was told, in the order of the lines, what came of its calls by fronts of the history: where it was opened, its calls in the
+-- history are exactly those that it was told are answered.
+pub record IsHeard (c : ℕ) (ss : List Said) (h : List EntryValue) : Type 0 where
+  pub seen : Option (List EntryValue)
+  pub on : HearsOn c None ss seen
+  pub covers : CoversSight c h seen
+  pub outcomes : List (Result Reply Refusal)
+  pub count : length outcomes ≡ length (calls_in c (commands_said ss))
+  pub tells : TellsClient c ss outcomes
+  pub calls : HasToldCalls c ss h outcomes seen
+
+-- The run has one legal history: what the main thread saw at each line is a front of it, its openings are those that the lines tell of,
+-- in order, and each client was told what came of its calls in it.
+pub record HasOneHistory (ss : List Said) (h : List EntryValue) : Type 0 where
+  pub legal : ∥ IsLegal h ∥₁
+  pub fronts : AllByRecursion (λ s. Extends h s.history) ss
+  pub openings : openings_of h ≡ openings_said ss
+  pub clients : (c : ℕ) → IsHeard c ss h

@@ -1,0 +1,14 @@
+use Rattle.std.proofs.Common.{rules, ◌≡◌}
+use Rattle.assise_keeper.specs.Clients.{Extends}
+use Rattle.assise_keeper.specs.Passes.{seen}
+use Rattle.assise_keeper.specs.Working.{pass_of}
+use Rattle.assise_workers.specs.Working.{seen_at}
+use Rattle.assise_workers.proofs.Lists.{both_ok}
+use Rattle.assise_workers.proofs.worker.Worker.take_outgoing.Goals as goal
+
+pub returns-clause-sent : goal.returns-clause-sent
+returns-clause-sent g c =
+    let state = c.state.result.now in let letters = c.letters_of-letters in
+    let extends : Extends (g.S.Growing.history state) (seen_at c.args.self.now) = search rules in
+    let seen_now : seen (pass_of c.give.new.self) ≡ g.S.Growing.history state = search rules in
+    both_ok _ _ _ letters.result (λ ls went read. record { taken = record { before = state; after = state; extends = extends; does = went; seen = seen_now }; read = read }) letters.ensures.sent letters.ensures.read
