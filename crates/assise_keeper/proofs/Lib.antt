@@ -1,4 +1,5 @@
 pub mod PassAdds
+pub mod Rights
 pub mod ClientOwners
 pub mod StepsKeepRule
 pub mod Stages

@@ -4,45 +4,60 @@ use Rattle.std.specs.Prelude.{filter}
 use Rattle.std.proofs.lemmas.List.Elements.{filter-append}
 use Rattle.std.proofs.Common.{length-append}
 use Rattle.assise_history.specs.Entries.{EntryValue, opens, calls, crashes, fails, returns}
-use Rattle.assise_history.specs.Legal.{is_call_of}
+use Rattle.assise_history.specs.Legal.{is_call_of, is_opening}
 use Rattle.assise_history.specs.Opened.{is_opening_of}
 use Rattle.assise_history.specs.declared.call.Call.{Call}
-use Rattle.assise_keeper.specs.Clients.{openings, calls_by, Extends, client_after, MayAddAll, ExtendsByOne}
+use Rattle.assise_keeper.specs.declared.view.Opens.{Opens}
+use Rattle.assise_keeper.specs.declared.view.Opens.TheVariants.{Never}
+use Rattle.assise_keeper.specs.Clients.{openings, openings_of, calls_by, Extends, client_after, MayAddAll, ExtendsByOne}
 
-pub client_stays : (d : ℕ) (xs : List EntryValue) → MayAddAll (Some d) xs → client_after (Some d) xs ≡ Some d
-client_stays d [] own = refl
-client_stays d (opens e n u ∷ xs) own = absurd (let none = own.0 in (cc))
-client_stays d (calls x ∷ xs) own = client_stays d xs own.1
-client_stays d (crashes e ∷ xs) own = client_stays d xs own.1
-client_stays d (fails e ls ∷ xs) own = client_stays d xs own.1
-client_stays d (returns e ∷ xs) own = client_stays d xs own.1
+module _ (o : Opens) where
+  pub client_stays : (d : ℕ) (xs : List EntryValue) → MayAddAll (Some d) o xs → client_after (Some d) xs ≡ Some d
+  client_stays d [] own = refl
+  client_stays d (opens e n u ∷ xs) own = absurd (let none = own.0.0 in (cc))
+  client_stays d (calls x ∷ xs) own = client_stays d xs own.1
+  client_stays d (crashes e ∷ xs) own = client_stays d xs own.1
+  client_stays d (fails e ls ∷ xs) own = client_stays d xs own.1
+  client_stays d (returns e ∷ xs) own = client_stays d xs own.1
 
--- who isn't the client afterwards has no call among what was added
-pub no_calls : (d : ℕ) (c : Option ℕ) (xs : List EntryValue) → MayAddAll c xs → ¬ (client_after c xs ≡ Some d) → calls_by d xs ≡ []
-no_calls d c [] own other = refl
-no_calls d c (opens e n u ∷ xs) own other = no_calls d (Some e) xs own.1 other
-no_calls d c (calls x ∷ xs) own other =
-    let e : ℕ = x.client in
-    let own' : MayAddAll (Some e) xs = subst (λ (z : Option ℕ). MayAddAll z xs) own.0 own.1 in
-    let stays : client_after c xs ≡ Some e = ap (λ (z : Option ℕ). client_after z xs) own.0 ∙ client_stays e xs own' in
-    let ne : d ≢ e = λ is. other (stays ∙ ap (λ (z : ℕ). let o : Option ℕ = Some z in o) (sym is)) in
-    rw (ne_eqb d e ne) (no_calls d c xs own.1 other)
-no_calls d c (crashes e ∷ xs) own other = no_calls d c xs own.1 other
-no_calls d c (fails e ls ∷ xs) own other = no_calls d c xs own.1 other
-no_calls d c (returns e ∷ xs) own other = no_calls d c xs own.1 other
+  -- who isn't the client afterwards has no call among what was added
+  pub no_calls : (d : ℕ) (c : Option ℕ) (xs : List EntryValue) → MayAddAll c o xs → ¬ (client_after c xs ≡ Some d) → calls_by d xs ≡ []
+  no_calls d c [] own other = refl
+  no_calls d c (opens e n u ∷ xs) own other = no_calls d (Some e) xs own.1 other
+  no_calls d c (calls x ∷ xs) own other =
+      let e : ℕ = x.client in
+      let own' : MayAddAll (Some e) o xs = subst (λ (z : Option ℕ). MayAddAll z o xs) own.0 own.1 in
+      let stays : client_after c xs ≡ Some e = ap (λ (z : Option ℕ). client_after z xs) own.0 ∙ client_stays e xs own' in
+      let ne : d ≢ e = λ is. other (stays ∙ ap (λ (z : ℕ). let o : Option ℕ = Some z in o) (sym is)) in
+      rw (ne_eqb d e ne) (no_calls d c xs own.1 other)
+  no_calls d c (crashes e ∷ xs) own other = no_calls d c xs own.1 other
+  no_calls d c (fails e ls ∷ xs) own other = no_calls d c xs own.1 other
+  no_calls d c (returns e ∷ xs) own other = no_calls d c xs own.1 other
 
--- the client afterwards is the client before, or was opened
-pub was_or_opened : (d : ℕ) (c : Option ℕ) (xs : List EntryValue) → MayAddAll c xs → client_after c xs ≡ Some d → (c ≡ Some d) ⊎ (0 < openings d xs)
-was_or_opened d c [] own is = inl is
-was_or_opened d c (opens e n u ∷ xs) own is =
-    let stays : client_after (Some e) xs ≡ Some e = client_stays e xs own.1 in
-    let same : Some e ≡ Some d = sym stays ∙ is in
-    let same' : d ≡ e = cc in
-    inr (rw (eq-eqb e d (sym same')) (omega arith))
-was_or_opened d c (calls x ∷ xs) own is = ⊎_elim (λ a. inl a) (λ b. inr (omega arith)) (was_or_opened d c xs own.1 is)
-was_or_opened d c (crashes e ∷ xs) own is = ⊎_elim (λ a. inl a) (λ b. inr (omega arith)) (was_or_opened d c xs own.1 is)
-was_or_opened d c (fails e ls ∷ xs) own is = ⊎_elim (λ a. inl a) (λ b. inr (omega arith)) (was_or_opened d c xs own.1 is)
-was_or_opened d c (returns e ∷ xs) own is = ⊎_elim (λ a. inl a) (λ b. inr (omega arith)) (was_or_opened d c xs own.1 is)
+  -- the client afterwards is the client before, or was opened
+  pub was_or_opened : (d : ℕ) (c : Option ℕ) (xs : List EntryValue) → MayAddAll c o xs → client_after c xs ≡ Some d → (c ≡ Some d) ⊎ (0 < openings d xs)
+  was_or_opened d c [] own is = inl is
+  was_or_opened d c (opens e n u ∷ xs) own is =
+      let stays : client_after (Some e) xs ≡ Some e = client_stays e xs own.1 in
+      let same : Some e ≡ Some d = sym stays ∙ is in
+      let same' : d ≡ e = cc in
+      inr (rw (eq-eqb e d (sym same')) (omega arith))
+  was_or_opened d c (calls x ∷ xs) own is = ⊎_elim (λ a. inl a) (λ b. inr (omega arith)) (was_or_opened d c xs own.1 is)
+  was_or_opened d c (crashes e ∷ xs) own is = ⊎_elim (λ a. inl a) (λ b. inr (omega arith)) (was_or_opened d c xs own.1 is)
+  was_or_opened d c (fails e ls ∷ xs) own is = ⊎_elim (λ a. inl a) (λ b. inr (omega arith)) (was_or_opened d c xs own.1 is)
+  was_or_opened d c (returns e ∷ xs) own is = ⊎_elim (λ a. inl a) (λ b. inr (omega arith)) (was_or_opened d c xs own.1 is)
+
+-- who may open none adds no opening
+pub no_openings : (c : Option ℕ) (xs : List EntryValue) → MayAddAll c Never xs → openings_of xs ≡ []
+no_openings c [] own = refl
+no_openings c (opens e n u ∷ xs) own = absurd own.0.1
+no_openings c (calls x ∷ xs) own = no_openings c xs own.1
+no_openings c (crashes e ∷ xs) own = no_openings c xs own.1
+no_openings c (fails e ls ∷ xs) own = no_openings c xs own.1
+no_openings c (returns e ∷ xs) own = no_openings c xs own.1
+
+pub all-openings-append : (h xs : List EntryValue) → openings_of (h ++ xs) ≡ openings_of h ++ openings_of xs
+all-openings-append h xs = filter-append is_opening h xs
 
 pub calls-append : (d : ℕ) (h xs : List EntryValue) → calls_by d (h ++ xs) ≡ calls_by d h ++ calls_by d xs
 calls-append d h xs = filter-append (is_call_of d) h xs
@@ -66,10 +81,6 @@ drop-prefix (e ∷ h) xs = drop-prefix h xs
 
 pub drop-whole : (h : List EntryValue) → drop (length h) h ≡ []
 drop-whole h = ap (drop (length h)) (sym (append-nil h)) ∙ drop-prefix h []
-
-pub prefix_of_nothing : (prefix more : List EntryValue) → [] ≡ prefix ++ more → prefix ≡ []
-prefix_of_nothing [] more e = refl
-prefix_of_nothing (x ∷ prefix) more e = absurd (cc)
 
 nothing_more : (xs ys : List EntryValue) → xs ++ ys ≡ xs → ys ≡ []
 nothing_more [] ys e = e

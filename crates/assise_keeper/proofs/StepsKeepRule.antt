@@ -8,16 +8,19 @@ use Rattle.atomic_table.specs.Table.{State, step, Act, keeps, takes, gives, step
 use Rattle.atomic_table.proofs.Lists.{at_set, set_again, set_else, at_longer}
 use Rattle.assise_history.specs.Entries.{EntryValue}
 use Rattle.assise_keeper.specs.declared.view.Half.{Half}
+use Rattle.assise_keeper.specs.declared.view.Opens.{Opens}
+use Rattle.assise_keeper.specs.declared.view.Opens.TheVariants.{Alone}
 use Rattle.assise_keeper.specs.declared.view.Stage.{Stage}
 use Rattle.assise_keeper.specs.declared.view.Stage.TheVariants.{Fresh, Idle, Holding}
 use Rattle.assise_keeper.specs.declared.view.View.{View}
 use Rattle.assise_history.specs.Opened.{OpensOnce}
 use Rattle.assise_keeper.specs.Clients.{openings, client_after, MayAddAll, MayGive}
-use Rattle.assise_keeper.specs.Views.{half, clientless, newcomer, spent, together, with_no_client, own_of, guest_of, holding, given}
-use Rattle.assise_keeper.specs.Rule.{StatePlace, not_in, home, out, IsAt, IsStage, CoversHalf, HalfFits, IsPassAt, IsKept}
+use Rattle.assise_keeper.specs.Views.{half, clientless, newcomer, beginning, spent, together, with_right, with_no_client, own_of, guest_of, holding, given}
+use Rattle.assise_keeper.specs.Rule.{StatePlace, not_in, home, out, IsAt, IsStage, CoversHalf, HalfFits, HasRight, Opener, Owner, anyone, alone, IsPassAt, IsKept}
 use Rattle.assise_keeper.specs.Steps.{Sitting, taking, releasing, setting_up}
-use Rattle.assise_keeper.proofs.PassAdds.{was_or_opened, openings-append, opened-in, extends-same, drop-prefix, prefix_of_nothing}
+use Rattle.assise_keeper.proofs.PassAdds.{was_or_opened, openings-append, opened-in, extends-same, drop-prefix}
 use Rattle.assise_keeper.proofs.ClientOwners.{half_of, owns, owns_mine, fits_still, fits_on, at_snoc_place, no_side, no_side', same_seat}
+use Rattle.assise_keeper.proofs.Rights.{CanPart, passes_on}
 
 -- the fact holds of each seat after one view was set
 seats : (K : ℕ → View → Type 0) (vs : List View) (me : ℕ) (w : View) → K me w → ((j : ℕ) (d : View) → j ≢ me → get_elem? vs j ≡ some d → K j d)
@@ -98,8 +101,9 @@ module _ {S : Type 0} (history : S → List EntryValue) where
           h = r.h;
           place = out id;
           owner = r.owner;
+          who = r.who;
           is_at = (refl, refl, (holding v (history x), set_at s.views id (holding v (history x)) v at, ap (λ (z : List EntryValue). Holding z) ph.1.2));
-          each = seats (IsPassAt (out id) r.h r.owner) s.views id (holding v (history x)) (mine.0, mine.1, (refl, ph.1.2))
+          each = seats (IsPassAt (out id) r.h r.owner r.who) s.views id (holding v (history x)) (mine.0, mine.1, (refl, ph.1.2))
               (λ j d other e. let ok = r.each j d e in (ok.0, ok.1, others_stage r.place (out id) r.h r.h j d.stage not_fresh (not_out j) ok.2));
         },
         ((λ _. (x, refl, subst (λ (h : List EntryValue). CoversHalf h v.own) (sym ph.1.2) mine.0.0, subst (λ (h : List EntryValue). CoversHalf h v.guest) (sym ph.1.2) mine.1.0)), λ n. absurd (n refl)),
@@ -117,88 +121,81 @@ module _ {S : Type 0} (history : S → List EntryValue) where
       × Rule (stepped (record { words = ws; homes = hs; views = views }) 0 0 id c w a)
       × releasing history (step slots 0 0 0 none) (v, c) 0 (w, carried_after c a)
 
-  fits_nobody : (h : List EntryValue) (owner : ℕ → ℕ × Bool) (j : ℕ) (side : Bool) → HalfFits h owner j side clientless
-  fits_nobody h owner j side = (((h, refl), λ c e. absurd (cc)), λ c e. absurd (cc))
+  fits_nobody : (h : List EntryValue) (owner : ℕ → ℕ × Bool) (who : Opener) (j : ℕ) (side : Bool) → HalfFits h owner who j side clientless
+  fits_nobody h owner who j side = (((h, refl), (λ c e. absurd (cc)), (λ e. absurd (cc))), (λ c e. absurd (cc)), tt)
 
   abbrev first_of : Option S → List (ℕ × Option S) → Option S
   first_of d [] = d
   first_of d (z ∷ zs) = z.1
 
-  gives_rule : (views : List View) (h xs : List EntryValue) (owner : ℕ → ℕ × Bool) (id : ℕ) (v : View) (x : S) → ((j : ℕ) (d : View) → get_elem? views j ≡ some d → IsPassAt (out id) h owner j d)
-      → get_elem? views id ≡ some v → MayAddAll v.own.client xs → OpensOnce (h ++ xs) → history x ≡ h ++ xs
-      → Rule record { words = 0 ∷ []; homes = some (Some x) ∷ []; views = set views id (record { own = half (h ++ xs) (client_after v.own.client xs); guest = half (h ++ xs) v.guest.client; stage = Idle }) }
-  gives_rule views h xs owner id v x each at own once is =
+  gives_rule : (views : List View) (h xs : List EntryValue) (owner : ℕ → ℕ × Bool) (who : Opener) (id : ℕ) (v : View) (x : S) → ((j : ℕ) (d : View) → get_elem? views j ≡ some d → IsPassAt (out id) h owner who j d)
+      → get_elem? views id ≡ some v → MayAddAll v.own.client v.own.opens xs → OpensOnce (h ++ xs) → history x ≡ h ++ xs
+      → Rule record { words = 0 ∷ []; homes = some (Some x) ∷ []; views = set views id (record { own = half (h ++ xs) (client_after v.own.client xs) v.own.opens; guest = half (h ++ xs) v.guest.client v.guest.opens; stage = Idle }) }
+  gives_rule views h xs owner who id v x each at own once is =
       let mine = each id v at in
       let c : Option ℕ = client_after v.own.client xs in
-      let guest_stays = fits_on h xs owner id id false v.own.client v.guest (λ d e. (mine.0.1 d e).1) own once (no_side id id) mine.1 in
+      let still : (j : ℕ) (side : Bool) (u : Half) → (half_of j side ≡ half_of id true → ⊥) → HalfFits h owner who j side u → HalfFits (h ++ xs) (owns owner (id, true) c) who j side u
+      = λ j side u. fits_on h xs owner who id j side v.own.client v.own.opens u (λ k i. (mine.0.1 k i).1) mine.0.2 own once in
+      let guest_stays = still id false v.guest (no_side id id) mine.1 in
       record {
         h = h ++ xs;
         place = home;
         owner = owns owner (id, true) c;
+        who = who;
         is_at = (refl, (x, refl, is));
-        each = seats (IsPassAt home (h ++ xs) (owns owner (id, true) c)) views id (record { own = half (h ++ xs) c; guest = half (h ++ xs) v.guest.client; stage = Idle }) (
+        each = seats (IsPassAt home (h ++ xs) (owns owner (id, true) c) who) views id (record { own = half (h ++ xs) c v.own.opens; guest = half (h ++ xs) v.guest.client v.guest.opens; stage = Idle }) (
           (
-            (extends-same (h ++ xs), λ d e. refl),
-            λ d e. (
-              ⊎_elim (λ (a : v.own.client ≡ Some d). let had = opened-in d h v.own.seen mine.0.0.0 (mine.0.1 d a).0 in omega (arith, openings-append d h xs)) (λ (b : 0 < openings d xs). omega (arith, openings-append d h xs)) (was_or_opened d v.own.client xs own e),
+            (extends-same (h ++ xs), (λ d e. refl), (λ e. refl)),
+            (λ d e. (
+              ⊎_elim (λ (a : v.own.client ≡ Some d). let had = opened-in d h v.own.seen mine.0.0.0 (mine.0.1 d a).0 in omega (arith, openings-append d h xs)) (λ (b : 0 < openings d xs). omega (arith, openings-append d h xs)) (was_or_opened v.own.opens d v.own.client xs own e),
               owns_mine owner (id, true) c d e,
-            ),
+            )),
+            mine.0.2,
           ),
-          ((extends-same (h ++ xs), λ d e. refl), λ d e. let t = guest_stays.1 d e in (opened-in d (h ++ xs) v.guest.seen guest_stays.0.0 t.0, t.1)),
+          ((extends-same (h ++ xs), (λ d e. refl), (λ e. refl)), (λ d e. let t = guest_stays.1 d e in (opened-in d (h ++ xs) v.guest.seen guest_stays.0.0 t.0, t.1)), guest_stays.2),
           tt,
         )
             (λ j d other e. let ok = each j d e in (
-              fits_on h xs owner id j true v.own.client d.own (λ k i. (mine.0.1 k i).1) own once (λ (i : half_of j true ≡ half_of id true). other (same_seat j id true true i)) ok.0,
-              fits_on h xs owner id j false v.own.client d.guest (λ k i. (mine.0.1 k i).1) own once (no_side j id) ok.1,
+              still j true d.own (λ (i : half_of j true ≡ half_of id true). other (same_seat j id true true i)) ok.0,
+              still j false d.guest (no_side j id) ok.1,
               others_stage (out id) home h (h ++ xs) j d.stage (λ i. cc) (λ i. other (cc)) ok.2,
             ));
       }
 
-  pub gives_for : (slots id : ℕ) (me : Sitting S) (x : S) (h : List EntryValue) → me.1 ≡ (0, Some x) ∷ [] → me.0.stage ≡ Holding h → MayGive me.0.own.client h (history x) → OpensOnce (history x)
+  pub gives_for : (slots id : ℕ) (me : Sitting S) (x : S) (h : List EntryValue) → me.1 ≡ (0, Some x) ∷ [] → me.0.stage ≡ Holding h → MayGive me.0.own.client me.0.own.opens h (history x) → OpensOnce (history x)
       → Allows Rule slots id me 0 (λ _. 0) (λ _. releasing history (step slots 0 0 0 none) me 0)
   gives_for slots id me x h carried holds grows once s r _ at _ =
       let v = me.0 in
       let mine = r.each id v at in
       let ok : IsStage r.place r.h id (Holding h) = subst (IsStage r.place r.h id) holds mine.2 in
       let ph : IsAt history s.words s.homes s.views r.h (out id) = subst (IsAt history s.words s.homes s.views r.h) ok.0 r.is_at in
-      let each : (j : ℕ) (d : View) → get_elem? s.views j ≡ some d → IsPassAt (out id) h r.owner j d = subst (λ (z : StatePlace × List EntryValue). (j : ℕ) (d : View) → get_elem? s.views j ≡ some d → IsPassAt z.0 z.1 r.owner j d) (λ i. (ok.0 i, sym ok.1 i)) r.each in
+      let each : (j : ℕ) (d : View) → get_elem? s.views j ≡ some d → IsPassAt (out id) h r.owner r.who j d = subst (λ (z : StatePlace × List EntryValue). (j : ℕ) (d : View) → get_elem? s.views j ≡ some d → IsPassAt z.0 z.1 r.owner r.who j d) (λ i. (ok.0 i, sym ok.1 i)) r.each in
       let once' : OpensOnce (h ++ grows.0) = subst OpensOnce grows.1 once in
-      let w : View = record { own = half (h ++ grows.0) (client_after v.own.client grows.0); guest = half (h ++ grows.0) v.guest.client; stage = Idle } in
+      let w : View = record { own = half (h ++ grows.0) (client_after v.own.client grows.0) v.own.opens; guest = half (h ++ grows.0) v.guest.client v.guest.opens; stage = Idle } in
       let is : w ≡ given v h (history x) = let added : grows.0 ≡ drop (length h) (history x) = sym (drop-prefix h grows.0) ∙ ap (drop (length h)) (sym grows.1) in
-      λ i. record { own = half (sym grows.1 i) (client_after v.own.client (added i)); guest = half (sym grows.1 i) v.guest.client; stage = Idle } in
+      λ i. record { own = half (sym grows.1 i) (client_after v.own.client (added i)) v.own.opens; guest = half (sym grows.1 i) v.guest.client v.guest.opens; stage = Idle } in
       let Goal : List (ℕ × Option S) × (List ℕ × Homes) → Type 0 = λ z. StoresAt slots id v z.0 s.views z.1.0 z.1.1 in
       let done : StoresAt slots id v ((0, Some x) ∷ []) s.views (1 ∷ []) (none ∷ []) = (
         w,
         gives,
         tt,
-        gives_rule s.views h grows.0 r.owner id v x each at grows.2 once' grows.1,
+        gives_rule s.views h grows.0 r.owner r.who id v x each at grows.2 once' grows.1,
         λ y g c' st. let some_same : Some x ≡ Some y = ap (first_of (Some x)) c' in let same : x ≡ y = cc in let same_h : h ≡ g = let e = sym holds ∙ st in (cc) in λ i. (let e2 : w ≡ given v g (history y) = is ∙ (λ k. given v (same_h k) (history (same k))) in e2 i, []),
       ) in
       subst Goal (λ i. (sym carried i, (sym ph.0 i, sym ph.1 i))) done
 
   -- the first pass puts the state in
-  sets_rule : (s : St) (r : Rule s) (id : ℕ) (v : View) (x : S) → get_elem? s.views id ≡ some v → r.place ≡ not_in → s.views ≡ newcomer ∷ [] → r.h ≡ []
-      → Rule record { words = 1 ∷ []; homes = none ∷ []; views = set s.views id (holding v (history x)) }
-  sets_rule s r id v x at is one empty =
-      let fits : (j : ℕ) (side : Bool) (u : Half) → HalfFits r.h r.owner j side u → HalfFits (history x) r.owner j side u = λ j side u f. (
-        (
-          (history x, let e : u.seen ≡ [] = prefix_of_nothing u.seen f.0.0.0 (sym empty ∙ f.0.0.1) in ap (λ z. z ++ history x) (sym e)),
-          λ d e. absurd (let n : 0 < openings d [] = subst (λ z. 0 < openings d z) (prefix_of_nothing u.seen f.0.0.0 (sym empty ∙ f.0.0.1)) (f.1 d e).0 in omega arith),
-        ),
-        λ d e. absurd (let n : 0 < openings d [] = subst (λ z. 0 < openings d z) (prefix_of_nothing u.seen f.0.0.0 (sym empty ∙ f.0.0.1)) (f.1 d e).0 in omega arith),
-      ) in
-      let mine = r.each id v at in record {
-        h = history x;
-        place = out id;
-        owner = r.owner;
-        is_at = (refl, refl, (holding v (history x), set_at s.views id (holding v (history x)) v at, refl));
-        each = seats (IsPassAt (out id) (history x) r.owner) s.views id (holding v (history x)) (fits id true v.own mine.0, fits id false v.guest mine.1, (refl, refl))
-            (λ j d other e. let ok = r.each j d e in (
-              fits j true d.own ok.0,
-              fits j false d.guest ok.1,
-              others_stage r.place (out id) r.h (history x) j d.stage (λ i. other ((only s.views one j d e).0 ∙ sym (only s.views one id v at).0)) (λ i. let k = sym is ∙ i in (cc)) ok.2,
-            ));
-      }
+  sets_rule : (s : St) (r : Rule s) (id : ℕ) (v : View) (x : S) → get_elem? s.views id ≡ some v → s.views ≡ newcomer ∷ [] → Rule record { words = 1 ∷ []; homes = none ∷ []; views = set s.views id (beginning (history x)) }
+  sets_rule s r id v x at one = record {
+    h = history x;
+    place = out id;
+    owner = r.owner;
+    who = alone (id, true);
+    is_at = (refl, refl, (beginning (history x), set_at s.views id (beginning (history x)) v at, refl));
+    each = seats (IsPassAt (out id) (history x) r.owner (alone (id, true))) s.views id (beginning (history x))
+        (((extends-same (history x), (λ c e. refl), (λ e. refl)), (λ c e. absurd (cc)), refl), fits_nobody (history x) r.owner (alone (id, true)) id false, (refl, refl))
+        (λ j d other e. absurd (other ((only s.views one j d e).0 ∙ sym (only s.views one id v at).0)));
+  }
 
   abbrev SetsAt : (slots id : ℕ) (v : View) (x : S) (c : List (ℕ × Option S)) (views : List View) → List ℕ → Homes → Type 0
   SetsAt slots id v x c views ws hs = (w : View) × (a : Act (Option S)) × Valid hs c a
@@ -212,16 +209,16 @@ module _ {S : Type 0} (history : S → List EntryValue) where
       let ok : r.place ≡ not_in = subst (IsStage r.place r.h id) is_fresh mine.2 in
       let ph : IsAt history s.words s.homes s.views r.h not_in = subst (IsAt history s.words s.homes s.views r.h) ok r.is_at in
       let done : SetsAt slots id v x me.1 s.views (2 ∷ []) (some None ∷ []) = (
-        holding v (history x),
+        beginning (history x),
         takes 0 None,
         refl,
-        sets_rule s r id v x at ok ph.2 ph.3,
-        λ y said st. let same : x ≡ y = cc in (refl, λ i. (holding v (history (same i)), (0, None) ∷ me.1)),
+        sets_rule s r id v x at ph.2,
+        λ y said st. let same : x ≡ y = cc in (refl, λ i. (beginning (history (same i)), (0, None) ∷ me.1)),
       ) in
       subst (λ (z : List ℕ × Homes). SetsAt slots id v x me.1 s.views z.0 z.1) (λ i. (sym ph.0 i, sym ph.1 i)) done
 
-  seats_one : (j : ℕ) (d : View) → get_elem? (newcomer ∷ []) j ≡ some d → IsPassAt not_in [] (λ _. (0, true)) j d
-  seats_one Rattle.std.proofs.Common.zero d e = subst (IsPassAt not_in [] (λ _. (0, true)) 0) (some-injective newcomer d e) (fits_nobody [] (λ _. (0, true)) 0 true, fits_nobody [] (λ _. (0, true)) 0 false, refl)
+  seats_one : (j : ℕ) (d : View) → get_elem? (newcomer ∷ []) j ≡ some d → IsPassAt not_in [] (λ _. (0, true)) anyone j d
+  seats_one Rattle.std.proofs.Common.zero d e = subst (IsPassAt not_in [] (λ _. (0, true)) anyone 0) (some-injective newcomer d e) (fits_nobody [] (λ _. (0, true)) anyone 0 true, fits_nobody [] (λ _. (0, true)) anyone 0 false, refl)
   seats_one (Rattle.std.proofs.Common.suc j) d e = absurd (some-ne-none d (sym e))
 
   pub starts : Rule (opening (2 ∷ []) (None ∷ []) newcomer)
@@ -229,31 +226,42 @@ module _ {S : Type 0} (history : S → List EntryValue) where
     h = [];
     place = not_in;
     owner = λ _. (0, true);
+    who = anyone;
     is_at = (refl, refl, refl, refl);
     each = seats_one;
   }
 
-  -- a pass is cut in two
-  pub cuts_for : (id : ℕ) (v : View) → v.stage ≡ Idle → Splits Rule id v v (with_no_client v)
-  cuts_for id v idle s r at =
+  -- a pass is cut in two, and its right is parted
+  pub cuts_for : (o p : Opens) (id : ℕ) (v : View) → CanPart v.own.opens o p → (o ≡ Alone → v.own.opens ≡ Alone) → (p ≡ Alone → v.own.opens ≡ Alone) → v.stage ≡ Idle → Splits Rule id v (with_right o v) (with_no_client p v)
+  cuts_for o p id v part left right idle s r at =
       let mine = r.each id v at in
-      subst (λ (vs : List View). Rule record { words = s.words; homes = s.homes; views = vs ++ with_no_client v ∷ [] }) (sym (set_again s.views id v at)) record {
+      let vs = set s.views id (with_right o v) in
+      let n : ℕ = length vs in
+      let moved = part r.who (id, true) (n, true) mine.0.2 in
+      let still : (j : ℕ) (side : Bool) (u : Half) → (half_of j side ≡ half_of id true → ⊥) → HalfFits r.h r.owner r.who j side u → HalfFits r.h r.owner moved.who j side u = λ j side u other f. (f.0, f.1, moved.others (j, side) u.opens other f.2) in
+      record {
         h = r.h;
         place = r.place;
         owner = r.owner;
-        is_at = at_one_more s.words s.homes s.views r.h id v (with_no_client v) at idle r.place r.is_at;
-        each = λ j d e. ⊎_elim (λ (a : get_elem? s.views j ≡ some d). r.each j d a)
-            (λ (a : (j ≡ length s.views) × (with_no_client v ≡ d)). subst (IsPassAt r.place r.h r.owner j) a.1 (((mine.0.0.0, λ c i. absurd (cc)), λ c i. absurd (cc)), fits_nobody r.h r.owner j false, tt)) (at_snoc_place s.views (with_no_client v) d j e);
+        who = moved.who;
+        is_at = at_one_more s.words s.homes vs r.h id (with_right o v) (with_no_client p v) (set_at s.views id (with_right o v) v at) idle r.place (at_another s.words s.homes s.views r.h id v (with_right o v) at idle r.place r.is_at);
+        each = λ j d e. ⊎_elim
+            (λ (a : get_elem? vs j ≡ some d). seats (IsPassAt r.place r.h r.owner moved.who) s.views id (with_right o v)
+            (((mine.0.0.0, mine.0.0.1, (λ i. mine.0.0.2 (left i))), mine.0.1, moved.first), still id false v.guest (no_side id id) mine.1, mine.2)
+            (λ k u other b. let ok = r.each k u b in (still k true u.own (λ i. other (same_seat k id true true i)) ok.0, still k false u.guest (no_side k id) ok.1, ok.2)) j d a)
+            (λ (a : (j ≡ n) × (with_no_client p v ≡ d)). subst (λ (z : ℕ × View). IsPassAt r.place r.h r.owner moved.who z.0 z.1) (λ i. (sym a.0 i, a.1 i))
+            (((mine.0.0.0, (λ c i. absurd (cc)), (λ i. mine.0.0.2 (right i))), (λ c i. absurd (cc)), moved.second), fits_nobody r.h r.owner moved.who n false, tt))
+            (at_snoc_place vs (with_no_client p v) d j e);
       }
 
-  -- a half that is another than the one that moves keeps its owner
-  keeps_owner : (h : List EntryValue) (owner : ℕ → ℕ × Bool) (at : ℕ × Bool) (c : Option ℕ) (from : ℕ × Bool) → ((d : ℕ) → c ≡ Some d → owner d ≡ from) → (j : ℕ) (side : Bool) (v : Half) → (half_of j side ≡ from → ⊥)
-      → HalfFits h owner j side v → HalfFits h (owns owner at c) j side v
-  keeps_owner h owner at c from was j side v disjoint' f = fits_still h owner j side v at c (λ d is e. disjoint' (sym (f.1 d is).1 ∙ was d e)) f
+  -- a half that is another than the one that moves keeps its owner and its right
+  keeps_half : (h : List EntryValue) (owner : ℕ → ℕ × Bool) (was who : Opener) (at : ℕ × Bool) (c : Option ℕ) (from : ℕ × Bool) → ((d : ℕ) → c ≡ Some d → owner d ≡ from) → ((at : Owner) (p : Opens) → (at ≡ from → ⊥) → HasRight was at p → HasRight who at p)
+      → (j : ℕ) (side : Bool) (v : Half) → (half_of j side ≡ from → ⊥) → HalfFits h owner was j side v → HalfFits h (owns owner at c) who j side v
+  keeps_half h owner was who at c from had others j side v disjoint' f = let t = fits_still h owner was j side v at c (λ d is e. disjoint' (sym (f.1 d is).1 ∙ had d e)) f in (t.0, t.1, others (j, side) v.opens disjoint' f.2)
 
   -- a half moves to another pass, or to its other side
-  moves_owner : (h : List EntryValue) (owner : ℕ → ℕ × Bool) (j k : ℕ) (side to : Bool) (v : Half) → HalfFits h owner j side v → HalfFits h (owns owner (k, to) v.client) k to v
-  moves_owner h owner j k side to v f = (f.0, λ d is. ((f.1 d is).0, owns_mine owner (k, to) v.client d is))
+  moves_half : (h : List EntryValue) (owner : ℕ → ℕ × Bool) (was who : Opener) (j k : ℕ) (side to : Bool) (v : Half) → HasRight who (k, to) v.opens → HalfFits h owner was j side v → HalfFits h (owns owner (k, to) v.client) who k to v
+  moves_half h owner was who j k side to v right f = (f.0, (λ d is. ((f.1 d is).0, owns_mine owner (k, to) v.client d is)), right)
 
   -- two passes that met part
   pub parts_for : (id : ℕ) (v : View) → v.stage ≡ Idle → Splits Rule id v (own_of v) (guest_of v)
@@ -262,17 +270,20 @@ module _ {S : Type 0} (history : S → List EntryValue) where
       let vs = set s.views id (own_of v) in
       let n : ℕ = length vs in
       let to : ℕ → ℕ × Bool = owns r.owner (n, true) v.guest.client in
+      let moved = passes_on v.guest.opens r.who (id, false) (n, true) mine.1.2 in
       let was : (d : ℕ) → v.guest.client ≡ Some d → r.owner d ≡ (id, false) = λ d i. (mine.1.1 d i).1 in
-      let still : (j : ℕ) (side : Bool) (u : Half) → (half_of j side ≡ (id, false) → ⊥) → HalfFits r.h r.owner j side u → HalfFits r.h to j side u = keeps_owner r.h r.owner (n, true) v.guest.client (id, false) was in
+      let still : (j : ℕ) (side : Bool) (u : Half) → (half_of j side ≡ (id, false) → ⊥) → HalfFits r.h r.owner r.who j side u → HalfFits r.h to moved.who j side u = keeps_half r.h r.owner r.who moved.who (n, true) v.guest.client (id, false) was moved.others in
       record {
         h = r.h;
         place = r.place;
         owner = to;
+        who = moved.who;
         is_at = at_one_more s.words s.homes vs r.h id (own_of v) (guest_of v) (set_at s.views id (own_of v) v at) idle r.place (at_another s.words s.homes s.views r.h id v (own_of v) at idle r.place r.is_at);
         each = λ j d e. ⊎_elim
-            (λ (a : get_elem? vs j ≡ some d). seats (IsPassAt r.place r.h to) s.views id (own_of v) (still id true v.own (no_side' id id) mine.0, fits_nobody r.h to id false, mine.2)
+            (λ (a : get_elem? vs j ≡ some d). seats (IsPassAt r.place r.h to moved.who) s.views id (own_of v) (still id true v.own (no_side' id id) mine.0, fits_nobody r.h to moved.who id false, mine.2)
             (λ k u other b. let ok = r.each k u b in (still k true u.own (no_side' k id) ok.0, still k false u.guest (λ i. other (same_seat k id false false i)) ok.1, ok.2)) j d a)
-            (λ (a : (j ≡ n) × (guest_of v ≡ d)). subst (λ (z : ℕ × View). IsPassAt r.place r.h to z.0 z.1) (λ i. (sym a.0 i, a.1 i)) (moves_owner r.h r.owner id n false true v.guest mine.1, fits_nobody r.h to n false, tt))
+            (λ (a : (j ≡ n) × (guest_of v ≡ d)). subst (λ (z : ℕ × View). IsPassAt r.place r.h to moved.who z.0 z.1) (λ i. (sym a.0 i, a.1 i))
+            (moves_half r.h r.owner r.who moved.who id n false true v.guest moved.second mine.1, fits_nobody r.h to moved.who n false, tt))
             (at_snoc_place vs (guest_of v) d j e);
       }
 
@@ -283,15 +294,17 @@ module _ {S : Type 0} (history : S → List EntryValue) where
       let mine = r.each id v at in
       let theirs = r.each other w at_other in
       let to : ℕ → ℕ × Bool = owns r.owner (id, false) w.own.client in
+      let moved = passes_on w.own.opens r.who (other, true) (id, false) theirs.0.2 in
       let was : (d : ℕ) → w.own.client ≡ Some d → r.owner d ≡ (other, true) = λ d i. (theirs.0.1 d i).1 in
-      let still : (j : ℕ) (side : Bool) (u : Half) → (half_of j side ≡ (other, true) → ⊥) → HalfFits r.h r.owner j side u → HalfFits r.h to j side u = keeps_owner r.h r.owner (id, false) w.own.client (other, true) was in
+      let still : (j : ℕ) (side : Bool) (u : Half) → (half_of j side ≡ (other, true) → ⊥) → HalfFits r.h r.owner r.who j side u → HalfFits r.h to moved.who j side u = keeps_half r.h r.owner r.who moved.who (id, false) w.own.client (other, true) was moved.others in
       record {
         h = r.h;
         place = r.place;
         owner = to;
+        who = moved.who;
         is_at = at_another s.words s.homes (set s.views id (together v w)) r.h other w spent there other_idle r.place (at_another s.words s.homes s.views r.h id v (together v w) at idle r.place r.is_at);
-        each = seats (IsPassAt r.place r.h to) (set s.views id (together v w)) other spent (fits_nobody r.h to other true, fits_nobody r.h to other false, tt)
-            (λ j d not_other e. seats (λ (k : ℕ) (u : View). ¬ (k ≡ other) → IsPassAt r.place r.h to k u) s.views id (together v w)
-            (λ no_o. (still id true v.own (λ i. no_o (same_seat id other true true i)) mine.0, moves_owner r.h r.owner other id true false w.own theirs.0, mine.2))
+        each = seats (IsPassAt r.place r.h to moved.who) (set s.views id (together v w)) other spent (fits_nobody r.h to moved.who other true, fits_nobody r.h to moved.who other false, tt)
+            (λ j d not_other e. seats (λ (k : ℕ) (u : View). ¬ (k ≡ other) → IsPassAt r.place r.h to moved.who k u) s.views id (together v w)
+            (λ no_o. (still id true v.own (λ i. no_o (same_seat id other true true i)) mine.0, moves_half r.h r.owner r.who moved.who other id true false w.own moved.second theirs.0, mine.2))
             (λ k u not_id b no_o. let ok = r.each k u b in (still k true u.own (λ i. no_o (same_seat k other true true i)) ok.0, still k false u.guest (no_side k other) ok.1, ok.2)) j d e not_other);
       }

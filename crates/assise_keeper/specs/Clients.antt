@@ -1,12 +1,18 @@
 -- Whose entries a history has, and what a pass may add to it.
 use Rattle.std.specs.Prelude.{◌≡◌, ℕ, List, [], ◌∷◌, ◌++◌, filter, length, drop, Option, Some, None}
 use Rattle.assise_history.specs.Entries.{EntryValue, opens, calls, crashes, fails, returns}
-use Rattle.assise_history.specs.Legal.{is_call_of}
+use Rattle.assise_history.specs.Legal.{is_call_of, is_opening}
 use Rattle.assise_history.specs.Opened.{is_opening_of}
+use Rattle.assise_keeper.specs.declared.view.Opens.{Opens}
+use Rattle.assise_keeper.specs.declared.view.Opens.TheVariants.{Never, Alone, AmongOthers}
 
 -- how often the client was opened
 abbrev pub openings : ℕ → List EntryValue → ℕ
 openings c h = length (filter (is_opening_of c) h)
+
+-- the openings of a history, in order
+abbrev pub openings_of : List EntryValue → List EntryValue
+openings_of h = filter is_opening h
 
 -- the client's calls, in order
 abbrev pub calls_by : ℕ → List EntryValue → List EntryValue
@@ -21,7 +27,13 @@ calls_of (Some c) h = calls_by c h
 abbrev pub Extends : List EntryValue → List EntryValue → Type 0
 Extends h prefix = (more : List EntryValue) × (h ≡ prefix ++ more)
 
--- ---- what a pass may add: calls of its client; where it has none, the opening of one; and what is nobody's
+-- ---- what a pass may add: calls of its client; where it has none, the opening of one, if it has the right; and what is nobody's
+
+-- a pass with this right may open clients
+abbrev pub MayOpen : Opens → Type 0
+MayOpen Never = ⊥
+MayOpen Alone = Unit {0}
+MayOpen AmongOthers = Unit {0}
 
 -- the client of a pass that added the entry
 abbrev pub client_with : Option ℕ → EntryValue → Option ℕ
@@ -36,22 +48,22 @@ abbrev pub client_after : Option ℕ → List EntryValue → Option ℕ
 client_after c [] = c
 client_after c (e ∷ es) = client_after (client_with c e) es
 
--- a pass with this client, or none, may add the entry
-abbrev pub MayAdd : Option ℕ → EntryValue → Type 0
-MayAdd c (opens d n u) = c ≡ None
-MayAdd c (calls x) = c ≡ Some x.client
-MayAdd c (crashes d) = Unit {0}
-MayAdd c (fails n losses) = Unit {0}
-MayAdd c (returns n) = Unit {0}
+-- a pass with this client, or none, and this right may add the entry
+abbrev pub MayAdd : Option ℕ → Opens → EntryValue → Type 0
+MayAdd c o (opens d n u) = (c ≡ None) × MayOpen o
+MayAdd c o (calls x) = c ≡ Some x.client
+MayAdd c o (crashes d) = Unit {0}
+MayAdd c o (fails n losses) = Unit {0}
+MayAdd c o (returns n) = Unit {0}
 
 -- it may add the entries, one after another
-abbrev pub MayAddAll : Option ℕ → List EntryValue → Type 0
-MayAddAll c [] = Unit {0}
-MayAddAll c (e ∷ es) = MayAdd c e × MayAddAll (client_with c e) es
+abbrev pub MayAddAll : Option ℕ → Opens → List EntryValue → Type 0
+MayAddAll c o [] = Unit {0}
+MayAddAll c o (e ∷ es) = MayAdd c o e × MayAddAll (client_with c e) o es
 
 -- the history goes on from the one that was taken, by entries that the pass may add
-abbrev pub MayGive : Option ℕ → List EntryValue → List EntryValue → Type 0
-MayGive c taken h = (more : List EntryValue) × (h ≡ taken ++ more) × MayAddAll c more
+abbrev pub MayGive : Option ℕ → Opens → List EntryValue → List EntryValue → Type 0
+MayGive c o taken h = (more : List EntryValue) × (h ≡ taken ++ more) × MayAddAll c o more
 
 -- what a history has behind the one that was taken
 abbrev pub added : List EntryValue → List EntryValue → List EntryValue

@@ -2,6 +2,7 @@
 use Rattle.std.specs.Prelude.{◌≡◌, ℕ, List, [], ◌∷◌, Option, None}
 use Rattle.assise_history.specs.Entries.{EntryValue}
 use Rattle.assise_keeper.specs.declared.view.View.{View}
+use Rattle.assise_keeper.specs.declared.view.Opens.{Opens}
 use Rattle.assise_keeper.specs.declared.view.Stage.{Stage}
 use Rattle.assise_keeper.specs.declared.view.Stage.TheVariants.{Fresh, Idle, Holding}
 use Rattle.assise_keeper.specs.declared.pass.Pass.{Pass}
@@ -24,6 +25,10 @@ module _ {S : Type 0} where
   -- its client, if it has one
   abbrev pub client : Pass S → Option ℕ
   client p = p.seat.me.0.own.client
+
+  -- whether it may open clients
+  abbrev pub opens : Pass S → Opens
+  opens p = p.seat.me.0.own.opens
 
   -- the answered calls of its client, in order: exactly the client's calls in what the pass has seen
   abbrev pub mine : Pass S → List EntryValue

@@ -6,10 +6,12 @@ use lib.ListN.{get_elem?}
 use Rattle.atomic_table.specs.Table.{State}
 use Rattle.assise_history.specs.Entries.{EntryValue}
 use Rattle.assise_keeper.specs.declared.view.Half.{Half}
+use Rattle.assise_keeper.specs.declared.view.Opens.{Opens}
+use Rattle.assise_keeper.specs.declared.view.Opens.TheVariants.{Never, Alone, AmongOthers}
 use Rattle.assise_keeper.specs.declared.view.Stage.{Stage}
 use Rattle.assise_keeper.specs.declared.view.Stage.TheVariants.{Fresh, Idle, Holding}
 use Rattle.assise_keeper.specs.declared.view.View.{View}
-use Rattle.assise_keeper.specs.Clients.{openings, calls_by, Extends}
+use Rattle.assise_keeper.specs.Clients.{openings, openings_of, calls_by, Extends}
 use Rattle.assise_keeper.specs.Views.{newcomer}
 
 -- where the state is: not in yet, at home, or out with a pass
@@ -33,25 +35,37 @@ IsStage p h j Fresh = p ≡ not_in
 IsStage p h j Idle = Unit {0}
 IsStage p h j (Holding taken) = (p ≡ out j) × (taken ≡ h)
 
--- The history extends what was seen, and has no call of the client that wasn't seen.
+-- The history extends what was seen. It has no call of the client that wasn't seen, and no opening where the half alone may open.
 abbrev pub CoversHalf : List EntryValue → Half → Type 0
-CoversHalf h v = Extends h v.seen × ((c : ℕ) → v.client ≡ Some c → calls_by c h ≡ calls_by c v.seen)
+CoversHalf h v = Extends h v.seen × ((c : ℕ) → v.client ≡ Some c → calls_by c h ≡ calls_by c v.seen) × (v.opens ≡ Alone → openings_of h ≡ openings_of v.seen)
 
 -- Where a client is: with which pass, and whether with the pass itself (true) or with the one that it meets.
 abbrev pub Owner : Type 0
 Owner = ℕ × Bool
 
--- The half is covered; its client was opened in what was seen, and is with this half alone.
-abbrev pub HalfFits : List EntryValue → (ℕ → Owner) → ℕ → Bool → Half → Type 0
-HalfFits h owner pass side v = CoversHalf h v × ((c : ℕ) → v.client ≡ Some c → (0 < openings c v.seen) × (owner c ≡ (pass, side)))
+-- who may open clients: one half alone, or each that was given the right
+pub data Opener : Type 0 where
+  alone : Owner → Opener
+  anyone : Opener
 
-abbrev pub IsPassAt : StatePlace → List EntryValue → (ℕ → Owner) → ℕ → View → Type 0
-IsPassAt p h owner j v = HalfFits h owner j true v.own × HalfFits h owner j false v.guest × IsStage p h j v.stage
+-- a half that is there may have this right
+abbrev pub HasRight : Opener → Owner → Opens → Type 0
+HasRight who at Never = Unit {0}
+HasRight who at Alone = who ≡ alone at
+HasRight who at AmongOthers = who ≡ anyone
+
+-- The half is covered; its client was opened in what was seen, and is with this half alone; and it may have its right.
+abbrev pub HalfFits : List EntryValue → (ℕ → Owner) → Opener → ℕ → Bool → Half → Type 0
+HalfFits h owner who pass side v = CoversHalf h v × ((c : ℕ) → v.client ≡ Some c → (0 < openings c v.seen) × (owner c ≡ (pass, side))) × HasRight who (pass, side) v.opens
+
+abbrev pub IsPassAt : StatePlace → List EntryValue → (ℕ → Owner) → Opener → ℕ → View → Type 0
+IsPassAt p h owner who j v = HalfFits h owner who j true v.own × HalfFits h owner who j false v.guest × IsStage p h j v.stage
 
 -- There is one history: that of the state at home, or as it was when it was taken. It covers what every pass knows.
 pub record IsKept {S : Type 0} (history : S → List EntryValue) (s : State (Option S) View) : Type 0 where
   pub h : List EntryValue
   pub place : StatePlace
   pub owner : ℕ → Owner
+  pub who : Opener
   pub is_at : IsAt history s.words s.homes s.views h place
-  pub each : (j : ℕ) (v : View) → get_elem? s.views j ≡ some v → IsPassAt place h owner j v
+  pub each : (j : ℕ) (v : View) → get_elem? s.views j ≡ some v → IsPassAt place h owner who j v

@@ -5,7 +5,7 @@ use Rattle.atomic_table.specs.Table.{Me, Step}
 use Rattle.assise_history.specs.Entries.{EntryValue}
 use Rattle.assise_keeper.specs.declared.view.Stage.TheVariants.{Fresh, Holding}
 use Rattle.assise_keeper.specs.declared.view.View.{View}
-use Rattle.assise_keeper.specs.Views.{holding, given}
+use Rattle.assise_keeper.specs.Views.{beginning, holding, given}
 use Rattle.assise_keeper.specs.Rule.{CoversHalf}
 
 -- a pass as the table sees it: its view, and the slot with what lies in it while the pass carries it
@@ -23,6 +23,6 @@ module _ {S : Type 0} (history : S → List EntryValue) where
   abbrev pub releasing : Step (Option S) → Sitting S → ℕ → Sitting S → Type 0
   releasing st m found m' = (x : S) (h : List EntryValue) → m.1 ≡ (0, Some x) ∷ [] → m.0.stage ≡ Holding h → m' ≡ (given m.0 h (history x), [])
 
-  -- from 2 to 1: the first pass carries the empty slot, and notes the history of the state that it is to put in
+  -- from 2 to 1: the first pass carries the empty slot, and has seen the history of the state that it is to put in
   abbrev pub setting_up : Step (Option S) → Sitting S → ℕ → Sitting S → Type 0
-  setting_up st m found m' = (x : S) → st.said ≡ some (Some x) → m.0.stage ≡ Fresh → (found ≡ 2) × (m' ≡ (holding m.0 (history x), (0, None) ∷ m.1))
+  setting_up st m found m' = (x : S) → st.said ≡ some (Some x) → m.0.stage ≡ Fresh → (found ≡ 2) × (m' ≡ (beginning (history x), (0, None) ∷ m.1))

@@ -4,7 +4,7 @@ ghost use Rattle.std.specs.Prelude.{◌≡◌};
 use crate::event_count::EventCount;
 use crate::held::Held;
 use crate::pass::Pass;
-use crate::steps::{Cut, Meet, OneHistory, Part, Release, SetUp, Take};
+use crate::steps::{Cut, Meet, OneHistory, Part, PassOn, Release, SetUp, Share, Take};
 use crate::view::View;
 use assise_history::growing::Growing;
 use assise_names::refusal::Refusal;
@@ -31,17 +31,19 @@ pub struct Keeper<S: Growing> {
 impl<S: Growing> Keeper<S> {
     ghost use Rattle.std.specs.Prelude.{◌≡◌, ℕ, Some, None, IsNone, IfSome, IfNone, IfOk, IfErr};
     ghost use Rattle.assise_names.specs.declared.refusal.Refusal.TheVariants.{OutOfMemory};
-    ghost use Rattle.assise_keeper.specs.Clients.{Extends, calls_of, MayGive, client_after, added};
+    ghost use Rattle.assise_keeper.specs.declared.view.Opens.TheVariants.{Never, Alone, AmongOthers};
+    ghost use Rattle.assise_keeper.specs.Clients.{Extends, calls_of, openings_of, MayGive, MayOpen, client_after, added};
     ghost use Rattle.assise_keeper.specs.Views.{holding, given};
     ghost use Rattle.assise_keeper.specs.Rule.{CoversHalf};
-    ghost use Rattle.assise_keeper.specs.Passes.{seen, client, mine, view, taken, IsPassOf, IsHolding, IsHoldingThis, IsFirst};
+    ghost use Rattle.assise_keeper.specs.Passes.{seen, client, mine, opens, view, taken, IsPassOf, IsHolding, IsHoldingThis, IsFirst};
 
-    /// Keeps the state, and gives the first pass, which has seen the state's whole history and has no client. Where
-    /// there is no memory the state comes back with [`Refusal::OutOfMemory`].
+    /// Keeps the state, and gives the first pass, which has seen the state's whole history, has no client, and alone may open clients.
+    /// Where there is no memory the state comes back with [`Refusal::OutOfMemory`].
     pub fn new(alloc: Global, state: S) -> Result<(Keeper<S>, Pass<S>), (Refusal, S)>
         ensures pass { IfOk result (λ made. IsPassOf made.0 made.1) }
         ensures seen { IfOk result (λ made. (seen made.1 ≡ S.history state) ×
             (client made.1 ≡ None)) }
+        ensures alone { IfOk result (λ made. opens made.1 ≡ Alone) }
         ensures refused { IfErr result (λ refused. refused ≡ (OutOfMemory, state)) }
     {
         let Ok((table, seat)) = Table::vacant(alloc, &[2], 1, &()) else {
@@ -58,9 +60,9 @@ impl<S: Growing> Keeper<S> {
 
     // The state goes in for the first time.
     fn set_up(&self, pass: &mut Pass<S>, state: S)
-        requires { IsFirst self.now pass.old × (client pass.old ≡ None) }
+        requires { IsFirst self.now pass.old }
         ensures { IsPassOf self.now pass.new × (seen pass.new ≡ S.history state) ×
-            (client pass.new ≡ None) }
+            (client pass.new ≡ None) × (opens pass.new ≡ Alone) }
     {
         let full = Some(state);
         self.table
@@ -73,7 +75,8 @@ impl<S: Growing> Keeper<S> {
     // The state goes back.
     fn put(&self, pass: &mut Pass<S>, state: S)
         requires holding { IsHolding self.now pass.old }
-        requires grows { MayGive (client pass.old) (taken pass.old) (S.history state) }
+        requires grows { MayGive (client pass.old) (opens pass.old)
+            (taken pass.old) (S.history state) }
         ensures free { IsPassOf self.now pass.new }
         ensures view { view pass.new ≡ given (view pass.old) (taken pass.old) (S.history state) }
     {
@@ -126,46 +129,85 @@ impl<S: Growing> Keeper<S> {
         unreachable!()
     }
 
-    /// Waits until the state is there, and takes it. Its history extends what the pass has seen, and has no call of
-    /// the pass's client that the pass hadn't seen.
+    /// Waits until the state is there, and takes it. Its history extends what the pass has seen. It has no call of the pass's client
+    /// that the pass hadn't seen, and no opening where the pass alone may open clients.
     pub fn take<R: Wait>(&self, rt: &R, pass: &mut Pass<S>) -> Held<S>
         requires { IsPassOf self.now pass.old }
         ensures holds { IsHolding self.now pass.new }
         ensures taken { taken pass.new ≡ S.history result }
         ensures same { (seen pass.new ≡ seen pass.old) × (client pass.new ≡ client pass.old) }
+        ensures right { opens pass.new ≡ opens pass.old }
         ensures extends { Extends (S.history result) (seen pass.old) }
         ensures mine { calls_of (client pass.old) (S.history result) ≡ mine pass.old }
+        ensures alone { opens pass.old ≡ Alone →
+            openings_of (S.history result) ≡ openings_of (seen pass.old) }
     {
         Held::of(self.get(rt, pass))
     }
 
     /// Gives the state back, and the pass has seen it. It waits for nobody and takes no memory. What was added to the
-    /// history is what the pass may add: calls of its own client, and the opening of one client where it has none.
+    /// history is what the pass may add: calls of its own client, and, with the right to, the opening of one client where it has none.
     pub fn give(&self, pass: &mut Pass<S>, held: Held<S>)
         requires holding { IsHolding self.now pass.old }
-        requires grows { MayGive (client pass.old) (taken pass.old) (S.history held) }
+        requires grows { MayGive (client pass.old) (opens pass.old)
+            (taken pass.old) (S.history held) }
         ensures free { IsPassOf self.now pass.new }
         ensures seen { seen pass.new ≡ S.history held }
         ensures client { client pass.new ≡ client_after (client pass.old)
             (added (taken pass.old) (S.history held)) }
+        ensures right { opens pass.new ≡ opens pass.old }
     {
         self.put(pass, held.into_state());
     }
 
-    /// A pass that has seen the same and has no client.
+    /// A pass that has seen the same, has no client and may not open any.
     pub fn split(&self, pass: &mut Pass<S>) -> Pass<S>
         requires { IsPassOf self.now pass.old }
         ensures pass { IsPassOf self.now pass.new }
         ensures same { (seen pass.new ≡ seen pass.old) × (client pass.new ≡ client pass.old) }
+        ensures right { opens pass.new ≡ opens pass.old }
         ensures new { IsPassOf self.now result }
         ensures as_seen { (seen result ≡ seen pass.old) × (client result ≡ None) }
+        ensures opens_none { opens result ≡ Never }
     {
         Pass {
             seat: self.table.shared.split_seat::<Cut>(&mut pass.seat),
         }
     }
 
-    /// Lets two passes see the same: one history, which extends what each had seen. It waits until the state is there.
+    /// A pass that has seen the same, has no client and has the right that this one had, which may open no clients from then on.
+    pub fn split_opener(&self, pass: &mut Pass<S>) -> Pass<S>
+        requires { IsPassOf self.now pass.old }
+        ensures pass { IsPassOf self.now pass.new }
+        ensures same { (seen pass.new ≡ seen pass.old) × (client pass.new ≡ client pass.old) }
+        ensures opens_none { opens pass.new ≡ Never }
+        ensures new { IsPassOf self.now result }
+        ensures as_seen { (seen result ≡ seen pass.old) × (client result ≡ None) }
+        ensures right { opens result ≡ opens pass.old }
+    {
+        Pass {
+            seat: self.table.shared.split_seat::<PassOn>(&mut pass.seat),
+        }
+    }
+
+    /// A pass that has seen the same, has no client and may open clients, as this one may, and others. It is for threads that open
+    /// clients themselves: none of them knows that nobody else opened one.
+    pub fn split_sharing(&self, pass: &mut Pass<S>) -> Pass<S>
+        requires pass { IsPassOf self.now pass.old }
+        requires right { MayOpen (opens pass.old) }
+        ensures pass { IsPassOf self.now pass.new }
+        ensures same { (seen pass.new ≡ seen pass.old) × (client pass.new ≡ client pass.old) }
+        ensures new { IsPassOf self.now result }
+        ensures as_seen { (seen result ≡ seen pass.old) × (client result ≡ None) }
+        ensures shared { (opens pass.new ≡ AmongOthers) × (opens result ≡ AmongOthers) }
+    {
+        Pass {
+            seat: self.table.shared.split_seat::<Share>(&mut pass.seat),
+        }
+    }
+
+    /// Lets two passes see the same: one history, which extends what each had seen. It waits until the state is there. Each keeps its
+    /// client and its right.
     pub fn meet<R: Wait>(&self, rt: &R, first: Pass<S>, second: Pass<S>) -> (Pass<S>, Pass<S>)
         requires { IsPassOf self.now first × IsPassOf self.now second }
         ensures free { IsPassOf self.now result.0 × IsPassOf self.now result.1 }
@@ -175,6 +217,11 @@ impl<S: Growing> Keeper<S> {
         ensures second { Extends (seen result.1) (seen second) × (client result.1 ≡ client second) }
         ensures calls_of_first { mine result.0 ≡ mine first }
         ensures calls_of_second { mine result.1 ≡ mine second }
+        ensures rights { (opens result.0 ≡ opens first) × (opens result.1 ≡ opens second) }
+        ensures first_alone { opens first ≡ Alone →
+            openings_of (seen result.0) ≡ openings_of (seen first) }
+        ensures second_alone { opens second ≡ Alone →
+            openings_of (seen result.1) ≡ openings_of (seen second) }
     {
         let mut both = first;
         let Pass { seat } = second;
@@ -194,6 +241,8 @@ impl<S: Growing> Keeper<S> {
             CoversHalf (view pass.new).own.seen (view pass.old).own }
         ensures guest { ((view pass.new).guest.client ≡ (view pass.old).guest.client) ×
             CoversHalf (view pass.new).guest.seen (view pass.old).guest }
+        ensures rights { ((view pass.new).own.opens ≡ (view pass.old).own.opens) ×
+            ((view pass.new).guest.opens ≡ (view pass.old).guest.opens) }
         ensures one { (view pass.new).own.seen ≡ (view pass.new).guest.seen }
         ensures known { (state : S) × ((view pass.new).own.seen ≡ S.history state) }
     {

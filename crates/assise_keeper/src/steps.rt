@@ -1,6 +1,7 @@
 // The rule of a keeper, and what each step tells the thread that makes it.
+ghost use Rattle.assise_keeper.specs.declared.view.Opens.TheVariants.{Never, AmongOthers};
 ghost use Rattle.assise_keeper.specs.Rule.{IsKept};
-ghost use Rattle.assise_keeper.specs.Views.{newcomer, spent, together, with_no_client, own_of, guest_of};
+ghost use Rattle.assise_keeper.specs.Views.{newcomer, spent, together, with_right, with_no_client, own_of, guest_of};
 ghost use Rattle.assise_keeper.specs.Steps.{taking, releasing, setting_up};
 
 use crate::view::View;
@@ -33,13 +34,31 @@ impl<S: Growing> Play<Option<S>, View> for SetUp {
     ghost then = { setting_up S.history };
 }
 
-// A pass is cut in two.
+// A pass is cut in two, and keeps its right.
 pub(crate) struct Cut;
 
 impl Split<View> for Cut {
     ghost left = { λ v. v };
 
-    ghost right = { with_no_client };
+    ghost right = { with_no_client Never };
+}
+
+// A pass is cut in two, and passes its right on.
+pub(crate) struct PassOn;
+
+impl Split<View> for PassOn {
+    ghost left = { with_right Never };
+
+    ghost right = { λ v. with_no_client v.own.opens v };
+}
+
+// A pass is cut in two, and both may open clients.
+pub(crate) struct Share;
+
+impl Split<View> for Share {
+    ghost left = { with_right AmongOthers };
+
+    ghost right = { with_no_client AmongOthers };
 }
 
 // One pass taking another in.

@@ -2,12 +2,24 @@
 use assise_history::entry::Entry;
 use std::collections::LinkedList;
 
-/// What was seen of the history, and the client whose calls are known.
+/// Whether a pass may open clients.
+pub enum Opens {
+    /// It may not.
+    Never,
+    /// It may, and no other pass may: so it has seen all openings.
+    Alone,
+    /// It may, and so may others.
+    AmongOthers,
+}
+
+/// What was seen of the history, the client whose calls are known, and the right to open one.
 pub struct Half {
     /// A prefix of the history.
     pub seen: LinkedList<Entry>,
     /// The client, if there is one.
     pub client: Option<u32>,
+    /// Whether it may open clients.
+    pub opens: Opens,
 }
 
 /// Whether a pass holds the state.
@@ -22,7 +34,7 @@ pub enum Stage {
 
 /// What a pass knows: its own half, while two passes meet the other's half too, and whether it holds the state.
 pub struct View {
-    /// What the pass itself has seen, and its client.
+    /// What the pass itself has seen, its client and its right.
     pub own: Half,
     /// The same of the pass that it meets.
     pub guest: Half,

@@ -12,7 +12,7 @@ store-requires g c = let x = c.args.state in let now = c.exchange-before.ensures
       search rules,
       search rules,
       gives_for g.S.Growing.history _ _ _ x h carried (ap (λ v. v.stage) view ∙ holds.2)
-          (subst (λ v. MayGive v.own.client h (g.S.Growing.history x)) (sym view) c.requires.grows) (g.S.Growing.opens_once x),
+          (subst (λ v. MayGive v.own.client v.own.opens h (g.S.Growing.history x)) (sym view) c.requires.grows) (g.S.Growing.opens_once x),
     )
 
 pub returns-clause-free : goal.returns-clause-free

@@ -1,0 +1,8 @@
+use Rattle.std.proofs.Common.{rules}
+use Rattle.assise_keeper.specs.declared.view.Opens.TheVariants.{Never}
+use Rattle.assise_keeper.proofs.Rights.{passes_on}
+use Rattle.assise_keeper.proofs.StepsKeepRule.{cuts_for}
+use Rattle.assise_keeper.proofs.keeper.Keeper.split_opener.Goals as goal
+
+pub split_seat-requires : goal.split_seat-requires
+split_seat-requires g c = let o = c.args.pass.now.seat.me.0.own.opens in (search rules, search rules, cuts_for g.S.Growing.history Never o _ _ (passes_on o) (λ is. absurd (cc)) (λ is. is) c.requires.2)

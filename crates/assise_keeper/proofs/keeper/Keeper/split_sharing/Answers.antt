@@ -1,0 +1,8 @@
+use Rattle.std.proofs.Common.{rules}
+use Rattle.assise_keeper.specs.declared.view.Opens.TheVariants.{AmongOthers}
+use Rattle.assise_keeper.proofs.Rights.{shares}
+use Rattle.assise_keeper.proofs.StepsKeepRule.{cuts_for}
+use Rattle.assise_keeper.proofs.keeper.Keeper.split_sharing.Goals as goal
+
+pub split_seat-requires : goal.split_seat-requires
+split_seat-requires g c = let o = c.args.pass.now.seat.me.0.own.opens in (search rules, search rules, cuts_for g.S.Growing.history AmongOthers AmongOthers _ _ (shares o c.requires.right) (λ is. absurd (cc)) (λ is. absurd (cc)) c.requires.pass.2)
