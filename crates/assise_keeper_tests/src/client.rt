@@ -1,7 +1,7 @@
 // Turns of a client and of a worker: a take, what is done with the state, and the give.
 ghost use Rattle.std.specs.Prelude.{◌≡◌, ◌++◌, map, Some, None, IfOk, OnErr};
-ghost use Rattle.assise_keeper.specs.Clients.{Extends, ExtendsByOne};
-ghost use Rattle.assise_keeper.specs.Passes.{seen, client, mine, IsPassOf};
+ghost use Rattle.assise_keeper.specs.Clients.{Extends, ExtendsByOne, MayOpen};
+ghost use Rattle.assise_keeper.specs.Passes.{seen, client, mine, opens, IsPassOf};
 ghost use Rattle.assise_keeper.specs.Working.{pass_of};
 ghost use Rattle.assise_keeper_tests.specs.Made.{made};
 
@@ -19,7 +19,8 @@ pub fn open_as<R: Wait>(
     keeper: &Keeper<Book>,
     pass: &mut Pass<Book>,
 ) -> Result<u32, Refusal>
-    requires { IsPassOf keeper.now pass.old × (client pass.old ≡ None) }
+    requires pass { IsPassOf keeper.now pass.old × (client pass.old ≡ None) }
+    requires right { MayOpen (opens pass.old) }
     ensures free { IsPassOf keeper.now pass.new }
     ensures seen { Extends (seen pass.new) (seen pass.old) }
     ensures opened { IfOk result (λ c. client pass.new ≡ Some c) }
