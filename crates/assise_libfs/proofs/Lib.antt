@@ -1,4 +1,5 @@
 pub mod Faults
+pub mod Openings
 pub mod Refused
 pub mod Same
 pub mod Sights

@@ -3,7 +3,8 @@ use Rattle.std.specs.Prelude.{◌≡◌, ℕ, List}
 use Rattle.assise_history.specs.Entries.{EntryValue}
 use Rattle.assise_keeper.specs.declared.keeper.Keeper.{Keeper}
 use Rattle.assise_keeper.specs.declared.pass.Pass.{Pass}
-use Rattle.assise_keeper.specs.Passes.{seen}
+use Rattle.assise_keeper.specs.declared.view.Opens.{Opens}
+use Rattle.assise_keeper.specs.Passes.{opens, seen}
 use Rattle.assise_libfs.specs.declared.libfs.LibFs.{LibFs}
 
 module _ {S : Type 0} where
@@ -28,6 +29,10 @@ module _ {S : Type 0} where
   -- what it has seen of the history
   abbrev pub seen_by : LibFs S → List EntryValue
   seen_by l = seen l.pass
+
+  -- whether its pass may open clients
+  abbrev pub opens_of : LibFs S → Opens
+  opens_of l = opens l.pass
 
   -- it is the same client, at the same node and keeper
   pub record IsSameClient (old new : LibFs S) : Type 0 where

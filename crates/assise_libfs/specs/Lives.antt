@@ -5,6 +5,7 @@ use Rattle.std.specs.List.{list_any}
 use Rattle.assise_names.specs.declared.durability.Durability.{Durability}
 use Rattle.assise_history.specs.Entries.{EntryValue, opens}
 use Rattle.assise_history.specs.Legal.{is_crash_of, is_failure_of}
+use Rattle.assise_keeper.specs.Clients.{openings_of}
 
 -- the client was opened on the node
 pub record IsOpenedOn (c n : ℕ) (h : List EntryValue) : Type 0 where
@@ -22,6 +23,10 @@ pub record IsOpenedAs (c n : ℕ) (u : Durability) (h : List EntryValue) : Type 
 -- what was seen goes on, and ends with the client's opening on the node, and so
 abbrev pub EndsWithOpening : ℕ → ℕ → Durability → List EntryValue → List EntryValue → Type 0
 EndsWithOpening c n u old new = (between : List EntryValue) × (new ≡ (old ++ between) ++ opens c n u ∷ [])
+
+-- no other client was opened meanwhile
+abbrev pub OpensNoOther : ℕ → ℕ → Durability → List EntryValue → List EntryValue → Type 0
+OpensNoOther c n u old new = openings_of new ≡ openings_of old ++ opens c n u ∷ []
 
 -- the client's node has failed since the client was opened
 pub record HasLostNode (c : ℕ) (h : List EntryValue) : Type 0 where

@@ -56,20 +56,21 @@ impl<'a, S: Served> LibFs<'a, S> {
     ghost use Rattle.std.specs.Prelude.{◌≡◌, ◌≤◌, IfErr, IfOk, None};
     ghost use Rattle.assise_names.specs.declared.call.Op.TheVariants.{Create, Dsync, Fsync, List as Lists, Mkdir, Read, Rename, Rmdir, Stat, Truncate, Unlink, Write};
     ghost use Rattle.assise_history.specs.Legal.{IsLegal, calls_made};
-    ghost use Rattle.assise_keeper.specs.Clients.{Extends};
-    ghost use Rattle.assise_keeper.specs.Passes.{AreOfOneKeeper, IsPassOf, client as client_of_pass, mine, seen};
+    ghost use Rattle.assise_keeper.specs.declared.view.Opens.TheVariants.{Alone, Never};
+    ghost use Rattle.assise_keeper.specs.Clients.{Extends, MayOpen, openings_of};
+    ghost use Rattle.assise_keeper.specs.Passes.{AreOfOneKeeper, IsPassOf, client as client_of_pass, mine, opens, seen};
     ghost use Rattle.assise_libfs.specs.Calling.{MayRefuse, MayRefuseTry, SeesCall, SeesTry};
-    ghost use Rattle.assise_libfs.specs.Clients.{IsSameClient, client_of, keeper_of, limit_of, node_of, pass_of, seen_by};
-    ghost use Rattle.assise_libfs.specs.Lives.{EndsWithOpening, IsOpenedAs};
+    ghost use Rattle.assise_libfs.specs.Clients.{IsSameClient, client_of, keeper_of, limit_of, node_of, opens_of, pass_of, seen_by};
+    ghost use Rattle.assise_libfs.specs.Lives.{EndsWithOpening, IsOpenedAs, OpensNoOther};
     ghost use Rattle.assise_libfs.specs.Opening.{MayRefuseOpen};
     ghost use Rattle.assise_libfs.specs.InTurns.{TurnsOnce, TurnsTo};
 
     /// Opens a client on a node, whose fsyncs are served so, for calls of 1 to 1,000,000 turns. The client is the pass's from
-    /// then on; what is stored with it serves the state, as a revoker does.
+    /// then on, beside its right to open clients; what is stored with it serves the state, as a revoker does.
     ///
     /// Refused with [`Refusal::BadNode`] where there is no such node, [`Refusal::NodeDown`] where it is down or comes back,
     /// [`Refusal::BadClient`] where no client can be opened any more, and [`Refusal::OutOfMemory`]. Then the pass, which may have seen
-    /// more and has no client, and what would have been stored come back.
+    /// more, has no client and keeps its right, and what would have been stored come back.
     pub fn open<R: Wait>(
         rt: &R,
         alloc: Global,
@@ -81,6 +82,7 @@ impl<'a, S: Served> LibFs<'a, S> {
         limit: u32,
     ) -> Result<LibFs<'a, S>, (Refusal, Pass<S>, S::Stored)>
         requires pass { IsPassOf keeper.now pass × (client_of_pass pass ≡ None) }
+        requires right { MayOpen (opens pass) }
         requires some_turns { 1 ≤ limit }
         requires few_turns { limit ≤ 1000000 }
         ensures keeper { IfOk result (λ it. keeper_of it ≡ keeper.now) }
@@ -91,11 +93,17 @@ impl<'a, S: Served> LibFs<'a, S> {
             (λ it. ∥ IsOpenedAs (client_of it) node durability (seen_by it) ∥₁) }
         ensures last { IfOk result
             (λ it. EndsWithOpening (client_of it) node durability (seen pass) (seen_by it)) }
+        ensures alone { IfOk result (λ it. opens pass ≡ Alone →
+            OpensNoOther (client_of it) node durability (seen pass) (seen_by it)) }
+        ensures right { IfOk result (λ it. opens_of it ≡ opens pass) }
         ensures no_calls { IfOk result (λ it. calls_made (client_of it) (seen_by it) ≡ 0) }
         ensures refused { IfErr result (λ back. MayRefuseOpen node (seen back.1) back.0) }
         ensures pass_back { IfErr result (λ back.
             IsPassOf keeper.now back.1 × (client_of_pass back.1 ≡ None)) }
+        ensures right_back { IfErr result (λ back. opens back.1 ≡ opens pass) }
         ensures seen_back { IfErr result (λ back. Extends (seen back.1) (seen pass)) }
+        ensures alone_back { IfErr result (λ back. opens pass ≡ Alone →
+            openings_of (seen back.1) ≡ openings_of (seen pass)) }
         ensures given_back { IfErr result (λ back. back.2 ≡ stored) }
     {
         let mut pass = pass;
@@ -374,15 +382,18 @@ impl<'a, S: Served> LibFs<'a, S> {
         (first, second)
     }
 
-    /// A pass that has seen the same and has no client.
-    pub fn split(&mut self) -> Pass<S>
+    /// A pass that has seen the same, has no client, and has the right to open clients that the client's pass had. The client's has none
+    /// from then on.
+    pub fn split_opener(&mut self) -> Pass<S>
         ensures same { IsSameClient self.old self.new }
         ensures seen { seen_by self.new ≡ seen_by self.old }
+        ensures opens_none { opens_of self.new ≡ Never }
         ensures pass { IsPassOf (keeper_of self.old) result }
         ensures nobody { client_of_pass result ≡ None }
         ensures as_seen { seen result ≡ seen_by self.old }
+        ensures right { opens result ≡ opens_of self.old }
     {
-        self.keeper.split(&mut self.pass)
+        self.keeper.split_opener(&mut self.pass)
     }
 
     /// The node that the client was opened on, from 1 on.

@@ -1,10 +1,11 @@
 // Turns of a client: a take, one try, and the give.
 ghost use Rattle.std.specs.Prelude.{◌≡◌, IfErr, IfOk, None, OnErr, Some};
 ghost use Rattle.assise_history.specs.Legal.{IsLegal, calls_made};
-ghost use Rattle.assise_keeper.specs.Clients.{Extends};
-ghost use Rattle.assise_keeper.specs.Passes.{IsPassOf, client, seen};
+ghost use Rattle.assise_keeper.specs.declared.view.Opens.TheVariants.{Alone};
+ghost use Rattle.assise_keeper.specs.Clients.{Extends, MayOpen, openings_of};
+ghost use Rattle.assise_keeper.specs.Passes.{IsPassOf, client, opens, seen};
 ghost use Rattle.assise_libfs.specs.Calling.{MayRefuseTry, SeesTry, answers};
-ghost use Rattle.assise_libfs.specs.Lives.{EndsWithOpening, IsOpenedAs};
+ghost use Rattle.assise_libfs.specs.Lives.{EndsWithOpening, IsOpenedAs, OpensNoOther};
 ghost use Rattle.assise_libfs.specs.Opening.{MayRefuseOpen};
 ghost use Rattle.assise_libfs.specs.InTurns.{InOneTurn, tried_answer};
 ghost use Rattle.assise_machine_calls.specs.Answers.{opening_answer};
@@ -54,16 +55,22 @@ pub(crate) fn open_turn<S: Served, R: Wait>(
     stored: S::Stored,
     durability: Durability,
 ) -> Result<u32, (Refusal, S::Stored)>
-    requires { IsPassOf keeper.now pass.old × (client pass.old ≡ None) }
+    requires pass { IsPassOf keeper.now pass.old × (client pass.old ≡ None) }
+    requires right { MayOpen (opens pass.old) }
     ensures free { IsPassOf keeper.now pass.new }
+    ensures right { opens pass.new ≡ opens pass.old }
     ensures seen { Extends (seen pass.new) (seen pass.old) }
     ensures legal { ∥ IsLegal (seen pass.new) ∥₁ }
     ensures own { IfOk result (λ c. client pass.new ≡ Some c) }
     ensures opened { IfOk result (λ c. IsOpenedAs c node durability (seen pass.new)) }
     ensures last { IfOk result
         (λ c. EndsWithOpening c node durability (seen pass.old) (seen pass.new)) }
+    ensures alone { IfOk result (λ c. opens pass.old ≡ Alone →
+        OpensNoOther c node durability (seen pass.old) (seen pass.new)) }
     ensures no_calls { IfOk result (λ c. calls_made c (seen pass.new) ≡ 0) }
     ensures no_client { OnErr result (client pass.new ≡ None) }
+    ensures no_opening { OnErr result (opens pass.old ≡ Alone →
+        openings_of (seen pass.new) ≡ openings_of (seen pass.old)) }
     ensures refused { IfErr result (λ back. MayRefuseOpen node (seen pass.new) back.0) }
     ensures given_back { IfErr result (λ back. back.1 ≡ stored) }
     ensures turn { InOneTurn S.Growing.history S.acts (open_client node durability)
