@@ -1,6 +1,6 @@
 // The workers of nodes.
 ghost use Rattle.std.specs.Prelude.{◌≡◌};
-ghost use Rattle.assise_keeper.specs.Passes.{IsPassOf, client, seen};
+ghost use Rattle.assise_keeper.specs.Passes.{IsPassOf, client, opens, seen};
 
 use crate::gate::{Gate, Point};
 use crate::idle::Idle;
@@ -25,13 +25,14 @@ pub struct NodeWorkers<'a, S: Growing> {
 
 impl<'a, S: Replicated> NodeWorkers<'a, S> {
     ghost use Rattle.std.specs.Prelude.{◌≡◌};
-    ghost use Rattle.assise_keeper.specs.Passes.{IsPassOf, client, seen};
+    ghost use Rattle.assise_keeper.specs.Passes.{IsPassOf, client, opens, seen};
 
     /// The workers of a node, whose passes are split from another.
     pub fn new(keeper: &'a Keeper<S>, pass: &mut Pass<S>, node: u32) -> NodeWorkers<'a, S>
         requires { IsPassOf keeper.now pass.old }
         ensures free { IsPassOf keeper.now pass.new }
         ensures same { (seen pass.new ≡ seen pass.old) × (client pass.new ≡ client pass.old) }
+        ensures right { opens pass.new ≡ opens pass.old }
     {
         let replicator = Worker::new(keeper, pass);
         let digester = Worker::new(keeper, pass);
@@ -68,6 +69,7 @@ pub fn workers_up_to<'a, S: Replicated>(
     requires { IsPassOf keeper.now pass.old }
     ensures free { IsPassOf keeper.now pass.new }
     ensures same { (seen pass.new ≡ seen pass.old) × (client pass.new ≡ client pass.old) }
+    ensures right { opens pass.new ≡ opens pass.old }
 {
     let mut nodes = Vec::new(alloc);
     for node in 1..=last {
