@@ -1,6 +1,7 @@
 // Clients of a ledger.
 ghost use Rattle.std.specs.Prelude.{◌≡◌, ◌≤◌, None};
-ghost use Rattle.assise_keeper.specs.Passes.{IsPassOf, client};
+ghost use Rattle.assise_keeper.specs.Clients.{MayOpen};
+ghost use Rattle.assise_keeper.specs.Passes.{IsPassOf, client, opens};
 
 use crate::calls::{TURNS, told};
 use crate::ledger::Ledger;
@@ -31,6 +32,7 @@ fn open_and_sync<R: Wait>(
     turns: u32,
 ) -> Option<String>
     requires pass { IsPassOf keeper.now pass × (client pass ≡ None) }
+    requires right { MayOpen (opens pass) }
     requires some { 1 ≤ turns }
     requires few { turns ≤ 1000000 }
 {
@@ -42,7 +44,7 @@ fn open_and_sync<R: Wait>(
 /// Two clients of a ledger meet once the first has made an fsync: how many calls each has made then.
 pub fn calls_of_two<R: Wait>(rt: &R, alloc: Global) -> Option<(u64, u64)> {
     let (keeper, mut first) = Keeper::new(alloc, Ledger::new(alloc, 0, false)).ok()?;
-    let second = keeper.split(&mut first);
+    let second = keeper.split_sharing(&mut first);
     let calls = sync_and_meet(rt, alloc, &keeper, first, second);
     keeper.close()?;
     calls
@@ -57,6 +59,7 @@ fn sync_and_meet<R: Wait>(
 ) -> Option<(u64, u64)>
     requires first { IsPassOf keeper.now first × (client first ≡ None) }
     requires second { IsPassOf keeper.now second × (client second ≡ None) }
+    requires rights { MayOpen (opens first) × MayOpen (opens second) }
 {
     let durability = Durability::Pessimistic;
     let mut first = LibFs::open(rt, alloc, keeper, first, 1, 0, durability, TURNS).ok()?;

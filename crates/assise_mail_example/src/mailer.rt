@@ -1,6 +1,8 @@
 // A thread that delivers or reads, with its client.
 ghost use Rattle.std.specs.Prelude.{◌≡◌};
-ghost use Rattle.assise_keeper.specs.Passes.{IsPassOf};
+ghost use Rattle.assise_keeper.specs.Clients.{MayOpen};
+ghost use Rattle.assise_keeper.specs.Passes.{IsPassOf, opens};
+ghost use Rattle.assise_keeper.specs.declared.view.Opens.TheVariants.{AmongOthers};
 
 use assise_keeper::keeper::Keeper;
 use assise_keeper::pass::Pass;
@@ -18,7 +20,7 @@ pub const SURVIVOR: u32 = 2;
 /// The turns of a call.
 const TURNS: u32 = 1_000_000;
 
-/// A thread's client, and what it takes to open another where the client's node fails: a pass, and a revoker.
+/// A thread's client, and what it takes to open another where the client's node fails: a pass that may, and a revoker.
 pub struct Mailer<'a, S: Served>
 where
     S::Stored: Drop,
@@ -28,6 +30,7 @@ where
     spare: Option<S::Stored>,
     pub files: LibFs<'a, S>,
     ghost ours: { IsPassOf keeper.now pass },
+    ghost right: { opens pass ≡ AmongOthers },
 }
 
 // One call lets go of it, wherever it is owned.
@@ -56,10 +59,10 @@ fn open_files<'a, S: Served, R: Wait>(
 ) -> Result<LibFs<'a, S>, MailFault>
 where
     S::Stored: Drop,
-    requires { IsPassOf keeper.now pass.old }
-    ensures { IsPassOf keeper.now pass.new }
+    requires { IsPassOf keeper.now pass.old × MayOpen (opens pass.old) }
+    ensures { IsPassOf keeper.now pass.new × (opens pass.new ≡ AmongOthers) }
 {
-    let own = keeper.split(pass);
+    let own = keeper.split_sharing(pass);
     let Some(revoker) = revoker else {
         return Err(MailFault::Refused(Refusal::BadClient));
     };
@@ -74,7 +77,8 @@ impl<'a, S: Served> Mailer<'a, S>
 where
     S::Stored: Drop,
 {
-    ghost use Rattle.assise_keeper.specs.Passes.{IsPassOf};
+    ghost use Rattle.assise_keeper.specs.Clients.{MayOpen};
+    ghost use Rattle.assise_keeper.specs.Passes.{IsPassOf, opens};
 
     /// With a client on a node, and two of the revokers: one for the client, one to spare.
     pub fn new<R: Wait>(
@@ -85,10 +89,10 @@ where
         revokers: &mut Vec<S::Stored>,
         node: u32,
     ) -> Result<Mailer<'a, S>, MailFault>
-        requires { IsPassOf keeper.now main.old }
-        ensures { IsPassOf keeper.now main.new }
+        requires { IsPassOf keeper.now main.old × MayOpen (opens main.old) }
+        ensures { IsPassOf keeper.now main.new × MayOpen (opens main.new) }
     {
-        let mut pass = keeper.split(main);
+        let mut pass = keeper.split_sharing(main);
         let files = open_files(rt, alloc, keeper, &mut pass, node, revokers.pop())?;
         Ok(Mailer {
             keeper,

@@ -1,6 +1,7 @@
 // A node fails, and comes back.
 ghost use Rattle.std.specs.Prelude.{◌≡◌, ℕ, List, Option};
 ghost use Rattle.assise_history.specs.Entries.{EntryValue};
+ghost use Rattle.assise_keeper.specs.declared.view.Opens.{Opens};
 ghost use Rattle.assise_keeper.specs.Clients.{MayGive};
 ghost use Rattle.assise_keeper.specs.Passes.{IsPassOf};
 
@@ -39,7 +40,7 @@ pub enum Change {
 pub trait Failing: Growing {
     /// Changes that node. It opens no client and answers no call, so that any pass may give what comes of it.
     fn change(&mut self, alloc: Global, change: Change) -> Result<(), Refusal>
-        ensures gives { (client : Option ℕ) → MayGive client
+        ensures gives { (client : Option ℕ) (right : Opens) → MayGive client right
             (Self.Growing.history self.old) (Self.Growing.history self.new) };
 }
 
@@ -63,12 +64,14 @@ pub struct Operator<'a, S: Failing> {
 }
 
 impl<'a, S: Failing> Operator<'a, S> {
-    ghost use Rattle.assise_keeper.specs.Passes.{IsPassOf};
+    ghost use Rattle.std.specs.Prelude.{◌≡◌};
+    ghost use Rattle.assise_keeper.specs.Passes.{IsPassOf, opens};
 
     /// With a pass of its own.
     pub fn new(keeper: &'a Keeper<S>, main: &mut Pass<S>) -> Operator<'a, S>
         requires { IsPassOf keeper.now main.old }
-        ensures { IsPassOf keeper.now main.new }
+        ensures free { IsPassOf keeper.now main.new }
+        ensures right { opens main.new ≡ opens main.old }
     {
         let pass = keeper.split(main);
         Operator { keeper, pass }

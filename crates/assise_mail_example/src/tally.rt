@@ -71,6 +71,8 @@ impl Tally {
 
 /// What nodes do goes on until all threads have left.
 impl Gate for Tally {
+    ghost is_open = { λ gate. ⊥ };
+
     fn pass(&self, _point: Point) -> bool {
         self.left.load(Ordering::SeqCst) > 0
     }

@@ -1,6 +1,7 @@
 // What no contract says: that calls of a mail store succeed.
 ghost use Rattle.std.specs.Prelude.{◌≡◌, None};
-ghost use Rattle.assise_keeper.specs.Passes.{IsPassOf, client};
+ghost use Rattle.assise_keeper.specs.Clients.{MayOpen};
+ghost use Rattle.assise_keeper.specs.Passes.{IsPassOf, client, opens};
 
 use assise_keeper::keeper::Keeper;
 use assise_keeper::pass::Pass;
@@ -65,7 +66,8 @@ fn with_client<R: Wait>(
     pass: Pass<Cluster>,
     place: &Path,
 ) -> Option<()>
-    requires { IsPassOf keeper.now pass × (client pass ≡ None) }
+    requires pass { IsPassOf keeper.now pass × (client pass ≡ None) }
+    requires right { MayOpen (opens pass) }
 {
     let durability = Durability::Pessimistic;
     let mut files = LibFs::open(rt, alloc, keeper, pass, 1, Whole, durability, 100).ok()?;

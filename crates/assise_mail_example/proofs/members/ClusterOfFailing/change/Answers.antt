@@ -2,13 +2,13 @@ use Rattle.assise_mail_example.proofs.Changes.{failure_gives, join_gives, refill
 use Rattle.assise_mail_example.proofs.members.ClusterOfFailing.change.Goals as goal
 
 pub returns-in-Fails : goal.returns-in-Fails
-returns-in-Fails g c = record { gives = λ client. failure_gives client _ _ _ _ c.fail.ensures.happens }
+returns-in-Fails g c = record { gives = λ client right. failure_gives client right _ _ _ _ c.fail.ensures.happens }
 
 pub returns-in-BeginsToReturn : goal.returns-in-BeginsToReturn
-returns-in-BeginsToReturn g c = record { gives = λ client. return_gives client _ _ _ _ c.back.ensures.happens }
+returns-in-BeginsToReturn g c = record { gives = λ client right. return_gives client right _ _ _ _ c.back.ensures.happens }
 
 pub returns-in-IsFilled : goal.returns-in-IsFilled
-returns-in-IsFilled g c = record { gives = λ client. refill_gives client _ _ _ _ c.refill.ensures.happens }
+returns-in-IsFilled g c = record { gives = λ client right. refill_gives client right _ _ _ _ c.refill.ensures.happens }
 
 pub returns-in-Joins : goal.returns-in-Joins
-returns-in-Joins g c = record { gives = λ client. join_gives client _ _ _ _ c.join.ensures.happens }
+returns-in-Joins g c = record { gives = λ client right. join_gives client right _ _ _ _ c.join.ensures.happens }

@@ -6,4 +6,4 @@ use Rattle.assise_mail_example.proofs.members.Operator.change.Goals as goal
 pub give-requires-clause-grows : goal.give-requires-clause-grows
 give-requires-clause-grows g c =
     let is : taken c.take-held.new.pass ≡ g.S.Growing.history c.state.result.now = search rules in
-    may_give _ _ _ _ is c.change-changed.ensures.gives
+    may_give _ _ _ _ _ is c.change-changed.ensures.gives
