@@ -1,11 +1,10 @@
 -- What all commands so far were answered goes on with a stretch of calls, or with one command, and is a run in the end.
-use Rattle.std.proofs.Common.{◌≡◌, ◌∙◌, ℕ, ◌+◌, ◌<◌, ◌≤◌, arith, false, List, [], ◌∷◌, ◌++◌, length, Option, None, Some, refl, sym, ap, ap₂, subst, append-nil, append_assoc, length-append}
+use Rattle.std.proofs.Common.{◌≡◌, ◌∙◌, ℕ, List, [], ◌∷◌, ◌++◌, length, Option, None, Some, refl, sym, ap, ap₂, subst, append-nil, append_assoc}
 use Rattle.std.proofs.lemmas.List.{nil_from_length}
 use Rattle.std.proofs.lemmas.Grind.{flat_map-append}
 use Rattle.std.specs.Io.KnownBytes.{Appends}
 use Rattle.assise_history.specs.Entries.{EntryValue}
 use Rattle.assise_names.specs.declared.durability.Durability.{Durability}
-use Rattle.assise_history.specs.Legal.{clients_opened}
 use Rattle.assise_keeper.specs.Clients.{calls_by}
 use Rattle.assise_fault_script.specs.declared.command.Command.{Command}
 use Rattle.assise_fault_script.specs.declared.command.Command.TheVariants.{Cluster, Manual, Open, Call, Carry, Link, Hot, Digest, Release, Crash, Fail, Back, Refill, Join, Raise, Tree, History, Check}
@@ -15,15 +14,15 @@ use Rattle.assise_console.specs.Lines.{line_text}
 use Rattle.assise_threads.specs.Answered.{AnswersCommand, OpensOne, is_opened, is_refused, lacks_revoker}
 use Rattle.assise_threads.specs.Hearing.{HasHeard, sight_of}
 use Rattle.assise_threads.specs.OneHistory.{AreMet, CoversSight, HasToldCalls, IsHeard}
-use Rattle.assise_threads.specs.Openings.{Sights, opened_by, opening_in, openings_of, openings_said, with_opened}
+use Rattle.assise_threads.specs.Openings.{Sights, opened_by, opening_in, openings_said, with_opened}
 use Rattle.assise_threads.specs.Runs.{IsThreadRun}
 use Rattle.assise_threads.specs.Said.{Said, said_line, said_lines}
 use Rattle.assise_threads.specs.Spoken.{AreAllSaid, IsOneSaid, IsStretchSaid}
 use Rattle.assise_threads.specs.Stretches.{IsClientCall}
-use Rattle.assise_threads.proofs.Fronts.{AreKnown, EndsWith, are_new, few_more, known_one, known_then, one_hears}
+use Rattle.assise_threads.proofs.Fronts.{AreKnown, EndsWith, are_new, known_one, known_then, one_hears}
 use Rattle.assise_threads.proofs.Heard.{MadeNone, commands-append, heard_one, heard_then, no_call}
 use Rattle.assise_threads.proofs.Meetings.{covers_each}
-use Rattle.assise_threads.proofs.Openings.{all_fronts, all_told, answers_on, many_opened, no_more, openings-append}
+use Rattle.assise_threads.proofs.Openings.{all_fronts, answers_on}
 use Rattle.assise_threads.proofs.SaidMore.{adds_more, adds_nothing, said-append}
 
 pub nothing_said : (old : Option (List ℕ)) → AreAllSaid [] [] [] old old
@@ -34,18 +33,12 @@ nothing_said old = record {
   appends = adds_nothing old;
   heard = λ c. record { outcomes = []; count = refl; tells = refl; calls = refl; on = refl };
   known = λ c. tt;
-  count = omega arith;
+  opened = refl;
 }
 
 openings-said : (ss ts : List Said) → openings_said (ss ++ ts) ≡ openings_said ss ++ openings_said ts
 openings-said [] ts = refl
 openings-said (s ∷ ss) ts = ap (λ z. opening_in s.command.command s.answer ++ z) (openings-said ss ts) ∙ sym (append_assoc (opening_in s.command.command s.answer) (openings_said ss) (openings_said ts))
-
-few_said : (xs ys zs : List EntryValue) (before after : Sights) → length before ≤ length xs → length after ≡ length before → zs ≡ xs ++ ys → ys ≡ [] → length after ≤ length zs
-few_said xs ys zs before after few same is none =
-    let a = ap length is in
-    let b = length-append xs ys in
-    omega (arith, few, same, a, b)
 
 -- who is opened is the last that is seen, and made no call
 open_ends : (n : ℕ) (u : Durability) (a : Response) (old new : List EntryValue) → OpensOne n u a old new → EndsWith (opened_by a n u) old new × MadeNone (opened_by a n u) new
@@ -85,7 +78,7 @@ module _ (done : List NumberedCommand) (seen : List EntryValue) (before : Sights
     appends = subst (Appends old new) (sym (lines-append all.said more.said)) (adds_more old mid new (said_lines all.said) (said_lines more.said) all.appends more.appends);
     heard = λ c. heard_then c all.said more.said (sight_of c before) (sight_of c after) (all.heard c) (more.clients c) (more.on c);
     known = λ c. known_then c more.said (sight_of c before) (sight_of c after) seen (more.clients c) (all.known c);
-    count = few_said (openings_said all.said) (openings_said more.said) (openings_said (all.said ++ more.said)) before after all.count more.count (openings-said all.said more.said) more.quiet;
+    opened = all.opened ∙ sym (openings-said all.said more.said ∙ (ap (λ z. openings_said all.said ++ z) more.quiet ∙ append-nil (openings_said all.said)));
   }
 
   pub one_added : (l : NumberedCommand) (now : List EntryValue) (after : Sights) (new : Option (List ℕ)) → (IsClientCall l.command → ⊥) → IsOneSaid l seen before now after mid new → AreAllSaid (done ++ l ∷ []) now after old new
@@ -101,8 +94,7 @@ module _ (done : List NumberedCommand) (seen : List EntryValue) (before : Sights
         heard = λ c. heard_one c all.said s before after (all.heard c) one.clients ends.1 (no_call c l.command none)
             (one_hears c s before after (no_call c l.command none) one.clients (are_new before (opening_in l.command one.answer) seen now all.known ends.0));
         known = subst (λ z. AreKnown z now) (sym one.clients) (known_one before (opening_in l.command one.answer) seen now (answers_on l.command one.answer seen now one.answered) all.known ends.0);
-        count = (let a = ap length one.clients in let b = few_more before now (opening_in l.command one.answer) in let d = ap length (openings-said all.said (s ∷ [])) in
-            let e = length-append (openings_said all.said) (opening_in l.command one.answer ++ []) in let f = length-append (opening_in l.command one.answer) [] in let g = all.count in omega (arith, a, b, d, e, f, g));
+        opened = one.opened ∙ (ap₂ (λ x y. x ++ y) all.opened (sym (append-nil (opening_in l.command one.answer))) ∙ sym (openings-said all.said (s ∷ [])));
       }
 
 -- ---- in the end
@@ -114,25 +106,17 @@ has_told c ss h (Some seen) heard covers = covers.1 ∙ heard.calls
 is_heard : (c : ℕ) (ss : List Said) (h : List EntryValue) (sight : Option (List EntryValue)) → HasHeard c ss sight → CoversSight c h sight → IsHeard c ss h
 is_heard c ss h sight heard covers = record { seen = sight; on = heard.on; covers = covers; outcomes = heard.outcomes; count = heard.count; tells = heard.tells; calls = has_told c ss h sight heard covers }
 
--- where the clients met, and no more were opened
-pub is_run : (commands : List NumberedCommand) (seen : List EntryValue) (us : Sights) (old new : Option (List ℕ)) (all : AreAllSaid commands seen us old new) (last : List EntryValue) (next : ℕ) → next ≤ length us + 1 → AreMet seen us next false last → IsThreadRun commands all.said
-is_run commands seen us old new all last next few met =
-    let fewer : clients_opened met.history < next = met.few refl in
-    let count = all.count in
-    let both : openings_of met.history ≡ openings_of seen ++ openings_of met.since.0 = ap openings_of met.since.1 ∙ openings-append seen met.since.0 in
-    let e = ap length both in
-    let a = length-append (openings_of seen) (openings_of met.since.0) in
-    let many = many_opened [] all.said seen all.main in
-    let told : openings_of seen ≡ openings_said all.said = all_told [] all.said seen all.main (omega (arith, few, fewer, count, e, a)) in
-    record {
-      each = all.each;
-      seen = seen;
-      main = all.main;
-      history = met.history;
-      one = record {
-        legal = met.legal;
-        fronts = all_fronts met.history [] all.said seen met.since all.main;
-        openings = no_more met.history seen (openings_said all.said) met.since (omega (arith, many)) (omega (arith, few, fewer, count)) told;
-        clients = λ c. is_heard c all.said met.history (sight_of c us) (all.heard c) (covers_each c met.history us met.clients);
-      };
-    }
+-- where the clients met
+pub is_run : (commands : List NumberedCommand) (seen : List EntryValue) (us : Sights) (old new : Option (List ℕ)) (all : AreAllSaid commands seen us old new) (last : List EntryValue) → AreMet seen us last → IsThreadRun commands all.said
+is_run commands seen us old new all last met = record {
+  each = all.each;
+  seen = seen;
+  main = all.main;
+  history = met.history;
+  one = record {
+    legal = met.legal;
+    fronts = all_fronts met.history [] all.said seen met.since all.main;
+    openings = met.openings ∙ all.opened;
+    clients = λ c. is_heard c all.said met.history (sight_of c us) (all.heard c) (covers_each c met.history us met.clients);
+  };
+}

@@ -85,12 +85,6 @@ all_calls : (stretch : List NumberedCommand) (ss : List Said) → commands_said 
 all_calls stretch ss each calls = subst AreCalls (sym each) calls
 
 module _ {S : Type 0} (stretch : List NumberedCommand) where
-  as_long : (ls : List (LibFs S)) (ends : List (ClientEnd S)) → AllZip (MakesCalls stretch) ls ends → length (map sight_at ends) ≡ length (sights ls)
-  as_long [] [] made = refl
-  as_long (l ∷ ls) (e ∷ es) made = ap suc (as_long ls es made.1)
-  as_long [] (e ∷ es) made = absurd made
-  as_long (l ∷ ls) [] made = absurd made
-
   -- the clients are those of the same keeper
   pub still_at : (k : Keeper S) (ls : List (LibFs S)) (ends : List (ClientEnd S)) → AllZip (MakesCalls stretch) ls ends → AllByRecursion (λ l. keeper_of l ≡ k) ls → AllByRecursion (λ e. keeper_of e.libfs ≡ k) ends
   still_at k [] [] made at = tt
@@ -115,7 +109,6 @@ module _ {S : Type 0} (stretch : List NumberedCommand) (ls : List (LibFs S)) (en
     clients = λ c. hears c stretch are.said (sight_of c (sights ls)) (sight_of c (map sight_at ends)) (outcomes_of c (map outcomes_at ends)) are.each (all_served c stretch ls ends made) (are.told c);
     on = λ c. hears_on c are.said (sight_of c (sights ls)) (sight_of c (map sight_at ends)) (all_calls stretch are.said are.each calls) (hears c stretch are.said (sight_of c (sights ls)) (sight_of c (map sight_at ends)) (outcomes_of c (map outcomes_at ends)) are.each (all_served c stretch ls ends made) (are.told c));
     quiet = calls_open_none are.said (all_calls stretch are.said are.each calls);
-    count = as_long stretch ls ends made;
   }
 
 -- ---- of the lists

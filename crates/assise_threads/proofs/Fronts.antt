@@ -216,13 +216,3 @@ known_one us (calls x ∷ es) old new more known ends = λ c. known_on c (sight_
 known_one us (crashes d ∷ es) old new more known ends = λ c. known_on c (sight_of c us) old new more (known c)
 known_one us (fails n losses ∷ es) old new more known ends = λ c. known_on c (sight_of c us) old new more (known c)
 known_one us (returns n ∷ es) old new more known ends = λ c. known_on c (sight_of c us) old new more (known c)
-
--- ---- no more clients than openings
-
-pub few_more : (us : Sights) (h os : List EntryValue) → length (with_opened us h os) ≤ length us + length os
-few_more us h [] = omega arith
-few_more us h (opens d n u ∷ es) = let e = length-append us ((d, h) ∷ []) in omega (arith, e)
-few_more us h (calls x ∷ es) = omega arith
-few_more us h (crashes d ∷ es) = omega arith
-few_more us h (fails n losses ∷ es) = omega arith
-few_more us h (returns n ∷ es) = omega arith

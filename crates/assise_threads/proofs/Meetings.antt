@@ -1,29 +1,19 @@
 -- Where clients meet with a pass of nobody, each twice, there is one history with the calls of all.
-use Rattle.std.proofs.Common.{◌≡◌, ◌≢◌, ◌∙◌, ℕ, ◌<◌, Bool, true, false, List, [], ◌∷◌, ◌++◌, Option, None, Some, refl, sym, ap, subst, append_assoc, append-nil, ◌==◌, if◌then◌else◌, ◌⊎◌, inl, inr}
+use Rattle.std.proofs.Common.{◌≡◌, ◌≢◌, ◌∙◌, ℕ, true, false, List, [], ◌∷◌, ◌++◌, Option, None, Some, refl, sym, ap, subst, append_assoc, append-nil, ◌==◌, if◌then◌else◌, ◌⊎◌, inl, inr}
 use Rattle.std.specs.List.{AllByRecursion}
 use Rattle.std.proofs.lemmas.Bool.Decides.{eqb_tells}
 use Rattle.assise_history.specs.Entries.{EntryValue}
-use Rattle.assise_history.specs.Legal.{IsLegal, clients_opened}
-use Rattle.assise_keeper.specs.Clients.{Extends, calls_by, calls_of}
+use Rattle.assise_history.specs.Legal.{IsLegal}
+use Rattle.assise_keeper.specs.Clients.{Extends, calls_by, calls_of, openings_of}
 use Rattle.assise_keeper.proofs.PassAdds.{calls-append, extends-same}
 use Rattle.assise_workers.proofs.Lists.{extends-on}
 use Rattle.assise_threads.specs.Hearing.{sight_of}
 use Rattle.assise_threads.specs.OneHistory.{AreMet, Covers, CoversSight}
 use Rattle.assise_threads.specs.Openings.{Sights}
-use Rattle.std.specs.Prelude.{IsOk, is_ok, ◌↔◌, Result, Ok, Err}
-use Rattle.std.proofs.Common.{◌≤◌, arith}
-use Rattle.std.proofs.Math.Bridge.{le_prop}
-use Rattle.std.proofs.Math.Logic.{∥∥₁_elim}
-use Rattle.std.proofs.lemmas.Bool.{cases_lt}
-use Rattle.assise_names.specs.declared.refusal.Refusal.{Refusal}
 use Rattle.assise_keeper.specs.declared.pass.Pass.{Pass}
 use Rattle.assise_keeper.specs.Passes.{client, mine, seen}
 use Rattle.assise_libfs.specs.Clients.{client_of, pass_of, seen_by}
 use Rattle.assise_libfs.specs.declared.libfs.LibFs.{LibFs}
-use Rattle.assise_model_world.specs.World.{IsClient}
-use Rattle.assise_machine.specs.Clusters.{machine}
-use Rattle.assise_machine.specs.declared.cluster.ClusterOf.{ClusterOf}
-use Rattle.assise_threads.proofs.Nobodys.{is_legal}
 
 nothing_more : (xs ys : List EntryValue) → xs ++ ys ≡ xs → ys ≡ []
 nothing_more [] ys e = e
@@ -45,9 +35,8 @@ same_between c a b d more behind same =
 pub mine_same : (c : ℕ) (o p : Option ℕ) (h g : List EntryValue) → o ≡ p → p ≡ Some c → calls_of o h ≡ calls_of p g → calls_by c h ≡ calls_by c g
 mine_same c o p h g same is calls = subst (λ (z : Option ℕ). calls_of z h ≡ calls_of z g) is (subst (λ (z : Option ℕ). calls_of z h ≡ calls_of p g) same calls)
 
-pub met_one : (c next : ℕ) (more : Bool) (s0 g s1 : List EntryValue) (us : Sights) (s2 s3 : List EntryValue) → Extends s1 s0 → Extends s1 g → calls_by c s1 ≡ calls_by c g → AreMet s1 us next more s2 → Extends s3 s2 → calls_by c s3 ≡ calls_by c s1
-    → AreMet s0 ((c, g) ∷ us) next more s3
-met_one c next more s0 g s1 us s2 s3 from own first met behind second = record {
+pub met_one : (c : ℕ) (s0 g s1 : List EntryValue) (us : Sights) (s2 s3 : List EntryValue) → Extends s1 s0 → openings_of s1 ≡ openings_of s0 → Extends s1 g → calls_by c s1 ≡ calls_by c g → AreMet s1 us s2 → Extends s3 s2 → calls_by c s3 ≡ calls_by c s1 → AreMet s0 ((c, g) ∷ us) s3
+met_one c s0 g s1 us s2 s3 from none own first met behind second = record {
   history = met.history;
   legal = met.legal;
   since = extends-on met.history s1 s0 met.since from;
@@ -56,11 +45,11 @@ met_one c next more s0 g s1 us s2 s3 from own first met behind second = record {
     (extends-on met.history s1 g met.since own, same_between c s1 met.history s3 met.since (extends-on s3 s2 met.history behind met.until) second ∙ first),
     met.clients,
   );
-  few = met.few;
+  openings = met.openings ∙ none;
 }
 
-pub met_none : (next : ℕ) (more : Bool) (s0 s1 : List EntryValue) → Extends s1 s0 → ∥ IsLegal s1 ∥₁ → (more ≡ false → clients_opened s1 < next) → AreMet s0 [] next more s1
-met_none next more s0 s1 on legal few = record { history = s1; legal = legal; since = on; until = extends-same s1; clients = tt; few = few }
+pub met_none : (s0 s1 : List EntryValue) → Extends s1 s0 → ∥ IsLegal s1 ∥₁ → openings_of s1 ≡ openings_of s0 → AreMet s0 [] s1
+met_none s0 s1 on legal none = record { history = s1; legal = legal; since = on; until = extends-same s1; clients = tt; openings = none }
 
 first_or_later : (c : ℕ) (h : List EntryValue) (a : ℕ) (g : List EntryValue) (later : Option (List EntryValue)) → Covers h (a, g) → CoversSight c h later → CoversSight c h (if a == c then Some g else later)
 first_or_later c h a g later first rest = by_case (eqb_tells a c)
@@ -76,31 +65,16 @@ covers_each c h (x ∷ xs) (first, rest) = first_or_later c h x.0 x.1 (sight_of 
 
 -- ---- of a pass
 
-module _ {S : Type 0} (l : LibFs S) (p0 p a b d e f : Pass S) (next : ℕ) (more : Bool) (us : Sights) where
+module _ {S : Type 0} (l : LibFs S) (p0 p a b d e f : Pass S) (us : Sights) where
   -- a client meets with the pass, what follows is met, and it meets with the pass again
-  pub met_client : p ≡ pass_of l → seen a ≡ seen b → Extends (seen a) (seen p0) → Extends (seen b) (seen p) → client b ≡ client p → mine b ≡ mine p → AreMet (seen a) us next more (seen d)
-      → Extends (seen e) (seen d) → seen e ≡ seen f → client f ≡ client b → mine f ≡ mine b → AreMet (seen p0) ((client_of l, seen_by l) ∷ us) next more (seen e)
-  met_client is one first second same own met first2 one2 same2 own2 =
+  pub met_client : p ≡ pass_of l → seen a ≡ seen b → Extends (seen a) (seen p0) → openings_of (seen a) ≡ openings_of (seen p0) → Extends (seen b) (seen p) → client b ≡ client p → mine b ≡ mine p → AreMet (seen a) us (seen d)
+      → Extends (seen e) (seen d) → seen e ≡ seen f → client f ≡ client b → mine f ≡ mine b → AreMet (seen p0) ((client_of l, seen_by l) ∷ us) (seen e)
+  met_client is one first none second same own met first2 one2 same2 own2 =
       let its : client p ≡ Some (client_of l) = ap (λ z. client z) is ∙ l.its in
       let here : client b ≡ Some (client_of l) = same ∙ its in
       let known : seen p ≡ seen_by l = ap (λ z. seen z) is in
-      met_one (client_of l) next more (seen p0) (seen_by l) (seen a) us (seen d) (seen e) first
+      met_one (client_of l) (seen p0) (seen_by l) (seen a) us (seen d) (seen e) first none
       (subst (λ z. Extends z (seen_by l)) (sym one) (subst (Extends (seen b)) known second))
       (ap (calls_by (client_of l)) one ∙ (mine_same (client_of l) (client b) (client p) (seen b) (seen p) same its own ∙ ap (calls_by (client_of l)) known))
       met first2
       (ap (calls_by (client_of l)) one2 ∙ (mine_same (client_of l) (client f) (client b) (seen f) (seen b) same2 here own2 ∙ ap (calls_by (client_of l)) (sym one)))
-
--- what is seen last, and whether there is a client more
-pub looked : {C X : Type 0} (cluster : ClusterOf C) (next : ℕ) (more : Bool) (r : Result X Refusal) (s0 s1 : List EntryValue) → Extends (machine cluster).history s0 → s1 ≡ (machine cluster).history → 1 ≤ next → more ≡ is_ok r
-    → (IsClient (machine cluster).world next → IsOk r) → AreMet s0 [] next more s1
-looked cluster next more r s0 s1 on is some known there = met_none next more s0 s1 (subst (λ h. Extends h s0) (sym is) on) (is_legal cluster s1 is) (λ away. few away)
-  where
-    none : more ≡ false → next ≤ (machine cluster).world.clients → ⊥
-    none away high = let yes : is_ok r ≡ true = there (some, high) in let x : true ≡ false = sym yes ∙ (sym known ∙ away) in cc
-    below : more ≡ false → (machine cluster).world.clients < next
-    below away = elim (cases_lt (machine cluster).world.clients next) [
-        | inl low ↦ low
-        | inr high ↦ absurd (none away (omega (arith, high)))
-      ]
-    few : more ≡ false → clients_opened s1 < next
-    few away = let low = below away in let same = ap clients_opened is in ∥∥₁_elim cluster.sound.invariant.holds le_prop (λ h. (let count = h.recorded.count in omega (arith, low, same, count)))

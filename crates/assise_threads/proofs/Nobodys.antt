@@ -1,10 +1,12 @@
 -- What the main thread does in one take opens no client and answers no call.
-use Rattle.std.proofs.Common.{◌≡◌, ◌∙◌, ℕ, List, [], ◌∷◌, refl, sym, ap, subst, append-nil, drop, length, Option, None}
+use Rattle.std.proofs.Common.{◌≡◌, ◌∙◌, ℕ, List, [], ◌∷◌, ◌++◌, refl, sym, ap, ap₂, subst, append-nil, drop, length, Option, None}
 use Rattle.std.proofs.Math.Logic.{∥∥₁_map}
 use Rattle.assise_history.specs.Entries.{EntryValue, opens, calls, crashes, fails, returns}
 use Rattle.assise_history.specs.Legal.{IsLegal}
-use Rattle.assise_keeper.specs.Clients.{Extends, MayAddAll, MayGive, added, client_after}
-use Rattle.assise_keeper.proofs.PassAdds.{drop-prefix}
+use Rattle.assise_keeper.specs.declared.view.Opens.{Opens}
+use Rattle.assise_keeper.specs.declared.view.Opens.TheVariants.{Never}
+use Rattle.assise_keeper.specs.Clients.{Extends, MayAddAll, MayGive, added, client_after, openings_of}
+use Rattle.assise_keeper.proofs.PassAdds.{all-openings-append, drop-prefix, no_openings}
 use Rattle.assise_model_events.specs.Events.{Answer, back, crash, digest, fail, join, raise, refill, release_ready}
 use Rattle.assise_model_events.specs.ClientEvents.{Crashing, is_crashed, is_refused as not_crashed, lacks_memory as crash_lacks}
 use Rattle.assise_model_events.specs.Machine.{Machine}
@@ -17,17 +19,18 @@ use Rattle.assise_console.specs.declared.response.Response.{Response}
 use Rattle.assise_rounds.specs.Traces.{Told}
 use Rattle.assise_console.specs.OneEvent.{IsOne, IsOneAt}
 use Rattle.assise_console.specs.Steps.{SetsHot, is_made, is_out}
+use Rattle.assise_threads.specs.Openings.{OpensNone}
 use Rattle.assise_threads.specs.Takes.{AddsNobodys, AreNobodys}
 
 -- ---- a pass without a client may give such entries
 
-may_add : (es : List EntryValue) → AreNobodys es → MayAddAll None es
-may_add [] q = tt
-may_add (opens c n u ∷ es) q = absurd q
-may_add (calls x ∷ es) q = absurd q
-may_add (crashes c ∷ es) q = (tt, may_add es q)
-may_add (fails n losses ∷ es) q = (tt, may_add es q)
-may_add (returns n ∷ es) q = (tt, may_add es q)
+may_add : (o : Opens) (es : List EntryValue) → AreNobodys es → MayAddAll None o es
+may_add o [] q = tt
+may_add o (opens c n u ∷ es) q = absurd q
+may_add o (calls x ∷ es) q = absurd q
+may_add o (crashes c ∷ es) q = (tt, may_add o es q)
+may_add o (fails n losses ∷ es) q = (tt, may_add o es q)
+may_add o (returns n ∷ es) q = (tt, may_add o es q)
 
 no_client : (es : List EntryValue) → AreNobodys es → client_after None es ≡ None
 no_client [] q = refl
@@ -37,16 +40,16 @@ no_client (crashes c ∷ es) q = no_client es q
 no_client (fails n losses ∷ es) q = no_client es q
 no_client (returns n ∷ es) q = no_client es q
 
-pub may_give : (client : Option ℕ) (taken old new : List EntryValue) → client ≡ None → taken ≡ old → AddsNobodys old new → MayGive client taken new
-may_give client taken old new nobody is adds = rw (nobody, is) (adds.more, adds.split, may_add adds.more adds.nobodys)
+pub may_give : (client : Option ℕ) (o : Opens) (taken old new : List EntryValue) → client ≡ None → taken ≡ old → AddsNobodys old new → MayGive client o taken new
+may_give client o taken old new nobody is adds = rw (nobody, is) (adds.more, adds.split, may_add o adds.more adds.nobodys)
 
 pub stays_nobody : (client : Option ℕ) (taken old new : List EntryValue) → client ≡ None → taken ≡ old → AddsNobodys old new → client_after client (added taken new) ≡ None
 stays_nobody client taken old new nobody is adds =
     rw (nobody, is) (ap (λ z. client_after None (drop (length old) z)) adds.split ∙ (ap (client_after None) (drop-prefix old adds.more) ∙ no_client adds.more adds.nobodys))
 
 -- the same where nothing is added
-pub may_give_same : (client : Option ℕ) (taken now : List EntryValue) → taken ≡ now → MayGive client taken now
-may_give_same client taken now is = ([], sym (append-nil taken ∙ is), tt)
+pub may_give_same : (client : Option ℕ) (o : Opens) (taken now : List EntryValue) → taken ≡ now → MayGive client o taken now
+may_give_same client o taken now is = ([], sym (append-nil taken ∙ is), tt)
 
 pub stays_nobody_same : (client : Option ℕ) (taken now : List EntryValue) → client ≡ None → taken ≡ now → client_after client (added taken now) ≡ None
 stays_nobody_same client taken now nobody is = stays_nobody client taken now now nobody is record { more = []; split = sym (append-nil now); nobodys = tt }
@@ -57,6 +60,21 @@ extends_as_it_is new old is = ([], is ∙ sym (append-nil old))
 -- what was seen before the take is a prefix of what is given
 pub given_extends : (seen before after given : List EntryValue) → Extends before seen → AddsNobodys before after → given ≡ after → Extends given seen
 given_extends seen before after given prefix adds is = subst (λ h. Extends h seen) (sym is) (extends-on after before seen (adds.more, adds.split) prefix)
+
+-- ---- no client was opened
+
+-- where the history that was taken has no opening that wasn't seen, that which is given has none either
+pub given_opens_none : (seen before after given : List EntryValue) → openings_of before ≡ openings_of seen → AddsNobodys before after → given ≡ after → OpensNone seen given
+given_opens_none seen before after given known adds is =
+    ap openings_of (is ∙ adds.split) ∙ (all-openings-append before adds.more ∙ ap₂ (λ x y. x ++ y) known (no_openings None adds.more (may_add Never adds.more adds.nobodys)))
+
+pub same_opens_none : (seen taken given : List EntryValue) → openings_of taken ≡ openings_of seen → given ≡ taken → OpensNone seen given
+same_opens_none seen taken given known is = ap openings_of is ∙ (known ∙ sym (append-nil (openings_of seen)))
+
+pub none_then_none : (a b d : List EntryValue) → OpensNone a b → OpensNone b d → OpensNone a d
+none_then_none a b d first second = second ∙ (append-nil (openings_of b) ∙ first)
+
+-- ---- a cluster's history is legal
 
 pub is_legal : {C : Type 0} (cluster : ClusterOf C) (h : List EntryValue) → h ≡ (machine cluster).history → ∥ IsLegal h ∥₁
 is_legal cluster h is = subst (λ z. ∥ IsLegal z ∥₁) (sym is) (∥∥₁_map cluster.sound.invariant.holds (λ holds. holds.recorded.legal))

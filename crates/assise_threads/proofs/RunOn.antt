@@ -44,18 +44,15 @@ goes_further ls rest i count seen now before after old mid new is all more =
     subst (λ z. AreAllSaid z now after old new) (sym (take-add i count ls))
     (said_then (take i ls) (take count (drop i ls)) seen now before after old mid new all (subst (λ z. AreSaidNext (take count z) seen before now after mid new) is more))
 
--- where the clients met, and no more were opened than there are
-pub is_run_said : {S : Type 0} (commands : List NumberedCommand) (seen : List EntryValue) (ls : List (LibFs S)) (old new : Option (List ℕ)) (last : List EntryValue) (next : ℕ) (more : Bool) → AreAllSaid commands seen (sights ls) old new → more ≡ false → next ≤ length ls + 1
-    → AreMet seen (sights ls) next more last → IsRunSaid commands old new
-is_run_said commands seen ls old new last next more all none few met =
-    let many : next ≤ length (sights ls) + 1 = (let e = length-map {B = ℕ × List EntryValue} ls (λ l. (client_of l, seen_by l)) in omega (arith, few, e)) in
-    record { said = all.said; run = is_run commands seen (sights ls) old new all last next many (subst (λ b. AreMet seen (sights ls) next b last) none met); appends = all.appends }
+-- where the clients met
+pub is_run_said : {S : Type 0} (commands : List NumberedCommand) (seen : List EntryValue) (ls : List (LibFs S)) (old new : Option (List ℕ)) (last : List EntryValue) → AreAllSaid commands seen (sights ls) old new → AreMet seen (sights ls) last → IsRunSaid commands old new
+is_run_said commands seen ls old new last all met = record { said = all.said; run = is_run commands seen (sights ls) old new all last met; appends = all.appends }
 
-no_one_met : AreMet [] [] 1 false []
-no_one_met = met_none 1 false [] [] ([], refl) ∣ legal-nil ∣₁ (λ e. omega arith)
+no_one_met : AreMet [] [] []
+no_one_met = met_none [] [] ([], refl) ∣ legal-nil ∣₁ refl
 
 pub nothing_run : (commands : List NumberedCommand) (old : Option (List ℕ)) → slice_get commands 0 ≡ None → IsRunSaid commands old old
-nothing_run [] old none = let all = nothing_said old in record { said = all.said; run = is_run [] [] [] old old all [] 1 (omega arith) no_one_met; appends = all.appends }
+nothing_run [] old none = let all = nothing_said old in record { said = all.said; run = is_run [] [] [] old old all [] no_one_met; appends = all.appends }
 nothing_run (l ∷ ls) old none = absurd (cc)
 
 pub on_ok : {X E : Type 0} (r : Result X E) (P Q : Type 0) → OnOk r P → (P → Q) → OnOk r Q

@@ -1,15 +1,15 @@
 -- The one history of a run with threads.
 -- Assise (OSDI 2020), section 3 (CC-NVM: prefix crash consistency); POSIX.1-2017, section 2.9.7 (each call appears as made at once).
-use Rattle.std.specs.Prelude.{◌≡◌, ℕ, ◌<◌, false, Bool, List, Option, None, Some, Result, length}
+use Rattle.std.specs.Prelude.{◌≡◌, ℕ, List, Option, None, Some, Result, length}
 use Rattle.std.specs.List.{AllByRecursion}
 use Rattle.assise_names.specs.declared.refusal.Refusal.{Refusal}
 use Rattle.assise_names.specs.declared.reply.Reply.{Reply}
 use Rattle.assise_history.specs.Entries.{EntryValue}
-use Rattle.assise_history.specs.Legal.{IsLegal, clients_opened}
-use Rattle.assise_keeper.specs.Clients.{Extends, calls_by}
+use Rattle.assise_history.specs.Legal.{IsLegal}
+use Rattle.assise_keeper.specs.Clients.{Extends, calls_by, openings_of}
 use Rattle.assise_workers.specs.Told.{told_all}
 use Rattle.assise_threads.specs.Fronts.{HearsOn}
-use Rattle.assise_threads.specs.Openings.{Sights, openings_of, openings_said}
+use Rattle.assise_threads.specs.Openings.{Sights, openings_said}
 use Rattle.assise_threads.specs.Said.{Said, TellsClient, calls_in, commands_said}
 
 -- the history goes on from what the client has seen, without a call of the client
@@ -21,15 +21,15 @@ abbrev pub CoversSight : ℕ → List EntryValue → Option (List EntryValue) �
 CoversSight c h None = Unit {0}
 CoversSight c h (Some seen) = Covers h (c, seen)
 
--- There was a legal history between the two that goes on from what all clients have seen, without a call of theirs; and no more clients
--- were opened in it than this, where it is said so.
-pub record AreMet (old : List EntryValue) (us : Sights) (next : ℕ) (more : Bool) (new : List EntryValue) : Type 0 where
+-- There was a legal history between the two that goes on from what all clients have seen, without a call of theirs; and it has no opening
+-- that the first doesn't have.
+pub record AreMet (old : List EntryValue) (us : Sights) (new : List EntryValue) : Type 0 where
   pub history : List EntryValue
   pub legal : ∥ IsLegal history ∥₁
   pub since : Extends history old
   pub until : Extends new history
   pub clients : AllByRecursion (Covers history) us
-  pub few : more ≡ false → clients_opened history < next
+  pub openings : openings_of history ≡ openings_of old
 
 -- the calls of client c in the history are those that it was told, in the order of the lines
 abbrev pub HasToldCalls : ℕ → List Said → List EntryValue → List (Result Reply Refusal) → Option (List EntryValue) → Type 0

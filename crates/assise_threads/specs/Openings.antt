@@ -1,18 +1,22 @@
 -- The openings of a history, and those that lines tell of.
 -- Assise (OSDI 2020), section 3.
-use Rattle.std.specs.Prelude.{◌≡◌, ℕ, List, [], ◌∷◌, ◌++◌, filter}
+use Rattle.std.specs.Prelude.{◌≡◌, ℕ, List, [], ◌∷◌, ◌++◌}
 use Rattle.assise_names.specs.declared.durability.Durability.{Durability}
 use Rattle.assise_history.specs.Entries.{EntryValue, opens, calls, crashes, fails, returns}
-use Rattle.assise_history.specs.Legal.{is_opening}
+use Rattle.assise_keeper.specs.Clients.{openings_of}
 use Rattle.assise_fault_script.specs.declared.command.Command.{Command}
 use Rattle.assise_fault_script.specs.declared.command.Command.TheVariants.{Open}
 use Rattle.assise_console.specs.declared.response.Response.{Response}
 use Rattle.assise_console.specs.declared.response.Response.TheVariants.{Client}
 use Rattle.assise_threads.specs.Said.{Said}
 
--- the openings of a history, in order
-abbrev pub openings_of : List EntryValue → List EntryValue
-openings_of h = filter is_opening h
+-- these openings came meanwhile, and no others
+abbrev pub OpensJust : List EntryValue → List EntryValue → List EntryValue → Type 0
+OpensJust told old new = openings_of new ≡ openings_of old ++ told
+
+-- none came
+abbrev pub OpensNone : List EntryValue → List EntryValue → Type 0
+OpensNone old new = OpensJust [] old new
 
 -- the opening that the answer `client C` tells of
 abbrev pub opened_by : Response → ℕ → Durability → List EntryValue

@@ -81,7 +81,7 @@ impl<'a> Crew<'a> {
     ghost use Rattle.assise_threads.specs.CallsAhead.{AreSaidNext};
     ghost use Rattle.assise_threads.specs.Hearing.{sights};
     ghost use Rattle.assise_threads.specs.Runs.{EndsRun, IsRunSaid};
-    ghost use Rattle.assise_threads.specs.Openings.{opened_by, opening_in, with_opened};
+    ghost use Rattle.assise_threads.specs.Openings.{OpensJust, OpensNone, opened_by, opening_in, with_opened};
     ghost use Rattle.assise_threads.specs.Spoken.{AreAllSaid, IsOneSaid, IsStretchSaid};
     ghost use Rattle.assise_threads.specs.Stretches.{AreCalls, IsClientCall};
     ghost use Rattle.assise_threads.specs.AtKeeper.{AreAt};
@@ -123,9 +123,6 @@ impl<'a> Crew<'a> {
     {
         let mut clients = Vec::new(alloc);
         self.run_all(rt, alloc, &mut clients, commands, writer)?;
-        let Ok(next) = u32::try_from(clients.len() + 1) else {
-            return Err(EngineFault::Memory);
-        };
         let Crew {
             main,
             gate: _,
@@ -133,9 +130,7 @@ impl<'a> Crew<'a> {
             nodes: _,
             turns: _,
         } = self;
-        if main.end(rt, clients, next) {
-            return Err(EngineFault::Memory);
-        }
+        main.end(rt, clients);
         Ok(())
     }
 
@@ -255,6 +250,7 @@ impl<'a> Crew<'a> {
         ensures keeper { main_keeper self.new.main ≡ main_keeper self.old.main }
         ensures extends { Extends (main_seen self.new.main) (main_seen self.old.main) }
         ensures legal { ∥ IsLegal (main_seen self.new.main) ∥₁ }
+        ensures none_opened { OpensNone (main_seen self.old.main) (main_seen self.new.main) }
         ensures text { OnOk result (Appends (W.contents writer.old) (W.contents writer.new)
             (numbered_line line (history_text (main_seen self.new.main)))) }
         ensures fault { IfErr result EndsRun }
@@ -281,6 +277,8 @@ impl<'a> Crew<'a> {
         requires at { AreAt (main_keeper self.old.main) clients.old.items }
         ensures at { OnOk result (AreAt (main_keeper self.new.main) clients.new.items) }
         ensures answered { IfOk result (λ answer. AnswersCommand command.now answer
+            (main_seen self.old.main) (main_seen self.new.main)) }
+        ensures opened { IfOk result (λ answer. OpensJust (opening_in command.now answer)
             (main_seen self.old.main) (main_seen self.new.main)) }
         ensures clients { IfOk result (λ answer. sights clients.new.items ≡ with_opened
             (sights clients.old.items) (main_seen self.new.main) (opening_in command.now answer)) }
@@ -330,6 +328,8 @@ impl<'a> Crew<'a> {
             revokers_left k self.new.stock ≡ revokers_left k self.old.stock }
         ensures at { OnOk result (AreAt (main_keeper self.new.main) clients.new.items) }
         ensures opens { IfOk result (λ answer. OpensOne node durability answer
+            (main_seen self.old.main) (main_seen self.new.main)) }
+        ensures opened { IfOk result (λ answer. OpensJust (opened_by answer node durability)
             (main_seen self.old.main) (main_seen self.new.main)) }
         ensures clients { IfOk result (λ answer. sights clients.new.items ≡ with_opened
             (sights clients.old.items) (main_seen self.new.main)

@@ -1,7 +1,8 @@
 // The main thread: what it does with a pass of its own.
 ghost use Rattle.std.specs.Prelude.{◌≡◌, IfOk, None, string_bytes};
 ghost use Rattle.assise_history.specs.Text.{history_text};
-ghost use Rattle.assise_keeper.specs.Passes.{IsPassOf, client as client_of_pass, seen};
+ghost use Rattle.assise_keeper.specs.declared.view.Opens.TheVariants.{Alone};
+ghost use Rattle.assise_keeper.specs.Passes.{IsPassOf, client as client_of_pass, opens, seen};
 ghost use Rattle.assise_machine.specs.Clusters.{machine};
 ghost use Rattle.assise_threads.specs.Lacking.{MayLack};
 
@@ -23,32 +24,35 @@ use assise_workers::worker::{TurnEnd, Worker};
 use std::alloc::{AllocError, Global};
 use std::sync::Wait;
 
-/// The main thread, whose pass has no client.
+/// The main thread, whose pass has no client, and alone may open them.
 #[derive(Drop)]
 pub(crate) struct MainThreadOf<'a, C> {
     keeper: &'a Keeper<ClusterOf<C>>,
     pass: Pass<ClusterOf<C>>,
     ghost ours: { IsPassOf keeper.now pass },
     ghost nobody: { client_of_pass pass ≡ None },
+    ghost alone: { opens pass ≡ Alone },
 }
 
 /// The main thread of a cluster whose clients store a [`Revoker`].
 pub(crate) type MainThread<'a> = MainThreadOf<'a, Revoker>;
 
 impl<'a, C: Revokes + Drop> MainThreadOf<'a, C> {
-    ghost use Rattle.std.specs.Prelude.{◌≡◌, ◌≤◌, IfErr, IfOk, List, None, string_bytes};
+    ghost use Rattle.std.specs.Prelude.{◌≡◌, ◌≤◌, IfErr, IfOk, List, None, OnErr, string_bytes};
     ghost use Rattle.assise_history.specs.Entries.{EntryValue};
     ghost use Rattle.assise_history.specs.Legal.{IsLegal, calls_made};
     ghost use Rattle.assise_history.specs.Text.{history_text};
+    ghost use Rattle.assise_keeper.specs.declared.view.Opens.TheVariants.{Alone};
     ghost use Rattle.assise_keeper.specs.Clients.{Extends};
-    ghost use Rattle.assise_keeper.specs.Passes.{IsPassOf, client as client_of_pass, seen};
+    ghost use Rattle.assise_keeper.specs.Passes.{IsPassOf, client as client_of_pass, opens, seen};
     ghost use Rattle.assise_libfs.specs.Clients.{client_of, keeper_of, seen_by};
-    ghost use Rattle.assise_libfs.specs.Lives.{EndsWithOpening};
+    ghost use Rattle.assise_libfs.specs.Lives.{EndsWithOpening, OpensNoOther};
     ghost use Rattle.assise_libfs.specs.Opening.{MayRefuseOpen};
     ghost use Rattle.assise_threads.specs.Answered.{CarriesSome, ComesBackInTakes};
     ghost use Rattle.assise_threads.specs.Lacking.{MayLack};
     ghost use Rattle.assise_threads.specs.Hearing.{sights};
     ghost use Rattle.assise_threads.specs.OneHistory.{AreMet};
+    ghost use Rattle.assise_threads.specs.Openings.{OpensNone};
     ghost use Rattle.assise_threads.specs.Takes.{InOneTake};
     ghost use Rattle.assise_threads.specs.AtKeeper.{AreAt};
     ghost use Rattle.assise_threads.specs.Threads.{DoesTake, main_keeper, main_seen};
@@ -58,7 +62,8 @@ impl<'a, C: Revokes + Drop> MainThreadOf<'a, C> {
         keeper: &'a Keeper<ClusterOf<C>>,
         pass: Pass<ClusterOf<C>>,
     ) -> MainThreadOf<'a, C>
-        requires { IsPassOf keeper.now pass × (client_of_pass pass ≡ None) }
+        requires pass { IsPassOf keeper.now pass × (client_of_pass pass ≡ None) }
+        requires alone { opens pass ≡ Alone }
         ensures seen { main_seen result ≡ seen pass }
         ensures keeper { main_keeper result ≡ keeper.now }
     {
@@ -77,7 +82,7 @@ impl<'a, C: Revokes + Drop> MainThreadOf<'a, C> {
         workers_up_to(alloc, self.keeper, &mut self.pass, last)
     }
 
-    /// Opens a client on a node, whose fsyncs are served so. Refused, the revoker comes back.
+    /// Opens a client on a node, whose fsyncs are served so, and no other was opened meanwhile. Refused, the revoker comes back.
     pub(crate) fn open<R: Wait>(
         &mut self,
         rt: &R,
@@ -94,11 +99,14 @@ impl<'a, C: Revokes + Drop> MainThreadOf<'a, C> {
         ensures seen { IfOk result (λ it. seen_by it ≡ main_seen self.new) }
         ensures last { IfOk result (λ it. EndsWithOpening (client_of it) node durability
             (main_seen self.old) (main_seen self.new)) }
+        ensures opened { IfOk result (λ it. OpensNoOther (client_of it) node durability
+            (main_seen self.old) (main_seen self.new)) }
+        ensures none_opened { OnErr result (OpensNone (main_seen self.old) (main_seen self.new)) }
         ensures no_calls { IfOk result (λ it. calls_made (client_of it) (seen_by it) ≡ 0) }
         ensures refused { IfErr result (λ back. MayRefuseOpen node (main_seen self.new) back.0) }
         ensures extends { Extends (main_seen self.new) (main_seen self.old) }
     {
-        let pass = self.keeper.split(&mut self.pass);
+        let pass = self.keeper.split_opener(&mut self.pass);
         match LibFs::open(
             rt,
             alloc,
@@ -110,7 +118,7 @@ impl<'a, C: Revokes + Drop> MainThreadOf<'a, C> {
             turns,
         ) {
             Ok(mut libfs) => {
-                self.pass = libfs.split();
+                self.pass = libfs.split_opener();
                 Ok(libfs)
             }
             Err((refusal, pass, revoker)) => {
@@ -125,6 +133,7 @@ impl<'a, C: Revokes + Drop> MainThreadOf<'a, C> {
         ensures extends { Extends (main_seen self.new) (main_seen self.old) }
         ensures keeper { main_keeper self.new ≡ main_keeper self.old }
         ensures lacks { MayLack node (main_seen self.new) result }
+        ensures none_opened { OpensNone (main_seen self.old) (main_seen self.new) }
     {
         let mut held = self.keeper.take(rt, &mut self.pass);
         let refusal = refusal_without_revoker(held.state(), node);
@@ -135,6 +144,7 @@ impl<'a, C: Revokes + Drop> MainThreadOf<'a, C> {
     /// One replicate turn of a node, over a perfect link: how many frames were taken in.
     pub(crate) fn carry<R: Wait>(&mut self, rt: &R, alloc: Global, node: u64) -> Response
         ensures carries { CarriesSome node result (main_seen self.old) (main_seen self.new) }
+        ensures seen { main_seen self.new ≡ main_seen self.old }
         ensures keeper { main_keeper self.new ≡ main_keeper self.old }
     {
         let Ok(node) = u32::try_from(node) else {
@@ -152,6 +162,7 @@ impl<'a, C: Revokes + Drop> MainThreadOf<'a, C> {
     /// Does something in one take.
     pub(crate) fn in_one_take<R: Wait>(&mut self, rt: &R, alloc: Global, take: Take) -> Response
         ensures does { InOneTake (DoesTake take result) (main_seen self.old) (main_seen self.new) }
+        ensures none_opened { OpensNone (main_seen self.old) (main_seen self.new) }
         ensures keeper { main_keeper self.new ≡ main_keeper self.old }
     {
         let mut held = self.keeper.take(rt, &mut self.pass);
@@ -169,6 +180,7 @@ impl<'a, C: Revokes + Drop> MainThreadOf<'a, C> {
         turns: u32,
     ) -> Response
         ensures comes { ComesBackInTakes node result (main_seen self.old) (main_seen self.new) }
+        ensures none_opened { OpensNone (main_seen self.old) (main_seen self.new) }
         ensures keeper { main_keeper self.new ≡ main_keeper self.old }
     {
         let begun = self.in_one_take(rt, alloc, Take::BeginReturn(node));
@@ -188,21 +200,14 @@ impl<'a, C: Revokes + Drop> MainThreadOf<'a, C> {
         Response::Refused(Refusal::Busy)
     }
 
-    /// All clients are told apart no more: there is one history with the calls of all. Whether this client, or a later one, was opened.
-    pub(crate) fn end<R: Wait>(
-        self,
-        rt: &R,
-        clients: Vec<LibFs<'a, ClusterOf<C>>>,
-        next: u32,
-    ) -> bool
+    /// All clients are told apart no more: there is one history with the calls of all.
+    pub(crate) fn end<R: Wait>(self, rt: &R, clients: Vec<LibFs<'a, ClusterOf<C>>>)
         requires at { AreAt (main_keeper self) clients.items }
-        requires some { 1 ≤ next }
         ensures { (seen_last : List EntryValue) × AreMet (main_seen self.entry)
-            (sights clients.entry.items) next result seen_last }
+            (sights clients.entry.items) seen_last }
     {
         let MainThreadOf { keeper, pass } = self;
-        let (_, more) = meet_all(rt, keeper, pass, clients.into_iter(), next);
-        more
+        let _ = meet_all(rt, keeper, pass, clients.into_iter());
     }
 
     /// The text of the history so far.
@@ -210,6 +215,7 @@ impl<'a, C: Revokes + Drop> MainThreadOf<'a, C> {
         ensures extends { Extends (main_seen self.new) (main_seen self.old) }
         ensures keeper { main_keeper self.new ≡ main_keeper self.old }
         ensures legal { ∥ IsLegal (main_seen self.new) ∥₁ }
+        ensures none_opened { OpensNone (main_seen self.old) (main_seen self.new) }
         ensures text { IfOk result (λ text. string_bytes text ≡ history_text (main_seen self.new)) }
     {
         let mut held = self.keeper.take(rt, &mut self.pass);

@@ -1,6 +1,7 @@
 // Clients meet with a pass of nobody.
-ghost use Rattle.std.specs.Prelude.{◌≡◌, ◌≤◌, [], None};
-ghost use Rattle.assise_keeper.specs.Passes.{IsPassOf, client as client_of_pass, seen};
+ghost use Rattle.std.specs.Prelude.{◌≡◌, [], None};
+ghost use Rattle.assise_keeper.specs.declared.view.Opens.TheVariants.{Alone};
+ghost use Rattle.assise_keeper.specs.Passes.{IsPassOf, client as client_of_pass, opens, seen};
 ghost use Rattle.assise_threads.specs.AtKeeper.{AreAt};
 ghost use Rattle.assise_threads.specs.Hearing.{sights};
 ghost use Rattle.assise_threads.specs.OneHistory.{AreMet};
@@ -13,50 +14,48 @@ use assise_machine::cluster::ClusterOf;
 use std::sync::Wait;
 use std::vec::IntoIter;
 
-/// Clients meet with a pass of nobody, each twice: what the pass has seen between the last first meeting and the first second one is one
-/// history that has the calls of all. Whether this client, or a later one, was opened then.
+/// Clients meet with a pass of nobody that alone may open clients, each twice: what the pass has seen between the last first meeting and
+/// the first second one is one history that has the calls of all, and no opening that the pass hadn't seen before.
 pub(crate) fn meet_all<'a, C: Revokes + Drop, R: Wait>(
     rt: &R,
     keeper: &'a Keeper<ClusterOf<C>>,
     pass: Pass<ClusterOf<C>>,
     mut clients: IntoIter<LibFs<'a, ClusterOf<C>>>,
-    next: u32,
-) -> (Pass<ClusterOf<C>>, bool)
+) -> Pass<ClusterOf<C>>
     requires pass { IsPassOf keeper.now pass }
     requires nobody { client_of_pass pass ≡ None }
+    requires alone { opens pass ≡ Alone }
     requires at { AreAt keeper.now clients.rest.items }
-    requires some { 1 ≤ next }
-    ensures pass { IsPassOf keeper.now result.0 }
-    ensures nobody { client_of_pass result.0 ≡ None }
-    ensures met { AreMet (seen pass) (sights clients.entry.rest.items) next result.1
-        (seen result.0) }
+    ensures pass { IsPassOf keeper.now result }
+    ensures nobody { client_of_pass result ≡ None }
+    ensures alone { opens result ≡ Alone }
+    ensures met { AreMet (seen pass) (sights clients.entry.rest.items) (seen result) }
 {
     let Some(client) = clients.next() else {
-        return look(rt, keeper, pass, next);
+        return look(rt, keeper, pass);
     };
     let (pass, its) = keeper.meet(rt, pass, client.into_pass());
-    let (pass, more) = meet_all(rt, keeper, pass, clients, next);
+    let pass = meet_all(rt, keeper, pass, clients);
     let (pass, _) = keeper.meet(rt, pass, its);
-    (pass, more)
+    pass
 }
 
-/// What a pass of nobody sees, and whether this client, or a later one, was opened.
+/// What a pass of nobody sees.
 fn look<C: Revokes + Drop, R: Wait>(
     rt: &R,
     keeper: &Keeper<ClusterOf<C>>,
     pass: Pass<ClusterOf<C>>,
-    next: u32,
-) -> (Pass<ClusterOf<C>>, bool)
+) -> Pass<ClusterOf<C>>
     requires pass { IsPassOf keeper.now pass }
     requires nobody { client_of_pass pass ≡ None }
-    requires some { 1 ≤ next }
-    ensures pass { IsPassOf keeper.now result.0 }
-    ensures nobody { client_of_pass result.0 ≡ None }
-    ensures met { AreMet (seen pass) [] next result.1 (seen result.0) }
+    requires alone { opens pass ≡ Alone }
+    ensures pass { IsPassOf keeper.now result }
+    ensures nobody { client_of_pass result ≡ None }
+    ensures alone { opens result ≡ Alone }
+    ensures met { AreMet (seen pass) [] (seen result) }
 {
     let mut pass = pass;
-    let mut held = keeper.take(rt, &mut pass);
-    let more = held.state().acked(next).is_ok();
+    let held = keeper.take(rt, &mut pass);
     keeper.give(&mut pass, held);
-    (pass, more)
+    pass
 }

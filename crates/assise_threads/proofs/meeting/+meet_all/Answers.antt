@@ -9,6 +9,6 @@ pub returns-clause-met : goal.returns-clause-met
 returns-clause-met g t c =
     let first = c.meet-pass.ensures in
     let second = c.meet-pass-2.ensures in
-    subst (λ z. AreMet (seen c.args.pass) (sights z) c.args.next c.meet_all-pass.result.1 (seen c.meet-pass-2.result.0)) (sym c.in-Some.ensures.items)
-    (met_client c.in-Some.client c.args.pass c.into_pass.result c.meet-pass.result.0 c.meet-pass.result.1 c.meet_all-pass.result.0 c.meet-pass-2.result.0 c.meet-pass-2.result.1 c.args.next c.meet_all-pass.result.1 (sights c.next.new.self.rest.items)
-    c.into_pass.ensures.pass first.one first.first.0 first.second.0 first.second.1 first.calls_of_second c.meet_all-pass.ensures.met second.first.0 second.one second.second.1 second.calls_of_second)
+    subst (λ z. AreMet (seen c.args.pass) (sights z) (seen c.meet-pass-2.result.0)) (sym c.in-Some.ensures.items)
+    (met_client c.in-Some.client c.args.pass c.into_pass.result c.meet-pass.result.0 c.meet-pass.result.1 c.meet_all-pass.result c.meet-pass-2.result.0 c.meet-pass-2.result.1 (sights c.next.new.self.rest.items)
+    c.into_pass.ensures.pass first.one first.first.0 (first.first_alone c.requires.alone) first.second.0 first.second.1 first.calls_of_second c.meet_all-pass.ensures.met second.first.0 second.one second.second.1 second.calls_of_second)

@@ -11,6 +11,7 @@ returns-in-History-clause-said g c =
     on_ok c.write_history.result _ _ wrote.text (λ text. record {
       answer = Whole;
       answered = rw c.in-History.is (record { answer = refl; extends = wrote.extends; legal = wrote.legal });
+      opened = rw c.in-History.is wrote.none_opened;
       appends = text;
       clients = rw c.in-History.is refl;
     })
@@ -22,6 +23,7 @@ returns-clause-said g c =
     on_ok c.write_answer.result _ _ c.write_answer.ensures.written (λ text. record {
       answer = answer;
       answered = c.in_ok-answer.ensures.answered;
+      opened = c.in_ok-answer.ensures.opened;
       appends = subst (Appends (g.W.Write.contents c.args.writer.now) (g.W.Write.contents c.write_answer.new.writer)) (line_shows_none line.line line.command answer [] (main_seen c.args.self.now.main) (main_seen c.answer.new.self.main) c.in_default.not-History c.in_ok-answer.ensures.answered) text;
       clients = c.in_ok-answer.ensures.clients;
     })

@@ -1,6 +1,7 @@
 use Rattle.assise_threads.specs.Answered.{is_refused, joins, stops_filling}
 use Rattle.assise_threads.specs.Threads.{main_seen}
 use Rattle.assise_workers.proofs.Lists.{extends-on}
+use Rattle.assise_threads.proofs.Nobodys.{none_then_none}
 use Rattle.assise_threads.proofs.main_thread.MainThreadOf.bring_back.Goals as goal
 
 pub returns-in-Refused-clause-comes : goal.returns-in-Refused-clause-comes
@@ -14,3 +15,9 @@ returns-then-not-is_busy-clause-comes g c =
     joins (main_seen c.in_one_take-filled.new.self)
     (extends-on (main_seen c.in_one_take-filled.new.self) (main_seen c.loop.self) (main_seen c.args.self.now) c.in_one_take-filled.ensures.does.grows c.loop.invariant.extends)
     c.in_one_take-joined.ensures.does
+
+pub returns-in-Refused-filled-clause-none_opened : goal.returns-in-Refused-filled-clause-none_opened
+returns-in-Refused-filled-clause-none_opened g c = none_then_none _ _ _ c.loop.invariant.none_opened c.in_one_take-filled.ensures.none_opened
+
+pub returns-then-not-is_busy-clause-none_opened : goal.returns-then-not-is_busy-clause-none_opened
+returns-then-not-is_busy-clause-none_opened g c = none_then_none _ _ _ c.loop.invariant.none_opened (none_then_none _ _ _ c.in_one_take-filled.ensures.none_opened c.in_one_take-joined.ensures.none_opened)

@@ -1,15 +1,15 @@
 use Rattle.std.proofs.Common.{rules, ◌≡◌, ◌∙◌}
-use Rattle.assise_keeper.specs.Clients.{Extends}
+use Rattle.assise_keeper.specs.Clients.{Extends, openings_of}
 use Rattle.assise_keeper.specs.Passes.{taken}
 use Rattle.assise_machine.specs.Clusters.{machine}
 use Rattle.assise_threads.specs.Threads.{main_seen}
-use Rattle.assise_threads.proofs.Nobodys.{given_extends, is_legal, may_give, stays_nobody}
+use Rattle.assise_threads.proofs.Nobodys.{given_extends, given_opens_none, is_legal, may_give, stays_nobody}
 use Rattle.assise_threads.proofs.main_thread.MainThreadOf.in_one_take.Goals as goal
 
 pub give-requires-clause-grows : goal.give-requires-clause-grows
 give-requires-clause-grows g c =
     let is : taken c.take-held.new.pass ≡ (machine c.state.result.now).history = search rules in
-    may_give _ _ _ _ (c.take-held.ensures.same.1 ∙ c.args.self.now.nobody) is c.apply-answer.ensures.nobodys
+    may_give _ _ _ _ _ (c.take-held.ensures.same.1 ∙ c.args.self.now.nobody) is c.apply-answer.ensures.nobodys
 
 pub invariant_of-self : goal.invariant_of-self
 invariant_of-self g c =
@@ -17,6 +17,7 @@ invariant_of-self g c =
     record {
       ours = c.give.ensures.free;
       nobody = c.give.ensures.client ∙ stays_nobody _ _ _ _ (c.take-held.ensures.same.1 ∙ c.args.self.now.nobody) is c.apply-answer.ensures.nobodys;
+      alone = c.give.ensures.right ∙ (c.take-held.ensures.right ∙ c.args.self.now.alone);
     }
 
 pub returns-clause-does : goal.returns-clause-does
@@ -33,3 +34,8 @@ returns-clause-does g c =
       legal = is_legal c.apply-answer.new.cluster _ c.give.ensures.seen;
       grows = given_extends _ _ _ _ extends c.apply-answer.ensures.nobodys c.give.ensures.seen;
     }
+
+pub returns-clause-none_opened : goal.returns-clause-none_opened
+returns-clause-none_opened g c =
+    let known : openings_of (machine c.state.result.now).history ≡ openings_of (main_seen c.args.self.now) = rw (← c.state.ensures.value) (c.take-held.ensures.alone c.args.self.now.alone) in
+    given_opens_none _ _ _ _ known c.apply-answer.ensures.nobodys c.give.ensures.seen
