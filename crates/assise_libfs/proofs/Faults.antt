@@ -14,13 +14,13 @@ use Rattle.assise_names.specs.declared.refusal.Refusal.{Refusal}
 use Rattle.assise_names.specs.declared.refusal.Refusal.TheVariants.{BadClient, BadNode, ClientGone, InodesSpent, LogFull, NodeDown, OutOfMemory, TooLarge}
 use Rattle.assise_names.specs.declared.limits.TheConstants.{MOST_CLIENTS}
 use Rattle.assise_history.specs.Entries.{opens}
-use Rattle.assise_history.specs.Legal.{IsAlive, IsDown, MayCall, clients_opened, durability_of, is_crash_of, is_failure_of}
+use Rattle.assise_history.specs.Legal.{IsDown, MayCall, clients_opened, durability_of, is_failure_of}
 use Rattle.assise_history.proofs.ClientCounts.{next_opened, opened_within}
 use Rattle.assise_history.proofs.Legality.{fits_in}
 use Rattle.assise_inode_table.specs.Numbers.{makes_inode}
 use Rattle.assise_inode_table.proofs.CallEnds.{makes_own}
 use Rattle.assise_manager.specs.Standings.{Standing, full, down, returning, standing_of}
-use Rattle.assise_model_world.specs.World.{Full, IsClient, view}
+use Rattle.assise_model_world.specs.World.{IsClient, view}
 use Rattle.assise_model_history.specs.Numbered.{made_in}
 use Rattle.assise_model_events.specs.ClientEvents.{Opening, Calling, Noting, Syncing, call_of_client, is_answered, is_awaited, is_full, is_noted, is_opened, is_refused, is_replicating, is_spent, is_synced, lacks_memory, last_world}
 use Rattle.assise_model_events.specs.Dsyncs.{Coalescing, is_coalesced, is_refused, is_synced, lacks_memory}
@@ -30,7 +30,7 @@ use Rattle.assise_model_events.specs.Happenings.{Dsyncing, Fsyncing, Trying}
 use Rattle.assise_model_events.specs.Machine.{Machine, MachineInvariant}
 use Rattle.assise_model_events.proofs.Rejoined.{stands_is_node}
 use Rattle.assise_machine_calls.specs.Answers.{opening_answer}
-use Rattle.assise_libfs.specs.Calling.{HasSpentInodes, IsCutOff, MakesInode, MayRefuseTry, WritesTooMuch}
+use Rattle.assise_libfs.specs.Calling.{IsCutOff, MakesInode, MayRefuseTry, WritesTooMuch}
 use Rattle.assise_libfs.specs.Lives.{HasCrashed, HasLostNode, IsOpenedOn}
 use Rattle.assise_libfs.specs.Opening.{MayRefuseOpen}
 

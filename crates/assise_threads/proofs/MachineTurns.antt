@@ -93,6 +93,7 @@ module _ (C : Type 0) where
     either_of reads answer end mid new (inr r) = inr r
 
     replicates_of : (n : ℕ) (end : TurnEnd) (old new : List EntryValue) → Replicates there does F cluster_reads n end old new → Replicates history_seen HappensSoundly G versions_read n end old new
+    unfolding turn_of
     replicates_of n end old new t = record { answer = t.answer; mid = t.mid; sent = turn_of _ t.answer old t.mid t.sent; went = either_of (cluster_reads t.sent.before) t.answer end t.mid new t.went }
 
   module _ (F : Type 0) (faithful : F) (k n : ℕ) where

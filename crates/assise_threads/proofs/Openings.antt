@@ -10,7 +10,7 @@ use Rattle.assise_fault_script.specs.declared.command.Command.{Command}
 use Rattle.assise_fault_script.specs.declared.command.Command.TheVariants.{Cluster, Manual, Open, Call, Carry, Link, Hot, Digest, Release, Crash, Fail, Back, Refill, Join, Raise, Tree, History, Check}
 use Rattle.assise_console.specs.declared.response.Response.{Response}
 use Rattle.assise_workers.proofs.Lists.{extends-on}
-use Rattle.assise_threads.specs.Answered.{AnswersCommand, CarriesSome, ComesBackInTakes, IsCallAnswered, OpensOne, is_busy, is_carried, is_nowhere, is_opened, is_stopped, is_refused, is_replied, joins, lacks_revoker, stops_filling}
+use Rattle.assise_threads.specs.Answered.{AnswersCommand, CarriesSome, ComesBackInTakes, IsCallAnswered, OpensOne, is_busy, is_carried, is_nowhere, is_opened, is_refused, is_replied, joins, lacks_revoker, stops_filling}
 use Rattle.assise_threads.specs.Runs.{IsSaid}
 use Rattle.assise_threads.specs.Said.{Said}
 
@@ -30,7 +30,6 @@ call_on a old new (is_refused r is same) = extends_same_as new old same
 
 carry_on : (n : ℕ) (a : Response) (old new : List EntryValue) → CarriesSome n a old new → Extends new old
 carry_on n a old new (is_carried count later is done same) = extends_same_as new old same
-carry_on n a old new (is_stopped later is done same) = extends_same_as new old same
 carry_on n a old new (is_refused r later is done same) = extends_same_as new old same
 carry_on n a old new (is_nowhere is same) = extends_same_as new old same
 

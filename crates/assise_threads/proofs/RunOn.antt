@@ -19,7 +19,7 @@ use Rattle.assise_console.specs.Lines.{line_text}
 use Rattle.assise_rounds.specs.Traces.{Told}
 use Rattle.assise_console.specs.Steps.{IsVerdict, SetsHot, Shows, is_verdict, is_made, is_out, is_shown, lacks_memory, lacks_room, is_refused as not_shown}
 use Rattle.assise_libfs.specs.declared.libfs.LibFs.{LibFs}
-use Rattle.assise_threads.specs.Answered.{AnswersCommand, joins, stops_filling, is_refused, is_busy, is_opened, is_carried, is_nowhere, is_replied, is_stopped, lacks_revoker}
+use Rattle.assise_threads.specs.Answered.{AnswersCommand, joins, stops_filling, is_refused, is_busy, is_opened, is_carried, is_nowhere, is_replied, lacks_revoker}
 use Rattle.assise_threads.specs.CallsAhead.{AreSaidNext, is_one, is_stretch}
 use Rattle.assise_threads.specs.Hearing.{sights}
 use Rattle.assise_threads.specs.Runs.{EndsRun, IsRunSaid, ThreadFault}
@@ -89,7 +89,6 @@ not_whole (Open node kind u) old new other (lacks_revoker r is e may) = let x : 
 not_whole (Call c op) old new other (is_replied reply is e) = let x : Whole ≡ Replied reply = is in cc
 not_whole (Call c op) old new other (is_refused r is e) = let x : Whole ≡ Refused r = is in cc
 not_whole (Carry node) old new other (is_carried count later is done e) = let x : Whole ≡ Carried count = is in cc
-not_whole (Carry node) old new other (is_stopped later is done e) = let x : Whole ≡ Carried 0 = is in cc
 not_whole (Carry node) old new other (is_refused r later is done e) = let x : Whole ≡ Refused r = is in cc
 not_whole (Carry node) old new other (is_nowhere is e) = let x : Whole ≡ Refused BadNode = is in cc
 not_whole (Link node kind) old new other h = let x : Whole ≡ Quiet = h.answer in cc

@@ -1,5 +1,5 @@
 -- Frames that are carried, one after another.
-use Rattle.std.proofs.Common.{◌≡◌, ◌∙◌, ℕ, ◌+◌, ◌≤◌, ap, arith, Bool, true, false, List, [], ◌∷◌, ◌++◌, map, Option, None, Some, Result, Ok, Err, refl, sym, subst, append_assoc}
+use Rattle.std.proofs.Common.{◌≡◌, ◌∙◌, ℕ, ◌+◌, ◌≤◌, ap, arith, Bool, true, false, List, [], ◌∷◌, ◌++◌, map, None, Some, Result, Ok, Err, refl, sym, subst, append_assoc}
 use Rattle.std.specs.Prelude.{is_ok, min}
 use Rattle.std.specs.Int.{from_bool}
 use Rattle.std.specs.List.{AllByRecursion}
@@ -9,10 +9,10 @@ use Rattle.assise_names.specs.declared.refusal.Refusal.{Refusal}
 use Rattle.assise_history.specs.Entries.{EntryValue}
 use Rattle.assise_libfs.specs.InTurns.{InOneTurn}
 use Rattle.assise_machine.specs.Answers.{delivery_answer}
-use Rattle.assise_model_events.specs.Events.{Answer, ClusterEvent, deliver, received, refused}
+use Rattle.assise_model_events.specs.Events.{Answer, ClusterEvent, deliver, received}
 use Rattle.assise_record.specs.LogFrame.{LogFrame}
 use Rattle.assise_rounds.specs.Rounds.{AreSame, Carried, IsSame, deliveries, delivery, is_taken_in, letter, taken}
-use Rattle.assise_workers.specs.Acting.{HasCarried, HasDone, IsRead, Sends}
+use Rattle.assise_workers.specs.Acting.{HasCarried, HasDone, IsRead}
 use Rattle.assise_workers.specs.Letters.{AreReadBy, letter_of, letters_seen}
 use Rattle.assise_workers.specs.Taking.{taken_for}
 use Rattle.assise_workers.specs.declared.letter.Letter.{Letter}

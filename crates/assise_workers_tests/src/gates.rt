@@ -31,6 +31,8 @@ pub(crate) struct UntilAnswered {
 }
 
 impl Gate for UntilAnswered {
+    ghost is_open = { λ gate. ⊥ };
+
     fn pass(&self, point: Point) -> bool {
         if point == Point::BeforeCarry && !self.held.swap(true, Ordering::SeqCst) {
             self.came.store(wait_for(&self.answered), Ordering::SeqCst);
@@ -51,6 +53,8 @@ pub(crate) struct AllAtOnce {
 }
 
 impl Gate for AllAtOnce {
+    ghost is_open = { λ gate. Unit {0} };
+
     fn pass(&self, point: Point) -> bool {
         match point {
             Point::BeforeCarry => {

@@ -1,9 +1,12 @@
-use Rattle.assise_threads.proofs.Meetings.{met_none}
-use Rattle.assise_threads.proofs.Nobodys.{is_legal}
-use Rattle.std.proofs.Common.{◌≡◌, ◌∙◌, ap, sym, subst}
+use Rattle.std.proofs.Common.{◌∙◌, ap, sym, subst}
 use Rattle.assise_keeper.specs.Clients.{Extends, openings_of}
 use Rattle.assise_keeper.specs.Passes.{seen}
+use Rattle.assise_threads.proofs.Meetings.{met_none}
+use Rattle.assise_threads.proofs.Nobodys.{is_legal, may_give_same}
 use Rattle.assise_threads.proofs.meeting.look.Goals as goal
+
+pub give-requires-clause-grows : goal.give-requires-clause-grows
+give-requires-clause-grows g c = may_give_same _ _ _ _ c.take-held.ensures.taken
 
 pub returns-clause-met : goal.returns-clause-met
 returns-clause-met g c =

@@ -1,5 +1,4 @@
-use Rattle.std.proofs.Common.{arith, ◌≡◌, ◌∙◌, ◌+◌, ◌≤◌, ◌++◌, ◌∷◌, [], take, length, vec_len, subst, sym, ap}
-use Rattle.std.specs.Prelude.{vec_capacity}
+use Rattle.std.proofs.Common.{arith, ◌≡◌, ◌∙◌, ◌+◌, ◌++◌, ◌∷◌, [], take, subst, sym, ap}
 use Rattle.std.proofs.lemmas.List.{take_more}
 use Rattle.assise_libfs.specs.Clients.{client_of, limit_of, seen_by}
 use Rattle.assise_libfs.proofs.Same.{same-then}

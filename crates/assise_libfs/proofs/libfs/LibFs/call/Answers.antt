@@ -1,4 +1,4 @@
-use Rattle.std.proofs.Common.{◌≡◌, ◌∙◌, ap, arith, subst, sym, Ok}
+use Rattle.std.proofs.Common.{◌∙◌, ap, subst, Ok}
 use Rattle.assise_libfs.specs.Calling.{MayRefuse}
 use Rattle.assise_libfs.specs.Clients.{client_of, node_of, seen_by}
 use Rattle.assise_libfs.specs.Lives.{IsOpenedOn}

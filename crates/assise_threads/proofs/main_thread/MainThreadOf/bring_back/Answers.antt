@@ -17,7 +17,10 @@ returns-then-not-is_busy-clause-comes g c =
     c.in_one_take-joined.ensures.does
 
 pub returns-in-Refused-filled-clause-none_opened : goal.returns-in-Refused-filled-clause-none_opened
-returns-in-Refused-filled-clause-none_opened g c = none_then_none _ _ _ c.loop.invariant.none_opened c.in_one_take-filled.ensures.none_opened
+returns-in-Refused-filled-clause-none_opened g c =
+    none_then_none (main_seen c.args.self.now) (main_seen c.loop.self) (main_seen c.in_one_take-filled.new.self) c.loop.invariant.none_opened c.in_one_take-filled.ensures.none_opened
 
 pub returns-then-not-is_busy-clause-none_opened : goal.returns-then-not-is_busy-clause-none_opened
-returns-then-not-is_busy-clause-none_opened g c = none_then_none _ _ _ c.loop.invariant.none_opened (none_then_none _ _ _ c.in_one_take-filled.ensures.none_opened c.in_one_take-joined.ensures.none_opened)
+returns-then-not-is_busy-clause-none_opened g c =
+    let filled = none_then_none (main_seen c.args.self.now) (main_seen c.loop.self) (main_seen c.in_one_take-filled.new.self) c.loop.invariant.none_opened c.in_one_take-filled.ensures.none_opened in
+    none_then_none (main_seen c.args.self.now) (main_seen c.in_one_take-filled.new.self) (main_seen c.in_one_take-joined.new.self) filled c.in_one_take-joined.ensures.none_opened

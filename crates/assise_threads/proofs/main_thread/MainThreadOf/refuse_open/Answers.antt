@@ -1,6 +1,6 @@
-use Rattle.std.proofs.Common.{rules, ◌≡◌, ◌∙◌}
+use Rattle.std.proofs.Common.{rules, ◌≡◌, ◌∙◌, ap, sym}
 use Rattle.assise_keeper.specs.Clients.{openings_of}
-use Rattle.assise_keeper.specs.Passes.{taken}
+use Rattle.assise_keeper.specs.Passes.{seen, taken}
 use Rattle.assise_machine.specs.Clusters.{machine}
 use Rattle.assise_threads.specs.Threads.{main_seen}
 use Rattle.assise_threads.proofs.Nobodys.{may_give_same, same_opens_none, stays_nobody_same}
@@ -22,5 +22,6 @@ invariant_of-self g c =
 
 pub returns-clause-none_opened : goal.returns-clause-none_opened
 returns-clause-none_opened g c =
-    let known : openings_of (machine c.state.result.now).history ≡ openings_of (main_seen c.args.self.now) = rw (← c.state.ensures.value) (c.take-held.ensures.alone c.args.self.now.alone) in
-    same_opens_none _ _ _ known c.give.ensures.seen
+    let is : taken c.take-held.new.pass ≡ (machine c.state.result.now).history = search rules in
+    let known : openings_of (machine c.state.result.now).history ≡ openings_of (main_seen c.args.self.now) = ap openings_of (sym is ∙ c.take-held.ensures.taken) ∙ c.take-held.ensures.alone c.args.self.now.alone in
+    same_opens_none (main_seen c.args.self.now) (machine c.state.result.now).history (seen c.give.new.pass) known c.give.ensures.seen

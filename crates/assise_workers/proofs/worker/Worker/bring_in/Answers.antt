@@ -1,4 +1,4 @@
-use Rattle.std.proofs.Common.{rules, ◌≡◌}
+use Rattle.std.proofs.Common.{rules}
 use Rattle.assise_keeper.specs.Clients.{Extends}
 use Rattle.assise_workers.specs.Working.{seen_at}
 use Rattle.assise_workers.proofs.Deliveries.{one_if_ok}
