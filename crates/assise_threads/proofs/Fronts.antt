@@ -134,6 +134,7 @@ opening_hears c (opens d n u ∷ es) h us new = by_case (eqb_tells d c)
   where
     goal-at : Bool → Type 0
     goal-at b = IsOpenedThen b h (sight_of c us) (sight_of c (us ++ (d, h) ∷ []))
+
     by_case : (((d == c) ≡ true) × (d ≡ c)) ⊎ (((d == c) ≡ false) × (d ≢ c)) → goal-at (d == c)
     by_case (inl (is, same)) = let none : sight_of c us ≡ None = subst (λ n. sight_of n us ≡ None) same new in subst goal-at (sym is) (none, last_is c d h us is none)
     by_case (inr (is, other)) = subst goal-at (sym is) (last_isnt c d h us is)
@@ -144,9 +145,14 @@ opening_hears c (returns n ∷ es) h us new = refl
 
 pub one_hears : (c : ℕ) (s : Said) (earlier later : Sights) → call_in c s.command.command ≡ [] → later ≡ with_opened earlier s.history (opening_in s.command.command s.answer) → AreNew earlier (opening_in s.command.command s.answer)
     → HearsOn c (sight_of c earlier) (s ∷ []) (sight_of c later)
-one_hears c s earlier later none is new =
-    (sight_of c later, (subst (λ z. HearsLine c s z (sight_of c earlier) (sight_of c later)) (sym none)
-    (subst (λ z. HearsOpening c (opening_in s.command.command s.answer) s.history (sight_of c earlier) (sight_of c z)) (sym is) (opening_hears c (opening_in s.command.command s.answer) s.history earlier new)), refl))
+one_hears c s earlier later none is new = (
+  sight_of c later,
+  (
+    subst (λ z. HearsLine c s z (sight_of c earlier) (sight_of c later)) (sym none)
+        (subst (λ z. HearsOpening c (opening_in s.command.command s.answer) s.history (sight_of c earlier) (sight_of c z)) (sym is) (opening_hears c (opening_in s.command.command s.answer) s.history earlier new)),
+    refl,
+  ),
+)
 
 -- ---- clients were opened in what is seen
 

@@ -1,7 +1,7 @@
 -- What a worker's turn is: events of the state, each between a take and its give.
 -- Assise (OSDI 2020), section 3 (a process of each node replicates and digests); van Renesse and Schneider, chain replication
 -- (OSDI 2004), section 2.
-use Rattle.std.specs.Prelude.{◌≡◌, ◌<◌, ◌≤◌, ◌⊎◌, ℕ, List, [], ◌∷◌, Option, None, Some, Result, IfSome, map}
+use Rattle.std.specs.Prelude.{◌≡◌, ◌<◌, ◌≤◌, ◌+◌, ◌⊎◌, ℕ, List, [], ◌∷◌, Option, None, Some, Result, Ok, Err, IfSome, map, min}
 use Rattle.std.specs.List.{AllByRecursion}
 use Rattle.assise_names.specs.declared.refusal.Refusal.{Refusal}
 use Rattle.assise_history.specs.Entries.{EntryValue}
@@ -22,6 +22,11 @@ IsRead newest came = IfSome came (λ c. c.0.version ≤ newest)
 pub record Counts (n : ℕ) (carried : List Carried) : Type 0 where
   pub few : n ≤ taken carried
   pub all : taken carried < 18446744073709551616 → n ≡ taken carried
+
+-- how many records were digested: none where that is refused
+abbrev pub digested_count : Result ℕ Refusal → ℕ
+digested_count (Ok n) = n
+digested_count (Err r) = 0
 
 module _ {S : Type 0} (history : S → List EntryValue) (acts : S → ClusterEvent → Answer → S → Type 0) where
   -- these events happened, each in a take of its own, with these answers
@@ -63,8 +68,8 @@ module _ {S : Type 0} (history : S → List EntryValue) (acts : S → ClusterEve
     pub sent : InOneTurn history acts (outgoing n) answer old mid
     pub went : Went faithful (reads sent.before) answer end mid new
 
-  -- In one take the node digested, and leases went that may: nothing else happened.
-  pub record Digests (n : ℕ) (old new : List EntryValue) : Type 0 where
+  -- In one take the node digested, and leases went that may: nothing else happened. So many it were, as far as 64 bits tell.
+  pub record Digests (n count : ℕ) (old new : List EntryValue) : Type 0 where
     pub before : S
     pub between : S
     pub after : S
@@ -73,4 +78,16 @@ module _ {S : Type 0} (history : S → List EntryValue) (acts : S → ClusterEve
     pub extends : Extends (history before) old
     pub digests : acts before (digest n) (digesting_answer digested) between
     pub releases : acts between release_ready (released freed) after
+    pub counted : count ≡ min (digested_count digested + freed) 18446744073709551615
     pub seen : new ≡ history after
+
+  -- what a digester's turn came to: nothing, where the worker is stopped
+  abbrev pub DigestsSome : ℕ → TurnEnd → List EntryValue → List EntryValue → Type 0
+  DigestsSome n (Did count) old new = Digests n count old new
+  DigestsSome n (Refused r) old new = ⊥
+  DigestsSome n Stopped old new = new ≡ old
+
+-- so many turns, each behind the other: what each came to, the last one first
+abbrev pub TurnAfterTurn : (turn : TurnEnd → List EntryValue → List EntryValue → Type 0) → List TurnEnd → List EntryValue → List EntryValue → Type 0
+TurnAfterTurn turn [] old new = new ≡ old
+TurnAfterTurn turn (end ∷ ends) old new = (mid : List EntryValue) × (TurnAfterTurn turn ends old mid × turn end mid new)

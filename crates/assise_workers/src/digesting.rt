@@ -8,9 +8,11 @@ use std::alloc::Global;
 use std::sync::Wait;
 
 impl<'a, S: Replicated> Worker<'a, S> {
-    ghost use Rattle.std.specs.Prelude.{◌≡◌, ◌⊎◌};
-    ghost use Rattle.assise_workers.specs.Acting.{Digests};
+    ghost use Rattle.std.specs.Prelude.{◌≡◌, List};
+    ghost use Rattle.assise_workers.specs.Acting.{DigestsSome, TurnAfterTurn};
     ghost use Rattle.assise_workers.specs.Working.{GoesOn, seen_at};
+    ghost use Rattle.assise_workers.specs.declared.worker.TurnEnd.{TurnEnd};
+    ghost use Rattle.assise_workers.specs.declared.worker.TurnEnd.TheVariants.{Stopped};
 
     /// One turn: the node digests, and leases go that may. It answers how many records were digested and leases let go of. A digest
     /// that is refused ends nothing.
@@ -22,8 +24,9 @@ impl<'a, S: Replicated> Worker<'a, S> {
         gate: &G,
     ) -> TurnEnd
         ensures goes_on { GoesOn self.old self.new }
-        ensures turn { Digests S.Growing.history S.acts node (seen_at self.old) (seen_at self.new)
-            ⊎ (seen_at self.new ≡ seen_at self.old) }
+        ensures turn { DigestsSome S.Growing.history S.acts node result (seen_at self.old)
+            (seen_at self.new) }
+        ensures whole { G.is_open gate.now → result ≡ Stopped → ⊥ }
     {
         if !gate.pass(Point::BeforeDigest) {
             return TurnEnd::Stopped;
@@ -37,7 +40,9 @@ impl<'a, S: Replicated> Worker<'a, S> {
 
     /// Digests for a node, turn after turn, until the gate ends it.
     pub fn digest_loop<G: Gate, R: Wait>(&mut self, rt: &R, alloc: Global, node: u32, gate: &G)
-        ensures { GoesOn self.old self.new }
+        ensures goes_on { GoesOn self.old self.new }
+        ensures turns { (ends : List TurnEnd) × TurnAfterTurn (DigestsSome
+            S.Growing.history S.acts node) ends (seen_at self.old) (seen_at self.new) }
     {
         let mut idle = Idle::new();
         for _ in rt.forever() {

@@ -49,14 +49,15 @@ fn addressed<S: Replicated>(
 }
 
 impl<'a, S: Replicated> Worker<'a, S> {
-    ghost use Rattle.std.specs.Prelude.{◌≡◌, ℕ, IfErr, IfOk, None};
+    ghost use Rattle.std.specs.Prelude.{◌≡◌, ℕ, IfErr, IfOk, List, None};
     ghost use Rattle.assise_libfs.specs.InTurns.{InOneTurn};
     ghost use Rattle.assise_link.specs.Kinds.{perfect};
     ghost use Rattle.assise_model_events.specs.Events.{Answer, deliver, outgoing, sent};
-    ghost use Rattle.assise_workers.specs.Acting.{Replicates, Sends, SendsAll};
+    ghost use Rattle.assise_workers.specs.Acting.{Replicates, Sends, SendsAll, TurnAfterTurn};
     ghost use Rattle.assise_workers.specs.Taking.{TakesOut, taken_for};
     ghost use Rattle.assise_workers.specs.Letters.{AreReadBy, letter_of, letters_seen};
     ghost use Rattle.assise_workers.specs.Working.{GoesOn, seen_at};
+    ghost use Rattle.assise_workers.specs.declared.worker.TurnEnd.{TurnEnd};
     ghost use Rattle.assise_workers.specs.declared.worker.TurnEnd.TheVariants.{Stopped};
 
     /// One turn: what the node has for others is taken out of the state, carried while the state is free, and brought in. It answers
@@ -73,6 +74,7 @@ impl<'a, S: Replicated> Worker<'a, S> {
         ensures goes_on { GoesOn self.old self.new }
         ensures turn { Replicates S.Growing.history S.acts (L.kind link.old ≡ perfect) S.reads node
             result (seen_at self.old) (seen_at self.new) }
+        ensures stays { L.kind link.new ≡ L.kind link.old }
         ensures whole { G.is_open gate.now → result ≡ Stopped → ⊥ }
     {
         match self.take_outgoing(rt, alloc, node) {
@@ -90,7 +92,10 @@ impl<'a, S: Replicated> Worker<'a, S> {
         link: &mut L,
         gate: &G,
     )
-        ensures { GoesOn self.old self.new }
+        ensures goes_on { GoesOn self.old self.new }
+        ensures turns { (ends : List TurnEnd) × TurnAfterTurn (λ end a b. Replicates
+            S.Growing.history S.acts (L.kind link.old ≡ perfect) S.reads node end a b) ends
+            (seen_at self.old) (seen_at self.new) }
     {
         let mut idle = Idle::new();
         for _ in rt.forever() {

@@ -16,7 +16,7 @@ loop-op-preserved g c =
     let i = c.loop-op.op-index in
     let T = Turned g.S.Growing.history g.S.Served.acts (limit_of first) in
     let one = one_more_of T _ _ _ _ _ _ c.op-item.result c.call-reply.result _ before.same.client before.sees c.call-reply.ensures.sees c.call-reply.ensures.refused
-        (subst (λ limit. TurnsTo g.S.Growing.history g.S.Served.acts (client_of c.loop-op.libfs) c.op-item.result limit c.call-reply.result (seen_by c.loop-op.libfs) (seen_by now)) before.same.limit c.call-reply.ensures.turns) in
+    (subst (λ limit. TurnsTo g.S.Growing.history g.S.Served.acts (client_of c.loop-op.libfs) c.op-item.result limit c.call-reply.result (seen_by c.loop-op.libfs) (seen_by now)) before.same.limit c.call-reply.ensures.turns) in
     let next : take (i + 1) calls ≡ take i calls ++ c.op-item.result ∷ [] = take_more calls i c.op-item.result c.loop-op-test.true ∙ ap (λ z. take i calls ++ z ∷ []) (sym c.op-item.is) in
     let pushed = subst (λ z. SeesAll T (client_of first) (take i calls ++ c.op-item.result ∷ []) (seen_by first) z (seen_by now)) (sym c.push_reserved.ensures.items) one in
     record {

@@ -27,15 +27,15 @@ loop-letter-preserved g c = let before = c.loop-letter.invariant in let now = c.
       stays = now.stays ∙ before.stays;
       all = append_assoc c.loop-letter.yielded (letter ∷ []) rest ∙ whole;
       carried = λ reads all. one_more_carried g.S.Growing.history g.S.Replicated.acts _ reads c.loop-letter.yielded letter c.loop-letter.taken c.in-Some-send.one _ _ _ _ c.saturating_add-taken.ensures
-        (before.carried reads (before_read reads c.loop-letter.yielded letter all))
-        (subst (λ kind. HasCarried g.S.Growing.history g.S.Replicated.acts (kind ≡ perfect) reads (letter_of letter ∷ []) c.in-Some-send.one (seen_at c.loop-letter.self) (seen_at c.send.new.self)) before.stays (now.turn reads (last_read reads c.loop-letter.yielded letter all)));
+          (before.carried reads (before_read reads c.loop-letter.yielded letter all))
+          (subst (λ kind. HasCarried g.S.Growing.history g.S.Replicated.acts (kind ≡ perfect) reads (letter_of letter ∷ []) c.in-Some-send.one (seen_at c.loop-letter.self) (seen_at c.send.new.self)) before.stays (now.turn reads (last_read reads c.loop-letter.yielded letter all)));
     }
 
 pub returns-in-None-send-clause-turn : goal.returns-in-None-send-clause-turn
 returns-in-None-send-clause-turn g c = let before = c.loop-letter.invariant in let letter = c.in-Some.letter in let rest = c.next.new.self.rest.items in
     let whole : c.loop-letter.yielded ++ letter ∷ rest ≡ c.args.letters.items = search rules in
     λ reads all.
-      let now = c.in-None-send.ensures.turn reads (one_read reads c.loop-letter.yielded letter rest c.args.letters.items whole all) in
-      rest_kept g.S.Growing.history g.S.Replicated.acts _ reads c.loop-letter.yielded letter rest c.args.letters.items c.loop-letter.taken now.0 (seen_at c.args.self.now) (seen_at c.loop-letter.self) (seen_at c.send.new.self) whole
-        (before.carried reads (earlier_read reads c.loop-letter.yielded letter rest c.args.letters.items whole all))
-        (subst (λ kind. HasCarried g.S.Growing.history g.S.Replicated.acts (kind ≡ perfect) reads (letter_of letter ∷ []) now.0 (seen_at c.loop-letter.self) (seen_at c.send.new.self)) before.stays now.1)
+    let now = c.in-None-send.ensures.turn reads (one_read reads c.loop-letter.yielded letter rest c.args.letters.items whole all) in
+    rest_kept g.S.Growing.history g.S.Replicated.acts _ reads c.loop-letter.yielded letter rest c.args.letters.items c.loop-letter.taken now.0 (seen_at c.args.self.now) (seen_at c.loop-letter.self) (seen_at c.send.new.self) whole
+    (before.carried reads (earlier_read reads c.loop-letter.yielded letter rest c.args.letters.items whole all))
+    (subst (λ kind. HasCarried g.S.Growing.history g.S.Replicated.acts (kind ≡ perfect) reads (letter_of letter ∷ []) now.0 (seen_at c.loop-letter.self) (seen_at c.send.new.self)) before.stays now.1)
