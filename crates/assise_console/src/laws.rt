@@ -25,8 +25,8 @@ pub fn a_run_is_a_trace_of_events()
 
 /// Wherever a run stands that began with a new cluster, its history is legal, and a check doesn't say otherwise.
 pub fn a_run_stands_on_a_legal_history()
-    ensures legal { (nodes log hot turns : ℕ) (stock : Stocks) (all : List NumberedCommand) (es : Told)
-        (text : List ℕ) (t : ConsoleState) → 0 < nodes →
+    ensures legal { (nodes log hot turns : ℕ) (stock : Stocks) (all : List NumberedCommand)
+        (es : Told) (text : List ℕ) (t : ConsoleState) → 0 < nodes →
         Prints (begun_console nodes log hot stock turns) all es text t → IsLegal t.machine.history }
     ensures checked { (nodes log hot turns : ℕ) (stock : Stocks) (all : List NumberedCommand)
         (es : Told) (text : List ℕ) (t : ConsoleState) → 0 < nodes →

@@ -70,7 +70,7 @@ pub fn model_headline()
         is_written (client_lease m.leases c i) ≡ false →
         Each (λ x. x.0.client ≡ c → contains (touched x.1.effects) i ≡ true →
         x.0.number < first_unreplicated m.world c) (steps m.world) }
-    ensures lasting { (nodes limit hot : ℕ) (es fs : List (ClusterEvent × Answer)) (m m' : Machine) →
-        0 < nodes → AllHappen (begun_as nodes limit hot) es m → AllHappen m fs m' →
-        IsLasting (state_of m) (state_of m') }
+    ensures lasting { (nodes limit hot : ℕ) (es fs : List (ClusterEvent × Answer))
+        (m m' : Machine) → 0 < nodes → AllHappen (begun_as nodes limit hot) es m →
+        AllHappen m fs m' → IsLasting (state_of m) (state_of m') }
 {}

@@ -12,4 +12,4 @@ pub mod Openings
 pub mod Fronts
 pub mod Meetings
 pub mod MachineTurns
-pub mod Lacking
+pub mod WithoutRevoker

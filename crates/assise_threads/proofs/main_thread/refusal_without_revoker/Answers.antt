@@ -1,6 +1,6 @@
 use Rattle.std.proofs.Common.{◌∙◌, ap, Err}
 use Rattle.assise_machine.specs.Clusters.{machine}
-use Rattle.assise_threads.proofs.Lacking.{lacks_node, lacks_one}
+use Rattle.assise_threads.proofs.WithoutRevoker.{lacks_node, lacks_one}
 use Rattle.assise_threads.proofs.main_thread.refusal_without_revoker.Goals as goal
 
 pub returns-in-Ok : goal.returns-in-Ok
